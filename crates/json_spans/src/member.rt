@@ -1,0 +1,93 @@
+ghost use Rattle.std.specs.Prelude.{◌≡◌};
+ghost use Rattle.json_spans.specs.Left.{node};
+ghost use Rattle.json_spans.specs.Pairs.{nodes};
+ghost use Rattle.json_spans.specs.Walk.{items, items_left, members, members_left, raw_parts, member_of, name_of, value_of, behind_colon};
+ghost use Rattle.json_spans.specs.Parts.{has_first};
+ghost use Rattle.json_spans.specs.Left.{left};
+
+use crate::parts::{Parts, part_len};
+use crate::span::Span;
+use crate::trimming::{spaces, trim};
+use crate::walk::{Items, Members};
+
+fn behind_colon(rest: Span<'_>) -> Span<'_>
+    ensures { node result ≡ behind_colon rest.entry.at rest.entry.text.now }
+{
+    match rest.text {
+        [] => Span {
+            text: rest.text,
+            at: rest.at,
+        },
+        [_, text @ ..] => Span {
+            text,
+            at: rest.at + 1,
+        },
+    }
+}
+
+fn name_of(part: Span<'_>) -> Span<'_>
+    ensures { node result ≡ name_of (node part.entry) }
+{
+    let len = part_len(58, part.text);
+    trim(Span {
+        text: &part.text[..len],
+        at: part.at,
+    })
+}
+
+fn value_of(part: Span<'_>) -> Span<'_>
+    ensures { node result ≡ value_of (node part.entry) }
+{
+    let len = part_len(58, part.text);
+    trim(behind_colon(Span {
+        text: &part.text[len..],
+        at: part.at + len,
+    }))
+}
+
+// Cut at the colon.
+pub(crate) fn member_of(part: Span<'_>) -> (Span<'_>, Span<'_>)
+    ensures { nodes result ≡ member_of (node part.entry) }
+{
+    (name_of(part), value_of(part))
+}
+
+fn parts(span: Span<'_>) -> Parts<'_>
+    ensures { left result ≡ raw_parts span.entry.at span.entry.text.now }
+{
+    match span.text {
+        [] => Parts {
+            more: false,
+            at: span.at,
+            rest: span.text,
+        },
+        [_, rest @ ..] => Parts {
+            more: has_first(&rest[spaces(rest)..]),
+            at: span.at + 1,
+            rest,
+        },
+    }
+}
+
+fn has_first(bytes: &[u8]) -> bool
+    ensures { result ≡ has_first bytes.now }
+{
+    match bytes {
+        [] => false,
+        [x, ..] => !(*x == 93) && !(*x == 125),
+    }
+}
+
+/// The items of a list, without the spaces round them.
+pub fn items(span: Span<'_>) -> Items<'_>
+    ensures { items_left result ≡ items (node span.entry) }
+{
+    Items { parts: parts(span) }
+}
+
+/// The names and values of an object.
+pub fn members(span: Span<'_>) -> Members<'_>
+    ensures { members_left result ≡ members (node span.entry) }
+{
+    Members { parts: parts(span) }
+}

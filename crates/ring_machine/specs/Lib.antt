@@ -1,0 +1,17 @@
+pub mod Ring
+pub mod Document
+pub mod Parts
+pub mod WellFormed
+pub mod Planar
+pub mod Vertices
+pub mod Sweep
+pub mod Sides
+pub mod Cut
+pub mod Join
+pub mod Query
+pub mod Command
+pub mod Refusals
+pub mod Thin
+pub mod Machine
+pub mod Arcs
+pub mod Worked
