@@ -1,16 +1,20 @@
-ghost use Rattle.std.specs.Prelude.{◌≡◌, ◌↔◌, ◌≤ℤ◌, IsSome, IsNone, IfSome, OnSome, ◌&&◌, int_le};
+ghost use Rattle.std.specs.Prelude.{◌≡◌, ◌↔◌, ◌≤ℤ◌, Some, IsSome, IsNone, IfSome, OnSome, ◌&&◌, int_le};
 ghost use Rattle.grid_geometry.specs.Position.{position, InRange};
 ghost use Rattle.grid_geometry.specs.Segment.{segment, box_of, boxes_meet, Box, IsBox, IsSegment};
+ghost use Rattle.grid_geometry.specs.Text.{segment_text};
 
 use crate::position::Pos;
 use std::cmp::Ordering;
 use std::fmt::{Display, Error, Formatter, Write};
 use std::marker::Model;
 
-/// Two different positions without direction, ordered by the lesser end, then the greater.
+/// Two different positions without direction. Segments are ordered by their lesser ends, then by
+/// their greater ones. A segment is printed as its ends, `x y x y`.
 #[derive(Clone, Copy, Debug, PartialEq, Eq, PartialOrd, Ord, Hash)]
 pub struct Seg {
+    /// The lesser end.
     pub lo: Pos,
+    /// The greater end.
     pub hi: Pos,
 }
 
@@ -27,13 +31,15 @@ impl Model for Seg {
 }
 
 impl Display for Seg {
+    ghost output = { λ s. Some (segment_text s) };
+
     fn fmt<W: Write>(&self, f: &mut Formatter<W>) -> Result<(), Error> {
         write!(f, "{} {}", self.lo, self.hi)
     }
 }
 
 impl Seg {
-    /// The segment between two positions, where they differ.
+    /// The segment between two positions, given in either order; `None` where they are equal.
     pub fn new(a: Pos, b: Pos) -> Option<Seg>
         ensures none { IsNone result ↔ (a ≡ b) }
         ensures some { IfSome result (λ s. s ≡ segment a b) }
@@ -46,7 +52,7 @@ impl Seg {
         }
     }
 
-    /// The least box of both ends.
+    /// The least box that has both ends.
     pub fn rect(self) -> Rect
         ensures { result ≡ box_of self }
     {
@@ -59,12 +65,17 @@ impl Seg {
     }
 }
 
-/// A box, its edges included.
+/// A box of the grid, its sides included: from its least corner to its greatest, both in the range
+/// of positions. A box may be a line or one position.
 #[derive(Clone, Copy, Debug, PartialEq, Eq)]
 pub struct Rect {
+    /// The least x.
     pub x0: i64,
+    /// The least y.
     pub y0: i64,
+    /// The greatest x.
     pub x1: i64,
+    /// The greatest y.
     pub y1: i64,
 }
 
@@ -81,6 +92,21 @@ impl Model for Rect {
 }
 
 impl Rect {
+    /// The box with these sides; `None` where one is out of the range of coordinates, or the least
+    /// x or y is above the greatest.
+    pub fn new(x0: i64, y0: i64, x1: i64, y1: i64) -> Option<Rect>
+        ensures exact { IsSome result ↔ IsBox (record { x0 = x0; y0 = y0; x1 = x1; y1 = y1 }) }
+        ensures value { IfSome result (λ r. r ≡ record { x0 = x0; y0 = y0; x1 = x1; y1 = y1 }) }
+    {
+        let _least = Pos::new(x0, y0)?;
+        let _most = Pos::new(x1, y1)?;
+        if x0 <= x1 && y0 <= y1 {
+            Some(Rect { x0, y0, x1, y1 })
+        } else {
+            None
+        }
+    }
+
     /// Whether the boxes have a common x.
     fn meets_x(self, other: Rect) -> bool
         ensures { result ≡ (int_le self.x0 other.x1 && int_le other.x0 self.x1) }
@@ -95,24 +121,10 @@ impl Rect {
         self.y0 <= other.y1 && other.y0 <= self.y1
     }
 
-    /// Whether two boxes have a common point.
+    /// Whether two boxes have a common point, be it of their sides.
     pub fn meets(self, other: Rect) -> bool
         ensures { result ≡ boxes_meet self other }
     {
         self.meets_x(other) && self.meets_y(other)
-    }
-
-    /// The box with these edges, where they are in range and in order.
-    pub fn new(x0: i64, y0: i64, x1: i64, y1: i64) -> Option<Rect>
-        ensures exact { IsSome result ↔ IsBox (record { x0 = x0; y0 = y0; x1 = x1; y1 = y1 }) }
-        ensures value { IfSome result (λ r. r ≡ record { x0 = x0; y0 = y0; x1 = x1; y1 = y1 }) }
-    {
-        let _least = Pos::new(x0, y0)?;
-        let _most = Pos::new(x1, y1)?;
-        if x0 <= x1 && y0 <= y1 {
-            Some(Rect { x0, y0, x1, y1 })
-        } else {
-            None
-        }
     }
 }

@@ -1,8 +1,8 @@
 -- What is in the grammar the machine accepts.
-use Rattle.std.proofs.Common.{◌≡◌, ℕ, zero, suc, ◌+◌, ◌-◌, ◌<◌, List, [], ◌∷◌, length, Bool, true, false, refl, sym, ap, subst, ◌∙◌, arith, cond, inl, inr, ◌⊎◌}
-use Rattle.std.specs.Prelude.{IsTrue, ◌==◌, ◌&&◌, nat_lt, Option, Some, None, option_map, if◌then◌else◌}
-use Rattle.std.proofs.lemmas.Bool.{eqb-true, lt-ltb}
-use Rattle.json_spans.specs.Bytes.{is_space, is_digit, is_hex, is_escape, is_tail, is_nonzero, is_e, is_sign, is_ascii, is_two, is_three, is_four, is_tail_e0, is_tail_ed, is_tail_f0, is_tail_f4}
+use Rattle.std.proofs.Common.{◌≡◌, ℕ, suc, ◌+◌, ◌<◌, List, [], ◌∷◌, length, Bool, true, false, refl, arith, inl, inr, ◌⊎◌}
+use Rattle.std.specs.Prelude.{◌==◌, nat_lt, Option, Some}
+use Rattle.std.proofs.lemmas.Bool.{lt-ltb}
+use Rattle.json_spans.specs.Bytes.{is_space, is_digit, is_nonzero, is_e}
 use Rattle.json_spans.specs.declared.machine.Frame.{Frame}
 use Rattle.json_spans.specs.declared.machine.Frame.TheVariants as frame
 use Rattle.json_spans.specs.declared.machine.Within.{Within}
@@ -11,12 +11,11 @@ use Rattle.json_spans.specs.declared.machine.Word as words
 use Rattle.json_spans.specs.declared.machine.Word.TheVariants as word
 use Rattle.json_spans.specs.declared.machine.Mode.{Mode}
 use Rattle.json_spans.specs.declared.machine.Mode.TheVariants as mode
-use Rattle.json_spans.specs.declared.machine.Move.{Move}
 use Rattle.json_spans.specs.declared.machine.Move.TheVariants.{Goes, Opens, Closes, Fails}
-use Rattle.json_spans.specs.Machine.{begins, follows, after_comma, closes, word_step, lead, string_step, closes_text, goes, step, in_list, in_object, run, moved, at_end, may_end, top_of, rest_of, first_in, max_depth, Verdict, good, not_json, too_deep, verdict, only}
+use Rattle.json_spans.specs.Machine.{follows, word_step, string_step, closes_text, step, run, may_end, top_of, rest_of, first_in, good, verdict}
 use Rattle.json_spans.specs.Grammar.{Space, no_space, space, Digits, no_digit, digit, SomeDigits, digits, Signed, sign, unsigned, Exponent, no_exponent, exponent, Fraction, no_fraction, fraction, Unsigned, zero_first, digit_first, Number, minus, plain_number, Chars, quote, ascii, two, three, three_e0, three_ed, four, four_f0, four_f4, escape, code, Value, null, yes, no, number, text, list, object, Items, no_item, some_items, SomeItems, item, MoreItems, list_end, next_item, Members, no_member, some_members, SomeMembers, name, Named, member, MoreMembers, object_end, next_member, Json, json}
-use Rattle.json_spans.proofs.Completes.{Part, Then, Byte, byte, CharsFrom, WordFrom, room, More, After, Ends, Completes, Leads}
-use Rattle.json_spans.proofs.Apart.{two_steps, three_steps, four_steps, two_plain, three_plain, four_plain, ascii_plain, ascii_steps, escape_plain, digit_ends, e_ends, point_ends, nonzero_begins, digit_apart, e_apart, sign_apart}
+use Rattle.json_spans.proofs.Completes.{room}
+use Rattle.json_spans.proofs.Apart.{two_steps, three_steps, four_steps, two_plain, three_plain, four_plain, ascii_plain, ascii_steps, escape_plain, digit_ends, e_ends, point_ends, nonzero_begins, e_apart, sign_apart}
 
 -- from there on all is good
 abbrev Good : Mode → List Frame → List ℕ → Type 0

@@ -1,13 +1,21 @@
 -- A part ends where the grammar's value ends.
-use Rattle.std.proofs.Common.{◌≡◌, ℕ, zero, suc, ◌+◌, ◌-◌, ◌<◌, ◌≤◌, List, [], ◌∷◌, length, Bool, true, false, refl, sym, ap, ◌∙◌, arith, cond}
-use Rattle.std.specs.Prelude.{IsTrue, ◌==◌, ◌&&◌, ◌||◌, Option, Some, None}
+use Rattle.std.proofs.Common.{◌≡◌, ℕ, ◌+◌, ◌-◌, ◌≤◌, List, [], ◌∷◌, true, false, refl, ◌∙◌, arith}
+use Rattle.std.specs.Prelude.{◌==◌, ◌||◌, Option, Some, None}
 use Rattle.std.proofs.lemmas.Bool.Decides.{nat_tests}
-use Rattle.json_spans.specs.Bytes.{is_space, is_digit, is_hex, is_escape, is_tail, is_nonzero, is_e, is_sign, is_ascii, is_two, is_three, is_four, is_tail_e0, is_tail_ed, is_tail_f0, is_tail_f4}
+use Rattle.json_spans.specs.Bytes.{is_space, is_digit, is_hex, is_tail, is_nonzero, is_e, is_sign, is_ascii, is_three}
 use Rattle.json_spans.specs.declared.parts.Skip.{Skip}
 use Rattle.json_spans.specs.declared.parts.Skip.TheVariants.{Plain, Quoted, Escaped}
 use Rattle.json_spans.specs.Parts.{skip_step, opens, closes}
-use Rattle.json_spans.specs.Law.{part_rest}
-use Rattle.json_spans.specs.Grammar.{Space, no_space, space, Digits, no_digit, digit, SomeDigits, digits, Signed, sign, unsigned, Exponent, no_exponent, exponent, Fraction, no_fraction, fraction, Unsigned, zero_first, digit_first, Number, minus, plain_number, Chars, quote, ascii, two, three, three_e0, three_ed, four, four_f0, four_f4, escape, code, Value, null, yes, no, number, text, list, object, Items, no_item, some_items, SomeItems, item, MoreItems, list_end, next_item, Members, no_member, some_members, SomeMembers, name, Named, member, MoreMembers, object_end, next_member}
+use Rattle.json_spans.specs.Grammar.{Space, no_space, space, Digits, no_digit, digit, SomeDigits, digits, sign, unsigned, Exponent, no_exponent, exponent, Fraction, no_fraction, fraction, Unsigned, zero_first, digit_first, Number, minus, plain_number, Chars, quote, ascii, two, three, three_e0, three_ed, four, four_f0, four_f4, escape, code, Value, null, yes, no, number, text, list, object, Items, no_item, some_items, SomeItems, item, MoreItems, list_end, next_item, Members, no_member, some_members, SomeMembers, name, Named, member, MoreMembers, object_end, next_member}
+
+-- what is left where the first part ends
+abbrev pub rest_after : Option (Skip × ℕ) → List ℕ → (Skip → ℕ → List ℕ) → List ℕ
+rest_after None here go = here
+rest_after (Some p) here go = go p.0 p.1
+
+unfoldable pub part_rest : ℕ → Skip → ℕ → List ℕ → List ℕ
+part_rest sep s level [] = []
+part_rest sep s level (x ∷ xs) = rest_after (skip_step sep s level x) (x ∷ xs) (λ s' level'. part_rest sep s' level' xs)
 
 abbrev pub Alike : Skip → List ℕ → List ℕ → Type 0
 Alike s xs ys = (l : ℕ) → part_rest 44 s l xs ≡ part_rest 44 Plain l ys

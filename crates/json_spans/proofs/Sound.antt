@@ -1,6 +1,6 @@
 -- What the machine accepts is in the grammar.
-use Rattle.std.proofs.Common.{◌≡◌, ℕ, zero, suc, ◌+◌, ◌-◌, ◌<◌, List, [], ◌∷◌, length, Bool, true, false, refl, sym, ap, subst, ◌∙◌, arith, cond}
-use Rattle.std.specs.Prelude.{IsTrue, ◌==◌, ◌&&◌, nat_lt, Option, Some, None, option_map, if◌then◌else◌}
+use Rattle.std.proofs.Common.{◌≡◌, ℕ, suc, ◌+◌, ◌<◌, List, [], ◌∷◌, length, Bool, true, false, refl, sym, ap, subst, arith, cond}
+use Rattle.std.specs.Prelude.{IsTrue, ◌==◌, ◌&&◌, nat_lt, Option, Some, None, option_map}
 use Rattle.std.proofs.lemmas.Bool.{eqb-true, ltb-true}
 use Rattle.json_spans.specs.Bytes.{is_space, is_digit, is_hex, is_escape, is_tail, is_nonzero, is_e, is_sign, is_ascii, is_two, is_three, is_four, is_tail_e0, is_tail_ed, is_tail_f0, is_tail_f4}
 use Rattle.json_spans.specs.declared.machine.Frame.{Frame}
@@ -13,9 +13,9 @@ use Rattle.json_spans.specs.declared.machine.Mode.{Mode}
 use Rattle.json_spans.specs.declared.machine.Mode.TheVariants as mode
 use Rattle.json_spans.specs.declared.machine.Move.{Move}
 use Rattle.json_spans.specs.declared.machine.Move.TheVariants.{Goes, Opens, Closes, Fails}
-use Rattle.json_spans.specs.Machine.{begins, follows, after_comma, closes, word_step, lead, string_step, closes_text, goes, only, step, in_list, in_object, run, moved, at_end, may_end, top_of, rest_of, first_in, max_depth, Verdict, good, not_json, too_deep, verdict}
-use Rattle.json_spans.specs.Grammar.{Space, no_space, space, Digits, no_digit, digit, SomeDigits, digits, Signed, sign, unsigned, Exponent, no_exponent, exponent, Fraction, no_fraction, fraction, Unsigned, zero_first, digit_first, Number, minus, plain_number, Chars, quote, ascii, two, three, three_e0, three_ed, four, four_f0, four_f4, escape, code, Value, null, yes, no, number, text, list, object, Items, no_item, some_items, SomeItems, item, MoreItems, list_end, next_item, Members, no_member, some_members, SomeMembers, name, Named, member, MoreMembers, object_end, next_member, Json, json}
-use Rattle.json_spans.proofs.Completes.{Part, Then, Byte, byte, CharsFrom, WordFrom, room, More, After, Ends, Completes, Leads}
+use Rattle.json_spans.specs.Machine.{begins, follows, after_comma, closes, word_step, lead, string_step, closes_text, goes, only, step, run, moved, at_end, may_end, top_of, rest_of, first_in, Verdict, good, too_deep, verdict}
+use Rattle.json_spans.specs.Grammar.{no_space, space, no_digit, digit, digits, sign, unsigned, no_exponent, exponent, no_fraction, fraction, zero_first, digit_first, minus, plain_number, Chars, quote, ascii, two, three, three_e0, three_ed, four, four_f0, four_f4, escape, code, Value, null, yes, no, number, text, list, object, no_item, some_items, item, list_end, next_item, no_member, some_members, name, Named, member, object_end, next_member, Json, json}
+use Rattle.json_spans.proofs.Completes.{Part, Then, Byte, byte, CharsFrom, room, After, Ends, Completes, Leads}
 
 -- ---- tests
 

@@ -1,34 +1,43 @@
-// The scanner's machine, which takes one byte at a time.
-ghost use Rattle.std.specs.Prelude.{◌≡◌, ◌==◌, if◌then◌else◌, option_map};
-ghost use Rattle.json_spans.specs.Bytes.{is_space, is_digit, is_hex, is_escape, is_tail, is_nonzero, is_e, is_sign, is_ascii, is_two, is_three, is_four, is_tail_e0, is_tail_ed, is_tail_f0, is_tail_f4};
-ghost use Rattle.json_spans.specs.Machine.{begins, follows, after_comma, word_step, string_step, lead, goes, closes_text, step};
+// The scanner's machine, which takes one byte at a time (RFC 8259, sections 2 to 7).
+ghost use Rattle.std.specs.Prelude.{◌≡◌};
+ghost use Rattle.json_spans.specs.Machine.{begins, follows, after_comma, closes, word_step, string_step, lead, goes, in_list, in_object, step};
+ghost use Rattle.json_spans.specs.Machine.{before_value, before_first_item, before_first_name, before_name, before_colon, in_name, in_text, after_minus, after_zero, in_whole, after_point, in_fraction, after_exponent, after_sign, in_power};
 
-/// What is open: a list or an object.
+use crate::classes::{
+    is_ascii, is_digit, is_e, is_escape, is_four, is_hex, is_nonzero, is_sign, is_space, is_tail,
+    is_tail_e0, is_tail_ed, is_tail_f0, is_tail_f4, is_three, is_two,
+};
+
+/// What is open: a list (section 5, an array) or an object (section 4).
 #[derive(Clone, Copy, Debug, PartialEq, Eq)]
 pub enum Frame {
     List,
     Object,
 }
 
-/// Where in a string.
+/// Where in a string (section 7).
 #[derive(Clone, Copy, Debug, PartialEq, Eq)]
 pub enum Within {
     Plain,
+    /// Behind a backslash.
     Escape,
+    /// So many hexadecimal digits are left of a code.
     Hex4,
     Hex3,
     Hex2,
     Hex1,
+    /// So many bytes are left of a character.
     Tail1,
     Tail2,
     Tail3,
+    /// Behind a first byte that narrows the second.
     AfterE0,
     AfterEd,
     AfterF0,
     AfterF4,
 }
 
-/// What is left of a literal.
+/// What is left of `true`, `false` or `null` (section 3).
 #[derive(Clone, Copy, Debug, PartialEq, Eq)]
 pub enum Word {
     Rue,
@@ -42,24 +51,42 @@ pub enum Word {
     L,
 }
 
+/// Where in a text.
 #[derive(Clone, Copy, Debug, PartialEq, Eq)]
 pub enum Mode {
+    /// Before a value.
     Value,
+    /// Behind the bracket that opens a list.
     FirstItem,
+    /// Behind the bracket that opens an object.
     FirstName,
+    /// Behind a comma in an object.
     Name,
+    /// Behind a name.
     Colon,
+    /// Behind a value.
     After,
+    /// In a member's name.
     NameText(Within),
+    /// In a string that is a value.
     Text(Within),
+    /// In `true`, `false` or `null`.
     Word(Word),
+    /// In a number (section 6): behind its minus.
     Minus,
+    /// Behind its leading 0.
     Zero,
+    /// Among the digits of its whole part.
     Whole,
+    /// Behind its point.
     Point,
+    /// Among the digits of its fraction.
     Fraction,
+    /// Behind its `e`.
     Exponent,
+    /// Behind the exponent's sign.
     Sign,
+    /// Among the exponent's digits.
     Power,
 }
 
@@ -72,146 +99,23 @@ pub enum Move {
     Fails,
 }
 
-pub(crate) fn is_space(x: u8) -> bool
-    ensures { result ≡ is_space x }
-{
-    x == 32 || x == 9 || x == 10 || x == 13
-}
-
-pub(crate) fn is_digit(x: u8) -> bool
-    ensures { result ≡ is_digit x }
-{
-    48 <= x && x <= 57
-}
-
-fn is_hex(x: u8) -> bool
-    ensures { result ≡ is_hex x }
-{
-    is_digit(x) || (65 <= x && x <= 70) || (97 <= x && x <= 102)
-}
-
-fn is_escape(x: u8) -> bool
-    ensures { result ≡ is_escape x }
-{
-    x == 34 || x == 92 || x == 47 || x == 98 || x == 102 || x == 110 || x == 114 || x == 116
-}
-
-fn is_tail(x: u8) -> bool
-    ensures { result ≡ is_tail x }
-{
-    128 <= x && x <= 191
-}
-
-fn is_nonzero(x: u8) -> bool
-    ensures { result ≡ is_nonzero x }
-{
-    49 <= x && x <= 57
-}
-
-fn is_e(x: u8) -> bool
-    ensures { result ≡ is_e x }
-{
-    x == 101 || x == 69
-}
-
-fn is_sign(x: u8) -> bool
-    ensures { result ≡ is_sign x }
-{
-    x == 43 || x == 45
-}
-
-fn is_ascii(x: u8) -> bool
-    ensures { result ≡ is_ascii x }
-{
-    32 <= x && x <= 127 && !(x == 34) && !(x == 92)
-}
-
-fn is_two(x: u8) -> bool
-    ensures { result ≡ is_two x }
-{
-    194 <= x && x <= 223
-}
-
-fn is_three(x: u8) -> bool
-    ensures { result ≡ is_three x }
-{
-    (225 <= x && x <= 236) || x == 238 || x == 239
-}
-
-fn is_four(x: u8) -> bool
-    ensures { result ≡ is_four x }
-{
-    241 <= x && x <= 243
-}
-
-fn is_tail_e0(x: u8) -> bool
-    ensures { result ≡ is_tail_e0 x }
-{
-    160 <= x && x <= 191
-}
-
-fn is_tail_ed(x: u8) -> bool
-    ensures { result ≡ is_tail_ed x }
-{
-    128 <= x && x <= 159
-}
-
-fn is_tail_f0(x: u8) -> bool
-    ensures { result ≡ is_tail_f0 x }
-{
-    144 <= x && x <= 191
-}
-
-fn is_tail_f4(x: u8) -> bool
-    ensures { result ≡ is_tail_f4 x }
-{
-    128 <= x && x <= 143
-}
-
 fn word_step(word: Word, x: u8) -> Option<Mode>
     ensures { result ≡ word_step word x }
 {
     match word {
-        Word::Rue => if x == 114 {
-            Some(Mode::Word(Word::Ue))
-        } else {
-            None
-        },
-        Word::Ue => if x == 117 {
-            Some(Mode::Word(Word::E))
-        } else {
-            None
-        },
-        Word::E => if x == 101 { Some(Mode::After) } else { None },
-        Word::Alse => if x == 97 {
-            Some(Mode::Word(Word::Lse))
-        } else {
-            None
-        },
-        Word::Lse => if x == 108 {
-            Some(Mode::Word(Word::Se))
-        } else {
-            None
-        },
-        Word::Se => if x == 115 {
-            Some(Mode::Word(Word::E))
-        } else {
-            None
-        },
-        Word::Ull => if x == 117 {
-            Some(Mode::Word(Word::Ll))
-        } else {
-            None
-        },
-        Word::Ll => if x == 108 {
-            Some(Mode::Word(Word::L))
-        } else {
-            None
-        },
-        Word::L => if x == 108 { Some(Mode::After) } else { None },
+        Word::Rue => (x == b'r').then_some(Mode::Word(Word::Ue)),
+        Word::Ue => (x == b'u').then_some(Mode::Word(Word::E)),
+        Word::E => (x == b'e').then_some(Mode::After),
+        Word::Alse => (x == b'a').then_some(Mode::Word(Word::Lse)),
+        Word::Lse => (x == b'l').then_some(Mode::Word(Word::Se)),
+        Word::Se => (x == b's').then_some(Mode::Word(Word::E)),
+        Word::Ull => (x == b'u').then_some(Mode::Word(Word::Ll)),
+        Word::Ll => (x == b'l').then_some(Mode::Word(Word::L)),
+        Word::L => (x == b'l').then_some(Mode::After),
     }
 }
 
+// The first byte of a character.
 fn lead(x: u8) -> Option<Within>
     ensures { result ≡ lead x }
 {
@@ -219,105 +123,70 @@ fn lead(x: u8) -> Option<Within>
         Some(Within::Plain)
     } else if is_two(x) {
         Some(Within::Tail1)
-    } else if x == 224 {
+    } else if x == 0xe0 {
         Some(Within::AfterE0)
     } else if is_three(x) {
         Some(Within::Tail2)
-    } else if x == 237 {
+    } else if x == 0xed {
         Some(Within::AfterEd)
-    } else if x == 240 {
+    } else if x == 0xf0 {
         Some(Within::AfterF0)
     } else if is_four(x) {
         Some(Within::Tail3)
-    } else if x == 244 {
+    } else if x == 0xf4 {
         Some(Within::AfterF4)
     } else {
         None
     }
 }
 
-/// Inside a string, at a byte that does not close it.
+fn escaped(x: u8) -> Option<Within>
+    ensures { result ≡ string_step Within.Escape x }
+{
+    if x == b'u' {
+        Some(Within::Hex4)
+    } else {
+        is_escape(x).then_some(Within::Plain)
+    }
+}
+
+// A byte that does not close the string.
 fn string_step(within: Within, x: u8) -> Option<Within>
     ensures { result ≡ string_step within x }
 {
     match within {
-        Within::Plain => if x == 92 {
-            Some(Within::Escape)
-        } else {
-            lead(x)
-        },
-        Within::Escape => if x == 117 {
-            Some(Within::Hex4)
-        } else if is_escape(x) {
-            Some(Within::Plain)
-        } else {
-            None
-        },
-        Within::Hex4 => if is_hex(x) { Some(Within::Hex3) } else { None },
-        Within::Hex3 => if is_hex(x) { Some(Within::Hex2) } else { None },
-        Within::Hex2 => if is_hex(x) { Some(Within::Hex1) } else { None },
-        Within::Hex1 => if is_hex(x) { Some(Within::Plain) } else { None },
-        Within::Tail1 => if is_tail(x) {
-            Some(Within::Plain)
-        } else {
-            None
-        },
-        Within::Tail2 => if is_tail(x) {
-            Some(Within::Tail1)
-        } else {
-            None
-        },
-        Within::Tail3 => if is_tail(x) {
-            Some(Within::Tail2)
-        } else {
-            None
-        },
-        Within::AfterE0 => if is_tail_e0(x) {
-            Some(Within::Tail1)
-        } else {
-            None
-        },
-        Within::AfterEd => if is_tail_ed(x) {
-            Some(Within::Tail1)
-        } else {
-            None
-        },
-        Within::AfterF0 => if is_tail_f0(x) {
-            Some(Within::Tail2)
-        } else {
-            None
-        },
-        Within::AfterF4 => if is_tail_f4(x) {
-            Some(Within::Tail2)
-        } else {
-            None
-        },
+        Within::Plain if x == b'\\' => Some(Within::Escape),
+        Within::Plain => lead(x),
+        Within::Escape => escaped(x),
+        Within::Hex4 => is_hex(x).then_some(Within::Hex3),
+        Within::Hex3 => is_hex(x).then_some(Within::Hex2),
+        Within::Hex2 => is_hex(x).then_some(Within::Hex1),
+        Within::Hex1 => is_hex(x).then_some(Within::Plain),
+        Within::Tail1 => is_tail(x).then_some(Within::Plain),
+        Within::Tail2 => is_tail(x).then_some(Within::Tail1),
+        Within::Tail3 => is_tail(x).then_some(Within::Tail2),
+        Within::AfterE0 => is_tail_e0(x).then_some(Within::Tail1),
+        Within::AfterEd => is_tail_ed(x).then_some(Within::Tail1),
+        Within::AfterF0 => is_tail_f0(x).then_some(Within::Tail2),
+        Within::AfterF4 => is_tail_f4(x).then_some(Within::Tail2),
     }
 }
 
+// A value's first byte.
 fn begins(x: u8) -> Move
     ensures { result ≡ begins x }
 {
-    if x == 34 {
-        Move::Goes(Mode::Text(Within::Plain))
-    } else if x == 91 {
-        Move::Opens(Frame::List)
-    } else if x == 123 {
-        Move::Opens(Frame::Object)
-    } else if x == 45 {
-        Move::Goes(Mode::Minus)
-    } else if x == 48 {
-        Move::Goes(Mode::Zero)
-    } else if is_nonzero(x) {
-        Move::Goes(Mode::Whole)
-    } else if x == 116 {
-        Move::Goes(Mode::Word(Word::Rue))
-    } else if x == 102 {
-        Move::Goes(Mode::Word(Word::Alse))
-    } else if x == 110 {
-        Move::Goes(Mode::Word(Word::Ull))
-    } else {
-        Move::Fails
+    match x {
+        b'"' => Move::Goes(Mode::Text(Within::Plain)),
+        b'[' => Move::Opens(Frame::List),
+        b'{' => Move::Opens(Frame::Object),
+        b'-' => Move::Goes(Mode::Minus),
+        b'0' => Move::Goes(Mode::Zero),
+        b'1'..=b'9' => Move::Goes(Mode::Whole),
+        b't' => Move::Goes(Mode::Word(Word::Rue)),
+        b'f' => Move::Goes(Mode::Word(Word::Alse)),
+        b'n' => Move::Goes(Mode::Word(Word::Ull)),
+        _ => Move::Fails,
     }
 }
 
@@ -331,20 +200,25 @@ fn after_comma(top: Option<Frame>) -> Move
     }
 }
 
-/// After a value.
+fn closes(top: Option<Frame>, x: u8) -> Move
+    ensures { result ≡ closes top x }
+{
+    match (top, x) {
+        (Some(Frame::List), b']') | (Some(Frame::Object), b'}') => Move::Closes,
+        _ => Move::Fails,
+    }
+}
+
+// Behind a value.
 fn follows(top: Option<Frame>, x: u8) -> Move
     ensures { result ≡ follows top x }
 {
     if is_space(x) {
         Move::Goes(Mode::After)
-    } else if x == 44 {
+    } else if x == b',' {
         after_comma(top)
     } else {
-        match top {
-            Some(Frame::List) => if x == 93 { Move::Closes } else { Move::Fails },
-            Some(Frame::Object) => if x == 125 { Move::Closes } else { Move::Fails },
-            None => Move::Fails,
-        }
+        closes(top, x)
     }
 }
 
@@ -357,159 +231,213 @@ fn goes(mode: Option<Mode>) -> Move
     }
 }
 
-fn first_item(x: u8) -> Move
-    ensures { result ≡ (if is_space x then Move.Goes Mode.FirstItem else (if x == 93 then Move.Closes else begins x)) }
+fn in_list(top: Option<Frame>, moves: Move) -> Move
+    ensures { result ≡ in_list top moves }
+{
+    match top {
+        Some(Frame::List) => moves,
+        _ => Move::Fails,
+    }
+}
+
+fn in_object(top: Option<Frame>, moves: Move) -> Move
+    ensures { result ≡ in_object top moves }
+{
+    match top {
+        Some(Frame::Object) => moves,
+        _ => Move::Fails,
+    }
+}
+
+fn before_value(x: u8) -> Move
+    ensures { result ≡ before_value x }
+{
+    if is_space(x) {
+        Move::Goes(Mode::Value)
+    } else {
+        begins(x)
+    }
+}
+
+fn before_first_item(x: u8) -> Move
+    ensures { result ≡ before_first_item x }
 {
     if is_space(x) {
         Move::Goes(Mode::FirstItem)
-    } else if x == 93 {
+    } else if x == b']' {
         Move::Closes
     } else {
         begins(x)
     }
 }
 
-fn first_name(x: u8) -> Move
-    ensures { result ≡ (if is_space x then Move.Goes Mode.FirstName else (if x == 125 then Move.Closes else (if x == 34 then Move.Goes (Mode.NameText Within.Plain) else Move.Fails))) }
+fn before_first_name(x: u8) -> Move
+    ensures { result ≡ before_first_name x }
 {
     if is_space(x) {
         Move::Goes(Mode::FirstName)
-    } else if x == 125 {
+    } else if x == b'}' {
         Move::Closes
-    } else if x == 34 {
+    } else if x == b'"' {
         Move::Goes(Mode::NameText(Within::Plain))
     } else {
         Move::Fails
     }
 }
 
-fn name(x: u8) -> Move
-    ensures { result ≡ (if is_space x then Move.Goes Mode.Name else (if x == 34 then Move.Goes (Mode.NameText Within.Plain) else Move.Fails)) }
+fn before_name(x: u8) -> Move
+    ensures { result ≡ before_name x }
 {
     if is_space(x) {
         Move::Goes(Mode::Name)
-    } else if x == 34 {
+    } else if x == b'"' {
         Move::Goes(Mode::NameText(Within::Plain))
     } else {
         Move::Fails
     }
 }
 
-fn colon(x: u8) -> Move
-    ensures { result ≡ (if is_space x then Move.Goes Mode.Colon else (if x == 58 then Move.Goes Mode.Value else Move.Fails)) }
+fn before_colon(x: u8) -> Move
+    ensures { result ≡ before_colon x }
 {
     if is_space(x) {
         Move::Goes(Mode::Colon)
-    } else if x == 58 {
+    } else if x == b':' {
         Move::Goes(Mode::Value)
     } else {
         Move::Fails
     }
 }
 
-fn name_text(within: Within, x: u8) -> Move
-    ensures { result ≡ (if closes_text within x then Move.Goes Mode.Colon else goes (option_map Mode.NameText (string_step within x))) }
+fn in_name(within: Within, x: u8) -> Move
+    ensures { result ≡ in_name within x }
 {
-    if within == Within::Plain && x == 34 {
+    if within == Within::Plain && x == b'"' {
         Move::Goes(Mode::Colon)
     } else {
-        match string_step(within, x) {
-            Some(within) => Move::Goes(Mode::NameText(within)),
-            None => Move::Fails,
-        }
+        goes(string_step(within, x).map(Mode::NameText))
     }
 }
 
-pub fn step(mode: Mode, top: Option<Frame>, x: u8) -> Move
+fn in_text(within: Within, x: u8) -> Move
+    ensures { result ≡ in_text within x }
+{
+    if within == Within::Plain && x == b'"' {
+        Move::Goes(Mode::After)
+    } else {
+        goes(string_step(within, x).map(Mode::Text))
+    }
+}
+
+fn after_minus(x: u8) -> Move
+    ensures { result ≡ after_minus x }
+{
+    if x == b'0' {
+        Move::Goes(Mode::Zero)
+    } else if is_nonzero(x) {
+        Move::Goes(Mode::Whole)
+    } else {
+        Move::Fails
+    }
+}
+
+fn after_zero(top: Option<Frame>, x: u8) -> Move
+    ensures { result ≡ after_zero top x }
+{
+    if x == b'.' {
+        Move::Goes(Mode::Point)
+    } else if is_e(x) {
+        Move::Goes(Mode::Exponent)
+    } else {
+        follows(top, x)
+    }
+}
+
+fn in_whole(top: Option<Frame>, x: u8) -> Move
+    ensures { result ≡ in_whole top x }
+{
+    if is_digit(x) {
+        Move::Goes(Mode::Whole)
+    } else {
+        after_zero(top, x)
+    }
+}
+
+fn after_point(x: u8) -> Move
+    ensures { result ≡ after_point x }
+{
+    if is_digit(x) {
+        Move::Goes(Mode::Fraction)
+    } else {
+        Move::Fails
+    }
+}
+
+fn in_fraction(top: Option<Frame>, x: u8) -> Move
+    ensures { result ≡ in_fraction top x }
+{
+    if is_digit(x) {
+        Move::Goes(Mode::Fraction)
+    } else if is_e(x) {
+        Move::Goes(Mode::Exponent)
+    } else {
+        follows(top, x)
+    }
+}
+
+fn after_exponent(x: u8) -> Move
+    ensures { result ≡ after_exponent x }
+{
+    if is_digit(x) {
+        Move::Goes(Mode::Power)
+    } else if is_sign(x) {
+        Move::Goes(Mode::Sign)
+    } else {
+        Move::Fails
+    }
+}
+
+fn after_sign(x: u8) -> Move
+    ensures { result ≡ after_sign x }
+{
+    if is_digit(x) {
+        Move::Goes(Mode::Power)
+    } else {
+        Move::Fails
+    }
+}
+
+fn in_power(top: Option<Frame>, x: u8) -> Move
+    ensures { result ≡ in_power top x }
+{
+    if is_digit(x) {
+        Move::Goes(Mode::Power)
+    } else {
+        follows(top, x)
+    }
+}
+
+/// What the byte does in this mode, where `top` is what was opened last.
+pub(crate) fn step(mode: Mode, top: Option<Frame>, x: u8) -> Move
     ensures { result ≡ step mode top x }
 {
     match mode {
-        Mode::Value => if is_space(x) {
-            Move::Goes(Mode::Value)
-        } else {
-            begins(x)
-        },
-        Mode::FirstItem => match top {
-            Some(Frame::List) => first_item(x),
-            _ => Move::Fails,
-        },
-        Mode::FirstName => match top {
-            Some(Frame::Object) => first_name(x),
-            _ => Move::Fails,
-        },
-        Mode::Name => match top {
-            Some(Frame::Object) => name(x),
-            _ => Move::Fails,
-        },
-        Mode::Colon => match top {
-            Some(Frame::Object) => colon(x),
-            _ => Move::Fails,
-        },
-        Mode::NameText(within) => match top {
-            Some(Frame::Object) => name_text(within, x),
-            _ => Move::Fails,
-        },
+        Mode::Value => before_value(x),
+        Mode::FirstItem => in_list(top, before_first_item(x)),
+        Mode::FirstName => in_object(top, before_first_name(x)),
+        Mode::Name => in_object(top, before_name(x)),
+        Mode::Colon => in_object(top, before_colon(x)),
         Mode::After => follows(top, x),
-        Mode::Text(within) => if within == Within::Plain && x == 34 {
-            Move::Goes(Mode::After)
-        } else {
-            match string_step(within, x) {
-                Some(within) => Move::Goes(Mode::Text(within)),
-                None => Move::Fails,
-            }
-        },
+        Mode::NameText(within) => in_object(top, in_name(within, x)),
+        Mode::Text(within) => in_text(within, x),
         Mode::Word(word) => goes(word_step(word, x)),
-        Mode::Minus => if x == 48 {
-            Move::Goes(Mode::Zero)
-        } else if is_nonzero(x) {
-            Move::Goes(Mode::Whole)
-        } else {
-            Move::Fails
-        },
-        Mode::Zero => if x == 46 {
-            Move::Goes(Mode::Point)
-        } else if is_e(x) {
-            Move::Goes(Mode::Exponent)
-        } else {
-            follows(top, x)
-        },
-        Mode::Whole => if is_digit(x) {
-            Move::Goes(Mode::Whole)
-        } else if x == 46 {
-            Move::Goes(Mode::Point)
-        } else if is_e(x) {
-            Move::Goes(Mode::Exponent)
-        } else {
-            follows(top, x)
-        },
-        Mode::Point => if is_digit(x) {
-            Move::Goes(Mode::Fraction)
-        } else {
-            Move::Fails
-        },
-        Mode::Fraction => if is_digit(x) {
-            Move::Goes(Mode::Fraction)
-        } else if is_e(x) {
-            Move::Goes(Mode::Exponent)
-        } else {
-            follows(top, x)
-        },
-        Mode::Exponent => if is_digit(x) {
-            Move::Goes(Mode::Power)
-        } else if is_sign(x) {
-            Move::Goes(Mode::Sign)
-        } else {
-            Move::Fails
-        },
-        Mode::Sign => if is_digit(x) {
-            Move::Goes(Mode::Power)
-        } else {
-            Move::Fails
-        },
-        Mode::Power => if is_digit(x) {
-            Move::Goes(Mode::Power)
-        } else {
-            follows(top, x)
-        },
+        Mode::Minus => after_minus(x),
+        Mode::Zero => after_zero(top, x),
+        Mode::Whole => in_whole(top, x),
+        Mode::Point => after_point(x),
+        Mode::Fraction => in_fraction(top, x),
+        Mode::Exponent => after_exponent(x),
+        Mode::Sign => after_sign(x),
+        Mode::Power => in_power(top, x),
     }
 }

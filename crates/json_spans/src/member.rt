@@ -5,9 +5,9 @@ ghost use Rattle.json_spans.specs.Walk.{items, items_left, members, members_left
 ghost use Rattle.json_spans.specs.Parts.{has_first};
 ghost use Rattle.json_spans.specs.Left.{left};
 
-use crate::parts::{Parts, part_len};
+use crate::parts::{Parts, closes, part_len};
 use crate::span::Span;
-use crate::trimming::{spaces, trim};
+use crate::trimming::{spaces_before, trim};
 use crate::walk::{Items, Members};
 
 fn behind_colon(rest: Span<'_>) -> Span<'_>
@@ -28,7 +28,7 @@ fn behind_colon(rest: Span<'_>) -> Span<'_>
 fn name_of(part: Span<'_>) -> Span<'_>
     ensures { node result ≡ name_of (node part.entry) }
 {
-    let len = part_len(58, part.text);
+    let len = part_len(b':', part.text);
     trim(Span {
         text: &part.text[..len],
         at: part.at,
@@ -38,20 +38,21 @@ fn name_of(part: Span<'_>) -> Span<'_>
 fn value_of(part: Span<'_>) -> Span<'_>
     ensures { node result ≡ value_of (node part.entry) }
 {
-    let len = part_len(58, part.text);
+    let len = part_len(b':', part.text);
     trim(behind_colon(Span {
         text: &part.text[len..],
         at: part.at + len,
     }))
 }
 
-// Cut at the colon.
+// The name and the value, cut at the colon.
 pub(crate) fn member_of(part: Span<'_>) -> (Span<'_>, Span<'_>)
     ensures { nodes result ≡ member_of (node part.entry) }
 {
     (name_of(part), value_of(part))
 }
 
+// What stands between the commas behind the bracket.
 fn parts(span: Span<'_>) -> Parts<'_>
     ensures { left result ≡ raw_parts span.entry.at span.entry.text.now }
 {
@@ -62,30 +63,36 @@ fn parts(span: Span<'_>) -> Parts<'_>
             rest: span.text,
         },
         [_, rest @ ..] => Parts {
-            more: has_first(&rest[spaces(rest)..]),
+            more: has_first(&rest[spaces_before(rest)..]),
             at: span.at + 1,
             rest,
         },
     }
 }
 
+// Whether a part stands before the closing bracket.
 fn has_first(bytes: &[u8]) -> bool
     ensures { result ≡ has_first bytes.now }
 {
     match bytes {
         [] => false,
-        [x, ..] => !(*x == 93) && !(*x == 125),
+        [x, ..] => !closes(*x),
     }
 }
 
-/// The items of a list, without the spaces round them.
+/// The items of a list (RFC 8259, section 5), without the space round them.
+///
+/// They are cut at the commas, so a span that is no list has what stands between its commas.
 pub fn items(span: Span<'_>) -> Items<'_>
     ensures { items_left result ≡ items (node span.entry) }
 {
     Items { parts: parts(span) }
 }
 
-/// The names and values of an object.
+/// The names and values of an object (RFC 8259, section 4), without the space round them. A name
+/// keeps its quotes.
+///
+/// They are cut at commas and colons, so a span that is no object has what stands between those.
 pub fn members(span: Span<'_>) -> Members<'_>
     ensures { members_left result ≡ members (node span.entry) }
 {

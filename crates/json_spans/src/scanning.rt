@@ -4,19 +4,25 @@ ghost use Rattle.json_spans.specs.Faults.{Judges};
 ghost use Rattle.json_spans.specs.Grammar.{Json};
 ghost use Rattle.json_spans.specs.Trimmed.{trimmed};
 ghost use Rattle.json_spans.specs.Left.{node};
+ghost use Rattle.json_spans.specs.Roots.{span_of};
 
 use crate::machine::{Frame, Mode, Move, step};
 use crate::span::Span;
 use crate::trimming::trim;
-use std::alloc::{AllocError, AllocFailed, Global};
+use std::alloc::{AllocFailed, Allocator};
 use thiserror::Error;
 
+/// Why bytes are not taken as a JSON text.
 #[derive(Debug, Drop, Error)]
 pub enum ScanFault {
+    /// No JSON text begins with the bytes up to this place and has the byte there: the place is the
+    /// length where the bytes are only a text's front.
     #[error("not JSON at {place}")]
     NotJson { place: usize },
+    /// The bracket at this place opens a list or an object inside 100 others.
     #[error("too deep at {place}")]
     TooDeep { place: usize },
+    /// There is no memory for the list of open brackets.
     #[error("out of memory")]
     OutOfMemory,
 }
@@ -31,6 +37,7 @@ impl<T: Drop> From<AllocFailed<T>> for ScanFault {
     }
 }
 
+// How many lists and objects may be open (RFC 8259, section 9).
 const MAX_DEPTH: usize = 100;
 
 fn first_in(frame: Frame) -> Mode
@@ -42,50 +49,54 @@ fn first_in(frame: Frame) -> Mode
     }
 }
 
+// Whether a text may end here.
 fn may_end(mode: Mode) -> bool
     ensures { result ≡ may_end mode }
 {
-    match mode {
-        Mode::After | Mode::Zero | Mode::Whole | Mode::Fraction | Mode::Power => true,
-        _ => false,
-    }
+    matches!(
+        mode,
+        Mode::After | Mode::Zero | Mode::Whole | Mode::Fraction | Mode::Power
+    )
 }
 
 // The newest frame is the last of the Vec, and the first of the list.
 #[tactic(auto, using(crate::proofs::Frames::top_of_reverse))]
-fn top(frames: &Vec<Frame>) -> Option<Frame>
+fn top<A: Allocator + Copy>(frames: &Vec<Frame, A>) -> Option<Frame>
     ensures { result ≡ top_of (reverse frames.now.items) }
 {
     frames.last().copied()
 }
 
 #[tactic(auto, using(crate::proofs::Frames::reverse_push))]
-fn push(frames: &mut Vec<Frame>, frame: Frame) -> Result<(), AllocFailed<Frame>>
+fn push<A: Allocator + Copy>(
+    frames: &mut Vec<Frame, A>,
+    frame: Frame,
+) -> Result<(), AllocFailed<Frame>>
     ensures { OnOk result (reverse frames.new.items ≡ frame ∷ reverse frames.old.items) }
 {
     frames.push(frame)
 }
 
 #[tactic(auto, using(crate::proofs::Frames::reverse_pop))]
-fn pop(frames: &mut Vec<Frame>)
+fn pop<A: Allocator + Copy>(frames: &mut Vec<Frame, A>)
     ensures { reverse frames.new.items ≡ rest_of (reverse frames.old.items) }
 {
     let _ = frames.pop();
 }
 
 #[tactic(auto, using(crate::proofs::Frames::is_empty_reverse))]
-fn may_stop(mode: Mode, frames: &Vec<Frame>) -> bool
+fn may_stop<A: Allocator + Copy>(mode: Mode, frames: &Vec<Frame, A>) -> bool
     ensures { result ≡ (may_end mode && (length (reverse frames.now.items) == 0)) }
 {
     may_end(mode) && frames.is_empty()
 }
 
-/// Whether the bytes are a JSON text, and if not, where they stop to be the front of one.
-fn check(alloc: Global, bytes: &[u8]) -> Result<(), ScanFault>
+/// Whether the bytes are a JSON text, and if not, where they stop being the front of one.
+fn check<A: Allocator + Copy>(alloc: A, bytes: &[u8]) -> Result<(), ScanFault>
     ensures { Judges result (verdict bytes.now) }
 {
     let mut mode = Mode::Value;
-    let mut frames: Vec<Frame> = Vec::new(alloc);
+    let mut frames: Vec<Frame, A> = Vec::new(alloc);
     for (place, byte) in bytes.iter().enumerate() {
         match step(mode, top(&frames), *byte) {
             Move::Goes(next) => mode = next,
@@ -110,29 +121,35 @@ fn check(alloc: Global, bytes: &[u8]) -> Result<(), ScanFault>
     }
 }
 
-/// The whole text as a value.
+/// The value of a whole text, made by `scan`.
 #[derive(Clone, Copy, Debug)]
 pub struct Root<'a> {
     span: Span<'a>,
 }
 
 impl<'a> Root<'a> {
+    /// The value, without the space round it (RFC 8259, section 2).
     pub fn span(&self) -> Span<'a>
-        ensures { result ≡ self.now.span }
+        ensures { result ≡ span_of self.now }
     {
         self.span
     }
 }
 
-/// The value that the bytes are, with at most 100 lists and objects one in another.
+/// The value that the bytes are as a JSON text (RFC 8259, section 2), with at most 100 lists and
+/// objects one in another (section 9).
+///
+/// A string may have half of a surrogate pair (section 8.2). `NotJson` and `TooDeep` name the first
+/// byte that cannot stand where it does. Only the open brackets take memory.
 #[tactic(auto, using(crate::proofs::Sound::verdict_json, crate::proofs::Complete::json_verdict))]
-pub fn scan(alloc: Global, bytes: &[u8]) -> Result<Root<'_>, ScanFault>
-    ensures span { IfOk result (λ r. node r.span ≡ trimmed (record { at_byte = 0; bytes = bytes.now })) }
+pub fn scan<'a, A: Allocator + Copy>(alloc: A, bytes: &'a [u8]) -> Result<Root<'a>, ScanFault>
+    ensures span { IfOk result (λ root.
+        node (span_of root) ≡ trimmed (record { at_byte = 0; bytes = bytes.now })) }
+    ensures places { Judges result (verdict bytes.now) }
     ensures json { IfOk result (λ _. Json 100 bytes.now) }
-    ensures refused { IfErr result (λ e. e ≢ ScanFault.OutOfMemory → ¬ Json 100 bytes.now) }
+    ensures refused { IfErr result (λ fault. fault ≢ ScanFault.OutOfMemory → ¬ Json 100 bytes.now) }
 {
     check(alloc, bytes)?;
-    Ok(Root {
-        span: trim(Span { text: bytes, at: 0 }),
-    })
+    let whole = Span { text: bytes, at: 0 };
+    Ok(Root { span: trim(whole) })
 }

@@ -1,5 +1,6 @@
 -- What an accepted edit of a vertex gives: a proper document, with every position on its side.
-use Rattle.std.proofs.Common.{◌≡◌, ℕ, ℤ, Bool, true, false, refl, sym, ap, ◌∙◌, cond, List, [], ◌∷◌, ◌++◌, map, ◌||◌, ◌&&◌, Option, None, Some, inl, inr}
+use Rattle.std.proofs.Common.{◌≡◌, ℕ, ℤ, Bool, true, false, refl, sym, ap, ◌∙◌, cond, List, [], ◌∷◌}
+use Rattle.std.proofs.Common.{◌++◌, map, ◌||◌, ◌&&◌, Option, None, Some, inl, inr}
 use Rattle.std.specs.Prelude.{not}
 use Rattle.std.specs.List.{list_any, fold, filter}
 use Rattle.std.specs.Option.{option_and_then}
@@ -17,7 +18,8 @@ use Rattle.ring_machine.specs.Sweep.{move_sweeps, insert_sweeps, remove_sweeps}
 use Rattle.ring_machine.specs.Sides.{ring_at, KeepsSides}
 use Rattle.ring_machine.specs.Query.{vertices}
 use Rattle.ring_machine.specs.Command.{Refusal}
-use Rattle.ring_machine.specs.Refusals.{◌unless◌, first_of, planar, conflict_of, is_small, are_long, is_bridged, move_refusals, insert_refusals, remove_refusals}
+use Rattle.ring_machine.specs.Refusals.{◌unless◌, first_of, planar, conflict_of, is_small, are_long}
+use Rattle.ring_machine.specs.Refusals.{is_bridged, move_refusals, insert_refusals, remove_refusals}
 use Rattle.ring_machine.specs.Thin.{Thinning, is_flat, without, thin_at, thinned}
 use Rattle.ring_machine.proofs.Order.{or_true, or_right}
 use Rattle.ring_machine.proofs.Canonical.{canonical_parts}
@@ -28,14 +30,17 @@ use Rattle.ring_machine.proofs.SidesKept.{ring_at-mapped, move-keeps, insert-kee
 
 -- ---- no refusal: each condition holds
 
-passes : (r : Refusal) (b : Bool) (rest : List (Option Refusal)) → first_of (r unless b ∷ rest) ≡ None → (b ≡ true) × (first_of rest ≡ None)
+passes : (r : Refusal) (b : Bool) (rest : List (Option Refusal))
+    → first_of (r unless b ∷ rest) ≡ None → (b ≡ true) × (first_of rest ≡ None)
 passes r true rest h = (refl, h)
 passes r false rest h = absurd cc
 
-stays_apart : (d : Document) (rest : List (Option Refusal)) → first_of (planar d ∷ rest) ≡ None → (first_pair d ≡ None) × (first_of rest ≡ None)
+stays_apart : (d : Document) (rest : List (Option Refusal)) → first_of (planar d ∷ rest) ≡ None
+    → (first_pair d ≡ None) × (first_of rest ≡ None)
 stays_apart d rest h = by (first_pair d) refl h
   where
-    by : (o : _) → first_pair d ≡ o → first_of (conflict_of o ∷ rest) ≡ None → (first_pair d ≡ None) × (first_of rest ≡ None)
+    by : (o : _) → first_pair d ≡ o → first_of (conflict_of o ∷ rest) ≡ None
+        → (first_pair d ≡ None) × (first_of rest ≡ None)
     by None e k = (e, k)
     by (Some pair) e k = absurd cc
 
@@ -45,7 +50,8 @@ pub record MoveAccepted (d : Document) (p q : Position) : Type 0 where
   pub apart : first_pair (put d p q) ≡ None
   pub still : move_sweeps d p q ≡ false
 
-pub move-accepted : (d : Document) (p q : Position) → first_of (move_refusals d p q) ≡ None → MoveAccepted d p q
+pub move-accepted : (d : Document) (p q : Position) → first_of (move_refusals d p q) ≡ None
+    → MoveAccepted d p q
 unfolding move_refusals
 move-accepted d p q h =
     let a = passes _ (is_vertex d p) _ h in
@@ -61,7 +67,8 @@ pub record InsertAccepted (d : Document) (a b q : Position) : Type 0 where
   pub apart : first_pair (ins d a b q) ≡ None
   pub still : insert_sweeps d a b q ≡ false
 
-pub insert-accepted : (d : Document) (a b q : Position) → first_of (insert_refusals d a b q) ≡ None → InsertAccepted d a b q
+pub insert-accepted : (d : Document) (a b q : Position) → first_of (insert_refusals d a b q) ≡ None
+    → InsertAccepted d a b q
 unfolding insert_refusals
 insert-accepted d a b q h =
     let s = passes _ (is_segment d (segment a b)) _ h in
@@ -79,7 +86,8 @@ pub record RemoveAccepted (d : Document) (p : Position) : Type 0 where
   pub apart : first_pair (del d p) ≡ None
   pub still : remove_sweeps d p ≡ false
 
-pub remove-accepted : (d : Document) (p : Position) → first_of (remove_refusals d p) ≡ None → RemoveAccepted d p
+pub remove-accepted : (d : Document) (p : Position) → first_of (remove_refusals d p) ≡ None
+    → RemoveAccepted d p
 unfolding remove_refusals
 remove-accepted d p h =
     let v = passes _ (is_vertex d p) _ h in
@@ -92,18 +100,22 @@ remove-accepted d p h =
 
 -- ---- what they give
 
-pub moved : (d : Document) (p q : Position) → Proper d → first_of (move_refusals d p q) ≡ None → Proper (put d p q) × KeepsSides d (put d p q)
+pub moved : (d : Document) (p q : Position) → Proper d → first_of (move_refusals d p q) ≡ None
+    → Proper (put d p q) × KeepsSides d (put d p q)
 moved d p q proper h = let a = move-accepted d p q h in (put_is_proper d p q proper a.free a.apart, move-keeps d p q proper a.still)
 
-pub inserted : (d : Document) (a b q : Position) → Proper d → first_of (insert_refusals d a b q) ≡ None → Proper (ins d a b q) × KeepsSides d (ins d a b q)
+pub inserted : (d : Document) (a b q : Position) → Proper d
+    → first_of (insert_refusals d a b q) ≡ None → Proper (ins d a b q) × KeepsSides d (ins d a b q)
 inserted d a b q proper h = let c = insert-accepted d a b q h in (ins_is_proper d a b q proper c.free c.apart, insert-keeps d a b q c.still)
 
-pub removed : (d : Document) (p : Position) → Proper d → first_of (remove_refusals d p) ≡ None → Proper (del d p) × KeepsSides d (del d p)
+pub removed : (d : Document) (p : Position) → Proper d → first_of (remove_refusals d p) ≡ None
+    → Proper (del d p) × KeepsSides d (del d p)
 removed d p proper h = let a = remove-accepted d p h in (del_is_proper d p proper a.long a.apart, remove-keeps d p proper a.single a.long a.still)
 
 -- ---- thinning
 
-has-canonical : (ring : List Position) (w : Position) → has (canonical ring) w ≡ true → has ring w ≡ true
+has-canonical : (ring : List Position) (w : Position) → has (canonical ring) w ≡ true
+    → has ring w ≡ true
 has-canonical ring w h =
     let parts = canonical_parts ring in
     ap (λ r. has r w) parts.2 ∙ swapped parts.0 parts.1 (ap (λ r. has r w) (sym parts.3) ∙ h)
@@ -117,11 +129,13 @@ has-canonical ring w h =
     swapped : (us vs : List Position) → has (vs ++ us) w ≡ true → has (us ++ vs) w ≡ true
     swapped us vs k = list_any-append (position_eq w) us vs ∙ turn_or (has vs w) (has us w) (sym (list_any-append (position_eq w) vs us) ∙ k)
 
-has-filter : (test : Position → Bool) (ps : List Position) (w : Position) → has (filter test ps) w ≡ true → has ps w ≡ true
+has-filter : (test : Position → Bool) (ps : List Position) (w : Position)
+    → has (filter test ps) w ≡ true → has ps w ≡ true
 has-filter test [] w h = h
 has-filter test (p ∷ ps) w h = by (test p) (position_eq w p) h (has-filter test ps w)
   where
-    by : (t e : Bool) → has (cond t (p ∷ filter test ps) (filter test ps)) w ≡ true → (has (filter test ps) w ≡ true → has ps w ≡ true) → (position_eq w p || has ps w) ≡ true
+    by : (t e : Bool) → has (cond t (p ∷ filter test ps) (filter test ps)) w ≡ true
+        → (has (filter test ps) w ≡ true → has ps w ≡ true) → (position_eq w p || has ps w) ≡ true
     by true e h ih = or_cases (position_eq w p) h
       where
         or_cases : (u : Bool) → (u || has (filter test ps) w) ≡ true → (u || has ps w) ≡ true
@@ -129,13 +143,15 @@ has-filter test (p ∷ ps) w h = by (test p) (position_eq w p) h (has-filter tes
         or_cases false k = ih k
     by false e h ih = or_right (position_eq w p) (has ps w) (ih h)
 
-has-del : (p : Position) (ring : List Position) (w : Position) → has (del_ring p ring) w ≡ true → has ring w ≡ true
+has-del : (p : Position) (ring : List Position) (w : Position) → has (del_ring p ring) w ≡ true
+    → has ring w ≡ true
 has-del p ring w h = has-filter (λ r. not (position_eq r p)) ring w (has-canonical (filter (λ r. not (position_eq r p)) ring) w h)
 
 vertex-del : (d : Document) (p w : Position) → is_vertex (del d p) w ≡ true → is_vertex d w ≡ true
 vertex-del d p w h = over (rings d) (sym (ap (list_any (λ ring. has ring w)) (rings-in_rings (del_ring p) d)) ∙ h)
   where
-    over : (rs : List (List Position)) → list_any (λ ring. has ring w) (map (del_ring p) rs) ≡ true → list_any (λ ring. has ring w) rs ≡ true
+    over : (rs : List (List Position)) → list_any (λ ring. has ring w) (map (del_ring p) rs) ≡ true
+        → list_any (λ ring. has ring w) rs ≡ true
     over [] k = k
     over (r ∷ rs) k = elim (or_true (has (del_ring p r) w) (list_any (λ ring. has ring w) (map (del_ring p) rs)) k) [
       | inl i ↦ ap (λ t. t || list_any (λ ring. has ring w) rs) (has-del p r w i)
@@ -146,7 +162,8 @@ vertex-del d p w h = over (rings d) (sym (ap (list_any (λ ring. has ring w)) (r
 pub record ThinnedFrom (before after : Document) : Type 0 where
   pub proper : Proper after
   pub old : (w : Position) → is_vertex after w ≡ true → is_vertex before w ≡ true
-  pub smaller : (n i j : ℕ) (s : List Position) → ring_at after n i j ≡ Some s → (r : List Position) × (ring_at before n i j ≡ Some r) × ((w : Position) → has s w ≡ true → has r w ≡ true)
+  pub smaller : (n i j : ℕ) (s : List Position) → ring_at after n i j ≡ Some s
+      → (r : List Position) × (ring_at before n i j ≡ Some r) × ((w : Position) → has s w ≡ true → has r w ≡ true)
   pub sides : KeepsSides before after
 
 from_itself : (d : Document) → Proper d → ThinnedFrom d d
@@ -160,7 +177,8 @@ from_itself d proper = record {
     some_same : (s r : List Position) → Some s ≡ Some r → s ≡ r
     some_same s r e = cc
 
-one_more : (before now : Document) (p : Position) → ThinnedFrom before now → first_of (remove_refusals now p) ≡ None → ThinnedFrom before (del now p)
+one_more : (before now : Document) (p : Position) → ThinnedFrom before now
+    → first_of (remove_refusals now p) ≡ None → ThinnedFrom before (del now p)
 one_more before now p t h =
     let both = removed now p t.proper h in
     record {
@@ -186,14 +204,18 @@ one_more before now p t h =
     refuted false h = refl
     refuted true h = absurd (h refl)
 
-    was : (o : Option (List Position)) (s : List Position) → option_and_then (λ a. Some (del_ring p a)) o ≡ Some s → (r : List Position) × (o ≡ Some r) × (s ≡ del_ring p r)
+    was : (o : Option (List Position)) (s : List Position)
+        → option_and_then (λ a. Some (del_ring p a)) o ≡ Some s
+        → (r : List Position) × (o ≡ Some r) × (s ≡ del_ring p r)
     was None s e = absurd cc
     was (Some r) s e = (r, refl, some_same s (del_ring p r) (sym e))
 
-at_one : (before : Document) (t : ℤ) (so_far : Thinning) (p : Position) → ThinnedFrom before so_far.doc → ThinnedFrom before (thin_at t so_far p).doc
+at_one : (before : Document) (t : ℤ) (so_far : Thinning) (p : Position)
+    → ThinnedFrom before so_far.doc → ThinnedFrom before (thin_at t so_far p).doc
 at_one before t so_far p h = by (not (is_junction so_far.doc p) && is_flat t so_far.doc p) (first_of (remove_refusals so_far.doc p)) refl
   where
-    by : (b : Bool) (o : Option Refusal) → first_of (remove_refusals so_far.doc p) ≡ o → ThinnedFrom before (cond b (without so_far p o) so_far).doc
+    by : (b : Bool) (o : Option Refusal) → first_of (remove_refusals so_far.doc p) ≡ o
+        → ThinnedFrom before (cond b (without so_far p o) so_far).doc
     by true None e = one_more before so_far.doc p h e
     by true (Some r) e = h
     by false o e = h
@@ -202,6 +224,7 @@ pub thinned-keeps : (d : Document) (t : ℤ) → Proper d → ThinnedFrom d (thi
 unfolding thinned
 thinned-keeps d t proper = over (vertices d) (record { doc = d; removed = 0 }) (from_itself d proper)
   where
-    over : (ps : List Position) (so_far : Thinning) → ThinnedFrom d so_far.doc → ThinnedFrom d (fold (thin_at t) so_far ps).doc
+    over : (ps : List Position) (so_far : Thinning) → ThinnedFrom d so_far.doc
+        → ThinnedFrom d (fold (thin_at t) so_far ps).doc
     over [] so_far h = h
     over (p ∷ ps) so_far h = over ps (thin_at t so_far p) (at_one d t so_far p h)

@@ -2,11 +2,15 @@
 use Rattle.std.proofs.Common.{◌≡◌, refl, sym, ap, ap₂, ◌∙◌, List, [], ◌∷◌, ◌++◌, map}
 use Rattle.std.specs.List.{flat_map, filter_map}
 use Rattle.std.proofs.lemmas.List.{map-append}
-use Rattle.ring_machine.specs.Document.{FeatureOf, ItemOf, LayerOf, DocumentOf, Open, Close, Leaf, Kept}
-use Rattle.ring_machine.specs.Parts.{feature_of, features, rings_of, rings, in_feature, in_item, in_layer, in_rings}
+use Rattle.ring_machine.specs.Document.{FeatureOf, ItemOf, LayerOf, DocumentOf, Open, Close, Leaf}
+use Rattle.ring_machine.specs.Document.{Kept}
+use Rattle.ring_machine.specs.Parts.{feature_of, features, rings_of, rings, in_feature, in_item}
+use Rattle.ring_machine.specs.Parts.{in_layer, in_rings}
 
 module _ {R S : Type 0} (g : R → S) where
-  features-items : (is : List (ItemOf R)) → filter_map feature_of (map (in_item (in_feature g)) is) ≡ map (in_feature g) (filter_map feature_of is)
+  features-items : (is : List (ItemOf R))
+      → filter_map feature_of (map (in_item (in_feature g)) is)
+      ≡ map (in_feature g) (filter_map feature_of is)
   features-items [] = refl
   features-items (Leaf f ∷ is) = ap (λ z. in_feature g f ∷ z) (features-items is)
   features-items (Open h ∷ is) = features-items is
@@ -16,22 +20,27 @@ module _ {R S : Type 0} (g : R → S) where
   abbrev of_layers : {T : Type 0} → List (LayerOf T) → List (FeatureOf T)
   of_layers ls = flat_map (λ l. filter_map feature_of l.items) ls
 
-  features-layers : (ls : List (LayerOf R)) → of_layers (map (in_layer (map (in_item (in_feature g)))) ls) ≡ map (in_feature g) (of_layers ls)
+  features-layers : (ls : List (LayerOf R))
+      → of_layers (map (in_layer (map (in_item (in_feature g)))) ls)
+      ≡ map (in_feature g) (of_layers ls)
   features-layers [] = refl
   features-layers (l ∷ ls) =
       ap₂ (λ y z. y ++ z) (features-items l.items) (features-layers ls)
       ∙ sym (map-append (in_feature g) (filter_map feature_of l.items) (of_layers ls))
 
-  polygons-rings : (ps : List (List R)) → flat_map (λ p. p) (map (map g) ps) ≡ map g (flat_map (λ p. p) ps)
+  polygons-rings : (ps : List (List R))
+      → flat_map (λ p. p) (map (map g) ps) ≡ map g (flat_map (λ p. p) ps)
   polygons-rings [] = refl
   polygons-rings (p ∷ ps) = ap (λ z. map g p ++ z) (polygons-rings ps) ∙ sym (map-append g p (flat_map (λ q. q) ps))
 
-  features-rings : (fs : List (FeatureOf R)) → flat_map rings_of (map (in_feature g) fs) ≡ map g (flat_map rings_of fs)
+  features-rings : (fs : List (FeatureOf R))
+      → flat_map rings_of (map (in_feature g) fs) ≡ map g (flat_map rings_of fs)
   features-rings [] = refl
   features-rings (f ∷ fs) = ap₂ (λ y z. y ++ z) (polygons-rings f.polygons) (features-rings fs) ∙ sym (map-append g (rings_of f) (flat_map rings_of fs))
 
   -- each feature is the changed one
-  pub features-in_rings : (d : DocumentOf R) → features (in_rings g d) ≡ map (in_feature g) (features d)
+  pub features-in_rings : (d : DocumentOf R)
+      → features (in_rings g d) ≡ map (in_feature g) (features d)
   features-in_rings d = features-layers d.layers
 
   -- each ring is the changed one

@@ -1,5 +1,6 @@
 -- An accepted edit of a vertex gives a proper document.
-use Rattle.std.proofs.Common.{◌≡◌, ◌≤◌, ◌+◌, ℕ, Bool, true, false, refl, ap, ap₂, ◌∙◌, subst, cond, List, [], ◌∷◌, ◌++◌, map, length, ◌||◌, ◌&&◌, arith, None}
+use Rattle.std.proofs.Common.{◌≡◌, ◌≤◌, ◌+◌, ℕ, Bool, true, false, refl, ap, ap₂, ◌∙◌, subst, cond}
+use Rattle.std.proofs.Common.{List, [], ◌∷◌, ◌++◌, map, length, ◌||◌, ◌&&◌, arith, None}
 use Rattle.std.specs.Prelude.{not, nat_le, nat_lt}
 use Rattle.std.specs.List.{list_any, list_all, flat_map}
 use Rattle.std.proofs.lemmas.Bool.{false≢true}
@@ -17,7 +18,8 @@ use Rattle.ring_machine.proofs.Order.{and_both, position_eq-true}
 use Rattle.ring_machine.proofs.Arcs.{is_of}
 use Rattle.ring_machine.proofs.Edges.{edges_is, edges_to}
 use Rattle.ring_machine.proofs.Removal.{none_parts, not_true, others, filter_lacks}
-use Rattle.ring_machine.proofs.StaysRing.{canonical_is_ring, put-distinct, del-distinct, ins-distinct}
+use Rattle.ring_machine.proofs.StaysRing.{canonical_is_ring, put-distinct, del-distinct}
+use Rattle.ring_machine.proofs.StaysRing.{ins-distinct}
 use Rattle.ring_machine.proofs.RingSegments.{ring_once}
 use Rattle.ring_machine.proofs.RingsOf.{rings-in_rings}
 
@@ -33,24 +35,29 @@ ring_distinct ring h = (and_both (is_distinct ring) (begins_least ring) (and_bot
 
 -- ---- one ring
 
-put_is_ring : (p q : Position) (ring : List Position) → is_ring ring ≡ true → has ring q ≡ false → is_ring (put_ring p q ring) ≡ true
+put_is_ring : (p q : Position) (ring : List Position) → is_ring ring ≡ true → has ring q ≡ false
+    → is_ring (put_ring p q ring) ≡ true
 put_is_ring p q ring h k =
     canonical_is_ring (map (λ r. cond (position_eq r p) q r) ring) (omega (arith, ring_long ring h, length-map ring (λ r. cond (position_eq r p) q r))) (put-distinct p q ring k (ring_distinct ring h))
 
-pub others_long : (p : Position) (ps : List Position) → is_distinct ps ≡ true → length ps ≤ length (others p ps) + 1
+pub others_long : (p : Position) (ps : List Position) → is_distinct ps ≡ true
+    → length ps ≤ length (others p ps) + 1
 others_long p [] d = omega arith
 others_long p (x ∷ ps) d =
     let d' = and_both (not (has ps x)) (is_distinct ps) d in
     by (position_eq x p) refl (not_true _ d'.0) (others_long p ps d'.1)
   where
-    by : (t : Bool) → position_eq x p ≡ t → has ps x ≡ false → length ps ≤ length (others p ps) + 1 → length (x ∷ ps) ≤ length (cond (not t) (x ∷ others p ps) (others p ps)) + 1
+    by : (t : Bool) → position_eq x p ≡ t → has ps x ≡ false → length ps ≤ length (others p ps) + 1
+        → length (x ∷ ps) ≤ length (cond (not t) (x ∷ others p ps) (others p ps)) + 1
     by true e k h = omega (arith, ap length (filter_lacks p ps (subst (λ z. has ps z ≡ false) (position_eq-true x p e) k)))
     by false e k h = omega (arith, h)
 
-del_is_ring : (p : Position) (ring : List Position) → is_ring ring ≡ true → (not (has ring p) || nat_lt 3 (length ring)) ≡ true → is_ring (del_ring p ring) ≡ true
+del_is_ring : (p : Position) (ring : List Position) → is_ring ring ≡ true
+    → (not (has ring p) || nat_lt 3 (length ring)) ≡ true → is_ring (del_ring p ring) ≡ true
 del_is_ring p ring h k = by (has ring p) refl k
   where
-    by : (t : Bool) → has ring p ≡ t → (not t || nat_lt 3 (length ring)) ≡ true → is_ring (del_ring p ring) ≡ true
+    by : (t : Bool) → has ring p ≡ t → (not t || nat_lt 3 (length ring)) ≡ true
+        → is_ring (del_ring p ring) ≡ true
     by false e m = canonical_is_ring (others p ring) (omega (arith, ring_long ring h, ap length (filter_lacks p ring e))) (del-distinct p ring (ring_distinct ring h))
     by true e m = canonical_is_ring (others p ring) (omega (arith, more (length ring) m, others_long p ring (ring_distinct ring h))) (del-distinct p ring (ring_distinct ring h))
       where
@@ -73,11 +80,13 @@ longer : (s : Segment) (q : Position) (es : List Edge) → length es ≤ length 
 longer s q [] = omega arith
 longer s q (e ∷ es) = by (is_of s e) (longer s q es)
   where
-    by : (t : Bool) → length es ≤ length (with_between s q es) → length (e ∷ es) ≤ length (cond t (e.0 ∷ q ∷ []) (e.0 ∷ []) ++ with_between s q es)
+    by : (t : Bool) → length es ≤ length (with_between s q es)
+        → length (e ∷ es) ≤ length (cond t (e.0 ∷ q ∷ []) (e.0 ∷ []) ++ with_between s q es)
     by true h = omega (arith, h)
     by false h = omega (arith, h)
 
-ins_is_ring : (a b q : Position) (ring : List Position) → is_ring ring ≡ true → has ring q ≡ false → is_ring (ins_ring a b q ring) ≡ true
+ins_is_ring : (a b q : Position) (ring : List Position) → is_ring ring ≡ true → has ring q ≡ false
+    → is_ring (ins_ring a b q ring) ≡ true
 ins_is_ring a b q [] h k = absurd (false≢true h)
 ins_is_ring a b q (x ∷ []) h k = absurd (false≢true h)
 ins_is_ring a b q (x ∷ y ∷ []) h k = absurd (false≢true h)
@@ -91,25 +100,30 @@ ins_is_ring a b q (x ∷ y ∷ z ∷ ps) h k =
 
 -- ---- every ring
 
-all_changed : {A B : Type 0} (test : A → Bool) (other : B → Bool) (g : A → B) → ((a : A) → test a ≡ true → other (g a) ≡ true) → (xs : List A) → list_all test xs ≡ true → list_all other (map g xs) ≡ true
+all_changed : {A B : Type 0} (test : A → Bool) (other : B → Bool) (g : A → B)
+    → ((a : A) → test a ≡ true → other (g a) ≡ true) → (xs : List A) → list_all test xs ≡ true
+    → list_all other (map g xs) ≡ true
 all_changed test other g h [] k = refl
 all_changed test other g h (x ∷ xs) k = let both = and_both (test x) (list_all test xs) k in ap₂ (λ y z. y && z) (h x both.0) (all_changed test other g h xs both.1)
 
-all_and_none : {A : Type 0} (test none : A → Bool) (xs : List A) → list_all test xs ≡ true → list_any none xs ≡ false → list_all (λ x. test x && not (none x)) xs ≡ true
+all_and_none : {A : Type 0} (test none : A → Bool) (xs : List A) → list_all test xs ≡ true
+    → list_any none xs ≡ false → list_all (λ x. test x && not (none x)) xs ≡ true
 all_and_none test none [] h k = refl
 all_and_none test none (x ∷ xs) h k =
     let h' = and_both (test x) (list_all test xs) h in
     let k' = none_parts (none x) (list_any none xs) k in
     ap₂ (λ y z. y && z) (ap₂ (λ y z. y && not z) h'.0 k'.0) (all_and_none test none xs h'.1 k'.1)
 
-all_and_all : {A : Type 0} (test more : A → Bool) (xs : List A) → list_all test xs ≡ true → list_all more xs ≡ true → list_all (λ x. test x && more x) xs ≡ true
+all_and_all : {A : Type 0} (test more : A → Bool) (xs : List A) → list_all test xs ≡ true
+    → list_all more xs ≡ true → list_all (λ x. test x && more x) xs ≡ true
 all_and_all test more [] h k = refl
 all_and_all test more (x ∷ xs) h k =
     let h' = and_both (test x) (list_all test xs) h in
     let k' = and_both (more x) (list_all more xs) k in
     ap₂ (λ y z. y && z) (ap₂ (λ y z. y && z) h'.0 k'.0) (all_and_all test more xs h'.1 k'.1)
 
-pub put_is_proper : (d : Document) (p q : Position) → Proper d → is_vertex d q ≡ false → first_pair (put d p q) ≡ None → Proper (put d p q)
+pub put_is_proper : (d : Document) (p q : Position) → Proper d → is_vertex d q ≡ false
+    → first_pair (put d p q) ≡ None → Proper (put d p q)
 put_is_proper d p q proper free apart = record {
   are_rings = ap (list_all is_ring) (rings-in_rings (put_ring p q) d)
       ∙ all_changed (λ ring. is_ring ring && not (has ring q)) is_ring (put_ring p q)
@@ -118,7 +132,8 @@ put_is_proper d p q proper free apart = record {
   apart = apart;
 }
 
-pub ins_is_proper : (d : Document) (a b q : Position) → Proper d → is_vertex d q ≡ false → first_pair (ins d a b q) ≡ None → Proper (ins d a b q)
+pub ins_is_proper : (d : Document) (a b q : Position) → Proper d → is_vertex d q ≡ false
+    → first_pair (ins d a b q) ≡ None → Proper (ins d a b q)
 ins_is_proper d a b q proper free apart = record {
   are_rings = ap (list_all is_ring) (rings-in_rings (ins_ring a b q) d)
       ∙ all_changed (λ ring. is_ring ring && not (has ring q)) is_ring (ins_ring a b q)
@@ -127,7 +142,8 @@ ins_is_proper d a b q proper free apart = record {
   apart = apart;
 }
 
-pub del_is_proper : (d : Document) (p : Position) → Proper d → are_long d p ≡ true → first_pair (del d p) ≡ None → Proper (del d p)
+pub del_is_proper : (d : Document) (p : Position) → Proper d → are_long d p ≡ true
+    → first_pair (del d p) ≡ None → Proper (del d p)
 del_is_proper d p proper long apart = record {
   are_rings = ap (list_all is_ring) (rings-in_rings (del_ring p) d)
       ∙ all_changed (λ ring. is_ring ring && (not (has ring p) || nat_lt 3 (length ring))) is_ring (del_ring p)

@@ -14,4 +14,3 @@ pub mod Refusals
 pub mod Thin
 pub mod Machine
 pub mod Arcs
-pub mod Worked

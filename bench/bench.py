@@ -1,0 +1,456 @@
+#!/usr/bin/env python3
+"""Times the built program border_edit on real maps and on maps that it makes itself.
+
+The program has to stand already; this script builds nothing. In crates/border_edit
+
+    rt run -- --help
+
+proves the program, has LLVM build it at level 2, which is the usual one, leaves the executable as
+crates/border_edit/out/border_edit, and runs that with the words behind `--`. No command of `rt`
+builds a program without running it, and `--help` is the shortest run. With no change since, it
+builds nothing anew. `rt ci` leaves the executable of its own LLVM build in the same place, and
+beside it one by Rattle's own compiler, which is not measured here.
+
+For each map there is one line a measure:
+
+    open      seconds to open the map, with an empty script; the least of several runs
+    edits     accepted edits a second: vertices moved by one unit and back
+    queries   `area` lines answered a second
+    memory    the most memory that opening the map and a few edits took
+
+The time of opening is taken off before edits and queries are counted. Their number is adapted, so
+that a run takes some seconds. A measure that fails says `failed`, and why; a map or a program that
+is not there has a line that says so.
+
+The maps that this script makes are partitions of the plane in brick order, each border written
+once and met by its neighbours at junctions, with whole-number coordinates. They are the same for
+the same seed, and are kept in bench/out.
+"""
+import argparse
+import collections
+import json
+import multiprocessing
+import os
+import pathlib
+import random
+import re
+import subprocess
+import sys
+import tempfile
+import threading
+import time
+
+TOP = pathlib.Path(__file__).resolve().parent.parent
+MADE = TOP / "bench" / "out"
+MAPS = TOP.parent / "shared" / "maps"
+PROGRAM = TOP / "crates" / "border_edit" / "out" / "border_edit"
+# What the program refuses to open.
+MOST_BYTES = 67_108_864
+MOST_POSITIONS = 4_000_000
+# Segments of half a cell's upper border.
+PIECES = 8
+# The greatest coordinate of a map, and that of one whose far polygon makes all else small.
+REACH = 1_000_000_000
+SMALL_REACH = 1_000_000
+# How many vertices are drawn of one map, and how many lines a script has, at most.
+MOST_DRAWN = 100_000
+MOST_LINES = 2_000_000
+# More comment lines than a pipe and a reader's room hold: once they are written, what stood before has been answered.
+HELD_BACK = "# held back\n" * 40_000
+
+Map = collections.namedtuple("Map", "name path")
+Run = collections.namedtuple("Run", "seconds status out err peak")
+Drawn = collections.namedtuple("Drawn", "vertices features")
+
+
+# ---- making maps
+
+def border(rand, length, pieces, widest):
+    """Positions from (0, 0) to (length, 0): the first number rises, and the second stays so near to the ends that
+    borders that start from one junction in different directions of the grid do not meet again."""
+    heights, width, spread = [0.0] * (pieces + 1), pieces, 0.3 * length
+    while width > 1:
+        half = width // 2
+        for i in range(half, pieces, width):
+            heights[i] = (heights[i - half] + heights[i + half]) / 2 + (rand() - 0.5) * spread
+        width, spread = half, 0.55 * spread
+    step, positions = length / pieces, [(0, 0)]
+    for i in range(1, pieces):
+        along = int((i + 0.7 * (rand() - 0.5)) * step)
+        reach = int(min(0.8 * along, 0.8 * (length - along), widest))
+        positions.append((along, max(-reach, min(reach, int(heights[i])))))
+    positions.append((length, 0))
+    return positions
+
+
+class Bricks:
+    """A partition into cells in rows, each row half a cell further on than the one below it."""
+
+    def __init__(self, vertices, reach, seed):
+        self.rand = random.Random(f"{seed} {vertices} {reach}").random
+        self.columns = max(1, round((vertices / (4 * PIECES)) ** 0.5))
+        self.rows = max(1, round(vertices / (4 * PIECES) / self.columns))
+        self.half = 2 * reach // (2 * max(self.columns + 1, self.rows))
+        self.origin = -reach
+        self.arcs, self.level_arcs, self.upright_arcs = [], {}, {}
+
+    def level(self, row, place):
+        """The index of the border of half a cell on the line below a row."""
+        if (row, place) not in self.level_arcs:
+            x, y = self.origin + place * self.half, self.origin + 2 * row * self.half
+            self.level_arcs[row, place] = len(self.arcs)
+            self.arcs.append([(x + a, y + b) for a, b in border(self.rand, self.half, PIECES, 0.4 * self.half)])
+        return self.level_arcs[row, place]
+
+    def upright(self, row, place):
+        """The index of the border between two cells of a row."""
+        if (row, place) not in self.upright_arcs:
+            x, y = self.origin + place * self.half, self.origin + 2 * row * self.half
+            self.upright_arcs[row, place] = len(self.arcs)
+            self.arcs.append([(x + b, y + a) for a, b in border(self.rand, 2 * self.half, 2 * PIECES, 0.4 * self.half)])
+        return self.upright_arcs[row, place]
+
+    def rings(self):
+        """The arc indexes of each cell's ring."""
+        for row in range(self.rows):
+            for column in range(self.columns):
+                at = 2 * column + row % 2
+                above = [~self.level(row + 1, at + 1), ~self.level(row + 1, at)]
+                below = [self.level(row, at), self.level(row, at + 1)]
+                yield [*below, self.upright(row, at + 2), *above, ~self.upright(row, at)]
+
+
+def arc_text(positions):
+    """An arc as it is written: the first position, then differences."""
+    parts, x, y = [], 0, 0
+    for a, b in positions:
+        parts.append(f"[{a - x},{b - y}]")
+        x, y = a, b
+    return "[" + ",".join(parts) + "]"
+
+
+def make_map(path, vertices, outlier, seed):
+    """Writes a partition of about so many vertices, and of an outlier also a triangle far from all else."""
+    bricks = Bricks(vertices, SMALL_REACH if outlier else REACH, seed)
+    rings = list(bricks.rings())
+    positions = sum(len(bricks.arcs[i if i >= 0 else ~i]) - 1 for ring in rings for i in ring)
+    if outlier:
+        rings.append([len(bricks.arcs)])
+        bricks.arcs.append([(REACH - 9, REACH - 9), (REACH, REACH - 9), (REACH, REACH), (REACH - 9, REACH - 9)])
+        positions += 3
+    indexes = [",".join(map(str, ring)) for ring in rings]
+    features = [f'{{"type":"Polygon","id":"{n}","arcs":[[{ring}]]}}' for n, ring in enumerate(indexes)]
+    text = "".join([
+        '{"type":"Topology","transform":{"scale":[1e-7,1e-7],"translate":[0,0]},',
+        '"objects":{"cells":{"type":"GeometryCollection","geometries":[\n', ",\n".join(features), "]}},\n",
+        '"arcs":[\n', ",\n".join(map(arc_text, bricks.arcs)), "]}\n",
+    ])
+    if len(text) > MOST_BYTES or positions > MOST_POSITIONS:
+        raise ValueError(f"{vertices} vertices are too many: {len(text)} bytes, {positions} positions of rings")
+    path.parent.mkdir(parents=True, exist_ok=True)
+    part = path.with_suffix(".part")
+    part.write_text(text, encoding="ascii")
+    part.replace(path)
+
+
+# ---- what a script asks of a map
+
+def positions_of(topology):
+    """The positions of each arc, as whole numbers of the grid."""
+    for arc in topology["arcs"]:
+        x, y, positions = 0, 0, []
+        for a, b in arc:
+            x, y = (x + int(a), y + int(b)) if topology.get("transform") else (int(a), int(b))
+            positions.append((x, y))
+        yield positions
+
+
+def polygons_of(geometry, features):
+    """Adds the polygons of each feature below this geometry, each a list of rings of arc indexes."""
+    kind = geometry["type"]
+    if kind == "GeometryCollection":
+        for item in geometry["geometries"]:
+            polygons_of(item, features)
+    elif kind == "Polygon":
+        features.append([geometry["arcs"]] if geometry["arcs"] else [])
+    elif kind == "MultiPolygon":
+        features.append(geometry["arcs"])
+    elif kind is None:
+        features.append([])
+
+
+def draw(path, seed):
+    """Vertices of the rings, and how many features there are."""
+    topology = json.loads(pathlib.Path(path).read_bytes())
+    features = []
+    for layer in topology["objects"].values():
+        polygons_of(layer, features)
+    used = {i if i >= 0 else ~i for polygons in features for rings in polygons for ring in rings for i in ring}
+    vertices = sorted({place for n, arc in enumerate(positions_of(topology)) if n in used for place in arc})
+    return Drawn(random.Random(seed).sample(vertices, min(len(vertices), MOST_DRAWN)), len(features))
+
+
+def apart(function, *given):
+    """Calls a function in a process of its own, whose memory is given back with it."""
+    with multiprocessing.get_context("spawn").Pool(1) as pool:
+        return pool.apply(function, given)
+
+
+# ---- running the program
+
+class Failed(Exception):
+    """A measure has no number, for this reason."""
+
+
+def high_water(pid):
+    """The most memory in use so far of a process, in bytes; 0 once it has ended."""
+    try:
+        found = re.search(r"VmHWM:\s*(\d+) kB", pathlib.Path(f"/proc/{pid}/status").read_text())
+        return 1024 * int(found[1]) if found else 0
+    except OSError:
+        return 0
+
+
+def feed(child, pipe, text):
+    """Writes a script into a pipe that the program reads, and gives the most memory that it has used by then."""
+    while child.poll() is None:
+        try:
+            to = os.open(pipe, os.O_WRONLY | os.O_NONBLOCK)
+            break
+        except OSError:  # the program has not opened it yet
+            time.sleep(0.001)
+    else:
+        return 0
+    os.set_blocking(to, True)
+    try:
+        with open(to, "wb", buffering=0) as script:
+            while text:
+                text = text[script.write(text) :]
+            return high_water(child.pid)
+    except BrokenPipeError:  # the program has ended
+        return 0
+
+
+class Runner:
+    """Runs the program on scripts."""
+
+    def __init__(self, program, limit, folder):
+        self.program, self.limit, self.folder = program, limit, pathlib.Path(folder)
+
+    def run(self, path, lines):
+        """Runs a script on a map."""
+        script = self.folder / "script"
+        script.write_text("".join(line + "\n" for line in lines), encoding="ascii")
+        return self.started(path, script, lambda child: 0)
+
+    def watched(self, path, lines):
+        """Runs a script whose end is held back until the memory in use has been read."""
+        script = self.folder / "pipe"
+        script.unlink(missing_ok=True)
+        os.mkfifo(script)
+        text = "".join(line + "\n" for line in lines) + HELD_BACK
+        return self.started(path, script, lambda child: feed(child, script, text.encode("ascii")))
+
+    def started(self, path, script, beside):
+        """Runs the program, and calls `beside` for the most memory that it has used."""
+        out, err = self.folder / "out", self.folder / "err"
+        with open(out, "wb") as to, open(err, "wb") as errors:
+            start = time.perf_counter()
+            child = subprocess.Popen([self.program, path, script], stdin=subprocess.DEVNULL, stdout=to, stderr=errors)
+            late = threading.Timer(self.limit, child.kill)
+            late.start()
+            peak = beside(child)
+            child.wait()
+            seconds = time.perf_counter() - start
+        if late.finished.is_set():
+            raise Failed(f"it ran over {self.limit} seconds")
+        late.cancel()
+        return Run(seconds, child.returncode, out.read_text(), err.read_text(errors="replace"), peak)
+
+    def accepted(self, path, lines):
+        """Runs a script of which every line has to be accepted."""
+        done = self.run(path, lines)
+        if done.status != 0 or done.err or done.out.count("\n") != len(lines):
+            raise Failed(why(done))
+        return done
+
+
+def why(done):
+    """The status of a run, and what it said first."""
+    answers = [line for line in done.out.splitlines() if line.startswith(("refused", "bad line"))]
+    said = (done.err.strip().splitlines() or answers or [f"{done.out.count(chr(10))} answers"])[0]
+    return f"status {done.status} ({said[:100]})"
+
+
+# ---- the measures
+
+def open_seconds(runner, path):
+    """The least time that opening the map takes; slow maps are opened once or twice."""
+    best, spent = float("inf"), 0.0
+    for _ in range(5):
+        done = runner.accepted(path, [])
+        best, spent = min(best, done.seconds), spent + done.seconds
+        if spent > 5:
+            break
+    return best
+
+
+def rate(run, opening, seconds):
+    """Lines a second of a script that `run` makes so long that it takes long enough to be told from opening."""
+    wanted, lines = min(seconds, max(1.0, 0.5 * opening)), 2
+    while True:
+        done, count = run(lines)
+        spent = done.seconds - opening
+        if spent >= wanted or lines >= MOST_LINES:
+            break
+        each = max(spent, 0.02) / count
+        lines = min(MOST_LINES, 2 * max(lines, int(0.65 * wanted / each)))
+    if spent <= 0:
+        raise Failed(f"{count} lines take no time beside opening")
+    return count / spent, count, spent
+
+
+class Moves:
+    """Moves of vertices by one unit and back, of which the refused ones are left out as they are found."""
+
+    def __init__(self, runner, path, vertices):
+        self.runner, self.path = runner, path
+        self.good, self.untried = [], list(reversed(vertices))
+
+    def lines(self, vertices):
+        return [line for x, y in vertices for line in (f"move {x} {y} {x + 1} {y}", f"move {x + 1} {y} {x} {y}")]
+
+    def run(self, lines):
+        """Runs so many moves, all of them accepted; where a map has too few for that, they come again."""
+        if not self.good and not self.untried:
+            raise Failed("the map has no vertex to move")
+        while self.untried and len(self.good) < lines // 2:
+            fresh = [self.untried.pop() for _ in range(min(lines // 2 - len(self.good), len(self.untried)))]
+            done = self.keep_accepted(self.good + fresh)
+            if len(self.good) == lines // 2:
+                return done, lines
+            if self.good:
+                break
+        if not self.good:
+            raise Failed(f"no move is accepted: {why(done)}")
+        moved = (self.good * (lines // (2 * len(self.good)) + 1))[: lines // 2]
+        return self.runner.accepted(self.path, self.lines(moved)), 2 * len(moved)
+
+    def keep_accepted(self, tried):
+        """Runs the moves of these vertices, and keeps those that are accepted."""
+        done = self.runner.run(self.path, self.lines(tried))
+        answers = done.out.splitlines()
+        if done.status not in (0, 1) or len(answers) != 2 * len(tried):
+            raise Failed(why(done))
+        self.good = [place for n, place in enumerate(tried) if answers[2 * n : 2 * n + 2] == ["ok", "ok"]]
+        return done
+
+
+def measure_open(runner, map_, opening):
+    size = map_.path.stat().st_size / 1e6
+    return f"{opening:9.3f} s      {size:.2f} MB, {size / opening:.1f} MB/s"
+
+
+def measure_edits(runner, map_, opening, drawn, seconds):
+    moves = Moves(runner, map_.path, drawn.vertices)
+    each, count, spent = rate(moves.run, opening, seconds)
+    return f"{each:9.1f} /s     {count} moves in {spent:.2f} s"
+
+
+def measure_queries(runner, map_, opening, drawn, seconds, seed):
+    rand = random.Random(seed)
+    if not drawn.features:
+        raise Failed("the map has no feature")
+
+    def run(lines):
+        asked = [f"area {rand.randrange(drawn.features)}" for _ in range(lines)]
+        done = runner.accepted(map_.path, asked)
+        if not all(re.fullmatch("-?[0-9]+", answer) for answer in done.out.splitlines()):
+            raise Failed(f"an answer is no number: {why(done)}")
+        return done, lines
+
+    each, count, spent = rate(run, opening, seconds)
+    return f"{each:9.1f} /s     {count} areas in {spent:.2f} s"
+
+
+def measure_memory(runner, map_, drawn):
+    done = runner.watched(map_.path, Moves(runner, map_.path, []).lines(drawn.vertices[:8]))
+    if done.status not in (0, 1) or not done.peak:
+        raise Failed(why(done))
+    return f"{done.peak / 1e6:9.1f} MB     {done.peak / map_.path.stat().st_size:.1f} bytes a byte of the map"
+
+
+def measure(options, runner, map_):
+    """Prints a line for each measure of a map. Saving gets its own beside these once the program saves."""
+    def line(name, take):
+        try:
+            said = take()
+        except Failed as reason:
+            said = f"   failed: {reason}"
+        print(f"{map_.name:24} {name:8} {said}", flush=True)
+
+    try:
+        opening = open_seconds(runner, map_.path)
+    except Failed as reason:
+        print(f"{map_.name:24} open        failed: {reason}", flush=True)
+        return
+    drawn = apart(draw, map_.path, options.seed)
+    line("open", lambda: measure_open(runner, map_, opening))
+    line("edits", lambda: measure_edits(runner, map_, opening, drawn, options.seconds))
+    line("queries", lambda: measure_queries(runner, map_, opening, drawn, options.seconds, options.seed))
+    line("memory", lambda: measure_memory(runner, map_, drawn))
+
+
+def maps_of(options):
+    """The maps to measure, real ones first; those that this script makes are made as they are met."""
+    for path in options.map or sorted(options.maps.glob("*.json")) or [options.maps]:
+        yield Map(path.name, path)
+    for vertices, outlier in [*((n, False) for n in options.vertices), *((n, True) for n in options.outlier)]:
+        name = f"{'outlier' if outlier else 'bricks'}-{vertices}"
+        path = MADE / f"{name}-seed{options.seed}.json"
+        if not path.is_file():
+            start = time.perf_counter()
+            apart(make_map, path, vertices, outlier, options.seed)
+            size = path.stat().st_size / 1e6
+            print(f"{name:24} made in {time.perf_counter() - start:.1f} s, {size:.2f} MB", flush=True)
+        yield Map(name, path)
+
+
+def numbers(text):
+    return [int(word) for word in text.split(",") if word]
+
+
+def options_given():
+    parser = argparse.ArgumentParser(description=__doc__, formatter_class=argparse.RawDescriptionHelpFormatter)
+    add = parser.add_argument
+    add("map", nargs="*", type=pathlib.Path, help="maps to measure in place of those of --maps")
+    add("--program", type=pathlib.Path, default=PROGRAM, help="the executable (%(default)s)")
+    add("--maps", type=pathlib.Path, default=MAPS, help="the folder of real maps (%(default)s)")
+    add("--vertices", type=numbers, default=[10**3, 10**4, 10**5, 10**6], metavar="N,N..",
+        help="sizes of the maps made (1000,10000,100000,1000000)")
+    add("--outlier", type=numbers, default=[10**5], metavar="N,N..",
+        help="sizes of the maps made with one polygon far from all others (100000)")
+    add("--seconds", type=float, default=5,
+        help="about how long a run of edits or queries may take beside opening (%(default)s)")
+    add("--limit", type=float, default=300, help="seconds after which a run is ended and has failed (%(default)s)")
+    add("--seed", type=int, default=1, help="of the maps made and of what is drawn (%(default)s)")
+    return parser.parse_args()
+
+
+def main():
+    options = options_given()
+    if not os.access(options.program, os.X_OK):
+        print(f"{options.program}: not there, nothing is measured; --help says how to build it")
+        return 1
+    with tempfile.TemporaryDirectory(prefix="border_edit-bench-") as folder:
+        runner = Runner(options.program, options.limit, folder)
+        for map_ in maps_of(options):
+            if map_.path.is_file():
+                measure(options, runner, map_)
+            else:
+                print(f"{map_.name:24} not there, skipped", flush=True)
+    return 0
+
+
+if __name__ == "__main__":
+    sys.exit(main())

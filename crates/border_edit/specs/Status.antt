@@ -1,0 +1,14 @@
+-- The status that a run ends the program with.
+use Rattle.std.specs.Prelude.{ℕ, ◌==◌, Result, Ok, Err, if◌then◌else◌}
+use Rattle.script_runner.specs.declared.runner.Summary.{Summary}
+use Rattle.script_runner.specs.declared.fault.RunFault.{RunFault}
+use Rattle.script_runner.specs.declared.fault.RunFault.TheVariants.{Open, Read, Write, OutOfMemory}
+
+-- 0 where all lines were accepted, 1 where some answer is a refusal or a bad line, 2 where the map
+-- was not opened, and 3 where a device failed or a growth was refused
+abbrev pub status_of : Result Summary RunFault → ℕ
+status_of (Ok summary) = if summary.refused == 0 then 0 else 1
+status_of (Err (Open fault)) = 2
+status_of (Err Read) = 3
+status_of (Err Write) = 3
+status_of (Err OutOfMemory) = 3

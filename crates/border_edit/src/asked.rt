@@ -1,0 +1,10 @@
+//! What the words of the program ask for.
+
+/// What the words of the program ask for.
+#[derive(Debug, Drop)]
+pub struct Words {
+    /// The path of the map.
+    pub map: String,
+    /// The path of the script.
+    pub script: String,
+}

@@ -1,0 +1,43 @@
+//! What the words of the program are read as.
+use crate::command_line::words;
+use crate::stop::Stop;
+use std::alloc::{AllocError, Global};
+use std::test::Fail;
+
+/// Words as the program is given them.
+fn given(alloc: Global, words: &[&str]) -> Result<Vec<String>, AllocError> {
+    let mut given = Vec::new(alloc);
+    for word in words {
+        given.push(String::from_str(alloc, word)?)?;
+    }
+    Ok(given)
+}
+
+#[test]
+fn a_map_and_a_script_are_taken(rt: HostRuntime) -> Result<(), Fail> {
+    let given = given(rt.alloc(), &["border_edit", "map.json", "script.txt"])?;
+    let words = words(rt.alloc(), given.as_slice())?;
+    assert_eq!(rt; words.map.as_str(), "map.json");
+    assert_eq!(rt; words.script.as_str(), "script.txt");
+    Ok(())
+}
+
+#[test]
+fn all_other_words_stop_the_program(rt: HostRuntime) -> Result<(), Fail> {
+    let table = [
+        (["border_edit"].as_slice(), 64),
+        (&["border_edit", "map.json"], 64),
+        (&["border_edit", "map.json", "script.txt", "more"], 64),
+        (&["border_edit", "--quiet", "map.json", "script.txt"], 64),
+        (&["border_edit", "--help"], 0),
+        (&["border_edit", "map.json", "-h"], 0),
+    ];
+    for (line, status) in table {
+        let given = given(rt.alloc(), line)?;
+        match words(rt.alloc(), given.as_slice()) {
+            Ok(_) => assert!(rt; false, "{line:?}"),
+            Err(error) => assert_eq!(rt; Stop::from(error).status(), status, "{line:?}"),
+        }
+    }
+    Ok(())
+}

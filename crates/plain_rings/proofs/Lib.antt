@@ -1,0 +1,10 @@
+pub mod Ascending
+pub mod LeastPair
+pub mod RingLists
+pub mod RingSteps
+pub mod Documents
+pub mod Refusing
+pub mod StaysPlain
+pub mod Placing
+pub mod Summing
+pub mod MovedRings

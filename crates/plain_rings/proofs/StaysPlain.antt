@@ -1,0 +1,58 @@
+-- A plain map stays one when a vertex moves.
+use Rattle.std.proofs.Common.{◌≡◌, ℕ, ◌+◌, ◌≤◌, refl, sym, ap, ap₂, ◌∙◌, subst, List, [], ◌∷◌, ◌++◌, map, length, arith, None}
+use Rattle.std.specs.Prelude.{IsTrue, sum_by, if◌then◌else◌}
+use Rattle.std.specs.List.{list_all, flat_map}
+use Rattle.std.proofs.lemmas.List.{length-map, length-append}
+use Rattle.std.proofs.lemmas.List.Sums.{sum_by-cons, sum_by-append}
+use Rattle.grid_geometry.specs.Position.{Position, position_eq}
+use Rattle.ring_machine.specs.Ring.{canonical, is_ring}
+use Rattle.ring_machine.specs.Document.{Document}
+use Rattle.ring_machine.specs.Parts.{rings, size}
+use Rattle.ring_machine.specs.Vertices.{put, put_ring}
+use Rattle.ring_machine.specs.Planar.{Proper}
+use Rattle.ring_machine.specs.Refusals.{first_of, move_refusals}
+use Rattle.ring_machine.proofs.Canonical.{canonical_parts}
+use Rattle.ring_machine.proofs.RingsOf.{rings-in_rings}
+use Rattle.ring_machine.proofs.StaysProper.{put_is_proper}
+use Rattle.ring_machine.proofs.Accepted.{move-accepted}
+use Rattle.topo_reader.specs.Document.{Opened, document_of, IsOfRings}
+use Rattle.plain_rings.specs.Plain.{IsPlain}
+use Rattle.plain_rings.proofs.Documents.{rings_changed}
+
+canonical_length : (ps : List Position) → length (canonical ps) ≡ length ps
+canonical_length ps =
+    let parts = canonical_parts ps in
+    ap length parts.3 ∙ length-append parts.1 parts.0 ∙ omega (arith, ap length parts.2, length-append parts.0 parts.1)
+
+pub put_length : (p q : Position) (ring : List Position) → length (put_ring p q ring) ≡ length ring
+put_length p q ring = canonical_length (map (λ r. if position_eq r p then q else r) ring) ∙ length-map ring (λ r. if position_eq r p then q else r)
+
+sum_put : (p q : Position) (rs : List (List Position)) → sum_by length (map (put_ring p q) rs) ≡ sum_by length rs
+sum_put p q [] = refl
+sum_put p q (r ∷ rs) = sum_by-cons length (put_ring p q r) (map (put_ring p q) rs) ∙ ap₂ (λ m n. m + n) (put_length p q r) (sum_put p q rs) ∙ sym (sum_by-cons length r rs)
+
+-- the size stays
+size_put : (d : Document) (p q : Position) → size (put d p q) ≡ size d
+size_put d p q = ap (sum_by length) (rings-in_rings (put_ring p q) d) ∙ sum_put p q (rings d)
+
+-- q in the place of p in what is held
+abbrev pub moved : Position → Position → Opened → Opened
+moved p q o = record o { polygons = map (map (map (put_ring p q))) o.polygons }
+
+pub put_document : (o : Opened) (p q : Position) → put (document_of o) p q ≡ document_of (moved p q o)
+put_document o p q = rings_changed (put_ring p q) o
+
+pub stays_plain : (o : Opened) (p q : Position) → IsPlain o → first_of (move_refusals (document_of o) p q) ≡ None → IsPlain (moved p q o)
+stays_plain o p q plain none =
+    let accepted = move-accepted (document_of o) p q none in
+    let proper = put_is_proper (document_of o) p q plain.proper accepted.free accepted.apart in
+    let is = put_document o p q in
+    let small : size (put (document_of o) p q) ≤ 4000000 = subst (λ n. n ≤ 4000000) (sym (size_put (document_of o) p q)) plain.of_rings.small in
+    record {
+      of_rings = record {
+        counted = length-map o.polygons (map (map (put_ring p q))) ∙ plain.of_rings.counted;
+        are_rings = subst (λ d. IsTrue (list_all is_ring (rings d))) is proper.are_rings;
+        small = subst (λ d. size d ≤ 4000000) is small;
+      };
+      proper = subst Proper is proper;
+    }

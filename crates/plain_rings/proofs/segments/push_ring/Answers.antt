@@ -1,0 +1,15 @@
+use Rattle.std.proofs.Common.{sym, ap, subst, ◌++◌, map}
+use Rattle.std.specs.List.{AllByRecursion}
+use Rattle.grid_geometry.specs.Ring.{edges}
+use Rattle.ring_machine.specs.Ring.{segments}
+use Rattle.plain_rings.proofs.RingSteps.{Differ, ring_differs}
+use Rattle.plain_rings.proofs.RingLists.{list_is}
+use Rattle.plain_rings.proofs.segments.push_ring.Goals as goal
+
+pub loop-to-init : goal.loop-to-init
+loop-to-init g c =
+    let is = list_is c.args.ring.now c.first-item.result c.in-len1-up.len_at_least c.first-item.is in
+    record {
+      whole = ap (λ ring. c.args.found.now.items ++ segments ring) is;
+      steps = subst (λ ring. AllByRecursion Differ (edges ring)) (sym is) (ring_differs c.args.ring.now c.requires);
+    }

@@ -1,0 +1,8 @@
+-- What a plain map is.
+use Rattle.ring_machine.specs.Planar.{Proper}
+use Rattle.topo_reader.specs.Document.{Opened, document_of, IsOfRings}
+
+-- every list is a ring, and no two segments conflict
+pub record IsPlain (o : Opened) : Type 0 where
+  pub of_rings : IsOfRings o
+  pub proper : Proper (document_of o)

@@ -1,0 +1,52 @@
+use grid_geometry::Seg;
+use std::alloc::AllocError;
+
+/// Why no map was built.
+#[derive(Clone, Copy, Debug, PartialEq, Eq)]
+pub enum BuildFault {
+    /// Two segments are in conflict: the least such pair, s the lesser one.
+    Conflict { s: Seg, t: Seg },
+    /// There was no memory.
+    OutOfMemory,
+}
+
+impl From<AllocError> for BuildFault {
+    ghost use Rattle.std.specs.Prelude.{◌≡◌};
+    ghost use Rattle.plain_rings.specs.declared.fault.BuildFault.TheVariants.{OutOfMemory};
+
+    ghost from_gives = { λ _ e. e ≡ OutOfMemory };
+
+    fn from(_e: AllocError) -> BuildFault {
+        BuildFault::OutOfMemory
+    }
+}
+
+/// Why an edit was refused, in the order of the tests.
+#[derive(Clone, Copy, Debug, PartialEq, Eq)]
+pub enum EditFault {
+    /// No ring has the position.
+    NoVertex,
+    /// A ring has the new position already.
+    Occupied,
+    /// Two segments would be in conflict: the least such pair, s the lesser one.
+    Conflict { s: Seg, t: Seg },
+    /// An edge would sweep over a position, or the vertex over a segment.
+    Sweeps,
+    /// There was no memory. Nothing was changed.
+    OutOfMemory,
+}
+
+impl From<AllocError> for EditFault {
+    ghost use Rattle.std.specs.Prelude.{◌≡◌};
+    ghost use Rattle.plain_rings.specs.declared.fault.EditFault.TheVariants.{OutOfMemory};
+
+    ghost from_gives = { λ _ e. e ≡ OutOfMemory };
+
+    fn from(_e: AllocError) -> EditFault {
+        EditFault::OutOfMemory
+    }
+}
+
+/// No feature has the number.
+#[derive(Clone, Copy, Debug, PartialEq, Eq)]
+pub struct NoFeature;

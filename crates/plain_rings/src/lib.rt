@@ -1,0 +1,17 @@
+//! The slow program over plain rings: each answer is computed as the definitions say it. It keeps
+//! no arcs and no index, so it is a second opinion on what is faster.
+#![tactic(auto)]
+
+mod area;
+mod fault;
+mod map;
+mod planarity;
+mod put;
+mod rings;
+mod segments;
+mod sweeps;
+#[cfg(test)]
+mod tests;
+
+pub use fault::{BuildFault, EditFault, NoFeature};
+pub use map::PlainMap;

@@ -1,0 +1,6 @@
+pub mod WordLemmas
+pub mod CommandLemmas
+pub mod ReplyLemmas
+pub mod LineLemmas
+pub mod StepLemmas
+pub mod RunLemmas

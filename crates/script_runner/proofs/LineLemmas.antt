@@ -1,0 +1,220 @@
+-- Byte by byte is line by line.
+use Rattle.std.proofs.Common.{◌≡◌, ◌≢◌, ℕ, suc, ◌+◌, ◌-◌, ◌<◌, ◌≤◌, min, Bool, true, false, cond, length, take, drop, List, [], ◌∷◌, ◌++◌, refl, sym, ap, ap₂, subst, ◌∙◌, arith, append_assoc, append-nil, length-append, nat_lt, nat_eq, MatchBool, ◌==◌, ◌||◌, not, map, inl, inr, ◌⊎◌, Option, Some, None}
+use Rattle.std.specs.Str.{bytes_eq}
+use Rattle.std.proofs.lemmas.Bool.Decides.{nat_tests}
+use Rattle.std.proofs.lemmas.Bool.{false≢true}
+use Rattle.std.proofs.lemmas.List.{map-append, take-append-drop}
+use Rattle.std.proofs.lemmas.Slice.Eq.{bytes_eq-Decides}
+use Rattle.ring_machine.specs.Document.{Document}
+use Rattle.ring_machine.specs.Machine.{State}
+use Rattle.ring_machine.specs.Command.{Command}
+use Rattle.script_runner.specs.Lines.{Says}
+use Rattle.script_runner.specs.Runs.{NoFeed, NoFeeds, with_feeds, AreLines, ScriptLine, without_return, ended_line, open_line, lines_of, Meaning, Skipped, Asked, Bad, Means, AllMean, reply_text, state_after, answered_by, refused_by, replies, state_after_all, answered, refused, opened_state}
+use Rattle.script_runner.specs.Progress.{Progress, start, line_at, KeptMeans, IsAnswered, LineStep, more, ByteStep, Feeds, IsPartReply}
+
+-- ---- a carriage return at the end
+
+pub returned : (front : List ℕ) → without_return (front ++ 13 ∷ []) ≡ front
+returned [] = refl
+returned (a ∷ []) = refl
+returned (a ∷ b ∷ bs) = ap (λ t. a ∷ t) (returned (b ∷ bs))
+
+pub return_found : (bs front : List ℕ) → bytes_eq (drop (length bs - 1) bs) (13 ∷ []) ≡ true → front ≡ take (length bs - 1) bs → front ≡ without_return bs
+return_found bs front e f =
+    let whole : bs ≡ front ++ 13 ∷ [] = sym (take-append-drop (length bs - 1) bs) ∙ ap₂ (λ x y. x ++ y) (sym f) ((bytes_eq-Decides (drop (length bs - 1) bs) (13 ∷ [])).0 e) in
+    sym (ap without_return whole ∙ returned front)
+
+pub not_returned : (bs : List ℕ) → bytes_eq (drop (length bs - 1) bs) (13 ∷ []) ≡ false → without_return bs ≡ bs
+not_returned [] e = refl
+not_returned (b ∷ []) e = by (b == 13) refl e
+  where
+    by : (t : Bool) → (b == 13) ≡ t → bytes_eq (b ∷ []) (13 ∷ []) ≡ false → without_return (b ∷ []) ≡ b ∷ []
+    by true k h = absurd (false≢true (sym h ∙ both k))
+      where
+        both : (b == 13) ≡ true → bytes_eq (b ∷ []) (13 ∷ []) ≡ true
+        both q = rw q refl
+    by false k h = rw k refl
+not_returned (a ∷ b ∷ bs) e = ap (λ t. a ∷ t) (not_returned (b ∷ bs) (shorter e))
+  where
+    shorter : bytes_eq (drop (length (a ∷ b ∷ bs) - 1) (a ∷ b ∷ bs)) (13 ∷ []) ≡ false → bytes_eq (drop (length (b ∷ bs) - 1) (b ∷ bs)) (13 ∷ []) ≡ false
+    shorter h = subst (λ n. bytes_eq (drop n (a ∷ b ∷ bs)) (13 ∷ []) ≡ false) (let g : length (a ∷ b ∷ bs) - 1 ≡ suc (length (b ∷ bs) - 1) = omega arith in g) h
+
+-- ---- lists of meanings
+
+pub AllMean-more : (ls : List ScriptLine) (ms : List Meaning) (l : ScriptLine) (m : Meaning) → AllMean ls ms → Means l m → AllMean (ls ++ l ∷ []) (ms ++ m ∷ [])
+AllMean-more [] [] l m h k = (k, tt)
+AllMean-more [] (n ∷ ms) l m h k = absurd h
+AllMean-more (x ∷ ls) [] l m h k = absurd h
+AllMean-more (x ∷ ls) (n ∷ ms) l m h k = (h.0, AllMean-more ls ms l m h.1 k)
+
+replies-more : (st : State) (ms : List Meaning) (m : Meaning) → replies st (ms ++ m ∷ []) ≡ replies st ms ++ reply_text (state_after_all st ms) m
+replies-more st [] m = append-nil (reply_text st m)
+replies-more st (n ∷ ms) m = ap (λ t. reply_text st n ++ t) (replies-more (state_after st n) ms m) ∙ sym (append_assoc (reply_text st n) (replies (state_after st n) ms) (reply_text (state_after_all (state_after st n) ms) m))
+
+state-more : (st : State) (ms : List Meaning) (m : Meaning) → state_after_all st (ms ++ m ∷ []) ≡ state_after (state_after_all st ms) m
+state-more st [] m = refl
+state-more st (n ∷ ms) m = state-more (state_after st n) ms m
+
+answered-more : (ms : List Meaning) (m : Meaning) → answered (ms ++ m ∷ []) ≡ answered ms + answered_by m
+answered-more [] m = omega arith
+answered-more (n ∷ ms) m = let h = answered-more ms m in omega arith
+
+refused-more : (st : State) (ms : List Meaning) (m : Meaning) → refused st (ms ++ m ∷ []) ≡ refused st ms + refused_by (state_after_all st ms) m
+refused-more st [] m = omega arith
+refused-more st (n ∷ ms) m = let h = refused-more (state_after st n) ms m in omega arith
+
+-- ---- lines
+
+NoFeed-more : (bs : List ℕ) (b : ℕ) → NoFeed bs → b ≢ 10 → NoFeed (bs ++ b ∷ [])
+NoFeed-more [] b h ne = (ne, tt)
+NoFeed-more (x ∷ bs) b h ne = (h.0, NoFeed-more bs b h.1 ne)
+
+NoFeeds-more : (ls : List (List ℕ)) (l : List ℕ) → NoFeeds ls → NoFeed l → NoFeeds (ls ++ l ∷ [])
+NoFeeds-more [] l h e = (e, tt)
+NoFeeds-more (x ∷ ls) l h e = (h.0, NoFeeds-more ls l h.1 e)
+
+with_feeds-more : (ls : List (List ℕ)) (l : List ℕ) → with_feeds (ls ++ l ∷ []) ≡ with_feeds ls ++ (l ++ 10 ∷ [])
+with_feeds-more [] l = append-nil (l ++ 10 ∷ [])
+with_feeds-more (x ∷ ls) l = ap (λ r. (x ++ 10 ∷ []) ++ r) (with_feeds-more ls l) ∙ sym (append_assoc (x ++ 10 ∷ []) (with_feeds ls) (l ++ 10 ∷ []))
+
+-- what is kept of the bytes since the last line feed
+pub record Kept (p : Progress) (pending : List ℕ) : Type 0 where
+  pub len : length p.line ≡ min 8192 (length pending)
+  pub over : p.over ≡ nat_lt 8192 (length pending)
+  pub same : length pending ≤ 8192 → p.line ≡ pending
+
+-- where the runner stands: the lines so far with their meanings and replies, and the bytes of the next
+pub record Mid (d : Document) (seen out : List ℕ) (p : Progress) : Type 0 where
+  pub ended : List (List ℕ)
+  pub pending : List ℕ
+  pub meanings : List Meaning
+  pub cut : AreLines seen ended pending
+  pub mean : AllMean (map ended_line ended) meanings
+  pub told : out ≡ replies (opened_state d) meanings
+  pub state : opened_state p.doc ≡ state_after_all (opened_state d) meanings
+  pub answered : p.answered ≡ answered meanings
+  pub refused : p.refused ≡ refused (opened_state d) meanings
+  pub kept : Kept p pending
+
+long_is_bad : (ended : Bool) (pending : List ℕ) → 8192 < length pending → Means (line_at ended pending) Bad
+long_is_bad true pending h = λ short. absurd (omega arith)
+long_is_bad false pending h = λ short. absurd (omega arith)
+
+-- what the kept line means, the line means
+pub kept_means : (ended over : Bool) (line pending : List ℕ) (m : Meaning) → over ≡ nat_lt 8192 (length pending) → (length pending ≤ 8192 → line ≡ pending)
+    → KeptMeans over ended line m → Means (line_at ended pending) m
+kept_means ended true line pending m o same k =
+    let long : 8192 < length pending = grind (arith, nat_tests) in
+    subst (Means (line_at ended pending)) (sym k) (long_is_bad ended pending long)
+kept_means ended false line pending m o same k =
+    let short : length pending ≤ 8192 = grind (arith, nat_tests) in
+    subst (λ l. Means (line_at ended l) m) (same short) k
+
+Kept-more : (p : Progress) (pending : List ℕ) (b : ℕ) → Kept p pending → Kept (more p b) (pending ++ b ∷ [])
+Kept-more p pending b k = by (nat_lt (length p.line) 8192) refl
+  where
+    longer : length (pending ++ b ∷ []) ≡ length pending + 1
+    longer = length-append pending (b ∷ [])
+
+    by : (t : Bool) → nat_lt (length p.line) 8192 ≡ t → Kept (more p b) (pending ++ b ∷ [])
+    by true e =
+        let room : length p.line < 8192 = grind (arith, nat_tests) in
+        let short : length pending < 8192 = omega (arith, k.len) in
+        let same = k.same (omega arith) in
+        let was : nat_lt 8192 (length pending) ≡ false = grind (arith, nat_tests) in
+        let now : nat_lt 8192 (length (pending ++ b ∷ [])) ≡ false = rw longer (grind (arith, nat_tests)) in
+        record {
+          len = rw e (rw same (rw longer (omega arith)));
+          over = rw (e, k.over, was, now) refl;
+          same = λ _. rw e (ap (λ l. l ++ b ∷ []) same);
+        }
+    by false e =
+        let full : 8192 ≤ length p.line = grind (arith, nat_tests) in
+        let long : 8192 ≤ length pending = omega (arith, k.len) in
+        let now : nat_lt 8192 (length (pending ++ b ∷ [])) ≡ true = rw longer (grind (arith, nat_tests)) in
+        record {
+          len = rw e (rw longer (omega (arith, k.len)));
+          over = rw (e, now) (or_true p.over);
+          same = λ h. absurd (omega (arith, longer));
+        }
+      where
+        or_true : (c : Bool) → (c || true) ≡ true
+        or_true true = refl
+        or_true false = refl
+
+module _ (d : Document) (seen out : List ℕ) (p q : Progress) (m : Mid d seen out p) where
+  -- the replies with one more
+  pub replied : (said : Meaning) (text : List ℕ) → text ≡ reply_text (opened_state p.doc) said → out ++ text ≡ replies (opened_state d) (m.meanings ++ said ∷ [])
+  replied said text t = ap₂ (λ x y. x ++ y) m.told (t ∙ ap (λ s. reply_text s said) m.state) ∙ sym (replies-more (opened_state d) m.meanings said)
+
+  stated : (said : Meaning) → opened_state q.doc ≡ state_after (opened_state p.doc) said → opened_state q.doc ≡ state_after_all (opened_state d) (m.meanings ++ said ∷ [])
+  stated said h = h ∙ ap (λ s. state_after s said) m.state ∙ sym (state-more (opened_state d) m.meanings said)
+
+  pub counted : (said : Meaning) → q.answered ≡ p.answered + answered_by said → q.answered ≡ answered (m.meanings ++ said ∷ [])
+  counted said h = h ∙ ap (λ n. n + answered_by said) m.answered ∙ sym (answered-more m.meanings said)
+
+  pub refusing : (said : Meaning) → q.refused ≡ p.refused + refused_by (opened_state p.doc) said → q.refused ≡ refused (opened_state d) (m.meanings ++ said ∷ [])
+  refusing said h = h ∙ ap₂ (λ n s. n + refused_by s said) m.refused m.state ∙ sym (refused-more (opened_state d) m.meanings said)
+
+pub Mid-line : (d : Document) (seen out : List ℕ) (p q : Progress) (text : List ℕ) → Mid d seen out p → LineStep true p text q → Mid d (seen ++ 10 ∷ []) (out ++ text) q
+Mid-line d seen out p q text m s =
+    let (said, k, a) = s in
+    record {
+      ended = m.ended ++ m.pending ∷ [];
+      pending = [];
+      meanings = m.meanings ++ said ∷ [];
+      cut = record {
+        all = rw (m.cut.all, with_feeds-more, append-nil, append_assoc) refl;
+        whole = NoFeeds-more m.ended m.pending m.cut.whole m.cut.open_end;
+        open_end = tt;
+      };
+      mean = rw map-append (AllMean-more (map ended_line m.ended) m.meanings (ended_line m.pending) said m.mean (kept_means true p.over p.line m.pending said m.kept.over m.kept.same k));
+      told = replied d seen out p q m said text a.told;
+      state = stated d seen out p q m said a.after;
+      answered = counted d seen out p q m said a.answered;
+      refused = refusing d seen out p q m said a.refused;
+      kept = record { len = rw a.line refl; over = a.over; same = λ _. a.line };
+    }
+
+pub Mid-byte : (d : Document) (seen out : List ℕ) (p q : Progress) (b : ℕ) (text : List ℕ) → Mid d seen out p → ByteStep p b text q → Mid d (seen ++ b ∷ []) (out ++ text) q
+Mid-byte d seen out p q b text m h = by (b == 10) refl h
+  where
+    by : (t : Bool) → (b == 10) ≡ t → MatchBool t (LineStep true p text q × (q.bytes ≡ p.bytes + 1)) ((text ≡ []) × (q ≡ more p b)) → Mid d (seen ++ b ∷ []) (out ++ text) q
+    by true e s =
+        let is : b ≡ 10 = grind (arith, nat_tests) in
+        rw is (Mid-line d seen out p q text m s.0)
+    by false e s =
+        let ne : b ≢ 10 = grind (arith, nat_tests) in
+        rw (s.0, s.1, append-nil) (record {
+          ended = m.ended;
+          pending = m.pending ++ b ∷ [];
+          meanings = m.meanings;
+          cut = record { all = rw (m.cut.all, append_assoc) refl; whole = m.cut.whole; open_end = NoFeed-more m.pending b m.cut.open_end ne };
+          mean = m.mean;
+          told = m.told;
+          state = m.state;
+          answered = m.answered;
+          refused = m.refused;
+          kept = Kept-more p m.pending b m.kept;
+        })
+
+pub Mid-feeds : (bs : List ℕ) (d : Document) (seen out : List ℕ) (p q : Progress) (text : List ℕ) → Mid d seen out p → Feeds p bs text q → Mid d (seen ++ bs) (out ++ text) q
+Mid-feeds [] d seen out p q text m h = rw (h.0, h.1, append-nil, append-nil) m
+Mid-feeds (b ∷ bs) d seen out p q text m h =
+    let (mid, first, rest, step, tail, whole) = h in
+    let next = Mid-feeds bs d (seen ++ b ∷ []) (out ++ first) mid q rest (Mid-byte d seen out p mid b first m step) tail in
+    subst (λ t. Mid d (seen ++ b ∷ bs) t q) (append_assoc out first rest ∙ ap (λ t. out ++ t) (sym whole)) (subst (λ s. Mid d s ((out ++ first) ++ rest) q) (append_assoc seen (b ∷ []) bs) next)
+
+pub Mid-start : (d : Document) → Mid d [] [] (start d)
+Mid-start d = record {
+  ended = [];
+  pending = [];
+  meanings = [];
+  cut = record { all = refl; whole = tt; open_end = tt };
+  mean = tt;
+  told = refl;
+  state = refl;
+  answered = refl;
+  refused = refl;
+  kept = record { len = refl; over = refl; same = λ _. refl };
+}

@@ -1,0 +1,86 @@
+-- Steps that follow one another, and what stands where one of them failed.
+use Rattle.std.proofs.Common.{◌≤◌, length-append, Result, Ok, Err, OnErr, ◌≡◌, ℕ, ◌+◌, ◌<◌, take, length, List, [], ◌∷◌, ◌++◌, Option, Some, None, refl, sym, ap, subst, ◌∙◌, arith, append_assoc, append-nil, inl, inr, MatchBool, Bool, true, false, ◌==◌}
+use Rattle.std.proofs.lemmas.List.{take_all}
+use Rattle.std.specs.Io.KnownBytes.{Appends, Consumes, Keeps}
+use Rattle.ring_machine.specs.Document.{Document}
+use Rattle.device_io.specs.Devices.{AppendsPrefix}
+use Rattle.device_io.proofs.DeviceLemmas.{Consumes-more, Consumes-none, Appends-more, Appends-none}
+use Rattle.script_runner.specs.Runs.{Meaning, reply_text, opened_state}
+use Rattle.script_runner.specs.Progress.{Progress, KeptMeans, IsAnswered, LineStep, ByteStep, Feeds, IsPartReply, PutsPart, FeedsPart, Told}
+use Rattle.script_runner.specs.Finish.{LastStep, Finishes, PutsLast, Counts}
+use Rattle.script_runner.specs.declared.runner.Summary.{Summary}
+
+pub OnErr-by : {A E : Type 0} (r : Result A E) {P : Type 0} → P → OnErr r P
+OnErr-by (Ok x) h = tt
+OnErr-by (Err e) h = h
+
+-- the front of a reply
+pub put_part : (ended : Bool) (p : Progress) (old new : Option (List ℕ)) (d : Document) (over : Bool) (line : List ℕ) (m : Meaning) (text piece : List ℕ)
+    → p.doc ≡ d → p.over ≡ over → p.line ≡ line → KeptMeans over ended line m → text ≡ reply_text (opened_state d) m → piece ≡ text → AppendsPrefix old new piece
+    → PutsPart ended p old new
+put_part ended p old new d over line m text piece ed eo el k t e h =
+    let (n, within, put) = h in
+    let kept : KeptMeans p.over ended p.line m = rw (eo, el) k in
+    (take n piece, put, inr (m, n, kept, ap (take n) (e ∙ t ∙ ap (λ x. reply_text (opened_state x) m) (sym ed))))
+
+-- a line feed ends the kept line
+pub fed_line : (p q : Progress) (b : ℕ) (text : List ℕ) → b ≡ 10 → LineStep true (record p { bytes = p.bytes + 1 }) text q → q.bytes ≡ p.bytes + 1 → ByteStep p b text q
+fed_line p q b text e s n =
+    let (m, k, a) = s in
+    let step : LineStep true p text q = (m, k, record { told = a.told; after = a.after; line = a.line; over = a.over; answered = a.answered; refused = a.refused }) in
+    subst (λ c. ByteStep p c text q) (sym e) (step, n)
+
+-- one more byte
+pub Feeds-more : (bs : List ℕ) (p q r : Progress) (s t : List ℕ) (b : ℕ) → Feeds p bs s q → ByteStep q b t r → Feeds p (bs ++ b ∷ []) (s ++ t) r
+Feeds-more [] p q r s t b h k =
+    let step = subst (λ m. ByteStep m b t r) h.1 k in
+    (r, t, [], step, (refl, refl), rw (h.0, append-nil) refl)
+Feeds-more (x ∷ bs) p q r s t b h k =
+    let (mid, first, rest, step, tail, whole) = h in
+    (mid, first, rest ++ t, step, Feeds-more bs mid q r rest t b tail k, rw (whole, append_assoc) refl)
+
+-- and more bytes
+pub Feeds-append : (bs cs : List ℕ) (p q r : Progress) (s t : List ℕ) → Feeds p bs s q → Feeds q cs t r → Feeds p (bs ++ cs) (s ++ t) r
+Feeds-append [] cs p q r s t h k = rw h.0 (subst (λ m. Feeds m cs t r) h.1 k)
+Feeds-append (x ∷ bs) cs p q r s t h k =
+    let (mid, first, rest, step, tail, whole) = h in
+    (mid, first, rest ++ t, step, Feeds-append bs cs mid q r rest t tail k, rw (whole, append_assoc) refl)
+
+-- ---- the end
+
+pub put_none : (p : Progress) (a b : Option (List ℕ)) → Keeps a b → PutsLast p a b
+put_none p a b k = ([], Appends-none a b k, inl refl)
+
+put_kept : (a b c : Option (List ℕ)) (text : List ℕ) → Appends a b text → Keeps b c → Appends a c text
+put_kept a b c text h k = subst (Appends a c) (append-nil text) (Appends-more a b c text [] h (Appends-none b c k))
+
+pub put_last : (p q : Progress) (a b c : Option (List ℕ)) → Told a b (λ text. LineStep false p text q) → Keeps b c → PutsLast p a c
+put_last p q a b c h k =
+    let (text, put, step) = h in
+    let (m, means, done) = step in
+    let whole : take (length text) (reply_text (opened_state p.doc) m) ≡ text = ap (take (length text)) (sym done.told) ∙ take_all (length text) text (omega arith) in
+    (text, put_kept a b c text put k, inr (m, length text, means, sym whole))
+
+last_none : (p : Progress) (t : Bool) → t ≡ true → MatchBool t ((let none : List ℕ = [] in none ≡ []) × (p ≡ p)) (LineStep false p [] p)
+last_none p t e = subst (λ b. MatchBool b ((let none : List ℕ = [] in none ≡ []) × (p ≡ p)) (LineStep false p [] p)) (sym e) (refl, refl)
+
+pub finished_none : (p : Progress) (a b : Option (List ℕ)) (s : Summary) → (length p.line == 0) ≡ true → Keeps a b → Counts p s → Told a b (λ text. Finishes p text s)
+finished_none p a b s e k n = ([], Appends-none a b k, (p, last_none p (length p.line == 0) e, n))
+
+pub finished_line : (p q : Progress) (a b c : Option (List ℕ)) (s : Summary) → (length p.line == 0) ≡ false → Told a b (λ text. LineStep false p text q) → Keeps b c
+    → Counts q s → Told a c (λ text. Finishes p text s)
+finished_line p q a b c s e h k n =
+    let (text, put, step) = h in
+    (text, put_kept a b c text put k, (q, subst (λ t. MatchBool t ((text ≡ []) × (q ≡ p)) (LineStep false p text q)) (sym e) step, n))
+
+-- ---- after a fault
+
+module _ {A E : Type 0} (r : Result A E) (a b : Option (List ℕ)) where
+  pub on_part : (ended : Bool) (p : Progress) → PutsPart ended p a b → OnErr r (PutsPart ended p a b)
+  on_part ended p h = OnErr-by r h
+
+  pub on_feeds : (p : Progress) (bs : List ℕ) → FeedsPart a b p bs → OnErr r (FeedsPart a b p bs)
+  on_feeds p bs h = OnErr-by r h
+
+  pub on_last : (p : Progress) → PutsLast p a b → OnErr r (PutsLast p a b)
+  on_last p h = OnErr-by r h

@@ -1,0 +1,27 @@
+-- The lines of the code as the machine's commands.
+use Rattle.std.specs.Prelude.{◌≡◌, ℕ, pos, ◌<◌, ◌^◌, List, ◌++◌, Option, None, Some}
+use Rattle.grid_geometry.specs.Position.{InRange}
+use Rattle.ring_machine.specs.Command.{Command, Move, Area}
+use Rattle.script_runner.specs.Lines.{spaced, spaced_position}
+use Rattle.script_runner.specs.declared.lines.Command.{Command as CommandLine}
+use Rattle.script_runner.specs.declared.lines.Command.TheVariants as line
+use Rattle.script_runner.specs.declared.lines.Line.{Line}
+use Rattle.script_runner.specs.declared.lines.Line.TheVariants.{Skip, Edit}
+
+abbrev pub command_of : CommandLine → Command
+command_of (line.Move p q) = Move p q
+command_of (line.Area n) = Area n
+
+abbrev pub says_of : Line → Option Command
+says_of Skip = None
+says_of (Edit c) = Some (command_of c)
+
+-- what stands behind the word of a move
+abbrev pub IsMoveTail : List ℕ → Command → Type 0
+IsMoveTail tail (Move p q) =
+    (tail ≡ spaced_position p ++ spaced_position q) × (InRange p × InRange q)
+IsMoveTail tail _ = ⊥
+
+abbrev pub IsAreaTail : List ℕ → Command → Type 0
+IsAreaTail tail (Area n) = (tail ≡ spaced (pos n)) × (n < 2 ^ 32)
+IsAreaTail tail _ = ⊥

@@ -1,0 +1,9 @@
+pub mod Lines
+pub mod Words
+pub mod Commands
+pub mod Answers
+pub mod Runs
+pub mod Progress
+pub mod Replies
+pub mod Finish
+pub mod Outcome

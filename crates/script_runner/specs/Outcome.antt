@@ -1,0 +1,125 @@
+-- What a run answers, and what stands after it.
+use Rattle.std.specs.Prelude.{◌≡◌, ◌≢◌, ℕ, ◌<◌, List, [], ◌++◌, length, take, map, Bool, true, Option, Some, None, ◌⊎◌}
+use Rattle.std.specs.Io.KnownBytes.{Appends, Consumes}
+use Rattle.ring_machine.specs.Document.{Document}
+use Rattle.ring_machine.specs.Planar.{Proper}
+use Rattle.topo_reader.specs.Document.{Opened, document_of}
+use Rattle.topo_reader.specs.Opening.{Opens, IsFault}
+use Rattle.topo_outline.specs.declared.fault.OpenFault.TheVariants as opening
+use Rattle.script_runner.specs.Runs.{AreLines, ScriptLine, ended_line, open_line, lines_of, Meaning, Means, AllMean, reply_text, replies, state_after_all, answered, refused, opened_state}
+use Rattle.script_runner.specs.Progress.{line_at}
+use Rattle.script_runner.specs.declared.runner.Summary.{Summary}
+use Rattle.script_runner.specs.declared.fault.RunFault.{RunFault}
+use Rattle.script_runner.specs.declared.fault.RunFault.TheVariants as fault
+use Rattle.plain_rings.specs.declared.fault.BuildFault.{BuildFault}
+use Rattle.plain_rings.specs.declared.fault.BuildFault.TheVariants as build
+use Rattle.script_runner.specs.declared.stop.Halt.{Halt}
+use Rattle.script_runner.specs.declared.stop.Halt.TheVariants as halt
+
+-- the bytes of a device, where it tells them: those still to come of a reader before and after a
+-- run (coming, left), those that a writer has taken before and after it (taken, given)
+abbrev pub Known : Type 0
+Known = Option (List ℕ)
+
+-- the map opens as this document, which is proper
+pub record OpensAs (bytes : List ℕ) (d : Document) : Type 0 where
+  pub read : Opened
+  pub opens : Opens bytes read
+  pub document : d ≡ document_of read
+  pub proper : Proper d
+
+-- a script's lines were answered by the text, one after another, on the document
+pub record Runs (d : Document) (script text : List ℕ) (summary : Summary) : Type 0 where
+  pub ended : List (List ℕ)
+  pub last : List ℕ
+  pub meanings : List Meaning
+  pub cut : AreLines script ended last
+  pub mean : AllMean (lines_of ended last) meanings
+  pub told : text ≡ replies (opened_state d) meanings
+  pub answered : summary.answered ≡ answered meanings
+  pub refused : summary.refused ≡ refused (opened_state d) meanings
+
+-- the script was read to its end, and the answers to it were written
+pub record AnswersAll (d : Document) (coming left taken given : Known) (summary : Summary) : Type 0 where
+  pub script : List ℕ
+  pub text : List ℕ
+  pub read : Consumes coming left script
+  pub wrote : Appends taken given text
+  pub runs : Runs d script text summary
+
+-- these bytes came, the lines that ended among them were answered, and no more was written;
+-- only past the limit of a script did further bytes come
+pub record AnswersLines (d : Document) (coming left taken given : Known) : Type 0 where
+  pub came : List ℕ
+  pub further : List ℕ
+  pub ended : List (List ℕ)
+  pub pending : List ℕ
+  pub meanings : List Meaning
+  pub read : Consumes coming left (came ++ further)
+  pub limit : (further ≡ []) ⊎ ((length came ≡ 1073741824) × (0 < length further))
+  pub cut : AreLines came ended pending
+  pub mean : AllMean (map ended_line ended) meanings
+  pub wrote : Appends taken given (replies (opened_state d) meanings)
+
+-- nothing, or the front of the reply to the line
+abbrev pub IsFront : Document → List Meaning → List ℕ → List ℕ → Type 0
+IsFront d before line part =
+    (part ≡ []) ⊎ ((ended : Bool) × (m : Meaning) × (k : ℕ) × Means (line_at ended line) m
+    × (part ≡ take k (reply_text (state_after_all (opened_state d) before) m)))
+
+-- these bytes came, the lines that ended among them were answered, and perhaps a part of the
+-- answer to the next line was written
+pub record AnswersPart (d : Document) (coming left taken given : Known) : Type 0 where
+  pub came : List ℕ
+  pub further : List ℕ
+  pub ended : List (List ℕ)
+  pub pending : List ℕ
+  pub meanings : List Meaning
+  pub part : List ℕ
+  pub read : Consumes coming left (came ++ further)
+  pub cut : AreLines came ended pending
+  pub mean : AllMean (map ended_line ended) meanings
+  pub front : IsFront d meanings pending part
+  pub wrote : Appends taken given (replies (opened_state d) meanings ++ part)
+
+-- the map opened, and its script was answered
+pub record Completes (bytes : List ℕ) (coming left taken given : Known) (summary : Summary)
+    : Type 0 where
+  pub document : Document
+  pub opens : OpensAs bytes document
+  pub answers : AnswersAll document coming left taken given summary
+
+-- nothing was read of the script, and nothing written
+pub record IsUntouched (coming left taken given : Known) : Type 0 where
+  pub unread : left ≡ coming
+  pub unwritten : given ≡ taken
+
+-- what stands after a fault: the map's own fault, or how far the answers came
+abbrev pub Ends : RunFault → List ℕ → Known → Known → Known → Known → Type 0
+Ends (fault.Open f) bytes coming left taken given =
+    IsFault bytes f × (f ≢ opening.OutOfMemory) × IsUntouched coming left taken given
+Ends fault.Read bytes coming left taken given =
+    (d : Document) × OpensAs bytes d × AnswersLines d coming left taken given
+Ends fault.Write bytes coming left taken given =
+    (d : Document) × OpensAs bytes d × AnswersPart d coming left taken given
+Ends fault.OutOfMemory bytes coming left taken given =
+    IsUntouched coming left taken given
+    ⊎ ((d : Document) × OpensAs bytes d × AnswersPart d coming left taken given)
+
+-- the same of the script alone, for the document
+abbrev pub Halts : Halt → Document → Known → Known → Known → Known → Type 0
+Halts halt.Read d coming left taken given = AnswersLines d coming left taken given
+Halts halt.Write d coming left taken given = AnswersPart d coming left taken given
+Halts halt.OutOfMemory d coming left taken given = AnswersPart d coming left taken given
+
+-- why a map was not opened, want of memory apart
+abbrev pub IsOpenEnd : RunFault → List ℕ → Type 0
+IsOpenEnd (fault.Open f) bytes = IsFault bytes f × (f ≢ opening.OutOfMemory)
+IsOpenEnd fault.Read bytes = ⊥
+IsOpenEnd fault.Write bytes = ⊥
+IsOpenEnd fault.OutOfMemory bytes = Unit {0}
+
+-- the end of a run whose map was not built
+abbrev pub IsBuildEnd : BuildFault → RunFault → Type 0
+IsBuildEnd (build.Conflict s t) end = end ≡ fault.Open (opening.Conflict s t)
+IsBuildEnd build.OutOfMemory end = end ≡ fault.OutOfMemory

@@ -1,0 +1,85 @@
+-- What a runner keeps between two bytes of a script, and what one more byte does.
+use Rattle.std.specs.Prelude.{◌≡◌, ℕ, ◌+◌, ◌<◌, ◌≤◌, ◌==◌, List, [], ◌∷◌, ◌++◌, length, take, nat_lt, Bool, true, false, not, ◌||◌, if◌then◌else◌, Option, Some, None, MatchBool, ◌⊎◌}
+use Rattle.std.specs.Io.KnownBytes.{Appends}
+use Rattle.ring_machine.specs.Document.{Document}
+use Rattle.script_runner.specs.Runs.{ScriptLine, ended_line, open_line, Meaning, Bad, Means, reply_text, state_after, answered_by, refused_by, opened_state}
+
+-- the document, the bytes of the line so far, whether more than are kept came, and the counts
+pub record Progress : Type 0 where
+  pub doc : Document
+  pub line : List ℕ
+  pub over : Bool
+  pub answered : ℕ
+  pub refused : ℕ
+  pub bytes : ℕ
+
+-- a line of at most 8192 bytes is kept, and no more lines were answered than bytes came
+pub record InBounds (kept answered refused bytes : ℕ) : Type 0 where
+  pub short : kept ≤ 8192
+  pub fewer : answered + kept ≤ bytes
+  pub within : refused ≤ answered
+
+abbrev pub start : Document → Progress
+start d = record { doc = d; line = []; over = false; answered = 0; refused = 0; bytes = 0 }
+
+-- a line that a line feed ends, or the last one
+abbrev pub line_at : Bool → List ℕ → ScriptLine
+line_at true l = ended_line l
+line_at false l = open_line l
+
+-- what the kept line means
+abbrev pub KeptMeans : Bool → Bool → List ℕ → Meaning → Type 0
+KeptMeans over ended line m = MatchBool over (m ≡ Bad) (Means (line_at ended line) m)
+
+-- the kept line, of this meaning, is answered
+pub record IsAnswered (p : Progress) (m : Meaning) (text : List ℕ) (q : Progress) : Type 0 where
+  pub told : text ≡ reply_text (opened_state p.doc) m
+  pub after : opened_state q.doc ≡ state_after (opened_state p.doc) m
+  pub line : q.line ≡ []
+  pub over : q.over ≡ false
+  pub answered : q.answered ≡ p.answered + answered_by m
+  pub refused : q.refused ≡ p.refused + refused_by (opened_state p.doc) m
+
+-- the kept line is answered by this text
+abbrev pub LineStep : Bool → Progress → List ℕ → Progress → Type 0
+LineStep ended p text q = (m : Meaning) × KeptMeans p.over ended p.line m × IsAnswered p m text q
+
+-- a byte that ends no line
+abbrev pub more : Progress → ℕ → Progress
+more p b = record p {
+  line = if nat_lt (length p.line) 8192 then p.line ++ b ∷ [] else p.line;
+  over = p.over || not (nat_lt (length p.line) 8192);
+  bytes = p.bytes + 1;
+}
+
+abbrev pub ByteStep : Progress → ℕ → List ℕ → Progress → Type 0
+ByteStep p b text q =
+    MatchBool (b == 10)
+    (LineStep true p text q × (q.bytes ≡ p.bytes + 1))
+    ((text ≡ []) × (q ≡ more p b))
+
+abbrev pub Feeds : Progress → List ℕ → List ℕ → Progress → Type 0
+Feeds p [] text q = (text ≡ []) × (q ≡ p)
+Feeds p (b ∷ bs) text q =
+    (mid : Progress) × (first rest : List ℕ) × ByteStep p b first mid × Feeds mid bs rest q
+    × (text ≡ first ++ rest)
+
+-- a text that this holds of was put
+abbrev pub Told : Option (List ℕ) → Option (List ℕ) → (List ℕ → Type 0) → Type 0
+Told old new P = (text : List ℕ) × Appends old new text × P text
+
+-- nothing, or the front of the reply to the kept line
+abbrev pub IsPartReply : Bool → Progress → List ℕ → Type 0
+IsPartReply ended p part =
+    (part ≡ []) ⊎ ((m : Meaning) × (k : ℕ) × KeptMeans p.over ended p.line m
+    × (part ≡ take k (reply_text (opened_state p.doc) m)))
+
+-- some of the reply to the kept line was put
+abbrev pub PutsPart : Bool → Progress → Option (List ℕ) → Option (List ℕ) → Type 0
+PutsPart ended p old new = Told old new (IsPartReply ended p)
+
+-- the first bytes were fed, and some of the reply to the line that the next byte ends was put
+abbrev pub FeedsPart : Option (List ℕ) → Option (List ℕ) → Progress → List ℕ → Type 0
+FeedsPart old new p bs =
+    (n : ℕ) × (mid : Progress) × (before part : List ℕ) × (n < length bs)
+    × Feeds p (take n bs) before mid × IsPartReply true mid part × Appends old new (before ++ part)

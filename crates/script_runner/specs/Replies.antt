@@ -1,0 +1,39 @@
+-- What the reply to a command is, and what is left after it.
+use Rattle.std.specs.Prelude.{◌≡◌, ℕ, List, ◌++◌, Bool, if◌then◌else◌, Option, None, Some}
+use Rattle.ring_machine.specs.Document.{Document}
+use Rattle.ring_machine.specs.Command.{Command}
+use Rattle.ring_machine.specs.Machine.{step}
+use Rattle.script_runner.specs.Answers.{answer_text}
+use Rattle.script_runner.specs.Runs.{Meaning, Bad, meaning_of, reply_text, state_after, refused_by, refusals, opened_state}
+use Rattle.script_runner.specs.Commands.{says_of}
+use Rattle.ring_machine.specs.Command as machine
+use Rattle.plain_rings.specs.declared.fault.EditFault.{EditFault}
+use Rattle.plain_rings.specs.declared.fault.EditFault.TheVariants.{NoVertex, Occupied, Conflict, Sweeps, OutOfMemory}
+use Rattle.script_runner.specs.declared.lines.Line.{Line}
+
+-- the command is answered: its answer's text was appended, the document is the machine's, and it refuses or not
+pub record Replied (d e : Document) (c : Command) (old new : List ℕ) (refuses : Bool)
+    : Type 0 where
+  pub told : new ≡ old ++ answer_text (step 0 (opened_state d) c).0
+  pub after : opened_state e ≡ (step 0 (opened_state d) c).1
+  pub counts : (if refuses then 1 else 0) ≡ refusals (step 0 (opened_state d) c).0
+
+-- the same of a line, its line feed included
+pub record RepliedLine (d e : Document) (m : Meaning) (text : List ℕ) (refuses : Bool)
+    : Type 0 where
+  pub told : text ≡ reply_text (opened_state d) m
+  pub after : opened_state e ≡ state_after (opened_state d) m
+  pub counts : (if refuses then 1 else 0) ≡ refused_by (opened_state d) m
+
+-- what a line means that says this, or nothing that is taken
+abbrev pub meaning_of_said : Option Line → Meaning
+meaning_of_said None = Bad
+meaning_of_said (Some l) = meaning_of (says_of l)
+
+-- the refusal that a fault is; want of memory is none
+abbrev pub refusal_of : EditFault → Option machine.Refusal
+refusal_of NoVertex = Some machine.NoVertex
+refusal_of Occupied = Some machine.Occupied
+refusal_of (Conflict s t) = Some (machine.Conflict s t)
+refusal_of Sweeps = Some machine.Sweeps
+refusal_of OutOfMemory = None

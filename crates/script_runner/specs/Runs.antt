@@ -1,0 +1,124 @@
+-- A whole run: the lines of a script, what each means, and the answers.
+use Rattle.std.specs.Prelude.{◌≡◌, ◌≢◌, ℕ, ◌+◌, ◌≤◌, ◌==◌, List, [], ◌∷◌, ◌++◌, length, map, take, Bool, true, false, if◌then◌else◌, codes, Option, None, Some, ◌⊎◌}
+use Rattle.std.specs.List.{flat_map}
+use Rattle.std.specs.Io.KnownBytes.{Appends, Consumes}
+use Rattle.ring_machine.specs.Document.{Document}
+use Rattle.ring_machine.specs.Parts.{features}
+use Rattle.ring_machine.specs.Command.{Command, Answer, Refused}
+use Rattle.ring_machine.specs.Machine.{State, step}
+use Rattle.script_runner.specs.Lines.{Says}
+use Rattle.script_runner.specs.Answers.{answer_text}
+
+-- ---- lines
+
+-- no line feed
+abbrev pub NoFeed : List ℕ → Type 0
+NoFeed [] = Unit {0}
+NoFeed (b ∷ bs) = (b ≢ 10) × NoFeed bs
+
+abbrev pub NoFeeds : List (List ℕ) → Type 0
+NoFeeds [] = Unit {0}
+NoFeeds (l ∷ ls) = NoFeed l × NoFeeds ls
+
+-- each with its line feed
+abbrev pub with_feeds : List (List ℕ) → List ℕ
+with_feeds ls = flat_map (λ l. l ++ 10 ∷ []) ls
+
+-- the bytes are these lines, each ended by a line feed, and then bytes with none
+pub record AreLines (bytes : List ℕ) (ended : List (List ℕ)) (last : List ℕ) : Type 0 where
+  pub all : bytes ≡ with_feeds ended ++ last
+  pub whole : NoFeeds ended
+  pub open_end : NoFeed last
+
+-- a line: its bytes, and what of them is read
+pub record ScriptLine : Type 0 where
+  pub bytes : List ℕ
+  pub text : List ℕ
+
+-- one carriage return before the line feed is dropped
+abbrev pub without_return : List ℕ → List ℕ
+without_return [] = []
+without_return (b ∷ []) = if b == 13 then [] else (b ∷ [])
+without_return (b ∷ c ∷ bs) = b ∷ without_return (c ∷ bs)
+
+abbrev pub ended_line : List ℕ → ScriptLine
+ended_line l = record { bytes = l; text = without_return l }
+
+abbrev pub open_line : List ℕ → ScriptLine
+open_line l = record { bytes = l; text = l }
+
+-- a last line without a line feed counts where it is not empty
+abbrev pub lines_of : List (List ℕ) → List ℕ → List ScriptLine
+lines_of ended [] = map ended_line ended
+lines_of ended (b ∷ bs) = map ended_line ended ++ open_line (b ∷ bs) ∷ []
+
+-- ---- what a line means
+
+pub data Meaning : Type 0 where
+  Skipped : Meaning
+  Asked : Command → Meaning
+  Bad : Meaning
+
+abbrev pub meaning_of : Option Command → Meaning
+meaning_of None = Skipped
+meaning_of (Some c) = Asked c
+
+-- a line of at most 8192 bytes means what it says; one that says nothing, and a longer one, is bad
+abbrev pub Means : ScriptLine → Meaning → Type 0
+Means l Skipped = (length l.bytes ≤ 8192) × Says l.text None
+Means l (Asked c) = (length l.bytes ≤ 8192) × Says l.text (Some c)
+Means l Bad = length l.bytes ≤ 8192 → (said : Option Command) → ¬ Says l.text said
+
+abbrev pub AllMean : List ScriptLine → List Meaning → Type 0
+AllMean [] [] = Unit {0}
+AllMean [] (m ∷ ms) = ⊥
+AllMean (l ∷ ls) [] = ⊥
+AllMean (l ∷ ls) (m ∷ ms) = Means l m × AllMean ls ms
+
+-- ---- answers; the machine keeps no history yet
+
+abbrev pub reply_text : State → Meaning → List ℕ
+reply_text st Skipped = []
+reply_text st (Asked c) = answer_text (step 0 st c).0 ++ codes "\n"
+reply_text st Bad = codes "bad line\n"
+
+abbrev pub state_after : State → Meaning → State
+state_after st Skipped = st
+state_after st (Asked c) = (step 0 st c).1
+state_after st Bad = st
+
+-- an answer that is a refusal counts one
+abbrev pub refusals : Answer → ℕ
+refusals (Refused r) = 1
+refusals _ = 0
+
+abbrev pub answered_by : Meaning → ℕ
+answered_by Skipped = 0
+answered_by (Asked c) = 1
+answered_by Bad = 1
+
+abbrev pub refused_by : State → Meaning → ℕ
+refused_by st Skipped = 0
+refused_by st (Asked c) = refusals (step 0 st c).0
+refused_by st Bad = 1
+
+-- the answers in order
+abbrev pub replies : State → List Meaning → List ℕ
+replies st [] = []
+replies st (m ∷ ms) = reply_text st m ++ replies (state_after st m) ms
+
+abbrev pub state_after_all : State → List Meaning → State
+state_after_all st [] = st
+state_after_all st (m ∷ ms) = state_after_all (state_after st m) ms
+
+abbrev pub answered : List Meaning → ℕ
+answered [] = 0
+answered (m ∷ ms) = answered_by m + answered ms
+
+abbrev pub refused : State → List Meaning → ℕ
+refused st [] = 0
+refused st (m ∷ ms) = refused_by st m + refused (state_after st m) ms
+
+-- opened: the next number is that of the features
+abbrev pub opened_state : Document → State
+opened_state d = record { doc = d; next = length (features d); past = [] }

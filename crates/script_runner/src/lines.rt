@@ -1,0 +1,26 @@
+use grid_geometry::Pos;
+
+/// An edit or a query.
+#[derive(Clone, Copy, Debug, PartialEq, Eq)]
+pub enum Command {
+    /// `move x y x y`: the second position takes the place of the first in every ring.
+    Move(Pos, Pos),
+    /// `area f`: twice the area of a feature.
+    Area(u32),
+}
+
+/// What a line of a script asks.
+#[derive(Clone, Copy, Debug, PartialEq, Eq)]
+pub enum Line {
+    /// An empty line, or a comment that begins with `#`.
+    Skip,
+    /// An edit or a query.
+    Edit(Command),
+}
+
+/// Why a line is not taken.
+#[derive(Clone, Copy, Debug, PartialEq, Eq)]
+pub enum LineFault {
+    /// The line is no command, or it is over a limit or not UTF-8.
+    BadLine,
+}

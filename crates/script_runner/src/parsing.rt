@@ -1,0 +1,90 @@
+ghost use Rattle.std.specs.Prelude.{◌≡◌, ◌++◌, List, ℕ, codes, MatchOption, MatchResult, pos, ◌<◌, ◌^◌, IsUtf8, IsTrue, ◌↔◌, Option, Some, None};
+ghost use Rattle.ring_machine.specs.Command.{Command as Asked};
+ghost use Rattle.script_runner.specs.Lines.{Says, Asks, is_comment};
+ghost use Rattle.script_runner.specs.Commands.{command_of, says_of, IsMoveTail, IsAreaTail};
+
+use crate::lines::{Command, Line, LineFault};
+use crate::words::{behind, spaced_number, spaced_position};
+use std::str;
+
+/// The move that stands behind the word `move`.
+fn move_behind(tail: &[u8]) -> Option<Command>
+    ensures { MatchOption result
+        ((c : Asked) → ¬ IsMoveTail tail.now c)
+        (λ c. IsMoveTail tail.now (command_of c)) }
+{
+    let Some(from) = spaced_position(tail) else {
+        return None;
+    };
+    let Some(to) = spaced_position(from.1) else {
+        return None;
+    };
+    if to.1.is_empty() {
+        Some(Command::Move(from.0, to.0))
+    } else {
+        None
+    }
+}
+
+/// The question for an area that stands behind the word `area`.
+fn area_behind(tail: &[u8]) -> Option<Command>
+    ensures { MatchOption result
+        ((c : Asked) → ¬ IsAreaTail tail.now c)
+        (λ c. IsAreaTail tail.now (command_of c)) }
+{
+    let Some((number, end)) = spaced_number(tail) else {
+        return None;
+    };
+    if !end.is_empty() {
+        return None;
+    }
+    match u32::try_from(number) {
+        Ok(feature) => Some(Command::Area(feature)),
+        Err(_) => None,
+    }
+}
+
+/// The command that a line asks for.
+fn command(line: &[u8]) -> Option<Command>
+    ensures { MatchOption result
+        ((c : Asked) → ¬ Asks line.now c)
+        (λ c. Asks line.now (command_of c)) }
+{
+    if let Some(tail) = behind(b"move", line) {
+        return move_behind(tail);
+    }
+    match behind(b"area", line) {
+        Some(tail) => area_behind(tail),
+        None => None,
+    }
+}
+
+/// Whether the line is empty or a comment.
+fn is_comment(line: &[u8]) -> bool
+    ensures { result ≡ is_comment line.now }
+{
+    match line {
+        [] => true,
+        [first, ..] => *first == b'#',
+    }
+}
+
+/// What a line of a script says, without its line feed and without the carriage return that is
+/// dropped before it. A line is a command's word and its numbers, with exactly one space between
+/// two of them; a number is `0`, or digits of which the first is not `0`, perhaps behind a minus.
+pub fn parse_line(line: &[u8]) -> Result<Line, LineFault>
+    ensures { MatchResult result
+        (λ said. Says line.now (says_of said))
+        (λ _. (asked : Option Asked) → ¬ Says line.now asked) }
+{
+    let Ok(_) = str::from_utf8(line) else {
+        return Err(LineFault::BadLine);
+    };
+    if is_comment(line) {
+        return Ok(Line::Skip);
+    }
+    match command(line) {
+        Some(command) => Ok(Line::Edit(command)),
+        None => Err(LineFault::BadLine),
+    }
+}

@@ -1,0 +1,164 @@
+// The answers to lines, and their texts.
+ghost use Rattle.std.specs.Prelude.{◌≡◌, ◌++◌, [], ℕ, List, OnOk, IfOk, IsSomeAnd, codes};
+ghost use Rattle.ring_machine.specs.Command.{Move, Area};
+ghost use Rattle.script_runner.specs.Answers.{position_text, segment_text, refusal_text};
+ghost use Rattle.script_runner.specs.Replies.{Replied, RepliedLine, meaning_of_said, refusal_of};
+ghost use Rattle.script_runner.specs.Commands.{command_of};
+
+use crate::lines::{Command, Line};
+use crate::stop::OutOfMemory;
+use grid_geometry::{Pos, Seg};
+use itoa::{Buffer, Integer};
+use plain_rings::{EditFault, PlainMap};
+use std::alloc::Allocator;
+
+/// Appends a number in decimal.
+fn push_number<A: Allocator + Copy, I: Integer>(
+    text: &mut Vec<u8, A>,
+    number: I,
+) -> Result<(), OutOfMemory>
+    ensures { OnOk result (text.new.items ≡ text.old.items ++ I.text number) }
+{
+    let mut buffer = Buffer::new();
+    text.extend_from_slice(buffer.format(number).as_bytes())?;
+    Ok(())
+}
+
+fn push_position<A: Allocator + Copy>(
+    text: &mut Vec<u8, A>,
+    position: Pos,
+) -> Result<(), OutOfMemory>
+    ensures { OnOk result (text.new.items ≡ text.old.items ++ position_text position) }
+{
+    push_number(text, position.x())?;
+    text.extend_from_slice(b" ")?;
+    push_number(text, position.y())?;
+    Ok(())
+}
+
+fn push_segment<A: Allocator + Copy>(text: &mut Vec<u8, A>, segment: Seg) -> Result<(), OutOfMemory>
+    ensures { OnOk result (text.new.items ≡ text.old.items ++ segment_text segment) }
+{
+    push_position(text, segment.lo)?;
+    text.extend_from_slice(b" ")?;
+    push_position(text, segment.hi)?;
+    Ok(())
+}
+
+/// Appends the pair of segments in conflict.
+fn push_conflict<A: Allocator + Copy>(
+    text: &mut Vec<u8, A>,
+    s: Seg,
+    t: Seg,
+) -> Result<(), OutOfMemory>
+    ensures { OnOk result (text.new.items ≡ text.old.items
+        ++ (codes "conflict " ++ (segment_text s ++ (codes " / " ++ segment_text t)))) }
+{
+    text.extend_from_slice(b"conflict ")?;
+    push_segment(text, s)?;
+    text.extend_from_slice(b" / ")?;
+    push_segment(text, t)?;
+    Ok(())
+}
+
+/// Appends the text of a refusal; want of memory is none.
+fn push_refusal<A: Allocator + Copy>(
+    text: &mut Vec<u8, A>,
+    fault: EditFault,
+) -> Result<(), OutOfMemory>
+    ensures { OnOk result (IsSomeAnd (refusal_of fault)
+        (λ r. text.new.items ≡ text.old.items ++ (codes "refused " ++ refusal_text r))) }
+{
+    text.extend_from_slice(b"refused ")?;
+    match fault {
+        EditFault::NoVertex => text.extend_from_slice(b"no vertex")?,
+        EditFault::Occupied => text.extend_from_slice(b"occupied")?,
+        EditFault::Sweeps => text.extend_from_slice(b"sweeps")?,
+        EditFault::Conflict { s, t } => push_conflict(text, s, t)?,
+        EditFault::OutOfMemory => return Err(OutOfMemory),
+    }
+    Ok(())
+}
+
+/// Makes a move and appends its answer. Answers whether it was refused.
+fn reply_to_move<A: Allocator + Copy>(
+    map: &mut PlainMap<'_, A>,
+    from: Pos,
+    to: Pos,
+    text: &mut Vec<u8, A>,
+) -> Result<bool, OutOfMemory>
+    ensures { IfOk result (λ refuses.
+        Replied map.old map.new (Move from to) text.old.items text.new.items refuses) }
+{
+    match map.move_vertex(from, to) {
+        Ok(()) => {
+            text.extend_from_slice(b"ok")?;
+            Ok(false)
+        }
+        Err(fault) => {
+            push_refusal(text, fault)?;
+            Ok(true)
+        }
+    }
+}
+
+/// Appends twice the area of a feature. Answers whether it was refused.
+fn reply_to_area<A: Allocator + Copy>(
+    map: &PlainMap<'_, A>,
+    feature: u32,
+    text: &mut Vec<u8, A>,
+) -> Result<bool, OutOfMemory>
+    ensures { IfOk result (λ refuses.
+        Replied map.now map.now (Area feature) text.old.items text.new.items refuses) }
+{
+    match map.area2_of(feature) {
+        Ok(area) => {
+            push_number(text, area)?;
+            Ok(false)
+        }
+        Err(_) => {
+            text.extend_from_slice(b"refused no feature")?;
+            Ok(true)
+        }
+    }
+}
+
+/// Answers a command. Answers whether it was refused.
+fn reply_to<A: Allocator + Copy>(
+    map: &mut PlainMap<'_, A>,
+    command: Command,
+    text: &mut Vec<u8, A>,
+) -> Result<bool, OutOfMemory>
+    ensures { IfOk result (λ refuses.
+        Replied map.old map.new (command_of command) text.old.items text.new.items refuses) }
+{
+    match command {
+        Command::Move(from, to) => reply_to_move(map, from, to, text),
+        Command::Area(feature) => reply_to_area(map, feature, text),
+    }
+}
+
+/// Answers what a line says, with a line feed: nothing where it is skipped, `bad line` where it
+/// says nothing that is taken. Answers whether it was refused.
+pub(crate) fn reply<A: Allocator + Copy>(
+    map: &mut PlainMap<'_, A>,
+    said: Option<Line>,
+    text: &mut Vec<u8, A>,
+) -> Result<bool, OutOfMemory>
+    requires { text.old.items ≡ [] }
+    ensures { IfOk result (λ refuses.
+        RepliedLine map.old map.new (meaning_of_said said) text.new.items refuses) }
+{
+    match said {
+        Some(Line::Skip) => Ok(false),
+        Some(Line::Edit(command)) => {
+            let refuses = reply_to(map, command, text)?;
+            text.push(b'\n')?;
+            Ok(refuses)
+        }
+        None => {
+            text.extend_from_slice(b"bad line\n")?;
+            Ok(true)
+        }
+    }
+}

@@ -1,0 +1,209 @@
+//! What is kept between two bytes of a script.
+ghost use Rattle.std.specs.Prelude.{◌≡◌, ◌≤◌, ◌<◌, ◌+◌, ◌^◌, length, false, true, OnOk, OnErr, IfOk, Err, if◌then◌else◌};
+ghost use Rattle.std.specs.Io.KnownBytes.{Keeps};
+ghost use Rattle.script_runner.specs.Runs.{without_return, answered_by};
+ghost use Rattle.script_runner.specs.Replies.{meaning_of_said};
+ghost use Rattle.script_runner.specs.Progress.{KeptMeans, LineStep, ByteStep, Feeds, FeedsPart, PutsPart, Told, start};
+
+use crate::lines::Line;
+use crate::parsing::parse_line;
+use crate::replies::reply;
+use crate::stop::Stop;
+use device_io::{Sink, put_all};
+use plain_rings::PlainMap;
+use std::alloc::Allocator;
+use std::marker::Model;
+
+/// The most bytes of a line that are kept.
+const MAX_LINE: usize = 8192;
+
+/// The line without a carriage return at its end.
+fn without_return(line: &[u8]) -> &[u8]
+    ensures { result.now ≡ without_return line.now }
+{
+    match line.strip_suffix(b"\r") {
+        Some(front) => front,
+        None => line,
+    }
+}
+
+/// What the kept line says; nothing for a bad line.
+fn said(line: &[u8], over: bool, ended: bool) -> Option<Line>
+    requires { length line.now ≤ 8192 }
+    ensures { KeptMeans over ended line.now (meaning_of_said result) }
+{
+    if over {
+        return None;
+    }
+    let text = if ended { without_return(line) } else { line };
+    match parse_line(text) {
+        Ok(said) => Some(said),
+        Err(_) => None,
+    }
+}
+
+/// Whether the line has an answer.
+fn is_answered(said: &Option<Line>) -> bool
+    ensures { (if result then 1 else 0) ≡ answered_by (meaning_of_said said.now) }
+{
+    !matches!(said, Some(Line::Skip))
+}
+
+/// One where the test holds.
+fn one_if(test: bool) -> u64
+    ensures { result ≡ (if test then 1 else 0) }
+{
+    if test { 1 } else { 0 }
+}
+
+/// How many lines of a script were answered, and how many of the answers are refusals or say
+/// that a line is bad.
+#[derive(Clone, Copy, Debug, PartialEq, Eq)]
+pub struct Summary {
+    pub answered: u64,
+    pub refused: u64,
+}
+
+/// The map, the line so far, and the counts.
+#[derive(Drop)]
+pub(crate) struct Runner<'a, A: Allocator + Copy> {
+    map: PlainMap<'a, A>,
+    line: Vec<u8, A>,
+    over: bool,
+    answered: u64,
+    refused: u64,
+    bytes: u64,
+}
+
+impl<'a, A: Allocator + Copy> Model for Runner<'a, A> {
+    ghost use Rattle.std.specs.Prelude.{◌≤◌, ◌+◌, length};
+    ghost use Rattle.script_runner.specs.Progress.{Progress, InBounds};
+
+    ghost Value = { Progress };
+
+    ghost view = { λ r. record {
+      doc = r.map;
+      line = r.line.items;
+      over = r.over;
+      answered = r.answered;
+      refused = r.refused;
+      bytes = r.bytes;
+    } };
+
+    ghost invariant = { λ r. InBounds (length r.line.items) r.answered r.refused r.bytes };
+}
+
+impl<'a, A: Allocator + Copy> Runner<'a, A> {
+    /// Nothing was fed.
+    pub(crate) fn new(alloc: A, map: PlainMap<'a, A>) -> Self
+        ensures { result ≡ start map.entry }
+    {
+        Runner {
+            map,
+            line: Vec::new(alloc),
+            over: false,
+            answered: 0,
+            refused: 0,
+            bytes: 0,
+        }
+    }
+
+    /// Answers the kept line, which a line feed ends or which is the last.
+    fn answer<W: Sink>(&mut self, ended: bool, out: &mut W) -> Result<(), Stop>
+        requires works { W.has_failed out.old ≡ false }
+        requires room { self.old.answered < self.old.bytes }
+        requires bytes { self.old.bytes < 2 ^ 63 }
+        ensures ok { OnOk result (Told (W.taken out.old) (W.taken out.new)
+            (λ text. LineStep ended self.old text self.new)) }
+        ensures bytes { OnOk result (self.new.bytes ≡ self.old.bytes) }
+        ensures cut { OnErr result (PutsPart ended self.old (W.taken out.old) (W.taken out.new)) }
+        ensures works { OnOk result (W.has_failed out.new ≡ false) }
+        ensures failed { result ≡ Err Stop.Write → W.has_failed out.new ≡ true }
+    {
+        let over = self.over;
+        let said = said(self.line.as_slice(), over, ended);
+        let counts = is_answered(&said);
+        let mut text = Vec::new(*self.line.allocator());
+        let refuses = reply(&mut self.map, said, &mut text)?;
+        put_all(out, text.as_slice())?;
+        self.answered += one_if(counts);
+        self.refused += one_if(refuses);
+        self.line.clear();
+        self.over = false;
+        Ok(())
+    }
+
+    /// Takes the next byte of a script.
+    fn feed_byte<W: Sink>(&mut self, byte: u8, out: &mut W) -> Result<(), Stop>
+        requires works { W.has_failed out.old ≡ false }
+        requires bytes { self.old.bytes < 2 ^ 62 }
+        ensures ok { OnOk result (Told (W.taken out.old) (W.taken out.new)
+            (λ text. ByteStep self.old byte text self.new)) }
+        ensures bytes { OnOk result (self.new.bytes ≡ self.old.bytes + 1) }
+        ensures cut { OnErr result (PutsPart true self.old (W.taken out.old) (W.taken out.new)) }
+        ensures works { OnOk result (W.has_failed out.new ≡ false) }
+        ensures failed { result ≡ Err Stop.Write → W.has_failed out.new ≡ true }
+    {
+        self.bytes += 1;
+        if byte == b'\n' {
+            self.answer(true, out)?;
+        } else if self.line.len() < MAX_LINE {
+            self.line.push(byte)?;
+        } else {
+            self.over = true;
+        }
+        Ok(())
+    }
+
+    /// Takes the next bytes of a script, and answers each line that ends in them.
+    pub(crate) fn feed<W: Sink>(&mut self, piece: &[u8], out: &mut W) -> Result<(), Stop>
+        requires works { W.has_failed out.old ≡ false }
+        requires bytes { self.old.bytes + length piece.now < 2 ^ 62 }
+        ensures ok { OnOk result (Told (W.taken out.old) (W.taken out.new)
+            (λ text. Feeds self.old piece.now text self.new)) }
+        ensures bytes { OnOk result (self.new.bytes ≡ self.old.bytes + length piece.now) }
+        ensures cut { OnErr result
+            (FeedsPart (W.taken out.old) (W.taken out.new) self.old piece.now) }
+        ensures works { OnOk result (W.has_failed out.new ≡ false) }
+        ensures failed { result ≡ Err Stop.Write → W.has_failed out.new ≡ true }
+    {
+        for byte in piece {
+            self.feed_byte(*byte, out)?;
+        }
+        Ok(())
+    }
+
+    ghost use Rattle.script_runner.specs.Finish.{Finishes, PutsLast, Counts};
+
+    /// Sends the answers on, and answers the counts.
+    fn flush<W: Sink>(&self, out: &mut W) -> Result<Summary, Stop>
+        requires { W.has_failed out.old ≡ false }
+        ensures kept { Keeps (W.taken out.old) (W.taken out.new) }
+        ensures counts { IfOk result (λ summary. Counts self.now summary) }
+        ensures works { OnOk result (W.has_failed out.new ≡ false) }
+        ensures failed { result ≡ Err Stop.Write → W.has_failed out.new ≡ true }
+    {
+        out.flush()?;
+        Ok(Summary {
+            answered: self.answered,
+            refused: self.refused,
+        })
+    }
+
+    /// Answers a last line that no line feed ends, and sends the answers on.
+    pub(crate) fn finish<W: Sink>(mut self, out: &mut W) -> Result<Summary, Stop>
+        requires works { W.has_failed out.old ≡ false }
+        requires bytes { self.bytes < 2 ^ 63 }
+        ensures ok { IfOk result (λ summary. Told (W.taken out.old) (W.taken out.new)
+            (λ text. Finishes self.entry text summary)) }
+        ensures cut { OnErr result (PutsLast self.entry (W.taken out.old) (W.taken out.new)) }
+        ensures works { OnOk result (W.has_failed out.new ≡ false) }
+        ensures failed { result ≡ Err Stop.Write → W.has_failed out.new ≡ true }
+    {
+        if self.line.is_empty() {
+            return self.flush(out);
+        }
+        self.answer(false, out)?;
+        self.flush(out)
+    }
+}

@@ -1,0 +1,127 @@
+ghost use Rattle.std.specs.Prelude.{◌≡◌, false, true, OnOk, IfOk, IfErr, Err};
+ghost use Rattle.std.specs.Io.KnownBytes.{IsAtEnd};
+ghost use Rattle.script_runner.specs.Outcome.{AnswersAll, Completes, Ends, Halts, OpensAs, IsOpenEnd, IsBuildEnd};
+
+use crate::fault::RunFault;
+use crate::runner::{Runner, Summary};
+use crate::stop::{Halt, Stop};
+use device_io::{Sink, Source};
+use plain_rings::{BuildFault, PlainMap};
+use std::alloc::{Allocator, Global};
+use topo_outline::OpenFault;
+use topo_reader::read;
+
+/// The most bytes of a script.
+const MAX_SCRIPT: usize = 1_073_741_824;
+
+/// The most bytes that are read at once.
+const PIECE: usize = 4096;
+
+/// The end of a run whose map has segments in conflict, or no memory.
+fn not_built<'a>(fault: BuildFault) -> RunFault<'a>
+    ensures { IsBuildEnd fault result }
+{
+    match fault {
+        BuildFault::Conflict { s, t } => RunFault::Open(OpenFault::Conflict { s, t }),
+        BuildFault::OutOfMemory => RunFault::OutOfMemory,
+    }
+}
+
+/// Opens a map, where no two of its segments conflict.
+fn open<'a, A: Allocator + Copy>(
+    alloc: A,
+    heap: Global,
+    bytes: &'a [u8],
+) -> Result<PlainMap<'a, A>, RunFault<'a>>
+    ensures opened { IfOk result (λ map. OpensAs bytes.now map) }
+    ensures refused { IfErr result (λ fault. IsOpenEnd fault bytes.now) }
+{
+    let raw = match read(alloc, heap, bytes) {
+        Ok(raw) => raw,
+        Err(OpenFault::OutOfMemory) => return Err(RunFault::OutOfMemory),
+        Err(fault) => return Err(RunFault::Open(fault)),
+    };
+    match PlainMap::build(alloc, raw) {
+        Ok(map) => Ok(map),
+        Err(fault) => Err(not_built(fault)),
+    }
+}
+
+/// Answers each line of a script, piece by piece as it comes.
+fn answer_script<'a, A: Allocator + Copy, R: Source, W: Sink>(
+    alloc: A,
+    map: PlainMap<'a, A>,
+    script: &mut R,
+    out: &mut W,
+) -> Result<Summary, Halt>
+    requires reader { R.has_failed script.old ≡ false }
+    requires writer { W.has_failed out.old ≡ false }
+    ensures done { IfOk result (λ summary. AnswersAll map.entry (R.coming script.old)
+        (R.coming script.new) (W.taken out.old) (W.taken out.new) summary) }
+    ensures end { OnOk result (IsAtEnd (R.coming script.new)) }
+    ensures halted { IfErr result (λ halt. Halts halt map.entry (R.coming script.old)
+        (R.coming script.new) (W.taken out.old) (W.taken out.new)) }
+    ensures write { result ≡ Err Halt.Write → W.has_failed out.new ≡ true }
+{
+    let mut runner = Runner::new(alloc, map);
+    let mut room = [0u8; PIECE];
+    let mut left = MAX_SCRIPT;
+    loop {
+        let n = match script.get(&mut room) {
+            Ok(n) => n,
+            Err(_) => return Err(Halt::Read),
+        };
+        if n == 0 {
+            return match runner.finish(out) {
+                Ok(summary) => Ok(summary),
+                Err(Stop::Write) => Err(Halt::Write),
+                Err(Stop::OutOfMemory) => Err(Halt::OutOfMemory),
+            };
+        }
+        let taken = n.min(left);
+        match runner.feed(&room[..taken], out) {
+            Ok(()) => {}
+            Err(Stop::Write) => return Err(Halt::Write),
+            Err(Stop::OutOfMemory) => return Err(Halt::OutOfMemory),
+        }
+        if taken < n {
+            return Err(Halt::Read);
+        }
+        left -= taken;
+    }
+}
+
+/// Answers each line of a script on a map, piece by piece as the script comes.
+///
+/// The map is TopoJSON 1.0 of the editor's profile. Opening comes first; then each line is
+/// answered in order, with a line feed, before the next piece is read; after the last line `out`
+/// is flushed. A line ends with a line feed, before which one carriage return is dropped, and a
+/// last line without a line feed counts where it is not empty. A line of more than 8,192 bytes is
+/// a bad line. `heap` holds decoded texts while the map is opened, `alloc` all else.
+pub fn run<'a, A: Allocator + Copy, R: Source, W: Sink>(
+    alloc: A,
+    heap: Global,
+    map: &'a [u8],
+    script: &mut R,
+    out: &mut W,
+) -> Result<Summary, RunFault<'a>>
+    requires reader { R.has_failed script.old ≡ false }
+    requires writer { W.has_failed out.old ≡ false }
+    ensures done { IfOk result (λ summary. Completes map.now (R.coming script.old)
+        (R.coming script.new) (W.taken out.old) (W.taken out.new) summary) }
+    ensures end { OnOk result (IsAtEnd (R.coming script.new)) }
+    ensures fault { IfErr result (λ fault. Ends fault map.now (R.coming script.old)
+        (R.coming script.new) (W.taken out.old) (W.taken out.new)) }
+    ensures write { result ≡ Err RunFault.Write → W.has_failed out.new ≡ true }
+{
+    let opened = match open(alloc, heap, map) {
+        Ok(opened) => opened,
+        Err(fault) => return Err(fault),
+    };
+    match answer_script(alloc, opened, script, out) {
+        Ok(summary) => Ok(summary),
+        Err(Halt::Read) => Err(RunFault::Read),
+        Err(Halt::Write) => Err(RunFault::Write),
+        Err(Halt::OutOfMemory) => Err(RunFault::OutOfMemory),
+    }
+}

@@ -1,0 +1,98 @@
+// Numbers and positions at the front of a line.
+ghost use Rattle.std.specs.Prelude.{◌≡◌, ◌≢◌, ◌≤◌, ◌++◌, ℤ, List, ℕ, length, take_while, drop, MatchOption, FitsSigned};
+ghost use Rattle.std.specs.Int.{w64};
+ghost use Rattle.std.specs.Fmt.{signed_decimal};
+ghost use Rattle.std.specs.Str.{bytes_eq};
+ghost use Rattle.grid_geometry.specs.Position.{Position};
+ghost use Rattle.script_runner.specs.Words.{is_letter, IsSpaced, IsPlace};
+
+use grid_geometry::Pos;
+use itoa::Buffer;
+use std::str;
+
+fn word_len(bytes: &[u8]) -> usize
+    ensures value { result ≡ length (take_while is_letter bytes.now) }
+    ensures bound { result ≤ length bytes.now }
+{
+    bytes.iter().take_while(|b| **b != b' ').count()
+}
+
+/// The word before the first space, and what stands from that space on.
+fn split_word(bytes: &[u8]) -> (&[u8], &[u8])
+    ensures word { result.0.now ≡ take_while is_letter bytes.now }
+    ensures rest { result.1.now ≡ drop (length (take_while is_letter bytes.now)) bytes.now }
+{
+    let len = word_len(bytes);
+    bytes.split_at(len)
+}
+
+/// Whether the word is the number with no plus and no needless 0.
+fn is_written(word: &[u8], number: i64) -> bool
+    ensures { result ≡ bytes_eq word.now (signed_decimal number) }
+{
+    let mut buffer = Buffer::new();
+    word == buffer.format(number).as_bytes()
+}
+
+/// The whole number that a word is.
+fn number(word: &[u8]) -> Option<i64>
+    ensures { MatchOption result
+        ((z : ℤ) → FitsSigned w64 z → word.now ≢ signed_decimal z)
+        (λ z. (word.now ≡ signed_decimal z) × FitsSigned w64 z) }
+{
+    let Ok(text) = str::from_utf8(word) else {
+        return None;
+    };
+    let Ok(number) = text.parse::<i64>() else {
+        return None;
+    };
+    if is_written(word, number) {
+        Some(number)
+    } else {
+        None
+    }
+}
+
+/// What stands behind a word at the front.
+#[tactic(auto, using(crate::proofs::WordLemmas::behind_found, crate::proofs::WordLemmas::behind_none))]
+pub(crate) fn behind<'b>(word: &[u8], bytes: &'b [u8]) -> Option<&'b [u8]>
+    ensures { MatchOption result
+        ((rest : List ℕ) → bytes.now ≢ word.now ++ rest)
+        (λ rest. bytes.now ≡ word.now ++ rest.now) }
+{
+    bytes.strip_prefix(word)
+}
+
+/// The number behind a space, and what follows it.
+pub(crate) fn spaced_number(bytes: &[u8]) -> Option<(i64, &[u8])>
+    ensures { MatchOption result
+        ((z : ℤ) (rest : List ℕ) → ¬ IsSpaced bytes.now z rest)
+        (λ found. IsSpaced bytes.now found.0 found.1.now) }
+{
+    let Some(tail) = behind(b" ", bytes) else {
+        return None;
+    };
+    let (word, rest) = split_word(tail);
+    match number(word) {
+        Some(number) => Some((number, rest)),
+        None => None,
+    }
+}
+
+/// The position in front, each of its numbers behind a space, and what follows it.
+pub(crate) fn spaced_position(bytes: &[u8]) -> Option<(Pos, &[u8])>
+    ensures { MatchOption result
+        ((p : Position) (rest : List ℕ) → ¬ IsPlace bytes.now p rest)
+        (λ found. IsPlace bytes.now found.0 found.1.now) }
+{
+    let Some((x, behind_x)) = spaced_number(bytes) else {
+        return None;
+    };
+    let Some((y, rest)) = spaced_number(behind_x) else {
+        return None;
+    };
+    match Pos::new(x, y) {
+        Some(pos) => Some((pos, rest)),
+        None => None,
+    }
+}

@@ -1,0 +1,4 @@
+pub mod Walking
+pub mod Naming
+pub mod Depth
+pub mod Placing

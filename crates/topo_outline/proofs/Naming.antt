@@ -1,0 +1,66 @@
+-- Names, and members found by them.
+use Rattle.std.proofs.Common.{◌≡◌, ℕ, suc, ◌+◌, ◌<◌, ◌≤◌, List, [], ◌∷◌, ◌++◌, length, get_or, drop, map, refl, sym, ◌∙◌, add-one, drop-cons, Bool, true, false, cond}
+use Rattle.std.specs.Prelude.{Result, Ok, Err, Some, None, filter, not, String, string_bytes, ◌==◌}
+use Rattle.std.specs.String.{string_eq}
+use Rattle.std.specs.Str.{bytes_eq}
+use Rattle.std.specs.List.{list_any}
+use Rattle.std.specs.declared.alloc.Global.{Global}
+use Rattle.std.proofs.lemmas.List.{append-nil, drop_all, map-append}
+use Rattle.json_spans.specs.Parts.{Node}
+use Rattle.topo_outline.specs.declared.words.Word.{Word}
+use Rattle.topo_outline.specs.declared.members.Owner.{Owner}
+use Rattle.topo_outline.specs.declared.entries.Entry.{Entry}
+use Rattle.topo_outline.specs.Faults.{Fault, duplicate}
+use Rattle.ring_machine.specs.Document.{Member}
+use Rattle.topo_outline.specs.Shape.{EntryNode, named, name_text, unquoted, code, member, kept, kept_text, is_known}
+use Rattle.topo_outline.specs.Words.{word_of}
+use Rattle.topo_outline.specs.Views.{view_entry}
+use Rattle.topo_outline.specs.Gives.{Fails}
+use Rattle.topo_outline.specs.declared.fault.OpenFault.{OpenFault}
+use Rattle.topo_outline.proofs.Walking.{with_front, regroup, carry}
+
+pub contains_bytes : (t : String Global) (ks : List (String Global)) → list_any (string_eq t) ks ≡ list_any (bytes_eq (string_bytes t)) (map string_bytes ks)
+contains_bytes t [] = refl
+contains_bytes t (k ∷ ks) = rw (contains_bytes t ks) refl
+
+pub insert_bytes : (t : String Global) (ks new : List (String Global)) → list_any (string_eq t) ks ≡ false → new ≡ cond (list_any (string_eq t) ks) ks (ks ++ t ∷ []) → map string_bytes new ≡ map string_bytes ks ++ string_bytes t ∷ []
+insert_bytes t ks new e is = rw (is, e, map-append) refl
+
+pub member_step : (w : Word) (es : List Entry) (i : ℕ) (d : Entry) → i < length es → member w (map view_entry (drop i es)) ≡ cond (code (get_or es i d).word == code w) (Some (view_entry (get_or es i d))) (member w (map view_entry (drop (i + 1) es)))
+member_step w es i d lt = rw (drop-cons es i d lt, add-one i) refl
+
+pub member_end : (w : Word) (es : List Entry) (i : ℕ) → length es ≤ i → member w (map view_entry (drop i es)) ≡ None
+member_end w es i le = rw (drop_all i es le) refl
+
+abbrev pub kept_one : Bool → EntryNode → List Member
+kept_one true m = []
+kept_one false m = kept_text m ∷ []
+
+kept_cons : (b : Bool) (m : EntryNode) (ms : List EntryNode) → map kept_text (cond (not b) (m ∷ ms) ms) ≡ kept_one b m ++ map kept_text ms
+kept_cons true m ms = refl
+kept_cons false m ms = refl
+
+pub kept_step : (o : Owner) (es : List Entry) (i : ℕ) (d : Entry) → i < length es → kept o (map view_entry (drop i es)) ≡ kept_one (is_known o (get_or es i d).word) (view_entry (get_or es i d)) ++ kept o (map view_entry (drop (i + 1) es))
+kept_step o es i d lt = rw (drop-cons es i d lt, add-one i) (kept_cons (is_known o (get_or es i d).word) (view_entry (get_or es i d)) (filter (λ m. not (is_known o m.word)) (map view_entry (drop (suc i) es))))
+
+pub kept_end : (o : Owner) (es : List Entry) (i : ℕ) → length es ≤ i → kept o (map view_entry (drop i es)) ≡ []
+kept_end o es i le = rw (drop_all i es le) refl
+
+-- ---- the names, one by one
+
+pub named_turn : (seen : List (List ℕ)) (front : List EntryNode) (t : List ℕ) (m : Node × Node) (ms left : List (Node × Node)) (whole : Result (List EntryNode) Fault) → left ≡ m ∷ ms → name_text m.0 ≡ Ok t → not (list_any (bytes_eq t) seen) ≡ true → with_front front (named seen left) ≡ whole →
+    with_front (front ++ record { word = word_of t; name = m.0; value = m.1 } ∷ []) (named (seen ++ t ∷ []) ms) ≡ whole
+unfolding named
+named_turn seen front t m ms left whole e is new h = sym (regroup front (record { word = word_of t; name = m.0; value = m.1 }) (named (seen ++ t ∷ []) ms)) ∙ rw (e, is, new) at h
+
+pub named_again : (seen : List (List ℕ)) (front : List EntryNode) (t : List ℕ) (m : Node × Node) (ms left : List (Node × Node)) (whole : Result (List EntryNode) Fault) → left ≡ m ∷ ms → name_text m.0 ≡ Ok t → not (list_any (bytes_eq t) seen) ≡ false → with_front front (named seen left) ≡ whole → whole ≡ Err (duplicate (unquoted m.0.bytes))
+unfolding named
+named_again seen front t m ms left whole e is new h = sym (rw (e, is, new) at h)
+
+pub named_stop : (o : OpenFault) (seen : List (List ℕ)) (front : List EntryNode) (m : Node × Node) (ms left : List (Node × Node)) (whole : Result (List EntryNode) Fault) → left ≡ m ∷ ms → Fails o (name_text m.0) → with_front front (named seen left) ≡ whole → Fails o whole
+unfolding named
+named_stop o seen front m ms left whole e is h = carry o (name_text m.0) whole (λ x fx. sym (rw (e, fx) at h)) is
+
+pub named_end : (seen : List (List ℕ)) (front : List EntryNode) (left : List (Node × Node)) (whole : Result (List EntryNode) Fault) → left ≡ [] → with_front front (named seen left) ≡ whole → whole ≡ Ok front
+unfolding named
+named_end seen front left whole e h = sym (rw (e, append-nil front) at h)

@@ -1,0 +1,71 @@
+-- Reading one after another, as a loop does.
+use Rattle.std.proofs.Common.{◌+◌, suc, ◌<◌, ◌≤◌, length, get_or, drop, map, drop-cons, add-one, ◌≡◌, ℕ, List, [], ◌∷◌, ◌++◌, refl, sym, ap, ◌∙◌, append_assoc}
+use Rattle.std.specs.Prelude.{Result, Ok, Err}
+use Rattle.std.proofs.lemmas.List.{append-nil, drop_all}
+use Rattle.topo_outline.specs.Gives.{Fails}
+use Rattle.topo_outline.specs.declared.fault.Limit.TheVariants as limit
+use Rattle.topo_outline.specs.declared.fault.OpenFault.{OpenFault}
+use Rattle.topo_outline.specs.declared.fault.OpenFault.TheVariants as open_fault
+use Rattle.topo_outline.specs.Faults.{Fault, ◌>>=◌, each, each_at}
+
+abbrev pub with_front : {A : Type 0} → List A → Result (List A) Fault → Result (List A) Fault
+with_front front r = r >>= λ xs. Ok (front ++ xs)
+
+-- one fault stands for another
+pub carry : {Y Z : Type 0} (e : OpenFault) (r : Result Y Fault) (s : Result Z Fault) → ((f : Fault) → r ≡ Err f → s ≡ Err f) → Fails e r → Fails e s
+carry (open_fault.NotJson place) r s h is = absurd is
+carry (open_fault.TooDeep place) r s h is = h _ is
+carry open_fault.NotTopology r s h is = h _ is
+carry (open_fault.BadMember name) r s h is = h _ is
+carry (open_fault.Duplicate name) r s h is = h _ is
+carry (open_fault.Unsupported name) r s h is = h _ is
+carry (open_fault.NotWhole place) r s h is = h _ is
+carry (open_fault.OutOfRange place) r s h is = h _ is
+carry (open_fault.BadPosition place) r s h is = h _ is
+carry (open_fault.BadArcIndex place) r s h is = h _ is
+carry (open_fault.ArcsDoNotMeet ring) r s h is = h _ is
+carry (open_fault.RingShort ring) r s h is = h _ is
+carry (open_fault.RingRepeats ring p) r s h is = h _ is
+carry (open_fault.Conflict p q) r s h is = absurd is
+carry (open_fault.TooLarge limit.Bytes) r s h is = absurd is
+carry (open_fault.TooLarge limit.Features) r s h is = h _ is
+carry (open_fault.TooLarge limit.Positions) r s h is = h _ is
+carry open_fault.OutOfMemory r s h is = tt
+
+pub regroup : {A : Type 0} (front : List A) (p : A) (r : Result (List A) Fault) → with_front front (r >>= λ ps. Ok (p ∷ ps)) ≡ with_front (front ++ p ∷ []) r
+regroup {A = A} front p (Ok ps) = ap (λ (qs : List A). Ok qs) (sym (append_assoc front (p ∷ []) ps))
+regroup front p (Err e) = refl
+
+-- ---- one by one
+
+pub each_turn : {A B : Type 0} (f : A → Result B Fault) (front : List B) (b : B) (a : A) (as' left : List A) (whole : Result (List B) Fault) → left ≡ a ∷ as' → f a ≡ Ok b → with_front front (each f left) ≡ whole → with_front (front ++ b ∷ []) (each f as') ≡ whole
+each_turn f front b a as' left whole e is h = sym (regroup front b (each f as')) ∙ rw (e, is) at h
+
+pub each_end : {A B : Type 0} (f : A → Result B Fault) (front : List B) (left : List A) (whole : Result (List B) Fault) → left ≡ [] → with_front front (each f left) ≡ whole → whole ≡ Ok front
+each_end f front left whole e h = sym (rw (e, append-nil front) at h)
+
+pub each_stop : {A B : Type 0} (o : OpenFault) (f : A → Result B Fault) (front : List B) (a : A) (as' left : List A) (whole : Result (List B) Fault) → left ≡ a ∷ as' → Fails o (f a) → with_front front (each f left) ≡ whole → Fails o whole
+each_stop o f front a as' left whole e is h = carry o (f a) whole (λ x fx. sym (rw (e, fx) at h)) is
+
+-- ---- one by one, with numbers
+
+tail_at : {A : Type 0} (a : A) (xs : List A) (i : ℕ) → i < length xs → a ≡ get_or xs i a → drop i xs ≡ a ∷ drop (i + 1) xs
+tail_at {A = A} a xs i lt is = drop-cons xs i a lt ∙ rw add-one (ap (λ (b : A). b ∷ drop (suc i) xs) (sym is))
+
+pub each_at_turn : {A B C : Type 0} (f : ℕ → B → Result C Fault) (v : A → B) (front : List C) (c : C) (xs : List A) (i : ℕ) (a : A) (whole : Result (List C) Fault) → i < length xs → a ≡ get_or xs i a → f i (v a) ≡ Ok c → with_front front (each_at f i (map v (drop i xs))) ≡ whole → with_front (front ++ c ∷ []) (each_at f (i + 1) (map v (drop (i + 1) xs))) ≡ whole
+each_at_turn f v front c xs i a whole lt is fc h =
+    let gone : drop i xs ≡ a ∷ drop (i + 1) xs = tail_at a xs i lt is in
+    sym (regroup front c (each_at f (i + 1) (map v (drop (i + 1) xs)))) ∙ rw (gone, fc) at h
+
+pub each_at_end : {A B C : Type 0} (f : ℕ → B → Result C Fault) (v : A → B) (front : List C) (xs : List A) (i : ℕ) (whole : Result (List C) Fault) → length xs ≤ i → with_front front (each_at f i (map v (drop i xs))) ≡ whole → whole ≡ Ok front
+each_at_end f v front xs i whole le h = sym (rw (drop_all i xs le, append-nil front) at h)
+
+pub each_at_stop : {A B C : Type 0} (o : OpenFault) (f : ℕ → B → Result C Fault) (v : A → B) (front : List C) (xs : List A) (i : ℕ) (a : A) (whole : Result (List C) Fault) → i < length xs → a ≡ get_or xs i a → Fails o (f i (v a)) → with_front front (each_at f i (map v (drop i xs))) ≡ whole → Fails o whole
+each_at_stop o f v front xs i a whole lt is fc h =
+    let gone : drop i xs ≡ a ∷ drop (i + 1) xs = tail_at a xs i lt is in
+    carry o (f i (v a)) whole (λ x fx. sym (rw (gone, fx) at h)) fc
+
+pub each_drop_turn : {A B C : Type 0} (f : B → Result C Fault) (v : A → B) (front : List C) (c : C) (xs : List A) (i : ℕ) (a : A) (whole : Result (List C) Fault) → i < length xs → a ≡ get_or xs i a → f (v a) ≡ Ok c → with_front front (each f (map v (drop i xs))) ≡ whole → with_front (front ++ c ∷ []) (each f (map v (drop (i + 1) xs))) ≡ whole
+each_drop_turn f v front c xs i a whole lt is fc h =
+    let gone : drop i xs ≡ a ∷ drop (i + 1) xs = tail_at a xs i lt is in
+    sym (regroup front c (each f (map v (drop (i + 1) xs)))) ∙ rw (gone, fc) at h

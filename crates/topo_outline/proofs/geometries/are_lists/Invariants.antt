@@ -1,0 +1,9 @@
+use Rattle.std.proofs.Common.{◌≡◌}
+use Rattle.std.specs.List.{list_all}
+use Rattle.json_spans.specs.Left.{node}
+use Rattle.json_spans.specs.Walk.{items, items_left}
+use Rattle.topo_outline.specs.Shape.{is_list}
+use Rattle.topo_outline.proofs.geometries.are_lists.Given as goal
+
+abbrev pub invariant-loop-part : goal.invariant-loop-part
+invariant-loop-part l = list_all is_list (items_left l.part-iterator) ≡ list_all is_list (items (node l.fn.span))

@@ -1,0 +1,7 @@
+pub mod Words
+pub mod Faults
+pub mod Gives
+pub mod Shape
+pub mod Outline
+pub mod Views
+pub mod OutlineView

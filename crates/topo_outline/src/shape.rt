@@ -1,0 +1,283 @@
+// The shape of a topology (TopoJSON 1.0, 2.1): its transform, its layers and where its arcs stand.
+ghost use Rattle.std.specs.Prelude.{◌≡◌, ◌&&◌, map, Ok, IfOk, option_map, nat_le, length};
+ghost use Rattle.json_spans.specs.Left.{node};
+ghost use Rattle.json_spans.specs.Walk.{items};
+ghost use Rattle.json_spans.specs.Kinds.{kind_of};
+ghost use Rattle.json_spans.specs.Decoded.{decoded};
+ghost use Rattle.topo_outline.specs.Gives.{Gives};
+ghost use Rattle.topo_outline.specs.Faults.{each, demand, not_topology};
+ghost use Rattle.topo_outline.specs.Shape.{is_list, is_topology_word, says_topology, is_topology, member, two_numbers, are_two_numbers, is_transform, transform_value, transform_from, layer, layers};
+ghost use Rattle.topo_outline.specs.Outline.{outline_text, limited, outlined, outline};
+ghost use Rattle.topo_outline.specs.OutlineView.{view_outline, IsPlaced};
+ghost use Rattle.topo_outline.specs.Views.{view_entry, view_layer, view_place};
+
+use crate::document::{KeptMember, RawLayer};
+use crate::entries::Entry;
+use crate::fault::{Limit, OpenFault};
+use crate::geometries::geometry;
+use crate::members::{Owner, entries, find, kept, list_member, object_member, token_of};
+use crate::places::{Place, places};
+use crate::words::{Geometry, Word, geometry_of};
+use json_spans::{Kind, Span, TextFault, items, kind, text};
+use std::alloc::{Allocator, Global};
+
+/// A topology before its positions are read (TopoJSON 1.0, 2.1).
+#[derive(Drop)]
+#[derive_where(Debug)]
+pub struct Outline<'a, A: Allocator + Copy = Global> {
+    /// The text of the transform, and none where it is missing or `null` (TopoJSON 1.0, 2.1.2).
+    pub transform: Option<&'a [u8]>,
+    /// The members of `objects`, in order.
+    pub layers: Vec<RawLayer<'a, A>, A>,
+    /// The features of all layers in the order of the text.
+    pub places: Vec<Place<'a>, A>,
+    /// The value of `arcs`, a list (TopoJSON 1.0, 2.1.3).
+    pub arcs: Span<'a>,
+    /// The members that are neither known nor a `bbox`, in order.
+    pub members: Vec<KeptMember<'a>, A>,
+}
+
+const MAX_FEATURES: usize = 200_000;
+
+/// More than the collections that can stand in one another in a text of at most 100 levels.
+const MAX_COLLECTIONS: usize = 100;
+
+fn says_topology(says: Geometry) -> bool
+    ensures { result ≡ is_topology_word says }
+{
+    match says {
+        Geometry::Topology => true,
+        _ => false,
+    }
+}
+
+fn is_named_topology<'a>(heap: Global, value: Span<'a>) -> Result<bool, OpenFault<'a>>
+    ensures { Gives (λ b. b) result (Ok (says_topology (decoded (node value.entry).bytes))) }
+{
+    match text(heap, value) {
+        Ok(says) => Ok(says_topology(geometry_of(says.as_str()))),
+        Err(TextFault::BadText) => Ok(false),
+        Err(TextFault::OutOfMemory) => Err(OpenFault::OutOfMemory),
+    }
+}
+
+fn is_topology<'a>(heap: Global, members: &[Entry<'a>]) -> Result<bool, OpenFault<'a>>
+    ensures { Gives (λ b. b) result
+        (Ok (is_topology (member Word.Type (map view_entry members.now)))) }
+{
+    match find(members, Word::Type) {
+        Some(entry) => if kind(entry.value) == Kind::Text {
+            is_named_topology(heap, entry.value)
+        } else {
+            Ok(false)
+        },
+        None => Ok(false),
+    }
+}
+
+fn are_two_numbers(span: Span<'_>) -> bool
+    ensures { result ≡ (is_list (node span.entry) && two_numbers (items (node span.entry))) }
+{
+    if kind(span) != Kind::List {
+        return false;
+    }
+    let mut parts = items(span);
+    match parts.next() {
+        Some(x) => match parts.next() {
+            Some(y) => match parts.next() {
+                Some(_) => false,
+                None => kind(x) == Kind::Number && kind(y) == Kind::Number,
+            },
+            None => false,
+        },
+        None => false,
+    }
+}
+
+fn has_two_numbers(members: &[Entry<'_>], word: Word) -> bool
+    ensures { result ≡ are_two_numbers (member word (map view_entry members.now)) }
+{
+    match find(members, word) {
+        Some(entry) => are_two_numbers(entry.value),
+        None => false,
+    }
+}
+
+/// Whether `scale` and `translate` are lists of two numbers each (TopoJSON 1.0, 2.1.2).
+fn is_transform(members: &[Entry<'_>]) -> bool
+    ensures { result ≡ is_transform (map view_entry members.now) }
+{
+    has_two_numbers(members, Word::Scale) && has_two_numbers(members, Word::Translate)
+}
+
+fn transform_object<'a, A: Allocator + Copy>(
+    alloc: A,
+    heap: Global,
+    entry: Entry<'a>,
+) -> Result<Option<&'a [u8]>, OpenFault<'a>>
+    ensures { Gives (option_map (λ t. t.now)) result
+        (transform_value (view_entry entry.entry) Kind.Object) }
+{
+    let members = or_return!(entries(alloc, heap, entry.value));
+    if is_transform(members.as_slice()) {
+        Ok(Some(entry.value.text))
+    } else {
+        Err(OpenFault::BadMember {
+            name: token_of(entry),
+        })
+    }
+}
+
+fn transform_value<'a, A: Allocator + Copy>(
+    alloc: A,
+    heap: Global,
+    entry: Entry<'a>,
+) -> Result<Option<&'a [u8]>, OpenFault<'a>>
+    ensures { Gives (option_map (λ t. t.now)) result
+        (transform_value (view_entry entry.entry) (kind_of (node entry.entry.value).bytes)) }
+{
+    match kind(entry.value) {
+        Kind::Null => Ok(None),
+        Kind::Object => transform_object(alloc, heap, entry),
+        _ => Err(OpenFault::BadMember {
+            name: token_of(entry),
+        }),
+    }
+}
+
+/// The text of the transform, if there is one. `null` stands for none.
+fn transform<'a, A: Allocator + Copy>(
+    alloc: A,
+    heap: Global,
+    members: &[Entry<'a>],
+) -> Result<Option<&'a [u8]>, OpenFault<'a>>
+    ensures { Gives (option_map (λ t. t.now)) result
+        (transform_from (member Word.Transform (map view_entry members.now))) }
+{
+    match find(members, Word::Transform) {
+        Some(entry) => transform_value(alloc, heap, entry),
+        None => Ok(None),
+    }
+}
+
+/// A layer: a member of `objects` that is an object (TopoJSON 1.0, 2.1.5).
+#[tactic(auto, unfolding(crate::specs::Shape::layer))]
+fn layer<'a, A: Allocator + Copy>(
+    alloc: A,
+    heap: Global,
+    entry: Entry<'a>,
+) -> Result<RawLayer<'a, A>, OpenFault<'a>>
+    ensures { Gives view_layer result (layer (view_entry entry.entry)) }
+{
+    if kind(entry.value) != Kind::Object {
+        return Err(OpenFault::BadMember {
+            name: token_of(entry),
+        });
+    }
+    let mut items = Vec::new(alloc);
+    or_return!(geometry(alloc, heap, MAX_COLLECTIONS, entry.value, &mut items));
+    Ok(RawLayer {
+        name: entry.name.text,
+        items,
+    })
+}
+
+fn each_layer<'a, A: Allocator + Copy>(
+    alloc: A,
+    heap: Global,
+    names: &[Entry<'a>],
+) -> Result<Vec<RawLayer<'a, A>, A>, OpenFault<'a>>
+    ensures { Gives (λ v. map view_layer v.items) result (each layer (map view_entry names.now)) }
+{
+    let mut found = Vec::new(alloc);
+    for entry in names {
+        let one = or_return!(layer(alloc, heap, *entry));
+        found.push(one)?;
+    }
+    Ok(found)
+}
+
+fn layers<'a, A: Allocator + Copy>(
+    alloc: A,
+    heap: Global,
+    span: Span<'a>,
+) -> Result<Vec<RawLayer<'a, A>, A>, OpenFault<'a>>
+    ensures { Gives (λ v. map view_layer v.items) result (layers (node span.entry)) }
+{
+    let names = or_return!(entries(alloc, heap, span));
+    each_layer(alloc, heap, names.as_slice())
+}
+
+fn few(places: &[Place<'_>]) -> bool
+    ensures { result ≡ nat_le (length (map view_place places.now)) 200000 }
+{
+    places.len() <= MAX_FEATURES
+}
+
+/// The outline, or TooLarge where it has too many features.
+fn limited<'a, A: Allocator + Copy>(
+    alloc: A,
+    transform: Option<&'a [u8]>,
+    layers: Vec<RawLayer<'a, A>, A>,
+    arcs: Span<'a>,
+    members: &[Entry<'a>],
+) -> Result<Outline<'a, A>, OpenFault<'a>>
+    ensures shape { Gives view_outline result
+        (limited (outline_text (option_map (λ t. t.now) transform.entry)
+        (map view_layer layers.entry.items) (node arcs.entry) (map view_entry members.now))) }
+    ensures places { IfOk result (λ o. IsPlaced o) }
+{
+    let places = places(alloc, layers.as_slice())?;
+    if !few(places.as_slice()) {
+        return Err(OpenFault::TooLarge {
+            what: Limit::Features,
+        });
+    }
+    let members = kept(alloc, Owner::Topology, members)?;
+    Ok(Outline {
+        transform,
+        layers,
+        places,
+        arcs,
+        members,
+    })
+}
+
+fn outlined<'a, A: Allocator + Copy>(
+    alloc: A,
+    heap: Global,
+    members: &[Entry<'a>],
+) -> Result<Outline<'a, A>, OpenFault<'a>>
+    ensures shape { Gives view_outline result (outlined (map view_entry members.now)) }
+    ensures places { IfOk result (λ o. IsPlaced o) }
+{
+    let transform = or_return!(transform(alloc, heap, members));
+    let objects = or_return!(object_member(members, Word::Objects, b"objects"));
+    let arcs = or_return!(list_member(members, Word::Arcs, b"arcs"));
+    let layers = or_return!(layers(alloc, heap, objects.value));
+    limited(alloc, transform, layers, arcs.value, members)
+}
+
+/// The outline of the topology whose root this is, or the first fault of its shape: `NotTopology`,
+/// `BadMember`, `Duplicate`, `Unsupported`, at the end `TooLarge` with more than 200,000 features,
+/// and `OutOfMemory` where a growth is refused. What stands in `arcs` is not tested.
+///
+/// All that the outline owns lies in `alloc`. `heap` has each decoded name while its object is
+/// read, for `serde_json` decodes into `Global` only.
+pub fn read_outline<'a, A: Allocator + Copy>(
+    alloc: A,
+    heap: Global,
+    root: Span<'a>,
+) -> Result<Outline<'a, A>, OpenFault<'a>>
+    ensures shape { Gives view_outline result (outline (node root.entry)) }
+    ensures places { IfOk result (λ o. IsPlaced o) }
+{
+    if kind(root) != Kind::Object {
+        return Err(OpenFault::NotTopology);
+    }
+    let members = or_return!(entries(alloc, heap, root));
+    if !or_return!(is_topology(heap, members.as_slice())) {
+        return Err(OpenFault::NotTopology);
+    }
+    outlined(alloc, heap, members.as_slice())
+}

@@ -1,0 +1,17 @@
+-- Counting positions, as the loops do.
+use Rattle.std.proofs.Common.{◌≡◌, ℕ, suc, ◌+◌, ◌<◌, ◌≤◌, Bool, true, false, cond, List, [], ◌∷◌, length, get_or, drop, map, reverse, refl, sym, ap, arith}
+use Rattle.std.specs.Prelude.{sum_by}
+use Rattle.std.proofs.lemmas.List.{drop_all, length-reverse}
+use Rattle.topo_reader.specs.declared.indexes.Use.{Use}
+use Rattle.topo_reader.specs.Uses.{arc_of}
+
+pub length_use : (u : Use) → length (arc_of u) ≡ length u.arc.now
+length_use u = by u.reversed
+  where
+    by : (b : Bool) → length (cond b (reverse u.arc.now) u.arc.now) ≡ length u.arc.now
+    by true = length-reverse u.arc.now
+    by false = refl
+
+-- the room that is left, and what is left of the sum
+abbrev pub Counts : {X Y : Type 0} → (Y → ℕ) → (X → Y) → List X → ℕ → ℕ → ℕ → Type 0
+Counts f v xs room left i = left + sum_by f (map v xs) ≡ room + sum_by f (map v (drop i xs))

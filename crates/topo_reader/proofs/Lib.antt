@@ -1,0 +1,11 @@
+pub mod Counting
+pub mod Joining
+pub mod Meaning
+pub mod Named
+pub mod Summing
+pub mod Turning
+pub mod Numbering
+pub mod OfRings
+pub mod Leaves
+pub mod Widening
+pub mod Boxed

@@ -1,0 +1,94 @@
+-- The rings of a document are those that were read, feature by feature.
+use Rattle.std.proofs.Common.{◌≡◌, ℕ, zero, suc, ◌+◌, Bool, true, arith, List, [], ◌∷◌, ◌++◌, length, take, drop, get_or, refl, sym, ap, ap₂, ◌∙◌, ◌&&◌, add-one}
+use Rattle.std.specs.Prelude.{sum_by}
+use Rattle.std.specs.List.{list_all, flat_map, filter_map}
+use Rattle.std.proofs.Math.Seq.{take-add}
+use Rattle.std.proofs.lemmas.List.{drop-drop, length-append, take_all}
+use Rattle.std.proofs.lemmas.List.Concat.{flat_map-append}
+use Rattle.std.proofs.lemmas.List.Folds.{list_all-append}
+use Rattle.std.proofs.lemmas.List.Sums.{sum_by-cons, sum_by-append}
+use Rattle.std.proofs.lemmas.Option.{unwrap_or-slice_get}
+use Rattle.grid_geometry.specs.Position.{Position}
+use Rattle.ring_machine.specs.Document.{FeatureOf, Feature, Item, Open, Close, Leaf, Kept, Layer}
+use Rattle.ring_machine.specs.Parts.{feature_of, rings_of}
+use Rattle.ring_machine.proofs.Order.{and_both}
+use Rattle.topo_outline.specs.Shape.{LayerText, Piece, starts, ends, leaf, text}
+use Rattle.topo_outline.specs.Outline.{leaves_in, leaves}
+use Rattle.topo_reader.specs.Document.{Polygons, polygons_at, items_from, layers_from}
+
+take-nil : (k : ℕ) → take {A = Polygons} k [] ≡ []
+take-nil k = take_all {A = Polygons} k [] (omega arith)
+
+-- the rings of one feature
+abbrev pub rings_within : Polygons → List (List Position)
+rings_within ps = flat_map (λ polygon. polygon) ps
+
+abbrev within_items : List Item → List (List Position)
+within_items is = flat_map rings_of (filter_map feature_of is)
+
+abbrev within_layers : List Layer → List (List Position)
+within_layers ls = flat_map rings_of (flat_map (λ l. filter_map feature_of l.items) ls)
+
+-- the polygons of feature n, and those of the features behind it
+at_place : (all : List Polygons) (n k : ℕ) → rings_within (polygons_at all n) ++ flat_map rings_within (take k (drop (suc n) all)) ≡ flat_map rings_within (take (suc k) (drop n all))
+at_place all n k = rw (unwrap_or-slice_get all n []) (by all n)
+  where
+    by : (all : List Polygons) (n : ℕ) → rings_within (get_or all n []) ++ flat_map rings_within (take k (drop (suc n) all)) ≡ flat_map rings_within (take (suc k) (drop n all))
+    by [] zero = ap (λ (ps : List Polygons). flat_map rings_within ps) (take-nil k)
+    by [] (suc n) = ap (λ (ps : List Polygons). flat_map rings_within ps) (take-nil k)
+    by (ps ∷ all) zero = refl
+    by (ps ∷ all) (suc n) = by all n
+
+-- the rings of the items whose features are numbered from n
+items_rings : (all : List Polygons) (n : ℕ) (ps : List Piece) → within_items (items_from n all ps) ≡ flat_map rings_within (take (length (leaves_in ps)) (drop n all))
+unfolding leaves_in
+items_rings all n [] = refl
+items_rings all n (starts head ∷ ps) = items_rings all n ps
+items_rings all n (ends ∷ ps) = items_rings all n ps
+items_rings all n (text t ∷ ps) = items_rings all n ps
+items_rings all n (leaf form head node ∷ ps) =
+    ap (λ (rs : List (List Position)). rings_within (polygons_at all n) ++ rs) (items_rings all (n + 1) ps ∙ ap (λ (m : ℕ). flat_map rings_within (take (length (leaves_in ps)) (drop m all))) (add-one n))
+    ∙ at_place all n (length (leaves_in ps))
+
+layers_rings : (all : List Polygons) (n : ℕ) (ls : List LayerText) → within_layers (layers_from n all ls) ≡ flat_map rings_within (take (length (leaves ls)) (drop n all))
+unfolding leaves
+layers_rings all n [] = refl
+layers_rings all n (l ∷ ls) =
+    flat_map-append rings_of (filter_map feature_of (items_from n all l.pieces)) (flat_map (λ l'. filter_map feature_of l'.items) (layers_from (n + length (leaves_in l.pieces)) all ls))
+    ∙ ap₂ (λ (rs ss : List (List Position)). rs ++ ss) (items_rings all n l.pieces) (layers_rings all (n + length (leaves_in l.pieces)) ls)
+    ∙ sym (split (length (leaves_in l.pieces)) (length (leaves ls)) (length (leaves_in l.pieces ++ leaves ls)) (length-append (leaves_in l.pieces) (leaves ls)))
+  where
+    split : (j k m : ℕ) → m ≡ j + k → flat_map rings_within (take m (drop n all)) ≡ flat_map rings_within (take j (drop n all)) ++ flat_map rings_within (take k (drop (n + j) all))
+    split j k m e =
+        ap (λ (i : ℕ). flat_map rings_within (take i (drop n all))) e
+        ∙ ap (λ (ps : List Polygons). flat_map rings_within ps) (take-add j k (drop n all) ∙ ap (λ (ps : List Polygons). take j (drop n all) ++ take k ps) (drop-drop j n all))
+        ∙ flat_map-append rings_within (take j (drop n all)) (take k (drop (n + j) all))
+
+-- the rings of all layers are those of as many features
+pub rings_document : (all : List Polygons) (ls : List LayerText) → within_layers (layers_from 0 all ls) ≡ flat_map rings_within (take (length (leaves ls)) all)
+rings_document all ls = layers_rings all 0 ls
+
+-- ---- tests and sums over all rings
+
+all_joined : {A : Type 0} (t : A → Bool) (xss : List (List A)) → list_all (list_all t) xss ≡ true → list_all t (flat_map (λ xs. xs) xss) ≡ true
+all_joined t [] h = refl
+all_joined t (xs ∷ xss) h =
+    let both = and_both (list_all t xs) (list_all (list_all t) xss) h in
+    list_all-append t xs (flat_map (λ ys. ys) xss) ∙ ap₂ (λ a b. a && b) both.0 (all_joined t xss both.1)
+
+pub all_within : (t : List Position → Bool) (all : List Polygons) → list_all (list_all (list_all t)) all ≡ true → list_all t (flat_map rings_within all) ≡ true
+all_within t [] h = refl
+all_within t (ps ∷ all) h =
+    let both = and_both (list_all (list_all t) ps) (list_all (list_all (list_all t)) all) h in
+    list_all-append t (rings_within ps) (flat_map rings_within all) ∙ ap₂ (λ a b. a && b) (all_joined t ps both.0) (all_within t all both.1)
+
+sum_joined : {A : Type 0} (h : A → ℕ) (xss : List (List A)) → sum_by h (flat_map (λ xs. xs) xss) ≡ sum_by (sum_by h) xss
+sum_joined h [] = refl
+sum_joined h (xs ∷ xss) =
+    sum_by-append h xs (flat_map (λ ys. ys) xss) ∙ ap (λ (n : ℕ). sum_by h xs + n) (sum_joined h xss) ∙ sym (sum_by-cons (sum_by h) xs xss)
+
+pub sum_within : (h : List Position → ℕ) (all : List Polygons) → sum_by h (flat_map rings_within all) ≡ sum_by (sum_by (sum_by h)) all
+sum_within h [] = refl
+sum_within h (ps ∷ all) =
+    sum_by-append h (rings_within ps) (flat_map rings_within all)
+    ∙ ap₂ (λ (m n : ℕ). m + n) (sum_joined h ps) (sum_within h all) ∙ sym (sum_by-cons (sum_by (sum_by h)) ps all)

@@ -1,0 +1,191 @@
+-- What opens is of rings.
+use Rattle.std.proofs.Common.{◌≡◌, ℕ, suc, ◌+◌, ◌-◌, ◌≤◌, Bool, true, false, cond, List, [], ◌∷◌, ◌++◌, length, refl, sym, ap, ap₂, ◌∙◌, subst, arith, ◌&&◌, ◌||◌}
+use Rattle.std.specs.Prelude.{Option, Some, None, Result, Ok, Err, IfOk, nat_le, not, sum_by, is_some}
+use Rattle.std.specs.List.{list_all, flat_map}
+use Rattle.std.proofs.lemmas.Bool.{false≢true}
+use Rattle.std.proofs.lemmas.List.{length-append, length-take, take_all}
+use Rattle.std.proofs.lemmas.List.Folds.{list_any-append}
+use Rattle.std.proofs.lemmas.List.Sums.{sum_by-cons}
+use Rattle.grid_geometry.specs.Position.{Position, position_eq}
+use Rattle.ring_machine.specs.Ring.{has, is_distinct, is_ring, canonical}
+use Rattle.ring_machine.specs.Parts.{rings, size}
+use Rattle.ring_machine.proofs.Order.{position_eq-true, position_eq-refl}
+use Rattle.ring_machine.proofs.Canonical.{canonical_parts}
+use Rattle.ring_machine.proofs.StaysRing.{canonical_is_ring}
+use Rattle.json_spans.specs.Parts.{Node}
+use Rattle.topo_outline.specs.Faults.{Fault, arcs_do_not_meet, ring_short, too_large, ◌>>=◌, each, each_at, demand}
+use Rattle.topo_outline.specs.Gives.{Gives}
+use Rattle.topo_outline.specs.Shape.{OutlineText}
+use Rattle.topo_outline.specs.Outline.{leaves, outline}
+use Rattle.topo_outline.specs.declared.fault.RingAt.{RingAt}
+use Rattle.topo_outline.specs.declared.fault.Limit.TheVariants as limit
+use Rattle.topo_outline.specs.declared.fault.OpenFault.{OpenFault}
+use Rattle.topo_reader.specs.Positions.{arcs}
+use Rattle.topo_reader.specs.Indexes.{Arc, uses_of}
+use Rattle.topo_reader.specs.Sizes as sizes
+use Rattle.topo_reader.specs.Rings.{unless, is_at, meet, squeezed, all_of, joined, first_repeat, distinct, ring_of, polygon_of, feature_of, all_rings}
+use Rattle.topo_reader.specs.Document.{Polygons, Opened, document_of, IsOfRings}
+use Rattle.topo_reader.specs.Opening.{polygons_read, opening}
+use Rattle.topo_reader.proofs.Numbering.{rings_within, rings_document, all_within, sum_within}
+
+-- ---- steps that went well
+
+bind_ok : {A B : Type 0} (r : Result A Fault) (f : A → Result B Fault) (b : B) → (r >>= f) ≡ Ok b → (a : A) × (r ≡ Ok a) × (f a ≡ Ok b)
+bind_ok (Ok a) f b h = (a, refl, h)
+bind_ok (Err e) f b h = absurd cc
+
+demand_ok : {A : Type 0} (t : Bool) (e : Fault) (r : Result A Fault) (a : A) → demand t e r ≡ Ok a → (t ≡ true) × (r ≡ Ok a)
+demand_ok true e r a h = (refl, h)
+demand_ok false e r a h = absurd cc
+
+ok_same : {A : Type 0} (a b : A) → ◌≡◌ {A = Result A Fault} (Ok a) (Ok b) → a ≡ b
+ok_same a b h = cc
+
+at_most : (m n : ℕ) → nat_le m n ≡ true → m ≤ n
+at_most m n h = grind arith
+
+each_length : {A B : Type 0} (f : A → Result B Fault) (xs : List A) (ys : List B) → each f xs ≡ Ok ys → length ys ≡ length xs
+each_length {B = B} f [] ys h = ap (λ (zs : List B). length zs) (sym (ok_same [] ys h))
+each_length {B = B} f (x ∷ xs) ys h =
+    let first = bind_ok (f x) (λ (b : B). each f xs >>= λ bs. Ok (b ∷ bs)) ys h in
+    let rest = bind_ok (each f xs) (λ (bs : List B). Ok (first.0 ∷ bs)) ys first.2 in
+    ap (λ (zs : List B). length zs) (sym (ok_same (first.0 ∷ rest.0) ys rest.2)) ∙ ap suc (each_length f xs rest.0 rest.1)
+
+-- each answer passes the test and is no larger than what it is read from, so all of them are
+module _ {A B : Type 0} (f : ℕ → A → Result B Fault) (t : B → Bool) (g : A → ℕ) (h : B → ℕ) where
+  abbrev pub Good : List A → List B → Type 0
+  Good xs ys = (list_all t ys ≡ true) × (sum_by h ys ≤ sum_by g xs) × (length ys ≡ length xs)
+
+  one_more : (a : A) (b : B) (xs : List A) (ys : List B) → (t b ≡ true) × (h b ≤ g a) → Good xs ys → Good (a ∷ xs) (b ∷ ys)
+  one_more a b xs ys this rest = (
+    ap₂ (λ u v. u && v) this.0 rest.0,
+    omega (arith, this.1, rest.1, sum_by-cons h b ys, sum_by-cons g a xs),
+    ap suc rest.2,
+  )
+
+  pub each_at_good : ((i : ℕ) (a : A) (b : B) → f i a ≡ Ok b → (t b ≡ true) × (h b ≤ g a)) → (i : ℕ) (xs : List A) (ys : List B) → each_at f i xs ≡ Ok ys → Good xs ys
+  each_at_good one i [] ys e = subst (λ zs. Good [] zs) (ok_same [] ys e) (refl, omega arith, refl)
+  each_at_good one i (x ∷ xs) ys e =
+      let first = bind_ok (f i x) (λ (b : B). each_at f (i + 1) xs >>= λ bs. Ok (b ∷ bs)) ys e in
+      let rest = bind_ok (each_at f (i + 1) xs) (λ (bs : List B). Ok (first.0 ∷ bs)) ys first.2 in
+      subst (λ zs. Good (x ∷ xs) zs) (ok_same (first.0 ∷ rest.0) ys rest.2) (one_more x first.0 xs rest.0 (one i x first.0 first.1) (each_at_good one (i + 1) xs rest.0 rest.1))
+
+-- ---- one ring
+
+-- no two are equal, and none stood before
+abbrev AreNew : List Position → List Position → Type 0
+AreNew seen ps = (is_distinct ps ≡ true) × ((q : Position) → has seen q ≡ true → has ps q ≡ false)
+
+none_again : (seen ps : List Position) → first_repeat seen ps ≡ None → AreNew seen ps
+unfolding first_repeat
+none_again seen [] h = (refl, λ q is. refl)
+none_again seen (p ∷ ps) h = by (has seen p) refl h (λ n. none_again (seen ++ p ∷ []) ps n)
+  where
+    apart : (q : Position) → has seen p ≡ false → has seen q ≡ true → has ps q ≡ false → (b : Bool) → position_eq q p ≡ b → (position_eq q p || has ps q) ≡ false
+    apart q e is out true f = absurd (false≢true (sym e ∙ ap (has seen) (sym (position_eq-true q p f)) ∙ is))
+    apart q e is out false f = ap₂ (λ y z. y || z) f out
+
+    new : has seen p ≡ false → AreNew (seen ++ p ∷ []) ps → AreNew seen (p ∷ ps)
+    new e rest =
+        let mine : has ps p ≡ false = rest.1 p (list_any-append (position_eq p) seen (p ∷ []) ∙ ap₂ (λ y z. y || (z || false)) e (position_eq-refl p)) in
+        (ap₂ (λ y z. not y && z) mine rest.0, λ q is. apart q e is (rest.1 q (list_any-append (position_eq q) seen (p ∷ []) ∙ ap (λ y. y || (position_eq q p || false)) is)) (position_eq q p) refl)
+
+    by : (b : Bool) → has seen p ≡ b → cond b (Some p) (first_repeat (seen ++ p ∷ []) ps) ≡ None →
+        (first_repeat (seen ++ p ∷ []) ps ≡ None → AreNew (seen ++ p ∷ []) ps) → AreNew seen (p ∷ ps)
+    by true e n rest = absurd cc
+    by false e n rest = new e (rest n)
+
+squeezed_length : (before : Option Position) (ps : List Position) → length (squeezed before ps) ≤ length ps
+unfolding squeezed
+squeezed_length before [] = omega arith
+squeezed_length before (p ∷ ps) = by (is_at before p) (squeezed_length (Some p) ps)
+  where
+    by : (b : Bool) → length (squeezed (Some p) ps) ≤ length ps → length (unless b p ++ squeezed (Some p) ps) ≤ suc (length ps)
+    by true h = omega (arith, h)
+    by false h = omega (arith, h)
+
+all_length : (uses : List Arc) → length (all_of uses) ≡ sum_by length uses
+unfolding all_of
+all_length [] = refl
+all_length (a ∷ uses) = length-append a (all_of uses) ∙ ap (λ (n : ℕ). length a + n) (all_length uses) ∙ sym (sum_by-cons length a uses)
+
+joined_length : (uses : List Arc) → length (joined uses) ≤ sum_by length uses
+joined_length uses = omega (arith, length-take (length (squeezed None (all_of uses)) - 1) (squeezed None (all_of uses)), squeezed_length None (all_of uses), all_length uses)
+
+canonical_length : (ps : List Position) → length (canonical ps) ≡ length ps
+canonical_length ps =
+    let parts = canonical_parts ps in
+    let whole : length parts.1 + length parts.0 ≡ length ps = omega (arith, ap (λ (qs : List Position). length qs) parts.2, length-append parts.0 parts.1) in
+    ap (λ (qs : List Position). length qs) parts.3 ∙ length-append parts.1 parts.0 ∙ whole
+
+abbrev IsGoodRing : List Arc → List Position → Type 0
+IsGoodRing uses r = (is_ring r ≡ true) × (length r ≤ sizes.ring_size uses)
+
+ring_good : (at_ring : RingAt) (uses : List Arc) (r : List Position) → ring_of at_ring uses ≡ Ok r → IsGoodRing uses r
+unfolding ring_of
+ring_good at_ring uses r h =
+    let met = demand_ok (meet uses) (arcs_do_not_meet at_ring) (demand (nat_le 3 (length (joined uses))) (ring_short at_ring) (distinct at_ring (joined uses) (first_repeat [] (joined uses)))) r h in
+    let long = demand_ok (nat_le 3 (length (joined uses))) (ring_short at_ring) (distinct at_ring (joined uses) (first_repeat [] (joined uses))) r met.1 in
+    by (first_repeat [] (joined uses)) refl (at_most 3 (length (joined uses)) long.0) long.1
+  where
+    by : (o : Option Position) → first_repeat [] (joined uses) ≡ o → 3 ≤ length (joined uses) → distinct at_ring (joined uses) o ≡ Ok r → IsGoodRing uses r
+    by (Some p) e l d = absurd cc
+    by None e l d = subst (IsGoodRing uses) (ok_same (canonical (joined uses)) r d)
+        (canonical_is_ring (joined uses) l (none_again [] (joined uses) e).0, omega (arith, canonical_length (joined uses), joined_length uses))
+
+-- ---- all rings
+
+polygon_good : (f p : ℕ) (rings' : List (List Arc)) (rs : List (List Position)) → polygon_of f p rings' ≡ Ok rs → (list_all is_ring rs ≡ true) × (sum_by length rs ≤ sizes.polygon_size rings')
+unfolding polygon_of
+polygon_good f p rings' rs h =
+    let all = each_at_good (λ r. ring_of (record { feature = f; polygon = p; ring = r })) is_ring sizes.ring_size length (λ i a b. ring_good (record { feature = f; polygon = p; ring = i }) a b) 0 rings' rs h in
+    (all.0, all.1)
+
+feature_good : (f : ℕ) (ps : List (List (List Arc))) (rs : Polygons) → feature_of f ps ≡ Ok rs → (list_all (list_all is_ring) rs ≡ true) × (sum_by (sum_by length) rs ≤ sizes.feature_size ps)
+unfolding feature_of
+feature_good f ps rs h =
+    let all = each_at_good (polygon_of f) (list_all is_ring) sizes.polygon_size (sum_by length) (λ i a b. polygon_good f i a b) 0 ps rs h in
+    (all.0, all.1)
+
+all_good : (fs : List (List (List (List Arc)))) (rs : List Polygons) → all_rings fs ≡ Ok rs →
+    (list_all (list_all (list_all is_ring)) rs ≡ true) × (sum_by (sum_by (sum_by length)) rs ≤ sizes.size fs) × (length rs ≡ length fs)
+unfolding all_rings
+all_good fs rs h = each_at_good feature_of (list_all (list_all is_ring)) sizes.feature_size (sum_by (sum_by length)) (λ i a b. feature_good i a b) 0 fs rs h
+
+-- ---- what was read is of rings
+
+abbrev IsWhole : OutlineText → List Polygons → Type 0
+IsWhole shape ps = (length ps ≡ length (leaves shape.layers)) × (list_all (list_all (list_all is_ring)) ps ≡ true) × (sum_by (sum_by (sum_by length)) ps ≤ 4000000)
+
+whole : (shape : OutlineText) (ps : List Polygons) → polygons_read shape ≡ Ok ps → IsWhole shape ps
+whole shape ps h =
+    let found = bind_ok (arcs (is_some shape.transform) shape.arcs) (λ (found : List Arc). each (uses_of found) (leaves shape.layers) >>= λ uses. demand (nat_le (sizes.size uses) 4000000) (too_large limit.Positions) (all_rings uses)) ps h in
+    let uses = bind_ok (each (uses_of found.0) (leaves shape.layers)) (λ (uses : List (List (List (List Arc)))). demand (nat_le (sizes.size uses) 4000000) (too_large limit.Positions) (all_rings uses)) ps found.2 in
+    let fits = demand_ok (nat_le (sizes.size uses.0) 4000000) (too_large limit.Positions) (all_rings uses.0) ps uses.2 in
+    let good = all_good uses.0 ps fits.1 in
+    (good.2 ∙ each_length (uses_of found.0) (leaves shape.layers) uses.0 uses.1, good.0, omega (arith, good.1, at_most (sizes.size uses.0) 4000000 fits.0))
+
+abbrev made : OutlineText → List Polygons → Opened
+made shape ps = record { transform = shape.transform; layers = shape.layers; members = shape.members; polygons = ps }
+
+made_of_rings : (shape : OutlineText) (ps : List Polygons) → IsWhole shape ps → IsOfRings (made shape ps)
+made_of_rings shape ps w =
+    let same : rings (document_of (made shape ps)) ≡ flat_map rings_within ps =
+    rings_document ps shape.layers ∙ ap (λ (qs : List Polygons). flat_map rings_within qs) (take_all (length (leaves shape.layers)) ps (omega (arith, w.0))) in
+    let total : size (document_of (made shape ps)) ≡ sum_by (sum_by (sum_by length)) ps =
+    ap (λ (rs : List (List Position)). sum_by length rs) same ∙ sum_within length ps in
+    record {
+      counted = w.0;
+      are_rings = ap (λ (rs : List (List Position)). list_all is_ring rs) same ∙ all_within is_ring ps w.1;
+      small = omega (arith, total, w.2);
+    }
+
+pub opening_of_rings : (n : Node) (o : Opened) → opening n ≡ Ok o → IsOfRings o
+opening_of_rings n o h =
+    let shape = bind_ok (outline n) (λ (shape : OutlineText). polygons_read shape >>= λ ps. Ok (made shape ps)) o h in
+    let ps = bind_ok (polygons_read shape.0) (λ (ps : List Polygons). Ok (made shape.0 ps)) o shape.2 in
+    subst IsOfRings (ok_same (made shape.0 ps.0) o ps.2) (made_of_rings shape.0 ps.0 (whole shape.0 ps.0 ps.1))
+
+pub gives_of_rings : {X : Type 0} (view : X → Opened) (r : Result X OpenFault) (n : Node) → Gives view r (opening n) → IfOk r (λ x. IsOfRings (view x))
+gives_of_rings view (Ok x) n h = opening_of_rings n (view x) h
+gives_of_rings view (Err e) n h = tt

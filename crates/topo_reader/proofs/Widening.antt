@@ -1,0 +1,89 @@
+-- The extent, as the loops come to it.
+use Rattle.std.proofs.Common.{◌≡◌, ℕ, suc, ◌+◌, ◌-◌, ◌<◌, ◌≤◌, List, [], ◌∷◌, ◌++◌, length, get_or, take, drop, map, refl, sym, ap, ap₂, ◌∙◌, arith, ℤ}
+use Rattle.std.specs.Prelude.{min, Option, Some, None}
+use Rattle.std.specs.List.{fold, flat_map}
+use Rattle.std.specs.Int.{int_min, int_max}
+use Rattle.std.proofs.lemmas.List.{drop_all, take_min, take-map}
+use Rattle.std.proofs.lemmas.List.Concat.{flat_map-append}
+use Rattle.std.proofs.lemmas.List.Sums.{fold-append}
+use Rattle.grid_geometry.specs.Position.{Position}
+use Rattle.grid_geometry.specs.Segment.{Box}
+use Rattle.ring_machine.specs.Parts.{positions}
+use Rattle.topo_outline.specs.Shape.{LayerText}
+use Rattle.topo_outline.specs.Outline.{leaves}
+use Rattle.topo_reader.specs.Document.{Polygons, Opened, document_of}
+use Rattle.topo_reader.specs.Extent.{box_with, widened, extent_of}
+use Rattle.topo_reader.proofs.Joining.{tail_at}
+use Rattle.topo_reader.proofs.Numbering.{rings_within, rings_document}
+
+pub turn : {X : Type 0} (g : X → List Position) (r r' : Option Box) (xs : List X) (i : ℕ) (x : X) → i < length xs → x ≡ get_or xs i x →
+    r' ≡ widened r (g x) → widened r (flat_map g (drop i xs)) ≡ widened r' (flat_map g (drop (i + 1) xs))
+turn {X = X} g r r' xs i x lt is e =
+    ap (λ (ys : List X). widened r (flat_map g ys)) (tail_at x xs i lt is)
+    ∙ fold-append (λ r p. Some (box_with r p)) r (g x) (flat_map g (drop (i + 1) xs))
+    ∙ ap (λ (s : Option Box). widened s (flat_map g (drop (i + 1) xs))) (sym e)
+
+pub done : {X : Type 0} (g : X → List Position) (r : Option Box) (xs : List X) (i : ℕ) → length xs ≤ i → widened r (flat_map g (drop i xs)) ≡ r
+done {X = X} g r xs i le = ap (λ (ys : List X). widened r (flat_map g ys)) (drop_all i xs le)
+
+pub step : (r : Option Box) (ps : List Position) (i : ℕ) (p : Position) → i < length ps → p ≡ get_or ps i p → widened r (drop i ps) ≡ widened (Some (box_with r p)) (drop (i + 1) ps)
+step r ps i p lt is = ap (λ (qs : List Position). widened r qs) (tail_at p ps i lt is)
+
+pub end : (r : Option Box) (ps : List Position) (i : ℕ) → length ps ≤ i → widened r (drop i ps) ≡ r
+end r ps i le = ap (λ (qs : List Position). widened r qs) (drop_all i ps le)
+
+-- ---- the box that the loops come to is the extent
+
+widened_some : (x0 y0 x1 y1 : ℤ) (ps : List Position) → widened (Some (record { x0 = x0; y0 = y0; x1 = x1; y1 = y1 })) ps ≡ Some (record {
+  x0 = fold int_min x0 (map (λ q. q.x) ps);
+  y0 = fold int_min y0 (map (λ q. q.y) ps);
+  x1 = fold int_max x1 (map (λ q. q.x) ps);
+  y1 = fold int_max y1 (map (λ q. q.y) ps);
+})
+widened_some x0 y0 x1 y1 [] = refl
+widened_some x0 y0 x1 y1 (p ∷ ps) = widened_some (int_min x0 p.x) (int_min y0 p.y) (int_max x1 p.x) (int_max y1 p.y) ps
+
+pub widened_none : (ps : List Position) → widened None ps ≡ extent_of ps
+widened_none [] = refl
+widened_none (p ∷ ps) = widened_some p.x p.y p.x p.y ps
+
+abbrev joined : List (List Position) → List Position
+joined rings = flat_map (λ ring. ring) rings
+
+-- all positions of a list of parts, where a part is seen as its rings
+module _ {X : Type 0} (v : X → Polygons) (g : X → List Position) (same : (x : X) → joined (rings_within (v x)) ≡ g x) where
+  corners : (xs : List X) → joined (flat_map rings_within (map v xs)) ≡ flat_map g xs
+  corners [] = refl
+  corners (x ∷ xs) =
+      flat_map-append (λ ring. ring) (rings_within (v x)) (flat_map rings_within (map v xs))
+      ∙ ap₂ (λ (ps qs : List Position). ps ++ qs) (same x) (corners xs)
+
+  -- the positions of the document are those of its first features, as many as it has leaves
+  pub positions_document : (xs : List X) (layers : List LayerText) (o : Opened) → o.polygons ≡ map v xs → o.layers ≡ layers →
+      positions (document_of o) ≡ flat_map g (take (length (leaves layers)) xs)
+  positions_document xs layers o e f =
+      ap joined (rings_document o.polygons o.layers)
+      ∙ ap₂ (λ (ps : List Polygons) (ls : List LayerText). joined (flat_map rings_within (take (length (leaves ls)) ps))) e f
+      ∙ ap (λ (ps : List Polygons). joined (flat_map rings_within ps)) (take-map v (length (leaves layers)) xs)
+      ∙ corners (take (length (leaves layers)) xs)
+
+  pub extent_document : (xs : List X) (layers : List LayerText) (o : Opened) (n : ℕ) → o.polygons ≡ map v xs → o.layers ≡ layers → n ≡ length xs - (length xs - length (leaves layers)) →
+      widened None (flat_map g (take n xs)) ≡ extent_of (positions (document_of o))
+  extent_document xs layers o n e f is =
+      let least : n ≡ min (length (leaves layers)) (length xs) = omega (arith, is) in
+      ap (λ (m : ℕ). widened None (flat_map g (take m xs))) least
+      ∙ ap (λ (ys : List X). widened None (flat_map g ys)) (take_min (length (leaves layers)) xs)
+      ∙ widened_none (flat_map g (take (length (leaves layers)) xs))
+      ∙ ap extent_of (sym (positions_document xs layers o e f))
+
+-- ---- the nested lists of the code
+
+pub polygon_joined : {X : Type 0} (v : X → List Position) (xs : List X) → joined (map v xs) ≡ flat_map v xs
+polygon_joined v [] = refl
+polygon_joined v (x ∷ xs) = ap (λ (ps : List Position). v x ++ ps) (polygon_joined v xs)
+
+pub feature_joined : {X : Type 0} (v : X → List (List Position)) (g : X → List Position) → ((x : X) → joined (v x) ≡ g x) → (xs : List X) → joined (rings_within (map v xs)) ≡ flat_map g xs
+feature_joined v g same [] = refl
+feature_joined v g same (x ∷ xs) =
+    flat_map-append (λ ring. ring) (v x) (rings_within (map v xs))
+    ∙ ap₂ (λ (ps qs : List Position). ps ++ qs) (same x) (feature_joined v g same xs)

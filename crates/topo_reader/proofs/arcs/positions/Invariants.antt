@@ -1,0 +1,9 @@
+use Rattle.std.proofs.Common.{◌≡◌}
+use Rattle.json_spans.specs.Left.{node}
+use Rattle.json_spans.specs.Walk.{items, items_left}
+use Rattle.topo_reader.specs.Positions.{positions, origin}
+use Rattle.topo_outline.proofs.Walking.{with_front}
+use Rattle.topo_reader.proofs.arcs.positions.Given as goal
+
+abbrev pub invariant-loop-part : goal.invariant-loop-part
+invariant-loop-part g l = with_front l.found.items (positions l.delta l.before (items_left l.part-iterator)) ≡ positions l.delta origin (items (node l.fn.span))

@@ -1,0 +1,7 @@
+use Rattle.std.proofs.Common.{◌≡◌, ◌-◌, drop, length, map}
+use Rattle.topo_outline.specs.Outline.{leaves_in}
+use Rattle.topo_outline.specs.Views.{view_item}
+use Rattle.topo_reader.proofs.extent.less_items.Given as goal
+
+abbrev pub invariant-loop-item : goal.invariant-loop-item
+invariant-loop-item g l = l.left - length (leaves_in (map view_item (drop l.item-index l.items))) ≡ l.fn.number - length (leaves_in (map view_item l.fn.items))

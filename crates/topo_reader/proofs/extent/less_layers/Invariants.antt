@@ -1,0 +1,7 @@
+use Rattle.std.proofs.Common.{◌≡◌, ◌-◌, drop, length, map}
+use Rattle.topo_outline.specs.Outline.{leaves}
+use Rattle.topo_outline.specs.Views.{view_layer}
+use Rattle.topo_reader.proofs.extent.less_layers.Given as goal
+
+abbrev pub invariant-loop-layer : goal.invariant-loop-layer
+invariant-loop-layer g l = l.left - length (leaves (map view_layer (drop l.layer-index l.layers))) ≡ l.fn.number - length (leaves (map view_layer l.fn.layers))

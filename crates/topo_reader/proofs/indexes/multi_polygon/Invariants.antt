@@ -1,0 +1,11 @@
+use Rattle.std.proofs.Common.{◌≡◌, map}
+use Rattle.json_spans.specs.Left.{node}
+use Rattle.json_spans.specs.Walk.{items, items_left}
+use Rattle.topo_outline.specs.Faults.{each}
+use Rattle.topo_reader.specs.Indexes.{polygon}
+use Rattle.topo_outline.proofs.Walking.{with_front}
+use Rattle.topo_reader.specs.Uses.{polygon_uses, positions_of}
+use Rattle.topo_reader.proofs.indexes.multi_polygon.Given as goal
+
+abbrev pub invariant-loop-part : goal.invariant-loop-part
+invariant-loop-part g l = with_front (map polygon_uses l.found.items) (each (polygon (map positions_of l.arcs)) (items_left l.part-iterator)) ≡ each (polygon (map positions_of l.arcs)) (items (node l.fn.span))

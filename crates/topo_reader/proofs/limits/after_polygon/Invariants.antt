@@ -1,0 +1,8 @@
+use Rattle.std.proofs.Common.{◌≡◌}
+use Rattle.topo_reader.specs.Uses.{ring_uses}
+use Rattle.topo_reader.specs.Sizes.{ring_size}
+use Rattle.topo_reader.proofs.Counting.{Counts}
+use Rattle.topo_reader.proofs.limits.after_polygon.Given as goal
+
+abbrev pub invariant-loop-ring : goal.invariant-loop-ring
+invariant-loop-ring g l = Counts ring_size ring_uses l.fn.rings l.fn.room l.left l.ring-index

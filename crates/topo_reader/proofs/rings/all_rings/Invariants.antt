@@ -1,0 +1,9 @@
+use Rattle.std.proofs.Common.{◌≡◌, map, drop}
+use Rattle.topo_outline.specs.Faults.{each_at}
+use Rattle.topo_reader.specs.Rings.{feature_of}
+use Rattle.topo_outline.proofs.Walking.{with_front}
+use Rattle.topo_reader.specs.Uses.{feature_uses, feature_positions}
+use Rattle.topo_reader.proofs.rings.all_rings.Given as goal
+
+abbrev pub invariant-loop-feature : goal.invariant-loop-feature
+invariant-loop-feature g l = with_front (map feature_positions l.found.items) (each_at feature_of l.feature (map feature_uses (drop l.feature l.features))) ≡ each_at feature_of 0 (map feature_uses l.fn.features)

@@ -1,0 +1,7 @@
+use Rattle.std.proofs.Common.{◌≡◌, map, drop, ◌++◌, []}
+use Rattle.std.specs.Prelude.{None}
+use Rattle.topo_reader.specs.Rings.{first_repeat}
+use Rattle.topo_reader.proofs.rings.first_repeat.Given as goal
+
+abbrev pub invariant-loop-pos : goal.invariant-loop-pos
+invariant-loop-pos g l = first_repeat l.seen.keys (drop l.pos-index l.ring) ≡ first_repeat [] l.fn.ring

@@ -1,0 +1,67 @@
+-- What was read, as a document: each feature with its number and its polygons.
+use Rattle.std.specs.Prelude.{◌≡◌, ℕ, ◌+◌, ◌≤◌, List, [], ◌∷◌, length, map, Option, option_map, unwrap_or, slice_get, IsTrue}
+use Rattle.std.specs.List.{list_all}
+use Rattle.grid_geometry.specs.Position.{Position}
+use Rattle.ring_machine.specs.Ring.{is_ring}
+use Rattle.ring_machine.specs.Document.{Text, Form, Member, Head, Feature, Item, Open, Close, Leaf, Kept, Layer, Document}
+use Rattle.ring_machine.specs.Parts.{rings, size}
+use Rattle.topo_outline.specs.Shape.{Piece, starts, ends, leaf, text, LayerText}
+use Rattle.topo_outline.specs.Outline.{leaves_in, leaves}
+use Rattle.json_spans.specs.Parts.{Node}
+
+-- the polygons of one feature: an outer ring and its holes each (RFC 7946, 3.1.6)
+abbrev pub Polygons : Type 0
+Polygons = List (List (List Position))
+
+-- a topology as it is read: its shape, and by feature, polygon and ring its positions
+pub record Opened : Type 0 where
+  pub transform : Option Text
+  pub layers : List LayerText
+  pub members : List Member
+  pub polygons : List Polygons
+
+-- the polygons of feature n
+abbrev pub polygons_at : List Polygons → ℕ → Polygons
+polygons_at all n = unwrap_or (slice_get all n) []
+
+-- a feature with its number and its polygons
+abbrev pub numbered : ℕ → Form → Head → Polygons → Feature
+numbered n form head polygons = record {
+  number = n;
+  id = head.id;
+  form = form;
+  properties = head.properties;
+  members = head.members;
+  polygons = polygons;
+}
+
+-- the items, their features numbered from n in the order of the text
+abbrev pub items_from : ℕ → List Polygons → List Piece → List Item
+items_from n all [] = []
+items_from n all (starts head ∷ ps) = Open head ∷ items_from n all ps
+items_from n all (ends ∷ ps) = Close ∷ items_from n all ps
+items_from n all (leaf form head arcs ∷ ps) =
+    Leaf (numbered n form head (polygons_at all n)) ∷ items_from (n + 1) all ps
+items_from n all (text t ∷ ps) = Kept t ∷ items_from n all ps
+
+-- the layers, the features of each numbered on from those before it
+abbrev pub layers_from : ℕ → List Polygons → List LayerText → List Layer
+layers_from n all [] = []
+layers_from n all (l ∷ ls) =
+    record { name = l.name; items = items_from n all l.pieces }
+    ∷ layers_from (n + length (leaves_in l.pieces)) all ls
+
+-- the document: features are numbered from 0 in the order of the text
+abbrev pub document_of : Opened → Document
+document_of o = record {
+  transform = o.transform;
+  layers = layers_from 0 o.polygons o.layers;
+  members = o.members;
+}
+
+-- what every opened topology is: each feature has its polygons, each list is a ring,
+-- and the size is within the limit
+pub record IsOfRings (o : Opened) : Type 0 where
+  pub counted : length o.polygons ≡ length (leaves o.layers)
+  pub are_rings : IsTrue (list_all is_ring (rings (document_of o)))
+  pub small : size (document_of o) ≤ 4000000

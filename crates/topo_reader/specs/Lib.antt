@@ -1,0 +1,11 @@
+pub mod Positions
+pub mod Indexes
+pub mod Uses
+pub mod Rings
+pub mod Sizes
+pub mod Reads
+pub mod Laws
+pub mod Document
+pub mod DocumentView
+pub mod Extent
+pub mod Opening

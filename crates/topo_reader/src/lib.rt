@@ -1,0 +1,19 @@
+//! From the bytes of a topology to its rings, or the first fault.
+#![tactic(auto)]
+
+mod arcs;
+mod canonical;
+mod document;
+mod extent;
+mod indexes;
+mod law;
+mod limits;
+mod reading;
+mod rings;
+#[cfg(test)]
+mod tests;
+
+pub use canonical::begin_at_least;
+pub use document::RawDoc;
+pub use law::arcs_are_read;
+pub use reading::read;

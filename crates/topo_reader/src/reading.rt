@@ -1,0 +1,102 @@
+// Opening a topology, phase after phase.
+ghost use Rattle.std.specs.Prelude.{◌≡◌, ◌≤◌, length, map, IfOk, IfErr};
+ghost use Rattle.json_spans.specs.Grammar.{Json};
+ghost use Rattle.json_spans.specs.Left.{node};
+ghost use Rattle.topo_outline.specs.Gives.{Gives};
+ghost use Rattle.topo_outline.specs.OutlineView.{view_outline, IsPlaced};
+ghost use Rattle.topo_reader.specs.Document.{IsOfRings};
+ghost use Rattle.topo_reader.specs.DocumentView.{view_raw};
+ghost use Rattle.topo_reader.specs.Opening.{polygons_read, opening, Opens, IsFault, IsPlace};
+ghost use Rattle.topo_reader.specs.Uses.{feature_positions};
+
+use crate::arcs::arcs;
+use crate::document::RawDoc;
+use crate::indexes::uses;
+use crate::limits::fit;
+use crate::rings::all_rings;
+use grid_geometry::Pos;
+use json_spans::{ScanFault, Span, scan};
+use std::alloc::{Allocator, Global};
+use topo_outline::{Limit, OpenFault, Outline, read_outline};
+
+/// The most bytes of a text.
+const MAX_BYTES: usize = 67_108_864;
+
+/// The polygons of all features.
+fn polygons<'a, A: Allocator + Copy>(
+    alloc: A,
+    outline: &Outline<'a, A>,
+) -> Result<Vec<Vec<Vec<Vec<Pos, A>, A>, A>, A>, OpenFault<'a>>
+    requires { IsPlaced outline.now }
+    ensures { Gives (λ v. map feature_positions v.items) result
+        (polygons_read (view_outline outline.now)) }
+{
+    let arcs = match arcs(alloc, outline.transform.is_some(), outline.arcs) {
+        Ok(arcs) => arcs,
+        Err(fault) => return Err(fault),
+    };
+    let uses = match uses(alloc, arcs.as_slice(), outline.places.as_slice()) {
+        Ok(uses) => uses,
+        Err(fault) => return Err(fault),
+    };
+    if !fit(uses.as_slice()) {
+        return Err(OpenFault::TooLarge {
+            what: Limit::Positions,
+        });
+    }
+    all_rings(alloc, uses.as_slice())
+}
+
+/// The topology whose root this is.
+fn opened<'a, A: Allocator + Copy>(
+    alloc: A,
+    heap: Global,
+    root: Span<'a>,
+) -> Result<RawDoc<'a, A>, OpenFault<'a>>
+    ensures { Gives view_raw result (opening (node root.entry)) }
+{
+    let outline = match read_outline(alloc, heap, root) {
+        Ok(outline) => outline,
+        Err(fault) => return Err(fault),
+    };
+    match polygons(alloc, &outline) {
+        Ok(polygons) => Ok(RawDoc {
+            transform: outline.transform,
+            layers: outline.layers,
+            members: outline.members,
+            polygons,
+        }),
+        Err(fault) => Err(fault),
+    }
+}
+
+/// The topology that the bytes are, or its first fault.
+///
+/// The phases follow each other, and the first fault of the first phase that has one is answered: the
+/// length (at most 67,108,864 bytes), JSON with at most 100 lists and objects one in another (RFC
+/// 8259), the shape of the topology (TopoJSON 1.0, 2.1 and 2.2), the positions of its arcs (2.1.1 to
+/// 2.1.3), the arc indexes (2.1.4) with at most 4,000,000 positions, the rings (RFC 7946, 3.1.6).
+/// Whether segments are in conflict is not tested here. `OutOfMemory` may come in the place of any
+/// answer.
+///
+/// All that the topology owns lies in `alloc`. `heap` holds decoded names while they are compared.
+pub fn read<'a, A: Allocator + Copy>(
+    alloc: A,
+    heap: Global,
+    bytes: &'a [u8],
+) -> Result<RawDoc<'a, A>, OpenFault<'a>>
+    ensures opened { IfOk result (λ raw. Opens bytes.now (view_raw raw)) }
+    ensures of_rings { IfOk result (λ raw. IsOfRings (view_raw raw)) }
+    ensures refused { IfErr result (λ fault. IsFault bytes.now fault) }
+    ensures places { IfErr result (λ fault. IsPlace bytes.now fault) }
+{
+    if bytes.len() > MAX_BYTES {
+        return Err(OpenFault::TooLarge { what: Limit::Bytes });
+    }
+    match scan(alloc, bytes) {
+        Ok(root) => opened(alloc, heap, root.span()),
+        Err(ScanFault::NotJson { place }) => Err(OpenFault::NotJson { place }),
+        Err(ScanFault::TooDeep { place }) => Err(OpenFault::TooDeep { place }),
+        Err(ScanFault::OutOfMemory) => Err(OpenFault::OutOfMemory),
+    }
+}

@@ -1,0 +1,15 @@
+//! Tests of whole runs: scripts on worked maps, with the answers that were worked out by hand.
+#![tactic(auto)]
+
+#[cfg(test)]
+mod devices;
+#[cfg(test)]
+mod faults;
+#[cfg(test)]
+mod maps;
+#[cfg(test)]
+mod memory;
+#[cfg(test)]
+mod scripts;
+#[cfg(test)]
+mod told;
