@@ -1,5 +1,5 @@
 -- Ascending segments: each is at most those after it, and past the reach of a segment none is in conflict with it.
-use Rattle.std.proofs.Common.{◌≡◌, ℕ, suc, zero, ◌+◌, ◌≤◌, ◌<◌, Bool, true, false, refl, sym, ap, ap₂, ◌∙◌, cond, List, [], ◌∷◌, length, drop, get_or, arith, ℤ, ◌≤ℤ◌, ◌<ℤ◌, int_le, int_lt, ◌&&◌, Option, None, Some}
+use Rattle.std.proofs.Common.{◌≡◌, ℕ, suc, ◌+◌, ◌≤◌, ◌<◌, Bool, true, false, refl, sym, ap, ap₂, ◌∙◌, cond, List, [], ◌∷◌, length, drop, get_or, arith, ℤ, ◌≤ℤ◌, ◌<ℤ◌, int_le, int_lt, None, Some}
 use Rattle.std.specs.Cmp.{IsStrictWeakOrder}
 use Rattle.std.specs.List.{All, find, AllByRecursion}
 use Rattle.std.specs.List.Sorted.{IsSorted}
@@ -10,7 +10,6 @@ use Rattle.std.specs.Ordering.{int_cmp, ordering_then, is_lt}
 use Rattle.std.proofs.lemmas.Bool.{false≢true}
 use Rattle.std.proofs.lemmas.Int.{ints, clamps}
 use Rattle.std.proofs.lemmas.List.{at_drop_more, get_or-drop, get_or_default, length-drop}
-use Rattle.std.proofs.lemmas.Grind.{common_steps}
 use Rattle.std.proofs.lemmas.List.Sorted.{sorted_far}
 use Rattle.grid_geometry.specs.Segment.{Segment, IsSegment, segment_cmp, segment_lt, box_of, boxes_meet}
 use Rattle.grid_geometry.specs.Conflict.{conflict}

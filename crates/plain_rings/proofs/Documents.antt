@@ -1,14 +1,13 @@
 -- The document of what was read: its features stand in the order of the text, with their numbers and polygons.
-use Rattle.std.proofs.Common.{◌≡◌, ℕ, zero, suc, ◌+◌, ◌≤◌, ◌<◌, Bool, true, false, refl, sym, ap, ap₂, ◌∙◌, subst, cond, List, [], ◌∷◌, ◌++◌, map, length, append_assoc, arith, Option, None, Some, ◌||◌}
+use Rattle.std.proofs.Common.{◌≡◌, ℕ, zero, suc, ◌+◌, Bool, true, false, refl, sym, ap, ap₂, ◌∙◌, cond, List, [], ◌∷◌, ◌++◌, map, length, append_assoc, arith, Option, None, Some, ◌||◌}
 use Rattle.std.specs.Prelude.{◌==◌, slice_get, unwrap_or, is_some, option_map}
 use Rattle.std.specs.List.{list_any, flat_map, filter_map, find}
-use Rattle.std.proofs.lemmas.Bool.{false≢true}
 use Rattle.std.proofs.lemmas.List.{length-map, map-append, length-append}
 use Rattle.std.proofs.lemmas.List.Folds.{flat_map-map}
-use Rattle.std.proofs.lemmas.Option.{slice_get-map, slice_get_past}
+use Rattle.std.proofs.lemmas.Option.{slice_get-map}
 use Rattle.grid_geometry.specs.Position.{Position}
-use Rattle.ring_machine.specs.Document.{Feature, Item, Layer, Document, Open, Close, Leaf, Kept}
-use Rattle.ring_machine.specs.Parts.{feature_of, features, feature, has_feature, rings_of, rings, in_feature, in_item, in_layer, in_rings}
+use Rattle.ring_machine.specs.Document.{Feature, Item, Layer, Open, Close, Leaf, Kept}
+use Rattle.ring_machine.specs.Parts.{feature_of, features, feature, has_feature, rings, in_feature, in_item, in_layer, in_rings}
 use Rattle.ring_machine.specs.Refusals.{or_else, feature_at, no_feature}
 use Rattle.topo_outline.specs.Shape.{Piece, starts, ends, leaf, text, LayerText}
 use Rattle.topo_outline.specs.Outline.{leaves_in, leaves}

@@ -1,5 +1,5 @@
 -- The first pair in conflict of ascending segments is the least pair in conflict.
-use Rattle.std.proofs.Common.{◌≡◌, ℕ, zero, suc, ◌+◌, ◌≤◌, ◌<◌, Bool, true, false, refl, sym, ap, ap₂, ◌∙◌, subst, cond, List, [], ◌∷◌, length, drop, get_or, arith, ◌&&◌, ◌||◌, ◌⊎◌, inl, inr, Option, None, Some}
+use Rattle.std.proofs.Common.{◌≡◌, ℕ, zero, suc, ◌+◌, ◌<◌, Bool, true, false, refl, sym, ap, ◌∙◌, subst, cond, List, [], ◌∷◌, length, drop, get_or, arith, ◌&&◌, ◌||◌, inl, inr, Option, None, Some}
 use Rattle.std.specs.List.{All, find, AllByRecursion}
 use Rattle.std.specs.List.Sorted.{IsSorted, IsPermutation}
 use Rattle.std.proofs.lemmas.Bool.{false≢true}
@@ -9,7 +9,6 @@ use Rattle.grid_geometry.specs.Segment.{Segment, segment_cmp, segment_lt, segmen
 use Rattle.grid_geometry.specs.Conflict.{conflict}
 use Rattle.grid_geometry.proofs.Conflicts.{conflict-comm, conflict-same}
 use Rattle.ring_machine.specs.Planar.{pair_lt, least_conflict}
-use Rattle.ring_machine.proofs.Order.{and_both, or_true}
 use Rattle.ring_machine.proofs.Orders.{segment_ordered}
 use Rattle.ring_machine.proofs.Local.{Bad, IsLeast, same_least}
 use Rattle.ring_machine.proofs.First.{In, least_conflict_is, least_conflict_unique}

@@ -1,5 +1,5 @@
 -- The conditions of a move, asked of the rings of a document.
-use Rattle.std.proofs.Common.{◌≡◌, Bool, true, false, refl, sym, ap, ap₂, ◌∙◌, cond, List, [], ◌∷◌, ◌++◌, map, ◌||◌, ◌&&◌, Option, None, Some}
+use Rattle.std.proofs.Common.{◌≡◌, Bool, true, false, refl, ap, ap₂, ◌∙◌, cond, List, [], ◌∷◌, map, ◌||◌, ◌&&◌, Option, None, Some}
 use Rattle.std.specs.Prelude.{not}
 use Rattle.std.specs.List.{list_any, flat_map, filter}
 use Rattle.std.proofs.lemmas.List.Folds.{list_any-append}
@@ -7,14 +7,14 @@ use Rattle.grid_geometry.specs.Position.{Position, position_eq}
 use Rattle.grid_geometry.specs.Segment.{Segment}
 use Rattle.ring_machine.specs.Ring.{spots, segments}
 use Rattle.ring_machine.specs.Document.{Document}
-use Rattle.ring_machine.specs.Parts.{rings, all_segments}
-use Rattle.ring_machine.specs.Vertices.{put, put_ring, around}
+use Rattle.ring_machine.specs.Parts.{rings}
+use Rattle.ring_machine.specs.Vertices.{put_ring, around}
 use Rattle.ring_machine.specs.Planar.{first_pair, least_conflict}
 use Rattle.ring_machine.specs.Sweep as machine
 use Rattle.ring_machine.specs.Command.{Refusal, NoVertex, Occupied, Conflict, Sweeps}
 use Rattle.ring_machine.specs.Refusals.{◌unless◌, first_of, conflict_of, move_refusals}
 use Rattle.ring_machine.proofs.RingsOf.{rings-in_rings}
-use Rattle.plain_rings.specs.Rings.{has_vertex, is_swept, edge_sweeps, spot_sweeps, ring_sweeps, edges_sweep, crosses_on_way, refusals}
+use Rattle.plain_rings.specs.Rings.{has_vertex, is_swept, edge_sweeps, spot_sweeps, edges_sweep, crosses_on_way, refusals}
 
 -- ---- some element of some list
 

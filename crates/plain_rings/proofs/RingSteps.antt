@@ -1,6 +1,6 @@
 -- The steps round a ring: no two neighbours are equal, so each step is a segment.
-use Rattle.std.proofs.Common.{◌≡◌, ◌≢◌, ℕ, zero, suc, ◌+◌, ◌<◌, ◌≤◌, Bool, true, false, refl, sym, ap, ap₂, ◌∙◌, subst, cond, List, [], ◌∷◌, ◌++◌, map, length, take, drop, get_or, ◌-◌, arith, ℤ, ◌&&◌, append_assoc, drop_of_length-le}
-use Rattle.std.specs.Prelude.{not, nat_le}
+use Rattle.std.proofs.Common.{◌≡◌, ◌≢◌, ℕ, zero, suc, ◌+◌, ◌<◌, ◌≤◌, true, false, refl, sym, ap, ◌∙◌, subst, cond, List, [], ◌∷◌, ◌++◌, map, length, drop, get_or, arith, ℤ, append_assoc, drop_of_length-le}
+use Rattle.std.specs.Prelude.{not}
 use Rattle.std.specs.Ordering.{is_gt, int_cmp, ordering_then}
 use Rattle.std.specs.declared.cmp.Ordering.{Ordering}
 use Rattle.std.specs.declared.cmp.Ordering.TheVariants.{Less, Equal, Greater}
@@ -11,12 +11,10 @@ use Rattle.std.proofs.lemmas.List.{at_drop_more, drop_more}
 use Rattle.grid_geometry.specs.Position.{Position, position_eq, position_cmp}
 use Rattle.grid_geometry.specs.Segment.{Segment, segment, IsSegment}
 use Rattle.grid_geometry.specs.Ring.{Edge, links, edges}
-use Rattle.ring_machine.specs.Ring.{has, is_distinct, is_ring, begins_least, segment_of, segments}
+use Rattle.ring_machine.specs.Ring.{has, is_distinct, is_ring, segment_of, segments}
 use Rattle.ring_machine.proofs.Order.{and_both, position_eq-refl, same_position}
-use Rattle.ring_machine.proofs.Removal.{none_parts, not_true, position_eq-sym}
-use Rattle.ring_machine.proofs.StaysProper.{ring_distinct, ring_long}
-use Rattle.ring_machine.proofs.First.{In, in-append}
-use Rattle.plain_rings.proofs.Ascending.{all_from}
+use Rattle.ring_machine.proofs.Removal.{none_parts, not_true}
+use Rattle.ring_machine.proofs.StaysProper.{ring_distinct}
 
 -- the edges of the way from a over the positions to z
 abbrev pub walk : Position → List Position → Position → List Edge

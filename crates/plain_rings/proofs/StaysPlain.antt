@@ -1,9 +1,9 @@
 -- A plain map stays one when a vertex moves.
-use Rattle.std.proofs.Common.{◌≡◌, ℕ, ◌+◌, ◌≤◌, refl, sym, ap, ap₂, ◌∙◌, subst, List, [], ◌∷◌, ◌++◌, map, length, arith, None}
+use Rattle.std.proofs.Common.{◌≡◌, ◌+◌, ◌≤◌, refl, sym, ap, ap₂, ◌∙◌, subst, List, [], ◌∷◌, map, length, arith, None}
 use Rattle.std.specs.Prelude.{IsTrue, sum_by, if◌then◌else◌}
-use Rattle.std.specs.List.{list_all, flat_map}
+use Rattle.std.specs.List.{list_all}
 use Rattle.std.proofs.lemmas.List.{length-map, length-append}
-use Rattle.std.proofs.lemmas.List.Sums.{sum_by-cons, sum_by-append}
+use Rattle.std.proofs.lemmas.List.Sums.{sum_by-cons}
 use Rattle.grid_geometry.specs.Position.{Position, position_eq}
 use Rattle.ring_machine.specs.Ring.{canonical, is_ring}
 use Rattle.ring_machine.specs.Document.{Document}
@@ -15,7 +15,7 @@ use Rattle.ring_machine.proofs.Canonical.{canonical_parts}
 use Rattle.ring_machine.proofs.RingsOf.{rings-in_rings}
 use Rattle.ring_machine.proofs.StaysProper.{put_is_proper}
 use Rattle.ring_machine.proofs.Accepted.{move-accepted}
-use Rattle.topo_reader.specs.Document.{Opened, document_of, IsOfRings}
+use Rattle.topo_reader.specs.Document.{Opened, document_of}
 use Rattle.plain_rings.specs.Plain.{IsPlain}
 use Rattle.plain_rings.proofs.Documents.{rings_changed}
 

@@ -1,9 +1,8 @@
 -- Numbers of positions, a ring at a time.
-use Rattle.std.proofs.Common.{◌≡◌, ℕ, zero, suc, ◌+◌, ◌≤◌, ◌<◌, refl, sym, ap, ap₂, ◌∙◌, List, [], ◌∷◌, ◌++◌, map, length, take, get_or, arith, Option, None, Some}
+use Rattle.std.proofs.Common.{◌≡◌, ℕ, zero, suc, ◌+◌, ◌≤◌, ◌<◌, refl, sym, ap, ap₂, ◌∙◌, List, [], ◌∷◌, map, length, take, get_or, arith, Some}
 use Rattle.std.specs.Prelude.{slice_get, sum_by}
 use Rattle.std.specs.List.{flat_map}
 use Rattle.std.proofs.lemmas.List.Sums.{sum_by-cons, sum_by-append}
-use Rattle.grid_geometry.specs.Position.{Position}
 use Rattle.ring_machine.specs.Parts.{size}
 use Rattle.topo_reader.specs.Document.{Opened, document_of, IsOfRings}
 use Rattle.plain_rings.specs.Areas.{positions_in}

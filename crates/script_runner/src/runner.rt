@@ -200,7 +200,7 @@ impl<'a, A: Allocator + Copy> Runner<'a, A> {
         ensures works { OnOk result (W.has_failed out.new ≡ false) }
         ensures failed { result ≡ Err Stop.Write → W.has_failed out.new ≡ true }
     {
-        if self.line.is_empty() {
+        if self.line.as_slice().is_empty() {
             return self.flush(out);
         }
         self.answer(false, out)?;

@@ -3,7 +3,7 @@ use Rattle.std.proofs.Common.{◌≡◌, ℕ, ◌≤◌, Bool, true, false, cond
 use Rattle.std.specs.Prelude.{unsigned_abs, int_lt, ◌≤ℤ◌, Option, Some}
 use Rattle.std.specs.Int.{int_min, int_max}
 use Rattle.std.proofs.lemmas.Int.{ints, clamps}
-use Rattle.grid_geometry.specs.Position.{Position, InRange, position}
+use Rattle.grid_geometry.specs.Position.{Position, InRange}
 use Rattle.grid_geometry.specs.Segment.{Box, IsBox}
 use Rattle.topo_reader.specs.Extent.{box_with}
 

@@ -1,7 +1,7 @@
 -- Counting positions, as the loops do.
-use Rattle.std.proofs.Common.{◌≡◌, ℕ, suc, ◌+◌, ◌<◌, ◌≤◌, Bool, true, false, cond, List, [], ◌∷◌, length, get_or, drop, map, reverse, refl, sym, ap, arith}
+use Rattle.std.proofs.Common.{◌≡◌, ℕ, ◌+◌, Bool, true, false, cond, List, length, drop, map, reverse, refl}
 use Rattle.std.specs.Prelude.{sum_by}
-use Rattle.std.proofs.lemmas.List.{drop_all, length-reverse}
+use Rattle.std.proofs.lemmas.List.{length-reverse}
 use Rattle.topo_reader.specs.declared.indexes.Use.{Use}
 use Rattle.topo_reader.specs.Uses.{arc_of}
 

@@ -1,11 +1,10 @@
 -- Joining arcs, as the loops do.
-use Rattle.std.proofs.Common.{◌≡◌, ℕ, zero, suc, ◌+◌, ◌<◌, ◌≤◌, List, [], ◌∷◌, ◌++◌, length, get_or, take, drop, refl, sym, ap, ◌∙◌, append_assoc, add-one, arith, drop-cons, map, Bool, true, false, cond}
+use Rattle.std.proofs.Common.{◌≡◌, ℕ, suc, ◌+◌, ◌<◌, ◌≤◌, List, [], ◌∷◌, ◌++◌, length, get_or, drop, refl, sym, ap, ◌∙◌, append_assoc, add-one, drop-cons, map, true, cond}
 use Rattle.std.specs.Prelude.{Option, Some, None, ◌&&◌}
 use Rattle.std.proofs.lemmas.List.{append-nil, drop_all}
 use Rattle.grid_geometry.specs.Position.{Position}
 use Rattle.ring_machine.specs.Ring.{has}
 use Rattle.topo_reader.specs.declared.indexes.Use.{Use}
-use Rattle.topo_reader.specs.Indexes.{Arc}
 use Rattle.topo_reader.specs.Uses.{arc_of}
 use Rattle.topo_reader.specs.Rings.{first_of, last_of, starts_at, is_at, unless, ends, meet_from, squeezed, last_after, all_of, first_repeat}
 

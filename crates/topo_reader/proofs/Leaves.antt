@@ -1,5 +1,5 @@
 -- Counting features down, as the loops do.
-use Rattle.std.proofs.Common.{◌≡◌, ℕ, ◌+◌, ◌-◌, ◌<◌, ◌≤◌, List, length, get_or, drop, map, refl, sym, ap, ◌∙◌, arith, length-append}
+use Rattle.std.proofs.Common.{◌≡◌, ℕ, ◌+◌, ◌-◌, ◌<◌, ◌≤◌, List, length, get_or, drop, map, ap, ◌∙◌, arith, length-append}
 use Rattle.std.proofs.lemmas.List.{drop_all}
 use Rattle.topo_outline.specs.Shape.{LayerText, Piece}
 use Rattle.topo_outline.specs.Outline.{at_most_one, leaf_of, leaves_in, leaves}

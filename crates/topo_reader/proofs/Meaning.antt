@@ -1,11 +1,10 @@
 -- What an arc means is what the reader gives, and where it answers a fault nothing is meant.
-use Rattle.std.proofs.Common.{◌≡◌, List, [], ◌∷◌, refl, sym, ◌∙◌, Bool, true, false}
-use Rattle.std.specs.Prelude.{Result, Ok, Err, Option, Some, None, ℤ, ◌+ℤ◌}
+use Rattle.std.proofs.Common.{◌≡◌, List, refl, Bool}
+use Rattle.std.specs.Prelude.{Ok, Err}
 use Rattle.json_spans.specs.Parts.{Node}
-use Rattle.json_spans.specs.Walk.{items}
 use Rattle.grid_geometry.specs.Position.{Position}
 use Rattle.topo_outline.specs.Faults.{Fault}
-use Rattle.topo_reader.specs.Positions.{position, positions, arc, origin}
+use Rattle.topo_reader.specs.Positions.{position, positions, arc}
 use Rattle.topo_reader.specs.Reads.{IsSum, Sums, no_pair, pair, IsArc}
 
 position_of : (before p : Position) (n : Node) → IsSum before n p → position before n ≡ Ok p

@@ -9,7 +9,7 @@ use Rattle.std.proofs.lemmas.List.Folds.{list_all-append}
 use Rattle.std.proofs.lemmas.List.Sums.{sum_by-cons, sum_by-append}
 use Rattle.std.proofs.lemmas.Option.{unwrap_or-slice_get}
 use Rattle.grid_geometry.specs.Position.{Position}
-use Rattle.ring_machine.specs.Document.{FeatureOf, Feature, Item, Open, Close, Leaf, Kept, Layer}
+use Rattle.ring_machine.specs.Document.{Item, Layer}
 use Rattle.ring_machine.specs.Parts.{feature_of, rings_of}
 use Rattle.ring_machine.proofs.Order.{and_both}
 use Rattle.topo_outline.specs.Shape.{LayerText, Piece, starts, ends, leaf, text}

@@ -1,12 +1,12 @@
 -- Reading the positions of an arc one after another, as the loop does.
 use Rattle.std.proofs.Common.{◌≡◌, List, [], ◌∷◌, ◌++◌, refl, sym, ◌∙◌}
-use Rattle.std.specs.Prelude.{ℤ, Bool, Result, Ok, Err}
+use Rattle.std.specs.Prelude.{ℤ, Bool, Result, Ok}
 use Rattle.std.proofs.lemmas.List.{append-nil}
 use Rattle.json_spans.specs.Parts.{Node}
 use Rattle.grid_geometry.specs.Position.{Position}
 use Rattle.topo_outline.specs.Gives.{Fails}
 use Rattle.topo_outline.specs.declared.fault.OpenFault.{OpenFault}
-use Rattle.topo_outline.specs.Faults.{Fault, ◌>>=◌}
+use Rattle.topo_outline.specs.Faults.{Fault}
 use Rattle.topo_outline.proofs.Walking.{with_front, carry, regroup}
 use Rattle.topo_reader.specs.Positions.{coordinate, pair_of, position, positions, before_next}
 

@@ -1,8 +1,8 @@
 -- Turning a ring to its least position, as the loops do.
-use Rattle.std.proofs.Common.{◌≡◌, ℕ, suc, ◌+◌, ◌<◌, ◌≤◌, Bool, true, false, cond, List, [], ◌∷◌, ◌++◌, length, get_or, take, drop, refl, sym, ap, ap₂, ◌∙◌, arith, drop-cons, add-one}
+use Rattle.std.proofs.Common.{◌≡◌, ℕ, suc, ◌+◌, ◌<◌, ◌≤◌, Bool, true, false, cond, List, [], ◌∷◌, ◌++◌, length, get_or, take, drop, refl, ap, ap₂, ◌∙◌, arith, drop-cons, add-one}
 use Rattle.std.proofs.lemmas.List.{drop_all}
 use Rattle.grid_geometry.specs.Position.{Position, position_eq, position_lt}
-use Rattle.ring_machine.specs.Ring.{before, from, begin_at, least, canonical}
+use Rattle.ring_machine.specs.Ring.{before, from, least, canonical}
 
 pub least_turn : (m : Position) (ps : List Position) (i : ℕ) (d : Position) → i < length ps →
     least m (drop i ps) ≡ least (cond (position_lt (get_or ps i d) m) (get_or ps i d) m) (drop (i + 1) ps)

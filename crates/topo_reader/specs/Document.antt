@@ -1,5 +1,5 @@
 -- What was read, as a document: each feature with its number and its polygons.
-use Rattle.std.specs.Prelude.{◌≡◌, ℕ, ◌+◌, ◌≤◌, List, [], ◌∷◌, length, map, Option, option_map, unwrap_or, slice_get, IsTrue}
+use Rattle.std.specs.Prelude.{◌≡◌, ℕ, ◌+◌, ◌≤◌, List, [], ◌∷◌, length, Option, unwrap_or, slice_get, IsTrue}
 use Rattle.std.specs.List.{list_all}
 use Rattle.grid_geometry.specs.Position.{Position}
 use Rattle.ring_machine.specs.Ring.{is_ring}
@@ -7,7 +7,6 @@ use Rattle.ring_machine.specs.Document.{Text, Form, Member, Head, Feature, Item,
 use Rattle.ring_machine.specs.Parts.{rings, size}
 use Rattle.topo_outline.specs.Shape.{Piece, starts, ends, leaf, text, LayerText}
 use Rattle.topo_outline.specs.Outline.{leaves_in, leaves}
-use Rattle.json_spans.specs.Parts.{Node}
 
 -- the polygons of one feature: an outer ring and its holes each (RFC 7946, 3.1.6)
 abbrev pub Polygons : Type 0

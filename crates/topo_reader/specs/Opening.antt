@@ -1,7 +1,6 @@
 -- Opening: the first fault of the first phase that has one, or what was read.
 -- The phases follow each other as the lines do.
 use Rattle.std.specs.Prelude.{◌≡◌, ℕ, ◌<◌, ◌≤◌, ◌⊎◌, List, length, nat_le, Some, is_some, Result, Ok, Err}
-use Rattle.grid_geometry.specs.Position.{Position}
 use Rattle.ring_machine.specs.Planar.{first_pair}
 use Rattle.json_spans.specs.Grammar.{Json}
 use Rattle.json_spans.specs.Parts.{Node}

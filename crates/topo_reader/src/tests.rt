@@ -1,13 +1,15 @@
 use crate::{RawDoc, begin_at_least, read};
 use grid_geometry::Pos;
+use linked_list_allocator::LocalHeap;
 use std::alloc::Global;
 use std::process::Abort;
 use std::test::Fail;
+use topo_outline::OpenFault;
 
 /// `ok`, or the text of the fault.
 fn answer(alloc: Global, text: &str) -> Result<String, Fail> {
     match read(alloc, alloc, text.as_bytes()) {
-        Ok(_) => Ok(format!(in alloc; "ok")?),
+        Ok(_raw) => Ok(format!(in alloc; "ok")?),
         Err(fault) => Ok(format!(in alloc; "{fault}")?),
     }
 }
@@ -256,5 +258,23 @@ fn a_ring_begun_at_its_least(rt: HostRuntime) -> Result<(), Fail> {
     let mut ring = [at(&rt, 2, 0), at(&rt, 2, 2), at(&rt, 0, 5), at(&rt, 0, 1)];
     begin_at_least(&mut ring);
     assert!(rt; ring == [at(&rt, 0, 1), at(&rt, 2, 0), at(&rt, 2, 2), at(&rt, 0, 5)]);
+    Ok(())
+}
+
+// Want of memory until there is enough of it, and then the same rings.
+#[test]
+fn a_growth_refused_is_want_of_memory(rt: HostRuntime) -> Result<(), Fail> {
+    let mut opened = false;
+    for size in 1..200usize {
+        let heap = LocalHeap::new(rt.alloc(), 64 * size)?;
+        match read(&heap, rt.alloc(), NESTED.as_bytes()) {
+            Ok(raw) => {
+                assert_eq!(rt; raw.polygons.len(), 2);
+                opened = true;
+            }
+            Err(fault) => assert!(rt; matches!(fault, OpenFault::OutOfMemory) && !opened),
+        }
+    }
+    assert!(rt; opened);
     Ok(())
 }

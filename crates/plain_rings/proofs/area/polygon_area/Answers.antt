@@ -1,4 +1,4 @@
-use Rattle.std.proofs.Common.{◌≡◌, to_z, of_z, ◌≤◌, ◌+◌, ◌-◌, sym, ap, ◌∙◌, subst, length, take, drop, arith, pos, ◌-ℤ◌}
+use Rattle.std.proofs.Common.{◌≡◌, to_z, of_z, ◌+◌, ◌-◌, sym, ap, ◌∙◌, length, take, drop, arith, ◌-ℤ◌}
 use Rattle.std.specs.Int.{w128}
 use Rattle.std.specs.List.{sum_by, fold}
 use Rattle.std.proofs.lemmas.Int.{ints}
@@ -6,7 +6,7 @@ use Rattle.std.proofs.lemmas.List.{take_all}
 use Rattle.std.proofs.lemmas.List.Sums.{sum_by-cons}
 use Rattle.ring_machine.specs.Query as query
 use Rattle.plain_rings.specs.Rings.{held_polygon}
-use Rattle.plain_rings.proofs.RingLists.{list_is, sum_at, fold_more}
+use Rattle.plain_rings.proofs.RingLists.{list_is, fold_more}
 use Rattle.plain_rings.proofs.Summing.{sum_more, sum_front}
 use Rattle.plain_rings.proofs.area.polygon_area.Goals as goal
 

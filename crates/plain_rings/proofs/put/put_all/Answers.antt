@@ -1,5 +1,4 @@
-use Rattle.std.proofs.Common.{ap, ◌∙◌, map, length}
-use Rattle.std.proofs.lemmas.List.{length-map}
+use Rattle.std.proofs.Common.{◌∙◌, map}
 use Rattle.ring_machine.specs.Vertices.{put_ring}
 use Rattle.plain_rings.specs.Rings.{held_polygon, held_feature}
 use Rattle.plain_rings.proofs.Placing.{held_step}

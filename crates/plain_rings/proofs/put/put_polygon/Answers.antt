@@ -1,7 +1,5 @@
-use Rattle.std.proofs.Common.{ap, ◌∙◌, map, length}
-use Rattle.std.proofs.lemmas.List.{length-map}
+use Rattle.std.proofs.Common.{ap, ◌∙◌, length}
 use Rattle.ring_machine.specs.Vertices.{put_ring}
-use Rattle.plain_rings.specs.Rings.{held_polygon, held_feature}
 use Rattle.plain_rings.proofs.Placing.{held_step}
 use Rattle.plain_rings.proofs.StaysPlain.{put_length}
 use Rattle.plain_rings.proofs.put.put_polygon.Goals as goal

@@ -1,4 +1,4 @@
-use Rattle.std.proofs.Common.{sym, ap, subst, ◌++◌, map}
+use Rattle.std.proofs.Common.{sym, ap, subst, ◌++◌}
 use Rattle.std.specs.List.{AllByRecursion}
 use Rattle.grid_geometry.specs.Ring.{edges}
 use Rattle.ring_machine.specs.Ring.{segments}

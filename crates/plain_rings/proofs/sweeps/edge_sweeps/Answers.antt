@@ -1,4 +1,4 @@
-use Rattle.std.proofs.Common.{sym, ◌∙◌, map}
+use Rattle.std.proofs.Common.{sym, ◌∙◌}
 use Rattle.plain_rings.specs.Rings.{sweeps_ring}
 use Rattle.plain_rings.proofs.RingLists.{none_more, some_here, none_at_all}
 use Rattle.plain_rings.proofs.sweeps.edge_sweeps.Goals as goal

@@ -1,4 +1,4 @@
-use Rattle.std.proofs.Common.{sym, ◌∙◌, map}
+use Rattle.std.proofs.Common.{sym, ◌∙◌}
 use Rattle.ring_machine.specs.Ring.{has}
 use Rattle.plain_rings.proofs.RingLists.{none_more, some_here, none_at_all}
 use Rattle.plain_rings.proofs.sweeps.is_vertex.Goals as goal

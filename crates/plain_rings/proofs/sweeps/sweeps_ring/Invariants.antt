@@ -1,4 +1,4 @@
-use Rattle.std.proofs.Common.{◌≡◌, map, take, false}
+use Rattle.std.proofs.Common.{◌≡◌, take, false}
 use Rattle.std.specs.List.{list_any}
 use Rattle.plain_rings.specs.Rings.{is_swept}
 use Rattle.plain_rings.proofs.sweeps.sweeps_ring.Given as goal

@@ -1,4 +1,3 @@
-use Rattle.std.proofs.Common.{◌≡◌}
 use Rattle.topo_reader.proofs.Summing.{turn, end, fails_stop}
 use Rattle.topo_reader.proofs.arcs.positions.Goals as goal
 

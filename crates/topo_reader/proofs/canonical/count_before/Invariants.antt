@@ -1,4 +1,4 @@
-use Rattle.std.proofs.Common.{◌≡◌, ◌≤◌, ◌+◌, drop, length}
+use Rattle.std.proofs.Common.{◌≡◌, ◌+◌, drop, length}
 use Rattle.ring_machine.specs.Ring.{before}
 use Rattle.topo_reader.proofs.canonical.count_before.Given as goal
 

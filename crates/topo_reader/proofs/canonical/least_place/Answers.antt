@@ -1,4 +1,3 @@
-use Rattle.std.proofs.Common.{◌≡◌}
 use Rattle.topo_reader.proofs.Turning.{turned}
 use Rattle.topo_reader.proofs.canonical.least_place.Goals as goal
 

@@ -1,4 +1,4 @@
-use Rattle.std.proofs.Common.{◌≡◌, arith}
+use Rattle.std.proofs.Common.{arith}
 use Rattle.topo_outline.specs.Views.{view_item}
 use Rattle.topo_reader.proofs.Leaves.{item_turn, item_done}
 use Rattle.topo_reader.proofs.extent.less_items.Goals as goal

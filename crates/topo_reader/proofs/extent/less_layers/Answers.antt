@@ -1,4 +1,4 @@
-use Rattle.std.proofs.Common.{◌≡◌, arith}
+use Rattle.std.proofs.Common.{arith}
 use Rattle.topo_outline.specs.Views.{view_layer}
 use Rattle.topo_reader.proofs.Leaves.{layer_turn, layer_done}
 use Rattle.topo_reader.proofs.extent.less_layers.Goals as goal

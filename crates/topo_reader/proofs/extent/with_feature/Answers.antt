@@ -1,4 +1,4 @@
-use Rattle.std.proofs.Common.{◌≡◌, sym, ◌∙◌, arith}
+use Rattle.std.proofs.Common.{sym, ◌∙◌, arith}
 use Rattle.topo_reader.specs.Uses.{polygon_corners}
 use Rattle.topo_reader.proofs.Widening.{turn, done}
 use Rattle.topo_reader.proofs.extent.with_feature.Goals as goal

@@ -1,4 +1,4 @@
-use Rattle.std.proofs.Common.{◌≡◌, map}
+use Rattle.std.proofs.Common.{map}
 use Rattle.std.proofs.lemmas.List.{map-append}
 use Rattle.topo_outline.proofs.Walking.{each_turn}
 use Rattle.topo_reader.specs.Indexes.{polygon}

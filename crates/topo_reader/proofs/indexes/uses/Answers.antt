@@ -1,4 +1,4 @@
-use Rattle.std.proofs.Common.{◌≡◌, arith, map}
+use Rattle.std.proofs.Common.{arith, map}
 use Rattle.std.proofs.lemmas.List.{map-append}
 use Rattle.topo_outline.specs.Views.{view_place}
 use Rattle.topo_outline.proofs.Walking.{each_drop_turn}

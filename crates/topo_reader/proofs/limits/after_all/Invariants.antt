@@ -1,4 +1,3 @@
-use Rattle.std.proofs.Common.{◌≡◌}
 use Rattle.topo_reader.specs.Uses.{feature_uses}
 use Rattle.topo_reader.specs.Sizes.{feature_size}
 use Rattle.topo_reader.proofs.Counting.{Counts}

@@ -1,4 +1,3 @@
-use Rattle.std.proofs.Common.{◌≡◌}
 use Rattle.topo_reader.specs.Uses.{polygon_uses}
 use Rattle.topo_reader.specs.Sizes.{polygon_size}
 use Rattle.topo_reader.proofs.Counting.{Counts}

@@ -1,4 +1,3 @@
-use Rattle.std.proofs.Common.{◌≡◌}
 use Rattle.topo_reader.specs.Uses.{ring_uses}
 use Rattle.topo_reader.specs.Sizes.{ring_size}
 use Rattle.topo_reader.proofs.Counting.{Counts}

@@ -1,4 +1,4 @@
-use Rattle.std.proofs.Common.{◌≡◌, length}
+use Rattle.std.proofs.Common.{length}
 use Rattle.topo_reader.specs.Uses.{arc_of}
 use Rattle.topo_reader.proofs.Counting.{Counts}
 use Rattle.topo_reader.proofs.limits.after_ring.Given as goal

@@ -1,4 +1,3 @@
-use Rattle.std.specs.Prelude.{IfOk}
 use Rattle.json_spans.specs.Left.{node}
 use Rattle.topo_reader.specs.DocumentView.{view_raw}
 use Rattle.topo_reader.proofs.OfRings.{gives_of_rings}

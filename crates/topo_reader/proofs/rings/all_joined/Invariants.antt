@@ -1,4 +1,4 @@
-use Rattle.std.proofs.Common.{◌≡◌, map, drop, ◌++◌, []}
+use Rattle.std.proofs.Common.{◌≡◌, map, drop, ◌++◌}
 use Rattle.std.specs.Prelude.{None}
 use Rattle.topo_reader.specs.Rings.{squeezed, all_of}
 use Rattle.topo_reader.specs.Uses.{arc_of}

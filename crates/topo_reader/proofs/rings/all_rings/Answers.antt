@@ -1,4 +1,4 @@
-use Rattle.std.proofs.Common.{◌≡◌, refl, sym, ◌∙◌, arith, map}
+use Rattle.std.proofs.Common.{arith}
 use Rattle.std.proofs.lemmas.List.{map-append}
 use Rattle.topo_reader.specs.Uses.{feature_uses}
 use Rattle.topo_reader.specs.Rings.{feature_of, all_rings}

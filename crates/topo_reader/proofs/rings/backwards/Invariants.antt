@@ -1,6 +1,4 @@
-use Rattle.std.proofs.Common.{◌≡◌, map, drop, ◌++◌, []}
-use Rattle.std.specs.Prelude.{None}
-use Rattle.topo_reader.specs.Rings.{squeezed}
+use Rattle.std.proofs.Common.{◌≡◌, map}
 use Rattle.topo_reader.proofs.rings.backwards.Given as goal
 
 abbrev pub invariant-loop-pos : goal.invariant-loop-pos

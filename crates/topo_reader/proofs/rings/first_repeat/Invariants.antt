@@ -1,5 +1,4 @@
-use Rattle.std.proofs.Common.{◌≡◌, map, drop, ◌++◌, []}
-use Rattle.std.specs.Prelude.{None}
+use Rattle.std.proofs.Common.{◌≡◌, drop, []}
 use Rattle.topo_reader.specs.Rings.{first_repeat}
 use Rattle.topo_reader.proofs.rings.first_repeat.Given as goal
 

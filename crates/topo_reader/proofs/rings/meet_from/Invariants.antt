@@ -1,5 +1,4 @@
-use Rattle.std.proofs.Common.{◌≡◌, map, drop, ◌++◌, []}
-use Rattle.std.specs.Prelude.{None}
+use Rattle.std.proofs.Common.{◌≡◌, map, drop}
 use Rattle.topo_reader.specs.Rings.{meet_from}
 use Rattle.topo_reader.specs.Uses.{arc_of}
 use Rattle.topo_reader.proofs.rings.meet_from.Given as goal

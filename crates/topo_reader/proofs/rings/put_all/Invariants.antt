@@ -1,5 +1,4 @@
-use Rattle.std.proofs.Common.{◌≡◌, map, drop, ◌++◌, []}
-use Rattle.std.specs.Prelude.{None}
+use Rattle.std.proofs.Common.{◌≡◌, drop, ◌++◌}
 use Rattle.topo_reader.specs.Rings.{squeezed, last_after}
 use Rattle.topo_reader.proofs.rings.put_all.Given as goal
 

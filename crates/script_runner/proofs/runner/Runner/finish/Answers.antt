@@ -1,5 +1,25 @@
-use Rattle.script_runner.proofs.StepLemmas.{on_last, put_last}
+use Rattle.std.proofs.Common.{◌≡◌, ◌∙◌, ◌==◌, length, sym, ap}
+use Rattle.std.proofs.lemmas.Result.{IfOk-weaker}
+use Rattle.script_runner.proofs.StepLemmas.{on_last, put_last, put_none, finished_none, finished_line}
 use Rattle.script_runner.proofs.runner.Runner.finish.Goals as goal
+
+pub returns-then-is_empty-clause-ok : goal.returns-then-is_empty-clause-ok
+returns-then-is_empty-clause-ok g c =
+    let is = ap (λ p. length p.line == 0) (sym c.self.view_is) ∙ ap (λ l. length l == 0) (sym c.as_slice.ensures.value) ∙ sym c.is_empty.ensures ∙ c.if-is_empty.true in
+    IfOk-weaker c.flush.result _ _
+    (λ s counts. finished_none c.args.self (g.W.Sink.taken c.args.out.now) (g.W.Sink.taken c.flush.new.out) s is c.flush.ensures.kept counts) c.flush.ensures.counts
+
+pub returns-then-is_empty-clause-cut : goal.returns-then-is_empty-clause-cut
+returns-then-is_empty-clause-cut g c =
+    on_last c.flush.result (g.W.Sink.taken c.args.out.now) (g.W.Sink.taken c.flush.new.out) c.args.self
+    (put_none c.args.self (g.W.Sink.taken c.args.out.now) (g.W.Sink.taken c.flush.new.out) c.flush.ensures.kept)
+
+pub returns-clause-ok : goal.returns-clause-ok
+returns-clause-ok g c =
+    let is = ap (λ p. length p.line == 0) (sym c.self.view_is) ∙ ap (λ l. length l == 0) (sym c.as_slice.ensures.value) ∙ sym c.is_empty.ensures ∙ c.if-is_empty.false in
+    IfOk-weaker c.flush-2.result _ _
+    (λ s counts. finished_line c.args.self c.answer.new.self (g.W.Sink.taken c.args.out.now) (g.W.Sink.taken c.answer.new.out) (g.W.Sink.taken c.flush-2.new.out) s is
+    c.in_ok-answer.ensures.ok c.flush-2.ensures.kept counts) c.flush-2.ensures.counts
 
 pub returns-clause-cut : goal.returns-clause-cut
 returns-clause-cut g c =

@@ -1,4 +1,4 @@
-use Rattle.std.proofs.Common.{◌≡◌, ◌-◌, refl, ap, ◌∙◌, ℕ, length, map}
+use Rattle.std.proofs.Common.{◌-◌, refl, ap, ◌∙◌, ℕ, length, map}
 use Rattle.topo_outline.specs.Views.{view_layer}
 use Rattle.topo_reader.specs.DocumentView.{view_raw}
 use Rattle.topo_reader.specs.Uses.{feature_positions, feature_corners, polygon_positions, polygon_corners, positions_of}
