@@ -12,7 +12,7 @@ const ANSWERS: &[u8; 23] = b"ok\n1740\nrefused sweeps\n";
 /// With each lesser heap the run ends for want of memory, with a front of the answers.
 #[test]
 fn every_lesser_heap_is_refused(rt: HostRuntime) -> Result<(), Fail> {
-    let mut refused = 0;
+    let mut refused = 0usize;
     let mut done = false;
     for room in 0..600usize {
         let heap = LocalHeap::new(rt.alloc(), 64 + 16 * room)?;
@@ -30,7 +30,7 @@ fn every_lesser_heap_is_refused(rt: HostRuntime) -> Result<(), Fail> {
                 assert_eq!(rt; sink.writer.as_slice(), ANSWERS.as_slice());
             }
             Err(RunFault::OutOfMemory) => {
-                refused += 1;
+                refused = room;
                 assert!(rt; ANSWERS.starts_with(sink.writer.as_slice()));
             }
             Err(_) => assert!(rt; false, "another fault"),

@@ -1,0 +1,124 @@
+// Maps and scripts at their limits.
+ghost use Rattle.std.specs.Prelude.{None, false};
+
+use crate::maps::TWO_SQUARES;
+use crate::told::told;
+use device_io::{Failed, Source, ToWriter};
+use script_runner::{RunFault, run};
+use std::alloc::AllocFailed;
+use std::test::Fail;
+
+/// Appends a piece so many times.
+fn repeat(text: &mut Vec<u8>, piece: &[u8], times: usize) -> Result<(), AllocFailed<u8>> {
+    for _ in 0..times {
+        for byte in piece {
+            text.push(*byte)?;
+        }
+    }
+    Ok(())
+}
+
+/// A text of so many pieces between a front and an end.
+fn long_text(
+    rt: &HostRuntime,
+    front: &[u8],
+    piece: &[u8],
+    times: usize,
+    end: &[u8],
+) -> Result<Vec<u8>, AllocFailed<u8>> {
+    let mut text = Vec::new(rt.alloc());
+    repeat(&mut text, front, 1)?;
+    repeat(&mut text, piece, times)?;
+    repeat(&mut text, end, 1)?;
+    Ok(text)
+}
+
+/// One byte more than a map may have.
+#[test]
+fn a_map_of_too_many_bytes(rt: HostRuntime) -> Result<(), Fail> {
+    let map = long_text(&rt, b"", b" ", 67_108_865, b"")?;
+    assert_eq!(rt;
+        told(&rt, map.as_slice(), b"")?.as_str(),
+        "open: too large bytes"
+    );
+    let map = long_text(&rt, b"", b" ", 67_108_864, b"")?;
+    assert_eq!(rt;
+        told(&rt, map.as_slice(), b"")?.as_str(),
+        "open: not json at 67108864"
+    );
+    Ok(())
+}
+
+/// A ring that names a closed arc of five positions 800,001 times.
+#[test]
+fn a_map_of_too_many_positions(rt: HostRuntime) -> Result<(), Fail> {
+    let front = b"{\"type\":\"Topology\",\"objects\":{\"a\":{\"type\":\"Polygon\",\"arcs\":[[0";
+    let end = b"]]}},\"arcs\":[[[0,0],[10,0],[10,10],[0,10],[0,0]]]}";
+    let map = long_text(&rt, front, b",0", 800_000, end)?;
+    assert_eq!(rt;
+        told(&rt, map.as_slice(), b"")?.as_str(),
+        "open: too large positions"
+    );
+    let map = long_text(&rt, front, b",0", 799_999, end)?;
+    assert_eq!(rt;
+        told(&rt, map.as_slice(), b"")?.as_str(),
+        "open: ring repeats 0 0 0 at 0 0"
+    );
+    Ok(())
+}
+
+/// One feature more than a map may have.
+#[test]
+fn a_map_of_too_many_features(rt: HostRuntime) -> Result<(), Fail> {
+    let front =
+        b"{\"type\":\"Topology\",\"objects\":{\"a\":{\"type\":\"GeometryCollection\",\"geometries\":[{\"type\":null}";
+    let end = b"]}},\"arcs\":[]}";
+    let map = long_text(&rt, front, b",{\"type\":null}", 200_000, end)?;
+    assert_eq!(rt;
+        told(&rt, map.as_slice(), b"area 0")?.as_str(),
+        "open: too large features"
+    );
+    let map = long_text(&rt, front, b",{\"type\":null}", 199_999, end)?;
+    assert_eq!(rt;
+        told(&rt, map.as_slice(), b"area 199999")?.as_str(),
+        "0\nanswered 1, refused 0"
+    );
+    Ok(())
+}
+
+/// A reader with no end, whose lines are comments.
+#[derive(Drop)]
+struct Endless;
+
+impl Source for Endless {
+    ghost coming = { λ _. None };
+
+    ghost has_failed = { λ _. false };
+
+    fn get(&mut self, room: &mut [u8]) -> Result<usize, Failed> {
+        for byte in room.iter_mut() {
+            *byte = b'#';
+        }
+        if let Some(last) = room.last_mut() {
+            *last = b'\n';
+        }
+        Ok(room.len())
+    }
+}
+
+/// A script without an end is a script fault.
+#[test]
+fn a_script_without_an_end(rt: HostRuntime) -> Result<(), Fail> {
+    let mut source = Endless;
+    let mut sink = ToWriter::new(Vec::new(rt.alloc()));
+    let outcome = run(
+        rt.alloc(),
+        rt.alloc(),
+        TWO_SQUARES.as_bytes(),
+        &mut source,
+        &mut sink,
+    );
+    assert!(rt; matches!(outcome, Err(RunFault::Read)));
+    assert!(rt; sink.writer.is_empty());
+    Ok(())
+}
