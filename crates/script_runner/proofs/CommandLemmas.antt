@@ -1,5 +1,5 @@
 -- Which command a line asks for, by its word.
-use Rattle.std.proofs.Common.{◌≡◌, ℕ, ℤ, pos, negsuc, ◌<◌, ◌≤◌, ◌^◌, ◌++◌, ◌+◌, refl, sym, ap, ◌∙◌, subst, List, [], ◌∷◌, length, get_or, nat_eq, ◌==◌, false, true, arith, append-nil, append_assoc, FitsSigned, w64, Option, None, Some, MatchOption, codes}
+use Rattle.std.proofs.Common.{◌≡◌, ℕ, ℤ, pos, ◌<◌, ◌^◌, ◌++◌, ◌+◌, refl, sym, ap, ◌∙◌, subst, List, [], ◌∷◌, length, get_or, nat_eq, ◌==◌, false, true, arith, append-nil, FitsSigned, w64, Option, None, Some, MatchOption, codes}
 use Rattle.std.specs.Str.{IsUtf8, IsAscii}
 use Rattle.std.proofs.lemmas.Bool.{false≢true}
 use Rattle.std.proofs.lemmas.Bool.Decides.{nat_tests}
@@ -9,8 +9,8 @@ use Rattle.std.proofs.lemmas.Str.{IsUtf8-from_ascii, IsAscii-append}
 use Rattle.std.proofs.lemmas.Str.Ascii.{IsAscii-nil, IsAscii-cons}
 use Rattle.grid_geometry.specs.Position.{Position, InRange}
 use Rattle.ring_machine.specs.Command.{Command, Move, Area}
-use Rattle.script_runner.specs.Lines.{spaced, spaced_position, Asks, Says, is_comment}
-use Rattle.script_runner.specs.Words.{EndsWord, IsSpaced, IsPlace}
+use Rattle.script_runner.specs.Lines.{spaced, spaced_position, Asks, Says}
+use Rattle.script_runner.specs.Words.{IsSpaced, IsPlace}
 use Rattle.script_runner.specs.Commands.{command_of, IsMoveTail, IsAreaTail}
 use Rattle.script_runner.specs.declared.lines.Command.{Command as CommandLine}
 use Rattle.script_runner.proofs.WordLemmas.{spaced_once, place_once, same_behind, number_ascii, fits_in_range}

@@ -1,5 +1,5 @@
 -- Byte by byte is line by line.
-use Rattle.std.proofs.Common.{◌≡◌, ◌≢◌, ℕ, suc, ◌+◌, ◌-◌, ◌<◌, ◌≤◌, min, Bool, true, false, cond, length, take, drop, List, [], ◌∷◌, ◌++◌, refl, sym, ap, ap₂, subst, ◌∙◌, arith, append_assoc, append-nil, length-append, nat_lt, nat_eq, MatchBool, ◌==◌, ◌||◌, not, map, inl, inr, ◌⊎◌, Option, Some, None}
+use Rattle.std.proofs.Common.{◌≡◌, ◌≢◌, ℕ, suc, ◌+◌, ◌-◌, ◌<◌, ◌≤◌, min, Bool, true, false, length, take, drop, List, [], ◌∷◌, ◌++◌, refl, sym, ap, ap₂, subst, ◌∙◌, arith, append_assoc, append-nil, length-append, nat_lt, MatchBool, ◌==◌, ◌||◌, map}
 use Rattle.std.specs.Str.{bytes_eq}
 use Rattle.std.proofs.lemmas.Bool.Decides.{nat_tests}
 use Rattle.std.proofs.lemmas.Bool.{false≢true}
@@ -7,10 +7,8 @@ use Rattle.std.proofs.lemmas.List.{map-append, take-append-drop}
 use Rattle.std.proofs.lemmas.Slice.Eq.{bytes_eq-Decides}
 use Rattle.ring_machine.specs.Document.{Document}
 use Rattle.ring_machine.specs.Machine.{State}
-use Rattle.ring_machine.specs.Command.{Command}
-use Rattle.script_runner.specs.Lines.{Says}
-use Rattle.script_runner.specs.Runs.{NoFeed, NoFeeds, with_feeds, AreLines, ScriptLine, without_return, ended_line, open_line, lines_of, Meaning, Skipped, Asked, Bad, Means, AllMean, reply_text, state_after, answered_by, refused_by, replies, state_after_all, answered, refused, opened_state}
-use Rattle.script_runner.specs.Progress.{Progress, start, line_at, KeptMeans, IsAnswered, LineStep, more, ByteStep, Feeds, IsPartReply}
+use Rattle.script_runner.specs.Runs.{NoFeed, NoFeeds, with_feeds, AreLines, ScriptLine, without_return, ended_line, Meaning, Bad, Means, AllMean, reply_text, state_after, answered_by, refused_by, replies, state_after_all, answered, refused, opened_state}
+use Rattle.script_runner.specs.Progress.{Progress, start, line_at, KeptMeans, LineStep, more, ByteStep, Feeds}
 
 -- ---- a carriage return at the end
 

@@ -1,10 +1,9 @@
 -- The machine's steps, as far as there are lines for them.
-use Rattle.std.proofs.Common.{◌≡◌, ℕ, ℤ, refl, sym, ap, ap₂, ◌∙◌, subst, List, [], ◌∷◌, ◌++◌, length, map, Bool, true, false, cond, Option, None, Some, IsTrue, IsSomeAnd, pos, codes, append_assoc}
+use Rattle.std.proofs.Common.{◌≡◌, ℕ, ℤ, refl, sym, ap, ◌∙◌, List, [], ◌++◌, length, Bool, true, false, cond, Option, None, Some, IsTrue, IsSomeAnd, codes}
 use Rattle.std.specs.Fmt.{signed_decimal}
 use Rattle.std.proofs.lemmas.List.{length-map}
 use Rattle.grid_geometry.specs.Position.{Position}
-use Rattle.grid_geometry.specs.Segment.{Segment}
-use Rattle.ring_machine.specs.Document.{Document, Feature}
+use Rattle.ring_machine.specs.Document.{Document}
 use Rattle.ring_machine.specs.Parts.{features, has_feature, in_feature}
 use Rattle.ring_machine.specs.Vertices.{put, put_ring}
 use Rattle.ring_machine.specs.Query.{area_of}

@@ -1,16 +1,16 @@
 -- What was fed to a runner is lines with their answers, and the bytes after them.
-use Rattle.std.proofs.Common.{◌≡◌, ◌≢◌, ℕ, ◌+◌, ◌-◌, ◌<◌, ◌≤◌, min, Bool, true, false, length, take, drop, List, [], ◌∷◌, ◌++◌, refl, sym, ap, ap₂, subst, ◌∙◌, arith, append_assoc, append-nil, length-append, length-drop, MatchBool, ◌==◌, map, inl, inr, ◌⊎◌, Option, Some, None}
+use Rattle.std.proofs.Common.{◌≡◌, ℕ, ◌+◌, ◌<◌, ◌≤◌, min, Bool, true, false, length, take, drop, List, [], ◌∷◌, ◌++◌, refl, sym, ap, subst, ◌∙◌, arith, append_assoc, append-nil, length-append, length-drop, MatchBool, ◌==◌, map, inl, inr, ◌⊎◌, Option}
 use Rattle.std.proofs.lemmas.Bool.Decides.{nat_tests}
 use Rattle.std.proofs.lemmas.List.{take-append-drop, length-take-le, take-take}
 use Rattle.std.specs.Io.KnownBytes.{Appends, Consumes, Keeps}
 use Rattle.device_io.proofs.DeviceLemmas.{Consumes-more, Consumes-none, Appends-more}
 use Rattle.ring_machine.specs.Document.{Document}
-use Rattle.script_runner.specs.Runs.{NoFeed, AreLines, ended_line, open_line, lines_of, Meaning, Means, AllMean, replies, state_after_all, answered, refused, opened_state, reply_text}
-use Rattle.script_runner.specs.Progress.{Progress, start, line_at, KeptMeans, IsAnswered, LineStep, Feeds, FeedsPart, IsPartReply, PutsPart, Told}
-use Rattle.script_runner.specs.Finish.{LastStep, Finishes, PutsLast, Counts}
+use Rattle.script_runner.specs.Runs.{ended_line, open_line, lines_of, reply_text}
+use Rattle.script_runner.specs.Progress.{Progress, start, LineStep, Feeds, FeedsPart, IsPartReply, Told}
+use Rattle.script_runner.specs.Finish.{Finishes, PutsLast}
 use Rattle.script_runner.specs.Outcome.{Runs, AnswersAll, AnswersLines, AnswersPart, IsFront}
 use Rattle.script_runner.specs.declared.runner.Summary.{Summary}
-use Rattle.script_runner.proofs.CommandLemmas.{is_nil, not_empty}
+use Rattle.script_runner.proofs.CommandLemmas.{not_empty}
 use Rattle.script_runner.proofs.StepLemmas.{Feeds-append}
 use Rattle.script_runner.proofs.LineLemmas.{Mid, Mid-feeds, Mid-start, kept_means, AllMean-more, replied, counted, refusing}
 

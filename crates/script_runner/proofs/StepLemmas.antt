@@ -1,13 +1,13 @@
 -- Steps that follow one another, and what stands where one of them failed.
-use Rattle.std.proofs.Common.{◌≤◌, length-append, Result, Ok, Err, OnErr, ◌≡◌, ℕ, ◌+◌, ◌<◌, take, length, List, [], ◌∷◌, ◌++◌, Option, Some, None, refl, sym, ap, subst, ◌∙◌, arith, append_assoc, append-nil, inl, inr, MatchBool, Bool, true, false, ◌==◌}
+use Rattle.std.proofs.Common.{Result, Ok, Err, OnErr, ◌≡◌, ℕ, ◌+◌, take, length, List, [], ◌∷◌, ◌++◌, Option, refl, sym, ap, subst, ◌∙◌, arith, append_assoc, append-nil, inl, inr, MatchBool, Bool, true, false, ◌==◌}
 use Rattle.std.proofs.lemmas.List.{take_all}
-use Rattle.std.specs.Io.KnownBytes.{Appends, Consumes, Keeps}
+use Rattle.std.specs.Io.KnownBytes.{Appends, Keeps}
 use Rattle.ring_machine.specs.Document.{Document}
 use Rattle.device_io.specs.Devices.{AppendsPrefix}
-use Rattle.device_io.proofs.DeviceLemmas.{Consumes-more, Consumes-none, Appends-more, Appends-none}
+use Rattle.device_io.proofs.DeviceLemmas.{Appends-more, Appends-none}
 use Rattle.script_runner.specs.Runs.{Meaning, reply_text, opened_state}
-use Rattle.script_runner.specs.Progress.{Progress, KeptMeans, IsAnswered, LineStep, ByteStep, Feeds, IsPartReply, PutsPart, FeedsPart, Told}
-use Rattle.script_runner.specs.Finish.{LastStep, Finishes, PutsLast, Counts}
+use Rattle.script_runner.specs.Progress.{Progress, KeptMeans, LineStep, ByteStep, Feeds, PutsPart, FeedsPart, Told}
+use Rattle.script_runner.specs.Finish.{Finishes, PutsLast, Counts}
 use Rattle.script_runner.specs.declared.runner.Summary.{Summary}
 
 pub OnErr-by : {A E : Type 0} (r : Result A E) {P : Type 0} → P → OnErr r P

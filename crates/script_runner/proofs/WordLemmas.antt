@@ -1,5 +1,5 @@
 -- A line is cut into words in one way.
-use Rattle.std.proofs.Common.{◌≡◌, ℕ, ◌+◌, ◌/◌, ◌%◌, ◌<◌, ◌≤◌, ◌^◌, Bool, true, false, cond, refl, sym, ap, ap₂, ◌∙◌, subst, List, [], ◌∷◌, ◌++◌, length, take, drop, ℤ, pos, negsuc, ◌==◌, not, arith, FitsSigned, w64, Result, Ok, Err, unsigned_abs, zero, suc, IsTrue, append_assoc, ◌≢◌}
+use Rattle.std.proofs.Common.{◌≡◌, ℕ, ◌+◌, ◌%◌, ◌<◌, ◌≤◌, ◌^◌, Bool, true, false, cond, refl, sym, ap, ap₂, ◌∙◌, subst, List, [], ◌∷◌, ◌++◌, length, take, drop, ℤ, pos, negsuc, arith, FitsSigned, w64, Result, Ok, Err, unsigned_abs, suc, append_assoc}
 use Rattle.std.specs.List.{take_while}
 use Rattle.std.specs.Fmt.{decimal, signed_decimal}
 use Rattle.std.specs.Int.Signed.{mag}
@@ -8,13 +8,12 @@ use Rattle.std.proofs.lemmas.Bool.Decides.{nat_tests}
 use Rattle.std.proofs.lemmas.Bool.{false≢true}
 use Rattle.std.proofs.lemmas.Fmt.{decimal_by_steps, parse-signed_decimal, signed_decimal_injective, IsAscii-signed}
 use Rattle.std.specs.Str.{IsUtf8, IsAscii, bytes_eq}
-use Rattle.std.specs.Bool.{Decides}
 use Rattle.std.proofs.lemmas.Str.{IsUtf8-from_ascii}
 use Rattle.std.proofs.lemmas.Slice.Eq.{bytes_eq-Decides}
 use Rattle.std.proofs.lemmas.List.{take-append-drop}
 use Rattle.std.proofs.lemmas.List.Sums.{take_while-cons}
 use Rattle.grid_geometry.specs.Position.{Position, position, InRange}
-use Rattle.script_runner.specs.Lines.{spaced, spaced_position}
+use Rattle.script_runner.specs.Lines.{spaced}
 use Rattle.script_runner.specs.Words.{is_letter, EndsWord, IsSpaced, IsPlace}
 
 -- ---- words

@@ -1,5 +1,5 @@
 -- The end of a script.
-use Rattle.std.specs.Prelude.{◌≡◌, ℕ, List, [], length, ◌==◌, MatchBool, false, Option, ◌⊎◌}
+use Rattle.std.specs.Prelude.{◌≡◌, ℕ, List, [], length, ◌==◌, MatchBool, false, Option}
 use Rattle.script_runner.specs.Progress.{Progress, LineStep, Told, IsPartReply}
 use Rattle.script_runner.specs.declared.runner.Summary.{Summary}
 

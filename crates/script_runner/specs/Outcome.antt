@@ -1,12 +1,12 @@
 -- What a run answers, and what stands after it.
-use Rattle.std.specs.Prelude.{◌≡◌, ◌≢◌, ℕ, ◌<◌, List, [], ◌++◌, length, take, map, Bool, true, Option, Some, None, ◌⊎◌}
+use Rattle.std.specs.Prelude.{◌≡◌, ◌≢◌, ℕ, ◌<◌, List, [], ◌++◌, length, take, map, Bool, Option, ◌⊎◌}
 use Rattle.std.specs.Io.KnownBytes.{Appends, Consumes}
 use Rattle.ring_machine.specs.Document.{Document}
 use Rattle.ring_machine.specs.Planar.{Proper}
 use Rattle.topo_reader.specs.Document.{Opened, document_of}
 use Rattle.topo_reader.specs.Opening.{Opens, IsFault}
 use Rattle.topo_outline.specs.declared.fault.OpenFault.TheVariants as opening
-use Rattle.script_runner.specs.Runs.{AreLines, ScriptLine, ended_line, open_line, lines_of, Meaning, Means, AllMean, reply_text, replies, state_after_all, answered, refused, opened_state}
+use Rattle.script_runner.specs.Runs.{AreLines, ended_line, lines_of, Meaning, Means, AllMean, reply_text, replies, state_after_all, answered, refused, opened_state}
 use Rattle.script_runner.specs.Progress.{line_at}
 use Rattle.script_runner.specs.declared.runner.Summary.{Summary}
 use Rattle.script_runner.specs.declared.fault.RunFault.{RunFault}

@@ -1,5 +1,5 @@
 -- What a runner keeps between two bytes of a script, and what one more byte does.
-use Rattle.std.specs.Prelude.{◌≡◌, ℕ, ◌+◌, ◌<◌, ◌≤◌, ◌==◌, List, [], ◌∷◌, ◌++◌, length, take, nat_lt, Bool, true, false, not, ◌||◌, if◌then◌else◌, Option, Some, None, MatchBool, ◌⊎◌}
+use Rattle.std.specs.Prelude.{◌≡◌, ℕ, ◌+◌, ◌<◌, ◌≤◌, ◌==◌, List, [], ◌∷◌, ◌++◌, length, take, nat_lt, Bool, true, false, not, ◌||◌, if◌then◌else◌, Option, MatchBool, ◌⊎◌}
 use Rattle.std.specs.Io.KnownBytes.{Appends}
 use Rattle.ring_machine.specs.Document.{Document}
 use Rattle.script_runner.specs.Runs.{ScriptLine, ended_line, open_line, Meaning, Bad, Means, reply_text, state_after, answered_by, refused_by, opened_state}

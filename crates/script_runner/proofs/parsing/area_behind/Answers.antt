@@ -1,5 +1,4 @@
-use Rattle.std.proofs.Common.{sym, ◌∙◌, subst, rules}
-use Rattle.std.specs.Int.{FitsUnsignedBits}
+use Rattle.std.proofs.Common.{sym, ◌∙◌, rules}
 use Rattle.std.proofs.lemmas.Int.{to_z-of_z}
 use Rattle.script_runner.proofs.CommandLemmas.{not_empty, area_none, area_long, area_huge, fits_along}
 use Rattle.script_runner.proofs.parsing.area_behind.Goals as goal

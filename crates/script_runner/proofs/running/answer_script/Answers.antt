@@ -1,7 +1,7 @@
-use Rattle.std.proofs.Common.{◌++◌, [], refl, take, drop, rules, arith, length, ◌≡◌, ◌≤◌}
+use Rattle.std.proofs.Common.{◌++◌, take, drop, rules, arith, length, ◌≡◌, ◌≤◌}
 use Rattle.device_io.proofs.DeviceLemmas.{Appends-more}
 use Rattle.script_runner.proofs.StepLemmas.{Feeds-append}
-use Rattle.script_runner.proofs.RunLemmas.{lines_kept, lines_answered, all_answered, end_read, part_at_end, part_in_piece, piece_came, whole_came, past_limit, fed_length, lines_in_piece}
+use Rattle.script_runner.proofs.RunLemmas.{lines_kept, all_answered, end_read, part_at_end, part_in_piece, piece_came, whole_came, past_limit, fed_length, lines_in_piece}
 use Rattle.std.proofs.lemmas.List.{length-take-le}
 use Rattle.script_runner.proofs.running.answer_script.Goals as goal
 

@@ -1,4 +1,4 @@
-use Rattle.std.proofs.Common.{◌≡◌, ◌+◌, ◌≤◌, ℕ, List, false, length}
+use Rattle.std.proofs.Common.{◌≡◌, ◌+◌, ℕ, List, false, length}
 use Rattle.std.specs.Io.KnownBytes.{Appends, Consumes}
 use Rattle.script_runner.specs.Progress.{Feeds, start}
 use Rattle.script_runner.proofs.running.answer_script.Given as goal

@@ -1,7 +1,6 @@
-use Rattle.std.proofs.Common.{◌++◌, subst, sym, take, rules, arith}
+use Rattle.std.proofs.Common.{◌++◌, take, rules, arith}
 use Rattle.std.proofs.lemmas.List.{take_more}
 use Rattle.device_io.proofs.DeviceLemmas.{Appends-more}
-use Rattle.script_runner.specs.Progress.{Feeds}
 use Rattle.script_runner.proofs.StepLemmas.{on_feeds, Feeds-more}
 use Rattle.script_runner.proofs.runner.Runner.feed.Goals as goal
 

@@ -1,4 +1,4 @@
-use Rattle.std.proofs.Common.{◌≡◌, sym, true}
+use Rattle.std.proofs.Common.{true}
 use Rattle.script_runner.proofs.StepLemmas.{on_part, fed_line}
 use Rattle.script_runner.proofs.runner.Runner.feed_byte.Goals as goal
 
