@@ -8,3 +8,4 @@ pub mod StaysPlain
 pub mod Placing
 pub mod Summing
 pub mod MovedRings
+pub mod OnceEach

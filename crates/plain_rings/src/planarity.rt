@@ -58,6 +58,17 @@ fn first_pair(ascending: &[Seg]) -> Option<(Seg, Seg)>
     None
 }
 
+/// Leaves each of ascending segments once: a shared border stands there for each of its rings.
+fn keep_once<A: Allocator + Copy>(segments: &mut Vec<Seg, A>)
+    requires each { All IsSegment segments.old.items }
+    requires ascending { IsSorted segment_cmp segments.old.items }
+    ensures segments { All IsSegment segments.new.items }
+    ensures sorted { IsSorted segment_cmp segments.new.items }
+    ensures least { least_conflict segments.new.items ≡ least_conflict segments.old.items }
+{
+    segments.dedup();
+}
+
 /// The least pair of segments in conflict, the lesser one first. Segments may stand there more
 /// than once.
 #[tactic(auto, using(crate::proofs::LeastPair::least))]
@@ -66,5 +77,6 @@ pub(crate) fn first_conflict<A: Allocator + Copy>(mut segments: Vec<Seg, A>) -> 
     ensures { result ≡ least_conflict segments.items }
 {
     segments.sort_unstable();
+    keep_once(&mut segments);
     first_pair(segments.as_slice())
 }

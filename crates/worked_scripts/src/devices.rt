@@ -91,3 +91,18 @@ fn carriage_returns(rt: HostRuntime) -> Result<(), Fail> {
     );
     Ok(())
 }
+
+/// What the program says on standard error of a run that ended early.
+#[test]
+fn texts_of_failures(rt: HostRuntime) -> Result<(), Fail> {
+    let rows = [
+        (RunFault::Read, "script fault"),
+        (RunFault::Write, "write fault"),
+        (RunFault::OutOfMemory, "out of memory"),
+    ];
+    for (fault, text) in &rows[..] {
+        let told = format!(in rt.alloc(); "{fault}")?;
+        assert_eq!(rt; told.as_str(), *text);
+    }
+    Ok(())
+}

@@ -4,25 +4,37 @@ use crate::told::told;
 use std::test::Fail;
 
 /// Whether each map is refused with its fault, and nothing answered.
+fn are_refused(rt: &HostRuntime, rows: &[(&str, &str)]) -> Result<(), Fail> {
+    for row in rows {
+        assert_eq!(rt; told(rt, row.0.as_bytes(), b"area 0")?.as_str(), row.1);
+    }
+    Ok(())
+}
+
+/// A hundred lists one in another are read, one more is too deep, and open ones are no text.
 #[test]
-fn open_faults(rt: HostRuntime) -> Result<(), Fail> {
+fn faults_of_nesting(rt: HostRuntime) -> Result<(), Fail> {
     let rows = [
         (
-            "{\"type\":\"Topology\",\"objects\":{\"a\":{\"type\":\"Polygon\",\"arcs\":[[0]]}},\"arcs\":[[[0,0],[10,10],[10,0],[0,10],[0,0]]]}",
-            "open: conflict 0 0 10 10 / 0 10 10 0",
+            "[[[[[[[[[[[[[[[[[[[[[[[[[[[[[[[[[[[[[[[[[[[[[[[[[[[[[[[[[[[[[[[[[[[[[[[[[[[[[[[[[[[[[[[[[[[[[[[[[[[[[",
+            "open: too deep at 100",
         ),
         (
-            "{\"type\":\"Topology\",\"objects\":{\"a\":{\"type\":\"Polygon\",\"arcs\":[[0]]}},\"arcs\":[[[0,0],[10,0],[0,0]]]}",
-            "open: ring short 0 0 0",
+            "[[[[[[[[[[[[[[[[[[[[[[[[[[[[[[[[[[[[[[[[[[[[[[[[[[[[[[[[[[[[[[[[[[[[[[[[[[[[[[[[[[[[[[[[[[[[[[[[[[[[]]]]]]]]]]]]]]]]]]]]]]]]]]]]]]]]]]]]]]]]]]]]]]]]]]]]]]]]]]]]]]]]]]]]]]]]]]]]]]]]]]]]]]]]]]]]]]]]]]]]",
+            "open: not a topology",
         ),
         (
-            "{\"type\":\"Topology\",\"objects\":{\"a\":{\"type\":\"Polygon\",\"arcs\":[[0]]}},\"arcs\":[[[0,0],[4,0],[2,2],[4,4],[0,4],[2,2],[0,0]]]}",
-            "open: ring repeats 0 0 0 at 2 2",
+            "[[[[[[[[[[[[[[[[[[[[[[[[[[[[[[[[[[[[[[[[[[[[[[[[[[[[[[[[[[[[[[[[[[[[[[[[[[[[[[[[[[[[[[[[[[[[[[[[[[[[",
+            "open: not json at 100",
         ),
-        (
-            "{\"type\":\"Topology\",\"objects\":{\"a\":{\"type\":\"Polygon\",\"arcs\":[[0]]}},\"arcs\":[[[0,0],[1,0],[0,1]]]}",
-            "open: arcs do not meet 0 0 0",
-        ),
+    ];
+    are_refused(&rt, &rows[..])
+}
+
+/// Names that are wrong, that stand twice or that are missing.
+#[test]
+fn faults_of_the_shape(rt: HostRuntime) -> Result<(), Fail> {
+    let rows = [
         ("{\"type\":\"FeatureCollection\"}", "open: not a topology"),
         (
             "{\"type\":\"Topology\",\"objects\":{}}",
@@ -40,6 +52,14 @@ fn open_faults(rt: HostRuntime) -> Result<(), Fail> {
             "{\"type\":\"Topology\",\"objects\":{\"r\":{\"type\":\"LineString\",\"arcs\":[0]}},\"arcs\":[[[0,0],[1,1]]]}",
             "open: unsupported LineString",
         ),
+    ];
+    are_refused(&rt, &rows[..])
+}
+
+/// Positions that are none.
+#[test]
+fn faults_of_positions(rt: HostRuntime) -> Result<(), Fail> {
+    let rows = [
         (
             "{\"type\":\"Topology\",\"objects\":{},\"arcs\":[[[0,0],[0.5,1]]]}",
             "open: not whole at 48",
@@ -52,6 +72,14 @@ fn open_faults(rt: HostRuntime) -> Result<(), Fail> {
             "{\"type\":\"Topology\",\"objects\":{},\"arcs\":[[[0,0]]]}",
             "open: bad position at 40",
         ),
+    ];
+    are_refused(&rt, &rows[..])
+}
+
+/// Indexes that name no arc.
+#[test]
+fn faults_of_arc_indexes(rt: HostRuntime) -> Result<(), Fail> {
+    let rows = [
         (
             "{\"type\":\"Topology\",\"objects\":{\"a\":{\"type\":\"Polygon\",\"arcs\":[[1]]}},\"arcs\":[[[0,0],[1,0],[0,1],[0,0]]]}",
             "open: bad arc index at 61",
@@ -76,23 +104,32 @@ fn open_faults(rt: HostRuntime) -> Result<(), Fail> {
             "{\"type\":\"Topology\",\"objects\":{\"a\":{\"type\":\"Polygon\",\"arcs\":[[1e0]]}},\"arcs\":[[[0,0],[1,0],[0,1],[0,0]]]}",
             "open: not whole at 61",
         ),
+    ];
+    are_refused(&rt, &rows[..])
+}
+
+/// Arcs that make no ring, and rings that cross themselves.
+#[test]
+fn faults_of_rings(rt: HostRuntime) -> Result<(), Fail> {
+    let rows = [
         (
-            "[[[[[[[[[[[[[[[[[[[[[[[[[[[[[[[[[[[[[[[[[[[[[[[[[[[[[[[[[[[[[[[[[[[[[[[[[[[[[[[[[[[[[[[[[[[[[[[[[[[[[",
-            "open: too deep at 100",
+            "{\"type\":\"Topology\",\"objects\":{\"a\":{\"type\":\"Polygon\",\"arcs\":[[0]]}},\"arcs\":[[[0,0],[10,10],[10,0],[0,10],[0,0]]]}",
+            "open: conflict 0 0 10 10 / 0 10 10 0",
         ),
         (
-            "[[[[[[[[[[[[[[[[[[[[[[[[[[[[[[[[[[[[[[[[[[[[[[[[[[[[[[[[[[[[[[[[[[[[[[[[[[[[[[[[[[[[[[[[[[[[[[[[[[[[]]]]]]]]]]]]]]]]]]]]]]]]]]]]]]]]]]]]]]]]]]]]]]]]]]]]]]]]]]]]]]]]]]]]]]]]]]]]]]]]]]]]]]]]]]]]]]]]]]]]",
-            "open: not a topology",
+            "{\"type\":\"Topology\",\"objects\":{\"a\":{\"type\":\"Polygon\",\"arcs\":[[0]]}},\"arcs\":[[[0,0],[10,0],[0,0]]]}",
+            "open: ring short 0 0 0",
         ),
         (
-            "[[[[[[[[[[[[[[[[[[[[[[[[[[[[[[[[[[[[[[[[[[[[[[[[[[[[[[[[[[[[[[[[[[[[[[[[[[[[[[[[[[[[[[[[[[[[[[[[[[[[",
-            "open: not json at 100",
+            "{\"type\":\"Topology\",\"objects\":{\"a\":{\"type\":\"Polygon\",\"arcs\":[[0]]}},\"arcs\":[[[0,0],[4,0],[2,2],[4,4],[0,4],[2,2],[0,0]]]}",
+            "open: ring repeats 0 0 0 at 2 2",
+        ),
+        (
+            "{\"type\":\"Topology\",\"objects\":{\"a\":{\"type\":\"Polygon\",\"arcs\":[[0]]}},\"arcs\":[[[0,0],[1,0],[0,1]]]}",
+            "open: arcs do not meet 0 0 0",
         ),
     ];
-    for row in &rows[..] {
-        assert_eq!(rt; told(&rt, row.0.as_bytes(), b"area 0")?.as_str(), row.1);
-    }
-    Ok(())
+    are_refused(&rt, &rows[..])
 }
 
 /// Whether each map opens, and an empty script has no answer.

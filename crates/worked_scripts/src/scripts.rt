@@ -4,8 +4,19 @@ use crate::told::told;
 use std::test::Fail;
 
 /// Whether each script is answered so on its map, the counts behind the answers.
+fn are_answered(rt: &HostRuntime, rows: &[(&str, &str, &str)]) -> Result<(), Fail> {
+    for row in rows {
+        assert_eq!(rt;
+            told(rt, row.0.as_bytes(), row.1.as_bytes())?.as_str(),
+            row.2
+        );
+    }
+    Ok(())
+}
+
+/// Vertices that move, and moves that are refused.
 #[test]
-fn answers(rt: HostRuntime) -> Result<(), Fail> {
+fn moves(rt: HostRuntime) -> Result<(), Fail> {
     let rows = [
         // a shared vertex moves in both squares
         (
@@ -25,6 +36,32 @@ fn answers(rt: HostRuntime) -> Result<(), Fail> {
             "move 0 0 10 0\nmove 0 0 0 0\nmove 1 1 10 0",
             "refused occupied\nrefused occupied\nrefused no vertex\nanswered 3, refused 3",
         ),
+        // a refusal changes nothing
+        (
+            TWO_SQUARES,
+            "move 10 10 10 -5\narea 0\nmove 10 10 12 12\narea 0",
+            "refused conflict 0 0 10 0 / 0 10 10 -5\n200\nok\n240\nanswered 4, refused 1",
+        ),
+        // a vertex that would sweep over another
+        (
+            TRIANGLE_INSIDE,
+            "move 0 0 9 20\nmove 0 0 1 1\narea 0\narea 1",
+            "refused sweeps\nok\n1740\n4\nanswered 4, refused 1",
+        ),
+        // a border in two layers moves in both
+        (
+            UNION_ABOVE,
+            "move 20 10 22 12\narea 1\narea 2",
+            "ok\n240\n440\nanswered 3, refused 0",
+        ),
+    ];
+    are_answered(&rt, &rows[..])
+}
+
+/// The greatest coordinates and areas.
+#[test]
+fn moves_to_the_edge_of_the_grid(rt: HostRuntime) -> Result<(), Fail> {
+    let rows = [
         // far positions
         (
             TWO_SQUARES,
@@ -43,17 +80,19 @@ fn answers(rt: HostRuntime) -> Result<(), Fail> {
             "move 20 10 1000000000000 1000000000000\nmove 20 0 1000000000000 0\narea 1",
             "ok\nok\n999999999999999999999900\nanswered 3, refused 0",
         ),
+    ];
+    are_answered(&rt, &rows[..])
+}
+
+/// Lines that are no commands, and numbers of no feature.
+#[test]
+fn lines_that_ask_for_nothing(rt: HostRuntime) -> Result<(), Fail> {
+    let rows = [
         // lines that are no lines
         (
             TWO_SQUARES,
             "move 1 2 3\narea  0\narea 00\nMOVE 0 0 1 1\n\n# note\nthin -1\narea 0",
             "bad line\nbad line\nbad line\nbad line\nbad line\n200\nanswered 6, refused 5",
-        ),
-        // a refusal changes nothing
-        (
-            TWO_SQUARES,
-            "move 10 10 10 -5\narea 0\nmove 10 10 12 12\narea 0",
-            "refused conflict 0 0 10 0 / 0 10 10 -5\n200\nok\n240\nanswered 4, refused 1",
         ),
         // no such feature
         (
@@ -61,22 +100,18 @@ fn answers(rt: HostRuntime) -> Result<(), Fail> {
             "area 2\narea 4294967295\narea 4294967296\narea -0",
             "refused no feature\nrefused no feature\nbad line\nbad line\nanswered 4, refused 4",
         ),
+    ];
+    are_answered(&rt, &rows[..])
+}
+
+/// Areas of features in layers and collections.
+#[test]
+fn areas(rt: HostRuntime) -> Result<(), Fail> {
+    let rows = [
         // two layers
         (DENTED, "area 0\narea 1", "200\n180\nanswered 2, refused 0"),
-        // a vertex that would sweep over another
-        (
-            TRIANGLE_INSIDE,
-            "move 0 0 9 20\nmove 0 0 1 1\narea 0\narea 1",
-            "refused sweeps\nok\n1740\n4\nanswered 4, refused 1",
-        ),
         // holes are taken off
         (HOLES, "area 0", "380\nanswered 1, refused 0"),
-        // a border in two layers moves in both
-        (
-            UNION_ABOVE,
-            "move 20 10 22 12\narea 1\narea 2",
-            "ok\n240\n440\nanswered 3, refused 0",
-        ),
         // differences, and a feature without rings
         (
             DELTAS,
@@ -90,11 +125,5 @@ fn answers(rt: HostRuntime) -> Result<(), Fail> {
             "200\n180\nanswered 2, refused 0",
         ),
     ];
-    for row in &rows[..] {
-        assert_eq!(rt;
-            told(&rt, row.0.as_bytes(), row.1.as_bytes())?.as_str(),
-            row.2
-        );
-    }
-    Ok(())
+    are_answered(&rt, &rows[..])
 }
