@@ -1,7 +1,7 @@
 // The scanner's machine, which takes one byte at a time (RFC 8259, sections 2 to 7).
 ghost use Rattle.std.specs.Prelude.{◌≡◌};
 ghost use Rattle.json_spans.specs.Machine.{begins, follows, after_comma, closes, word_step, string_step, lead, goes, in_list, in_object, step};
-ghost use Rattle.json_spans.specs.Machine.{before_value, before_first_item, before_first_name, before_name, before_colon, in_name, in_text, after_minus, after_zero, in_whole, after_point, in_fraction, after_exponent, after_sign, in_power};
+ghost use Rattle.json_spans.specs.Machine.{before_value, before_first_item, before_first_name, before_name, before_colon, in_name, in_text, after_minus, after_zero, in_whole, first_digit, in_fraction, after_exponent, in_power};
 
 use crate::classes::{
     is_ascii, is_digit, is_e, is_escape, is_four, is_hex, is_nonzero, is_sign, is_space, is_tail,
@@ -363,11 +363,12 @@ fn in_whole(top: Option<Frame>, x: u8) -> Move
     }
 }
 
-fn after_point(x: u8) -> Move
-    ensures { result ≡ after_point x }
+// Behind a point or a sign, where a digit must come.
+fn first_digit(mode: Mode, x: u8) -> Move
+    ensures { result ≡ first_digit mode x }
 {
     if is_digit(x) {
-        Move::Goes(Mode::Fraction)
+        Move::Goes(mode)
     } else {
         Move::Fails
     }
@@ -392,16 +393,6 @@ fn after_exponent(x: u8) -> Move
         Move::Goes(Mode::Power)
     } else if is_sign(x) {
         Move::Goes(Mode::Sign)
-    } else {
-        Move::Fails
-    }
-}
-
-fn after_sign(x: u8) -> Move
-    ensures { result ≡ after_sign x }
-{
-    if is_digit(x) {
-        Move::Goes(Mode::Power)
     } else {
         Move::Fails
     }
@@ -434,10 +425,10 @@ pub(crate) fn step(mode: Mode, top: Option<Frame>, x: u8) -> Move
         Mode::Minus => after_minus(x),
         Mode::Zero => after_zero(top, x),
         Mode::Whole => in_whole(top, x),
-        Mode::Point => after_point(x),
+        Mode::Point => first_digit(Mode::Fraction, x),
         Mode::Fraction => in_fraction(top, x),
         Mode::Exponent => after_exponent(x),
-        Mode::Sign => after_sign(x),
+        Mode::Sign => first_digit(Mode::Power, x),
         Mode::Power => in_power(top, x),
     }
 }

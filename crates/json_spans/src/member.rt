@@ -3,6 +3,7 @@ ghost use Rattle.json_spans.specs.Left.{node};
 ghost use Rattle.json_spans.specs.Pairs.{nodes};
 ghost use Rattle.json_spans.specs.Walk.{items, items_left, members, members_left, raw_parts, member_of, name_of, value_of, behind_colon};
 ghost use Rattle.json_spans.specs.Parts.{has_first};
+ghost use Rattle.json_spans.specs.Inside.{HasItems, OnlyItems, ItemsAreValues, HasMembers, OnlyMembers, MembersAreValues};
 ghost use Rattle.json_spans.specs.Left.{left};
 
 use crate::parts::{Parts, closes, part_len};
@@ -84,7 +85,10 @@ fn has_first(bytes: &[u8]) -> bool
 ///
 /// They are cut at the commas, so a span that is no list has what stands between its commas.
 pub fn items(span: Span<'_>) -> Items<'_>
-    ensures { items_left result ≡ items (node span.entry) }
+    ensures value { items_left result ≡ items (node span.entry) }
+    ensures grammar { HasItems (node span.entry) (items_left result) }
+    ensures only { OnlyItems (node span.entry) (items_left result) }
+    ensures deeper { ItemsAreValues (node span.entry) (items_left result) }
 {
     Items { parts: parts(span) }
 }
@@ -94,7 +98,10 @@ pub fn items(span: Span<'_>) -> Items<'_>
 ///
 /// They are cut at commas and colons, so a span that is no object has what stands between those.
 pub fn members(span: Span<'_>) -> Members<'_>
-    ensures { members_left result ≡ members (node span.entry) }
+    ensures value { members_left result ≡ members (node span.entry) }
+    ensures grammar { HasMembers (node span.entry) (members_left result) }
+    ensures only { OnlyMembers (node span.entry) (members_left result) }
+    ensures deeper { MembersAreValues (node span.entry) (members_left result) }
 {
     Members { parts: parts(span) }
 }

@@ -2,6 +2,7 @@ ghost use Rattle.std.specs.Prelude.{◌≡◌, ◌≢◌, ◌≤◌, ◌<◌, �
 ghost use Rattle.json_spans.specs.Machine.{verdict, first_in, may_end, top_of, rest_of};
 ghost use Rattle.json_spans.specs.Faults.{Judges};
 ghost use Rattle.json_spans.specs.Grammar.{Json};
+ghost use Rattle.json_spans.specs.Inside.{IsValue};
 ghost use Rattle.json_spans.specs.Trimmed.{trimmed};
 ghost use Rattle.json_spans.specs.Left.{node};
 ghost use Rattle.json_spans.specs.Roots.{span_of};
@@ -141,12 +142,17 @@ impl<'a> Root<'a> {
 ///
 /// A string may have half of a surrogate pair (section 8.2). `NotJson` and `TooDeep` name the first
 /// byte that cannot stand where it does. Only the open brackets take memory.
-#[tactic(auto, using(crate::proofs::Sound::verdict_json, crate::proofs::Complete::json_verdict))]
+#[tactic(auto, using(
+    crate::proofs::Sound::verdict_json,
+    crate::proofs::Complete::json_verdict,
+    crate::proofs::Grouped::root_value
+))]
 pub fn scan<'a, A: Allocator + Copy>(alloc: A, bytes: &'a [u8]) -> Result<Root<'a>, ScanFault>
     ensures span { IfOk result (λ root.
         node (span_of root) ≡ trimmed (record { at_byte = 0; bytes = bytes.now })) }
     ensures places { Judges result (verdict bytes.now) }
     ensures json { IfOk result (λ _. Json 100 bytes.now) }
+    ensures value { IfOk result (λ root. IsValue 100 (node (span_of root)).bytes) }
     ensures refused { IfErr result (λ fault. fault ≢ ScanFault.OutOfMemory → ¬ Json 100 bytes.now) }
 {
     check(alloc, bytes)?;
