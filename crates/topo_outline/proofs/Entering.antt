@@ -10,7 +10,7 @@ use Rattle.json_spans.specs.Walk.{members}
 use Rattle.json_spans.specs.Decoded.{decoded}
 use Rattle.topo_outline.specs.Faults.{Fault, duplicate, demand}
 use Rattle.topo_outline.specs.Shape.{EntryNode, entry_of, named, name_text, text_from, unquoted, members_of, is_object}
-use Rattle.topo_outline.specs.IsOutline.{Entries, no_entry, entry, HasMembers}
+use Rattle.topo_outline.specs.IsOutline.{Entries, no_entry, entry, HasEntries}
 use Rattle.topo_outline.proofs.Steps.{step, demanded, same_ok, neither}
 
 -- none of the texts is one of those seen
@@ -89,10 +89,10 @@ none_seen : (ts : List (List ℕ)) → Unseen [] ts
 none_seen [] = tt
 none_seen (t ∷ ts) = (refl, none_seen ts)
 
-pub object_means : (n : Node) (es : List EntryNode) → is_object n ≡ true → members_of n ≡ Ok es → HasMembers n es
+pub object_means : (n : Node) (es : List EntryNode) → is_object n ≡ true → members_of n ≡ Ok es → HasEntries n es
 object_means n es object h =
     let all = named_means [] (members n) es h in
     record { names = all.names; object = object; entries = all.entries; differ = AllPairs-from_IsDistinct bytes_eq-Decides all.names all.distinct }
 
-pub object_gives : {n : Node} {es : List EntryNode} → HasMembers n es → members_of n ≡ Ok es
+pub object_gives : {n : Node} {es : List EntryNode} → HasEntries n es → members_of n ≡ Ok es
 object_gives o = named_gives o.entries [] (none_seen o.names) (IsDistinct-from_AllPairs bytes_eq-Decides o.names o.differ)

@@ -5,6 +5,7 @@ pub mod Placing
 pub mod Steps
 pub mod Entering
 pub mod Typing
+pub mod Levels
 pub mod Nesting
 pub mod Shaped
 pub mod Promised

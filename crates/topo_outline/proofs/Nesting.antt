@@ -1,5 +1,5 @@
--- A geometry's pieces are answered exactly if it is one, with at most d collections in one another.
-use Rattle.std.proofs.Common.{◌≡◌, if◌then◌else◌, ◌⊎◌, inl, inr, ℕ, zero, suc, List, [], ◌∷◌, ◌++◌, Bool, true, false, refl, subst, codes}
+-- A geometry's pieces are answered exactly if it is one, as far as the walk goes down.
+use Rattle.std.proofs.Common.{arith, ◌≤◌, ◌≡◌, if◌then◌else◌, ◌⊎◌, inl, inr, ℕ, zero, suc, List, [], ◌∷◌, ◌++◌, Bool, true, false, refl, subst, codes}
 use Rattle.std.specs.Prelude.{Result, Ok, Err, Some}
 use Rattle.json_spans.specs.Parts.{Node}
 use Rattle.json_spans.specs.Walk.{items}
@@ -12,31 +12,29 @@ use Rattle.topo_outline.specs.declared.members.Owner.TheVariants as owner
 use Rattle.topo_outline.specs.Words.{geometry_of}
 use Rattle.topo_outline.specs.Faults.{Fault, too_deep, ◌>>=◌}
 use Rattle.topo_outline.specs.Shape.{is_list, is_object, EntryNode, Piece, starts, ends, leaf, head, are_rings, wrong, members_of, member_that, type_of, with_rings, single, is_collection, shaped, each_joined, geometry}
-use Rattle.topo_outline.specs.IsOutline.{HasMembers, value_at, HasType, IsGeometry, AreGeometries, null_geometry, polygon, multi_polygon, point, multi_point, collection, no_geometry}
+use Rattle.std.specs.List.{AllByRecursion}
+use Rattle.topo_outline.specs.IsOutline.{NestsAtMost, HasEntries, value_at, HasType, IsGeometry, AreGeometries, null_geometry, polygon, multi_polygon, point, multi_point, collection, no_geometry}
 use Rattle.topo_outline.specs.IsOutline as shape
 use Rattle.topo_outline.proofs.Depth.{inside, list_of}
+use Rattle.topo_outline.proofs.Levels.{object_nests, list_nests, value_nests}
 use Rattle.topo_outline.proofs.Steps.{step, demanded, same_ok}
 use Rattle.topo_outline.proofs.Entering.{object_means, object_gives}
 use Rattle.topo_outline.proofs.Typing.{member_at, value_of_member, good_member, member_is_good, IsOfType, null_type, polygon_type, multi_polygon_type, collection_type, point_type, multi_point_type, topology_type, other_type, type_means, type_gives, null_gives}
 
 -- ---- what an answer means
 
--- a geometry that is no collection, and so one at any depth
-abbrev AtAnyDepth : Node → List Piece → Type 0
-AtAnyDepth n ps = (d : ℕ) → IsGeometry d n ps
-
 -- a collection, whose pieces are those of the group
 record IsCollection (n : Node) (group : List EntryNode → EntryNode → Result (List Piece) Fault) (ps : List Piece) : Type 0 where
   entries : List EntryNode
   list : EntryNode
-  object : HasMembers n entries
+  object : HasEntries n entries
   named : HasType entries (codes "GeometryCollection")
   has_list : value_at word.Geometries entries ≡ Some list.value
   is_one : is_list list.value ≡ true
   pieces : group entries list ≡ Ok ps
 
 abbrev Shaped : Node → (List EntryNode → EntryNode → Result (List Piece) Fault) → List Piece → Type 0
-Shaped n group ps = AtAnyDepth n ps ⊎ IsCollection n group ps
+Shaped n group ps = IsGeometry n ps ⊎ IsCollection n group ps
 
 rings_mean : (f : Form) (es : List EntryNode) (p : Piece) → with_rings f es ≡ Ok p → (a : Node) × (value_at word.Arcs es ≡ Some a) × (are_rings f a ≡ true) × (leaf f (head owner.Rings es) a ≡ p)
 rings_mean f es p h =
@@ -44,19 +42,19 @@ rings_mean f es p h =
     let (there, right) = good_member (are_rings f) (codes "arcs") word.Arcs es m found in
     (m.value, value_of_member word.Arcs es m there, right, same_ok last)
 
-single_means : (n : Node) (es : List EntryNode) (g : Geometry) (m : EntryNode) (p : Piece) → HasMembers n es → IsOfType es g → single g m n es ≡ Ok p → AtAnyDepth n (p ∷ [])
-single_means n es geo.Null m p o (null_type {v = v} at_type e) h d = rw (← same_ok h) (null_geometry o at_type e)
-single_means n es geo.Polygon m p o (polygon_type t) h d =
+single_means : (n : Node) (es : List EntryNode) (g : Geometry) (m : EntryNode) (p : Piece) → HasEntries n es → IsOfType es g → single g m n es ≡ Ok p → IsGeometry n (p ∷ [])
+single_means n es geo.Null m p o (null_type {v = v} at_type e) h = rw (← same_ok h) (null_geometry o at_type e)
+single_means n es geo.Polygon m p o (polygon_type t) h =
     let (a, at_arcs, right, same) = rings_mean form.Polygon es p h in
     rw (← same) (polygon o t at_arcs right)
-single_means n es geo.MultiPolygon m p o (multi_polygon_type t) h d =
+single_means n es geo.MultiPolygon m p o (multi_polygon_type t) h =
     let (a, at_arcs, right, same) = rings_mean form.MultiPolygon es p h in
     rw (← same) (multi_polygon o t at_arcs right)
-single_means n es geo.Point m p o (point_type t) h d = rw (← same_ok h) (point o t)
-single_means n es geo.Point m p o (multi_point_type t) h d = rw (← same_ok h) (multi_point o t)
-single_means n es geo.Collection m p o (collection_type t) h d = absurd cc
-single_means n es geo.Topology m p o (topology_type t) h d = absurd cc
-single_means n es geo.Other m p o other_type h d = absurd cc
+single_means n es geo.Point m p o (point_type t) h = rw (← same_ok h) (point o t)
+single_means n es geo.Point m p o (multi_point_type t) h = rw (← same_ok h) (multi_point o t)
+single_means n es geo.Collection m p o (collection_type t) h = absurd cc
+single_means n es geo.Topology m p o (topology_type t) h = absurd cc
+single_means n es geo.Other m p o other_type h = absurd cc
 
 collection_named : (es : List EntryNode) (g : Geometry) → is_collection g ≡ true → IsOfType es g → HasType es (codes "GeometryCollection")
 collection_named es geo.Collection c (collection_type t) = t
@@ -68,7 +66,7 @@ collection_named es geo.Point c (multi_point_type t) = absurd cc
 collection_named es geo.Topology c (topology_type t) = absurd cc
 collection_named es geo.Other c other_type = absurd cc
 
-branch_means : (n : Node) (es : List EntryNode) (g : Geometry) (m : EntryNode) (group : List EntryNode → EntryNode → Result (List Piece) Fault) (ps : List Piece) (b : Bool) → is_collection g ≡ b → HasMembers n es → IsOfType es g → (if b then (list_of es >>= group es) else (single g m n es >>= λ p. Ok (p ∷ []))) ≡ Ok ps → Shaped n group ps
+branch_means : (n : Node) (es : List EntryNode) (g : Geometry) (m : EntryNode) (group : List EntryNode → EntryNode → Result (List Piece) Fault) (ps : List Piece) (b : Bool) → is_collection g ≡ b → HasEntries n es → IsOfType es g → (if b then (list_of es >>= group es) else (single g m n es >>= λ p. Ok (p ∷ []))) ≡ Ok ps → Shaped n group ps
 branch_means n es g m group ps true c o t h =
     step (list_of es) (group es) h λ list found last.
     let (there, right) = good_member is_list (codes "geometries") word.Geometries es list found in
@@ -83,7 +81,7 @@ shaped_means n group ps object h =
     step (type_of es) _ more λ g is last.
     branch_means n es g.0 g.1 group ps (is_collection g.0) refl (object_means n es object entered) (type_means es g.0 g.1 is) last
 
-joined_mean : (d : ℕ) (list : EntryNode) → ((n : Node) (ps : List Piece) → is_object n ≡ true → geometry d n ≡ Ok ps → IsGeometry d n ps) → (ns : List Node) (ps : List Piece) → each_joined (inside list d) ns ≡ Ok ps → AreGeometries d ns ps
+joined_mean : (d : ℕ) (list : EntryNode) → ((n : Node) (ps : List Piece) → is_object n ≡ true → geometry d n ≡ Ok ps → IsGeometry n ps) → (ns : List Node) (ps : List Piece) → each_joined (inside list d) ns ≡ Ok ps → AreGeometries ns ps
 joined_mean d list means [] ps h = rw (← same_ok h) no_geometry
 joined_mean d list means (n ∷ ns) ps h =
     step (inside list d n) _ h λ xs first more.
@@ -94,24 +92,24 @@ joined_mean d list means (n ∷ ns) ps h =
 abbrev group : ℕ → List EntryNode → EntryNode → Result (List Piece) Fault
 group d es list = each_joined (inside list d) (items list.value) >>= λ ps. Ok (starts (head owner.Collection es) ∷ ps ++ ends ∷ [])
 
-flat : (n : Node) (f : Fault) (ps : List Piece) → Shaped n (λ es list. Err f) ps → IsGeometry zero n ps
-flat n f ps (inl any) = any zero
+flat : (n : Node) (f : Fault) (ps : List Piece) → Shaped n (λ es list. Err f) ps → IsGeometry n ps
+flat n f ps (inl g) = g
 flat n f ps (inr c) = let no : Err f ≡ Ok ps = c.pieces in absurd cc
 
-deeper : (d : ℕ) → ((n : Node) (ps : List Piece) → is_object n ≡ true → geometry d n ≡ Ok ps → IsGeometry d n ps) → (n : Node) (ps : List Piece) → Shaped n (group d) ps → IsGeometry (suc d) n ps
-deeper d means n ps (inl any) = any (suc d)
+deeper : (d : ℕ) → ((n : Node) (ps : List Piece) → is_object n ≡ true → geometry d n ≡ Ok ps → IsGeometry n ps) → (n : Node) (ps : List Piece) → Shaped n (group d) ps → IsGeometry n ps
+deeper d means n ps (inl g) = g
 deeper d means n ps (inr c) =
     step (each_joined (inside c.list d) (items c.list.value)) (λ rs. Ok (starts (head owner.Collection c.entries) ∷ rs ++ ends ∷ [])) c.pieces λ qs inner last.
     rw (← same_ok last) (collection c.object c.named c.has_list c.is_one (joined_mean d c.list means (items c.list.value) qs inner))
 
-pub geometry_means : (d : ℕ) (n : Node) (ps : List Piece) → is_object n ≡ true → geometry d n ≡ Ok ps → IsGeometry d n ps
+pub geometry_means : (d : ℕ) (n : Node) (ps : List Piece) → is_object n ≡ true → geometry d n ≡ Ok ps → IsGeometry n ps
 unfolding geometry
 geometry_means zero n ps object h = flat n (too_deep n.at_byte) ps (shaped_means n (λ es list. Err (too_deep n.at_byte)) ps object h)
 geometry_means (suc d) n ps object h = deeper d (geometry_means d) n ps (shaped_means n (group d) ps object h)
 
 -- ---- what is answered for a geometry
 
-pub geometry_is_object : {d : ℕ} {n : Node} {ps : List Piece} → IsGeometry d n ps → is_object n ≡ true
+pub geometry_is_object : {n : Node} {ps : List Piece} → IsGeometry n ps → is_object n ≡ true
 geometry_is_object (null_geometry o a e) = o.object
 geometry_is_object (point o t) = o.object
 geometry_is_object (multi_point o t) = o.object
@@ -128,7 +126,7 @@ shaped_group : (d : ℕ) (n : Node) (es : List EntryNode) (m list : EntryNode) (
 unfolding geometry
 shaped_group d n es m list ps entered is found h = rw (entered, is, found, h) refl
 
-named_single : {n : Node} {es : List EntryNode} (t : List ℕ) (d : ℕ) (p : Piece) → HasMembers n es → HasType es t → is_collection (geometry_of t) ≡ false → ((m : EntryNode) → single (geometry_of t) m n es ≡ Ok p) → geometry d n ≡ Ok (p ∷ [])
+named_single : {n : Node} {es : List EntryNode} (t : List ℕ) (d : ℕ) (p : Piece) → HasEntries n es → HasType es t → is_collection (geometry_of t) ≡ false → ((m : EntryNode) → single (geometry_of t) m n es ≡ Ok p) → geometry d n ≡ Ok (p ∷ [])
 named_single {n = n} {es = es} t d p o h c gives =
     let (m, is) = type_gives es t h in
     shaped_single d n es (geometry_of t) m p (object_gives o) is c (gives m)
@@ -141,25 +139,37 @@ rings_give f es a at_arcs right =
     let (m, found, same) = member_at word.Arcs es a at_arcs in
     subst (λ (v : Node). with_rings f es ≡ Ok (leaf f (head owner.Rings es) v)) same (rings_at f es m (member_is_good (are_rings f) (codes "arcs") word.Arcs es m found (rw same right)))
 
-named_group : {n list : Node} {es : List EntryNode} (d : ℕ) (ps : List Piece) → HasMembers n es → HasType es (codes "GeometryCollection") → value_at word.Geometries es ≡ Some list → is_list list ≡ true → ((m : EntryNode) → each_joined (inside m d) (items list) ≡ Ok ps) → geometry (suc d) n ≡ Ok (starts (head owner.Collection es) ∷ ps ++ ends ∷ [])
+named_group : {n list : Node} {es : List EntryNode} (d : ℕ) (ps : List Piece) → HasEntries n es → HasType es (codes "GeometryCollection") → value_at word.Geometries es ≡ Some list → is_list list ≡ true → ((m : EntryNode) → each_joined (inside m d) (items list) ≡ Ok ps) → geometry (suc d) n ≡ Ok (starts (head owner.Collection es) ∷ ps ++ ends ∷ [])
 unfolding geometry_of
 named_group {n = n} {list = list} {es = es} d ps o t at_list right gives =
     let (m, is) = type_gives es (codes "GeometryCollection") t in
     let (k, found, same) = member_at word.Geometries es list at_list in
     shaped_group d n es m k ps (object_gives o) is (member_is_good is_list (codes "geometries") word.Geometries es k found (rw same right)) (rw same (gives k))
 
+-- the items of a collection's list have two levels less
+two_less : (k d : ℕ) (n list : Node) (es : List EntryNode) → NestsAtMost k n → k ≤ d → HasEntries n es → value_at word.Geometries es ≡ Some list → is_list list ≡ true → (j e : ℕ) × (d ≡ suc e) × (j ≤ e) × AllByRecursion (NestsAtMost j) (items list)
+two_less k zero n list es nests le o at_list is_one =
+    let (i, less, values) = object_nests k n es nests o in
+    absurd (omega arith)
+two_less k (suc e) n list es nests le o at_list is_one =
+    let (i, less, values) = object_nests k n es nests o in
+    let (j, lesser, all) = list_nests i list (value_nests i word.Geometries es list values at_list) is_one in
+    (j, e, refl, omega arith, all)
+
 mutual
   unfolding geometry_of
-  pub geometry_gives : {d : ℕ} {n : Node} {ps : List Piece} → IsGeometry d n ps → geometry d n ≡ Ok ps
-  geometry_gives (null_geometry {d = d} {n = n} {value = v} {es = es} o a e) =
+  pub geometry_gives : {n : Node} {ps : List Piece} → IsGeometry n ps → (k d : ℕ) → NestsAtMost k n → k ≤ d → geometry d n ≡ Ok ps
+  geometry_gives (null_geometry {n = n} {value = v} {es = es} o a e) k d nests le =
       let (m, is) = null_gives es v a e in
       shaped_single d n es geo.Null m _ (object_gives o) is refl refl
-  geometry_gives (point {d = d} {n = n} o t) = named_single (codes "Point") d _ o t refl (λ m. refl)
-  geometry_gives (multi_point {d = d} {n = n} o t) = named_single (codes "MultiPoint") d _ o t refl (λ m. refl)
-  geometry_gives (polygon {d = d} {arcs = arcs} {es = es} o t a r) = named_single (codes "Polygon") d _ o t refl (λ m. rings_give form.Polygon es arcs a r)
-  geometry_gives (multi_polygon {d = d} {arcs = arcs} {es = es} o t a r) = named_single (codes "MultiPolygon") d _ o t refl (λ m. rings_give form.MultiPolygon es arcs a r)
-  geometry_gives (collection {d = d} {ps = ps} o t a r gs) = named_group d ps o t a r (λ m. geometries_give gs m)
+  geometry_gives (point o t) k d nests le = named_single (codes "Point") d _ o t refl (λ m. refl)
+  geometry_gives (multi_point o t) k d nests le = named_single (codes "MultiPoint") d _ o t refl (λ m. refl)
+  geometry_gives (polygon {arcs = arcs} {es = es} o t a r) k d nests le = named_single (codes "Polygon") d _ o t refl (λ m. rings_give form.Polygon es arcs a r)
+  geometry_gives (multi_polygon {arcs = arcs} {es = es} o t a r) k d nests le = named_single (codes "MultiPolygon") d _ o t refl (λ m. rings_give form.MultiPolygon es arcs a r)
+  geometry_gives (collection {n = n} {list = list} {es = es} {ps = ps} o t a r gs) k d nests le =
+      let (j, e, deep, less, all) = two_less k d n list es nests le o a r in
+      rw deep (named_group e ps o t a r (λ m. geometries_give gs j e all less m))
 
-  geometries_give : {d : ℕ} {ns : List Node} {ps : List Piece} → AreGeometries d ns ps → (m : EntryNode) → each_joined (inside m d) ns ≡ Ok ps
-  geometries_give no_geometry m = refl
-  geometries_give (shape.geometry g gs) m = rw (geometry_is_object g, geometry_gives g, geometries_give gs m) refl
+  geometries_give : {ns : List Node} {ps : List Piece} → AreGeometries ns ps → (k d : ℕ) → AllByRecursion (NestsAtMost k) ns → k ≤ d → (m : EntryNode) → each_joined (inside m d) ns ≡ Ok ps
+  geometries_give no_geometry k d all le m = refl
+  geometries_give (shape.geometry g gs) k d all le m = rw (geometry_is_object g, geometry_gives g k d all.0 le, geometries_give gs k d all.1 le m) refl

@@ -10,7 +10,7 @@ use Rattle.topo_outline.specs.Gives.{Fails, Gives}
 use Rattle.topo_outline.specs.Shape.{OutlineText}
 use Rattle.topo_outline.specs.Outline.{few, outline}
 use Rattle.topo_outline.specs.OutlineView.{view_outline}
-use Rattle.topo_outline.specs.IsOutline.{IsOutline, HasNoOutline}
+use Rattle.topo_outline.specs.IsOutline.{IsOutline, HasNoOutline, NestsAtMost}
 use Rattle.topo_outline.proofs.Shaped.{outline_means, outline_gives}
 
 -- beside an answer that is defined the code may only lack memory
@@ -21,7 +21,7 @@ lacks_memory (open_fault.Conflict s t) o h = absurd h
 lacks_memory (open_fault.TooLarge limit.Bytes) o h = absurd h
 lacks_memory _ o h = absurd cc
 
-pub opened : {A : Type 0} (root : Node) (r : Result (Outline A) OpenFault) → Gives view_outline r (outline root) → IfOk r (λ o. IsOutline 100 root (view_outline o))
+pub opened : {A : Type 0} (root : Node) (r : Result (Outline A) OpenFault) → Gives view_outline r (outline root) → IfOk r (λ o. IsOutline root (view_outline o))
 opened root (Ok o) h = (outline_means root (view_outline o) h).0
 opened root (Err f) h = tt
 
@@ -29,13 +29,13 @@ pub few_features : {A : Type 0} (root : Node) (r : Result (Outline A) OpenFault)
 few_features root (Ok o) h = (outline_means root (view_outline o) h).1
 few_features root (Err f) h = tt
 
-none : (root : Node) (f : OpenFault) → Fails f (outline root) → f ≢ open_fault.OutOfMemory → HasNoOutline root
-none root f h short o s = by (few o.layers) refl
+none : (root : Node) (f : OpenFault) → Fails f (outline root) → f ≢ open_fault.OutOfMemory → NestsAtMost 100 root → HasNoOutline root
+none root f h short nests o s = by (few o.layers) refl
   where
     by : (b : Bool) → few o.layers ≡ b → few o.layers ≡ false
-    by true e = absurd (short (lacks_memory f o (rw (outline_gives root o s e) at h)))
+    by true e = absurd (short (lacks_memory f o (rw (outline_gives root o nests s e) at h)))
     by false e = e
 
-pub refused : {A : Type 0} (root : Node) (r : Result (Outline A) OpenFault) → Gives view_outline r (outline root) → IfErr r (λ f. f ≢ open_fault.OutOfMemory → HasNoOutline root)
+pub refused : {A : Type 0} (root : Node) (r : Result (Outline A) OpenFault) → Gives view_outline r (outline root) → IfErr r (λ f. f ≢ open_fault.OutOfMemory → NestsAtMost 100 root → HasNoOutline root)
 refused root (Ok o) h = tt
 refused root (Err f) h = none root f h

@@ -1,5 +1,5 @@
 -- An outline is answered exactly if it is that of the topology, and has few features.
-use Rattle.std.proofs.Common.{◌≡◌, ◌&&◌, ℕ, List, [], ◌∷◌, true, refl, ap, codes}
+use Rattle.std.proofs.Common.{arith, ◌≤◌, ◌≡◌, ◌&&◌, ℕ, List, [], ◌∷◌, true, refl, ap, codes}
 use Rattle.std.specs.Prelude.{Ok, Option, Some, None, option_map}
 use Rattle.json_spans.specs.Parts.{Node}
 use Rattle.json_spans.specs.Walk.{items}
@@ -17,8 +17,9 @@ use Rattle.topo_outline.specs.Words.{geometry_of}
 use Rattle.topo_outline.specs.Faults.{not_topology, too_large, ◌>>=◌, each}
 use Rattle.topo_outline.specs.Shape.{is_list, is_object, EntryNode, member, members_of, member_that, wrong, is_number, two_numbers, are_two_numbers, is_transform, transform_value, transform_from, is_topology_word, says_topology, is_type_text, is_topology, is_kind_object, LayerText, layer, layers, OutlineText, geometry, kept}
 use Rattle.topo_outline.specs.Outline.{few, outline_text, outlined, outline}
-use Rattle.topo_outline.specs.IsOutline.{HasMembers, value_at, HasType, AreTwoNumbers, IsGeometry, IsTransform, no_transform, null_transform, AreLayers, no_layer, IsOutline}
+use Rattle.topo_outline.specs.IsOutline.{NestsAtMost, HasEntries, value_at, HasType, AreTwoNumbers, IsGeometry, IsTransform, no_transform, null_transform, AreLayers, no_layer, IsOutline}
 use Rattle.topo_outline.specs.IsOutline as shape
+use Rattle.topo_outline.proofs.Levels.{AllNest, object_nests, value_nests}
 use Rattle.topo_outline.proofs.Steps.{step, demanded, same_ok, both_true}
 use Rattle.topo_outline.proofs.Entering.{object_means, object_gives}
 use Rattle.topo_outline.proofs.Typing.{member_at, value_of_member, good_member, member_is_good, Says, topology, says}
@@ -96,7 +97,7 @@ transform_gives (shape.transform {n = n} {scale = s} {translate = r} {es = es} o
 
 -- ---- the layers
 
-layers_mean : (ms : List EntryNode) (ls : List LayerText) → each layer ms ≡ Ok ls → AreLayers 100 ms ls
+layers_mean : (ms : List EntryNode) (ls : List LayerText) → each layer ms ≡ Ok ls → AreLayers ms ls
 unfolding layer
 layers_mean [] ls h = rw (← same_ok h) no_layer
 layers_mean (m ∷ ms) ls h =
@@ -106,10 +107,10 @@ layers_mean (m ∷ ms) ls h =
     step (geometry 100 m.value) _ inner λ ps pieces made.
     rw (← same_ok last, ← same_ok made) (shape.layer (geometry_means 100 m.value ps object pieces) (layers_mean ms rest others))
 
-layers_give : {ms : List EntryNode} {ls : List LayerText} → AreLayers 100 ms ls → each layer ms ≡ Ok ls
+layers_give : {ms : List EntryNode} {ls : List LayerText} (k : ℕ) → AreLayers ms ls → AllNest k ms → k ≤ 100 → each layer ms ≡ Ok ls
 unfolding layer
-layers_give no_layer = refl
-layers_give (shape.layer g gs) = rw (geometry_is_object g, geometry_gives g, layers_give gs) refl
+layers_give k no_layer nests le = refl
+layers_give k (shape.layer g gs) nests le = rw (geometry_is_object g, geometry_gives g k 100 nests.0 le, layers_give k gs nests.1 le) refl
 
 -- ---- the member `type`
 
@@ -148,7 +149,7 @@ topology_gives es h =
 
 -- ---- the topology
 
-outlined_means : (root : Node) (es : List EntryNode) (o : OutlineText) → HasMembers root es → HasType es (codes "Topology") → outlined es ≡ Ok o → IsOutline 100 root o × (few o.layers ≡ true)
+outlined_means : (root : Node) (es : List EntryNode) (o : OutlineText) → HasEntries root es → HasType es (codes "Topology") → outlined es ≡ Ok o → IsOutline root o × (few o.layers ≡ true)
 outlined_means root es o object typed h =
     step (transform_from (member word.Transform es)) _ h λ t transformed more.
     step (member_that is_object (codes "objects") word.Objects es) _ more λ m found most.
@@ -175,21 +176,24 @@ outlined_means root es o object typed h =
       },
       small)
 
-pub outline_means : (root : Node) (o : OutlineText) → outline root ≡ Ok o → IsOutline 100 root o × (few o.layers ≡ true)
+pub outline_means : (root : Node) (o : OutlineText) → outline root ≡ Ok o → IsOutline root o × (few o.layers ≡ true)
 outline_means root o h =
     let (object, more) = demanded (is_object root) not_topology _ h in
     step (members_of root) _ more λ es entered most.
     let (right, last) = demanded (is_topology (member word.Type es)) not_topology (outlined es) most in
     outlined_means root es o (object_means root es object entered) (topology_means es (member word.Type es) refl right) last
 
-layers_of_object : {n : Node} {es : List EntryNode} {ls : List LayerText} → HasMembers n es → AreLayers 100 es ls → layers n ≡ Ok ls
-layers_of_object o l = rw (object_gives o, layers_give l) refl
+layers_of_object : {n : Node} {es : List EntryNode} {ls : List LayerText} (k : ℕ) → HasEntries n es → AreLayers es ls → NestsAtMost k n → k ≤ 100 → layers n ≡ Ok ls
+layers_of_object {n = n} {es = es} k o l nests le =
+    let (j, less, all) = object_nests k n es nests o in
+    rw (object_gives o, layers_give j l all (omega arith)) refl
 
 outlined_gives : (es : List EntryNode) (o : OutlineText) (m a : EntryNode) → transform_from (member word.Transform es) ≡ Ok o.transform → member_that is_object (codes "objects") word.Objects es ≡ Ok m → member_that is_list (codes "arcs") word.Arcs es ≡ Ok a → layers m.value ≡ Ok o.layers → a.value ≡ o.arcs → few o.layers ≡ true → o.members ≡ kept owner.Topology es → outlined es ≡ Ok o
 outlined_gives es o m a transformed found found_arcs layered arcs_are small kept_are = rw (transformed, found, found_arcs, layered, arcs_are, small, ← kept_are) refl
 
-pub outline_gives : (root : Node) (o : OutlineText) → IsOutline 100 root o → few o.layers ≡ true → outline root ≡ Ok o
-outline_gives root o s small =
+pub outline_gives : (root : Node) (o : OutlineText) → NestsAtMost 100 root → IsOutline root o → few o.layers ≡ true → outline root ≡ Ok o
+outline_gives root o nests s small =
+    let (k, less, all) = object_nests 100 root s.entries nests s.of_root in
     let (m, found, same) = member_at word.Objects s.entries s.objects s.has_objects in
     let (a, found_arcs, same_arcs) = member_at word.Arcs s.entries o.arcs s.has_arcs in
     rw (s.of_root.object, object_gives s.of_root, topology_gives s.entries s.topology) (
@@ -197,5 +201,5 @@ outline_gives root o s small =
         (transform_gives s.transform (member word.Transform s.entries) refl)
         (member_is_good is_object (codes "objects") word.Objects s.entries m found (rw same s.of_objects.object))
         (member_is_good is_list (codes "arcs") word.Arcs s.entries a found_arcs (rw same_arcs s.are_arcs))
-        (rw same (layers_of_object s.of_objects s.layers))
+        (rw same (layers_of_object k s.of_objects s.layers (value_nests k word.Objects s.entries s.objects all s.has_objects) (omega arith)))
         same_arcs small s.members)

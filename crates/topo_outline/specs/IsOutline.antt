@@ -1,6 +1,6 @@
 -- What the outline of a topology is, by cases, with no order of faults.
-use Rattle.std.specs.Prelude.{◌≡◌, ◌≢◌, ℕ, suc, List, [], ◌∷◌, ◌++◌, true, false, codes, Option, Some, None, option_map}
-use Rattle.std.specs.List.{AllPairs}
+use Rattle.std.specs.Prelude.{◌≡◌, ◌≢◌, ℕ, zero, suc, List, [], ◌∷◌, ◌++◌, true, false, codes, Option, Some, None, option_map}
+use Rattle.std.specs.List.{All, AllPairs}
 use Rattle.json_spans.specs.Parts.{Node}
 use Rattle.json_spans.specs.Walk.{items, members}
 use Rattle.json_spans.specs.Kinds.{kind_of}
@@ -24,7 +24,7 @@ pub data Entries : List (Node × Node) → List (List ℕ) → List EntryNode �
       decoded m.0.bytes ≡ Some t → Entries ms ts es → Entries (m ∷ ms) (t ∷ ts) (entry_of t m ∷ es)
 
 -- an object with these members, of whose names no two stand for one text (RFC 8259, 4)
-pub record HasMembers (n : Node) (es : List EntryNode) : Type 0 where
+pub record HasEntries (n : Node) (es : List EntryNode) : Type 0 where
   pub names : List (List ℕ)
   pub object : is_object n ≡ true
   pub entries : Entries (members n) names es
@@ -58,7 +58,7 @@ pub data IsTransform : Option Node → Option Text → Type 0 where
   no_transform : IsTransform None None
   null_transform : {n : Node} → kind_of n.bytes ≡ kind.Null → IsTransform (Some n) None
   transform : {n scale translate : Node} {es : List EntryNode} →
-      HasMembers n es →
+      HasEntries n es →
       value_at word.Scale es ≡ Some scale → AreTwoNumbers scale →
       value_at word.Translate es ≡ Some translate → AreTwoNumbers translate →
       IsTransform (Some n) (Some n.bytes)
@@ -66,68 +66,73 @@ pub data IsTransform : Option Node → Option Text → Type 0 where
 -- ---- geometries
 
 mutual
-  -- a geometry object, with at most d collections one in another, and its pieces in the order of
-  -- the text (TopoJSON 1.0, 2.2)
-  pub data IsGeometry : ℕ → Node → List Piece → Type 0 where
+  -- a geometry object, and its pieces in the order of the text (TopoJSON 1.0, 2.2)
+  pub data IsGeometry : Node → List Piece → Type 0 where
     -- an object without geometry: a feature without polygons
-    null_geometry : {d : ℕ} {n value : Node} {es : List EntryNode} →
-        HasMembers n es → value_at word.Type es ≡ Some value → kind_of value.bytes ≡ kind.Null →
-        IsGeometry d n (leaf form.Null (head owner.Null es) n ∷ [])
+    null_geometry : {n value : Node} {es : List EntryNode} →
+        HasEntries n es → value_at word.Type es ≡ Some value → kind_of value.bytes ≡ kind.Null →
+        IsGeometry n (leaf form.Null (head owner.Null es) n ∷ [])
     -- 2.2.1 and 2.2.2: the whole text is kept
-    point : {d : ℕ} {n : Node} {es : List EntryNode} →
-        HasMembers n es → HasType es (codes "Point") →
-        IsGeometry d n (text n.bytes ∷ [])
-    multi_point : {d : ℕ} {n : Node} {es : List EntryNode} →
-        HasMembers n es → HasType es (codes "MultiPoint") →
-        IsGeometry d n (text n.bytes ∷ [])
+    point : {n : Node} {es : List EntryNode} →
+        HasEntries n es → HasType es (codes "Point") →
+        IsGeometry n (text n.bytes ∷ [])
+    multi_point : {n : Node} {es : List EntryNode} →
+        HasEntries n es → HasType es (codes "MultiPoint") →
+        IsGeometry n (text n.bytes ∷ [])
     -- 2.2.5: `arcs` is a list of rings, each a list
-    polygon : {d : ℕ} {n arcs : Node} {es : List EntryNode} →
-        HasMembers n es → HasType es (codes "Polygon") →
+    polygon : {n arcs : Node} {es : List EntryNode} →
+        HasEntries n es → HasType es (codes "Polygon") →
         value_at word.Arcs es ≡ Some arcs → are_lists arcs ≡ true →
-        IsGeometry d n (leaf form.Polygon (head owner.Rings es) arcs ∷ [])
+        IsGeometry n (leaf form.Polygon (head owner.Rings es) arcs ∷ [])
     -- 2.2.6: `arcs` is a list of polygons, each a list of rings
-    multi_polygon : {d : ℕ} {n arcs : Node} {es : List EntryNode} →
-        HasMembers n es → HasType es (codes "MultiPolygon") →
+    multi_polygon : {n arcs : Node} {es : List EntryNode} →
+        HasEntries n es → HasType es (codes "MultiPolygon") →
         value_at word.Arcs es ≡ Some arcs → are_lists_of_lists arcs ≡ true →
-        IsGeometry d n (leaf form.MultiPolygon (head owner.Rings es) arcs ∷ [])
+        IsGeometry n (leaf form.MultiPolygon (head owner.Rings es) arcs ∷ [])
     -- 2.2.7: `geometries` is a list of geometry objects
-    collection : {d : ℕ} {n list : Node} {es : List EntryNode} {ps : List Piece} →
-        HasMembers n es → HasType es (codes "GeometryCollection") →
+    collection : {n list : Node} {es : List EntryNode} {ps : List Piece} →
+        HasEntries n es → HasType es (codes "GeometryCollection") →
         value_at word.Geometries es ≡ Some list → is_list list ≡ true →
-        AreGeometries d (items list) ps →
-        IsGeometry (suc d) n (starts (head owner.Collection es) ∷ ps ++ ends ∷ [])
+        AreGeometries (items list) ps →
+        IsGeometry n (starts (head owner.Collection es) ∷ ps ++ ends ∷ [])
 
   -- geometry objects one after another, and their pieces joined
-  pub data AreGeometries : ℕ → List Node → List Piece → Type 0 where
-    no_geometry : {d : ℕ} → AreGeometries d [] []
-    geometry : {d : ℕ} {n : Node} {ns : List Node} {ps qs : List Piece} →
-        IsGeometry d n ps → AreGeometries d ns qs → AreGeometries d (n ∷ ns) (ps ++ qs)
+  pub data AreGeometries : List Node → List Piece → Type 0 where
+    no_geometry : AreGeometries [] []
+    geometry : {n : Node} {ns : List Node} {ps qs : List Piece} →
+        IsGeometry n ps → AreGeometries ns qs → AreGeometries (n ∷ ns) (ps ++ qs)
 
 -- ---- the topology
 
 -- each member of `objects` is a geometry object under its name (TopoJSON 1.0, 2.1.5)
-pub data AreLayers (d : ℕ) : List EntryNode → List LayerText → Type 0 where
-  no_layer : AreLayers d [] []
+pub data AreLayers : List EntryNode → List LayerText → Type 0 where
+  no_layer : AreLayers [] []
   layer : {m : EntryNode} {ms : List EntryNode} {ps : List Piece} {ls : List LayerText} →
-      IsGeometry d m.value ps → AreLayers d ms ls →
-      AreLayers d (m ∷ ms) (record { name = m.name.bytes; pieces = ps } ∷ ls)
+      IsGeometry m.value ps → AreLayers ms ls →
+      AreLayers (m ∷ ms) (record { name = m.name.bytes; pieces = ps } ∷ ls)
 
--- a topology object, with at most d collections one in another, and its outline
--- (TopoJSON 1.0, 2.1)
-pub record IsOutline (d : ℕ) (root : Node) (o : OutlineText) : Type 0 where
+-- a topology object and its outline (TopoJSON 1.0, 2.1)
+pub record IsOutline (root : Node) (o : OutlineText) : Type 0 where
   pub entries : List EntryNode
   pub objects : Node
   pub named : List EntryNode
-  pub of_root : HasMembers root entries
+  pub of_root : HasEntries root entries
   pub topology : HasType entries (codes "Topology")
   pub transform : IsTransform (value_at word.Transform entries) o.transform
   pub has_objects : value_at word.Objects entries ≡ Some objects
-  pub of_objects : HasMembers objects named
-  pub layers : AreLayers d named o.layers
+  pub of_objects : HasEntries objects named
+  pub layers : AreLayers named o.layers
   pub has_arcs : value_at word.Arcs entries ≡ Some o.arcs
   pub are_arcs : is_list o.arcs ≡ true
   pub members : o.members ≡ kept owner.Topology entries
 
--- there stands no topology with at most 100 collections one in another and 200,000 features
+-- what stands there is no topology with at most 200,000 features
 abbrev pub HasNoOutline : Node → Type 0
-HasNoOutline root = (o : OutlineText) → IsOutline 100 root o → few o.layers ≡ false
+HasNoOutline root = (o : OutlineText) → IsOutline root o → few o.layers ≡ false
+
+-- at most k lists and objects stand one in another (RFC 8259, 9)
+unfoldable pub NestsAtMost : ℕ → Node → Type 0
+NestsAtMost zero n = (is_list n ≡ false) × (is_object n ≡ false)
+NestsAtMost (suc k) n =
+    (is_list n ≡ true → All (NestsAtMost k) (items n))
+    × (is_object n ≡ true → All (λ m. NestsAtMost k m.1) (members n))
