@@ -2,3 +2,10 @@ pub mod Walking
 pub mod Naming
 pub mod Depth
 pub mod Placing
+pub mod Steps
+pub mod Entering
+pub mod Typing
+pub mod Levels
+pub mod Nesting
+pub mod Shaped
+pub mod Promised

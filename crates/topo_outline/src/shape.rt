@@ -1,5 +1,5 @@
 // The shape of a topology (TopoJSON 1.0, 2.1): its transform, its layers and where its arcs stand.
-ghost use Rattle.std.specs.Prelude.{◌≡◌, ◌&&◌, map, Ok, IfOk, option_map, nat_le, length};
+ghost use Rattle.std.specs.Prelude.{◌≡◌, ◌≢◌, ◌&&◌, true, map, Ok, IfOk, IfErr, option_map, nat_le, length};
 ghost use Rattle.json_spans.specs.Left.{node};
 ghost use Rattle.json_spans.specs.Walk.{items};
 ghost use Rattle.json_spans.specs.Kinds.{kind_of};
@@ -7,7 +7,8 @@ ghost use Rattle.json_spans.specs.Decoded.{decoded};
 ghost use Rattle.topo_outline.specs.Gives.{Gives};
 ghost use Rattle.topo_outline.specs.Faults.{each, demand, not_topology};
 ghost use Rattle.topo_outline.specs.Shape.{is_list, is_topology_word, says_topology, is_topology, member, two_numbers, are_two_numbers, is_transform, transform_value, transform_from, layer, layers};
-ghost use Rattle.topo_outline.specs.Outline.{outline_text, limited, outlined, outline};
+ghost use Rattle.topo_outline.specs.Outline.{outline_text, few, limited, outlined, outline};
+ghost use Rattle.topo_outline.specs.IsOutline.{IsOutline, HasNoOutline, NestsAtMost};
 ghost use Rattle.topo_outline.specs.OutlineView.{view_outline, IsPlaced};
 ghost use Rattle.topo_outline.specs.Views.{view_entry, view_layer, view_place};
 
@@ -258,13 +259,8 @@ fn outlined<'a, A: Allocator + Copy>(
     limited(alloc, transform, layers, arcs.value, members)
 }
 
-/// The outline of the topology whose root this is, or the first fault of its shape: `NotTopology`,
-/// `BadMember`, `Duplicate`, `Unsupported`, at the end `TooLarge` with more than 200,000 features,
-/// and `OutOfMemory` where a growth is refused. What stands in `arcs` is not tested.
-///
-/// All that the outline owns lies in `alloc`. `heap` has each decoded name while its object is
-/// read, for `serde_json` decodes into `Global` only.
-pub fn read_outline<'a, A: Allocator + Copy>(
+/// The outline of the topology whose root this is, or its first fault.
+fn topology<'a, A: Allocator + Copy>(
     alloc: A,
     heap: Global,
     root: Span<'a>,
@@ -280,4 +276,26 @@ pub fn read_outline<'a, A: Allocator + Copy>(
         return Err(OpenFault::NotTopology);
     }
     outlined(alloc, heap, members.as_slice())
+}
+
+/// The outline of the topology whose root this is, or the first fault of its shape: `NotTopology`,
+/// `BadMember`, `Duplicate`, `Unsupported`, at the end `TooLarge` with more than 200,000 features,
+/// and `OutOfMemory` where a growth is refused. What stands in `arcs` is not tested.
+///
+/// All that the outline owns lies in `alloc`. `heap` has each decoded name while its object is
+/// read, for `serde_json` decodes into `Global` only.
+pub fn read_outline<'a, A: Allocator + Copy>(
+    alloc: A,
+    heap: Global,
+    root: Span<'a>,
+) -> Result<Outline<'a, A>, OpenFault<'a>>
+    ensures opened { IfOk result (λ o. IsOutline (node root.entry) (view_outline o)) }
+    ensures few { IfOk result (λ o. few (view_outline o).layers ≡ true) }
+    ensures refused { IfErr result (λ f.
+        f ≢ OpenFault.OutOfMemory → NestsAtMost 100 (node root.entry) →
+        HasNoOutline (node root.entry)) }
+    ensures shape { Gives view_outline result (outline (node root.entry)) }
+    ensures places { IfOk result (λ o. IsPlaced o) }
+{
+    topology(alloc, heap, root)
 }

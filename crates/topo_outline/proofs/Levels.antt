@@ -1,0 +1,36 @@
+-- What stands in a list or in an object has fewer lists and objects one in another.
+use Rattle.std.proofs.Common.{◌≡◌, ◌≤◌, ℕ, zero, suc, List, [], ◌∷◌, Bool, true, false, cond, sym, ◌∙◌, true≢false, arith}
+use Rattle.std.specs.Prelude.{Option, Some, option_map, ◌==◌}
+use Rattle.std.specs.List.{AllByRecursion}
+use Rattle.std.proofs.lemmas.List.Elements.{recursion_from_All}
+use Rattle.json_spans.specs.Parts.{Node}
+use Rattle.json_spans.specs.Walk.{items, members}
+use Rattle.topo_outline.specs.declared.words.Word.{Word}
+use Rattle.topo_outline.specs.Shape.{is_list, EntryNode, code, member}
+use Rattle.topo_outline.specs.IsOutline.{Entries, no_entry, entry, HasEntries, value_at, NestsAtMost}
+
+-- the value of each member has at most k levels
+abbrev pub AllNest : ℕ → List EntryNode → Type 0
+AllNest k es = AllByRecursion (λ e. NestsAtMost k e.value) es
+
+values_nest : {ms : List (Node × Node)} {ts : List (List ℕ)} {es : List EntryNode} (k : ℕ) → Entries ms ts es → AllByRecursion (λ m. NestsAtMost k m.1) ms → AllNest k es
+values_nest k no_entry h = tt
+values_nest k (entry is rest) h = (h.0, values_nest k rest h.1)
+
+first_or_later : (k : ℕ) (b : Bool) (e : EntryNode) (o : Option EntryNode) (v : Node) → NestsAtMost k e.value → (option_map (λ m. m.value) o ≡ Some v → NestsAtMost k v) → option_map (λ m. m.value) (cond b (Some e) o) ≡ Some v → NestsAtMost k v
+first_or_later k true e o v h later is = let same : e.value ≡ v = cc in rw (← same) h
+first_or_later k false e o v h later is = later is
+
+pub value_nests : (k : ℕ) (w : Word) (es : List EntryNode) (v : Node) → AllNest k es → value_at w es ≡ Some v → NestsAtMost k v
+value_nests k w [] v h is = absurd cc
+value_nests k w (e ∷ es) v h is = first_or_later k (code e.word == code w) e (member w es) v h.0 (value_nests k w es v h.1) is
+
+pub object_nests : (k : ℕ) (n : Node) (es : List EntryNode) → NestsAtMost k n → HasEntries n es → (j : ℕ) × (suc j ≤ k) × AllNest j es
+unfolding NestsAtMost
+object_nests zero n es h o = absurd (true≢false (sym o.object ∙ h.1))
+object_nests (suc k) n es h o = (k, omega arith, values_nest k o.entries (recursion_from_All (λ m. NestsAtMost k m.1) (members n) (h.1 o.object)))
+
+pub list_nests : (k : ℕ) (n : Node) → NestsAtMost k n → is_list n ≡ true → (j : ℕ) × (suc j ≤ k) × AllByRecursion (NestsAtMost j) (items n)
+unfolding NestsAtMost
+list_nests zero n h list = absurd (true≢false (sym list ∙ h.0))
+list_nests (suc k) n h list = (k, omega arith, recursion_from_All (NestsAtMost k) (items n) (h.0 list))

@@ -1,0 +1,23 @@
+-- What stood before an answer: each step of a program in do-notation.
+use Rattle.std.proofs.Common.{◌≡◌, ◌||◌, ◌&&◌, refl, Bool, true, false}
+use Rattle.std.specs.Prelude.{Result, Ok, Err}
+use Rattle.topo_outline.specs.Faults.{Fault, ◌>>=◌, demand}
+
+pub step : {A B P : Type 0} (r : Result A Fault) (f : A → Result B Fault) {y : B} → r >>= f ≡ Ok y → ((x : A) → r ≡ Ok x → f x ≡ Ok y → P) → P
+step (Ok x) f h k = k x refl h
+step (Err e) f h k = absurd cc
+
+pub demanded : {A : Type 0} (b : Bool) (e : Fault) (r : Result A Fault) {x : A} → demand b e r ≡ Ok x → (b ≡ true) × (r ≡ Ok x)
+demanded true e r h = (refl, h)
+demanded false e r h = absurd cc
+
+pub same_ok : {A : Type 0} {x y : A} → ◌≡◌ {A = Result A Fault} (Ok x) (Ok y) → x ≡ y
+same_ok h = cc
+
+pub both_true : (a b : Bool) → (a && b) ≡ true → (a ≡ true) × (b ≡ true)
+both_true true b h = (refl, h)
+both_true false b h = absurd cc
+
+pub neither : (a b : Bool) → (a || b) ≡ false → (a ≡ false) × (b ≡ false)
+neither true b h = absurd cc
+neither false b h = (refl, h)

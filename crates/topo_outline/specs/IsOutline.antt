@@ -1,0 +1,138 @@
+-- What the outline of a topology is, by cases, with no order of faults.
+use Rattle.std.specs.Prelude.{◌≡◌, ◌≢◌, ℕ, zero, suc, List, [], ◌∷◌, ◌++◌, true, false, codes, Option, Some, None, option_map}
+use Rattle.std.specs.List.{All, AllPairs}
+use Rattle.json_spans.specs.Parts.{Node}
+use Rattle.json_spans.specs.Walk.{items, members}
+use Rattle.json_spans.specs.Kinds.{kind_of}
+use Rattle.json_spans.specs.Decoded.{decoded}
+use Rattle.json_spans.specs.declared.kinds.Kind.TheVariants as kind
+use Rattle.ring_machine.specs.Document.{Text}
+use Rattle.ring_machine.specs.Document as form
+use Rattle.topo_outline.specs.declared.words.Word.{Word}
+use Rattle.topo_outline.specs.declared.words.Word.TheVariants as word
+use Rattle.topo_outline.specs.declared.members.Owner.TheVariants as owner
+use Rattle.topo_outline.specs.Shape.{is_list, is_object, EntryNode, entry_of, member, kept, head, Piece, starts, ends, leaf, text, are_lists, are_lists_of_lists, LayerText, OutlineText}
+use Rattle.topo_outline.specs.Outline.{few}
+
+-- ---- objects
+
+-- the name of each member stands for a text (RFC 8259, 7), by which the member is known
+pub data Entries : List (Node × Node) → List (List ℕ) → List EntryNode → Type 0 where
+  no_entry : Entries [] [] []
+  entry : {m : Node × Node} {t : List ℕ} {ms : List (Node × Node)} {ts : List (List ℕ)}
+      {es : List EntryNode} →
+      decoded m.0.bytes ≡ Some t → Entries ms ts es → Entries (m ∷ ms) (t ∷ ts) (entry_of t m ∷ es)
+
+-- an object with these members, of whose names no two stand for one text (RFC 8259, 4)
+pub record HasEntries (n : Node) (es : List EntryNode) : Type 0 where
+  pub names : List (List ℕ)
+  pub object : is_object n ≡ true
+  pub entries : Entries (members n) names es
+  pub differ : AllPairs (λ t u. t ≢ u) names
+
+-- the value of the member with this name
+abbrev pub value_at : Word → List EntryNode → Option Node
+value_at w es = option_map (λ m. m.value) (member w es)
+
+-- the member `type` is a string that stands for this text (TopoJSON 1.0, 2)
+pub record HasType (es : List EntryNode) (name : List ℕ) : Type 0 where
+  pub value : Node
+  pub there : value_at word.Type es ≡ Some value
+  pub string : kind_of value.bytes ≡ kind.Text
+  pub says : decoded value.bytes ≡ Some name
+
+-- ---- the transform
+
+-- a list of two numbers
+pub record AreTwoNumbers (n : Node) : Type 0 where
+  pub x : Node
+  pub y : Node
+  pub list : is_list n ≡ true
+  pub two : items n ≡ x ∷ y ∷ []
+  pub x_number : kind_of x.bytes ≡ kind.Number
+  pub y_number : kind_of y.bytes ≡ kind.Number
+
+-- no transform, null, or the text of an object whose `scale` and `translate` are two numbers each
+-- (TopoJSON 1.0, 2.1.2)
+pub data IsTransform : Option Node → Option Text → Type 0 where
+  no_transform : IsTransform None None
+  null_transform : {n : Node} → kind_of n.bytes ≡ kind.Null → IsTransform (Some n) None
+  transform : {n scale translate : Node} {es : List EntryNode} →
+      HasEntries n es →
+      value_at word.Scale es ≡ Some scale → AreTwoNumbers scale →
+      value_at word.Translate es ≡ Some translate → AreTwoNumbers translate →
+      IsTransform (Some n) (Some n.bytes)
+
+-- ---- geometries
+
+mutual
+  -- a geometry object, and its pieces in the order of the text (TopoJSON 1.0, 2.2)
+  pub data IsGeometry : Node → List Piece → Type 0 where
+    -- an object without geometry: a feature without polygons
+    null_geometry : {n value : Node} {es : List EntryNode} →
+        HasEntries n es → value_at word.Type es ≡ Some value → kind_of value.bytes ≡ kind.Null →
+        IsGeometry n (leaf form.Null (head owner.Null es) n ∷ [])
+    -- 2.2.1 and 2.2.2: the whole text is kept
+    point : {n : Node} {es : List EntryNode} →
+        HasEntries n es → HasType es (codes "Point") →
+        IsGeometry n (text n.bytes ∷ [])
+    multi_point : {n : Node} {es : List EntryNode} →
+        HasEntries n es → HasType es (codes "MultiPoint") →
+        IsGeometry n (text n.bytes ∷ [])
+    -- 2.2.5: `arcs` is a list of rings, each a list
+    polygon : {n arcs : Node} {es : List EntryNode} →
+        HasEntries n es → HasType es (codes "Polygon") →
+        value_at word.Arcs es ≡ Some arcs → are_lists arcs ≡ true →
+        IsGeometry n (leaf form.Polygon (head owner.Rings es) arcs ∷ [])
+    -- 2.2.6: `arcs` is a list of polygons, each a list of rings
+    multi_polygon : {n arcs : Node} {es : List EntryNode} →
+        HasEntries n es → HasType es (codes "MultiPolygon") →
+        value_at word.Arcs es ≡ Some arcs → are_lists_of_lists arcs ≡ true →
+        IsGeometry n (leaf form.MultiPolygon (head owner.Rings es) arcs ∷ [])
+    -- 2.2.7: `geometries` is a list of geometry objects
+    collection : {n list : Node} {es : List EntryNode} {ps : List Piece} →
+        HasEntries n es → HasType es (codes "GeometryCollection") →
+        value_at word.Geometries es ≡ Some list → is_list list ≡ true →
+        AreGeometries (items list) ps →
+        IsGeometry n (starts (head owner.Collection es) ∷ ps ++ ends ∷ [])
+
+  -- geometry objects one after another, and their pieces joined
+  pub data AreGeometries : List Node → List Piece → Type 0 where
+    no_geometry : AreGeometries [] []
+    geometry : {n : Node} {ns : List Node} {ps qs : List Piece} →
+        IsGeometry n ps → AreGeometries ns qs → AreGeometries (n ∷ ns) (ps ++ qs)
+
+-- ---- the topology
+
+-- each member of `objects` is a geometry object under its name (TopoJSON 1.0, 2.1.5)
+pub data AreLayers : List EntryNode → List LayerText → Type 0 where
+  no_layer : AreLayers [] []
+  layer : {m : EntryNode} {ms : List EntryNode} {ps : List Piece} {ls : List LayerText} →
+      IsGeometry m.value ps → AreLayers ms ls →
+      AreLayers (m ∷ ms) (record { name = m.name.bytes; pieces = ps } ∷ ls)
+
+-- a topology object and its outline (TopoJSON 1.0, 2.1)
+pub record IsOutline (root : Node) (o : OutlineText) : Type 0 where
+  pub entries : List EntryNode
+  pub objects : Node
+  pub named : List EntryNode
+  pub of_root : HasEntries root entries
+  pub topology : HasType entries (codes "Topology")
+  pub transform : IsTransform (value_at word.Transform entries) o.transform
+  pub has_objects : value_at word.Objects entries ≡ Some objects
+  pub of_objects : HasEntries objects named
+  pub layers : AreLayers named o.layers
+  pub has_arcs : value_at word.Arcs entries ≡ Some o.arcs
+  pub are_arcs : is_list o.arcs ≡ true
+  pub members : o.members ≡ kept owner.Topology entries
+
+-- what stands there is no topology with at most 200,000 features
+abbrev pub HasNoOutline : Node → Type 0
+HasNoOutline root = (o : OutlineText) → IsOutline root o → few o.layers ≡ false
+
+-- at most k lists and objects stand one in another (RFC 8259, 9)
+unfoldable pub NestsAtMost : ℕ → Node → Type 0
+NestsAtMost zero n = (is_list n ≡ false) × (is_object n ≡ false)
+NestsAtMost (suc k) n =
+    (is_list n ≡ true → All (NestsAtMost k) (items n))
+    × (is_object n ≡ true → All (λ m. NestsAtMost k m.1) (members n))
