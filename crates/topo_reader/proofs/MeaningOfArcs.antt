@@ -27,7 +27,7 @@ unfolding positions
 positions_of reads.no_pair = refl
 positions_of (reads.pair {before = before} {p = p} {n = n} s t) = rw (position_of before p n s, positions_of t) refl
 
-pub arc_of : (delta : Bool) (n : Node) (ps : List Position) → IsArc delta n ps → arc delta n ≡ Ok ps
+arc_of : (delta : Bool) (n : Node) (ps : List Position) → IsArc delta n ps → arc delta n ≡ Ok ps
 unfolding arc
 arc_of delta n ps a = rw (a.list, a.long) (positions_of a.sums)
 

@@ -1,13 +1,16 @@
 -- What a text means is what opening it gives, in both directions.
-use Rattle.std.proofs.Common.{◌≡◌, ℕ, ◌≤◌, Bool, true, List, length, refl, sym, ◌∙◌, subst, arith}
-use Rattle.std.specs.Prelude.{Option, Result, Ok, Err, nat_le, is_some, codes}
+use Rattle.std.proofs.Common.{◌≡◌, ◌≢◌, ℕ, ◌≤◌, Bool, true, List, length, refl, sym, ap, ◌∙◌, subst, arith}
+use Rattle.std.specs.Prelude.{Option, Result, Ok, Err, IfOk, IfErr, nat_le, is_some, codes}
 use Rattle.std.specs.List.{AllZip}
 use Rattle.json_spans.specs.Grammar.{Json}
 use Rattle.json_spans.specs.Parts.{Node}
 use Rattle.ring_machine.specs.Document.{Document, Text}
 use Rattle.topo_outline.specs.declared.fault.Limit.TheVariants as limit
+use Rattle.topo_outline.specs.declared.fault.OpenFault.{OpenFault}
+use Rattle.topo_outline.specs.declared.fault.OpenFault.TheVariants as open_fault
 use Rattle.topo_outline.specs.declared.words.Word.TheVariants as word
 use Rattle.topo_outline.specs.Faults.{Fault, not_topology, too_large, ◌>>=◌, each, demand}
+use Rattle.topo_outline.specs.Gives.{Fails, Gives}
 use Rattle.topo_outline.specs.Shape.{EntryNode, LayerText, OutlineText, members_of, member, member_that, is_list, is_object, is_topology, transform_from, layers}
 use Rattle.topo_outline.specs.Outline.{leaves, few, limited, outline_text, outlined, outline}
 use Rattle.topo_reader.specs.Positions.{arcs}
@@ -38,7 +41,7 @@ polygons_of shape found uses polygons a u r small = rw (
   ) refl
 
 -- a reading within the limits is what opening gives
-pub opens : (bytes : List ℕ) (d : Document) (r : Reads bytes d) → Fits bytes d r → (o : Opened) × Opens bytes o × (document_of o ≡ d)
+pub opens : (bytes : List ℕ) (d : Document) (r : Reads bytes d) → Fits r → (o : Opened) × Opens bytes o × (document_of o ≡ d)
 opens bytes d r f = (
   made r.shape r.polygons,
   record {
@@ -66,22 +69,22 @@ few_features root shape h =
         let ls = bind_ok (layers objects.0.value) (λ (ls : List LayerText). limited (outline_text t.0 ls arcs'.0.value ms)) shape arcs'.2 in
         let whole : OutlineText = outline_text t.0 ls.0 arcs'.0.value ms in
         let last = demand_ok (few ls.0) (too_large limit.Features) (Ok whole) shape ls.2 in
-        subst (λ (s : OutlineText). length (leaves s.layers) ≤ 200000) (ok_same whole shape last.1) (at_most (length (leaves ls.0)) 200000 last.0)
+        subst (λ (s : OutlineText). length (leaves s.layers) ≤ 200000) {x = whole} (ok_same whole shape last.1) (at_most (length (leaves ls.0)) 200000 last.0)
 
 -- a reading and its limits
 abbrev pub IsRead : List ℕ → Document → Type 0
-IsRead bytes d = (r : Reads bytes d) × Fits bytes d r
+IsRead bytes d = (reading : Reads bytes d) × Fits reading
 
 -- the polygons that were read are meant
 made_read : (bytes : List ℕ) (shape : OutlineText) (ps : List Polygons) → length bytes ≤ 67108864 → Json 100 bytes → outline (root_of bytes) ≡ Ok shape → polygons_read shape ≡ Ok ps → IsRead bytes (document_of (made shape ps))
-made_read bytes shape ps short json e h =
+made_read bytes shape ps short text e h =
     let found = bind_ok (arcs (is_some shape.transform) shape.arcs) (λ (found : List Arc). each (uses_of found) (leaves shape.layers) >>= λ uses. demand (nat_le (size uses) 4000000) (too_large limit.Positions) (all_rings uses)) ps h in
     let uses = bind_ok (each (uses_of found.0) (leaves shape.layers)) (λ (uses : List (List (List (List Arc)))). demand (nat_le (size uses) 4000000) (too_large limit.Positions) (all_rings uses)) ps found.2 in
     let fits = demand_ok (nat_le (size uses.0) 4000000) (too_large limit.Positions) (all_rings uses.0) ps uses.2 in
     (
       record {
         levels = 100;
-        json = json;
+        json = text;
         shape = shape;
         arcs = found.0;
         uses = uses.0;
@@ -92,7 +95,7 @@ made_read bytes shape ps short json e h =
         rings_are = are_rings uses.0 ps fits.1;
         document = refl;
       },
-      record { short = short; flat = json; few = few_features (root_of bytes) shape e; small = at_most (size uses.0) 4000000 fits.0 },
+      record { short = short; flat = text; few = few_features (root_of bytes) shape e; small = at_most (size uses.0) 4000000 fits.0 },
     )
 
 -- what opens is a reading within the limits
@@ -102,10 +105,24 @@ is_read bytes o h =
     let ps = bind_ok (polygons_read shape.0) (λ (ps : List Polygons). Ok (made shape.0 ps)) o shape.2 in
     subst (λ (p : Opened). IsRead bytes (document_of p)) (ok_same (made shape.0 ps.0) o ps.2) (made_read bytes shape.0 ps.0 h.short h.json shape.1 ps.1)
 
--- ---- where opening comes to a fault, nothing is meant within the limits
+-- ---- as the code answers it
 
-pub none_read : (bytes : List ℕ) (f : Fault) → opening (root_of bytes) ≡ Err f → ¬ ((d : Document) × IsRead bytes d)
-none_read bytes f h r =
-    let o = opens bytes r.0 r.1.0 r.1.1 in
-    let both = o.1.opens in
-    absurd cc
+none_fails : {Y : Type 0} (o : OpenFault) (y : Y) → o ≢ open_fault.OutOfMemory → Fails o (Ok y) → ⊥
+none_fails open_fault.OutOfMemory y ne h = ne refl
+none_fails (open_fault.NotJson place) y ne h = h
+none_fails (open_fault.Conflict s t) y ne h = h
+none_fails (open_fault.TooLarge limit.Bytes) y ne h = h
+none_fails (open_fault.TooLarge limit.Features) y ne h = absurd cc
+none_fails (open_fault.TooLarge limit.Positions) y ne h = absurd cc
+none_fails _ y ne h = absurd cc
+
+module _ {X : Type 0} (view : X → Opened) (bytes : List ℕ) where
+  pub gives_read : (r : Result X OpenFault) (n : Node) → n ≡ root_of bytes → length bytes ≤ 67108864 → Json 100 bytes → Gives view r (opening n) → IfOk r (λ x. IsRead bytes (document_of (view x)))
+  gives_read (Err o) n e short text h = tt
+  gives_read (Ok x) n e short text h = is_read bytes (view x) (record { short = short; json = text; opens = ap opening (sym e) ∙ h })
+
+  pub gives_unread : (r : Result X OpenFault) (n : Node) → n ≡ root_of bytes → Gives view r (opening n) → IfErr r (λ o. o ≢ open_fault.OutOfMemory → ¬ ((d : Document) × (reading : Reads bytes d) × Fits reading))
+  gives_unread (Ok x) n e h = tt
+  gives_unread (Err o) n e h = λ ne read.
+      let found = opens bytes read.0 read.1 read.2 in
+      none_fails o found.0 ne (subst (λ (r : Result Opened Fault). Fails o r) (ap opening e ∙ found.1.opens) h)

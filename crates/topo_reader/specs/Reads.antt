@@ -134,7 +134,7 @@ pub record Reads (bytes : List ℕ) (d : Document) : Type 0 where
 
 -- what is read is within the limits: bytes, lists and objects one in another, features, and
 -- the positions of the arcs, counted for each use
-pub record Fits (bytes : List ℕ) (d : Document) (reading : Reads bytes d) : Type 0 where
+pub record Fits {bytes : List ℕ} {d : Document} (reading : Reads bytes d) : Type 0 where
   pub short : length bytes ≤ 67108864
   pub flat : Json 100 bytes
   pub few : length (leaves reading.shape.layers) ≤ 200000
