@@ -16,7 +16,7 @@ use Rattle.topo_reader.specs.Rings.{is_at, first_of, last_of, starts_at, meet_fr
 use Rattle.topo_reader.specs.Document.{Polygons}
 use Rattle.topo_reader.specs.Reads.{Leads, Chain, there, along, Once, none, last, same, next, IsRing, AreRings}
 use Rattle.topo_reader.proofs.Repeats.{AreNew, none_again, no_repeat, Differ, differ, distinct_of, not_equal}
-use Rattle.topo_reader.proofs.Steps.{demand_ok, ok_same, each_at_of, of_each_at}
+use Rattle.topo_reader.proofs.Steps.{at_least, at_most, demand_ok, ok_same, each_at_of, of_each_at}
 
 -- ---- equal neighbours taken once
 
@@ -175,12 +175,6 @@ closed_once {s = s} {a = a} {as' = as'} c =
         (subst (λ qs. Once (all_of (a ∷ as')) qs) (closes s first.0 (all_of (a ∷ as')) first.1 (chain_joined c)) (is_once (all_of (a ∷ as'))))
 
 -- ---- one ring
-
-pub at_least : (m n : ℕ) → m ≤ n → nat_le m n ≡ true
-at_least m n h = grind arith
-
-pub at_most : (m n : ℕ) → nat_le m n ≡ true → m ≤ n
-at_most m n h = grind arith
 
 ring_read : (at_ring : RingAt) (uses : List Arc) (ring : List Position) → IsRing uses ring → ring_of at_ring uses ≡ Ok ring
 unfolding ring_of

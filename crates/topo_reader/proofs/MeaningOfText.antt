@@ -22,8 +22,8 @@ use Rattle.topo_reader.specs.Opening.{polygons_read, opening, root_of, Opens, St
 use Rattle.topo_reader.specs.Reads.{AreArcs, GeometryUses, AreRings, Reads, Fits}
 use Rattle.topo_reader.proofs.MeaningOfArcs.{arcs_of, are_arcs}
 use Rattle.topo_reader.proofs.MeaningOfUses.{uses_are, are_uses}
-use Rattle.topo_reader.proofs.MeaningOfRings.{at_least, at_most, rings_of, are_rings}
-use Rattle.topo_reader.proofs.Steps.{bind_ok, demand_ok, ok_same, each_of, of_each}
+use Rattle.topo_reader.proofs.MeaningOfRings.{rings_of, are_rings}
+use Rattle.topo_reader.proofs.Steps.{at_least, at_most, bind_ok, demand_ok, ok_same, each_of, of_each}
 
 abbrev made : OutlineText → List Polygons → Opened
 made shape ps = record { transform = shape.transform; layers = shape.layers; members = shape.members; polygons = ps }

@@ -27,11 +27,8 @@ use Rattle.topo_reader.specs.Rings.{unless, is_at, meet, squeezed, all_of, joine
 use Rattle.topo_reader.specs.Document.{Polygons, Opened, document_of, IsOfRings}
 use Rattle.topo_reader.specs.Opening.{polygons_read, opening}
 use Rattle.topo_reader.proofs.Repeats.{none_again}
-use Rattle.topo_reader.proofs.Steps.{bind_ok, demand_ok, ok_same}
+use Rattle.topo_reader.proofs.Steps.{at_most, bind_ok, demand_ok, ok_same}
 use Rattle.topo_reader.proofs.Numbering.{rings_within, rings_document, all_within, sum_within}
-
-at_most : (m n : ℕ) → nat_le m n ≡ true → m ≤ n
-at_most m n h = grind arith
 
 each_length : {A B : Type 0} (f : A → Result B Fault) (xs : List A) (ys : List B) → each f xs ≡ Ok ys → length ys ≡ length xs
 each_length {B = B} f [] ys h = ap (λ (zs : List B). length zs) (sym (ok_same [] ys h))

@@ -1,6 +1,6 @@
 -- Steps that went well, one after another.
-use Rattle.std.proofs.Common.{◌≡◌, ℕ, ◌+◌, Bool, true, false, List, [], ◌∷◌, refl, sym, subst}
-use Rattle.std.specs.Prelude.{Result, Ok, Err}
+use Rattle.std.proofs.Common.{◌≡◌, ℕ, ◌+◌, ◌≤◌, arith, Bool, true, false, List, [], ◌∷◌, refl, sym, subst}
+use Rattle.std.specs.Prelude.{Result, Ok, Err, nat_le}
 use Rattle.std.specs.List.{AllZip}
 use Rattle.topo_outline.specs.Faults.{Fault, ◌>>=◌, each, each_at, demand}
 
@@ -14,6 +14,12 @@ demand_ok false e r a h = absurd cc
 
 pub ok_same : {A : Type 0} (a b : A) → ◌≡◌ {A = Result A Fault} (Ok a) (Ok b) → a ≡ b
 ok_same a b h = cc
+
+pub at_least : (m n : ℕ) → m ≤ n → nat_le m n ≡ true
+at_least m n h = grind arith
+
+pub at_most : (m n : ℕ) → nat_le m n ≡ true → m ≤ n
+at_most m n h = grind arith
 
 -- ---- one by one: all answers are good where each is
 

@@ -1,5 +1,5 @@
 -- What a text means as a topology, with sums and joined lists, and with no order of faults.
-use Rattle.std.specs.Prelude.{◌≡◌, ◌≢◌, ℕ, ℤ, pos, negsuc, ◌+ℤ◌, ◌≤◌, List, [], ◌∷◌, ◌++◌, length, flat_map, reverse, slice_get, AllPairs, Bool, true, Some, is_some, Ok}
+use Rattle.std.specs.Prelude.{◌≡◌, ◌≢◌, ℕ, ℤ, pos, negsuc, ◌+ℤ◌, ◌≤◌, List, [], ◌∷◌, ◌++◌, length, flat_map, reverse, slice_get, unsigned_abs, AllPairs, Bool, true, false, Some, is_some, Ok}
 use Rattle.std.specs.List.{AllZip}
 use Rattle.json_spans.specs.Grammar.{Json}
 use Rattle.json_spans.specs.Parts.{Node}
@@ -10,7 +10,7 @@ use Rattle.ring_machine.specs.Ring.{canonical}
 use Rattle.ring_machine.specs.Document.{Form, Polygon, MultiPolygon, Null, Document}
 use Rattle.topo_outline.specs.Shape.{is_list, OutlineText}
 use Rattle.topo_outline.specs.Outline.{leaves, outline}
-use Rattle.topo_reader.specs.Positions.{two_of, is_within, before_next, origin, has_two}
+use Rattle.topo_reader.specs.Positions.{origin}
 use Rattle.topo_reader.specs.Indexes.{Arc}
 use Rattle.topo_reader.specs.Sizes.{size}
 use Rattle.topo_reader.specs.Document.{Polygons, document_of}
@@ -18,31 +18,37 @@ use Rattle.topo_reader.specs.Opening.{root_of}
 
 -- ---- arcs (TopoJSON 1.0, 2.1.1 to 2.1.3)
 
--- the node is a pair of whole numbers, and p its sum with the position before it
+-- the node is a pair of whole numbers, and p the sum of the position before it and the pair;
+-- coordinates reach to 10^12
 pub record IsSum (before : Position) (n : Node) (p : Position) : Type 0 where
   pub first : Node
   pub second : Node
   pub x : ℤ
   pub y : ℤ
   pub list : is_list n ≡ true
-  pub two : two_of (items n) ≡ Some (first, second)
+  pub two : items n ≡ first ∷ second ∷ []
   pub x_is : whole_of first.bytes ≡ Ok x
   pub y_is : whole_of second.bytes ≡ Ok y
-  pub x_within : is_within (before.x +ℤ x) ≡ true
-  pub y_within : is_within (before.y +ℤ y) ≡ true
   pub sum : p ≡ record { x = before.x +ℤ x; y = before.y +ℤ y }
+  pub x_within : unsigned_abs p.x ≤ 1000000000000
+  pub y_within : unsigned_abs p.y ≤ 1000000000000
 
--- with deltas each position is the sum of the pairs so far
-pub data Sums (delta : Bool) : Position → List Node → List Position → Type 0 where
-  no_pair : {before : Position} → Sums delta before [] []
+-- each position is the sum of the pairs so far
+pub data Sums : Position → List Node → List Position → Type 0 where
+  no_pair : {before : Position} → Sums before [] []
   pair : {before p : Position} {n : Node} {ns : List Node} {ps : List Position} →
-      IsSum before n p → Sums delta (before_next delta p) ns ps → Sums delta before (n ∷ ns) (p ∷ ps)
+      IsSum before n p → Sums p ns ps → Sums before (n ∷ ns) (p ∷ ps)
 
--- the node is a list of two pairs or more, which mean these positions
+-- with deltas the positions are the sums, and without each pair is a position
+abbrev pub ArePositions : Bool → List Node → List Position → Type 0
+ArePositions true ns ps = Sums origin ns ps
+ArePositions false ns ps = AllZip (IsSum origin) ns ps
+
+-- the node is a list of two positions or more
 pub record IsArc (delta : Bool) (n : Node) (ps : List Position) : Type 0 where
   pub list : is_list n ≡ true
-  pub long : has_two (items n) ≡ true
-  pub sums : Sums delta origin (items n) ps
+  pub positions : ArePositions delta (items n) ps
+  pub long : 2 ≤ length ps
 
 -- the items of the node mean these arcs
 abbrev pub AreArcs : Bool → Node → List Arc → Type 0
