@@ -1,6 +1,11 @@
 pub mod Counting
 pub mod Joining
-pub mod Meaning
+pub mod Steps
+pub mod Repeats
+pub mod MeaningOfArcs
+pub mod MeaningOfUses
+pub mod MeaningOfRings
+pub mod MeaningOfText
 pub mod Named
 pub mod Summing
 pub mod Turning

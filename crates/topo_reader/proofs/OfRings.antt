@@ -26,23 +26,9 @@ use Rattle.topo_reader.specs.Sizes as sizes
 use Rattle.topo_reader.specs.Rings.{unless, is_at, meet, squeezed, all_of, joined, first_repeat, distinct, ring_of, polygon_of, feature_of, all_rings}
 use Rattle.topo_reader.specs.Document.{Polygons, Opened, document_of, IsOfRings}
 use Rattle.topo_reader.specs.Opening.{polygons_read, opening}
+use Rattle.topo_reader.proofs.Repeats.{none_again}
+use Rattle.topo_reader.proofs.Steps.{at_most, bind_ok, demand_ok, ok_same}
 use Rattle.topo_reader.proofs.Numbering.{rings_within, rings_document, all_within, sum_within}
-
--- ---- steps that went well
-
-bind_ok : {A B : Type 0} (r : Result A Fault) (f : A → Result B Fault) (b : B) → (r >>= f) ≡ Ok b → (a : A) × (r ≡ Ok a) × (f a ≡ Ok b)
-bind_ok (Ok a) f b h = (a, refl, h)
-bind_ok (Err e) f b h = absurd cc
-
-demand_ok : {A : Type 0} (t : Bool) (e : Fault) (r : Result A Fault) (a : A) → demand t e r ≡ Ok a → (t ≡ true) × (r ≡ Ok a)
-demand_ok true e r a h = (refl, h)
-demand_ok false e r a h = absurd cc
-
-ok_same : {A : Type 0} (a b : A) → ◌≡◌ {A = Result A Fault} (Ok a) (Ok b) → a ≡ b
-ok_same a b h = cc
-
-at_most : (m n : ℕ) → nat_le m n ≡ true → m ≤ n
-at_most m n h = grind arith
 
 each_length : {A B : Type 0} (f : A → Result B Fault) (xs : List A) (ys : List B) → each f xs ≡ Ok ys → length ys ≡ length xs
 each_length {B = B} f [] ys h = ap (λ (zs : List B). length zs) (sym (ok_same [] ys h))
@@ -71,29 +57,6 @@ module _ {A B : Type 0} (f : ℕ → A → Result B Fault) (t : B → Bool) (g :
       subst (λ zs. Good (x ∷ xs) zs) (ok_same (first.0 ∷ rest.0) ys rest.2) (one_more x first.0 xs rest.0 (one i x first.0 first.1) (each_at_good one (i + 1) xs rest.0 rest.1))
 
 -- ---- one ring
-
--- no two are equal, and none stood before
-abbrev AreNew : List Position → List Position → Type 0
-AreNew seen ps = (is_distinct ps ≡ true) × ((q : Position) → has seen q ≡ true → has ps q ≡ false)
-
-none_again : (seen ps : List Position) → first_repeat seen ps ≡ None → AreNew seen ps
-unfolding first_repeat
-none_again seen [] h = (refl, λ q is. refl)
-none_again seen (p ∷ ps) h = by (has seen p) refl h (λ n. none_again (seen ++ p ∷ []) ps n)
-  where
-    apart : (q : Position) → has seen p ≡ false → has seen q ≡ true → has ps q ≡ false → (b : Bool) → position_eq q p ≡ b → (position_eq q p || has ps q) ≡ false
-    apart q e is out true f = absurd (false≢true (sym e ∙ ap (has seen) (sym (position_eq-true q p f)) ∙ is))
-    apart q e is out false f = ap₂ (λ y z. y || z) f out
-
-    new : has seen p ≡ false → AreNew (seen ++ p ∷ []) ps → AreNew seen (p ∷ ps)
-    new e rest =
-        let mine : has ps p ≡ false = rest.1 p (list_any-append (position_eq p) seen (p ∷ []) ∙ ap₂ (λ y z. y || (z || false)) e (position_eq-refl p)) in
-        (ap₂ (λ y z. not y && z) mine rest.0, λ q is. apart q e is (rest.1 q (list_any-append (position_eq q) seen (p ∷ []) ∙ ap (λ y. y || (position_eq q p || false)) is)) (position_eq q p) refl)
-
-    by : (b : Bool) → has seen p ≡ b → cond b (Some p) (first_repeat (seen ++ p ∷ []) ps) ≡ None →
-        (first_repeat (seen ++ p ∷ []) ps ≡ None → AreNew (seen ++ p ∷ []) ps) → AreNew seen (p ∷ ps)
-    by true e n rest = absurd cc
-    by false e n rest = new e (rest n)
 
 squeezed_length : (before : Option Position) (ps : List Position) → length (squeezed before ps) ≤ length ps
 unfolding squeezed

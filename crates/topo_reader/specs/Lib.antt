@@ -4,7 +4,6 @@ pub mod Uses
 pub mod Rings
 pub mod Sizes
 pub mod Reads
-pub mod Laws
 pub mod Document
 pub mod DocumentView
 pub mod Extent

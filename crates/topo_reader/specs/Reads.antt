@@ -1,34 +1,147 @@
--- What the arcs of a text mean, as relations by cases, with no order of faults.
-use Rattle.std.specs.Prelude.{◌≡◌, ℤ, ◌+ℤ◌, List, [], ◌∷◌, Bool, true, Some, Ok}
+-- What a text means as a topology, with sums and joined lists, and with no order of faults.
+use Rattle.std.specs.Prelude.{◌≡◌, ◌≢◌, ℕ, ℤ, pos, negsuc, ◌+ℤ◌, ◌≤◌, List, [], ◌∷◌, ◌++◌, length, flat_map, reverse, slice_get, unsigned_abs, AllPairs, Bool, true, false, Some, is_some, Ok}
+use Rattle.std.specs.List.{AllZip}
+use Rattle.json_spans.specs.Grammar.{Json}
 use Rattle.json_spans.specs.Parts.{Node}
 use Rattle.json_spans.specs.Walk.{items}
 use Rattle.json_spans.specs.Whole.{whole_of}
 use Rattle.grid_geometry.specs.Position.{Position}
-use Rattle.topo_outline.specs.Shape.{is_list}
-use Rattle.topo_reader.specs.Positions.{two_of, is_within, before_next, origin, has_two}
+use Rattle.ring_machine.specs.Ring.{canonical}
+use Rattle.ring_machine.specs.Document.{Form, Polygon, MultiPolygon, Null, Document}
+use Rattle.topo_outline.specs.Shape.{is_list, OutlineText}
+use Rattle.topo_outline.specs.Outline.{leaves, outline}
+use Rattle.topo_reader.specs.Positions.{origin}
+use Rattle.topo_reader.specs.Indexes.{Arc}
+use Rattle.topo_reader.specs.Sizes.{size}
+use Rattle.topo_reader.specs.Document.{Polygons, document_of}
+use Rattle.topo_reader.specs.Opening.{root_of}
 
--- the node is a pair of whole numbers, and p its sum with the position before it
+-- ---- arcs (TopoJSON 1.0, 2.1.1 to 2.1.3)
+
+-- the node is a pair of whole numbers, and p the sum of the position before it and the pair;
+-- coordinates reach to 10^12
 pub record IsSum (before : Position) (n : Node) (p : Position) : Type 0 where
   pub first : Node
   pub second : Node
   pub x : ℤ
   pub y : ℤ
   pub list : is_list n ≡ true
-  pub two : two_of (items n) ≡ Some (first, second)
+  pub two : items n ≡ first ∷ second ∷ []
   pub x_is : whole_of first.bytes ≡ Ok x
   pub y_is : whole_of second.bytes ≡ Ok y
-  pub x_within : is_within (before.x +ℤ x) ≡ true
-  pub y_within : is_within (before.y +ℤ y) ≡ true
   pub sum : p ≡ record { x = before.x +ℤ x; y = before.y +ℤ y }
+  pub x_within : unsigned_abs p.x ≤ 1000000000000
+  pub y_within : unsigned_abs p.y ≤ 1000000000000
 
--- with deltas each position is the sum of the pairs so far
-pub data Sums (delta : Bool) : Position → List Node → List Position → Type 0 where
-  no_pair : {before : Position} → Sums delta before [] []
+-- each position is the sum of the pairs so far
+pub data Sums : Position → List Node → List Position → Type 0 where
+  no_pair : {before : Position} → Sums before [] []
   pair : {before p : Position} {n : Node} {ns : List Node} {ps : List Position} →
-      IsSum before n p → Sums delta (before_next delta p) ns ps → Sums delta before (n ∷ ns) (p ∷ ps)
+      IsSum before n p → Sums p ns ps → Sums before (n ∷ ns) (p ∷ ps)
 
--- the node is a list of two pairs or more, which mean these positions
+-- with deltas the positions are the sums, and without each pair is a position
+abbrev pub ArePositions : Bool → List Node → List Position → Type 0
+ArePositions true ns ps = Sums origin ns ps
+ArePositions false ns ps = AllZip (IsSum origin) ns ps
+
+-- the node is a list of two positions or more
 pub record IsArc (delta : Bool) (n : Node) (ps : List Position) : Type 0 where
   pub list : is_list n ≡ true
-  pub long : has_two (items n) ≡ true
-  pub sums : Sums delta origin (items n) ps
+  pub positions : ArePositions delta (items n) ps
+  pub long : 2 ≤ length ps
+
+-- the items of the node mean these arcs
+abbrev pub AreArcs : Bool → Node → List Arc → Type 0
+AreArcs delta n found = AllZip (IsArc delta) (items n) found
+
+-- ---- arc indexes (TopoJSON 1.0, 2.1.4)
+
+-- the node is a whole number: i names arc i, and -1 - i names arc i in reverse
+pub data IsUse (arcs : List Arc) (n : Node) : Arc → Type 0 where
+  forward : {i : ℕ} {a : Arc} →
+      whole_of n.bytes ≡ Ok (pos i) → slice_get arcs i ≡ Some a → IsUse arcs n a
+  backward : {i : ℕ} {a : Arc} →
+      whole_of n.bytes ≡ Ok (negsuc i) → slice_get arcs i ≡ Some a → IsUse arcs n (reverse a)
+
+-- a ring uses the arcs that its items name, and a polygon those of its rings
+abbrev pub RingUses : List Arc → Node → List Arc → Type 0
+RingUses arcs n uses = AllZip (IsUse arcs) (items n) uses
+
+abbrev pub PolygonUses : List Arc → Node → List (List Arc) → Type 0
+PolygonUses arcs n rings = AllZip (RingUses arcs) (items n) rings
+
+-- the arcs that a geometry's `arcs` name: one polygon, several, or none, by its form
+-- (TopoJSON 1.0, 2.2.5 and 2.2.6)
+abbrev pub GeometryUses : List Arc → Form × Node → List (List (List Arc)) → Type 0
+GeometryUses arcs (Null, n) polygons = polygons ≡ []
+GeometryUses arcs (Polygon, n) polygons =
+    (rings : List (List Arc)) × PolygonUses arcs n rings × (polygons ≡ rings ∷ [])
+GeometryUses arcs (MultiPolygon, n) polygons = AllZip (PolygonUses arcs) (items n) polygons
+
+-- ---- rings (TopoJSON 1.0, 2.1.4; RFC 7946, 3.1.6)
+
+-- the arc begins at p and ends at q
+pub record Leads (p : Position) (a : Arc) (q : Position) : Type 0 where
+  pub after : List Position
+  pub until : List Position
+  pub begins : a ≡ p ∷ after
+  pub ends : a ≡ until ++ q ∷ []
+
+-- from p to q over the arcs: each begins where the one before it ends
+pub data Chain : Position → List Arc → Position → Type 0 where
+  there : {p : Position} → Chain p [] p
+  along : {p q r : Position} {a : Arc} {as' : List Arc} →
+      Leads p a q → Chain q as' r → Chain p (a ∷ as') r
+
+-- equal neighbours taken once
+pub data Once : List Position → List Position → Type 0 where
+  none : Once [] []
+  last : {p : Position} → Once (p ∷ []) (p ∷ [])
+  same : {p : Position} {ps qs : List Position} → Once (p ∷ ps) qs → Once (p ∷ p ∷ ps) qs
+  next : {p q : Position} {ps qs : List Position} →
+      p ≢ q → Once (q ∷ ps) qs → Once (p ∷ q ∷ ps) (p ∷ qs)
+
+-- the arcs lead from a position back to it; their positions, equal neighbours taken once and
+-- without the last, which is the first, are at least three, all different; in the document
+-- the ring begins at its least one
+pub record IsRing (uses : List Arc) (ring : List Position) : Type 0 where
+  pub start : Position
+  pub corners : List Position
+  pub closed : Chain start uses start
+  pub once : Once (flat_map (λ a. a) uses) (corners ++ start ∷ [])
+  pub long : 3 ≤ length corners
+  pub different : AllPairs (λ p q. p ≢ q) corners
+  pub turned : ring ≡ canonical corners
+
+-- by polygon and ring
+abbrev pub AreRings : List (List (List Arc)) → Polygons → Type 0
+AreRings uses polygons = AllZip (AllZip IsRing) uses polygons
+
+-- ---- the topology (TopoJSON 1.0, 2.1)
+
+-- the bytes are a JSON text that means the document
+pub record Reads (bytes : List ℕ) (d : Document) : Type 0 where
+  pub levels : ℕ
+  pub json : Json levels bytes
+  pub shape : OutlineText
+  pub arcs : List Arc
+  pub uses : List (List (List (List Arc)))
+  pub polygons : List Polygons
+  pub outline_is : outline (root_of bytes) ≡ Ok shape
+  pub arcs_are : AreArcs (is_some shape.transform) shape.arcs arcs
+  pub uses_are : AllZip (GeometryUses arcs) (leaves shape.layers) uses
+  pub rings_are : AllZip AreRings uses polygons
+  pub document : d ≡ document_of (record {
+    transform = shape.transform;
+    layers = shape.layers;
+    members = shape.members;
+    polygons = polygons;
+  })
+
+-- what is read is within the limits: bytes, lists and objects one in another, features, and
+-- the positions of the arcs, counted for each use
+pub record Fits {bytes : List ℕ} {d : Document} (reading : Reads bytes d) : Type 0 where
+  pub short : length bytes ≤ 67108864
+  pub flat : Json 100 bytes
+  pub few : length (leaves reading.shape.layers) ≤ 200000
+  pub small : size reading.uses ≤ 4000000

@@ -6,7 +6,6 @@ mod canonical;
 mod document;
 mod extent;
 mod indexes;
-mod law;
 mod limits;
 mod reading;
 mod rings;
@@ -15,5 +14,4 @@ mod tests;
 
 pub use canonical::begin_at_least;
 pub use document::RawDoc;
-pub use law::arcs_are_read;
 pub use reading::read;

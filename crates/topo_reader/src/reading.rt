@@ -1,12 +1,14 @@
 // Opening a topology, phase after phase.
-ghost use Rattle.std.specs.Prelude.{◌≡◌, ◌≤◌, length, map, IfOk, IfErr};
+ghost use Rattle.std.specs.Prelude.{◌≡◌, ◌≢◌, ◌≤◌, length, map, IfOk, IfErr};
 ghost use Rattle.json_spans.specs.Grammar.{Json};
 ghost use Rattle.json_spans.specs.Left.{node};
 ghost use Rattle.topo_outline.specs.Gives.{Gives};
 ghost use Rattle.topo_outline.specs.OutlineView.{view_outline, IsPlaced};
-ghost use Rattle.topo_reader.specs.Document.{IsOfRings};
+ghost use Rattle.ring_machine.specs.Document.{Document};
+ghost use Rattle.topo_reader.specs.Document.{document_of, IsOfRings};
 ghost use Rattle.topo_reader.specs.DocumentView.{view_raw};
 ghost use Rattle.topo_reader.specs.Opening.{polygons_read, opening, Opens, IsFault, IsPlace};
+ghost use Rattle.topo_reader.specs.Reads.{Reads, Fits};
 ghost use Rattle.topo_reader.specs.Uses.{feature_positions};
 
 use crate::arcs::arcs;
@@ -89,6 +91,10 @@ pub fn read<'a, A: Allocator + Copy>(
     ensures of_rings { IfOk result (λ raw. IsOfRings (view_raw raw)) }
     ensures refused { IfErr result (λ fault. IsFault bytes.now fault) }
     ensures places { IfErr result (λ fault. IsPlace bytes.now fault) }
+    ensures reads { IfOk result (λ raw.
+        (reading : Reads bytes.now (document_of (view_raw raw))) × Fits reading) }
+    ensures unread { IfErr result (λ fault. fault ≢ OpenFault.OutOfMemory →
+        ¬ ((d : Document) × (reading : Reads bytes.now d) × Fits reading)) }
 {
     if bytes.len() > MAX_BYTES {
         return Err(OpenFault::TooLarge { what: Limit::Bytes });

@@ -1,0 +1,240 @@
+-- The rings that arcs mean are those that the reader gives.
+use Rattle.std.proofs.Common.{◌≡◌, ◌≢◌, ℕ, suc, ◌+◌, ◌-◌, ◌≤◌, Bool, true, false, cond, List, [], ◌∷◌, ◌++◌, length, take, refl, sym, ap, ap₂, ◌∙◌, subst, arith, append_assoc, length-append, le-leb, ◌&&◌, ◌||◌}
+use Rattle.std.specs.Prelude.{Option, Some, None, Result, Ok, Err, nat_le, reverse}
+use Rattle.std.specs.List.{AllZip, flat_map}
+use Rattle.std.proofs.lemmas.Bool.{false≢true}
+use Rattle.std.proofs.lemmas.List.{reverse-append}
+use Rattle.std.proofs.lemmas.List.Concat.{flat_map-cons}
+use Rattle.std.proofs.Math.Seq.{take-append_seam}
+use Rattle.grid_geometry.specs.Position.{Position, position_eq}
+use Rattle.ring_machine.specs.Ring.{canonical}
+use Rattle.ring_machine.proofs.Order.{and_both, position_eq-true, position_eq-refl}
+use Rattle.topo_outline.specs.declared.fault.RingAt.{RingAt}
+use Rattle.topo_outline.specs.Faults.{Fault, arcs_do_not_meet, ring_short, ring_repeats, demand}
+use Rattle.topo_reader.specs.Indexes.{Arc}
+use Rattle.topo_reader.specs.Rings.{is_at, first_of, last_of, starts_at, meet_from, ends, meet, unless, squeezed, last_after, front, all_of, joined, first_repeat, distinct, ring_of, polygon_of, feature_of, all_rings}
+use Rattle.topo_reader.specs.Document.{Polygons}
+use Rattle.topo_reader.specs.Reads.{Leads, Chain, there, along, Once, none, last, same, next, IsRing, AreRings}
+use Rattle.topo_reader.proofs.Repeats.{AreNew, none_again, no_repeat, Differ, differ, distinct_of, not_equal}
+use Rattle.topo_reader.proofs.Steps.{at_least, at_most, demand_ok, ok_same, each_at_of, of_each_at}
+
+-- ---- equal neighbours taken once
+
+-- what is kept after p
+once_after : {p : Position} {ps qs : List Position} → Once (p ∷ ps) qs → p ∷ squeezed (Some p) ps ≡ qs
+unfolding squeezed
+once_after last = refl
+once_after (same {p = p} {ps = ps} o) = rw (position_eq-refl p) (once_after o)
+once_after (next {p = p} {q = q} apart o) = rw (not_equal p q apart) (ap (λ rs. p ∷ rs) (once_after o))
+
+once_squeezed : (ps qs : List Position) → Once ps qs → squeezed None ps ≡ qs
+unfolding squeezed
+once_squeezed [] qs none = refl
+once_squeezed (p ∷ ps) qs o = once_after o
+
+is_once_after : (p : Position) (ps : List Position) → Once (p ∷ ps) (p ∷ squeezed (Some p) ps)
+unfolding squeezed
+is_once_after p [] = last
+is_once_after p (q ∷ ps) = by (position_eq p q) refl (is_once_after q ps)
+  where
+    by : (b : Bool) → position_eq p q ≡ b → Once (q ∷ ps) (q ∷ squeezed (Some q) ps) → Once (p ∷ q ∷ ps) (p ∷ (unless b q ++ squeezed (Some q) ps))
+    by true e o = subst (λ r. Once (p ∷ r ∷ ps) (p ∷ squeezed (Some r) ps)) (position_eq-true p q e) (same (subst (λ r. Once (r ∷ ps) (r ∷ squeezed (Some r) ps)) (sym (position_eq-true p q e)) o))
+    by false e o = next (λ eq. false≢true (sym e ∙ (ap (position_eq p) (sym eq) ∙ position_eq-refl p))) o
+
+is_once : (ps : List Position) → Once ps (squeezed None ps)
+unfolding squeezed
+is_once [] = none
+is_once (p ∷ ps) = is_once_after p ps
+
+-- ---- the last one
+
+front_of : (ps : List Position) (p : Position) → front (ps ++ p ∷ []) ≡ ps
+front_of ps p =
+    let e : length (ps ++ p ∷ []) - 1 ≡ length ps = omega (arith, length-append ps (p ∷ [])) in
+    ap (λ n. take n (ps ++ p ∷ [])) e ∙ take-append_seam ps (p ∷ [])
+
+-- a list with a last position is its front and that
+ends_with : (q p : Position) (ps : List Position) → last_after (Some q) ps ≡ Some p → (zs : List Position) × (q ∷ ps ≡ zs ++ p ∷ [])
+unfolding last_after
+ends_with q p [] h = ([], ap (λ r. r ∷ []) (some_same h))
+  where
+    some_same : Some q ≡ Some p → q ≡ p
+    some_same e = cc
+ends_with q p (r ∷ ps) h = let rest = ends_with r p ps h in (q ∷ rest.0, ap (λ rs. q ∷ rs) rest.1)
+
+last_squeezed : (before : Option Position) (ps : List Position) → last_after before (squeezed before ps) ≡ last_after before ps
+unfolding squeezed last_after
+last_squeezed before [] = refl
+last_squeezed before (p ∷ ps) = by before (is_at before p) refl (last_squeezed (Some p) ps)
+  where
+    by : (o : Option Position) (b : Bool) → is_at o p ≡ b → last_after (Some p) (squeezed (Some p) ps) ≡ last_after (Some p) ps →
+        last_after o (unless b p ++ squeezed (Some p) ps) ≡ last_after (Some p) ps
+    by o false e h = h
+    by None true e h = absurd (false≢true e)
+    by (Some q) true e h = ap (λ r. last_after (Some r) (squeezed (Some p) ps)) (position_eq-true q p e) ∙ h
+
+last_append : (before : Option Position) (xs ys : List Position) → last_after before (xs ++ ys) ≡ last_after (last_after before xs) ys
+unfolding last_after
+last_append before [] ys = refl
+last_append before (x ∷ xs) ys = last_append (Some x) xs ys
+
+-- ---- arcs that meet
+
+leads : (p : Position) (ps : List Position) → (q : Position) × Leads p (p ∷ ps) q
+leads p [] = (p, record { after = []; until = []; begins = refl; ends = refl })
+leads p (q ∷ ps) =
+    let rest = leads q ps in
+    (rest.0, record { after = q ∷ ps; until = p ∷ rest.1.until; begins = refl; ends = ap (λ qs. p ∷ qs) rest.1.ends })
+
+first_is : {p : Position} {a : Arc} {q : Position} → Leads p a q → first_of a ≡ Some p
+first_is l = ap first_of l.begins
+
+last_is : {p : Position} {a : Arc} {q : Position} → Leads p a q → last_of a ≡ Some q
+last_is {q = q} l = ap last_of l.ends ∙ ap first_of (reverse-append l.until (q ∷ []))
+
+last_along : {p : Position} {a : Arc} {q : Position} (before : Option Position) → Leads p a q → last_after before a ≡ Some q
+unfolding last_after
+last_along {q = q} before l = ap (last_after before) l.ends ∙ last_append before l.until (q ∷ [])
+
+chain_meets : {p : Position} {uses : List Arc} {q : Position} → Chain p uses q → (meet_from (Some p) uses ≡ true) × (ends (Some p) uses ≡ Some q)
+unfolding meet_from ends
+chain_meets there = (refl, refl)
+chain_meets (along {p = p} l c) =
+    let rest = chain_meets c in
+    (rw (first_is l, last_is l, position_eq-refl p) rest.0, rw (last_is l) rest.1)
+
+chain_joined : {p : Position} {uses : List Arc} {q : Position} → Chain p uses q → last_after (Some p) (all_of uses) ≡ Some q
+unfolding all_of last_after
+chain_joined there = refl
+chain_joined (along {p = p} {a = a} {as' = as'} l c) =
+    last_append (Some p) a (all_of as') ∙ ap (λ o. last_after o (all_of as')) (last_along (Some p) l) ∙ chain_joined c
+
+closed_meets : {p q : Position} {uses : List Arc} → Chain p uses q → p ≡ q → meet uses ≡ true
+unfolding meet_from ends
+closed_meets there e = refl
+closed_meets {p = p} {q = q} (along {a = a} {as' = as'} l c) e =
+    let whole = chain_meets (along l c) in
+    ap (λ o. meet_from o (a ∷ as')) (whole.1 ∙ ap (λ r. Some r) (sym e)) ∙ whole.0
+
+meets_chain : (p : Position) (uses : List Arc) → meet_from (Some p) uses ≡ true → (q : Position) × Chain p uses q × (ends (Some p) uses ≡ Some q)
+unfolding meet_from ends
+meets_chain p [] h = (p, there, refl)
+meets_chain p ([] ∷ as') h = absurd (false≢true h)
+meets_chain p ((r ∷ ps) ∷ as') h =
+    let two = and_both (position_eq p r) (meet_from (last_of (r ∷ ps)) as') h in
+    let one = leads r ps in
+    let rest = meets_chain one.0 as' (ap (λ o. meet_from o as') (sym (last_is one.1)) ∙ two.1) in
+    (
+      rest.0,
+      subst (λ s. Chain s ((r ∷ ps) ∷ as') rest.0) (sym (position_eq-true p r two.0)) (along one.1 rest.1),
+      ap (λ o. ends o as') (last_is one.1) ∙ rest.2,
+    )
+
+none_before : (a : Arc) (as' : List Arc) → meet_from None (a ∷ as') ≡ true → ⊥
+unfolding meet_from
+none_before [] as' h = false≢true h
+none_before (p ∷ ps) as' h = false≢true h
+
+is_closed : (a : Arc) (as' : List Arc) → meet (a ∷ as') ≡ true → (s : Position) × Chain s (a ∷ as') s
+unfolding meet_from ends
+is_closed a as' h = by (ends (last_of a) as') refl h
+  where
+    some_same : (p q : Position) → ◌≡◌ {A = Option Position} (Some p) (Some q) → p ≡ q
+    some_same p q e = cc
+
+    by : (o : Option Position) → ends (last_of a) as' ≡ o → meet_from o (a ∷ as') ≡ true → (s : Position) × Chain s (a ∷ as') s
+    by None e met = absurd (none_before a as' met)
+    by (Some s) e met =
+        let found = meets_chain s (a ∷ as') met in
+        (s, subst (λ q. Chain s (a ∷ as') q) (some_same found.0 s (sym found.2 ∙ e)) found.1)
+
+-- ---- a closed chain
+
+all_is : (uses : List Arc) → all_of uses ≡ flat_map (λ a. a) uses
+unfolding all_of
+all_is [] = refl
+all_is (a ∷ uses) = ap (λ ps. a ++ ps) (all_is uses) ∙ sym (flat_map-cons (λ (b : Arc). b) a uses)
+
+begins_with : {s : Position} {a : Arc} {as' : List Arc} {q : Position} → Chain s (a ∷ as') q → (rest : List Position) × (all_of (a ∷ as') ≡ s ∷ rest)
+unfolding all_of
+begins_with (along {as' = as'} l c) = (l.after ++ all_of as', ap (λ ps. ps ++ all_of as') l.begins)
+
+closes : (s : Position) (rest whole : List Position) → whole ≡ s ∷ rest → last_after (Some s) whole ≡ Some s → squeezed None whole ≡ front (squeezed None whole) ++ s ∷ []
+unfolding squeezed last_after
+closes s rest whole e h = subst (λ w. last_after (Some s) w ≡ Some s → squeezed None w ≡ front (squeezed None w) ++ s ∷ []) (sym e) by h
+  where
+    by : last_after (Some s) rest ≡ Some s → s ∷ squeezed (Some s) rest ≡ front (s ∷ squeezed (Some s) rest) ++ s ∷ []
+    by last_of_rest =
+        let parts = ends_with s s (squeezed (Some s) rest) (last_squeezed (Some s) rest ∙ last_of_rest) in
+        parts.1 ∙ ap (λ ps. ps ++ s ∷ []) (sym (ap front parts.1 ∙ front_of parts.0 s))
+
+closed_once : {s : Position} {a : Arc} {as' : List Arc} → Chain s (a ∷ as') s → Once (flat_map (λ b. b) (a ∷ as')) (joined (a ∷ as') ++ s ∷ [])
+closed_once {s = s} {a = a} {as' = as'} c =
+    let first = begins_with c in
+    subst (λ ps. Once ps (joined (a ∷ as') ++ s ∷ [])) (all_is (a ∷ as'))
+        (subst (λ qs. Once (all_of (a ∷ as')) qs) (closes s first.0 (all_of (a ∷ as')) first.1 (chain_joined c)) (is_once (all_of (a ∷ as'))))
+
+-- ---- one ring
+
+ring_read : (at_ring : RingAt) (uses : List Arc) (ring : List Position) → IsRing uses ring → ring_of at_ring uses ≡ Ok ring
+unfolding ring_of
+ring_read at_ring uses ring r =
+    let is : joined uses ≡ r.corners =
+    ap front (ap (squeezed None) (all_is uses) ∙ once_squeezed (flat_map (λ a. a) uses) (r.corners ++ r.start ∷ []) r.once) ∙ front_of r.corners r.start in
+    let new : first_repeat [] r.corners ≡ None = no_repeat [] r.corners (distinct_of r.corners r.different, λ q h. absurd (false≢true h)) in
+    rw (closed_meets r.closed refl, is, at_least 3 (length r.corners) r.long, new, r.turned) refl
+
+no_arcs : nat_le 3 (length (joined [])) ≡ true → ⊥
+unfolding all_of squeezed
+no_arcs h = false≢true h
+
+made : (uses : List Arc) (ring : List Position) → meet uses ≡ true → nat_le 3 (length (joined uses)) ≡ true → first_repeat [] (joined uses) ≡ None → canonical (joined uses) ≡ ring → IsRing uses ring
+made [] ring met long new e = absurd (no_arcs long)
+made (a ∷ as') ring met long new e =
+    let chain = is_closed a as' met in
+    record {
+      start = chain.0;
+      corners = joined (a ∷ as');
+      closed = chain.1;
+      once = closed_once chain.1;
+      long = at_most 3 (length (joined (a ∷ as'))) long;
+      different = differ (joined (a ∷ as')) (none_again [] (joined (a ∷ as')) new).0;
+      turned = sym e;
+    }
+
+ring_meant : (at_ring : RingAt) (uses : List Arc) (ring : List Position) → ring_of at_ring uses ≡ Ok ring → IsRing uses ring
+unfolding ring_of
+ring_meant at_ring uses ring h =
+    let met = demand_ok (meet uses) (arcs_do_not_meet at_ring) (demand (nat_le 3 (length (joined uses))) (ring_short at_ring) (distinct at_ring (joined uses) (first_repeat [] (joined uses)))) ring h in
+    let long = demand_ok (nat_le 3 (length (joined uses))) (ring_short at_ring) (distinct at_ring (joined uses) (first_repeat [] (joined uses))) ring met.1 in
+    by (first_repeat [] (joined uses)) refl met.0 long.0 long.1
+  where
+    by : (o : Option Position) → first_repeat [] (joined uses) ≡ o → meet uses ≡ true → nat_le 3 (length (joined uses)) ≡ true → distinct at_ring (joined uses) o ≡ Ok ring → IsRing uses ring
+    by (Some p) e m l d = absurd cc
+    by None e m l d = made uses ring m l e (ok_same (canonical (joined uses)) ring d)
+
+-- ---- all rings
+
+polygon_read : (f p : ℕ) (uses : List (List Arc)) (rings : List (List Position)) → AllZip IsRing uses rings → polygon_of f p uses ≡ Ok rings
+unfolding polygon_of
+polygon_read f p uses rings h = each_at_of IsRing (λ r. ring_of (record { feature = f; polygon = p; ring = r })) (λ i a b. ring_read (record { feature = f; polygon = p; ring = i }) a b) 0 uses rings h
+
+feature_read : (f : ℕ) (uses : List (List (List Arc))) (polygons : Polygons) → AreRings uses polygons → feature_of f uses ≡ Ok polygons
+unfolding feature_of
+feature_read f uses polygons h = each_at_of (AllZip IsRing) (polygon_of f) (polygon_read f) 0 uses polygons h
+
+pub rings_of : (uses : List (List (List (List Arc)))) (polygons : List Polygons) → AllZip AreRings uses polygons → all_rings uses ≡ Ok polygons
+unfolding all_rings
+rings_of uses polygons h = each_at_of AreRings feature_of feature_read 0 uses polygons h
+
+polygon_meant : (f p : ℕ) (uses : List (List Arc)) (rings : List (List Position)) → polygon_of f p uses ≡ Ok rings → AllZip IsRing uses rings
+unfolding polygon_of
+polygon_meant f p uses rings h = of_each_at IsRing (λ r. ring_of (record { feature = f; polygon = p; ring = r })) (λ i a b. ring_meant (record { feature = f; polygon = p; ring = i }) a b) 0 uses rings h
+
+feature_meant : (f : ℕ) (uses : List (List (List Arc))) (polygons : Polygons) → feature_of f uses ≡ Ok polygons → AreRings uses polygons
+unfolding feature_of
+feature_meant f uses polygons h = of_each_at (AllZip IsRing) (polygon_of f) (polygon_meant f) 0 uses polygons h
+
+pub are_rings : (uses : List (List (List (List Arc)))) (polygons : List Polygons) → all_rings uses ≡ Ok polygons → AllZip AreRings uses polygons
+unfolding all_rings
+are_rings uses polygons h = of_each_at AreRings feature_of feature_meant 0 uses polygons h

@@ -1,0 +1,128 @@
+-- What a text means is what opening it gives, in both directions.
+use Rattle.std.proofs.Common.{◌≡◌, ◌≢◌, ℕ, ◌≤◌, Bool, true, List, length, refl, sym, ap, ◌∙◌, subst, arith}
+use Rattle.std.specs.Prelude.{Option, Result, Ok, Err, IfOk, IfErr, nat_le, is_some, codes}
+use Rattle.std.specs.List.{AllZip}
+use Rattle.json_spans.specs.Grammar.{Json}
+use Rattle.json_spans.specs.Parts.{Node}
+use Rattle.ring_machine.specs.Document.{Document, Text}
+use Rattle.topo_outline.specs.declared.fault.Limit.TheVariants as limit
+use Rattle.topo_outline.specs.declared.fault.OpenFault.{OpenFault}
+use Rattle.topo_outline.specs.declared.fault.OpenFault.TheVariants as open_fault
+use Rattle.topo_outline.specs.declared.words.Word.TheVariants as word
+use Rattle.topo_outline.specs.Faults.{Fault, not_topology, too_large, ◌>>=◌, each, demand}
+use Rattle.topo_outline.specs.Gives.{Fails, Gives}
+use Rattle.topo_outline.specs.Shape.{EntryNode, LayerText, OutlineText, members_of, member, member_that, is_list, is_object, is_topology, transform_from, layers}
+use Rattle.topo_outline.specs.Outline.{leaves, few, limited, outline_text, outlined, outline}
+use Rattle.topo_reader.specs.Positions.{arcs}
+use Rattle.topo_reader.specs.Indexes.{Arc, uses_of}
+use Rattle.topo_reader.specs.Sizes.{size}
+use Rattle.topo_reader.specs.Rings.{all_rings}
+use Rattle.topo_reader.specs.Document.{Polygons, Opened, document_of}
+use Rattle.topo_reader.specs.Opening.{polygons_read, opening, root_of, Opens, Stops}
+use Rattle.topo_reader.specs.Reads.{AreArcs, GeometryUses, AreRings, Reads, Fits}
+use Rattle.topo_reader.proofs.MeaningOfArcs.{arcs_of, are_arcs}
+use Rattle.topo_reader.proofs.MeaningOfUses.{uses_are, are_uses}
+use Rattle.topo_reader.proofs.MeaningOfRings.{rings_of, are_rings}
+use Rattle.topo_reader.proofs.Steps.{at_least, at_most, bind_ok, demand_ok, ok_same, each_of, of_each}
+
+abbrev made : OutlineText → List Polygons → Opened
+made shape ps = record { transform = shape.transform; layers = shape.layers; members = shape.members; polygons = ps }
+
+-- ---- what is meant is read
+
+polygons_of : (shape : OutlineText) (found : List Arc) (uses : List (List (List (List Arc)))) (polygons : List Polygons) →
+    AreArcs (is_some shape.transform) shape.arcs found → AllZip (GeometryUses found) (leaves shape.layers) uses → AllZip AreRings uses polygons → size uses ≤ 4000000 →
+    polygons_read shape ≡ Ok polygons
+polygons_of shape found uses polygons a u r small = rw (
+    arcs_of (is_some shape.transform) shape.arcs found a,
+    each_of (GeometryUses found) (uses_of found) (uses_are found) (leaves shape.layers) uses u,
+    at_least (size uses) 4000000 small,
+    rings_of uses polygons r,
+  ) refl
+
+-- a reading within the limits is what opening gives
+pub opens : (bytes : List ℕ) (d : Document) (r : Reads bytes d) → Fits r → (o : Opened) × Opens bytes o × (document_of o ≡ d)
+opens bytes d r f = (
+  made r.shape r.polygons,
+  record {
+    short = f.short;
+    json = f.flat;
+    opens = rw (r.outline_is, polygons_of r.shape r.arcs r.uses r.polygons r.arcs_are r.uses_are r.rings_are f.small) refl;
+  },
+  sym r.document,
+)
+
+-- ---- what is read is meant
+
+few_features : (root : Node) (shape : OutlineText) → outline root ≡ Ok shape → length (leaves shape.layers) ≤ 200000
+few_features root shape h =
+    let object = demand_ok (is_object root) not_topology (members_of root >>= λ ms. demand (is_topology (member word.Type ms)) not_topology (outlined ms)) shape h in
+    let ms = bind_ok (members_of root) (λ (ms : List EntryNode). demand (is_topology (member word.Type ms)) not_topology (outlined ms)) shape object.1 in
+    let typed = demand_ok (is_topology (member word.Type ms.0)) not_topology (outlined ms.0) shape ms.2 in
+    in_members ms.0 typed.1
+  where
+    in_members : (ms : List EntryNode) → outlined ms ≡ Ok shape → length (leaves shape.layers) ≤ 200000
+    in_members ms e =
+        let t = bind_ok (transform_from (member word.Transform ms)) (λ (t : Option Text). member_that is_object (codes "objects") word.Objects ms >>= λ objects. member_that is_list (codes "arcs") word.Arcs ms >>= λ arcs'. layers objects.value >>= λ ls. limited (outline_text t ls arcs'.value ms)) shape e in
+        let objects = bind_ok (member_that is_object (codes "objects") word.Objects ms) (λ (objects : EntryNode). member_that is_list (codes "arcs") word.Arcs ms >>= λ arcs'. layers objects.value >>= λ ls. limited (outline_text t.0 ls arcs'.value ms)) shape t.2 in
+        let arcs' = bind_ok (member_that is_list (codes "arcs") word.Arcs ms) (λ (arcs' : EntryNode). layers objects.0.value >>= λ ls. limited (outline_text t.0 ls arcs'.value ms)) shape objects.2 in
+        let ls = bind_ok (layers objects.0.value) (λ (ls : List LayerText). limited (outline_text t.0 ls arcs'.0.value ms)) shape arcs'.2 in
+        let whole : OutlineText = outline_text t.0 ls.0 arcs'.0.value ms in
+        let last = demand_ok (few ls.0) (too_large limit.Features) (Ok whole) shape ls.2 in
+        subst (λ (s : OutlineText). length (leaves s.layers) ≤ 200000) {x = whole} (ok_same whole shape last.1) (at_most (length (leaves ls.0)) 200000 last.0)
+
+-- a reading and its limits
+abbrev pub IsRead : List ℕ → Document → Type 0
+IsRead bytes d = (reading : Reads bytes d) × Fits reading
+
+-- the polygons that were read are meant
+made_read : (bytes : List ℕ) (shape : OutlineText) (ps : List Polygons) → length bytes ≤ 67108864 → Json 100 bytes → outline (root_of bytes) ≡ Ok shape → polygons_read shape ≡ Ok ps → IsRead bytes (document_of (made shape ps))
+made_read bytes shape ps short text e h =
+    let found = bind_ok (arcs (is_some shape.transform) shape.arcs) (λ (found : List Arc). each (uses_of found) (leaves shape.layers) >>= λ uses. demand (nat_le (size uses) 4000000) (too_large limit.Positions) (all_rings uses)) ps h in
+    let uses = bind_ok (each (uses_of found.0) (leaves shape.layers)) (λ (uses : List (List (List (List Arc)))). demand (nat_le (size uses) 4000000) (too_large limit.Positions) (all_rings uses)) ps found.2 in
+    let fits = demand_ok (nat_le (size uses.0) 4000000) (too_large limit.Positions) (all_rings uses.0) ps uses.2 in
+    (
+      record {
+        levels = 100;
+        json = text;
+        shape = shape;
+        arcs = found.0;
+        uses = uses.0;
+        polygons = ps;
+        outline_is = e;
+        arcs_are = are_arcs (is_some shape.transform) shape.arcs found.0 found.1;
+        uses_are = of_each (GeometryUses found.0) (uses_of found.0) (are_uses found.0) (leaves shape.layers) uses.0 uses.1;
+        rings_are = are_rings uses.0 ps fits.1;
+        document = refl;
+      },
+      record { short = short; flat = text; few = few_features (root_of bytes) shape e; small = at_most (size uses.0) 4000000 fits.0 },
+    )
+
+-- what opens is a reading within the limits
+pub is_read : (bytes : List ℕ) (o : Opened) → Opens bytes o → IsRead bytes (document_of o)
+is_read bytes o h =
+    let shape = bind_ok (outline (root_of bytes)) (λ (shape : OutlineText). polygons_read shape >>= λ ps. Ok (made shape ps)) o h.opens in
+    let ps = bind_ok (polygons_read shape.0) (λ (ps : List Polygons). Ok (made shape.0 ps)) o shape.2 in
+    subst (λ (p : Opened). IsRead bytes (document_of p)) (ok_same (made shape.0 ps.0) o ps.2) (made_read bytes shape.0 ps.0 h.short h.json shape.1 ps.1)
+
+-- ---- as the code answers it
+
+none_fails : {Y : Type 0} (o : OpenFault) (y : Y) → o ≢ open_fault.OutOfMemory → Fails o (Ok y) → ⊥
+none_fails open_fault.OutOfMemory y ne h = ne refl
+none_fails (open_fault.NotJson place) y ne h = h
+none_fails (open_fault.Conflict s t) y ne h = h
+none_fails (open_fault.TooLarge limit.Bytes) y ne h = h
+none_fails (open_fault.TooLarge limit.Features) y ne h = absurd cc
+none_fails (open_fault.TooLarge limit.Positions) y ne h = absurd cc
+none_fails _ y ne h = absurd cc
+
+module _ {X : Type 0} (view : X → Opened) (bytes : List ℕ) where
+  pub gives_read : (r : Result X OpenFault) (n : Node) → n ≡ root_of bytes → length bytes ≤ 67108864 → Json 100 bytes → Gives view r (opening n) → IfOk r (λ x. IsRead bytes (document_of (view x)))
+  gives_read (Err o) n e short text h = tt
+  gives_read (Ok x) n e short text h = is_read bytes (view x) (record { short = short; json = text; opens = ap opening (sym e) ∙ h })
+
+  pub gives_unread : (r : Result X OpenFault) (n : Node) → n ≡ root_of bytes → Gives view r (opening n) → IfErr r (λ o. o ≢ open_fault.OutOfMemory → ¬ ((d : Document) × (reading : Reads bytes d) × Fits reading))
+  gives_unread (Ok x) n e h = tt
+  gives_unread (Err o) n e h = λ ne read.
+      let found = opens bytes read.0 read.1 read.2 in
+      none_fails o found.0 ne (subst (λ (r : Result Opened Fault). Fails o r) (ap opening e ∙ found.1.opens) h)
