@@ -4,3 +4,4 @@ pub mod ReplyLemmas
 pub mod LineLemmas
 pub mod StepLemmas
 pub mod RunLemmas
+pub mod OpenLemmas

@@ -3,8 +3,8 @@ use Rattle.std.specs.Prelude.{◌≡◌, ◌≢◌, ℕ, ◌<◌, List, [], ◌+
 use Rattle.std.specs.Io.KnownBytes.{Appends, Consumes}
 use Rattle.ring_machine.specs.Document.{Document}
 use Rattle.ring_machine.specs.Planar.{Proper}
-use Rattle.topo_reader.specs.Document.{Opened, document_of}
-use Rattle.topo_reader.specs.Opening.{Opens, IsFault}
+use Rattle.topo_reader.specs.Opening.{IsFault}
+use Rattle.topo_reader.specs.Reads.{Reads, Fits}
 use Rattle.topo_outline.specs.declared.fault.OpenFault.TheVariants as opening
 use Rattle.script_runner.specs.Runs.{AreLines, ended_line, lines_of, Meaning, Means, AllMean, reply_text, replies, state_after_all, answered, refused, opened_state}
 use Rattle.script_runner.specs.Progress.{line_at}
@@ -21,12 +21,15 @@ use Rattle.script_runner.specs.declared.stop.Halt.TheVariants as halt
 abbrev pub Known : Type 0
 Known = Option (List ℕ)
 
--- the map opens as this document, which is proper
+-- the bytes mean this document, within the limits, and no two of its segments conflict
 pub record OpensAs (bytes : List ℕ) (d : Document) : Type 0 where
-  pub read : Opened
-  pub opens : Opens bytes read
-  pub document : d ≡ document_of read
+  pub reads : Reads bytes d
+  pub fits : Fits reads
   pub proper : Proper d
+
+-- the bytes mean no document that can be opened
+abbrev pub IsUnopened : List ℕ → Type 0
+IsUnopened bytes = (d : Document) → ¬ OpensAs bytes d
 
 -- a script's lines were answered by the text, one after another, on the document
 pub record Runs (d : Document) (script text : List ℕ) (summary : Summary) : Type 0 where
@@ -94,10 +97,11 @@ pub record IsUntouched (coming left taken given : Known) : Type 0 where
   pub unread : left ≡ coming
   pub unwritten : given ≡ taken
 
--- what stands after a fault: the map's own fault, or how far the answers came
+-- what stands after a fault: the map's first fault, or how far the answers came
 abbrev pub Ends : RunFault → List ℕ → Known → Known → Known → Known → Type 0
 Ends (fault.Open f) bytes coming left taken given =
-    IsFault bytes f × (f ≢ opening.OutOfMemory) × IsUntouched coming left taken given
+    IsFault bytes f × (f ≢ opening.OutOfMemory) × IsUnopened bytes
+    × IsUntouched coming left taken given
 Ends fault.Read bytes coming left taken given =
     (d : Document) × OpensAs bytes d × AnswersLines d coming left taken given
 Ends fault.Write bytes coming left taken given =
@@ -114,7 +118,7 @@ Halts halt.OutOfMemory d coming left taken given = AnswersPart d coming left tak
 
 -- why a map was not opened, want of memory apart
 abbrev pub IsOpenEnd : RunFault → List ℕ → Type 0
-IsOpenEnd (fault.Open f) bytes = IsFault bytes f × (f ≢ opening.OutOfMemory)
+IsOpenEnd (fault.Open f) bytes = IsFault bytes f × (f ≢ opening.OutOfMemory) × IsUnopened bytes
 IsOpenEnd fault.Read bytes = ⊥
 IsOpenEnd fault.Write bytes = ⊥
 IsOpenEnd fault.OutOfMemory bytes = Unit {0}

@@ -1,8 +1,9 @@
 -- What the outline of a topology is, by cases, with no order of faults.
-use Rattle.std.specs.Prelude.{◌≡◌, ◌≢◌, ℕ, zero, suc, List, [], ◌∷◌, ◌++◌, true, false, codes, Option, Some, None, option_map}
-use Rattle.std.specs.List.{All, AllPairs}
+use Rattle.std.specs.Prelude.{◌≡◌, ◌≢◌, ℕ, List, [], ◌∷◌, ◌++◌, true, false, codes, Option, Some, None, option_map}
+use Rattle.std.specs.List.{AllPairs}
 use Rattle.json_spans.specs.Parts.{Node}
 use Rattle.json_spans.specs.Walk.{items, members}
+use Rattle.json_spans.specs.Inside.{IsValue}
 use Rattle.json_spans.specs.Kinds.{kind_of}
 use Rattle.json_spans.specs.Decoded.{decoded}
 use Rattle.json_spans.specs.declared.kinds.Kind.TheVariants as kind
@@ -130,9 +131,6 @@ pub record IsOutline (root : Node) (o : OutlineText) : Type 0 where
 abbrev pub HasNoOutline : Node → Type 0
 HasNoOutline root = (o : OutlineText) → IsOutline root o → few o.layers ≡ false
 
--- at most k lists and objects stand one in another (RFC 8259, 9)
-unfoldable pub NestsAtMost : ℕ → Node → Type 0
-NestsAtMost zero n = (is_list n ≡ false) × (is_object n ≡ false)
-NestsAtMost (suc k) n =
-    (is_list n ≡ true → All (NestsAtMost k) (items n))
-    × (is_object n ≡ true → All (λ m. NestsAtMost k m.1) (members n))
+-- a value with at most k lists and objects one in another (RFC 8259, 9)
+abbrev pub NestsAtMost : ℕ → Node → Type 0
+NestsAtMost k n = IsValue k n.bytes

@@ -20,6 +20,8 @@ use Rattle.topo_reader.specs.Rings.{all_rings}
 use Rattle.topo_reader.specs.Document.{Polygons, Opened, document_of}
 use Rattle.topo_reader.specs.Opening.{polygons_read, opening, root_of, Opens, Stops}
 use Rattle.topo_reader.specs.Reads.{AreArcs, GeometryUses, AreRings, Reads, Fits}
+use Rattle.json_spans.proofs.Grouped.{root_value}
+use Rattle.topo_outline.proofs.Shaped.{outline_means, outline_gives}
 use Rattle.topo_reader.proofs.MeaningOfArcs.{arcs_of, are_arcs}
 use Rattle.topo_reader.proofs.MeaningOfUses.{uses_are, are_uses}
 use Rattle.topo_reader.proofs.MeaningOfRings.{rings_of, are_rings}
@@ -47,29 +49,12 @@ opens bytes d r f = (
   record {
     short = f.short;
     json = f.flat;
-    opens = rw (r.outline_is, polygons_of r.shape r.arcs r.uses r.polygons r.arcs_are r.uses_are r.rings_are f.small) refl;
+    opens = rw (outline_gives (root_of bytes) r.shape (root_value 100 bytes f.flat) r.topology (at_least (length (leaves r.shape.layers)) 200000 f.few), polygons_of r.shape r.arcs r.uses r.polygons r.arcs_are r.uses_are r.rings_are f.small) refl;
   },
   sym r.document,
 )
 
 -- ---- what is read is meant
-
-few_features : (root : Node) (shape : OutlineText) → outline root ≡ Ok shape → length (leaves shape.layers) ≤ 200000
-few_features root shape h =
-    let object = demand_ok (is_object root) not_topology (members_of root >>= λ ms. demand (is_topology (member word.Type ms)) not_topology (outlined ms)) shape h in
-    let ms = bind_ok (members_of root) (λ (ms : List EntryNode). demand (is_topology (member word.Type ms)) not_topology (outlined ms)) shape object.1 in
-    let typed = demand_ok (is_topology (member word.Type ms.0)) not_topology (outlined ms.0) shape ms.2 in
-    in_members ms.0 typed.1
-  where
-    in_members : (ms : List EntryNode) → outlined ms ≡ Ok shape → length (leaves shape.layers) ≤ 200000
-    in_members ms e =
-        let t = bind_ok (transform_from (member word.Transform ms)) (λ (t : Option Text). member_that is_object (codes "objects") word.Objects ms >>= λ objects. member_that is_list (codes "arcs") word.Arcs ms >>= λ arcs'. layers objects.value >>= λ ls. limited (outline_text t ls arcs'.value ms)) shape e in
-        let objects = bind_ok (member_that is_object (codes "objects") word.Objects ms) (λ (objects : EntryNode). member_that is_list (codes "arcs") word.Arcs ms >>= λ arcs'. layers objects.value >>= λ ls. limited (outline_text t.0 ls arcs'.value ms)) shape t.2 in
-        let arcs' = bind_ok (member_that is_list (codes "arcs") word.Arcs ms) (λ (arcs' : EntryNode). layers objects.0.value >>= λ ls. limited (outline_text t.0 ls arcs'.value ms)) shape objects.2 in
-        let ls = bind_ok (layers objects.0.value) (λ (ls : List LayerText). limited (outline_text t.0 ls arcs'.0.value ms)) shape arcs'.2 in
-        let whole : OutlineText = outline_text t.0 ls.0 arcs'.0.value ms in
-        let last = demand_ok (few ls.0) (too_large limit.Features) (Ok whole) shape ls.2 in
-        subst (λ (s : OutlineText). length (leaves s.layers) ≤ 200000) {x = whole} (ok_same whole shape last.1) (at_most (length (leaves ls.0)) 200000 last.0)
 
 -- a reading and its limits
 abbrev pub IsRead : List ℕ → Document → Type 0
@@ -78,6 +63,7 @@ IsRead bytes d = (reading : Reads bytes d) × Fits reading
 -- the polygons that were read are meant
 made_read : (bytes : List ℕ) (shape : OutlineText) (ps : List Polygons) → length bytes ≤ 67108864 → Json 100 bytes → outline (root_of bytes) ≡ Ok shape → polygons_read shape ≡ Ok ps → IsRead bytes (document_of (made shape ps))
 made_read bytes shape ps short text e h =
+    let means = outline_means (root_of bytes) shape e in
     let found = bind_ok (arcs (is_some shape.transform) shape.arcs) (λ (found : List Arc). each (uses_of found) (leaves shape.layers) >>= λ uses. demand (nat_le (size uses) 4000000) (too_large limit.Positions) (all_rings uses)) ps h in
     let uses = bind_ok (each (uses_of found.0) (leaves shape.layers)) (λ (uses : List (List (List (List Arc)))). demand (nat_le (size uses) 4000000) (too_large limit.Positions) (all_rings uses)) ps found.2 in
     let fits = demand_ok (nat_le (size uses.0) 4000000) (too_large limit.Positions) (all_rings uses.0) ps uses.2 in
@@ -89,13 +75,13 @@ made_read bytes shape ps short text e h =
         arcs = found.0;
         uses = uses.0;
         polygons = ps;
-        outline_is = e;
+        topology = means.0;
         arcs_are = are_arcs (is_some shape.transform) shape.arcs found.0 found.1;
         uses_are = of_each (GeometryUses found.0) (uses_of found.0) (are_uses found.0) (leaves shape.layers) uses.0 uses.1;
         rings_are = are_rings uses.0 ps fits.1;
         document = refl;
       },
-      record { short = short; flat = text; few = few_features (root_of bytes) shape e; small = at_most (size uses.0) 4000000 fits.0 },
+      record { short = short; flat = text; few = at_most (length (leaves shape.layers)) 200000 means.1; small = at_most (size uses.0) 4000000 fits.0 },
     )
 
 -- what opens is a reading within the limits

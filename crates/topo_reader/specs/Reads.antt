@@ -9,7 +9,8 @@ use Rattle.grid_geometry.specs.Position.{Position}
 use Rattle.ring_machine.specs.Ring.{canonical}
 use Rattle.ring_machine.specs.Document.{Form, Polygon, MultiPolygon, Null, Document}
 use Rattle.topo_outline.specs.Shape.{is_list, OutlineText}
-use Rattle.topo_outline.specs.Outline.{leaves, outline}
+use Rattle.topo_outline.specs.Outline.{leaves}
+use Rattle.topo_outline.specs.IsOutline.{IsOutline}
 use Rattle.topo_reader.specs.Positions.{origin}
 use Rattle.topo_reader.specs.Indexes.{Arc}
 use Rattle.topo_reader.specs.Sizes.{size}
@@ -127,7 +128,7 @@ pub record Reads (bytes : List ℕ) (d : Document) : Type 0 where
   pub arcs : List Arc
   pub uses : List (List (List (List Arc)))
   pub polygons : List Polygons
-  pub outline_is : outline (root_of bytes) ≡ Ok shape
+  pub topology : IsOutline (root_of bytes) shape
   pub arcs_are : AreArcs (is_some shape.transform) shape.arcs arcs
   pub uses_are : AllZip (GeometryUses arcs) (leaves shape.layers) uses
   pub rings_are : AllZip AreRings uses polygons

@@ -1,0 +1,40 @@
+-- What opens as a document, and what opens as none.
+use Rattle.std.proofs.Common.{◌≡◌, refl, sym, ap, ◌∙◌, subst, List, ℕ}
+use Rattle.std.specs.Prelude.{Some, None, Ok}
+use Rattle.grid_geometry.specs.Segment.{Segment}
+use Rattle.ring_machine.specs.Document.{Document}
+use Rattle.ring_machine.specs.Planar.{Proper, first_pair}
+use Rattle.topo_reader.specs.Document.{Opened, document_of}
+use Rattle.topo_reader.specs.Opening.{Opens}
+use Rattle.topo_reader.specs.Reads.{Reads, Fits}
+use Rattle.topo_reader.proofs.MeaningOfText.{opens}
+use Rattle.plain_rings.specs.declared.fault.BuildFault.{BuildFault}
+use Rattle.plain_rings.specs.declared.fault.BuildFault.TheVariants as build
+use Rattle.script_runner.specs.declared.fault.RunFault.{RunFault}
+use Rattle.script_runner.specs.Outcome.{OpensAs, IsUnopened, IsOpenEnd, IsBuildEnd}
+
+pub opens_as : (bytes : List ℕ) (read d : Document) → ((reading : Reads bytes read) × Fits reading) → d ≡ read → Proper d → OpensAs bytes d
+opens_as bytes read d is e proper = subst (λ z. Proper z → OpensAs bytes z) (sym e) (λ p. record { reads = is.0; fits = is.1; proper = p }) proper
+
+-- what means no document opens as none
+pub not_read : (bytes : List ℕ) → ¬ ((d : Document) × (reading : Reads bytes d) × Fits reading) → IsUnopened bytes
+not_read bytes none d h = none (d, h.reads, h.fits)
+
+-- what was read is the one document that the bytes mean
+same_read : (bytes : List ℕ) (o p : Opened) → Opens bytes o → Opens bytes p → o ≡ p
+same_read bytes o p a b = let e : Ok o ≡ Ok p = sym a.opens ∙ b.opens in cc
+
+none_is_some : (u : Segment × Segment) → None ≡ Some u → ⊥
+none_is_some u e = absurd cc
+
+-- where two segments of it conflict, it does not open
+pub in_conflict : (bytes : List ℕ) (o : Opened) (s t : Segment) → Opens bytes o → first_pair (document_of o) ≡ Some (s, t) → IsUnopened bytes
+in_conflict bytes o s t a e d h =
+    let (p, b, same) = opens bytes d h.reads h.fits in
+    let is : first_pair d ≡ Some (s, t) = ap first_pair (sym same ∙ ap document_of (sym (same_read bytes o p a b))) ∙ e in
+    none_is_some (s, t) (sym h.proper.apart ∙ is)
+
+-- the end of a run whose map was read, and not built
+pub not_built : (bytes : List ℕ) (o : Opened) (f : BuildFault) (end : RunFault) → Opens bytes o → ((s t : Segment) → f ≡ build.Conflict s t → first_pair (document_of o) ≡ Some (s, t)) → IsBuildEnd f end → IsOpenEnd end bytes
+not_built bytes o (build.Conflict s t) end a pair is = subst (λ z. IsOpenEnd z bytes) (sym is) ((o, a, pair s t refl), (λ e. absurd cc), in_conflict bytes o s t a (pair s t refl))
+not_built bytes o build.OutOfMemory end a pair is = subst (λ z. IsOpenEnd z bytes) (sym is) tt
