@@ -206,4 +206,3 @@ mutual
 
 pub text_pass : (sep : ℕ) {xs r : List ℕ} → Chars xs r → Alike sep Plain (34 ∷ xs) r
 text_pass sep {xs = xs} {r = r} c = pass sep Plain Quoted 34 xs r (λ m. refl) (chars_pass sep c r (λ m. refl))
-
