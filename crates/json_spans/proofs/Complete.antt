@@ -37,9 +37,6 @@ opens_on m f fs x xs lt e k place = let small : nat_lt (length fs) 100 ≡ true 
 
 -- ---- spaces
 
-Waits : Mode → List Frame → Type 0
-Waits m fs = (x : ℕ) → is_space x ≡ true → step m (top_of fs) x ≡ Goes m
-
 spaces_on : {xs ys : List ℕ} → Space xs ys → (m : Mode) (fs : List Frame) → ((x : ℕ) → is_space x ≡ true → step m (top_of fs) x ≡ Goes m) → Good m fs ys → Good m fs xs
 spaces_on no_space m fs w k = k
 spaces_on (space {x = x} {xs = xs} e s) m fs w k = goes_on m m fs x xs (w x e) (spaces_on s m fs w k)

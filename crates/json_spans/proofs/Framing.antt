@@ -29,7 +29,7 @@ stops (y ∷ ys) zs e f = by_test (is_space y) refl where
   by_test true t = let h = rw (take_while-cons is_space y ys, t) at e in absurd cc
   by_test false t = rw (take_while-cons is_space y (ys ++ zs), t) refl
 
-pub firm_join : (us bs : List ℕ) → Firm us → Firm bs → Firm (us ++ bs)
+firm_join : (us bs : List ℕ) → Firm us → Firm bs → Firm (us ++ bs)
 firm_join us bs a b = rw (reverse-append us bs) (stops (reverse bs) (reverse us) b a)
 
 firm_last : (us : List ℕ) (x : ℕ) → is_space x ≡ false → Firm (us ++ (x ∷ []))

@@ -1,7 +1,7 @@
 -- What whole numbers mean.
 use Rattle.std.proofs.Common.{◌≡◌, ℕ, zero, suc, ◌+◌, ◌<◌, List, [], ◌∷◌, ◌++◌, length, take, drop, Bool, true, false, refl, sym, subst, ◌∙◌, cond, arith, inl, inr, ◌⊎◌}
-use Rattle.std.specs.Prelude.{◌==◌, ◌&&◌, ◌^◌, nat_lt, nat_le, ℤ, pos, negsuc, Option, Some, None, Ok, Err}
-use Rattle.std.specs.List.{prefix_len, list_all}
+use Rattle.std.specs.Prelude.{◌==◌, ◌&&◌, ◌^◌, nat_lt, nat_le, ℤ, pos, negsuc, Option, Some, None, Err}
+use Rattle.std.specs.List.{list_all}
 use Rattle.std.proofs.lemmas.Bool.{eqb-true, lt-ltb, ltb-true}
 use Rattle.std.proofs.lemmas.Bool.Decides.{nat_tests}
 use Rattle.std.proofs.lemmas.List.{take-append-drop}
@@ -10,7 +10,7 @@ use Rattle.std.proofs.Math.Seq.{drop-append_seam, take-append_seam}
 use Rattle.json_spans.specs.Bytes.{is_digit}
 use Rattle.json_spans.specs.Grammar.{Digits, no_digit, digit, SomeDigits, digits}
 use Rattle.json_spans.specs.Whole.{value_from, is_zero, is_whole_rest, digits_len, whole_digits, minus, signed, whole_of, NoFraction, no_point, point, IsWhole, plain, negative, held, Means}
-use Rattle.json_spans.specs.declared.number.NotWhole.TheVariants.{Form, Huge}
+use Rattle.json_spans.specs.declared.number.NotWhole.TheVariants.{Form}
 
 -- ---- a whole number is read
 
@@ -100,7 +100,7 @@ minus_digits : (x : ℕ) (xs : List ℕ) → (x == 45) ≡ true → Whole (x ∷
 minus_digits x xs t =
     by_digits (whole_digits xs)
     (λ ds e. let c = cut xs ds e in
-        inl (subst Whole (rw (eqb-true x 45 t, c.is) refl) (let w : Whole (45 ∷ (ds ++ c.fraction)) = (minus (value_from 0 ds), negative c.some c.none) in w)))
+    inl (subst Whole (rw (eqb-true x 45 t, c.is) refl) (let w : Whole (45 ∷ (ds ++ c.fraction)) = (minus (value_from 0 ds), negative c.some c.none) in w)))
     (λ e. inr (rw (t, e) refl))
 
 plain_digits : (x : ℕ) (xs : List ℕ) → (x == 45) ≡ false → Whole (x ∷ xs) ⊎ (whole_of (x ∷ xs) ≡ Err Form)

@@ -69,7 +69,7 @@ pub spaces_skip : (sep : ℕ) {xs ys : List ℕ} → NoSpace sep → Space xs ys
 spaces_skip sep n no_space zs k = k
 spaces_skip sep n (space {x = x} {xs = xs} e s) zs k = pass sep Plain Plain x xs zs (n x e) (spaces_skip sep n s zs k)
 
-pub spaces_pass : {xs ys : List ℕ} → Space xs ys → (zs : List ℕ) → Alike 44 Plain ys zs → Alike 44 Plain xs zs
+spaces_pass : {xs ys : List ℕ} → Space xs ys → (zs : List ℕ) → Alike 44 Plain ys zs → Alike 44 Plain xs zs
 spaces_pass s zs k = spaces_skip 44 comma_no_space s zs k
 
 -- ---- numbers
@@ -206,4 +206,3 @@ mutual
 
 pub text_pass : (sep : ℕ) {xs r : List ℕ} → Chars xs r → Alike sep Plain (34 ∷ xs) r
 text_pass sep {xs = xs} {r = r} c = pass sep Plain Quoted 34 xs r (λ m. refl) (chars_pass sep c r (λ m. refl))
-

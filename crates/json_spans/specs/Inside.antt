@@ -5,7 +5,6 @@ use Rattle.std.specs.List.{All}
 use Rattle.json_spans.specs.Grammar.{Space, Chars, Value}
 use Rattle.json_spans.specs.Parts.{Node}
 use Rattle.json_spans.specs.Kinds.{kind_of}
-use Rattle.json_spans.specs.declared.kinds.Kind.{Kind}
 use Rattle.json_spans.specs.declared.kinds.Kind.TheVariants as kind
 
 -- nothing but space, a value with at most n lists and objects one in another, and a string

@@ -83,6 +83,7 @@ fn has_first(bytes: &[u8]) -> bool
 
 /// The items of a list (RFC 8259, section 5), without the space round them.
 ///
+/// A value that is a list has exactly the items of the grammar, each a value with one level less.
 /// They are cut at the commas, so a span that is no list has what stands between its commas.
 pub fn items(span: Span<'_>) -> Items<'_>
     ensures value { items_left result ≡ items (node span.entry) }
@@ -96,7 +97,9 @@ pub fn items(span: Span<'_>) -> Items<'_>
 /// The names and values of an object (RFC 8259, section 4), without the space round them. A name
 /// keeps its quotes.
 ///
-/// They are cut at commas and colons, so a span that is no object has what stands between those.
+/// A value that is an object has exactly the members of the grammar: strings, and values with one
+/// level less. They are cut at commas and colons, so a span that is no object has what stands
+/// between those.
 pub fn members(span: Span<'_>) -> Members<'_>
     ensures value { members_left result ≡ members (node span.entry) }
     ensures grammar { HasMembers (node span.entry) (members_left result) }

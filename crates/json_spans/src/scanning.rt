@@ -142,11 +142,7 @@ impl<'a> Root<'a> {
 ///
 /// A string may have half of a surrogate pair (section 8.2). `NotJson` and `TooDeep` name the first
 /// byte that cannot stand where it does. Only the open brackets take memory.
-#[tactic(auto, using(
-    crate::proofs::Sound::verdict_json,
-    crate::proofs::Complete::json_verdict,
-    crate::proofs::Grouped::root_value
-))]
+#[tactic(auto, using(crate::proofs::Sound::verdict_json, crate::proofs::Complete::json_verdict, crate::proofs::Grouped::root_value))]
 pub fn scan<'a, A: Allocator + Copy>(alloc: A, bytes: &'a [u8]) -> Result<Root<'a>, ScanFault>
     ensures span { IfOk result (λ root.
         node (span_of root) ≡ trimmed (record { at_byte = 0; bytes = bytes.now })) }
