@@ -14,7 +14,7 @@ fn pos<R: Abort>(rt: &R, x: i64, y: i64) -> Pos {
 
 #[test]
 fn texts_of_faults_of_a_text(rt: HostRuntime) -> Result<(), Fail> {
-    for (fault, want) in [
+    let cases = [
         (OpenFault::NotJson { place: 7 }, "not json at 7"),
         (OpenFault::TooDeep { place: 100 }, "too deep at 100"),
         (
@@ -34,8 +34,9 @@ fn texts_of_faults_of_a_text(rt: HostRuntime) -> Result<(), Fail> {
             "too large positions",
         ),
         (OpenFault::OutOfMemory, "out of memory"),
-    ] {
-        assert_eq!(rt; format!(in rt.alloc(); "{fault}")?.as_str(), want);
+    ];
+    for case in &cases[..] {
+        assert_eq!(rt; format!(in rt.alloc(); "{}", case.0)?.as_str(), case.1);
     }
     Ok(())
 }
@@ -48,7 +49,7 @@ fn texts_of_faults_of_members(rt: HostRuntime) -> Result<(), Fail> {
     let type_name = Token {
         text: b"LineString",
     };
-    for (fault, want) in [
+    let cases = [
         (OpenFault::NotTopology, "not a topology"),
         (OpenFault::BadMember { name }, "bad member arc\\u0073"),
         (OpenFault::Duplicate { name }, "duplicate arc\\u0073"),
@@ -56,8 +57,9 @@ fn texts_of_faults_of_members(rt: HostRuntime) -> Result<(), Fail> {
             OpenFault::Unsupported { type_name },
             "unsupported LineString",
         ),
-    ] {
-        assert_eq!(rt; format!(in rt.alloc(); "{fault}")?.as_str(), want);
+    ];
+    for case in &cases[..] {
+        assert_eq!(rt; format!(in rt.alloc(); "{}", case.0)?.as_str(), case.1);
     }
     Ok(())
 }
@@ -72,7 +74,7 @@ fn texts_of_faults_of_rings(rt: HostRuntime) -> Result<(), Fail> {
     let twice = pos(&rt, 2, -2);
     let s = Seg::new(pos(&rt, 0, 0), pos(&rt, 4, -4)).expect(&rt, "two positions");
     let t = Seg::new(pos(&rt, 3, 0), pos(&rt, 1, -4)).expect(&rt, "two positions");
-    for (fault, want) in [
+    let cases = [
         (OpenFault::NotWhole { place: 48 }, "not whole at 48"),
         (OpenFault::OutOfRange { place: 49 }, "out of range at 49"),
         (OpenFault::BadPosition { place: 40 }, "bad position at 40"),
@@ -84,8 +86,9 @@ fn texts_of_faults_of_rings(rt: HostRuntime) -> Result<(), Fail> {
             "ring repeats 2 0 1 at 2 -2",
         ),
         (OpenFault::Conflict { s, t }, "conflict 0 0 4 -4 / 1 -4 3 0"),
-    ] {
-        assert_eq!(rt; format!(in rt.alloc(); "{fault}")?.as_str(), want);
+    ];
+    for case in &cases[..] {
+        assert_eq!(rt; format!(in rt.alloc(); "{}", case.0)?.as_str(), case.1);
     }
     Ok(())
 }
