@@ -1,6 +1,7 @@
 -- A geometry's pieces are answered exactly if it is one, as far as the walk goes down.
 use Rattle.std.proofs.Common.{arith, ◌≤◌, ◌≡◌, if◌then◌else◌, ◌⊎◌, inl, inr, ℕ, zero, suc, List, [], ◌∷◌, ◌++◌, Bool, true, false, refl, subst, codes}
 use Rattle.std.specs.Prelude.{Result, Ok, Err, Some}
+use Rattle.std.specs.List.{AllByRecursion}
 use Rattle.json_spans.specs.Parts.{Node}
 use Rattle.json_spans.specs.Walk.{items}
 use Rattle.ring_machine.specs.Document.{Form}
@@ -12,7 +13,6 @@ use Rattle.topo_outline.specs.declared.members.Owner.TheVariants as owner
 use Rattle.topo_outline.specs.Words.{geometry_of}
 use Rattle.topo_outline.specs.Faults.{Fault, too_deep, ◌>>=◌}
 use Rattle.topo_outline.specs.Shape.{is_list, is_object, EntryNode, Piece, starts, ends, leaf, head, are_rings, wrong, members_of, member_that, type_of, with_rings, single, is_collection, shaped, each_joined, geometry}
-use Rattle.std.specs.List.{AllByRecursion}
 use Rattle.topo_outline.specs.IsOutline.{NestsAtMost, HasEntries, value_at, HasType, IsGeometry, AreGeometries, null_geometry, polygon, multi_polygon, point, multi_point, collection, no_geometry}
 use Rattle.topo_outline.specs.IsOutline as shape
 use Rattle.topo_outline.proofs.Depth.{inside, list_of}
@@ -158,6 +158,7 @@ two_less k (suc e) n list es nests le o at_list is_one =
 
 mutual
   unfolding geometry_of
+
   pub geometry_gives : {n : Node} {ps : List Piece} → IsGeometry n ps → (k d : ℕ) → NestsAtMost k n → k ≤ d → geometry d n ≡ Ok ps
   geometry_gives (null_geometry {n = n} {value = v} {es = es} o a e) k d nests le =
       let (m, is) = null_gives es v a e in

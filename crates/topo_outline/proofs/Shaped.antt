@@ -174,7 +174,8 @@ outlined_means root es o object typed h =
         are_arcs = is_arcs;
         members = refl;
       },
-      small)
+      small,
+    )
 
 pub outline_means : (root : Node) (o : OutlineText) → outline root ≡ Ok o → IsOutline root o × (few o.layers ≡ true)
 outline_means root o h =
@@ -197,9 +198,9 @@ outline_gives root o nests s small =
     let (m, found, same) = member_at word.Objects s.entries s.objects s.has_objects in
     let (a, found_arcs, same_arcs) = member_at word.Arcs s.entries o.arcs s.has_arcs in
     rw (s.of_root.object, object_gives s.of_root, topology_gives s.entries s.topology) (
-      outlined_gives s.entries o m a
-        (transform_gives s.transform (member word.Transform s.entries) refl)
-        (member_is_good is_object (codes "objects") word.Objects s.entries m found (rw same s.of_objects.object))
-        (member_is_good is_list (codes "arcs") word.Arcs s.entries a found_arcs (rw same_arcs s.are_arcs))
-        (rw same (layers_of_object k s.of_objects s.layers (value_nests k word.Objects s.entries s.objects all s.has_objects) (omega arith)))
-        same_arcs small s.members)
+    outlined_gives s.entries o m a
+    (transform_gives s.transform (member word.Transform s.entries) refl)
+    (member_is_good is_object (codes "objects") word.Objects s.entries m found (rw same s.of_objects.object))
+    (member_is_good is_list (codes "arcs") word.Arcs s.entries a found_arcs (rw same_arcs s.are_arcs))
+    (rw same (layers_of_object k s.of_objects s.layers (value_nests k word.Objects s.entries s.objects all s.has_objects) (omega arith)))
+    same_arcs small s.members)

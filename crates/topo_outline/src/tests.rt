@@ -13,45 +13,10 @@ fn pos<R: Abort>(rt: &R, x: i64, y: i64) -> Pos {
 }
 
 #[test]
-fn fault_texts(rt: HostRuntime) -> Result<(), Fail> {
-    let name = Token {
-        text: b"arc\\u0073",
-    };
-    let ring = RingAt {
-        feature: 2,
-        polygon: 0,
-        ring: 1,
-    };
-    let s = Seg::new(pos(&rt, 0, 0), pos(&rt, 4, -4)).expect(&rt, "two positions");
-    let t = Seg::new(pos(&rt, 3, 0), pos(&rt, 1, -4)).expect(&rt, "two positions");
+fn texts_of_faults_of_a_text(rt: HostRuntime) -> Result<(), Fail> {
     let cases = [
         (OpenFault::NotJson { place: 7 }, "not json at 7"),
         (OpenFault::TooDeep { place: 100 }, "too deep at 100"),
-        (OpenFault::NotTopology, "not a topology"),
-        (OpenFault::BadMember { name }, "bad member arc\\u0073"),
-        (OpenFault::Duplicate { name }, "duplicate arc\\u0073"),
-        (
-            OpenFault::Unsupported {
-                type_name: Token {
-                    text: b"LineString",
-                },
-            },
-            "unsupported LineString",
-        ),
-        (OpenFault::NotWhole { place: 48 }, "not whole at 48"),
-        (OpenFault::OutOfRange { place: 49 }, "out of range at 49"),
-        (OpenFault::BadPosition { place: 40 }, "bad position at 40"),
-        (OpenFault::BadArcIndex { place: 61 }, "bad arc index at 61"),
-        (OpenFault::ArcsDoNotMeet { ring }, "arcs do not meet 2 0 1"),
-        (OpenFault::RingShort { ring }, "ring short 2 0 1"),
-        (
-            OpenFault::RingRepeats {
-                ring,
-                pos: pos(&rt, 2, -2),
-            },
-            "ring repeats 2 0 1 at 2 -2",
-        ),
-        (OpenFault::Conflict { s, t }, "conflict 0 0 4 -4 / 1 -4 3 0"),
         (
             OpenFault::TooLarge { what: Limit::Bytes },
             "too large bytes",
@@ -69,6 +34,58 @@ fn fault_texts(rt: HostRuntime) -> Result<(), Fail> {
             "too large positions",
         ),
         (OpenFault::OutOfMemory, "out of memory"),
+    ];
+    for case in &cases[..] {
+        assert_eq!(rt; format!(in rt.alloc(); "{}", case.0)?.as_str(), case.1);
+    }
+    Ok(())
+}
+
+#[test]
+fn texts_of_faults_of_members(rt: HostRuntime) -> Result<(), Fail> {
+    let name = Token {
+        text: b"arc\\u0073",
+    };
+    let type_name = Token {
+        text: b"LineString",
+    };
+    let cases = [
+        (OpenFault::NotTopology, "not a topology"),
+        (OpenFault::BadMember { name }, "bad member arc\\u0073"),
+        (OpenFault::Duplicate { name }, "duplicate arc\\u0073"),
+        (
+            OpenFault::Unsupported { type_name },
+            "unsupported LineString",
+        ),
+    ];
+    for case in &cases[..] {
+        assert_eq!(rt; format!(in rt.alloc(); "{}", case.0)?.as_str(), case.1);
+    }
+    Ok(())
+}
+
+#[test]
+fn texts_of_faults_of_rings(rt: HostRuntime) -> Result<(), Fail> {
+    let ring = RingAt {
+        feature: 2,
+        polygon: 0,
+        ring: 1,
+    };
+    let twice = pos(&rt, 2, -2);
+    let s = Seg::new(pos(&rt, 0, 0), pos(&rt, 4, -4)).expect(&rt, "two positions");
+    let t = Seg::new(pos(&rt, 3, 0), pos(&rt, 1, -4)).expect(&rt, "two positions");
+    let cases = [
+        (OpenFault::NotWhole { place: 48 }, "not whole at 48"),
+        (OpenFault::OutOfRange { place: 49 }, "out of range at 49"),
+        (OpenFault::BadPosition { place: 40 }, "bad position at 40"),
+        (OpenFault::BadArcIndex { place: 61 }, "bad arc index at 61"),
+        (OpenFault::ArcsDoNotMeet { ring }, "arcs do not meet 2 0 1"),
+        (OpenFault::RingShort { ring }, "ring short 2 0 1"),
+        (
+            OpenFault::RingRepeats { ring, pos: twice },
+            "ring repeats 2 0 1 at 2 -2",
+        ),
+        (OpenFault::Conflict { s, t }, "conflict 0 0 4 -4 / 1 -4 3 0"),
     ];
     for case in &cases[..] {
         assert_eq!(rt; format!(in rt.alloc(); "{}", case.0)?.as_str(), case.1);
@@ -168,42 +185,58 @@ fn shown(alloc: Global, text: &[u8]) -> Result<String, Fail> {
 }
 
 #[test]
-fn faults_of_the_topology(rt: HostRuntime) -> Result<(), Fail> {
+fn faults_of_the_type(rt: HostRuntime) -> Result<(), Fail> {
+    for text in [
+        b"[]".as_slice(),
+        b"{}",
+        b"{\"type\":\"FeatureCollection\"}",
+        b"{\"type\":null,\"objects\":{},\"arcs\":[]}",
+        b"{\"type\":\"\\ud800\",\"objects\":{},\"arcs\":[]}",
+    ] {
+        assert_eq!(rt; shown(rt.alloc(), text)?.as_str(), "not a topology");
+    }
+    Ok(())
+}
+
+#[test]
+fn faults_of_names(rt: HostRuntime) -> Result<(), Fail> {
     for (text, want) in [
-        (b"[]".as_slice(), "not a topology"),
-        (b"{}", "not a topology"),
-        (b"{\"type\":\"FeatureCollection\"}", "not a topology"),
-        (
-            b"{\"type\":null,\"objects\":{},\"arcs\":[]}",
-            "not a topology",
-        ),
-        (
-            b"{\"type\":\"\\ud800\",\"objects\":{},\"arcs\":[]}",
-            "not a topology",
-        ),
-        (b"{\"\\ud800\":1}", "bad member \\ud800"),
+        (b"{\"\\ud800\":1}".as_slice(), "bad member \\ud800"),
         (b"{\"a\":1,\"a\":2}", "duplicate a"),
         (
             b"{\"type\":\"Topology\",\"\\u0074ype\":1,\"objects\":{},\"arcs\":[]}",
             "duplicate \\u0074ype",
         ),
         (
-            b"{\"type\":\"Topology\",\"transform\":3}",
-            "bad member transform",
-        ),
-        (
-            b"{\"type\":\"Topology\",\"transform\":{\"scale\":[1,2]}}",
-            "bad member transform",
-        ),
-        (
-            b"{\"type\":\"Topology\",\"transform\":{\"scale\":[1,2],\"translate\":[1]}}",
-            "bad member transform",
-        ),
-        (
             b"{\"type\":\"Topology\",\"transform\":{\"scale\":[1,2],\"scale\":[]}}",
             "duplicate scale",
         ),
-        (b"{\"type\":\"Topology\"}", "bad member objects"),
+        (
+            b"{\"type\":\"Topology\",\"objects\":{\"a\":3,\"a\":3},\"arcs\":[]}",
+            "duplicate a",
+        ),
+    ] {
+        assert_eq!(rt; shown(rt.alloc(), text)?.as_str(), want);
+    }
+    Ok(())
+}
+
+#[test]
+fn faults_of_the_transform(rt: HostRuntime) -> Result<(), Fail> {
+    for text in [
+        b"{\"type\":\"Topology\",\"transform\":3}".as_slice(),
+        b"{\"type\":\"Topology\",\"transform\":{\"scale\":[1,2]}}",
+        b"{\"type\":\"Topology\",\"transform\":{\"scale\":[1,2],\"translate\":[1]}}",
+    ] {
+        assert_eq!(rt; shown(rt.alloc(), text)?.as_str(), "bad member transform");
+    }
+    Ok(())
+}
+
+#[test]
+fn faults_of_the_objects_and_arcs(rt: HostRuntime) -> Result<(), Fail> {
+    for (text, want) in [
+        (b"{\"type\":\"Topology\"}".as_slice(), "bad member objects"),
         (
             b"{\"type\":\"Topology\",\"obj\\u0065cts\":[]}",
             "bad member obj\\u0065cts",
@@ -219,10 +252,6 @@ fn faults_of_the_topology(rt: HostRuntime) -> Result<(), Fail> {
         (
             b"{\"type\":\"Topology\",\"objects\":{\"a\":3},\"arcs\":[]}",
             "bad member a",
-        ),
-        (
-            b"{\"type\":\"Topology\",\"objects\":{\"a\":3,\"a\":3},\"arcs\":[]}",
-            "duplicate a",
         ),
     ] {
         assert_eq!(rt; shown(rt.alloc(), text)?.as_str(), want);
