@@ -9,7 +9,7 @@ use Rattle.json_spans.specs.Whole.{whole_of}
 use Rattle.json_spans.specs.declared.number.NotWhole.{NotWhole}
 use Rattle.grid_geometry.specs.Position.{Position}
 use Rattle.topo_outline.specs.Shape.{is_list}
-use Rattle.topo_outline.specs.Faults.{Fault, out_of_range, bad_position, ◌>>=◌}
+use Rattle.topo_outline.specs.Faults.{out_of_range, bad_position, ◌>>=◌}
 use Rattle.topo_reader.specs.Positions.{is_within, summed, coordinate, two_of, pair_of, pair, position, origin, before_next, positions, has_two, arc, arcs}
 use Rattle.topo_reader.specs.Indexes.{Arc}
 use Rattle.topo_reader.specs.Reads.{IsSum, Sums, ArePositions, IsArc, AreArcs}
@@ -24,11 +24,14 @@ within z sum e h = at_least (unsigned_abs z) 1000000000000 (subst (λ (y : ℤ).
 position_of : (before p : Position) (n : Node) → IsSum before n p → position before n ≡ Ok p
 unfolding position
 position_of before p n s = rw (
-    s.list, s.two, s.x_is, s.y_is,
-    within (before.x +ℤ s.x) p.x (ap (λ (q : Position). q.x) s.sum) s.x_within,
-    within (before.y +ℤ s.y) p.y (ap (λ (q : Position). q.y) s.sum) s.y_within,
-    s.sum,
-  ) refl
+  s.list,
+  s.two,
+  s.x_is,
+  s.y_is,
+  within (before.x +ℤ s.x) p.x (ap (λ (q : Position). q.x) s.sum) s.x_within,
+  within (before.y +ℤ s.y) p.y (ap (λ (q : Position). q.y) s.sum) s.y_within,
+  s.sum,
+) refl
 
 sums_of : {before : Position} {ns : List Node} {ps : List Position} → Sums before ns ps → positions true before ns ≡ Ok ps
 unfolding positions

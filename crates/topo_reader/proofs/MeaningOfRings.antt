@@ -1,6 +1,6 @@
 -- The rings that arcs mean are those that the reader gives.
-use Rattle.std.proofs.Common.{◌≡◌, ◌≢◌, ℕ, suc, ◌+◌, ◌-◌, ◌≤◌, Bool, true, false, cond, List, [], ◌∷◌, ◌++◌, length, take, refl, sym, ap, ap₂, ◌∙◌, subst, arith, append_assoc, length-append, le-leb, ◌&&◌, ◌||◌}
-use Rattle.std.specs.Prelude.{Option, Some, None, Result, Ok, Err, nat_le, reverse}
+use Rattle.std.proofs.Common.{◌≡◌, ℕ, ◌-◌, Bool, true, false, List, [], ◌∷◌, ◌++◌, length, take, refl, sym, ap, ◌∙◌, subst, arith, length-append}
+use Rattle.std.specs.Prelude.{Option, Some, None, Ok, nat_le}
 use Rattle.std.specs.List.{AllZip, flat_map}
 use Rattle.std.proofs.lemmas.Bool.{false≢true}
 use Rattle.std.proofs.lemmas.List.{reverse-append}
@@ -10,12 +10,12 @@ use Rattle.grid_geometry.specs.Position.{Position, position_eq}
 use Rattle.ring_machine.specs.Ring.{canonical}
 use Rattle.ring_machine.proofs.Order.{and_both, position_eq-true, position_eq-refl}
 use Rattle.topo_outline.specs.declared.fault.RingAt.{RingAt}
-use Rattle.topo_outline.specs.Faults.{Fault, arcs_do_not_meet, ring_short, ring_repeats, demand}
+use Rattle.topo_outline.specs.Faults.{arcs_do_not_meet, ring_short, demand}
 use Rattle.topo_reader.specs.Indexes.{Arc}
-use Rattle.topo_reader.specs.Rings.{is_at, first_of, last_of, starts_at, meet_from, ends, meet, unless, squeezed, last_after, front, all_of, joined, first_repeat, distinct, ring_of, polygon_of, feature_of, all_rings}
+use Rattle.topo_reader.specs.Rings.{is_at, first_of, last_of, meet_from, ends, meet, unless, squeezed, last_after, front, all_of, joined, first_repeat, distinct, ring_of, polygon_of, feature_of, all_rings}
 use Rattle.topo_reader.specs.Document.{Polygons}
 use Rattle.topo_reader.specs.Reads.{Leads, Chain, there, along, Once, none, last, same, next, IsRing, AreRings}
-use Rattle.topo_reader.proofs.Repeats.{AreNew, none_again, no_repeat, Differ, differ, distinct_of, not_equal}
+use Rattle.topo_reader.proofs.Repeats.{none_again, no_repeat, differ, distinct_of, not_equal}
 use Rattle.topo_reader.proofs.Steps.{at_least, at_most, demand_ok, ok_same, each_at_of, of_each_at}
 
 -- ---- equal neighbours taken once
@@ -123,8 +123,7 @@ meets_chain p ([] ∷ as') h = absurd (false≢true h)
 meets_chain p ((r ∷ ps) ∷ as') h =
     let two = and_both (position_eq p r) (meet_from (last_of (r ∷ ps)) as') h in
     let one = leads r ps in
-    let rest = meets_chain one.0 as' (ap (λ o. meet_from o as') (sym (last_is one.1)) ∙ two.1) in
-    (
+    let rest = meets_chain one.0 as' (ap (λ o. meet_from o as') (sym (last_is one.1)) ∙ two.1) in (
       rest.0,
       subst (λ s. Chain s ((r ∷ ps) ∷ as') rest.0) (sym (position_eq-true p r two.0)) (along one.1 rest.1),
       ap (λ o. ends o as') (last_is one.1) ∙ rest.2,
@@ -172,7 +171,7 @@ closed_once : {s : Position} {a : Arc} {as' : List Arc} → Chain s (a ∷ as') 
 closed_once {s = s} {a = a} {as' = as'} c =
     let first = begins_with c in
     subst (λ ps. Once ps (joined (a ∷ as') ++ s ∷ [])) (all_is (a ∷ as'))
-        (subst (λ qs. Once (all_of (a ∷ as')) qs) (closes s first.0 (all_of (a ∷ as')) first.1 (chain_joined c)) (is_once (all_of (a ∷ as'))))
+    (subst (λ qs. Once (all_of (a ∷ as')) qs) (closes s first.0 (all_of (a ∷ as')) first.1 (chain_joined c)) (is_once (all_of (a ∷ as'))))
 
 -- ---- one ring
 

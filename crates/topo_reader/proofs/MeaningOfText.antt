@@ -1,5 +1,5 @@
 -- What a text means is what opening it gives, in both directions.
-use Rattle.std.proofs.Common.{◌≡◌, ◌≢◌, ℕ, ◌≤◌, Bool, true, List, length, refl, sym, ap, ◌∙◌, subst, arith}
+use Rattle.std.proofs.Common.{◌≡◌, ◌≢◌, ℕ, ◌≤◌, List, length, refl, sym, ap, ◌∙◌, subst}
 use Rattle.std.specs.Prelude.{Option, Result, Ok, Err, IfOk, IfErr, nat_le, is_some, codes}
 use Rattle.std.specs.List.{AllZip}
 use Rattle.json_spans.specs.Grammar.{Json}
@@ -18,7 +18,7 @@ use Rattle.topo_reader.specs.Indexes.{Arc, uses_of}
 use Rattle.topo_reader.specs.Sizes.{size}
 use Rattle.topo_reader.specs.Rings.{all_rings}
 use Rattle.topo_reader.specs.Document.{Polygons, Opened, document_of}
-use Rattle.topo_reader.specs.Opening.{polygons_read, opening, root_of, Opens, Stops}
+use Rattle.topo_reader.specs.Opening.{polygons_read, opening, root_of, Opens}
 use Rattle.topo_reader.specs.Reads.{AreArcs, GeometryUses, AreRings, Reads, Fits}
 use Rattle.json_spans.proofs.Grouped.{root_value}
 use Rattle.topo_outline.proofs.Shaped.{outline_means, outline_gives}
@@ -36,11 +36,11 @@ polygons_of : (shape : OutlineText) (found : List Arc) (uses : List (List (List 
     AreArcs (is_some shape.transform) shape.arcs found → AllZip (GeometryUses found) (leaves shape.layers) uses → AllZip AreRings uses polygons → size uses ≤ 4000000 →
     polygons_read shape ≡ Ok polygons
 polygons_of shape found uses polygons a u r small = rw (
-    arcs_of (is_some shape.transform) shape.arcs found a,
-    each_of (GeometryUses found) (uses_of found) (uses_are found) (leaves shape.layers) uses u,
-    at_least (size uses) 4000000 small,
-    rings_of uses polygons r,
-  ) refl
+  arcs_of (is_some shape.transform) shape.arcs found a,
+  each_of (GeometryUses found) (uses_of found) (uses_are found) (leaves shape.layers) uses u,
+  at_least (size uses) 4000000 small,
+  rings_of uses polygons r,
+) refl
 
 -- a reading within the limits is what opening gives
 pub opens : (bytes : List ℕ) (d : Document) (r : Reads bytes d) → Fits r → (o : Opened) × Opens bytes o × (document_of o ≡ d)
@@ -66,8 +66,7 @@ made_read bytes shape ps short text e h =
     let means = outline_means (root_of bytes) shape e in
     let found = bind_ok (arcs (is_some shape.transform) shape.arcs) (λ (found : List Arc). each (uses_of found) (leaves shape.layers) >>= λ uses. demand (nat_le (size uses) 4000000) (too_large limit.Positions) (all_rings uses)) ps h in
     let uses = bind_ok (each (uses_of found.0) (leaves shape.layers)) (λ (uses : List (List (List (List Arc)))). demand (nat_le (size uses) 4000000) (too_large limit.Positions) (all_rings uses)) ps found.2 in
-    let fits = demand_ok (nat_le (size uses.0) 4000000) (too_large limit.Positions) (all_rings uses.0) ps uses.2 in
-    (
+    let fits = demand_ok (nat_le (size uses.0) 4000000) (too_large limit.Positions) (all_rings uses.0) ps uses.2 in (
       record {
         levels = 100;
         json = text;

@@ -1,14 +1,12 @@
 -- The arcs that a geometry names are those that the reader gives.
 use Rattle.std.proofs.Common.{◌≡◌, ℕ, ℤ, pos, negsuc, List, [], ◌∷◌, refl, sym, ap, subst}
 use Rattle.std.specs.Prelude.{Option, Some, None, option_map, slice_get, reverse, Result, Ok, Err}
-use Rattle.std.specs.List.{AllZip}
 use Rattle.json_spans.specs.Parts.{Node}
 use Rattle.json_spans.specs.Walk.{items}
 use Rattle.json_spans.specs.Whole.{whole_of}
 use Rattle.json_spans.specs.declared.number.NotWhole.{NotWhole}
 use Rattle.json_spans.specs.declared.number.NotWhole.TheVariants as is_not
 use Rattle.ring_machine.specs.Document.{Form, Polygon, MultiPolygon, Null}
-use Rattle.topo_outline.specs.Faults.{Fault, ◌>>=◌}
 use Rattle.topo_reader.specs.Indexes.{Arc, there, index_from, index, ring, polygon, polygons, uses_of}
 use Rattle.topo_reader.specs.Reads.{IsUse, forward, backward, RingUses, PolygonUses, GeometryUses}
 use Rattle.topo_reader.proofs.Steps.{bind_ok, ok_same, each_of, of_each}

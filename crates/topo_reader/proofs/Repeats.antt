@@ -1,6 +1,6 @@
 -- No position stands twice: as a loop with what was seen finds it, as a test, and by places.
-use Rattle.std.proofs.Common.{◌≡◌, ◌≢◌, ℕ, suc, zero, ◌<◌, Bool, true, false, cond, List, [], ◌∷◌, ◌++◌, length, get_or, refl, sym, ap, ap₂, ◌∙◌, arith, ◌&&◌, ◌||◌, inl, inr}
-use Rattle.std.specs.Prelude.{Option, Some, None, not}
+use Rattle.std.proofs.Common.{◌≡◌, ◌≢◌, suc, Bool, true, false, cond, List, [], ◌∷◌, ◌++◌, get_or, refl, sym, ap, ap₂, ◌∙◌, arith, ◌&&◌, ◌||◌, inl, inr}
+use Rattle.std.specs.Prelude.{Some, None, not}
 use Rattle.std.specs.List.{All, AllPairs}
 use Rattle.std.proofs.lemmas.Bool.{false≢true}
 use Rattle.std.proofs.lemmas.List.Folds.{list_any-append, list_any_none}
@@ -46,9 +46,9 @@ not_true false h = refl
 
 only_that : (p q : Position) → (position_eq q p || false) ≡ true → q ≡ p
 only_that p q h = elim (or_true (position_eq q p) false h) [
-    inl e ↦ position_eq-true q p e
+  | inl e ↦ position_eq-true q p e
   | inr e ↦ absurd (false≢true e)
-  ]
+]
 
 pub no_repeat : (seen ps : List Position) → AreNew seen ps → first_repeat seen ps ≡ None
 unfolding first_repeat
@@ -59,9 +59,9 @@ no_repeat seen (p ∷ ps) new =
   where
     later : has ps p ≡ false → (q : Position) → has (seen ++ p ∷ []) q ≡ true → has ps q ≡ false
     later mine q is = elim (or_true (has seen q) (position_eq q p || false) (sym (list_any-append (position_eq q) seen (p ∷ [])) ∙ is)) [
-        inl before ↦ or_none (position_eq q p) (has ps q) (new.1 q before)
+      | inl before ↦ or_none (position_eq q p) (has ps q) (new.1 q before)
       | inr that ↦ ap (has ps) (only_that p q that) ∙ mine
-      ]
+    ]
 
     by : (b : Bool) → has seen p ≡ b → first_repeat (seen ++ p ∷ []) ps ≡ None → cond b (Some p) (first_repeat (seen ++ p ∷ []) ps) ≡ None
     by true e rest = absurd (false≢true (sym (new.1 p e) ∙ ap (λ b. b || has ps p) (position_eq-refl p)))
