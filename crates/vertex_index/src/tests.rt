@@ -1,0 +1,2 @@
+//! A key through the changes of its vertex.
+use super::{AddFault, ShiftFault, Vertices};
