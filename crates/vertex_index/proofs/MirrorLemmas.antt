@@ -108,7 +108,7 @@ module _ (s : List (Option Position)) (es : List (Position × ℕ)) (m : Mirrors
           let elsewhere : j ≢ k = grind (arith, nat_tests) in
           let kept = m.there j q (sym (others j elsewhere) ∙ e) in
           let kj : Some k ≡ Some j =
-              sym (m.there k p was) ∙ ap (key_in es) (position_eq-same p q ep) ∙ kept in
+          sym (m.there k p was) ∙ ap (key_in es) (position_eq-same p q ep) ∙ kept in
           let at_k : j ≡ k = cc in
           absurd (elsewhere at_k)
       there j q e false ej false ep =
@@ -143,7 +143,8 @@ IsSome-copied_mut (Some x) h = refl
 
 -- ---- what the keys say of a position, the map says
 
-module _ (s : List (Option Position)) (es : List (Position × ℕ)) (m : Mirrors s es) (v : Placement) (view_is : placement_of s ≡ v) where
+module _ (s : List (Option Position)) (es : List (Position × ℕ)) (m : Mirrors s es)
+    (v : Placement) (view_is : placement_of s ≡ v) where
   -- the slot under a key has what the map has
   pub slot_has : (k : ℕ) → in_slot s k ≡ map.get v k
   slot_has k = sym (get-placement_of s k) ∙ ap (λ w. map.get w k) view_is
@@ -162,7 +163,7 @@ module _ (s : List (Option Position)) (es : List (Position × ℕ)) (m : Mirrors
   absent_key p None e = free p (sym e)
   absent_key p (Some k) e = tt
 
-  pub occupied : (p : Position) → is_some (key_in es p) ≡ true → IsOccupied v p
+  occupied : (p : Position) → is_some (key_in es p) ≡ true → IsOccupied v p
   occupied p h = by (key_in es p) refl h
     where
       by : (o : Option ℕ) → o ≡ key_in es p → is_some o ≡ true → IsOccupied v p
@@ -171,6 +172,13 @@ module _ (s : List (Option Position)) (es : List (Position × ℕ)) (m : Mirrors
 
   pub unoccupied : (p : Position) → is_some (key_in es p) ≡ false → (k : ℕ) → map.get v k ≢ Some p
   unoccupied p h = free p (no_key es p h)
+
+  -- an answer that comes exactly where a vertex stands: the keys have the position, or not
+  pub refuses : {R : Type 0} (p : Position) → is_some (key_in es p) ≡ true → R → R ↔ IsOccupied v p
+  refuses p h r = (λ _. occupied p h, λ _. r)
+
+  pub accepts : {R : Type 0} (p : Position) → is_some (key_in es p) ≡ false → (R → ⊥) → R ↔ IsOccupied v p
+  accepts p h not_so = (λ r. absurd (not_so r), λ stands. absurd (unoccupied p h stands.0 stands.1))
 
   -- no two keys have the same position, since each is the key of it
   pub distinct : AreDistinct v

@@ -1,6 +1,6 @@
--- The map that the slots are: what stands under a key, how many there are, and what a change of a slot does.
-use Rattle.std.proofs.Common.{◌≡◌, ◌≢◌, ℕ, zero, suc, ◌+◌, ◌<◌, Bool, true, false, cond, List, [], ◌∷◌}
-use Rattle.std.proofs.Common.{Option, Some, None, is_some, count_by, refl, sym, ap, ◌∙◌, arith}
+-- The slots as a map: what stands under a key, how many there are, what a change of a slot does.
+use Rattle.std.proofs.Common.{◌≡◌, ◌≢◌, ℕ, zero, suc, ◌+◌, ◌<◌, Bool, true, false, cond}
+use Rattle.std.proofs.Common.{List, [], ◌∷◌, Option, Some, None, is_some, count_by, refl, sym, ap, ◌∙◌, arith}
 use Rattle.std.specs.Ordering.{nat_cmp, eq_by_cmp}
 use Rattle.std.proofs.lemmas.Cmp.{nat_cmp_total}
 use Rattle.std.proofs.lemmas.Bool.Decides.{nat_tests}
@@ -57,8 +57,8 @@ len-placement_of slots = from slots 0
     from (Some p ∷ rest) i =
         let others = map.from_entries {R = nat_cmp} (entries (i + 1) rest) in
         let new : map.get others i ≡ None =
-            map.get-from_entries nat_cmp_total (entries (i + 1) rest) i
-            ∙ find_below rest i (i + 1) (omega arith) in
+        map.get-from_entries nat_cmp_total (entries (i + 1) rest) i
+        ∙ find_below rest i (i + 1) (omega arith) in
         map.len-insert nat_cmp_total others i p
         ∙ ap (λ (o : Option Position). cond (is_some o) (map.len others) (map.len others + 1)) new
         ∙ omega (arith, from rest (i + 1), sum_by-cons (λ o. cond (is_some o) 1 0) (Some p) rest)
@@ -73,7 +73,7 @@ pub placement-changed : (s t : List (Option Position)) (k : ℕ) (p : Position) 
 placement-changed s t k p here others = same _ _ (λ j.
     get-placement_of t j ∙ by j (eq_by_cmp nat_cmp j k) refl
     ∙ sym (map.get-insert nat_cmp_total (placement_of s) k p j
-      ∙ ap (cond (eq_by_cmp nat_cmp j k) (Some p)) (get-placement_of s j)))
+    ∙ ap (cond (eq_by_cmp nat_cmp j k) (Some p)) (get-placement_of s j)))
   where
     by : (j : ℕ) (b : Bool) → eq_by_cmp nat_cmp j k ≡ b → in_slot t j ≡ cond b (Some p) (in_slot s j)
     by j true e = let at_k : j ≡ k = grind (arith, nat_tests) in ap (in_slot t) at_k ∙ here
@@ -85,7 +85,7 @@ pub placement-removed : (s t : List (Option Position)) (k : ℕ) → in_slot t k
 placement-removed s t k here others = same _ _ (λ j.
     get-placement_of t j ∙ by j (eq_by_cmp nat_cmp j k) refl
     ∙ sym (map.get-remove nat_cmp_total (placement_of s) k j
-      ∙ ap (cond (eq_by_cmp nat_cmp j k) None) (get-placement_of s j)))
+    ∙ ap (cond (eq_by_cmp nat_cmp j k) None) (get-placement_of s j)))
   where
     by : (j : ℕ) (b : Bool) → eq_by_cmp nat_cmp j k ≡ b → in_slot t j ≡ cond b None (in_slot s j)
     by j true e = let at_k : j ≡ k = grind (arith, nat_tests) in ap (in_slot t) at_k ∙ here

@@ -18,7 +18,7 @@ in_slot slots k = slice_index_or slots k None
 abbrev pub key_in : List (Position × ℕ) → Position → Option ℕ
 key_in keys p = pairs.lookup (position_eq p) keys
 
--- the key of each position in a slot is the slot's number, and each key names the slot of its position
+-- the key of a position in a slot is the slot's number, and a key names the slot of its position
 pub record Mirrors (slots : List (Option Position)) (keys : List (Position × ℕ)) : Type 0 where
   pub there : (k : ℕ) (p : Position) → in_slot slots k ≡ Some p → key_in keys p ≡ Some k
   pub back : (p : Position) (k : ℕ) → key_in keys p ≡ Some k → in_slot slots k ≡ Some p

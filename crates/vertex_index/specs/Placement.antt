@@ -19,4 +19,5 @@ AreDistinct m = (j k : ℕ) (p : Position) → map.get m j ≡ Some p → map.ge
 
 -- a position is stored as the pair of its coordinates
 abbrev pub position_code : Coded Position
-position_code = code_by (ℤ × ℤ) (coded× coded_ℤ coded_ℤ) (λ p. (p.x, p.y)) (λ c. position c.0 c.1) (λ _. refl)
+position_code =
+    code_by (ℤ × ℤ) (coded× coded_ℤ coded_ℤ) (λ p. (p.x, p.y)) (λ c. position c.0 c.1) (λ _. refl)

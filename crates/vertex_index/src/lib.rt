@@ -1,10 +1,12 @@
-//! The vertices of a map: distinct positions, each under a key that stays when the position changes.
+//! The vertices of a map: distinct positions, each under a key that stays when the position
+//! changes.
 //!
 //! Each call takes time that does not grow with the number of vertices, but for `copy`, and for
 //! `add` and `shift` where they grow a table.
 #![tactic(auto)]
 
-ghost use Rattle.std.specs.Prelude.{◌≡◌, ◌≢◌, ◌↔◌, ℕ, Some, None, Err, true, IfSome, IfNone, IfOk, OnOk, OnErr};
+ghost use Rattle.std.specs.Prelude.{◌≡◌, ◌≢◌, ◌↔◌, ℕ, Some, None, Err, true};
+ghost use Rattle.std.specs.Prelude.{IfSome, IfNone, IfOk, OnOk, OnErr};
 ghost use Rattle.std.specs.Ordering.{nat_cmp};
 ghost use Rattle.std.specs.FinMap as map;
 ghost use Rattle.vertex_index.specs.Placement.{IsOccupied, AreDistinct};
@@ -86,8 +88,8 @@ impl<A: Allocator + Copy> Vertices<A> {
         *self.slots.get(k.index()).unwrap()
     }
 
-    /// Puts a vertex at a position, under a key that was not held. `Occupied` where a vertex stands
-    /// there, and `OutOfMemory` where none does and there is no room for one more.
+    /// Puts a vertex at a position, under a key that was not held. `Occupied` where a vertex
+    /// stands there, and `OutOfMemory` where none does and there is no room for one more.
     pub fn add(&mut self, p: Pos) -> Result<VertexKey, AddFault>
         ensures key { IfOk result (λ k. map.get self.old k ≡ None) }
         ensures new { OnOk result ((k : ℕ) → map.get self.old k ≢ Some p) }
@@ -106,8 +108,8 @@ impl<A: Allocator + Copy> Vertices<A> {
         Ok(key)
     }
 
-    /// Moves the vertex of a key that is held to a position. `Occupied` where a vertex stands there,
-    /// be it this one, and `OutOfMemory` where none does and there is no room.
+    /// Moves the vertex of a key that is held to a position. `Occupied` where a vertex stands
+    /// there, be it this one, and `OutOfMemory` where none does and there is no room.
     pub fn shift(&mut self, k: VertexKey, q: Pos) -> Result<(), ShiftFault>
         requires { map.contains_key self.old k ≡ true }
         ensures new { OnOk result ((j : ℕ) → map.get self.old j ≢ Some q) }
@@ -121,9 +123,9 @@ impl<A: Allocator + Copy> Vertices<A> {
         }
         self.keys.reserve(1)?;
         let place = self.slots.get_mut(k.index()).unwrap();
-        let p = *place;
+        let before = *place;
         *place = q;
-        self.keys.swap_remove(&p);
+        self.keys.swap_remove(&before);
         self.keys.insert(q, k).unwrap();
         Ok(())
     }

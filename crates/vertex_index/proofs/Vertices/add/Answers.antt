@@ -1,40 +1,41 @@
-use Rattle.std.proofs.Common.{◌≡◌, ◌≢◌, ◌∙◌, ℕ, Option, Some, None, cond, sym, ap, subst, refl, false}
+use Rattle.std.proofs.Common.{◌≡◌, ◌≢◌, ◌∙◌, ℕ, Option, Some, None, cond, sym, ap, subst, refl, false, is_some}
 use Rattle.std.specs.FinMap as map
 use Rattle.std.proofs.lemmas.Result.{MatchResult-at_ok}
 use Rattle.grid_geometry.specs.Position.{Position, position_eq}
 use Rattle.vertex_index.specs.Mirrors.{in_slot, key_in}
 use Rattle.vertex_index.proofs.PlacementLemmas.{placement-changed, get-inserted}
 use Rattle.vertex_index.proofs.FaultLemmas.{no_room_to_add}
-use Rattle.vertex_index.proofs.MirrorLemmas.{slot_has, Mirrors-add, occupied, unoccupied, no_key}
+use Rattle.vertex_index.proofs.MirrorLemmas.{slot_has, Mirrors-add, refuses, accepts, unoccupied, no_key}
 use Rattle.vertex_index.proofs.Vertices.add.Given.{Over}
 use Rattle.vertex_index.proofs.Vertices.add.Goals as goal
 
 -- ---- where a vertex stands at the position, and where none does
 
+no_key_here : (g : Over) (c : goal.After-unwrap g) → is_some (key_in c.self.inside.keys.entries c.args.p) ≡ false
+no_key_here g c = sym c.contains_key.ensures ∙ c.if-contains_key.false
+
 pub returns-then-contains_key-clause-occupied : goal.returns-then-contains_key-clause-occupied
 returns-then-contains_key-clause-occupied g c =
-    let seen = sym c.contains_key.ensures ∙ c.if-contains_key.true in
-    (λ _. occupied _ _ c.self.invariant _ c.self.view_is c.args.p seen, λ _. refl)
+    refuses _ _ c.self.invariant _ c.self.view_is c.args.p
+    (sym c.contains_key.ensures ∙ c.if-contains_key.true) refl
 
 pub returns-in_err-reserve-clause-occupied : goal.returns-in_err-reserve-clause-occupied
 returns-in_err-reserve-clause-occupied g c =
-    let seen = sym c.contains_key.ensures ∙ c.if-contains_key.false in
-    let free = unoccupied _ _ c.self.invariant _ c.self.view_is c.args.p seen in
-    (λ is. absurd (no_room_to_add _ c.from_residual.ensures.1 is), λ stands. absurd (free stands.0 stands.1))
+    accepts _ _ c.self.invariant _ c.self.view_is c.args.p
+    (sym c.contains_key.ensures ∙ c.if-contains_key.false) (no_room_to_add _ c.from_residual.ensures.1)
 
 pub returns-in_err-reserve-2-clause-occupied : goal.returns-in_err-reserve-2-clause-occupied
 returns-in_err-reserve-2-clause-occupied g c =
-    let seen = sym c.contains_key.ensures ∙ c.if-contains_key.false in
-    let free = unoccupied _ _ c.self.invariant _ c.self.view_is c.args.p seen in
-    (λ is. absurd (no_room_to_add _ c.from_residual-in_err-reserve-2.ensures.1 is), λ stands. absurd (free stands.0 stands.1))
-
-pub returns-clause-new : goal.returns-clause-new
-returns-clause-new g c =
-    let seen = sym c.contains_key.ensures ∙ c.if-contains_key.false in
-    unoccupied _ _ c.self.invariant _ c.self.view_is c.args.p seen
+    accepts _ _ c.self.invariant _ c.self.view_is c.args.p
+    (sym c.contains_key.ensures ∙ c.if-contains_key.false)
+    (no_room_to_add _ c.from_residual-in_err-reserve-2.ensures.1)
 
 pub returns-clause-occupied : goal.returns-clause-occupied
-returns-clause-occupied g c = (λ is. cc, λ stands. absurd (returns-clause-new g c stands.0 stands.1))
+returns-clause-occupied g c =
+    accepts _ _ c.self.invariant _ c.self.view_is c.args.p (no_key_here g c) (λ is. cc)
+
+pub returns-clause-new : goal.returns-clause-new
+returns-clause-new g c = unoccupied _ _ c.self.invariant _ c.self.view_is c.args.p (no_key_here g c)
 
 -- ---- the new vertex
 
@@ -59,7 +60,8 @@ found_here g c q =
 pub invariant_of-self-2 : goal.invariant_of-self-2
 invariant_of-self-2 g c =
     Mirrors-add _ _ c.self.invariant _ _ c.insert_reserved.result c.args.p (vacant_here g c)
-    (no_key c.self.inside.keys.entries c.args.p (sym c.contains_key.ensures ∙ c.if-contains_key.false)) c.insert_reserved.ensures.updates.changed (others_kept g c) (found_here g c)
+    (no_key _ c.args.p (no_key_here g c)) c.insert_reserved.ensures.updates.changed
+    (others_kept g c) (found_here g c)
 
 pub returns-clause-key : goal.returns-clause-key
 returns-clause-key g c =

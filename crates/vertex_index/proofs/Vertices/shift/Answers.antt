@@ -6,30 +6,31 @@ use Rattle.grid_geometry.specs.Position.{Position, position_eq}
 use Rattle.vertex_index.specs.Mirrors.{in_slot, key_in}
 use Rattle.vertex_index.proofs.PlacementLemmas.{placement-changed, get-inserted}
 use Rattle.vertex_index.proofs.FaultLemmas.{no_room_to_shift}
-use Rattle.vertex_index.proofs.MirrorLemmas.{slot_has, Mirrors-shift, occupied, unoccupied, no_key, IsSome-copied_mut, set_here, set_others}
+use Rattle.vertex_index.proofs.MirrorLemmas.{slot_has, Mirrors-shift, refuses, accepts, unoccupied, no_key, IsSome-copied_mut, set_here, set_others}
 use Rattle.vertex_index.proofs.Vertices.shift.Given.{Over}
 use Rattle.vertex_index.proofs.Vertices.shift.Goals as goal
 
 -- ---- where a vertex stands at the position, and where none does
 
+no_key_here : (g : Over) (c : goal.After-unwrap g) → is_some (key_in c.self.inside.keys.entries c.args.q) ≡ false
+no_key_here g c = sym c.contains_key.ensures ∙ c.if-contains_key.false
+
 pub returns-then-contains_key-clause-occupied : goal.returns-then-contains_key-clause-occupied
 returns-then-contains_key-clause-occupied g c =
-    let seen = sym c.contains_key.ensures ∙ c.if-contains_key.true in
-    (λ _. occupied _ _ c.self.invariant _ c.self.view_is c.args.q seen, λ _. refl)
+    refuses _ _ c.self.invariant _ c.self.view_is c.args.q
+    (sym c.contains_key.ensures ∙ c.if-contains_key.true) refl
 
 pub returns-in_err-reserve-clause-occupied : goal.returns-in_err-reserve-clause-occupied
 returns-in_err-reserve-clause-occupied g c =
-    let seen = sym c.contains_key.ensures ∙ c.if-contains_key.false in
-    let free = unoccupied _ _ c.self.invariant _ c.self.view_is c.args.q seen in
-    (λ is. absurd (no_room_to_shift _ c.from_residual.ensures.1 is), λ stands. absurd (free stands.0 stands.1))
-
-pub returns-clause-new : goal.returns-clause-new
-returns-clause-new g c =
-    let seen = sym c.contains_key.ensures ∙ c.if-contains_key.false in
-    unoccupied _ _ c.self.invariant _ c.self.view_is c.args.q seen
+    accepts _ _ c.self.invariant _ c.self.view_is c.args.q
+    (sym c.contains_key.ensures ∙ c.if-contains_key.false) (no_room_to_shift _ c.from_residual.ensures.1)
 
 pub returns-clause-occupied : goal.returns-clause-occupied
-returns-clause-occupied g c = (λ is. cc, λ stands. absurd (returns-clause-new g c stands.0 stands.1))
+returns-clause-occupied g c =
+    accepts _ _ c.self.invariant _ c.self.view_is c.args.q (no_key_here g c) (λ is. cc)
+
+pub returns-clause-new : goal.returns-clause-new
+returns-clause-new g c = unoccupied _ _ c.self.invariant _ c.self.view_is c.args.q (no_key_here g c)
 
 -- ---- the position in the place of the other
 
@@ -57,7 +58,7 @@ found_here g c r =
 pub invariant_of-self-2 : goal.invariant_of-self-2
 invariant_of-self-2 g c =
     Mirrors-shift _ _ c.self.invariant _ _ c.index.result c.unwrap-place.result.now c.args.q (was g c)
-    (no_key c.self.inside.keys.entries c.args.q (sym c.contains_key.ensures ∙ c.if-contains_key.false)) (gone_here g c) (found_here g c)
+    (no_key _ c.args.q (no_key_here g c)) (gone_here g c) (found_here g c)
 
 pub returns-clause-ok : goal.returns-clause-ok
 returns-clause-ok g c =
