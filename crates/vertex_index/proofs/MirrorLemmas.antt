@@ -85,8 +85,8 @@ module _ (s : List (Option Position)) (es : List (Position × ℕ)) (m : Mirrors
           in others j elsewhere ∙ was
 
   -- a position that stood in a slot goes
-  pub Mirrors-remove : (t : List (Option Position)) (fs : List (Position × ℕ)) (k : ℕ) (p : Position)
-      → in_slot s k ≡ Some p
+  pub Mirrors-remove : (t : List (Option Position)) (fs : List (Position × ℕ)) (k : ℕ)
+      (p : Position) → in_slot s k ≡ Some p
       → in_slot t k ≡ None → ((j : ℕ) → j ≢ k → in_slot t j ≡ in_slot s j)
       → ((q : Position) → key_in fs q ≡ cond (position_eq p q) None (key_in es q))
       → Mirrors t fs
@@ -125,14 +125,16 @@ module _ (s : List (Option Position)) (es : List (Position × ℕ)) (m : Mirrors
 
 -- ---- what a look-up tells
 
-pub no_key : (es : List (Position × ℕ)) (p : Position) → is_some (key_in es p) ≡ false → key_in es p ≡ None
+pub no_key : (es : List (Position × ℕ)) (p : Position) → is_some (key_in es p) ≡ false
+    → key_in es p ≡ None
 no_key es p h = by (key_in es p) h
   where
     by : (o : Option ℕ) → is_some o ≡ false → o ≡ None
     by None e = refl
     by (Some k) e = cc
 
-pub IsSome-copied : {X : Type 0} (o : Option (Bor X)) → is_some (option_copied o) ≡ true → is_some o ≡ true
+pub IsSome-copied : {X : Type 0} (o : Option (Bor X))
+    → is_some (option_copied o) ≡ true → is_some o ≡ true
 IsSome-copied None h = h
 IsSome-copied (Some x) h = refl
 
@@ -154,7 +156,8 @@ module _ (s : List (Option Position)) (es : List (Position × ℕ)) (m : Mirrors
       let bad : None ≡ Some k = sym none ∙ m.there k p (slot_has k ∙ e) in
       absurd (let b : ⊥ = cc in b)
 
-  pub found_key : (p : Position) (o : Option ℕ) → o ≡ key_in es p → IfSome o (λ k. map.get v k ≡ Some p)
+  pub found_key : (p : Position) (o : Option ℕ) → o ≡ key_in es p
+      → IfSome o (λ k. map.get v k ≡ Some p)
   found_key p None e = tt
   found_key p (Some k) e = sym (slot_has k) ∙ m.back p k (sym e)
 
@@ -177,13 +180,16 @@ module _ (s : List (Option Position)) (es : List (Position × ℕ)) (m : Mirrors
   pub refuses : {R : Type 0} (p : Position) → is_some (key_in es p) ≡ true → R → R ↔ IsOccupied v p
   refuses p h r = (λ _. occupied p h, λ _. r)
 
-  pub accepts : {R : Type 0} (p : Position) → is_some (key_in es p) ≡ false → (R → ⊥) → R ↔ IsOccupied v p
+  pub accepts : {R : Type 0} (p : Position) → is_some (key_in es p) ≡ false → (R → ⊥)
+      → R ↔ IsOccupied v p
   accepts p h not_so = (λ r. absurd (not_so r), λ stands. absurd (unoccupied p h stands.0 stands.1))
 
   -- no two keys have the same position, since each is the key of it
   pub distinct : AreDistinct v
   distinct j k p ej ek =
-      let jk : Some j ≡ Some k = sym (m.there j p (slot_has j ∙ ej)) ∙ m.there k p (slot_has k ∙ ek) in cc
+      let key_j : key_in es p ≡ Some j = m.there j p (slot_has j ∙ ej) in
+      let key_k : key_in es p ≡ Some k = m.there k p (slot_has k ∙ ek) in
+      let jk : Some j ≡ Some k = sym key_j ∙ key_k in cc
 
 -- ---- a position put into a slot that has one
 
@@ -231,7 +237,8 @@ slot_same (Some p) None e = absurd e
 slot_same (Some p) (Some q) e = ap (λ r. Some r) e
 
 -- a clone of the slots is the same slots
-pub slots-clone : (s t : List (Option Position)) → AllZip (slab.IsSlotClone (λ p q. q ≡ p)) s t → s ≡ t
+pub slots-clone : (s t : List (Option Position))
+    → AllZip (slab.IsSlotClone (λ p q. q ≡ p)) s t → s ≡ t
 slots-clone s t h = sym (same_from_all_zip _ s t h slot_same)
 
 -- and of the entries

@@ -1,6 +1,7 @@
 -- The slots as a map: what stands under a key, how many there are, what a change of a slot does.
 use Rattle.std.proofs.Common.{◌≡◌, ◌≢◌, ℕ, zero, suc, ◌+◌, ◌<◌, Bool, true, false, cond}
-use Rattle.std.proofs.Common.{List, [], ◌∷◌, Option, Some, None, is_some, count_by, refl, sym, ap, ◌∙◌, arith}
+use Rattle.std.proofs.Common.{List, [], ◌∷◌, Option, Some, None, is_some, count_by}
+use Rattle.std.proofs.Common.{refl, sym, ap, ◌∙◌, arith}
 use Rattle.std.specs.Ordering.{nat_cmp, eq_by_cmp}
 use Rattle.std.proofs.lemmas.Cmp.{nat_cmp_total}
 use Rattle.std.proofs.lemmas.Bool.Decides.{nat_tests}
@@ -69,25 +70,29 @@ same m n alike = same_map nat_cmp_total nat_cmp-IsAntisymmetric m n alike
 
 -- slots that differ at one place make maps that differ there
 pub placement-changed : (s t : List (Option Position)) (k : ℕ) (p : Position) → in_slot t k ≡ Some p
-    → ((j : ℕ) → j ≢ k → in_slot t j ≡ in_slot s j) → placement_of t ≡ map.insert (placement_of s) k p
+    → ((j : ℕ) → j ≢ k → in_slot t j ≡ in_slot s j)
+    → placement_of t ≡ map.insert (placement_of s) k p
 placement-changed s t k p here others = same _ _ (λ j.
     get-placement_of t j ∙ by j (eq_by_cmp nat_cmp j k) refl
     ∙ sym (map.get-insert nat_cmp_total (placement_of s) k p j
     ∙ ap (cond (eq_by_cmp nat_cmp j k) (Some p)) (get-placement_of s j)))
   where
-    by : (j : ℕ) (b : Bool) → eq_by_cmp nat_cmp j k ≡ b → in_slot t j ≡ cond b (Some p) (in_slot s j)
+    by : (j : ℕ) (b : Bool) → eq_by_cmp nat_cmp j k ≡ b
+        → in_slot t j ≡ cond b (Some p) (in_slot s j)
     by j true e = let at_k : j ≡ k = grind (arith, nat_tests) in ap (in_slot t) at_k ∙ here
     by j false e = others j (grind (arith, nat_tests))
 
 -- and so where a slot was emptied
 pub placement-removed : (s t : List (Option Position)) (k : ℕ) → in_slot t k ≡ None
-    → ((j : ℕ) → j ≢ k → in_slot t j ≡ in_slot s j) → placement_of t ≡ map.remove (placement_of s) k
+    → ((j : ℕ) → j ≢ k → in_slot t j ≡ in_slot s j)
+    → placement_of t ≡ map.remove (placement_of s) k
 placement-removed s t k here others = same _ _ (λ j.
     get-placement_of t j ∙ by j (eq_by_cmp nat_cmp j k) refl
     ∙ sym (map.get-remove nat_cmp_total (placement_of s) k j
     ∙ ap (cond (eq_by_cmp nat_cmp j k) None) (get-placement_of s j)))
   where
-    by : (j : ℕ) (b : Bool) → eq_by_cmp nat_cmp j k ≡ b → in_slot t j ≡ cond b None (in_slot s j)
+    by : (j : ℕ) (b : Bool) → eq_by_cmp nat_cmp j k ≡ b
+        → in_slot t j ≡ cond b None (in_slot s j)
     by j true e = let at_k : j ≡ k = grind (arith, nat_tests) in ap (in_slot t) at_k ∙ here
     by j false e = others j (grind (arith, nat_tests))
 

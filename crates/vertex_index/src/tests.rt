@@ -2,13 +2,21 @@
 use super::{AddFault, ShiftFault, Vertices};
 use grid_geometry::Pos;
 use linked_list_allocator::LocalHeap;
-use std::alloc::Allocator;
+use std::alloc::{Allocator, Global};
 use std::process::Abort;
 use std::test::Fail;
+
+/// The bytes of each heap.
+const SIZE: usize = 16384;
 
 /// The position, which is in range.
 fn at<R: Abort>(rt: &R, x: i64, y: i64) -> Pos {
     Pos::new(x, y).expect(rt, "in range")
+}
+
+/// The position that is added after n others.
+fn nth<R: Abort>(rt: &R, n: u32) -> Pos {
+    at(rt, i64::from(n), 1)
 }
 
 /// Whether a vertex stands at the position, by both looks.
@@ -33,125 +41,115 @@ fn a_key_stays_with_its_vertex(rt: HostRuntime) -> Result<(), Fail> {
     assert!(rt; vertices.pos(key) == other);
     vertices.remove(key);
     assert_eq!(rt; vertices.key_of(other), None);
-    assert_eq!(rt; vertices.len(), 0);
     assert_eq!(rt; copy.key_of(first), Some(key));
     Ok(())
 }
 
-/// What stood when an addition was refused memory.
-#[derive(Drop)]
-struct Refusal {
-    // The position that was not added.
-    pos: Pos,
-    // How many vertices stood.
-    count: usize,
-    // Whether one of the two tables had grown for it.
-    grew: bool,
-}
-
-/// Adds 0 0, 1 -1, 2 -2 and so on, until memory is refused.
-fn fill<R: Abort>(
-    rt: &R,
-    heap: &LocalHeap,
-    vertices: &mut Vertices<&LocalHeap>,
-) -> Option<Refusal> {
-    for n in 0..200 {
-        let pos = at(rt, n, -n);
+/// Adds 0 1, 1 1, 2 1 and so on until memory is refused, and gives how many stand then, and
+/// whether one of the two tables had grown for the one that was refused.
+fn fill<R: Abort>(rt: &R, heap: &LocalHeap, vertices: &mut Vertices<&LocalHeap>) -> (u32, bool) {
+    for n in 0..400u32 {
         let used = heap.used();
-        if let Err(fault) = vertices.add(pos) {
-            assert_eq!(rt; fault, AddFault::OutOfMemory);
-            let grew = heap.used() > used;
-            return Some(Refusal {
-                pos,
-                count: n as usize,
-                grew,
-            });
+        if vertices.add(nth(rt, n)) == Err(AddFault::OutOfMemory) {
+            return (n, heap.used() > used);
         }
     }
-    None
+    (400, false)
 }
 
-/// In each room the addition that is refused changes nothing, and is made once there is memory.
+/// An addition that is refused in so much room changes nothing, and is made once there is more.
+/// Gives whether one of the two tables had grown for it.
+fn refused_addition<R: Abort>(rt: &R, alloc: Global, room: usize) -> Result<bool, Fail> {
+    let heap = LocalHeap::new(alloc, SIZE)?;
+    let taken: Vec<u8, &LocalHeap> = Vec::with_capacity(&heap, SIZE.saturating_sub(room))?;
+    let mut vertices = Vertices::new(&heap);
+    let (count, grew) = fill(rt, &heap, &mut vertices);
+    let refused = nth(rt, count);
+    assert_eq!(rt; vertices.len(), count as usize);
+    assert_eq!(rt; vertices.key_of(refused), None);
+    for n in 0..count {
+        assert!(rt; stands(&vertices, nth(rt, n)));
+    }
+    drop(taken);
+    vertices.add(refused)?;
+    assert!(rt; stands(&vertices, refused));
+    Ok(grew)
+}
+
 /// Each of the two tables is refused its growth in some room.
 #[test]
 fn a_refused_addition_changes_nothing(rt: HostRuntime) -> Result<(), Fail> {
-    let mut slots_refused = false;
-    let mut keys_refused = false;
+    let mut grew = 0usize;
     for room in 0..200usize {
-        let heap = LocalHeap::new(rt.alloc(), 16384)?;
-        let taken: Vec<u8, &LocalHeap> = Vec::with_capacity(&heap, 16384 - 16 * room)?;
-        let mut vertices = Vertices::new(&heap);
-        let Some(refusal) = fill(&rt, &heap, &mut vertices) else {
-            continue;
-        };
-        assert_eq!(rt; vertices.len(), refusal.count);
-        assert_eq!(rt; vertices.key_of(refusal.pos), None);
-        for n in 0..refusal.count as i64 {
-            assert!(rt; stands(&vertices, at(&rt, n, -n)));
+        if refused_addition(&rt, rt.alloc(), 16 * room)? {
+            grew += 1;
         }
-        slots_refused = slots_refused || !refusal.grew;
-        keys_refused = keys_refused || refusal.grew;
-        drop(taken);
-        vertices.add(refusal.pos)?;
-        assert!(rt; stands(&vertices, refusal.pos));
     }
-    assert!(rt; slots_refused && keys_refused);
+    assert!(rt; 0 < grew && grew < 200);
     Ok(())
 }
 
-/// In some rooms the table of keys is full, and then a shift is refused, which changes nothing.
+/// A shift that is refused in so much room changes nothing, and is made once there is more. Gives
+/// whether it was refused.
+fn refused_shift<R: Abort>(rt: &R, alloc: Global, room: usize) -> Result<bool, Fail> {
+    let (first, free) = (nth(rt, 0), at(rt, 7, 7));
+    let heap = LocalHeap::new(alloc, SIZE)?;
+    let taken: Vec<u8, &LocalHeap> = Vec::with_capacity(&heap, SIZE.saturating_sub(room))?;
+    let mut vertices = Vertices::new(&heap);
+    fill(rt, &heap, &mut vertices);
+    let Some(key) = vertices.key_of(first) else {
+        return Ok(false);
+    };
+    let refused = vertices.shift(key, free) == Err(ShiftFault::OutOfMemory);
+    drop(taken);
+    if refused {
+        assert_eq!(rt; vertices.key_of(first), Some(key));
+        assert_eq!(rt; vertices.key_of(free), None);
+        vertices.shift(key, free)?;
+    }
+    assert_eq!(rt; vertices.key_of(first), None);
+    assert_eq!(rt; vertices.key_of(free), Some(key));
+    Ok(refused)
+}
+
+/// In some room the table of keys is full, so that a shift wants memory, and in some it is not.
 #[test]
 fn a_refused_shift_changes_nothing(rt: HostRuntime) -> Result<(), Fail> {
-    let mut refused = false;
-    let (first, free) = (at(&rt, 0, 0), at(&rt, 7, 7));
+    let mut refused = 0usize;
     for room in 0..200usize {
-        let heap = LocalHeap::new(rt.alloc(), 16384)?;
-        let taken: Vec<u8, &LocalHeap> = Vec::with_capacity(&heap, 16384 - 16 * room)?;
-        let mut vertices = Vertices::new(&heap);
-        fill(&rt, &heap, &mut vertices);
-        let Some(key) = vertices.key_of(first) else {
-            continue;
-        };
-        if let Err(fault) = vertices.shift(key, free) {
-            assert_eq!(rt; fault, ShiftFault::OutOfMemory);
-            assert_eq!(rt; vertices.key_of(first), Some(key));
-            assert_eq!(rt; vertices.key_of(free), None);
-            refused = true;
-            drop(taken);
-            vertices.shift(key, free)?;
+        if refused_shift(&rt, rt.alloc(), 16 * room)? {
+            refused += 1;
         }
-        assert_eq!(rt; vertices.key_of(first), None);
-        assert_eq!(rt; vertices.key_of(free), Some(key));
     }
-    assert!(rt; refused);
+    assert!(rt; 0 < refused && refused < 200);
     Ok(())
 }
 
-/// A copy is refused in each lesser room, and made where there is more.
+/// A copy that is refused in so much room is made once there is more. Gives whether it was refused.
+fn refused_copy<R: Abort>(rt: &R, alloc: Global, room: usize) -> Result<bool, Fail> {
+    let p = at(rt, 1, 2);
+    let heap = LocalHeap::new(alloc, SIZE)?;
+    let mut vertices = Vertices::new(&heap);
+    let key = vertices.add(p)?;
+    let size = heap.free().saturating_sub(room);
+    let taken: Vec<u8, &LocalHeap> = Vec::with_capacity(&heap, size)?;
+    let refused = vertices.copy().is_err();
+    assert!(rt; stands(&vertices, p));
+    drop(taken);
+    assert_eq!(rt; vertices.copy()?.key_of(p), Some(key));
+    Ok(refused)
+}
+
+/// A copy is refused in each room that is too small for its two tables.
 #[test]
 fn a_refused_copy_changes_nothing(rt: HostRuntime) -> Result<(), Fail> {
     let mut refused = 0usize;
-    let mut made = false;
     for room in 0..100usize {
-        let heap = LocalHeap::new(rt.alloc(), 4096)?;
-        let mut vertices = Vertices::new(&heap);
-        let p = at(&rt, 1, 2);
-        let key = vertices.add(p)?;
-        let left = heap.free();
-        let taken: Vec<u8, &LocalHeap> = Vec::with_capacity(&heap, left.saturating_sub(16 * room))?;
-        match vertices.copy() {
-            Ok(copy) => {
-                assert_eq!(rt; copy.key_of(p), Some(key));
-                made = true;
-            }
-            Err(_) => {
-                assert!(rt; !made && stands(&vertices, p));
-                refused = room;
-                drop(taken);
-                assert_eq!(rt; vertices.copy()?.key_of(p), Some(key));
-            }
+        if refused_copy(&rt, rt.alloc(), 16 * room)? {
+            assert_eq!(rt; refused, room);
+            refused += 1;
         }
     }
-    assert!(rt; made && refused > 4);
+    assert!(rt; 4 < refused && refused < 100);
     Ok(())
 }

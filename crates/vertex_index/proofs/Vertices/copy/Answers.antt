@@ -5,8 +5,9 @@ use Rattle.vertex_index.proofs.Vertices.copy.Goals as goal
 
 pub invariant_of-result : goal.invariant_of-result
 invariant_of-result g c =
-    rw (← slots-clone _ _ c.in_ok-slots.ensures.cases.slots, ← entries-clone _ _ c.in_ok-keys.ensures.cases)
-    c.self.invariant
+    let same_slots = slots-clone _ _ c.in_ok-slots.ensures.cases.slots in
+    let same_entries = entries-clone _ _ c.in_ok-keys.ensures.cases in
+    rw (← same_slots, ← same_entries) c.self.invariant
 
 pub returns : goal.returns
 returns g c =
