@@ -147,19 +147,22 @@ IsSome-copied_mut (Some x) h = refl
 
 module _ (s : List (Option Position)) (es : List (Position × ℕ)) (m : Mirrors s es)
     (v : Placement) (view_is : placement_of s ≡ v) where
-  -- the slot under a key has what the map has
-  pub slot_has : (k : ℕ) → in_slot s k ≡ map.get v k
-  slot_has k = sym (get-placement_of s k) ∙ ap (λ w. map.get w k) view_is
+  in_map : (k : ℕ) → in_slot s k ≡ map.get v k
+  in_map k = sym (get-placement_of s k) ∙ ap (λ w. map.get w k) view_is
+
+  -- the slot of a key has what the map has
+  pub slot_has : (k i : ℕ) → i ≡ k → in_slot s i ≡ map.get v k
+  slot_has k i same = ap (in_slot s) same ∙ in_map k
 
   free : (p : Position) → key_in es p ≡ None → (k : ℕ) → map.get v k ≢ Some p
   free p none k e =
-      let bad : None ≡ Some k = sym none ∙ m.there k p (slot_has k ∙ e) in
+      let bad : None ≡ Some k = sym none ∙ m.there k p (in_map k ∙ e) in
       absurd (let b : ⊥ = cc in b)
 
   pub found_key : (p : Position) (o : Option ℕ) → o ≡ key_in es p
       → IfSome o (λ k. map.get v k ≡ Some p)
   found_key p None e = tt
-  found_key p (Some k) e = sym (slot_has k) ∙ m.back p k (sym e)
+  found_key p (Some k) e = sym (in_map k) ∙ m.back p k (sym e)
 
   pub absent_key : (p : Position) (o : Option ℕ) → o ≡ key_in es p
       → IfNone o ((k : ℕ) → map.get v k ≢ Some p)
@@ -187,8 +190,8 @@ module _ (s : List (Option Position)) (es : List (Position × ℕ)) (m : Mirrors
   -- no two keys have the same position, since each is the key of it
   pub distinct : AreDistinct v
   distinct j k p ej ek =
-      let key_j : key_in es p ≡ Some j = m.there j p (slot_has j ∙ ej) in
-      let key_k : key_in es p ≡ Some k = m.there k p (slot_has k ∙ ek) in
+      let key_j : key_in es p ≡ Some j = m.there j p (in_map j ∙ ej) in
+      let key_k : key_in es p ≡ Some k = m.there k p (in_map k ∙ ek) in
       let jk : Some j ≡ Some k = sym key_j ∙ key_k in cc
 
 -- ---- a position put into a slot that has one

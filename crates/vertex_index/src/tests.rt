@@ -79,13 +79,15 @@ fn refused_addition<R: Abort>(rt: &R, alloc: Global, room: usize) -> Result<bool
 /// Each of the two tables is refused its growth in some room.
 #[test]
 fn a_refused_addition_changes_nothing(rt: HostRuntime) -> Result<(), Fail> {
-    let mut grew = 0usize;
+    let (mut slots_grew, mut slots_refused) = (false, false);
     for room in 0..200usize {
         if refused_addition(&rt, rt.alloc(), 16 * room)? {
-            grew += 1;
+            slots_grew = true;
+        } else {
+            slots_refused = true;
         }
     }
-    assert!(rt; 0 < grew && grew < 200);
+    assert!(rt; slots_grew && slots_refused);
     Ok(())
 }
 
@@ -115,13 +117,15 @@ fn refused_shift<R: Abort>(rt: &R, alloc: Global, room: usize) -> Result<bool, F
 /// In some room the table of keys is full, so that a shift wants memory, and in some it is not.
 #[test]
 fn a_refused_shift_changes_nothing(rt: HostRuntime) -> Result<(), Fail> {
-    let mut refused = 0usize;
+    let (mut refused, mut made) = (false, false);
     for room in 0..200usize {
         if refused_shift(&rt, rt.alloc(), 16 * room)? {
-            refused += 1;
+            refused = true;
+        } else {
+            made = true;
         }
     }
-    assert!(rt; 0 < refused && refused < 200);
+    assert!(rt; refused && made);
     Ok(())
 }
 

@@ -75,8 +75,8 @@ invariant_of-self-2 g c =
 
 pub returns-clause-key : goal.returns-clause-key
 returns-clause-key g c =
-    sym (slot_has _ _ c.self.invariant _ c.self.view_is c.new-key.result)
-    ∙ ap (in_slot c.self.inside.slots.slots) c.new-key.ensures ∙ vacant_here g c
+    sym (slot_has _ _ c.self.invariant _ c.self.view_is c.new-key.result _ (sym c.new-key.ensures))
+    ∙ vacant_here g c
 
 pub returns-clause-ok : goal.returns-clause-ok
 returns-clause-ok g c =

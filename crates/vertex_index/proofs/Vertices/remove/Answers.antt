@@ -1,15 +1,13 @@
 use Rattle.std.proofs.Common.{◌≡◌, ◌∙◌, sym, ap, is_some}
 use Rattle.std.specs.FinMap as map
-use Rattle.vertex_index.specs.Mirrors.{in_slot}
 use Rattle.vertex_index.proofs.PlacementLemmas.{placement-removed}
 use Rattle.vertex_index.proofs.MirrorLemmas.{slot_has, Mirrors-remove}
 use Rattle.vertex_index.proofs.Vertices.remove.Goals as goal
 
 pub unwrap-p-requires : goal.unwrap-p-requires
 unwrap-p-requires g c =
-    let there = slot_has _ _ c.self.invariant _ c.self.view_is c.args.k in
-    let at_index = ap (in_slot c.self.inside.slots.slots) c.index.ensures in
-    ap is_some (c.try_remove.ensures.value ∙ at_index ∙ there) ∙ c.requires
+    let there = slot_has _ _ c.self.invariant _ c.self.view_is c.args.k _ c.index.ensures in
+    ap is_some (c.try_remove.ensures.value ∙ there) ∙ c.requires
 
 pub invariant_of-self : goal.invariant_of-self
 invariant_of-self g c =

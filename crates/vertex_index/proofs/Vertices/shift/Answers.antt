@@ -40,9 +40,8 @@ returns-clause-new g c = unoccupied _ _ c.self.invariant _ c.self.view_is c.args
 
 pub unwrap-place-requires : goal.unwrap-place-requires
 unwrap-place-requires g c =
-    let there = slot_has _ _ c.self.invariant _ c.self.view_is c.args.k in
-    let at_index = ap (in_slot c.self.inside.slots.slots) c.index.ensures in
-    IsSome-copied_mut _ (ap is_some (c.get_mut.ensures.value ∙ at_index ∙ there) ∙ c.requires)
+    let there = slot_has _ _ c.self.invariant _ c.self.view_is c.args.k _ c.index.ensures in
+    IsSome-copied_mut _ (ap is_some (c.get_mut.ensures.value ∙ there) ∙ c.requires)
 
 was : (g : Over) (c : goal.After-unwrap g)
     → in_slot c.self.inside.slots.slots c.index.result ≡ Some c.unwrap-place.result.now
