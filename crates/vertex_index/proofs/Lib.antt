@@ -1,0 +1,3 @@
+pub mod FaultLemmas
+pub mod MirrorLemmas
+pub mod PlacementLemmas

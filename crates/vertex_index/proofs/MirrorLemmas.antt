@@ -1,0 +1,250 @@
+-- Slots and keys that mirror each other, and what keeps them so.
+use Rattle.std.proofs.Common.{◌≡◌, ◌≢◌, ◌↔◌, ℕ, zero, suc, ◌<◌, Bool, true, false, cond, ◌&&◌, List}
+use Rattle.std.proofs.Common.{[], ◌∷◌, length, set, Option, Some, None, IfSome, IfNone, is_some}
+use Rattle.std.proofs.Common.{refl, sym, ap, ◌∙◌, arith}
+use Rattle.std.specs.Ordering.{nat_cmp, int_eq, eq_by_cmp}
+use Rattle.std.specs.Cmp.{signed_Decides}
+use Rattle.std.specs.List.{AllZip}
+use Rattle.std.specs.Borrow.{Bor, MutBor}
+use Rattle.std.specs.Option.{option_copied, option_copied_mut}
+use Rattle.std.specs.FinMap as map
+use Rattle.std.proofs.lemmas.Bool.Decides.{nat_tests}
+use Rattle.std.proofs.lemmas.List.{get_or-set_same, get_or-set_other}
+use Rattle.std.proofs.lemmas.List.Elements.{same_from_all_zip}
+use Rattle.slab.specs.Slab as slab
+use Rattle.grid_geometry.specs.Position.{Position, position_eq}
+use Rattle.vertex_index.specs.Placement.{Placement, IsOccupied, AreDistinct}
+use Rattle.vertex_index.specs.Mirrors.{placement_of, in_slot, key_in, Mirrors}
+use Rattle.vertex_index.proofs.PlacementLemmas.{get-placement_of}
+
+-- ---- equal positions
+
+position_eq-same : (p q : Position) → position_eq p q ≡ true → p ≡ q
+position_eq-same p q h = by (int_eq p.x q.x) (int_eq p.y q.y) refl refl h
+  where
+    by : (a b : Bool) → int_eq p.x q.x ≡ a → int_eq p.y q.y ≡ b → (a && b) ≡ true → p ≡ q
+    by true true ea eb e =
+        let ex = (signed_Decides p.x q.x).0 ea in
+        let ey = (signed_Decides p.y q.y).0 eb in
+        λ i. record { x = ex i; y = ey i }
+    by true false ea eb e = cc
+    by false b ea eb e = cc
+
+position_eq-refl : (p : Position) → position_eq p p ≡ true
+position_eq-refl p = rw ((signed_Decides p.x p.x).1 refl, (signed_Decides p.y p.y).1 refl) refl
+
+-- a position is not told from itself
+not_apart : (p q : Position) → Some p ≡ Some q → position_eq p q ≢ false
+not_apart p q one ep =
+    let pq : p ≡ q = cc in
+    let bad : true ≡ false = sym (position_eq-refl p) ∙ ap (position_eq p) pq ∙ ep in absurd (cc)
+
+-- ---- slots and keys together
+
+module _ (s : List (Option Position)) (es : List (Position × ℕ)) (m : Mirrors s es) where
+  -- a new position in a slot that had none
+  pub Mirrors-add : (t : List (Option Position)) (fs : List (Position × ℕ)) (k : ℕ) (p : Position)
+      → in_slot s k ≡ None → key_in es p ≡ None
+      → in_slot t k ≡ Some p → ((j : ℕ) → j ≢ k → in_slot t j ≡ in_slot s j)
+      → ((q : Position) → key_in fs q ≡ cond (position_eq p q) (Some k) (key_in es q))
+      → Mirrors t fs
+  Mirrors-add t fs k p vacant new here others found = record {
+    there = λ j q e. there j q e (eq_by_cmp nat_cmp j k) refl (position_eq p q) refl;
+    back = λ q j e. back q j e (position_eq p q) refl;
+  }
+    where
+      found_if : (q : Position) (c : Bool) → position_eq p q ≡ c
+          → key_in fs q ≡ cond c (Some k) (key_in es q)
+      found_if q c ep = found q ∙ ap (λ b. cond b (Some k) (key_in es q)) ep
+
+      there : (j : ℕ) (q : Position) → in_slot t j ≡ Some q → (b : Bool) → eq_by_cmp nat_cmp j k ≡ b
+          → (c : Bool) → position_eq p q ≡ c → key_in fs q ≡ Some j
+      there j q e true ej true ep =
+          let at_k : j ≡ k = grind (arith, nat_tests) in
+          found_if q true ep ∙ ap (λ n. Some n) (sym at_k)
+      there j q e true ej false ep =
+          let at_k : j ≡ k = grind (arith, nat_tests) in
+          absurd (not_apart p q (sym here ∙ ap (in_slot t) (sym at_k) ∙ e) ep)
+      there j q e false ej true ep =
+          let kept = m.there j q (sym (others j (grind (arith, nat_tests))) ∙ e) in
+          let bad : None ≡ Some j = sym new ∙ ap (key_in es) (position_eq-same p q ep) ∙ kept in cc
+      there j q e false ej false ep =
+          found_if q false ep ∙ m.there j q (sym (others j (grind (arith, nat_tests))) ∙ e)
+
+      back : (q : Position) (j : ℕ) → key_in fs q ≡ Some j → (c : Bool) → position_eq p q ≡ c
+          → in_slot t j ≡ Some q
+      back q j e true ep =
+          let kj : Some k ≡ Some j = sym (found_if q true ep) ∙ e in
+          let at_k : k ≡ j = cc in
+          ap (in_slot t) (sym at_k) ∙ here ∙ ap (λ r. Some r) (position_eq-same p q ep)
+      back q j e false ep =
+          let was = m.back q j (sym (found_if q false ep) ∙ e) in
+          let elsewhere : j ≢ k = λ at_k.
+          let bad : None ≡ Some q = sym vacant ∙ ap (in_slot s) (sym at_k) ∙ was in
+          absurd (let b : ⊥ = cc in b)
+          in others j elsewhere ∙ was
+
+  -- a position that stood in a slot goes
+  pub Mirrors-remove : (t : List (Option Position)) (fs : List (Position × ℕ)) (k : ℕ)
+      (p : Position) → in_slot s k ≡ Some p
+      → in_slot t k ≡ None → ((j : ℕ) → j ≢ k → in_slot t j ≡ in_slot s j)
+      → ((q : Position) → key_in fs q ≡ cond (position_eq p q) None (key_in es q))
+      → Mirrors t fs
+  Mirrors-remove t fs k p was here others found = record {
+    there = λ j q e. there j q e (eq_by_cmp nat_cmp j k) refl (position_eq p q) refl;
+    back = λ q j e. back q j e (position_eq p q) refl;
+  }
+    where
+      found_if : (q : Position) (c : Bool) → position_eq p q ≡ c
+          → key_in fs q ≡ cond c None (key_in es q)
+      found_if q c ep = found q ∙ ap (λ b. cond b None (key_in es q)) ep
+
+      there : (j : ℕ) (q : Position) → in_slot t j ≡ Some q → (b : Bool) → eq_by_cmp nat_cmp j k ≡ b
+          → (c : Bool) → position_eq p q ≡ c → key_in fs q ≡ Some j
+      there j q e true ej c ep =
+          let at_k : j ≡ k = grind (arith, nat_tests) in
+          let bad : None ≡ Some q = sym here ∙ ap (in_slot t) (sym at_k) ∙ e in cc
+      there j q e false ej true ep =
+          let elsewhere : j ≢ k = grind (arith, nat_tests) in
+          let kept = m.there j q (sym (others j elsewhere) ∙ e) in
+          let kj : Some k ≡ Some j =
+          sym (m.there k p was) ∙ ap (key_in es) (position_eq-same p q ep) ∙ kept in
+          let at_k : j ≡ k = cc in
+          absurd (elsewhere at_k)
+      there j q e false ej false ep =
+          found_if q false ep ∙ m.there j q (sym (others j (grind (arith, nat_tests))) ∙ e)
+
+      back : (q : Position) (j : ℕ) → key_in fs q ≡ Some j → (c : Bool) → position_eq p q ≡ c
+          → in_slot t j ≡ Some q
+      back q j e true ep = let bad : None ≡ Some j = sym (found_if q true ep) ∙ e in cc
+      back q j e false ep =
+          let stood = m.back q j (sym (found_if q false ep) ∙ e) in
+          let elsewhere : j ≢ k = λ at_k.
+          not_apart p q (sym was ∙ ap (in_slot s) (sym at_k) ∙ stood) ep
+          in others j elsewhere ∙ stood
+
+-- ---- what a look-up tells
+
+pub no_key : (es : List (Position × ℕ)) (p : Position) → is_some (key_in es p) ≡ false
+    → key_in es p ≡ None
+no_key es p h = by (key_in es p) h
+  where
+    by : (o : Option ℕ) → is_some o ≡ false → o ≡ None
+    by None e = refl
+    by (Some k) e = cc
+
+pub IsSome-copied : {X : Type 0} (o : Option (Bor X))
+    → is_some (option_copied o) ≡ true → is_some o ≡ true
+IsSome-copied None h = h
+IsSome-copied (Some x) h = refl
+
+pub IsSome-copied_mut : {X : Type 0} (o : Option (MutBor X))
+    → is_some (option_copied_mut o) ≡ true → is_some o ≡ true
+IsSome-copied_mut None h = h
+IsSome-copied_mut (Some x) h = refl
+
+-- ---- what the keys say of a position, the map says
+
+module _ (s : List (Option Position)) (es : List (Position × ℕ)) (m : Mirrors s es)
+    (v : Placement) (view_is : placement_of s ≡ v) where
+  in_map : (k : ℕ) → in_slot s k ≡ map.get v k
+  in_map k = sym (get-placement_of s k) ∙ ap (λ w. map.get w k) view_is
+
+  -- the slot of a key has what the map has
+  pub slot_has : (k i : ℕ) → i ≡ k → in_slot s i ≡ map.get v k
+  slot_has k i same = ap (in_slot s) same ∙ in_map k
+
+  free : (p : Position) → key_in es p ≡ None → (k : ℕ) → map.get v k ≢ Some p
+  free p none k e =
+      let bad : None ≡ Some k = sym none ∙ m.there k p (in_map k ∙ e) in
+      absurd (let b : ⊥ = cc in b)
+
+  pub found_key : (p : Position) (o : Option ℕ) → o ≡ key_in es p
+      → IfSome o (λ k. map.get v k ≡ Some p)
+  found_key p None e = tt
+  found_key p (Some k) e = sym (in_map k) ∙ m.back p k (sym e)
+
+  pub absent_key : (p : Position) (o : Option ℕ) → o ≡ key_in es p
+      → IfNone o ((k : ℕ) → map.get v k ≢ Some p)
+  absent_key p None e = free p (sym e)
+  absent_key p (Some k) e = tt
+
+  occupied : (p : Position) → is_some (key_in es p) ≡ true → IsOccupied v p
+  occupied p h = by (key_in es p) refl h
+    where
+      by : (o : Option ℕ) → o ≡ key_in es p → is_some o ≡ true → IsOccupied v p
+      by None e i = cc
+      by (Some k) e i = (k, found_key p (Some k) e)
+
+  pub unoccupied : (p : Position) → is_some (key_in es p) ≡ false → (k : ℕ) → map.get v k ≢ Some p
+  unoccupied p h = free p (no_key es p h)
+
+  -- an answer that comes exactly where a vertex stands: the keys have the position, or not
+  pub refuses : {R : Type 0} (p : Position) → is_some (key_in es p) ≡ true → R → R ↔ IsOccupied v p
+  refuses p h r = (λ _. occupied p h, λ _. r)
+
+  pub accepts : {R : Type 0} (p : Position) → is_some (key_in es p) ≡ false → (R → ⊥)
+      → R ↔ IsOccupied v p
+  accepts p h not_so = (λ r. absurd (not_so r), λ stands. absurd (unoccupied p h stands.0 stands.1))
+
+  -- no two keys have the same position, since each is the key of it
+  pub distinct : AreDistinct v
+  distinct j k p ej ek =
+      let key_j : key_in es p ≡ Some j = m.there j p (in_map j ∙ ej) in
+      let key_k : key_in es p ≡ Some k = m.there k p (in_map k ∙ ek) in
+      let jk : Some j ≡ Some k = sym key_j ∙ key_k in cc
+
+-- ---- a position put into a slot that has one
+
+within : (l : List (Option Position)) (k : ℕ) (p : Position) → in_slot l k ≡ Some p → k < length l
+within [] k p e = cc
+within (x ∷ l) zero p e = omega arith
+within (x ∷ l) (suc k) p e = omega (arith, within l k p e)
+
+pub set_here : (l : List (Option Position)) (k : ℕ) (p q : Position) → in_slot l k ≡ Some p
+    → in_slot (set l k (Some q)) k ≡ Some q
+set_here l k p q e = get_or-set_same l k (Some q) None (within l k p e)
+
+pub set_others : (l : List (Option Position)) (k : ℕ) (q : Position) → (j : ℕ) → j ≢ k
+    → in_slot (set l k (Some q)) j ≡ in_slot l j
+set_others l k q j elsewhere = get_or-set_other l k j (Some q) None elsewhere
+
+-- it takes the place of the other as if that had gone first
+pub Mirrors-shift : (s : List (Option Position)) (es : List (Position × ℕ)) → Mirrors s es
+    → (fs gs : List (Position × ℕ)) (k : ℕ) (p q : Position)
+    → in_slot s k ≡ Some p → key_in es q ≡ None
+    → ((r : Position) → key_in fs r ≡ cond (position_eq p r) None (key_in es r))
+    → ((r : Position) → key_in gs r ≡ cond (position_eq q r) (Some k) (key_in fs r))
+    → Mirrors (set s k (Some q)) gs
+Mirrors-shift s es m fs gs k p q was new gone found =
+    let emptied = Mirrors-remove s es m (set s k None) fs k p was vacant rest gone in
+    let still_new : key_in fs q ≡ None = gone q ∙ by (position_eq p q) in
+    Mirrors-add (set s k None) fs emptied (set s k (Some q)) gs k q vacant still_new
+    (set_here s k p q was) (λ j ne. set_others s k q j ne ∙ sym (rest j ne)) found
+  where
+    vacant : in_slot (set s k None) k ≡ None
+    vacant = get_or-set_same s k None None (within s k p was)
+
+    rest : (j : ℕ) → j ≢ k → in_slot (set s k None) j ≡ in_slot s j
+    rest j ne = get_or-set_other s k j None None ne
+
+    by : (b : Bool) → cond b None (key_in es q) ≡ None
+    by true = refl
+    by false = new
+
+-- ---- clones
+
+slot_same : (x y : Option Position) → slab.IsSlotClone (λ p q. q ≡ p) x y → y ≡ x
+slot_same None y e = e
+slot_same (Some p) None e = absurd e
+slot_same (Some p) (Some q) e = ap (λ r. Some r) e
+
+-- a clone of the slots is the same slots
+pub slots-clone : (s t : List (Option Position))
+    → AllZip (slab.IsSlotClone (λ p q. q ≡ p)) s t → s ≡ t
+slots-clone s t h = sym (same_from_all_zip _ s t h slot_same)
+
+-- and of the entries
+pub entries-clone : (es fs : List (Position × ℕ))
+    → AllZip (λ (p : Position × ℕ) (q : Position × ℕ). (q.0 ≡ p.0) × (q.1 ≡ p.1)) es fs → es ≡ fs
+entries-clone es fs h = sym (same_from_all_zip _ es fs h (λ x y e. λ i. (e.0 i, e.1 i)))

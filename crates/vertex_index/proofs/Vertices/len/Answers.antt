@@ -1,0 +1,12 @@
+use Rattle.std.proofs.Common.{◌∙◌, sym, ap}
+use Rattle.std.specs.FinMap as map
+use Rattle.vertex_index.proofs.PlacementLemmas.{len-placement_of}
+use Rattle.vertex_index.proofs.MirrorLemmas.{distinct}
+use Rattle.vertex_index.proofs.Vertices.len.Goals as goal
+
+pub returns-clause-len : goal.returns-clause-len
+returns-clause-len g c =
+    c.len.ensures ∙ sym (len-placement_of c.self.inside.slots.slots) ∙ ap map.len c.self.view_is
+
+pub returns-clause-distinct : goal.returns-clause-distinct
+returns-clause-distinct g c = distinct _ _ c.self.invariant _ c.self.view_is

@@ -1,0 +1,24 @@
+-- How the slots and the keys of vertices belong together.
+use Rattle.std.specs.Prelude.{◌≡◌, ℕ, List, Option, None, Some, slice_index_or}
+use Rattle.std.specs.FinMap as map
+use Rattle.std.specs.Map as pairs
+use Rattle.slab.specs.Slab as slab
+use Rattle.grid_geometry.specs.Position.{Position, position_eq}
+use Rattle.vertex_index.specs.Placement.{Placement}
+
+-- the positions in the slots, each under the number of its slot
+abbrev pub placement_of : List (Option Position) → Placement
+placement_of slots = map.from_entries (slab.entries_from 0 slots)
+
+-- the position in a slot
+abbrev pub in_slot : List (Option Position) → ℕ → Option Position
+in_slot slots k = slice_index_or slots k None
+
+-- the key that stands for a position
+abbrev pub key_in : List (Position × ℕ) → Position → Option ℕ
+key_in keys p = pairs.lookup (position_eq p) keys
+
+-- the key of a position in a slot is the slot's number, and a key names the slot of its position
+pub record Mirrors (slots : List (Option Position)) (keys : List (Position × ℕ)) : Type 0 where
+  pub there : (k : ℕ) (p : Position) → in_slot slots k ≡ Some p → key_in keys p ≡ Some k
+  pub back : (p : Position) (k : ℕ) → key_in keys p ≡ Some k → in_slot slots k ≡ Some p
