@@ -13,7 +13,8 @@ use Rattle.std.proofs.lemmas.List.Sums.{sum_by-cons, sum_by-swap_remove}
 use Rattle.grid_geometry.specs.Position.{Position, position_cmp, position_eq}
 use Rattle.grid_geometry.specs.Segment.{Segment, Box, segment_cmp, segment_eq, boxes_meet, box_of}
 use Rattle.grid_geometry.proofs.Conflicts.{position_cmp-exact}
-use Rattle.segment_index.specs.Candidates.{segment_is, set_of, has, AreSingle, times_in, SegmentSet, Gives, Gathers, Gains, Loses}
+use Rattle.segment_index.specs.Candidates.{segment_is, set_of, has, AreSingle, times_in, SegmentSet, Gives}
+use Rattle.segment_index.specs.Gathers.{Gathers, Loses}
 
 position_total : IsTotalOrder position_cmp
 position_total = then_total (on_total (λ (p : Position). p.x) int_cmp_total) (on_total (λ (p : Position). p.y) int_cmp_total)

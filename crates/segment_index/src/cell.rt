@@ -1,6 +1,7 @@
 ghost use Rattle.std.specs.Prelude.{◌≡◌, ◌++◌, ◌∷◌, [], ◌<◌, ℕ, None, false, take, length};
 ghost use Rattle.std.specs.Prelude.{get_or, OnOk, OnErr, IfOk, IfSome, is_ok};
-ghost use Rattle.segment_index.specs.Candidates.{Gathers, Gains, Loses, times_in, has, meeting};
+ghost use Rattle.segment_index.specs.Candidates.{times_in, has};
+ghost use Rattle.segment_index.specs.Gathers.{Gathers, Loses, meeting};
 
 use grid_geometry::{Rect, Seg};
 use std::alloc::{AllocError, Allocator, Global};

@@ -2,8 +2,16 @@
 #![tactic(auto)]
 
 mod cell;
+mod column;
+mod columns;
+mod cover;
+mod frame;
+mod grid_index;
 mod index;
 mod list_index;
+#[cfg(test)]
+mod tests;
 
+pub use grid_index::GridIndex;
 pub use index::SegIndex;
 pub use list_index::ListIndex;
