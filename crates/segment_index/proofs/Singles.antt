@@ -185,3 +185,19 @@ pub has-take_more : (xs : List Segment) (s t : Segment) (i : ℕ) → i < length
 has-take_more xs s t i h here e before =
     let other : segment_is s (get_or xs i t) ≡ false = ap (segment_is s) (sym here) ∙ sym (e ∙ segment_eq-is s t) in
     list_any_more (segment_is s) xs i t h ∙ (λ k. before k || other k)
+
+-- what a caller of `add` knows before and after it
+pub contains_none : (h : SegmentSet) (s : Segment) → h ≡ set.empty → set.contains h s ≡ false
+contains_none h s e = ap (λ k. set.contains k s) e ∙ set.contains-empty segment_cmp s
+
+pub contains_inserted : (g h : SegmentSet) (s : Segment) → g ≡ set.insert h s → set.contains g s ≡ true
+contains_inserted g h s e = ap (λ k. set.contains k s) e ∙ set.contains-insert segment_total h s s ∙ ap (λ b. b || set.contains h s) (is-itself s)
+
+-- an add that is taken back
+pub remove_inserted : (h : SegmentSet) (s : Segment) → set.contains h s ≡ false → set.remove (set.insert h s) s ≡ h
+remove_inserted h s out = same_sets _ _ (λ t.
+    set.contains-remove segment_total (set.insert h s) s t ∙ ap (λ b. not (segment_is t s) && b) (set.contains-insert segment_total h s t) ∙ step t (segment_is t s) refl)
+  where
+    step : (t : Segment) (b : Bool) → segment_is t s ≡ b → (not b && (b || set.contains h t)) ≡ set.contains h t
+    step t true e = sym (ap (set.contains h) (same_segment t s e) ∙ out)
+    step t false e = refl

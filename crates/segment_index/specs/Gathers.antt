@@ -14,8 +14,10 @@ Loses s old new = (t : Segment) → times_in new t ≡ times_in old t - cond (se
 
 -- what a walk over segments appends for a box: each at most so often as it stands there, and, where
 -- the walk did not fail and its box meets the asked one, at least so often
-pub record Gathers (stands : Segment → ℕ) (rect : Box) (old new : List Segment) (all : Bool) : Type 0 where
+pub record Gathers (stands : Segment → ℕ) (rect : Box) (old new : List Segment)
+    (all : Bool) : Type 0 where
   pub found : List Segment
   pub appended : new ≡ old ++ found
   pub few : (t : Segment) → times_in found t ≤ stands t
-  pub full : all ≡ true → (t : Segment) → boxes_meet (box_of t) rect ≡ true → stands t ≤ times_in found t
+  pub full : all ≡ true → (t : Segment) → boxes_meet (box_of t) rect ≡ true
+    → stands t ≤ times_in found t

@@ -6,7 +6,7 @@ use Rattle.grid_geometry.specs.Segment.{Segment, Box, box_of}
 use Rattle.segment_index.specs.Candidates.{SegmentSet, segment_code, set_of}
 use Rattle.segment_index.specs.Covers.{cover_of, shared}
 use Rattle.segment_index.specs.Frames.{Frame, IsFrame, lines_of, side}
-use Rattle.segment_index.specs.Cells.{Stands, every}
+use Rattle.segment_index.specs.Cells.{Columns, Stands, every}
 
 -- a grid
 pub record Grid : Type 0 where
@@ -18,7 +18,7 @@ abbrev pub shared_cells : Frame → Segment → Box → ℕ
 shared_cells f t rect = shared (cover_of (lines_of f) (box_of t)) (cover_of (lines_of f) rect)
 
 -- the columns of a grid: 64 of them, in which the segments stand where their boxes cover a cell
-pub record IsGrid (f : Frame) (columns : List (List (List Segment))) (count : ℕ) : Type 0 where
+pub record IsGrid (f : Frame) (columns : Columns) (count : ℕ) : Type 0 where
   pub frame : IsFrame f
   pub wide : count ≡ side
   pub stands : Stands (lines_of f) columns (set_of (every columns))
