@@ -25,9 +25,6 @@ within-between from j end h k = grind arith
 within-past : (from j k : ℕ) → j ≤ k → within from j k ≡ false
 within-past from j k h = grind arith
 
-within-none : (from k : ℕ) → within from from k ≡ false
-within-none from k = grind arith
-
 within-else : (from j k : ℕ) → k ≢ j → within from (j + 1) k ≡ within from j k
 within-else from j k h = grind arith
 
@@ -39,9 +36,6 @@ at-set : {X : Type 0} (P : X → Type 0) (xs : List X) (j k : ℕ) (c d : X) →
 at-set P xs j k c d some f g = by_is k j
     (λ e. rw (e, get_or-set_same xs j c d some) (f e))
     (λ n. rw (get_or-set_other xs j k c d n) (g n))
-
-pub gains-none : (s : Segment) (from : ℕ) (cells : List (List Segment)) → GainsIf true s from from cells cells
-gains-none s from cells k t = let e = within-none from k in rw e (omega arith)
 
 pub gains-more : (s : Segment) (from j : ℕ) (old mid : List (List Segment)) (c : List Segment) → from ≤ j → j < length mid → c ≡ cell mid j ++ s ∷ [] → GainsIf true s from j old mid → GainsIf true s from (j + 1) old (set mid j c)
 gains-more s from j old mid c above some e so_far k t = at-set (λ (x : List Segment). times_in x t ≡ times_in (cell old k) t + cond (within from (j + 1) k && segment_is t s) 1 0) mid j k c [] some
@@ -61,9 +55,6 @@ front_grows true false d m n f e = absurd (false≢true (sym (f refl)))
 front_grows false true true m n f e = (omega (arith, e), omega (arith, e))
 front_grows false true false m n f e = (omega (arith, e), omega (arith, e))
 front_grows false false d m n f e = (omega (arith, e), omega (arith, e))
-
-pub gains-grows : (s : Segment) (from j end : ℕ) (old mid : List (List Segment)) → j ≤ end → GainsIf true s from j old mid → GrowsIf true s from end old mid
-gains-grows s from j end old mid h so_far k t = front_grows (within from j k) (within from end k) (segment_is t s) _ _ (within-less from j end k h) (so_far k t)
 
 pub loses-more : (s : Segment) (from j : ℕ) (old mid : List (List Segment)) (c : List Segment) → from ≤ j → j < length mid → Loses s (cell mid j) c → LosesIf true s from j old mid → LosesIf true s from (j + 1) old (set mid j c)
 loses-more s from j old mid c above some lost so_far k t = at-set (λ (x : List Segment). times_in x t ≡ times_in (cell old k) t - cond (within from (j + 1) k && segment_is t s) 1 0) mid j k c [] some
