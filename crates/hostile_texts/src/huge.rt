@@ -4,6 +4,7 @@ use crate::told::told;
 use json_spans::{ScanFault, scan};
 use linked_list_allocator::LocalHeap;
 use std::alloc::{AllocError, Global};
+use std::fmt::Write;
 use std::test::Fail;
 
 /// The most bytes of a text.
@@ -170,5 +171,59 @@ fn many_polygons(rt: HostRuntime) -> Result<(), Fail> {
         told(rt.alloc(), rt.alloc(), text.as_slice())?.as_str(),
         "opened 1"
     );
+    Ok(())
+}
+
+/// A ring of one arc with as many positions as a map may have, no two the same, and one of one more.
+#[test]
+fn the_longest_arc(rt: HostRuntime) -> Result<(), Fail> {
+    for (last, want) in [(3_999_998, "opened 1"), (3_999_999, "too large positions")] {
+        let mut text = String::from_str(
+            rt.alloc(),
+            "{\"type\":\"Topology\",\"objects\":{\"a\":{\"type\":\"Polygon\",\"arcs\":[[0]]}},\"arcs\":[[",
+        )?;
+        for x in 0..=last {
+            write!(text, "[{x},0],")?;
+        }
+        text.push_str("[0,0]]]}")?;
+        assert_eq!(rt;
+            told(rt.alloc(), rt.alloc(), text.as_bytes())?.as_str(),
+            want
+        );
+    }
+    Ok(())
+}
+
+/// A million members with names of their own.
+#[test]
+fn many_members(rt: HostRuntime) -> Result<(), Fail> {
+    let mut text = String::from_str(
+        rt.alloc(),
+        "{\"type\":\"Topology\",\"objects\":{},\"arcs\":[]",
+    )?;
+    for number in 0..1_000_000 {
+        write!(text, ",\"m{number}\":0")?;
+    }
+    text.push_str("}")?;
+    assert_eq!(rt;
+        told(rt.alloc(), rt.alloc(), text.as_bytes())?.as_str(),
+        "opened 0"
+    );
+    Ok(())
+}
+
+/// Collections one in another to the last level: the root, `objects`, and two levels for each.
+#[test]
+fn collections_in_collections(rt: HostRuntime) -> Result<(), Fail> {
+    let front = b"{\"type\":\"Topology\",\"arcs\":[],\"objects\":{\"a\":";
+    let piece = b"{\"type\":\"GeometryCollection\",\"geometries\":[";
+    for (leaf, want) in [("", "opened 0"), ("{\"type\":null}", "too deep at 2151")] {
+        let mut text = long_text(rt.alloc(), front, piece, 49, leaf.as_bytes())?;
+        text.extend_from_slice(long_text(rt.alloc(), b"", b"]}", 49, b"}}")?.as_slice())?;
+        assert_eq!(rt;
+            told(rt.alloc(), rt.alloc(), text.as_slice())?.as_str(),
+            want
+        );
+    }
     Ok(())
 }
