@@ -44,7 +44,7 @@ fn each_lesser_heap_is_refused(rt: HostRuntime) -> Result<(), Fail> {
 }
 
 /// Each map is opened, or an allocation failed: in decoding names, too, where `rt try --test` is
-/// run with `--fail-alloc 1..`.
+/// run with `--fail-alloc N`.
 #[test]
 fn opened_or_out_of_memory(rt: HostRuntime) {
     for (map, count) in &ALL[..] {
