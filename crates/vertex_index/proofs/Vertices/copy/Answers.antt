@@ -1,4 +1,4 @@
-use Rattle.std.proofs.Common.{◌≡◌, ◌∙◌, sym, ap}
+use Rattle.std.proofs.Common.{◌∙◌, sym, ap}
 use Rattle.vertex_index.specs.Mirrors.{placement_of}
 use Rattle.vertex_index.proofs.MirrorLemmas.{slots-clone, entries-clone}
 use Rattle.vertex_index.proofs.Vertices.copy.Goals as goal

@@ -1,4 +1,4 @@
-use Rattle.std.proofs.Common.{◌≡◌, ◌∙◌, sym, ap, is_some}
+use Rattle.std.proofs.Common.{◌∙◌, sym, ap, is_some}
 use Rattle.std.specs.FinMap as map
 use Rattle.vertex_index.proofs.PlacementLemmas.{placement-removed}
 use Rattle.vertex_index.proofs.MirrorLemmas.{slot_has, Mirrors-remove}
