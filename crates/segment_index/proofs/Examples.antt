@@ -1,10 +1,9 @@
 -- Worked examples of cells and covers, each computed by the checker.
-use Rattle.std.proofs.Common.{◌≡◌, refl, ℤ, pos, negsuc, ℕ, Some, None, true, false}
+use Rattle.std.proofs.Common.{◌≡◌, refl, pos, negsuc, Some, None}
 use Rattle.grid_geometry.specs.Position.{position}
 use Rattle.grid_geometry.specs.Segment.{Segment, Box, segment, box_of}
-use Rattle.segment_index.specs.Candidates.{has, times_in}
-use Rattle.segment_index.specs.Covers.{Cover, cover_of, has_cell, shared}
-use Rattle.segment_index.specs.Frames.{Frame, cell_size, frame_of, line, lines_of}
+use Rattle.segment_index.specs.Covers.{cover_of}
+use Rattle.segment_index.specs.Frames.{cell_size, frame_of, line, lines_of}
 use Rattle.segment_index.specs.Grids.{shared_cells}
 
 -- an extent of 6310 by 10: a cell is 99 wide and 1 high

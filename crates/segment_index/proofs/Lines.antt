@@ -1,11 +1,11 @@
 -- Columns and rows grow with the coordinate.
-use Rattle.std.proofs.Common.{◌≡◌, ◌∙◌, ap, refl, ℤ, pos, negsuc, ℕ, zero, suc, ◌≤◌, ◌<◌, ◌+◌, ◌/◌, ◌-ℤ◌, ◌≤ℤ◌, min, arith, w64, to_z, of_z, unsigned_abs}
+use Rattle.std.proofs.Common.{◌≡◌, ◌∙◌, ap, ℤ, pos, negsuc, ℕ, ◌≤◌, ◌<◌, ◌/◌, ◌-ℤ◌, ◌≤ℤ◌, arith, w64, to_z, of_z, unsigned_abs}
 use Rattle.std.specs.Int.{int_div_euclid}
 use Rattle.std.proofs.lemmas.Int.{ints}
 use Rattle.std.proofs.lemmas.Nat.{le-div}
 use Rattle.std.proofs.Math.Nat.{div-mul-le_self}
 use Rattle.segment_index.specs.Covers.{AreMonotone}
-use Rattle.segment_index.specs.Frames.{Frame, IsFrame, side, clamped, line, lines_of}
+use Rattle.segment_index.specs.Frames.{Frame, IsFrame, clamped, line, lines_of}
 
 div-mono : (size m n : ℕ) → 0 < size → m ≤ n → m / size ≤ n / size
 div-mono size m n some h = le-div (m / size) n size some (omega (arith, h, div-mul-le_self m size))

@@ -1,5 +1,5 @@
 -- Boxes that meet share a cell, and so do the boxes of segments in conflict.
-use Rattle.std.proofs.Common.{◌≡◌, ◌≤◌, ◌<◌, ◌+◌, ◌-◌, ◌≤ℤ◌, ℤ, ℕ, zero, suc, max, Bool, true, false, cond, ◌&&◌, refl, ap, ◌∙◌, arith, int_le}
+use Rattle.std.proofs.Common.{◌≡◌, ◌≤◌, ◌<◌, ◌+◌, ◌-◌, ◌≤ℤ◌, ℤ, ℕ, zero, suc, max, Bool, true, false, cond, ◌&&◌, refl, ap, arith, int_le}
 use Rattle.std.proofs.lemmas.Int.{ints}
 use Rattle.grid_geometry.specs.Segment.{Segment, Box, box_of, boxes_meet}
 use Rattle.grid_geometry.specs.Conflict.{conflict}

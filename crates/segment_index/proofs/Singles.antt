@@ -4,14 +4,14 @@ use Rattle.std.specs.List.{filter, swap_remove, sum_by}
 use Rattle.std.specs.declared.cmp.Ordering.{Ordering}
 use Rattle.std.specs.declared.cmp.Ordering.TheVariants.{Less, Equal, Greater}
 use Rattle.std.specs.Ordering.{int_cmp, int_eq, is_eq, ordering_then}
-use Rattle.std.specs.Cmp.{IsTotalOrder, int_cmp_total, on_total, then_total, Equal-is, eq_by_cmp_equiv, tied_itself}
+use Rattle.std.specs.Cmp.{IsTotalOrder, int_cmp_total, on_total, then_total, Equal-is, tied_itself}
 use Rattle.std.specs.FinSet as set
 use Rattle.std.proofs.lemmas.Int.{ints}
 use Rattle.std.proofs.lemmas.List.{get_or_default}
 use Rattle.std.proofs.lemmas.List.Folds.{list_any_more}
 use Rattle.std.proofs.lemmas.List.Sums.{sum_by-cons, sum_by-swap_remove}
-use Rattle.grid_geometry.specs.Position.{Position, position_cmp, position_eq}
-use Rattle.grid_geometry.specs.Segment.{Segment, Box, segment_cmp, segment_eq, boxes_meet, box_of}
+use Rattle.grid_geometry.specs.Position.{Position, position_cmp}
+use Rattle.grid_geometry.specs.Segment.{Segment, Box, segment_cmp, segment_eq}
 use Rattle.grid_geometry.proofs.Conflicts.{position_cmp-exact}
 use Rattle.segment_index.specs.Candidates.{segment_is, set_of, has, AreSingle, times_in, SegmentSet, Gives}
 use Rattle.segment_index.specs.Gathers.{Gathers, Loses}

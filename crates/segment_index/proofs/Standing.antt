@@ -1,5 +1,5 @@
 -- Held segments stand in the cells that their boxes cover.
-use Rattle.std.proofs.Common.{◌≡◌, ◌≤◌, ◌<◌, ◌+◌, ◌-◌, ℕ, zero, suc, Bool, true, false, not, cond, ◌&&◌, ◌||◌, List, [], ◌∷◌, ◌++◌, refl, sym, ap, ◌∙◌, arith, ℤ, ◌≤ℤ◌, replicate, length}
+use Rattle.std.proofs.Common.{◌≡◌, ◌≤◌, ◌+◌, ◌-◌, ℕ, zero, suc, Bool, true, false, not, cond, ◌&&◌, ◌||◌, List, [], ◌∷◌, ◌++◌, refl, sym, ap, ◌∙◌, arith, ℤ, ◌≤ℤ◌, replicate, length}
 use Rattle.std.specs.Int.{int_min, int_max}
 use Rattle.std.proofs.lemmas.Int.{ints}
 use Rattle.std.proofs.lemmas.List.{length-replicate}
@@ -25,7 +25,7 @@ upward l s j = within (cover_of l (box_of s)).low (cover_of l (box_of s)).high j
 pub stands-gains : (l : Lines) (s : Segment) (old new : List (List (List Segment))) (held : SegmentSet) → Stands l old held → set.contains held s ≡ false → GainsIn s (cover_of l (box_of s)) old new → Stands l new (set.insert held s)
 stands-gains l s old new held stands out gains i j t =
     rw (gains i j t, stands i j t, set.contains-insert segment_total held s t)
-      (step (segment_is t s) refl)
+    (step (segment_is t s) refl)
   where
     bools : (u v : Bool) → cond ((u && v) && false) 1 0 + cond (u && (v && true)) 1 0 ≡ cond ((u && v) && true) 1 0
     bools true true = refl
@@ -45,7 +45,7 @@ stands-gains l s old new held stands out gains i j t =
 pub stands-loses : (l : Lines) (s : Segment) (old new : List (List (List Segment))) (held : SegmentSet) → Stands l old held → LosesIn s (cover_of l (box_of s)) old new → Stands l new (set.remove held s)
 stands-loses l s old new held stands loses i j t =
     rw (loses i j t, stands i j t, set.contains-remove segment_total held s t)
-      (step (segment_is t s) refl)
+    (step (segment_is t s) refl)
   where
     bools : (u v h : Bool) → cond ((u && v) && h) 1 0 - cond (u && (v && true)) 1 0 ≡ cond {A = ℕ} ((u && v) && false) 1 0
     bools true true true = refl

@@ -40,11 +40,11 @@ at-set P xs j k c d some f g = by_is k j
 pub gains-more : (s : Segment) (from j : ℕ) (old mid : List (List Segment)) (c : List Segment) → from ≤ j → j < length mid → c ≡ cell mid j ++ s ∷ [] → GainsIf true s from j old mid → GainsIf true s from (j + 1) old (set mid j c)
 gains-more s from j old mid c above some e so_far k t = at-set (λ (x : List Segment). times_in x t ≡ times_in (cell old k) t + cond (within from (j + 1) k && segment_is t s) 1 0) mid j k c [] some
     (λ (same : k ≡ j). let here : within from (j + 1) k ≡ true = rw same (within-here from j above) in
-         let before : times_in (cell mid j) t ≡ times_in (cell old j) t + cond (within from j j && segment_is t s) 1 0 = so_far j t in
-         let past : within from j j ≡ false = within-past from j j (omega arith) in
-         let none : times_in (cell mid j) t ≡ times_in (cell old j) t + 0 = rw past at before in
-         let push : times_in (cell mid j ++ s ∷ []) t ≡ times_in (cell mid j) t + cond (segment_is t s) 1 0 = times-push (cell mid j) s t in
-         rw (here, e, same, push, none) (omega arith))
+    let before : times_in (cell mid j) t ≡ times_in (cell old j) t + cond (within from j j && segment_is t s) 1 0 = so_far j t in
+    let past : within from j j ≡ false = within-past from j j (omega arith) in
+    let none : times_in (cell mid j) t ≡ times_in (cell old j) t + 0 = rw past at before in
+    let push : times_in (cell mid j ++ s ∷ []) t ≡ times_in (cell mid j) t + cond (segment_is t s) 1 0 = times-push (cell mid j) s t in
+    rw (here, e, same, push, none) (omega arith))
     (λ (other : k ≢ j). rw (within-else from j k other) (so_far k t))
 
 -- a front of a range gained it: so some of the range did
@@ -59,26 +59,26 @@ front_grows false false d m n f e = (omega (arith, e), omega (arith, e))
 pub loses-more : (s : Segment) (from j : ℕ) (old mid : List (List Segment)) (c : List Segment) → from ≤ j → j < length mid → Loses s (cell mid j) c → LosesIf true s from j old mid → LosesIf true s from (j + 1) old (set mid j c)
 loses-more s from j old mid c above some lost so_far k t = at-set (λ (x : List Segment). times_in x t ≡ times_in (cell old k) t - cond (within from (j + 1) k && segment_is t s) 1 0) mid j k c [] some
     (λ (same : k ≡ j). let here : within from (j + 1) k ≡ true = rw same (within-here from j above) in
-         let before : times_in (cell mid j) t ≡ times_in (cell old j) t - cond (within from j j && segment_is t s) 1 0 = so_far j t in
-         let past : within from j j ≡ false = within-past from j j (omega arith) in
-         let none : times_in (cell mid j) t ≡ times_in (cell old j) t - 0 = rw past at before in
-         rw (here, same) (omega (arith, lost t, none)))
+    let before : times_in (cell mid j) t ≡ times_in (cell old j) t - cond (within from j j && segment_is t s) 1 0 = so_far j t in
+    let past : within from j j ≡ false = within-past from j j (omega arith) in
+    let none : times_in (cell mid j) t ≡ times_in (cell old j) t - 0 = rw past at before in
+    rw (here, same) (omega (arith, lost t, none)))
     (λ (other : k ≢ j). rw (within-else from j k other) (so_far k t))
 
 -- one more column of a cover is done
 pub column-gains : (s : Segment) (left i low high : ℕ) (old mid : List (List (List Segment))) (c : List (List Segment)) → left ≤ i → i < length mid → GainsIf true s low high (column mid i) c → GainsIn s (record { left = left; right = i; low = low; high = high }) old mid → GainsIn s (record { left = left; right = i + 1; low = low; high = high }) old (set mid i c)
 column-gains s left i low high old mid c above some gains so_far k = at-set (λ (x : List (List Segment)). GainsIf (within left (i + 1) k) s low high (column old k) x) mid i k c [] some
     (λ (same : k ≡ i) j t. let here : within left (i + 1) k ≡ true = rw same (within-here left i above) in
-         let past : within left i i ≡ false = within-past left i i (omega arith) in
-         let none : times_in (cell (column mid i) j) t ≡ times_in (cell (column old i) j) t + 0 = rw past at (so_far i j t) in
-         rw (here, same) (omega (arith, gains j t, none)))
+    let past : within left i i ≡ false = within-past left i i (omega arith) in
+    let none : times_in (cell (column mid i) j) t ≡ times_in (cell (column old i) j) t + 0 = rw past at (so_far i j t) in
+    rw (here, same) (omega (arith, gains j t, none)))
     (λ (other : k ≢ i). rw (within-else left i k other) (so_far k))
 
 -- a column that was refused memory on the way
 pub column-grows : (s : Segment) (left i right low high : ℕ) (old mid : List (List (List Segment))) (c : List (List Segment)) → left ≤ i → i < right → i < length mid → GrowsIf true s low high (column mid i) c → GainsIn s (record { left = left; right = i; low = low; high = high }) old mid → GrowsIn s (record { left = left; right = right; low = low; high = high }) old (set mid i c)
 column-grows s left i right low high old mid c above below some grows so_far k = at-set (λ (x : List (List Segment)). GrowsIf (within left right k) s low high (column old k) x) mid i k c [] some
     (λ (same : k ≡ i) j t. let here : within left right k ≡ true = rw same (within-between left i right above below) in
-         let past : within left i i ≡ false = within-past left i i (omega arith) in
-         let none : times_in (cell (column mid i) j) t ≡ times_in (cell (column old i) j) t + 0 = rw past at (so_far i j t) in
-         rw (here, same) (omega (arith, (grows j t).0, none), omega (arith, (grows j t).1, none)))
+    let past : within left i i ≡ false = within-past left i i (omega arith) in
+    let none : times_in (cell (column mid i) j) t ≡ times_in (cell (column old i) j) t + 0 = rw past at (so_far i j t) in
+    rw (here, same) (omega (arith, (grows j t).0, none), omega (arith, (grows j t).1, none)))
     (λ (other : k ≢ i) j t. front_grows (within left i k) (within left right k) (within low high j && segment_is t s) _ _ (within-less left i right k (omega (arith, below))) (so_far k j t))

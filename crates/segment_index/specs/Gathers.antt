@@ -20,4 +20,4 @@ pub record Gathers (stands : Segment → ℕ) (rect : Box) (old new : List Segme
   pub appended : new ≡ old ++ found
   pub few : (t : Segment) → times_in found t ≤ stands t
   pub full : all ≡ true → (t : Segment) → boxes_meet (box_of t) rect ≡ true
-    → stands t ≤ times_in found t
+      → stands t ≤ times_in found t

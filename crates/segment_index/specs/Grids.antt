@@ -1,5 +1,5 @@
 -- A grid as its callers see it: its frame, and the segments that it holds.
-use Rattle.std.specs.Prelude.{◌≡◌, ℤ, ℕ, List, refl}
+use Rattle.std.specs.Prelude.{◌≡◌, ℤ, ℕ, refl}
 use Rattle.std.specs.Coded.{Coded, code_by, coded×, coded_ℤ, coded_ℕ}
 use Rattle.std.specs.FinSet as set
 use Rattle.grid_geometry.specs.Segment.{Segment, Box, box_of}

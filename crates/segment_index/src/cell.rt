@@ -53,7 +53,11 @@ impl<A: Allocator + Copy> Cell<A> {
     }
 
     /// Appends the segments whose box meets the asked one.
-    pub(crate) fn gather<B: Allocator>(&self, rect: Rect, out: &mut Vec<Seg, B>) -> Result<(), AllocError>
+    pub(crate) fn gather<B: Allocator>(
+        &self,
+        rect: Rect,
+        out: &mut Vec<Seg, B>,
+    ) -> Result<(), AllocError>
         ensures { Gathers (times_in self.now) rect out.old.items out.new.items (is_ok result) }
     {
         append_meeting(&self.items, rect, out)
@@ -91,7 +95,11 @@ fn take_one<A: Allocator>(items: &mut Vec<Seg, A>, s: Seg)
 }
 
 /// Appends the segments whose box meets the asked one.
-fn append_meeting<B: Allocator>(items: &[Seg], rect: Rect, out: &mut Vec<Seg, B>) -> Result<(), AllocError>
+fn append_meeting<B: Allocator>(
+    items: &[Seg],
+    rect: Rect,
+    out: &mut Vec<Seg, B>,
+) -> Result<(), AllocError>
     ensures some { (n : ℕ) × (out.new.items
         ≡ out.old.items ++ meeting rect (take n items.now)) }
     ensures all { OnOk result (out.new.items

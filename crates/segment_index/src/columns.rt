@@ -87,7 +87,9 @@ pub(crate) fn gather_all<A: Allocator + Copy, B: Allocator>(
 }
 
 /// Another list of the same columns.
-pub(crate) fn copy_all<A: Allocator + Copy>(columns: &Vec<Column<A>, A>) -> Result<Vec<Column<A>, A>, AllocError>
+pub(crate) fn copy_all<A: Allocator + Copy>(
+    columns: &Vec<Column<A>, A>,
+) -> Result<Vec<Column<A>, A>, AllocError>
     ensures { IfOk result (λ r. r.items ≡ columns.now.items) }
 {
     let mut copied = Vec::with_capacity(*columns.allocator(), columns.len())?;

@@ -74,7 +74,11 @@ impl<A: Allocator + Copy> SegIndex for GridIndex<A> {
         take_all(&mut self.columns, cover, s);
     }
 
-    fn candidates<B: Allocator>(&self, rect: Rect, out: &mut Vec<Seg, B>) -> Result<(), AllocError> {
+    fn candidates<B: Allocator>(
+        &self,
+        rect: Rect,
+        out: &mut Vec<Seg, B>,
+    ) -> Result<(), AllocError> {
         gather_all(&self.columns, self.frame.cover(rect), rect, out)
     }
 

@@ -50,7 +50,11 @@ impl<A: Allocator + Copy> SegIndex for ListIndex<A> {
         self.cell.take_out(s);
     }
 
-    fn candidates<B: Allocator>(&self, rect: Rect, out: &mut Vec<Seg, B>) -> Result<(), AllocError> {
+    fn candidates<B: Allocator>(
+        &self,
+        rect: Rect,
+        out: &mut Vec<Seg, B>,
+    ) -> Result<(), AllocError> {
         self.cell.gather(rect, out)
     }
 

@@ -107,13 +107,37 @@ fn a_grid_gives_a_segment_once_a_common_cell(rt: HostRuntime) -> Result<(), Fail
     let before = rect(&rt, (-100, 0), (27, 0));
     let all = rect(&rt, (-REACH, -REACH), (REACH, REACH));
     for (extent, s, asked, times) in [
-        (wide, seg(&rt, (0, 10), (9, 9)), rect(&rt, (9, 0), (10, 9)), 1),
-        (before, seg(&rt, (-3, 0), (0, 0)), rect(&rt, (-3, 0), (0, 0)), 3),
-        (before, seg(&rt, (-103, 0), (-100, 0)), rect(&rt, (-103, 0), (0, 0)), 1),
+        (
+            wide,
+            seg(&rt, (0, 10), (9, 9)),
+            rect(&rt, (9, 0), (10, 9)),
+            1,
+        ),
+        (
+            before,
+            seg(&rt, (-3, 0), (0, 0)),
+            rect(&rt, (-3, 0), (0, 0)),
+            3,
+        ),
+        (
+            before,
+            seg(&rt, (-103, 0), (-100, 0)),
+            rect(&rt, (-103, 0), (0, 0)),
+            1,
+        ),
         (all, seg(&rt, (-REACH, -REACH), (REACH, REACH)), all, 4096),
-        (all, seg(&rt, (-REACH, -REACH), (REACH, REACH)), rect(&rt, (0, 0), (0, 0)), 1),
+        (
+            all,
+            seg(&rt, (-REACH, -REACH), (REACH, REACH)),
+            rect(&rt, (0, 0), (0, 0)),
+            1,
+        ),
     ] {
-        assert_eq!(rt; times_given(&rt, rt.alloc(), extent, s, asked)?, times, "of {s}");
+        assert_eq!(rt;
+            times_given(&rt, rt.alloc(), extent, s, asked)?,
+            times,
+            "of {s}"
+        );
     }
     Ok(())
 }

@@ -8,9 +8,10 @@ pub loop-i-preserved : goal.loop-i-preserved
 loop-i-preserved g c =
     let b = c.cover.inside in
     let here : c.loop-i.i < length c.loop-i.columns.items = omega (arith, c.loop-i.invariant.0, c.loop-i-test.true, c.cover.invariant.right) in
-    let read : c.index_mut.result.now ≡ column c.loop-i.columns.items c.loop-i.i = c.index_mut.ensures.value ∙ get_or_default c.loop-i.columns.items c.loop-i.i _ _ here in
-    (length-set c.loop-i.columns.items c.loop-i.i c.put.new.self ∙ c.loop-i.invariant.0,
-     column-gains c.args.s b.left c.loop-i.i b.low b.high c.args.columns.now.items c.loop-i.columns.items c.put.new.self c.loop-i.auto.i here (rw read at c.in_ok-put.ensures.put) c.loop-i.invariant.1)
+    let read : c.index_mut.result.now ≡ column c.loop-i.columns.items c.loop-i.i = c.index_mut.ensures.value ∙ get_or_default c.loop-i.columns.items c.loop-i.i _ _ here in (
+      length-set c.loop-i.columns.items c.loop-i.i c.put.new.self ∙ c.loop-i.invariant.0,
+      column-gains c.args.s b.left c.loop-i.i b.low b.high c.args.columns.now.items c.loop-i.columns.items c.put.new.self c.loop-i.auto.i here (rw read at c.in_ok-put.ensures.put) c.loop-i.invariant.1,
+    )
 
 pub returns-in_err-put-clause-some : goal.returns-in_err-put-clause-some
 returns-in_err-put-clause-some g c =

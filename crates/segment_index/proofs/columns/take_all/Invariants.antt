@@ -1,5 +1,5 @@
 use Rattle.std.proofs.Common.{◌≡◌, length}
-use Rattle.segment_index.specs.Cells.{GainsIn, LosesIn}
+use Rattle.segment_index.specs.Cells.{LosesIn}
 use Rattle.segment_index.specs.Frames.{side}
 use Rattle.segment_index.proofs.columns.take_all.Given as goal
 

@@ -1,5 +1,4 @@
-use Rattle.std.proofs.Common.{◌≡◌, ◌≤◌, ◌+◌, arith}
-use Rattle.segment_index.specs.Frames.{line}
+use Rattle.std.proofs.Common.{◌+◌, arith}
 use Rattle.segment_index.proofs.Lines.{line-is, line-mono}
 use Rattle.segment_index.proofs.frame.Frame.cover.Goals as goal
 

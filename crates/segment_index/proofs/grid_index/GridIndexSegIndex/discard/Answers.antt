@@ -1,7 +1,6 @@
 use Rattle.std.proofs.Common.{◌≡◌, ap, ◌∙◌}
 use Rattle.std.specs.FinSet as set
 use Rattle.grid_geometry.specs.Segment.{box_of}
-use Rattle.segment_index.specs.Cells.{LosesIn}
 use Rattle.segment_index.specs.Covers.{cover_of}
 use Rattle.segment_index.specs.Frames.{lines_of}
 use Rattle.segment_index.proofs.Standing.{grid-loses}
