@@ -3,14 +3,6 @@ use crate::maps::TWO_SQUARES;
 use crate::told::told;
 use std::test::Fail;
 
-/// Whether each map is refused with its fault, and nothing answered.
-fn are_refused(rt: &HostRuntime, rows: &[(&str, &str)]) -> Result<(), Fail> {
-    for row in rows {
-        assert_eq!(rt; told(rt, row.0.as_bytes(), b"area 0")?.as_str(), row.1);
-    }
-    Ok(())
-}
-
 /// A hundred lists one in another are read, one more is too deep, and open ones are no text.
 #[test]
 fn faults_of_nesting(rt: HostRuntime) -> Result<(), Fail> {
@@ -28,7 +20,10 @@ fn faults_of_nesting(rt: HostRuntime) -> Result<(), Fail> {
             "open: not json at 100",
         ),
     ];
-    are_refused(&rt, &rows[..])
+    for row in &rows[..] {
+        assert_eq!(rt; told(&rt, row.0.as_bytes(), b"area 0")?.as_str(), row.1);
+    }
+    Ok(())
 }
 
 /// Names that are wrong, that stand twice or that are missing.
@@ -53,7 +48,10 @@ fn faults_of_the_shape(rt: HostRuntime) -> Result<(), Fail> {
             "open: unsupported LineString",
         ),
     ];
-    are_refused(&rt, &rows[..])
+    for row in &rows[..] {
+        assert_eq!(rt; told(&rt, row.0.as_bytes(), b"area 0")?.as_str(), row.1);
+    }
+    Ok(())
 }
 
 /// Positions that are none.
@@ -73,7 +71,10 @@ fn faults_of_positions(rt: HostRuntime) -> Result<(), Fail> {
             "open: bad position at 40",
         ),
     ];
-    are_refused(&rt, &rows[..])
+    for row in &rows[..] {
+        assert_eq!(rt; told(&rt, row.0.as_bytes(), b"area 0")?.as_str(), row.1);
+    }
+    Ok(())
 }
 
 /// Indexes that name no arc.
@@ -105,7 +106,10 @@ fn faults_of_arc_indexes(rt: HostRuntime) -> Result<(), Fail> {
             "open: not whole at 61",
         ),
     ];
-    are_refused(&rt, &rows[..])
+    for row in &rows[..] {
+        assert_eq!(rt; told(&rt, row.0.as_bytes(), b"area 0")?.as_str(), row.1);
+    }
+    Ok(())
 }
 
 /// Arcs that make no ring, and rings that cross themselves.
@@ -129,7 +133,10 @@ fn faults_of_rings(rt: HostRuntime) -> Result<(), Fail> {
             "open: arcs do not meet 0 0 0",
         ),
     ];
-    are_refused(&rt, &rows[..])
+    for row in &rows[..] {
+        assert_eq!(rt; told(&rt, row.0.as_bytes(), b"area 0")?.as_str(), row.1);
+    }
+    Ok(())
 }
 
 /// Whether each map opens, and an empty script has no answer.

@@ -1,18 +1,7 @@
-// Scripts and their answers.
+// Scripts and their answers on a map, the counts behind the answers.
 use crate::maps::{DELTAS, DENTED, HOLES, OTHER_NAMES, TRIANGLE_INSIDE, TWO_SQUARES, UNION_ABOVE};
 use crate::told::told;
 use std::test::Fail;
-
-/// Whether each script is answered so on its map, the counts behind the answers.
-fn are_answered(rt: &HostRuntime, rows: &[(&str, &str, &str)]) -> Result<(), Fail> {
-    for row in rows {
-        assert_eq!(rt;
-            told(rt, row.0.as_bytes(), row.1.as_bytes())?.as_str(),
-            row.2
-        );
-    }
-    Ok(())
-}
 
 /// Vertices that move, and moves that are refused.
 #[test]
@@ -55,7 +44,13 @@ fn moves(rt: HostRuntime) -> Result<(), Fail> {
             "ok\n240\n440\nanswered 3, refused 0",
         ),
     ];
-    are_answered(&rt, &rows[..])
+    for row in &rows[..] {
+        assert_eq!(rt;
+            told(&rt, row.0.as_bytes(), row.1.as_bytes())?.as_str(),
+            row.2
+        );
+    }
+    Ok(())
 }
 
 /// The greatest coordinates and areas.
@@ -81,7 +76,13 @@ fn moves_to_the_edge_of_the_grid(rt: HostRuntime) -> Result<(), Fail> {
             "ok\nok\n999999999999999999999900\nanswered 3, refused 0",
         ),
     ];
-    are_answered(&rt, &rows[..])
+    for row in &rows[..] {
+        assert_eq!(rt;
+            told(&rt, row.0.as_bytes(), row.1.as_bytes())?.as_str(),
+            row.2
+        );
+    }
+    Ok(())
 }
 
 /// Lines that are no commands, and numbers of no feature.
@@ -101,7 +102,13 @@ fn lines_that_ask_for_nothing(rt: HostRuntime) -> Result<(), Fail> {
             "refused no feature\nrefused no feature\nbad line\nbad line\nanswered 4, refused 4",
         ),
     ];
-    are_answered(&rt, &rows[..])
+    for row in &rows[..] {
+        assert_eq!(rt;
+            told(&rt, row.0.as_bytes(), row.1.as_bytes())?.as_str(),
+            row.2
+        );
+    }
+    Ok(())
 }
 
 /// Areas of features in layers and collections.
@@ -125,5 +132,11 @@ fn areas(rt: HostRuntime) -> Result<(), Fail> {
             "200\n180\nanswered 2, refused 0",
         ),
     ];
-    are_answered(&rt, &rows[..])
+    for row in &rows[..] {
+        assert_eq!(rt;
+            told(&rt, row.0.as_bytes(), row.1.as_bytes())?.as_str(),
+            row.2
+        );
+    }
+    Ok(())
 }
