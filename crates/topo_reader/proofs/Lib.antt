@@ -6,6 +6,7 @@ pub mod MeaningOfArcs
 pub mod MeaningOfUses
 pub mod MeaningOfRings
 pub mod MeaningOfText
+pub mod ExamplesReads
 pub mod Named
 pub mod Summing
 pub mod Turning

@@ -167,7 +167,7 @@ at_least_two [] h = absurd (false≢true h)
 at_least_two (a ∷ []) h = absurd (false≢true h)
 at_least_two (a ∷ b ∷ ns) h = omega arith
 
-is_arc : (delta : Bool) (n : Node) (ps : List Position) → arc delta n ≡ Ok ps → IsArc delta n ps
+pub is_arc : (delta : Bool) (n : Node) (ps : List Position) → arc delta n ≡ Ok ps → IsArc delta n ps
 unfolding arc
 is_arc delta n ps h = by (is_list n) refl (has_two (items n)) refl h
   where

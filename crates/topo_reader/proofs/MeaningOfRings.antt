@@ -201,7 +201,7 @@ made (a ∷ as') ring met long new e =
       turned = sym e;
     }
 
-ring_meant : (at_ring : RingAt) (uses : List Arc) (ring : List Position) → ring_of at_ring uses ≡ Ok ring → IsRing uses ring
+pub ring_meant : (at_ring : RingAt) (uses : List Arc) (ring : List Position) → ring_of at_ring uses ≡ Ok ring → IsRing uses ring
 unfolding ring_of
 ring_meant at_ring uses ring h =
     let met = demand_ok (meet uses) (arcs_do_not_meet at_ring) (demand (nat_le 3 (length (joined uses))) (ring_short at_ring) (distinct at_ring (joined uses) (first_repeat [] (joined uses)))) ring h in
