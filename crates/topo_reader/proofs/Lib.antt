@@ -2,6 +2,7 @@ pub mod Counting
 pub mod Joining
 pub mod Steps
 pub mod Repeats
+pub mod Seen
 pub mod MeaningOfArcs
 pub mod MeaningOfUses
 pub mod MeaningOfRings

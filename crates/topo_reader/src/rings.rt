@@ -1,5 +1,6 @@
 // Rings from the arcs that they use (TopoJSON 1.0, 2.1.3; RFC 7946, 3.1.6).
 ghost use Rattle.std.specs.Prelude.{◌≡◌, map, OnOk, IfOk, None, Some, ◌++◌, [], ◌∷◌, reverse, not, true};
+ghost use Rattle.grid_geometry.specs.Position.{Position};
 ghost use Rattle.ring_machine.specs.Ring.{has, canonical};
 ghost use Rattle.topo_outline.specs.Gives.{Gives};
 ghost use Rattle.topo_reader.specs.Uses.{arc_of, ring_uses, polygon_uses, feature_uses, positions_of, polygon_positions, feature_positions};
@@ -8,13 +9,13 @@ ghost use Rattle.topo_reader.specs.Rings.{first_of, last_of, meet_from, meet, en
 use crate::canonical::begin_at_least;
 use crate::indexes::Use;
 use grid_geometry::Pos;
-use indexmap::IndexSet;
 use std::alloc::{AllocFailed, Allocator};
-use std::hash::{BuildHasherDefault, FoldHasher};
+use std::collections::BTreeSet;
 use topo_outline::{OpenFault, RingAt};
 
-/// The positions that a ring has had.
-type Seen<A> = IndexSet<Pos, BuildHasherDefault<FoldHasher>, A>;
+/// The positions that a ring has had, ordered: they come from the text, and one who picks them
+/// could make their hashes collide.
+type Seen<A> = BTreeSet<Pos, A>;
 
 fn first_of(one: Use<'_>) -> Option<Pos>
     ensures { result ≡ first_of (arc_of one.entry) }
@@ -176,11 +177,10 @@ fn joined<A: Allocator + Copy>(alloc: A, uses: &[Use<'_>]) -> Result<Vec<Pos, A>
 /// Whether the position is new, and from now on among those that were seen.
 fn note<A: Allocator + Copy>(seen: &mut Seen<A>, pos: Pos) -> Result<bool, AllocFailed<Pos>>
     ensures new { IfOk result (λ b. b ≡ not (has seen.old.keys pos)) }
-    ensures keys { IfOk result
-        (λ b. b ≡ true → seen.new.keys ≡ seen.old.keys ++ pos ∷ []) }
+    ensures kept { OnOk result
+        ((q : Position) → has seen.new.keys q ≡ has (seen.old.keys ++ pos ∷ []) q) }
 {
-    let (_, new) = seen.insert_full(pos)?;
-    Ok(new)
+    seen.insert(pos)
 }
 
 /// The first position that stood before.
@@ -191,7 +191,7 @@ fn first_repeat<A: Allocator + Copy>(
 ) -> Result<Option<Pos>, AllocFailed<Pos>>
     ensures { IfOk result (λ r. r ≡ first_repeat [] ring.now) }
 {
-    let mut seen: Seen<A> = IndexSet::new(alloc);
+    let mut seen: Seen<A> = BTreeSet::new(alloc);
     for pos in ring {
         if !note(&mut seen, *pos)? {
             return Ok(Some(*pos));

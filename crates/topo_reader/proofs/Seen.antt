@@ -1,0 +1,54 @@
+-- The positions that were seen, as a set in order has them.
+use Rattle.std.proofs.Common.{◌≡◌, ℕ, ◌+◌, ◌<◌, length, drop, get_or, Bool, true, false, cond, List, [], ◌∷◌, ◌++◌, refl, sym, ap, ap₂, ◌∙◌, subst, not, ◌||◌, Result, Ok, Err, OnOk}
+use Rattle.std.specs.Prelude.{Some, IfOk}
+use Rattle.std.specs.List.{list_any}
+use Rattle.std.specs.Ordering.{int_cmp, is_eq}
+use Rattle.std.specs.Cmp.{tied_then}
+use Rattle.std.specs.BTreeSet.{BTreeSet, contains, Updates}
+use Rattle.std.proofs.lemmas.List.Folds.{list_any-append}
+use Rattle.grid_geometry.specs.Position.{Position, position_cmp, position_eq}
+use Rattle.ring_machine.specs.Ring.{has}
+use Rattle.ring_machine.proofs.Removal.{position_eq-sym}
+use Rattle.topo_reader.specs.Rings.{first_repeat}
+use Rattle.topo_reader.proofs.Joining.{tail_at}
+
+-- the order finds a position where the test of equality does
+pub has_by_order : (s : BTreeSet Position) (q : Position) → contains position_cmp s q ≡ has s.keys q
+has_by_order s q = sym (λ i. list_any (λ k. tied_then (int_cmp q.x k.x) (int_cmp q.y k.y) i) s.keys)
+
+has_last : (ps : List Position) (p q : Position) → has (ps ++ p ∷ []) q ≡ (has ps q || (position_eq q p || false))
+has_last ps p q = list_any-append (position_eq q) ps (p ∷ [])
+
+either : (a b : Bool) → cond a true b ≡ (b || (a || false))
+either true true = refl
+either true false = refl
+either false true = refl
+either false false = refl
+
+pub noted : {E : Type 0} (r : Result Bool E) (s n : BTreeSet Position) (p : Position) → OnOk r (Updates position_cmp s n p true) → OnOk r ((q : Position) → has n.keys q ≡ has (s.keys ++ p ∷ []) q)
+noted (Ok b) s n p u = λ q.
+    sym (has_by_order n q) ∙ u.0 q
+    ∙ ap₂ (λ a b. cond a true b) (sym (tied_then (int_cmp p.x q.x) (int_cmp p.y q.y)) ∙ position_eq-sym p q) (has_by_order s q)
+    ∙ either (position_eq q p) (has s.keys q) ∙ sym (has_last s.keys p q)
+noted (Err e) s n p u = u
+
+pub is_new : {E : Type 0} (r : Result Bool E) (s : BTreeSet Position) (p : Position) → IfOk r (λ b. b ≡ not (contains position_cmp s p)) → IfOk r (λ b. b ≡ not (has s.keys p))
+is_new r s p added = subst (λ h. IfOk r (λ b. b ≡ not h)) (has_by_order s p) added
+
+-- lists of the same positions lead to the same repeat
+pub same_repeat : (a b ps : List Position) → ((q : Position) → has a q ≡ has b q) → first_repeat a ps ≡ first_repeat b ps
+unfolding first_repeat
+same_repeat a b [] same = refl
+same_repeat a b (p ∷ ps) same = ap₂ (λ y z. cond y (Some p) z) (same p) (same_repeat (a ++ p ∷ []) (b ++ p ∷ []) ps (λ q. has_last a p q ∙ ap (λ y. y || (position_eq q p || false)) (same q) ∙ sym (has_last b p q)))
+
+was_false : (b h : Bool) → b ≡ true → b ≡ not h → h ≡ false
+was_false b true is new = sym is ∙ new
+was_false b false is new = refl
+
+-- a position that is new is passed, and is among those that were seen
+pub repeat_turn : (seen more ps : List Position) (i : ℕ) (p : Position) (b : Bool) → i < length ps → p ≡ get_or ps i p → b ≡ true → b ≡ not (has seen p) → ((q : Position) → has more q ≡ has (seen ++ p ∷ []) q) →
+    first_repeat more (drop (i + 1) ps) ≡ first_repeat seen (drop i ps)
+unfolding first_repeat
+repeat_turn seen more ps i p b lt at is new kept =
+    same_repeat more (seen ++ p ∷ []) (drop (i + 1) ps) kept
+    ∙ sym (ap (first_repeat seen) (tail_at p ps i lt at) ∙ ap (λ h. cond h (Some p) (first_repeat (seen ++ p ∷ []) (drop (i + 1) ps))) (was_false b (has seen p) is new))
