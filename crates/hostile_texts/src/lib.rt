@@ -18,6 +18,8 @@ mod memory;
 #[cfg(test)]
 mod names;
 #[cfg(test)]
+mod names_of_one_hash;
+#[cfg(test)]
 mod pieces;
 #[cfg(test)]
 mod places;

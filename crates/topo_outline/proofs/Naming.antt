@@ -1,11 +1,12 @@
 -- Names, and members found by them.
-use Rattle.std.proofs.Common.{◌≡◌, ℕ, suc, ◌+◌, ◌<◌, ◌≤◌, List, [], ◌∷◌, ◌++◌, length, get_or, drop, map, refl, sym, ◌∙◌, add-one, drop-cons, Bool, true, false, cond}
-use Rattle.std.specs.Prelude.{Result, Ok, Err, Some, None, filter, not, String, string_bytes, ◌==◌}
-use Rattle.std.specs.String.{string_eq}
+use Rattle.std.proofs.Common.{◌≡◌, ℕ, suc, ◌+◌, ◌<◌, ◌≤◌, List, [], ◌∷◌, ◌++◌, length, get_or, drop, map, refl, sym, ap₂, ◌∙◌, add-one, drop-cons, Bool, true, false, cond}
+use Rattle.std.specs.Prelude.{Result, Ok, Err, Some, None, filter, not, ◌||◌, ◌==◌}
 use Rattle.std.specs.Str.{bytes_eq}
 use Rattle.std.specs.List.{list_any}
-use Rattle.std.specs.declared.alloc.Global.{Global}
-use Rattle.std.proofs.lemmas.List.{append-nil, drop_all, map-append}
+use Rattle.std.proofs.Math.Bool.{or_comm}
+use Rattle.std.proofs.lemmas.Cmp.{nat_list_eq_equiv}
+use Rattle.std.proofs.lemmas.List.{append-nil, drop_all}
+use Rattle.std.proofs.lemmas.List.Recursion.{or_push}
 use Rattle.json_spans.specs.Parts.{Node}
 use Rattle.topo_outline.specs.declared.words.Word.{Word}
 use Rattle.topo_outline.specs.declared.members.Owner.{Owner}
@@ -19,12 +20,17 @@ use Rattle.topo_outline.specs.Gives.{Fails}
 use Rattle.topo_outline.specs.declared.fault.OpenFault.{OpenFault}
 use Rattle.topo_outline.proofs.Walking.{with_front, regroup, carry}
 
-pub contains_bytes : (t : String Global) (ks : List (String Global)) → list_any (string_eq t) ks ≡ list_any (bytes_eq (string_bytes t)) (map string_bytes ks)
-contains_bytes t [] = refl
-contains_bytes t (k ∷ ks) = rw (contains_bytes t ks) refl
+-- a text tested against a set is tested against a list of the same texts
+pub tested : (texts : List (List ℕ)) (t : List ℕ) (has : List ℕ → Bool) (new is : Bool) → ((u : List ℕ) → list_any (bytes_eq u) texts ≡ has u) → new ≡ not (has t) → new ≡ is → not (list_any (bytes_eq t) texts) ≡ is
+tested texts t has new is same e h = rw (same t) (sym e ∙ h)
 
-pub insert_bytes : (t : String Global) (ks new : List (String Global)) → list_any (string_eq t) ks ≡ false → new ≡ cond (list_any (string_eq t) ks) ks (ks ++ t ∷ []) → map string_bytes new ≡ map string_bytes ks ++ string_bytes t ∷ []
-insert_bytes t ks new e is = rw (is, e, map-append) refl
+pub either : (a b : Bool) → cond a true b ≡ (a || b)
+either true b = refl
+either false b = refl
+
+-- one more text, in a list and in what it is compared with
+pub one_more : (texts : List (List ℕ)) (t : List ℕ) (old new : List ℕ → Bool) → ((u : List ℕ) → list_any (bytes_eq u) texts ≡ old u) → ((u : List ℕ) → new u ≡ (bytes_eq t u || old u)) → (u : List ℕ) → list_any (bytes_eq u) (texts ++ t ∷ []) ≡ new u
+one_more texts t old new same more u = or_push (list_any (bytes_eq u)) (bytes_eq u) refl (λ x xs. refl) texts t ∙ ap₂ (λ a b. a || b) (same u) (nat_list_eq_equiv.symm u t) ∙ or_comm (old u) (bytes_eq t u) ∙ sym (more u)
 
 pub member_step : (w : Word) (es : List Entry) (i : ℕ) (d : Entry) → i < length es → member w (map view_entry (drop i es)) ≡ cond (code (get_or es i d).word == code w) (Some (view_entry (get_or es i d))) (member w (map view_entry (drop (i + 1) es)))
 member_step w es i d lt = rw (drop-cons es i d lt, add-one i) refl

@@ -1,6 +1,6 @@
 // The members of an object, by their decoded names.
-ghost use Rattle.std.specs.Prelude.{◌≡◌, ◌++◌, [], ◌∷◌, map, not, true, IfOk, Ok, option_map, string_bytes};
-ghost use Rattle.std.specs.List.{list_any};
+ghost use Rattle.std.specs.Prelude.{◌≡◌, ◌||◌, ℕ, List, map, not, IfOk, OnOk, Ok, option_map, string_bytes};
+ghost use Rattle.std.specs.BTreeSet.{contains_text};
 ghost use Rattle.std.specs.Str.{bytes_eq};
 ghost use Rattle.json_spans.specs.Left.{node};
 ghost use Rattle.topo_outline.specs.Gives.{Gives};
@@ -12,13 +12,15 @@ use crate::entries::Entry;
 use crate::fault::OpenFault;
 use crate::token::Token;
 use crate::words::{Word, word_of};
-use indexmap::IndexSet;
 use json_spans::{Kind, Span, TextFault, kind, members, text};
 use std::alloc::{AllocFailed, Allocator, Global};
-use std::hash::{BuildHasherDefault, FoldHasher};
+use std::collections::BTreeSet;
 
 /// The decoded names of an object, each once. `serde_json` makes them, so they lie in `Global`.
-type Names<A> = IndexSet<String, BuildHasherDefault<FoldHasher>, A>;
+///
+/// A tree and no hash table: the names come from the text, and whoever writes it could choose names
+/// of one hash, each of which would be compared with all before it.
+type Names<A> = BTreeSet<String, A>;
 
 /// A string's token without its quotes.
 pub(crate) fn unquoted(text: &[u8]) -> &[u8]
@@ -55,15 +57,12 @@ fn name_text<'a>(heap: Global, name: Span<'a>) -> Result<String, OpenFault<'a>>
 }
 
 /// Puts a name to those seen, and tells whether it is new.
-#[tactic(auto, using(crate::proofs::Naming::contains_bytes, crate::proofs::Naming::insert_bytes))]
 fn note<A: Allocator + Copy>(seen: &mut Names<A>, name: String) -> Result<bool, AllocFailed<String>>
-    ensures new { IfOk result (λ b.
-        b ≡ not (list_any (bytes_eq (string_bytes name)) (map string_bytes seen.old.keys))) }
-    ensures keys { IfOk result (λ b. b ≡ true →
-        map string_bytes seen.new.keys ≡ map string_bytes seen.old.keys ++ string_bytes name ∷ []) }
+    ensures new { IfOk result (λ new. new ≡ not (contains_text seen.old (string_bytes name))) }
+    ensures names { OnOk result ((t : List ℕ) →
+        contains_text seen.new t ≡ (bytes_eq (string_bytes name) t || contains_text seen.old t)) }
 {
-    let (_, new) = seen.insert_full(name)?;
-    Ok(new)
+    seen.insert(name)
 }
 
 /// The members of an object, once its names are tested in order: BadMember for one that stands for
@@ -75,7 +74,7 @@ pub(crate) fn entries<'a, A: Allocator + Copy>(
 ) -> Result<Vec<Entry<'a>, A>, OpenFault<'a>>
     ensures { Gives (λ v. map view_entry v.items) result (members_of (node span.entry)) }
 {
-    let mut seen: Names<A> = IndexSet::new(alloc);
+    let mut seen: Names<A> = BTreeSet::new(alloc);
     let mut found = Vec::new(alloc);
     for member in members(span) {
         let decoded = or_return!(name_text(heap, member.0));

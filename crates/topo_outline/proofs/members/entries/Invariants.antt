@@ -1,5 +1,7 @@
-use Rattle.std.proofs.Common.{◌≡◌, map}
-use Rattle.std.specs.Prelude.{string_bytes}
+use Rattle.std.proofs.Common.{◌≡◌, ℕ, List, map}
+use Rattle.std.specs.BTreeSet.{contains_text}
+use Rattle.std.specs.List.{list_any}
+use Rattle.std.specs.Str.{bytes_eq}
 use Rattle.json_spans.specs.Left.{node}
 use Rattle.json_spans.specs.Walk.{members_left}
 use Rattle.topo_outline.specs.Shape.{named, members_of}
@@ -7,5 +9,6 @@ use Rattle.topo_outline.specs.Views.{view_entry}
 use Rattle.topo_outline.proofs.Walking.{with_front}
 use Rattle.topo_outline.proofs.members.entries.Given as goal
 
+-- the texts of the names so far, which are those that the set has
 abbrev pub invariant-loop-member : goal.invariant-loop-member
-invariant-loop-member g l = with_front (map view_entry l.found.items) (named (map string_bytes l.seen.keys) (members_left l.member-iterator)) ≡ members_of (node l.fn.span)
+invariant-loop-member g l = (texts : List (List ℕ)) × ((t : List ℕ) → list_any (bytes_eq t) texts ≡ contains_text l.seen t) × (with_front (map view_entry l.found.items) (named texts (members_left l.member-iterator)) ≡ members_of (node l.fn.span))
