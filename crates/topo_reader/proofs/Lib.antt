@@ -3,6 +3,7 @@ pub mod Joining
 pub mod Steps
 pub mod Repeats
 pub mod Seen
+pub mod Sorting
 pub mod MeaningOfArcs
 pub mod MeaningOfUses
 pub mod MeaningOfRings

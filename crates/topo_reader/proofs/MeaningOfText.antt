@@ -1,18 +1,17 @@
 -- What a text means is what opening it gives, in both directions.
 use Rattle.std.proofs.Common.{◌≡◌, ◌≢◌, ℕ, ◌≤◌, List, length, refl, sym, ap, ◌∙◌, subst}
-use Rattle.std.specs.Prelude.{Option, Result, Ok, Err, IfOk, IfErr, nat_le, is_some, codes}
+use Rattle.std.specs.Prelude.{Result, Ok, Err, IfOk, IfErr, nat_le, is_some}
 use Rattle.std.specs.List.{AllZip}
 use Rattle.json_spans.specs.Grammar.{Json}
 use Rattle.json_spans.specs.Parts.{Node}
-use Rattle.ring_machine.specs.Document.{Document, Text}
+use Rattle.ring_machine.specs.Document.{Document}
 use Rattle.topo_outline.specs.declared.fault.Limit.TheVariants as limit
 use Rattle.topo_outline.specs.declared.fault.OpenFault.{OpenFault}
 use Rattle.topo_outline.specs.declared.fault.OpenFault.TheVariants as open_fault
-use Rattle.topo_outline.specs.declared.words.Word.TheVariants as word
-use Rattle.topo_outline.specs.Faults.{Fault, not_topology, too_large, ◌>>=◌, each, demand}
+use Rattle.topo_outline.specs.Faults.{Fault, too_large, ◌>>=◌, each, demand}
 use Rattle.topo_outline.specs.Gives.{Fails, Gives}
-use Rattle.topo_outline.specs.Shape.{EntryNode, LayerText, OutlineText, members_of, member, member_that, is_list, is_object, is_topology, transform_from, layers}
-use Rattle.topo_outline.specs.Outline.{leaves, few, limited, outline_text, outlined, outline}
+use Rattle.topo_outline.specs.Shape.{OutlineText}
+use Rattle.topo_outline.specs.Outline.{leaves, outline}
 use Rattle.topo_reader.specs.Positions.{arcs}
 use Rattle.topo_reader.specs.Indexes.{Arc, uses_of}
 use Rattle.topo_reader.specs.Sizes.{size}

@@ -2,7 +2,7 @@
 use Rattle.std.proofs.Common.{◌≡◌, ℕ, ◌+◌, ◌<◌, length, drop, get_or, Bool, true, false, cond, List, [], ◌∷◌, ◌++◌, refl, sym, ap, ap₂, ◌∙◌, subst, not, ◌||◌, Result, Ok, Err, OnOk}
 use Rattle.std.specs.Prelude.{Some, IfOk}
 use Rattle.std.specs.List.{list_any}
-use Rattle.std.specs.Ordering.{int_cmp, is_eq}
+use Rattle.std.specs.Ordering.{int_cmp}
 use Rattle.std.specs.Cmp.{tied_then}
 use Rattle.std.specs.BTreeSet.{BTreeSet, contains, Updates}
 use Rattle.std.proofs.lemmas.List.Folds.{list_any-append}

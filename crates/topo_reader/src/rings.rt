@@ -9,7 +9,7 @@ ghost use Rattle.topo_reader.specs.Rings.{first_of, last_of, meet_from, meet, en
 use crate::canonical::begin_at_least;
 use crate::indexes::Use;
 use grid_geometry::Pos;
-use std::alloc::{AllocFailed, Allocator};
+use std::alloc::{AllocError, AllocFailed, Allocator};
 use std::collections::BTreeSet;
 use topo_outline::{OpenFault, RingAt};
 
@@ -200,6 +200,28 @@ fn first_repeat<A: Allocator + Copy>(
     Ok(None)
 }
 
+/// Whether no two positions are equal: sorted, equal ones are neighbours.
+fn all_differ<A: Allocator + Copy>(alloc: A, ring: &[Pos]) -> Result<bool, AllocError>
+    ensures { IfOk result (λ b. b ≡ true → first_repeat [] ring.now ≡ None) }
+{
+    let mut sorted = Vec::new(alloc);
+    sorted.extend_from_slice(ring)?;
+    sorted.sort_unstable();
+    sorted.dedup();
+    Ok(sorted.len() == ring.len())
+}
+
+/// The first position that stood before; most rings have none.
+fn repeat_of<A: Allocator + Copy>(alloc: A, ring: &[Pos]) -> Result<Option<Pos>, AllocError>
+    ensures { IfOk result (λ r. r ≡ first_repeat [] ring.now) }
+{
+    if all_differ(alloc, ring)? {
+        Ok(None)
+    } else {
+        Ok(first_repeat(alloc, ring)?)
+    }
+}
+
 /// The ring of the arcs, begun at its least position.
 #[tactic(auto, unfolding(crate::specs::Rings::ring_of))]
 fn ring_of<'a, A: Allocator + Copy>(
@@ -216,7 +238,7 @@ fn ring_of<'a, A: Allocator + Copy>(
     if ring.len() < 3 {
         return Err(OpenFault::RingShort { ring: ring_at });
     }
-    match first_repeat(alloc, ring.as_slice())? {
+    match repeat_of(alloc, ring.as_slice())? {
         Some(pos) => Err(OpenFault::RingRepeats { ring: ring_at, pos }),
         None => {
             begin_at_least(ring.as_mut_slice());
