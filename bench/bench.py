@@ -13,6 +13,9 @@ beside it one by Rattle's own compiler, which is not measured here.
 
 For each map there is one line a measure:
 
+    bytes     seconds to read the bytes of the file; the least of several times
+    scan      seconds to go over the text as JSON and no further: the program is given the text in a list, which is no
+              topology; the least of several runs
     open      seconds to open the map, with an empty script; the least of several runs
     edits     accepted edits a second: vertices moved by one unit and back
     queries   `area` lines answered a second
@@ -284,17 +287,6 @@ def why(done):
 
 # ---- the measures
 
-def open_seconds(runner, path):
-    """The least time that opening the map takes; slow maps are opened once or twice."""
-    best, spent = float("inf"), 0.0
-    for _ in range(5):
-        done = runner.accepted(path, [])
-        best, spent = min(best, done.seconds), spent + done.seconds
-        if spent > 5:
-            break
-    return best
-
-
 def rate(run, opening, seconds):
     """Lines a second of a script that `run` makes so long that it takes long enough to be told from opening."""
     wanted, lines = min(seconds, max(1.0, 0.5 * opening)), 2
@@ -346,6 +338,42 @@ class Moves:
         return done
 
 
+def least(take):
+    """The least of the seconds that `take` gives; what is slow is done once or twice."""
+    best, spent = float("inf"), 0.0
+    for _ in range(5):
+        seconds = take()
+        best, spent = min(best, seconds), spent + seconds
+        if spent > 5:
+            break
+    return best
+
+
+def measure_bytes(map_):
+    def take():
+        start = time.perf_counter()
+        map_.path.read_bytes()
+        return time.perf_counter() - start
+
+    return f"{least(take):9.3f} s"
+
+
+def measure_scan(runner, map_):
+    listed = runner.folder / "listed.json"
+    listed.write_bytes(b"[" + map_.path.read_bytes() + b"]")
+
+    def take():
+        done = runner.run(listed, [])
+        if done.status != 2 or done.err.strip() != "open: not a topology":
+            raise Failed(why(done))
+        return done.seconds
+
+    seconds = least(take)
+    size = listed.stat().st_size / 1e6
+    listed.unlink()
+    return f"{seconds:9.3f} s      {size / seconds:.1f} MB/s"
+
+
 def measure_open(runner, map_, opening):
     size = map_.path.stat().st_size / 1e6
     return f"{opening:9.3f} s      {size:.2f} MB, {size / opening:.1f} MB/s"
@@ -389,8 +417,10 @@ def measure(options, runner, map_):
             said = f"   failed: {reason}"
         print(f"{map_.name:24} {name:8} {said}", flush=True)
 
+    line("bytes", lambda: measure_bytes(map_))
+    line("scan", lambda: measure_scan(runner, map_))
     try:
-        opening = open_seconds(runner, map_.path)
+        opening = least(lambda: runner.accepted(map_.path, []).seconds)
     except Failed as reason:
         print(f"{map_.name:24} open        failed: {reason}", flush=True)
         return
