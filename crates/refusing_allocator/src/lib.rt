@@ -4,6 +4,12 @@
 //! none was refused.
 #![tactic(auto)]
 
+ghost use Rattle.std.specs.Prelude.{◌≡◌, false};
+ghost use Rattle.refusing_allocator.specs.Refusals.{nth_refused};
+
+#[cfg(test)]
+mod tests;
+
 use std::alloc::{AllocError, Allocator};
 use std::cell::Cell;
 
@@ -12,7 +18,8 @@ use std::cell::Cell;
 #[derive(Drop)]
 pub struct Refusing<B: Allocator> {
     inner: B,
-    /// Growths up to the refused one, which is the last of them; 0 once it was refused.
+    /// How many growths there are up to the refused one, which is the last of them; 0 once it was
+    /// refused.
     left: Cell<u64>,
     nth: u64,
 }
@@ -20,7 +27,9 @@ pub struct Refusing<B: Allocator> {
 impl<B: Allocator> Refusing<B> {
     /// Refuses the growth of this number, counted from 1, and no other; 0 refuses none. Each call
     /// of `allocate` is a growth, also one that a reallocation makes.
-    pub fn new(inner: B, nth: u64) -> Refusing<B> {
+    pub fn new(inner: B, nth: u64) -> Self
+        ensures nth { nth_refused result ≡ nth }
+    {
         Refusing {
             inner,
             left: Cell::new(nth),
@@ -29,12 +38,14 @@ impl<B: Allocator> Refusing<B> {
     }
 
     /// Whether a growth has been refused so far.
-    pub fn was_refused(&self) -> bool {
+    pub fn was_refused(&self) -> bool
+        ensures none { nth_refused self.now ≡ 0 → result ≡ false }
+    {
         self.nth != 0 && self.left.get() == 0
     }
 }
 
-/// Counts one growth, and says whether it is the one to refuse.
+/// Counts a growth, and gives whether it is the one to refuse.
 fn is_refused(left: &Cell<u64>) -> bool {
     let before = left.get();
     left.set(before.saturating_sub(1));
