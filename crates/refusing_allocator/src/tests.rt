@@ -25,7 +25,11 @@ fn one_growth_is_refused(rt: HostRuntime) {
         let alloc = Refusing::new(rt.alloc(), nth);
         assert!(rt; !alloc.was_refused());
         assert_eq!(rt; five_boxes(&alloc), expected, "growth {nth}");
-        assert_eq!(rt; alloc.was_refused(), expected.contains(&true), "growth {nth}");
+        assert_eq!(rt;
+            alloc.was_refused(),
+            expected.contains(&true),
+            "growth {nth}"
+        );
     }
 }
 

@@ -21,9 +21,13 @@ module _ (Z : Al) where
   ended = F.ended Z.row Z.g Z.d Z.drops
 
   abbrev stayed : Stays ended.signature.params ended.kept
-  stayed =
-      (stay_dropped self yes, (stay_dropped (plain (λ _. RawPtr)) yes,
-      (stay_dropped (plain (λ _. usize)) yes, (stay_dropped (plain (λ _. usize)) yes, tt))))
+  stayed = (
+    stay_dropped self yes,
+    (
+      stay_dropped (plain (λ _. RawPtr)) yes,
+      (stay_dropped (plain (λ _. usize)) yes, (stay_dropped (plain (λ _. usize)) yes, tt)),
+    ),
+  )
 
 module _ (Z : Al) {M : Type 1} {𝓤 : Ura M} (𝓛 : Logic 𝓤) (at_mem : Memory → SProp 𝓤) (run : Routine → Fun 𝓤) (𝓣 : Tables 𝓤 𝓛.H)
     (gives : Triple 𝓤 (𝓣.C (gives_key Z)) (Gives Z 𝓛 at_mem run)) where
@@ -34,9 +38,16 @@ module _ (Z : Al) {M : Type 1} {𝓤 : Ura M} (𝓛 : Logic 𝓤) (at_mem : Memo
 
   module _ (κ₁ κ₂ : Lft) (q₁ q₂ : Share) (inn : κ₁ ⊑ κ₂) (r : Bor (refusing.the_row Z.row).Denot) (n a : ℕ) (τ : Ty) where
     abbrev bound : Ptr → (walk_of 𝓛 (ended Z) (stayed Z) held).Ghost
-    bound x =
-        (((κ₁, (κ₂, tt)), (q₁, (q₂, tt)), (inn, tt), (r, (x, (n, (a, tt)))),
-        (shr_vals r, (rawptr_vals x, (vint w64 n ∷ [], (vint w64 a ∷ [], tt))))), τ)
+    bound x = (
+      (
+        (κ₁, (κ₂, tt)),
+        (q₁, (q₂, tt)),
+        (inn, tt),
+        (r, (x, (n, (a, tt)))),
+        (shr_vals r, (rawptr_vals x, (vint w64 n ∷ [], (vint w64 a ∷ [], tt)))),
+      ),
+      τ,
+    )
 
     abbrev vs : Ptr → List Val
     vs x = vptr r.ref_ptr.0 r.ref_ptr.1 ∷ ptr_val x ∷ vint w64 n ∷ vint w64 a ∷ []
