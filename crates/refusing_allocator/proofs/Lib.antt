@@ -1,2 +1,0 @@
-mod Steps
-mod CountLemmas
