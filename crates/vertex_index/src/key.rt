@@ -27,8 +27,8 @@ impl VertexKey {
         VertexKey { index }
     }
 
-    /// The slot of its vertex.
-    pub(crate) fn index(self) -> usize
+    /// The number of the key: small, since the numbers of removed vertices are given out again.
+    pub fn index(self) -> usize
         ensures { result ≡ self }
     {
         self.index

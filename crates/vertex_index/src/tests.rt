@@ -1,13 +1,13 @@
 //! A key through the changes of its vertex, and calls that are refused memory.
-use super::{AddFault, ShiftFault, Vertices};
+use super::{AddFault, ShiftFault, VertexKey, Vertices};
 use grid_geometry::Pos;
-use linked_list_allocator::LocalHeap;
+use refusing_allocator::Refusing;
 use std::alloc::{Allocator, Global};
 use std::process::Abort;
 use std::test::Fail;
 
-/// The bytes of each heap.
-const SIZE: usize = 16384;
+/// More than the growths of any run below.
+const MANY: u64 = 100;
 
 /// The position, which is in range.
 fn at<R: Abort>(rt: &R, x: i64, y: i64) -> Pos {
@@ -17,14 +17,6 @@ fn at<R: Abort>(rt: &R, x: i64, y: i64) -> Pos {
 /// The position that is added after n others.
 fn nth<R: Abort>(rt: &R, n: u32) -> Pos {
     at(rt, i64::from(n), 1)
-}
-
-/// Whether a vertex stands at the position, by both looks.
-fn stands<A: Allocator + Copy>(vertices: &Vertices<A>, p: Pos) -> bool {
-    match vertices.key_of(p) {
-        Some(key) => vertices.pos(key) == p,
-        None => false,
-    }
 }
 
 #[test]
@@ -45,115 +37,155 @@ fn a_key_stays_with_its_vertex(rt: HostRuntime) -> Result<(), Fail> {
     Ok(())
 }
 
-/// Adds 0 1, 1 1, 2 1 and so on until memory is refused, and gives how many stand then, and
-/// whether one of the two tables had grown for the one that was refused.
-fn fill<R: Abort>(rt: &R, heap: &LocalHeap, vertices: &mut Vertices<&LocalHeap>) -> (u32, bool) {
-    for n in 0..400u32 {
-        let used = heap.used();
-        if vertices.add(nth(rt, n)) == Err(AddFault::OutOfMemory) {
-            return (n, heap.used() > used);
+/// Whether a vertex stands at the position under this key, by both looks.
+fn stands<A: Allocator + Copy>(vertices: &Vertices<A>, p: Pos, key: VertexKey) -> bool {
+    match vertices.key_of(p) {
+        Some(found) => found == key && vertices.pos(found) == p,
+        None => false,
+    }
+}
+
+/// Whether the first so many positions stand and no other, under the keys that they have in a set
+/// that is refused nothing.
+fn is_filled<R: Abort, A: Allocator + Copy>(
+    rt: &R,
+    vertices: &Vertices<A>,
+    usual: &Vertices,
+    count: u32,
+) -> bool {
+    for n in 0..count {
+        let p = nth(rt, n);
+        match usual.key_of(p) {
+            Some(key) if stands(vertices, p, key) => (),
+            _ => return false,
         }
     }
-    (400, false)
+    vertices.len() == count as usize
 }
 
-/// An addition that is refused in so much room changes nothing, and is made once there is more.
-/// Gives whether one of the two tables had grown for it.
-fn refused_addition<R: Abort>(rt: &R, alloc: Global, room: usize) -> Result<bool, Fail> {
-    let heap = LocalHeap::new(alloc, SIZE)?;
-    let taken: Vec<u8, &LocalHeap> = Vec::with_capacity(&heap, SIZE.saturating_sub(room))?;
-    let mut vertices = Vertices::new(&heap);
-    let (count, grew) = fill(rt, &heap, &mut vertices);
-    let refused = nth(rt, count);
-    assert_eq!(rt; vertices.len(), count as usize);
-    assert_eq!(rt; vertices.key_of(refused), None);
+/// Adds so many vertices, and the same to a set that is refused nothing. An addition that is
+/// refused changes nothing, and has its usual answer when it is called again. Gives whether one
+/// was refused.
+fn fill<R: Abort, A: Allocator + Copy>(
+    rt: &R,
+    vertices: &mut Vertices<A>,
+    usual: &mut Vertices,
+    count: u32,
+) -> Result<bool, Fail> {
+    let mut was_refused = false;
     for n in 0..count {
-        assert!(rt; stands(&vertices, nth(rt, n)));
+        let p = nth(rt, n);
+        let mut added = vertices.add(p);
+        if added == Err(AddFault::OutOfMemory) {
+            assert!(rt; !was_refused);
+            was_refused = true;
+            assert!(rt; is_filled(rt, vertices, usual, n));
+            assert_eq!(rt; vertices.key_of(p), None);
+            added = vertices.add(p);
+        }
+        assert_eq!(rt; added, usual.add(p));
     }
-    drop(taken);
-    vertices.add(refused)?;
-    assert!(rt; stands(&vertices, refused));
-    Ok(grew)
+    assert!(rt; is_filled(rt, vertices, usual, count));
+    Ok(was_refused)
 }
 
-/// Each of the two tables is refused its growth in some room.
+/// Each growth of twenty additions is refused in turn.
 #[test]
 fn a_refused_addition_changes_nothing(rt: HostRuntime) -> Result<(), Fail> {
-    let (mut slots_grew, mut slots_refused) = (false, false);
-    for room in 0..200usize {
-        if refused_addition(&rt, rt.alloc(), 16 * room)? {
-            slots_grew = true;
-        } else {
-            slots_refused = true;
+    for k in 1..=MANY {
+        let refusing = Refusing::new(rt.alloc(), k);
+        let mut vertices = Vertices::new(&refusing);
+        let mut usual = Vertices::new(rt.alloc());
+        let was_refused = fill(&rt, &mut vertices, &mut usual, 20)?;
+        assert_eq!(rt; refusing.was_refused(), was_refused);
+        if !was_refused {
+            assert!(rt; 8 < k);
+            break;
         }
+        assert!(rt; k < MANY);
     }
-    assert!(rt; slots_grew && slots_refused);
     Ok(())
 }
 
-/// A shift that is refused in so much room changes nothing, and is made once there is more. Gives
-/// whether it was refused.
-fn refused_shift<R: Abort>(rt: &R, alloc: Global, room: usize) -> Result<bool, Fail> {
+/// Shifts the first of so many vertices. A shift that is refused changes nothing, and is made when
+/// it is called again. Gives whether it was refused.
+fn shift_first<R: Abort, A: Allocator + Copy>(
+    rt: &R,
+    vertices: &mut Vertices<A>,
+    usual: &mut Vertices,
+    count: u32,
+) -> Result<bool, Fail> {
     let (first, free) = (nth(rt, 0), at(rt, 7, 7));
-    let heap = LocalHeap::new(alloc, SIZE)?;
-    let taken: Vec<u8, &LocalHeap> = Vec::with_capacity(&heap, SIZE.saturating_sub(room))?;
-    let mut vertices = Vertices::new(&heap);
-    fill(rt, &heap, &mut vertices);
+    fill(rt, vertices, usual, count)?;
     let Some(key) = vertices.key_of(first) else {
         return Ok(false);
     };
-    let refused = vertices.shift(key, free) == Err(ShiftFault::OutOfMemory);
-    drop(taken);
-    if refused {
-        assert_eq!(rt; vertices.key_of(first), Some(key));
+    let was_refused = vertices.shift(key, free) == Err(ShiftFault::OutOfMemory);
+    if was_refused {
+        assert!(rt; is_filled(rt, vertices, usual, count));
         assert_eq!(rt; vertices.key_of(free), None);
-        vertices.shift(key, free)?;
+        assert_eq!(rt; vertices.shift(key, free), Ok(()));
     }
     assert_eq!(rt; vertices.key_of(first), None);
-    assert_eq!(rt; vertices.key_of(free), Some(key));
-    Ok(refused)
+    assert!(rt; stands(vertices, free, key));
+    assert_eq!(rt; vertices.len(), count as usize);
+    Ok(was_refused)
 }
 
-/// In some room the table of keys is full, so that a shift wants memory, and in some it is not.
+/// Each growth of a shift after one to sixteen additions is refused in turn: after some of them
+/// the table of keys is full.
 #[test]
 fn a_refused_shift_changes_nothing(rt: HostRuntime) -> Result<(), Fail> {
-    let (mut refused, mut made) = (false, false);
-    for room in 0..200usize {
-        if refused_shift(&rt, rt.alloc(), 16 * room)? {
-            refused = true;
-        } else {
-            made = true;
+    let mut was_refused = false;
+    for count in 1..17u32 {
+        for k in 1..=MANY {
+            let refusing = Refusing::new(rt.alloc(), k);
+            let mut vertices = Vertices::new(&refusing);
+            let mut usual = Vertices::new(rt.alloc());
+            was_refused |= shift_first(&rt, &mut vertices, &mut usual, count)?;
+            if !refusing.was_refused() {
+                break;
+            }
+            assert!(rt; k < MANY);
         }
     }
-    assert!(rt; refused && made);
+    assert!(rt; was_refused);
     Ok(())
 }
 
-/// A copy that is refused in so much room is made once there is more. Gives whether it was refused.
-fn refused_copy<R: Abort>(rt: &R, alloc: Global, room: usize) -> Result<bool, Fail> {
-    let p = at(rt, 1, 2);
-    let heap = LocalHeap::new(alloc, SIZE)?;
-    let mut vertices = Vertices::new(&heap);
-    let key = vertices.add(p)?;
-    let size = heap.free().saturating_sub(room);
-    let taken: Vec<u8, &LocalHeap> = Vec::with_capacity(&heap, size)?;
-    let refused = vertices.copy().is_err();
-    assert!(rt; stands(&vertices, p));
-    drop(taken);
-    assert_eq!(rt; vertices.copy()?.key_of(p), Some(key));
-    Ok(refused)
+/// Copies so many vertices. A copy that is refused changes nothing, and is made when it is called
+/// again. Gives whether it was refused.
+fn copy_all<R: Abort, A: Allocator + Copy>(
+    rt: &R,
+    vertices: &mut Vertices<A>,
+    usual: &mut Vertices,
+    count: u32,
+) -> Result<bool, Fail> {
+    fill(rt, vertices, usual, count)?;
+    let mut copy = vertices.copy();
+    let was_refused = copy.is_err();
+    if was_refused {
+        assert!(rt; is_filled(rt, vertices, usual, count));
+        copy = vertices.copy();
+    }
+    assert!(rt; is_filled(rt, &copy?, usual, count));
+    Ok(was_refused)
 }
 
-/// A copy is refused in each room that is too small for its two tables.
+/// Each growth of a copy of five vertices is refused in turn.
 #[test]
 fn a_refused_copy_changes_nothing(rt: HostRuntime) -> Result<(), Fail> {
-    let mut refused = 0usize;
-    for room in 0..100usize {
-        if refused_copy(&rt, rt.alloc(), 16 * room)? {
-            assert_eq!(rt; refused, room);
-            refused += 1;
+    let mut was_refused = false;
+    for k in 1..=MANY {
+        let refusing = Refusing::new(rt.alloc(), k);
+        let mut vertices = Vertices::new(&refusing);
+        let mut usual = Vertices::new(rt.alloc());
+        was_refused |= copy_all(&rt, &mut vertices, &mut usual, 5)?;
+        if !refusing.was_refused() {
+            break;
         }
+        assert!(rt; k < MANY);
     }
-    assert!(rt; 4 < refused && refused < 100);
+    assert!(rt; was_refused);
     Ok(())
 }

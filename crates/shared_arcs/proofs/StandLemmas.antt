@@ -1,0 +1,66 @@
+-- The arcs of a vertex, after a change of one vertex.
+use Rattle.std.proofs.Common.{◌≡◌, ◌≢◌, ℕ, zero, suc, ◌<◌, ◌≤◌, ◌+◌, refl, sym, ap, ◌∙◌, subst, List, [], ◌∷◌, ◌++◌, Contains, length, set, get_or, map, arith}
+use native.Mathlib.Decide.{ℕ_discrete}
+use Rattle.std.proofs.lemmas.List.Elements.{Contains-append_left, Contains-push}
+use Rattle.shared_arcs.specs.declared.arc.Stand.{Stand}
+use Rattle.shared_arcs.specs.Stores.{stand_at, ListsMore}
+
+module _ {A : Type 0} where
+  -- a vertex that comes in at the end stands in no arc
+  pub stand_pushed : (ss : List (Stand A)) (s : Stand A) (j : ℕ) → s.arcs.items ≡ [] → stand_at (ss ++ s ∷ []) j ≡ stand_at ss j
+  stand_pushed [] s zero e = e
+  stand_pushed [] s (suc j) e = refl
+  stand_pushed (t ∷ ss) s zero e = refl
+  stand_pushed (t ∷ ss) s (suc j) e = stand_pushed ss s j e
+
+  pub stand_set : (ss : List (Stand A)) (i : ℕ) (s : Stand A) → i < length ss → stand_at (set ss i s) i ≡ s.arcs.items
+  stand_set [] i s l = absurd (omega arith)
+  stand_set (t ∷ ss) zero s l = refl
+  stand_set (t ∷ ss) (suc i) s l = stand_set ss i s (omega arith)
+
+  pub stand_other : (ss : List (Stand A)) (i j : ℕ) (s : Stand A) → j ≢ i → stand_at (set ss i s) j ≡ stand_at ss j
+  stand_other [] i j s f = refl
+  stand_other (t ∷ ss) zero zero s f = absurd (f refl)
+  stand_other (t ∷ ss) zero (suc j) s f = refl
+  stand_other (t ∷ ss) (suc i) zero s f = refl
+  stand_other (t ∷ ss) (suc i) (suc j) s f = stand_other ss i j s (λ e. f (ap (λ n. suc n) e))
+
+  pub stand_here : (ss : List (Stand A)) (i : ℕ) (s : Stand A) → i < length ss → get_or ss i s ≡ s → stand_at ss i ≡ s.arcs.items
+  stand_here [] i s l e = absurd (omega arith)
+  stand_here (t ∷ ss) zero s l e = ap (λ x. x.arcs.items) e
+  stand_here (t ∷ ss) (suc i) s l e = stand_here ss i s (omega arith) e
+
+  pub stand_none : (ss : List (Stand A)) (i : ℕ) → length ss ≤ i → stand_at ss i ≡ []
+  stand_none [] i l = refl
+  stand_none (t ∷ ss) zero l = absurd (omega arith)
+  stand_none (t ∷ ss) (suc i) l = stand_none ss i (omega arith)
+
+  -- one vertex lists one more arc
+  pub lists_pushed : (ss : List (Stand A)) (i n : ℕ) (s : Stand A) → i < length ss → s.arcs.items ≡ stand_at ss i ++ n ∷ [] → ListsMore ss (set ss i s)
+  lists_pushed ss i n s l e j m x = by (ℕ_discrete j i)
+    where
+      by : Dec (j ≡ i) → Contains (stand_at (set ss i s) j) m
+      by (yes f) = subst (λ z. Contains z m) (sym (ap (stand_at (set ss i s)) f ∙ stand_set ss i s l ∙ e)) (Contains-append_left (stand_at ss i) (n ∷ []) m (subst (λ z. Contains (stand_at ss z) m) f x))
+      by (no f) = subst (λ z. Contains z m) (sym (stand_other ss i j s f)) x
+
+  pub listed_pushed : (ss : List (Stand A)) (i n : ℕ) (s : Stand A) → i < length ss → s.arcs.items ≡ stand_at ss i ++ n ∷ [] → Contains (stand_at (set ss i s) i) n
+  listed_pushed ss i n s l e = subst (λ z. Contains z n) (sym (stand_set ss i s l ∙ e)) (Contains-push (stand_at ss i) n)
+
+  -- a vertex lists what it did
+  pub lists_same : (ss : List (Stand A)) (i : ℕ) (s : Stand A) → i < length ss → s.arcs.items ≡ stand_at ss i → ListsMore ss (set ss i s)
+  lists_same ss i s l e j m x = by (ℕ_discrete j i)
+    where
+      by : Dec (j ≡ i) → Contains (stand_at (set ss i s) j) m
+      by (yes f) = subst (λ z. Contains z m) (sym (ap (stand_at (set ss i s)) f ∙ stand_set ss i s l ∙ e)) (subst (λ z. Contains (stand_at ss z) m) f x)
+      by (no f) = subst (λ z. Contains z m) (sym (stand_other ss i j s f)) x
+
+  pub stand_read : (ss : List (Stand A)) (i : ℕ) (s : Stand A) → i < length ss → s ≡ get_or ss i s → stand_at ss i ≡ s.arcs.items
+  stand_read ss i s l e = stand_here ss i s l (sym e)
+
+  -- a vertex forgets one arc at most
+  pub lists_less : (ss : List (Stand A)) (i n : ℕ) (s : Stand A) → i < length ss → ((m : ℕ) → m ≢ n → Contains (stand_at ss i) m → Contains s.arcs.items m) → (j m : ℕ) → m ≢ n → Contains (stand_at ss j) m → Contains (stand_at (set ss i s) j) m
+  lists_less ss i n s l h j m ne x = by (ℕ_discrete j i)
+    where
+      by : Dec (j ≡ i) → Contains (stand_at (set ss i s) j) m
+      by (yes f) = subst (λ z. Contains z m) (sym (ap (stand_at (set ss i s)) f ∙ stand_set ss i s l)) (h m ne (subst (λ z. Contains (stand_at ss z) m) f x))
+      by (no f) = subst (λ z. Contains z m) (sym (stand_other ss i j s f)) x

@@ -1,0 +1,13 @@
+use Rattle.std.proofs.Common.{ap, sym, ◌∙◌, ◌++◌, ◌∷◌, [], append_assoc}
+use Rattle.shared_arcs.proofs.ReadLemmas.{walked, walk_step}
+use Rattle.shared_arcs.proofs.reading.push_begins.Goals as goal
+
+pub loop-at-preserved : goal.loop-at-preserved
+loop-at-preserved g c =
+    c.in_ok-push.ensures.items
+    ∙ ap (λ z. z ++ c.index-path-place_of.result ∷ []) c.loop-at.invariant
+    ∙ append_assoc c.args.out.now.items _ (c.index-path-place_of.result ∷ [])
+    ∙ ap (λ z. c.args.out.now.items ++ z) (sym (walk_step c.args.back c.args.path.now c.loop-at.at c.place_of.result c.index-path-place_of.result c.loop-at.auto.at c.loop-at-test.true c.place_of.ensures c.index-path-place_of.is))
+
+pub returns : goal.returns
+returns g c = c.loop-at.invariant ∙ ap (λ z. c.args.out.now.items ++ z) (walked c.args.back c.args.path.now c.loop-at.at c.loop-at-test.false c.loop-at.auto.at-end c.loop-at.auto.at)

@@ -1,0 +1,7 @@
+use Rattle.std.proofs.Common.{◌≡◌, ◌++◌, take, ◌-◌, List, ℕ}
+use Rattle.shared_arcs.specs.Ways.{links, walk}
+use Rattle.shared_arcs.specs.Rings.{begins}
+use Rattle.shared_arcs.proofs.reading.push_begins.Given as goal
+
+abbrev pub invariant-loop-at : goal.invariant-loop-at
+invariant-loop-at g l = l.out.items ≡ l.initial.out.items ++ take (l.at - 1) (walk l.back l.path)

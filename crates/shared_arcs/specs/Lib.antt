@@ -1,0 +1,4 @@
+pub mod Rings
+pub mod Sound
+pub mod Stores
+pub mod Ways

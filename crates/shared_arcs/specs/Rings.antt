@@ -1,0 +1,22 @@
+-- The rings of a map, by their edges.
+use Rattle.std.specs.Prelude.{ℕ, ◌≡◌, ◌≢◌, List, ◌++◌, map, take, Option, option_map, is_some}
+use Rattle.std.specs.Ordering.{nat_cmp}
+use Rattle.std.specs.Coded.{Coded, coded×, coded_ℕ, coded_list}
+use Rattle.std.specs.FinMap as rings
+use Rattle.shared_arcs.specs.Ways.{Edge, links}
+
+-- the edges of each ring, by the ring's number
+abbrev pub Rings : Type 0
+Rings = rings.FinMap nat_cmp (List Edge)
+
+-- edges are stored as pairs
+abbrev pub edges_code : Coded (List Edge)
+edges_code = coded_list (coded× coded_ℕ coded_ℕ)
+
+-- the edges of the ring that goes along these keys, and from the last to the first
+abbrev pub edges : List ℕ → List Edge
+edges keys = links (keys ++ take 1 keys)
+
+-- the keys at which edges begin: for those of a ring, its keys in order
+abbrev pub begins : List Edge → List ℕ
+begins es = map (λ e. e.0) es

@@ -1,0 +1,109 @@
+//! Rings over shared arcs, as a caller sees them.
+ghost use Rattle.std.specs.Prelude.{◌≡◌, ◌≤◌, ◌++◌, true, None, IfOk, OnOk, OnErr, IfSome, length};
+ghost use Rattle.std.specs.FinMap as map;
+ghost use Rattle.shared_arcs.specs.Rings.{begins, edges};
+
+use crate::standing::mark_end;
+use crate::tables::Tables;
+use slab::Slab;
+use std::alloc::{AllocError, Allocator, Global};
+use std::marker::Model;
+use vertex_index::VertexKey;
+
+/// The rings of a map, in which a border stands once, however many rings have it. It is seen as
+/// the edges of each ring, by the ring's number: where borders are cut can't be seen.
+#[derive(Drop)]
+pub struct Borders<A: Allocator + Copy = Global> {
+    pub(crate) tables: Tables<A>,
+}
+
+impl<A: Allocator + Copy> Model for Borders<A> {
+    ghost use Rattle.std.specs.Coded.{coded_ℕ};
+    ghost use Rattle.std.specs.FinMap as map;
+    ghost use Rattle.shared_arcs.specs.Rings.{Rings, edges_code};
+
+    ghost Value = { Rings };
+
+    ghost coded = { map.code coded_ℕ edges_code };
+
+    ghost use Rattle.shared_arcs.specs.Sound.{rings_of, Sound};
+
+    ghost view = { λ b. rings_of b.tables };
+
+    ghost invariant = { λ b. Sound b.tables };
+}
+
+impl<A: Allocator + Copy> Borders<A> {
+    /// No ring. Takes no memory.
+    pub fn new(alloc: A) -> Self
+        ensures { result ≡ map.empty }
+    {
+        Borders {
+            tables: Tables {
+                alloc,
+                arcs: Slab::new(alloc),
+                rings: Slab::new(alloc),
+                stands: Vec::new(alloc),
+            },
+        }
+    }
+
+    /// Whether a ring is held under this number.
+    pub fn holds(&self, r: usize) -> bool
+        ensures { result ≡ map.contains_key self.now r }
+    {
+        self.tables.rings.get(r).is_some()
+    }
+
+    /// Lets new borders end at a vertex, as at a junction of the map that is to be put in: what ends
+    /// there is never cut there. No ring changes. Fails for want of memory alone.
+    pub fn end_arcs_at(&mut self, k: VertexKey) -> Result<(), AllocError>
+        ensures { self.new ≡ self.old }
+    {
+        match mark_end(self.tables.alloc, &mut self.tables.stands, k) {
+            Ok(()) => Ok(()),
+            Err(e) => Err(e),
+        }
+    }
+
+    /// Puts in the ring that goes along these keys, and from the last to the first, under a
+    /// number that was not held. Its segments that other rings have, in either direction, stand
+    /// where they stood. Fails for want of memory alone, and then no ring has changed.
+    pub fn add_ring(&mut self, keys: &[VertexKey]) -> Result<usize, AllocError>
+        requires some { 1 ≤ length keys.now }
+        ensures new { IfOk result (λ r. map.get self.old r ≡ None) }
+        ensures ok { IfOk result (λ r. self.new ≡ map.insert self.old r (edges keys.now)) }
+        ensures err { OnErr result (self.new ≡ self.old) }
+    {
+        let mut around = Vec::from_slice(self.tables.alloc, keys)?;
+        around.push(keys[0])?;
+        match self.tables.add_ring(around.as_slice()) {
+            Ok(r) => Ok(r),
+            Err(e) => Err(e),
+        }
+    }
+
+    /// Takes out a ring that is held, and the borders that no other ring has. Takes no memory.
+    pub fn take_out(&mut self, r: usize)
+        requires { map.contains_key self.old r ≡ true }
+        ensures { self.new ≡ map.remove self.old r }
+    {
+        self.tables.take_out(r);
+    }
+
+    /// Appends the keys of a ring that is held, in order. Fails for want of memory alone; some of
+    /// the keys may then have been appended.
+    pub fn push_keys<B: Allocator>(
+        &self,
+        r: usize,
+        out: &mut Vec<VertexKey, B>,
+    ) -> Result<(), AllocError>
+        requires { map.contains_key self.now r ≡ true }
+        ensures { OnOk result (IfSome (map.get self.now r) (λ es. out.new.items ≡ out.old.items ++ begins es)) }
+    {
+        match self.tables.push_keys(r, out) {
+            Ok(()) => Ok(()),
+            Err(e) => Err(e),
+        }
+    }
+}

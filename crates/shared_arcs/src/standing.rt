@@ -1,0 +1,71 @@
+//! The arcs that each vertex stands in.
+ghost use Rattle.std.specs.Prelude.{◌≡◌, ◌≢◌, ℕ, ◌<◌, OnOk, Contains, vec_len};
+ghost use Rattle.shared_arcs.specs.Stores.{stand_at, ListsMore};
+
+use crate::arc::Stand;
+use std::alloc::{AllocError, Allocator};
+use vertex_index::VertexKey;
+
+/// Makes the table long enough for vertex `k`.
+fn reach<A: Allocator + Copy>(
+    alloc: A,
+    stands: &mut Vec<Stand<A>, A>,
+    k: VertexKey,
+) -> Result<(), AllocError>
+    ensures kept { (j : ℕ) → stand_at stands.new.items j ≡ stand_at stands.old.items j }
+    ensures ok { OnOk result (k < vec_len stands.new) }
+{
+    while stands.len() <= k.index() {
+        stands.push(Stand {
+            arcs: Vec::new(alloc),
+            ends: false,
+        })?;
+    }
+    Ok(())
+}
+
+/// Lists arc `n` for a vertex.
+pub(crate) fn list_arc<A: Allocator + Copy>(
+    alloc: A,
+    stands: &mut Vec<Stand<A>, A>,
+    k: VertexKey,
+    n: usize,
+) -> Result<(), AllocError>
+    ensures kept { ListsMore stands.old.items stands.new.items }
+    ensures listed { OnOk result (Contains (stand_at stands.new.items k) n) }
+{
+    reach(alloc, stands, k)?;
+    let stand = stands.get_mut(k.index()).unwrap();
+    stand.arcs.push(n)?;
+    Ok(())
+}
+
+/// Lists arc `n` for each of these vertices.
+pub(crate) fn note<A: Allocator + Copy>(
+    alloc: A,
+    stands: &mut Vec<Stand<A>, A>,
+    keys: &[VertexKey],
+    n: usize,
+) -> Result<(), AllocError>
+    ensures kept { ListsMore stands.old.items stands.new.items }
+    ensures noted { OnOk result ((k : ℕ) → Contains keys.now k → Contains (stand_at stands.new.items k) n) }
+{
+    for k in keys {
+        list_arc(alloc, stands, *k, n)?;
+    }
+    Ok(())
+}
+
+/// New arcs end at vertex `k` from now on.
+pub(crate) fn mark_end<A: Allocator + Copy>(
+    alloc: A,
+    stands: &mut Vec<Stand<A>, A>,
+    k: VertexKey,
+) -> Result<(), AllocError>
+    ensures { ListsMore stands.old.items stands.new.items }
+{
+    reach(alloc, stands, k)?;
+    let stand = stands.get_mut(k.index()).unwrap();
+    stand.ends = true;
+    Ok(())
+}

@@ -1,0 +1,181 @@
+//! Squares that share a side, a long ring, and calls that are refused memory.
+use super::Borders;
+use grid_geometry::Pos;
+use linked_list_allocator::LocalHeap;
+use std::alloc::{AllocError, Allocator, Global};
+use std::process::Abort;
+use std::test::Fail;
+use vertex_index::{VertexKey, Vertices};
+
+/// The bytes of each heap.
+const SIZE: usize = 16384;
+
+/// Two squares, each counted by its four vertices: the side of vertices 1 and 2 is in both.
+const LEFT: [usize; 4] = [0, 1, 2, 3];
+
+const RIGHT: [usize; 4] = [1, 4, 5, 2];
+
+/// The second square, gone round the other way.
+const RIGHT_TURNED: [usize; 4] = [2, 5, 4, 1];
+
+/// The keys of so many vertices.
+fn vertex_keys<R: Abort>(rt: &R, alloc: Global, count: i64) -> Result<Vec<VertexKey>, Fail> {
+    let mut vertices = Vertices::new(alloc);
+    let mut keys = Vec::new(alloc);
+    for n in 0..count {
+        keys.push(vertices.add(Pos::new(n, 0).expect(rt, "in range"))?)?;
+    }
+    Ok(keys)
+}
+
+/// The keys of these vertices.
+fn pick<R: Abort>(
+    rt: &R,
+    alloc: Global,
+    keys: &[VertexKey],
+    which: &[usize],
+) -> Result<Vec<VertexKey>, AllocError> {
+    let mut ring = Vec::new(alloc);
+    for n in which {
+        ring.push(*keys.get(*n).expect(rt, "a vertex"))?;
+    }
+    Ok(ring)
+}
+
+/// Adds the ring along these keys.
+fn add<R: Abort, A: Allocator + Copy>(
+    rt: &R,
+    borders: &mut Borders<A>,
+    keys: &[VertexKey],
+) -> Result<usize, AllocError> {
+    assert!(rt; 0 < keys.len());
+    borders.add_ring(keys)
+}
+
+/// How many arcs there are.
+fn arc_count<A: Allocator + Copy>(borders: &Borders<A>) -> usize {
+    borders.tables.arcs.len()
+}
+
+/// Takes out a ring.
+fn take<R: Abort, A: Allocator + Copy>(rt: &R, borders: &mut Borders<A>, r: usize) {
+    assert!(rt; borders.holds(r));
+    borders.take_out(r);
+}
+
+/// Whether the ring is held and goes along these keys.
+fn goes_along<A: Allocator + Copy>(
+    alloc: Global,
+    borders: &Borders<A>,
+    r: usize,
+    keys: &[VertexKey],
+) -> Result<bool, AllocError> {
+    if !borders.holds(r) {
+        return Ok(false);
+    }
+    let mut read = Vec::new(alloc);
+    borders.push_keys(r, &mut read)?;
+    Ok(read.as_slice() == keys)
+}
+
+/// The first square, of one arc, is cut in three by the second, which adds one.
+fn share_a_side<R: Abort>(
+    rt: &R,
+    alloc: Global,
+    left: &[VertexKey],
+    right: &[VertexKey],
+) -> Result<(), Fail> {
+    let mut borders = Borders::new(alloc);
+    let first = add(rt, &mut borders, left)?;
+    let second = add(rt, &mut borders, right)?;
+    assert_eq!(rt; arc_count(&borders), 4);
+    assert!(rt; goes_along(alloc, &borders, first, left)?);
+    take(rt, &mut borders, first);
+    assert_eq!(rt; arc_count(&borders), 2);
+    assert!(rt; goes_along(alloc, &borders, second, right)?);
+    let again = add(rt, &mut borders, left)?;
+    assert_eq!(rt; arc_count(&borders), 4);
+    assert!(rt; goes_along(alloc, &borders, again, left)?);
+    Ok(())
+}
+
+#[test]
+fn two_squares_share_a_side(rt: HostRuntime) -> Result<(), Fail> {
+    let alloc = rt.alloc();
+    let keys = vertex_keys(&rt, alloc, 6)?;
+    let left = pick(&rt, alloc, keys.as_slice(), &LEFT)?;
+    let right = pick(&rt, alloc, keys.as_slice(), &RIGHT)?;
+    let turned = pick(&rt, alloc, keys.as_slice(), &RIGHT_TURNED)?;
+    share_a_side(&rt, alloc, left.as_slice(), right.as_slice())?;
+    share_a_side(&rt, alloc, left.as_slice(), turned.as_slice())
+}
+
+/// Where both junctions were named first, the square has the three arcs from the start.
+#[test]
+fn new_arcs_end_at_junctions(rt: HostRuntime) -> Result<(), Fail> {
+    let alloc = rt.alloc();
+    let keys = vertex_keys(&rt, alloc, 6)?;
+    let left = pick(&rt, alloc, keys.as_slice(), &LEFT)?;
+    let right = pick(&rt, alloc, keys.as_slice(), &RIGHT)?;
+    let mut borders = Borders::new(alloc);
+    for junction in [1usize, 2] {
+        borders.end_arcs_at(*keys.get(junction).expect(&rt, "a vertex"))?;
+    }
+    add(&rt, &mut borders, left.as_slice())?;
+    assert_eq!(rt; arc_count(&borders), 3);
+    add(&rt, &mut borders, right.as_slice())?;
+    assert_eq!(rt; arc_count(&borders), 4);
+    Ok(())
+}
+
+/// An arc of 256 keys has 255 segments, so 600 segments make three arcs.
+#[test]
+fn a_long_ring_is_some_arcs(rt: HostRuntime) -> Result<(), Fail> {
+    let alloc = rt.alloc();
+    let keys = vertex_keys(&rt, alloc, 600)?;
+    let mut borders = Borders::new(alloc);
+    let ring = add(&rt, &mut borders, keys.as_slice())?;
+    assert_eq!(rt; arc_count(&borders), 3);
+    assert!(rt; goes_along(alloc, &borders, ring, keys.as_slice())?);
+    Ok(())
+}
+
+/// Adds a square in so much room. Where that is refused it is added once there is more room. Gives
+/// whether it was refused.
+fn is_refused<R: Abort>(
+    rt: &R,
+    alloc: Global,
+    left: &[VertexKey],
+    right: &[VertexKey],
+    room: usize,
+) -> Result<bool, Fail> {
+    let heap = LocalHeap::new(alloc, SIZE)?;
+    let taken: Vec<u8, &LocalHeap> = Vec::with_capacity(&heap, SIZE.saturating_sub(room))?;
+    let mut borders = Borders::new(&heap);
+    let Ok(first) = add(rt, &mut borders, left) else {
+        return Ok(true);
+    };
+    let refused = add(rt, &mut borders, right).is_err();
+    assert!(rt; goes_along(alloc, &borders, first, left)?);
+    drop(taken);
+    let again = add(rt, &mut borders, right)?;
+    assert!(rt; goes_along(alloc, &borders, again, right)?);
+    Ok(refused)
+}
+
+/// A ring is refused in each room that is too small for what it adds.
+#[test]
+fn a_refused_ring_changes_nothing(rt: HostRuntime) -> Result<(), Fail> {
+    let alloc = rt.alloc();
+    let keys = vertex_keys(&rt, alloc, 6)?;
+    let left = pick(&rt, alloc, keys.as_slice(), &LEFT)?;
+    let right = pick(&rt, alloc, keys.as_slice(), &RIGHT)?;
+    let mut refused = 0usize;
+    for room in 0..200usize {
+        if is_refused(&rt, alloc, left.as_slice(), right.as_slice(), 16 * room)? {
+            refused += 1;
+        }
+    }
+    assert!(rt; 10 < refused && refused < 200);
+    Ok(())
+}
