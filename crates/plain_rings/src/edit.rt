@@ -1,6 +1,7 @@
 // Edits that give a ring more or fewer positions, made in a copy of the rings.
-ghost use Rattle.std.specs.Prelude.{◌≡◌, ◌∷◌, ◌++◌, IfOk, OnOk, IsTrue, map};
+ghost use Rattle.std.specs.Prelude.{◌≡◌, ◌&&◌, ◌∷◌, ◌++◌, IfOk, OnOk, IsTrue, map};
 ghost use Rattle.std.specs.List.{flat_map, list_all};
+ghost use Rattle.grid_geometry.specs.Position.{position_eq};
 ghost use Rattle.grid_geometry.specs.Segment.{segment, segment_eq};
 ghost use Rattle.ring_machine.specs.Ring.{is_ring, segments};
 ghost use Rattle.ring_machine.specs.Vertices.{ins_ring, del_ring};
@@ -12,6 +13,9 @@ use grid_geometry::{Pos, Seg};
 use std::alloc::{AllocError, AllocFailed, Allocator};
 use topo_reader::begin_at_least;
 
+/// The positions of all features, by polygon and ring.
+pub(crate) type Polygons<A> = Vec<Vec<Vec<Vec<Pos, A>, A>, A>, A>;
+
 /// An edit of a ring.
 #[derive(Clone, Copy)]
 pub(crate) enum RingEdit {
@@ -21,11 +25,18 @@ pub(crate) enum RingEdit {
     Remove { p: Pos },
 }
 
+/// Whether x is a, and y is b.
+fn are(x: Pos, y: Pos, a: Pos, b: Pos) -> bool
+    ensures { result ≡ (position_eq x a && position_eq y b) }
+{
+    x == a && y == b
+}
+
 /// Whether x and y are a and b, in either order.
 pub(crate) fn are_ends(x: Pos, y: Pos, a: Pos, b: Pos) -> bool
     ensures { result ≡ segment_eq (segment x y) (segment a b) }
 {
-    (x == a && y == b) || (x == b && y == a)
+    are(x, y, a, b) || are(x, y, b, a)
 }
 
 /// Appends x, and q after it where x and y are a and b.
@@ -79,8 +90,12 @@ fn removed_ring<A: Allocator + Copy>(
 ) -> Result<Vec<Pos, A>, AllocError>
     ensures { IfOk result (λ changed. changed.items ≡ del_ring p ring.now) }
 {
-    let mut changed = Vec::from_slice(alloc, ring)?;
-    changed.retain(|r| *r != p);
+    let mut changed = Vec::new(alloc);
+    for r in ring {
+        if *r != p {
+            changed.push(*r)?;
+        }
+    }
     begin_at_least(&mut changed);
     Ok(changed)
 }
@@ -89,11 +104,11 @@ fn removed_ring<A: Allocator + Copy>(
 fn edited_ring<A: Allocator + Copy>(
     alloc: A,
     ring: &[Pos],
-    edit: RingEdit,
+    edit: &RingEdit,
 ) -> Result<Vec<Pos, A>, AllocError>
-    ensures { IfOk result (λ changed. changed.items ≡ edited_ring edit ring.now) }
+    ensures { IfOk result (λ changed. changed.items ≡ edited_ring edit.now ring.now) }
 {
-    match edit {
+    match *edit {
         RingEdit::Insert { a, b, q } => inserted_ring(alloc, ring, a, b, q),
         RingEdit::Remove { p } => removed_ring(alloc, ring, p),
     }
@@ -103,12 +118,12 @@ fn edited_ring<A: Allocator + Copy>(
 pub(crate) fn edited_segments<A: Allocator + Copy>(
     alloc: A,
     rings: &[&[Pos]],
-    edit: RingEdit,
+    edit: &RingEdit,
 ) -> Result<Vec<Seg, A>, AllocError>
-    requires { IsTrue (list_all is_ring (map (edited_ring edit) (map (λ r. r.now) rings.now))) }
+    requires { IsTrue (list_all is_ring (map (edited_ring edit.now) (map (λ r. r.now) rings.now))) }
     ensures { IfOk result
         (λ found. found.items
-        ≡ flat_map segments (map (edited_ring edit) (map (λ r. r.now) rings.now))) }
+        ≡ flat_map segments (map (edited_ring edit.now) (map (λ r. r.now) rings.now))) }
 {
     let mut found = Vec::new(alloc);
     for ring in rings {
@@ -122,11 +137,11 @@ pub(crate) fn edited_segments<A: Allocator + Copy>(
 fn edited_polygon<A: Allocator + Copy>(
     alloc: A,
     polygon: &[Vec<Pos, A>],
-    edit: RingEdit,
+    edit: &RingEdit,
 ) -> Result<Vec<Vec<Pos, A>, A>, AllocError>
     ensures { IfOk result
         (λ changed. held_polygon changed.items
-        ≡ map (edited_ring edit) (held_polygon polygon.now)) }
+        ≡ map (edited_ring edit.now) (held_polygon polygon.now)) }
 {
     let mut changed = Vec::new(alloc);
     for ring in polygon {
@@ -139,11 +154,11 @@ fn edited_polygon<A: Allocator + Copy>(
 fn edited_feature<A: Allocator + Copy>(
     alloc: A,
     polygons: &[Vec<Vec<Pos, A>, A>],
-    edit: RingEdit,
+    edit: &RingEdit,
 ) -> Result<Vec<Vec<Vec<Pos, A>, A>, A>, AllocError>
     ensures { IfOk result
         (λ changed. held_feature changed.items
-        ≡ map (map (edited_ring edit)) (held_feature polygons.now)) }
+        ≡ map (map (edited_ring edit.now)) (held_feature polygons.now)) }
 {
     let mut changed = Vec::new(alloc);
     for polygon in polygons {
@@ -156,10 +171,10 @@ fn edited_feature<A: Allocator + Copy>(
 pub(crate) fn edited<A: Allocator + Copy>(
     alloc: A,
     features: &[Vec<Vec<Vec<Pos, A>, A>, A>],
-    edit: RingEdit,
-) -> Result<Vec<Vec<Vec<Vec<Pos, A>, A>, A>, A>, AllocError>
+    edit: &RingEdit,
+) -> Result<Polygons<A>, AllocError>
     ensures { IfOk result
-        (λ changed. held changed.items ≡ map (map (map (edited_ring edit))) (held features.now)) }
+        (λ changed. held changed.items ≡ map (map (map (edited_ring edit.now))) (held features.now)) }
 {
     let mut changed = Vec::new(alloc);
     for polygons in features {

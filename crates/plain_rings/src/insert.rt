@@ -1,15 +1,18 @@
-// Whether a vertex may be inserted.
-ghost use Rattle.std.specs.Prelude.{◌≡◌, None, IfErr, OnOk, IsTrue, map};
+// A vertex inserted, where it may be.
+ghost use Rattle.std.specs.Prelude.{◌≡◌, None, IfErr, IfOk, OnOk, IsTrue, map};
 ghost use Rattle.std.specs.List.{list_all, list_any};
 ghost use Rattle.grid_geometry.specs.Segment.{segment, segment_eq};
 ghost use Rattle.ring_machine.specs.Refusals.{first_of};
 ghost use Rattle.ring_machine.specs.Ring.{is_ring, segments};
 ghost use Rattle.plain_rings.specs.Edits.{insert_refusals, has_segment};
+ghost use Rattle.ring_machine.specs.Vertices.{ins_ring};
 ghost use Rattle.plain_rings.specs.Faults.{Refuses};
+ghost use Rattle.plain_rings.specs.Rings.{all_rings, held};
 
-use crate::edit::{RingEdit, are_ends, edited_segments};
+use crate::edit::{Polygons, RingEdit, are_ends, edited, edited_segments};
 use crate::fault::EditFault;
 use crate::planarity::first_conflict;
+use crate::rings::all_rings;
 use crate::sweeps::{holds_other, is_vertex};
 use grid_geometry::Pos;
 use std::alloc::Allocator;
@@ -44,7 +47,7 @@ pub(crate) fn has_segment(rings: &[&[Pos]], a: Pos, b: Pos) -> bool
 }
 
 /// Whether q may come between a and b: the conditions of an insertion, in their order.
-pub(crate) fn test_insert<A: Allocator + Copy>(
+fn test_insert<A: Allocator + Copy>(
     alloc: A,
     rings: &[&[Pos]],
     a: Pos,
@@ -65,7 +68,7 @@ pub(crate) fn test_insert<A: Allocator + Copy>(
         return Err(EditFault::Occupied);
     }
     // as many segments as positions
-    let after = edited_segments(alloc, rings, RingEdit::Insert { a, b, q })?;
+    let after = edited_segments(alloc, rings, &RingEdit::Insert { a, b, q })?;
     if after.len() > 4_000_000 {
         return Err(EditFault::TooLarge);
     }
@@ -76,4 +79,27 @@ pub(crate) fn test_insert<A: Allocator + Copy>(
         return Err(EditFault::Sweeps);
     }
     Ok(())
+}
+
+/// The polygons of all features with q between a and b, where it may come there.
+pub(crate) fn inserted<A: Allocator + Copy>(
+    alloc: A,
+    features: &[Vec<Vec<Vec<Pos, A>, A>, A>],
+    a: Pos,
+    b: Pos,
+    q: Pos,
+) -> Result<Polygons<A>, EditFault>
+    requires { IsTrue (list_all is_ring (all_rings features.now)) }
+    ensures accepted { OnOk result
+        (first_of (insert_refusals (all_rings features.now) a b q) ≡ None) }
+    ensures inserted { IfOk result
+        (λ changed. held changed.items ≡ map (map (map (ins_ring a b q))) (held features.now)) }
+    ensures refused { IfErr result
+        (λ fault. Refuses fault (first_of (insert_refusals (all_rings features.now) a b q))) }
+{
+    let rings = all_rings(alloc, features)?;
+    match test_insert(alloc, rings.as_slice(), a, b, q) {
+        Ok(()) => Ok(edited(alloc, features, &RingEdit::Insert { a, b, q })?),
+        Err(fault) => Err(fault),
+    }
 }

@@ -1,28 +1,27 @@
 ghost use Rattle.std.specs.Prelude.{◌≡◌, ◌↔◌, Err, None, Some, IfOk, OnOk, IfErr, OnErr, IsOk};
-ghost use Rattle.std.specs.Prelude.{IsTrue, length, map, ℕ, ◌+◌, ◌&&◌, not, if◌then◌else◌};
+ghost use Rattle.std.specs.Prelude.{IsTrue, length, map, ℕ, ◌+◌, if◌then◌else◌};
 ghost use Rattle.std.specs.List.{list_all, flat_map};
 ghost use Rattle.ring_machine.specs.Parts.{features, has_feature, rings};
 ghost use Rattle.ring_machine.specs.Planar.{Proper, first_pair, least_conflict};
-ghost use Rattle.ring_machine.specs.Query.{area_of, vertices};
+ghost use Rattle.ring_machine.specs.Query.{area_of};
 ghost use Rattle.ring_machine.specs.Refusals.{first_of, feature_at, move_refusals};
 ghost use Rattle.ring_machine.specs.Refusals.{insert_refusals, remove_refusals};
 ghost use Rattle.ring_machine.specs.Ring.{is_ring, segments};
-ghost use Rattle.ring_machine.specs.Thin.{thinned, thin_at, is_flat};
-ghost use Rattle.ring_machine.specs.Vertices.{put, ins, ins_ring, del, del_ring, is_junction};
+ghost use Rattle.ring_machine.specs.Thin.{thinned, thin_at};
+ghost use Rattle.ring_machine.specs.Vertices.{put, ins, del};
 ghost use Rattle.topo_reader.specs.Document.{document_of, IsOfRings};
 ghost use Rattle.topo_reader.specs.DocumentView.{view_raw};
 ghost use Rattle.plain_rings.specs.Faults.{Names, Refuses};
-ghost use Rattle.plain_rings.specs.Rings.{all_rings, held, refusals};
+ghost use Rattle.plain_rings.specs.Rings.{all_rings, refusals};
 ghost use Rattle.plain_rings.specs.Thin.{IsThinnedPart};
 ghost use Rattle.plain_rings.specs.declared.fault.BuildFault.TheVariants.{Conflict};
 
 use crate::area::feature_area;
-use crate::edit::{RingEdit, edited};
 use crate::fault::{BuildFault, EditFault, NoFeature};
-use crate::insert::test_insert;
+use crate::insert::inserted;
 use crate::planarity::first_conflict;
 use crate::put::put_all;
-use crate::remove::test_remove;
+use crate::remove::removed;
 use crate::rings::all_rings;
 use crate::segments::{all_segments, moved_segments};
 use crate::sweeps::{crosses_on_way, edges_sweep, is_vertex};
@@ -31,9 +30,6 @@ use grid_geometry::Pos;
 use std::alloc::{AllocError, Allocator, Global};
 use std::marker::Model;
 use topo_reader::RawDoc;
-
-/// The positions of all features, by polygon and ring.
-type Polygons<A> = Vec<Vec<Vec<Vec<Pos, A>, A>, A>, A>;
 
 /// A map as its plain rings, in which no two segments conflict. It is seen as its document.
 #[derive(Drop)]
@@ -148,21 +144,6 @@ impl<'a, A: Allocator + Copy> PlainMap<'a, A> {
         }
     }
 
-    /// The polygons with q between a and b, where it may come there.
-    fn inserted(&self, a: Pos, b: Pos, q: Pos) -> Result<Polygons<A>, EditFault>
-        ensures accepted { OnOk result (first_of (insert_refusals self.now a b q) ≡ None) }
-        ensures inserted { IfOk result
-            (λ polygons. held polygons.items
-            ≡ map (map (map (ins_ring a b q))) (view_raw self.inside.raw).polygons) }
-        ensures refused { IfErr result
-            (λ fault. Refuses fault (first_of (insert_refusals self.now a b q))) }
-    {
-        let rings = all_rings(self.alloc, self.raw.polygons.as_slice())?;
-        test_insert(self.alloc, rings.as_slice(), a, b, q)?;
-        let edit = RingEdit::Insert { a, b, q };
-        Ok(edited(self.alloc, self.raw.polygons.as_slice(), edit)?)
-    }
-
     /// Puts q between a and b, in every ring in which they are neighbours. Refused by the first
     /// condition that fails, or for want of memory.
     pub fn insert_vertex(&mut self, a: Pos, b: Pos, q: Pos) -> Result<(), EditFault>
@@ -172,28 +153,13 @@ impl<'a, A: Allocator + Copy> PlainMap<'a, A> {
             (λ fault. Refuses fault (first_of (insert_refusals self.old a b q))) }
         ensures unchanged { OnErr result (self.new ≡ self.old) }
     {
-        match self.inserted(a, b, q) {
+        match inserted(self.alloc, self.raw.polygons.as_slice(), a, b, q) {
             Ok(polygons) => {
                 self.raw.polygons = polygons;
                 Ok(())
             }
             Err(fault) => Err(fault),
         }
-    }
-
-    /// The polygons without p, where it may be left out.
-    fn removed(&self, p: Pos) -> Result<Polygons<A>, EditFault>
-        ensures accepted { OnOk result (first_of (remove_refusals self.now p) ≡ None) }
-        ensures removed { IfOk result
-            (λ polygons. held polygons.items
-            ≡ map (map (map (del_ring p))) (view_raw self.inside.raw).polygons) }
-        ensures refused { IfErr result
-            (λ fault. Refuses fault (first_of (remove_refusals self.now p))) }
-    {
-        let rings = all_rings(self.alloc, self.raw.polygons.as_slice())?;
-        test_remove(self.alloc, rings.as_slice(), p)?;
-        let edit = RingEdit::Remove { p };
-        Ok(edited(self.alloc, self.raw.polygons.as_slice(), edit)?)
     }
 
     /// Leaves p out of every ring. Refused by the first condition that fails, or for want of memory.
@@ -204,7 +170,7 @@ impl<'a, A: Allocator + Copy> PlainMap<'a, A> {
             (λ fault. Refuses fault (first_of (remove_refusals self.old p))) }
         ensures unchanged { OnErr result (self.new ≡ self.old) }
     {
-        match self.removed(p) {
+        match removed(self.alloc, self.raw.polygons.as_slice(), p) {
             Ok(polygons) => {
                 self.raw.polygons = polygons;
                 Ok(())
@@ -213,31 +179,14 @@ impl<'a, A: Allocator + Copy> PlainMap<'a, A> {
         }
     }
 
-    /// The vertices, ascending, each once.
-    fn vertices(&self) -> Result<Vec<Pos, A>, AllocError>
-        ensures { IfOk result (λ found. found.items ≡ vertices self.now) }
-    {
-        let rings = all_rings(self.alloc, self.raw.polygons.as_slice())?;
-        vertices(self.alloc, rings.as_slice())
-    }
-
-    /// Whether p is no junction, and flat by t.
-    fn is_thin(&self, t: i128, p: Pos) -> Result<bool, AllocError>
-        ensures { IfOk result
-            (λ thin. thin ≡ (not (is_junction self.now p) && is_flat t self.now p)) }
-    {
-        let rings = all_rings(self.alloc, self.raw.polygons.as_slice())?;
-        is_thin(self.alloc, rings.as_slice(), p, t)
-    }
-
     /// Leaves p out where it is flat by t, is no junction, and may be removed; tells whether it did.
     fn thin_at(&mut self, t: i128, p: Pos) -> Result<bool, AllocError>
         ensures thinned { (n : ℕ) → IfOk result
             (λ gone. thin_at t (record { doc = self.old; removed = n }) p
-            ≡ record { doc = self.new; removed = n + if gone then 1 else 0 }) }
+            ≡ record { doc = self.new; removed = n + (if gone then 1 else 0) }) }
         ensures unchanged { OnErr result (self.new ≡ self.old) }
     {
-        match self.is_thin(t, p) {
+        match is_thin(self.alloc, self.raw.polygons.as_slice(), p, t) {
             Ok(true) => match self.remove_vertex(p) {
                 Ok(()) => Ok(true),
                 Err(EditFault::OutOfMemory) => Err(AllocError),
@@ -257,7 +206,7 @@ impl<'a, A: Allocator + Copy> PlainMap<'a, A> {
         ensures thinned { OnOk result (self.new ≡ (thinned t self.old).doc) }
         ensures part { OnErr result (IsThinnedPart t self.old self.new) }
     {
-        let vertices = self.vertices()?;
+        let vertices = vertices(self.alloc, self.raw.polygons.as_slice())?;
         let mut removed = 0;
         for p in vertices.as_slice() {
             match self.thin_at(t, *p) {

@@ -28,7 +28,6 @@ pub(crate) fn is_vertex(rings: &[&[Pos]], p: Pos) -> bool
 }
 
 /// Whether w is none of these, and the triangle a, b, c holds it.
-#[tactic(auto, using(crate::proofs::RingLists::has_turned))]
 fn is_other(w: Pos, these: &[Pos], a: Pos, b: Pos, c: Pos) -> bool
     ensures { result ≡ spec.is_other these.now a b c w }
 {
