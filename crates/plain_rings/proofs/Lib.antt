@@ -15,3 +15,4 @@ pub mod EditedRings
 pub mod RefusingMore
 pub mod Changed
 pub mod SortedOnce
+pub mod Thinning

@@ -1,7 +1,7 @@
 -- The conditions of an insertion and of a removal, asked of the rings of a document.
-use Rattle.std.proofs.Common.{◌≡◌, Bool, true, false, refl, sym, ap, ap₂, ◌∙◌, cond, List, [], ◌∷◌, ◌++◌, map, Option, None, Some, length, Vec}
+use Rattle.std.proofs.Common.{◌≡◌, Bool, true, false, refl, sym, ap, ap₂, ◌∙◌, cond, List, [], ◌∷◌, ◌++◌, map, Option, None, Some, length, Vec, ℤ}
 use Rattle.std.specs.Prelude.{not, nat_le, ◌&&◌}
-use Rattle.std.specs.List.{list_any, list_all, flat_map, filter, sum_by}
+use Rattle.std.specs.List.{list_any, list_all, flat_map, filter, fold, sum_by}
 use Rattle.std.proofs.lemmas.List.Concat.{flat_map-append}
 use Rattle.grid_geometry.specs.Position.{Position, position_eq}
 use Rattle.grid_geometry.specs.Segment.{Segment, segment, segment_eq}
@@ -14,6 +14,7 @@ use Rattle.ring_machine.specs.Vertices as machine
 use Rattle.ring_machine.specs.Planar.{first_pair, least_conflict}
 use Rattle.ring_machine.specs.Sweep as sweep
 use Rattle.ring_machine.specs.Thin.{is_flat}
+use Rattle.ring_machine.specs.Query.{add_position, vertices}
 use Rattle.ring_machine.specs.Command.{Refusal, NoVertex, NoSegment, Occupied, Junction, RingShort, SegmentExists, TooLarge, Conflict, Sweeps}
 use Rattle.ring_machine.specs.Refusals.{◌unless◌, first_of, conflict_of}
 use Rattle.ring_machine.specs.Refusals as asked
@@ -119,6 +120,11 @@ module _ (rings : List (List Position)) (a b q : Position) where
     pub insert_passes : nat_le (length (flat_map segments (map (ins_ring a b q) rings))) 4000000 ≡ true → pair ≡ None → sweeps ≡ false → first_of (insert_refusals rings a b q) ≡ None
     insert_passes l m n = counted true l ∙ ap₂ (λ o v. insert_by true false true o v) m n
 
+-- ---- flat positions
+
+pub thin_is : (t : ℤ) (d : Document) (p : Position) → (not (is_junction d p) && is_flat t d p) ≡ is_thin t (rings d) p
+thin_is t d p = ap₂ (λ single flat. single && flat) (single_is d p) (ap (list_all (is_flat_side t p)) (around_is d p))
+
 -- ---- asked of the rings that are held
 
 module _ {A : Type 0} (raw : RawDoc A) (h : IsOfRings (view_raw raw)) (items : List (Vec (Vec (Vec Position A) A) A)) (is : items ≡ raw.polygons.items) where
@@ -131,7 +137,8 @@ module _ {A : Type 0} (raw : RawDoc A) (h : IsOfRings (view_raw raw)) (items : L
   pub remove_held : (p : Position) → remove_refusals (all_rings items) p ≡ asked.remove_refusals (document_of (view_raw raw)) p
   remove_held p = ap (λ rs. remove_refusals rs p) held_rings ∙ sym (remove_refusals_are (document_of (view_raw raw)) p)
 
--- ---- flat positions
+  pub thin_held : (t : ℤ) (p : Position) → is_thin t (all_rings items) p ≡ (not (is_junction (document_of (view_raw raw)) p) && is_flat t (document_of (view_raw raw)) p)
+  thin_held t p = ap (λ rs. is_thin t rs p) held_rings ∙ sym (thin_is t (document_of (view_raw raw)) p)
 
-pub thin_is : (t : _) (d : Document) (p : Position) → (not (is_junction d p) && is_flat t d p) ≡ is_thin t (rings d) p
-thin_is t d p = ap₂ (λ single flat. single && flat) (single_is d p) (ap (list_all (is_flat_side t p)) (around_is d p))
+  pub vertices_held : fold add_position [] (flat_map (λ ring. ring) (all_rings items)) ≡ vertices (document_of (view_raw raw))
+  vertices_held = ap (λ rs. fold add_position [] (flat_map (λ ring. ring) rs)) held_rings

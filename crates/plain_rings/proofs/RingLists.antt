@@ -50,7 +50,7 @@ module _ {A B : Type 0} (of : A → B) (test : B → Bool) where
 pub has_turned : (ring : List Position) (p : Position) → list_any (λ r. position_eq r p) ring ≡ has ring p
 has_turned ring p = λ i. list_any (λ r. position_eq-sym r p i) ring
 
-fold-append : {A B : Type 0} (f : B → A → B) (z : B) (xs ys : List A) → fold f z (xs ++ ys) ≡ fold f (fold f z xs) ys
+pub fold-append : {A B : Type 0} (f : B → A → B) (z : B) (xs ys : List A) → fold f z (xs ++ ys) ≡ fold f (fold f z xs) ys
 fold-append f z [] ys = refl
 fold-append f z (x ∷ xs) ys = fold-append f (f z x) xs ys
 

@@ -207,8 +207,9 @@ impl<'a, A: Allocator + Copy> PlainMap<'a, A> {
         ensures part { OnErr result (IsThinnedPart t self.old self.new) }
     {
         let vertices = vertices(self.alloc, self.raw.polygons.as_slice())?;
+        let ascending = vertices.as_slice();
         let mut removed = 0;
-        for p in vertices.as_slice() {
+        for p in ascending {
             match self.thin_at(t, *p) {
                 Ok(true) => removed += 1,
                 Ok(false) => {}

@@ -5,7 +5,7 @@ use Rattle.plain_rings.proofs.edit.are_ends.Goals as goal
 
 pub returns-then-are : goal.returns-then-are
 returns-then-are c =
-    sym (ap (λ u. u || (position_eq c.args.x c.args.b && position_eq c.args.y c.args.a)) (sym c.are.ensures ∙ c.if-are.true)) ∙ ends_are c.args.x c.args.y c.args.a c.args.b
+    c.if-are.true ∙ sym (ap (λ u. u || (position_eq c.args.x c.args.b && position_eq c.args.y c.args.a)) (sym c.are.ensures ∙ c.if-are.true)) ∙ ends_are c.args.x c.args.y c.args.a c.args.b
 
 pub returns-else-are : goal.returns-else-are
 returns-else-are c =
