@@ -2,6 +2,7 @@ use Rattle.std.proofs.Common.{◌≡◌, ◌≤◌, ◌<◌, ℕ, true, false, a
 use Rattle.std.specs.Prelude.{nat_le}
 use Rattle.std.specs.List.{All}
 use Rattle.grid_geometry.specs.Segment.{IsSegment}
+use Rattle.ring_machine.specs.Planar.{least_conflict}
 use Rattle.ring_machine.specs.Vertices.{ins_ring}
 use Rattle.plain_rings.proofs.EditedRings.{ins_are_rings}
 use Rattle.plain_rings.proofs.RefusingMore.{too_large, insert_conflict, insert_sweeps, insert_passes}
@@ -30,19 +31,21 @@ returns-then-len-gt4000000-clause-refused g c =
 
 pub returns-in-Some-clause-refused : goal.returns-in-Some-clause-refused
 returns-in-Some-clause-refused g c =
-    let h = c.in-Some.is in let k = c.in-Some.ensures in let l = c.in-Some.s-is in let m = c.in-Some.ensures' in ?
+    let many = ap length (sym c.in_ok-after.ensures) in
+    insert_conflict (map (λ r. r.now) c.args.rings.now) c.args.a c.args.b c.args.q (sym c.has_segment.ensures ∙ c.if-not-has_segment.false) (sym c.is_vertex.ensures ∙ c.if-is_vertex.false)
+    (ap (λ n. nat_le n 4000000) many ∙ small (length c.in_ok-after.after.items) (omega (arith, c.if-len-gt4000000.false, c.len.ensures, c.in_ok-after.after.ok.0)))
+    _ _ (ap least_conflict (sym c.in_ok-after.ensures) ∙ sym c.in-Some.ensures)
 
 pub returns-then-holds_other-clause-refused : goal.returns-then-holds_other-clause-refused
 returns-then-holds_other-clause-refused g c =
     let many = ap length (sym c.in_ok-after.ensures) in
-    let h = c.in_default.not-Some in
     insert_sweeps (map (λ r. r.now) c.args.rings.now) c.args.a c.args.b c.args.q (sym c.has_segment.ensures ∙ c.if-not-has_segment.false) (sym c.is_vertex.ensures ∙ c.if-is_vertex.false)
     (ap (λ n. nat_le n 4000000) many ∙ small (length c.in_ok-after.after.items) (omega (arith, c.if-len-gt4000000.false, c.len.ensures, c.in_ok-after.after.ok.0)))
-    ? (sym c.holds_other.ensures ∙ c.if-holds_other.true)
+    (ap least_conflict (sym c.in_ok-after.ensures) ∙ sym c.in_default.ensures) (sym c.holds_other.ensures ∙ c.if-holds_other.true)
 
 pub returns-clause-accepted : goal.returns-clause-accepted
 returns-clause-accepted g c =
     let many = ap length (sym c.in_ok-after.ensures) in
     insert_passes (map (λ r. r.now) c.args.rings.now) c.args.a c.args.b c.args.q (sym c.has_segment.ensures ∙ c.if-not-has_segment.false) (sym c.is_vertex.ensures ∙ c.if-is_vertex.false)
     (ap (λ n. nat_le n 4000000) many ∙ small (length c.in_ok-after.after.items) (omega (arith, c.if-len-gt4000000.false, c.len.ensures, c.in_ok-after.after.ok.0)))
-    ? (sym c.holds_other.ensures ∙ c.if-holds_other.false)
+    (ap least_conflict (sym c.in_ok-after.ensures) ∙ sym c.in_default.ensures) (sym c.holds_other.ensures ∙ c.if-holds_other.false)
