@@ -189,8 +189,10 @@ impl<'a, A: Allocator + Copy> PlainMap<'a, A> {
         match is_thin(self.alloc, self.raw.polygons.as_slice(), p, t) {
             Ok(true) => match self.remove_vertex(p) {
                 Ok(()) => Ok(true),
-                Err(EditFault::OutOfMemory) => Err(AllocError),
-                Err(_) => Ok(false),
+                Err(fault) => match fault {
+                    EditFault::OutOfMemory => Err(AllocError),
+                    _ => Ok(false),
+                },
             },
             Ok(false) => Ok(false),
             Err(error) => Err(error),
