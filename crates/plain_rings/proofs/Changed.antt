@@ -1,11 +1,10 @@
 -- A plain map whose rings are changed in place of those that it had.
-use Rattle.std.proofs.Common.{◌≡◌, ◌≤◌, ℕ, true, sym, ap, ◌∙◌, subst, List, map, length, Vec, None, arith}
+use Rattle.std.proofs.Common.{◌≡◌, ◌≤◌, ℕ, true, ap, ◌∙◌, subst, List, map, length, Vec, None, arith}
 use Rattle.std.specs.Prelude.{IsTrue, nat_le}
 use Rattle.std.specs.List.{list_all, sum_by}
 use Rattle.std.proofs.lemmas.List.{length-map}
 use Rattle.grid_geometry.specs.Position.{Position}
 use Rattle.ring_machine.specs.Ring.{is_ring}
-use Rattle.ring_machine.specs.Document.{Document}
 use Rattle.ring_machine.specs.Parts.{rings, size, in_rings}
 use Rattle.ring_machine.specs.Vertices.{ins, ins_ring, del, del_ring}
 use Rattle.ring_machine.specs.Planar.{Proper}

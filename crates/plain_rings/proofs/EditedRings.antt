@@ -1,7 +1,7 @@
 -- Rings after an edit that gives them more or fewer positions.
-use Rattle.std.proofs.Common.{◌≡◌, ℕ, ◌+◌, ◌<◌, ◌≤◌, Bool, true, false, refl, sym, ap, ap₂, ◌∙◌, subst, cond, List, [], ◌∷◌, ◌++◌, map, length, get_or, arith, ◌&&◌, ◌||◌, inl, inr}
-use Rattle.std.specs.Prelude.{not, nat_le, nat_lt}
-use Rattle.std.specs.List.{list_all, list_any, flat_map, filter, sum_by}
+use Rattle.std.proofs.Common.{◌≡◌, ℕ, ◌+◌, ◌≤◌, Bool, true, false, refl, sym, ap, ap₂, ◌∙◌, cond, List, [], ◌∷◌, ◌++◌, map, length, arith, ◌&&◌, ◌||◌, inl, inr}
+use Rattle.std.specs.Prelude.{not, nat_lt}
+use Rattle.std.specs.List.{list_all, flat_map, filter, sum_by}
 use Rattle.std.proofs.lemmas.Bool.{false≢true}
 use Rattle.std.proofs.lemmas.List.{length-map, length-append}
 use Rattle.std.proofs.lemmas.List.Sums.{sum_by-cons}

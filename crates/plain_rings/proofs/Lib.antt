@@ -12,7 +12,7 @@ pub mod OnceEach
 pub mod Gathering
 pub mod Places
 pub mod EditedRings
-pub mod RefusingMore
+pub mod RefusingEdits
 pub mod Changed
 pub mod SortedOnce
 pub mod Thinning

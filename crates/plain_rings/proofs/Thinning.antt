@@ -1,12 +1,11 @@
 -- One vertex of a pass of thinning, and the pass as far as it has come.
-use Rattle.std.proofs.Common.{◌≡◌, ℕ, ◌+◌, ◌<◌, ◌≤◌, Bool, true, false, refl, sym, ap, ap₂, ◌∙◌, cond, ℤ, List, [], ◌∷◌, ◌++◌, take, length, get_or, Option, None, Some, arith}
+use Rattle.std.proofs.Common.{◌≡◌, ℕ, ◌+◌, ◌<◌, Bool, true, false, refl, sym, ap, ap₂, ◌∙◌, cond, ℤ, List, [], ◌∷◌, ◌++◌, take, length, get_or, Option, None, Some, arith}
 use Rattle.std.specs.Prelude.{not, ◌&&◌}
 use Rattle.std.specs.List.{fold}
-use Rattle.std.proofs.lemmas.List.{take_all, take_more}
+use Rattle.std.proofs.lemmas.List.{take_more}
 use Rattle.grid_geometry.specs.Position.{Position}
 use Rattle.ring_machine.specs.Document.{Document}
 use Rattle.ring_machine.specs.Vertices.{del, is_junction}
-use Rattle.ring_machine.specs.Query.{vertices}
 use Rattle.ring_machine.specs.Command.{Refusal}
 use Rattle.ring_machine.specs.Refusals.{first_of, remove_refusals}
 use Rattle.ring_machine.specs.Thin.{Thinning, is_flat, without, thin_at}

@@ -1,7 +1,7 @@
 -- Edits of a ring that give it more or fewer positions, and their conditions.
-use Rattle.std.specs.Prelude.{◌+◌, Bool, not, ◌&&◌, ◌||◌, nat_le, nat_lt, List, [], ◌∷◌, map}
+use Rattle.std.specs.Prelude.{Bool, not, ◌||◌, nat_le, nat_lt, List, [], ◌∷◌, map}
 use Rattle.std.specs.Prelude.{length, Option, if◌then◌else◌}
-use Rattle.std.specs.List.{list_any, list_all, flat_map, filter, sum_by}
+use Rattle.std.specs.List.{list_any, list_all, flat_map, sum_by}
 use Rattle.grid_geometry.specs.Position.{Position, position_eq}
 use Rattle.grid_geometry.specs.Segment.{Segment, segment, segment_eq}
 use Rattle.grid_geometry.specs.Ring.{Edge}

@@ -26,7 +26,7 @@ pub(crate) enum RingEdit {
 }
 
 /// Whether x is a, and y is b.
-fn are(x: Pos, y: Pos, a: Pos, b: Pos) -> bool
+fn is_pair(x: Pos, y: Pos, a: Pos, b: Pos) -> bool
     ensures { result ≡ (position_eq x a && position_eq y b) }
 {
     x == a && y == b
@@ -36,7 +36,7 @@ fn are(x: Pos, y: Pos, a: Pos, b: Pos) -> bool
 pub(crate) fn are_ends(x: Pos, y: Pos, a: Pos, b: Pos) -> bool
     ensures { result ≡ segment_eq (segment x y) (segment a b) }
 {
-    are(x, y, a, b) || are(x, y, b, a)
+    is_pair(x, y, a, b) || is_pair(x, y, b, a)
 }
 
 /// Appends x, and q after it where x and y are a and b.

@@ -1,5 +1,4 @@
 use Rattle.std.proofs.Common.{ap, sym, ◌∙◌, map}
-use Rattle.std.specs.List.{list_all}
 use Rattle.std.proofs.lemmas.List.Folds.{list_all-map}
 use Rattle.ring_machine.specs.Ring.{is_ring}
 use Rattle.plain_rings.specs.Edits.{edited_ring}

@@ -1,4 +1,4 @@
-use Rattle.std.proofs.Common.{◌≡◌, ◌≤◌, ℕ, true, false, refl, sym, ap, ap₂, ◌∙◌, length, arith, ◌||◌}
+use Rattle.std.proofs.Common.{◌≡◌, ◌≤◌, ℕ, false, sym, ap₂, ◌∙◌, length, arith, ◌||◌}
 use Rattle.std.specs.Prelude.{not, nat_lt}
 use Rattle.ring_machine.specs.Ring.{has}
 use Rattle.plain_rings.proofs.RingLists.{not_all}

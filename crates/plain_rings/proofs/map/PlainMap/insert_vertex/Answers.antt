@@ -1,4 +1,4 @@
-use Rattle.std.proofs.Common.{◌≡◌, sym, ap, ◌∙◌, subst, map, None}
+use Rattle.std.proofs.Common.{sym, ap, ◌∙◌, subst, map}
 use Rattle.std.specs.List.{list_all}
 use Rattle.ring_machine.specs.Ring.{is_ring}
 use Rattle.ring_machine.specs.Vertices.{ins, ins_ring}
@@ -10,7 +10,7 @@ use Rattle.plain_rings.specs.Plain.{IsPlain}
 use Rattle.plain_rings.specs.Rings.{held}
 use Rattle.plain_rings.proofs.Changed.{changed_held, insert_stays}
 use Rattle.plain_rings.proofs.Documents.{rings_changed}
-use Rattle.plain_rings.proofs.RefusingMore.{held_rings, insert_held}
+use Rattle.plain_rings.proofs.RefusingEdits.{held_rings, insert_held}
 use Rattle.plain_rings.proofs.map.PlainMap.insert_vertex.Goals as goal
 
 pub inserted-requires : goal.inserted-requires

@@ -1,4 +1,4 @@
-use Rattle.std.proofs.Common.{◌≡◌, sym, ap, ◌∙◌, subst, map, None}
+use Rattle.std.proofs.Common.{sym, ap, ◌∙◌, subst, map}
 use Rattle.std.specs.List.{list_all}
 use Rattle.ring_machine.specs.Ring.{is_ring}
 use Rattle.ring_machine.specs.Vertices.{del, del_ring}
@@ -10,7 +10,7 @@ use Rattle.plain_rings.specs.Plain.{IsPlain}
 use Rattle.plain_rings.specs.Rings.{held}
 use Rattle.plain_rings.proofs.Changed.{changed_held, remove_stays}
 use Rattle.plain_rings.proofs.Documents.{rings_changed}
-use Rattle.plain_rings.proofs.RefusingMore.{held_rings, remove_held}
+use Rattle.plain_rings.proofs.RefusingEdits.{held_rings, remove_held}
 use Rattle.plain_rings.proofs.map.PlainMap.remove_vertex.Goals as goal
 
 pub removed-requires : goal.removed-requires

@@ -5,7 +5,7 @@ use Rattle.std.specs.List.{fold}
 use Rattle.std.proofs.lemmas.List.{take_all}
 use Rattle.ring_machine.specs.Query.{vertices}
 use Rattle.ring_machine.specs.Thin.{Thinning, thin_at, thinned}
-use Rattle.plain_rings.proofs.RefusingMore.{vertices_held}
+use Rattle.plain_rings.proofs.RefusingEdits.{vertices_held}
 use Rattle.plain_rings.proofs.Thinning.{with_count}
 use Rattle.plain_rings.proofs.map.PlainMap.thin.Goals as goal
 
