@@ -1,4 +1,3 @@
-use Rattle.std.specs.List.{All}
 use Rattle.std.proofs.lemmas.List.Sorted.{All-permutation}
 use Rattle.grid_geometry.specs.Segment.{IsSegment}
 use Rattle.plain_rings.proofs.planarity.first_conflict.Goals as goal
