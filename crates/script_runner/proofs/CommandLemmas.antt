@@ -180,22 +180,6 @@ front_word line word front args w k e is = is ∙ ap (take_while is_letter) e �
 front_rest : (line tail front args : List ℕ) → IsWord front → EndsWord args → line ≡ front ++ args → tail ≡ rest_of line → tail ≡ args
 front_rest line tail front args w k e is = is ∙ ap rest_of e ∙ word-rest front args w k
 
-module _ (line word tail : List ℕ) (taken : word ≡ take_while is_letter line) (left : tail ≡ rest_of line) where
-  by_front : (front args : List ℕ) (c : Command) → IsWord front → EndsWord args → line ≡ front ++ args → Behind front args c → Behind word tail c
-  by_front front args c w k e h =
-      subst (λ u. Behind u tail c) (sym (front_word line word front args w k e taken)) (subst (λ t. Behind front t c) (sym (front_rest line tail front args w k e left)) h)
-
-  asked_behind : (c : Command) → Asks line c → Behind word tail c
-  asked_behind (Move p q) h = by_front (codes "move") (spaced_position p ++ spaced_position q) (Move p q) (search rules) refl h.0 (refl, h.1)
-  asked_behind (Insert a b q) h = by_front (codes "insert") (spaced_position a ++ (spaced_position b ++ spaced_position q)) (Insert a b q) (search rules) refl h.0 (refl, h.1)
-  asked_behind (Remove p) h = by_front (codes "remove") (spaced_position p) (Remove p) (search rules) refl h.0 (refl, h.1)
-  asked_behind (Thin (pos t)) h = by_front (codes "thin") (spaced (pos t)) (Thin (pos t)) (search rules) refl h.0 (refl, h.1)
-  asked_behind (Area n) h = by_front (codes "area") (spaced (pos n)) (Area n) (search rules) refl h.0 (refl, h.1)
-  asked_behind _ h = absurd h
-
-  whole : line ≡ word ++ tail
-  whole = sym (taken-rest line) ∙ sym (ap₂ (λ w t. w ++ t) taken left)
-
 tail_move : (line tail : List ℕ) (c : Command) → line ≡ codes "move" ++ tail → IsMoveTail tail c → Asks line c
 tail_move line tail (Move p q) e h = (e ∙ ap (λ t. codes "move" ++ t) h.0, h.1)
 tail_move line tail _ e h = absurd h
@@ -215,6 +199,49 @@ tail_thin line tail _ e h = absurd h
 tail_area : (line tail : List ℕ) (c : Command) → line ≡ codes "area" ++ tail → IsAreaTail tail c → Asks line c
 tail_area line tail (Area n) e h = (e ∙ ap (λ t. codes "area" ++ t) h.0, h.1)
 tail_area line tail _ e h = absurd h
+
+module _ (line word tail : List ℕ) (taken : word ≡ take_while is_letter line) (left : tail ≡ rest_of line) where
+  by_front : (front args : List ℕ) (c : Command) → IsWord front → EndsWord args → line ≡ front ++ args → Behind front args c → Behind word tail c
+  by_front front args c w k e h =
+      subst (λ u. Behind u tail c) (sym (front_word line word front args w k e taken)) (subst (λ t. Behind front t c) (sym (front_rest line tail front args w k e left)) h)
+
+  asked_behind : (c : Command) → Asks line c → Behind word tail c
+  asked_behind (Move p q) h = by_front (codes "move") (spaced_position p ++ spaced_position q) (Move p q) (search rules) refl h.0 (refl, h.1)
+  asked_behind (Insert a b q) h = by_front (codes "insert") (spaced_position a ++ (spaced_position b ++ spaced_position q)) (Insert a b q) (search rules) refl h.0 (refl, h.1)
+  asked_behind (Remove p) h = by_front (codes "remove") (spaced_position p) (Remove p) (search rules) refl h.0 (refl, h.1)
+  asked_behind (Thin (pos t)) h = by_front (codes "thin") (spaced (pos t)) (Thin (pos t)) (search rules) refl h.0 (refl, h.1)
+  asked_behind (Area n) h = by_front (codes "area") (spaced (pos n)) (Area n) (search rules) refl h.0 (refl, h.1)
+  asked_behind _ h = absurd h
+
+  whole : line ≡ word ++ tail
+  whole = sym (taken-rest line) ∙ sym (ap₂ (λ w t. w ++ t) taken left)
+
+  -- what is found behind the word is what the line asks for
+  arm : (front : List ℕ) (Tail : Command → Type 0) → ((c : Command) → Behind front tail c → Tail c) → ((c : Command) → line ≡ front ++ tail → Tail c → Asks line c)
+      → (o : Option CommandLine) → word ≡ front → MatchOption o ((c : Command) → ¬ Tail c) (λ c. Tail (command_of c))
+      → MatchOption o ((c : Command) → ¬ Asks line c) (λ c. Asks line (command_of c))
+  arm front Tail there back None is h = λ c a. h c (there c (subst (λ w. Behind w tail c) is (asked_behind c a)))
+  arm front Tail there back (Some c) is h = back (command_of c) (whole ∙ ap (λ w. w ++ tail) is) h
+
+  pub arm_move : (o : Option CommandLine) → word ≡ codes "move" → MatchOption o ((c : Command) → ¬ IsMoveTail tail c) (λ c. IsMoveTail tail (command_of c))
+      → MatchOption o ((c : Command) → ¬ Asks line c) (λ c. Asks line (command_of c))
+  arm_move = arm (codes "move") (IsMoveTail tail) (λ c h. h) (tail_move line tail)
+
+  pub arm_insert : (o : Option CommandLine) → word ≡ codes "insert" → MatchOption o ((c : Command) → ¬ IsInsertTail tail c) (λ c. IsInsertTail tail (command_of c))
+      → MatchOption o ((c : Command) → ¬ Asks line c) (λ c. Asks line (command_of c))
+  arm_insert = arm (codes "insert") (IsInsertTail tail) (λ c h. h) (tail_insert line tail)
+
+  pub arm_remove : (o : Option CommandLine) → word ≡ codes "remove" → MatchOption o ((c : Command) → ¬ IsRemoveTail tail c) (λ c. IsRemoveTail tail (command_of c))
+      → MatchOption o ((c : Command) → ¬ Asks line c) (λ c. Asks line (command_of c))
+  arm_remove = arm (codes "remove") (IsRemoveTail tail) (λ c h. h) (tail_remove line tail)
+
+  pub arm_thin : (o : Option CommandLine) → word ≡ codes "thin" → MatchOption o ((c : Command) → ¬ IsThinTail tail c) (λ c. IsThinTail tail (command_of c))
+      → MatchOption o ((c : Command) → ¬ Asks line c) (λ c. Asks line (command_of c))
+  arm_thin = arm (codes "thin") (IsThinTail tail) (λ c h. h) (tail_thin line tail)
+
+  pub arm_area : (o : Option CommandLine) → word ≡ codes "area" → MatchOption o ((c : Command) → ¬ IsAreaTail tail c) (λ c. IsAreaTail tail (command_of c))
+      → MatchOption o ((c : Command) → ¬ Asks line c) (λ c. Asks line (command_of c))
+  arm_area = arm (codes "area") (IsAreaTail tail) (λ c h. h) (tail_area line tail)
 
 -- ---- every line that says something is UTF-8
 

@@ -1,5 +1,5 @@
 -- The machine's steps, as far as there are lines for them.
-use Rattle.std.proofs.Common.{◌≡◌, ℕ, ℤ, refl, sym, ap, ◌∙◌, List, [], ◌++◌, length, Bool, true, false, cond, Option, None, Some, IsTrue, codes, Result, Ok, Err, OnOk, OnErr, IfErr, not, ◌&&◌, ◌==◌, arith}
+use Rattle.std.proofs.Common.{◌≡◌, ℕ, ℤ, refl, sym, ap, subst, ◌∙◌, List, [], ◌∷◌, ◌++◌, length, Bool, true, false, cond, Option, None, Some, IsTrue, codes, Result, Ok, Err, OnOk, OnErr, IfErr, not, ◌&&◌, ◌==◌, arith}
 use Rattle.std.proofs.lemmas.Bool.Decides.{nat_tests}
 use Rattle.std.specs.List.{fold}
 use Rattle.std.specs.Fmt.{decimal, signed_decimal}
@@ -127,7 +127,7 @@ module _ (d : Document) (t : ℤ) where
   unfolding thinned
   passed = passes (vertices d) (record { doc = d; removed = 0 }) (record { count = refl; none = λ z. refl })
 
-  pub thin_told : (e : Document) (n : ℕ) (old new : List ℕ) → n ≡ (thinned t d).removed → e ≡ (thinned t d).doc → new ≡ old ++ (codes "ok " ++ decimal n) → Replied d e (Thin t) old new false
+  thin_told : (e : Document) (n : ℕ) (old new : List ℕ) → n ≡ (thinned t d).removed → e ≡ (thinned t d).doc → new ≡ old ++ (codes "ok " ++ decimal n) → Replied d e (Thin t) old new false
   thin_told e n old new count is text = by ((thinned t d).removed == 0) refl
     where
       by : (b : Bool) → ((thinned t d).removed == 0) ≡ b → Replied d e (Thin t) old new false
@@ -140,6 +140,10 @@ module _ (d : Document) (t : ℤ) where
           by_step d e (Thin t) old new false (Thinned (thinned t d).removed) (changed 0 (opened_state d) (thinned t d).doc)
           (step-thin 0 (opened_state d) t ∙ ap (λ b. cond b (Thinned 0, opened_state d) (Thinned (thinned t d).removed, changed 0 (opened_state d) (thinned t d).doc)) z)
           (ap opened_state is ∙ opened-changed d (thinned t d).doc passed.count) (text ∙ ap (λ m. old ++ (codes "ok " ++ decimal m)) count) refl
+
+-- the same of the bound as the call has it
+pub thin_told_as : (d e : Document) (t s : ℤ) (n : ℕ) (old new : List ℕ) → s ≡ t → n ≡ (thinned s d).removed → e ≡ (thinned s d).doc → new ≡ old ++ (codes "ok " ++ decimal n) → Replied d e (Thin t) old new false
+thin_told_as d e t s n old new same count is text = subst (λ z. Replied d e (Thin z) old new false) same (thin_told d s e n old new count is text)
 
 -- ---- a question for an area
 

@@ -59,11 +59,11 @@ fn remove_behind(tail: &[u8]) -> Option<Command>
         ((c : Asked) → ¬ IsRemoveTail tail.now c)
         (λ c. IsRemoveTail tail.now (command_of c)) }
 {
-    let Some((vertex, end)) = spaced_position(tail) else {
+    let Some(vertex) = spaced_position(tail) else {
         return None;
     };
-    if end.is_empty() {
-        Some(Command::Remove(vertex))
+    if vertex.1.is_empty() {
+        Some(Command::Remove(vertex.0))
     } else {
         None
     }
@@ -113,13 +113,18 @@ fn command(line: &[u8]) -> Option<Command>
         (λ c. Asks line.now (command_of c)) }
 {
     let (word, tail) = split_word(line);
-    match word {
-        b"move" => move_behind(tail),
-        b"insert" => insert_behind(tail),
-        b"remove" => remove_behind(tail),
-        b"thin" => thin_behind(tail),
-        b"area" => area_behind(tail),
-        _ => None,
+    if word == b"move".as_slice() {
+        move_behind(tail)
+    } else if word == b"insert".as_slice() {
+        insert_behind(tail)
+    } else if word == b"remove".as_slice() {
+        remove_behind(tail)
+    } else if word == b"thin".as_slice() {
+        thin_behind(tail)
+    } else if word == b"area".as_slice() {
+        area_behind(tail)
+    } else {
+        None
     }
 }
 

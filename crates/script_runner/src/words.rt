@@ -57,7 +57,7 @@ fn number(word: &[u8]) -> Option<i64>
 pub(crate) fn wide_number(word: &[u8]) -> Option<u128>
     ensures { MatchOption result
         ((n : ℕ) → n < 2 ^ 128 → word.now ≢ decimal n)
-        (λ n. word.now ≡ decimal n) }
+        (λ n. (word.now ≡ decimal n) × (n < 2 ^ 128)) }
 {
     let Ok(text) = str::from_utf8(word) else {
         return None;
