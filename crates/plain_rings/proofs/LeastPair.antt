@@ -47,7 +47,7 @@ least_permuted ss ts p = same_segments ts ss (in_permuted ss ts p) (in_permuted 
 
 -- ---- the first pair
 
-in_recursion : {A : Type 0} (P : A → Type 0) (xs : List A) (a : A) → AllByRecursion P xs → In a xs → P a
+pub in_recursion : {A : Type 0} (P : A → Type 0) (xs : List A) (a : A) → AllByRecursion P xs → In a xs → P a
 in_recursion P [] a h i = absurd i
 in_recursion P (x ∷ xs) a h (inl e) = subst P e h.0
 in_recursion P (x ∷ xs) a h (inr i) = in_recursion P xs a h.1 i

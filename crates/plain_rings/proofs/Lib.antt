@@ -9,3 +9,10 @@ pub mod Placing
 pub mod Summing
 pub mod MovedRings
 pub mod OnceEach
+pub mod Gathering
+pub mod Places
+pub mod EditedRings
+pub mod RefusingMore
+pub mod Changed
+pub mod SortedOnce
+pub mod Thinning

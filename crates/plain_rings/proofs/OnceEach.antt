@@ -11,51 +11,52 @@ use Rattle.ring_machine.proofs.First.{In}
 use Rattle.plain_rings.proofs.Ascending.{Ascends, ascends}
 use Rattle.plain_rings.proofs.LeastPair.{same_segments}
 
+-- ---- the same elements
+
+module _ {A : Type 0} (eq : A → A → Bool) (same_by : (a b : A) → eq a b ≡ true → a ≡ b) where
+  kept : (k : A) (xs : List A) (a : A) → In a (dedup_from eq k xs) → In a (k ∷ xs)
+  kept k [] a i = i
+  kept k (x ∷ xs) a i = by (eq x k) i (kept k xs a) (kept x xs a)
+    where
+      further : In a (k ∷ xs) → In a (k ∷ x ∷ xs)
+      further (inl e) = inl e
+      further (inr j) = inr (inr j)
+
+      by : (b : Bool) → In a (cond b (dedup_from eq k xs) (k ∷ dedup_from eq x xs)) → (In a (dedup_from eq k xs) → In a (k ∷ xs)) → (In a (dedup_from eq x xs) → In a (x ∷ xs)) → In a (k ∷ x ∷ xs)
+      by true i same other = further (same i)
+      by false (inl e) same other = inl e
+      by false (inr j) same other = inr (other j)
+
+  still_there : (k : A) (xs : List A) (a : A) → In a (k ∷ xs) → In a (dedup_from eq k xs)
+  still_there k [] a i = i
+  still_there k (x ∷ xs) a i = by (eq x k) refl (still_there k xs a) (still_there x xs a)
+    where
+      same : eq x k ≡ true → In a (k ∷ x ∷ xs) → In a (k ∷ xs)
+      same e (inl f) = inl f
+      same e (inr (inl f)) = inl (sym (same_by x k e) ∙ f)
+      same e (inr (inr j)) = inr j
+
+      other : In a (k ∷ x ∷ xs) → (In a (x ∷ xs) → In a (dedup_from eq x xs)) → In a (k ∷ dedup_from eq x xs)
+      other (inl f) there = inl f
+      other (inr j) there = inr (there j)
+
+      by : (b : Bool) → eq x k ≡ b → (In a (k ∷ xs) → In a (dedup_from eq k xs)) → (In a (x ∷ xs) → In a (dedup_from eq x xs)) → In a (cond b (dedup_from eq k xs) (k ∷ dedup_from eq x xs))
+      by true e there next = there (same e i)
+      by false e there next = other i next
+
+  pub none_new : (xs : List A) (a : A) → In a (dedup eq xs) → In a xs
+  none_new [] a i = i
+  none_new (x ∷ xs) a i = kept x xs a i
+
+  pub none_lost : (xs : List A) (a : A) → In a xs → In a (dedup eq xs)
+  none_lost [] a i = i
+  none_lost (x ∷ xs) a i = still_there x xs a i
+
 abbrev once_from : Segment → List Segment → List Segment
 once_from = dedup_from segment_eq
 
 abbrev once : List Segment → List Segment
 once = dedup segment_eq
-
--- ---- the same segments
-
-kept : (k : Segment) (ss : List Segment) (a : Segment) → In a (once_from k ss) → In a (k ∷ ss)
-kept k [] a i = i
-kept k (s ∷ ss) a i = by (segment_eq s k) i (kept k ss a) (kept s ss a)
-  where
-    further : In a (k ∷ ss) → In a (k ∷ s ∷ ss)
-    further (inl e) = inl e
-    further (inr j) = inr (inr j)
-
-    by : (b : Bool) → In a (cond b (once_from k ss) (k ∷ once_from s ss)) → (In a (once_from k ss) → In a (k ∷ ss)) → (In a (once_from s ss) → In a (s ∷ ss)) → In a (k ∷ s ∷ ss)
-    by true i same other = further (same i)
-    by false (inl e) same other = inl e
-    by false (inr j) same other = inr (other j)
-
-still_there : (k : Segment) (ss : List Segment) (a : Segment) → In a (k ∷ ss) → In a (once_from k ss)
-still_there k [] a i = i
-still_there k (s ∷ ss) a i = by (segment_eq s k) refl (still_there k ss a) (still_there s ss a)
-  where
-    same : segment_eq s k ≡ true → In a (k ∷ s ∷ ss) → In a (k ∷ ss)
-    same e (inl f) = inl f
-    same e (inr (inl f)) = inl (sym (segment_ordered.same s k e) ∙ f)
-    same e (inr (inr j)) = inr j
-
-    other : In a (k ∷ s ∷ ss) → (In a (s ∷ ss) → In a (once_from s ss)) → In a (k ∷ once_from s ss)
-    other (inl f) there = inl f
-    other (inr j) there = inr (there j)
-
-    by : (b : Bool) → segment_eq s k ≡ b → (In a (k ∷ ss) → In a (once_from k ss)) → (In a (s ∷ ss) → In a (once_from s ss)) → In a (cond b (once_from k ss) (k ∷ once_from s ss))
-    by true e there next = there (same e i)
-    by false e there next = other i next
-
-none_new : (ss : List Segment) (a : Segment) → In a (once ss) → In a ss
-none_new [] a i = i
-none_new (s ∷ ss) a i = kept s ss a i
-
-none_lost : (ss : List Segment) (a : Segment) → In a ss → In a (once ss)
-none_lost [] a i = i
-none_lost (s ∷ ss) a i = still_there s ss a i
 
 -- ---- those that ascend
 
@@ -100,4 +101,4 @@ module _ (ss ts : List Segment) (f : IsFiltered (DiffersFromLast segment_eq) [] 
   dedup_segments h = subst (All IsSegment) (sym is_once) (All-dedup segment_eq IsSegment ss h)
 
   pub dedup_least : least_conflict ts ≡ least_conflict ss
-  dedup_least = ap least_conflict is_once ∙ same_segments (once ss) ss (none_new ss) (none_lost ss)
+  dedup_least = ap least_conflict is_once ∙ same_segments (once ss) ss (none_new segment_eq segment_ordered.same ss) (none_lost segment_eq segment_ordered.same ss)

@@ -14,7 +14,7 @@ use Rattle.ring_machine.specs.Sweep as machine
 use Rattle.ring_machine.specs.Command.{Refusal, NoVertex, Occupied, Conflict, Sweeps}
 use Rattle.ring_machine.specs.Refusals.{◌unless◌, first_of, conflict_of, move_refusals}
 use Rattle.ring_machine.proofs.RingsOf.{rings-in_rings}
-use Rattle.plain_rings.specs.Rings.{has_vertex, is_swept, edge_sweeps, spot_sweeps, edges_sweep, crosses_on_way, refusals}
+use Rattle.plain_rings.specs.Rings.{has_vertex, is_other, edge_sweeps, spot_sweeps, edges_sweep, crosses_on_way, refusals}
 
 -- ---- some element of some list
 
@@ -35,7 +35,7 @@ any_filtered p test (x ∷ xs) = by (position_eq p x.0) (any_filtered p test xs)
 -- ---- sweeps
 
 edge_is : (d : Document) (p q a : Position) → machine.edge_sweeps d p q a ≡ edge_sweeps (rings d) p q a
-edge_is d p q a = any_in_each (is_swept p q a) (λ ring. ring) (rings d)
+edge_is d p q a = any_in_each (is_other (a ∷ p ∷ []) a p q) (λ ring. ring) (rings d)
 
 edges_are : (d : Document) (p q : Position) → list_any (λ s. machine.edge_sweeps d p q s.lo || machine.edge_sweeps d p q s.hi) (around d p) ≡ edges_sweep (rings d) p q
 edges_are d p q =

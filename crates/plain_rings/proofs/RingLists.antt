@@ -1,11 +1,11 @@
 -- Lists of rings, a ring at a time, however the code holds them.
-use Rattle.std.proofs.Common.{◌≡◌, ℕ, zero, suc, ◌+◌, ◌<◌, ◌≤◌, Bool, true, false, refl, sym, ap, ap₂, ◌∙◌, List, [], ◌∷◌, ◌++◌, map, length, take, drop, get_or, ◌-◌, arith, ◌||◌, Some}
+use Rattle.std.proofs.Common.{◌≡◌, ℕ, zero, suc, ◌+◌, ◌<◌, ◌≤◌, Bool, true, false, refl, sym, ap, ap₂, ◌∙◌, List, [], ◌∷◌, ◌++◌, map, length, take, drop, get_or, ◌-◌, arith, ◌||◌, ◌&&◌, Some}
 use Rattle.std.specs.Prelude.{slice_get, sum_by}
 use Rattle.std.specs.List.{list_all, list_any, fold}
 use Rattle.std.proofs.lemmas.List.Sums.{sum_by-cons}
 use Rattle.std.proofs.lemmas.Bool.{false≢true}
 use Rattle.std.proofs.lemmas.List.{take_more, take_all, map-append, length-map}
-use Rattle.std.proofs.lemmas.List.Folds.{list_all-map, list_all_at, list_any-append}
+use Rattle.std.proofs.lemmas.List.Folds.{list_all-map, list_all_at, list_any-append, list_all-append}
 use Rattle.grid_geometry.specs.Position.{Position, position_eq}
 use Rattle.ring_machine.specs.Ring.{has, is_ring}
 use Rattle.ring_machine.proofs.Removal.{position_eq-sym}
@@ -50,7 +50,7 @@ module _ {A B : Type 0} (of : A → B) (test : B → Bool) where
 pub has_turned : (ring : List Position) (p : Position) → list_any (λ r. position_eq r p) ring ≡ has ring p
 has_turned ring p = λ i. list_any (λ r. position_eq-sym r p i) ring
 
-fold-append : {A B : Type 0} (f : B → A → B) (z : B) (xs ys : List A) → fold f z (xs ++ ys) ≡ fold f (fold f z xs) ys
+pub fold-append : {A B : Type 0} (f : B → A → B) (z : B) (xs ys : List A) → fold f z (xs ++ ys) ≡ fold f (fold f z xs) ys
 fold-append f z [] ys = refl
 fold-append f z (x ∷ xs) ys = fold-append f (f z x) xs ys
 
@@ -67,6 +67,31 @@ sum_at f of (y ∷ ys) (suc i) x l e = simp sum_by-cons (omega (arith, sum_at f 
 pub list_is : {A : Type 0} (xs : List A) (first : A) → 1 ≤ length xs → first ≡ get_or xs 0 first → first ∷ take (length xs - 1) (drop 1 xs) ≡ xs
 list_is [] first l e = absurd (omega arith)
 list_is (x ∷ xs) first l e = ap₂ (λ y ys. y ∷ ys) e (take_all (length (x ∷ xs) - 1) xs (omega arith))
+
+-- a list from its first two elements and the others
+pub list_of_two : {A : Type 0} (xs : List A) (first second : A) → 2 ≤ length xs → first ≡ get_or xs 0 first → second ≡ get_or xs 1 second → first ∷ second ∷ take (length xs - 2) (drop 2 xs) ≡ xs
+list_of_two [] first second l e k = absurd (omega arith)
+list_of_two (x ∷ []) first second l e k = absurd (omega arith)
+list_of_two (x ∷ y ∷ xs) first second l e k = ap₂ (λ a bs. a ∷ bs) e (ap₂ (λ a bs. a ∷ bs) k (take_all (length (x ∷ y ∷ xs) - 2) xs (omega arith)))
+
+module _ {A B : Type 0} (of : A → B) (test : B → Bool) where
+  -- all so far, and this one
+  pub all_more : (xs : List A) (i : ℕ) (x : A) → i < length xs → x ≡ get_or xs i x → list_all test (map of (take i xs)) ≡ true → test (of x) ≡ true → list_all test (map of (take (i + 1) xs)) ≡ true
+  all_more xs i x l e h k = ap (list_all test) (one_more of xs i x l e) ∙ list_all-append test (map of (take i xs)) (of x ∷ []) ∙ ap₂ (λ a b. a && (b && true)) h k
+
+  -- not this one
+  pub not_all : (xs : List A) (i : ℕ) (x : A) → i < length xs → x ≡ get_or xs i x → test (of x) ≡ false → list_all test (map of xs) ≡ false
+  not_all [] i x l e k = absurd (omega arith)
+  not_all (y ∷ ys) zero x l e k = ap (λ b. b && list_all test (map of ys)) (ap (λ z. test (of z)) (sym e) ∙ k)
+  not_all (y ∷ ys) (suc i) x l e k = right (test (of y)) (not_all ys i x (omega arith) e k)
+    where
+      right : (a : Bool) → list_all test (map of ys) ≡ false → (a && list_all test (map of ys)) ≡ false
+      right true h = h
+      right false h = refl
+
+  -- all of them
+  pub all_at_all : (xs : List A) (i : ℕ) → length xs ≤ i → list_all test (map of (take i xs)) ≡ true → list_all test (map of xs) ≡ true
+  all_at_all xs i l h = ap (λ ys. list_all test (map of ys)) (sym (take_all i xs l)) ∙ h
 
 -- as many after a change as before
 pub lengths_same : {A B : Type 0} (of : A → B) (g : B → B) (xs ys : List A) → map of xs ≡ map g (map of ys) → length xs ≡ length ys

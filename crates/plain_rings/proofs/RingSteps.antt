@@ -24,7 +24,7 @@ walk a ps z = links (a ∷ ps ++ z ∷ [])
 abbrev pub Differ : Edge → Type 0
 Differ e = e.0 ≢ e.1
 
-apart : (p q : Position) → position_eq p q ≡ false → p ≢ q
+pub apart : (p q : Position) → position_eq p q ≡ false → p ≢ q
 apart p q h e = false≢true (sym h ∙ ap (position_eq p) (sym e) ∙ position_eq-refl p)
 
 walk_differs : (a : Position) (rest : List Position) (z : Position) → is_distinct (a ∷ rest) ≡ true → has (a ∷ rest) z ≡ false → AllByRecursion Differ (walk a rest z)

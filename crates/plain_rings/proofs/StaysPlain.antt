@@ -19,7 +19,7 @@ use Rattle.topo_reader.specs.Document.{Opened, document_of}
 use Rattle.plain_rings.specs.Plain.{IsPlain}
 use Rattle.plain_rings.proofs.Documents.{rings_changed}
 
-canonical_length : (ps : List Position) → length (canonical ps) ≡ length ps
+pub canonical_length : (ps : List Position) → length (canonical ps) ≡ length ps
 canonical_length ps =
     let parts = canonical_parts ps in
     ap length parts.3 ∙ length-append parts.1 parts.0 ∙ omega (arith, ap length parts.2, length-append parts.0 parts.1)

@@ -11,7 +11,12 @@ use Rattle.plain_rings.specs.declared.fault.EditFault.TheVariants as edit
 -- the fault names the refusal; want of memory says nothing
 abbrev pub Refuses : EditFault → Option Refusal → Type 0
 Refuses edit.NoVertex refusal = refusal ≡ Some machine.NoVertex
+Refuses edit.NoSegment refusal = refusal ≡ Some machine.NoSegment
 Refuses edit.Occupied refusal = refusal ≡ Some machine.Occupied
+Refuses edit.Junction refusal = refusal ≡ Some machine.Junction
+Refuses edit.RingShort refusal = refusal ≡ Some machine.RingShort
+Refuses edit.SegmentExists refusal = refusal ≡ Some machine.SegmentExists
+Refuses edit.TooLarge refusal = refusal ≡ Some machine.TooLarge
 Refuses (edit.Conflict s t) refusal = refusal ≡ Some (machine.Conflict s t)
 Refuses edit.Sweeps refusal = refusal ≡ Some machine.Sweeps
 Refuses edit.OutOfMemory refusal = Unit {0}

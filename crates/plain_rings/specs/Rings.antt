@@ -40,17 +40,18 @@ all_rings features = flat_map (λ f. rings_in f.items) features
 abbrev pub has_vertex : List (List Position) → Position → Bool
 has_vertex rings p = list_any (λ ring. has ring p) rings
 
--- the edge from p to a sweeps over w when p moves to q
-abbrev pub is_swept : Position → Position → Position → Position → Bool
-is_swept p q a w = not (has (a ∷ p ∷ []) w) && is_held w a p q
+-- w is none of these, and the triangle a, b, c holds it
+abbrev pub is_other : List Position → Position → Position → Position → Position → Bool
+is_other these a b c w = not (has these w) && is_held w a b c
 
--- it sweeps over a position of the ring
-abbrev pub sweeps_ring : Position → Position → Position → List Position → Bool
-sweeps_ring p q a ring = list_any (is_swept p q a) ring
+-- the triangle a, b, c holds a position of a ring that is none of these
+abbrev pub holds_other :
+    List (List Position) → List Position → Position → Position → Position → Bool
+holds_other rings these a b c = list_any (λ ring. list_any (is_other these a b c) ring) rings
 
--- it sweeps over a position
+-- the edge from p to a sweeps over a position when p moves to q
 abbrev pub edge_sweeps : List (List Position) → Position → Position → Position → Bool
-edge_sweeps rings p q a = list_any (sweeps_ring p q a) rings
+edge_sweeps rings p q a = holds_other rings (a ∷ p ∷ []) a p q
 
 -- p is here, and one of the edges to its neighbours sweeps over a position
 abbrev pub spot_sweeps : List (List Position) → Position → Position → Position × Segment → Bool

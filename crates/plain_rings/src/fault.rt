@@ -21,13 +21,23 @@ impl From<AllocError> for BuildFault {
     }
 }
 
-/// Why an edit was refused, in the order of the tests.
+/// Why an edit was refused.
 #[derive(Clone, Copy, Debug, PartialEq, Eq)]
 pub enum EditFault {
     /// No ring has the position.
     NoVertex,
+    /// The two positions are not the ends of a segment.
+    NoSegment,
     /// A ring has the new position already.
     Occupied,
+    /// The position has different neighbours at two of its places.
+    Junction,
+    /// A ring with the position has only three positions.
+    RingShort,
+    /// The neighbours of the position are the ends of a segment already.
+    SegmentExists,
+    /// There would be more than 4,000,000 positions, each ring counted for itself.
+    TooLarge,
     /// Two segments would be in conflict: the least such pair, s the lesser one.
     Conflict { s: Seg, t: Seg },
     /// An edge would sweep over a position, or the vertex over a segment.

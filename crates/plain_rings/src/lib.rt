@@ -3,15 +3,20 @@
 #![tactic(auto)]
 
 mod area;
+mod around;
+mod edit;
 mod fault;
+mod insert;
 mod map;
 mod planarity;
 mod put;
+mod remove;
 mod rings;
 mod segments;
 mod sweeps;
 #[cfg(test)]
 mod tests;
+mod thin;
 
 pub use fault::{BuildFault, EditFault, NoFeature};
 pub use map::PlainMap;

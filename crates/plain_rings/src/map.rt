@@ -1,27 +1,33 @@
 ghost use Rattle.std.specs.Prelude.{◌≡◌, ◌↔◌, Err, None, Some, IfOk, OnOk, IfErr, OnErr, IsOk};
-ghost use Rattle.std.specs.Prelude.{IsTrue, length, map};
+ghost use Rattle.std.specs.Prelude.{IsTrue, length, map, ℕ, ◌+◌, if◌then◌else◌};
 ghost use Rattle.std.specs.List.{list_all, flat_map};
 ghost use Rattle.ring_machine.specs.Parts.{features, has_feature, rings};
 ghost use Rattle.ring_machine.specs.Planar.{Proper, first_pair, least_conflict};
 ghost use Rattle.ring_machine.specs.Query.{area_of};
 ghost use Rattle.ring_machine.specs.Refusals.{first_of, feature_at, move_refusals};
+ghost use Rattle.ring_machine.specs.Refusals.{insert_refusals, remove_refusals};
 ghost use Rattle.ring_machine.specs.Ring.{is_ring, segments};
-ghost use Rattle.ring_machine.specs.Vertices.{put};
+ghost use Rattle.ring_machine.specs.Thin.{thinned, thin_at};
+ghost use Rattle.ring_machine.specs.Vertices.{put, ins, del};
 ghost use Rattle.topo_reader.specs.Document.{document_of, IsOfRings};
 ghost use Rattle.topo_reader.specs.DocumentView.{view_raw};
 ghost use Rattle.plain_rings.specs.Faults.{Names, Refuses};
 ghost use Rattle.plain_rings.specs.Rings.{all_rings, refusals};
+ghost use Rattle.plain_rings.specs.Thin.{IsThinnedPart};
 ghost use Rattle.plain_rings.specs.declared.fault.BuildFault.TheVariants.{Conflict};
 
 use crate::area::feature_area;
 use crate::fault::{BuildFault, EditFault, NoFeature};
+use crate::insert::inserted;
 use crate::planarity::first_conflict;
 use crate::put::put_all;
+use crate::remove::removed;
 use crate::rings::all_rings;
 use crate::segments::{all_segments, moved_segments};
 use crate::sweeps::{crosses_on_way, edges_sweep, is_vertex};
+use crate::thin::{is_thin, vertices};
 use grid_geometry::Pos;
-use std::alloc::{Allocator, Global};
+use std::alloc::{AllocError, Allocator, Global};
 use std::marker::Model;
 use topo_reader::RawDoc;
 
@@ -136,6 +142,83 @@ impl<'a, A: Allocator + Copy> PlainMap<'a, A> {
             }
             Err(fault) => Err(fault),
         }
+    }
+
+    /// Puts q between a and b, in every ring in which they are neighbours. Refused by the first
+    /// condition that fails, or for want of memory.
+    pub fn insert_vertex(&mut self, a: Pos, b: Pos, q: Pos) -> Result<(), EditFault>
+        ensures accepted { OnOk result (first_of (insert_refusals self.old a b q) ≡ None) }
+        ensures inserted { OnOk result (self.new ≡ ins self.old a b q) }
+        ensures refused { IfErr result
+            (λ fault. Refuses fault (first_of (insert_refusals self.old a b q))) }
+        ensures unchanged { OnErr result (self.new ≡ self.old) }
+    {
+        match inserted(self.alloc, self.raw.polygons.as_slice(), a, b, q) {
+            Ok(polygons) => {
+                self.raw.polygons = polygons;
+                Ok(())
+            }
+            Err(fault) => Err(fault),
+        }
+    }
+
+    /// Leaves p out of every ring. Refused by the first condition that fails, or for want of memory.
+    pub fn remove_vertex(&mut self, p: Pos) -> Result<(), EditFault>
+        ensures accepted { OnOk result (first_of (remove_refusals self.old p) ≡ None) }
+        ensures removed { OnOk result (self.new ≡ del self.old p) }
+        ensures refused { IfErr result
+            (λ fault. Refuses fault (first_of (remove_refusals self.old p))) }
+        ensures unchanged { OnErr result (self.new ≡ self.old) }
+    {
+        match removed(self.alloc, self.raw.polygons.as_slice(), p) {
+            Ok(polygons) => {
+                self.raw.polygons = polygons;
+                Ok(())
+            }
+            Err(fault) => Err(fault),
+        }
+    }
+
+    /// Leaves p out where it is flat by t, is no junction, and may be removed; tells whether it did.
+    fn thin_at(&mut self, t: i128, p: Pos) -> Result<bool, AllocError>
+        ensures thinned { (n : ℕ) → IfOk result
+            (λ gone. thin_at t (record { doc = self.old; removed = n }) p
+            ≡ record { doc = self.new; removed = n + (if gone then 1 else 0) }) }
+        ensures unchanged { OnErr result (self.new ≡ self.old) }
+    {
+        match is_thin(self.alloc, self.raw.polygons.as_slice(), p, t) {
+            Ok(true) => match self.remove_vertex(p) {
+                Ok(()) => Ok(true),
+                Err(fault) => match fault {
+                    EditFault::OutOfMemory => Err(AllocError),
+                    _ => Ok(false),
+                },
+            },
+            Ok(false) => Ok(false),
+            Err(error) => Err(error),
+        }
+    }
+
+    /// One pass over the vertices that the map has at the start, in ascending order: each is left
+    /// out where twice the area of the triangle with its neighbours is at most t, and its removal
+    /// would be accepted, as the map is then. Returns how many were. For want of memory it stops
+    /// on the way, and what was left out so far stays out.
+    pub fn thin(&mut self, t: i128) -> Result<u64, AllocError>
+        ensures count { IfOk result (λ n. n ≡ (thinned t self.old).removed) }
+        ensures thinned { OnOk result (self.new ≡ (thinned t self.old).doc) }
+        ensures part { OnErr result (IsThinnedPart t self.old self.new) }
+    {
+        let vertices = vertices(self.alloc, self.raw.polygons.as_slice())?;
+        let ascending = vertices.as_slice();
+        let mut removed = 0;
+        for p in ascending {
+            match self.thin_at(t, *p) {
+                Ok(true) => removed += 1,
+                Ok(false) => {}
+                Err(error) => return Err(error),
+            }
+        }
+        Ok(removed)
     }
 
     /// Twice the area of the feature with this number: its outer rings less their holes (RFC 7946,

@@ -27,7 +27,7 @@ fn push_segment<A: Allocator + Copy>(
 
 /// Appends the segments of a ring.
 #[tactic(auto, using(crate::proofs::RingSteps::steps))]
-fn push_ring<A: Allocator + Copy>(
+pub(crate) fn push_ring<A: Allocator + Copy>(
     found: &mut Vec<Seg, A>,
     ring: &[Pos],
 ) -> Result<(), AllocFailed<Seg>>

@@ -1,5 +1,6 @@
-// Which moves sweep over a position.
+// Which positions stand in a ring or in a triangle, and which moves sweep over one.
 ghost use Rattle.std.specs.Prelude.{◌≡◌, ◌≢◌, map};
+ghost use Rattle.std.specs.List.{list_any};
 ghost use Rattle.grid_geometry.specs.Segment.{segment};
 ghost use Rattle.ring_machine.specs.Ring as machine;
 ghost use Rattle.plain_rings.specs.Rings as spec;
@@ -8,7 +9,7 @@ use grid_geometry::{Pos, Seg, conflict, held};
 
 /// Whether p stands in the ring.
 #[tactic(auto, using(crate::proofs::RingLists::has_turned))]
-fn has(ring: &[Pos], p: Pos) -> bool
+pub(crate) fn has(ring: &[Pos], p: Pos) -> bool
     ensures { result ≡ machine.has ring.now p }
 {
     ring.contains(&p)
@@ -26,19 +27,31 @@ pub(crate) fn is_vertex(rings: &[&[Pos]], p: Pos) -> bool
     false
 }
 
-/// Whether the edge from p to a sweeps over w when p moves to q.
-fn is_swept(w: Pos, p: Pos, q: Pos, a: Pos) -> bool
-    ensures { result ≡ spec.is_swept p q a w }
+/// Whether w is none of these, and the triangle a, b, c holds it.
+fn is_other(w: Pos, these: &[Pos], a: Pos, b: Pos, c: Pos) -> bool
+    ensures { result ≡ spec.is_other these.now a b c w }
 {
-    !(w == a || w == p) && held(w, a, p, q)
+    !has(these, w) && held(w, a, b, c)
 }
 
-/// Whether the edge from p to a sweeps over a position of the ring when p moves to q.
-fn sweeps_ring(ring: &[Pos], p: Pos, q: Pos, a: Pos) -> bool
-    ensures { result ≡ spec.sweeps_ring p q a ring.now }
+/// Whether the triangle a, b, c holds a position of the ring that is none of these.
+fn ring_holds(ring: &[Pos], these: &[Pos], a: Pos, b: Pos, c: Pos) -> bool
+    ensures { result ≡ list_any (spec.is_other these.now a b c) ring.now }
 {
     for w in ring {
-        if is_swept(*w, p, q, a) {
+        if is_other(*w, these, a, b, c) {
+            return true;
+        }
+    }
+    false
+}
+
+/// Whether the triangle a, b, c holds a position that is none of these.
+pub(crate) fn holds_other(rings: &[&[Pos]], these: &[Pos], a: Pos, b: Pos, c: Pos) -> bool
+    ensures { result ≡ spec.holds_other (map (λ r. r.now) rings.now) these.now a b c }
+{
+    for ring in rings {
+        if ring_holds(*ring, these, a, b, c) {
             return true;
         }
     }
@@ -49,12 +62,7 @@ fn sweeps_ring(ring: &[Pos], p: Pos, q: Pos, a: Pos) -> bool
 fn edge_sweeps(rings: &[&[Pos]], p: Pos, q: Pos, a: Pos) -> bool
     ensures { result ≡ spec.edge_sweeps (map (λ r. r.now) rings.now) p q a }
 {
-    for ring in rings {
-        if sweeps_ring(*ring, p, q, a) {
-            return true;
-        }
-    }
-    false
+    holds_other(rings, &[a, p], a, p, q)
 }
 
 /// Whether b, between a and c, is p, and one of its two edges sweeps over a position.

@@ -1,0 +1,57 @@
+-- One vertex of a pass of thinning, and the pass as far as it has come.
+use Rattle.std.proofs.Common.{◌≡◌, ℕ, ◌+◌, ◌<◌, ◌≤◌, Bool, true, false, refl, sym, ap, ap₂, ◌∙◌, cond, ℤ, List, [], ◌∷◌, ◌++◌, take, length, get_or, Option, None, Some, arith}
+use Rattle.std.specs.Prelude.{not, ◌&&◌}
+use Rattle.std.specs.List.{fold}
+use Rattle.std.proofs.lemmas.List.{take_all, take_more}
+use Rattle.grid_geometry.specs.Position.{Position}
+use Rattle.ring_machine.specs.Document.{Document}
+use Rattle.ring_machine.specs.Vertices.{del, is_junction}
+use Rattle.ring_machine.specs.Query.{vertices}
+use Rattle.ring_machine.specs.Command.{Refusal}
+use Rattle.ring_machine.specs.Refusals.{first_of, remove_refusals}
+use Rattle.ring_machine.specs.Thin.{Thinning, is_flat, without, thin_at}
+use Rattle.plain_rings.specs.Faults.{Refuses}
+use Rattle.plain_rings.specs.declared.fault.EditFault.{EditFault}
+use Rattle.plain_rings.specs.declared.fault.EditFault.TheVariants.{OutOfMemory}
+use Rattle.plain_rings.specs.declared.fault.EditFault.TheVariants as edit
+use Rattle.plain_rings.proofs.RingLists.{fold-append}
+
+-- so many were left out of the document
+abbrev pub with_count : Document → ℕ → Thinning
+with_count d n = record { doc = d; removed = n }
+
+module _ (t : ℤ) (d : Document) (p : Position) (n : ℕ) where
+  abbrev thin_by : Bool → Option Refusal → Thinning
+  thin_by b o = cond b (without (with_count d n) p o) (with_count d n)
+
+  pub thin_gone : (not (is_junction d p) && is_flat t d p) ≡ true → first_of (remove_refusals d p) ≡ None → (new : Document) → new ≡ del d p → thin_at t (with_count d n) p ≡ with_count new (n + 1)
+  thin_gone h k new e = ap₂ thin_by h k ∙ ap (λ x. with_count x (n + 1)) (sym e)
+
+  refused : (fault : EditFault) → Refuses fault (first_of (remove_refusals d p)) → (fault ≡ OutOfMemory → ⊥) → (r : Refusal) × (first_of (remove_refusals d p) ≡ Some r)
+  refused edit.NoVertex h k = (_, h)
+  refused edit.NoSegment h k = (_, h)
+  refused edit.Occupied h k = (_, h)
+  refused edit.Junction h k = (_, h)
+  refused edit.RingShort h k = (_, h)
+  refused edit.SegmentExists h k = (_, h)
+  refused edit.TooLarge h k = (_, h)
+  refused (edit.Conflict u v) h k = (_, h)
+  refused edit.Sweeps h k = (_, h)
+  refused edit.OutOfMemory h k = absurd (k refl)
+
+  pub thin_refused : (not (is_junction d p) && is_flat t d p) ≡ true → (fault : EditFault) → Refuses fault (first_of (remove_refusals d p)) → (fault ≡ OutOfMemory → ⊥) → (new : Document) → new ≡ d → thin_at t (with_count d n) p ≡ with_count new (n + 0)
+  thin_refused h fault k l new e =
+      let same : n ≡ n + 0 = omega arith in
+      ap₂ thin_by h (refused fault k l).1 ∙ ap₂ with_count (sym e) same
+
+  pub thin_passed : (not (is_junction d p) && is_flat t d p) ≡ false → thin_at t (with_count d n) p ≡ with_count d (n + 0)
+  thin_passed h =
+      let same : n ≡ n + 0 = omega arith in
+      ap (λ b. thin_by b (first_of (remove_refusals d p))) h ∙ ap (with_count d) same
+
+-- one vertex more
+pub thinned_more : (t : ℤ) (d now : Document) (n : ℕ) (ps : List Position) (i : ℕ) (p : Position) → i < length ps → p ≡ get_or ps i p → fold (thin_at t) (with_count d 0) (take i ps) ≡ with_count now n → fold (thin_at t) (with_count d 0) (take (i + 1) ps) ≡ thin_at t (with_count now n) p
+thinned_more t d now n ps i p l e h =
+    ap (fold (thin_at t) (with_count d 0)) (take_more ps i p l ∙ ap (λ z. take i ps ++ z ∷ []) (sym e))
+    ∙ fold-append (thin_at t) (with_count d 0) (take i ps) (p ∷ [])
+    ∙ ap (λ s. thin_at t s p) h

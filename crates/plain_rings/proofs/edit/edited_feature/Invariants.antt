@@ -1,0 +1,7 @@
+use Rattle.std.proofs.Common.{◌≡◌, map, take}
+use Rattle.plain_rings.specs.Edits.{edited_ring}
+use Rattle.plain_rings.specs.Rings.{held_feature}
+use Rattle.plain_rings.proofs.edit.edited_feature.Given as goal
+
+abbrev pub invariant-loop-polygon : goal.invariant-loop-polygon
+invariant-loop-polygon g l = held_feature l.changed.items ≡ map (map (edited_ring l.edit)) (held_feature (take l.polygon-index l.polygons))

@@ -1,0 +1,7 @@
+use Rattle.std.proofs.Common.{◌≡◌, map, take}
+use Rattle.plain_rings.specs.Edits.{edited_ring}
+use Rattle.plain_rings.specs.Rings.{held_polygon}
+use Rattle.plain_rings.proofs.edit.edited_polygon.Given as goal
+
+abbrev pub invariant-loop-ring : goal.invariant-loop-ring
+invariant-loop-ring g l = held_polygon l.changed.items ≡ map (edited_ring l.edit) (held_polygon (take l.ring-index l.polygon))

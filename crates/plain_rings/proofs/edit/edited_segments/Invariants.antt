@@ -1,0 +1,8 @@
+use Rattle.std.proofs.Common.{◌≡◌, map, take}
+use Rattle.std.specs.List.{flat_map}
+use Rattle.ring_machine.specs.Ring.{segments}
+use Rattle.plain_rings.specs.Edits.{edited_ring}
+use Rattle.plain_rings.proofs.edit.edited_segments.Given as goal
+
+abbrev pub invariant-loop-ring : goal.invariant-loop-ring
+invariant-loop-ring g l = l.found.items ≡ flat_map segments (map (edited_ring l.edit) (map (λ r. r.now) (take l.ring-index l.rings)))

@@ -1,0 +1,7 @@
+use Rattle.std.proofs.Common.{◌≡◌, take, true}
+use Rattle.std.specs.List.{list_all}
+use Rattle.plain_rings.specs.Thin.{is_flat_side}
+use Rattle.plain_rings.proofs.thin.are_flat.Given as goal
+
+abbrev pub invariant-loop-s : goal.invariant-loop-s
+invariant-loop-s l = list_all (is_flat_side l.t l.p) (take l.s-index l.around) ≡ true
