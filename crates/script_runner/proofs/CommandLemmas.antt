@@ -1,5 +1,5 @@
 -- Which command a line asks for, by its word.
-use Rattle.std.proofs.Common.{◌≡◌, ℕ, ℤ, pos, ◌<◌, ◌^◌, ◌++◌, ◌+◌, refl, sym, ap, ap₂, ◌∙◌, subst, MatchBool, rules, ◌≤◌, List, [], ◌∷◌, length, get_or, nat_eq, ◌==◌, false, true, arith, append-nil, FitsSigned, w64, Option, None, Some, MatchOption, codes}
+use Rattle.std.proofs.Common.{◌≡◌, ℕ, ℤ, pos, ◌<◌, ◌^◌, ◌++◌, ◌+◌, refl, sym, ap, ap₂, ◌∙◌, subst, MatchBool, rules, ◌≤◌, List, [], ◌∷◌, length, ◌==◌, false, true, arith, append-nil, FitsSigned, w64, Option, None, Some, MatchOption, codes}
 use Rattle.std.specs.Str.{IsUtf8, IsAscii, bytes_eq}
 use Rattle.std.proofs.lemmas.Bool.{false≢true}
 use Rattle.std.proofs.lemmas.Bool.Decides.{nat_tests}
@@ -7,7 +7,7 @@ use Rattle.std.specs.Fmt.{decimal, signed_decimal}
 use Rattle.std.specs.List.{take_while}
 use Rattle.std.specs.Int.{FitsUnsignedBits}
 use Rattle.std.proofs.lemmas.Str.{IsUtf8-from_ascii, IsAscii-append}
-use Rattle.std.proofs.lemmas.Str.Ascii.{IsAscii-nil, IsAscii-cons}
+use Rattle.std.proofs.lemmas.Str.Ascii.{IsAscii-cons}
 use Rattle.grid_geometry.specs.Position.{Position, InRange}
 use Rattle.ring_machine.specs.Command.{Command, Move, Insert, Remove, Thin, Area}
 use Rattle.script_runner.specs.Lines.{spaced, spaced_position, most_bound, Asks, Says}

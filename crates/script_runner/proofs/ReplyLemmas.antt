@@ -12,12 +12,12 @@ use Rattle.ring_machine.specs.Thin.{Thinning, is_flat, without, thin_at, thinned
 use Rattle.ring_machine.specs.Query.{area_of, vertices}
 use Rattle.ring_machine.specs.Refusals.{first_of, move_refusals, insert_refusals, remove_refusals, feature_refusals, feature_at}
 use Rattle.ring_machine.specs.Command.{Command, Move, Insert, Remove, Thin, Area, Refusal, NoFeature, Answer, Done, Thinned, AreaIs, Refused}
-use Rattle.ring_machine.specs.Machine.{State, step, edit, changed, query, thin_step}
+use Rattle.ring_machine.specs.Machine.{State, step, edit, changed, query}
 use Rattle.ring_machine.proofs.Steps.{step-move, step-insert, step-remove, step-thin}
 use Rattle.ring_machine.proofs.RingsOf.{features-in_rings}
 use Rattle.script_runner.specs.Answers.{answer_text, refusal_text}
 use Rattle.script_runner.specs.Runs.{opened_state, refusals}
-use Rattle.script_runner.specs.Replies.{Replied, Tells, TellsFault, refusal_of}
+use Rattle.script_runner.specs.Replies.{Replied, Tells, TellsFault}
 use Rattle.ring_machine.specs.Command as machine
 use Rattle.plain_rings.specs.Faults.{Refuses}
 use Rattle.plain_rings.specs.declared.fault.EditFault.{EditFault}

@@ -67,7 +67,7 @@ fn a_map_of_too_many_positions(rt: HostRuntime) -> Result<(), Fail> {
     Ok(())
 }
 
-/// As many positions as a map may have but 800,000, and one more in each of so many rings, twice.
+/// 800,000 rings of four positions, a position more in each, and then one too many in each.
 #[test]
 fn an_edit_of_too_many_positions(rt: HostRuntime) -> Result<(), Fail> {
     let front =

@@ -129,7 +129,7 @@ fn removals(rt: HostRuntime) -> Result<(), Fail> {
             "remove 0 0\ninsert 0 0 0 30 12 9\nmove 0 0 9 20\nmove 0 0 1 1",
             "refused sweeps\nrefused sweeps\nrefused sweeps\nok\nanswered 4, refused 3",
         ),
-        // the triangle that is left has no room to turn over
+        // the triangle that is left may not turn over
         (
             TWO_SQUARES,
             "remove 0 0\nmove 0 10 15 5",
@@ -161,7 +161,7 @@ fn thinnings(rt: HostRuntime) -> Result<(), Fail> {
             "insert 0 0 10 0 5 0\nthin 0\nthin 0",
             "ok\nok 1\nok 0\nanswered 3, refused 0",
         ),
-        // one corner of each square, whose others would then leave too few
+        // one corner of each square: without another too few would be left
         (
             TWO_SQUARES,
             "thin 100\narea 0\narea 1",
@@ -173,7 +173,7 @@ fn thinnings(rt: HostRuntime) -> Result<(), Fail> {
             "insert 0 0 10 0 2 0\ninsert 2 0 10 0 5 1\nthin 8",
             "ok\nok\nok 1\nanswered 3, refused 0",
         ),
-        // a removal that is refused is left out
+        // a vertex whose removal is refused stays
         (
             TRIANGLE_INSIDE,
             "thin 900\narea 0",
