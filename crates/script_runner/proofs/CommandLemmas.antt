@@ -1,19 +1,20 @@
 -- Which command a line asks for, by its word.
-use Rattle.std.proofs.Common.{◌≡◌, ℕ, ℤ, pos, ◌<◌, ◌^◌, ◌++◌, ◌+◌, refl, sym, ap, ◌∙◌, subst, List, [], ◌∷◌, length, get_or, nat_eq, ◌==◌, false, true, arith, append-nil, FitsSigned, w64, Option, None, Some, MatchOption, codes}
-use Rattle.std.specs.Str.{IsUtf8, IsAscii}
+use Rattle.std.proofs.Common.{◌≡◌, ℕ, ℤ, pos, ◌<◌, ◌^◌, ◌++◌, ◌+◌, refl, sym, ap, ap₂, ◌∙◌, subst, MatchBool, rules, ◌≤◌, List, [], ◌∷◌, length, ◌==◌, false, true, arith, append-nil, FitsSigned, w64, Option, None, Some, MatchOption, codes}
+use Rattle.std.specs.Str.{IsUtf8, IsAscii, bytes_eq}
 use Rattle.std.proofs.lemmas.Bool.{false≢true}
 use Rattle.std.proofs.lemmas.Bool.Decides.{nat_tests}
-use Rattle.std.specs.Fmt.{signed_decimal}
+use Rattle.std.specs.Fmt.{decimal, signed_decimal}
+use Rattle.std.specs.List.{take_while}
 use Rattle.std.specs.Int.{FitsUnsignedBits}
 use Rattle.std.proofs.lemmas.Str.{IsUtf8-from_ascii, IsAscii-append}
-use Rattle.std.proofs.lemmas.Str.Ascii.{IsAscii-nil, IsAscii-cons}
+use Rattle.std.proofs.lemmas.Str.Ascii.{IsAscii-cons}
 use Rattle.grid_geometry.specs.Position.{Position, InRange}
-use Rattle.ring_machine.specs.Command.{Command, Move, Area}
-use Rattle.script_runner.specs.Lines.{spaced, spaced_position, Asks, Says}
-use Rattle.script_runner.specs.Words.{IsSpaced, IsPlace}
-use Rattle.script_runner.specs.Commands.{command_of, IsMoveTail, IsAreaTail}
+use Rattle.ring_machine.specs.Command.{Command, Move, Insert, Remove, Thin, Area}
+use Rattle.script_runner.specs.Lines.{spaced, spaced_position, most_bound, Asks, Says}
+use Rattle.script_runner.specs.Words.{is_letter, EndsWord, IsSpaced, IsPlace}
+use Rattle.script_runner.specs.Commands.{command_of, IsMoveTail, IsInsertTail, IsRemoveTail, IsThinTail, IsAreaTail}
 use Rattle.script_runner.specs.declared.lines.Command.{Command as CommandLine}
-use Rattle.script_runner.proofs.WordLemmas.{spaced_once, place_once, same_behind, number_ascii, fits_in_range}
+use Rattle.script_runner.proofs.WordLemmas.{IsWord, rest_of, word-taken, word-rest, taken-rest, spaced_once, place_once, same_behind, number_ascii, fits_in_range, wide_once, wide_ascii}
 
 -- what the test says of a list that is not empty
 pub not_empty : (xs : List ℕ) → (length xs == 0) ≡ false → xs ≡ [] → ⊥
@@ -74,41 +75,173 @@ move_long tail rest end a b _ s k more h = h
 pub move_found : (tail rest end : List ℕ) (a b : Position) → IsPlace tail a rest → IsPlace rest b end → end ≡ [] → IsMoveTail tail (Move a b)
 move_found tail rest end a b s k e = (s.whole ∙ ap (λ r. spaced_position a ++ r) (k.whole ∙ ap (λ r. spaced_position b ++ r) e ∙ append-nil (spaced_position b)), (s.range, k.range))
 
+-- ---- a new vertex
+
+insert_first : (tail : List ℕ) (a b q : Position) → IsInsertTail tail (Insert a b q) → IsPlace tail a (spaced_position b ++ spaced_position q)
+insert_first tail a b q h = record { whole = h.0; ends = refl; range = h.1.0 }
+
+insert_second : (tail : List ℕ) (a b q : Position) → IsInsertTail tail (Insert a b q) → IsPlace (spaced_position b ++ spaced_position q) b (spaced_position q)
+insert_second tail a b q h = record { whole = refl; ends = refl; range = h.1.1 }
+
+insert_third : (tail : List ℕ) (a b q : Position) → IsInsertTail tail (Insert a b q) → IsPlace (spaced_position q) q []
+insert_third tail a b q h = record { whole = sym (append-nil (spaced_position q)); ends = tt; range = h.1.2 }
+
+-- the first place in front, and what follows it
+insert_one : (tail rest : List ℕ) (x a b q : Position) → IsPlace tail x rest → IsInsertTail tail (Insert a b q) → rest ≡ spaced_position b ++ spaced_position q
+insert_one tail rest x a b q s h = (place_once tail rest (spaced_position b ++ spaced_position q) x a s (insert_first tail a b q h)).1
+
+-- the second one, and what follows it
+insert_two : (tail rest more : List ℕ) (x y a b q : Position) → IsPlace tail x rest → IsPlace rest y more → IsInsertTail tail (Insert a b q) → more ≡ spaced_position q
+insert_two tail rest more x y a b q s k h =
+    let e = insert_one tail rest x a b q s h in
+    (place_once rest more (spaced_position q) y b k (subst (λ r. IsPlace r b (spaced_position q)) (sym e) (insert_second tail a b q h))).1
+
+pub insert_none : (tail : List ℕ) (c : Command) → ((p : Position) (rest : List ℕ) → ¬ IsPlace tail p rest) → IsInsertTail tail c → ⊥
+insert_none tail (Insert a b q) never h = never a (spaced_position b ++ spaced_position q) (insert_first tail a b q h)
+insert_none tail _ never h = h
+
+pub insert_no_second : (tail rest : List ℕ) (x : Position) (c : Command) → IsPlace tail x rest → ((p : Position) (r : List ℕ) → ¬ IsPlace rest p r) → IsInsertTail tail c → ⊥
+insert_no_second tail rest x (Insert a b q) s never h =
+    never b (spaced_position q) (subst (λ r. IsPlace r b (spaced_position q)) (sym (insert_one tail rest x a b q s h)) (insert_second tail a b q h))
+insert_no_second tail rest x _ s never h = h
+
+pub insert_no_third : (tail rest more : List ℕ) (x y : Position) (c : Command) → IsPlace tail x rest → IsPlace rest y more → ((p : Position) (r : List ℕ) → ¬ IsPlace more p r) → IsInsertTail tail c → ⊥
+insert_no_third tail rest more x y (Insert a b q) s k never h =
+    never q [] (subst (λ r. IsPlace r q []) (sym (insert_two tail rest more x y a b q s k h)) (insert_third tail a b q h))
+insert_no_third tail rest more x y _ s k never h = h
+
+pub insert_long : (tail rest more end : List ℕ) (x y z : Position) (c : Command) → IsPlace tail x rest → IsPlace rest y more → IsPlace more z end → (end ≡ [] → ⊥) → IsInsertTail tail c → ⊥
+insert_long tail rest more end x y z (Insert a b q) s k u longer h =
+    longer (place_once more end [] z q u (subst (λ r. IsPlace r q []) (sym (insert_two tail rest more x y a b q s k h)) (insert_third tail a b q h))).1
+insert_long tail rest more end x y z _ s k u longer h = h
+
+pub insert_found : (tail rest more end : List ℕ) (a b q : Position) → IsPlace tail a rest → IsPlace rest b more → IsPlace more q end → end ≡ [] → IsInsertTail tail (Insert a b q)
+insert_found tail rest more end a b q s k u e = (
+  s.whole ∙ ap (λ r. spaced_position a ++ r) (k.whole ∙ ap (λ r. spaced_position b ++ r) (u.whole ∙ ap (λ r. spaced_position q ++ r) e ∙ append-nil (spaced_position q))),
+  (s.range, k.range, u.range),
+)
+
+-- ---- a removal
+
+remove_place : (tail : List ℕ) (p : Position) → IsRemoveTail tail (Remove p) → IsPlace tail p []
+remove_place tail p h = record { whole = h.0 ∙ sym (append-nil (spaced_position p)); ends = tt; range = h.1 }
+
+pub remove_none : (tail : List ℕ) (c : Command) → ((p : Position) (rest : List ℕ) → ¬ IsPlace tail p rest) → IsRemoveTail tail c → ⊥
+remove_none tail (Remove p) never h = never p [] (remove_place tail p h)
+remove_none tail _ never h = h
+
+pub remove_long : (tail end : List ℕ) (x : Position) (c : Command) → IsPlace tail x end → (end ≡ [] → ⊥) → IsRemoveTail tail c → ⊥
+remove_long tail end x (Remove p) s more h = more (place_once tail end [] x p s (remove_place tail p h)).1
+remove_long tail end x _ s more h = h
+
+pub remove_found : (tail end : List ℕ) (p : Position) → IsPlace tail p end → end ≡ [] → IsRemoveTail tail (Remove p)
+remove_found tail end p s e = (s.whole ∙ ap (λ r. spaced_position p ++ r) e ∙ append-nil (spaced_position p), s.range)
+
+-- ---- a thinning
+
+in_bound : (n : ℕ) → n ≤ most_bound → n < 2 ^ 128
+in_bound n h = omega arith
+
+pub thin_none : (tail : List ℕ) (c : Command) → ((rest : List ℕ) → tail ≡ codes " " ++ rest → ⊥) → IsThinTail tail c → ⊥
+thin_none tail (Thin (pos t)) never h = never (decimal t) h.0
+thin_none tail _ never h = h
+
+thin_word : (tail word : List ℕ) (t : ℕ) → tail ≡ codes " " ++ word → IsThinTail tail (Thin (pos t)) → word ≡ decimal t
+thin_word tail word t e h = same_behind (codes " ") word (decimal t) (sym e ∙ h.0)
+
+pub thin_odd : (tail word : List ℕ) (c : Command) → tail ≡ codes " " ++ word → ((n : ℕ) → n < 2 ^ 128 → word ≡ decimal n → ⊥) → IsThinTail tail c → ⊥
+thin_odd tail word (Thin (pos t)) e never h = never t (in_bound t h.1) (thin_word tail word t e h)
+thin_odd tail word _ e never h = h
+
+pub thin_far : (tail word : List ℕ) (n : ℕ) (c : Command) → tail ≡ codes " " ++ word → word ≡ decimal n → n < 2 ^ 128 → (n ≤ most_bound → ⊥) → IsThinTail tail c → ⊥
+thin_far tail word n (Thin (pos t)) e is h over k =
+    let same : n ≡ t = wide_once n t h (in_bound t k.1) (sym is ∙ thin_word tail word t e k) in
+    over (subst (λ m. m ≤ most_bound) (sym same) k.1)
+thin_far tail word n _ e is h over k = k
+
+pub thin_found : (tail word : List ℕ) (n : ℕ) (z : ℤ) → tail ≡ codes " " ++ word → word ≡ decimal n → z ≡ pos n → n ≤ most_bound → IsThinTail tail (Thin z)
+thin_found tail word n z e is same h = subst (λ y. IsThinTail tail (Thin y)) (sym same) (e ∙ ap (λ w. codes " " ++ w) is, h)
+
 -- ---- the word in front
 
-other_word : (t u : List ℕ) → codes "move" ++ t ≡ codes "area" ++ u → ⊥
-other_word t u e = false≢true (ap (λ s. nat_eq (get_or s 0 0) 97) e)
+-- what stands behind a word, by that word
+abbrev pub Behind : List ℕ → List ℕ → Command → Type 0
+Behind word tail c =
+    MatchBool (bytes_eq word (codes "move")) (IsMoveTail tail c)
+    (MatchBool (bytes_eq word (codes "insert")) (IsInsertTail tail c)
+    (MatchBool (bytes_eq word (codes "remove")) (IsRemoveTail tail c)
+    (MatchBool (bytes_eq word (codes "thin")) (IsThinTail tail c)
+    (MatchBool (bytes_eq word (codes "area")) (IsAreaTail tail c) ⊥))))
 
-move_tail : (line tail : List ℕ) (c : Command) → line ≡ codes "move" ++ tail → Asks line c → IsMoveTail tail c
-move_tail line tail (Move p q) e h = (same_behind (codes "move") tail (spaced_position p ++ spaced_position q) (sym e ∙ h.0), h.1)
-move_tail line tail (Area n) e h = absurd (other_word tail (spaced (pos n)) (sym e ∙ h.0))
-move_tail line tail _ e h = h
+-- the word and the rest of a line that begins with a word
+front_word : (line word front args : List ℕ) → IsWord front → EndsWord args → line ≡ front ++ args → word ≡ take_while is_letter line → word ≡ front
+front_word line word front args w k e is = is ∙ ap (take_while is_letter) e ∙ word-taken front args w k
+
+front_rest : (line tail front args : List ℕ) → IsWord front → EndsWord args → line ≡ front ++ args → tail ≡ rest_of line → tail ≡ args
+front_rest line tail front args w k e is = is ∙ ap rest_of e ∙ word-rest front args w k
 
 tail_move : (line tail : List ℕ) (c : Command) → line ≡ codes "move" ++ tail → IsMoveTail tail c → Asks line c
 tail_move line tail (Move p q) e h = (e ∙ ap (λ t. codes "move" ++ t) h.0, h.1)
 tail_move line tail _ e h = absurd h
 
-area_tail : (line tail : List ℕ) (c : Command) → line ≡ codes "area" ++ tail → Asks line c → IsAreaTail tail c
-area_tail line tail (Area n) e h = (same_behind (codes "area") tail (spaced (pos n)) (sym e ∙ h.0), h.1)
-area_tail line tail (Move p q) e h = absurd (other_word (spaced_position p ++ spaced_position q) tail (sym h.0 ∙ e))
-area_tail line tail _ e h = h
+tail_insert : (line tail : List ℕ) (c : Command) → line ≡ codes "insert" ++ tail → IsInsertTail tail c → Asks line c
+tail_insert line tail (Insert a b q) e h = (e ∙ ap (λ t. codes "insert" ++ t) h.0, h.1)
+tail_insert line tail _ e h = absurd h
+
+tail_remove : (line tail : List ℕ) (c : Command) → line ≡ codes "remove" ++ tail → IsRemoveTail tail c → Asks line c
+tail_remove line tail (Remove p) e h = (e ∙ ap (λ t. codes "remove" ++ t) h.0, h.1)
+tail_remove line tail _ e h = absurd h
+
+tail_thin : (line tail : List ℕ) (c : Command) → line ≡ codes "thin" ++ tail → IsThinTail tail c → Asks line c
+tail_thin line tail (Thin (pos t)) e h = (e ∙ ap (λ u. codes "thin" ++ u) h.0, h.1)
+tail_thin line tail _ e h = absurd h
 
 tail_area : (line tail : List ℕ) (c : Command) → line ≡ codes "area" ++ tail → IsAreaTail tail c → Asks line c
 tail_area line tail (Area n) e h = (e ∙ ap (λ t. codes "area" ++ t) h.0, h.1)
 tail_area line tail _ e h = absurd h
 
--- what is found behind the word is what the line asks for
-pub behind_move : (line tail : List ℕ) (o : Option CommandLine) → line ≡ codes "move" ++ tail
-    → MatchOption o ((c : Command) → ¬ IsMoveTail tail c) (λ c. IsMoveTail tail (command_of c))
-    → MatchOption o ((c : Command) → ¬ Asks line c) (λ c. Asks line (command_of c))
-behind_move line tail None e h = λ c a. h c (move_tail line tail c e a)
-behind_move line tail (Some c) e h = tail_move line tail (command_of c) e h
+module _ (line word tail : List ℕ) (taken : word ≡ take_while is_letter line) (left : tail ≡ rest_of line) where
+  by_front : (front args : List ℕ) (c : Command) → IsWord front → EndsWord args → line ≡ front ++ args → Behind front args c → Behind word tail c
+  by_front front args c w k e h =
+      subst (λ u. Behind u tail c) (sym (front_word line word front args w k e taken)) (subst (λ t. Behind front t c) (sym (front_rest line tail front args w k e left)) h)
 
-pub behind_area : (line tail : List ℕ) (o : Option CommandLine) → line ≡ codes "area" ++ tail
-    → MatchOption o ((c : Command) → ¬ IsAreaTail tail c) (λ c. IsAreaTail tail (command_of c))
-    → MatchOption o ((c : Command) → ¬ Asks line c) (λ c. Asks line (command_of c))
-behind_area line tail None e h = λ c a. h c (area_tail line tail c e a)
-behind_area line tail (Some c) e h = tail_area line tail (command_of c) e h
+  asked_behind : (c : Command) → Asks line c → Behind word tail c
+  asked_behind (Move p q) h = by_front (codes "move") (spaced_position p ++ spaced_position q) (Move p q) (search rules) refl h.0 (refl, h.1)
+  asked_behind (Insert a b q) h = by_front (codes "insert") (spaced_position a ++ (spaced_position b ++ spaced_position q)) (Insert a b q) (search rules) refl h.0 (refl, h.1)
+  asked_behind (Remove p) h = by_front (codes "remove") (spaced_position p) (Remove p) (search rules) refl h.0 (refl, h.1)
+  asked_behind (Thin (pos t)) h = by_front (codes "thin") (spaced (pos t)) (Thin (pos t)) (search rules) refl h.0 (refl, h.1)
+  asked_behind (Area n) h = by_front (codes "area") (spaced (pos n)) (Area n) (search rules) refl h.0 (refl, h.1)
+  asked_behind _ h = absurd h
+
+  whole : line ≡ word ++ tail
+  whole = sym (taken-rest line) ∙ sym (ap₂ (λ w t. w ++ t) taken left)
+
+  -- what is found behind the word is what the line asks for
+  arm : (front : List ℕ) (Tail : Command → Type 0) → ((c : Command) → Behind front tail c → Tail c) → ((c : Command) → line ≡ front ++ tail → Tail c → Asks line c)
+      → (o : Option CommandLine) → word ≡ front → MatchOption o ((c : Command) → ¬ Tail c) (λ c. Tail (command_of c))
+      → MatchOption o ((c : Command) → ¬ Asks line c) (λ c. Asks line (command_of c))
+  arm front Tail there back None is h = λ c a. h c (there c (subst (λ w. Behind w tail c) is (asked_behind c a)))
+  arm front Tail there back (Some c) is h = back (command_of c) (whole ∙ ap (λ w. w ++ tail) is) h
+
+  pub arm_move : (o : Option CommandLine) → word ≡ codes "move" → MatchOption o ((c : Command) → ¬ IsMoveTail tail c) (λ c. IsMoveTail tail (command_of c))
+      → MatchOption o ((c : Command) → ¬ Asks line c) (λ c. Asks line (command_of c))
+  arm_move = arm (codes "move") (IsMoveTail tail) (λ c h. h) (tail_move line tail)
+
+  pub arm_insert : (o : Option CommandLine) → word ≡ codes "insert" → MatchOption o ((c : Command) → ¬ IsInsertTail tail c) (λ c. IsInsertTail tail (command_of c))
+      → MatchOption o ((c : Command) → ¬ Asks line c) (λ c. Asks line (command_of c))
+  arm_insert = arm (codes "insert") (IsInsertTail tail) (λ c h. h) (tail_insert line tail)
+
+  pub arm_remove : (o : Option CommandLine) → word ≡ codes "remove" → MatchOption o ((c : Command) → ¬ IsRemoveTail tail c) (λ c. IsRemoveTail tail (command_of c))
+      → MatchOption o ((c : Command) → ¬ Asks line c) (λ c. Asks line (command_of c))
+  arm_remove = arm (codes "remove") (IsRemoveTail tail) (λ c h. h) (tail_remove line tail)
+
+  pub arm_thin : (o : Option CommandLine) → word ≡ codes "thin" → MatchOption o ((c : Command) → ¬ IsThinTail tail c) (λ c. IsThinTail tail (command_of c))
+      → MatchOption o ((c : Command) → ¬ Asks line c) (λ c. Asks line (command_of c))
+  arm_thin = arm (codes "thin") (IsThinTail tail) (λ c h. h) (tail_thin line tail)
+
+  pub arm_area : (o : Option CommandLine) → word ≡ codes "area" → MatchOption o ((c : Command) → ¬ IsAreaTail tail c) (λ c. IsAreaTail tail (command_of c))
+      → MatchOption o ((c : Command) → ¬ Asks line c) (λ c. Asks line (command_of c))
+  arm_area = arm (codes "area") (IsAreaTail tail) (λ c h. h) (tail_area line tail)
 
 -- ---- every line that says something is UTF-8
 
@@ -118,15 +251,16 @@ spaced_ascii z f = IsAscii-cons 32 (signed_decimal z) (omega arith) (number_asci
 place_ascii : (p : Position) → InRange p → IsAscii (spaced_position p)
 place_ascii p h = IsAscii-append (spaced p.x) (spaced p.y) (spaced_ascii p.x (fits_in_range p.x h.across)) (spaced_ascii p.y (fits_in_range p.y h.upward))
 
-move_ascii : IsAscii (109 ∷ 111 ∷ 118 ∷ 101 ∷ [])
-move_ascii = IsAscii-cons 109 (111 ∷ 118 ∷ 101 ∷ []) (omega arith) (IsAscii-cons 111 (118 ∷ 101 ∷ []) (omega arith) (IsAscii-cons 118 (101 ∷ []) (omega arith) (IsAscii-cons 101 [] (omega arith) IsAscii-nil)))
-
-area_ascii : IsAscii (97 ∷ 114 ∷ 101 ∷ 97 ∷ [])
-area_ascii = IsAscii-cons 97 (114 ∷ 101 ∷ 97 ∷ []) (omega arith) (IsAscii-cons 114 (101 ∷ 97 ∷ []) (omega arith) (IsAscii-cons 101 (97 ∷ []) (omega arith) (IsAscii-cons 97 [] (omega arith) IsAscii-nil)))
+two_ascii : (p q : Position) → InRange p → InRange q → IsAscii (spaced_position p ++ spaced_position q)
+two_ascii p q h k = IsAscii-append (spaced_position p) (spaced_position q) (place_ascii p h) (place_ascii q k)
 
 asked_ascii : (line : List ℕ) (c : Command) → Asks line c → IsAscii line
-asked_ascii line (Move p q) h = subst IsAscii (sym h.0) (IsAscii-append (codes "move") (spaced_position p ++ spaced_position q) move_ascii (IsAscii-append (spaced_position p) (spaced_position q) (place_ascii p h.1.0) (place_ascii q h.1.1)))
-asked_ascii line (Area n) h = subst IsAscii (sym h.0) (IsAscii-append (codes "area") (spaced (pos n)) area_ascii (spaced_ascii (pos n) (record { sfits = omega (arith, h.1) })))
+asked_ascii line (Move p q) h = subst IsAscii (sym h.0) (IsAscii-append (codes "move") (spaced_position p ++ spaced_position q) (search rules) (two_ascii p q h.1.0 h.1.1))
+asked_ascii line (Insert a b q) h =
+    subst IsAscii (sym h.0) (IsAscii-append (codes "insert") (spaced_position a ++ (spaced_position b ++ spaced_position q)) (search rules) (IsAscii-append (spaced_position a) (spaced_position b ++ spaced_position q) (place_ascii a h.1.0) (two_ascii b q h.1.1 h.1.2)))
+asked_ascii line (Remove p) h = subst IsAscii (sym h.0) (IsAscii-append (codes "remove") (spaced_position p) (search rules) (place_ascii p h.1))
+asked_ascii line (Thin (pos t)) h = subst IsAscii (sym h.0) (IsAscii-append (codes "thin") (spaced (pos t)) (search rules) (IsAscii-cons 32 (decimal t) (omega arith) (wide_ascii t (in_bound t h.1))))
+asked_ascii line (Area n) h = subst IsAscii (sym h.0) (IsAscii-append (codes "area") (spaced (pos n)) (search rules) (spaced_ascii (pos n) (record { sfits = omega (arith, h.1) })))
 asked_ascii line _ h = absurd h
 
 pub said_utf8 : (line : List ℕ) (asked : Option Command) → Says line asked → IsUtf8 line

@@ -1,24 +1,27 @@
 -- The machine's steps, as far as there are lines for them.
-use Rattle.std.proofs.Common.{◌≡◌, ℕ, ℤ, refl, sym, ap, ◌∙◌, List, [], ◌++◌, length, Bool, true, false, cond, Option, None, Some, IsTrue, IsSomeAnd, codes}
-use Rattle.std.specs.Fmt.{signed_decimal}
+use Rattle.std.proofs.Common.{◌≡◌, ℕ, ℤ, refl, sym, ap, subst, ◌∙◌, List, [], ◌∷◌, ◌++◌, length, Bool, true, false, cond, Option, None, Some, IsTrue, codes, Result, Ok, Err, OnOk, OnErr, IfErr, not, ◌&&◌, ◌==◌, arith}
+use Rattle.std.proofs.lemmas.Bool.Decides.{nat_tests}
+use Rattle.std.specs.List.{fold}
+use Rattle.std.specs.Fmt.{decimal, signed_decimal}
 use Rattle.std.proofs.lemmas.List.{length-map}
 use Rattle.grid_geometry.specs.Position.{Position}
 use Rattle.ring_machine.specs.Document.{Document}
-use Rattle.ring_machine.specs.Parts.{features, has_feature, in_feature}
-use Rattle.ring_machine.specs.Vertices.{put, put_ring}
-use Rattle.ring_machine.specs.Query.{area_of}
-use Rattle.ring_machine.specs.Refusals.{first_of, move_refusals, feature_refusals, feature_at}
-use Rattle.ring_machine.specs.Command.{Command, Move, Area, Refusal, NoFeature, Answer, Done, AreaIs, Refused}
+use Rattle.ring_machine.specs.Parts.{features, has_feature, in_feature, in_rings}
+use Rattle.ring_machine.specs.Vertices.{put, put_ring, ins, ins_ring, del, del_ring, is_junction}
+use Rattle.ring_machine.specs.Thin.{Thinning, is_flat, without, thin_at, thinned}
+use Rattle.ring_machine.specs.Query.{area_of, vertices}
+use Rattle.ring_machine.specs.Refusals.{first_of, move_refusals, insert_refusals, remove_refusals, feature_refusals, feature_at}
+use Rattle.ring_machine.specs.Command.{Command, Move, Insert, Remove, Thin, Area, Refusal, NoFeature, Answer, Done, Thinned, AreaIs, Refused}
 use Rattle.ring_machine.specs.Machine.{State, step, edit, changed, query}
-use Rattle.ring_machine.proofs.Steps.{step-move}
+use Rattle.ring_machine.proofs.Steps.{step-move, step-insert, step-remove, step-thin}
 use Rattle.ring_machine.proofs.RingsOf.{features-in_rings}
 use Rattle.script_runner.specs.Answers.{answer_text, refusal_text}
 use Rattle.script_runner.specs.Runs.{opened_state, refusals}
-use Rattle.script_runner.specs.Replies.{Replied, refusal_of}
+use Rattle.script_runner.specs.Replies.{Replied, Tells, TellsFault}
 use Rattle.ring_machine.specs.Command as machine
 use Rattle.plain_rings.specs.Faults.{Refuses}
 use Rattle.plain_rings.specs.declared.fault.EditFault.{EditFault}
-use Rattle.plain_rings.specs.declared.fault.EditFault.TheVariants.{NoVertex, Occupied, Conflict, Sweeps, OutOfMemory}
+use Rattle.plain_rings.specs.declared.fault.EditFault.TheVariants.{NoVertex, NoSegment, Occupied, Junction, RingShort, SegmentExists, TooLarge, Conflict, Sweeps, OutOfMemory}
 
 step-area : (st : State) (n : ℕ) → step 0 st (Area n) ≡ query st (feature_refusals st.doc n) (AreaIs (area_of (feature_at st.doc n)))
 unfolding step
@@ -31,11 +34,14 @@ edit-none st after rs a e = rw e refl
 edit-some : (st after : State) (rs : List (Option Refusal)) (a : Answer) (r : Refusal) → first_of rs ≡ Some r → edit st rs a after ≡ (Refused r, st)
 edit-some st after rs a r e = rw e refl
 
--- a move leaves as many features
-opened-put : (d : Document) (p q : Position) → opened_state (put d p q) ≡ changed 0 (opened_state d) (put d p q)
-opened-put d p q =
-    let n : length (features (put d p q)) ≡ length (features d) = ap length (features-in_rings (put_ring p q) d) ∙ length-map (features d) (in_feature (put_ring p q)) in
-    ap (λ m. let st : State = record { doc = put d p q; next = m; past = [] } in st) n
+opened-changed : (d e : Document) → length (features e) ≡ length (features d) → opened_state e ≡ changed 0 (opened_state d) e
+opened-changed d e n = ap (λ m. let st : State = record { doc = e; next = m; past = [] } in st) n
+
+-- a document changed ring by ring has as many features
+opened-in_rings : (g : List Position → List Position) (d : Document) → opened_state (in_rings g d) ≡ changed 0 (opened_state d) (in_rings g d)
+opened-in_rings g d =
+    let n : length (features (in_rings g d)) ≡ length (features d) = ap length (features-in_rings g d) ∙ length-map (features d) (in_feature g) in
+    opened-changed d (in_rings g d) n
 
 -- what is known of a step that is known
 by_step : (d e : Document) (c : Command) (old new : List ℕ) (refuses : Bool) (a : Answer) (st : State) → step 0 (opened_state d) c ≡ (a, st) → opened_state e ≡ st → new ≡ old ++ answer_text a
@@ -46,18 +52,100 @@ by_step d e c old new refuses a st s k t n = record {
   counts = n ∙ ap (λ r. refusals r.0) (sym s);
 }
 
-pub moved : (d e : Document) (p q : Position) (old new : List ℕ) → first_of (move_refusals d p q) ≡ None → e ≡ put d p q → new ≡ old ++ codes "ok" → Replied d e (Move p q) old new false
-moved d e p q old new none is t =
-    by_step d e (Move p q) old new false Done (changed 0 (opened_state d) (put d p q))
-    (step-move 0 (opened_state d) p q ∙ edit-none (opened_state d) (changed 0 (opened_state d) (put d p q)) (move_refusals d p q) Done none)
-    (ap opened_state is ∙ opened-put d p q) t refl
+-- ---- an edit of a vertex
 
-pub move_refused : (d e : Document) (p q : Position) (r : Refusal) (old new : List ℕ) → first_of (move_refusals d p q) ≡ Some r → e ≡ d
-    → new ≡ old ++ (codes "refused " ++ refusal_text r) → Replied d e (Move p q) old new true
-move_refused d e p q r old new some is t =
-    by_step d e (Move p q) old new true (Refused r) (opened_state d)
-    (step-move 0 (opened_state d) p q ∙ edit-some (opened_state d) (changed 0 (opened_state d) (put d p q)) (move_refusals d p q) Done r some)
-    (ap opened_state is) t refl
+refused_by_fault : (fault : EditFault) (o : Option Refusal) (old new : List ℕ) → Refuses fault o → TellsFault fault old new
+    → (r : Refusal) × (o ≡ Some r) × (new ≡ old ++ (codes "refused " ++ refusal_text r))
+refused_by_fault NoVertex o old new f t = (machine.NoVertex, f, t)
+refused_by_fault NoSegment o old new f t = (machine.NoSegment, f, t)
+refused_by_fault Occupied o old new f t = (machine.Occupied, f, t)
+refused_by_fault Junction o old new f t = (machine.Junction, f, t)
+refused_by_fault RingShort o old new f t = (machine.RingShort, f, t)
+refused_by_fault SegmentExists o old new f t = (machine.SegmentExists, f, t)
+refused_by_fault TooLarge o old new f t = (machine.TooLarge, f, t)
+refused_by_fault (Conflict s u) o old new f t = (machine.Conflict s u, f, t)
+refused_by_fault Sweeps o old new f t = (machine.Sweeps, f, t)
+refused_by_fault OutOfMemory o old new f t = absurd t
+
+module _ (d e : Document) (c : Command) (rs : List (Option Refusal)) (g : List Position → List Position)
+    (steps : step 0 (opened_state d) c ≡ edit (opened_state d) rs Done (changed 0 (opened_state d) (in_rings g d)))
+    (old new : List ℕ) (refuses : Bool) where
+  edited : (outcome : Result (Unit {0}) EditFault) → OnOk outcome (first_of rs ≡ None) → OnOk outcome (e ≡ in_rings g d) → IfErr outcome (λ fault. Refuses fault (first_of rs))
+      → OnErr outcome (e ≡ d) → Tells outcome old new refuses → Replied d e c old new refuses
+  edited (Ok done) none is refused same t =
+      by_step d e c old new refuses Done (changed 0 (opened_state d) (in_rings g d))
+      (steps ∙ edit-none (opened_state d) (changed 0 (opened_state d) (in_rings g d)) rs Done none)
+      (ap opened_state is ∙ opened-in_rings g d) t.0 (ap (λ b. cond b 1 0) t.1)
+  edited (Err fault) none is refused same t =
+      let (r, first, text) = refused_by_fault fault (first_of rs) old new refused t.0 in
+      by_step d e c old new refuses (Refused r) (opened_state d)
+      (steps ∙ edit-some (opened_state d) (changed 0 (opened_state d) (in_rings g d)) rs Done r first)
+      (ap opened_state same) text (ap (λ b. cond b 1 0) t.1)
+
+pub move_told : (d e : Document) (p q : Position) (old new : List ℕ) (refuses : Bool) (outcome : Result (Unit {0}) EditFault)
+    → OnOk outcome (first_of (move_refusals d p q) ≡ None) → OnOk outcome (e ≡ put d p q) → IfErr outcome (λ fault. Refuses fault (first_of (move_refusals d p q)))
+    → OnErr outcome (e ≡ d) → Tells outcome old new refuses → Replied d e (Move p q) old new refuses
+move_told d e p q old new refuses =
+    edited d e (Move p q) (move_refusals d p q) (put_ring p q) (step-move 0 (opened_state d) p q) old new refuses
+
+pub insert_told : (d e : Document) (a b q : Position) (old new : List ℕ) (refuses : Bool) (outcome : Result (Unit {0}) EditFault)
+    → OnOk outcome (first_of (insert_refusals d a b q) ≡ None) → OnOk outcome (e ≡ ins d a b q) → IfErr outcome (λ fault. Refuses fault (first_of (insert_refusals d a b q)))
+    → OnErr outcome (e ≡ d) → Tells outcome old new refuses → Replied d e (Insert a b q) old new refuses
+insert_told d e a b q old new refuses =
+    edited d e (Insert a b q) (insert_refusals d a b q) (ins_ring a b q) (step-insert 0 (opened_state d) a b q) old new refuses
+
+pub remove_told : (d e : Document) (p : Position) (old new : List ℕ) (refuses : Bool) (outcome : Result (Unit {0}) EditFault)
+    → OnOk outcome (first_of (remove_refusals d p) ≡ None) → OnOk outcome (e ≡ del d p) → IfErr outcome (λ fault. Refuses fault (first_of (remove_refusals d p)))
+    → OnErr outcome (e ≡ d) → Tells outcome old new refuses → Replied d e (Remove p) old new refuses
+remove_told d e p old new refuses =
+    edited d e (Remove p) (remove_refusals d p) (del_ring p) (step-remove 0 (opened_state d) p) old new refuses
+
+-- ---- a pass of thinning
+
+-- so far in a pass that began with d: as many features, and the same document if nothing was left out
+record IsPass (d : Document) (so_far : Thinning) : Type 0 where
+  count : length (features so_far.doc) ≡ length (features d)
+  none : so_far.removed ≡ 0 → so_far.doc ≡ d
+
+module _ (d : Document) (t : ℤ) where
+  at_one : (so_far : Thinning) (p : Position) → IsPass d so_far → IsPass d (thin_at t so_far p)
+  at_one so_far p h = by (not (is_junction so_far.doc p) && is_flat t so_far.doc p) (first_of (remove_refusals so_far.doc p))
+    where
+      by : (b : Bool) (o : Option Refusal) → IsPass d (cond b (without so_far p o) so_far)
+      by false o = h
+      by true (Some r) = h
+      by true None = record {
+        count = ap length (features-in_rings (del_ring p) so_far.doc) ∙ length-map (features so_far.doc) (in_feature (del_ring p)) ∙ h.count;
+        none = λ z. absurd (omega arith);
+      }
+
+  passes : (ps : List Position) (so_far : Thinning) → IsPass d so_far → IsPass d (fold (thin_at t) so_far ps)
+  passes [] so_far h = h
+  passes (p ∷ ps) so_far h = passes ps (thin_at t so_far p) (at_one so_far p h)
+
+  passed : IsPass d (thinned t d)
+  unfolding thinned
+  passed = passes (vertices d) (record { doc = d; removed = 0 }) (record { count = refl; none = λ z. refl })
+
+  thin_told : (e : Document) (n : ℕ) (old new : List ℕ) → n ≡ (thinned t d).removed → e ≡ (thinned t d).doc → new ≡ old ++ (codes "ok " ++ decimal n) → Replied d e (Thin t) old new false
+  thin_told e n old new count is text = by ((thinned t d).removed == 0) refl
+    where
+      by : (b : Bool) → ((thinned t d).removed == 0) ≡ b → Replied d e (Thin t) old new false
+      by true z =
+          let none : (thinned t d).removed ≡ 0 = grind (arith, nat_tests) in
+          by_step d e (Thin t) old new false (Thinned 0) (opened_state d)
+          (step-thin 0 (opened_state d) t ∙ ap (λ b. cond b (Thinned 0, opened_state d) (Thinned (thinned t d).removed, changed 0 (opened_state d) (thinned t d).doc)) z)
+          (ap opened_state (is ∙ passed.none none)) (text ∙ ap (λ m. old ++ (codes "ok " ++ decimal m)) (count ∙ none)) refl
+      by false z =
+          by_step d e (Thin t) old new false (Thinned (thinned t d).removed) (changed 0 (opened_state d) (thinned t d).doc)
+          (step-thin 0 (opened_state d) t ∙ ap (λ b. cond b (Thinned 0, opened_state d) (Thinned (thinned t d).removed, changed 0 (opened_state d) (thinned t d).doc)) z)
+          (ap opened_state is ∙ opened-changed d (thinned t d).doc passed.count) (text ∙ ap (λ m. old ++ (codes "ok " ++ decimal m)) count) refl
+
+-- the same of the bound as the call has it
+pub thin_told_as : (d e : Document) (t s : ℤ) (n : ℕ) (old new : List ℕ) → s ≡ t → n ≡ (thinned s d).removed → e ≡ (thinned s d).doc → new ≡ old ++ (codes "ok " ++ decimal n) → Replied d e (Thin t) old new false
+thin_told_as d e t s n old new same count is text = subst (λ z. Replied d e (Thin z) old new false) same (thin_told d s e n old new count is text)
+
+-- ---- a question for an area
 
 there : (d : Document) (n : ℕ) → has_feature d n ≡ true → first_of (feature_refusals d n) ≡ None
 there d n h = rw h refl
@@ -81,12 +169,3 @@ not_measured d n old new h t =
     is_false : (b : Bool) → (IsTrue b → ⊥) → b ≡ false
     is_false true k = absurd (k refl)
     is_false false k = refl
-
--- a fault that the machine's first refusal is, by its text
-pub refused_with : (d e : Document) (p q : Position) (fault : EditFault) (old new : List ℕ) → Refuses fault (first_of (move_refusals d p q)) → e ≡ d
-    → IsSomeAnd (refusal_of fault) (λ r. new ≡ old ++ (codes "refused " ++ refusal_text r)) → Replied d e (Move p q) old new true
-refused_with d e p q NoVertex old new f is t = move_refused d e p q machine.NoVertex old new f is t
-refused_with d e p q Occupied old new f is t = move_refused d e p q machine.Occupied old new f is t
-refused_with d e p q (Conflict s u) old new f is t = move_refused d e p q (machine.Conflict s u) old new f is t
-refused_with d e p q Sweeps old new f is t = move_refused d e p q machine.Sweeps old new f is t
-refused_with d e p q OutOfMemory old new f is t = absurd t

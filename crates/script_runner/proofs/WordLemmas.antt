@@ -3,10 +3,10 @@ use Rattle.std.proofs.Common.{◌≡◌, ℕ, ◌+◌, ◌%◌, ◌<◌, ◌≤�
 use Rattle.std.specs.List.{take_while}
 use Rattle.std.specs.Fmt.{decimal, signed_decimal}
 use Rattle.std.specs.Int.Signed.{mag}
-use Rattle.std.specs.Str.Parse.{ParsesSigned}
+use Rattle.std.specs.Str.Parse.{ParsesSigned, ParsesUnsigned, digits_value}
 use Rattle.std.proofs.lemmas.Bool.Decides.{nat_tests}
 use Rattle.std.proofs.lemmas.Bool.{false≢true}
-use Rattle.std.proofs.lemmas.Fmt.{decimal_by_steps, parse-signed_decimal, signed_decimal_injective, IsAscii-signed}
+use Rattle.std.proofs.lemmas.Fmt.{decimal_by_steps, parse-signed_decimal, signed_decimal_injective, IsAscii-signed, IsAscii-decimal_wide, parse-decimal_wide, decimal_is_IsNumeral_wide}
 use Rattle.std.specs.Str.{IsUtf8, IsAscii, bytes_eq}
 use Rattle.std.proofs.lemmas.Str.{IsUtf8-from_ascii}
 use Rattle.std.proofs.lemmas.Slice.Eq.{bytes_eq-Decides}
@@ -169,6 +169,34 @@ pub not_written : (z y x : ℤ) (word bs : List ℕ) → FitsSigned w64 z → wo
 not_written z y x word bs f e s p w k =
     let same = parsed {E = ℕ} z y bs (Ok y) f (s ∙ e) p refl in
     told_apart word (signed_decimal x) k (e ∙ ap signed_decimal (same ∙ sym w))
+
+-- ---- numbers of at most 128 bits
+
+wide : (n : ℕ) → n < 2 ^ 128 → n < 10 ^ 64
+wide n h = omega arith
+
+pub wide_ascii : (n : ℕ) → n < 2 ^ 128 → IsAscii (decimal n)
+wide_ascii n h = IsAscii-decimal_wide n (wide n h)
+
+pub wide_utf8 : (n : ℕ) (bs : List ℕ) → n < 2 ^ 128 → bs ≡ decimal n → IsUtf8 bs
+wide_utf8 n bs h e = IsUtf8-from_ascii bs (subst IsAscii (sym e) (wide_ascii n h))
+
+wide_parsed : {E : Type 0} (n : ℕ) (bs : List ℕ) (r : Result ℕ E) → n < 2 ^ 128 → bs ≡ decimal n → ParsesUnsigned 128 10 bs r → r ≡ Ok n
+wide_parsed n bs r h e p = parse-decimal_wide 128 n bs r h (wide n h) e p
+
+pub wide_parses : (n : ℕ) (bs : List ℕ) → n < 2 ^ 128 → bs ≡ decimal n → ParsesUnsigned {E = ℕ} 128 10 bs (Err 0) → ⊥
+wide_parses n bs h e p = let k = wide_parsed {E = ℕ} n bs (Err 0) h e p in cc
+
+pub wide_not_written : (n m : ℕ) (word bs : List ℕ) → n < 2 ^ 128 → word ≡ decimal n → bs ≡ word → ParsesUnsigned {E = ℕ} 128 10 bs (Ok m) → bytes_eq word (decimal m) ≡ false → ⊥
+wide_not_written n m word bs h e s p k =
+    let is = wide_parsed {E = ℕ} n bs (Ok m) h (s ∙ e) p in
+    let same : m ≡ n = cc in
+    told_apart word (decimal m) k (e ∙ ap decimal (sym same))
+
+-- two numbers of one text are one number
+pub wide_once : (m n : ℕ) → m < 2 ^ 128 → n < 2 ^ 128 → decimal m ≡ decimal n → m ≡ n
+wide_once m n h k e =
+    sym (decimal_is_IsNumeral_wide m (wide m h)).1 ∙ ap (digits_value 10) e ∙ (decimal_is_IsNumeral_wide n (wide n k)).1
 
 -- ---- what stands behind a word
 

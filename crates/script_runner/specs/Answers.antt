@@ -3,7 +3,7 @@ use Rattle.std.specs.Prelude.{ℕ, List, [], ◌++◌, codes, decimal}
 use Rattle.std.specs.Fmt.{signed_decimal}
 use Rattle.grid_geometry.specs.Position.{Position}
 use Rattle.grid_geometry.specs.Segment.{Segment}
-use Rattle.ring_machine.specs.Command.{Refusal, NoFeature, NoVertex, NoSegment, Occupied, Junction, RingShort, SegmentExists, NoCollection, NotOnOuterRing, RepeatedPoint, WrongSide, TooLarge, SameFeature, NotOnePolygon, NotNeighbours, SameSide, NothingToUndo, Sweeps, Conflict, Runs, CommonElse, Answer, Done, AreaIs, Refused}
+use Rattle.ring_machine.specs.Command.{Refusal, NoFeature, NoVertex, NoSegment, Occupied, Junction, RingShort, SegmentExists, NoCollection, NotOnOuterRing, RepeatedPoint, WrongSide, TooLarge, SameFeature, NotOnePolygon, NotNeighbours, SameSide, NothingToUndo, Sweeps, Conflict, Runs, CommonElse, Answer, Done, Thinned, AreaIs, Refused}
 
 -- both numbers, a space between them
 abbrev pub position_text : Position → List ℕ
@@ -40,6 +40,7 @@ refusal_text Sweeps = codes "sweeps"
 -- the texts of the answers to the lines that there are
 abbrev pub answer_text : Answer → List ℕ
 answer_text Done = codes "ok"
+answer_text (Thinned n) = codes "ok " ++ decimal n
 answer_text (AreaIs z) = signed_decimal z
 answer_text (Refused r) = codes "refused " ++ refusal_text r
 answer_text _ = []

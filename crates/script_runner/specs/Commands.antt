@@ -1,8 +1,8 @@
 -- The lines of the code as the machine's commands.
-use Rattle.std.specs.Prelude.{◌≡◌, ℕ, pos, ◌<◌, ◌^◌, List, ◌++◌, Option, None, Some}
+use Rattle.std.specs.Prelude.{◌≡◌, ℕ, pos, ◌<◌, ◌≤◌, ◌^◌, List, ◌++◌, Option, None, Some}
 use Rattle.grid_geometry.specs.Position.{InRange}
-use Rattle.ring_machine.specs.Command.{Command, Move, Area}
-use Rattle.script_runner.specs.Lines.{spaced, spaced_position}
+use Rattle.ring_machine.specs.Command.{Command, Move, Insert, Remove, Thin, Area}
+use Rattle.script_runner.specs.Lines.{spaced, spaced_position, most_bound}
 use Rattle.script_runner.specs.declared.lines.Command.{Command as CommandLine}
 use Rattle.script_runner.specs.declared.lines.Command.TheVariants as line
 use Rattle.script_runner.specs.declared.lines.Line.{Line}
@@ -10,17 +10,34 @@ use Rattle.script_runner.specs.declared.lines.Line.TheVariants.{Skip, Edit}
 
 abbrev pub command_of : CommandLine → Command
 command_of (line.Move p q) = Move p q
+command_of (line.Insert a b q) = Insert a b q
+command_of (line.Remove p) = Remove p
+command_of (line.Thin t) = Thin t
 command_of (line.Area n) = Area n
 
 abbrev pub says_of : Line → Option Command
 says_of Skip = None
 says_of (Edit c) = Some (command_of c)
 
--- what stands behind the word of a move
+-- what stands behind the word of each command
 abbrev pub IsMoveTail : List ℕ → Command → Type 0
 IsMoveTail tail (Move p q) =
     (tail ≡ spaced_position p ++ spaced_position q) × (InRange p × InRange q)
 IsMoveTail tail _ = ⊥
+
+abbrev pub IsInsertTail : List ℕ → Command → Type 0
+IsInsertTail tail (Insert a b q) =
+    (tail ≡ spaced_position a ++ (spaced_position b ++ spaced_position q))
+    × (InRange a × InRange b × InRange q)
+IsInsertTail tail _ = ⊥
+
+abbrev pub IsRemoveTail : List ℕ → Command → Type 0
+IsRemoveTail tail (Remove p) = (tail ≡ spaced_position p) × InRange p
+IsRemoveTail tail _ = ⊥
+
+abbrev pub IsThinTail : List ℕ → Command → Type 0
+IsThinTail tail (Thin (pos t)) = (tail ≡ spaced (pos t)) × (t ≤ most_bound)
+IsThinTail tail _ = ⊥
 
 abbrev pub IsAreaTail : List ℕ → Command → Type 0
 IsAreaTail tail (Area n) = (tail ≡ spaced (pos n)) × (n < 2 ^ 32)

@@ -1,14 +1,14 @@
 -- What the reply to a command is, and what is left after it.
-use Rattle.std.specs.Prelude.{◌≡◌, ℕ, List, ◌++◌, Bool, if◌then◌else◌, Option, None, Some}
+use Rattle.std.specs.Prelude.{◌≡◌, ℕ, List, ◌++◌, Bool, true, false, if◌then◌else◌, Option, None, Some, IsSomeAnd, Result, Ok, Err, codes}
 use Rattle.ring_machine.specs.Document.{Document}
 use Rattle.ring_machine.specs.Command.{Command}
 use Rattle.ring_machine.specs.Machine.{step}
-use Rattle.script_runner.specs.Answers.{answer_text}
+use Rattle.script_runner.specs.Answers.{answer_text, refusal_text}
 use Rattle.script_runner.specs.Runs.{Meaning, Bad, meaning_of, reply_text, state_after, refused_by, refusals, opened_state}
 use Rattle.script_runner.specs.Commands.{says_of}
 use Rattle.ring_machine.specs.Command as machine
 use Rattle.plain_rings.specs.declared.fault.EditFault.{EditFault}
-use Rattle.plain_rings.specs.declared.fault.EditFault.TheVariants.{NoVertex, Occupied, Conflict, Sweeps, OutOfMemory}
+use Rattle.plain_rings.specs.declared.fault.EditFault.TheVariants.{NoVertex, NoSegment, Occupied, Junction, RingShort, SegmentExists, TooLarge, Conflict, Sweeps, OutOfMemory}
 use Rattle.script_runner.specs.declared.lines.Line.{Line}
 
 -- the command is answered: its answer's text was appended, the document is the machine's, and it refuses or not
@@ -33,7 +33,22 @@ meaning_of_said (Some l) = meaning_of (says_of l)
 -- the refusal that a fault is; want of memory is none
 abbrev pub refusal_of : EditFault → Option machine.Refusal
 refusal_of NoVertex = Some machine.NoVertex
+refusal_of NoSegment = Some machine.NoSegment
 refusal_of Occupied = Some machine.Occupied
+refusal_of Junction = Some machine.Junction
+refusal_of RingShort = Some machine.RingShort
+refusal_of SegmentExists = Some machine.SegmentExists
+refusal_of TooLarge = Some machine.TooLarge
 refusal_of (Conflict s t) = Some (machine.Conflict s t)
 refusal_of Sweeps = Some machine.Sweeps
 refusal_of OutOfMemory = None
+
+-- the refusal's text was appended
+abbrev pub TellsFault : EditFault → List ℕ → List ℕ → Type 0
+TellsFault fault old new =
+    IsSomeAnd (refusal_of fault) (λ r. new ≡ old ++ (codes "refused " ++ refusal_text r))
+
+-- the outcome of an edit was appended: ok, or its refusal
+abbrev pub Tells : Result (Unit {0}) EditFault → List ℕ → List ℕ → Bool → Type 0
+Tells (Ok done) old new refuses = (new ≡ old ++ codes "ok") × (refuses ≡ false)
+Tells (Err fault) old new refuses = TellsFault fault old new × (refuses ≡ true)

@@ -5,6 +5,14 @@ use grid_geometry::Pos;
 pub enum Command {
     /// `move x y x y`: the second position takes the place of the first in every ring.
     Move(Pos, Pos),
+    /// `insert x y x y x y`: the third position goes between the other two, in every ring in which
+    /// they are neighbours.
+    Insert(Pos, Pos, Pos),
+    /// `remove x y`: the vertex is left out of every ring.
+    Remove(Pos),
+    /// `thin t`: one pass over the vertices leaves out those that are flat, where twice the area of
+    /// the triangle with their neighbours is at most t.
+    Thin(i128),
     /// `area f`: twice the area of a feature.
     Area(u32),
 }

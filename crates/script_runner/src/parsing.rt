@@ -1,11 +1,16 @@
 ghost use Rattle.std.specs.Prelude.{◌≡◌, ◌++◌, List, ℕ, codes, MatchOption, MatchResult, pos, ◌<◌, ◌^◌, IsUtf8, IsTrue, ◌↔◌, Option, Some, None};
 ghost use Rattle.ring_machine.specs.Command.{Command as Asked};
 ghost use Rattle.script_runner.specs.Lines.{Says, Asks, is_comment};
-ghost use Rattle.script_runner.specs.Commands.{command_of, says_of, IsMoveTail, IsAreaTail};
+ghost use Rattle.script_runner.specs.Commands.{command_of, says_of, IsMoveTail, IsInsertTail};
+ghost use Rattle.script_runner.specs.Commands.{IsRemoveTail, IsThinTail, IsAreaTail};
 
 use crate::lines::{Command, Line, LineFault};
-use crate::words::{behind, spaced_number, spaced_position};
+use crate::words::{behind, spaced_number, spaced_position, split_word, wide_number};
 use std::str;
+
+/// The most that the bound of a thinning may be: twice the area of the whole grid, which no
+/// triangle is over.
+const MAX_BOUND: u128 = 8_000_000_000_000_000_000_000_000;
 
 /// The move that stands behind the word `move`.
 fn move_behind(tail: &[u8]) -> Option<Command>
@@ -21,6 +26,63 @@ fn move_behind(tail: &[u8]) -> Option<Command>
     };
     if to.1.is_empty() {
         Some(Command::Move(from.0, to.0))
+    } else {
+        None
+    }
+}
+
+/// The new vertex that stands behind the word `insert`.
+fn insert_behind(tail: &[u8]) -> Option<Command>
+    ensures { MatchOption result
+        ((c : Asked) → ¬ IsInsertTail tail.now c)
+        (λ c. IsInsertTail tail.now (command_of c)) }
+{
+    let Some(a) = spaced_position(tail) else {
+        return None;
+    };
+    let Some(b) = spaced_position(a.1) else {
+        return None;
+    };
+    let Some(new) = spaced_position(b.1) else {
+        return None;
+    };
+    if new.1.is_empty() {
+        Some(Command::Insert(a.0, b.0, new.0))
+    } else {
+        None
+    }
+}
+
+/// The removal that stands behind the word `remove`.
+fn remove_behind(tail: &[u8]) -> Option<Command>
+    ensures { MatchOption result
+        ((c : Asked) → ¬ IsRemoveTail tail.now c)
+        (λ c. IsRemoveTail tail.now (command_of c)) }
+{
+    let Some(vertex) = spaced_position(tail) else {
+        return None;
+    };
+    if vertex.1.is_empty() {
+        Some(Command::Remove(vertex.0))
+    } else {
+        None
+    }
+}
+
+/// The thinning that stands behind the word `thin`.
+fn thin_behind(tail: &[u8]) -> Option<Command>
+    ensures { MatchOption result
+        ((c : Asked) → ¬ IsThinTail tail.now c)
+        (λ c. IsThinTail tail.now (command_of c)) }
+{
+    let Some(word) = behind(b" ", tail) else {
+        return None;
+    };
+    let Some(bound) = wide_number(word) else {
+        return None;
+    };
+    if bound <= MAX_BOUND {
+        Some(Command::Thin(bound as i128))
     } else {
         None
     }
@@ -50,12 +112,19 @@ fn command(line: &[u8]) -> Option<Command>
         ((c : Asked) → ¬ Asks line.now c)
         (λ c. Asks line.now (command_of c)) }
 {
-    if let Some(tail) = behind(b"move", line) {
-        return move_behind(tail);
-    }
-    match behind(b"area", line) {
-        Some(tail) => area_behind(tail),
-        None => None,
+    let (word, tail) = split_word(line);
+    if word == b"move".as_slice() {
+        move_behind(tail)
+    } else if word == b"insert".as_slice() {
+        insert_behind(tail)
+    } else if word == b"remove".as_slice() {
+        remove_behind(tail)
+    } else if word == b"thin".as_slice() {
+        thin_behind(tail)
+    } else if word == b"area".as_slice() {
+        area_behind(tail)
+    } else {
+        None
     }
 }
 

@@ -1,8 +1,8 @@
 // The answers to lines, and their texts.
 ghost use Rattle.std.specs.Prelude.{◌≡◌, ◌++◌, [], ℕ, List, OnOk, IfOk, IsSomeAnd, codes};
-ghost use Rattle.ring_machine.specs.Command.{Move, Area};
-ghost use Rattle.script_runner.specs.Answers.{position_text, segment_text, refusal_text};
-ghost use Rattle.script_runner.specs.Replies.{Replied, RepliedLine, meaning_of_said, refusal_of};
+ghost use Rattle.ring_machine.specs.Command.{Thin, Area};
+ghost use Rattle.script_runner.specs.Answers.{position_text, segment_text};
+ghost use Rattle.script_runner.specs.Replies.{Replied, RepliedLine, Tells, TellsFault, meaning_of_said};
 ghost use Rattle.script_runner.specs.Commands.{command_of};
 
 use crate::lines::{Command, Line};
@@ -66,13 +66,17 @@ fn push_refusal<A: Allocator + Copy>(
     text: &mut Vec<u8, A>,
     fault: EditFault,
 ) -> Result<(), OutOfMemory>
-    ensures { OnOk result (IsSomeAnd (refusal_of fault)
-        (λ r. text.new.items ≡ text.old.items ++ (codes "refused " ++ refusal_text r))) }
+    ensures { OnOk result (TellsFault fault text.old.items text.new.items) }
 {
     text.extend_from_slice(b"refused ")?;
     match fault {
         EditFault::NoVertex => text.extend_from_slice(b"no vertex")?,
+        EditFault::NoSegment => text.extend_from_slice(b"no segment")?,
         EditFault::Occupied => text.extend_from_slice(b"occupied")?,
+        EditFault::Junction => text.extend_from_slice(b"junction")?,
+        EditFault::RingShort => text.extend_from_slice(b"ring short")?,
+        EditFault::SegmentExists => text.extend_from_slice(b"segment exists")?,
+        EditFault::TooLarge => text.extend_from_slice(b"too large")?,
         EditFault::Sweeps => text.extend_from_slice(b"sweeps")?,
         EditFault::Conflict { s, t } => push_conflict(text, s, t)?,
         EditFault::OutOfMemory => return Err(OutOfMemory),
@@ -80,17 +84,14 @@ fn push_refusal<A: Allocator + Copy>(
     Ok(())
 }
 
-/// Makes a move and appends its answer. Answers whether it was refused.
-fn reply_to_move<A: Allocator + Copy>(
-    map: &mut PlainMap<'_, A>,
-    from: Pos,
-    to: Pos,
+/// Appends the answer to an edit of a vertex. Answers whether it was refused.
+fn push_outcome<A: Allocator + Copy>(
     text: &mut Vec<u8, A>,
+    outcome: Result<(), EditFault>,
 ) -> Result<bool, OutOfMemory>
-    ensures { IfOk result (λ refuses.
-        Replied map.old map.new (Move from to) text.old.items text.new.items refuses) }
+    ensures { IfOk result (λ refuses. Tells outcome text.old.items text.new.items refuses) }
 {
-    match map.move_vertex(from, to) {
+    match outcome {
         Ok(()) => {
             text.extend_from_slice(b"ok")?;
             Ok(false)
@@ -100,6 +101,21 @@ fn reply_to_move<A: Allocator + Copy>(
             Ok(true)
         }
     }
+}
+
+/// Leaves flat vertices out and appends how many they were. Answers that it was not refused.
+fn reply_to_thin<A: Allocator + Copy>(
+    map: &mut PlainMap<'_, A>,
+    bound: i128,
+    text: &mut Vec<u8, A>,
+) -> Result<bool, OutOfMemory>
+    ensures { IfOk result (λ refuses.
+        Replied map.old map.new (Thin bound) text.old.items text.new.items refuses) }
+{
+    let removed = map.thin(bound)?;
+    text.extend_from_slice(b"ok ")?;
+    push_number(text, removed)?;
+    Ok(false)
 }
 
 /// Appends twice the area of a feature. Answers whether it was refused.
@@ -133,7 +149,10 @@ fn reply_to<A: Allocator + Copy>(
         Replied map.old map.new (command_of command) text.old.items text.new.items refuses) }
 {
     match command {
-        Command::Move(from, to) => reply_to_move(map, from, to, text),
+        Command::Move(from, to) => push_outcome(text, map.move_vertex(from, to)),
+        Command::Insert(a, b, new) => push_outcome(text, map.insert_vertex(a, b, new)),
+        Command::Remove(vertex) => push_outcome(text, map.remove_vertex(vertex)),
+        Command::Thin(bound) => reply_to_thin(map, bound, text),
         Command::Area(feature) => reply_to_area(map, feature, text),
     }
 }

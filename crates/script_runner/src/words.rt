@@ -1,13 +1,13 @@
 // Numbers and positions at the front of a line.
-ghost use Rattle.std.specs.Prelude.{◌≡◌, ◌≢◌, ◌≤◌, ◌++◌, ℤ, List, ℕ, length, take_while, drop, MatchOption, FitsSigned};
+ghost use Rattle.std.specs.Prelude.{◌≡◌, ◌≢◌, ◌≤◌, ◌++◌, ◌<◌, ◌^◌, ℤ, List, ℕ, length, take_while, drop, MatchOption, FitsSigned};
 ghost use Rattle.std.specs.Int.{w64};
-ghost use Rattle.std.specs.Fmt.{signed_decimal};
+ghost use Rattle.std.specs.Fmt.{decimal, signed_decimal};
 ghost use Rattle.std.specs.Str.{bytes_eq};
 ghost use Rattle.grid_geometry.specs.Position.{Position};
 ghost use Rattle.script_runner.specs.Words.{is_letter, IsSpaced, IsPlace};
 
 use grid_geometry::Pos;
-use itoa::Buffer;
+use itoa::{Buffer, Integer};
 use std::str;
 
 fn word_len(bytes: &[u8]) -> usize
@@ -18,7 +18,7 @@ fn word_len(bytes: &[u8]) -> usize
 }
 
 /// The word before the first space, and what stands from that space on.
-fn split_word(bytes: &[u8]) -> (&[u8], &[u8])
+pub(crate) fn split_word(bytes: &[u8]) -> (&[u8], &[u8])
     ensures word { result.0.now ≡ take_while is_letter bytes.now }
     ensures rest { result.1.now ≡ drop (length (take_while is_letter bytes.now)) bytes.now }
 {
@@ -27,8 +27,8 @@ fn split_word(bytes: &[u8]) -> (&[u8], &[u8])
 }
 
 /// Whether the word is the number with no plus and no needless 0.
-fn is_written(word: &[u8], number: i64) -> bool
-    ensures { result ≡ bytes_eq word.now (signed_decimal number) }
+fn is_written<I: Integer>(word: &[u8], number: I) -> bool
+    ensures { result ≡ bytes_eq word.now (I.text number) }
 {
     let mut buffer = Buffer::new();
     word == buffer.format(number).as_bytes()
@@ -44,6 +44,25 @@ fn number(word: &[u8]) -> Option<i64>
         return None;
     };
     let Ok(number) = text.parse::<i64>() else {
+        return None;
+    };
+    if is_written(word, number) {
+        Some(number)
+    } else {
+        None
+    }
+}
+
+/// The number of at most 128 bits, with no minus, that a word is.
+pub(crate) fn wide_number(word: &[u8]) -> Option<u128>
+    ensures { MatchOption result
+        ((n : ℕ) → n < 2 ^ 128 → word.now ≢ decimal n)
+        (λ n. (word.now ≡ decimal n) × (n < 2 ^ 128)) }
+{
+    let Ok(text) = str::from_utf8(word) else {
+        return None;
+    };
+    let Ok(number) = text.parse::<u128>() else {
         return None;
     };
     if is_written(word, number) {

@@ -67,6 +67,25 @@ fn a_map_of_too_many_positions(rt: HostRuntime) -> Result<(), Fail> {
     Ok(())
 }
 
+/// 800,000 rings of four positions, a position more in each, and then one too many in each.
+#[test]
+fn an_edit_of_too_many_positions(rt: HostRuntime) -> Result<(), Fail> {
+    let front =
+        b"{\"type\":\"Topology\",\"objects\":{\"a\":{\"type\":\"GeometryCollection\",\"geometries\":[{\"type\":\"MultiPolygon\",\"arcs\":[[[0]]";
+    let end = b"]}]}},\"arcs\":[[[0,0],[10,0],[10,10],[0,10],[0,0]]]}";
+    let map = long_text(&rt, front, b",[[0]]", 799_999, end)?;
+    assert_eq!(rt;
+        told(
+            &rt,
+            map.as_slice(),
+            b"insert 0 0 10 0 5 0\ninsert 5 0 10 0 7 0\narea 0"
+        )?
+        .as_str(),
+        "ok\nrefused too large\n160000000\nanswered 3, refused 1"
+    );
+    Ok(())
+}
+
 /// One feature more than a map may have.
 #[test]
 fn a_map_of_too_many_features(rt: HostRuntime) -> Result<(), Fail> {

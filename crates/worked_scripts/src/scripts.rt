@@ -53,6 +53,148 @@ fn moves(rt: HostRuntime) -> Result<(), Fail> {
     Ok(())
 }
 
+/// Vertices that are put between two neighbours.
+#[test]
+fn insertions(rt: HostRuntime) -> Result<(), Fail> {
+    let rows = [
+        // on a common side, and two positions that are no neighbours
+        (
+            TWO_SQUARES,
+            "insert 10 0 10 10 8 5\narea 0\narea 1",
+            "ok\n180\n220\nanswered 3, refused 0",
+        ),
+        (
+            TWO_SQUARES,
+            "insert 0 0 10 10 5 5",
+            "refused no segment\nanswered 1, refused 1",
+        ),
+        // on the line of its neighbours, and then a vertex that would come to lie on a side
+        (
+            TWO_SQUARES,
+            "insert 10 0 20 0 15 0\nmove 20 0 12 0",
+            "ok\nrefused conflict 10 0 15 0 / 12 0 15 0\nanswered 2, refused 1",
+        ),
+        // a position that is taken, one that stands nowhere, and neighbours that are one position
+        (
+            TWO_SQUARES,
+            "insert 10 0 10 10 0 0\ninsert 10 0 10 10 10 10\ninsert 0 0 0 0 5 5\ninsert 1 1 2 2 3 3",
+            "refused occupied\nrefused occupied\nrefused no segment\nrefused no segment\nanswered 4, refused 4",
+        ),
+        // the least pair in conflict
+        (
+            TWO_SQUARES,
+            "insert 0 0 0 10 15 5\narea 0",
+            "refused conflict 0 0 15 5 / 10 0 10 10\n200\nanswered 2, refused 1",
+        ),
+        // a triangle that would come to lie outside
+        (
+            TRIANGLE_INSIDE,
+            "insert 0 0 0 30 12 9\narea 0",
+            "refused sweeps\n1800\nanswered 2, refused 1",
+        ),
+    ];
+    for row in &rows[..] {
+        assert_eq!(rt;
+            told(&rt, row.0.as_bytes(), row.1.as_bytes())?.as_str(),
+            row.2
+        );
+    }
+    Ok(())
+}
+
+/// Vertices that are left out, and those that have to stay.
+#[test]
+fn removals(rt: HostRuntime) -> Result<(), Fail> {
+    let rows = [
+        // where borders meet; then a corner; then one of the last three
+        (
+            TWO_SQUARES,
+            "remove 10 10\nremove 0 0\narea 0\nremove 0 10",
+            "refused junction\nok\n100\nrefused ring short\nanswered 4, refused 2",
+        ),
+        (
+            TWO_SQUARES,
+            "remove 1 1",
+            "refused no vertex\nanswered 1, refused 1",
+        ),
+        // the neighbours are neighbours in another ring
+        (
+            DENTED,
+            "remove 5 -2",
+            "refused segment exists\nanswered 1, refused 1",
+        ),
+        // a triangle that would come to lie outside, however the corner goes
+        (
+            TRIANGLE_INSIDE,
+            "remove 0 0\ninsert 0 0 0 30 12 9\nmove 0 0 9 20\nmove 0 0 1 1",
+            "refused sweeps\nrefused sweeps\nrefused sweeps\nok\nanswered 4, refused 3",
+        ),
+        // the triangle that is left may not turn over
+        (
+            TWO_SQUARES,
+            "remove 0 0\nmove 0 10 15 5",
+            "ok\nrefused sweeps\nanswered 2, refused 1",
+        ),
+        // one that was inserted goes again
+        (
+            TWO_SQUARES,
+            "insert 10 0 10 10 8 5\nremove 8 5\narea 0\narea 1\nremove 8 5",
+            "ok\nok\n200\n200\nrefused no vertex\nanswered 5, refused 1",
+        ),
+    ];
+    for row in &rows[..] {
+        assert_eq!(rt;
+            told(&rt, row.0.as_bytes(), row.1.as_bytes())?.as_str(),
+            row.2
+        );
+    }
+    Ok(())
+}
+
+/// Flat vertices that are left out in one pass.
+#[test]
+fn thinnings(rt: HostRuntime) -> Result<(), Fail> {
+    let rows = [
+        // a vertex on the line of its neighbours, and none
+        (
+            TWO_SQUARES,
+            "insert 0 0 10 0 5 0\nthin 0\nthin 0",
+            "ok\nok 1\nok 0\nanswered 3, refused 0",
+        ),
+        // one corner of each square: without another too few would be left
+        (
+            TWO_SQUARES,
+            "thin 100\narea 0\narea 1",
+            "ok 2\n100\n100\nanswered 3, refused 0",
+        ),
+        // each is tested as the map is then
+        (
+            TWO_SQUARES,
+            "insert 0 0 10 0 2 0\ninsert 2 0 10 0 5 1\nthin 8",
+            "ok\nok\nok 1\nanswered 3, refused 0",
+        ),
+        // a vertex whose removal is refused stays
+        (
+            TRIANGLE_INSIDE,
+            "thin 900\narea 0",
+            "ok 1\n900\nanswered 2, refused 0",
+        ),
+        // the greatest bound
+        (
+            TWO_SQUARES,
+            "thin 8000000000000000000000001\nthin 8000000000000000000000000",
+            "bad line\nok 2\nanswered 2, refused 1",
+        ),
+    ];
+    for row in &rows[..] {
+        assert_eq!(rt;
+            told(&rt, row.0.as_bytes(), row.1.as_bytes())?.as_str(),
+            row.2
+        );
+    }
+    Ok(())
+}
+
 /// The greatest coordinates and areas.
 #[test]
 fn moves_to_the_edge_of_the_grid(rt: HostRuntime) -> Result<(), Fail> {
@@ -106,6 +248,62 @@ fn lines_that_ask_for_nothing(rt: HostRuntime) -> Result<(), Fail> {
         assert_eq!(rt;
             told(&rt, row.0.as_bytes(), row.1.as_bytes())?.as_str(),
             row.2
+        );
+    }
+    Ok(())
+}
+
+/// Each line that there is, with a mistake in it.
+#[test]
+fn lines_with_a_mistake(rt: HostRuntime) -> Result<(), Fail> {
+    let rows = [
+        "move 0 0 1",
+        "move 0 0 1 1 1",
+        "move 0 0 1 1 ",
+        "move 0 0 +1 1",
+        "move 0 0 1000000000001 1",
+        "move",
+        "insert 0 0 10 0 5",
+        "insert 0 0 10 0 5 0 0",
+        "insert 0 0 10 0 5 0 ",
+        "insert 0 0 10 0 +5 0",
+        "insert  0 0 10 0 5 0",
+        "insert 0 0 10 0 05 0",
+        "insert 0 0 10 0 5 -1000000000001",
+        "insert",
+        "inserts 0 0 10 0 5 0",
+        "remove 0",
+        "remove 0 0 0",
+        "remove 0 0 ",
+        "remove +0 0",
+        "remove -0 0",
+        "remove 0  0",
+        "remove",
+        "Remove 0 0",
+        "thin",
+        "thin ",
+        "thin 1 1",
+        "thin 1 ",
+        "thin +1",
+        "thin 1.5",
+        "thin  1",
+        "thin 01",
+        "thin -0",
+        "thin -1",
+        "thin1",
+        "thin 340282366920938463463374607431768211456",
+        "area",
+        "area 0 0",
+        "area 0 ",
+        "area +0",
+        "area -1",
+        "undo",
+    ];
+    for row in &rows[..] {
+        assert_eq!(rt;
+            told(&rt, TWO_SQUARES.as_bytes(), row.as_bytes())?.as_str(),
+            "bad line\nanswered 1, refused 1",
+            "{row}"
         );
     }
     Ok(())

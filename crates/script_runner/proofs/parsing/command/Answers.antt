@@ -1,8 +1,28 @@
-use Rattle.script_runner.proofs.CommandLemmas.{behind_move, behind_area}
+use Rattle.std.proofs.Common.{◌≡◌, codes, rules}
+use Rattle.script_runner.proofs.CommandLemmas.{arm_move, arm_insert, arm_remove, arm_thin, arm_area}
 use Rattle.script_runner.proofs.parsing.command.Goals as goal
 
-pub returns-in-Some : goal.returns-in-Some
-returns-in-Some c = behind_move c.args.line.now c.in-Some.tail.now c.move_behind.result c.in-Some.ensures c.move_behind.ensures
+pub returns-then-eq : goal.returns-then-eq
+returns-then-eq c =
+    let is : c.split_word.result.0.now ≡ codes "move" = search rules in
+    arm_move c.args.line.now c.split_word.result.0.now c.split_word.result.1.now c.split_word.ensures.word c.split_word.ensures.rest c.move_behind.result is c.move_behind.ensures
 
-pub returns-in-Some-behind : goal.returns-in-Some-behind
-returns-in-Some-behind c = behind_area c.args.line.now c.in-Some-behind.tail.now c.area_behind.result c.in-Some-behind.ensures c.area_behind.ensures
+pub returns-then-eq-2 : goal.returns-then-eq-2
+returns-then-eq-2 c =
+    let is : c.split_word.result.0.now ≡ codes "insert" = search rules in
+    arm_insert c.args.line.now c.split_word.result.0.now c.split_word.result.1.now c.split_word.ensures.word c.split_word.ensures.rest c.insert_behind.result is c.insert_behind.ensures
+
+pub returns-then-eq-3 : goal.returns-then-eq-3
+returns-then-eq-3 c =
+    let is : c.split_word.result.0.now ≡ codes "remove" = search rules in
+    arm_remove c.args.line.now c.split_word.result.0.now c.split_word.result.1.now c.split_word.ensures.word c.split_word.ensures.rest c.remove_behind.result is c.remove_behind.ensures
+
+pub returns-then-eq-4 : goal.returns-then-eq-4
+returns-then-eq-4 c =
+    let is : c.split_word.result.0.now ≡ codes "thin" = search rules in
+    arm_thin c.args.line.now c.split_word.result.0.now c.split_word.result.1.now c.split_word.ensures.word c.split_word.ensures.rest c.thin_behind.result is c.thin_behind.ensures
+
+pub returns-then-eq-5 : goal.returns-then-eq-5
+returns-then-eq-5 c =
+    let is : c.split_word.result.0.now ≡ codes "area" = search rules in
+    arm_area c.args.line.now c.split_word.result.0.now c.split_word.result.1.now c.split_word.ensures.word c.split_word.ensures.rest c.area_behind.result is c.area_behind.ensures
