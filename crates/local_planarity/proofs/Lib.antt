@@ -1,0 +1,5 @@
+pub mod Lists
+pub mod Least
+pub mod Nearby
+pub mod Spans
+pub mod Sweeping
