@@ -3,3 +3,5 @@ pub mod Least
 pub mod Nearby
 pub mod Spans
 pub mod Sweeping
+pub mod Filling
+pub mod Examples

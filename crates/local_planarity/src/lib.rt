@@ -9,6 +9,8 @@ mod near;
 mod pairs;
 mod span;
 mod sweeps;
+#[cfg(test)]
+mod tests;
 
 pub use conflicts::{first_conflict, first_with};
 pub use count::TestCount;
