@@ -1,5 +1,5 @@
 -- The box of three positions meets the box of a segment with an end in it.
-use Rattle.std.proofs.Common.{◌≡◌, ℤ, ◌≤◌, ◌≤ℤ◌, Bool, true, ◌&&◌, ◌||◌, int_le, refl, ap, ◌∙◌, sym, arith, inl, inr}
+use Rattle.std.proofs.Common.{◌≡◌, ℤ, ◌≤ℤ◌, true, ◌&&◌, int_le, ap, ◌∙◌, sym, arith, inl, inr}
 use Rattle.std.specs.Int.{int_min, int_max}
 use Rattle.std.proofs.lemmas.Int.{ints, clamps}
 use Rattle.grid_geometry.specs.Position.{Position, InRange, position_eq}

@@ -1,5 +1,5 @@
 -- What the candidates say of all held segments.
-use Rattle.std.proofs.Common.{◌≡◌, ℕ, Bool, true, not, refl, sym, ap, ◌∙◌, subst, List, [], ◌++◌, ◌&&◌, ◌||◌, inl, inr}
+use Rattle.std.proofs.Common.{◌≡◌, ℕ, Bool, true, not, refl, sym, ap, ◌∙◌, List, [], ◌++◌, ◌&&◌, ◌||◌, inl, inr}
 use Rattle.std.specs.FinSet as set
 use Rattle.std.specs.List.{list_any}
 use Rattle.grid_geometry.specs.Position.{Position, position_eq}
@@ -12,7 +12,7 @@ use Rattle.ring_machine.specs.Ring as machine
 use Rattle.ring_machine.proofs.Order.{and_both, or_true, or_right, position_eq-true, position_eq-refl}
 use Rattle.segment_index.specs.Candidates.{SegmentSet, Gives, has}
 use Rattle.local_planarity.specs.declared.leaving.Leaving.TheVariants.{EndingAt}
-use Rattle.local_planarity.specs.Edits.{leaves, stays, IsHeld, IsEnds}
+use Rattle.local_planarity.specs.Edits.{IsHeld, IsEnds}
 use Rattle.local_planarity.specs.Near.{IsNear}
 use Rattle.local_planarity.specs.Spans.{box_of_three}
 use Rattle.local_planarity.proofs.Lists.{same_bool, in-has, has-in, in-has_position, has_position-in, any_in, in_any}

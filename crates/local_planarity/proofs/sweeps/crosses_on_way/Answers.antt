@@ -1,4 +1,4 @@
-use Rattle.std.proofs.Common.{ap, ◌∙◌, ◌≡◌, ◌≤◌, ◌+◌, ℕ, length, arith, subst, sym}
+use Rattle.std.proofs.Common.{ap, ◌∙◌, ◌≡◌, length, arith, subst}
 use Rattle.std.specs.List.{list_any}
 use Rattle.grid_geometry.specs.Segment.{segment}
 use Rattle.grid_geometry.specs.Conflict.{conflict}

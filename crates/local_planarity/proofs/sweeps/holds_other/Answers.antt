@@ -1,4 +1,4 @@
-use Rattle.std.proofs.Common.{subst, true, ap, ◌∙◌}
+use Rattle.std.proofs.Common.{subst, true}
 use Rattle.segment_index.specs.Candidates.{Gives}
 use Rattle.local_planarity.proofs.Sweeping.{holds_is}
 use Rattle.local_planarity.proofs.sweeps.holds_other.Goals as goal
