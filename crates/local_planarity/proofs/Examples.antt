@@ -1,0 +1,64 @@
+-- Worked examples of the definitions.
+use Rattle.std.proofs.Common.{◌≡◌, pos, true, false, refl, [], ◌∷◌, None, Some}
+use Rattle.grid_geometry.specs.Position.{position}
+use Rattle.grid_geometry.specs.Segment.{Segment, segment}
+use Rattle.local_planarity.specs.declared.leaving.Leaving.TheVariants.{Nothing, EndingAt, One}
+use Rattle.local_planarity.specs.Edits.{leaves}
+use Rattle.local_planarity.specs.Pairs.{ordered, lesser}
+use Rattle.local_planarity.specs.Spans.{box_of_three}
+use Rattle.local_planarity.specs.Tests.{pairs, most_tests}
+
+-- 0 0 to 10 0, and 10 0 to 10 10
+abbrev lower : Segment
+lower = segment (position (pos 0) (pos 0)) (position (pos 10) (pos 0))
+
+abbrev right : Segment
+right = segment (position (pos 10) (pos 0)) (position (pos 10) (pos 10))
+
+nothing_leaves : leaves Nothing lower ≡ false
+nothing_leaves = refl
+
+-- one that begins at the position goes, and so does one that ends there
+at_its_greater_end : leaves (EndingAt (position (pos 10) (pos 0))) lower ≡ true
+at_its_greater_end = refl
+
+at_its_lesser_end : leaves (EndingAt (position (pos 10) (pos 0))) right ≡ true
+at_its_lesser_end = refl
+
+elsewhere : leaves (EndingAt (position (pos 5) (pos 0))) lower ≡ false
+elsewhere = refl
+
+that_one : leaves (One lower) lower ≡ true
+that_one = refl
+
+not_another : leaves (One lower) right ≡ false
+not_another = refl
+
+lesser_first : ordered right lower ≡ (lower, right)
+lesser_first = refl
+
+in_order : ordered lower right ≡ (lower, right)
+in_order = refl
+
+any_is_least : lesser None (lower, right) ≡ (lower, right)
+any_is_least = refl
+
+least_of_two : lesser (Some (lower, right)) (lower, lower) ≡ (lower, lower)
+least_of_two = refl
+
+keeps_the_least : lesser (Some (lower, lower)) (lower, right) ≡ (lower, lower)
+keeps_the_least = refl
+
+box : box_of_three (position (pos 3) (pos 9)) (position (pos 7) (pos 2)) (position (pos 5) (pos 4)) ≡ record { x0 = pos 3; y0 = pos 2; x1 = pos 7; y1 = pos 9 }
+box = refl
+
+-- three added segments make three pairs, and one makes none
+three : pairs 3 ≡ 3
+three = refl
+
+one : pairs 1 ≡ 0
+one = refl
+
+-- two added ones, each with two candidates given twice at most: eight, and one against each other
+eight_and_one : most_tests (λ t rect. 2) (lower ∷ right ∷ []) (lower ∷ right ∷ []) ≡ 9
+eight_and_one = refl

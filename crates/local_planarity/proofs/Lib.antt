@@ -1,0 +1,7 @@
+pub mod Lists
+pub mod Least
+pub mod Nearby
+pub mod Spans
+pub mod Sweeping
+pub mod Filling
+pub mod Examples

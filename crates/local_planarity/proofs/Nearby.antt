@@ -1,0 +1,136 @@
+-- What an index gives near a segment, and how much that is at most.
+use Rattle.std.proofs.Common.{◌≡◌, ◌≤◌, ◌<◌, ◌+◌, ◌-◌, inl, inr, ℕ, zero, suc, Bool, true, false, not, refl, sym, ap, ◌∙◌, cond}
+use Rattle.std.proofs.Common.{List, [], ◌∷◌, ◌++◌, length, take, get_or, ◌&&◌, ◌||◌, arith}
+use Rattle.std.specs.FinSet as set
+use Rattle.std.specs.List.{filter, sum_by}
+use Rattle.std.proofs.lemmas.Bool.{false≢true}
+use Rattle.std.proofs.lemmas.List.Sums.{sum_by-cons, sum_by_more, sum_by-take-le}
+use Rattle.grid_geometry.specs.Segment.{Segment, Box, box_of}
+use Rattle.ring_machine.proofs.Order.{and_both, or_true}
+use Rattle.segment_index.specs.Candidates.{SegmentSet, Gives, has, times_in, segment_is}
+use Rattle.segment_index.proofs.Singles.{same_segment, is-itself, times-filter}
+use Rattle.local_planarity.specs.declared.leaving.Leaving.{Leaving}
+use Rattle.local_planarity.specs.declared.leaving.Leaving.TheVariants.{Nothing}
+use Rattle.local_planarity.specs.Edits.{leaves, stays, IsAfter, IsHeld}
+use Rattle.local_planarity.specs.Near.{IsNear}
+use Rattle.local_planarity.specs.Tests.{most_given, most_tests, pairs}
+
+-- ---- near a segment
+
+pub has-filter : (q : Segment → Bool) (xs : List Segment) (t : Segment) → has (filter q xs) t ≡ (has xs t && q t)
+has-filter q [] t = refl
+has-filter q (x ∷ xs) t = by (q x) (segment_is t x) refl refl (has-filter q xs t)
+  where
+    never : (b : Bool) → (b && false) ≡ false
+    never true = refl
+    never false = refl
+
+    by : (b i : Bool) → q x ≡ b → segment_is t x ≡ i → has (filter q xs) t ≡ (has xs t && q t) → has (cond b (x ∷ filter q xs) (filter q xs)) t ≡ ((segment_is t x || has xs t) && q t)
+    by true true e f h = ap (λ j. j || has (filter q xs) t) f ∙ sym (ap (λ j. (j || has xs t) && q t) f ∙ ap q (same_segment t x f) ∙ e)
+    by true false e f h = ap (λ j. j || has (filter q xs) t) f ∙ h ∙ sym (ap (λ j. (j || has xs t) && q t) f)
+    by false true e f h =
+        let out : q t ≡ false = ap q (same_segment t x f) ∙ e in
+        h ∙ ap (λ j. has xs t && j) out ∙ never (has xs t) ∙ sym (ap (λ j. (j || has xs t) && q t) f ∙ out)
+    by false false e f h = h ∙ sym (ap (λ j. (j || has xs t) && q t) f)
+
+-- the candidates for the box of s, without those that leave
+pub near_is : (held : SegmentSet) (times : Segment → Box → ℕ) (leaving : Leaving) (s : Segment) (old new near : List Segment) → old ≡ [] → Gives held times (box_of s) old new true
+    → near ≡ filter (λ t. not (leaves leaving t)) new → IsNear held times leaving s near
+near_is held times leaving s old new near empty g kept = record {
+  among = λ t h.
+      let both = and_both (has g.found t) (not (leaves leaving t)) (sym (near_has t) ∙ h) in
+      (λ i. g.among t both.0 i && both.1 i);
+  few = λ t. omega (arith, ap (λ z. times_in z t) near_found, times-filter (λ u. not (leaves leaving u)) g.found t, g.few t);
+  covers = λ t h m.
+      let both = and_both (set.contains held t) (not (leaves leaving t)) h in
+      near_has t ∙ (λ i. g.covers refl t both.0 m i && both.1 i);
+}
+  where
+    near_found : near ≡ filter (λ t. not (leaves leaving t)) g.found
+    near_found = kept ∙ ap (filter (λ t. not (leaves leaving t))) (g.appended ∙ ap (λ z. z ++ g.found) empty)
+
+    near_has : (t : Segment) → has near t ≡ (has g.found t && not (leaves leaving t))
+    near_has t = ap (λ z. has z t) near_found ∙ has-filter (λ u. not (leaves leaving u)) g.found t
+
+-- ---- how many
+
+-- those that are one segment, and the others
+parts : (s : Segment) (xs : List Segment) → length xs ≡ times_in xs s + length (filter (λ x. not (segment_is s x)) xs)
+parts s [] = refl
+parts s (x ∷ xs) = by (segment_is s x) (parts s xs)
+  where
+    by : (b : Bool) → length xs ≡ times_in xs s + length (filter (λ x. not (segment_is s x)) xs)
+        → length (x ∷ xs) ≡ (cond b 1 0 + times_in xs s) + length (cond (not b) (x ∷ filter (λ x. not (segment_is s x)) xs) (filter (λ x. not (segment_is s x)) xs))
+    by true h = omega (arith, h)
+    by false h = omega (arith, h)
+
+-- a list of segments that are all in another, each at most so often
+length_at_most : (f : Segment → ℕ) (ss xs : List Segment) → ((t : Segment) → times_in xs t ≤ f t) → ((t : Segment) → has xs t ≡ true → has ss t ≡ true) → length xs ≤ sum_by f ss
+length_at_most f [] [] few into = omega arith
+length_at_most f [] (x ∷ xs) few into = absurd (false≢true (into x (ap (λ b. b || has xs x) (is-itself x))))
+length_at_most f (s ∷ ss) xs few into =
+    let rest = length_at_most f ss (filter (λ x. not (segment_is s x)) xs)
+    (λ t. omega (arith, few t, times-filter (λ x. not (segment_is s x)) xs t))
+    (λ t h.
+    let both = and_both (has xs t) (not (segment_is s t)) (sym (has-filter (λ x. not (segment_is s x)) xs t) ∙ h) in
+    elim (or_true (segment_is t s) (has ss t) (into t both.0)) [
+      | inl e ↦ absurd (false≢true (sym (ap not (ap (segment_is s) (same_segment t s e) ∙ is-itself s)) ∙ both.1))
+      | inr k ↦ k
+    ]) in
+    omega (arith, parts s xs, few s, rest, sum_by-cons f s ss)
+
+pub near_few : (held : SegmentSet) (times : Segment → Box → ℕ) (leaving : Leaving) (s : Segment) (near ss : List Segment) → IsNear held times leaving s near
+    → ((t : Segment) → stays held leaving t ≡ true → has ss t ≡ true) → length near ≤ most_given times ss s
+near_few held times leaving s near ss n into = length_at_most (λ t. times t (box_of s)) ss near n.few (λ t h. into t (n.among t h))
+
+-- all that stays is there after the edit
+pub after_has : (held : SegmentSet) (leaving : Leaving) (added ss : List Segment) → IsAfter held leaving added ss → (t : Segment) → stays held leaving t ≡ true → has ss t ≡ true
+after_has held leaving added ss e t h = e t ∙ ap (λ b. b || has added t) h
+
+-- where nothing leaves, all that is held stays
+pub stays_all : (held : SegmentSet) (t : Segment) → stays held Nothing t ≡ set.contains held t
+stays_all held t = alone (set.contains held t)
+  where
+    alone : (b : Bool) → (b && true) ≡ b
+    alone true = refl
+    alone false = refl
+
+-- what stays is held
+pub held_has : (held : SegmentSet) (leaving : Leaving) (ss : List Segment) → IsHeld held ss → (t : Segment) → stays held leaving t ≡ true → has ss t ≡ true
+held_has held leaving ss e t h = e t ∙ (and_both (set.contains held t) (not (leaves leaving t)) h).0
+
+-- ---- the tests of an edit
+
+-- as many as the first k of the added segments take at most
+abbrev pub most_so_far : (Segment → Box → ℕ) → List Segment → List Segment → ℕ → ℕ
+most_so_far times ss added k = sum_by (most_given times ss) (take k added) + pairs k
+
+pairs-one : (k : ℕ) → pairs (k + 1) ≡ k + pairs k
+pairs-one k = let e : k + 1 ≡ suc k = omega arith in ap pairs e
+
+pairs-mono : (k n : ℕ) → pairs k ≤ pairs (n + k)
+pairs-mono k zero = omega (arith, ap pairs (plus k))
+  where
+    plus : (k : ℕ) → 0 + k ≡ k
+    plus k = omega arith
+pairs-mono k (suc n) =
+    let e : suc n + k ≡ suc (n + k) = omega arith in
+    omega (arith, pairs-mono k n, ap pairs e)
+
+pub no_more : (times : Segment → Box → ℕ) (ss added : List Segment) (k : ℕ) → k ≤ length added → most_so_far times ss added k ≤ most_tests times ss added
+no_more times ss added k l = by (length added - k) (omega arith)
+  where
+    by : (n : ℕ) → length added ≡ n + k → most_so_far times ss added k ≤ most_tests times ss added
+    by n e = omega (arith, sum_by-take-le (most_given times ss) added k, pairs-mono k n, ap pairs e)
+
+pub one_more_tests : (times : Segment → Box → ℕ) (ss added : List Segment) (k : ℕ) (s : Segment) (a b c d n : ℕ) → k < length added → s ≡ get_or added k s
+    → a ≤ n + most_so_far times ss added k → b ≤ most_given times ss s → c ≤ a + b → d ≤ c + length (take k added)
+    → d ≤ n + most_so_far times ss added (k + 1)
+one_more_tests times ss added k s a b c d n l here h i j m =
+    let g : most_given times ss (get_or added k s) ≡ most_given times ss s = ap (most_given times ss) (sym here) in
+    omega (arith, sum_by_more (most_given times ss) added k s l, g, pairs-one k, length-take-le k added)
+  where
+    length-take-le : (k : ℕ) (xs : List Segment) → length (take k xs) ≤ k
+    length-take-le zero xs = omega arith
+    length-take-le (suc k) [] = omega arith
+    length-take-le (suc k) (x ∷ xs) = omega (arith, length-take-le k xs)

@@ -1,0 +1,10 @@
+use Rattle.std.proofs.Common.{◌≡◌, ◌+◌, ◌≤◌, take}
+use Rattle.local_planarity.specs.Pairs.{first_against}
+use Rattle.local_planarity.proofs.pairs.first_against.Given as goal
+
+-- the least of the pairs so far, after as many tests
+abbrev pub invariant-loop-t : goal.invariant-loop-t
+invariant-loop-t l = record {
+  first : l.found ≡ first_against l.s (take l.t-index l.others) l.fn.before;
+  few : l.tests ≤ l.initial.tests + l.t-index;
+}

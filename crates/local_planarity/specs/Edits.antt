@@ -1,0 +1,40 @@
+-- Which segments are there before and after an edit.
+use Rattle.std.specs.Prelude.{◌≡◌, Bool, true, false, not, ◌&&◌, ◌||◌, List}
+use Rattle.std.specs.FinSet as set
+use Rattle.grid_geometry.specs.Position.{Position}
+use Rattle.grid_geometry.specs.Segment.{Segment, segment_eq, is_end}
+use Rattle.grid_geometry.specs.Conflict.{conflict}
+use Rattle.ring_machine.specs.Ring as machine
+use Rattle.segment_index.specs.Candidates.{SegmentSet, has}
+use Rattle.local_planarity.specs.declared.leaving.Leaving.{Leaving}
+use Rattle.local_planarity.specs.declared.leaving.Leaving.TheVariants.{Nothing, EndingAt, One}
+
+-- a segment goes away in the edit
+abbrev pub leaves : Leaving → Segment → Bool
+leaves Nothing t = false
+leaves (EndingAt p) t = is_end p t
+leaves (One s) t = segment_eq s t
+
+-- a segment is held and does not go away
+abbrev pub stays : SegmentSet → Leaving → Segment → Bool
+stays held leaving t = set.contains held t && not (leaves leaving t)
+
+-- no two held segments conflict
+abbrev pub AreApart : SegmentSet → Type 0
+AreApart held =
+    (s t : Segment) → set.contains held s ≡ true → set.contains held t ≡ true → conflict s t ≡ false
+
+-- the list has exactly the held segments
+abbrev pub IsHeld : SegmentSet → List Segment → Type 0
+IsHeld held ss = (s : Segment) → has ss s ≡ set.contains held s
+
+-- the list has exactly the held segments that do not leave, and the added ones
+abbrev pub IsAfter : SegmentSet → Leaving → List Segment → List Segment → Type 0
+IsAfter held leaving added ss = (s : Segment) → has ss s ≡ (stays held leaving s || has added s)
+
+-- the list has exactly the ends of the held segments
+pub record IsEnds (held : SegmentSet) (ps : List Position) : Type 0 where
+  pub each : (p : Position) (t : Segment) → set.contains held t ≡ true → is_end p t ≡ true
+      → machine.has ps p ≡ true
+  pub only : (p : Position) → machine.has ps p ≡ true
+      → (t : Segment) × (set.contains held t ≡ true) × (is_end p t ≡ true)

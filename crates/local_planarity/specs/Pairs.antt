@@ -1,0 +1,25 @@
+-- The least pair in conflict, found by one test after another.
+use Rattle.std.specs.Prelude.{List, Option, None, Some, if◌then◌else◌}
+use Rattle.std.specs.List.{fold}
+use Rattle.grid_geometry.specs.Segment.{Segment, segment_lt}
+use Rattle.grid_geometry.specs.Conflict.{conflict}
+use Rattle.ring_machine.specs.Planar.{pair_lt}
+
+-- two segments, the lesser one first
+abbrev pub ordered : Segment → Segment → Segment × Segment
+ordered s t = if segment_lt t s then (t, s) else (s, t)
+
+-- the lesser of the pair that was found, if any, and another
+abbrev pub lesser : Option (Segment × Segment) → Segment × Segment → Segment × Segment
+lesser None v = v
+lesser (Some u) v = if pair_lt v u then v else u
+
+-- the pair that is found after s was tested against t
+abbrev pub after_test : Segment → Option (Segment × Segment) → Segment
+    → Option (Segment × Segment)
+after_test s found t = if conflict s t then Some (lesser found (ordered s t)) else found
+
+-- the least of the pair that was found before and of the pairs in conflict of s with the others
+abbrev pub first_against : Segment → List Segment → Option (Segment × Segment)
+    → Option (Segment × Segment)
+first_against s others before = fold (after_test s) before others

@@ -1,0 +1,22 @@
+-- The box of three positions.
+use Rattle.std.specs.Prelude.{ℤ}
+use Rattle.std.specs.Int.{int_min, int_max}
+use Rattle.grid_geometry.specs.Position.{Position}
+use Rattle.grid_geometry.specs.Segment.{Box}
+
+-- the least of three numbers
+abbrev pub least_of : ℤ → ℤ → ℤ → ℤ
+least_of a b c = int_min (int_min a b) c
+
+-- the greatest of three numbers
+abbrev pub most_of : ℤ → ℤ → ℤ → ℤ
+most_of a b c = int_max (int_max a b) c
+
+-- the least box that has all three positions
+abbrev pub box_of_three : Position → Position → Position → Box
+box_of_three a b c = record {
+  x0 = least_of a.x b.x c.x;
+  y0 = least_of a.y b.y c.y;
+  x1 = most_of a.x b.x c.x;
+  y1 = most_of a.y b.y c.y;
+}

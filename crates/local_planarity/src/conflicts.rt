@@ -1,0 +1,57 @@
+//! The first pair of segments in conflict.
+ghost use Rattle.std.specs.Prelude.{◌≡◌, ◌+◌, ◌≤◌, ◌∷◌, List, IfOk};
+ghost use Rattle.grid_geometry.specs.Segment.{Segment};
+ghost use Rattle.ring_machine.specs.Planar.{least_conflict};
+ghost use Rattle.local_planarity.specs.Edits.{AreApart, IsAfter, IsHeld};
+ghost use Rattle.local_planarity.specs.Tests.{most_given, most_tests};
+
+use crate::count::TestCount;
+use crate::leaving::Leaving;
+use crate::near::staying_near;
+use crate::pairs::first_against;
+use grid_geometry::Seg;
+use segment_index::SegIndex;
+use std::alloc::{AllocError, Allocator};
+
+/// The least pair of segments in conflict once the added segments come and the leaving ones go, the
+/// lesser one first. Each added segment is tested against its candidates that do not leave, and
+/// against the added ones before it. Fails only for want of memory; the count may then have grown.
+pub fn first_conflict<I: SegIndex, A: Allocator + Copy>(
+    alloc: A,
+    index: &I,
+    leaving: Leaving,
+    added: &[Seg],
+    tests: &mut TestCount,
+) -> Result<Option<(Seg, Seg)>, AllocError>
+    requires { AreApart (I.held index.now) }
+    ensures first { IfOk result (λ pair. (ss : List Segment)
+        → IsAfter (I.held index.now) leaving added.now ss → least_conflict ss ≡ pair) }
+    ensures few { (ss : List Segment) → IsAfter (I.held index.now) leaving added.now ss
+        → tests.new ≤ tests.old + most_tests (I.times index.now) ss added.now }
+{
+    let mut first = None;
+    for (at, s) in added.iter().enumerate() {
+        let near = staying_near(alloc, index, &leaving, *s)?;
+        first = first_against(*s, near.as_slice(), first, tests);
+        first = first_against(*s, &added[..at], first, tests);
+    }
+    Ok(first)
+}
+
+/// The least of a known pair, the first of the held segments, and of the pairs in conflict of s
+/// with these: for opening a map, segment by segment. Fails only for want of memory.
+pub fn first_with<I: SegIndex, A: Allocator + Copy>(
+    alloc: A,
+    index: &I,
+    s: Seg,
+    first: Option<(Seg, Seg)>,
+    tests: &mut TestCount,
+) -> Result<Option<(Seg, Seg)>, AllocError>
+    ensures first { IfOk result (λ pair. (ss : List Segment) → IsHeld (I.held index.now) ss
+        → least_conflict ss ≡ first → least_conflict (s ∷ ss) ≡ pair) }
+    ensures few { (ss : List Segment) → IsHeld (I.held index.now) ss
+        → tests.new ≤ tests.old + most_given (I.times index.now) ss s }
+{
+    let near = staying_near(alloc, index, &Leaving::Nothing, s)?;
+    Ok(first_against(s, near.as_slice(), first, tests))
+}

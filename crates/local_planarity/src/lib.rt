@@ -1,0 +1,18 @@
+//! Which segments an edit would put in conflict, and what it would sweep over, found among the
+//! candidates that an index of segments gives. How many pairs are tested is counted.
+#![tactic(auto)]
+
+mod conflicts;
+mod count;
+mod leaving;
+mod near;
+mod pairs;
+mod span;
+mod sweeps;
+#[cfg(test)]
+mod tests;
+
+pub use conflicts::{first_conflict, first_with};
+pub use count::TestCount;
+pub use leaving::Leaving;
+pub use sweeps::{crosses_on_way, holds_other};

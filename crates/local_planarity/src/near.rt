@@ -1,0 +1,32 @@
+ghost use Rattle.std.specs.Prelude.{◌≡◌, IfOk, not};
+ghost use Rattle.std.specs.List.{filter};
+ghost use Rattle.local_planarity.specs.Edits.{leaves};
+ghost use Rattle.local_planarity.specs.Near.{IsNear};
+
+use crate::leaving::{Leaving, leaves};
+use grid_geometry::Seg;
+use segment_index::SegIndex;
+use std::alloc::{AllocError, Allocator};
+
+/// Takes out the segments that leave.
+fn drop_leaving<A: Allocator>(segments: &mut Vec<Seg, A>, leaving: &Leaving)
+    ensures { segments.new.items ≡ filter (λ t. not (leaves leaving.now t)) segments.old.items }
+{
+    segments.retain(|t| !leaves(*leaving, *t));
+}
+
+/// The candidates for the box of a segment that do not leave.
+pub(crate) fn staying_near<I: SegIndex, A: Allocator + Copy>(
+    alloc: A,
+    index: &I,
+    leaving: &Leaving,
+    s: Seg,
+) -> Result<Vec<Seg, A>, AllocError>
+    ensures { IfOk result
+        (λ v. IsNear (I.held index.now) (I.times index.now) leaving.now s v.items) }
+{
+    let mut near = Vec::new(alloc);
+    index.candidates(s.rect(), &mut near)?;
+    drop_leaving(&mut near, leaving);
+    Ok(near)
+}

@@ -1,0 +1,65 @@
+ghost use Rattle.std.specs.Prelude.{◌≡◌, ◌+◌, ◌≤◌, length};
+ghost use Rattle.std.specs.List.{list_any};
+ghost use Rattle.grid_geometry.specs.Conflict as geometry;
+ghost use Rattle.ring_machine.specs.Planar.{pair_lt};
+ghost use Rattle.local_planarity.specs.Pairs as spec;
+
+use crate::count::TestCount;
+use grid_geometry::Seg;
+
+/// Whether a pair comes before another: by the first segment, then by the second.
+fn precedes(u: &(Seg, Seg), v: &(Seg, Seg)) -> bool
+    ensures { result ≡ pair_lt u.now v.now }
+{
+    u.0 < v.0 || (u.0 == v.0 && u.1 < v.1)
+}
+
+/// Two segments, the lesser one first.
+fn ordered(s: Seg, t: Seg) -> (Seg, Seg)
+    ensures { result ≡ spec.ordered s t }
+{
+    if t < s { (t, s) } else { (s, t) }
+}
+
+/// The lesser of the pair that was found, if any, and another.
+fn lesser(found: Option<(Seg, Seg)>, pair: (Seg, Seg)) -> (Seg, Seg)
+    ensures { result ≡ spec.lesser found pair }
+{
+    let Some(known) = found else {
+        return pair;
+    };
+    if precedes(&pair, &known) { pair } else { known }
+}
+
+/// The least of the pair that was found before, if any, and of the pairs of s with others that it
+/// conflicts with.
+pub(crate) fn first_against(
+    s: Seg,
+    others: &[Seg],
+    before: Option<(Seg, Seg)>,
+    tests: &mut TestCount,
+) -> Option<(Seg, Seg)>
+    ensures first { result ≡ spec.first_against s others.now before }
+    ensures few { tests.new ≤ tests.old + length others.now }
+{
+    let mut found = before;
+    for t in others {
+        if tests.test(s, *t) {
+            found = Some(lesser(found, ordered(s, *t)));
+        }
+    }
+    found
+}
+
+/// Whether s conflicts with one of the others.
+pub(crate) fn conflicts_with(s: Seg, others: &[Seg], tests: &mut TestCount) -> bool
+    ensures some { result ≡ list_any (geometry.conflict s) others.now }
+    ensures few { tests.new ≤ tests.old + length others.now }
+{
+    for t in others {
+        if tests.test(s, *t) {
+            return true;
+        }
+    }
+    false
+}

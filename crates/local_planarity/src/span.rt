@@ -1,0 +1,46 @@
+//! The box of three positions.
+ghost use Rattle.std.specs.Prelude.{◌≡◌};
+ghost use Rattle.std.specs.Int.{int_min, int_max};
+ghost use Rattle.local_planarity.specs.Spans as spec;
+
+use grid_geometry::{Pos, Rect};
+
+/// Of two positions, one with the lesser x.
+fn leftmost(a: Pos, b: Pos) -> Pos
+    ensures { result.x ≡ int_min a.x b.x }
+{
+    if a.x_at_most(b) { a } else { b }
+}
+
+/// Of two positions, one with the lesser y.
+fn lowest(a: Pos, b: Pos) -> Pos
+    ensures { result.y ≡ int_min a.y b.y }
+{
+    if a.y_at_most(b) { a } else { b }
+}
+
+/// Of two positions, one with the greater x.
+fn rightmost(a: Pos, b: Pos) -> Pos
+    ensures { result.x ≡ int_max a.x b.x }
+{
+    if a.x_at_most(b) { b } else { a }
+}
+
+/// Of two positions, one with the greater y.
+fn highest(a: Pos, b: Pos) -> Pos
+    ensures { result.y ≡ int_max a.y b.y }
+{
+    if a.y_at_most(b) { b } else { a }
+}
+
+/// The least box that has all three positions.
+pub(crate) fn box_of_three(a: Pos, b: Pos, c: Pos) -> Rect
+    ensures { result ≡ spec.box_of_three a b c }
+{
+    Rect {
+        x0: leftmost(leftmost(a, b), c).x(),
+        y0: lowest(lowest(a, b), c).y(),
+        x1: rightmost(rightmost(a, b), c).x(),
+        y1: highest(highest(a, b), c).y(),
+    }
+}

@@ -1,0 +1,88 @@
+//! What an edit would sweep over.
+ghost use Rattle.std.specs.Prelude.{◌≡◌, ◌≢◌, ◌+◌, ◌≤◌, ◌&&◌, ◌||◌, not, List, IfOk};
+ghost use Rattle.std.specs.List.{list_any};
+ghost use Rattle.grid_geometry.specs.Conflict as geometry;
+ghost use Rattle.grid_geometry.specs.Held.{is_held};
+ghost use Rattle.grid_geometry.specs.Position.{Position};
+ghost use Rattle.grid_geometry.specs.Segment.{Segment, is_end, segment};
+ghost use Rattle.ring_machine.specs.Ring as machine;
+ghost use Rattle.local_planarity.specs.Edits.{IsEnds, IsHeld};
+ghost use Rattle.local_planarity.specs.Tests.{most_given};
+
+use crate::count::TestCount;
+use crate::leaving::Leaving;
+use crate::near::staying_near;
+use crate::pairs::conflicts_with;
+use crate::span::box_of_three;
+use grid_geometry::{Pos, Seg, held};
+use segment_index::SegIndex;
+use std::alloc::{AllocError, Allocator};
+
+/// Whether p is among the positions.
+fn has(positions: &[Pos], p: Pos) -> bool
+    ensures { result ≡ machine.has positions.now p }
+{
+    positions.contains(&p)
+}
+
+/// Whether w is not among these, and the triangle a, b, c holds it.
+fn is_other_held(w: Pos, these: &[Pos], a: Pos, b: Pos, c: Pos) -> bool
+    ensures { result ≡ (not (machine.has these.now w) && is_held w a b c) }
+{
+    !has(these, w) && held(w, a, b, c)
+}
+
+/// Whether the triangle a, b, c holds an end of one of the segments that is not among these.
+fn holds_end(segments: &[Seg], these: &[Pos], a: Pos, b: Pos, c: Pos) -> bool
+    ensures { result ≡ list_any (λ t. (not (machine.has these.now t.lo) && is_held t.lo a b c)
+        || (not (machine.has these.now t.hi) && is_held t.hi a b c)) segments.now }
+{
+    for t in segments {
+        if is_other_held(t.lo, these, a, b, c) || is_other_held(t.hi, these, a, b, c) {
+            return true;
+        }
+    }
+    false
+}
+
+/// Whether the triangle a, b, c, be it a line or one position, holds an end of a held segment that
+/// is not among these. Fails only for want of memory.
+pub fn holds_other<I: SegIndex, A: Allocator + Copy>(
+    alloc: A,
+    index: &I,
+    these: &[Pos],
+    a: Pos,
+    b: Pos,
+    c: Pos,
+) -> Result<bool, AllocError>
+    ensures { IfOk result (λ found. (ps : List Position) → IsEnds (I.held index.now) ps
+        → found ≡ list_any (λ w. not (machine.has these.now w) && is_held w a b c) ps) }
+{
+    let mut near = Vec::new(alloc);
+    index.candidates(box_of_three(a, b, c), &mut near)?;
+    Ok(holds_end(near.as_slice(), these, a, b, c))
+}
+
+/// Whether the way from p to q, which differ, conflicts with a held segment that does not end at
+/// p. Fails only for want of memory.
+pub fn crosses_on_way<I: SegIndex, A: Allocator + Copy>(
+    alloc: A,
+    index: &I,
+    p: Pos,
+    q: Pos,
+    tests: &mut TestCount,
+) -> Result<bool, AllocError>
+    requires { p ≢ q }
+    ensures crosses { IfOk result (λ found. (ss : List Segment) → IsHeld (I.held index.now) ss
+        → found ≡ list_any (λ t. not (is_end p t) && geometry.conflict (segment p q) t) ss) }
+    ensures few { (ss : List Segment) → IsHeld (I.held index.now) ss
+        → tests.new ≤ tests.old + most_given (I.times index.now) ss (segment p q) }
+{
+    match Seg::new(p, q) {
+        Some(way) => {
+            let near = staying_near(alloc, index, &Leaving::EndingAt(p), way)?;
+            Ok(conflicts_with(way, near.as_slice(), tests))
+        }
+        None => Ok(false),
+    }
+}
