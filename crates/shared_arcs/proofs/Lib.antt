@@ -1,3 +1,4 @@
+pub mod Numbers
 pub mod Moves
 pub mod StoreLemmas
 pub mod CutLemmas
