@@ -11,3 +11,4 @@ pub mod StandLemmas
 pub mod ReadLemmas
 pub mod RingLemmas
 pub mod WholeLemmas
+pub mod Counting

@@ -41,7 +41,7 @@ module _ {X : Type 0} where
       ap (λ b. cond b (Some p) (rings.find nat_cmp q (slab.entries_from (i + 1) rest))) e
       ∙ find_slot rest q (i + 1) j (omega arith)
 
-mapped_slot : {X Y : Type 0} (f : Option X → Option Y) → f None ≡ None → (slots : List (Option X)) (k : ℕ) → slice_index_or (map f slots) k None ≡ f (slice_index_or slots k None)
+pub mapped_slot : {X Y : Type 0} (f : Option X → Option Y) → f None ≡ None → (slots : List (Option X)) (k : ℕ) → slice_index_or (map f slots) k None ≡ f (slice_index_or slots k None)
 mapped_slot f e [] k = sym e
 mapped_slot f e (s ∷ rest) zero = refl
 mapped_slot f e (s ∷ rest) (suc k) = mapped_slot f e rest k
