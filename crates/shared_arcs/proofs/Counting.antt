@@ -20,7 +20,7 @@ use Rattle.shared_arcs.specs.Ways.{Edge, links, walk, chain, is_seg, one, times,
 use Rattle.shared_arcs.specs.Rings.{has_segment, users_of}
 use Rattle.shared_arcs.specs.Stores.{path_of, users_in, uses_in, uses_arc, without, AllDifferent, IsPlace}
 use Rattle.shared_arcs.specs.Sound.{edges_in, rings_of, Sound}
-use Rattle.shared_arcs.proofs.Numbers.{in_without, from_without, different_without, length-without}
+use Rattle.shared_arcs.proofs.Different.{in_without, from_without, different_without, length-without}
 use Rattle.shared_arcs.proofs.Moves.{links-reverse, times-append, times-flipped}
 use Rattle.shared_arcs.proofs.CutLemmas.{or_split, or_left, or_right}
 use Rattle.shared_arcs.proofs.RingLemmas.{mapped_slot}

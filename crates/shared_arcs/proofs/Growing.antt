@@ -13,7 +13,7 @@ use Rattle.shared_arcs.specs.declared.arc.Use.{Use}
 use Rattle.shared_arcs.specs.declared.arc.Arc.{Arc}
 use Rattle.shared_arcs.specs.declared.arc.Ring.{Ring}
 use Rattle.shared_arcs.specs.Stores.{users_in, uses_in, uses_arc, including, AllDifferent, Known, GoesOn, SameRings, SameUsers, Learns}
-use Rattle.shared_arcs.proofs.Numbers.{itself_including, in_including, from_including, different_including, some_contained}
+use Rattle.shared_arcs.proofs.Different.{itself_including, in_including, from_including, different_including, some_contained}
 use Rattle.shared_arcs.proofs.CutLemmas.{or_split, or_left, or_right}
 
 module _ {A : Type 0} where

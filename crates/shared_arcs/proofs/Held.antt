@@ -54,6 +54,14 @@ stands_cut i n us m vs s t stand stand' c h kept noted j k x = by (ℕ_discrete 
     by (no f) (yes e) = subst (λ z. Contains (stand' k) z) (sym e) (noted k (subst (λ z. Contains z k) (ap t.path e ∙ c.second) x))
     by (no f) (no g) = kept k j (h j k (subst (λ z. Contains z k) (c.others j f g) x))
 
+-- vertices that are not on the path of arc i forget it
+pub stands_off : (i : ℕ) (path stand stand' : ℕ → List ℕ) → ((k j : ℕ) → (j ≢ i) ⊎ Contains (path i) k → Contains (stand k) j → Contains (stand' k) j) → Stands path stand → Stands path stand'
+stands_off i path stand stand' kept h j k x = by (ℕ_discrete j i)
+  where
+    by : Dec (j ≡ i) → Contains (stand' k) j
+    by (yes e) = kept k j (inr (subst (λ z. Contains (path z) k) e x)) (h j k x)
+    by (no f) = kept k j (inl f) (h j k x)
+
 -- a path without the vertex has none of its segments
 pub none_at : (a b : ℕ) (ps : List ℕ) → (Contains ps a → ⊥) → times a b (links ps) ≡ 0
 none_at a b [] h = refl

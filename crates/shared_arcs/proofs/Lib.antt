@@ -1,4 +1,4 @@
-pub mod Numbers
+pub mod Different
 pub mod Moves
 pub mod StoreLemmas
 pub mod CutLemmas

@@ -1,9 +1,13 @@
 -- The arcs of a vertex, after a change of one vertex.
-use Rattle.std.proofs.Common.{◌≡◌, ◌≢◌, ℕ, zero, suc, ◌<◌, ◌≤◌, ◌+◌, refl, sym, ap, ◌∙◌, subst, List, [], ◌∷◌, ◌++◌, Contains, length, set, get_or, map, arith}
+use Rattle.std.proofs.Common.{◌≡◌, ◌≢◌, ◌⊎◌, inl, inr, false, true, ℕ, zero, suc, ◌<◌, ◌≤◌, ◌+◌, refl, sym, ap, ◌∙◌, subst, List, [], ◌∷◌, ◌++◌, Contains, length, set, get_or, map, arith}
 use native.Mathlib.Decide.{ℕ_discrete}
 use Rattle.std.proofs.lemmas.List.Elements.{Contains-append_left, Contains-push}
 use Rattle.shared_arcs.specs.declared.arc.Stand.{Stand}
-use Rattle.shared_arcs.specs.Stores.{stand_at, ListsMore}
+use Rattle.std.specs.Prelude.{◌==◌}
+use Rattle.std.specs.List.{list_any}
+use Rattle.std.proofs.lemmas.Bool.{false≢true}
+use Rattle.shared_arcs.specs.Stores.{stand_at, ListsMore, UnlistsOnly, UnlistsOff}
+use Rattle.shared_arcs.proofs.Different.{contained_any}
 
 module _ {A : Type 0} where
   -- a vertex that comes in at the end stands in no arc
@@ -64,3 +68,12 @@ module _ {A : Type 0} where
       by : Dec (j ≡ i) → Contains (stand_at (set ss i s) j) m
       by (yes f) = subst (λ z. Contains z m) (sym (ap (stand_at (set ss i s)) f ∙ stand_set ss i s l)) (h m ne (subst (λ z. Contains (stand_at ss z) m) f x))
       by (no f) = subst (λ z. Contains z m) (sym (stand_other ss i j s f)) x
+
+  -- a vertex off the path forgets one arc
+  pub unlists_off : (path : List ℕ) (ss ss' : List (Stand A)) (k i : ℕ) → list_any (λ x. x == k) path ≡ false → UnlistsOnly ss ss' i → ((j : ℕ) → j ≢ k → stand_at ss' j ≡ stand_at ss j) → UnlistsOff path ss ss' i
+  unlists_off path ss ss' k i off less others j m (inl ne) x = less j m ne x
+  unlists_off path ss ss' k i off less others j m (inr c) x = by (ℕ_discrete j k)
+    where
+      by : Dec (j ≡ k) → Contains (stand_at ss' j) m
+      by (yes e) = absurd (false≢true (sym off ∙ contained_any k path (subst (Contains path) e c)))
+      by (no f) = subst (λ z. Contains z m) (sym (others j f)) x

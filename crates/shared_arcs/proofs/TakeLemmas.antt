@@ -16,7 +16,7 @@ use Rattle.shared_arcs.specs.declared.arc.Stand.{Stand}
 use Rattle.shared_arcs.specs.Ways.{TakesOut}
 use Rattle.shared_arcs.specs.Stores.{path_in, users_in, uses_in, store_of, uses_arc, without, AllDifferent}
 use Rattle.shared_arcs.specs.Stores.{Known, Listed, StaysOrGoes, UnlistsOnly, stand_at}
-use Rattle.shared_arcs.proofs.Numbers.{none_contained, in_without, from_without, without_absent, without_twice, different_without}
+use Rattle.shared_arcs.proofs.Different.{none_contained, in_without, from_without, without_absent, without_twice, different_without}
 use Rattle.shared_arcs.proofs.CutLemmas.{or_left, or_right, or_split, not_used}
 
 module _ {A : Type 0} where

@@ -83,6 +83,12 @@ module _ {A : Type 0} where
   UnlistsOnly old new i =
       (j m : ℕ) → m ≢ i → Contains (stand_at old j) m → Contains (stand_at new j) m
 
+  -- no vertex forgets another arc than i, nor does one of this path forget arc i
+  abbrev pub UnlistsOff : List ℕ → List (Stand A) → List (Stand A) → ℕ → Type 0
+  UnlistsOff path old new i =
+      (j m : ℕ) → (m ≢ i) ⊎ Contains path j → Contains (stand_at old j) m
+      → Contains (stand_at new j) m
+
   -- the tables belong together
   pub record Whole (t : Tables A) : Type 0 where
     pub known : Known t.arcs t.rings
