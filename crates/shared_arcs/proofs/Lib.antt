@@ -12,3 +12,4 @@ pub mod ReadLemmas
 pub mod RingLemmas
 pub mod WholeLemmas
 pub mod Counting
+mod Examples

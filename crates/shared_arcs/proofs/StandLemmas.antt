@@ -6,8 +6,8 @@ use Rattle.shared_arcs.specs.declared.arc.Stand.{Stand}
 use Rattle.std.specs.Prelude.{◌==◌}
 use Rattle.std.specs.List.{list_any}
 use Rattle.std.proofs.lemmas.Bool.{false≢true}
-use Rattle.shared_arcs.specs.Stores.{stand_at, ListsMore, UnlistsOnly, UnlistsOff}
-use Rattle.shared_arcs.proofs.Different.{contained_any}
+use Rattle.shared_arcs.specs.Stores.{including, stand_at, ListsMore, UnlistsOnly, UnlistsOff}
+use Rattle.shared_arcs.proofs.Different.{contained_any, in_including, itself_including}
 
 module _ {A : Type 0} where
   -- a vertex that comes in at the end stands in no arc
@@ -40,15 +40,15 @@ module _ {A : Type 0} where
   stand_none (t ∷ ss) (suc i) l = stand_none ss i (omega arith)
 
   -- one vertex lists one more arc
-  pub lists_pushed : (ss : List (Stand A)) (i n : ℕ) (s : Stand A) → i < length ss → s.arcs.items ≡ stand_at ss i ++ n ∷ [] → ListsMore ss (set ss i s)
-  lists_pushed ss i n s l e j m x = by (ℕ_discrete j i)
+  pub lists_including : (ss : List (Stand A)) (i n : ℕ) (s : Stand A) → i < length ss → s.arcs.items ≡ including n (stand_at ss i) → ListsMore ss (set ss i s)
+  lists_including ss i n s l e j m x = by (ℕ_discrete j i)
     where
       by : Dec (j ≡ i) → Contains (stand_at (set ss i s) j) m
-      by (yes f) = subst (λ z. Contains z m) (sym (ap (stand_at (set ss i s)) f ∙ stand_set ss i s l ∙ e)) (Contains-append_left (stand_at ss i) (n ∷ []) m (subst (λ z. Contains (stand_at ss z) m) f x))
+      by (yes f) = subst (λ z. Contains z m) (sym (ap (stand_at (set ss i s)) f ∙ stand_set ss i s l ∙ e)) (in_including n (stand_at ss i) m (subst (λ z. Contains (stand_at ss z) m) f x))
       by (no f) = subst (λ z. Contains z m) (sym (stand_other ss i j s f)) x
 
-  pub listed_pushed : (ss : List (Stand A)) (i n : ℕ) (s : Stand A) → i < length ss → s.arcs.items ≡ stand_at ss i ++ n ∷ [] → Contains (stand_at (set ss i s) i) n
-  listed_pushed ss i n s l e = subst (λ z. Contains z n) (sym (stand_set ss i s l ∙ e)) (Contains-push (stand_at ss i) n)
+  pub listed_including : (ss : List (Stand A)) (i n : ℕ) (s : Stand A) → i < length ss → s.arcs.items ≡ including n (stand_at ss i) → Contains (stand_at (set ss i s) i) n
+  listed_including ss i n s l e = subst (λ z. Contains z n) (sym (stand_set ss i s l ∙ e)) (itself_including n (stand_at ss i))
 
   -- a vertex lists what it did
   pub lists_same : (ss : List (Stand A)) (i : ℕ) (s : Stand A) → i < length ss → s.arcs.items ≡ stand_at ss i → ListsMore ss (set ss i s)

@@ -4,7 +4,7 @@ ghost use Rattle.std.specs.List.{list_any};
 ghost use Rattle.shared_arcs.specs.Stores.{stand_at, ListsMore, UnlistsOnly, UnlistsOff};
 
 use crate::arc::Stand;
-use crate::numbers::take_from;
+use crate::numbers::{include, take_from};
 use std::alloc::{AllocError, Allocator};
 use vertex_index::VertexKey;
 
@@ -38,8 +38,10 @@ pub(crate) fn list_arc<A: Allocator + Copy>(
 {
     reach(alloc, stands, k)?;
     let stand = stands.get_mut(k.index()).unwrap();
-    stand.arcs.push(n)?;
-    Ok(())
+    match include(&mut stand.arcs, n) {
+        Ok(()) => Ok(()),
+        Err(e) => Err(e),
+    }
 }
 
 /// Lists arc `n` for each of these vertices.
