@@ -30,21 +30,6 @@ module _ {A : Type 0} where
   pub same_users : (s t : Slab (Arc A)) → ((j : ℕ) → get t j ≡ get s j) → SameUsers s t
   same_users s t e = record { there = λ j. ap is_some (e j); users = λ j. ap users_in (e j) }
 
-  -- an arc with the same rings is written at a key
-  pub users_kept : (s : Slab (Arc A)) (key : ℕ) (v : Arc A) → ContainsKey s key → v.rings.items ≡ users_in (get s key) → SameUsers s (with_value s key v)
-  users_kept s key v p e = record { there = λ j. is_there j (ℕ_discrete j key); users = λ j. same j (ℕ_discrete j key) }
-    where
-      u : Updates s (with_value s key v) key (Some v)
-      u = Updates-with_value s key v p
-
-      is_there : (j : ℕ) → Dec (j ≡ key) → is_some (get (with_value s key v) j) ≡ is_some (get s j)
-      is_there j (yes f) = ap (λ k. is_some (get (with_value s key v) k)) f ∙ ap is_some u.changed ∙ sym (ap (λ k. is_some (get s k)) f ∙ p)
-      is_there j (no f) = ap is_some (u.others j f)
-
-      same : (j : ℕ) → Dec (j ≡ key) → users_in (get (with_value s key v) j) ≡ users_in (get s j)
-      same j (yes f) = ap (λ k. users_in (get (with_value s key v) k)) f ∙ ap users_in u.changed ∙ e ∙ ap (λ k. users_in (get s k)) (sym f)
-      same j (no f) = ap users_in (u.others j f)
-
   -- an arc with one more ring is written at a key
   pub learns : (s t : Slab (Arc A)) (key r : ℕ) (v : Arc A) → Updates s t key (Some v) → v.rings.items ≡ including r (users_in (get s key)) → Learns s t key r
   learns s t key r v u e = record {
@@ -53,9 +38,6 @@ module _ {A : Type 0} where
     others_there = λ j f. ap is_some (u.others j f);
     others = λ j f. ap users_in (u.others j f);
   }
-
-  pub learns_with : (s : Slab (Arc A)) (key r : ℕ) (v : Arc A) → ContainsKey s key → v.rings.items ≡ including r (users_in (get s key)) → Learns s (with_value s key v) key r
-  learns_with s key r v p e = learns s (with_value s key v) key r v (Updates-with_value s key v p) e
 
   -- ---- ring r goes on along an arc
 

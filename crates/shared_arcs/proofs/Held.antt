@@ -11,31 +11,6 @@ use Rattle.shared_arcs.specs.Ways.{links, times, is_seg, one, Store, Cuts}
 use Rattle.shared_arcs.proofs.Moves.{Pieces}
 use Rattle.shared_arcs.proofs.CutLemmas.{or_split}
 
--- some arc has the segment
-abbrev pub Has : (ℕ → List ℕ) → ℕ → ℕ → Type 0
-Has path a b = (i : ℕ) × (1 ≤ times a b (links (path i)))
-
--- a cut leaves the segments as they are
-pub has_after_cut : (s t : ℕ → List ℕ) (i n : ℕ) → Pieces s t i n → (a b : ℕ) → Has s a b → Has t a b
-has_after_cut s t i n p a b h = by (ℕ_discrete h.0 i) (ℕ_discrete h.0 n)
-  where
-    part : (x : ℕ) → times a b (links (t i)) ≡ x → 1 ≤ times a b (links (s i)) → Has t a b
-    part zero e k = (n, omega (arith, p.sum a b, e))
-    part (suc x) e k = (i, omega (arith, e))
-
-    by : Dec (h.0 ≡ i) → Dec (h.0 ≡ n) → Has t a b
-    by (yes e) _ = part (times a b (links (t i))) refl (subst (λ z. 1 ≤ times a b (links (s z))) e h.1)
-    by (no f) (yes e) = absurd (omega (arith, subst (λ z. 1 ≤ times a b (links z)) (ap s e ∙ p.vacant) h.1))
-    by (no f) (no g) = (h.0, subst (λ z. 1 ≤ times a b (links z)) (sym (p.others h.0 f g)) h.1)
-
-pub has_before_cut : (s t : ℕ → List ℕ) (i n : ℕ) → Pieces s t i n → (a b : ℕ) → Has t a b → Has s a b
-has_before_cut s t i n p a b h = by (ℕ_discrete h.0 i) (ℕ_discrete h.0 n)
-  where
-    by : Dec (h.0 ≡ i) → Dec (h.0 ≡ n) → Has s a b
-    by (yes e) _ = let k = subst (λ z. 1 ≤ times a b (links (t z))) e h.1 in (i, omega (arith, p.sum a b, k))
-    by (no f) (yes e) = let k = subst (λ z. 1 ≤ times a b (links (t z))) e h.1 in (i, omega (arith, p.sum a b, k))
-    by (no f) (no g) = (h.0, subst (λ z. 1 ≤ times a b (links z)) (p.others h.0 f g) h.1)
-
 -- ---- which arcs a vertex stands in: at least these are listed
 
 abbrev pub Stands : (ℕ → List ℕ) → (ℕ → List ℕ) → Type 0

@@ -10,13 +10,6 @@ use Rattle.shared_arcs.specs.Stores.{including, stand_at, ListsMore, UnlistsOnly
 use Rattle.shared_arcs.proofs.Different.{contained_any, in_including, itself_including}
 
 module _ {A : Type 0} where
-  -- a vertex that comes in at the end stands in no arc
-  pub stand_pushed : (ss : List (Stand A)) (s : Stand A) (j : ℕ) → s.arcs.items ≡ [] → stand_at (ss ++ s ∷ []) j ≡ stand_at ss j
-  stand_pushed [] s zero e = e
-  stand_pushed [] s (suc j) e = refl
-  stand_pushed (t ∷ ss) s zero e = refl
-  stand_pushed (t ∷ ss) s (suc j) e = stand_pushed ss s j e
-
   pub stand_set : (ss : List (Stand A)) (i : ℕ) (s : Stand A) → i < length ss → stand_at (set ss i s) i ≡ s.arcs.items
   stand_set [] i s l = absurd (omega arith)
   stand_set (t ∷ ss) zero s l = refl
@@ -33,11 +26,6 @@ module _ {A : Type 0} where
   stand_here [] i s l e = absurd (omega arith)
   stand_here (t ∷ ss) zero s l e = ap (λ x. x.arcs.items) e
   stand_here (t ∷ ss) (suc i) s l e = stand_here ss i s (omega arith) e
-
-  pub stand_none : (ss : List (Stand A)) (i : ℕ) → length ss ≤ i → stand_at ss i ≡ []
-  stand_none [] i l = refl
-  stand_none (t ∷ ss) zero l = absurd (omega arith)
-  stand_none (t ∷ ss) (suc i) l = stand_none ss i (omega arith)
 
   -- one vertex lists one more arc
   pub lists_including : (ss : List (Stand A)) (i n : ℕ) (s : Stand A) → i < length ss → s.arcs.items ≡ including n (stand_at ss i) → ListsMore ss (set ss i s)

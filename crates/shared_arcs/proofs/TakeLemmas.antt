@@ -132,20 +132,3 @@ module _ {A : Type 0} (arcs arcs' : Slab (Arc A)) (rings rings' : Slab (Ring A))
           by : Dec (k ≡ r) → Contains (users_in (get arcs' i)) k
           by (yes f) = absurd (false≢true (subst (λ z. uses_arc i (uses_in z) ≡ true) (ap (get rings') f ∙ gone) u))
           by (no f) = still k i f (known.users k i (subst (λ z. uses_arc i (uses_in z) ≡ true) (others k f) u))
-
-module _ {A : Type 0} where
-  -- an arc stays or goes, and its vertices forget it where it goes
-  pub listed_after : (arcs arcs' : Slab (Arc A)) (ss ss' : List (Stand A)) (i : ℕ) → StaysOrGoes arcs arcs' i → ((j : ℕ) → j ≢ i → get arcs' j ≡ get arcs j) →
-      UnlistsOnly ss ss' i → (ContainsKey arcs' i → ss' ≡ ss) → Listed arcs ss → Listed arcs' ss'
-  listed_after arcs arcs' ss ss' i stays others kept same h j k x = by (ℕ_discrete j i)
-    where
-      there : (o : Option (Arc A)) → Contains (path_in o) k → IsSome o
-      there None m = absurd (none_contained k [] refl m)
-      there (Some v) m = refl
-
-      by : Dec (j ≡ i) → Contains (stand_at ss' k) j
-      by (yes e) =
-          let here : ContainsKey arcs' i = subst (λ z. ContainsKey arcs' z) e (there (get arcs' j) x) in
-          let old : Contains (path_in (get arcs j)) k = subst (λ z. Contains (path_in (get arcs z)) k) (sym e) (subst (λ z. Contains z k) (stays here).1 (subst (λ z. Contains (path_in (get arcs' z)) k) e x)) in
-          subst (λ z. Contains (stand_at z k) j) (sym (same here)) (h j k old)
-      by (no f) = kept k j f (h j k (subst (λ o. Contains (path_in o) k) (others j f) x))

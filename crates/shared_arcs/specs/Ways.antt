@@ -77,15 +77,6 @@ pub record Cuts (i n : ℕ) (us : List ℕ) (m : ℕ) (vs : List ℕ) (s t : Sto
   pub others : (j : ℕ) → j ≢ i → j ≢ n → t.path j ≡ s.path j
   pub rings : (r : ℕ) → t.ring r ≡ flat_map (both_parts i n) (s.ring r)
 
-abbrev pub turned : ℕ → Use → List Use
-turned i u = (if u.arc == i then (record { arc = u.arc; back = not u.back }) else u) ∷ []
-
--- arc i is turned round, and its uses with it
-pub record Turns (i : ℕ) (s t : Store) : Type 0 where
-  pub path : t.path i ≡ reverse (s.path i)
-  pub others : (j : ℕ) → j ≢ i → t.path j ≡ s.path j
-  pub rings : (r : ℕ) → t.ring r ≡ flat_map (turned i) (s.ring r)
-
 -- ring r goes on along the whole of arc i, or of its reverse
 pub record Takes (r i : ℕ) (back : Bool) (s t : Store) : Type 0 where
   pub paths : (j : ℕ) → t.path j ≡ s.path j
