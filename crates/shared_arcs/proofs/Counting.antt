@@ -1,6 +1,6 @@
 -- How many rings have a segment: as many as the arc that has it.
 use Rattle.std.proofs.Common.{◌≡◌, ◌≢◌, ℕ, zero, suc, ◌<◌, ◌≤◌, ◌+◌, Bool, true, false, cond, ◌&&◌, ◌||◌, refl, sym, ap, ap₂, ◌∙◌, subst, arith}
-use Rattle.std.proofs.Common.{List, [], ◌∷◌, ◌++◌, map, length, get_or, Contains, ◌⊎◌, inl, inr, Option, Some, None}
+use Rattle.std.proofs.Common.{List, [], ◌∷◌, map, length, get_or, Contains, ◌⊎◌, inl, inr, Option, Some, None}
 use Rattle.std.specs.Prelude.{◌==◌, count_by, slice_index_or}
 use Rattle.std.specs.Ordering.{nat_cmp}
 use Rattle.std.specs.declared.cmp.Ordering.TheVariants.{Less}
@@ -16,7 +16,7 @@ use Rattle.slab.specs.Slab.{get}
 use Rattle.shared_arcs.specs.declared.arc.Use.{Use}
 use Rattle.shared_arcs.specs.declared.arc.Ring.{Ring}
 use Rattle.shared_arcs.specs.declared.tables.Tables.{Tables}
-use Rattle.shared_arcs.specs.Ways.{Edge, links, walk, chain, is_seg, one, times, Once}
+use Rattle.shared_arcs.specs.Ways.{Edge, links, walk, chain, is_seg, one, times}
 use Rattle.shared_arcs.specs.Rings.{has_segment, users_of}
 use Rattle.shared_arcs.specs.Stores.{path_of, users_in, uses_in, uses_arc, without, AllDifferent, IsPlace}
 use Rattle.shared_arcs.specs.Sound.{edges_in, rings_of, Sound}

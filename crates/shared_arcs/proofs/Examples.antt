@@ -1,9 +1,8 @@
 -- Worked examples of what could be wrong by one.
-use Rattle.std.proofs.Common.{◌≡◌, ℕ, true, List, [], ◌∷◌, map, refl, ap, ◌∙◌}
+use Rattle.std.proofs.Common.{◌≡◌, ℕ, true, List, [], ◌∷◌, map, refl, ap}
 use Rattle.std.specs.Prelude.{count_by}
 use Rattle.std.specs.Ordering.{nat_cmp}
 use Rattle.std.specs.FinMap as map_of
-use Rattle.shared_arcs.specs.declared.arc.Use.{Use}
 use Rattle.shared_arcs.specs.Ways.{Edge, links, both_parts, times}
 use Rattle.shared_arcs.specs.Rings.{Rings, edges, begins, has_segment, users_of}
 use Rattle.shared_arcs.specs.Stores.{without, including}

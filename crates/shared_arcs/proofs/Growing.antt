@@ -1,14 +1,12 @@
 -- What the arcs know of their rings, after a ring goes on.
-use Rattle.std.proofs.Common.{◌≡◌, ◌≢◌, ℕ, ◌<◌, ◌≤◌, ◌+◌, Bool, true, false, ◌||◌, refl, sym, ap, ◌∙◌, subst}
-use Rattle.std.proofs.Common.{List, [], ◌∷◌, ◌++◌, ◌⊎◌, inl, inr, Contains, length, Option, Some, None, IsSome, is_some}
+use Rattle.std.proofs.Common.{◌≡◌, ℕ, ◌≤◌, true, false, ◌||◌, refl, sym, ap, ◌∙◌, subst}
+use Rattle.std.proofs.Common.{[], ◌∷◌, ◌⊎◌, inl, inr, Contains, length, Some, is_some}
 use Rattle.std.specs.Prelude.{◌==◌}
 use native.Mathlib.Decide.{ℕ_discrete}
-use Rattle.std.specs.List.{list_any}
 use Rattle.std.proofs.lemmas.Bool.{false≢true}
 use Rattle.std.proofs.lemmas.Bool.Decides.{Decides-eqb}
 use Rattle.std.proofs.lemmas.List.Folds.{list_any-append}
-use Rattle.slab.specs.Slab.{Slab, get, ContainsKey, Updates, with_value}
-use Rattle.slab.proofs.SlabLemmas.{Updates-with_value}
+use Rattle.slab.specs.Slab.{Slab, get, ContainsKey, Updates}
 use Rattle.shared_arcs.specs.declared.arc.Use.{Use}
 use Rattle.shared_arcs.specs.declared.arc.Arc.{Arc}
 use Rattle.shared_arcs.specs.declared.arc.Ring.{Ring}

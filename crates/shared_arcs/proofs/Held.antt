@@ -1,15 +1,11 @@
 -- Which segments the arcs have, and which arcs a vertex stands in, after each move.
-use Rattle.std.proofs.Common.{◌≡◌, ◌≢◌, ℕ, ◌≤◌, ◌+◌, Bool, true, false, ◌||◌, ◌&&◌, refl, sym, ap, ap₂, ◌∙◌, subst, List, [], ◌∷◌, ◌++◌, ◌⊎◌, inl, inr, arith, zero, suc, Contains}
+use Rattle.std.proofs.Common.{◌≡◌, ◌≢◌, ℕ, ◌+◌, Bool, true, false, ◌||◌, ◌&&◌, refl, sym, ap, ap₂, ◌∙◌, subst, List, [], ◌∷◌, ◌⊎◌, inl, inr, arith, Contains}
 use Rattle.std.specs.Prelude.{◌==◌}
 use native.Mathlib.Decide.{ℕ_discrete}
-use Rattle.std.proofs.lemmas.Bool.{false≢true}
 use Rattle.std.proofs.lemmas.Bool.Decides.{Decides-eqb}
 use Rattle.std.proofs.lemmas.List.Elements.{Contains-append_left, Contains-append_right, Contains-append_cases}
 use Rattle.slab.proofs.SlabLemmas.{Contains-cons, Contains-cons_cases}
-use Rattle.shared_arcs.specs.declared.arc.Use.{Use}
-use Rattle.shared_arcs.specs.Ways.{links, times, is_seg, one, Store, Cuts}
-use Rattle.shared_arcs.proofs.Moves.{Pieces}
-use Rattle.shared_arcs.proofs.CutLemmas.{or_split}
+use Rattle.shared_arcs.specs.Ways.{links, times, one, Store, Cuts}
 
 -- ---- which arcs a vertex stands in: at least these are listed
 

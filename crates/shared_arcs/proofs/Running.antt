@@ -1,13 +1,11 @@
 -- A ring goes on along an arc as far as both agree.
-use Rattle.std.proofs.Common.{◌≡◌, ℕ, ◌<◌, ◌≤◌, ◌+◌, ◌-◌, Bool, false, true, refl, sym, ap, ◌∙◌, subst, List, [], ◌∷◌, ◌++◌, take, drop, length, get_or, arith, Option, Some, take_all, zero, suc, ap₂, add-one, drop-cons, reverse, length-drop}
-use Rattle.std.proofs.lemmas.List.{take_more, take-append-drop, drop-take, reverse-append, length-reverse}
+use Rattle.std.proofs.Common.{◌≡◌, ℕ, ◌<◌, ◌≤◌, ◌+◌, ◌-◌, false, true, sym, ap, ◌∙◌, subst, List, ◌∷◌, ◌++◌, take, drop, length, get_or, arith, Option, Some, suc, ap₂, add-one, drop-cons, reverse, length-drop}
+use Rattle.std.proofs.lemmas.List.{take_more, take-append-drop, reverse-append, length-reverse}
 use Rattle.std.proofs.Math.Seq.{take-add, take-append_seam}
-use Rattle.slab.specs.Slab.{Slab, get}
 use Rattle.shared_arcs.specs.declared.arc.Arc.{Arc}
-use Rattle.shared_arcs.specs.declared.arc.Ring.{Ring}
 use Rattle.shared_arcs.specs.declared.tables.Tables.{Tables}
 use Rattle.shared_arcs.specs.Ways.{Store, links, Keeps, Grows, Cuts, Takes}
-use Rattle.shared_arcs.specs.Stores.{path_in, store_of, EndsAt, IsPlace, store, path_of}
+use Rattle.shared_arcs.specs.Stores.{path_in, EndsAt, store, path_of}
 use Rattle.shared_arcs.proofs.Moves.{cut_keeps, take_grows, kept_grows, grows_then, links-append}
 
 module _ {A : Type 0} where

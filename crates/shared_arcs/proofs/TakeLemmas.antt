@@ -1,9 +1,9 @@
 -- A ring goes, and the arcs that no other ring uses.
-use Rattle.std.proofs.Common.{◌≡◌, ◌≢◌, ℕ, ◌<◌, ◌≤◌, ◌+◌, Bool, true, false, ◌||◌, refl, sym, ap, ◌∙◌, subst, arith}
-use Rattle.std.proofs.Common.{List, [], ◌∷◌, ◌++◌, ◌⊎◌, inl, inr, Contains, length, take, get_or, Option, Some, None, IsSome}
+use Rattle.std.proofs.Common.{◌≡◌, ◌≢◌, ℕ, ◌<◌, ◌≤◌, ◌+◌, Bool, true, false, ◌||◌, refl, sym, ap, ◌∙◌, subst}
+use Rattle.std.proofs.Common.{List, [], ◌∷◌, ◌⊎◌, inl, inr, Contains, length, take, get_or, Option, Some, None, IsSome}
 use Rattle.std.specs.Prelude.{◌==◌}
 use native.Mathlib.Decide.{ℕ_discrete}
-use Rattle.std.specs.List.{list_any, AllByRecursion}
+use Rattle.std.specs.List.{AllByRecursion}
 use Rattle.std.proofs.lemmas.Bool.Decides.{Decides-eqb}
 use Rattle.std.proofs.lemmas.Bool.{false≢true}
 use Rattle.std.proofs.lemmas.List.{take_more}
@@ -12,12 +12,11 @@ use Rattle.slab.specs.Slab.{Slab, get, ContainsKey}
 use Rattle.shared_arcs.specs.declared.arc.Use.{Use}
 use Rattle.shared_arcs.specs.declared.arc.Arc.{Arc}
 use Rattle.shared_arcs.specs.declared.arc.Ring.{Ring}
-use Rattle.shared_arcs.specs.declared.arc.Stand.{Stand}
 use Rattle.shared_arcs.specs.Ways.{TakesOut}
 use Rattle.shared_arcs.specs.Stores.{path_in, users_in, uses_in, store_of, uses_arc, without, AllDifferent}
-use Rattle.shared_arcs.specs.Stores.{Known, Listed, StaysOrGoes, UnlistsOnly, stand_at}
+use Rattle.shared_arcs.specs.Stores.{Known, StaysOrGoes}
 use Rattle.shared_arcs.proofs.Different.{none_contained, in_without, from_without, without_absent, without_twice, different_without}
-use Rattle.shared_arcs.proofs.CutLemmas.{or_left, or_right, or_split, not_used}
+use Rattle.shared_arcs.proofs.CutLemmas.{or_left, or_right, or_split}
 
 module _ {A : Type 0} where
   -- the arcs after some uses of ring r were dropped: those that it used are without r

@@ -11,7 +11,7 @@ use Rattle.shared_arcs.specs.declared.arc.Ring.{Ring}
 use Rattle.shared_arcs.specs.declared.arc.Stand.{Stand}
 use Rattle.shared_arcs.specs.declared.arc.NewUses.{NewUses}
 use Rattle.shared_arcs.specs.declared.tables.Tables.{Tables}
-use Rattle.shared_arcs.specs.Ways.{Store, both_parts, Keeps, OpenAt, Once, links, times}
+use Rattle.shared_arcs.specs.Ways.{Store, both_parts, Keeps, OpenAt}
 
 -- some use is of the arc
 abbrev pub uses_arc : ℕ → List Use → Bool

@@ -1,5 +1,4 @@
-use Rattle.std.proofs.Common.{◌≡◌, ◌<◌, sym, ◌∙◌, subst, Contains, length, arith, refl}
-use Rattle.shared_arcs.specs.Stores.{stand_at}
+use Rattle.std.proofs.Common.{◌<◌, sym, ◌∙◌, subst, Contains, length, arith, refl}
 use Rattle.shared_arcs.proofs.Different.{in_without}
 use Rattle.shared_arcs.proofs.StandLemmas.{lists_less, stand_other, stand_read}
 use Rattle.shared_arcs.proofs.standing.unlist.Goals as goal

@@ -1,8 +1,7 @@
-use Rattle.std.proofs.Common.{◌≡◌, ◌≢◌, inl, inr, ℕ, ◌<◌, ◌+◌, ap, sym, ◌∙◌, subst, take, drop, length, get_or, Contains, Some, arith, None, IsSome, List, ◌-◌, refl, take_all, length-drop}
+use Rattle.std.proofs.Common.{◌≡◌, inl, inr, ℕ, ◌+◌, ap, sym, ◌∙◌, subst, take, drop, length, get_or, Contains, Some, arith, IsSome, List, ◌-◌, refl, take_all, length-drop}
 use Rattle.std.specs.Option.{option_copied}
 use Rattle.slab.specs.Slab.{get, ContainsKey}
-use Rattle.shared_arcs.specs.Ways.{both_parts, Cuts}
-use Rattle.shared_arcs.specs.Stores.{path_in, users_in, uses_in, store_of, store, path_of, stand_at, Known, IsPut, HasRing, Doubles}
+use Rattle.shared_arcs.specs.Stores.{path_in, users_in, store_of, store, path_of, stand_at, HasRing}
 use Rattle.shared_arcs.proofs.Held.{stands_cut, stands_off}
 use Rattle.shared_arcs.proofs.WholeLemmas.{whole_alike}
 use Rattle.shared_arcs.proofs.CutLemmas.{Parted, cuts_of, still_known}
