@@ -1,3 +1,4 @@
+pub mod Different
 pub mod Moves
 pub mod StoreLemmas
 pub mod CutLemmas
@@ -10,3 +11,5 @@ pub mod StandLemmas
 pub mod ReadLemmas
 pub mod RingLemmas
 pub mod WholeLemmas
+pub mod Counting
+mod Examples

@@ -9,6 +9,7 @@ mod arc;
 mod borders;
 mod cutting;
 mod laying;
+mod numbers;
 mod place;
 mod reading;
 mod standing;
