@@ -1,3 +1,5 @@
+pub mod Edited
+pub mod Joined
 pub mod Rings
 pub mod Sound
 pub mod Stores

@@ -6,16 +6,22 @@
 #![tactic(auto)]
 
 mod arc;
+mod around;
 mod borders;
 mod cutting;
+mod editing;
 mod laying;
 mod place;
 mod reading;
 mod standing;
 mod tables;
 mod taking;
+mod vertex_edits;
 
+pub use around::Neighbours;
 pub use borders::Borders;
 
+#[cfg(test)]
+mod edit_tests;
 #[cfg(test)]
 mod tests;
