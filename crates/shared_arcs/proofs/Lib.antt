@@ -1,3 +1,5 @@
+mod JoinedLemmas
+mod AroundLemmas
 pub mod Moves
 pub mod StoreLemmas
 pub mod CutLemmas

@@ -1,3 +1,4 @@
+pub mod Around
 pub mod Edited
 pub mod Joined
 pub mod Rings

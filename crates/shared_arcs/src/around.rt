@@ -1,4 +1,11 @@
 //! What stands around a vertex: its neighbours, and the rings that pass it.
+ghost use Rattle.std.specs.Prelude.{◌≡◌};
+ghost use Rattle.slab.specs.Slab.{get};
+ghost use Rattle.shared_arcs.specs.Ways.{links};
+ghost use Rattle.shared_arcs.specs.Around.{noted, noted_all, other_end, other_ends, ends_among};
+ghost use Rattle.shared_arcs.specs.Stores.{path_in, path_of, stand_at};
+ghost use Rattle.shared_arcs.specs.declared.around.Neighbours.{Neighbours};
+
 use crate::arc::{Arc, Ring, Use};
 use crate::place::arcs_at;
 use crate::tables::Tables;
@@ -20,7 +27,9 @@ pub enum Neighbours {
 }
 
 /// The neighbours, where `x` is one too.
-fn with_neighbour(seen: Neighbours, x: VertexKey) -> Neighbours {
+fn with_neighbour(seen: Neighbours, x: VertexKey) -> Neighbours
+    ensures { result ≡ noted seen x }
+{
     match seen {
         Neighbours::None => Neighbours::One(x),
         Neighbours::One(a) => {
@@ -41,19 +50,33 @@ fn with_neighbour(seen: Neighbours, x: VertexKey) -> Neighbours {
     }
 }
 
+/// The neighbours of `k`, where an edge is seen too.
+fn with_edge(seen: Neighbours, from: VertexKey, to: VertexKey, k: VertexKey) -> Neighbours
+    ensures { result ≡ noted_all seen (other_end k (from, to)) }
+{
+    let all = if from == k { with_neighbour(seen, to) } else { seen };
+    if to == k { with_neighbour(all, from) } else { all }
+}
+
 /// The neighbours of `k`, where those along a path are seen too.
-fn seen_along(seen: Neighbours, path: &[VertexKey], k: VertexKey) -> Neighbours {
+fn with_path(seen: Neighbours, path: &[VertexKey], k: VertexKey) -> Neighbours
+    ensures { result ≡ noted_all seen (other_ends k (links path.now)) }
+{
     let mut all = seen;
     for at in 1..path.len() {
-        let (here, next) = (path[at - 1], path[at]);
-        if here == k {
-            all = with_neighbour(all, next);
-        }
-        if next == k {
-            all = with_neighbour(all, here);
-        }
+        all = with_edge(all, path[at - 1], path[at], k);
     }
     all
+}
+
+/// The keys of an arc, none where there is no arc.
+fn path_at<A: Allocator + Copy>(arcs: &Slab<Arc<A>, A>, i: usize) -> &[VertexKey]
+    ensures { result.now ≡ path_in (get arcs.now i) }
+{
+    match arcs.get(i) {
+        Some(arc) => arc.keys.as_slice(),
+        None => &[],
+    }
 }
 
 /// The neighbours of `k` in these arcs.
@@ -61,12 +84,12 @@ fn neighbours_among<A: Allocator + Copy>(
     arcs: &Slab<Arc<A>, A>,
     among: &[usize],
     k: VertexKey,
-) -> Neighbours {
+) -> Neighbours
+    ensures { result ≡ noted_all Neighbours.None (ends_among (λ i. path_in (get arcs.now i)) among.now k) }
+{
     let mut all = Neighbours::None;
     for i in among {
-        if let Some(arc) = arcs.get(*i) {
-            all = seen_along(all, arc.keys.as_slice(), k);
-        }
+        all = with_path(all, path_at(arcs, *i), k);
     }
     all
 }
@@ -131,7 +154,10 @@ fn shortest_among<A: Allocator + Copy>(
 
 impl<A: Allocator + Copy> Tables<A> {
     /// The vertices that some ring joins to `k`.
-    pub(crate) fn neighbours(&self, k: VertexKey) -> Neighbours {
+    pub(crate) fn neighbours(&self, k: VertexKey) -> Neighbours
+        ensures { result ≡ noted_all Neighbours.None
+            (ends_among (path_of self.now) (stand_at self.now.stands.items k) k) }
+    {
         neighbours_among(&self.arcs, arcs_at(&self.stands, k), k)
     }
 
