@@ -1,3 +1,6 @@
+mod Segments
+mod EditLemmas
+mod Inserting
 mod JoinedLemmas
 mod AroundLemmas
 pub mod Moves

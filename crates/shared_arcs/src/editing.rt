@@ -1,4 +1,11 @@
 //! Putting one vertex into the arcs, and taking one out.
+ghost use Rattle.std.specs.Prelude.{◌≡◌, ◌≢◌, ℕ, ◌≤◌, ◌+◌, OnOk, OnErr, Contains, length};
+ghost use Rattle.std.specs.List.{insert};
+ghost use Rattle.slab.specs.Slab.{get, ContainsKey};
+ghost use Rattle.shared_arcs.specs.Ways.{Once, links};
+ghost use Rattle.shared_arcs.specs.Edited.{through};
+ghost use Rattle.shared_arcs.specs.Stores.{path_in, users_in, path_of, Whole, SamePaths, SameKeys};
+
 use crate::arc::{Arc, Stand};
 use crate::place::{arcs_at, place_in};
 use crate::standing::list_arc;
@@ -13,7 +20,15 @@ fn put_key<A: Allocator + Copy>(
     i: usize,
     at: usize,
     q: VertexKey,
-) -> Result<(), AllocError> {
+) -> Result<(), AllocError>
+    requires there { ContainsKey arcs.old i }
+    requires within { at ≤ length (path_in (get arcs.old i)) }
+    ensures ok { OnOk result (path_in (get arcs.new i) ≡ insert (path_in (get arcs.old i)) at q) }
+    ensures err { OnErr result (path_in (get arcs.new i) ≡ path_in (get arcs.old i)) }
+    ensures others { (j : ℕ) → j ≢ i → get arcs.new j ≡ get arcs.old j }
+    ensures held { SameKeys arcs.old arcs.new }
+    ensures users { users_in (get arcs.new i) ≡ users_in (get arcs.old i) }
+{
     let arc = arcs.get_mut(i).unwrap();
     arc.keys.insert(at, q)?;
     Ok(())
@@ -75,12 +90,20 @@ impl<A: Allocator + Copy> Tables<A> {
         a: VertexKey,
         b: VertexKey,
         q: VertexKey,
-    ) -> Result<(), AllocError> {
+    ) -> Result<(), AllocError>
+        requires whole { Whole self.old }
+        requires once { Once (path_of self.old) }
+        ensures ok { OnOk result ((i : ℕ) → links (path_of self.new i)
+            ≡ through a b q (links (path_of self.old i))) }
+        ensures err { OnErr result (SamePaths self.old.arcs self.new.arcs) }
+        ensures whole { Whole self.new }
+        ensures rings { self.new.rings ≡ self.old.rings }
+    {
         match self.find(a, b) {
-            Some(place) => {
-                list_arc(self.alloc, &mut self.stands, q, place.arc)?;
-                put_key(&mut self.arcs, place.arc, place.at + 1, q)
-            }
+            Some(place) => match list_arc(self.alloc, &mut self.stands, q, place.arc) {
+                Ok(()) => put_key(&mut self.arcs, place.arc, place.at + 1, q),
+                Err(e) => Err(e),
+            },
             None => Ok(()),
         }
     }
