@@ -1,5 +1,5 @@
 -- A cut of the slabs is a cut of the store, and the arcs still know their rings.
-use Rattle.std.proofs.Common.{◌≡◌, ◌≢◌, ℕ, ◌<◌, ◌+◌, Bool, true, false, cond, ◌||◌, refl, sym, ap, ap₂, ◌∙◌, subst, List, [], ◌∷◌, ◌++◌, ◌⊎◌, inl, inr, Contains, take, drop, get_or, length, arith, Option, Some, None, IsSome, add-one, drop-cons}
+use Rattle.std.proofs.Common.{◌≡◌, ◌≢◌, ℕ, ◌<◌, ◌≤◌, ◌+◌, Bool, true, false, cond, ◌||◌, refl, sym, ap, ap₂, ◌∙◌, subst, List, [], ◌∷◌, ◌++◌, ◌⊎◌, inl, inr, Contains, take, drop, get_or, length, arith, Option, Some, None, IsSome, add-one, drop-cons}
 use Rattle.std.specs.Prelude.{◌==◌}
 use native.Mathlib.Decide.{ℕ_discrete}
 use Rattle.std.specs.List.{flat_map, list_any}
@@ -13,7 +13,7 @@ use Rattle.shared_arcs.specs.declared.arc.Arc.{Arc}
 use Rattle.shared_arcs.specs.declared.arc.Ring.{Ring}
 use Rattle.shared_arcs.specs.declared.arc.NewUses.{NewUses}
 use Rattle.shared_arcs.specs.Ways.{Lacks, both_parts, Cuts}
-use Rattle.shared_arcs.specs.Stores.{path_in, users_in, uses_in, store_of, uses_arc, Known, HasRing, IsPut, Doubles}
+use Rattle.shared_arcs.specs.Stores.{path_in, users_in, uses_in, store_of, uses_arc, AllDifferent, Known, HasRing, IsPut, Doubles}
 
 -- ---- which arcs a list of uses has
 
@@ -66,6 +66,32 @@ from_doubled i n j (u ∷ us) h = by (λ k. from_doubled i n j us k) (u.arc == i
     by go true e false (inl k) = elim (or_split (i == j) _ k) [ inl a ↦ is_i e a | inr a ↦ elim (or_split (n == j) false a) [ inl z ↦ is_n e z | inr z ↦ absurd (false≢true z) ] ]
     by go false e b (inl k) = elim (or_split (u.arc == j) false k) [ inl a ↦ inl (or_left (u.arc == j) (uses_arc j us) a) | inr z ↦ absurd (false≢true z) ]
 
+-- a use of an arc stays one, and one of arc i brings one of arc n
+pub to_doubled : (i n j : ℕ) (us : List Use) → uses_arc j us ≡ true → uses_arc j (flat_map (both_parts i n) us) ≡ true
+to_doubled i n j [] h = absurd (false≢true h)
+to_doubled i n j (u ∷ us) h = list_any-append (λ (v : Use). v.arc == j) (both_parts i n u) (flat_map (both_parts i n) us) ∙ by (to_doubled i n j us) (or_split (u.arc == j) (uses_arc j us) h)
+  where
+    here : (u.arc == j) ≡ true → (x : Bool) → (u.arc == i) ≡ x → (b : Bool) → uses_arc j (cond x (cond b (record { arc = n; back = true } ∷ record { arc = i; back = true } ∷ []) (record { arc = i; back = false } ∷ record { arc = n; back = false } ∷ [])) (u ∷ [])) ≡ true
+    here k true e true = or_right (n == j) _ (or_left (i == j) false (ap (λ z. z == j) (sym ((Decides-eqb u.arc i).0 e)) ∙ k))
+    here k true e false = or_left (i == j) _ (ap (λ z. z == j) (sym ((Decides-eqb u.arc i).0 e)) ∙ k)
+    here k false e b = or_left (u.arc == j) false k
+
+    by : (uses_arc j us ≡ true → uses_arc j (flat_map (both_parts i n) us) ≡ true) → ((u.arc == j) ≡ true) ⊎ (uses_arc j us ≡ true) → (uses_arc j (both_parts i n u) || uses_arc j (flat_map (both_parts i n) us)) ≡ true
+    by later (inl k) = or_left _ (uses_arc j (flat_map (both_parts i n) us)) (here k (u.arc == i) refl u.back)
+    by later (inr k) = or_right (uses_arc j (both_parts i n u)) _ (later k)
+
+pub to_second : (i n : ℕ) (us : List Use) → uses_arc i us ≡ true → uses_arc n (flat_map (both_parts i n) us) ≡ true
+to_second i n [] h = absurd (false≢true h)
+to_second i n (u ∷ us) h = list_any-append (λ (v : Use). v.arc == n) (both_parts i n u) (flat_map (both_parts i n) us) ∙ by (to_second i n us) (or_split (u.arc == i) (uses_arc i us) h)
+  where
+    here : (b : Bool) → uses_arc n (cond b (record { arc = n; back = true } ∷ record { arc = i; back = true } ∷ []) (record { arc = i; back = false } ∷ record { arc = n; back = false } ∷ [])) ≡ true
+    here true = or_left (n == n) _ ((Decides-eqb n n).1 refl)
+    here false = or_right (i == n) _ (or_left (n == n) false ((Decides-eqb n n).1 refl))
+
+    by : (uses_arc i us ≡ true → uses_arc n (flat_map (both_parts i n) us) ≡ true) → ((u.arc == i) ≡ true) ⊎ (uses_arc i us ≡ true) → (uses_arc n (both_parts i n u) || uses_arc n (flat_map (both_parts i n) us)) ≡ true
+    by later (inl k) = or_left _ (uses_arc n (flat_map (both_parts i n) us)) (ap (λ x. uses_arc n (cond x (cond u.back (record { arc = n; back = true } ∷ record { arc = i; back = true } ∷ []) (record { arc = i; back = false } ∷ record { arc = n; back = false } ∷ [])) (u ∷ []))) k ∙ here u.back)
+    by later (inr k) = or_right (uses_arc n (both_parts i n u)) _ (later k)
+
 module _ {A : Type 0} where
   pub present : (i : ℕ) (o : Option (Ring A)) → uses_arc i (uses_in o) ≡ true → IsSome o
   present i None h = absurd (false≢true h)
@@ -77,6 +103,7 @@ module _ {A : Type 0} where
   -- what a cut does to the arcs
   pub record Parted (arcs arcs' : Slab (Arc A)) (i n at : ℕ) (users : List ℕ) : Type 0 where
     pub vacant : get arcs n ≡ None
+    pub i_there : ContainsKey arcs i
     pub apart : i ≢ n
     pub first : path_in (get arcs' i) ≡ take (at + 1) (path_in (get arcs i))
     pub second : path_in (get arcs' n) ≡ drop at (path_in (get arcs i))
@@ -116,20 +143,53 @@ module _ {A : Type 0} where
         }
 
     pub still_known : Known arcs' rings'
-    still_known = record { users = λ r j h. knows r j (back r j h); there = λ r j h. is_there r j (back r j h) }
+    still_known = record { users = λ r j h. knows r j (back r j h); there = λ r j h. is_there r j (back r j h); used = in_use; single = differ; some = has_some }
       where
         back : (r j : ℕ) → uses_arc j (uses_in (get rings' r)) ≡ true → (uses_arc j (uses_in (get rings r)) ≡ true) ⊎ ((j ≡ n) × (uses_arc i (uses_in (get rings r)) ≡ true))
         back r j h = from_doubled i n j (uses_in (get rings r)) (ap (uses_arc j) (sym (rings_are r)) ∙ h)
 
-        knows : (r j : ℕ) → (uses_arc j (uses_in (get rings r)) ≡ true) ⊎ ((j ≡ n) × (uses_arc i (uses_in (get rings r)) ≡ true)) → Contains (users_in (get arcs' j)) r
-        knows r j (inr k) = subst (λ z. Contains (users_in (get arcs' z)) r) (sym k.0) (subst (λ z. Contains z r) (sym (p.users_n ∙ p.users-is)) (known.users r i k.1))
-        knows r j (inl k) = by (ℕ_discrete j i) (ℕ_discrete j n)
+        -- an arc has the rings that it had, and the new one those of arc i
+        Users : ℕ → Type 0
+        Users j = ((j ≢ n) × (users_in (get arcs' j) ≡ users_in (get arcs j))) ⊎ ((j ≡ n) × (users_in (get arcs' j) ≡ users_in (get arcs i)))
+
+        users_of : (j : ℕ) → Users j
+        users_of j = by (ℕ_discrete j i) (ℕ_discrete j n)
           where
-            by : Dec (j ≡ i) → Dec (j ≡ n) → Contains (users_in (get arcs' j)) r
-            by (yes e) _ = subst (λ z. Contains z r) (ap (λ z. users_in (get arcs z)) e ∙ sym p.users_i ∙ ap (λ z. users_in (get arcs' z)) (sym e)) (known.users r j k)
-            by (no f) (yes e) = absurd (false≢true (sym (no_n r) ∙ ap (λ z. uses_arc z (uses_in (get rings r))) (sym e) ∙ k))
-            by (no f) (no g) = subst (λ z. Contains z r) (sym (ap users_in (p.others j f g))) (known.users r j k)
+            by : Dec (j ≡ i) → Dec (j ≡ n) → Users j
+            by (yes e) _ = inl ((λ f. p.apart (sym e ∙ f)), ap (λ z. users_in (get arcs' z)) e ∙ p.users_i ∙ ap (λ z. users_in (get arcs z)) (sym e))
+            by (no f) (yes e) = inr (e, ap (λ z. users_in (get arcs' z)) e ∙ p.users_n ∙ p.users-is)
+            by (no f) (no g) = inl (g, ap users_in (p.others j f g))
+
+        knows : (r j : ℕ) → (uses_arc j (uses_in (get rings r)) ≡ true) ⊎ ((j ≡ n) × (uses_arc i (uses_in (get rings r)) ≡ true)) → Contains (users_in (get arcs' j)) r
+        knows r j h = by (users_of j) h
+          where
+            by : Users j → (uses_arc j (uses_in (get rings r)) ≡ true) ⊎ ((j ≡ n) × (uses_arc i (uses_in (get rings r)) ≡ true)) → Contains (users_in (get arcs' j)) r
+            by (inl o) (inl k) = subst (λ z. Contains z r) (sym o.1) (known.users r j k)
+            by (inl o) (inr k) = absurd (o.0 k.0)
+            by (inr o) (inl k) = absurd (false≢true (sym (no_n r) ∙ ap (λ z. uses_arc z (uses_in (get rings r))) (sym o.0) ∙ k))
+            by (inr o) (inr k) = subst (λ z. Contains z r) (sym o.1) (known.users r i k.1)
 
         is_there : (r j : ℕ) → (uses_arc j (uses_in (get rings r)) ≡ true) ⊎ ((j ≡ n) × (uses_arc i (uses_in (get rings r)) ≡ true)) → ContainsKey arcs' j
         is_there r j (inl k) = p.kept j (known.there r j k)
         is_there r j (inr k) = subst (λ z. ContainsKey arcs' z) (sym k.0) p.new_there
+
+        in_use : (r j : ℕ) → Contains (users_in (get arcs' j)) r → uses_arc j (uses_in (get rings' r)) ≡ true
+        in_use r j c = ap (uses_arc j) (rings_are r) ∙ by (users_of j)
+          where
+            by : Users j → uses_arc j (flat_map (both_parts i n) (uses_in (get rings r))) ≡ true
+            by (inl o) = to_doubled i n j (uses_in (get rings r)) (known.used r j (subst (λ z. Contains z r) o.1 c))
+            by (inr o) = ap (λ z. uses_arc z (flat_map (both_parts i n) (uses_in (get rings r)))) o.0 ∙ to_second i n (uses_in (get rings r)) (known.used r i (subst (λ z. Contains z r) o.1 c))
+
+        differ : (j : ℕ) → AllDifferent (users_in (get arcs' j))
+        differ j = elim (users_of j) [ inl o ↦ subst AllDifferent (sym o.1) (known.single j) | inr o ↦ subst AllDifferent (sym o.1) (known.single i) ]
+
+        has_some : (j : ℕ) → ContainsKey arcs' j → 1 ≤ length (users_in (get arcs' j))
+        has_some j h = by (ℕ_discrete j i) (ℕ_discrete j n)
+          where
+            here : 1 ≤ length (users_in (get arcs i))
+            here = known.some i p.i_there
+
+            by : Dec (j ≡ i) → Dec (j ≡ n) → 1 ≤ length (users_in (get arcs' j))
+            by (yes e) _ = subst (λ z. 1 ≤ length (users_in (get arcs' z))) (sym e) (subst (λ z. 1 ≤ length z) (sym p.users_i) here)
+            by (no f) (yes e) = subst (λ z. 1 ≤ length (users_in (get arcs' z))) (sym e) (subst (λ z. 1 ≤ length z) (sym (p.users_n ∙ p.users-is)) here)
+            by (no f) (no g) = subst (λ o. 1 ≤ length (users_in o)) (sym (p.others j f g)) (known.some j (subst (λ o. IsSome o) (p.others j f g) h))

@@ -1,5 +1,6 @@
--- A ring goes on: the arcs still know their rings.
-use Rattle.std.proofs.Common.{◌≡◌, ◌≢◌, ℕ, ◌<◌, ◌+◌, Bool, true, false, ◌||◌, refl, sym, ap, ◌∙◌, subst, List, [], ◌∷◌, ◌++◌, ◌⊎◌, inl, inr, Contains, Option, Some, None, IsSome}
+-- What the arcs know of their rings, after a ring goes on.
+use Rattle.std.proofs.Common.{◌≡◌, ◌≢◌, ℕ, ◌<◌, ◌≤◌, ◌+◌, Bool, true, false, ◌||◌, refl, sym, ap, ◌∙◌, subst}
+use Rattle.std.proofs.Common.{List, [], ◌∷◌, ◌++◌, ◌⊎◌, inl, inr, Contains, length, Option, Some, None, IsSome, is_some}
 use Rattle.std.specs.Prelude.{◌==◌}
 use native.Mathlib.Decide.{ℕ_discrete}
 use Rattle.std.specs.List.{list_any}
@@ -11,45 +12,118 @@ use Rattle.slab.proofs.SlabLemmas.{Updates-with_value}
 use Rattle.shared_arcs.specs.declared.arc.Use.{Use}
 use Rattle.shared_arcs.specs.declared.arc.Arc.{Arc}
 use Rattle.shared_arcs.specs.declared.arc.Ring.{Ring}
-use Rattle.shared_arcs.specs.Stores.{path_in, users_in, uses_in, uses_arc, Known, GoesOn, Remembers}
-use Rattle.shared_arcs.proofs.CutLemmas.{or_split}
+use Rattle.shared_arcs.specs.Stores.{users_in, uses_in, uses_arc, including, AllDifferent, Known, GoesOn, SameRings, SameUsers, Learns}
+use Rattle.shared_arcs.proofs.Numbers.{itself_including, in_including, from_including, different_including, some_contained}
+use Rattle.shared_arcs.proofs.CutLemmas.{or_split, or_left, or_right}
 
 module _ {A : Type 0} where
-  -- what is written at a key: either there was no arc, or its rings are still known
-  pub remembers_change : (s t : Slab (Arc A)) (key : ℕ) (v : Arc A) → Updates s t key (Some v) → ((r : ℕ) → Contains (users_in (get s key)) r → Contains v.rings.items r) → Remembers s t
-  remembers_change s t key v u h = record { there = λ j k. is_there j k (ℕ_discrete j key); users = λ j r k. knows j r k (ℕ_discrete j key) }
-    where
-      is_there : (j : ℕ) → ContainsKey s j → Dec (j ≡ key) → ContainsKey t j
-      is_there j k (yes e) = subst (λ o. IsSome o) (sym (ap (get t) e ∙ u.changed)) refl
-      is_there j k (no f) = subst (λ o. IsSome o) (sym (u.others j f)) k
-
-      knows : (j r : ℕ) → Contains (users_in (get s j)) r → Dec (j ≡ key) → Contains (users_in (get t j)) r
-      knows j r k (yes e) = subst (λ o. Contains (users_in o) r) (sym (ap (get t) e ∙ u.changed)) (h r (subst (λ z. Contains (users_in (get s z)) r) e k))
-      knows j r k (no f) = subst (λ o. Contains (users_in o) r) (sym (u.others j f)) k
-
-  pub remembers_with : (s : Slab (Arc A)) (key : ℕ) (v : Arc A) → ContainsKey s key → ((r : ℕ) → Contains (users_in (get s key)) r → Contains v.rings.items r) → Remembers s (with_value s key v)
-  remembers_with s key v p h = remembers_change s (with_value s key v) key v (Updates-with_value s key v p) h
-
-  pub known_after : (arcs arcs' : Slab (Arc A)) (rings rings' : Slab (Ring A)) → Known arcs rings → Remembers arcs arcs' →
-      ((r j : ℕ) → uses_arc j (uses_in (get rings' r)) ≡ true → (uses_arc j (uses_in (get rings r)) ≡ true) ⊎ (Contains (users_in (get arcs' j)) r × ContainsKey arcs' j)) → Known arcs' rings'
-  known_after arcs arcs' rings rings' k m h = record {
-    users = λ r j u. elim (h r j u) [ inl x ↦ m.users j r (k.users r j x) | inr x ↦ x.0 ];
-    there = λ r j u. elim (h r j u) [ inl x ↦ m.there j (k.there r j x) | inr x ↦ x.1 ];
+  -- the same arcs, rings and uses
+  pub known_alike : (arcs arcs' : Slab (Arc A)) (rings rings' : Slab (Ring A)) → SameUsers arcs arcs' → SameRings rings rings' → Known arcs rings → Known arcs' rings'
+  known_alike arcs arcs' rings rings' m same k = record {
+    users = λ r i u. subst (λ z. Contains z r) (sym (m.users i)) (k.users r i (ap (uses_arc i) (sym (same r)) ∙ u));
+    there = λ r i u. m.there i ∙ k.there r i (ap (uses_arc i) (sym (same r)) ∙ u);
+    used = λ r i c. ap (uses_arc i) (same r) ∙ k.used r i (subst (λ z. Contains z r) (m.users i) c);
+    single = λ i. subst AllDifferent (sym (m.users i)) (k.single i);
+    some = λ i h. subst (λ z. 1 ≤ length z) (sym (m.users i)) (k.some i (sym (m.there i) ∙ h));
   }
 
-  pub goes_on_uses : (old new : Slab (Ring A)) (r : ℕ) (u : Use) → GoesOn old new r u → (k j : ℕ) → uses_arc j (uses_in (get new k)) ≡ true → (uses_arc j (uses_in (get old k)) ≡ true) ⊎ ((k ≡ r) × (u.arc ≡ j))
-  goes_on_uses old new r u g k j h = by (ℕ_discrete k r)
+  pub same_users : (s t : Slab (Arc A)) → ((j : ℕ) → get t j ≡ get s j) → SameUsers s t
+  same_users s t e = record { there = λ j. ap is_some (e j); users = λ j. ap users_in (e j) }
+
+  -- an arc with the same rings is written at a key
+  pub users_kept : (s : Slab (Arc A)) (key : ℕ) (v : Arc A) → ContainsKey s key → v.rings.items ≡ users_in (get s key) → SameUsers s (with_value s key v)
+  users_kept s key v p e = record { there = λ j. is_there j (ℕ_discrete j key); users = λ j. same j (ℕ_discrete j key) }
     where
-      by : Dec (k ≡ r) → (uses_arc j (uses_in (get old k)) ≡ true) ⊎ ((k ≡ r) × (u.arc ≡ j))
-      by (no f) = inl (ap (uses_arc j) (sym (g.others k f)) ∙ h)
-      by (yes e) = elim (or_split _ _ (sym (list_any-append (λ (v : Use). v.arc == j) (uses_in (get old r)) (u ∷ [])) ∙ ap (uses_arc j) (sym g.ring) ∙ ap (λ z. uses_arc j (uses_in (get new z))) (sym e) ∙ h)) [
-        | inl x ↦ inl (ap (λ z. uses_arc j (uses_in (get old z))) e ∙ x)
-        | inr x ↦ elim (or_split (u.arc == j) false x) [ inl y ↦ inr (e, (Decides-eqb u.arc j).0 y) | inr y ↦ absurd (false≢true y) ]
+      u : Updates s (with_value s key v) key (Some v)
+      u = Updates-with_value s key v p
+
+      is_there : (j : ℕ) → Dec (j ≡ key) → is_some (get (with_value s key v) j) ≡ is_some (get s j)
+      is_there j (yes f) = ap (λ k. is_some (get (with_value s key v) k)) f ∙ ap is_some u.changed ∙ sym (ap (λ k. is_some (get s k)) f ∙ p)
+      is_there j (no f) = ap is_some (u.others j f)
+
+      same : (j : ℕ) → Dec (j ≡ key) → users_in (get (with_value s key v) j) ≡ users_in (get s j)
+      same j (yes f) = ap (λ k. users_in (get (with_value s key v) k)) f ∙ ap users_in u.changed ∙ e ∙ ap (λ k. users_in (get s k)) (sym f)
+      same j (no f) = ap users_in (u.others j f)
+
+  -- an arc with one more ring is written at a key
+  pub learns : (s t : Slab (Arc A)) (key r : ℕ) (v : Arc A) → Updates s t key (Some v) → v.rings.items ≡ including r (users_in (get s key)) → Learns s t key r
+  learns s t key r v u e = record {
+    there = ap is_some u.changed;
+    users = ap users_in u.changed ∙ e;
+    others_there = λ j f. ap is_some (u.others j f);
+    others = λ j f. ap users_in (u.others j f);
+  }
+
+  pub learns_with : (s : Slab (Arc A)) (key r : ℕ) (v : Arc A) → ContainsKey s key → v.rings.items ≡ including r (users_in (get s key)) → Learns s (with_value s key v) key r
+  learns_with s key r v p e = learns s (with_value s key v) key r v (Updates-with_value s key v p) e
+
+  -- ---- ring r goes on along an arc
+
+  module _ (old new : Slab (Ring A)) (r : ℕ) (u : Use) (g : GoesOn old new r u) where
+    uses_before : (k j : ℕ) → uses_arc j (uses_in (get new k)) ≡ true → (uses_arc j (uses_in (get old k)) ≡ true) ⊎ ((k ≡ r) × (u.arc ≡ j))
+    uses_before k j h = by (ℕ_discrete k r)
+      where
+        by : Dec (k ≡ r) → (uses_arc j (uses_in (get old k)) ≡ true) ⊎ ((k ≡ r) × (u.arc ≡ j))
+        by (no f) = inl (ap (uses_arc j) (sym (g.others k f)) ∙ h)
+        by (yes e) = elim (or_split _ _ (sym (list_any-append (λ (v : Use). v.arc == j) (uses_in (get old r)) (u ∷ [])) ∙ ap (uses_arc j) (sym g.ring) ∙ ap (λ z. uses_arc j (uses_in (get new z))) (sym e) ∙ h)) [
+          | inl x ↦ inl (ap (λ z. uses_arc j (uses_in (get old z))) e ∙ x)
+          | inr x ↦ elim (or_split (u.arc == j) false x) [ inl y ↦ inr (e, (Decides-eqb u.arc j).0 y) | inr y ↦ absurd (false≢true y) ]
+        ]
+
+    grown : (j : ℕ) → uses_arc j (uses_in (get new r)) ≡ (uses_arc j (uses_in (get old r)) || uses_arc j (u ∷ []))
+    grown j = ap (uses_arc j) g.ring ∙ list_any-append (λ (v : Use). v.arc == j) (uses_in (get old r)) (u ∷ [])
+
+    uses_after : (k j : ℕ) → uses_arc j (uses_in (get old k)) ≡ true → uses_arc j (uses_in (get new k)) ≡ true
+    uses_after k j h = by (ℕ_discrete k r)
+      where
+        by : Dec (k ≡ r) → uses_arc j (uses_in (get new k)) ≡ true
+        by (no f) = ap (uses_arc j) (g.others k f) ∙ h
+        by (yes e) = ap (λ z. uses_arc j (uses_in (get new z))) e ∙ grown j ∙ or_left _ (uses_arc j (u ∷ [])) (ap (λ z. uses_arc j (uses_in (get old z))) (sym e) ∙ h)
+
+    uses_last : uses_arc u.arc (uses_in (get new r)) ≡ true
+    uses_last = grown u.arc ∙ or_right (uses_arc u.arc (uses_in (get old r))) _ (or_left (u.arc == u.arc) false ((Decides-eqb u.arc u.arc).1 refl))
+
+  -- ring r goes on along arc i, which learns it
+  pub known_goes_on : (arcs arcs' : Slab (Arc A)) (rings rings' : Slab (Ring A)) (r : ℕ) (u : Use) → Known arcs rings → Learns arcs arcs' u.arc r → GoesOn rings rings' r u → Known arcs' rings'
+  known_goes_on arcs arcs' rings rings' r u k m g = record { users = knows; there = is_there; used = in_use; single = λ i. differ i (ℕ_discrete i u.arc); some = λ i h. has_some i h (ℕ_discrete i u.arc) }
+    where
+      kept : (s j : ℕ) → Contains (users_in (get arcs j)) s → Contains (users_in (get arcs' j)) s
+      kept s j c = by (ℕ_discrete j u.arc)
+        where
+          by : Dec (j ≡ u.arc) → Contains (users_in (get arcs' j)) s
+          by (yes e) = subst (λ z. Contains z s) (sym (ap (λ i. users_in (get arcs' i)) e ∙ m.users)) (in_including r (users_in (get arcs u.arc)) s (subst (λ i. Contains (users_in (get arcs i)) s) e c))
+          by (no f) = subst (λ z. Contains z s) (sym (m.others j f)) c
+
+      learnt : Contains (users_in (get arcs' u.arc)) r
+      learnt = subst (λ z. Contains z r) (sym m.users) (itself_including r (users_in (get arcs u.arc)))
+
+      knows : (s j : ℕ) → uses_arc j (uses_in (get rings' s)) ≡ true → Contains (users_in (get arcs' j)) s
+      knows s j h = elim (uses_before rings rings' r u g s j h) [
+        | inl x ↦ kept s j (k.users s j x)
+        | inr x ↦ subst (λ z. Contains (users_in (get arcs' j)) z) (sym x.0) (subst (λ i. Contains (users_in (get arcs' i)) r) x.1 learnt)
       ]
 
-  -- ring r goes on along arc i, which knows it
-  pub known_goes_on : (arcs arcs' : Slab (Arc A)) (rings rings' : Slab (Ring A)) (r : ℕ) (u : Use) → Known arcs rings → Remembers arcs arcs' → GoesOn rings rings' r u → Contains (users_in (get arcs' u.arc)) r → ContainsKey arcs' u.arc → Known arcs' rings'
-  known_goes_on arcs arcs' rings rings' r u k m g c t = known_after arcs arcs' rings rings' k m (λ s j h. elim (goes_on_uses rings rings' r u g s j h) [
-    | inl x ↦ inl x
-    | inr x ↦ inr (subst (λ z. Contains (users_in (get arcs' j)) z) (sym x.0) (subst (λ z. Contains (users_in (get arcs' z)) r) x.1 c), subst (λ z. ContainsKey arcs' z) x.1 t)
-  ])
+      is_there : (s j : ℕ) → uses_arc j (uses_in (get rings' s)) ≡ true → ContainsKey arcs' j
+      is_there s j h = elim (uses_before rings rings' r u g s j h) [ inl x ↦ old (k.there s j x) (ℕ_discrete j u.arc) | inr x ↦ subst (λ i. ContainsKey arcs' i) x.1 m.there ]
+        where
+          old : ContainsKey arcs j → Dec (j ≡ u.arc) → ContainsKey arcs' j
+          old t (yes e) = subst (λ i. ContainsKey arcs' i) (sym e) m.there
+          old t (no f) = m.others_there j f ∙ t
+
+      in_use : (s j : ℕ) → Contains (users_in (get arcs' j)) s → uses_arc j (uses_in (get rings' s)) ≡ true
+      in_use s j c = by (ℕ_discrete j u.arc)
+        where
+          by : Dec (j ≡ u.arc) → uses_arc j (uses_in (get rings' s)) ≡ true
+          by (yes e) = elim (from_including r (users_in (get arcs u.arc)) s (subst (λ z. Contains z s) (ap (λ i. users_in (get arcs' i)) e ∙ m.users) c)) [
+            | inl x ↦ uses_after rings rings' r u g s j (k.used s j (subst (λ i. Contains (users_in (get arcs i)) s) (sym e) x))
+            | inr x ↦ ap (λ i. uses_arc i (uses_in (get rings' s))) e ∙ ap (λ z. uses_arc u.arc (uses_in (get rings' z))) (sym x) ∙ uses_last rings rings' r u g
+          ]
+          by (no f) = uses_after rings rings' r u g s j (k.used s j (subst (λ z. Contains z s) (m.others j f) c))
+
+      differ : (i : ℕ) → Dec (i ≡ u.arc) → AllDifferent (users_in (get arcs' i))
+      differ i (yes e) = subst AllDifferent (sym (ap (λ j. users_in (get arcs' j)) e ∙ m.users)) (different_including r (users_in (get arcs u.arc)) (k.single u.arc))
+      differ i (no f) = subst AllDifferent (sym (m.others i f)) (k.single i)
+
+      has_some : (i : ℕ) → ContainsKey arcs' i → Dec (i ≡ u.arc) → 1 ≤ length (users_in (get arcs' i))
+      has_some i h (yes e) = some_contained r (users_in (get arcs' i)) (subst (λ j. Contains (users_in (get arcs' j)) r) (sym e) learnt)
+      has_some i h (no f) = subst (λ z. 1 ≤ length z) (sym (m.others i f)) (k.some i (sym (m.others_there i f) ∙ h))

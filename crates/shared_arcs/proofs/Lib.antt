@@ -1,8 +1,4 @@
-mod Segments
-mod EditLemmas
-mod Inserting
-mod JoinedLemmas
-mod AroundLemmas
+pub mod Numbers
 pub mod Moves
 pub mod StoreLemmas
 pub mod CutLemmas
@@ -15,3 +11,8 @@ pub mod StandLemmas
 pub mod ReadLemmas
 pub mod RingLemmas
 pub mod WholeLemmas
+pub mod Segments
+pub mod EditLemmas
+pub mod Inserting
+pub mod JoinedLemmas
+pub mod AroundLemmas

@@ -1,87 +1,87 @@
 -- A ring goes, and the arcs that no other ring uses.
-use Rattle.std.proofs.Common.{◌≡◌, ◌≢◌, ℕ, ◌<◌, ◌≤◌, ◌+◌, ◌-◌, Bool, true, false, refl, sym, ap, ◌∙◌, subst, List, [], ◌∷◌, ◌⊎◌, inl, inr, Contains, length, get_or, arith, Option, Some, None, zero, suc, IsSome}
+use Rattle.std.proofs.Common.{◌≡◌, ◌≢◌, ℕ, ◌<◌, ◌≤◌, ◌+◌, Bool, true, false, ◌||◌, refl, sym, ap, ◌∙◌, subst, arith}
+use Rattle.std.proofs.Common.{List, [], ◌∷◌, ◌++◌, ◌⊎◌, inl, inr, Contains, length, take, get_or, Option, Some, None, IsSome}
 use Rattle.std.specs.Prelude.{◌==◌}
 use native.Mathlib.Decide.{ℕ_discrete}
-use Rattle.std.specs.List.{remove, AllByRecursion}
-use Rattle.std.proofs.lemmas.List.{get_or_default}
-use Rattle.std.proofs.lemmas.List.Edits.{get_or-remove_below, get_or-remove_above, length-remove}
+use Rattle.std.specs.List.{list_any, AllByRecursion}
 use Rattle.std.proofs.lemmas.Bool.Decides.{Decides-eqb}
 use Rattle.std.proofs.lemmas.Bool.{false≢true}
-use Rattle.slab.specs.Slab.{Slab, get, Updates}
+use Rattle.std.proofs.lemmas.List.{take_more}
+use Rattle.std.proofs.lemmas.List.Folds.{list_any-append}
+use Rattle.slab.specs.Slab.{Slab, get, ContainsKey}
 use Rattle.shared_arcs.specs.declared.arc.Use.{Use}
 use Rattle.shared_arcs.specs.declared.arc.Arc.{Arc}
 use Rattle.shared_arcs.specs.declared.arc.Ring.{Ring}
-use Rattle.shared_arcs.specs.Ways.{TakesOut}
 use Rattle.shared_arcs.specs.declared.arc.Stand.{Stand}
-use Rattle.shared_arcs.specs.Stores.{path_in, users_in, uses_in, store_of, uses_arc, Known, Listed, StaysOrGoes, RemembersBut, stand_at}
-use Rattle.shared_arcs.proofs.CutLemmas.{or_left, or_right}
-
--- another number stays
-pub Contains-remove : (xs : List ℕ) (i k r : ℕ) → i < length xs → get_or xs i 0 ≡ r → k ≢ r → Contains xs k → Contains (remove xs i) k
-Contains-remove xs i k r l e ne m = by (ℕ_discrete m.0 i)
-  where
-    len : length (remove xs i) + 1 ≡ length xs
-    len = length-remove xs i l
-
-    by : Dec (m.0 ≡ i) → Contains (remove xs i) k
-    by (yes f) = absurd (ne (sym m.2 ∙ get_or_default xs m.0 k 0 m.1 ∙ ap (λ z. get_or xs z 0) f ∙ e))
-    by (no f) = side (cases m.0 i f)
-      where
-        cases : (x i : ℕ) → x ≢ i → (x < i) ⊎ (i < x)
-        cases zero zero f = absurd (f refl)
-        cases zero (suc i) f = inl (omega arith)
-        cases (suc x) zero f = inr (omega arith)
-        cases (suc x) (suc i) f = elim (cases x i (λ e. f (ap (λ z. suc z) e))) [ inl h ↦ inl (omega arith) | inr h ↦ inr (omega arith) ]
-
-        side : (m.0 < i) ⊎ (i < m.0) → Contains (remove xs i) k
-        side (inl b) = (m.0, omega (arith, len), get_or-remove_below xs i k m.0 b l ∙ m.2)
-        side (inr a) = let back : m.0 - 1 + 1 ≡ m.0 = omega arith in (m.0 - 1, omega (arith, len, m.1), get_or-remove_above xs i k (m.0 - 1) (omega arith) l ∙ ap (λ z. get_or xs z k) back ∙ m.2)
+use Rattle.shared_arcs.specs.Ways.{TakesOut}
+use Rattle.shared_arcs.specs.Stores.{path_in, users_in, uses_in, store_of, uses_arc, without, AllDifferent}
+use Rattle.shared_arcs.specs.Stores.{Known, Listed, StaysOrGoes, UnlistsOnly, stand_at}
+use Rattle.shared_arcs.proofs.Numbers.{none_contained, in_without, from_without, without_absent, without_twice, different_without}
+use Rattle.shared_arcs.proofs.CutLemmas.{or_left, or_right, or_split, not_used}
 
 module _ {A : Type 0} where
-  module _ (old now : Slab (Arc A)) (i r : ℕ) where
-    -- no ring but r is left
-    abbrev pub Only : Type 0
-    Only = (k : ℕ) → Contains (users_in (get old i)) k → k ≡ r
+  -- the arcs after some uses of ring r were dropped: those that it used are without r
+  pub record Dropped (r : ℕ) (us : List Use) (old now : Slab (Arc A)) : Type 0 where
+    pub without_r : (j : ℕ) → uses_arc j us ≡ true → users_in (get now j) ≡ without r (users_in (get old j))
+    pub others : (j : ℕ) → uses_arc j us ≡ false → get now j ≡ get old j
+    pub stays : (j : ℕ) → StaysOrGoes old now j
+    pub some : (j : ℕ) → ContainsKey now j → 1 ≤ length (users_in (get now j))
 
-only_of : (xs ys : List ℕ) (r : ℕ) → ys ≡ [] → ((k : ℕ) → k ≢ r → Contains xs k → Contains ys k) → (k : ℕ) → Contains xs k → k ≡ r
-only_of xs ys r e h k m = by (ℕ_discrete k r)
-  where
-    by : Dec (k ≡ r) → k ≡ r
-    by (yes f) = f
-    by (no f) = absurd (omega (arith, (subst (λ z. Contains z k) e (h k f m)).1))
+  pub none_dropped : (r : ℕ) (arcs : Slab (Arc A)) → ((j : ℕ) → ContainsKey arcs j → 1 ≤ length (users_in (get arcs j))) → Dropped r [] arcs arcs
+  none_dropped r arcs h = record {
+    without_r = λ j f. absurd (false≢true f);
+    others = λ j f. refl;
+    stays = λ j k. (k, refl);
+    some = h;
+  }
 
-module _ {A : Type 0} where
-  pub forget_path : (old new : Slab (Arc A)) (i r : ℕ) (a : Arc A) (left : List ℕ) → get old i ≡ Some a → get new i ≡ None → left ≡ [] → ((k : ℕ) → k ≢ r → Contains a.rings.items k → Contains left k) →
-      (path_in (get new i) ≡ path_in (get old i)) ⊎ ((path_in (get new i) ≡ []) × ((k : ℕ) → Contains (users_in (get old i)) k → k ≡ r))
-  forget_path old new i r a left e n z h = inr (ap path_in n, λ k m. only_of a.rings.items left r z h k (subst (λ o. Contains (users_in o) k) e m))
-
-  pub forget_users : (old new : Slab (Arc A)) (i r : ℕ) (a : Arc A) (left : List ℕ) → get old i ≡ Some a → users_in (get new i) ≡ left → ((j : ℕ) → j ≢ i → get new j ≡ get old j) → ((k : ℕ) → k ≢ r → Contains a.rings.items k → Contains left k) →
-      (j k : ℕ) → k ≢ r → Contains (users_in (get old j)) k → Contains (users_in (get new j)) k
-  forget_users old new i r a left e n o h j k ne m = by (ℕ_discrete j i)
+  -- one more use, of arc i
+  pub dropped_more : (r i : ℕ) (us : List Use) (at : ℕ) (d : Use) (old now after : Slab (Arc A)) → at < length us → i ≡ (get_or us at d).arc → Dropped r (take at us) old now →
+      StaysOrGoes now after i → ((j : ℕ) → j ≢ i → get after j ≡ get now j) → users_in (get after i) ≡ without r (users_in (get now i)) → (ContainsKey after i → 1 ≤ length (users_in (get after i))) →
+      Dropped r (take (at + 1) us) old after
+  dropped_more r i us at d old now after l is h stays others users some = record { without_r = fewer; others = same; stays = λ j. stay j (ℕ_discrete j i); some = λ j. has_some j (ℕ_discrete j i) }
     where
-      by : Dec (j ≡ i) → Contains (users_in (get new j)) k
-      by (yes f) = subst (λ z. Contains (users_in (get new z)) k) (sym f) (subst (λ z. Contains z k) (sym n) (h k ne (subst (λ q. Contains (users_in q) k) (ap (get old) f ∙ e) m)))
-      by (no f) = subst (λ q. Contains (users_in q) k) (sym (o j f)) m
+      more : (j : ℕ) → uses_arc j (take (at + 1) us) ≡ (uses_arc j (take at us) || ((get_or us at d).arc == j || false))
+      more j = ap (uses_arc j) (take_more us at d l) ∙ list_any-append (λ (v : Use). v.arc == j) (take at us) (get_or us at d ∷ [])
 
-  pub goes_more : (old now after : Slab (Arc A)) (r i : ℕ) → ((j : ℕ) → StaysOrGoes old now r j) → ((j k : ℕ) → k ≢ r → Contains (users_in (get old j)) k → Contains (users_in (get now j)) k) →
-      StaysOrGoes now after r i → ((j : ℕ) → j ≢ i → get after j ≡ get now j) → (j : ℕ) → StaysOrGoes old after r j
-  goes_more old now after r i h u s o j = by (ℕ_discrete j i) (h j)
-    where
-      only : ((k : ℕ) → Contains (users_in (get now i)) k → k ≡ r) → j ≡ i → (k : ℕ) → Contains (users_in (get old j)) k → k ≡ r
-      only f e k m = on (ℕ_discrete k r)
+      -- what is without r stays so
+      again : (j : ℕ) (b : Bool) → uses_arc j (take at us) ≡ b → without r (users_in (get now j)) ≡ without r (users_in (get old j))
+      again j true e = ap (without r) (h.without_r j e) ∙ without_twice r (users_in (get old j))
+      again j false e = ap (λ o. without r (users_in o)) (h.others j e)
+
+      at_i : (j : ℕ) → j ≡ i → users_in (get after j) ≡ without r (users_in (get old j))
+      at_i j e = ap (λ k. users_in (get after k)) e ∙ users ∙ ap (λ k. without r (users_in (get now k))) (sym e) ∙ again j (uses_arc j (take at us)) refl
+
+      fewer : (j : ℕ) → uses_arc j (take (at + 1) us) ≡ true → users_in (get after j) ≡ without r (users_in (get old j))
+      fewer j f = by (ℕ_discrete j i) (or_split (uses_arc j (take at us)) _ (sym (more j) ∙ f))
         where
-          on : Dec (k ≡ r) → k ≡ r
-          on (yes g) = g
-          on (no g) = f k (subst (λ z. Contains (users_in (get now z)) k) e (u j k g m))
+          by : Dec (j ≡ i) → (uses_arc j (take at us) ≡ true) ⊎ (((get_or us at d).arc == j || false) ≡ true) → users_in (get after j) ≡ without r (users_in (get old j))
+          by (yes e) x = at_i j e
+          by (no ne) (inl x) = ap users_in (others j ne) ∙ h.without_r j x
+          by (no ne) (inr x) = elim (or_split ((get_or us at d).arc == j) false x) [ inl y ↦ absurd (ne (sym (is ∙ (Decides-eqb (get_or us at d).arc j).0 y))) | inr y ↦ absurd (false≢true y) ]
 
-      at : j ≡ i → StaysOrGoes now after r i → StaysOrGoes now after r j
-      at e x = subst (StaysOrGoes now after r) (sym e) x
+      same : (j : ℕ) → uses_arc j (take (at + 1) us) ≡ false → get after j ≡ get old j
+      same j f = by (ℕ_discrete j i)
+        where
+          earlier : (b : Bool) → uses_arc j (take at us) ≡ b → uses_arc j (take at us) ≡ false
+          earlier false e = e
+          earlier true e = absurd (false≢true (sym f ∙ more j ∙ or_left _ _ e))
 
-      by : Dec (j ≡ i) → StaysOrGoes old now r j → StaysOrGoes old after r j
-      by (no f) (inl p) = inl (ap path_in (o j f) ∙ p)
-      by (no f) (inr p) = inr (ap path_in (o j f) ∙ p.0, p.1)
-      by (yes e) (inl p) = elim (at e s) [ inl q ↦ inl (q ∙ p) | inr q ↦ inr (q.0, only (λ k m. q.1 k (subst (λ z. Contains (users_in (get now z)) k) (sym e) m)) e) ]
-      by (yes e) (inr p) = elim (at e s) [ inl q ↦ inr (q ∙ p.0, p.1) | inr q ↦ inr (q.0, p.1) ]
+          by : Dec (j ≡ i) → get after j ≡ get old j
+          by (yes e) = absurd (false≢true (sym f ∙ more j ∙ or_right (uses_arc j (take at us)) _ (or_left _ false ((Decides-eqb (get_or us at d).arc j).1 (sym is ∙ sym e)))))
+          by (no ne) = others j ne ∙ h.others j (earlier (uses_arc j (take at us)) refl)
+
+      stay : (j : ℕ) → Dec (j ≡ i) → StaysOrGoes old after j
+      stay j (yes e) k = let a = subst (StaysOrGoes now after) (sym e) stays k in let b = h.stays j a.0 in (b.0, a.1 ∙ b.1)
+      stay j (no ne) k = let b = h.stays j (subst (λ o. IsSome o) (others j ne) k) in (b.0, ap path_in (others j ne) ∙ b.1)
+
+      has_some : (j : ℕ) → Dec (j ≡ i) → ContainsKey after j → 1 ≤ length (users_in (get after j))
+      has_some j (yes e) k = subst (λ z. 1 ≤ length (users_in (get after z))) (sym e) (some (subst (λ z. ContainsKey after z) e k))
+      has_some j (no ne) k = subst (λ o. 1 ≤ length (users_in o)) (sym (others j ne)) (h.some j (subst (λ o. IsSome o) (others j ne) k))
+
+  is_there : (a : Option (Arc A)) (k : ℕ) → Contains (users_in a) k → IsSome a
+  is_there None k m = absurd (none_contained k [] refl m)
+  is_there (Some v) k m = refl
 
 each_used : (us vs : List Use) → ((j : ℕ) → uses_arc j vs ≡ true → uses_arc j us ≡ true) → AllByRecursion (λ u. uses_arc u.arc us ≡ true) vs
 each_used us [] h = tt
@@ -91,51 +91,61 @@ all_of : {P Q : Use → Type 0} → ((u : Use) → P u → Q u) → (us : List U
 all_of f [] h = tt
 all_of f (u ∷ us) h = (f u h.0, all_of f us h.1)
 
-module _ {A : Type 0} where
-  pub takes_out_of : (arcs arcs' : Slab (Arc A)) (rings rings' : Slab (Ring A)) (r : ℕ) → Known arcs rings → uses_in (get rings' r) ≡ [] → ((k : ℕ) → k ≢ r → get rings' k ≡ get rings k) → ((j : ℕ) → StaysOrGoes arcs arcs' r j) → TakesOut r (store_of arcs rings) (store_of arcs' rings')
-  takes_out_of arcs arcs' rings rings' r known e o h = record {
-    ring = e;
-    others = λ k f. ap uses_in (o k f);
-    kept = λ k f. all_of (λ u m. elim (h u.arc) [ inl p ↦ p | inr p ↦ absurd (f (p.1 k (known.users k u.arc m))) ]) (uses_in (get rings k)) (each_used (uses_in (get rings k)) (uses_in (get rings k)) (λ j m. m));
-    gone = λ j. elim (h j) [ inl p ↦ inl p | inr p ↦ inr p.0 ];
+module _ {A : Type 0} (arcs arcs' : Slab (Arc A)) (rings rings' : Slab (Ring A)) (r : ℕ) (known : Known arcs rings)
+    (gone : get rings' r ≡ None) (others : (k : ℕ) → k ≢ r → get rings' k ≡ get rings k) (h : Dropped r (uses_in (get rings r)) arcs arcs') where
+  -- every arc is without r: those that it did not use had it not
+  users_are : (j : ℕ) → users_in (get arcs' j) ≡ without r (users_in (get arcs j))
+  users_are j = by (uses_arc j (uses_in (get rings r))) refl
+    where
+      by : (b : Bool) → uses_arc j (uses_in (get rings r)) ≡ b → users_in (get arcs' j) ≡ without r (users_in (get arcs j))
+      by true e = h.without_r j e
+      by false e = ap users_in (h.others j e) ∙ sym (without_absent r (users_in (get arcs j)) (λ m. false≢true (sym e ∙ known.used r j m)))
+
+  still : (k j : ℕ) → k ≢ r → Contains (users_in (get arcs j)) k → Contains (users_in (get arcs' j)) k
+  still k j f m = subst (λ z. Contains z k) (sym (users_are j)) (in_without r (users_in (get arcs j)) k f m)
+
+  pub takes_out_of : TakesOut r (store_of arcs rings) (store_of arcs' rings')
+  takes_out_of = record {
+    ring = ap uses_in gone;
+    others = λ k f. ap uses_in (others k f);
+    kept = λ k f. all_of (λ u m. (h.stays u.arc (is_there (get arcs' u.arc) k (still k u.arc f (known.users k u.arc m)))).1) (uses_in (get rings k)) (each_used (uses_in (get rings k)) (uses_in (get rings k)) (λ j m. m));
+    gone = λ j. by j (get arcs' j) refl;
   }
-
-module _ {A : Type 0} where
-  -- an arc went, and its vertices forgot it
-  pub listed_gone : (arcs arcs' : Slab (Arc A)) (ss ss' : List (Stand A)) (i : ℕ) → path_in (get arcs' i) ≡ [] → ((j : ℕ) → j ≢ i → get arcs' j ≡ get arcs j) →
-      ((j m : ℕ) → m ≢ i → Contains (stand_at ss j) m → Contains (stand_at ss' j) m) → Listed arcs ss → Listed arcs' ss'
-  listed_gone arcs arcs' ss ss' i e o kept h j k x = by (ℕ_discrete j i)
     where
-      by : Dec (j ≡ i) → Contains (stand_at ss' k) j
-      by (yes f) = absurd (omega (arith, (subst (λ z. Contains z k) (ap (λ z. path_in (get arcs' z)) f ∙ e) x).1))
-      by (no f) = kept k j f (h j k (subst (λ q. Contains (path_in q) k) (o j f) x))
-
-  -- an arc stayed or went
-  pub listed_stays : (arcs arcs' : Slab (Arc A)) (ss : List (Stand A)) (r i : ℕ) → StaysOrGoes arcs arcs' r i → ((j : ℕ) → j ≢ i → get arcs' j ≡ get arcs j) → Listed arcs ss → Listed arcs' ss
-  listed_stays arcs arcs' ss r i e o h j k x = by (ℕ_discrete j i)
-    where
-      on : StaysOrGoes arcs arcs' r i → j ≡ i → Contains (stand_at ss k) j
-      on (inl p) f = h j k (subst (λ z. Contains z k) (ap (λ z. path_in (get arcs' z)) f ∙ p ∙ ap (λ z. path_in (get arcs z)) (sym f)) x)
-      on (inr p) f = absurd (omega (arith, (subst (λ z. Contains z k) (ap (λ z. path_in (get arcs' z)) f ∙ p.0) x).1))
-
-      by : Dec (j ≡ i) → Contains (stand_at ss k) j
-      by (yes f) = on e f
-      by (no f) = h j k (subst (λ q. Contains (path_in q) k) (o j f) x)
+      by : (j : ℕ) (o : Option (Arc A)) → get arcs' j ≡ o → (path_in (get arcs' j) ≡ path_in (get arcs j)) ⊎ (path_in (get arcs' j) ≡ [])
+      by j None e = inr (ap path_in e)
+      by j (Some v) e = inl (h.stays j (subst (λ o. IsSome o) (sym e) refl)).1
 
   -- after the ring and its arcs are gone, the arcs know their rings still
-  pub known_without : (arcs arcs' : Slab (Arc A)) (rings rings' : Slab (Ring A)) (r : ℕ) → Known arcs rings → get rings' r ≡ None → ((k : ℕ) → k ≢ r → get rings' k ≡ get rings k) → RemembersBut r arcs arcs' → Known arcs' rings'
-  known_without arcs arcs' rings rings' r known e o h = record {
-    users = λ k i u. knows k i u;
+  pub known_without : Known arcs' rings'
+  known_without = record {
+    users = knows;
     there = λ k i u. is_there (get arcs' i) k (knows k i u);
+    used = λ k i c. let m = from_without r (users_in (get arcs i)) k (subst (λ z. Contains z k) (users_are i) c) in ap (λ o. uses_arc i (uses_in o)) (others k m.1) ∙ known.used k i m.0;
+    single = λ i. subst AllDifferent (sym (users_are i)) (different_without r (users_in (get arcs i)) (known.single i));
+    some = h.some;
   }
     where
       knows : (k i : ℕ) → uses_arc i (uses_in (get rings' k)) ≡ true → Contains (users_in (get arcs' i)) k
       knows k i u = by (ℕ_discrete k r)
         where
           by : Dec (k ≡ r) → Contains (users_in (get arcs' i)) k
-          by (yes f) = absurd (false≢true (subst (λ z. uses_arc i (uses_in z) ≡ true) (ap (get rings') f ∙ e) u))
-          by (no f) = h i k f (known.users k i (subst (λ z. uses_arc i (uses_in z) ≡ true) (o k f) u))
+          by (yes f) = absurd (false≢true (subst (λ z. uses_arc i (uses_in z) ≡ true) (ap (get rings') f ∙ gone) u))
+          by (no f) = still k i f (known.users k i (subst (λ z. uses_arc i (uses_in z) ≡ true) (others k f) u))
 
-      is_there : (a : Option (Arc A)) (k : ℕ) → Contains (users_in a) k → IsSome a
-      is_there None k m = absurd (omega (arith, m.1))
-      is_there (Some v) k m = refl
+module _ {A : Type 0} where
+  -- an arc stays or goes, and its vertices forget it where it goes
+  pub listed_after : (arcs arcs' : Slab (Arc A)) (ss ss' : List (Stand A)) (i : ℕ) → StaysOrGoes arcs arcs' i → ((j : ℕ) → j ≢ i → get arcs' j ≡ get arcs j) →
+      UnlistsOnly ss ss' i → (ContainsKey arcs' i → ss' ≡ ss) → Listed arcs ss → Listed arcs' ss'
+  listed_after arcs arcs' ss ss' i stays others kept same h j k x = by (ℕ_discrete j i)
+    where
+      there : (o : Option (Arc A)) → Contains (path_in o) k → IsSome o
+      there None m = absurd (none_contained k [] refl m)
+      there (Some v) m = refl
+
+      by : Dec (j ≡ i) → Contains (stand_at ss' k) j
+      by (yes e) =
+          let here : ContainsKey arcs' i = subst (λ z. ContainsKey arcs' z) e (there (get arcs' j) x) in
+          let old : Contains (path_in (get arcs j)) k = subst (λ z. Contains (path_in (get arcs z)) k) (sym e) (subst (λ z. Contains z k) (stays here).1 (subst (λ z. Contains (path_in (get arcs' z)) k) e x)) in
+          subst (λ z. Contains (stand_at z k) j) (sym (same here)) (h j k old)
+      by (no f) = kept k j f (h j k (subst (λ o. Contains (path_in o) k) (others j f) x))

@@ -10,36 +10,25 @@ use Rattle.std.proofs.lemmas.List.Elements.{Contains-append_cases}
 use Rattle.slab.proofs.SlabLemmas.{Contains-cons_cases}
 use Rattle.shared_arcs.specs.Ways.{Edge, Grows}
 use Rattle.shared_arcs.proofs.Moves.{kept_grows, keeps_same}
-use Rattle.shared_arcs.proofs.Growing.{known_after}
+use Rattle.shared_arcs.proofs.Growing.{known_alike, same_users}
 use Rattle.shared_arcs.specs.declared.tables.Tables.{Tables}
-use Rattle.shared_arcs.specs.Stores.{path_in, users_in, uses_in, uses_arc, stand_at, Known, Listed, ListsMore, Whole, SameRings, SamePaths, SameKeys, Remembers, GoesOn, store, store_of}
+use Rattle.shared_arcs.specs.Stores.{path_in, users_in, uses_in, uses_arc, stand_at, Known, Listed, ListsMore, Whole, SameRings, SamePaths, SameKeys, SameUsers, GoesOn, store, store_of}
 
 module _ {A : Type 0} where
   -- the same arcs and uses, and no vertex forgot an arc
   pub whole_alike : (s t : Tables A) → ((j : ℕ) → get t.arcs j ≡ get s.arcs j) → SameRings s.rings t.rings → ListsMore s.stands.items t.stands.items → Whole s → Whole t
   whole_alike s t arcs rings more w = record {
-    known = record {
-      users = λ r i u. subst (λ o. Contains (users_in o) r) (sym (arcs i)) (w.known.users r i (ap (uses_arc i) (sym (rings r)) ∙ u));
-      there = λ r i u. subst (λ o. IsSome o) (sym (arcs i)) (w.known.there r i (ap (uses_arc i) (sym (rings r)) ∙ u));
-    };
+    known = known_alike s.arcs t.arcs s.rings t.rings (same_users s.arcs t.arcs arcs) rings w.known;
     listed = λ j k m. more k j (w.listed j k (subst (λ o. Contains (path_in o) k) (arcs j) m));
   }
 
-  -- a key that holds a value may come to hold another
-  pub changed_there : (s t : Slab (Arc A)) (k : ℕ) (v : Arc A) → Updates s t k (Some v) → (j : ℕ) → ContainsKey s j → ContainsKey t j
-  changed_there s t k v u j h = by (ℕ_discrete j k)
-    where
-      by : Dec (j ≡ k) → ContainsKey t j
-      by (yes e) = subst (λ o. IsSome o) (sym (ap (get t) e ∙ u.changed)) refl
-      by (no f) = subst (λ o. IsSome o) (sym (u.others j f)) h
-
-  -- the same paths, and no arc forgot a ring
+  -- the same paths, and no vertex forgot an arc
   pub listed_paths : (arcs arcs' : Slab (Arc A)) (ss ss' : List (Stand A)) → SamePaths arcs arcs' → ListsMore ss ss' → Listed arcs ss → Listed arcs' ss'
   listed_paths arcs arcs' ss ss' same more h j k m = more k j (h j k (subst (λ z. Contains z k) (same j) m))
 
-  pub whole_learned : (s t : Tables A) → SamePaths s.arcs t.arcs → Remembers s.arcs t.arcs → SameRings s.rings t.rings → ListsMore s.stands.items t.stands.items → Whole s → Whole t
-  whole_learned s t paths m rings more w = record {
-    known = known_after s.arcs t.arcs s.rings t.rings w.known m (λ r j h. inl (ap (uses_arc j) (sym (rings r)) ∙ h));
+  pub whole_same : (s t : Tables A) → SamePaths s.arcs t.arcs → SameUsers s.arcs t.arcs → SameRings s.rings t.rings → ListsMore s.stands.items t.stands.items → Whole s → Whole t
+  whole_same s t paths m rings more w = record {
+    known = known_alike s.arcs t.arcs s.rings t.rings m rings w.known;
     listed = listed_paths s.arcs t.arcs s.stands.items t.stands.items paths more w.listed;
   }
 
@@ -60,10 +49,10 @@ module _ {A : Type 0} where
       by (no f) = more k j (h j k (subst (λ q. Contains (path_in q) k) (o j f) m))
 
   -- arc n goes on to b
-  pub whole_longer : (s t : Tables A) (n b : ℕ) → Remembers s.arcs t.arcs → SameRings s.rings t.rings → path_in (get t.arcs n) ≡ path_in (get s.arcs n) ++ b ∷ [] → ((j : ℕ) → j ≢ n → get t.arcs j ≡ get s.arcs j) →
+  pub whole_longer : (s t : Tables A) (n b : ℕ) → SameUsers s.arcs t.arcs → SameRings s.rings t.rings → path_in (get t.arcs n) ≡ path_in (get s.arcs n) ++ b ∷ [] → ((j : ℕ) → j ≢ n → get t.arcs j ≡ get s.arcs j) →
       ListsMore s.stands.items t.stands.items → Contains (stand_at t.stands.items b) n → Whole s → Whole t
   whole_longer s t n b m rings e o more noted w = record {
-    known = known_after s.arcs t.arcs s.rings t.rings w.known m (λ r j h. inl (ap (uses_arc j) (sym (rings r)) ∙ h));
+    known = known_alike s.arcs t.arcs s.rings t.rings m rings w.known;
     listed = listed_new s.arcs t.arcs s.stands.items t.stands.items n (path_in (get s.arcs n) ++ b ∷ []) e o more (λ k x. elim (Contains-append_cases (path_in (get s.arcs n)) (b ∷ []) k x) [
       | inl y ↦ more k n (w.listed n k y)
       | inr y ↦ elim (Contains-cons_cases b k [] y) [ inl z ↦ subst (λ z. Contains (stand_at t.stands.items z) n) z noted | inr z ↦ absurd (omega (arith, z.1)) ]

@@ -1,7 +1,9 @@
 -- What the tables of arcs, of rings and of vertices hold.
-use Rattle.std.specs.Prelude.{ℕ, ◌≡◌, ◌≢◌, ◌⊎◌, ◌<◌, ◌≤◌, ◌+◌, Bool, true, List, [], ◌∷◌, ◌++◌, ◌==◌, Option, Some, None, is_some, take, drop, map, Contains, length, get_or, vec_len, vec_capacity, if◌then◌else◌}
+use Rattle.std.specs.Prelude.{ℕ, ◌≡◌, ◌≢◌, ◌⊎◌, ◌<◌, ◌≤◌, ◌+◌, ◌==◌, not, if◌then◌else◌}
+use Rattle.std.specs.Prelude.{Bool, true, Option, Some, None, is_some, vec_len, vec_capacity}
+use Rattle.std.specs.Prelude.{List, [], ◌∷◌, ◌++◌, take, map, filter, Contains, length, get_or}
 use Rattle.std.specs.Option.{option_map_or}
-use Rattle.std.specs.List.{list_any, flat_map}
+use Rattle.std.specs.List.{list_any, flat_map, AllByRecursion}
 use Rattle.slab.specs.Slab.{Slab, get, ContainsKey}
 use Rattle.shared_arcs.specs.declared.arc.Use.{Use}
 use Rattle.shared_arcs.specs.declared.arc.Arc.{Arc}
@@ -27,7 +29,16 @@ SameKeys old new = (k : ℕ) → is_some (get new k) ≡ is_some (get old k)
 
 -- no number stands in the list twice
 abbrev pub AllDifferent : List ℕ → Type 0
-AllDifferent xs = (i j : ℕ) → i < length xs → j < length xs → get_or xs i 0 ≡ get_or xs j 0 → i ≡ j
+AllDifferent [] = Unit {0}
+AllDifferent (x ∷ xs) = AllByRecursion (λ y. y ≢ x) xs × AllDifferent xs
+
+-- the list without this number
+abbrev pub without : ℕ → List ℕ → List ℕ
+without r xs = filter (λ k. not (k == r)) xs
+
+-- the list with this number, which comes last where it is new
+abbrev pub including : ℕ → List ℕ → List ℕ
+including r xs = if list_any (λ k. k == r) xs then xs else xs ++ r ∷ []
 
 module _ {A : Type 0} where
   -- the keys of an arc, none where there is no arc
@@ -49,10 +60,15 @@ module _ {A : Type 0} where
   abbrev pub stand_at : List (Stand A) → ℕ → List ℕ
   stand_at stands k = get_or (map (λ s. s.arcs.items) stands) k []
 
-  -- an arc knows every ring that uses it, and every arc in use is there
+  -- an arc has each ring that uses it, once, and no other, and an arc that is there is used
   pub record Known (arcs : Slab (Arc A)) (rings : Slab (Ring A)) : Type 0 where
-    pub users : (r i : ℕ) → uses_arc i (uses_in (get rings r)) ≡ true → Contains (users_in (get arcs i)) r
+    pub users : (r i : ℕ) → uses_arc i (uses_in (get rings r)) ≡ true
+        → Contains (users_in (get arcs i)) r
     pub there : (r i : ℕ) → uses_arc i (uses_in (get rings r)) ≡ true → ContainsKey arcs i
+    pub used : (r i : ℕ) → Contains (users_in (get arcs i)) r
+        → uses_arc i (uses_in (get rings r)) ≡ true
+    pub single : (i : ℕ) → AllDifferent (users_in (get arcs i))
+    pub some : (i : ℕ) → ContainsKey arcs i → 1 ≤ length (users_in (get arcs i))
 
   -- a vertex knows every arc that it stands in, and perhaps others
   abbrev pub Listed : Slab (Arc A) → List (Stand A) → Type 0
@@ -61,6 +77,11 @@ module _ {A : Type 0} where
   -- no vertex forgets an arc
   abbrev pub ListsMore : List (Stand A) → List (Stand A) → Type 0
   ListsMore old new = (j m : ℕ) → Contains (stand_at old j) m → Contains (stand_at new j) m
+
+  -- no vertex forgets another arc than i
+  abbrev pub UnlistsOnly : List (Stand A) → List (Stand A) → ℕ → Type 0
+  UnlistsOnly old new i =
+      (j m : ℕ) → m ≢ i → Contains (stand_at old j) m → Contains (stand_at new j) m
 
   -- the tables belong together
   pub record Whole (t : Tables A) : Type 0 where
@@ -100,18 +121,22 @@ module _ {A : Type 0} where
     pub ring : uses_in (get new r) ≡ uses_in (get old r) ++ u ∷ []
     pub others : (k : ℕ) → k ≢ r → uses_in (get new k) ≡ uses_in (get old k)
 
-  -- no arc went, and none forgot a ring
-  pub record Remembers (old new : Slab (Arc A)) : Type 0 where
-    pub there : (j : ℕ) → ContainsKey old j → ContainsKey new j
-    pub users : (j r : ℕ) → Contains (users_in (get old j)) r → Contains (users_in (get new j)) r
+  -- the same arcs are there, and each has the rings that it had
+  pub record SameUsers (old new : Slab (Arc A)) : Type 0 where
+    pub there : SameKeys old new
+    pub users : (j : ℕ) → users_in (get new j) ≡ users_in (get old j)
 
-  -- no arc forgot another ring than r
-  abbrev pub RemembersBut : ℕ → Slab (Arc A) → Slab (Arc A) → Type 0
-  RemembersBut r old new = (j k : ℕ) → k ≢ r → Contains (users_in (get old j)) k → Contains (users_in (get new j)) k
+  -- arc i is there and has ring r too, and the other arcs have the rings that they had
+  pub record Learns (old new : Slab (Arc A)) (i r : ℕ) : Type 0 where
+    pub there : ContainsKey new i
+    pub users : users_in (get new i) ≡ including r (users_in (get old i))
+    pub others_there : (j : ℕ) → j ≢ i → is_some (get new j) ≡ is_some (get old j)
+    pub others : (j : ℕ) → j ≢ i → users_in (get new j) ≡ users_in (get old j)
 
-  -- arc j has the same keys, or it went, and no ring but r had it
-  abbrev pub StaysOrGoes : Slab (Arc A) → Slab (Arc A) → ℕ → ℕ → Type 0
-  StaysOrGoes old now r j = (path_in (get now j) ≡ path_in (get old j)) ⊎ ((path_in (get now j) ≡ []) × ((k : ℕ) → Contains (users_in (get old j)) k → k ≡ r))
+  -- where arc j is there, it was there before, with the same keys
+  abbrev pub StaysOrGoes : Slab (Arc A) → Slab (Arc A) → ℕ → Type 0
+  StaysOrGoes old now j =
+      ContainsKey now j → ContainsKey old j × (path_in (get now j) ≡ path_in (get old j))
 
   -- one more use of the ring fits
   abbrev pub HasRoomFor : Slab (Ring A) → ℕ → Type 0

@@ -1,9 +1,13 @@
 //! Laying a ring along its keys: over the arcs that have its segments, and over new ones.
-ghost use Rattle.std.specs.Prelude.{◌≡◌, ◌≢◌, ℕ, ◌<◌, ◌≤◌, ◌+◌, ◌-◌, OnOk, OnErr, IfOk, IfSome, Contains, take, drop, length, get_or, reverse, true, false, None, [], ◌∷◌, ◌++◌};
+ghost use Rattle.std.specs.Prelude.{◌≡◌, ◌≢◌, ℕ, ◌<◌, ◌≤◌, ◌+◌, ◌-◌, OnOk, OnErr, IfOk, IfSome};
+ghost use Rattle.std.specs.Prelude.{true, false, None, take, drop, length, get_or, reverse};
+ghost use Rattle.std.specs.Prelude.{[], ◌∷◌, ◌++◌};
 ghost use Rattle.slab.specs.Slab.{get, ContainsKey};
 ghost use Rattle.shared_arcs.specs.Ways.{Starts, Takes, times, links, Grows, Keeps, OpenAt, Spoils};
 ghost use Rattle.shared_arcs.specs.Sound.{HoldsOneMore};
-ghost use Rattle.shared_arcs.specs.Stores.{path_in, users_in, uses_in, path_of, store, Whole, SamePaths, SameRings, SameKeys, GoesOn, Remembers, HasRoomFor, IsPlace, IsOpen};
+ghost use Rattle.shared_arcs.specs.Stores.{path_in, users_in, uses_in, path_of, store, including};
+ghost use Rattle.shared_arcs.specs.Stores.{Whole, SamePaths, SameRings, SameUsers, SameKeys};
+ghost use Rattle.shared_arcs.specs.Stores.{GoesOn, Learns, HasRoomFor, IsPlace, IsOpen};
 
 use crate::arc::{Arc, Ring, Use};
 use crate::place::{Place, agreed, agreed_back};
@@ -41,6 +45,18 @@ fn go_on<A: Allocator + Copy>(rings: &mut Slab<Ring<A>, A>, r: usize, u: Use)
     ring.uses.push_reserved(u);
 }
 
+/// Puts a number into a list that may have it.
+fn include<A: Allocator + Copy>(list: &mut Vec<usize, A>, r: usize) -> Result<(), AllocError>
+    ensures ok { OnOk result (list.new.items ≡ including r list.old.items) }
+    ensures err { OnErr result (list.new.items ≡ list.old.items) }
+{
+    if list.contains(&r) {
+        return Ok(());
+    }
+    list.push(r)?;
+    Ok(())
+}
+
 /// Arc `i` learns that ring `r` uses it.
 fn learn<A: Allocator + Copy>(
     arcs: &mut Slab<Arc<A>, A>,
@@ -49,12 +65,14 @@ fn learn<A: Allocator + Copy>(
 ) -> Result<(), AllocError>
     requires { ContainsKey arcs.old i }
     ensures paths { SamePaths arcs.old arcs.new }
-    ensures remembers { Remembers arcs.old arcs.new }
-    ensures ok { OnOk result (Contains (users_in (get arcs.new i)) r) }
+    ensures ok { OnOk result (Learns arcs.old arcs.new i r) }
+    ensures err { OnErr result (SameUsers arcs.old arcs.new) }
 {
     let arc = arcs.get_mut(i).unwrap();
-    arc.rings.push(r)?;
-    Ok(())
+    match include(&mut arc.rings, r) {
+        Ok(()) => Ok(()),
+        Err(e) => Err(e),
+    }
 }
 
 /// Arc `n` has one more key.
@@ -67,7 +85,7 @@ fn lengthen<A: Allocator + Copy>(
     ensures ok { OnOk result (path_in (get arcs.new n) ≡ path_in (get arcs.old n) ++ b ∷ []) }
     ensures others { (j : ℕ) → j ≢ n → get arcs.new j ≡ get arcs.old j }
     ensures err { OnErr result (SamePaths arcs.old arcs.new) }
-    ensures remembers { Remembers arcs.old arcs.new }
+    ensures users { SameUsers arcs.old arcs.new }
 {
     let arc = arcs.get_mut(n).unwrap();
     arc.keys.push(b)?;
@@ -119,7 +137,7 @@ impl<A: Allocator + Copy> Tables<A> {
         ensures others { (j : ℕ) → j ≢ n → get self.new.arcs j ≡ get self.old.arcs j }
         ensures err { OnErr result (SamePaths self.old.arcs self.new.arcs) }
         ensures rings { self.new.rings ≡ self.old.rings }
-        ensures remembers { Remembers self.old.arcs self.new.arcs }
+        ensures users { SameUsers self.old.arcs self.new.arcs }
         ensures whole { Whole self.new }
     {
         list_arc(self.alloc, &mut self.stands, b, n)?;

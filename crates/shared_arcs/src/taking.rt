@@ -1,8 +1,9 @@
 //! Taking a ring out, which needs no memory.
-ghost use Rattle.std.specs.Prelude.{◌≡◌, ◌≢◌, ℕ, None, IfSome, Contains};
-ghost use Rattle.slab.specs.Slab.{get};
+ghost use Rattle.std.specs.Prelude.{◌≡◌, ◌≢◌, ℕ, ◌≤◌, None, IfSome, Contains, length};
+ghost use Rattle.slab.specs.Slab.{get, ContainsKey};
 ghost use Rattle.shared_arcs.specs.Ways.{TakesOut};
-ghost use Rattle.shared_arcs.specs.Stores.{stand_at, store, Whole, Listed, StaysOrGoes, RemembersBut};
+ghost use Rattle.shared_arcs.specs.Stores.{without, users_in, stand_at, store, Whole, Listed};
+ghost use Rattle.shared_arcs.specs.Stores.{StaysOrGoes, UnlistsOnly};
 
 use crate::arc::{Arc, Stand};
 use crate::tables::Tables;
@@ -10,32 +11,25 @@ use slab::Slab;
 use std::alloc::Allocator;
 use vertex_index::VertexKey;
 
-/// A list without this number.
-fn without<A: Allocator + Copy>(list: &mut Vec<usize, A>, r: usize)
-    ensures { (k : ℕ) → k ≢ r → Contains list.old.items k → Contains list.new.items k }
+/// Takes a number out of a list.
+fn take_from<A: Allocator + Copy>(list: &mut Vec<usize, A>, r: usize)
+    ensures { list.new.items ≡ without r list.old.items }
 {
-    let mut at = 0usize;
-    while at < list.len() {
-        if list[at] == r {
-            list.remove(at);
-        } else {
-            at += 1;
-        }
-    }
+    list.retain(|k| *k != r);
 }
 
 /// Vertex `k` forgets arc `i`.
 fn unlist<A: Allocator + Copy>(stands: &mut Vec<Stand<A>, A>, k: VertexKey, i: usize)
-    ensures { (j m : ℕ) → m ≢ i → Contains (stand_at stands.old.items j) m → Contains (stand_at stands.new.items j) m }
+    ensures { UnlistsOnly stands.old.items stands.new.items i }
 {
     if let Some(stand) = stands.get_mut(k.index()) {
-        without(&mut stand.arcs, i);
+        take_from(&mut stand.arcs, i);
     }
 }
 
 /// These vertices forget arc `i`.
 fn unlist_all<A: Allocator + Copy>(stands: &mut Vec<Stand<A>, A>, keys: &[VertexKey], i: usize)
-    ensures { (j m : ℕ) → m ≢ i → Contains (stand_at stands.old.items j) m → Contains (stand_at stands.new.items j) m }
+    ensures { UnlistsOnly stands.old.items stands.new.items i }
 {
     for k in keys {
         unlist(stands, *k, i);
@@ -44,13 +38,14 @@ fn unlist_all<A: Allocator + Copy>(stands: &mut Vec<Stand<A>, A>, keys: &[Vertex
 
 /// Arc `i` forgets ring `r`, and goes where no other ring uses it.
 fn forget<A: Allocator + Copy>(arcs: &mut Slab<Arc<A>, A>, i: usize, r: usize) -> Option<Arc<A>>
-    ensures path { StaysOrGoes arcs.old arcs.new r i }
+    ensures stays { StaysOrGoes arcs.old arcs.new i }
     ensures others { (j : ℕ) → j ≢ i → get arcs.new j ≡ get arcs.old j }
-    ensures users { RemembersBut r arcs.old arcs.new }
+    ensures users { users_in (get arcs.new i) ≡ without r (users_in (get arcs.old i)) }
+    ensures some { ContainsKey arcs.new i → 1 ≤ length (users_in (get arcs.new i)) }
     ensures gone { IfSome result (λ _. get arcs.new i ≡ None) }
 {
     let arc = arcs.get_mut(i)?;
-    without(&mut arc.rings, r);
+    take_from(&mut arc.rings, r);
     if arc.rings.is_empty() {
         arcs.try_remove(i)
     } else {
@@ -61,9 +56,10 @@ fn forget<A: Allocator + Copy>(arcs: &mut Slab<Arc<A>, A>, i: usize, r: usize) -
 impl<A: Allocator + Copy> Tables<A> {
     /// Arc `i` forgets ring `r`, and where no other ring uses it, it goes, also from its vertices.
     fn drop_use(&mut self, i: usize, r: usize)
-        ensures path { StaysOrGoes self.old.arcs self.new.arcs r i }
+        ensures stays { StaysOrGoes self.old.arcs self.new.arcs i }
         ensures others { (j : ℕ) → j ≢ i → get self.new.arcs j ≡ get self.old.arcs j }
-        ensures users { RemembersBut r self.old.arcs self.new.arcs }
+        ensures users { users_in (get self.new.arcs i) ≡ without r (users_in (get self.old.arcs i)) }
+        ensures some { ContainsKey self.new.arcs i → 1 ≤ length (users_in (get self.new.arcs i)) }
         ensures listed { Listed self.old.arcs self.old.stands.items
             → Listed self.new.arcs self.new.stands.items }
         ensures rings { self.new.rings ≡ self.old.rings }

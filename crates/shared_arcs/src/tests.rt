@@ -177,7 +177,7 @@ fn a_refused_ring_changes_nothing(rt: HostRuntime) -> Result<(), Fail> {
     let mut refused = 0usize;
     for room in 0..200usize {
         if is_refused(&rt, alloc, left.as_slice(), right.as_slice(), 16 * room)? {
-            refused += 1;
+            refused = refused.saturating_add(1);
         }
     }
     assert!(rt; 10 < refused && refused < 200);

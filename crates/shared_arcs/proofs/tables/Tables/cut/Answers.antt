@@ -25,6 +25,7 @@ parted g c =
     let arc : Some c.unwrap-arc.result.now ≡ get c.args.self.now.arcs i = sym (ap option_copied c.unwrap-arc.ensures) ∙ c.get.ensures ∙ same g c i in
     record {
       vacant = sym (same g c c.vacant_key-n.result) ∙ c.vacant_key-n.ensures.vacant;
+      i_there = c.requires.there;
       apart = λ e. c.part.ensures.apart (e ∙ sym (key g c));
       first = c.part.ensures.first ∙ ap (λ o. take (c.args.at + 1) (path_in o)) (same g c i);
       second = ap (λ k. path_in (get c.part.new.arcs k)) (sym (key g c)) ∙ c.part.ensures.second ∙ c.in_ok-tail.ensures.items ∙ rest c.args.at c.deref.result.now ∙ ap (drop c.args.at) c.deref.ensures.value ∙ ap (λ o. drop c.args.at (path_in o)) arc;

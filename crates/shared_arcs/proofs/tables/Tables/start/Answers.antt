@@ -4,10 +4,10 @@ use Rattle.slab.specs.Slab.{get, Updates, ContainsKey}
 use Rattle.shared_arcs.specs.declared.arc.Arc.{Arc}
 use Rattle.shared_arcs.specs.declared.arc.Use.{Use}
 use Rattle.shared_arcs.specs.Ways.{Starts}
-use Rattle.shared_arcs.specs.Stores.{path_in, users_in, uses_in, GoesOn}
+use Rattle.shared_arcs.specs.Stores.{path_in, users_in, uses_in, including, GoesOn}
 use Rattle.shared_arcs.proofs.WholeLemmas.{whole_alike, listed_new, goes_on_after}
 use Rattle.shared_arcs.proofs.CutLemmas.{not_used, lacks_of}
-use Rattle.shared_arcs.proofs.Growing.{known_goes_on, remembers_change}
+use Rattle.shared_arcs.proofs.Growing.{known_goes_on, learns}
 use Rattle.shared_arcs.proofs.tables.Tables.start.Given.{Over}
 use Rattle.shared_arcs.proofs.tables.Tables.start.Goals as goal
 
@@ -46,10 +46,8 @@ returns-clause-whole g c =
     let n = c.vacant_key-n.result in
     record {
       known = known_goes_on c.args.self.now.arcs c.insert_reserved.new.self c.args.self.now.rings c.go_on.new.rings c.args.r (record { arc = n; back = false }) c.requires.whole.known
-          (remembers_change c.args.self.now.arcs c.insert_reserved.new.self n (arc g c) (updates g c) (λ r m. absurd (omega (arith, (subst (λ o. Contains (users_in o) r) (vacant g c) m).1))))
-          (went g c)
-          (subst (λ o. Contains (users_in o) c.args.r) (sym (updates g c).changed) (subst (λ z. Contains z c.args.r) (sym c.in_ok-users.ensures.items) (0, omega arith, refl)))
-          (subst (λ o. IsSome o) (sym (updates g c).changed) refl);
+          (learns c.args.self.now.arcs c.insert_reserved.new.self n c.args.r (arc g c) (updates g c) (c.in_ok-users.ensures.items ∙ ap (λ o. including c.args.r (users_in o)) (sym (vacant g c))))
+          (went g c);
       listed = listed_new c.args.self.now.arcs c.insert_reserved.new.self c.args.self.now.stands.items c.note.new.stands.items n c.in_ok-keys.keys.items (ap path_in (updates g c).changed) (updates g c).others c.note.ensures.kept
           (λ k m. c.in_ok-note.ensures.noted k (subst (λ z. Contains z k) (sym c.as_slice.ensures.value) m)) c.requires.whole.listed;
     }

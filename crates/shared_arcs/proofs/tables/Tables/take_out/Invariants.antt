@@ -1,11 +1,12 @@
-use Rattle.std.proofs.Common.{ℕ, ◌≡◌}
-use Rattle.shared_arcs.specs.Stores.{Listed, RemembersBut, StaysOrGoes}
+use Rattle.std.proofs.Common.{◌≡◌, take}
+use Rattle.slab.specs.Slab.{get}
+use Rattle.shared_arcs.specs.Stores.{Listed, uses_in}
+use Rattle.shared_arcs.proofs.TakeLemmas.{Dropped}
 use Rattle.shared_arcs.proofs.tables.Tables.take_out.Given as goal
 
 abbrev pub invariant-loop-u : goal.invariant-loop-u
 invariant-loop-u g l = record {
-  users : RemembersBut l.r l.fn.self.arcs l.self.arcs;
-  paths : (j : ℕ) → StaysOrGoes l.fn.self.arcs l.self.arcs l.r j;
+  dropped : Dropped l.r (take l.u-index (uses_in (get l.fn.self.rings l.r))) l.fn.self.arcs l.self.arcs;
   listed : Listed l.self.arcs l.self.stands.items;
   rings : l.self.rings ≡ l.initial.self.rings;
 }
