@@ -1,5 +1,5 @@
 -- An edit of each arc edge by edge is the edit of each ring.
-use Rattle.std.proofs.Common.{◌≡◌, refl, sym, ap, ap₂, ◌∙◌, ℕ, Bool, true, false, cond, List, [], ◌∷◌, ◌++◌, Option, Some, None, option_map, reverse, subst, Contains, ◌≢◌, ◌⊎◌, inl, inr}
+use Rattle.std.proofs.Common.{◌≡◌, refl, sym, ap, ap₂, ◌∙◌, ℕ, Bool, true, false, cond, List, [], ◌∷◌, ◌++◌, Option, Some, None, option_map, reverse, subst, Contains, arith, ◌≢◌, ◌⊎◌, inl, inr}
 use native.Mathlib.Decide.{ℕ_discrete}
 use Rattle.std.specs.List.{flat_map}
 use Rattle.std.proofs.lemmas.List.{append-nil}
@@ -11,11 +11,12 @@ use Rattle.shared_arcs.specs.declared.arc.Arc.{Arc}
 use Rattle.shared_arcs.specs.declared.arc.Ring.{Ring}
 use Rattle.shared_arcs.specs.declared.arc.Stand.{Stand}
 use Rattle.shared_arcs.specs.declared.tables.Tables.{Tables}
-use Rattle.shared_arcs.specs.Ways.{Edge, links, walk, chain}
-use Rattle.shared_arcs.specs.Stores.{path_of, path_in, users_in, stand_at, SameKeys, Known, Listed, ListsMore}
+use Rattle.shared_arcs.specs.Ways.{Edge, links, walk, chain, times, Once}
+use Rattle.shared_arcs.specs.Stores.{path_of, path_in, stand_at, Listed, ListsMore}
 use Rattle.shared_arcs.specs.Sound.{edges_in, rings_of}
 use Rattle.shared_arcs.proofs.Moves.{flip, flipped, flipped-append, links-reverse}
 use Rattle.shared_arcs.proofs.RingLemmas.{get_rings}
+use Rattle.shared_arcs.proofs.Segments.{once_for}
 
 -- the edit of an edge in reverse is the reverse of its edit
 abbrev pub Turns : (Edge → List Edge) → Type 0
@@ -53,13 +54,6 @@ module _ {A : Type 0} where
       by None = refl
       by (Some v) = ap (λ z. Some z) (edited_chain g (path_of s) (path_of t) turns k v.uses.items)
 
-  -- the same uses and lists of rings
-  pub known_edited : (arcs arcs' : Slab (Arc A)) (rings rings' : Slab (Ring A)) → SameKeys arcs arcs' → ((j : ℕ) → users_in (get arcs' j) ≡ users_in (get arcs j)) → rings' ≡ rings → Known arcs rings → Known arcs' rings'
-  known_edited arcs arcs' rings rings' held users same k = subst (Known arcs') (sym same) (record {
-    users = λ r i u. subst (λ z. Contains z r) (sym (users i)) (k.users r i u);
-    there = λ r i u. held i ∙ k.there r i u;
-  })
-
   -- one arc has other keys, the vertices of which list it
   pub listed_edited : (arcs arcs' : Slab (Arc A)) (ss ss' : List (Stand A)) (i q : ℕ) → ((k : ℕ) → Contains (path_in (get arcs' i)) k → Contains (path_in (get arcs i)) k ⊎ (k ≡ q)) → ((j : ℕ) → j ≢ i → get arcs' j ≡ get arcs j) →
       ListsMore ss ss' → Contains (stand_at ss' q) i → Listed arcs ss → Listed arcs' ss'
@@ -72,6 +66,6 @@ module _ {A : Type 0} where
       ])
       by (no f) = more k j (h j k (subst (λ o. Contains (path_in o) k) (others j f) m))
 
-  -- a fact of one arc, and of the others that they stay
-  pub all_users : (arcs arcs' : Slab (Arc A)) (i : ℕ) → users_in (get arcs' i) ≡ users_in (get arcs i) → ((j : ℕ) → j ≢ i → get arcs' j ≡ get arcs j) → (j : ℕ) → users_in (get arcs' j) ≡ users_in (get arcs j)
-  all_users arcs arcs' i e others j = elim (ℕ_discrete j i) [ yes f ↦ subst (λ n. users_in (get arcs' n) ≡ users_in (get arcs n)) (sym f) e | no f ↦ ap users_in (others j f) ]
+-- the same paths
+pub once_alike : (s t : ℕ → List ℕ) → ((i : ℕ) → t i ≡ s i) → Once s → Once t
+once_alike s t same h = once_for s t (λ c d. (c, d, λ i. omega (arith, ap (λ z. times c d (links z)) (same i)))) h

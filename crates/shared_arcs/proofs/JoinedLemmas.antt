@@ -1,5 +1,6 @@
 -- The segments of rings are those of the arcs that they use.
-use Rattle.std.proofs.Common.{◌≡◌, ℕ, ◌≤◌, ◌+◌, Bool, true, false, ◌||◌, ◌&&◌, refl, sym, ap, ◌∙◌, subst, List, [], ◌∷◌, ◌++◌, zero, suc, ◌⊎◌, inl, inr, arith, Contains, is_some, IsSome, Option}
+use Rattle.std.proofs.Common.{◌≡◌, ℕ, ◌≤◌, ◌+◌, Bool, true, false, ◌||◌, ◌&&◌, refl, sym, ap, ◌∙◌, subst, List, [], ◌∷◌, ◌++◌, zero, suc, ◌⊎◌, inl, inr, arith, Contains, is_some, IsSome, Option, get_or}
+use Rattle.std.proofs.lemmas.List.{get_or_default}
 use Rattle.std.proofs.Common.{None as Absent, Some}
 use Rattle.std.specs.Prelude.{◌==◌}
 use Rattle.std.specs.Option.{unwrap_or}
@@ -16,7 +17,7 @@ use Rattle.shared_arcs.specs.declared.around.Neighbours.TheVariants.{None, One, 
 use Rattle.shared_arcs.specs.Ways.{Edge, links, walk, chain, times, is_seg, one, edges_of}
 use Rattle.shared_arcs.specs.Around.{noted_all, other_ends, ends_among}
 use Rattle.shared_arcs.specs.Joined.{Joined, AreNeighbours}
-use Rattle.shared_arcs.specs.Stores.{path_of, path_in, uses_in, uses_arc, store, stand_at, Listed}
+use Rattle.shared_arcs.specs.Stores.{path_of, path_in, users_in, uses_in, uses_arc, store, stand_at, Known, Listed}
 use Rattle.shared_arcs.specs.Sound.{rings_of}
 use Rattle.shared_arcs.proofs.Moves.{times-append, times-flipped, links-reverse}
 use Rattle.shared_arcs.proofs.CutLemmas.{or_split, or_left, or_right, present}
@@ -71,6 +72,12 @@ module _ {A : Type 0} where
   abbrev pub EachUsed : Tables A → Type 0
   EachUsed t = (i : ℕ) → ContainsKey t.arcs i → (r : ℕ) × (uses_arc i (uses_in (get t.rings r)) ≡ true)
 
+  pub each_used : (t : Tables A) → Known t.arcs t.rings → EachUsed t
+  each_used t k i h =
+      let users = users_in (get t.arcs i) in
+      let r = get_or users 0 0 in
+      (r, k.used r i (0, omega (arith, k.some i h), get_or_default users 0 r 0 (omega (arith, k.some i h))))
+
   -- the edges that the map has under a number are those of its ring
   pub edges_held : (t : Tables A) (r : ℕ) (es : List Edge) → rings.get (rings_of t) r ≡ Some es → edges_of (store t) r ≡ es
   edges_held t r es h = ap (λ o. unwrap_or o []) (sym (ring_here t r (held_ring t r (ap is_some h))) ∙ h)
@@ -117,3 +124,11 @@ module _ {A : Type 0} where
       are (One a) h = h
       are (Two a b) h = h
       are More h = record { a = h.0; b = h.1; c = h.2; apart = h.3; joined = h.4 }
+
+  -- what is not joined in the rings stands beside it in no arc
+  pub not_joined : (t : Tables A) → EachUsed t → (k x : ℕ) → ¬ (Joined (rings_of t) k x) → (i : ℕ) → times k x (links (path_of t i)) ≡ 0
+  not_joined t used k x h i = by (times k x (links (path_of t i))) refl
+    where
+      by : (n : ℕ) → times k x (links (path_of t i)) ≡ n → times k x (links (path_of t i)) ≡ 0
+      by zero e = e
+      by (suc n) e = absurd (h (arc_joined t used k x i (omega arith)))

@@ -4,7 +4,7 @@ ghost use Rattle.std.specs.List.{insert};
 ghost use Rattle.slab.specs.Slab.{get, ContainsKey};
 ghost use Rattle.shared_arcs.specs.Ways.{Once, links};
 ghost use Rattle.shared_arcs.specs.Edited.{through};
-ghost use Rattle.shared_arcs.specs.Stores.{path_in, users_in, path_of, Whole, SamePaths, SameKeys};
+ghost use Rattle.shared_arcs.specs.Stores.{path_in, path_of, Whole, SamePaths, SameUsers};
 
 use crate::arc::{Arc, Stand};
 use crate::place::{arcs_at, place_in};
@@ -26,8 +26,7 @@ fn put_key<A: Allocator + Copy>(
     ensures ok { OnOk result (path_in (get arcs.new i) ≡ insert (path_in (get arcs.old i)) at q) }
     ensures err { OnErr result (path_in (get arcs.new i) ≡ path_in (get arcs.old i)) }
     ensures others { (j : ℕ) → j ≢ i → get arcs.new j ≡ get arcs.old j }
-    ensures held { SameKeys arcs.old arcs.new }
-    ensures users { users_in (get arcs.new i) ≡ users_in (get arcs.old i) }
+    ensures users { SameUsers arcs.old arcs.new }
 {
     let arc = arcs.get_mut(i).unwrap();
     arc.keys.insert(at, q)?;

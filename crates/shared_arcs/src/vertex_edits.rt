@@ -20,10 +20,7 @@ impl<A: Allocator + Copy> Borders<A> {
             ≡ option_map (through a b q) (map.get self.old r)) }
         ensures err { OnErr result (self.new ≡ self.old) }
     {
-        match self.tables.insert(a, b, q) {
-            Ok(()) => Ok(()),
-            Err(e) => Err(e),
-        }
+        self.tables.insert(a, b, q)
     }
 
     /// Takes vertex `p`, whose neighbours are `a` and `b` in every ring that has it, out of every
@@ -36,10 +33,7 @@ impl<A: Allocator + Copy> Borders<A> {
             ≡ option_map (collapsed p b) (map.get self.old r)) }
         ensures err { OnErr result (self.new ≡ self.old) }
     {
-        match self.tables.remove(p, b) {
-            Ok(()) => Ok(()),
-            Err(e) => Err(e),
-        }
+        self.tables.remove(p, b)
     }
 
     /// The vertices that some ring joins to `k` by a segment. Takes no memory.

@@ -4,7 +4,8 @@ use Rattle.slab.specs.Slab.{get}
 use Rattle.shared_arcs.specs.Ways.{links}
 use Rattle.shared_arcs.specs.Edited.{through}
 use Rattle.shared_arcs.specs.Stores.{path_in, path_of}
-use Rattle.shared_arcs.proofs.EditLemmas.{known_edited, listed_edited, all_users}
+use Rattle.shared_arcs.proofs.Growing.{known_alike}
+use Rattle.shared_arcs.proofs.EditLemmas.{listed_edited}
 use Rattle.shared_arcs.proofs.Inserting.{inserted_arcs, untouched, in_inserted}
 use Rattle.shared_arcs.proofs.Segments.{on_ok_map, either_result}
 use Rattle.shared_arcs.proofs.tables.Tables.insert.Goals as goal
@@ -20,7 +21,7 @@ returns-in-Ok-clause-whole g c =
     let s = c.args.self.now in
     let arcs = c.put_key.new.arcs in
     record {
-      known = known_edited s.arcs arcs s.rings s.rings c.put_key.ensures.held (all_users s.arcs arcs p.arc c.put_key.ensures.users c.put_key.ensures.others) refl c.requires.whole.known;
+      known = known_alike s.arcs arcs s.rings s.rings c.put_key.ensures.users (λ r. refl) c.requires.whole.known;
       listed = listed_edited s.arcs arcs s.stands.items c.list_arc.new.stands.items p.arc c.args.q (λ k m. either_result c.put_key.result
       (λ e. in_inserted (path_in (get s.arcs p.arc)) (p.at + 1) c.args.q k (subst (λ z. Contains z k) e m)) (λ e. inl (subst (λ z. Contains z k) e m)) c.put_key.ensures.ok c.put_key.ensures.err)
       c.put_key.ensures.others c.in-Ok.ensures.kept c.in-Ok.ensures.listed c.requires.whole.listed;
