@@ -65,7 +65,7 @@ inserted (x ∷ y ∷ ps) (suc at) q l =
     let f : suc at + 2 ≡ suc (at + 2) = omega arith in
     rw (e, f) (ap (λ z. x ∷ z) (inserted (y ∷ ps) at q (omega arith)))
 
-of_place : (a b at : ℕ) (back : Bool) (ps : List ℕ) → IsPlace ps at back a b → is_seg a b (get_or ps at 0, get_or ps (at + 1) 0) ≡ true
+pub of_place : (a b at : ℕ) (back : Bool) (ps : List ℕ) → IsPlace ps at back a b → is_seg a b (get_or ps at 0, get_or ps (at + 1) 0) ≡ true
 of_place a b at back ps p = by back p.here p.next
   where
     by : (t : Bool) → get_or ps at 0 ≡ cond t b a → get_or ps (at + 1) 0 ≡ cond t a b → is_seg a b (get_or ps at 0, get_or ps (at + 1) 0) ≡ true

@@ -16,3 +16,4 @@ pub mod EditLemmas
 pub mod Inserting
 pub mod JoinedLemmas
 pub mod AroundLemmas
+pub mod Removing

@@ -1,7 +1,7 @@
 -- What an edit of one vertex makes of a ring's edges.
-use Rattle.std.specs.Prelude.{ℕ, ◌==◌, ◌≢◌, if◌then◌else◌, List, [], ◌∷◌}
+use Rattle.std.specs.Prelude.{ℕ, ◌==◌, ◌≡◌, ◌≢◌, ◌⊎◌, if◌then◌else◌, List, [], ◌∷◌, Contains}
 use Rattle.std.specs.List.{flat_map}
-use Rattle.shared_arcs.specs.Ways.{Edge, is_seg}
+use Rattle.shared_arcs.specs.Ways.{Edge, is_seg, links}
 
 -- three different vertices
 abbrev pub AreApart : ℕ → ℕ → ℕ → Type 0
@@ -26,3 +26,12 @@ drawn p b e = if is_seg p b e then [] else ((onto p b e.0, onto p b e.1) ∷ [])
 -- p moves onto its neighbour b, and the edges between them go
 abbrev pub collapsed : ℕ → ℕ → List Edge → List Edge
 collapsed p b es = flat_map (drawn p b) es
+
+-- p moved onto b in a path, and the edges between them went
+pub record Collapses (p b : ℕ) (old new : List ℕ) : Type 0 where
+  pub edges : links new ≡ collapsed p b (links old)
+  pub keys : (k : ℕ) → Contains new k → (k ≢ p) × (Contains old k ⊎ (k ≡ b))
+
+-- it did in the path of arc j, where that is among these, and any other path stayed
+abbrev pub CollapsesAmong : List ℕ → ℕ → ℕ → ℕ → List ℕ → List ℕ → Type 0
+CollapsesAmong among j p b old new = (Contains among j × Collapses p b old new) ⊎ ((new ≡ old) × ¬ (Contains among j))
