@@ -1,5 +1,5 @@
 -- An edit of each arc edge by edge is the edit of each ring.
-use Rattle.std.proofs.Common.{◌≡◌, refl, sym, ap, ap₂, ◌∙◌, ℕ, Bool, true, false, cond, List, [], ◌∷◌, ◌++◌, Option, Some, None, option_map, reverse, subst, Contains, arith, ◌≢◌, ◌⊎◌, inl, inr}
+use Rattle.std.proofs.Common.{◌≡◌, refl, sym, ap, ap₂, ◌∙◌, ℕ, Bool, true, false, cond, List, [], ◌∷◌, ◌++◌, Option, Some, None, option_map, reverse, is_some, subst, Contains, arith, ◌≢◌, ◌⊎◌, inl, inr}
 use native.Mathlib.Decide.{ℕ_discrete}
 use Rattle.std.specs.List.{flat_map}
 use Rattle.std.proofs.lemmas.List.{append-nil}
@@ -12,10 +12,10 @@ use Rattle.shared_arcs.specs.declared.arc.Ring.{Ring}
 use Rattle.shared_arcs.specs.declared.arc.Stand.{Stand}
 use Rattle.shared_arcs.specs.declared.tables.Tables.{Tables}
 use Rattle.shared_arcs.specs.Ways.{Edge, links, walk, chain, times, Once}
-use Rattle.shared_arcs.specs.Stores.{path_of, path_in, stand_at, Listed, ListsMore}
+use Rattle.shared_arcs.specs.Stores.{path_of, path_in, uses_in, stand_at, store, SamePaths, Listed, ListsMore}
 use Rattle.shared_arcs.specs.Sound.{edges_in, rings_of}
-use Rattle.shared_arcs.proofs.Moves.{flip, flipped, flipped-append, links-reverse}
-use Rattle.shared_arcs.proofs.RingLemmas.{get_rings}
+use Rattle.shared_arcs.proofs.Moves.{flip, flipped, flipped-append, links-reverse, keeps_same}
+use Rattle.shared_arcs.proofs.RingLemmas.{get_rings, rings_kept}
 use Rattle.shared_arcs.proofs.Segments.{once_for}
 
 -- the edit of an edge in reverse is the reverse of its edit
@@ -53,6 +53,10 @@ module _ {A : Type 0} where
       by : (o : Option (Ring A)) → edges_in (path_of t) o ≡ option_map (flat_map g) (edges_in (path_of s) o)
       by None = refl
       by (Some v) = ap (λ z. Some z) (edited_chain g (path_of s) (path_of t) turns k v.uses.items)
+
+  -- no path and no use changed
+  pub rings_unedited : (s t : Tables A) → SamePaths s.arcs t.arcs → t.rings ≡ s.rings → rings_of t ≡ rings_of s
+  rings_unedited s t paths same = rings_kept s t (λ k. ap (λ z. is_some (get z k)) same) (keeps_same (store s) (store t) paths (λ k. ap (λ z. uses_in (get z k)) same))
 
   -- one arc has other keys, the vertices of which list it
   pub listed_edited : (arcs arcs' : Slab (Arc A)) (ss ss' : List (Stand A)) (i q : ℕ) → ((k : ℕ) → Contains (path_in (get arcs' i)) k → Contains (path_in (get arcs i)) k ⊎ (k ≡ q)) → ((j : ℕ) → j ≢ i → get arcs' j ≡ get arcs j) →

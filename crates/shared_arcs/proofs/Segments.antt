@@ -63,6 +63,10 @@ pub on_ok_map : {X E : Type 0} {P Q : Type 0} (r : Result X E) → (P → Q) →
 on_ok_map (Ok x) f p = f p
 on_ok_map (Err e) f p = tt
 
+pub on_err_map : {X E : Type 0} {P Q : Type 0} (r : Result X E) → (P → Q) → OnErr r P → OnErr r Q
+on_err_map (Ok x) f p = tt
+on_err_map (Err e) f p = f p
+
 pub either_result : {X E : Type 0} {P Q R : Type 0} (r : Result X E) → (P → R) → (Q → R) → OnOk r P → OnErr r Q → R
 either_result (Ok x) f g p q = f p
 either_result (Err e) f g p q = g q

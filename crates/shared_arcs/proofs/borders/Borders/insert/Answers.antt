@@ -5,8 +5,8 @@ use Rattle.shared_arcs.specs.Edited.{over, through}
 use Rattle.shared_arcs.specs.Joined.{Joined}
 use Rattle.shared_arcs.specs.Stores.{path_of}
 use Rattle.shared_arcs.specs.Sound.{rings_of}
-use Rattle.shared_arcs.proofs.Segments.{on_ok_map, either_result}
-use Rattle.shared_arcs.proofs.EditLemmas.{edited_everywhere, once_alike}
+use Rattle.shared_arcs.proofs.Segments.{on_ok_map, on_err_map, either_result}
+use Rattle.shared_arcs.proofs.EditLemmas.{edited_everywhere, once_alike, rings_unedited}
 use Rattle.shared_arcs.proofs.Inserting.{over-turns, once_through}
 use Rattle.shared_arcs.proofs.JoinedLemmas.{each_used, not_joined}
 use Rattle.shared_arcs.proofs.borders.Borders.insert.Goals as goal
@@ -31,3 +31,6 @@ returns-clause-ok g c =
     on_ok_map c.insert.result
     (λ e r. edited_everywhere (over c.args.a c.args.b c.args.q) s t (over-turns c.args.a c.args.b c.args.q) e c.insert.ensures.rings r ∙ ap (λ m. option_map (through c.args.a c.args.b c.args.q) (map.get m r)) c.self.view_is)
     c.insert.ensures.ok
+
+pub returns-clause-err : goal.returns-clause-err
+returns-clause-err g c = on_err_map c.insert.result (λ e. rings_unedited c.self.inside.tables c.insert.new.self e c.insert.ensures.rings ∙ c.self.view_is) c.insert.ensures.err
