@@ -17,3 +17,4 @@ pub mod Inserting
 pub mod JoinedLemmas
 pub mod AroundLemmas
 pub mod Removing
+pub mod ShortestLemmas

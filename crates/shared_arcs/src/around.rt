@@ -1,9 +1,10 @@
 //! What stands around a vertex: its neighbours, and the rings that pass it.
-ghost use Rattle.std.specs.Prelude.{◌≡◌};
+ghost use Rattle.std.specs.Prelude.{◌≡◌, map};
 ghost use Rattle.slab.specs.Slab.{get};
 ghost use Rattle.shared_arcs.specs.Ways.{links};
 ghost use Rattle.shared_arcs.specs.Around.{noted, noted_all, other_end, other_ends, ends_among};
-ghost use Rattle.shared_arcs.specs.Stores.{path_in, path_of, stand_at};
+ghost use Rattle.shared_arcs.specs.Shortest.{most, edge_count, less_of, least_of, touches, users_at, rings_among};
+ghost use Rattle.shared_arcs.specs.Stores.{path_in, path_of, users_in, uses_in, stand_at};
 ghost use Rattle.shared_arcs.specs.declared.around.Neighbours.{Neighbours};
 
 use crate::arc::{Arc, Ring, Use};
@@ -54,8 +55,16 @@ fn with_neighbour(seen: Neighbours, x: VertexKey) -> Neighbours
 fn with_edge(seen: Neighbours, from: VertexKey, to: VertexKey, k: VertexKey) -> Neighbours
     ensures { result ≡ noted_all seen (other_end k (from, to)) }
 {
-    let all = if from == k { with_neighbour(seen, to) } else { seen };
-    if to == k { with_neighbour(all, from) } else { all }
+    let all = if from == k {
+        with_neighbour(seen, to)
+    } else {
+        seen
+    };
+    if to == k {
+        with_neighbour(all, from)
+    } else {
+        all
+    }
 }
 
 /// The neighbours of `k`, where those along a path are seen too.
@@ -95,43 +104,89 @@ fn neighbours_among<A: Allocator + Copy>(
 }
 
 /// How many edges these uses make, or `usize::MAX` where they make more.
-fn edge_count<A: Allocator + Copy>(arcs: &Slab<Arc<A>, A>, uses: &[Use]) -> usize {
+fn edge_count<A: Allocator + Copy>(arcs: &Slab<Arc<A>, A>, uses: &[Use]) -> usize
+    ensures { result ≡ edge_count most (λ i. path_in (get arcs.now i)) uses.now }
+{
     let mut count = 0usize;
     for u in uses {
-        if let Some(arc) = arcs.get(u.arc) {
-            count = count.saturating_add(arc.keys.len().saturating_sub(1));
-        }
+        count = count.saturating_add(path_at(arcs, u.arc).len().saturating_sub(1));
     }
     count
 }
 
 /// The less of a number and one that may be there.
-fn less_of(best: Option<usize>, n: usize) -> usize {
+fn less_of(best: Option<usize>, n: usize) -> Option<usize>
+    ensures { result ≡ less_of best n }
+{
     match best {
-        Some(m) => m.min(n),
-        None => n,
+        Some(m) => Some(m.min(n)),
+        None => Some(n),
+    }
+}
+
+/// The uses of a ring, none where there is no ring.
+fn uses_at<A: Allocator + Copy>(rings: &Slab<Ring<A>, A>, r: usize) -> &[Use]
+    ensures { result.now ≡ uses_in (get rings.now r) }
+{
+    match rings.get(r) {
+        Some(ring) => ring.uses.as_slice(),
+        None => &[],
+    }
+}
+
+/// The rings of an arc, none where there is no arc.
+fn users_of<A: Allocator + Copy>(arcs: &Slab<Arc<A>, A>, i: usize) -> &[usize]
+    ensures { result.now ≡ users_in (get arcs.now i) }
+{
+    match arcs.get(i) {
+        Some(arc) => arc.rings.as_slice(),
+        None => &[],
     }
 }
 
 /// The least of `best` and the edge counts of these rings.
-fn shortest_user<A: Allocator + Copy>(
+fn shortest_of<A: Allocator + Copy>(
     arcs: &Slab<Arc<A>, A>,
     rings: &Slab<Ring<A>, A>,
     users: &[usize],
     best: Option<usize>,
-) -> Option<usize> {
+) -> Option<usize>
+    ensures { result ≡ least_of best (map (λ r. edge_count most (λ i. path_in (get arcs.now i)) (uses_in (get rings.now r))) users.now) }
+{
     let mut least = best;
     for r in users {
-        if let Some(ring) = rings.get(*r) {
-            least = Some(less_of(least, edge_count(arcs, ring.uses.as_slice())));
-        }
+        least = less_of(least, edge_count(arcs, uses_at(rings, *r)));
     }
     least
 }
 
 /// Whether a segment of the path ends at `k`.
-fn touches(path: &[VertexKey], k: VertexKey) -> bool {
-    path.len() > 1 && path.contains(&k)
+fn touches(path: &[VertexKey], k: VertexKey) -> bool
+    ensures { result ≡ touches k path.now }
+{
+    match with_path(Neighbours::None, path, k) {
+        Neighbours::None => false,
+        _ => true,
+    }
+}
+
+/// The least of `best` and the edge counts of the rings that have arc `i`, where a segment of it
+/// ends at `k`.
+fn shortest_at<A: Allocator + Copy>(
+    arcs: &Slab<Arc<A>, A>,
+    rings: &Slab<Ring<A>, A>,
+    i: usize,
+    k: VertexKey,
+    best: Option<usize>,
+) -> Option<usize>
+    ensures { result ≡ least_of best (map (λ r. edge_count most (λ j. path_in (get arcs.now j)) (uses_in (get rings.now r)))
+        (users_at (λ j. path_in (get arcs.now j)) (λ j. users_in (get arcs.now j)) k i)) }
+{
+    if touches(path_at(arcs, i), k) {
+        shortest_of(arcs, rings, users_of(arcs, i), best)
+    } else {
+        best
+    }
 }
 
 /// The edge count of the shortest ring that passes `k` along one of these arcs.
@@ -140,14 +195,13 @@ fn shortest_among<A: Allocator + Copy>(
     rings: &Slab<Ring<A>, A>,
     among: &[usize],
     k: VertexKey,
-) -> Option<usize> {
+) -> Option<usize>
+    ensures { result ≡ least_of None (map (λ r. edge_count most (λ j. path_in (get arcs.now j)) (uses_in (get rings.now r)))
+        (rings_among (λ j. path_in (get arcs.now j)) (λ j. users_in (get arcs.now j)) among.now k)) }
+{
     let mut least = None;
     for i in among {
-        if let Some(arc) = arcs.get(*i) {
-            if touches(arc.keys.as_slice(), k) {
-                least = shortest_user(arcs, rings, arc.rings.as_slice(), least);
-            }
-        }
+        least = shortest_at(arcs, rings, *i, k, least);
     }
     least
 }
@@ -162,7 +216,10 @@ impl<A: Allocator + Copy> Tables<A> {
     }
 
     /// The edge count of the shortest ring that passes `k`.
-    pub(crate) fn shortest(&self, k: VertexKey) -> Option<usize> {
+    pub(crate) fn shortest(&self, k: VertexKey) -> Option<usize>
+        ensures { result ≡ least_of None (map (λ r. edge_count most (path_of self.now) (uses_in (get self.now.rings r)))
+            (rings_among (path_of self.now) (λ j. users_in (get self.now.arcs j)) (stand_at self.now.stands.items k) k)) }
+    {
         shortest_among(&self.arcs, &self.rings, arcs_at(&self.stands, k), k)
     }
 }

@@ -11,8 +11,8 @@ collapse_arc-requires-clause-once g c = among_once _ _ c.args.p c.args.b _ _ (c.
 pub loop-i-preserved : goal.loop-i-preserved
 loop-i-preserved g c = record {
   paths = λ j. among_next c.args.among.now c.loop-i.i-index j c.args.p c.args.b (path_in (get c.args.arcs.now j)) (path_in (get c.loop-i.arcs j)) (path_in (get c.collapse_arc.new.arcs j)) c.loop-i-test.true (c.loop-i.invariant.paths j)
-  (λ e. subst (λ n. Collapses c.args.p c.args.b (path_in (get c.loop-i.arcs n)) (path_in (get c.collapse_arc.new.arcs n))) (sym e) c.collapse_arc.ensures.here)
-  (λ f. ap path_in (c.collapse_arc.ensures.others j f));
+      (λ e. subst (λ n. Collapses c.args.p c.args.b (path_in (get c.loop-i.arcs n)) (path_in (get c.collapse_arc.new.arcs n))) (sym e) c.collapse_arc.ensures.here)
+      (λ f. ap path_in (c.collapse_arc.ensures.others j f));
   users = users_then c.args.arcs.now c.loop-i.arcs c.collapse_arc.new.arcs c.loop-i.invariant.users c.collapse_arc.ensures.users;
 }
 

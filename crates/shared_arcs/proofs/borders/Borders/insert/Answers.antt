@@ -19,9 +19,9 @@ invariant_of-self g c =
     record {
       whole = c.insert.ensures.whole;
       once = either_result c.insert.result
-      (λ e. once_through c.args.a c.args.b c.args.q c.requires.apart (path_of s) (path_of t) e unjoined c.self.invariant.once)
-      (λ e. once_alike (path_of s) (path_of t) e c.self.invariant.once)
-      c.insert.ensures.ok c.insert.ensures.err;
+          (λ e. once_through c.args.a c.args.b c.args.q c.requires.apart (path_of s) (path_of t) e unjoined c.self.invariant.once)
+          (λ e. once_alike (path_of s) (path_of t) e c.self.invariant.once)
+          c.insert.ensures.ok c.insert.ensures.err;
     }
 
 pub returns-clause-ok : goal.returns-clause-ok

@@ -20,9 +20,9 @@ invariant_of-self g c =
     record {
       whole = c.remove.ensures.whole;
       once = either_result c.remove.result
-      (λ e. once_collapsed c.args.a c.args.b c.args.p c.requires.apart (path_of s) (path_of t) e (λ i. ((λ x h. c.requires.between x (subst (λ m. Joined m c.args.p x) c.self.view_is (arc_joined s used c.args.p x i h))), unjoined i)) c.self.invariant.once)
-      (λ e. once_alike (path_of s) (path_of t) e c.self.invariant.once)
-      c.remove.ensures.ok c.remove.ensures.err;
+          (λ e. once_collapsed c.args.a c.args.b c.args.p c.requires.apart (path_of s) (path_of t) e (λ i. ((λ x h. c.requires.between x (subst (λ m. Joined m c.args.p x) c.self.view_is (arc_joined s used c.args.p x i h))), unjoined i)) c.self.invariant.once)
+          (λ e. once_alike (path_of s) (path_of t) e c.self.invariant.once)
+          c.remove.ensures.ok c.remove.ensures.err;
     }
 
 pub returns-clause-ok : goal.returns-clause-ok

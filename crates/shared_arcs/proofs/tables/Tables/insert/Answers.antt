@@ -23,8 +23,8 @@ returns-in-Ok-clause-whole g c =
     record {
       known = known_alike s.arcs arcs s.rings s.rings c.put_key.ensures.users (λ r. refl) c.requires.whole.known;
       listed = listed_edited s.arcs arcs s.stands.items c.list_arc.new.stands.items p.arc c.args.q (λ k m. either_result c.put_key.result
-      (λ e. in_inserted (path_in (get s.arcs p.arc)) (p.at + 1) c.args.q k (subst (λ z. Contains z k) e m)) (λ e. inl (subst (λ z. Contains z k) e m)) c.put_key.ensures.ok c.put_key.ensures.err)
-      c.put_key.ensures.others c.in-Ok.ensures.kept c.in-Ok.ensures.listed c.requires.whole.listed;
+          (λ e. in_inserted (path_in (get s.arcs p.arc)) (p.at + 1) c.args.q k (subst (λ z. Contains z k) e m)) (λ e. inl (subst (λ z. Contains z k) e m)) c.put_key.ensures.ok c.put_key.ensures.err)
+          c.put_key.ensures.others c.in-Ok.ensures.kept c.in-Ok.ensures.listed c.requires.whole.listed;
     }
 
 pub returns-in-None-clause-ok : goal.returns-in-None-clause-ok

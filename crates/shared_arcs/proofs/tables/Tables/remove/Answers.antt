@@ -24,6 +24,6 @@ returns-in-Ok-clause-whole g c =
     record {
       known = known_alike s.arcs c.collapse_all.new.arcs s.rings s.rings c.collapse_all.ensures.users (λ r. refl) c.requires.whole.known;
       listed = listed_collapsed s.arcs c.collapse_all.new.arcs s.stands.items c.list_arcs.new.stands.items c.forget_arcs.new.stands.items p c.args.b
-      (λ j. subst (λ z. CollapsesAmong z j p c.args.b (path_in (get s.arcs j)) (path_in (get c.collapse_all.new.arcs j))) among (c.collapse_all.ensures.paths j))
-      c.requires.apart c.list_arcs.ensures.kept (λ i m. c.in-Ok.ensures.listed i (subst (λ z. Contains z i) (sym (c.as_slice.ensures.value ∙ items)) m)) c.forget_arcs.ensures c.requires.whole.listed;
+          (λ j. subst (λ z. CollapsesAmong z j p c.args.b (path_in (get s.arcs j)) (path_in (get c.collapse_all.new.arcs j))) among (c.collapse_all.ensures.paths j))
+          c.requires.apart c.list_arcs.ensures.kept (λ i m. c.in-Ok.ensures.listed i (subst (λ z. Contains z i) (sym (c.as_slice.ensures.value ∙ items)) m)) c.forget_arcs.ensures c.requires.whole.listed;
     }
