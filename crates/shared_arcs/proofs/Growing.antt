@@ -1,19 +1,17 @@
 -- What the arcs know of their rings, after a ring goes on.
-use Rattle.std.proofs.Common.{◌≡◌, ◌≢◌, ℕ, ◌<◌, ◌≤◌, ◌+◌, Bool, true, false, ◌||◌, refl, sym, ap, ◌∙◌, subst}
-use Rattle.std.proofs.Common.{List, [], ◌∷◌, ◌++◌, ◌⊎◌, inl, inr, Contains, length, Option, Some, None, IsSome, is_some}
+use Rattle.std.proofs.Common.{◌≡◌, ℕ, ◌≤◌, true, false, ◌||◌, refl, sym, ap, ◌∙◌, subst}
+use Rattle.std.proofs.Common.{[], ◌∷◌, ◌⊎◌, inl, inr, Contains, length, Some, is_some}
 use Rattle.std.specs.Prelude.{◌==◌}
 use native.Mathlib.Decide.{ℕ_discrete}
-use Rattle.std.specs.List.{list_any}
 use Rattle.std.proofs.lemmas.Bool.{false≢true}
 use Rattle.std.proofs.lemmas.Bool.Decides.{Decides-eqb}
 use Rattle.std.proofs.lemmas.List.Folds.{list_any-append}
-use Rattle.slab.specs.Slab.{Slab, get, ContainsKey, Updates, with_value}
-use Rattle.slab.proofs.SlabLemmas.{Updates-with_value}
+use Rattle.slab.specs.Slab.{Slab, get, ContainsKey, Updates}
 use Rattle.shared_arcs.specs.declared.arc.Use.{Use}
 use Rattle.shared_arcs.specs.declared.arc.Arc.{Arc}
 use Rattle.shared_arcs.specs.declared.arc.Ring.{Ring}
 use Rattle.shared_arcs.specs.Stores.{users_in, uses_in, uses_arc, including, AllDifferent, Known, GoesOn, SameRings, SameUsers, Learns}
-use Rattle.shared_arcs.proofs.Numbers.{itself_including, in_including, from_including, different_including, some_contained}
+use Rattle.shared_arcs.proofs.Different.{itself_including, in_including, from_including, different_including, some_contained}
 use Rattle.shared_arcs.proofs.CutLemmas.{or_split, or_left, or_right}
 
 module _ {A : Type 0} where
@@ -30,21 +28,6 @@ module _ {A : Type 0} where
   pub same_users : (s t : Slab (Arc A)) → ((j : ℕ) → get t j ≡ get s j) → SameUsers s t
   same_users s t e = record { there = λ j. ap is_some (e j); users = λ j. ap users_in (e j) }
 
-  -- an arc with the same rings is written at a key
-  pub users_kept : (s : Slab (Arc A)) (key : ℕ) (v : Arc A) → ContainsKey s key → v.rings.items ≡ users_in (get s key) → SameUsers s (with_value s key v)
-  users_kept s key v p e = record { there = λ j. is_there j (ℕ_discrete j key); users = λ j. same j (ℕ_discrete j key) }
-    where
-      u : Updates s (with_value s key v) key (Some v)
-      u = Updates-with_value s key v p
-
-      is_there : (j : ℕ) → Dec (j ≡ key) → is_some (get (with_value s key v) j) ≡ is_some (get s j)
-      is_there j (yes f) = ap (λ k. is_some (get (with_value s key v) k)) f ∙ ap is_some u.changed ∙ sym (ap (λ k. is_some (get s k)) f ∙ p)
-      is_there j (no f) = ap is_some (u.others j f)
-
-      same : (j : ℕ) → Dec (j ≡ key) → users_in (get (with_value s key v) j) ≡ users_in (get s j)
-      same j (yes f) = ap (λ k. users_in (get (with_value s key v) k)) f ∙ ap users_in u.changed ∙ e ∙ ap (λ k. users_in (get s k)) (sym f)
-      same j (no f) = ap users_in (u.others j f)
-
   -- an arc with one more ring is written at a key
   pub learns : (s t : Slab (Arc A)) (key r : ℕ) (v : Arc A) → Updates s t key (Some v) → v.rings.items ≡ including r (users_in (get s key)) → Learns s t key r
   learns s t key r v u e = record {
@@ -53,9 +36,6 @@ module _ {A : Type 0} where
     others_there = λ j f. ap is_some (u.others j f);
     others = λ j f. ap users_in (u.others j f);
   }
-
-  pub learns_with : (s : Slab (Arc A)) (key r : ℕ) (v : Arc A) → ContainsKey s key → v.rings.items ≡ including r (users_in (get s key)) → Learns s (with_value s key v) key r
-  learns_with s key r v p e = learns s (with_value s key v) key r v (Updates-with_value s key v p) e
 
   -- ---- ring r goes on along an arc
 

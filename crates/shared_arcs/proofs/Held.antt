@@ -1,40 +1,11 @@
 -- Which segments the arcs have, and which arcs a vertex stands in, after each move.
-use Rattle.std.proofs.Common.{◌≡◌, ◌≢◌, ℕ, ◌≤◌, ◌+◌, Bool, true, false, ◌||◌, ◌&&◌, refl, sym, ap, ap₂, ◌∙◌, subst, List, [], ◌∷◌, ◌++◌, ◌⊎◌, inl, inr, arith, zero, suc, Contains}
+use Rattle.std.proofs.Common.{◌≡◌, ◌≢◌, ℕ, ◌+◌, Bool, true, false, ◌||◌, ◌&&◌, refl, sym, ap, ap₂, ◌∙◌, subst, List, [], ◌∷◌, ◌⊎◌, inl, inr, arith, Contains}
 use Rattle.std.specs.Prelude.{◌==◌}
 use native.Mathlib.Decide.{ℕ_discrete}
-use Rattle.std.proofs.lemmas.Bool.{false≢true}
 use Rattle.std.proofs.lemmas.Bool.Decides.{Decides-eqb}
 use Rattle.std.proofs.lemmas.List.Elements.{Contains-append_left, Contains-append_right, Contains-append_cases}
 use Rattle.slab.proofs.SlabLemmas.{Contains-cons, Contains-cons_cases}
-use Rattle.shared_arcs.specs.declared.arc.Use.{Use}
-use Rattle.shared_arcs.specs.Ways.{links, times, is_seg, one, Store, Cuts}
-use Rattle.shared_arcs.proofs.Moves.{Pieces}
-use Rattle.shared_arcs.proofs.CutLemmas.{or_split}
-
--- some arc has the segment
-abbrev pub Has : (ℕ → List ℕ) → ℕ → ℕ → Type 0
-Has path a b = (i : ℕ) × (1 ≤ times a b (links (path i)))
-
--- a cut leaves the segments as they are
-pub has_after_cut : (s t : ℕ → List ℕ) (i n : ℕ) → Pieces s t i n → (a b : ℕ) → Has s a b → Has t a b
-has_after_cut s t i n p a b h = by (ℕ_discrete h.0 i) (ℕ_discrete h.0 n)
-  where
-    part : (x : ℕ) → times a b (links (t i)) ≡ x → 1 ≤ times a b (links (s i)) → Has t a b
-    part zero e k = (n, omega (arith, p.sum a b, e))
-    part (suc x) e k = (i, omega (arith, e))
-
-    by : Dec (h.0 ≡ i) → Dec (h.0 ≡ n) → Has t a b
-    by (yes e) _ = part (times a b (links (t i))) refl (subst (λ z. 1 ≤ times a b (links (s z))) e h.1)
-    by (no f) (yes e) = absurd (omega (arith, subst (λ z. 1 ≤ times a b (links z)) (ap s e ∙ p.vacant) h.1))
-    by (no f) (no g) = (h.0, subst (λ z. 1 ≤ times a b (links z)) (sym (p.others h.0 f g)) h.1)
-
-pub has_before_cut : (s t : ℕ → List ℕ) (i n : ℕ) → Pieces s t i n → (a b : ℕ) → Has t a b → Has s a b
-has_before_cut s t i n p a b h = by (ℕ_discrete h.0 i) (ℕ_discrete h.0 n)
-  where
-    by : Dec (h.0 ≡ i) → Dec (h.0 ≡ n) → Has s a b
-    by (yes e) _ = let k = subst (λ z. 1 ≤ times a b (links (t z))) e h.1 in (i, omega (arith, p.sum a b, k))
-    by (no f) (yes e) = let k = subst (λ z. 1 ≤ times a b (links (t z))) e h.1 in (i, omega (arith, p.sum a b, k))
-    by (no f) (no g) = (h.0, subst (λ z. 1 ≤ times a b (links z)) (p.others h.0 f g) h.1)
+use Rattle.shared_arcs.specs.Ways.{links, times, one, Store, Cuts}
 
 -- ---- which arcs a vertex stands in: at least these are listed
 
@@ -53,6 +24,14 @@ stands_cut i n us m vs s t stand stand' c h kept noted j k x = by (ℕ_discrete 
     ]))))
     by (no f) (yes e) = subst (λ z. Contains (stand' k) z) (sym e) (noted k (subst (λ z. Contains z k) (ap t.path e ∙ c.second) x))
     by (no f) (no g) = kept k j (h j k (subst (λ z. Contains z k) (c.others j f g) x))
+
+-- vertices that are not on the path of arc i forget it
+pub stands_off : (i : ℕ) (path stand stand' : ℕ → List ℕ) → ((k j : ℕ) → (j ≢ i) ⊎ Contains (path i) k → Contains (stand k) j → Contains (stand' k) j) → Stands path stand → Stands path stand'
+stands_off i path stand stand' kept h j k x = by (ℕ_discrete j i)
+  where
+    by : Dec (j ≡ i) → Contains (stand' k) j
+    by (yes e) = kept k j (inr (subst (λ z. Contains (path z) k) e x)) (h j k x)
+    by (no f) = kept k j (inl f) (h j k x)
 
 -- a path without the vertex has none of its segments
 pub none_at : (a b : ℕ) (ps : List ℕ) → (Contains ps a → ⊥) → times a b (links ps) ≡ 0

@@ -1,4 +1,4 @@
-pub mod Numbers
+pub mod Different
 pub mod Moves
 pub mod StoreLemmas
 pub mod CutLemmas
@@ -18,3 +18,5 @@ pub mod JoinedLemmas
 pub mod AroundLemmas
 pub mod Removing
 pub mod ShortestLemmas
+pub mod Counting
+mod Examples

@@ -1,5 +1,5 @@
 -- What each move does to the rings, and that no segment comes to stand twice.
-use Rattle.std.proofs.Common.{◌≡◌, ◌≢◌, ℕ, ◌+◌, ◌≤◌, Bool, true, false, not, ◌&&◌, ◌||◌, refl, sym, ap, ap₂, ◌∙◌, subst, cond, List, [], ◌∷◌, ◌++◌, map, reverse, append_assoc, ◌⊎◌, inl, inr, arith}
+use Rattle.std.proofs.Common.{◌≡◌, ◌≢◌, ℕ, ◌+◌, ◌≤◌, Bool, true, false, ◌&&◌, ◌||◌, refl, sym, ap, ap₂, ◌∙◌, subst, cond, List, [], ◌∷◌, ◌++◌, map, reverse, append_assoc, ◌⊎◌, inl, inr, arith}
 use Rattle.std.specs.Prelude.{◌==◌}
 use Rattle.std.specs.List.{flat_map, AllByRecursion}
 use Rattle.std.proofs.lemmas.List.{append-nil, map-append, reverse-append}
@@ -8,7 +8,7 @@ use Rattle.std.proofs.lemmas.Bool.{false≢true}
 use Rattle.std.proofs.lemmas.Bool.Decides.{Decides-eqb}
 use native.Mathlib.Decide.{ℕ_discrete}
 use Rattle.shared_arcs.specs.declared.arc.Use.{Use}
-use Rattle.shared_arcs.specs.Ways.{Edge, links, walk, chain, is_seg, one, times, Once, Store, edges_of, Keeps, Grows, Lacks, both_parts, Cuts, turned, Turns, Takes, Starts, Extends, IsNew, TakesOut, OpenAt, Spoils}
+use Rattle.shared_arcs.specs.Ways.{Edge, links, walk, chain, is_seg, one, times, Once, Store, edges_of, Keeps, Grows, Lacks, both_parts, Cuts, Takes, Starts, Extends, IsNew, TakesOut, OpenAt, Spoils}
 
 -- ---- ways in reverse
 
@@ -35,10 +35,6 @@ links-reverse (p ∷ q ∷ ps) =
     ∙ ap (λ z. links z ++ (q, p) ∷ []) (sym (reverse-append (q ∷ []) ps))
     ∙ ap (λ z. z ++ (q, p) ∷ []) (links-reverse (q ∷ ps))
     ∙ sym (flipped-append ((p, q) ∷ []) (links (q ∷ ps)))
-
-pub reverse-reverse : (ps : List ℕ) → reverse (reverse ps) ≡ ps
-reverse-reverse [] = refl
-reverse-reverse (p ∷ ps) = ap reverse (reverse-append (p ∷ []) ps) ∙ reverse-append (reverse ps) (p ∷ []) ∙ ap (λ z. p ∷ z) (reverse-reverse ps)
 
 -- ---- one use at a time
 
@@ -180,40 +176,13 @@ module _ (i n : ℕ) (us : List ℕ) (m : ℕ) (vs : List ℕ) (s t : Store) (c 
     });
   }
 
--- ---- turn
+-- ---- a ring goes on
 
 once_as : (s t : ℕ → List ℕ) → ((a b j : ℕ) → times a b (links (t j)) ≡ times a b (links (s j))) → Once s → Once t
 once_as s t e h = record {
   apart = λ a b i j x y. h.apart a b i j (omega (arith, e a b i)) (omega (arith, e a b j));
   single = λ a b j. omega (arith, e a b j, h.single a b j);
 }
-
-module _ (i : ℕ) (s t : Store) (c : Turns i s t) where
-  turned_times : (a b j : ℕ) → times a b (links (t.path j)) ≡ times a b (links (s.path j))
-  turned_times a b j = by (ℕ_discrete j i)
-    where
-      by : Dec (j ≡ i) → times a b (links (t.path j)) ≡ times a b (links (s.path j))
-      by (yes e) = subst (λ k. times a b (links (t.path k)) ≡ times a b (links (s.path k))) (sym e) (ap (λ z. times a b (links z)) c.path ∙ ap (times a b) (links-reverse (s.path i)) ∙ times-flipped a b (links (s.path i)))
-      by (no f) = ap (λ z. times a b (links z)) (c.others j f)
-
-  turned_use : (u : Use) → chain t.path (turned i u) ≡ links (walk u.back (s.path u.arc))
-  turned_use u = by (u.arc == i) refl u.back
-    where
-      by : (x : Bool) → (u.arc == i) ≡ x → (b : Bool) → chain t.path (cond {A = Use} x (record { arc = u.arc; back = not b }) (record { arc = u.arc; back = b }) ∷ []) ≡ links (walk b (s.path u.arc))
-      by true e b = append-nil _ ∙ subst (λ k. links (walk (not b) (t.path k)) ≡ links (walk b (s.path k))) (sym ((Decides-eqb u.arc i).0 e)) (ap (λ z. links (walk (not b) z)) c.path ∙ on b)
-        where
-          on : (b : Bool) → links (walk (not b) (reverse (s.path i))) ≡ links (walk b (s.path i))
-          on true = refl
-          on false = ap links (reverse-reverse (s.path i))
-      by false e b = append-nil _ ∙ ap (λ z. links (walk b z)) (c.others u.arc (λ f. false≢true (sym e ∙ (Decides-eqb u.arc i).1 f)))
-
-  pub turn_keeps : Keeps s t
-  turn_keeps = record {
-    same = λ r. ap (chain t.path) (c.rings r) ∙ replaced s.path t.path (turned i) (s.ring r) (each_of turned_use (s.ring r));
-    once = once_as s.path t.path turned_times;
-  }
-
--- ---- a ring goes on
 
 module _ (r i : ℕ) (back : Bool) (s t : Store) (c : Takes r i back s t) where
   pub take_grows : Grows r (links (walk back (s.path i))) s t
@@ -324,17 +293,11 @@ takes_out_leaves r s t c = record {
 
 -- ---- one after another
 
-pub keeps_then : (s t u : Store) → Keeps s t → Keeps t u → Keeps s u
-keeps_then s t u h k = record { same = λ r. k.same r ∙ h.same r; once = λ o. k.once (h.once o) }
-
 pub kept_grows : (r : ℕ) (es : List Edge) (s t u : Store) → Keeps s t → Grows r es t u → Grows r es s u
 kept_grows r es s t u h k = record { others = λ j ne. k.others j ne ∙ h.same j; grown = k.grown ∙ ap (λ z. z ++ es) (h.same r); once = λ o. k.once (h.once o) }
 
 pub grows_then : (r : ℕ) (es fs : List Edge) (s t u : Store) → Grows r es s t → Grows r fs t u → Grows r (es ++ fs) s u
 grows_then r es fs s t u h k = record { others = λ j ne. k.others j ne ∙ h.others j ne; grown = k.grown ∙ ap (λ z. z ++ fs) h.grown ∙ append_assoc (edges_of s r) es fs; once = λ o. k.once (h.once o) }
-
-pub keeps_none : (s : Store) → Keeps s s
-keeps_none s = record { same = λ r. refl; once = λ o. o }
 
 -- the same paths and the same uses
 pub keeps_same : (s t : Store) → ((j : ℕ) → t.path j ≡ s.path j) → ((k : ℕ) → t.ring k ≡ s.ring k) → Keeps s t
@@ -364,16 +327,6 @@ extended r n a b s t o p q w = record {
   path = p ∙ ap (λ z. z ++ b ∷ []) o.path ∙ append_assoc o.ps (a ∷ []) (b ∷ []);
   other_paths = q;
   rings = w;
-}
-
-pub open_extended : (r n a b : ℕ) (s t : Store) (o : OpenAt s r n a) → Extends r n o.ps a b o.before s t → OpenAt t r n b
-open_extended r n a b s t o c = record {
-  ps = o.ps ++ a ∷ [];
-  before = o.before;
-  path = c.path ∙ sym (append_assoc o.ps (a ∷ []) (b ∷ []));
-  last = c.rings r ∙ o.last;
-  only = o.only;
-  unused = λ k ne. subst (Lacks n) (sym (c.rings k)) (o.unused k ne);
 }
 
 -- a ring that was laid in part and taken out again leaves what was before

@@ -1,6 +1,6 @@
 -- The tables as a map of rings: what a ring has, and what a change of the tables does to the map.
-use Rattle.std.proofs.Common.{◌≡◌, ◌≢◌, ℕ, zero, suc, ◌+◌, ◌<◌, ◌≤◌, Bool, true, false, cond, List, [], ◌∷◌, ◌++◌, map, take, length, get_or, Option, Some, None, is_some, IsSome, refl, sym, ap, ◌∙◌, subst, arith}
-use Rattle.std.specs.Prelude.{option_map, slice_index_or}
+use Rattle.std.proofs.Common.{◌≡◌, ◌≢◌, ℕ, zero, suc, ◌+◌, ◌<◌, ◌≤◌, Bool, true, false, cond, List, [], ◌∷◌, ◌++◌, map, length, get_or, Option, Some, None, is_some, refl, sym, ap, ◌∙◌, arith}
+use Rattle.std.specs.Prelude.{slice_index_or}
 use Rattle.std.specs.Ordering.{nat_cmp, eq_by_cmp}
 use Rattle.std.proofs.lemmas.Cmp.{nat_cmp_total}
 use Rattle.std.proofs.lemmas.Bool.Decides.{nat_tests}
@@ -41,7 +41,7 @@ module _ {X : Type 0} where
       ap (λ b. cond b (Some p) (rings.find nat_cmp q (slab.entries_from (i + 1) rest))) e
       ∙ find_slot rest q (i + 1) j (omega arith)
 
-mapped_slot : {X Y : Type 0} (f : Option X → Option Y) → f None ≡ None → (slots : List (Option X)) (k : ℕ) → slice_index_or (map f slots) k None ≡ f (slice_index_or slots k None)
+pub mapped_slot : {X Y : Type 0} (f : Option X → Option Y) → f None ≡ None → (slots : List (Option X)) (k : ℕ) → slice_index_or (map f slots) k None ≡ f (slice_index_or slots k None)
 mapped_slot f e [] k = sym e
 mapped_slot f e (s ∷ rest) zero = refl
 mapped_slot f e (s ∷ rest) (suc k) = mapped_slot f e rest k

@@ -1,14 +1,12 @@
 -- A ring goes on along an arc as far as both agree.
-use Rattle.std.proofs.Common.{◌≡◌, ℕ, ◌<◌, ◌≤◌, ◌+◌, ◌-◌, Bool, false, true, refl, sym, ap, ◌∙◌, subst, List, [], ◌∷◌, ◌++◌, take, drop, length, get_or, arith, Option, Some, take_all, zero, suc, ap₂, add-one, drop-cons, reverse, length-drop}
-use Rattle.std.proofs.lemmas.List.{take_more, take-append-drop, drop-take, reverse-append, length-reverse}
+use Rattle.std.proofs.Common.{◌≡◌, ℕ, ◌<◌, ◌≤◌, ◌+◌, ◌-◌, false, true, sym, ap, ◌∙◌, subst, List, ◌∷◌, ◌++◌, take, drop, length, get_or, arith, Option, Some, suc, ap₂, add-one, drop-cons, reverse, length-drop}
+use Rattle.std.proofs.lemmas.List.{take_more, take-append-drop, reverse-append, length-reverse}
 use Rattle.std.proofs.Math.Seq.{take-add, take-append_seam}
-use Rattle.slab.specs.Slab.{Slab, get}
 use Rattle.shared_arcs.specs.declared.arc.Arc.{Arc}
-use Rattle.shared_arcs.specs.declared.arc.Ring.{Ring}
 use Rattle.shared_arcs.specs.declared.tables.Tables.{Tables}
 use Rattle.shared_arcs.specs.Ways.{Store, links, Keeps, Grows, Cuts, Takes}
-use Rattle.shared_arcs.specs.Stores.{path_in, store_of, EndsAt, IsPlace, store, path_of}
-use Rattle.shared_arcs.proofs.Moves.{cut_keeps, keeps_none, take_grows, kept_grows, grows_then, links-append}
+use Rattle.shared_arcs.specs.Stores.{path_in, EndsAt, store, path_of}
+use Rattle.shared_arcs.proofs.Moves.{cut_keeps, take_grows, kept_grows, grows_then, links-append}
 
 module _ {A : Type 0} where
   pub agreed_two : (o : Option (Arc A)) (arc : Arc A) (xs ys : List ℕ) (m : ℕ) → o ≡ Some arc → xs ≡ arc.keys.items → 2 ≤ length (path_in o) → 2 ≤ length ys → take 2 (path_in o) ≡ take 2 ys →
@@ -31,22 +29,6 @@ module _ {A : Type 0} where
   run_grows s t u r i m keys mid same c =
       subst (λ z. Grows r (links z) (store s) (store u)) (mid.path ∙ same)
       (kept_grows r _ (store s) (store t) (store u) mid.keeps (take_grows r i false (store t) (store u) c))
-
-two_from : (p : List ℕ) (at : ℕ) → suc at < length p → take 2 (drop at p) ≡ get_or p at 0 ∷ get_or p (suc at) 0 ∷ []
-two_from [] at l = absurd (omega arith)
-two_from (x ∷ []) zero l = absurd (omega arith)
-two_from (x ∷ y ∷ p) zero l = refl
-two_from (x ∷ p) (suc at) l = two_from p at (omega arith)
-
--- the arc begins with the ring's next two keys
-pub two_at : (p : List ℕ) (at : ℕ) → at + 1 < length p → take 2 (drop at p) ≡ get_or p at 0 ∷ get_or p (at + 1) 0 ∷ []
-two_at p at l = two_from p at (omega arith) ∙ ap (λ k. get_or p at 0 ∷ get_or p k 0 ∷ []) (omega arith)
-
-pub two_first : (p : List ℕ) → 2 ≤ length p → take 2 p ≡ get_or p 0 0 ∷ get_or p 1 0 ∷ []
-two_first p l = two_from p 0 l
-
-pub agrees_at : (p keys : List ℕ) (at : ℕ) → IsPlace p at false (get_or keys 0 0) (get_or keys 1 0) → 2 ≤ length keys → take 2 (drop at p) ≡ take 2 keys
-agrees_at p keys at h l = two_at p at h.within ∙ ap₂ (λ y z. y ∷ z ∷ []) h.here h.next ∙ sym (two_first keys l)
 
 -- a piece that begins where the ring has come to
 pub links_join : (keys : List ℕ) (at k : ℕ) → 2 ≤ k → at + k ≤ length keys → links (take (at + 1) keys) ++ links (take k (drop at keys)) ≡ links (take (at + (k - 1) + 1) keys)
@@ -77,11 +59,3 @@ reverse-drop q m l =
 pub run_back_grows : (s t u : Store) (r n m : ℕ) (q keys : List ℕ) → Keeps s t → t.path n ≡ drop (length q - m) q → m ≤ length q → take m (reverse q) ≡ take m keys → Takes r n true t u → Grows r (links (take m keys)) s u
 run_back_grows s t u r n m q keys k p l e c =
     subst (λ z. Grows r (links z) s u) (ap reverse p ∙ reverse-drop q m l ∙ e) (kept_grows r _ s t u k (take_grows r n true t u c))
-
--- the reverse of an arc that was ended after its next two keys begins with these
-pub agrees_back : (p keys : List ℕ) (at : ℕ) → IsPlace p at true (get_or keys 0 0) (get_or keys 1 0) → 2 ≤ length keys → take 2 (reverse (take (at + 2) p)) ≡ take 2 keys
-agrees_back p keys at h l =
-    let b = get_or p at 0 in
-    let a = get_or p (at + 1) 0 in
-    let ends : take (at + 2) p ≡ take at p ++ b ∷ a ∷ [] = take-add at 2 p ∙ ap (λ z. take at p ++ z) (two_at p at h.within) in
-    ap (λ z. take 2 (reverse z)) ends ∙ ap (take 2) (reverse-append (take at p) (b ∷ a ∷ [])) ∙ ap₂ (λ y z. y ∷ z ∷ []) h.next h.here ∙ sym (two_first keys l)

@@ -1,18 +1,14 @@
 -- The arcs of a vertex, after a change of one vertex.
-use Rattle.std.proofs.Common.{◌≡◌, ◌≢◌, ℕ, zero, suc, ◌<◌, ◌≤◌, ◌+◌, refl, sym, ap, ◌∙◌, subst, List, [], ◌∷◌, ◌++◌, Contains, length, set, get_or, map, arith}
+use Rattle.std.proofs.Common.{◌≡◌, ◌≢◌, inl, inr, false, ℕ, zero, suc, ◌<◌, refl, sym, ap, ◌∙◌, subst, List, [], ◌∷◌, Contains, length, set, get_or, arith}
 use native.Mathlib.Decide.{ℕ_discrete}
-use Rattle.std.proofs.lemmas.List.Elements.{Contains-append_left, Contains-push}
 use Rattle.shared_arcs.specs.declared.arc.Stand.{Stand}
-use Rattle.shared_arcs.specs.Stores.{stand_at, ListsMore}
+use Rattle.std.specs.Prelude.{◌==◌}
+use Rattle.std.specs.List.{list_any}
+use Rattle.std.proofs.lemmas.Bool.{false≢true}
+use Rattle.shared_arcs.specs.Stores.{including, stand_at, ListsMore, UnlistsOnly, UnlistsOff}
+use Rattle.shared_arcs.proofs.Different.{contained_any, in_including, itself_including}
 
 module _ {A : Type 0} where
-  -- a vertex that comes in at the end stands in no arc
-  pub stand_pushed : (ss : List (Stand A)) (s : Stand A) (j : ℕ) → s.arcs.items ≡ [] → stand_at (ss ++ s ∷ []) j ≡ stand_at ss j
-  stand_pushed [] s zero e = e
-  stand_pushed [] s (suc j) e = refl
-  stand_pushed (t ∷ ss) s zero e = refl
-  stand_pushed (t ∷ ss) s (suc j) e = stand_pushed ss s j e
-
   pub stand_set : (ss : List (Stand A)) (i : ℕ) (s : Stand A) → i < length ss → stand_at (set ss i s) i ≡ s.arcs.items
   stand_set [] i s l = absurd (omega arith)
   stand_set (t ∷ ss) zero s l = refl
@@ -30,21 +26,16 @@ module _ {A : Type 0} where
   stand_here (t ∷ ss) zero s l e = ap (λ x. x.arcs.items) e
   stand_here (t ∷ ss) (suc i) s l e = stand_here ss i s (omega arith) e
 
-  pub stand_none : (ss : List (Stand A)) (i : ℕ) → length ss ≤ i → stand_at ss i ≡ []
-  stand_none [] i l = refl
-  stand_none (t ∷ ss) zero l = absurd (omega arith)
-  stand_none (t ∷ ss) (suc i) l = stand_none ss i (omega arith)
-
   -- one vertex lists one more arc
-  pub lists_pushed : (ss : List (Stand A)) (i n : ℕ) (s : Stand A) → i < length ss → s.arcs.items ≡ stand_at ss i ++ n ∷ [] → ListsMore ss (set ss i s)
-  lists_pushed ss i n s l e j m x = by (ℕ_discrete j i)
+  pub lists_including : (ss : List (Stand A)) (i n : ℕ) (s : Stand A) → i < length ss → s.arcs.items ≡ including n (stand_at ss i) → ListsMore ss (set ss i s)
+  lists_including ss i n s l e j m x = by (ℕ_discrete j i)
     where
       by : Dec (j ≡ i) → Contains (stand_at (set ss i s) j) m
-      by (yes f) = subst (λ z. Contains z m) (sym (ap (stand_at (set ss i s)) f ∙ stand_set ss i s l ∙ e)) (Contains-append_left (stand_at ss i) (n ∷ []) m (subst (λ z. Contains (stand_at ss z) m) f x))
+      by (yes f) = subst (λ z. Contains z m) (sym (ap (stand_at (set ss i s)) f ∙ stand_set ss i s l ∙ e)) (in_including n (stand_at ss i) m (subst (λ z. Contains (stand_at ss z) m) f x))
       by (no f) = subst (λ z. Contains z m) (sym (stand_other ss i j s f)) x
 
-  pub listed_pushed : (ss : List (Stand A)) (i n : ℕ) (s : Stand A) → i < length ss → s.arcs.items ≡ stand_at ss i ++ n ∷ [] → Contains (stand_at (set ss i s) i) n
-  listed_pushed ss i n s l e = subst (λ z. Contains z n) (sym (stand_set ss i s l ∙ e)) (Contains-push (stand_at ss i) n)
+  pub listed_including : (ss : List (Stand A)) (i n : ℕ) (s : Stand A) → i < length ss → s.arcs.items ≡ including n (stand_at ss i) → Contains (stand_at (set ss i s) i) n
+  listed_including ss i n s l e = subst (λ z. Contains z n) (sym (stand_set ss i s l ∙ e)) (itself_including n (stand_at ss i))
 
   -- a vertex lists what it did
   pub lists_same : (ss : List (Stand A)) (i : ℕ) (s : Stand A) → i < length ss → s.arcs.items ≡ stand_at ss i → ListsMore ss (set ss i s)
@@ -64,3 +55,12 @@ module _ {A : Type 0} where
       by : Dec (j ≡ i) → Contains (stand_at (set ss i s) j) m
       by (yes f) = subst (λ z. Contains z m) (sym (ap (stand_at (set ss i s)) f ∙ stand_set ss i s l)) (h m ne (subst (λ z. Contains (stand_at ss z) m) f x))
       by (no f) = subst (λ z. Contains z m) (sym (stand_other ss i j s f)) x
+
+  -- a vertex off the path forgets one arc
+  pub unlists_off : (path : List ℕ) (ss ss' : List (Stand A)) (k i : ℕ) → list_any (λ x. x == k) path ≡ false → UnlistsOnly ss ss' i → ((j : ℕ) → j ≢ k → stand_at ss' j ≡ stand_at ss j) → UnlistsOff path ss ss' i
+  unlists_off path ss ss' k i off less others j m (inl ne) x = less j m ne x
+  unlists_off path ss ss' k i off less others j m (inr c) x = by (ℕ_discrete j k)
+    where
+      by : Dec (j ≡ k) → Contains (stand_at ss' j) m
+      by (yes e) = absurd (false≢true (sym off ∙ contained_any k path (subst (Contains path) e c)))
+      by (no f) = subst (λ z. Contains z m) (sym (others j f)) x

@@ -1,9 +1,9 @@
 -- A ring goes, and the arcs that no other ring uses.
-use Rattle.std.proofs.Common.{◌≡◌, ◌≢◌, ℕ, ◌<◌, ◌≤◌, ◌+◌, Bool, true, false, ◌||◌, refl, sym, ap, ◌∙◌, subst, arith}
-use Rattle.std.proofs.Common.{List, [], ◌∷◌, ◌++◌, ◌⊎◌, inl, inr, Contains, length, take, get_or, Option, Some, None, IsSome}
+use Rattle.std.proofs.Common.{◌≡◌, ◌≢◌, ℕ, ◌<◌, ◌≤◌, ◌+◌, Bool, true, false, ◌||◌, refl, sym, ap, ◌∙◌, subst}
+use Rattle.std.proofs.Common.{List, [], ◌∷◌, ◌⊎◌, inl, inr, Contains, length, take, get_or, Option, Some, None, IsSome}
 use Rattle.std.specs.Prelude.{◌==◌}
 use native.Mathlib.Decide.{ℕ_discrete}
-use Rattle.std.specs.List.{list_any, AllByRecursion}
+use Rattle.std.specs.List.{AllByRecursion}
 use Rattle.std.proofs.lemmas.Bool.Decides.{Decides-eqb}
 use Rattle.std.proofs.lemmas.Bool.{false≢true}
 use Rattle.std.proofs.lemmas.List.{take_more}
@@ -12,12 +12,11 @@ use Rattle.slab.specs.Slab.{Slab, get, ContainsKey}
 use Rattle.shared_arcs.specs.declared.arc.Use.{Use}
 use Rattle.shared_arcs.specs.declared.arc.Arc.{Arc}
 use Rattle.shared_arcs.specs.declared.arc.Ring.{Ring}
-use Rattle.shared_arcs.specs.declared.arc.Stand.{Stand}
 use Rattle.shared_arcs.specs.Ways.{TakesOut}
 use Rattle.shared_arcs.specs.Stores.{path_in, users_in, uses_in, store_of, uses_arc, without, AllDifferent}
-use Rattle.shared_arcs.specs.Stores.{Known, Listed, StaysOrGoes, UnlistsOnly, stand_at}
-use Rattle.shared_arcs.proofs.Numbers.{none_contained, in_without, from_without, without_absent, without_twice, different_without}
-use Rattle.shared_arcs.proofs.CutLemmas.{or_left, or_right, or_split, not_used}
+use Rattle.shared_arcs.specs.Stores.{Known, StaysOrGoes}
+use Rattle.shared_arcs.proofs.Different.{none_contained, in_without, from_without, without_absent, without_twice, different_without}
+use Rattle.shared_arcs.proofs.CutLemmas.{or_left, or_right, or_split}
 
 module _ {A : Type 0} where
   -- the arcs after some uses of ring r were dropped: those that it used are without r
@@ -132,20 +131,3 @@ module _ {A : Type 0} (arcs arcs' : Slab (Arc A)) (rings rings' : Slab (Ring A))
           by : Dec (k ≡ r) → Contains (users_in (get arcs' i)) k
           by (yes f) = absurd (false≢true (subst (λ z. uses_arc i (uses_in z) ≡ true) (ap (get rings') f ∙ gone) u))
           by (no f) = still k i f (known.users k i (subst (λ z. uses_arc i (uses_in z) ≡ true) (others k f) u))
-
-module _ {A : Type 0} where
-  -- an arc stays or goes, and its vertices forget it where it goes
-  pub listed_after : (arcs arcs' : Slab (Arc A)) (ss ss' : List (Stand A)) (i : ℕ) → StaysOrGoes arcs arcs' i → ((j : ℕ) → j ≢ i → get arcs' j ≡ get arcs j) →
-      UnlistsOnly ss ss' i → (ContainsKey arcs' i → ss' ≡ ss) → Listed arcs ss → Listed arcs' ss'
-  listed_after arcs arcs' ss ss' i stays others kept same h j k x = by (ℕ_discrete j i)
-    where
-      there : (o : Option (Arc A)) → Contains (path_in o) k → IsSome o
-      there None m = absurd (none_contained k [] refl m)
-      there (Some v) m = refl
-
-      by : Dec (j ≡ i) → Contains (stand_at ss' k) j
-      by (yes e) =
-          let here : ContainsKey arcs' i = subst (λ z. ContainsKey arcs' z) e (there (get arcs' j) x) in
-          let old : Contains (path_in (get arcs j)) k = subst (λ z. Contains (path_in (get arcs z)) k) (sym e) (subst (λ z. Contains z k) (stays here).1 (subst (λ z. Contains (path_in (get arcs' z)) k) e x)) in
-          subst (λ z. Contains (stand_at z k) j) (sym (same here)) (h j k old)
-      by (no f) = kept k j f (h j k (subst (λ o. Contains (path_in o) k) (others j f) x))

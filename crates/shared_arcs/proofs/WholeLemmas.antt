@@ -1,7 +1,7 @@
 -- Tables that hold the same belong together still.
-use Rattle.std.proofs.Common.{◌≡◌, ◌≢◌, ℕ, true, refl, sym, ap, ◌∙◌, subst, List, Contains, IsSome, Some, None, is_some, [], ◌∷◌, ◌++◌, ◌⊎◌, inl, inr, arith}
+use Rattle.std.proofs.Common.{◌≡◌, ◌≢◌, ℕ, refl, sym, ap, ◌∙◌, subst, List, Contains, Some, None, is_some, [], ◌∷◌, ◌++◌, inl, inr, arith}
 use native.Mathlib.Decide.{ℕ_discrete}
-use Rattle.slab.specs.Slab.{Slab, get, ContainsKey, Updates}
+use Rattle.slab.specs.Slab.{Slab, get}
 use Rattle.shared_arcs.specs.declared.arc.Use.{Use}
 use Rattle.shared_arcs.specs.declared.arc.Arc.{Arc}
 use Rattle.shared_arcs.specs.declared.arc.Ring.{Ring}
@@ -12,7 +12,7 @@ use Rattle.shared_arcs.specs.Ways.{Edge, Grows}
 use Rattle.shared_arcs.proofs.Moves.{kept_grows, keeps_same}
 use Rattle.shared_arcs.proofs.Growing.{known_alike, same_users}
 use Rattle.shared_arcs.specs.declared.tables.Tables.{Tables}
-use Rattle.shared_arcs.specs.Stores.{path_in, users_in, uses_in, uses_arc, stand_at, Known, Listed, ListsMore, Whole, SameRings, SamePaths, SameKeys, SameUsers, GoesOn, store, store_of}
+use Rattle.shared_arcs.specs.Stores.{path_in, uses_in, stand_at, Listed, ListsMore, Whole, SameRings, SamePaths, SameKeys, SameUsers, GoesOn, store, store_of}
 
 module _ {A : Type 0} where
   -- the same arcs and uses, and no vertex forgot an arc

@@ -1,6 +1,5 @@
 -- The tables seen as rings, and what is true of them.
 use Rattle.std.specs.Prelude.{ℕ, ◌≡◌, ◌≢◌, List, map, Option, option_map, is_some}
-use Rattle.std.specs.Ordering.{nat_cmp}
 use Rattle.std.specs.FinMap as rings
 use Rattle.slab.specs.Slab as slab
 use Rattle.slab.specs.Slab.{Slab, get, ContainsKey}

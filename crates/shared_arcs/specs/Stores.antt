@@ -11,7 +11,7 @@ use Rattle.shared_arcs.specs.declared.arc.Ring.{Ring}
 use Rattle.shared_arcs.specs.declared.arc.Stand.{Stand}
 use Rattle.shared_arcs.specs.declared.arc.NewUses.{NewUses}
 use Rattle.shared_arcs.specs.declared.tables.Tables.{Tables}
-use Rattle.shared_arcs.specs.Ways.{Store, both_parts, Keeps, OpenAt, Once, links, times}
+use Rattle.shared_arcs.specs.Ways.{Store, both_parts, Keeps, OpenAt}
 
 -- some use is of the arc
 abbrev pub uses_arc : ℕ → List Use → Bool
@@ -82,6 +82,12 @@ module _ {A : Type 0} where
   abbrev pub UnlistsOnly : List (Stand A) → List (Stand A) → ℕ → Type 0
   UnlistsOnly old new i =
       (j m : ℕ) → m ≢ i → Contains (stand_at old j) m → Contains (stand_at new j) m
+
+  -- no vertex forgets another arc than i, nor does one of this path forget arc i
+  abbrev pub UnlistsOff : List ℕ → List (Stand A) → List (Stand A) → ℕ → Type 0
+  UnlistsOff path old new i =
+      (j m : ℕ) → (m ≢ i) ⊎ Contains path j → Contains (stand_at old j) m
+      → Contains (stand_at new j) m
 
   -- the tables belong together
   pub record Whole (t : Tables A) : Type 0 where

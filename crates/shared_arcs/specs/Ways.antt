@@ -1,5 +1,5 @@
 -- Uses of arcs, and the edges of rings that they make.
-use Rattle.std.specs.Prelude.{ℕ, ◌⊎◌, ◌≡◌, ◌≢◌, ◌+◌, ◌≤◌, Bool, true, false, not, ◌&&◌, ◌||◌, ◌==◌, if◌then◌else◌, List, [], ◌∷◌, ◌++◌, reverse}
+use Rattle.std.specs.Prelude.{ℕ, ◌⊎◌, ◌≡◌, ◌≢◌, ◌+◌, ◌≤◌, Bool, true, false, ◌&&◌, ◌||◌, ◌==◌, if◌then◌else◌, List, [], ◌∷◌, ◌++◌, reverse}
 use Rattle.std.specs.List.{flat_map, AllByRecursion}
 use Rattle.shared_arcs.specs.declared.arc.Use.{Use}
 
@@ -76,15 +76,6 @@ pub record Cuts (i n : ℕ) (us : List ℕ) (m : ℕ) (vs : List ℕ) (s t : Sto
   pub second : t.path n ≡ m ∷ vs
   pub others : (j : ℕ) → j ≢ i → j ≢ n → t.path j ≡ s.path j
   pub rings : (r : ℕ) → t.ring r ≡ flat_map (both_parts i n) (s.ring r)
-
-abbrev pub turned : ℕ → Use → List Use
-turned i u = (if u.arc == i then (record { arc = u.arc; back = not u.back }) else u) ∷ []
-
--- arc i is turned round, and its uses with it
-pub record Turns (i : ℕ) (s t : Store) : Type 0 where
-  pub path : t.path i ≡ reverse (s.path i)
-  pub others : (j : ℕ) → j ≢ i → t.path j ≡ s.path j
-  pub rings : (r : ℕ) → t.ring r ≡ flat_map (turned i) (s.ring r)
 
 -- ring r goes on along the whole of arc i, or of its reverse
 pub record Takes (r i : ℕ) (back : Bool) (s t : Store) : Type 0 where

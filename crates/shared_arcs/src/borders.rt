@@ -1,7 +1,7 @@
 //! Rings over shared arcs, as a caller sees them.
 ghost use Rattle.std.specs.Prelude.{◌≡◌, ◌≤◌, ◌++◌, true, None, IfOk, OnOk, OnErr, IfSome, length};
 ghost use Rattle.std.specs.FinMap as map;
-ghost use Rattle.shared_arcs.specs.Rings.{begins, edges};
+ghost use Rattle.shared_arcs.specs.Rings.{begins, edges, users_of};
 
 use crate::standing::mark_end;
 use crate::tables::Tables;
@@ -89,6 +89,13 @@ impl<A: Allocator + Copy> Borders<A> {
         ensures { self.new ≡ map.remove self.old r }
     {
         self.tables.take_out(r);
+    }
+
+    /// How many rings have the segment of these two vertices, in either direction. Takes no memory.
+    pub fn uses(&self, a: VertexKey, b: VertexKey) -> usize
+        ensures { result ≡ users_of self.now a b }
+    {
+        self.tables.uses(a, b)
     }
 
     /// Appends the keys of a ring that is held, in order. Fails for want of memory alone; some of

@@ -1,13 +1,15 @@
 //! Cutting an arc in two, which changes no ring.
-ghost use Rattle.std.specs.Prelude.{◌≡◌, ◌≢◌, ℕ, ◌<◌, ◌≤◌, ◌+◌, None, OnOk, OnErr, IfOk, Contains, take, drop, length, get_or};
+ghost use Rattle.std.specs.Prelude.{◌≡◌, ◌≢◌, ℕ, ◌<◌, ◌≤◌, ◌+◌, None, OnOk, OnErr, IfOk};
+ghost use Rattle.std.specs.Prelude.{Contains, take, drop, length, get_or};
 ghost use Rattle.std.specs.List.{flat_map};
 ghost use Rattle.slab.specs.Slab.{get, ContainsKey, HasRoomFor};
 ghost use Rattle.shared_arcs.specs.Ways.{both_parts, Cuts, Keeps};
 ghost use Rattle.shared_arcs.specs.declared.arc.NewUses.{NewUses};
-ghost use Rattle.shared_arcs.specs.Stores.{path_in, users_in, uses_in, path_of, store, Whole, HasRing, IsPut, Doubles, SameKeys, EndsAt};
+ghost use Rattle.shared_arcs.specs.Stores.{path_in, users_in, uses_in, path_of, store};
+ghost use Rattle.shared_arcs.specs.Stores.{Whole, HasRing, IsPut, Doubles, SameKeys, EndsAt};
 
 use crate::arc::{Arc, NewUses, Ring, Use};
-use crate::standing::note;
+use crate::standing::{note, unlist_moved};
 use crate::tables::Tables;
 use slab::Slab;
 use std::alloc::{AllocError, Allocator};
@@ -106,6 +108,16 @@ fn part<A: Allocator + Copy>(
     arcs.insert_reserved(Arc { keys: tail, rings })
 }
 
+/// The keys of an arc.
+fn keys_of<A: Allocator + Copy>(arcs: &Slab<Arc<A>, A>, i: usize) -> &[VertexKey]
+    ensures { result.now ≡ path_in (get arcs.now i) }
+{
+    match arcs.get(i) {
+        Some(arc) => arc.keys.as_slice(),
+        None => &[],
+    }
+}
+
 impl<A: Allocator + Copy> Tables<A> {
     /// Cuts arc `i` at its inner place `at`: a new arc goes on from there.
     pub(crate) fn cut(&mut self, i: usize, at: usize) -> Result<usize, AllocError>
@@ -131,6 +143,9 @@ impl<A: Allocator + Copy> Tables<A> {
         note(self.alloc, &mut self.stands, tail.as_slice(), n)?;
         part(&mut self.arcs, i, at + 1, tail, users);
         put_uses(&mut self.rings, news);
+        let path = keys_of(&self.arcs, i);
+        let moved = keys_of(&self.arcs, n);
+        unlist_moved(&mut self.stands, path, moved, i);
         Ok(n)
     }
 

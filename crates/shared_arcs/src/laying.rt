@@ -5,11 +5,12 @@ ghost use Rattle.std.specs.Prelude.{[], ◌∷◌, ◌++◌};
 ghost use Rattle.slab.specs.Slab.{get, ContainsKey};
 ghost use Rattle.shared_arcs.specs.Ways.{Starts, Takes, times, links, Grows, Keeps, OpenAt, Spoils};
 ghost use Rattle.shared_arcs.specs.Sound.{HoldsOneMore};
-ghost use Rattle.shared_arcs.specs.Stores.{path_in, users_in, uses_in, path_of, store, including};
+ghost use Rattle.shared_arcs.specs.Stores.{path_in, users_in, uses_in, path_of, store};
 ghost use Rattle.shared_arcs.specs.Stores.{Whole, SamePaths, SameRings, SameUsers, SameKeys};
 ghost use Rattle.shared_arcs.specs.Stores.{GoesOn, Learns, HasRoomFor, IsPlace, IsOpen};
 
 use crate::arc::{Arc, Ring, Use};
+use crate::numbers::include;
 use crate::place::{Place, agreed, agreed_back};
 use crate::standing::{list_arc, note};
 use crate::tables::Tables;
@@ -43,18 +44,6 @@ fn go_on<A: Allocator + Copy>(rings: &mut Slab<Ring<A>, A>, r: usize, u: Use)
 {
     let ring = rings.get_mut(r).unwrap();
     ring.uses.push_reserved(u);
-}
-
-/// Puts a number into a list that may have it.
-fn include<A: Allocator + Copy>(list: &mut Vec<usize, A>, r: usize) -> Result<(), AllocError>
-    ensures ok { OnOk result (list.new.items ≡ including r list.old.items) }
-    ensures err { OnErr result (list.new.items ≡ list.old.items) }
-{
-    if list.contains(&r) {
-        return Ok(());
-    }
-    list.push(r)?;
-    Ok(())
 }
 
 /// Arc `i` learns that ring `r` uses it.

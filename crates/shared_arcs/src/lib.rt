@@ -11,6 +11,7 @@ mod borders;
 mod cutting;
 mod editing;
 mod laying;
+mod numbers;
 mod place;
 mod reading;
 mod standing;

@@ -1,8 +1,11 @@
 //! Where a segment stands in the arcs.
-ghost use Rattle.std.specs.Prelude.{◌≡◌, ℕ, ◌≤◌, ◌==◌, ◌&&◌, IfSome, IfNone, IfOk, Contains, take, length, reverse};
+ghost use Rattle.std.specs.Prelude.{◌≡◌, ℕ, ◌≤◌, ◌==◌, ◌&&◌, IfSome, IfNone, IfOk};
+ghost use Rattle.std.specs.Prelude.{Contains, take, length, reverse};
 ghost use Rattle.slab.specs.Slab.{get, ContainsKey};
 ghost use Rattle.shared_arcs.specs.Ways.{times, links};
+ghost use Rattle.shared_arcs.specs.Rings.{users_of};
 ghost use Rattle.shared_arcs.specs.Stores.{path_in, path_of, stand_at, IsPlace, Whole};
+ghost use Rattle.shared_arcs.specs.Sound.{rings_of, Sound};
 
 use crate::arc::{Arc, Stand};
 use crate::tables::Tables;
@@ -87,6 +90,17 @@ impl<A: Allocator + Copy> Tables<A> {
         ensures none { IfNone result ((j : ℕ) → times a b (links (path_of self.now j)) ≡ 0) }
     {
         find_among(&self.arcs, arcs_at(&self.stands, a), a, b)
+    }
+
+    /// How many rings have the segment of a and b: those of the arc that has it.
+    pub(crate) fn uses(&self, a: VertexKey, b: VertexKey) -> usize
+        requires { Sound self.now }
+        ensures { result ≡ users_of (rings_of self.now) a b }
+    {
+        match self.find(a, b) {
+            Some(place) => self.arcs.get(place.arc).unwrap().rings.len(),
+            None => 0,
+        }
     }
 }
 

@@ -1,40 +1,15 @@
 //! Taking a ring out, which needs no memory.
-ghost use Rattle.std.specs.Prelude.{◌≡◌, ◌≢◌, ℕ, ◌≤◌, None, IfSome, Contains, length};
+ghost use Rattle.std.specs.Prelude.{◌≡◌, ◌≢◌, ℕ, ◌≤◌, None, IfSome, length};
 ghost use Rattle.slab.specs.Slab.{get, ContainsKey};
 ghost use Rattle.shared_arcs.specs.Ways.{TakesOut};
-ghost use Rattle.shared_arcs.specs.Stores.{without, users_in, stand_at, store, Whole, Listed};
-ghost use Rattle.shared_arcs.specs.Stores.{StaysOrGoes, UnlistsOnly};
+ghost use Rattle.shared_arcs.specs.Stores.{without, users_in, store, Whole, Listed, StaysOrGoes};
 
-use crate::arc::{Arc, Stand};
+use crate::arc::Arc;
+use crate::numbers::take_from;
+use crate::standing::unlist_all;
 use crate::tables::Tables;
 use slab::Slab;
 use std::alloc::Allocator;
-use vertex_index::VertexKey;
-
-/// Takes a number out of a list.
-fn take_from<A: Allocator + Copy>(list: &mut Vec<usize, A>, r: usize)
-    ensures { list.new.items ≡ without r list.old.items }
-{
-    list.retain(|k| *k != r);
-}
-
-/// Vertex `k` forgets arc `i`.
-fn unlist<A: Allocator + Copy>(stands: &mut Vec<Stand<A>, A>, k: VertexKey, i: usize)
-    ensures { UnlistsOnly stands.old.items stands.new.items i }
-{
-    if let Some(stand) = stands.get_mut(k.index()) {
-        take_from(&mut stand.arcs, i);
-    }
-}
-
-/// These vertices forget arc `i`.
-fn unlist_all<A: Allocator + Copy>(stands: &mut Vec<Stand<A>, A>, keys: &[VertexKey], i: usize)
-    ensures { UnlistsOnly stands.old.items stands.new.items i }
-{
-    for k in keys {
-        unlist(stands, *k, i);
-    }
-}
 
 /// Arc `i` forgets ring `r`, and goes where no other ring uses it.
 fn forget<A: Allocator + Copy>(arcs: &mut Slab<Arc<A>, A>, i: usize, r: usize) -> Option<Arc<A>>

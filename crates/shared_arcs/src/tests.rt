@@ -1,5 +1,6 @@
 //! Squares that share a side, a long ring, and calls that are refused memory.
 use super::Borders;
+use super::place::arcs_at;
 use grid_geometry::Pos;
 use linked_list_allocator::LocalHeap;
 use std::alloc::{AllocError, Allocator, Global};
@@ -82,6 +83,36 @@ pub(crate) fn goes_along<A: Allocator + Copy>(
     Ok(read.as_slice() == keys)
 }
 
+/// How many rings have each of these segments.
+fn uses_of<R: Abort, A: Allocator + Copy>(
+    rt: &R,
+    alloc: Global,
+    borders: &Borders<A>,
+    keys: &[VertexKey],
+    segments: &[(usize, usize)],
+) -> Result<Vec<usize>, AllocError> {
+    let mut counts = Vec::new(alloc);
+    for (a, b) in segments {
+        let a = *keys.get(*a).expect(rt, "a vertex");
+        let b = *keys.get(*b).expect(rt, "a vertex");
+        counts.push(borders.uses(a, b))?;
+    }
+    Ok(counts)
+}
+
+/// How many arcs are listed for each vertex.
+fn stands_of<A: Allocator + Copy>(
+    alloc: Global,
+    borders: &Borders<A>,
+    keys: &[VertexKey],
+) -> Result<Vec<usize>, AllocError> {
+    let mut counts = Vec::new(alloc);
+    for k in keys {
+        counts.push(arcs_at(&borders.tables.stands, *k).len())?;
+    }
+    Ok(counts)
+}
+
 /// The first square, of one arc, is cut in three by the second, which adds one.
 fn share_a_side<R: Abort>(
     rt: &R,
@@ -112,6 +143,74 @@ fn two_squares_share_a_side(rt: HostRuntime) -> Result<(), Fail> {
     let turned = pick(&rt, alloc, keys.as_slice(), &RIGHT_TURNED)?;
     share_a_side(&rt, alloc, left.as_slice(), right.as_slice())?;
     share_a_side(&rt, alloc, left.as_slice(), turned.as_slice())
+}
+
+/// The side of vertices 1 and 2, another side of each square, a diagonal and a pair far apart.
+const SEGMENTS: [(usize, usize); 6] = [(1, 2), (2, 1), (0, 1), (4, 5), (0, 2), (0, 4)];
+
+/// The shared side has two rings, and one once a square is taken out.
+fn count_sides<R: Abort>(
+    rt: &R,
+    alloc: Global,
+    keys: &[VertexKey],
+    left: &[VertexKey],
+    right: &[VertexKey],
+) -> Result<(), Fail> {
+    let mut borders = Borders::new(alloc);
+    let first = add(rt, &mut borders, left)?;
+    let alone = uses_of(rt, alloc, &borders, keys, &SEGMENTS)?;
+    assert_eq!(rt; alone.as_slice(), [1usize, 1, 1, 0, 0, 0].as_slice());
+    add(rt, &mut borders, right)?;
+    let both = uses_of(rt, alloc, &borders, keys, &SEGMENTS)?;
+    assert_eq!(rt; both.as_slice(), [2usize, 2, 1, 1, 0, 0].as_slice());
+    take(rt, &mut borders, first);
+    let left_over = uses_of(rt, alloc, &borders, keys, &SEGMENTS)?;
+    assert_eq!(rt; left_over.as_slice(), [1usize, 1, 0, 1, 0, 0].as_slice());
+    Ok(())
+}
+
+#[test]
+fn a_shared_side_is_counted_twice(rt: HostRuntime) -> Result<(), Fail> {
+    let alloc = rt.alloc();
+    let keys = vertex_keys(&rt, alloc, 6)?;
+    let left = pick(&rt, alloc, keys.as_slice(), &LEFT)?;
+    let right = pick(&rt, alloc, keys.as_slice(), &RIGHT)?;
+    let turned = pick(&rt, alloc, keys.as_slice(), &RIGHT_TURNED)?;
+    count_sides(
+        &rt,
+        alloc,
+        keys.as_slice(),
+        left.as_slice(),
+        right.as_slice(),
+    )?;
+    count_sides(
+        &rt,
+        alloc,
+        keys.as_slice(),
+        left.as_slice(),
+        turned.as_slice(),
+    )
+}
+
+/// The vertices of the first square, which is cut twice, keep none but the arcs that they stand in.
+#[test]
+fn a_cut_leaves_no_arc_behind(rt: HostRuntime) -> Result<(), Fail> {
+    let alloc = rt.alloc();
+    let keys = vertex_keys(&rt, alloc, 6)?;
+    let left = pick(&rt, alloc, keys.as_slice(), &LEFT)?;
+    let right = pick(&rt, alloc, keys.as_slice(), &RIGHT)?;
+    let mut borders = Borders::new(alloc);
+    let first = add(&rt, &mut borders, left.as_slice())?;
+    let second = add(&rt, &mut borders, right.as_slice())?;
+    let cut = stands_of(alloc, &borders, keys.as_slice())?;
+    assert_eq!(rt; cut.as_slice(), [2usize, 3, 3, 1, 1, 1].as_slice());
+    take(&rt, &mut borders, first);
+    let one = stands_of(alloc, &borders, keys.as_slice())?;
+    assert_eq!(rt; one.as_slice(), [0usize, 2, 2, 0, 1, 1].as_slice());
+    take(&rt, &mut borders, second);
+    let none = stands_of(alloc, &borders, keys.as_slice())?;
+    assert_eq!(rt; none.as_slice(), [0usize, 0, 0, 0, 0, 0].as_slice());
+    Ok(())
 }
 
 /// Where both junctions were named first, the square has the three arcs from the start.

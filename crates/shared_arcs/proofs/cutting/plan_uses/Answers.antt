@@ -1,9 +1,8 @@
-use Rattle.std.proofs.Common.{◌≡◌, ℕ, take, length, Contains, arith, subst, sym, ap, ◌∙◌, ◌++◌, [], ◌∷◌, inl, inr, get_or, refl, take_all}
+use Rattle.std.proofs.Common.{◌≡◌, Contains, subst, sym, ap, ◌∙◌, ◌++◌, [], ◌∷◌, inl, inr, get_or, refl, take_all}
 use Rattle.std.specs.List.{flat_map}
 use Rattle.slab.specs.Slab.{get}
 use Rattle.shared_arcs.specs.Ways.{both_parts}
 use Rattle.shared_arcs.specs.declared.arc.NewUses.{NewUses}
-use Rattle.std.proofs.lemmas.List.Elements.{Contains-push_cases}
 use Rattle.shared_arcs.specs.Stores.{HasRing, Doubles}
 use Rattle.shared_arcs.proofs.StoreLemmas.{has_more, taken_cases, pushed_each, doubles_there, not_there}
 use Rattle.shared_arcs.proofs.cutting.plan_uses.Goals as goal

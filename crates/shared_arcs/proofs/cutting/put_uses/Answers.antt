@@ -1,10 +1,9 @@
-use Rattle.std.proofs.Common.{◌≡◌, ℕ, List, [], ◌∷◌, ◌++◌, append_assoc, ap, ◌∙◌, sym, subst, Some, Contains, IsSome, arith, refl, length}
+use Rattle.std.proofs.Common.{◌≡◌, List, [], ◌∷◌, ◌++◌, append_assoc, ap, ◌∙◌, sym, subst, Some, Contains, arith, refl, length}
 use Rattle.std.proofs.lemmas.List.{append-nil}
 use Rattle.std.proofs.lemmas.List.Elements.{Contains-append_left, Contains-append_right}
 use Rattle.std.specs.Option.{option_copied_mut}
-use Rattle.slab.specs.Slab.{get, ContainsKey, Updates, with_value}
+use Rattle.slab.specs.Slab.{get, Updates, with_value}
 use Rattle.slab.proofs.SlabLemmas.{Updates-with_value}
-use Rattle.shared_arcs.specs.declared.arc.NewUses.{NewUses}
 use Rattle.shared_arcs.specs.declared.arc.Ring.{Ring}
 use Rattle.shared_arcs.specs.Stores.{uses_in, IsPut}
 use Rattle.shared_arcs.proofs.StoreLemmas.{put_more, not_there, none_put, still_there, still_held, uses_changed, uses_other}

@@ -1,4 +1,4 @@
-use Rattle.std.proofs.Common.{◌≡◌, ℕ, take, length, Contains, arith, subst, sym, ap, ◌∙◌, ◌++◌, [], ◌∷◌, inl, inr, get_or, refl, take_all, Some, None}
+use Rattle.std.proofs.Common.{◌≡◌, Contains, subst, sym, ap, ◌∙◌, inl, inr, refl, take_all}
 use Rattle.slab.specs.Slab.{get}
 use Rattle.shared_arcs.specs.Ways.{times, links}
 use Rattle.shared_arcs.specs.Stores.{path_in}

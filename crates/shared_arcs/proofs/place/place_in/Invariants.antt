@@ -1,4 +1,4 @@
-use Rattle.std.proofs.Common.{◌≡◌, take, ◌≤◌}
+use Rattle.std.proofs.Common.{◌≡◌, take}
 use Rattle.shared_arcs.specs.Ways.{times, links}
 use Rattle.shared_arcs.proofs.place.place_in.Given as goal
 

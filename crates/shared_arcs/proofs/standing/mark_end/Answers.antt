@@ -1,6 +1,5 @@
-use Rattle.std.proofs.Common.{◌≡◌, ◌<◌, ap, sym, ◌∙◌, subst, Contains, IfSome, length, arith, true}
+use Rattle.std.proofs.Common.{◌≡◌, ◌<◌, sym, subst, Contains, IfSome, length, arith, true}
 use Rattle.std.specs.Prelude.{slice_index_or}
-use Rattle.shared_arcs.specs.Stores.{stand_at}
 use Rattle.shared_arcs.proofs.StandLemmas.{stand_read, lists_same}
 use Rattle.shared_arcs.proofs.standing.mark_end.Goals as goal
 

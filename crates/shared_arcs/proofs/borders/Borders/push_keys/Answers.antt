@@ -1,4 +1,4 @@
-use Rattle.std.proofs.Common.{◌≡◌, ap, sym, ◌∙◌, subst, IfSome, ◌++◌, true}
+use Rattle.std.proofs.Common.{◌≡◌, ap, sym, ◌∙◌, subst, IfSome, ◌++◌}
 use Rattle.std.specs.FinMap as map
 use Rattle.shared_arcs.specs.Rings.{begins}
 use Rattle.shared_arcs.proofs.RingLemmas.{held_ring, ring_here}

@@ -1,5 +1,4 @@
-use Rattle.std.proofs.Common.{◌≡◌, ◌≢◌, ℕ, ap, sym, ◌∙◌, subst, refl, [], Some, None, is_some, IsSome}
-use native.Mathlib.Decide.{ℕ_discrete}
+use Rattle.std.proofs.Common.{◌≡◌, ap, sym, ◌∙◌, refl, None, is_some}
 use Rattle.slab.specs.Slab.{get}
 use Rattle.shared_arcs.specs.Stores.{uses_in, store, store_of, SameRings}
 use Rattle.shared_arcs.proofs.Moves.{keeps_after_all}

@@ -1,4 +1,4 @@
-use Rattle.std.proofs.Common.{◌≡◌, ◌≤◌, ap, sym, ◌∙◌, subst, arith, Some, length}
+use Rattle.std.proofs.Common.{◌≡◌, ap, sym, ◌∙◌, arith, Some, length}
 use Rattle.std.specs.Option.{option_copied}
 use Rattle.slab.specs.Slab.{get}
 use Rattle.shared_arcs.specs.Stores.{path_in}

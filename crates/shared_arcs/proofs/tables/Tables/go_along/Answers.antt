@@ -1,4 +1,4 @@
-use Rattle.std.proofs.Common.{ap, sym, ◌∙◌, refl}
+use Rattle.std.proofs.Common.{◌∙◌, refl}
 use Rattle.shared_arcs.specs.declared.arc.Use.{Use}
 use Rattle.shared_arcs.proofs.Growing.{known_goes_on}
 use Rattle.shared_arcs.proofs.WholeLemmas.{goes_on_after, listed_paths, whole_alike, whole_same}

@@ -1,6 +1,6 @@
-use Rattle.std.proofs.Common.{◌≡◌, ap, subst, sym, ◌∙◌, Some, None, refl}
+use Rattle.std.proofs.Common.{ap, subst}
 use Rattle.slab.specs.Slab.{get}
-use Rattle.shared_arcs.specs.Ways.{OpenAt, Extends, Store}
+use Rattle.shared_arcs.specs.Ways.{OpenAt, Store}
 use Rattle.shared_arcs.specs.Stores.{path_in, uses_in, store, IsOpen}
 use Rattle.shared_arcs.proofs.Moves.{start_grows, extend_grows, open_started, extended}
 use Rattle.shared_arcs.proofs.tables.Tables.go_new.Goals as goal

@@ -1,6 +1,5 @@
-use Rattle.std.proofs.Common.{◌≡◌, ℕ, ◌≤◌, ◌+◌, ◌-◌, List, ap, sym, ◌∙◌, subst, arith, take, drop, length, get_or, take_all, length-drop}
+use Rattle.std.proofs.Common.{◌≡◌, ℕ, ◌≤◌, ◌+◌, ◌-◌, List, ap, ◌∙◌, subst, arith, take, drop, length, get_or, take_all, length-drop}
 use Rattle.std.proofs.lemmas.List.{get_or-drop}
-use Rattle.shared_arcs.specs.Ways.{Store}
 use Rattle.shared_arcs.specs.Stores.{store, IsOpen}
 use Rattle.shared_arcs.proofs.Running.{lay_more}
 use Rattle.shared_arcs.proofs.tables.Tables.lay.Goals as goal

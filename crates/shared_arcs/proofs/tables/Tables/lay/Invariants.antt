@@ -1,5 +1,5 @@
-use Rattle.std.proofs.Common.{ℕ, ◌≡◌, ◌<◌, ◌≤◌, ◌+◌, ◌-◌, length, take, get_or, IfSome}
-use Rattle.slab.specs.Slab.{get, ContainsKey}
+use Rattle.std.proofs.Common.{◌≤◌, ◌+◌, ◌-◌, length, take, get_or, IfSome}
+use Rattle.slab.specs.Slab.{ContainsKey}
 use Rattle.shared_arcs.specs.Ways.{links, Grows}
 use Rattle.shared_arcs.specs.Stores.{store, Whole, IsOpen, SameKeys}
 use Rattle.shared_arcs.proofs.tables.Tables.lay.Given as goal

@@ -1,7 +1,6 @@
 use Rattle.std.proofs.Common.{◌≡◌, ap, sym, ◌∙◌, subst, IsSome, true, false, take, take_all, ◌++◌, append_assoc, get_or, ◌+◌}
 use Rattle.std.specs.Option.{option_copied}
 use Rattle.slab.specs.Slab.{get}
-use Rattle.shared_arcs.specs.declared.arc.Use.{Use}
 use Rattle.shared_arcs.specs.Ways.{links, walk, chain}
 use Rattle.shared_arcs.specs.Rings.{begins}
 use Rattle.shared_arcs.specs.Stores.{uses_in, uses_arc, path_in, path_of}

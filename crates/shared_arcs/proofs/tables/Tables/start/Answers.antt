@@ -1,10 +1,8 @@
-use Rattle.std.proofs.Common.{ℕ, ap, subst, Contains, ◌≡◌, ◌≢◌, sym, ◌∙◌, Some, None, ◌∷◌, [], IsSome, false, true, refl, arith}
+use Rattle.std.proofs.Common.{ℕ, ap, subst, Contains, ◌≡◌, sym, ◌∙◌, Some, None, IsSome, false, refl}
 use Rattle.std.proofs.lemmas.Bool.{false≢true}
-use Rattle.slab.specs.Slab.{get, Updates, ContainsKey}
+use Rattle.slab.specs.Slab.{get, Updates}
 use Rattle.shared_arcs.specs.declared.arc.Arc.{Arc}
-use Rattle.shared_arcs.specs.declared.arc.Use.{Use}
-use Rattle.shared_arcs.specs.Ways.{Starts}
-use Rattle.shared_arcs.specs.Stores.{path_in, users_in, uses_in, including, GoesOn}
+use Rattle.shared_arcs.specs.Stores.{path_in, users_in, including, GoesOn}
 use Rattle.shared_arcs.proofs.WholeLemmas.{whole_alike, listed_new, goes_on_after}
 use Rattle.shared_arcs.proofs.CutLemmas.{not_used, lacks_of}
 use Rattle.shared_arcs.proofs.Growing.{known_goes_on, learns}

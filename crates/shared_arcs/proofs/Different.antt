@@ -1,5 +1,5 @@
 -- Lists of numbers in which none stands twice.
-use Rattle.std.proofs.Common.{◌≡◌, ◌≢◌, ℕ, ◌<◌, ◌≤◌, ◌+◌, Bool, true, false, not, cond, ◌||◌, refl, sym, ap, ◌∙◌, subst, arith}
+use Rattle.std.proofs.Common.{◌≡◌, ◌≢◌, ℕ, ◌≤◌, ◌+◌, Bool, true, false, not, cond, ◌||◌, refl, sym, ap, ◌∙◌, subst, arith}
 use Rattle.std.proofs.Common.{List, [], ◌∷◌, ◌++◌, length, Contains, ◌⊎◌, inl, inr}
 use Rattle.std.specs.Prelude.{◌==◌}
 use Rattle.std.specs.List.{list_any, AllByRecursion}
@@ -136,3 +136,10 @@ from_including r xs k m = by (list_any (λ k. k == r) xs) m
 
 pub some_contained : (k : ℕ) (xs : List ℕ) → Contains xs k → 1 ≤ length xs
 some_contained k xs m = let l = m.1 in omega arith
+
+pub contained_any : (r : ℕ) (xs : List ℕ) → Contains xs r → list_any (λ k. k == r) xs ≡ true
+contained_any r xs m = by (list_any (λ k. k == r) xs) refl
+  where
+    by : (b : Bool) → list_any (λ k. k == r) xs ≡ b → list_any (λ k. k == r) xs ≡ true
+    by true e = e
+    by false e = absurd (absent r xs (none_any r xs e) m)
