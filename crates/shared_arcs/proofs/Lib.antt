@@ -11,5 +11,12 @@ pub mod StandLemmas
 pub mod ReadLemmas
 pub mod RingLemmas
 pub mod WholeLemmas
+pub mod Segments
+pub mod EditLemmas
+pub mod Inserting
+pub mod JoinedLemmas
+pub mod AroundLemmas
+pub mod Removing
+pub mod ShortestLemmas
 pub mod Counting
 mod Examples

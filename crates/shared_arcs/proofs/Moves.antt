@@ -23,7 +23,7 @@ links-append [] m qs = refl
 links-append (p ∷ []) m qs = refl
 links-append (p ∷ r ∷ rs) m qs = ap (λ z. (p, r) ∷ z) (links-append (r ∷ rs) m qs)
 
-flipped-append : (es fs : List Edge) → flipped (es ++ fs) ≡ flipped fs ++ flipped es
+pub flipped-append : (es fs : List Edge) → flipped (es ++ fs) ≡ flipped fs ++ flipped es
 flipped-append es fs = ap reverse (map-append flip es fs) ∙ reverse-append (map flip es) (map flip fs)
 
 pub links-reverse : (ps : List ℕ) → links (reverse ps) ≡ flipped (links ps)

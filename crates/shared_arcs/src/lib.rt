@@ -6,8 +6,10 @@
 #![tactic(auto)]
 
 mod arc;
+mod around;
 mod borders;
 mod cutting;
+mod editing;
 mod laying;
 mod numbers;
 mod place;
@@ -15,8 +17,12 @@ mod reading;
 mod standing;
 mod tables;
 mod taking;
+mod vertex_edits;
 
+pub use around::Neighbours;
 pub use borders::Borders;
 
+#[cfg(test)]
+mod edit_tests;
 #[cfg(test)]
 mod tests;

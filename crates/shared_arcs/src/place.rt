@@ -29,7 +29,7 @@ fn leads(here: VertexKey, next: VertexKey, a: VertexKey, b: VertexKey) -> bool
 }
 
 /// The place of the segment in a path, and whether it goes the other way there.
-fn place_in(path: &[VertexKey], a: VertexKey, b: VertexKey) -> Option<(usize, bool)>
+pub(crate) fn place_in(path: &[VertexKey], a: VertexKey, b: VertexKey) -> Option<(usize, bool)>
     ensures some { IfSome result (λ p. IsPlace path.now p.0 p.1 a b) }
     ensures none { IfNone result (times a b (links path.now) ≡ 0) }
 {

@@ -9,18 +9,22 @@ use std::test::Fail;
 use vertex_index::{VertexKey, Vertices};
 
 /// The bytes of each heap.
-const SIZE: usize = 16384;
+pub(crate) const SIZE: usize = 16384;
 
 /// Two squares, each counted by its four vertices: the side of vertices 1 and 2 is in both.
-const LEFT: [usize; 4] = [0, 1, 2, 3];
+pub(crate) const LEFT: [usize; 4] = [0, 1, 2, 3];
 
-const RIGHT: [usize; 4] = [1, 4, 5, 2];
+pub(crate) const RIGHT: [usize; 4] = [1, 4, 5, 2];
 
 /// The second square, gone round the other way.
-const RIGHT_TURNED: [usize; 4] = [2, 5, 4, 1];
+pub(crate) const RIGHT_TURNED: [usize; 4] = [2, 5, 4, 1];
 
 /// The keys of so many vertices.
-fn vertex_keys<R: Abort>(rt: &R, alloc: Global, count: i64) -> Result<Vec<VertexKey>, Fail> {
+pub(crate) fn vertex_keys<R: Abort>(
+    rt: &R,
+    alloc: Global,
+    count: i64,
+) -> Result<Vec<VertexKey>, Fail> {
     let mut vertices = Vertices::new(alloc);
     let mut keys = Vec::new(alloc);
     for n in 0..count {
@@ -30,7 +34,7 @@ fn vertex_keys<R: Abort>(rt: &R, alloc: Global, count: i64) -> Result<Vec<Vertex
 }
 
 /// The keys of these vertices.
-fn pick<R: Abort>(
+pub(crate) fn pick<R: Abort>(
     rt: &R,
     alloc: Global,
     keys: &[VertexKey],
@@ -44,7 +48,7 @@ fn pick<R: Abort>(
 }
 
 /// Adds the ring along these keys.
-fn add<R: Abort, A: Allocator + Copy>(
+pub(crate) fn add<R: Abort, A: Allocator + Copy>(
     rt: &R,
     borders: &mut Borders<A>,
     keys: &[VertexKey],
@@ -54,18 +58,18 @@ fn add<R: Abort, A: Allocator + Copy>(
 }
 
 /// How many arcs there are.
-fn arc_count<A: Allocator + Copy>(borders: &Borders<A>) -> usize {
+pub(crate) fn arc_count<A: Allocator + Copy>(borders: &Borders<A>) -> usize {
     borders.tables.arcs.len()
 }
 
 /// Takes out a ring.
-fn take<R: Abort, A: Allocator + Copy>(rt: &R, borders: &mut Borders<A>, r: usize) {
+pub(crate) fn take<R: Abort, A: Allocator + Copy>(rt: &R, borders: &mut Borders<A>, r: usize) {
     assert!(rt; borders.holds(r));
     borders.take_out(r);
 }
 
 /// Whether the ring is held and goes along these keys.
-fn goes_along<A: Allocator + Copy>(
+pub(crate) fn goes_along<A: Allocator + Copy>(
     alloc: Global,
     borders: &Borders<A>,
     r: usize,

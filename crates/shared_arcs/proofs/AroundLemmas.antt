@@ -1,0 +1,145 @@
+-- What stands around a vertex, from the arcs that it stands in.
+use Rattle.std.proofs.Common.{◌≡◌, ◌≢◌, ℕ, ◌≤◌, ◌<◌, ◌+◌, ◌-◌, Bool, true, false, cond, ◌||◌, ◌&&◌, refl, sym, ap, ap₂, ◌∙◌, subst, List, [], ◌∷◌, ◌++◌, take, length, get_or, append_assoc, ◌⊎◌, inl, inr, ◌↔◌, arith, Contains}
+use Rattle.std.specs.Prelude.{◌==◌}
+use native.Mathlib.Decide.{ℕ_discrete}
+use Rattle.std.specs.List.{flat_map}
+use Rattle.std.proofs.lemmas.Bool.{false≢true}
+use Rattle.std.proofs.lemmas.Bool.Decides.{Decides-eqb}
+use Rattle.std.proofs.lemmas.List.{take_more, append-nil}
+use Rattle.std.proofs.lemmas.List.Concat.{flat_map-append}
+use Rattle.std.proofs.lemmas.List.Elements.{Contains-append_left, Contains-append_right, Contains-append_cases}
+use Rattle.slab.proofs.SlabLemmas.{Contains-cons, Contains-cons_cases}
+use Rattle.shared_arcs.specs.declared.around.Neighbours.{Neighbours}
+use Rattle.shared_arcs.specs.declared.around.Neighbours.TheVariants.{None, One, Two, More}
+use Rattle.shared_arcs.specs.Ways.{Edge, links, times, is_seg, one}
+use Rattle.shared_arcs.specs.Around.{noted, noted_all, other_end, other_ends, ends_among}
+use Rattle.shared_arcs.proofs.Moves.{links-append}
+
+-- ---- what was seen
+
+-- one more key is one more link
+pub links_more : (ps : List ℕ) (at p q : ℕ) → 1 ≤ at → at < length ps → p ≡ get_or ps (at - 1) p → q ≡ get_or ps at q → links (take (at + 1) ps) ≡ links (take at ps) ++ (p, q) ∷ []
+links_more ps at p q l m ep eq =
+    let before : take at ps ≡ take (at - 1) ps ++ p ∷ [] = subst (λ k. take k ps ≡ take (at - 1) ps ++ p ∷ []) (omega arith) (take_more ps (at - 1) p (omega arith) ∙ ap (λ z. take (at - 1) ps ++ z ∷ []) (sym ep)) in
+    ap links (take_more ps at q m ∙ ap (λ z. take at ps ++ z ∷ []) (sym eq) ∙ ap (λ z. z ++ q ∷ []) before ∙ append_assoc (take (at - 1) ps) (p ∷ []) (q ∷ []))
+    ∙ links-append (take (at - 1) ps) p (q ∷ [])
+    ∙ ap (λ z. links z ++ (p, q) ∷ []) (sym before)
+
+pub noted_all-append : (n : Neighbours) (xs ys : List ℕ) → noted_all n (xs ++ ys) ≡ noted_all (noted_all n xs) ys
+noted_all-append n [] ys = refl
+noted_all-append n (x ∷ xs) ys = noted_all-append (noted n x) xs ys
+
+-- a path was seen by one edge more
+pub path_more : (k : ℕ) (n : Neighbours) (ps : List ℕ) (at p q : ℕ) → 1 ≤ at → at < length ps → p ≡ get_or ps (at - 1) p → q ≡ get_or ps at q →
+    noted_all (noted_all n (other_ends k (links (take at ps)))) (other_end k (p, q)) ≡ noted_all n (other_ends k (links (take (at + 1) ps)))
+path_more k n ps at p q l m ep eq =
+    sym (noted_all-append n (other_ends k (links (take at ps))) (other_end k (p, q)))
+    ∙ ap (noted_all n) (ap (λ z. other_ends k (links (take at ps)) ++ z) (sym (append-nil (other_end k (p, q)))) ∙ sym (flat_map-append (other_end k) (links (take at ps)) ((p, q) ∷ [])) ∙ ap (other_ends k) (sym (links_more ps at p q l m ep eq)))
+
+-- and the arcs by one arc more
+pub among_more : (k : ℕ) (n : Neighbours) (path : ℕ → List ℕ) (among : List ℕ) (i : ℕ) → i < length among →
+    noted_all (noted_all n (ends_among path (take i among) k)) (other_ends k (links (path (get_or among i 0)))) ≡ noted_all n (ends_among path (take (i + 1) among) k)
+among_more k n path among i l =
+    let f : ℕ → List ℕ = λ j. other_ends k (links (path j)) in
+    sym (noted_all-append n (ends_among path (take i among) k) (f (get_or among i 0)))
+    ∙ ap (noted_all n) (ap (λ z. ends_among path (take i among) k ++ z) (sym (append-nil (f (get_or among i 0)))) ∙ sym (flat_map-append f (take i among) (get_or among i 0 ∷ [])) ∙ ap (λ z. ends_among path z k) (sym (take_more among i 0 l)))
+
+-- exactly these have the property, or more than two do
+abbrev pub Sees : (ℕ → Type 0) → Neighbours → Type 0
+Sees P None = (x : ℕ) → ¬ (P x)
+Sees P (One a) = (x : ℕ) → P x ↔ (x ≡ a)
+Sees P (Two a b) = (a ≢ b) × ((x : ℕ) → P x ↔ ((x ≡ a) ⊎ (x ≡ b)))
+Sees P More = (a : ℕ) × (b : ℕ) × (c : ℕ) × ((a ≢ b) × (a ≢ c) × (b ≢ c)) × (P a × P b × P c)
+
+pub sees_alike : (P Q : ℕ → Type 0) → ((x : ℕ) → P x → Q x) → ((x : ℕ) → Q x → P x) → (n : Neighbours) → Sees P n → Sees Q n
+sees_alike P Q f g None h = λ x q. h x (g x q)
+sees_alike P Q f g (One a) h = λ x. ((λ q. (h x).0 (g x q)), (λ e. f x ((h x).1 e)))
+sees_alike P Q f g (Two a b) h = (h.0, λ x. ((λ q. (h.1 x).0 (g x q)), (λ e. f x ((h.1 x).1 e))))
+sees_alike P Q f g More h = (h.0, h.1, h.2, h.3, (f h.0 h.4.0, f h.1 h.4.1, f h.2 h.4.2))
+
+-- one more is seen
+pub sees_more : (P : ℕ → Type 0) (n : Neighbours) (x : ℕ) → Sees P n → Sees (λ y. P y ⊎ (y ≡ x)) (noted n x)
+sees_more P None x h = λ y. ((λ k. elim k [ inl p ↦ absurd (h y p) | inr e ↦ e ]), (λ e. inr e))
+sees_more P (One a) x h = by (a == x) refl
+  where
+    by : (t : Bool) → (a == x) ≡ t → Sees (λ y. P y ⊎ (y ≡ x)) (cond t (One a) (Two a x))
+    by true e = let same : a ≡ x = (Decides-eqb a x).0 e in λ y. ((λ k. elim k [ inl p ↦ (h y).0 p | inr f ↦ f ∙ sym same ]), (λ f. inr (f ∙ same)))
+    by false e = ((λ f. false≢true (sym e ∙ (Decides-eqb a x).1 f)), λ y. ((λ k. elim k [ inl p ↦ inl ((h y).0 p) | inr f ↦ inr f ]), (λ k. elim k [ inl f ↦ inl ((h y).1 f) | inr f ↦ inr f ])))
+sees_more P (Two a b) x h = by (a == x) (b == x) refl refl
+  where
+    by : (s t : Bool) → (a == x) ≡ s → (b == x) ≡ t → Sees (λ y. P y ⊎ (y ≡ x)) (cond (s || t) (Two a b) More)
+    by true t e f = let same : a ≡ x = (Decides-eqb a x).0 e in (h.0, λ y. ((λ k. elim k [ inl p ↦ (h.1 y).0 p | inr g ↦ inl (g ∙ sym same) ]), (λ k. inl ((h.1 y).1 k))))
+    by false true e f = let same : b ≡ x = (Decides-eqb b x).0 f in (h.0, λ y. ((λ k. elim k [ inl p ↦ (h.1 y).0 p | inr g ↦ inr (g ∙ sym same) ]), (λ k. inl ((h.1 y).1 k))))
+    by false false e f = (a, b, x, (h.0, (λ g. false≢true (sym e ∙ (Decides-eqb a x).1 g)), (λ g. false≢true (sym f ∙ (Decides-eqb b x).1 g))), (inl ((h.1 a).1 (inl refl)), inl ((h.1 b).1 (inr refl)), inr refl))
+sees_more P More x h = (h.0, h.1, h.2, h.3, (inl h.4.0, inl h.4.1, inl h.4.2))
+
+pub sees_all : (P : ℕ → Type 0) (n : Neighbours) (xs : List ℕ) → Sees P n → Sees (λ y. P y ⊎ Contains xs y) (noted_all n xs)
+sees_all P n [] h = sees_alike P (λ y. P y ⊎ Contains [] y) (λ y p. inl p) (λ y k. elim k [ inl p ↦ p | inr m ↦ absurd (omega (arith, m.1)) ]) n h
+sees_all P n (x ∷ xs) h =
+    sees_alike (λ y. (P y ⊎ (y ≡ x)) ⊎ Contains xs y) (λ y. P y ⊎ Contains (x ∷ xs) y)
+    (λ y k. elim k [ inl j ↦ elim j [ inl p ↦ inl p | inr e ↦ inr (0, omega arith, sym e) ] | inr m ↦ inr (Contains-cons x y xs m) ])
+    (λ y k. elim k [ inl p ↦ inl (inl p) | inr m ↦ elim (Contains-cons_cases x y xs m) [ inl e ↦ inl (inr (sym e)) | inr j ↦ inr j ] ])
+    (noted_all (noted n x) xs) (sees_all (λ y. P y ⊎ (y ≡ x)) (noted n x) xs (sees_more P n x h))
+
+pub sees_list : (xs : List ℕ) → Sees (Contains xs) (noted_all None xs)
+sees_list xs = sees_alike (λ y. ⊥ ⊎ Contains xs y) (Contains xs) (λ y k. elim k [ inl p ↦ absurd p | inr m ↦ m ]) (λ y m. inr m) (noted_all None xs) (sees_all (λ y. ⊥) None xs (λ y p. p))
+
+-- ---- the other ends
+
+pub times_ends : (k x : ℕ) (es : List Edge) → 1 ≤ times k x es → Contains (other_ends k es) x
+times_ends k x [] h = absurd (omega arith)
+times_ends k x (e ∷ es) h = by (is_seg k x e) refl (λ j. times_ends k x es j)
+  where
+    here : (w y z v : Bool) → (e.0 == k) ≡ w → (e.1 == x) ≡ y → (e.0 == x) ≡ z → (e.1 == k) ≡ v → ((w && y) || (z && v)) ≡ true → Contains (cond w (e.1 ∷ []) [] ++ cond v (e.0 ∷ []) []) x
+    here true true z v a b c d t = (0, omega arith, (Decides-eqb e.1 x).0 b)
+    here true false true true a b c d t = (1, omega arith, (Decides-eqb e.0 x).0 c)
+    here false y true true a b c d t = (0, omega arith, (Decides-eqb e.0 x).0 c)
+    here true false true false a b c d t = absurd (false≢true t)
+    here true false false v a b c d t = absurd (false≢true t)
+    here false y true false a b c d t = absurd (false≢true t)
+    here false y false v a b c d t = absurd (false≢true t)
+
+    by : (t : Bool) → is_seg k x e ≡ t → (1 ≤ times k x es → Contains (other_ends k es) x) → Contains (other_ends k (e ∷ es)) x
+    by true t go = Contains-append_left (other_end k e) (other_ends k es) x (here (e.0 == k) (e.1 == x) (e.0 == x) (e.1 == k) refl refl refl refl t)
+    by false t go = Contains-append_right (other_end k e) (other_ends k es) x (go (omega (arith, ap one t)))
+
+pub ends_times : (k x : ℕ) (es : List Edge) → Contains (other_ends k es) x → 1 ≤ times k x es
+ends_times k x [] h = absurd (omega (arith, h.1))
+ends_times k x (e ∷ es) h = elim (Contains-append_cases (other_end k e) (other_ends k es) x h) [
+  | inl m ↦ omega (arith, ap one (here (e.0 == k) (e.1 == k) refl refl m))
+  | inr m ↦ omega (arith, ends_times k x es m)
+]
+  where
+    forth : (e.0 == k) ≡ true → e.1 ≡ x → is_seg k x e ≡ true
+    forth a b = ap₂ (λ y z. (y && z) || (e.0 == x && e.1 == k)) a ((Decides-eqb e.1 x).1 b)
+
+    back : (e.1 == k) ≡ true → e.0 ≡ x → is_seg k x e ≡ true
+    back a b = ap₂ (λ y z. (e.0 == k && e.1 == x) || (y && z)) ((Decides-eqb e.0 x).1 b) a ∙ or_true (e.0 == k && e.1 == x)
+      where
+        or_true : (t : Bool) → (t || true) ≡ true
+        or_true true = refl
+        or_true false = refl
+
+    only : (y : ℕ) → Contains (y ∷ []) x → y ≡ x
+    only y m = elim (Contains-cons_cases y x [] m) [ inl f ↦ f | inr z ↦ absurd (omega (arith, z.1)) ]
+
+    here : (w v : Bool) → (e.0 == k) ≡ w → (e.1 == k) ≡ v → Contains (cond w (e.1 ∷ []) [] ++ cond v (e.0 ∷ []) []) x → is_seg k x e ≡ true
+    here true true a b m = elim (Contains-cons_cases e.1 x (e.0 ∷ []) m) [ inl f ↦ forth a f | inr z ↦ back b (only e.0 z) ]
+    here true false a b m = forth a (only e.1 m)
+    here false true a b m = back b (only e.0 m)
+    here false false a b m = absurd (omega (arith, m.1))
+
+-- an element of a flat_map is one of an element's
+pub in_flat_map : (f : ℕ → List ℕ) (xs : List ℕ) (y : ℕ) → Contains (flat_map f xs) y → (x : ℕ) × Contains xs x × Contains (f x) y
+in_flat_map f [] y h = absurd (omega (arith, h.1))
+in_flat_map f (x ∷ xs) y h = elim (Contains-append_cases (f x) (flat_map f xs) y h) [
+  | inl m ↦ (x, (0, omega arith, refl), m)
+  | inr m ↦ let k = in_flat_map f xs y m in (k.0, Contains-cons x k.0 xs k.1, k.2)
+]
+
+pub to_flat_map : (f : ℕ → List ℕ) (xs : List ℕ) (x y : ℕ) → Contains xs x → Contains (f x) y → Contains (flat_map f xs) y
+to_flat_map f [] x y m h = absurd (omega (arith, m.1))
+to_flat_map f (z ∷ xs) x y m h = elim (Contains-cons_cases z x xs m) [
+  | inl e ↦ Contains-append_left (f z) (flat_map f xs) y (subst (λ w. Contains (f w) y) (sym e) h)
+  | inr k ↦ Contains-append_right (f z) (flat_map f xs) y (to_flat_map f xs x y k h)
+]

@@ -1,0 +1,9 @@
+use Rattle.std.proofs.Common.{◌≡◌, take}
+use Rattle.slab.specs.Slab.{get}
+use Rattle.shared_arcs.specs.declared.around.Neighbours.TheVariants.{None}
+use Rattle.shared_arcs.specs.Around.{noted_all, ends_among}
+use Rattle.shared_arcs.specs.Stores.{path_in}
+use Rattle.shared_arcs.proofs.around.neighbours_among.Given as goal
+
+abbrev pub invariant-loop-i : goal.invariant-loop-i
+invariant-loop-i g l = l.all ≡ noted_all None (ends_among (λ i. path_in (get l.arcs i)) (take l.i-index l.among) l.k)

@@ -1,0 +1,7 @@
+use Rattle.std.proofs.Common.{◌≡◌, take}
+use Rattle.shared_arcs.specs.Ways.{links}
+use Rattle.shared_arcs.specs.Around.{noted_all, other_ends}
+use Rattle.shared_arcs.proofs.around.with_path.Given as goal
+
+abbrev pub invariant-loop-at : goal.invariant-loop-at
+invariant-loop-at l = l.all ≡ noted_all l.fn.seen (other_ends l.k (links (take l.at l.path)))

@@ -1,0 +1,30 @@
+-- What the arcs of a vertex tell: the other ends of its segments, and which of them were seen.
+use Rattle.std.specs.Prelude.{ℕ, ◌==◌, ◌||◌, if◌then◌else◌, List, [], ◌∷◌, ◌++◌}
+use Rattle.std.specs.List.{flat_map}
+use Rattle.shared_arcs.specs.declared.around.Neighbours.{Neighbours}
+use Rattle.shared_arcs.specs.declared.around.Neighbours.TheVariants.{None, One, Two, More}
+use Rattle.shared_arcs.specs.Ways.{Edge, links}
+
+-- the neighbours, where x is one too
+abbrev pub noted : Neighbours → ℕ → Neighbours
+noted None x = One x
+noted (One a) x = if a == x then One a else Two a x
+noted (Two a b) x = if a == x || b == x then Two a b else More
+noted More x = More
+
+-- the neighbours, where these are some too
+abbrev pub noted_all : Neighbours → List ℕ → Neighbours
+noted_all seen [] = seen
+noted_all seen (x ∷ xs) = noted_all (noted seen x) xs
+
+-- the other end of an edge, where one end is k
+abbrev pub other_end : ℕ → Edge → List ℕ
+other_end k e = (if e.0 == k then e.1 ∷ [] else []) ++ (if e.1 == k then e.0 ∷ [] else [])
+
+-- the other ends of the edges at k
+abbrev pub other_ends : ℕ → List Edge → List ℕ
+other_ends k es = flat_map (other_end k) es
+
+-- the other ends of the segments at k in these arcs
+abbrev pub ends_among : (ℕ → List ℕ) → List ℕ → ℕ → List ℕ
+ends_among path among k = flat_map (λ i. other_ends k (links (path i))) among

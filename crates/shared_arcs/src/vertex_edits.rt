@@ -1,0 +1,57 @@
+//! The edits of one vertex in every ring at once, and what stands around it.
+ghost use Rattle.std.specs.Prelude.{◌≡◌, ◌≤◌, ◌⊎◌, ℕ, List, OnOk, OnErr, IfSome, IfNone, option_map, length, min};
+ghost use Rattle.std.specs.FinMap as map;
+ghost use Rattle.shared_arcs.specs.Ways.{Edge};
+ghost use Rattle.shared_arcs.specs.Edited.{AreApart, through, collapsed};
+ghost use Rattle.shared_arcs.specs.Joined.{Joined, Passes, AreNeighbours};
+
+use crate::around::Neighbours;
+use crate::borders::Borders;
+use std::alloc::{AllocError, Allocator};
+use vertex_index::VertexKey;
+
+impl<A: Allocator + Copy> Borders<A> {
+    /// Puts vertex `q`, which no ring has, between `a` and `b` in every ring that has their
+    /// segment. Fails for want of memory alone.
+    pub fn insert(&mut self, a: VertexKey, b: VertexKey, q: VertexKey) -> Result<(), AllocError>
+        requires unjoined { (x : ℕ) → ¬ Joined self.old q x }
+        requires apart { AreApart a b q }
+        ensures ok { OnOk result ((r : ℕ) → map.get self.new r
+            ≡ option_map (through a b q) (map.get self.old r)) }
+        ensures err { OnErr result (self.new ≡ self.old) }
+    {
+        self.tables.insert(a, b, q)
+    }
+
+    /// Takes vertex `p`, whose neighbours are `a` and `b` in every ring that has it, out of every
+    /// ring. Fails for want of memory alone.
+    pub fn remove(&mut self, p: VertexKey, a: VertexKey, b: VertexKey) -> Result<(), AllocError>
+        requires between { (x : ℕ) → Joined self.old p x → (x ≡ a) ⊎ (x ≡ b) }
+        requires unjoined { ¬ Joined self.old a b }
+        requires apart { AreApart a b p }
+        ensures ok { OnOk result ((r : ℕ) → map.get self.new r
+            ≡ option_map (collapsed p b) (map.get self.old r)) }
+        ensures err { OnErr result (self.new ≡ self.old) }
+    {
+        self.tables.remove(p, b)
+    }
+
+    /// The vertices that some ring joins to `k` by a segment. Takes no memory.
+    pub fn neighbours(&self, k: VertexKey) -> Neighbours
+        ensures { AreNeighbours self.now k result }
+    {
+        self.tables.neighbours(k)
+    }
+
+    /// How many edges the shortest ring with a segment at `k` has, `None` where no ring has one. It
+    /// is `usize::MAX` for more. Takes no memory.
+    pub fn shortest(&self, k: VertexKey) -> Option<usize>
+        ensures none { IfNone result ((es : List Edge) → ¬ Passes self.now k es) }
+        ensures some { IfSome result (λ n. (es : List Edge) × Passes self.now k es
+            × (n ≡ min (length es) usize.MAX)) }
+        ensures least { IfSome result (λ n. (es : List Edge) → Passes self.now k es
+            → n ≤ length es) }
+    {
+        self.tables.shortest(k)
+    }
+}
