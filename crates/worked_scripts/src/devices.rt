@@ -71,7 +71,7 @@ fn long_lines(rt: HostRuntime) -> Result<(), Fail> {
     }
     script.extend_from_slice(b"\narea 0")?;
     assert_eq!(rt;
-        told(&rt, TWO_SQUARES.as_bytes(), script.as_slice())?.as_str(),
+        told(rt.alloc(), TWO_SQUARES.as_bytes(), script.as_slice())?.as_str(),
         "bad line\n200\nanswered 2, refused 1"
     );
     Ok(())
@@ -82,7 +82,7 @@ fn long_lines(rt: HostRuntime) -> Result<(), Fail> {
 fn carriage_returns(rt: HostRuntime) -> Result<(), Fail> {
     assert_eq!(rt;
         told(
-            &rt,
+            rt.alloc(),
             TWO_SQUARES.as_bytes(),
             b"area 0\r\n\r\narea 0\r\r\narea 0\r"
         )?

@@ -1,6 +1,6 @@
 // Maps that are not opened, and maps at the edge that are.
 use crate::maps::TWO_SQUARES;
-use crate::told::told;
+use crate::told::{are_opened, told};
 use std::test::Fail;
 
 /// A hundred lists one in another are read, one more is too deep, and open ones are no text.
@@ -20,10 +20,7 @@ fn faults_of_nesting(rt: HostRuntime) -> Result<(), Fail> {
             "open: not json at 100",
         ),
     ];
-    for row in &rows[..] {
-        assert_eq!(rt; told(&rt, row.0.as_bytes(), b"area 0")?.as_str(), row.1);
-    }
-    Ok(())
+    are_opened(&rt, rt.alloc(), &rows[..])
 }
 
 /// Names that are wrong, that stand twice or that are missing.
@@ -48,10 +45,7 @@ fn faults_of_the_shape(rt: HostRuntime) -> Result<(), Fail> {
             "open: unsupported LineString",
         ),
     ];
-    for row in &rows[..] {
-        assert_eq!(rt; told(&rt, row.0.as_bytes(), b"area 0")?.as_str(), row.1);
-    }
-    Ok(())
+    are_opened(&rt, rt.alloc(), &rows[..])
 }
 
 /// Positions that are none.
@@ -71,10 +65,7 @@ fn faults_of_positions(rt: HostRuntime) -> Result<(), Fail> {
             "open: bad position at 40",
         ),
     ];
-    for row in &rows[..] {
-        assert_eq!(rt; told(&rt, row.0.as_bytes(), b"area 0")?.as_str(), row.1);
-    }
-    Ok(())
+    are_opened(&rt, rt.alloc(), &rows[..])
 }
 
 /// Indexes that name no arc.
@@ -106,10 +97,7 @@ fn faults_of_arc_indexes(rt: HostRuntime) -> Result<(), Fail> {
             "open: not whole at 61",
         ),
     ];
-    for row in &rows[..] {
-        assert_eq!(rt; told(&rt, row.0.as_bytes(), b"area 0")?.as_str(), row.1);
-    }
-    Ok(())
+    are_opened(&rt, rt.alloc(), &rows[..])
 }
 
 /// Arcs that make no ring, and rings that cross themselves.
@@ -133,10 +121,7 @@ fn faults_of_rings(rt: HostRuntime) -> Result<(), Fail> {
             "open: arcs do not meet 0 0 0",
         ),
     ];
-    for row in &rows[..] {
-        assert_eq!(rt; told(&rt, row.0.as_bytes(), b"area 0")?.as_str(), row.1);
-    }
-    Ok(())
+    are_opened(&rt, rt.alloc(), &rows[..])
 }
 
 /// Whether each map opens, and an empty script has no answer.
@@ -151,7 +136,7 @@ fn maps_that_open(rt: HostRuntime) -> Result<(), Fail> {
     ];
     for map in &rows[..] {
         assert_eq!(rt;
-            told(&rt, map.as_bytes(), b"")?.as_str(),
+            told(rt.alloc(), map.as_bytes(), b"")?.as_str(),
             "answered 0, refused 0"
         );
     }
@@ -164,7 +149,7 @@ fn cuts_of_a_map(rt: HostRuntime) -> Result<(), Fail> {
     let map = TWO_SQUARES.as_bytes();
     for k in 0..map.len() {
         let text = format!(in rt.alloc(); "open: not json at {k}")?;
-        assert_eq!(rt; told(&rt, &map[..k], b"")?.as_str(), text.as_str());
+        assert_eq!(rt; told(rt.alloc(), &map[..k], b"")?.as_str(), text.as_str());
     }
     Ok(())
 }

@@ -38,12 +38,12 @@ fn long_text(
 fn a_map_of_too_many_bytes(rt: HostRuntime) -> Result<(), Fail> {
     let map = long_text(&rt, b"", b" ", 67_108_865, b"")?;
     assert_eq!(rt;
-        told(&rt, map.as_slice(), b"")?.as_str(),
+        told(rt.alloc(), map.as_slice(), b"")?.as_str(),
         "open: too large bytes"
     );
     let map = long_text(&rt, b"", b" ", 67_108_864, b"")?;
     assert_eq!(rt;
-        told(&rt, map.as_slice(), b"")?.as_str(),
+        told(rt.alloc(), map.as_slice(), b"")?.as_str(),
         "open: not json at 67108864"
     );
     Ok(())
@@ -56,12 +56,12 @@ fn a_map_of_too_many_positions(rt: HostRuntime) -> Result<(), Fail> {
     let end = b"]]}},\"arcs\":[[[0,0],[10,0],[10,10],[0,10],[0,0]]]}";
     let map = long_text(&rt, front, b",0", 800_000, end)?;
     assert_eq!(rt;
-        told(&rt, map.as_slice(), b"")?.as_str(),
+        told(rt.alloc(), map.as_slice(), b"")?.as_str(),
         "open: too large positions"
     );
     let map = long_text(&rt, front, b",0", 799_999, end)?;
     assert_eq!(rt;
-        told(&rt, map.as_slice(), b"")?.as_str(),
+        told(rt.alloc(), map.as_slice(), b"")?.as_str(),
         "open: ring repeats 0 0 0 at 0 0"
     );
     Ok(())
@@ -76,7 +76,7 @@ fn an_edit_of_too_many_positions(rt: HostRuntime) -> Result<(), Fail> {
     let map = long_text(&rt, front, b",[[0]]", 799_999, end)?;
     assert_eq!(rt;
         told(
-            &rt,
+            rt.alloc(),
             map.as_slice(),
             b"insert 0 0 10 0 5 0\ninsert 5 0 10 0 7 0\narea 0"
         )?
@@ -94,12 +94,12 @@ fn a_map_of_too_many_features(rt: HostRuntime) -> Result<(), Fail> {
     let end = b"]}},\"arcs\":[]}";
     let map = long_text(&rt, front, b",{\"type\":null}", 200_000, end)?;
     assert_eq!(rt;
-        told(&rt, map.as_slice(), b"area 0")?.as_str(),
+        told(rt.alloc(), map.as_slice(), b"area 0")?.as_str(),
         "open: too large features"
     );
     let map = long_text(&rt, front, b",{\"type\":null}", 199_999, end)?;
     assert_eq!(rt;
-        told(&rt, map.as_slice(), b"area 199999")?.as_str(),
+        told(rt.alloc(), map.as_slice(), b"area 199999")?.as_str(),
         "0\nanswered 1, refused 0"
     );
     Ok(())

@@ -1,6 +1,6 @@
 // Scripts and their answers on a map, the counts behind the answers.
 use crate::maps::{DELTAS, DENTED, HOLES, OTHER_NAMES, TRIANGLE_INSIDE, TWO_SQUARES, UNION_ABOVE};
-use crate::told::told;
+use crate::told::{are_answered, told};
 use std::test::Fail;
 
 /// Vertices that move, and moves that are refused.
@@ -44,13 +44,7 @@ fn moves(rt: HostRuntime) -> Result<(), Fail> {
             "ok\n240\n440\nanswered 3, refused 0",
         ),
     ];
-    for row in &rows[..] {
-        assert_eq!(rt;
-            told(&rt, row.0.as_bytes(), row.1.as_bytes())?.as_str(),
-            row.2
-        );
-    }
-    Ok(())
+    are_answered(&rt, rt.alloc(), &rows[..])
 }
 
 /// Vertices that are put between two neighbours.
@@ -93,13 +87,7 @@ fn insertions(rt: HostRuntime) -> Result<(), Fail> {
             "refused sweeps\n1800\nanswered 2, refused 1",
         ),
     ];
-    for row in &rows[..] {
-        assert_eq!(rt;
-            told(&rt, row.0.as_bytes(), row.1.as_bytes())?.as_str(),
-            row.2
-        );
-    }
-    Ok(())
+    are_answered(&rt, rt.alloc(), &rows[..])
 }
 
 /// Vertices that are left out, and those that have to stay.
@@ -142,13 +130,7 @@ fn removals(rt: HostRuntime) -> Result<(), Fail> {
             "ok\nok\n200\n200\nrefused no vertex\nanswered 5, refused 1",
         ),
     ];
-    for row in &rows[..] {
-        assert_eq!(rt;
-            told(&rt, row.0.as_bytes(), row.1.as_bytes())?.as_str(),
-            row.2
-        );
-    }
-    Ok(())
+    are_answered(&rt, rt.alloc(), &rows[..])
 }
 
 /// Flat vertices that are left out in one pass.
@@ -186,13 +168,7 @@ fn thinnings(rt: HostRuntime) -> Result<(), Fail> {
             "bad line\nok 2\nanswered 2, refused 1",
         ),
     ];
-    for row in &rows[..] {
-        assert_eq!(rt;
-            told(&rt, row.0.as_bytes(), row.1.as_bytes())?.as_str(),
-            row.2
-        );
-    }
-    Ok(())
+    are_answered(&rt, rt.alloc(), &rows[..])
 }
 
 /// The greatest coordinates and areas.
@@ -218,13 +194,7 @@ fn moves_to_the_edge_of_the_grid(rt: HostRuntime) -> Result<(), Fail> {
             "ok\nok\n999999999999999999999900\nanswered 3, refused 0",
         ),
     ];
-    for row in &rows[..] {
-        assert_eq!(rt;
-            told(&rt, row.0.as_bytes(), row.1.as_bytes())?.as_str(),
-            row.2
-        );
-    }
-    Ok(())
+    are_answered(&rt, rt.alloc(), &rows[..])
 }
 
 /// Lines that are no commands, and numbers of no feature.
@@ -244,13 +214,7 @@ fn lines_that_ask_for_nothing(rt: HostRuntime) -> Result<(), Fail> {
             "refused no feature\nrefused no feature\nbad line\nbad line\nanswered 4, refused 4",
         ),
     ];
-    for row in &rows[..] {
-        assert_eq!(rt;
-            told(&rt, row.0.as_bytes(), row.1.as_bytes())?.as_str(),
-            row.2
-        );
-    }
-    Ok(())
+    are_answered(&rt, rt.alloc(), &rows[..])
 }
 
 /// Each line that there is, with a mistake in it.
@@ -301,7 +265,7 @@ fn lines_with_a_mistake(rt: HostRuntime) -> Result<(), Fail> {
     ];
     for row in &rows[..] {
         assert_eq!(rt;
-            told(&rt, TWO_SQUARES.as_bytes(), row.as_bytes())?.as_str(),
+            told(rt.alloc(), TWO_SQUARES.as_bytes(), row.as_bytes())?.as_str(),
             "bad line\nanswered 1, refused 1",
             "{row}"
         );
@@ -330,11 +294,5 @@ fn areas(rt: HostRuntime) -> Result<(), Fail> {
             "200\n180\nanswered 2, refused 0",
         ),
     ];
-    for row in &rows[..] {
-        assert_eq!(rt;
-            told(&rt, row.0.as_bytes(), row.1.as_bytes())?.as_str(),
-            row.2
-        );
-    }
-    Ok(())
+    are_answered(&rt, rt.alloc(), &rows[..])
 }

@@ -1,12 +1,13 @@
 // How a run is told in one text, to be compared.
 use device_io::{FromReader, ToWriter};
 use script_runner::run;
+use std::alloc::Global;
+use std::process::Abort;
 use std::str;
 use std::test::Fail;
 
 /// The answers to the script on the map, and then the counts or the line of the fault.
-pub(crate) fn told(rt: &HostRuntime, map: &[u8], script: &[u8]) -> Result<String, Fail> {
-    let alloc = rt.alloc();
+pub(crate) fn told(alloc: Global, map: &[u8], script: &[u8]) -> Result<String, Fail> {
     let mut source = FromReader::new(script);
     let mut sink = ToWriter::new(Vec::new(alloc));
     let outcome = run(alloc, alloc, map, &mut source, &mut sink);
@@ -19,4 +20,31 @@ pub(crate) fn told(rt: &HostRuntime, map: &[u8], script: &[u8]) -> Result<String
         Err(fault) => format!(in alloc; "{out}{fault}")?,
     };
     Ok(text)
+}
+
+/// Each script has these answers on its map, and then these counts.
+pub(crate) fn are_answered<R: Abort>(
+    rt: &R,
+    alloc: Global,
+    rows: &[(&str, &str, &str)],
+) -> Result<(), Fail> {
+    for row in rows {
+        assert_eq!(rt;
+            told(alloc, row.0.as_bytes(), row.1.as_bytes())?.as_str(),
+            row.2
+        );
+    }
+    Ok(())
+}
+
+/// A question for an area is told this of each map.
+pub(crate) fn are_opened<R: Abort>(
+    rt: &R,
+    alloc: Global,
+    rows: &[(&str, &str)],
+) -> Result<(), Fail> {
+    for row in rows {
+        assert_eq!(rt; told(alloc, row.0.as_bytes(), b"area 0")?.as_str(), row.1);
+    }
+    Ok(())
 }
