@@ -55,8 +55,8 @@ impl<A: Allocator + Copy> Borders<A> {
         self.tables.rings.get(r).is_some()
     }
 
-    /// Lets new borders end at a vertex, as at a junction of the map that is to be put in: what ends
-    /// there is never cut there. No ring changes. Fails for want of memory alone.
+    /// Lets new borders end at a vertex, as at a junction of the map that is to be put in: what
+    /// ends there is never cut there. No ring changes. Fails for want of memory alone.
     pub fn end_arcs_at(&mut self, k: VertexKey) -> Result<(), AllocError>
         ensures { self.new ≡ self.old }
     {
@@ -106,7 +106,8 @@ impl<A: Allocator + Copy> Borders<A> {
         out: &mut Vec<VertexKey, B>,
     ) -> Result<(), AllocError>
         requires { map.contains_key self.now r ≡ true }
-        ensures { OnOk result (IfSome (map.get self.now r) (λ es. out.new.items ≡ out.old.items ++ begins es)) }
+        ensures { OnOk result
+            (IfSome (map.get self.now r) (λ es. out.new.items ≡ out.old.items ++ begins es)) }
     {
         match self.tables.push_keys(r, out) {
             Ok(()) => Ok(()),

@@ -56,8 +56,10 @@ fn plan_uses<A: Allocator + Copy>(
     i: usize,
     n: usize,
 ) -> Result<Vec<NewUses<A>, A>, AllocError>
-    ensures each { IfOk result (λ v. (e : NewUses _) → Contains v.items e → Doubles rings.now i n e) }
-    ensures all { IfOk result (λ v. (r : ℕ) → Contains users.now r → ContainsKey rings.now r → HasRing v.items r) }
+    ensures each { IfOk result
+        (λ v. (e : NewUses _) → Contains v.items e → Doubles rings.now i n e) }
+    ensures all { IfOk result
+        (λ v. (r : ℕ) → Contains users.now r → ContainsKey rings.now r → HasRing v.items r) }
 {
     let mut news = Vec::new(alloc);
     for r in users {
@@ -72,7 +74,8 @@ fn plan_uses<A: Allocator + Copy>(
 /// Gives rings their new uses.
 fn put_uses<A: Allocator + Copy>(rings: &mut Slab<Ring<A>, A>, mut news: Vec<NewUses<A>, A>)
     requires { (e : NewUses _) → Contains news.items e → ContainsKey rings.old e.ring }
-    ensures put { (r : ℕ) → IsPut news.items r (uses_in (get rings.old r)) (uses_in (get rings.new r)) }
+    ensures put { (r : ℕ)
+        → IsPut news.items r (uses_in (get rings.old r)) (uses_in (get rings.new r)) }
     ensures held { SameKeys rings.old rings.new }
 {
     while let Some(new) = news.pop() {

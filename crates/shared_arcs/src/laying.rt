@@ -163,7 +163,8 @@ impl<A: Allocator + Copy> Tables<A> {
         requires agrees { take 2 (path_of self.old i) ≡ take 2 keys.now }
         ensures two { IfOk result (λ m. 2 ≤ m) }
         ensures within { IfOk result (λ m. m ≤ length keys.now) }
-        ensures ok { IfOk result (λ m. Grows r (links (take m keys.now)) (store self.old) (store self.new)) }
+        ensures ok { IfOk result
+            (λ m. Grows r (links (take m keys.now)) (store self.old) (store self.new)) }
         ensures err { OnErr result (Keeps (store self.old) (store self.new)) }
         ensures whole { Whole self.new }
         ensures held { SameKeys self.old.rings self.new.rings }
@@ -187,7 +188,8 @@ impl<A: Allocator + Copy> Tables<A> {
         requires agrees { take 2 (reverse (path_of self.old i)) ≡ take 2 keys.now }
         ensures two { IfOk result (λ m. 2 ≤ m) }
         ensures within { IfOk result (λ m. m ≤ length keys.now) }
-        ensures ok { IfOk result (λ m. Grows r (links (take m keys.now)) (store self.old) (store self.new)) }
+        ensures ok { IfOk result
+            (λ m. Grows r (links (take m keys.now)) (store self.old) (store self.new)) }
         ensures err { OnErr result (Keeps (store self.old) (store self.new)) }
         ensures whole { Whole self.new }
         ensures held { SameKeys self.old.rings self.new.rings }
@@ -213,10 +215,12 @@ impl<A: Allocator + Copy> Tables<A> {
         requires whole { Whole self.old }
         requires arc_there { ContainsKey self.old.arcs place.arc }
         requires two { 2 ≤ length keys.now }
-        requires place { IsPlace (path_of self.old place.arc) place.at false (get_or keys.now 0 0) (get_or keys.now 1 0) }
+        requires place { IsPlace (path_of self.old place.arc) place.at false
+            (get_or keys.now 0 0) (get_or keys.now 1 0) }
         ensures two { IfOk result (λ m. 2 ≤ m) }
         ensures within { IfOk result (λ m. m ≤ length keys.now) }
-        ensures ok { IfOk result (λ m. Grows r (links (take m keys.now)) (store self.old) (store self.new)) }
+        ensures ok { IfOk result
+            (λ m. Grows r (links (take m keys.now)) (store self.old) (store self.new)) }
         ensures err { OnErr result (Keeps (store self.old) (store self.new)) }
         ensures whole { Whole self.new }
         ensures held { SameKeys self.old.rings self.new.rings }
@@ -236,10 +240,12 @@ impl<A: Allocator + Copy> Tables<A> {
         requires whole { Whole self.old }
         requires arc_there { ContainsKey self.old.arcs place.arc }
         requires two { 2 ≤ length keys.now }
-        requires place { IsPlace (path_of self.old place.arc) place.at true (get_or keys.now 0 0) (get_or keys.now 1 0) }
+        requires place { IsPlace (path_of self.old place.arc) place.at true
+            (get_or keys.now 0 0) (get_or keys.now 1 0) }
         ensures two { IfOk result (λ m. 2 ≤ m) }
         ensures within { IfOk result (λ m. m ≤ length keys.now) }
-        ensures ok { IfOk result (λ m. Grows r (links (take m keys.now)) (store self.old) (store self.new)) }
+        ensures ok { IfOk result
+            (λ m. Grows r (links (take m keys.now)) (store self.old) (store self.new)) }
         ensures err { OnErr result (Keeps (store self.old) (store self.new)) }
         ensures whole { Whole self.new }
         ensures held { SameKeys self.old.rings self.new.rings }
@@ -312,9 +318,12 @@ impl<A: Allocator + Copy> Tables<A> {
         requires making_there { IfSome making (λ n. ContainsKey self.old.arcs n) }
         ensures two { IfOk result (λ p. 2 ≤ p.keys) }
         ensures within { IfOk result (λ p. p.keys ≤ length keys.now) }
-        ensures ok { IfOk result (λ p. Grows r (links (take p.keys keys.now)) (store self.old) (store self.new)) }
-        ensures making { IfOk result (λ p. IsOpen self.new r p.making (get_or keys.now (p.keys - 1) 0)) }
-        ensures making_there { IfOk result (λ p. IfSome p.making (λ n. ContainsKey self.new.arcs n)) }
+        ensures ok { IfOk result
+            (λ p. Grows r (links (take p.keys keys.now)) (store self.old) (store self.new)) }
+        ensures making { IfOk result
+            (λ p. IsOpen self.new r p.making (get_or keys.now (p.keys - 1) 0)) }
+        ensures making_there { IfOk result
+            (λ p. IfSome p.making (λ n. ContainsKey self.new.arcs n)) }
         ensures err { OnErr result (Keeps (store self.old) (store self.new)) }
         ensures whole { Whole self.new }
         ensures held { SameKeys self.old.rings self.new.rings }

@@ -41,7 +41,8 @@ impl<A: Allocator + Copy> Tables<A> {
     ) -> Result<(), AllocError>
         requires whole { Whole self.now }
         requires held { ContainsKey self.now.rings r }
-        ensures { OnOk result (out.new.items ≡ out.old.items ++ begins (edges_of (store self.now) r)) }
+        ensures { OnOk result
+            (out.new.items ≡ out.old.items ++ begins (edges_of (store self.now) r)) }
     {
         for u in self.rings.get(r).unwrap().uses.as_slice() {
             let arc = self.arcs.get(u.arc).unwrap();

@@ -52,7 +52,8 @@ pub(crate) fn note<A: Allocator + Copy>(
     n: usize,
 ) -> Result<(), AllocError>
     ensures kept { ListsMore stands.old.items stands.new.items }
-    ensures noted { OnOk result ((k : ℕ) → Contains keys.now k → Contains (stand_at stands.new.items k) n) }
+    ensures noted { OnOk result
+        ((k : ℕ) → Contains keys.now k → Contains (stand_at stands.new.items k) n) }
 {
     for k in keys {
         list_arc(alloc, stands, *k, n)?;
