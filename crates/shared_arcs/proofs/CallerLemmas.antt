@@ -35,7 +35,7 @@ counted_one p (f ∷ entries) q v h e = by (eq_by_cmp nat_cmp q f.0) h (λ k. co
     rest = map (λ (x : ℕ × List Edge). x.1) entries
 
     by : (t : Bool) → cond t (Some f.1) (rings.find nat_cmp q entries) ≡ Some v → (rings.find nat_cmp q entries ≡ Some v → 1 ≤ count_by p rest) → 1 ≤ count_by p (f.1 ∷ rest)
-    by true k go = let same : f.1 ≡ v = ap (λ o. unwrap_or o v) k in omega (arith, sum_by-cons (λ x. cond (p x) 1 0) f.1 rest, ap (λ b. cond b 1 0) (ap p same ∙ e))
+    by true k go = let same : f.1 ≡ v = ap (λ o. unwrap_or o v) k in omega (arith, sum_by-cons (λ x. cond (p x) 1 0) f.1 rest, ap {B = ℕ} (λ b. cond b 1 0) (ap p same ∙ e))
     by false k go = omega (arith, sum_by-cons (λ x. cond (p x) 1 0) f.1 rest, go k)
 
 pub unused_apart : (m : Rings) (a b : ℕ) → users_of m a b ≡ 0 → ¬ (Joined m a b)
