@@ -20,3 +20,4 @@ pub mod Removing
 pub mod ShortestLemmas
 pub mod Counting
 mod Examples
+pub mod CallerLemmas

@@ -34,7 +34,8 @@ fn remove<R: Abort, A: Allocator + Copy>(
     match borders.neighbours(p) {
         Neighbours::Two(a, b) => {
             assert!(rt; a != p && b != p);
-            assert!(rt; borders.tables.find(a, b).is_none());
+            let shared = borders.uses(a, b);
+            assert!(rt; shared == 0);
             borders.remove(p, a, b)
         }
         _ => panic!(rt; "not two neighbours"),
