@@ -1,14 +1,15 @@
 //! One vertex put in and taken out, what stands around it, and calls that are refused memory.
 use crate::around::Neighbours;
 use crate::borders::Borders;
-use crate::tests::{
-    LEFT, RIGHT, RIGHT_TURNED, SIZE, add, arc_count, goes_along, pick, vertex_keys,
-};
-use linked_list_allocator::LocalHeap;
+use crate::tests::{LEFT, RIGHT, RIGHT_TURNED, add, arc_count, goes_along, pick, vertex_keys};
+use refusing_allocator::Refusing;
 use std::alloc::{AllocError, Allocator, Global};
 use std::process::Abort;
 use std::test::Fail;
 use vertex_index::VertexKey;
+
+/// More than the growths of any run below.
+const MANY: u64 = 200;
 
 /// Puts a vertex that no ring has between two others.
 fn insert<R: Abort, A: Allocator + Copy>(
@@ -198,73 +199,94 @@ fn one_neighbour(rt: HostRuntime) -> Result<(), Fail> {
     Ok(())
 }
 
-/// Whether putting a vertex in, or taking one out, is refused in so much room. The squares are then
-/// as before, and afterwards with more room it is done.
-fn is_refused<R: Abort>(
+/// What came of an edit where one growth was refused.
+#[derive(Clone, Copy, Debug, PartialEq, Eq)]
+enum Outcome {
+    /// There were no squares to edit: the growth was one of theirs.
+    NoSquares,
+    Refused,
+    Done,
+}
+
+/// Puts a vertex in between two of the squares, or takes one out.
+fn edit<R: Abort, A: Allocator + Copy>(
+    rt: &R,
+    borders: &mut Borders<A>,
+    keys: &[VertexKey],
+    takes_out: bool,
+) -> Result<(), AllocError> {
+    assert!(rt; keys.len() > 6);
+    if takes_out {
+        remove(rt, borders, keys[0])
+    } else {
+        insert(rt, borders, keys[1], keys[2], keys[6])
+    }
+}
+
+/// The edit, with the growth of this number refused. Where it was the edit's, the squares are as
+/// before, and the edit is made when it is asked for again.
+fn refuse<R: Abort>(
     rt: &R,
     alloc: Global,
     keys: &[VertexKey],
-    room: usize,
+    nth: u64,
     takes_out: bool,
-) -> Result<bool, Fail> {
-    assert!(rt; keys.len() > 6);
-    let heap = LocalHeap::new(alloc, SIZE)?;
+) -> Result<Outcome, Fail> {
+    let heap = Refusing::new(alloc, nth);
     let mut borders = Borders::new(&heap);
     let left = pick(rt, alloc, keys, &LEFT)?;
     let right = pick(rt, alloc, keys, &RIGHT)?;
-    let first = add(rt, &mut borders, left.as_slice())?;
-    let second = add(rt, &mut borders, right.as_slice())?;
-    let taken: Vec<u8, &LocalHeap> = Vec::with_capacity(&heap, room)?;
-    let mut filler: Vec<Vec<u8, &LocalHeap>> = Vec::new(alloc);
-    for size in [4096usize, 1024, 256, 64, 32, 16] {
-        for _ in 0..SIZE {
-            match Vec::with_capacity(&heap, size) {
-                Ok(bytes) => filler.push(bytes)?,
-                Err(_) => break,
-            }
-        }
-    }
-    drop(taken);
-    let done = if takes_out {
-        remove(rt, &mut borders, keys[0])
-    } else {
-        insert(rt, &mut borders, keys[1], keys[2], keys[6])
+    let Ok(first) = add(rt, &mut borders, left.as_slice()) else {
+        return Ok(Outcome::NoSquares);
     };
-    let refused = done.is_err();
+    let Ok(second) = add(rt, &mut borders, right.as_slice()) else {
+        return Ok(Outcome::NoSquares);
+    };
+    let refused = edit(rt, &mut borders, keys, takes_out).is_err();
     if refused {
+        assert!(rt; heap.was_refused());
         assert!(rt; goes_along(alloc, &borders, first, left.as_slice())?);
         assert!(rt; goes_along(alloc, &borders, second, right.as_slice())?);
+        edit(rt, &mut borders, keys, takes_out)?;
     }
-    drop(filler);
-    if refused && takes_out {
-        remove(rt, &mut borders, keys[0])?;
-    } else if refused {
-        insert(rt, &mut borders, keys[1], keys[2], keys[6])?;
-    }
-    let after: &[usize] = if takes_out {
+    let which: &[usize] = if takes_out {
         &[1, 2, 3]
     } else {
         &[0, 1, 6, 2, 3]
     };
-    let after = pick(rt, alloc, keys, after)?;
+    let after = pick(rt, alloc, keys, which)?;
     assert!(rt; goes_round(alloc, &borders, first, after.as_slice())?);
-    Ok(refused)
+    Ok(if refused {
+        Outcome::Refused
+    } else {
+        Outcome::Done
+    })
 }
 
-/// An edit is refused in each room that is too small for it.
+/// How many growths of the edit can be refused.
+fn refuse_each<R: Abort>(
+    rt: &R,
+    alloc: Global,
+    keys: &[VertexKey],
+    takes_out: bool,
+) -> Result<u64, Fail> {
+    let mut refused = 0u64;
+    for nth in 1..MANY {
+        match refuse(rt, alloc, keys, nth, takes_out)? {
+            Outcome::NoSquares => {}
+            Outcome::Refused => refused = refused.saturating_add(1),
+            Outcome::Done => return Ok(refused),
+        }
+    }
+    panic!(rt; "the edit ends");
+}
+
 #[test]
 fn a_refused_edit_changes_nothing(rt: HostRuntime) -> Result<(), Fail> {
     let alloc = rt.alloc();
     let keys = vertex_keys(&rt, alloc, 7)?;
-    assert!(rt; keys.len() == 7);
     for takes_out in [false, true] {
-        let mut refused = 0usize;
-        for room in 0..40usize {
-            if is_refused(&rt, alloc, keys.as_slice(), 16 * room, takes_out)? {
-                refused += 1;
-            }
-        }
-        assert!(rt; 0 < refused && refused < 40);
+        assert!(rt; 0 < refuse_each(&rt, alloc, keys.as_slice(), takes_out)?);
     }
     Ok(())
 }

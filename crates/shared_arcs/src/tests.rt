@@ -9,7 +9,7 @@ use std::test::Fail;
 use vertex_index::{VertexKey, Vertices};
 
 /// The bytes of each heap.
-pub(crate) const SIZE: usize = 16384;
+const SIZE: usize = 16384;
 
 /// Two squares, each counted by its four vertices: the side of vertices 1 and 2 is in both.
 pub(crate) const LEFT: [usize; 4] = [0, 1, 2, 3];

@@ -1,0 +1,356 @@
+-- What stands around a vertex of a kept map: it is no junction where exactly two are joined to it.
+use Rattle.std.proofs.Common.{◌≡◌, ◌≢◌, ◌↔◌, ◌≤◌, ◌<◌, ℕ, arith, length, ◌||◌, ◌&&◌, Bool, true}
+use Rattle.std.proofs.Common.{false, refl, sym, ap, ap₂, ◌∙◌, subst, List, [], ◌∷◌, ◌⊎◌, inl, inr}
+use Rattle.std.proofs.Common.{Some, None, is_some}
+use Rattle.std.specs.List.{list_all}
+use Rattle.std.proofs.lemmas.List.{length-map}
+use Rattle.std.specs.Prelude.{nat_lt, ℤ, pos, not, int_le, unsigned_abs}
+use Rattle.std.specs.FinMap as table
+use Rattle.std.proofs.lemmas.Bool.{false≢true}
+use Rattle.grid_geometry.specs.Position.{Position}
+use Rattle.grid_geometry.specs.Segment.{Segment, segment, segment_eq, is_end, IsSegment}
+use Rattle.grid_geometry.specs.Orientation.{orientation}
+use Rattle.grid_geometry.proofs.Conflicts.{segment-comm}
+use Rattle.ring_machine.specs.Parts.{rings, is_vertex, is_segment}
+use Rattle.ring_machine.specs.Ring.{has, canonical}
+use Rattle.ring_machine.specs.Refusals.{is_bridged, are_long}
+use Rattle.ring_machine.specs.Sweep.{holds_other, remove_sweeps}
+use Rattle.ring_machine.specs.Thin.{is_flat}
+use Rattle.ring_machine.specs.Vertices.{del, around, all_equal, is_junction}
+use Rattle.ring_machine.proofs.First.{In}
+use Rattle.ring_machine.proofs.Neighbours.{place_around, has-in, in-has, in-map, all_in}
+use Rattle.ring_machine.proofs.RingSegments.{same_ends}
+use Rattle.ring_machine.proofs.StaysProper.{ring_distinct}
+use Rattle.shared_arcs.specs.Edited.{AreApart}
+use Rattle.shared_arcs.specs.declared.around.Neighbours.TheVariants as Neighbours
+use Rattle.shared_arcs.specs.declared.around.Neighbours.TheVariants.{One, Two, More}
+use Rattle.shared_arcs.specs.Joined.{Joined, Three, Passes, AreNeighbours}
+use Rattle.shared_arcs.specs.Ways.{Edge, times}
+use Rattle.shared_arcs.specs.Rings.{begins}
+use Rattle.arc_store.specs.Stored.{Stored, place, positions_along, document_of}
+use Rattle.arc_store.specs.Holds.{IsWhole}
+use Rattle.arc_store.proofs.Base.{joined_apart, Laid, ring_laid, begin_kept, IsKept}
+use Rattle.arc_store.proofs.Base.{segment_between, joined_back, place_is, place_kept, one_key}
+use Rattle.arc_store.proofs.Base.{key_vertex, document_ring, laid_ring, joined_at, joined_kept}
+use Rattle.arc_store.proofs.Base.{joined_around, joined_segment, joined_differ}
+use Rattle.arc_store.proofs.Ends.{two_positions, end_is, end_of_two}
+use Rattle.arc_store.proofs.Insertions.{AreRings, Comes, segments_come}
+use Rattle.arc_store.proofs.Members.{any_in, in_mapped}
+use Rattle.arc_store.proofs.KeyRings.{length-canonical, times_edge, edge_times, edge_ends}
+use Rattle.arc_store.proofs.KeyRings.{in_canonical, of_canonical}
+use Rattle.arc_store.proofs.Removals.{segments_del, HasSides, begun_there, spot_is, spot_of}
+use Rattle.arc_store.proofs.Removals.{all_equal_in, no_junction, around_is, around_has, bridged_by}
+use Rattle.arc_store.proofs.Removals.{sweeps_by, flat_by}
+use Rattle.arc_store.proofs.RingEdits.{BegunAt, edge_on, edge_back, sides_differ}
+
+-- ---- joined
+
+-- keys whose positions are the ends of a segment of the map are joined
+pub segment_joined : (s : Stored) (w : IsWhole s) (j k : ℕ) (a b : Position)
+    → table.get s.places j ≡ Some a → table.get s.places k ≡ Some b
+    → is_segment (document_of s) (segment a b) ≡ true → Joined s.rings j k
+segment_joined s w j k a b e f h =
+    let t = segment_between s w (segment a b) h in
+    by t.a t.b t.joined (same_ends (place s.places t.a, place s.places t.b) (a, b) (sym t.is))
+  where
+    key_of : (x y : ℕ) (p : Position) → IsKept s.places x → table.get s.places y ≡ Some p
+        → p ≡ place s.places x → x ≡ y
+    key_of x y p g u v = one_key s.places w.distinct x y g (place_kept s.places y p u) (sym v ∙ sym (place_is s.places y p u))
+
+    by : (x y : ℕ) → Joined s.rings x y
+        → ((a ≡ place s.places x) × (b ≡ place s.places y)) ⊎ ((a ≡ place s.places y) × (b ≡ place s.places x))
+        → Joined s.rings j k
+    by x y u (inl m) =
+        let g = joined_kept s w x y u in
+        subst (λ z. Joined s.rings z k) (key_of x j a g.0 e m.0) (subst (Joined s.rings x) (key_of y k b g.1 f m.1) u)
+    by x y u (inr m) =
+        let g = joined_kept s w x y u in
+        subst (λ z. Joined s.rings z k) (key_of y j a g.1 e m.0) (subst (Joined s.rings y) (key_of x k b g.0 f m.1) (joined_back s x y u))
+
+-- the ends of a segment differ
+pub segment_differs : (s : Stored) (w : IsWhole s) (a b : Position)
+    → is_segment (document_of s) (segment a b) ≡ true → a ≢ b
+segment_differs s w a b h e =
+    let t = segment_between s w (segment a b) h in
+    elim (same_ends (place s.places t.a, place s.places t.b) (a, b) (sym t.is)) [
+      | inl m ↦ joined_apart s w t.a t.b t.joined (sym m.0 ∙ e ∙ m.1)
+      | inr m ↦ joined_apart s w t.a t.b t.joined (sym m.1 ∙ sym e ∙ m.0)
+    ]
+
+-- the two segments that a new position between a and b has are segments, are two, and are new
+pub come_over : (s : Stored) (w : IsWhole s) (a b q : Position)
+    → is_segment (document_of s) (segment a b) ≡ true → is_vertex (document_of s) q ≡ false
+    → Comes (document_of s) (segment a q) (segment q b)
+come_over s w a b q h free = segments_come (document_of s) a b q (segment_differs s w a b h) h free
+
+-- a key without a position is joined to none
+pub none_joined : (s : Stored) (w : IsWhole s) (n : ℕ) → table.get s.places n ≡ None → (x : ℕ)
+    → ¬ Joined s.rings n x
+none_joined s w n e x h = false≢true (sym (ap is_some e) ∙ (joined_kept s w n x h).0)
+
+-- the ends of a segment and a key without a position are three keys
+pub new_apart : (s : Stored) (w : IsWhole s) (j k n : ℕ) → Joined s.rings j k
+    → table.get s.places n ≡ None → AreApart j k n
+new_apart s w j k n h e = (
+  joined_differ s w j k h,
+  λ f. false≢true (sym (ap is_some (ap (table.get s.places) f ∙ e)) ∙ (joined_kept s w j k h).0),
+  λ f. false≢true (sym (ap is_some (ap (table.get s.places) f ∙ e)) ∙ (joined_kept s w j k h).1),
+)
+
+-- ---- two
+
+-- exactly these two vertices are joined to m
+abbrev pub AreTwo : Stored → ℕ → ℕ → ℕ → Type 0
+AreTwo s m j k = (j ≢ k) × ((x : ℕ) → Joined s.rings m x ↔ ((x ≡ j) ⊎ (x ≡ k)))
+
+module _ (s : Stored) (w : IsWhole s) (m : ℕ) (p : Position) (here : table.get s.places m ≡ Some p) where
+  pub are_rings : AreRings (document_of s)
+  are_rings = document_ring s w
+
+  pub is_there : is_vertex (document_of s) p ≡ true
+  is_there = key_vertex s w m p here
+
+  p_is : place s.places m ≡ p
+  p_is = place_is s.places m p here
+
+  -- the keys of the neighbours in a ring
+  pub record Sides (ring : List Position) (t : BegunAt p ring) : Type 0 where
+    pub x : ℕ
+    pub y : ℕ
+    pub apart : x ≢ y
+    pub joined_x : Joined s.rings m x
+    pub joined_y : Joined s.rings m y
+    pub is_x : place s.places x ≡ t.x
+    pub is_y : place s.places y ≡ t.y
+
+  pub sides_of : (ring : List Position) → In ring (rings (document_of s)) → (t : BegunAt p ring) → Sides ring t
+  sides_of ring h t =
+      let d = ring_distinct ring (are_rings ring h) in
+      let l = laid_ring s w ring h in
+      let kept = place_kept s.places m p here in
+      let on = (joined_at s w ring l m kept (p, t.x) (edge_on p ring d t)).1 (sym p_is) in
+      let back = (joined_at s w ring l m kept (t.y, p) (edge_back p ring d t)).0 (sym p_is) in
+      record {
+        x = on.0;
+        y = back.0;
+        apart = λ e. sides_differ p ring d t (sym on.2 ∙ ap (place s.places) e ∙ back.2);
+        joined_x = on.1;
+        joined_y = back.1;
+        is_x = on.2;
+        is_y = back.2;
+      }
+
+  -- two that are joined to m, and stand beside it in one ring
+  pub record Pair : Type 0 where
+    pub x : ℕ
+    pub y : ℕ
+    pub apart : x ≢ y
+    pub joined_x : Joined s.rings m x
+    pub joined_y : Joined s.rings m y
+    pub around_it : In (segment (place s.places x) (place s.places y)) (around (document_of s) p)
+
+  pub joined_pair : Pair
+  joined_pair =
+      let r = any_in (λ ring. has ring p) (rings (document_of s)) is_there in
+      let t = begun_there (document_of s) p are_rings r.0 r.1 r.2 in
+      let i = sides_of r.0 r.1 t in
+      let u = spot_of p r.0 (are_rings r.0 r.1) t in
+      let is = spot_is p r.0 (ring_distinct r.0 (are_rings r.0 r.1)) t u.0 u.1 in
+      record {
+        x = i.x;
+        y = i.y;
+        apart = i.apart;
+        joined_x = i.joined_x;
+        joined_y = i.joined_y;
+        around_it = subst (λ z. In z (around (document_of s) p)) (is ∙ ap₂ segment (sym i.is_x) (sym i.is_y)) (place_around (document_of s) r.0 p u.0 r.1 u.1);
+      }
+
+  -- ---- two
+
+  -- in each ring these two are the neighbours
+  pub two_ways : (j k : ℕ) → AreTwo s m j k → (ring : List Position)
+      → In ring (rings (document_of s)) → (t : BegunAt p ring)
+      → ((t.x ≡ place s.places j) × (t.y ≡ place s.places k)) ⊎ ((t.x ≡ place s.places k) × (t.y ≡ place s.places j))
+  two_ways j k two ring h t =
+      let i = sides_of ring h t in
+      by i ((two.1 i.x).0 i.joined_x) ((two.1 i.y).0 i.joined_y)
+    where
+      by : (i : Sides ring t) → (i.x ≡ j) ⊎ (i.x ≡ k) → (i.y ≡ j) ⊎ (i.y ≡ k)
+          → ((t.x ≡ place s.places j) × (t.y ≡ place s.places k)) ⊎ ((t.x ≡ place s.places k) × (t.y ≡ place s.places j))
+      by i (inl u) (inl v) = absurd (i.apart (u ∙ sym v))
+      by i (inl u) (inr v) = inl (sym i.is_x ∙ ap (place s.places) u, sym i.is_y ∙ ap (place s.places) v)
+      by i (inr u) (inl v) = inr (sym i.is_x ∙ ap (place s.places) u, sym i.is_y ∙ ap (place s.places) v)
+      by i (inr u) (inr v) = absurd (i.apart (u ∙ sym v))
+
+  pub two_sides : (j k : ℕ) → AreTwo s m j k
+      → HasSides (document_of s) p (segment (place s.places j) (place s.places k))
+  two_sides j k two ring h t = elim (two_ways j k two ring h t) [
+    | inl u ↦ ap₂ segment u.0 u.1
+    | inr u ↦ ap₂ segment u.0 u.1 ∙ segment-comm (place s.places k) (place s.places j)
+  ]
+
+  -- their segment is all that stands around m
+  pub around_two : (j k : ℕ) → AreTwo s m j k → (t : Segment) → In t (around (document_of s) p)
+      → t ≡ segment (place s.places j) (place s.places k)
+  around_two j k two = around_is (document_of s) p are_rings (segment (place s.places j) (place s.places k)) (two_sides j k two) is_there
+
+  pub around_two_has : (j k : ℕ) → AreTwo s m j k
+      → In (segment (place s.places j) (place s.places k)) (around (document_of s) p)
+  around_two_has j k two = around_has (document_of s) p are_rings (segment (place s.places j) (place s.places k)) (two_sides j k two) is_there
+
+  pub bridged_two : (j k : ℕ) → AreTwo s m j k
+      → is_bridged (document_of s) p ≡ is_segment (document_of s) (segment (place s.places j) (place s.places k))
+  bridged_two j k two = bridged_by (document_of s) p are_rings (segment (place s.places j) (place s.places k)) (two_sides j k two) is_there
+
+  -- a removal of m sweeps over what the triangle of the three holds
+  pub sweeps_two : (j k : ℕ) → AreTwo s m j k
+      → let t = segment (place s.places j) (place s.places k) in
+      remove_sweeps (document_of s) p ≡ holds_other (document_of s) (t.lo ∷ p ∷ t.hi ∷ []) t.lo p t.hi
+  sweeps_two j k two = sweeps_by (document_of s) p are_rings (segment (place s.places j) (place s.places k)) (two_sides j k two) is_there
+
+  -- m is flat where that triangle is small
+  pub flat_two : (j k : ℕ) → AreTwo s m j k → (most : ℤ)
+      → let t = segment (place s.places j) (place s.places k) in
+      is_flat most (document_of s) p ≡ int_le (pos (unsigned_abs (orientation t.lo p t.hi))) most
+  flat_two j k two most = flat_by (document_of s) p are_rings (segment (place s.places j) (place s.places k)) (two_sides j k two) is_there most
+
+  -- without m the segments at it go, and that of the two comes
+  pub segments_two : (j k : ℕ) → AreTwo s m j k → (t : Segment)
+      → is_segment (del (document_of s) p) t
+      ≡ ((is_segment (document_of s) t && not (is_end p t)) || segment_eq t (segment (place s.places j) (place s.places k)))
+  segments_two j k two = segments_del (document_of s) p are_rings (segment (place s.places j) (place s.places k)) (two_sides j k two) is_there
+
+  -- and that is a segment
+  pub bridge_two : (j k : ℕ) → AreTwo s m j k → IsSegment (segment (place s.places j) (place s.places k))
+  bridge_two j k two =
+      let kept_j = (joined_kept s w m j ((two.1 j).1 (inl refl))).1 in
+      let kept_k = (joined_kept s w m k ((two.1 k).1 (inr refl))).1 in
+      two_positions (place s.places j) (place s.places k) (λ e. two.0 (one_key s.places w.distinct j k kept_j kept_k e))
+
+  -- the two are not joined themselves, where the map has not their segment
+  pub unbridged_two : (j k : ℕ) → AreTwo s m j k → is_bridged (document_of s) p ≡ false
+      → ¬ Joined s.rings j k
+  unbridged_two j k two h g = false≢true (sym h ∙ bridged_two j k two ∙ joined_segment s w j k g)
+
+  -- the three are different
+  pub two_apart : (j k : ℕ) → AreTwo s m j k → AreApart j k m
+  two_apart j k two =
+      (two.0, λ e. joined_differ s w m j ((two.1 j).1 (inl refl)) (sym e), λ e. joined_differ s w m k ((two.1 k).1 (inr refl)) (sym e))
+
+  pub two_no_junction : (j k : ℕ) → AreTwo s m j k → is_junction (document_of s) p ≡ false
+  two_no_junction j k two = no_junction (document_of s) p are_rings (segment (place s.places j) (place s.places k)) (two_sides j k two) is_there
+
+  -- ---- and only two
+
+  not_false : (b : Bool) → not b ≡ false → b ≡ true
+  not_false true h = refl
+  not_false false h = absurd (false≢true (sym h))
+
+  pub single_two : is_junction (document_of s) p ≡ false → (j : ℕ) × (k : ℕ) × AreTwo s m j k
+  single_two h =
+      let u = joined_pair in
+      (u.x, u.y, (u.apart, λ z. (only u z, λ e. elim e [ inl f ↦ subst (Joined s.rings m) (sym f) u.joined_x | inr f ↦ subst (Joined s.rings m) (sym f) u.joined_y ])))
+    where
+      only : (u : Pair) (z : ℕ) → Joined s.rings m z → (z ≡ u.x) ⊎ (z ≡ u.y)
+      only u z g =
+          let a = joined_around s w m p here z g in
+          let same = all_equal_in (around (document_of s) p) (not_false (all_equal (around (document_of s) p)) h) a.0 (segment (place s.places u.x) (place s.places u.y)) a.1 u.around_it in
+          let kept = (joined_kept s w m z g).1 in
+          elim (end_of_two (place s.places z) (place s.places u.x) (place s.places u.y) (ap (is_end (place s.places z)) (sym same) ∙ end_is (place s.places z) a.0 a.2)) [
+            | inl e ↦ inl (one_key s.places w.distinct z u.x kept (joined_kept s w m u.x u.joined_x).1 e)
+            | inr e ↦ inr (one_key s.places w.distinct z u.y kept (joined_kept s w m u.y u.joined_y).1 e)
+          ]
+
+  -- a vertex is no junction where exactly two vertices are joined to it
+  pub single_iff_two : (is_junction (document_of s) p ≡ false) ↔ ((j : ℕ) × (k : ℕ) × AreTwo s m j k)
+  single_iff_two = (single_two, λ h. two_no_junction h.0 h.1 h.2)
+
+  -- and is one where there are more
+  pub three_junction : Three s.rings m → is_junction (document_of s) p ≡ true
+  three_junction t = by (is_junction (document_of s) p) refl
+    where
+      among : (j k : ℕ) → AreTwo s m j k → ⊥
+      among j k two = pick ((two.1 t.a).0 t.joined.0) ((two.1 t.b).0 t.joined.1) ((two.1 t.c).0 t.joined.2)
+        where
+          pick : (t.a ≡ j) ⊎ (t.a ≡ k) → (t.b ≡ j) ⊎ (t.b ≡ k) → (t.c ≡ j) ⊎ (t.c ≡ k) → ⊥
+          pick (inl e) (inl f) g = t.apart.0 (e ∙ sym f)
+          pick (inr e) (inr f) g = t.apart.0 (e ∙ sym f)
+          pick (inl e) (inr f) (inl g) = t.apart.1 (e ∙ sym g)
+          pick (inl e) (inr f) (inr g) = t.apart.2 (f ∙ sym g)
+          pick (inr e) (inl f) (inl g) = t.apart.2 (f ∙ sym g)
+          pick (inr e) (inl f) (inr g) = t.apart.1 (e ∙ sym g)
+
+      by : (b : Bool) → is_junction (document_of s) p ≡ b → is_junction (document_of s) p ≡ true
+      by true h = h
+      by false h = let u = single_two h in absurd (among u.0 u.1 u.2)
+
+  -- ---- by an answer on the neighbours
+
+  -- a vertex has two neighbours or more
+  pub neighbours_none : AreNeighbours s.rings m Neighbours.None → ⊥
+  neighbours_none h = h joined_pair.x joined_pair.joined_x
+
+  pub neighbours_one : (a : ℕ) → AreNeighbours s.rings m (One a) → ⊥
+  neighbours_one a h =
+      let u = joined_pair in
+      u.apart ((h u.x).0 u.joined_x ∙ sym ((h u.y).0 u.joined_y))
+
+  pub neighbours_two : (j k : ℕ) → AreNeighbours s.rings m (Two j k) → AreTwo s m j k
+  neighbours_two j k h = h
+
+  pub neighbours_more : AreNeighbours s.rings m More → is_junction (document_of s) p ≡ true
+  neighbours_more h = three_junction h
+
+  -- ---- long rings
+
+  ring_length : (es : List Edge) → length (canonical (positions_along s.places es)) ≡ length es
+  ring_length es =
+      omega (arith, length-canonical (positions_along s.places es), length-map (begins es) (place s.places), length-map es (λ (e : Edge). e.0))
+
+  -- a ring passes m where it has p
+  passes_has : (r : ℕ) (es : List Edge) → table.get s.rings r ≡ Some es → (x : ℕ) → 1 ≤ times m x es
+      → has (canonical (positions_along s.places es)) p ≡ true
+  passes_has r es e x h =
+      let f = times_edge m x es h in
+      let ends = edge_ends es (w.round r es e) f.0 f.1 in
+      let i : In m (begins es) = elim f.2 [ inl u ↦ subst (λ z. In z (begins es)) u.0 ends.0 | inr u ↦ subst (λ z. In z (begins es)) u.1 ends.1 ] in
+      in-has p (canonical (positions_along s.places es)) (in_canonical (positions_along s.places es) p
+      (subst (λ z. In z (positions_along s.places es)) p_is (in-map (place s.places) m (begins es) i)))
+
+  has_passes : (ring : List Position) (l : Laid s ring) → has ring p ≡ true → Passes s.rings m l.along
+  has_passes ring l h =
+      let i = of_canonical (positions_along s.places l.along) p (subst (In p) l.is (has-in p ring h)) in
+      let y = in_mapped (place s.places) p (begins l.along) i in
+      let same = one_key s.places w.distinct y.0 m (begin_kept s w l.number l.along l.held y.0 y.1) (place_kept s.places m p here) (y.2 ∙ sym p_is) in
+      let e = in_mapped (λ (e : Edge). e.0) y.0 l.along y.1 in
+      record { ring = l.number; other = e.0.1; held = l.held; has = edge_times m e.0.1 l.along e.0 e.1 (inl (e.2 ∙ same, refl)) }
+
+  -- the rings with p are long enough where each that passes m has more than three edges
+  pub long_iff : (are_long (document_of s) p ≡ true) ↔ ((es : List Edge) → Passes s.rings m es → 3 < length es)
+  long_iff = (long_each, λ h. all_there (rings (document_of s)) (λ ring i. each_long h ring i (has ring p) refl))
+    where
+      all_there : (rs : List (List Position)) → ((ring : List Position) → In ring rs → (not (has ring p) || nat_lt 3 (length ring)) ≡ true)
+          → list_all (λ ring. not (has ring p) || nat_lt 3 (length ring)) rs ≡ true
+      all_there [] f = refl
+      all_there (r ∷ rs) f = ap₂ (λ y z. y && z) (f r (inl refl)) (all_there rs (λ q i. f q (inr i)))
+
+      more : (n : ℕ) → nat_lt 3 n ≡ true → 3 < n
+      more n e = grind arith
+
+      less : (n : ℕ) → 3 < n → nat_lt 3 n ≡ true
+      less n e = grind arith
+
+      long_each : are_long (document_of s) p ≡ true → (es : List Edge) → Passes s.rings m es → 3 < length es
+      long_each h es v =
+          let ring = canonical (positions_along s.places es) in
+          let u = all_in (λ ring. not (has ring p) || nat_lt 3 (length ring)) (rings (document_of s)) ring h (ring_laid s w v.ring es v.held) in
+          subst (λ z. 3 < z) (ring_length es) (more (length ring) (sym (ap (λ z. not z || nat_lt 3 (length ring)) (passes_has v.ring es v.held v.other v.has)) ∙ u))
+
+      each_long : ((es : List Edge) → Passes s.rings m es → 3 < length es) → (ring : List Position)
+          → In ring (rings (document_of s)) → (b : Bool) → has ring p ≡ b
+          → (not (has ring p) || nat_lt 3 (length ring)) ≡ true
+      each_long h ring i false e = ap (λ z. not z || nat_lt 3 (length ring)) e
+      each_long h ring i true e =
+          let l = laid_ring s w ring i in
+          ap (λ z. not z || nat_lt 3 (length ring)) e
+          ∙ less (length ring) (subst (λ z. 3 < z) (sym (ap length l.is ∙ ring_length l.along)) (h l.along (has_passes ring l e)))

@@ -1,0 +1,385 @@
+-- What a move of a vertex makes of a map that is kept.
+use Rattle.std.proofs.Common.{◌≡◌, ◌≢◌, ◌≤◌, ◌+◌, ℕ, Bool, true, false, refl, sym, ap, ap₂, ◌∙◌}
+use Rattle.std.proofs.Common.{subst, cond, List, [], ◌∷◌, ◌++◌, map, length, ◌||◌, ◌&&◌, inl}
+use Rattle.std.proofs.Common.{inr, arith, Some, None, is_some}
+use Rattle.std.specs.Prelude.{◌==◌, not, unwrap_or, pos}
+use Rattle.std.specs.List.{list_any, sum_by, fold}
+use Rattle.std.specs.Ordering.{nat_cmp, eq_by_cmp}
+use Rattle.std.specs.FinMap as table
+use Rattle.std.specs.FinSet as set
+use Rattle.std.proofs.lemmas.Bool.{false≢true}
+use Rattle.std.proofs.lemmas.Bool.Decides.{Decides-eqb, nat_tests}
+use Rattle.std.proofs.lemmas.Cmp.{nat_cmp_total}
+use Rattle.std.proofs.lemmas.List.{map-append, length-map}
+use native.Mathlib.Decide.{ℕ_discrete}
+use Rattle.grid_geometry.specs.Position.{Position, position, position_eq}
+use Rattle.grid_geometry.specs.Segment.{Segment, segment, segment_eq, is_end, IsSegment}
+use Rattle.grid_geometry.proofs.Conflicts.{segment-comm}
+use Rattle.ring_machine.specs.Ring.{canonical, has, is_distinct}
+use Rattle.ring_machine.specs.Document.{Document}
+use Rattle.ring_machine.specs.Parts.{rings, size, is_vertex, is_segment, all_segments}
+use Rattle.ring_machine.specs.Vertices.{put, put_ring}
+use Rattle.ring_machine.specs.Planar.{Proper}
+use Rattle.ring_machine.specs.WellFormed.{are_distinct}
+use Rattle.ring_machine.specs.Refusals.{first_of, move_refusals}
+use Rattle.ring_machine.proofs.Accepted.{move-accepted, moved}
+use Rattle.ring_machine.proofs.Canonical.{Pivot, pivot_of, canonical_parts, canonical_swap}
+use Rattle.ring_machine.proofs.First.{In}
+use Rattle.ring_machine.proofs.InRings.{document-agrees}
+use Rattle.ring_machine.proofs.Keys.{shifted, key_moved}
+use Rattle.ring_machine.proofs.Neighbours.{all_of, none_in, in-map, has-in, in-has}
+use Rattle.ring_machine.proofs.Order.{and_both, or_true, or_right}
+use Rattle.ring_machine.proofs.Orders.{segment_ordered}
+use Rattle.ring_machine.proofs.Removal.{none_parts, not_true}
+use Rattle.ring_machine.proofs.RingSegments.{segment_eq-true}
+use Rattle.ring_machine.proofs.RingsOf.{rings-in_rings}
+use Rattle.ring_machine.proofs.StaysRing.{put-distinct}
+use Rattle.vertex_index.specs.Placement.{Placement, AreDistinct}
+use Rattle.vertex_index.proofs.PlacementLemmas.{get-inserted}
+use Rattle.segment_index.specs.Candidates.{SegmentSet, AreSingle, has as has_segment, segment_is, times_in}
+use Rattle.segment_index.proofs.Singles.{same_segment}
+use Rattle.shared_arcs.specs.Ways.{Edge}
+use Rattle.shared_arcs.specs.Rings.{begins}
+use Rattle.shared_arcs.specs.Joined.{Joined}
+use Rattle.arc_store.specs.Stored.{Stored, place, positions_along, ring_under, document_of}
+use Rattle.arc_store.specs.Holds.{Visits, IsWhole, IsIndexed, Holds}
+use Rattle.arc_store.proofs.Members.{contains_in, in_contains, in_mapped, any_in, in_any, same_answer}
+use Rattle.arc_store.proofs.Ends.{two_positions, end_of_two, two_ends}
+use Rattle.arc_store.proofs.KeyRings.{in_canonical, length-canonical, has_key}
+use Rattle.arc_store.proofs.Places.{insert_other}
+use Rattle.arc_store.proofs.Base.{IsKept, place_is, kept_place, place_kept, one_key, joined_back}
+use Rattle.arc_store.proofs.Base.{begin_kept, positions_distinct, positions_long, ring_under_is}
+use Rattle.arc_store.proofs.Base.{framed, ring_laid, key_vertex}
+use Rattle.arc_store.proofs.Base.{segment_between, joined_segment, joined_kept, joined_differ}
+use Rattle.arc_store.proofs.Base.{AreJoined, segments_to, segments_at, one_to}
+use Rattle.arc_store.proofs.Indexed.{end_vertex, has-eq}
+
+-- ---- lists
+
+map_alike : {A B : Type 0} (f g : A → B) → ((a : A) → f a ≡ g a) → (xs : List A)
+    → map f xs ≡ map g xs
+map_alike f g h [] = refl
+map_alike f g h (x ∷ xs) = ap₂ (λ y z. y ∷ z) (h x) (map_alike f g h xs)
+
+pivot_some : (ps : List Position) → 1 ≤ length ps → is_distinct ps ≡ true → Pivot ps
+pivot_some [] l d = absurd (omega arith)
+pivot_some (p ∷ ps) l d = pivot_of p ps d
+
+-- positions that are changed before or after the ring is turned
+pub canonical_map : (f : Position → Position) (ps : List Position) → Pivot (map f ps)
+    → canonical (map f (canonical ps)) ≡ canonical (map f ps)
+canonical_map f ps v =
+    let parts = canonical_parts ps in
+    let there : map f ps ≡ map f parts.0 ++ map f parts.1 = ap (map f) parts.2 ∙ map-append f parts.0 parts.1 in
+    let back : map f (canonical ps) ≡ map f parts.1 ++ map f parts.0 = ap (map f) parts.3 ∙ map-append f parts.1 parts.0 in
+    ap canonical back ∙ sym (ap canonical there ∙ canonical_swap (map f parts.0) (map f parts.1) (subst Pivot there v))
+
+-- ---- segments to one position
+
+-- from different vertices they are different
+pub segments_to_single : (places : Placement) (q : Position) → AreDistinct places → (xs : List ℕ)
+    → ((x : ℕ) → In x xs → IsKept places x) → are_distinct xs ≡ true
+    → AreSingle (segments_to places q xs)
+segments_to_single places q d [] kept h t = omega arith
+segments_to_single places q d (x ∷ xs) kept h t =
+    let h' = and_both (not (has_key x xs)) (are_distinct xs) h in
+    by (segment_is t (segment (place places x) q)) refl (not_true _ h'.0) (segments_to_single places q d xs (λ y i. kept y (inr i)) h'.1 t)
+  where
+    none : (ys : List ℕ) → ((y : ℕ) → In y ys → IsKept places y) → t ≡ segment (place places x) q
+        → has_key x ys ≡ false → times_in (segments_to places q ys) t ≡ 0
+    none [] kept' e n = refl
+    none (y ∷ ys) kept' e n =
+        let n' = none_parts (y == x) (has_key x ys) n in
+        ap₂ (λ a b. cond a 1 0 + b) (apart (segment_is t (segment (place places y) q)) refl n'.0) (none ys (λ z i. kept' z (inr i)) e n'.1)
+      where
+        apart : (b : Bool) → segment_is t (segment (place places y) q) ≡ b → (y == x) ≡ false
+            → segment_is t (segment (place places y) q) ≡ false
+        apart false f m = f
+        apart true f m = absurd (false≢true (sym m ∙ (Decides-eqb y x).1 (one_to places q d y x (kept' y (inl refl)) (kept x (inl refl)) (sym (same_segment t (segment (place places y) q) f) ∙ e))))
+
+    by : (b : Bool) → segment_is t (segment (place places x) q) ≡ b → has_key x xs ≡ false
+        → times_in (segments_to places q xs) t ≤ 1
+        → cond b 1 0 + times_in (segments_to places q xs) t ≤ 1
+    by true e n l = omega (arith, none xs (λ y i. kept y (inr i)) (same_segment t (segment (place places x) q) e) n)
+    by false e n l = omega (arith, l)
+
+-- ---- the number of positions
+
+pub size-put : (d : Document) (p q : Position) → size (put d p q) ≡ size d
+size-put d p q = ap (sum_by length) (rings-in_rings (put_ring p q) d) ∙ over 0 (rings d)
+  where
+    one : (ring : List Position) → length (put_ring p q ring) ≡ length ring
+    one ring =
+        length-canonical (map (λ r. cond (position_eq r p) q r) ring) ∙ length-map ring (λ r. cond (position_eq r p) q r)
+
+    over : (n : ℕ) (rs : List (List Position))
+        → fold (λ a x. a + length x) n (map (put_ring p q) rs) ≡ fold (λ a x. a + length x) n rs
+    over n [] = refl
+    over n (r ∷ rs) = over (n + length (put_ring p q r)) rs ∙ ap (λ m. fold (λ a x. a + length x) (n + m) rs) (one r)
+
+-- ---- a move
+
+-- the map with the vertex of this key at q
+abbrev pub moved_to : Stored → ℕ → Position → Stored
+moved_to s k q = record { frame = s.frame; rings = s.rings; places = table.insert s.places k q }
+
+place_here : (places : Placement) (k : ℕ) (q : Position)
+    → place (table.insert places k q) k ≡ q
+place_here places k q = place_is (table.insert places k q) k q (get-inserted places k q)
+
+place_other : (places : Placement) (k : ℕ) (q : Position) (j : ℕ) → j ≢ k
+    → place (table.insert places k q) j ≡ place places j
+place_other places k q j h = ap (λ o. unwrap_or o (position (pos 0) (pos 0))) (insert_other places k q j h)
+
+place_moved : (places : Placement) (k : ℕ) (q : Position) (j : ℕ)
+    → place (table.insert places k q) j ≡ shifted (place places) k q j
+place_moved places k q j = by (j == k) refl
+  where
+    by : (b : Bool) → (j == k) ≡ b
+        → place (table.insert places k q) j ≡ cond b q (place places j)
+    by true e = ap (place (table.insert places k q)) ((Decides-eqb j k).0 e) ∙ place_here places k q
+    by false e = place_other places k q j (λ i. false≢true (sym e ∙ (Decides-eqb j k).1 i))
+
+module _ (s : Stored) (w : IsWhole s) (k : ℕ) (p q : Position) (at : table.get s.places k ≡ Some p) (free : is_vertex (document_of s) q ≡ false) where
+  kept : IsKept s.places k
+  kept = place_kept s.places k p at
+
+  here : place s.places k ≡ p
+  here = place_is s.places k p at
+
+  -- no vertex that is kept is at q
+  pub none_there : (j : ℕ) → table.get s.places j ≡ Some q → ⊥
+  none_there j e = false≢true (sym free ∙ key_vertex s w j q e)
+
+  pub not_there : (j : ℕ) → IsKept s.places j → place s.places j ≢ q
+  not_there j h e = none_there j (kept_place s.places j h ∙ ap Some e)
+
+  -- ---- the document
+
+  ring_free : (r : ℕ) (es : List Edge) → table.get s.rings r ≡ Some es
+      → has (positions_along s.places es) q ≡ false
+  ring_free r es e = by (has (positions_along s.places es) q) refl
+    where
+      by : (b : Bool) → has (positions_along s.places es) q ≡ b
+          → has (positions_along s.places es) q ≡ false
+      by false i = i
+      by true i = absurd (false≢true (sym (none_in (λ ring. has ring q) (rings (document_of s)) (canonical (positions_along s.places es)) free (ring_laid s w r es e))
+          ∙ in-has q (canonical (positions_along s.places es)) (in_canonical (positions_along s.places es) q (has-in q (positions_along s.places es) i))))
+
+  positions_moved : (r : ℕ) (es : List Edge) → table.get s.rings r ≡ Some es
+      → positions_along (table.insert s.places k q) es
+      ≡ map (λ r. cond (position_eq r p) q r) (positions_along s.places es)
+  positions_moved r es e =
+      map_alike (place (table.insert s.places k q)) (shifted (place s.places) k q) (place_moved s.places k q) (begins es)
+      ∙ key_moved (place s.places) k q (begins es) (all_of (λ n. place s.places n ≡ place s.places k → n ≡ k) (begins es) (λ n i. one_key s.places w.distinct n k (begin_kept s w r es e n i) kept))
+      ∙ ap (λ z. map (λ r. cond (position_eq r z) q r) (positions_along s.places es)) here
+
+  ring_moved : (r : ℕ) → In r (rings s.frame)
+      → put_ring p q (ring_under s r) ≡ ring_under (moved_to s k q) r
+  ring_moved r i =
+      let e = framed s w r i in
+      let ps = positions_along s.places e.0 in
+      let f : Position → Position = λ r. cond (position_eq r p) q r in
+      let pivot : Pivot (map f ps) = pivot_some (map f ps) (omega (arith, length-map ps f, positions_long s w r e.0 e.1)) (put-distinct p q ps (ring_free r e.0 e.1) (positions_distinct s w r e.0 e.1)) in
+      ap (put_ring p q) (ring_under_is s w r e.0 e.1) ∙ canonical_map f ps pivot ∙ ap canonical (sym (positions_moved r e.0 e.1))
+      ∙ ap (λ o. canonical (positions_along (table.insert s.places k q) (unwrap_or o []))) (sym e.1)
+
+  -- the document of the moved map is the moved document
+  pub document_moved : document_of (moved_to s k q) ≡ put (document_of s) p q
+  document_moved = sym (document-agrees (ring_under s) (put_ring p q) (ring_under (moved_to s k q)) s.frame (all_of (λ r. put_ring p q (ring_under s r) ≡ ring_under (moved_to s k q) r) (rings s.frame) ring_moved))
+
+  -- and its tables belong together
+  pub whole_moved : IsWhole (moved_to s k q)
+  whole_moved = record {
+    named = w.named;
+    once = w.once;
+    round = w.round;
+    placed = λ r j v. placed j (w.placed r j v) (ℕ_discrete j k);
+    passed = λ j h. passed j h (ℕ_discrete j k);
+    distinct = λ i j x e f. distinct i j x e f (ℕ_discrete i k) (ℕ_discrete j k);
+  }
+    where
+      placed : (j : ℕ) → IsKept s.places j → Dec (j ≡ k) → IsKept (table.insert s.places k q) j
+      placed j h (yes e) = ap (λ z. is_some (table.get (table.insert s.places k q) z)) e ∙ ap is_some (get-inserted s.places k q)
+      placed j h (no n) = ap is_some (insert_other s.places k q j n) ∙ h
+
+      passed : (j : ℕ) → IsKept (table.insert s.places k q) j → Dec (j ≡ k) → (r : ℕ) × Visits s r j
+      passed j h (yes e) = w.passed j (ap (λ z. is_some (table.get s.places z)) e ∙ kept)
+      passed j h (no n) = w.passed j (sym (ap is_some (insert_other s.places k q j n)) ∙ h)
+
+      is_q : (j : ℕ) (x : Position) → j ≡ k → table.get (table.insert s.places k q) j ≡ Some x
+          → Some x ≡ Some q
+      is_q j x e f = sym f ∙ ap (table.get (table.insert s.places k q)) e ∙ get-inserted s.places k q
+
+      distinct : (i j : ℕ) (x : Position) → table.get (table.insert s.places k q) i ≡ Some x
+          → table.get (table.insert s.places k q) j ≡ Some x → Dec (i ≡ k) → Dec (j ≡ k) → i ≡ j
+      distinct i j x e f (yes m) (yes n) = m ∙ sym n
+      distinct i j x e f (yes m) (no n) = absurd (none_there j (sym (insert_other s.places k q j n) ∙ f ∙ is_q i x m e))
+      distinct i j x e f (no m) (yes n) = absurd (none_there i (sym (insert_other s.places k q i m) ∙ e ∙ is_q j x n f))
+      distinct i j x e f (no m) (no n) = w.distinct i j x (sym (insert_other s.places k q i m) ∙ e) (sym (insert_other s.places k q j n) ∙ f)
+
+  pub size_moved : size (document_of (moved_to s k q)) ≡ size (document_of s)
+  size_moved = ap size document_moved ∙ size-put (document_of s) p q
+
+  -- ---- segments
+
+  -- what is joined to the vertex goes to q
+  to_q : (x : ℕ) → Joined s.rings k x
+      → is_segment (put (document_of s) p q) (segment (place s.places x) q) ≡ true
+  to_q x j =
+      let other : x ≢ k = λ e. joined_differ s w k x j (sym e) in
+      ap₂ (λ (y : Position) z. is_segment (put (document_of s) p q) (segment y z)) (sym (place_other s.places k q x other)) (sym (place_here s.places k q))
+      ∙ ap (λ d. is_segment d (segment (place (table.insert s.places k q) x) (place (table.insert s.places k q) k))) (sym document_moved)
+      ∙ joined_segment (moved_to s k q) whole_moved x k (joined_back s k x j)
+
+  -- two other vertices keep their segment
+  stays : (a b : ℕ) → Joined s.rings a b → a ≢ k → b ≢ k
+      → is_segment (put (document_of s) p q) (segment (place s.places a) (place s.places b)) ≡ true
+  stays a b j m n =
+      ap₂ (λ (y : Position) z. is_segment (put (document_of s) p q) (segment y z)) (sym (place_other s.places k q a m)) (sym (place_other s.places k q b n))
+      ∙ ap (λ d. is_segment d (segment (place (table.insert s.places k q) a) (place (table.insert s.places k q) b))) (sym document_moved)
+      ∙ joined_segment (moved_to s k q) whole_moved a b j
+
+  not_end : (a b : ℕ) → Joined s.rings a b → a ≢ k → b ≢ k
+      → is_end p (segment (place s.places a) (place s.places b)) ≡ false
+  not_end a b j m n = by (is_end p (segment (place s.places a) (place s.places b))) refl
+    where
+      by : (t : Bool) → is_end p (segment (place s.places a) (place s.places b)) ≡ t
+          → is_end p (segment (place s.places a) (place s.places b)) ≡ false
+      by false e = e
+      by true e =
+          let both = joined_kept s w a b j in
+          elim (end_of_two p (place s.places a) (place s.places b) e) [
+            | inl i ↦ absurd (m (one_key s.places w.distinct a k both.0 kept (sym i ∙ sym here)))
+            | inr i ↦ absurd (n (one_key s.places w.distinct b k both.1 kept (sym i ∙ sym here)))
+          ]
+
+  -- after the move there are the segments that do not end at p, and those to q
+  pub segments_moved : (xs : List ℕ) → AreJoined s k xs → (t : Segment)
+      → is_segment (put (document_of s) p q) t
+      ≡ ((is_segment (document_of s) t && not (is_end p t)) || list_any (segment_eq t) (segments_to s.places q xs))
+  segments_moved xs j t = same_answer _ _ (λ h.
+      let b = segment_between (moved_to s k q) whole_moved t (ap (λ d. is_segment d t) document_moved ∙ h) in
+      forth b.a b.b b.joined b.is (ℕ_discrete b.a k) (ℕ_discrete b.b k))
+      (λ h. elim (or_true (is_segment (document_of s) t && not (is_end p t)) (list_any (segment_eq t) (segments_to s.places q xs)) h) [
+        | inl i ↦
+            let both = and_both (is_segment (document_of s) t) (not (is_end p t)) i in
+            let b = segment_between s w t both.0 in
+            ap (is_segment (put (document_of s) p q)) b.is ∙ stays b.a b.b b.joined (off b.a b.b (not_true _ both.1) b.is).0 (off b.a b.b (not_true _ both.1) b.is).1
+        | inr i ↦
+            let u = any_in (segment_eq t) (segments_to s.places q xs) i in
+            let x = in_mapped (λ x. segment (place s.places x) q) u.0 xs u.1 in
+            ap (is_segment (put (document_of s) p q)) (segment_eq-true t u.0 u.2 ∙ sym x.2) ∙ to_q x.0 ((j x.0).0 (in_contains xs x.0 x.1))
+      ])
+    where
+      added : (x : ℕ) → Joined s.rings k x → t ≡ segment (place s.places x) q
+          → ((is_segment (document_of s) t && not (is_end p t)) || list_any (segment_eq t) (segments_to s.places q xs)) ≡ true
+      added x i e = or_right (is_segment (document_of s) t && not (is_end p t)) _
+          (in_any (segment_eq t) (segment (place s.places x) q) (segments_to s.places q xs) (in-map (λ x. segment (place s.places x) q) x xs (contains_in xs x ((j x).1 i)))
+          (ap (segment_eq t) (sym e) ∙ segment_ordered.eq-refl t))
+
+      moved_segment : (a b : ℕ) (y z : Position) → t ≡ segment (place (table.insert s.places k q) a) (place (table.insert s.places k q) b)
+          → place (table.insert s.places k q) a ≡ y → place (table.insert s.places k q) b ≡ z
+          → t ≡ segment y z
+      moved_segment a b y z e f g = e ∙ ap₂ segment f g
+
+      forth : (a b : ℕ) → Joined s.rings a b
+          → t ≡ segment (place (table.insert s.places k q) a) (place (table.insert s.places k q) b)
+          → Dec (a ≡ k) → Dec (b ≡ k)
+          → ((is_segment (document_of s) t && not (is_end p t)) || list_any (segment_eq t) (segments_to s.places q xs)) ≡ true
+      forth a b i e (yes m) (yes n) = absurd (joined_differ s w a b i (m ∙ sym n))
+      forth a b i e (yes m) (no n) =
+          added b (subst (λ z. Joined s.rings z b) m i)
+          (moved_segment a b q (place s.places b) e (ap (place (table.insert s.places k q)) m ∙ place_here s.places k q) (place_other s.places k q b n) ∙ segment-comm q (place s.places b))
+      forth a b i e (no m) (yes n) =
+          added a (subst (λ z. Joined s.rings z a) n (joined_back s a b i))
+          (moved_segment a b (place s.places a) q e (place_other s.places k q a m) (ap (place (table.insert s.places k q)) n ∙ place_here s.places k q))
+      forth a b i e (no m) (no n) =
+          let is = moved_segment a b (place s.places a) (place s.places b) e (place_other s.places k q a m) (place_other s.places k q b n) in
+          ap₂ (λ y z. (y && not z) || list_any (segment_eq t) (segments_to s.places q xs))
+          (ap (is_segment (document_of s)) is ∙ joined_segment s w a b i) (ap (is_end p) is ∙ not_end a b i m n)
+
+      -- a segment that does not end at p is of two other vertices
+      off : (a b : ℕ) → is_end p t ≡ false → t ≡ segment (place s.places a) (place s.places b)
+          → (a ≢ k) × (b ≢ k)
+      off a b n e = (
+        λ m. false≢true (sym n ∙ ap (is_end p) e ∙ ap (λ z. is_end z (segment (place s.places a) (place s.places b))) (sym here ∙ ap (place s.places) (sym m)) ∙ (two_ends (place s.places a) (place s.places b)).0),
+        λ m. false≢true (sym n ∙ ap (is_end p) e ∙ ap (λ z. is_end z (segment (place s.places a) (place s.places b))) (sym here ∙ ap (place s.places) (sym m)) ∙ (two_ends (place s.places a) (place s.places b)).1),
+      )
+
+  -- each new segment is one
+  pub added_segment : (xs : List ℕ) → AreJoined s k xs → (t : Segment)
+      → In t (segments_to s.places q xs) → IsSegment t
+  added_segment xs j t i =
+      let x = in_mapped (λ x. segment (place s.places x) q) t xs i in
+      let joined = (j x.0).0 (in_contains xs x.0 x.1) in
+      subst IsSegment x.2 (two_positions (place s.places x.0) q (not_there x.0 (joined_kept s w k x.0 joined).1))
+
+  -- and is new
+  pub added_new : (xs : List ℕ) (t : Segment) → In t (segments_to s.places q xs)
+      → is_segment (document_of s) t ≡ false
+  added_new xs t i = by (is_segment (document_of s) t) refl
+    where
+      by : (b : Bool) → is_segment (document_of s) t ≡ b → is_segment (document_of s) t ≡ false
+      by false e = e
+      by true e =
+          let x = in_mapped (λ x. segment (place s.places x) q) t xs i in
+          absurd (false≢true (sym free ∙ end_vertex (document_of s) q t e (ap (is_end q) (sym x.2) ∙ (two_ends (place s.places x.0) q).1)))
+
+  -- no two are one
+  pub added_single : (xs : List ℕ) → AreJoined s k xs → are_distinct xs ≡ true
+      → AreSingle (segments_to s.places q xs)
+  added_single xs j d = segments_to_single s.places q w.distinct xs (λ x i. (joined_kept s w k x ((j x).0 (in_contains xs x i))).1) d
+
+  -- ---- the index
+
+  -- in the words of an index
+  pub indexed_moved : (xs : List ℕ) → AreJoined s k xs → (held : SegmentSet)
+      → IsIndexed (document_of s) held → (t : Segment)
+      → has_segment (all_segments (put (document_of s) p q)) t
+      ≡ ((set.contains held t && not (is_end p t)) || has_segment (segments_to s.places q xs) t)
+  indexed_moved xs j held i t =
+      has-eq (all_segments (put (document_of s) p q)) t ∙ segments_moved xs j t
+      ∙ ap₂ (λ a b. (a && not (is_end p t)) || b) (sym (i t)) (sym (has-eq (segments_to s.places q xs) t))
+
+  -- after the added segments came into the index and those at p went, it is that of the moved map
+  pub reindexed : (xs : List ℕ) → AreJoined s k xs → (held held' : SegmentSet)
+      → IsIndexed (document_of s) held
+      → ((t : Segment) → set.contains held' t ≡ ((set.contains held t || has_segment (segments_to s.places q xs) t) && not (has_segment (segments_to s.places p xs) t)))
+      → IsIndexed (put (document_of s) p q) held'
+  reindexed xs j held held' i h t =
+      h t
+      ∙ ap (λ b. (set.contains held t || has_segment (segments_to s.places q xs) t) && not b) (has-eq (segments_to s.places p xs) t ∙ sym (segments_at s w k p at xs j t) ∙ ap (λ b. b && is_end p t) (sym (i t)))
+      ∙ either (set.contains held t) (has_segment (segments_to s.places q xs) t) (is_end p t) (apart_from_held (set.contains held t) refl (has_segment (segments_to s.places q xs) t) refl)
+      ∙ sym (indexed_moved xs j held i t) ∙ has-eq (all_segments (put (document_of s) p q)) t
+    where
+      either : (held added at_p : Bool) → (held && added) ≡ false
+          → ((held || added) && not (held && at_p)) ≡ ((held && not at_p) || added)
+      either true true at_p e = absurd (false≢true (sym e))
+      either true false true e = refl
+      either true false false e = refl
+      either false true at_p e = refl
+      either false false at_p e = refl
+
+      apart_from_held : (a : Bool) → set.contains held t ≡ a → (b : Bool)
+          → has_segment (segments_to s.places q xs) t ≡ b → (a && b) ≡ false
+      apart_from_held false e b f = refl
+      apart_from_held true e false f = refl
+      apart_from_held true e true f =
+          let u = any_in (segment_eq t) (segments_to s.places q xs) (sym (has-eq (segments_to s.places q xs) t) ∙ f) in
+          absurd (false≢true (sym (added_new xs u.0 u.1) ∙ ap (is_segment (document_of s)) (sym (segment_eq-true t u.0 u.2)) ∙ sym (i t) ∙ e))
+
+-- an accepted move gives a map with all that is true of maps
+pub holds_moved : (s : Stored) (held held' : SegmentSet) (k : ℕ) (p q : Position) → Holds s held
+    → table.get s.places k ≡ Some p → first_of (move_refusals (document_of s) p q) ≡ None
+    → IsIndexed (put (document_of s) p q) held' → Holds (moved_to s k q) held'
+holds_moved s held held' k p q h at none indexed =
+    let accepted = move-accepted (document_of s) p q none in
+    let is = document_moved s h.whole k p q at accepted.free in
+    record {
+      whole = whole_moved s h.whole k p q at accepted.free;
+      formed = h.formed;
+      proper = subst Proper (sym is) (moved (document_of s) p q h.proper none).0;
+      small = omega (arith, h.small, size_moved s h.whole k p q at accepted.free);
+      indexed = subst (λ d. IsIndexed d held') (sym is) indexed;
+    }

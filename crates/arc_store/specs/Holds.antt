@@ -1,0 +1,49 @@
+-- What is true of every map that is kept.
+use Rattle.std.specs.Prelude.{ℕ, ◌≡◌, ◌≤◌, ◌↔◌, List, length, Some, is_some, IsTrue, Contains}
+use Rattle.std.specs.FinMap as table
+use Rattle.std.specs.FinSet as set
+use Rattle.grid_geometry.specs.Segment.{Segment}
+use Rattle.ring_machine.specs.Document.{Document}
+use Rattle.ring_machine.specs.Parts.{rings, size, is_segment}
+use Rattle.ring_machine.specs.Planar.{Proper}
+use Rattle.ring_machine.specs.WellFormed.{WellFormed, are_distinct}
+use Rattle.vertex_index.specs.Placement.{AreDistinct}
+use Rattle.segment_index.specs.Candidates.{SegmentSet}
+use Rattle.shared_arcs.specs.Ways.{Edge}
+use Rattle.shared_arcs.specs.Rings.{begins, edges}
+use Rattle.arc_store.specs.Stored.{Stored, document_of}
+
+-- the edges go round at least three different keys
+pub record GoesRound (es : List Edge) : Type 0 where
+  pub keys : List ℕ
+  pub along : es ≡ edges keys
+  pub long : 3 ≤ length keys
+  pub different : IsTrue (are_distinct keys)
+
+-- an edge of ring r begins at the vertex with key k
+abbrev pub Visits : Stored → ℕ → ℕ → Type 0
+Visits s r k = (es : List Edge) × (table.get s.rings r ≡ Some es) × Contains (begins es) k
+
+-- the three tables belong together
+pub record IsWhole (s : Stored) : Type 0 where
+  -- the frame names each ring that is kept, and once
+  pub named : (r : ℕ) → Contains (rings s.frame) r ↔ IsTrue (is_some (table.get s.rings r))
+  pub once : IsTrue (are_distinct (rings s.frame))
+  pub round : (r : ℕ) (es : List Edge) → table.get s.rings r ≡ Some es → GoesRound es
+  -- vertices are those that rings pass, each at a position of its own
+  pub placed : (r k : ℕ) → Visits s r k → IsTrue (table.contains_key s.places k)
+  pub passed : (k : ℕ) → IsTrue (table.contains_key s.places k) → (r : ℕ) × Visits s r k
+  pub distinct : AreDistinct s.places
+
+-- an index holds the segments of the document
+abbrev pub IsIndexed : Document → SegmentSet → Type 0
+IsIndexed d held = (t : Segment) → set.contains held t ≡ is_segment d t
+
+-- the map: its tables belong together, its document is well formed, proper and within the limit,
+-- and the index holds the document's segments
+pub record Holds (s : Stored) (held : SegmentSet) : Type 0 where
+  pub whole : IsWhole s
+  pub formed : WellFormed s.frame
+  pub proper : Proper (document_of s)
+  pub small : size (document_of s) ≤ 4000000
+  pub indexed : IsIndexed (document_of s) held

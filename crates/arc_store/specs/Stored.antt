@@ -1,0 +1,37 @@
+-- A map as the store keeps it, and the document that it means: a frame with numbers in place of
+-- rings, the edges of each ring by its number, and the position of each vertex by its key.
+use Rattle.std.specs.Prelude.{ℕ, pos, List, [], map, unwrap_or}
+use Rattle.std.specs.FinMap as table
+use Rattle.grid_geometry.specs.Position.{Position, position}
+use Rattle.ring_machine.specs.Ring.{canonical}
+use Rattle.ring_machine.specs.Document.{DocumentOf, Document}
+use Rattle.ring_machine.specs.Parts.{in_rings}
+use Rattle.vertex_index.specs.Placement.{Placement}
+use Rattle.shared_arcs.specs.Ways.{Edge}
+use Rattle.shared_arcs.specs.Rings.{Rings, begins}
+
+-- what is kept
+pub record Stored : Type 0 where
+  pub frame : DocumentOf ℕ
+  pub rings : Rings
+  pub places : Placement
+
+-- the position of the vertex with this key
+abbrev pub place : Placement → ℕ → Position
+place places k = unwrap_or (table.get places k) (position (pos 0) (pos 0))
+
+-- the positions of a ring with these edges, in order
+abbrev pub positions_along : Placement → List Edge → List Position
+positions_along places es = map (place places) (begins es)
+
+-- the edges of the ring with this number
+abbrev pub edges_under : Rings → ℕ → List Edge
+edges_under rings r = unwrap_or (table.get rings r) []
+
+-- the ring with this number, from its least position on
+abbrev pub ring_under : Stored → ℕ → List Position
+ring_under s r = canonical (positions_along s.places (edges_under s.rings r))
+
+-- the document: the frame with each ring in its place
+abbrev pub document_of : Stored → Document
+document_of s = in_rings (ring_under s) s.frame
