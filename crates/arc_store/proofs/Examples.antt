@@ -1,11 +1,11 @@
 -- A worked example: two squares with a common side, as they are kept and as a document.
-use Rattle.std.proofs.Common.{◌≡◌, ℕ, refl, ap, ap₂, ◌∙◌, List, [], ◌∷◌, map, Option, Some, None}
+use Rattle.std.proofs.Common.{◌≡◌, ℕ, refl, ap, ap₂, ◌∙◌, List, [], ◌∷◌, map, Some, None}
 use Rattle.std.specs.Prelude.{pos, unwrap_or}
 use Rattle.std.specs.Ordering.{nat_cmp}
 use Rattle.std.specs.FinMap as table
 use Rattle.grid_geometry.specs.Position.{Position, position}
 use Rattle.ring_machine.specs.Ring.{canonical}
-use Rattle.ring_machine.specs.Document.{DocumentOf, FeatureOf, Document, Polygon, Leaf}
+use Rattle.ring_machine.specs.Document.{DocumentOf, FeatureOf, Polygon, Leaf}
 use Rattle.vertex_index.specs.Placement.{Placement}
 use Rattle.shared_arcs.specs.Ways.{Edge}
 use Rattle.shared_arcs.specs.Rings.{Rings, edges, begins}

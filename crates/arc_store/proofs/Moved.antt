@@ -4,12 +4,10 @@ use Rattle.std.proofs.Common.{subst, cond, List, [], ◌∷◌, ◌++◌, map, l
 use Rattle.std.proofs.Common.{inr, arith, Some, None, is_some}
 use Rattle.std.specs.Prelude.{◌==◌, not, unwrap_or, pos}
 use Rattle.std.specs.List.{list_any, sum_by, fold}
-use Rattle.std.specs.Ordering.{nat_cmp, eq_by_cmp}
 use Rattle.std.specs.FinMap as table
 use Rattle.std.specs.FinSet as set
 use Rattle.std.proofs.lemmas.Bool.{false≢true}
-use Rattle.std.proofs.lemmas.Bool.Decides.{Decides-eqb, nat_tests}
-use Rattle.std.proofs.lemmas.Cmp.{nat_cmp_total}
+use Rattle.std.proofs.lemmas.Bool.Decides.{Decides-eqb}
 use Rattle.std.proofs.lemmas.List.{map-append, length-map}
 use native.Mathlib.Decide.{ℕ_discrete}
 use Rattle.grid_geometry.specs.Position.{Position, position, position_eq}
