@@ -1,12 +1,12 @@
 pub mod Members
 pub mod Ends
+pub mod Moved
 pub mod KeyRings
 pub mod Base
 pub mod Indexed
-pub mod Places
-pub mod Moved
 pub mod RingEdits
 pub mod KeyWays
+pub mod Places
 pub mod Counted
 pub mod Insertions
 pub mod Removals
@@ -14,4 +14,14 @@ pub mod Numbers
 pub mod Around
 pub mod Inserted
 pub mod Removed
+pub mod RingUsers
+pub mod Judged
+pub mod RemovalJudged
+pub mod Tables
+pub mod InsertPlan
+pub mod RemovePlan
+pub mod Planned
+pub mod SegmentCounts
+pub mod MovePlan
+pub mod AroundPlan
 mod Examples

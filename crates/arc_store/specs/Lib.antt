@@ -1,2 +1,11 @@
-pub mod Stored
+pub mod Edits
+pub mod Faults
+pub mod Frames
 pub mod Holds
+pub mod Kept
+pub mod Keyed
+pub mod Laying
+pub mod Planned
+pub mod Spots
+pub mod State
+pub mod Stored

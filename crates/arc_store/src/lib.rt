@@ -1,3 +1,33 @@
-//! What a map kept as shared borders is, and what the edits of a vertex do to it: definitions and
-//! lemmas alone.
+//! A map kept as shared borders: each border stands once, however many rings have it, each vertex
+//! under a key of its own, and the segments in an index that finds those near a place.
+//!
+//! An edit of a vertex costs what stands around it: the arcs and the rings at it, and the segments
+//! near it. No edit walks the map.
 #![tactic(auto)]
+
+mod begin;
+mod build;
+mod counts;
+mod fault;
+mod frame;
+
+mod junctions;
+mod keyed;
+mod laying;
+mod map;
+
+mod plan;
+mod positions;
+mod raw_insert;
+mod raw_move;
+mod raw_remove;
+
+mod spot;
+mod users;
+
+pub use fault::{BuildFault, EditFault};
+pub use map::Map;
+pub use spot::Spot;
+
+#[cfg(test)]
+mod tests;

@@ -34,6 +34,7 @@ stays o g plain proper small =
     record {
       of_rings = record {
         counted = length-map o.polygons (map (map g)) ∙ plain.of_rings.counted;
+        few = plain.of_rings.few;
         are_rings = subst (λ d. IsTrue (list_all is_ring (rings d))) is proper.are_rings;
         small = subst (λ d. size d ≤ 4000000) is small;
       };

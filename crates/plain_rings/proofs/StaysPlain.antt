@@ -51,6 +51,7 @@ stays_plain o p q plain none =
     record {
       of_rings = record {
         counted = length-map o.polygons (map (map (put_ring p q))) ∙ plain.of_rings.counted;
+        few = plain.of_rings.few;
         are_rings = subst (λ d. IsTrue (list_all is_ring (rings d))) is proper.are_rings;
         small = subst (λ d. size d ≤ 4000000) is small;
       };

@@ -29,20 +29,32 @@ pub noted_all-append : (n : Neighbours) (xs ys : List ℕ) → noted_all n (xs +
 noted_all-append n [] ys = refl
 noted_all-append n (x ∷ xs) ys = noted_all-append (noted n x) xs ys
 
--- a path was seen by one edge more
+-- a path has one edge more
+pub ends_more : (k : ℕ) (ps : List ℕ) (at p q : ℕ) → 1 ≤ at → at < length ps → p ≡ get_or ps (at - 1) p → q ≡ get_or ps at q →
+    other_ends k (links (take at ps)) ++ other_end k (p, q) ≡ other_ends k (links (take (at + 1) ps))
+ends_more k ps at p q l m ep eq =
+    ap (λ z. other_ends k (links (take at ps)) ++ z) (sym (append-nil (other_end k (p, q))))
+    ∙ sym (flat_map-append (other_end k) (links (take at ps)) ((p, q) ∷ []))
+    ∙ ap (other_ends k) (sym (links_more ps at p q l m ep eq))
+
+-- and the arcs are one arc more
+pub ends_among_more : (k : ℕ) (path : ℕ → List ℕ) (among : List ℕ) (i : ℕ) → i < length among →
+    ends_among path (take i among) k ++ other_ends k (links (path (get_or among i 0))) ≡ ends_among path (take (i + 1) among) k
+ends_among_more k path among i l =
+    let f : ℕ → List ℕ = λ j. other_ends k (links (path j)) in
+    ap (λ z. ends_among path (take i among) k ++ z) (sym (append-nil (f (get_or among i 0))))
+    ∙ sym (flat_map-append f (take i among) (get_or among i 0 ∷ []))
+    ∙ ap (λ z. ends_among path z k) (sym (take_more among i 0 l))
+
+-- what was seen, with one edge more
 pub path_more : (k : ℕ) (n : Neighbours) (ps : List ℕ) (at p q : ℕ) → 1 ≤ at → at < length ps → p ≡ get_or ps (at - 1) p → q ≡ get_or ps at q →
     noted_all (noted_all n (other_ends k (links (take at ps)))) (other_end k (p, q)) ≡ noted_all n (other_ends k (links (take (at + 1) ps)))
-path_more k n ps at p q l m ep eq =
-    sym (noted_all-append n (other_ends k (links (take at ps))) (other_end k (p, q)))
-    ∙ ap (noted_all n) (ap (λ z. other_ends k (links (take at ps)) ++ z) (sym (append-nil (other_end k (p, q)))) ∙ sym (flat_map-append (other_end k) (links (take at ps)) ((p, q) ∷ [])) ∙ ap (other_ends k) (sym (links_more ps at p q l m ep eq)))
+path_more k n ps at p q l m ep eq = sym (noted_all-append n (other_ends k (links (take at ps))) (other_end k (p, q))) ∙ ap (noted_all n) (ends_more k ps at p q l m ep eq)
 
--- and the arcs by one arc more
+-- and with one arc more
 pub among_more : (k : ℕ) (n : Neighbours) (path : ℕ → List ℕ) (among : List ℕ) (i : ℕ) → i < length among →
     noted_all (noted_all n (ends_among path (take i among) k)) (other_ends k (links (path (get_or among i 0)))) ≡ noted_all n (ends_among path (take (i + 1) among) k)
-among_more k n path among i l =
-    let f : ℕ → List ℕ = λ j. other_ends k (links (path j)) in
-    sym (noted_all-append n (ends_among path (take i among) k) (f (get_or among i 0)))
-    ∙ ap (noted_all n) (ap (λ z. ends_among path (take i among) k ++ z) (sym (append-nil (f (get_or among i 0)))) ∙ sym (flat_map-append f (take i among) (get_or among i 0 ∷ [])) ∙ ap (λ z. ends_among path z k) (sym (take_more among i 0 l)))
+among_more k n path among i l = sym (noted_all-append n (ends_among path (take i among) k) (other_ends k (links (path (get_or among i 0))))) ∙ ap (noted_all n) (ends_among_more k path among i l)
 
 -- exactly these have the property, or more than two do
 abbrev pub Sees : (ℕ → Type 0) → Neighbours → Type 0

@@ -1,5 +1,5 @@
 -- The segments of rings are those of the arcs that they use.
-use Rattle.std.proofs.Common.{◌≡◌, ℕ, ◌≤◌, ◌+◌, Bool, true, false, ◌||◌, ◌&&◌, refl, sym, ap, ◌∙◌, subst, List, [], ◌∷◌, ◌++◌, zero, suc, ◌⊎◌, inl, inr, arith, Contains, is_some, IsSome, Option, get_or}
+use Rattle.std.proofs.Common.{◌≡◌, ℕ, ◌≤◌, ◌+◌, Bool, true, false, ◌||◌, ◌&&◌, refl, sym, ap, ◌∙◌, subst, List, [], ◌∷◌, ◌++◌, zero, suc, ◌⊎◌, inl, inr, arith, Contains, is_some, IsSome, Option, get_or, length}
 use Rattle.std.proofs.lemmas.List.{get_or_default}
 use Rattle.std.proofs.Common.{None as Absent, Some}
 use Rattle.std.specs.Prelude.{◌==◌}
@@ -19,10 +19,12 @@ use Rattle.shared_arcs.specs.Around.{noted_all, other_ends, ends_among}
 use Rattle.shared_arcs.specs.Joined.{Joined, AreNeighbours}
 use Rattle.shared_arcs.specs.Stores.{path_of, path_in, users_in, uses_in, uses_arc, store, stand_at, Known, Listed}
 use Rattle.shared_arcs.specs.Sound.{rings_of}
+use Rattle.shared_arcs.specs.Listing.{ListsJoined, gathered, including_all}
 use Rattle.shared_arcs.proofs.Moves.{times-append, times-flipped, links-reverse}
 use Rattle.shared_arcs.proofs.CutLemmas.{or_split, or_left, or_right, present}
 use Rattle.shared_arcs.proofs.RingLemmas.{held_ring, ring_here}
 use Rattle.shared_arcs.proofs.AroundLemmas.{Sees, sees_alike, sees_list, in_flat_map, to_flat_map, ends_times, times_ends}
+use Rattle.shared_arcs.proofs.Gathering.{gathered_behind, only_including, themselves_including, different_including_all}
 
 times_walk : (a b : ℕ) (back : Bool) (ps : List ℕ) → times a b (links (walk back ps)) ≡ times a b (links ps)
 times_walk a b true ps = ap (times a b) (links-reverse ps) ∙ times-flipped a b (links ps)
@@ -103,27 +105,39 @@ module _ {A : Type 0} where
       let f = arc_of_segment (path_of t) k x (uses_in (get t.rings j.ring)) (subst (λ es. 1 ≤ times k x es) (sym (edges_held t j.ring j.edges j.held)) j.has) in
       (f.0, f.2)
 
-  -- which vertices are joined to k is seen in the arcs that are listed for it
+  -- the vertices that are joined to k are the other ends in the arcs that are listed for it
+  abbrev ends_at : Tables A → ℕ → List ℕ
+  ends_at t k = ends_among (path_of t) (stand_at t.stands.items k) k
+
+  end_joined : (t : Tables A) (k : ℕ) → EachUsed t → (x : ℕ) → Contains (ends_at t k) x → Joined (rings_of t) k x
+  end_joined t k used x m =
+      let f = in_flat_map (λ i. other_ends k (links (path_of t i))) (stand_at t.stands.items k) x m in
+      arc_joined t used k x f.0 (ends_times k x (links (path_of t f.0)) f.2)
+
+  joined_end : (t : Tables A) (k : ℕ) → Listed t.arcs t.stands.items → (x : ℕ) → Joined (rings_of t) k x → Contains (ends_at t k) x
+  joined_end t k listed x j =
+      let f = joined_arc t k x j in
+      to_flat_map (λ i. other_ends k (links (path_of t i))) (stand_at t.stands.items k) f.0 x (listed f.0 k (stands_in k x (path_of t f.0) f.1)) (times_ends k x (links (path_of t f.0)) f.1)
+
+  -- so it is seen there which they are
   pub neighbours_seen : (t : Tables A) (k : ℕ) → EachUsed t → Listed t.arcs t.stands.items → AreNeighbours (rings_of t) k (noted_all None (ends_among (path_of t) (stand_at t.stands.items k) k))
-  neighbours_seen t k used listed = are (noted_all None ends) (sees_alike (Contains ends) (Joined (rings_of t) k) from to (noted_all None ends) (sees_list ends))
+  neighbours_seen t k used listed = are (noted_all None (ends_at t k)) (sees_alike (Contains (ends_at t k)) (Joined (rings_of t) k) (end_joined t k used) (joined_end t k listed) (noted_all None (ends_at t k)) (sees_list (ends_at t k)))
     where
-      among : List ℕ
-      among = stand_at t.stands.items k
-
-      ends : List ℕ
-      ends = ends_among (path_of t) among k
-
-      from : (x : ℕ) → Contains ends x → Joined (rings_of t) k x
-      from x m = let f = in_flat_map (λ i. other_ends k (links (path_of t i))) among x m in arc_joined t used k x f.0 (ends_times k x (links (path_of t f.0)) f.2)
-
-      to : (x : ℕ) → Joined (rings_of t) k x → Contains ends x
-      to x j = let f = joined_arc t k x j in to_flat_map (λ i. other_ends k (links (path_of t i))) among f.0 x (listed f.0 k (stands_in k x (path_of t f.0) f.1)) (times_ends k x (links (path_of t f.0)) f.1)
-
       are : (n : Neighbours) → Sees (Joined (rings_of t) k) n → AreNeighbours (rings_of t) k n
       are None h = h
       are (One a) h = h
       are (Two a b) h = h
       are More h = record { a = h.0; b = h.1; c = h.2; apart = h.3; joined = h.4 }
+
+  -- and listed
+  pub lists_joined : (t : Tables A) (k : ℕ) (old new : List ℕ) → EachUsed t → Listed t.arcs t.stands.items → new ≡ gathered (length old) old (ends_among (path_of t) (stand_at t.stands.items k) k) → ListsJoined (rings_of t) k old new
+  lists_joined t k old new used listed is =
+      record {
+        found = including_all [] (ends_at t k);
+        appended = is ∙ gathered_behind old (ends_at t k);
+        all = λ x. ((λ m. end_joined t k used x (only_including (ends_at t k) x m)), (λ j. themselves_including [] (ends_at t k) x (joined_end t k listed x j)));
+        once = different_including_all [] (ends_at t k) tt;
+      }
 
   -- what is not joined in the rings stands beside it in no arc
   pub not_joined : (t : Tables A) → EachUsed t → (k x : ℕ) → ¬ (Joined (rings_of t) k x) → (i : ℕ) → times k x (links (path_of t i)) ≡ 0

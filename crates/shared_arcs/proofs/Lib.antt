@@ -9,6 +9,7 @@ pub mod TakeLemmas
 pub mod Held
 pub mod StandLemmas
 pub mod ReadLemmas
+pub mod Gathering
 pub mod RingLemmas
 pub mod WholeLemmas
 pub mod Segments

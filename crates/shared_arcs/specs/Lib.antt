@@ -1,6 +1,7 @@
 pub mod Around
 pub mod Edited
 pub mod Joined
+pub mod Listing
 pub mod Rings
 pub mod Shortest
 pub mod Sound

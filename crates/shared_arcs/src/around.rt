@@ -79,7 +79,7 @@ fn with_path(seen: Neighbours, path: &[VertexKey], k: VertexKey) -> Neighbours
 }
 
 /// The keys of an arc, none where there is no arc.
-fn path_at<A: Allocator + Copy>(arcs: &Slab<Arc<A>, A>, i: usize) -> &[VertexKey]
+pub(crate) fn path_at<A: Allocator + Copy>(arcs: &Slab<Arc<A>, A>, i: usize) -> &[VertexKey]
     ensures { result.now ≡ path_in (get arcs.now i) }
 {
     match arcs.get(i) {

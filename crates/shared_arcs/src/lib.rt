@@ -10,6 +10,7 @@ mod around;
 mod borders;
 mod cutting;
 mod editing;
+mod joined;
 mod laying;
 mod numbers;
 mod place;

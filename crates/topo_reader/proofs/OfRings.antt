@@ -14,6 +14,7 @@ use Rattle.topo_outline.specs.Faults.{Fault, arcs_do_not_meet, ring_short, too_l
 use Rattle.topo_outline.specs.Gives.{Gives}
 use Rattle.topo_outline.specs.Shape.{OutlineText}
 use Rattle.topo_outline.specs.Outline.{leaves, outline}
+use Rattle.topo_outline.proofs.Shaped.{outline_means}
 use Rattle.topo_outline.specs.declared.fault.RingAt.{RingAt}
 use Rattle.topo_outline.specs.declared.fault.Limit.TheVariants as limit
 use Rattle.topo_outline.specs.declared.fault.OpenFault.{OpenFault}
@@ -115,15 +116,15 @@ all_good fs rs h = each_at_good feature_of (list_all (list_all is_ring)) sizes.f
 -- ---- what was read is of rings
 
 abbrev IsWhole : OutlineText → List Polygons → Type 0
-IsWhole shape ps = (length ps ≡ length (leaves shape.layers)) × (list_all (list_all (list_all is_ring)) ps ≡ true) × (sum_by (sum_by (sum_by length)) ps ≤ 4000000)
+IsWhole shape ps = (length (leaves shape.layers) ≤ 200000) × (length ps ≡ length (leaves shape.layers)) × (list_all (list_all (list_all is_ring)) ps ≡ true) × (sum_by (sum_by (sum_by length)) ps ≤ 4000000)
 
-whole : (shape : OutlineText) (ps : List Polygons) → polygons_read shape ≡ Ok ps → IsWhole shape ps
-whole shape ps h =
+whole : (n : Node) (shape : OutlineText) (ps : List Polygons) → outline n ≡ Ok shape → polygons_read shape ≡ Ok ps → IsWhole shape ps
+whole n shape ps e h =
     let found = bind_ok (arcs (is_some shape.transform) shape.arcs) (λ (found : List Arc). each (uses_of found) (leaves shape.layers) >>= λ uses. demand (nat_le (sizes.size uses) 4000000) (too_large limit.Positions) (all_rings uses)) ps h in
     let uses = bind_ok (each (uses_of found.0) (leaves shape.layers)) (λ (uses : List (List (List (List Arc)))). demand (nat_le (sizes.size uses) 4000000) (too_large limit.Positions) (all_rings uses)) ps found.2 in
     let fits = demand_ok (nat_le (sizes.size uses.0) 4000000) (too_large limit.Positions) (all_rings uses.0) ps uses.2 in
     let good = all_good uses.0 ps fits.1 in
-    (good.2 ∙ each_length (uses_of found.0) (leaves shape.layers) uses.0 uses.1, good.0, omega (arith, good.1, at_most (sizes.size uses.0) 4000000 fits.0))
+    (at_most (length (leaves shape.layers)) 200000 (outline_means n shape e).1, good.2 ∙ each_length (uses_of found.0) (leaves shape.layers) uses.0 uses.1, good.0, omega (arith, good.1, at_most (sizes.size uses.0) 4000000 fits.0))
 
 abbrev made : OutlineText → List Polygons → Opened
 made shape ps = record { transform = shape.transform; layers = shape.layers; members = shape.members; polygons = ps }
@@ -131,20 +132,21 @@ made shape ps = record { transform = shape.transform; layers = shape.layers; mem
 made_of_rings : (shape : OutlineText) (ps : List Polygons) → IsWhole shape ps → IsOfRings (made shape ps)
 made_of_rings shape ps w =
     let same : rings (document_of (made shape ps)) ≡ flat_map rings_within ps =
-    rings_document ps shape.layers ∙ ap (λ (qs : List Polygons). flat_map rings_within qs) (take_all (length (leaves shape.layers)) ps (omega (arith, w.0))) in
+    rings_document ps shape.layers ∙ ap (λ (qs : List Polygons). flat_map rings_within qs) (take_all (length (leaves shape.layers)) ps (omega (arith, w.1))) in
     let total : size (document_of (made shape ps)) ≡ sum_by (sum_by (sum_by length)) ps =
     ap (λ (rs : List (List Position)). sum_by length rs) same ∙ sum_within length ps in
     record {
-      counted = w.0;
-      are_rings = ap (λ (rs : List (List Position)). list_all is_ring rs) same ∙ all_within is_ring ps w.1;
-      small = omega (arith, total, w.2);
+      counted = w.1;
+      few = w.0;
+      are_rings = ap (λ (rs : List (List Position)). list_all is_ring rs) same ∙ all_within is_ring ps w.2;
+      small = omega (arith, total, w.3);
     }
 
 pub opening_of_rings : (n : Node) (o : Opened) → opening n ≡ Ok o → IsOfRings o
 opening_of_rings n o h =
     let shape = bind_ok (outline n) (λ (shape : OutlineText). polygons_read shape >>= λ ps. Ok (made shape ps)) o h in
     let ps = bind_ok (polygons_read shape.0) (λ (ps : List Polygons). Ok (made shape.0 ps)) o shape.2 in
-    subst IsOfRings (ok_same (made shape.0 ps.0) o ps.2) (made_of_rings shape.0 ps.0 (whole shape.0 ps.0 ps.1))
+    subst IsOfRings (ok_same (made shape.0 ps.0) o ps.2) (made_of_rings shape.0 ps.0 (whole n shape.0 ps.0 shape.1 ps.1))
 
 pub gives_of_rings : {X : Type 0} (view : X → Opened) (r : Result X OpenFault) (n : Node) → Gives view r (opening n) → IfOk r (λ x. IsOfRings (view x))
 gives_of_rings view (Ok x) n h = opening_of_rings n (view x) h

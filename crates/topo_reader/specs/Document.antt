@@ -59,8 +59,9 @@ document_of o = record {
 }
 
 -- what every opened topology is: each feature has its polygons, each list is a ring,
--- and the size is within the limit
+-- and the numbers of features and positions are within their limits
 pub record IsOfRings (o : Opened) : Type 0 where
   pub counted : length o.polygons ≡ length (leaves o.layers)
+  pub few : length (leaves o.layers) ≤ 200000
   pub are_rings : IsTrue (list_all is_ring (rings (document_of o)))
   pub small : size (document_of o) ≤ 4000000

@@ -1,0 +1,90 @@
+-- What the tests of an edit of one vertex say of its refusals.
+use Rattle.std.proofs.Common.{ℕ, ◌≡◌, ◌≤◌, Bool, true, false, refl, sym, ap, ap₂, ◌∙◌, subst, List, []}
+use Rattle.std.proofs.Common.{◌∷◌, ◌||◌, ◌&&◌, Option, Some, None, arith}
+use Rattle.std.specs.Prelude.{not, nat_le}
+use Rattle.std.specs.List.{list_any}
+use Rattle.std.specs.FinSet as set
+use Rattle.grid_geometry.specs.Held.{is_held}
+use Rattle.grid_geometry.specs.Position.{Position}
+use Rattle.grid_geometry.specs.Segment.{Segment, segment, segment_eq, is_end}
+use Rattle.grid_geometry.proofs.Conflicts.{segment-comm}
+use Rattle.ring_machine.specs.Ring as machine
+use Rattle.ring_machine.specs.Command.{Refusal, NoSegment, Occupied, TooLarge, NoVertex, Junction}
+use Rattle.ring_machine.specs.Command.{RingShort, SegmentExists, Sweeps}
+use Rattle.ring_machine.specs.Document.{Document}
+use Rattle.ring_machine.specs.Parts.{positions, size, is_segment, is_vertex, all_segments}
+use Rattle.ring_machine.specs.Planar.{first_pair, least_conflict}
+use Rattle.ring_machine.specs.Refusals.{first_of, conflict_of, planar, is_small, are_long, is_bridged}
+use Rattle.ring_machine.specs.Refusals.{◌unless◌, insert_refusals, remove_refusals}
+use Rattle.ring_machine.specs.Sweep.{insert_sweeps, remove_sweeps}
+use Rattle.ring_machine.specs.Vertices.{ins, del, is_junction}
+use Rattle.segment_index.specs.Candidates.{SegmentSet, has as among}
+use Rattle.local_planarity.specs.Edits.{IsAfter, IsEnds}
+use Rattle.local_planarity.specs.declared.leaving.Leaving.TheVariants.{EndingAt, One}
+use Rattle.arc_store.specs.declared.fault.EditFault.{EditFault}
+use Rattle.arc_store.specs.Edits.{IsInsertable, IsRemovable}
+use Rattle.arc_store.specs.Faults.{Refuses}
+use Rattle.arc_store.specs.Holds.{IsIndexed}
+use Rattle.arc_store.specs.Planned.{spokes}
+use Rattle.arc_store.proofs.Indexed.{has-eq, indexed_ends, indexed_only}
+use Rattle.arc_store.proofs.Insertions.{segments_ins, segment_eq-sym}
+use Rattle.arc_store.proofs.MovePlan.{refuses_first}
+
+-- ---- what both have in common
+
+pub at_most : (m n : ℕ) → m ≤ n → nat_le m n ≡ true
+at_most m n h = grind arith
+
+pub ends_of : (d : Document) (held : SegmentSet) → IsIndexed d held → IsEnds held (positions d)
+ends_of d held indexed =
+    record { each = indexed_ends d held indexed; only = indexed_only d held indexed }
+
+-- ---- an insertion
+
+module _ (d : Document) (held : SegmentSet) (a b q : Position) (i : IsInsertable d held a b q) where
+  -- what is left to test: conflicts, and what the border sweeps over
+  insert_first :
+      first_of (insert_refusals d a b q)
+      ≡ first_of (planar (ins d a b q) ∷ (Sweeps unless not (insert_sweeps d a b q)) ∷ [])
+  unfolding insert_refusals
+  insert_first =
+      let rest : List (Option Refusal) = planar (ins d a b q) ∷ (Sweeps unless not (insert_sweeps d a b q)) ∷ [] in
+      ap (λ x. first_of ((NoSegment unless x) ∷ (Occupied unless not (is_vertex d q)) ∷ (TooLarge unless is_small (ins d a b q)) ∷ rest)) i.border
+      ∙ ap (λ x. first_of ((Occupied unless not x) ∷ (TooLarge unless is_small (ins d a b q)) ∷ rest)) i.free
+      ∙ ap (λ x. first_of ((TooLarge unless x) ∷ rest)) (at_most (size (ins d a b q)) 4000000 i.small)
+
+  -- the segments after the insertion, in the words of the tests
+  insert_after : IsAfter held (One (segment a b)) (segment a q ∷ segment b q ∷ []) (all_segments (ins d a b q))
+  insert_after t =
+      has-eq (all_segments (ins d a b q)) t
+      ∙ segments_ins d a b q i.border t
+      ∙ ap₂ (λ y z. y || z)
+      (ap₂ (λ y z. y && not z) (sym (i.indexed t)) (segment_eq-sym t (segment a b)))
+      (ap (λ z. list_any (segment_eq t) (segment a q ∷ z ∷ [])) (segment-comm q b) ∙ sym (has-eq (segment a q ∷ segment b q ∷ []) t))
+
+  -- in the words of what was passed to the tests
+  module _ (before : Segment) (after : List Segment) (goes : before ≡ segment a b) (comes : after ≡ spokes q (a ∷ b ∷ [])) where
+    insert_passed : IsAfter held (One before) after (all_segments (ins d a b q))
+    insert_passed t =
+        insert_after t
+        ∙ ap₂ (λ y z. (set.contains held t && not (segment_eq y t)) || among z t) (sym goes) (sym comes)
+
+    -- the fault of the first pair in conflict
+    pub insert_refused : (fault : EditFault)
+        → ((ss : List Segment) → IsAfter held (One before) after ss → Refuses fault (conflict_of (least_conflict ss)))
+        → Refuses fault (first_of (insert_refusals d a b q))
+    unfolding first_pair
+    insert_refused fault h =
+        subst (Refuses fault) (sym insert_first)
+        (refuses_first fault (conflict_of (least_conflict (all_segments (ins d a b q)))) ((Sweeps unless not (insert_sweeps d a b q)) ∷ []) (h (all_segments (ins d a b q)) insert_passed))
+
+    -- where no two are in conflict, what was found to be swept over decides
+    pub insert_decided : (found : Bool)
+        → ((ss : List Segment) → IsAfter held (One before) after ss → least_conflict ss ≡ None)
+        → ((ps : List Position) → IsEnds held ps → found ≡ list_any (λ w. not (machine.has (a ∷ b ∷ []) w) && is_held w a b q) ps)
+        → first_of (insert_refusals d a b q) ≡ first_of ((Sweeps unless not found) ∷ [])
+    unfolding first_pair insert_sweeps
+    insert_decided found h s =
+        insert_first
+        ∙ ap (λ o. first_of (conflict_of o ∷ (Sweeps unless not (insert_sweeps d a b q)) ∷ [])) (h (all_segments (ins d a b q)) insert_passed)
+        ∙ ap (λ y. first_of ((Sweeps unless not y) ∷ [])) (sym (s (positions d) (ends_of d held i.indexed)))

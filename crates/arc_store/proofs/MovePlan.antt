@@ -1,0 +1,229 @@
+-- The plan of a move: what stands around the vertex, what comes and goes, and when it is refused.
+use Rattle.std.proofs.Common.{◌≡◌, ◌≢◌, ◌<◌, ◌+◌, ℕ, Bool, true, false, refl, sym, ap, ap₂, ◌∙◌}
+use Rattle.std.proofs.Common.{subst, List, [], ◌∷◌, map, length, take, get_or, ◌||◌, ◌&&◌, arith, Some, None, Option}
+use Rattle.std.specs.Prelude.{not}
+use Rattle.std.specs.List.{list_any}
+use Rattle.std.specs.FinMap as table
+use Rattle.std.specs.FinSet as set
+use Rattle.std.proofs.lemmas.Bool.{false≢true}
+use Rattle.std.proofs.lemmas.List.{length-map}
+use Rattle.std.proofs.lemmas.List.Folds.{list_any_more}
+use Rattle.std.proofs.lemmas.Simd.{map-map}
+use Rattle.grid_geometry.specs.Conflict.{conflict}
+use Rattle.grid_geometry.specs.Held.{is_held}
+use Rattle.grid_geometry.specs.Position.{Position}
+use Rattle.grid_geometry.specs.Segment.{Segment, segment, is_end}
+use Rattle.ring_machine.specs.Ring.{has}
+use Rattle.ring_machine.specs.Document.{Document}
+use Rattle.ring_machine.specs.Command.{Refusal, NoVertex, Occupied, Sweeps}
+use Rattle.ring_machine.specs.Parts.{is_vertex, is_segment, positions, all_segments}
+use Rattle.ring_machine.specs.Planar.{least_conflict, first_pair}
+use Rattle.ring_machine.specs.Query.{distinct_segments}
+use Rattle.ring_machine.specs.Refusals.{first_of, conflict_of, move_refusals, ◌unless◌}
+use Rattle.ring_machine.specs.Sweep.{crosses_on_way, edge_sweeps, move_sweeps}
+use Rattle.ring_machine.specs.Vertices.{put}
+use Rattle.ring_machine.proofs.First.{In}
+use Rattle.ring_machine.proofs.Neighbours.{has-in}
+use Rattle.ring_machine.proofs.Order.{and_both}
+use Rattle.vertex_index.specs.Placement.{Placement}
+use Rattle.segment_index.specs.Candidates.{SegmentSet, AreAmong, AreSingle, segment_is, has as has_segment}
+use Rattle.segment_index.proofs.Singles.{same_segment}
+use Rattle.shared_arcs.specs.Rings.{Rings}
+use Rattle.shared_arcs.specs.Joined.{Joined}
+use Rattle.local_planarity.specs.declared.leaving.Leaving.TheVariants.{EndingAt}
+use Rattle.local_planarity.specs.Edits.{IsAfter, IsEnds, IsHeld}
+use Rattle.arc_store.specs.declared.fault.EditFault.{EditFault}
+use Rattle.arc_store.specs.declared.fault.EditFault.TheVariants as edit
+use Rattle.arc_store.specs.declared.frame.Frame.{Frame}
+use Rattle.arc_store.specs.Faults.{Refuses}
+use Rattle.arc_store.specs.Stored.{Stored, place, document_of}
+use Rattle.arc_store.specs.Holds.{IsWhole, IsIndexed, Holds}
+use Rattle.arc_store.specs.Kept.{IsKept, stored}
+use Rattle.arc_store.specs.Planned.{ArePlaced, AreAround, AreNew, Exchanges, spokes}
+use Rattle.arc_store.proofs.Members.{any_in, in_mapped, in_contains}
+use Rattle.arc_store.proofs.Base.{place_is, joined_kept, joined_apart, segments_to, segments_at}
+use Rattle.arc_store.proofs.Base.{sweeps_by_joined}
+use Rattle.arc_store.proofs.Indexed.{has-eq, indexed_ends, indexed_only, indexed_has}
+use Rattle.arc_store.proofs.Planned.{any_at}
+use Rattle.arc_store.proofs.Insertions.{any_mapped}
+use Rattle.arc_store.proofs.Moved.{moved_to, segments_to_single, not_there, added_new, added_single}
+use Rattle.arc_store.proofs.Moved.{indexed_moved, reindexed, holds_moved, size_moved, document_moved}
+use Rattle.arc_store.proofs.SegmentCounts.{as_many}
+
+-- ---- what stands around a vertex
+
+pub all_placed : (s : Stored) → IsWhole s → (k : ℕ) → ArePlaced s.places s.rings k
+all_placed s w k x j = (joined_kept s w k x j).1
+
+module _ (s : Stored) (held : SegmentSet) (h : Holds s held) (k : ℕ) (p q : Position) (at : table.get s.places k ≡ Some p) (free : is_vertex (document_of s) q ≡ false) (around : List Position) (r : AreAround s.places s.rings k around) where
+  spokes_are : (z : Position) → spokes z around ≡ segments_to s.places z r.keys
+  spokes_are z = ap (map (λ x. segment x z)) r.are ∙ map-map (λ x. segment x z) (place s.places) r.keys
+
+  apart_from : (z : Position) → ((x : ℕ) → Joined s.rings k x → place s.places x ≢ z)
+      → has around z ≡ false
+  apart_from z differ = by (has around z) refl
+    where
+      by : (b : Bool) → has around z ≡ b → has around z ≡ false
+      by false e = e
+      by true e =
+          let x = in_mapped (place s.places) z r.keys (subst (In z) r.are (has-in z around e)) in
+          absurd (differ x.0 ((r.joined x.0).0 (in_contains r.keys x.0 x.1)) x.2)
+
+  -- p and q are not around p
+  pub off_before : has around p ≡ false
+  off_before = apart_from p (λ x j e. joined_apart s h.whole k x j (place_is s.places k p at ∙ sym e))
+
+  pub off_after : has around q ≡ false
+  off_after = apart_from q (λ x j. not_there s h.whole k p q at free x (joined_kept s h.whole k x j).1)
+
+  -- ---- what comes and goes
+
+  pub plan_new : AreNew held (spokes q around)
+  plan_new t i =
+      let u = any_in (segment_is t) (segments_to s.places q r.keys) (subst (λ z. has_segment z t ≡ true) (spokes_are q) i) in
+      h.indexed t ∙ ap (is_segment (document_of s)) (same_segment t u.0 u.2) ∙ added_new s h.whole k p q at free r.keys u.0 u.1
+
+  pub plan_single : AreSingle (spokes q around)
+  plan_single = subst AreSingle (sym (spokes_are q)) (added_single s h.whole k p q at free r.keys r.joined r.once)
+
+  pub plan_held : AreAmong held (spokes p around)
+  plan_held t i =
+      h.indexed t
+      ∙ (and_both (is_segment (document_of s) t) (is_end p t)
+      (segments_at s h.whole k p at r.keys r.joined t ∙ sym (has-eq (segments_to s.places p r.keys) t) ∙ subst (λ z. has_segment z t ≡ true) (spokes_are p) i)).0
+
+  pub plan_once : AreSingle (spokes p around)
+  plan_once =
+      subst AreSingle (sym (spokes_are p))
+      (segments_to_single s.places p h.whole.distinct r.keys (λ x i. (joined_kept s h.whole k x ((r.joined x).0 (in_contains r.keys x i))).1) r.once)
+
+  -- the segments of the moved document are there after the edit
+  pub plan_after : IsAfter held (EndingAt p) (spokes q around) (all_segments (put (document_of s) p q))
+  plan_after t =
+      indexed_moved s h.whole k p q at free r.keys r.joined held h.indexed t
+      ∙ ap (λ z. (set.contains held t && not (is_end p t)) || has_segment z t) (sym (spokes_are q))
+
+  -- what the positions around p say of the sweep
+  pub plan_sweeps :
+      (list_any (edge_sweeps (document_of s) p q) around || crosses_on_way (document_of s) p q)
+      ≡ move_sweeps (document_of s) p q
+  plan_sweeps =
+      ap (λ b. b || crosses_on_way (document_of s) p q)
+      (ap (list_any (edge_sweeps (document_of s) p q)) r.are ∙ any_mapped (place s.places) (edge_sweeps (document_of s) p q) r.keys)
+      ∙ sym (sweeps_by_joined s h.whole k p at r.keys r.joined q)
+
+  -- the index holds the segments of the moved document
+  pub plan_indexed : (held' : SegmentSet) → Exchanges held (spokes q around) (spokes p around) held'
+      → IsIndexed (put (document_of s) p q) held'
+  plan_indexed held' e =
+      reindexed s h.whole k p q at free r.keys r.joined held held' h.indexed (λ t.
+      e t ∙ ap₂ (λ y z. (set.contains held t || has_segment y t) && not (has_segment z t)) (spokes_are q) (spokes_are p))
+
+  -- there are as many segments
+  pub plan_count : (held' : SegmentSet) → Exchanges held (spokes q around) (spokes p around) held'
+      → length (distinct_segments (put (document_of s) p q)) ≡ length (distinct_segments (document_of s))
+  plan_count held' e =
+      omega (
+        arith,
+        as_many (document_of s) (put (document_of s) p q) held held' (spokes q around) (spokes p around) h.indexed (plan_indexed held' e) plan_single plan_new plan_once plan_held e,
+        length-map around (λ x. segment x q),
+        length-map around (λ x. segment x p),
+      )
+
+-- ---- the map
+
+-- an accepted move keeps what is true of the tables
+pub kept_moved : {A : Type 0} (frame : Frame A) (rings : Rings) (places : Placement) (held held' : SegmentSet)
+    (next positions segments : ℕ) → IsKept frame rings places held next positions segments
+    → (k : ℕ) (p q : Position) → table.get places k ≡ Some p
+    → is_vertex (document_of (stored frame rings places)) q ≡ false
+    → first_of (move_refusals (document_of (stored frame rings places)) p q) ≡ None
+    → (around : List Position) → AreAround places rings k around
+    → Exchanges held (spokes q around) (spokes p around) held'
+    → IsKept frame rings (table.insert places k q) held' next positions segments
+kept_moved frame rings places held held' next positions segments h k p q at free none around r e =
+    let s = stored frame rings places in
+    record {
+      holds = holds_moved s held held' k p q h.holds at none (plan_indexed s held h.holds k p q at free around r held' e);
+      counted = h.counted;
+      next = h.next;
+      positions = h.positions ∙ sym (size_moved s h.holds.whole k p q at free);
+      segments = h.segments ∙ sym (ap (λ d. length (distinct_segments d)) (document_moved s h.holds.whole k p q at free) ∙ plan_count s held h.holds k p q at free around r held' e);
+    }
+
+-- ---- refusals
+
+-- of a vertex that moves to where none stands
+move_first : (d : Document) (p q : Position) → is_vertex d p ≡ true → is_vertex d q ≡ false
+    → first_of (move_refusals d p q)
+    ≡ first_of (conflict_of (least_conflict (all_segments (put d p q))) ∷ (Sweeps unless not (move_sweeps d p q)) ∷ [])
+unfolding move_refusals first_pair
+move_first d p q v f =
+    ap₂ (λ a b. first_of ((NoVertex unless a) ∷ (Occupied unless not b) ∷ conflict_of (least_conflict (all_segments (put d p q))) ∷ (Sweeps unless not (move_sweeps d p q)) ∷ [])) v f
+
+pub move_accepts : (d : Document) (p q : Position) → is_vertex d p ≡ true → is_vertex d q ≡ false
+    → least_conflict (all_segments (put d p q)) ≡ None → move_sweeps d p q ≡ false
+    → first_of (move_refusals d p q) ≡ None
+move_accepts d p q v f e w =
+    move_first d p q v f ∙ ap₂ (λ o b. first_of (conflict_of o ∷ (Sweeps unless not b) ∷ [])) e w
+
+pub move_refuses_sweep : (d : Document) (p q : Position) → is_vertex d p ≡ true
+    → is_vertex d q ≡ false → least_conflict (all_segments (put d p q)) ≡ None
+    → move_sweeps d p q ≡ true → first_of (move_refusals d p q) ≡ Some Sweeps
+move_refuses_sweep d p q v f e w =
+    move_first d p q v f ∙ ap₂ (λ o b. first_of (conflict_of o ∷ (Sweeps unless not b) ∷ [])) e w
+
+-- a fault that names the first of two refusals, or says nothing, fits both
+pub refuses_first : (fault : EditFault) (o : Option Refusal) (os : List (Option Refusal))
+    → Refuses fault o → Refuses fault (first_of (o ∷ os))
+refuses_first fault (Some x) os h = h
+refuses_first edit.NoFeature None os h = absurd cc
+refuses_first edit.NoVertex None os h = absurd cc
+refuses_first edit.NoSegment None os h = absurd cc
+refuses_first edit.Occupied None os h = absurd cc
+refuses_first edit.Junction None os h = absurd cc
+refuses_first edit.RingShort None os h = absurd cc
+refuses_first edit.SegmentExists None os h = absurd cc
+refuses_first edit.TooLarge None os h = absurd cc
+refuses_first (edit.Conflict s t) None os h = absurd cc
+refuses_first edit.Sweeps None os h = absurd cc
+refuses_first edit.OutOfMemory None os h = tt
+
+pub move_refuses : (d : Document) (p q : Position) → is_vertex d p ≡ true → is_vertex d q ≡ false
+    → (fault : EditFault) → Refuses fault (conflict_of (least_conflict (all_segments (put d p q))))
+    → Refuses fault (first_of (move_refusals d p q))
+move_refuses d p q v f fault h =
+    subst (Refuses fault) (sym (move_first d p q v f))
+    (refuses_first fault (conflict_of (least_conflict (all_segments (put d p q)))) ((Sweeps unless not (move_sweeps d p q)) ∷ []) h)
+
+-- ---- what a move sweeps over, as an index tells it
+
+pub edge_found : (d : Document) (held : SegmentSet) → IsIndexed d held → (p q x : Position) (found : Bool)
+    → ((ps : List Position) → IsEnds held ps → found ≡ list_any (λ w. not (has (x ∷ p ∷ []) w) && is_held w x p q) ps)
+    → found ≡ edge_sweeps d p q x
+edge_found d held i p q x found h =
+    h (positions d) (record { each = indexed_ends d held i; only = indexed_only d held i })
+
+-- one more edge that sweeps over nothing
+pub edges_more : (d : Document) (p q : Position) (around : List Position) (i : ℕ) (x : Position)
+    → i < length around → x ≡ get_or around i x
+    → list_any (edge_sweeps d p q) (take i around) ≡ false → edge_sweeps d p q x ≡ false
+    → list_any (edge_sweeps d p q) (take (i + 1) around) ≡ false
+edges_more d p q around i x l e h n =
+    list_any_more (edge_sweeps d p q) around i x l ∙ ap₂ (λ a b. a || b) h (ap (edge_sweeps d p q) (sym e) ∙ n)
+
+-- an edge that sweeps over a position
+pub edge_some : (d : Document) (p q : Position) (around : List Position) (i : ℕ) (x : Position)
+    → i < length around → x ≡ get_or around i x → edge_sweeps d p q x ≡ true
+    → true ≡ (list_any (edge_sweeps d p q) around || crosses_on_way d p q)
+edge_some d p q around i x l e h =
+    sym (ap (λ b. b || crosses_on_way d p q) (any_at (edge_sweeps d p q) around i x l (ap (edge_sweeps d p q) (sym e) ∙ h)))
+
+-- no edge does, and then the way decides
+pub way_found : (d : Document) (held : SegmentSet) → IsIndexed d held → (p q : Position)
+    (around : List Position) (found : Bool)
+    → ((ss : List Segment) → IsHeld held ss → found ≡ list_any (λ t. not (is_end p t) && conflict (segment p q) t) ss)
+    → list_any (edge_sweeps d p q) around ≡ false
+    → found ≡ (list_any (edge_sweeps d p q) around || crosses_on_way d p q)
+way_found d held i p q around found h none =
+    h (all_segments d) (indexed_has d held i) ∙ ap (λ b. b || crosses_on_way d p q) (sym none)

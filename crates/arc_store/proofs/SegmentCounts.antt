@@ -1,0 +1,172 @@
+-- How many segments an index holds, and a document has.
+use Rattle.std.proofs.Common.{◌≡◌, ◌≤◌, ◌+◌, ℕ, Bool, true, false, refl, sym, ap, ap₂, ◌∙◌, cond}
+use Rattle.std.proofs.Common.{List, [], ◌∷◌, length, ◌||◌, ◌&&◌, arith, leb}
+use Rattle.std.specs.Prelude.{not}
+use Rattle.std.specs.List.{list_any, fold}
+use Rattle.std.specs.FinSet as set
+use Rattle.std.proofs.lemmas.Bool.{false≢true}
+use Rattle.grid_geometry.specs.Segment.{Segment, segment_cmp, segment_eq}
+use Rattle.ring_machine.specs.Document.{Document}
+use Rattle.ring_machine.specs.Parts.{all_segments}
+use Rattle.ring_machine.specs.Query.{add_segment, distinct_segments}
+use Rattle.segment_index.specs.Candidates.{SegmentSet, AreAmong, AreSingle, segment_is, has, times_in}
+use Rattle.segment_index.proofs.Singles.{segment_total, same_sets, same_segment, is-itself, has-is}
+use Rattle.segment_index.proofs.Singles.{times-none, has-some}
+use Rattle.arc_store.specs.Holds.{IsIndexed}
+use Rattle.arc_store.specs.Planned.{AreNew, Gains, Exchanges}
+use Rattle.arc_store.proofs.Indexed.{has-eq}
+
+or_nothing : (b : Bool) → b ≡ (b || false)
+or_nothing true = refl
+or_nothing false = refl
+
+or_swap : (a b c : Bool) → (a || (b || c)) ≡ (b || (a || c))
+or_swap true true c = refl
+or_swap true false c = refl
+or_swap false b c = refl
+
+-- ---- what an index holds
+
+-- the index that came to hold these too
+abbrev gained : SegmentSet → List Segment → SegmentSet
+gained h [] = h
+gained h (x ∷ xs) = set.insert (gained h xs) x
+
+contains_gained : (h : SegmentSet) (xs : List Segment) (t : Segment)
+    → set.contains (gained h xs) t ≡ (set.contains h t || has xs t)
+contains_gained h [] t = or_nothing (set.contains h t)
+contains_gained h (x ∷ xs) t =
+    set.contains-insert segment_total (gained h xs) x t ∙ ap (λ b. segment_is t x || b) (contains_gained h xs t)
+    ∙ or_swap (segment_is t x) (set.contains h t) (has xs t)
+
+single_rest : (x : Segment) (xs : List Segment) → AreSingle (x ∷ xs) → AreSingle xs
+single_rest x xs h t = omega (arith, h t)
+
+single_first : (x : Segment) (xs : List Segment) → AreSingle (x ∷ xs) → has xs x ≡ false
+single_first x xs h = has-is xs x ∙ none (times_in xs x) (by (segment_is x x) (is-itself x) (h x))
+  where
+    by : (b : Bool) → b ≡ true → cond b 1 0 + times_in xs x ≤ 1 → times_in xs x ≡ 0
+    by true e l = omega (arith, l)
+    by false e l = absurd (false≢true e)
+
+    none : (n : ℕ) → n ≡ 0 → leb 1 n ≡ false
+    none n e = ap (leb 1) e
+
+new_rest : (h : SegmentSet) (x : Segment) (xs : List Segment) → AreNew h (x ∷ xs) → AreNew h xs
+new_rest h x xs new t e = new t (by (segment_is t x) e)
+  where
+    by : (b : Bool) → has xs t ≡ true → (b || has xs t) ≡ true
+    by true e = refl
+    by false e = e
+
+len_gained : (h : SegmentSet) (xs : List Segment) → AreSingle xs → AreNew h xs
+    → set.len (gained h xs) ≡ set.len h + length xs
+len_gained h [] single new = omega arith
+len_gained h (x ∷ xs) single new =
+    by (set.contains (gained h xs) x) absent (set.len-insert segment_total (gained h xs) x) (len_gained h xs (single_rest x xs single) (new_rest h x xs new))
+  where
+    absent : set.contains (gained h xs) x ≡ false
+    absent = contains_gained h xs x ∙ ap₂ (λ a b. a || b) (new x (ap (λ b. b || has xs x) (is-itself x))) (single_first x xs single)
+
+    by : (b : Bool) → b ≡ false
+        → set.len (gained h (x ∷ xs)) ≡ cond b (set.len (gained h xs)) (set.len (gained h xs) + 1)
+        → set.len (gained h xs) ≡ set.len h + length xs
+        → set.len (gained h (x ∷ xs)) ≡ set.len h + length (x ∷ xs)
+    by true e l m = absurd (false≢true (sym e))
+    by false e l m = omega (arith, l, m)
+
+-- as many more as came
+pub len_gains : (old new : SegmentSet) (xs : List Segment) → AreSingle xs → AreNew old xs
+    → Gains old xs new → set.len new ≡ set.len old + length xs
+len_gains old new xs single free h =
+    ap set.len (same_sets new (gained old xs) (λ t. h t ∙ sym (contains_gained old xs t))) ∙ len_gained old xs single free
+
+-- as many more as came, and as many less as went
+pub len_exchanges : (old new : SegmentSet) (added gone : List Segment) → AreSingle added
+    → AreNew old added → AreSingle gone → AreAmong old gone → Exchanges old added gone new
+    → set.len new + length gone ≡ set.len old + length added
+len_exchanges old new added gone single free once among h =
+    sym (len_gains new (gained old added) gone once went back) ∙ len_gained old added single free
+  where
+    none : (m : Bool) → (m && false) ≡ false
+    none true = refl
+    none false = refl
+
+    went : AreNew new gone
+    went t e = h t ∙ ap (λ b. (set.contains old t || has added t) && not b) e ∙ none (set.contains old t || has added t)
+
+    by : (t : Segment) (m b : Bool) → has gone t ≡ b → (b ≡ true → m ≡ true)
+        → m ≡ ((m && not b) || b)
+    by t true true e i = refl
+    by t true false e i = refl
+    by t false true e i = i refl
+    by t false false e i = refl
+
+    back : Gains new gone (gained old added)
+    back t =
+        contains_gained old added t
+        ∙ by t (set.contains old t || has added t) (has gone t) refl (λ e. ap (λ b. b || has added t) (among t e))
+        ∙ ap (λ b. b || has gone t) (sym (h t))
+
+-- ---- the segments of a document, each once
+
+has_added : (ss : List Segment) (s t : Segment)
+    → has (add_segment ss s) t ≡ (segment_is t s || has ss t)
+has_added ss s t = by (list_any (segment_eq s) ss) refl
+  where
+    known : has ss s ≡ true → (b : Bool) → segment_is t s ≡ b → has ss t ≡ (b || has ss t)
+    known h true e = ap (has ss) (same_segment t s e) ∙ h
+    known h false e = refl
+
+    by : (b : Bool) → list_any (segment_eq s) ss ≡ b
+        → has (cond b ss (s ∷ ss)) t ≡ (segment_is t s || has ss t)
+    by true e = known (has-eq ss s ∙ e) (segment_is t s) refl
+    by false e = refl
+
+single_added : (ss : List Segment) (s : Segment) → AreSingle ss → AreSingle (add_segment ss s)
+single_added ss s h = by (list_any (segment_eq s) ss) refl
+  where
+    one : (t : Segment) → has ss s ≡ false → (b : Bool) → segment_is t s ≡ b
+        → cond b 1 0 + times_in ss t ≤ 1
+    one t e true f = omega (arith, times-none ss t (ap (has ss) (same_segment t s f) ∙ e))
+    one t e false f = omega (arith, h t)
+
+    by : (b : Bool) → list_any (segment_eq s) ss ≡ b → AreSingle (cond b ss (s ∷ ss))
+    by true e = h
+    by false e t = one t (has-eq ss s ∙ e) (segment_is t s) refl
+
+has_all : (ss xs : List Segment) (t : Segment)
+    → has (fold add_segment ss xs) t ≡ (has ss t || has xs t)
+has_all ss [] t = or_nothing (has ss t)
+has_all ss (x ∷ xs) t =
+    has_all (add_segment ss x) xs t ∙ ap (λ b. b || has xs t) (has_added ss x t)
+    ∙ turned (segment_is t x) (has ss t) (has xs t)
+  where
+    turned : (a b c : Bool) → ((a || b) || c) ≡ (b || (a || c))
+    turned true true c = refl
+    turned true false c = refl
+    turned false b c = refl
+
+single_all : (ss xs : List Segment) → AreSingle ss → AreSingle (fold add_segment ss xs)
+single_all ss [] h = h
+single_all ss (x ∷ xs) h = single_all (add_segment ss x) xs (single_added ss x h)
+
+-- an index of the document's segments holds as many
+pub indexed_len : (d : Document) (held : SegmentSet) → IsIndexed d held
+    → length (distinct_segments d) ≡ set.len held
+indexed_len d held h =
+    sym (len_gains set.empty held (distinct_segments d) (single_all [] (all_segments d) (λ t. omega arith)) (λ t e. set.contains-empty segment_cmp t) is
+    ∙ ap (λ n. n + length (distinct_segments d)) (set.len-empty segment_cmp))
+  where
+    is : Gains set.empty (distinct_segments d) held
+    is t =
+        h t ∙ sym (has-eq (all_segments d) t) ∙ sym (has_all [] (all_segments d) t)
+        ∙ ap (λ b. b || has (distinct_segments d) t) (sym (set.contains-empty segment_cmp t))
+
+-- documents whose indexes hold as many segments have as many
+pub as_many : (c d : Document) (held held' : SegmentSet) (added gone : List Segment)
+    → IsIndexed c held → IsIndexed d held' → AreSingle added → AreNew held added → AreSingle gone
+    → AreAmong held gone → Exchanges held added gone held'
+    → length (distinct_segments d) + length gone ≡ length (distinct_segments c) + length added
+as_many c d held held' added gone i j single free once among h =
+    omega (arith, indexed_len c held i, indexed_len d held' j, len_exchanges held held' added gone single free once among h)

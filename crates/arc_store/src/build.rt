@@ -1,0 +1,87 @@
+ghost use Rattle.std.specs.Prelude.{◌≡◌, IfOk, IfErr, length};
+ghost use Rattle.std.specs.FinSet as set;
+ghost use Rattle.ring_machine.specs.Parts.{features};
+ghost use Rattle.ring_machine.specs.Planar.{Proper, first_pair};
+ghost use Rattle.topo_reader.specs.Document.{document_of, IsOfRings};
+ghost use Rattle.topo_reader.specs.DocumentView.{view_raw};
+ghost use Rattle.arc_store.specs.Faults.{Names};
+
+use crate::fault::BuildFault;
+use crate::frame::Frame;
+use crate::junctions::mark_junctions;
+use crate::keyed::key_all;
+use crate::laying::Laying;
+use crate::map::Map;
+use grid_geometry::Pos;
+use local_planarity::TestCount;
+use segment_index::SegIndex;
+use shared_arcs::Borders;
+use std::alloc::{AllocError, Allocator};
+use topo_reader::RawDoc;
+use vertex_index::Vertices;
+
+/// The tables of these rings, and the numbers of the rings.
+fn lay<I: SegIndex, A: Allocator + Copy>(
+    alloc: A,
+    index: I,
+    features: &[Vec<Vec<Vec<Pos, A>, A>, A>],
+) -> Result<(Laying<I, A>, Vec<Vec<Vec<usize, A>, A>, A>), AllocError> {
+    let mut vertices = Vertices::new(alloc);
+    let keyed = key_all(alloc, &mut vertices, features)?;
+    let mut borders = Borders::new(alloc);
+    mark_junctions(alloc, &mut borders, keyed.as_slice())?;
+    let mut laying = Laying {
+        alloc,
+        vertices,
+        borders,
+        index,
+        tests: TestCount::new(),
+        first: None,
+        positions: 0,
+        segments: 0,
+    };
+    let numbers = laying.lay_all(keyed.as_slice())?;
+    Ok((laying, numbers))
+}
+
+impl<'a, I: SegIndex, A: Allocator + Copy> Map<'a, I, A> {
+    /// The map of what was read, in an index that is empty. Fails with the least pair of segments in
+    /// conflict, or for want of memory.
+    pub fn build(alloc: A, raw: RawDoc<'a, A>, index: I) -> Result<Map<'a, I, A>, BuildFault>
+        requires rings { IsOfRings (view_raw raw) }
+        requires empty { I.held index ≡ set.empty }
+        ensures built { IfOk result (λ map. map.doc ≡ document_of (view_raw raw.entry)) }
+        ensures proper { IfOk result (λ map. Proper map.doc) }
+        ensures next { IfOk result (λ map. map.next ≡ length (features map.doc)) }
+        ensures conflict { IfErr result
+            (λ fault. Names fault (first_pair (document_of (view_raw raw.entry)))) }
+    {
+        let RawDoc {
+            transform,
+            layers,
+            members,
+            polygons,
+        } = raw;
+        let (laid, numbers) = lay(alloc, index, polygons.as_slice())?;
+        if let Some((s, t)) = laid.first {
+            return Err(BuildFault::Conflict { s, t });
+        }
+        let next = numbers.len() as u32;
+        Ok(Map {
+            alloc,
+            frame: Frame {
+                transform,
+                layers,
+                members,
+                polygons: numbers,
+            },
+            vertices: laid.vertices,
+            borders: laid.borders,
+            index: laid.index,
+            tests: laid.tests,
+            next,
+            positions: laid.positions,
+            segments: laid.segments,
+        })
+    }
+}

@@ -1,0 +1,66 @@
+ghost use Rattle.std.specs.Prelude.{◌≡◌, length};
+ghost use Rattle.ring_machine.specs.Parts.{features, size, is_vertex, has_feature};
+ghost use Rattle.ring_machine.specs.Query.{vertices, distinct_segments};
+
+use crate::map::Map;
+use grid_geometry::Pos;
+use segment_index::SegIndex;
+use std::alloc::Allocator;
+
+impl<'a, I: SegIndex, A: Allocator + Copy> Map<'a, I, A> {
+    /// How many features there are.
+    pub fn feature_count(&self) -> usize
+        ensures { result ≡ length (features self.now.doc) }
+    {
+        self.frame.polygons.as_slice().len()
+    }
+
+    /// How many vertices there are.
+    pub fn vertex_count(&self) -> usize
+        ensures { result ≡ length (vertices self.now.doc) }
+    {
+        self.vertices.len()
+    }
+
+    /// How many segments there are, each counted once.
+    pub fn segment_count(&self) -> usize
+        ensures { result ≡ length (distinct_segments self.now.doc) }
+    {
+        self.segments
+    }
+
+    /// How many positions the rings have, each ring counted for itself.
+    pub fn position_count(&self) -> usize
+        ensures { result ≡ size self.now.doc }
+    {
+        self.positions
+    }
+
+    /// The number of the next new feature.
+    pub fn next_number(&self) -> u32
+        ensures { result ≡ self.now.next }
+    {
+        self.next
+    }
+
+    /// How many times two segments were tested for a conflict since the last edit began.
+    pub fn tests(&self) -> u64
+        ensures { result ≡ self.now.tests }
+    {
+        self.tests.count()
+    }
+
+    /// Whether some feature has this number.
+    pub fn has_feature(&self, n: u32) -> bool
+        ensures { result ≡ has_feature self.now.doc n }
+    {
+        (n as usize) < self.frame.polygons.as_slice().len()
+    }
+
+    /// Whether some ring has this position.
+    pub fn has_vertex(&self, p: Pos) -> bool
+        ensures { result ≡ is_vertex self.now.doc p }
+    {
+        self.vertices.key_of(p).is_some()
+    }
+}

@@ -1,0 +1,130 @@
+// A map on the way: its rings are laid one after the other.
+ghost use Rattle.std.specs.Prelude.{◌≡◌, ◌≢◌, ◌≤◌, ◌+◌, ℕ, List, [], ◌∷◌, ◌++◌, length, map, IfOk, OnOk, true, IsTrue, Contains};
+ghost use Rattle.std.specs.List.{list_all, sum_by};
+ghost use Rattle.std.specs.FinMap as table;
+ghost use Rattle.std.specs.FinSet as set;
+ghost use Rattle.grid_geometry.specs.Segment.{Segment};
+ghost use Rattle.segment_index.specs.Candidates.{has};
+ghost use Rattle.arc_store.specs.Keyed.{all_rings, polygon_keys, feature_keys};
+ghost use Rattle.arc_store.specs.Laying.{IsRound, IsFilled, IsLaid, segments_along};
+
+use grid_geometry::Seg;
+use local_planarity::{TestCount, first_with};
+use segment_index::SegIndex;
+use shared_arcs::Borders;
+use std::alloc::{AllocError, Allocator};
+use vertex_index::{VertexKey, Vertices};
+
+/// The tables of a map that is being built.
+#[derive(Drop)]
+pub(crate) struct Laying<I: SegIndex, A: Allocator + Copy> {
+    pub(crate) alloc: A,
+    pub(crate) vertices: Vertices<A>,
+    pub(crate) borders: Borders<A>,
+    pub(crate) index: I,
+    pub(crate) tests: TestCount,
+    /// The least pair of segments in conflict so far.
+    pub(crate) first: Option<(Seg, Seg)>,
+    pub(crate) positions: usize,
+    pub(crate) segments: usize,
+}
+
+impl<I: SegIndex, A: Allocator + Copy> Laying<I, A> {
+    /// Tests a segment that no ring has yet, and puts it into the index.
+    fn lay_new(&mut self, s: Seg) -> Result<(), AllocError>
+        requires new { set.contains (I.held self.old.index) s ≡ false }
+        requires small { self.old.segments ≤ 8000000 }
+        ensures filled { OnOk result ((ss : List Segment)
+            → IsFilled (I.held self.old.index) self.old.first self.old.segments ss
+            → IsFilled (I.held self.new.index) self.new.first self.new.segments (ss ++ s ∷ [])) }
+        ensures vertices { self.new.vertices ≡ self.old.vertices }
+        ensures borders { self.new.borders ≡ self.old.borders }
+        ensures positions { self.new.positions ≡ self.old.positions }
+        ensures few { self.new.segments ≤ self.old.segments + 1 }
+    {
+        self.first = first_with(self.alloc, &self.index, s, self.first, &mut self.tests)?;
+        self.index.add(s)?;
+        self.segments += 1;
+        Ok(())
+    }
+
+    /// Sees to the segment of two vertices, unless a ring has it.
+    fn lay_segment(&mut self, a: VertexKey, b: VertexKey) -> Result<(), AllocError> {
+        if 0 < self.borders.uses(a, b) {
+            return Ok(());
+        }
+        match Seg::new(self.vertices.pos(a), self.vertices.pos(b)) {
+            Some(s) => self.lay_new(s),
+            None => Ok(()),
+        }
+    }
+
+    /// Sees to the segments of a ring.
+    fn lay_segments(&mut self, keys: &[VertexKey]) -> Result<(), AllocError> {
+        let [first, ..] = keys else {
+            return Ok(());
+        };
+        let mut a = *first;
+        for at in 1..keys.len() {
+            self.lay_segment(a, keys[at])?;
+            a = keys[at];
+        }
+        self.lay_segment(a, *first)
+    }
+
+    /// Lays the ring along these keys, and gives its number. Fails for want of memory alone.
+    pub(crate) fn lay_ring(&mut self, keys: &[VertexKey]) -> Result<usize, AllocError>
+        requires round { IsRound self.old.vertices keys.now }
+        requires small { self.old.positions + length keys.now ≤ 4000000 }
+        requires few { self.old.segments ≤ self.old.positions }
+        ensures laid { IfOk result (λ r. (numbers : List ℕ) (keyed : List (List ℕ))
+            → IsLaid self.old.borders numbers keyed
+            → IsLaid self.new.borders (numbers ++ r ∷ []) (keyed ++ keys.now ∷ [])) }
+        ensures filled { OnOk result ((numbers : List ℕ) (keyed : List (List ℕ))
+            → IsLaid self.old.borders numbers keyed
+            → IsFilled (I.held self.old.index) self.old.first self.old.segments
+                (segments_along self.old.vertices keyed)
+            → IsFilled (I.held self.new.index) self.new.first self.new.segments
+                (segments_along self.new.vertices (keyed ++ keys.now ∷ []))) }
+        ensures positions { OnOk result (self.new.positions ≡ self.old.positions + length keys.now) }
+        ensures few { OnOk result (self.new.segments ≤ self.new.positions) }
+        ensures vertices { self.new.vertices ≡ self.old.vertices }
+    {
+        self.lay_segments(keys)?;
+        self.positions += keys.len();
+        self.borders.add_ring(keys)
+    }
+
+    /// Lays the rings of a polygon, and gives their numbers.
+    fn lay_polygon(&mut self, rings: &[Vec<VertexKey, A>]) -> Result<Vec<usize, A>, AllocError> {
+        let mut numbers = Vec::new(self.alloc);
+        for keys in rings {
+            numbers.push(self.lay_ring(keys.as_slice())?)?;
+        }
+        Ok(numbers)
+    }
+
+    /// Lays the rings of a feature, and gives their numbers.
+    fn lay_feature(
+        &mut self,
+        polygons: &[Vec<Vec<VertexKey, A>, A>],
+    ) -> Result<Vec<Vec<usize, A>, A>, AllocError> {
+        let mut numbers = Vec::new(self.alloc);
+        for rings in polygons {
+            numbers.push(self.lay_polygon(rings.as_slice())?)?;
+        }
+        Ok(numbers)
+    }
+
+    /// Lays the rings of all features, and gives their numbers.
+    pub(crate) fn lay_all(
+        &mut self,
+        features: &[Vec<Vec<Vec<VertexKey, A>, A>, A>],
+    ) -> Result<Vec<Vec<Vec<usize, A>, A>, A>, AllocError> {
+        let mut numbers = Vec::new(self.alloc);
+        for polygons in features {
+            numbers.push(self.lay_feature(polygons.as_slice())?)?;
+        }
+        Ok(numbers)
+    }
+}

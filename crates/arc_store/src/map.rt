@@ -1,0 +1,37 @@
+use crate::frame::Frame;
+use local_planarity::TestCount;
+use segment_index::SegIndex;
+use shared_arcs::Borders;
+use std::alloc::{Allocator, Global};
+use std::marker::Model;
+use vertex_index::Vertices;
+
+/// A map of shared borders, in which no two segments conflict. It is seen as its document, the
+/// number of the next new feature, and how many tests the last edit made. Its index always holds
+/// exactly the segments of its document.
+#[derive(Drop)]
+pub struct Map<'a, I: SegIndex, A: Allocator + Copy = Global> {
+    pub(crate) alloc: A,
+    pub(crate) frame: Frame<'a, A>,
+    pub(crate) vertices: Vertices<A>,
+    pub(crate) borders: Borders<A>,
+    pub(crate) index: I,
+    pub(crate) tests: TestCount,
+    pub(crate) next: u32,
+    /// How many positions the rings have, each ring counted for itself.
+    pub(crate) positions: usize,
+    /// How many segments there are, each counted once.
+    pub(crate) segments: usize,
+}
+
+impl<'a, I: SegIndex, A: Allocator + Copy> Model for Map<'a, I, A> {
+    ghost use Rattle.arc_store.specs.State.{State};
+
+    ghost Value = { State };
+
+    ghost use Rattle.arc_store.specs.Kept.{state_of, IsKept};
+
+    ghost view = { λ m. state_of m.frame m.borders m.vertices m.next m.tests };
+
+    ghost invariant = { λ m. IsKept m.frame m.borders m.vertices (I.held m.index) m.next m.positions m.segments };
+}

@@ -1,0 +1,163 @@
+ghost use Rattle.std.specs.Prelude.{◌≡◌, ◌≢◌, ◌≤◌, ℕ, true, false, None, [], ◌∷◌};
+ghost use Rattle.std.specs.Prelude.{OnOk, OnErr, IfErr};
+ghost use Rattle.std.specs.FinMap as table;
+ghost use Rattle.std.specs.FinSet as set;
+ghost use Rattle.grid_geometry.specs.Segment.{segment};
+ghost use Rattle.ring_machine.specs.Document.{Document};
+ghost use Rattle.ring_machine.specs.Parts.{is_vertex, is_segment, size};
+ghost use Rattle.ring_machine.specs.Refusals.{first_of, insert_refusals};
+ghost use Rattle.ring_machine.specs.Vertices.{ins};
+ghost use Rattle.segment_index.specs.Candidates.{AreSingle};
+ghost use Rattle.shared_arcs.specs.Edited.{AreApart as AreThree};
+ghost use Rattle.shared_arcs.specs.Joined.{Joined};
+ghost use Rattle.local_planarity.specs.Edits.{AreApart};
+ghost use Rattle.arc_store.specs.Edits.{IsInsertable, PutBetween};
+ghost use Rattle.arc_store.specs.Faults.{Refuses};
+ghost use Rattle.arc_store.specs.Planned as planned;
+ghost use Rattle.arc_store.specs.Planned.{AreNew, Exchanges};
+ghost use Rattle.arc_store.specs.declared.fault.EditFault.TheVariants.{OutOfMemory};
+
+use crate::fault::EditFault;
+use crate::map::Map;
+use crate::plan::{add_all, discard_all, spokes, test_planar};
+use grid_geometry::{Pos, Seg};
+use local_planarity::{Leaving, TestCount, holds_other};
+use segment_index::SegIndex;
+use shared_arcs::Borders;
+use std::alloc::{AllocError, Allocator};
+use vertex_index::{VertexKey, Vertices};
+
+/// Puts a vertex at q between two that are joined, in the tables of vertices and of borders. Where
+/// that fails for want of memory both are as they were.
+fn put_between<A: Allocator + Copy>(
+    vertices: &mut Vertices<A>,
+    borders: &mut Borders<A>,
+    a: VertexKey,
+    b: VertexKey,
+    q: Pos,
+) -> Result<(), AllocError>
+    requires unjoined { (k x : ℕ) → table.get vertices.old k ≡ None → ¬ Joined borders.old k x }
+    requires apart { (k : ℕ) → table.get vertices.old k ≡ None → AreThree a b k }
+    ensures put { OnOk result (PutBetween vertices.old vertices.new borders.old borders.new a b q) }
+    ensures vertices { OnErr result (vertices.new ≡ vertices.old) }
+    ensures borders { OnErr result (borders.new ≡ borders.old) }
+{
+    let Ok(k) = vertices.add(q) else {
+        return Err(AllocError);
+    };
+    match borders.insert(a, b, k) {
+        Ok(()) => Ok(()),
+        Err(e) => {
+            vertices.remove(k);
+            Err(e)
+        }
+    }
+}
+
+/// Puts a vertex at q between two that are joined, where their segment goes and the added ones
+/// come. Where that fails for want of memory all three tables are as they were.
+fn put_in<I: SegIndex, A: Allocator + Copy>(
+    vertices: &mut Vertices<A>,
+    borders: &mut Borders<A>,
+    index: &mut I,
+    ends: (VertexKey, VertexKey),
+    q: Pos,
+    before: Seg,
+    after: &[Seg],
+) -> Result<(), EditFault>
+    requires unjoined { (k x : ℕ) → table.get vertices.old k ≡ None → ¬ Joined borders.old k x }
+    requires apart { (k : ℕ) → table.get vertices.old k ≡ None → AreThree ends.0 ends.1 k }
+    requires held { set.contains (I.held index.old) before ≡ true }
+    requires new { AreNew (I.held index.old) after.now }
+    requires single { AreSingle after.now }
+    ensures put { OnOk result
+        (PutBetween vertices.old vertices.new borders.old borders.new ends.0 ends.1 q) }
+    ensures exchanged { OnOk result
+        (Exchanges (I.held index.old) after.now (before ∷ []) (I.held index.new)) }
+    ensures memory { IfErr result (λ fault. fault ≡ OutOfMemory) }
+    ensures vertices { OnErr result (vertices.new ≡ vertices.old) }
+    ensures borders { OnErr result (borders.new ≡ borders.old) }
+    ensures unchanged { OnErr result (I.held index.new ≡ I.held index.old) }
+{
+    add_all(index, after)?;
+    match put_between(vertices, borders, ends.0, ends.1, q) {
+        Ok(()) => {
+            index.discard(before);
+            Ok(())
+        }
+        Err(_) => {
+            discard_all(index, after);
+            Err(EditFault::OutOfMemory)
+        }
+    }
+}
+
+/// Tests that nothing stands in the way of q between the ends of a segment, which goes while the
+/// added ones come.
+fn test_insert<I: SegIndex, A: Allocator + Copy>(
+    alloc: A,
+    index: &I,
+    before: Seg,
+    ends: (Pos, Pos),
+    q: Pos,
+    after: &[Seg],
+    tests: &mut TestCount,
+) -> Result<(), EditFault>
+    requires apart { AreApart (I.held index.now) }
+    requires before { before ≡ segment ends.0 ends.1 }
+    requires after { after.now ≡ planned.spokes q (ends.0 ∷ ends.1 ∷ []) }
+    ensures accepted { OnOk result ((d : Document)
+        → IsInsertable d (I.held index.now) ends.0 ends.1 q
+        → first_of (insert_refusals d ends.0 ends.1 q) ≡ None) }
+    ensures refused { IfErr result (λ fault. (d : Document)
+        → IsInsertable d (I.held index.now) ends.0 ends.1 q
+        → Refuses fault (first_of (insert_refusals d ends.0 ends.1 q))) }
+{
+    let (a, b) = ends;
+    match test_planar(alloc, index, Leaving::One(before), after, tests) {
+        Ok(()) => match holds_other(alloc, index, &[a, b], a, b, q) {
+            Ok(true) => Err(EditFault::Sweeps),
+            Ok(false) => Ok(()),
+            Err(_) => Err(EditFault::OutOfMemory),
+        },
+        Err(fault) => Err(fault),
+    }
+}
+
+impl<'a, I: SegIndex, A: Allocator + Copy> Map<'a, I, A> {
+    /// Puts q, which is no vertex, between a and b in every ring that has their segment. Refused
+    /// where two segments would be in conflict, where the border sweeps over a position, or for want
+    /// of memory; then nothing changes but the count of tests.
+    pub fn raw_insert(&mut self, a: Pos, b: Pos, q: Pos) -> Result<(), EditFault>
+        requires apart { a ≢ b }
+        requires segment { is_segment self.old.doc (segment a b) ≡ true }
+        requires free { is_vertex self.old.doc q ≡ false }
+        requires small { size (ins self.old.doc a b q) ≤ 4000000 }
+        ensures accepted { OnOk result (first_of (insert_refusals self.old.doc a b q) ≡ None) }
+        ensures inserted { OnOk result (self.new.doc ≡ ins self.old.doc a b q) }
+        ensures refused { IfErr result
+            (λ fault. Refuses fault (first_of (insert_refusals self.old.doc a b q))) }
+        ensures unchanged { OnErr result (self.new.doc ≡ self.old.doc) }
+        ensures next { self.new.next ≡ self.old.next }
+    {
+        let Some(i) = self.vertices.key_of(a) else {
+            return Err(EditFault::NoSegment);
+        };
+        let Some(j) = self.vertices.key_of(b) else {
+            return Err(EditFault::NoSegment);
+        };
+        let Some(before) = Seg::new(a, b) else {
+            return Err(EditFault::NoSegment);
+        };
+        let after = spokes(self.alloc, q, &[a, b])?;
+        let after = after.as_slice();
+        let (index, tests) = (&self.index, &mut self.tests);
+        test_insert(self.alloc, index, before, (a, b), q, after, tests)?;
+        let rings = self.borders.uses(i, j);
+        let (vertices, borders) = (&mut self.vertices, &mut self.borders);
+        put_in(vertices, borders, &mut self.index, (i, j), q, before, after)?;
+        self.positions += rings;
+        self.segments += 1;
+        Ok(())
+    }
+}

@@ -1,0 +1,127 @@
+ghost use Rattle.std.specs.Prelude.{◌≡◌, ◌≢◌, ◌≤◌, ◌+◌, ◌||◌, true, false, List, None};
+ghost use Rattle.std.specs.Prelude.{OnOk, OnErr, IfOk, IfErr};
+ghost use Rattle.std.specs.FinMap as table;
+ghost use Rattle.std.specs.List.{list_any};
+ghost use Rattle.grid_geometry.specs.Segment.{Segment, segment};
+ghost use Rattle.ring_machine.specs.Document.{Document};
+ghost use Rattle.ring_machine.specs.Sweep.{edge_sweeps, crosses_on_way};
+ghost use Rattle.ring_machine.specs.Parts.{is_vertex};
+ghost use Rattle.ring_machine.specs.Refusals.{first_of, move_refusals};
+ghost use Rattle.ring_machine.specs.Vertices.{put};
+ghost use Rattle.segment_index.specs.Candidates.{AreAmong, AreSingle};
+ghost use Rattle.local_planarity.specs.Edits.{IsHeld};
+ghost use Rattle.local_planarity.specs.Tests.{most_given};
+ghost use Rattle.arc_store.specs.Faults.{Refuses};
+ghost use Rattle.arc_store.specs.Holds.{IsIndexed};
+ghost use Rattle.arc_store.specs.Planned.{AreNew, Exchanges};
+ghost use Rattle.arc_store.specs.declared.fault.EditFault.TheVariants.{OutOfMemory};
+
+use crate::fault::EditFault;
+use crate::map::Map;
+use crate::plan::{add_all, discard_all, positions_around, spokes, test_planar};
+use grid_geometry::{Pos, Seg};
+use local_planarity::{Leaving, TestCount, crosses_on_way, holds_other};
+use segment_index::SegIndex;
+use std::alloc::{AllocError, Allocator};
+use vertex_index::{VertexKey, Vertices};
+
+/// Whether the edge to one of these sweeps over a position when p moves to q, or p itself passes
+/// over a segment.
+fn sweeps<I: SegIndex, A: Allocator + Copy>(
+    alloc: A,
+    index: &I,
+    around: &[Pos],
+    p: Pos,
+    q: Pos,
+    tests: &mut TestCount,
+) -> Result<bool, AllocError>
+    requires { p ≢ q }
+    ensures sweeps { IfOk result (λ found. (d : Document) → IsIndexed d (I.held index.now)
+        → found ≡ (list_any (edge_sweeps d p q) around.now || crosses_on_way d p q)) }
+    ensures few { (ss : List Segment) → IsHeld (I.held index.now) ss
+        → tests.new ≤ tests.old + most_given (I.times index.now) ss (segment p q) }
+{
+    for a in around {
+        if holds_other(alloc, index, &[*a, p], *a, p, q)? {
+            return Ok(true);
+        }
+    }
+    crosses_on_way(alloc, index, p, q, tests)
+}
+
+/// Moves vertex `k`, in the table of vertices and in the index. Where that fails for want of memory
+/// both are as they were.
+fn shift<I: SegIndex, A: Allocator + Copy>(
+    vertices: &mut Vertices<A>,
+    index: &mut I,
+    k: VertexKey,
+    q: Pos,
+    before: &[Seg],
+    after: &[Seg],
+) -> Result<(), EditFault>
+    requires key { table.contains_key vertices.old k ≡ true }
+    requires new { AreNew (I.held index.old) after.now }
+    requires after_once { AreSingle after.now }
+    requires held { AreAmong (I.held index.old) before.now }
+    requires before_once { AreSingle before.now }
+    ensures moved { OnOk result (vertices.new ≡ table.insert vertices.old k q) }
+    ensures exchanged { OnOk result
+        (Exchanges (I.held index.old) after.now before.now (I.held index.new)) }
+    ensures memory { IfErr result (λ fault. fault ≡ OutOfMemory) }
+    ensures vertices { OnErr result (vertices.new ≡ vertices.old) }
+    ensures index { OnErr result (I.held index.new ≡ I.held index.old) }
+{
+    add_all(index, after)?;
+    match vertices.shift(k, q) {
+        Ok(()) => {}
+        Err(_) => {
+            discard_all(index, after);
+            return Err(EditFault::OutOfMemory);
+        }
+    }
+    discard_all(index, before);
+    Ok(())
+}
+
+impl<'a, I: SegIndex, A: Allocator + Copy> Map<'a, I, A> {
+    /// Moves the vertex at p to q, which is none, in every ring that has it. Refused where two
+    /// segments would be in conflict, where the move sweeps over a position or a segment, or for want
+    /// of memory; then nothing changes but the count of tests.
+    pub fn raw_move(&mut self, p: Pos, q: Pos) -> Result<(), EditFault>
+        requires vertex { is_vertex self.old.doc p ≡ true }
+        requires free { is_vertex self.old.doc q ≡ false }
+        ensures accepted { OnOk result (first_of (move_refusals self.old.doc p q) ≡ None) }
+        ensures moved { OnOk result (self.new.doc ≡ put self.old.doc p q) }
+        ensures refused { IfErr result
+            (λ fault. Refuses fault (first_of (move_refusals self.old.doc p q))) }
+        ensures unchanged { OnErr result (self.new.doc ≡ self.old.doc) }
+        ensures next { self.new.next ≡ self.old.next }
+    {
+        let Some(k) = self.vertices.key_of(p) else {
+            return Err(EditFault::NoVertex);
+        };
+        let around = positions_around(self.alloc, &self.vertices, &self.borders, k)?;
+        let before = spokes(self.alloc, p, around.as_slice())?;
+        let after = spokes(self.alloc, q, around.as_slice())?;
+        let leaving = Leaving::EndingAt(p);
+        test_planar(
+            self.alloc,
+            &self.index,
+            leaving,
+            after.as_slice(),
+            &mut self.tests,
+        )?;
+        if sweeps(
+            self.alloc,
+            &self.index,
+            around.as_slice(),
+            p,
+            q,
+            &mut self.tests,
+        )? {
+            return Err(EditFault::Sweeps);
+        }
+        let (before, after) = (before.as_slice(), after.as_slice());
+        shift(&mut self.vertices, &mut self.index, k, q, before, after)
+    }
+}

@@ -1,0 +1,44 @@
+-- What a move is refused by, from whether there are vertices at both positions.
+use Rattle.std.proofs.Common.{◌≡◌, Bool, true, false, ap, ap₂, ◌∙◌, [], ◌∷◌, Option, Some}
+use Rattle.std.specs.Prelude.{not}
+use Rattle.grid_geometry.specs.Position.{Position}
+use Rattle.ring_machine.specs.Document.{Document}
+use Rattle.ring_machine.specs.Parts.{is_vertex}
+use Rattle.ring_machine.specs.Vertices.{put}
+use Rattle.ring_machine.specs.Planar.{first_pair}
+use Rattle.ring_machine.specs.Sweep.{move_sweeps}
+use Rattle.ring_machine.specs.Command.{Refusal, NoVertex, Occupied, Sweeps}
+use Rattle.ring_machine.specs.Refusals.{◌unless◌, first_of, planar, move_refusals}
+use Rattle.arc_store.specs.Faults.{Refuses}
+use Rattle.arc_store.specs.declared.fault.EditFault.{EditFault}
+use Rattle.edit_vertex.specs.Untested.{is_early}
+use Rattle.edit_vertex.proofs.Late.{is_late, late_end, late_fault}
+
+-- the first refusal by the answers
+abbrev move_by : Option Refusal → Bool → Bool → Bool → Option Refusal
+move_by conflict sweeps vertex occupied = first_of (
+  NoVertex unless vertex
+  ∷ Occupied unless not occupied
+  ∷ conflict
+  ∷ Sweeps unless not sweeps
+  ∷ []
+)
+
+module _ (d : Document) (p q : Position) where
+  abbrev by : Bool → Bool → Option Refusal
+  by vertex occupied = move_by (planar (put d p q)) (move_sweeps d p q) vertex occupied
+
+  pub move_no_vertex : is_vertex d p ≡ false → first_of (move_refusals d p q) ≡ Some NoVertex
+  unfolding move_refusals
+  move_no_vertex h = ap (λ v. by v (is_vertex d q)) h
+
+  pub move_occupied : is_vertex d p ≡ true → is_vertex d q ≡ true
+      → first_of (move_refusals d p q) ≡ Some Occupied
+  unfolding move_refusals
+  move_occupied h k = ap₂ by h k
+
+  pub move_late : is_vertex d p ≡ true → is_vertex d q ≡ false → (fault : EditFault)
+      → Refuses fault (first_of (move_refusals d p q)) → is_early fault ≡ false
+  unfolding move_refusals
+  move_late h k fault r =
+      late_fault fault (first_of (move_refusals d p q)) (ap is_late (ap₂ by h k) ∙ late_end (first_pair (put d p q)) (not (move_sweeps d p q))) r

@@ -1,0 +1,125 @@
+-- One vertex of a pass of thinning, and the pass as far as it has come.
+use Rattle.std.proofs.Common.{◌≡◌, ℕ, ◌+◌, ◌<◌, Bool, true, false, refl, sym, ap, ap₂, ◌∙◌, cond, ℤ}
+use Rattle.std.proofs.Common.{List, [], ◌∷◌, ◌++◌, take, length, get_or, Option, None, Some, arith}
+use Rattle.std.specs.Prelude.{not, ◌&&◌, pos, unsigned_abs, int_le}
+use Rattle.std.specs.List.{fold}
+use Rattle.std.proofs.lemmas.Bool.{false≢true}
+use Rattle.std.proofs.lemmas.List.{take_more}
+use Rattle.std.proofs.lemmas.List.Sums.{fold-append}
+use Rattle.grid_geometry.specs.Position.{Position}
+use Rattle.grid_geometry.specs.Segment.{Segment, segment}
+use Rattle.grid_geometry.specs.Orientation.{orientation}
+use Rattle.ring_machine.specs.Document.{Document}
+use Rattle.ring_machine.specs.Parts.{is_vertex}
+use Rattle.ring_machine.specs.Planar.{Proper}
+use Rattle.ring_machine.specs.Vertices.{del, around, is_junction}
+use Rattle.ring_machine.specs.Command.{Refusal, NoVertex}
+use Rattle.ring_machine.specs.Refusals.{first_of, remove_refusals}
+use Rattle.ring_machine.specs.Thin.{Thinning, is_flat, without, thin_at}
+use Rattle.arc_store.specs.Faults.{Refuses}
+use Rattle.arc_store.specs.Spots.{IsBetween}
+use Rattle.arc_store.specs.declared.fault.EditFault.{EditFault}
+use Rattle.arc_store.specs.declared.fault.EditFault.TheVariants.{OutOfMemory}
+use Rattle.arc_store.specs.declared.fault.EditFault.TheVariants as edit
+use Rattle.edit_vertex.proofs.Lists.{all_same}
+use Rattle.edit_vertex.proofs.Removing.{same_around, place_there, ordered_ends, remove_no_vertex}
+
+-- ---- whether a vertex is thin
+
+-- twice the area of the triangle of p and the ends of s is at most t
+abbrev pub is_flat_side : ℤ → Position → Segment → Bool
+is_flat_side t p s = int_le (pos (unsigned_abs (orientation s.lo p s.hi))) t
+
+pub flat_between : (d : Document) (p a b : Position) → Proper d → IsBetween d p a b → (t : ℤ)
+    → is_flat t d p ≡ int_le (pos (unsigned_abs (orientation a p b))) t
+flat_between d p a b proper between t =
+    let ends = ordered_ends a b between.order in
+    all_same (is_flat_side t p) (around d p) (segment a b) (place_there d p a b proper between) (same_around d p a b proper between)
+    ∙ ap₂ (λ u v. int_le (pos (unsigned_abs (orientation u p v))) t) ends.0 ends.1
+
+-- p is a vertex, no junction, and flat
+abbrev pub is_thin : ℤ → Document → Position → Bool
+is_thin t d p = is_vertex d p && (not (is_junction d p) && is_flat t d p)
+
+pub thin_none : (t : ℤ) (d : Document) (p : Position) → is_vertex d p ≡ false
+    → is_thin t d p ≡ false
+thin_none t d p h = ap (λ b. b && (not (is_junction d p) && is_flat t d p)) h
+
+pub thin_junction : (t : ℤ) (d : Document) (p : Position) → is_vertex d p ≡ true
+    → is_junction d p ≡ true → is_thin t d p ≡ false
+thin_junction t d p h k = ap₂ (λ b c. b && (not c && is_flat t d p)) h k
+
+pub thin_between : (d : Document) (p a b : Position) → Proper d → IsBetween d p a b → (t : ℤ)
+    → is_thin t d p ≡ int_le (pos (unsigned_abs (orientation a p b))) t
+thin_between d p a b proper between t =
+    ap₂ (λ u v. u && (not v && is_flat t d p)) between.vertex between.inner ∙ flat_between d p a b proper between t
+
+-- ---- one vertex of the pass
+
+-- so many were left out of the document
+abbrev pub with_count : Document → ℕ → Thinning
+with_count d n = record { doc = d; removed = n }
+
+module _ (t : ℤ) (d : Document) (p : Position) (n : ℕ) where
+  abbrev thin_by : Bool → Option Refusal → Thinning
+  thin_by b o = cond b (without (with_count d n) p o) (with_count d n)
+
+  parts : is_thin t d p ≡ true → (not (is_junction d p) && is_flat t d p) ≡ true
+  parts h = by (is_vertex d p) h
+    where
+      by : (v : Bool) → (v && (not (is_junction d p) && is_flat t d p)) ≡ true
+          → (not (is_junction d p) && is_flat t d p) ≡ true
+      by true h = h
+      by false h = absurd (false≢true h)
+
+  pub thin_gone : is_thin t d p ≡ true → first_of (remove_refusals d p) ≡ None
+      → (new : Document) → new ≡ del d p
+      → thin_at t (with_count d n) p ≡ with_count new (n + 1)
+  thin_gone h k new e = ap₂ thin_by (parts h) k ∙ ap (λ x. with_count x (n + 1)) (sym e)
+
+  refused : (fault : EditFault) → Refuses fault (first_of (remove_refusals d p))
+      → (fault ≡ OutOfMemory → ⊥) → (r : Refusal) × (first_of (remove_refusals d p) ≡ Some r)
+  refused edit.NoFeature h k = (_, h)
+  refused edit.NoVertex h k = (_, h)
+  refused edit.NoSegment h k = (_, h)
+  refused edit.Occupied h k = (_, h)
+  refused edit.Junction h k = (_, h)
+  refused edit.RingShort h k = (_, h)
+  refused edit.SegmentExists h k = (_, h)
+  refused edit.TooLarge h k = (_, h)
+  refused (edit.Conflict u v) h k = (_, h)
+  refused edit.Sweeps h k = (_, h)
+  refused edit.OutOfMemory h k = absurd (k refl)
+
+  pub thin_refused : is_thin t d p ≡ true → (fault : EditFault)
+      → Refuses fault (first_of (remove_refusals d p)) → (fault ≡ OutOfMemory → ⊥)
+      → (new : Document) → new ≡ d → thin_at t (with_count d n) p ≡ with_count new (n + 0)
+  thin_refused h fault k l new e =
+      let same : n ≡ n + 0 = omega arith in
+      ap₂ thin_by (parts h) (refused fault k l).1 ∙ ap₂ with_count (sym e) same
+
+  pub thin_passed : is_thin t d p ≡ false → thin_at t (with_count d n) p ≡ with_count d (n + 0)
+  thin_passed h =
+      let same : n ≡ n + 0 = omega arith in
+      by (is_vertex d p) refl h ∙ ap (with_count d) same
+    where
+      either : (b : Bool) → thin_by b (Some NoVertex) ≡ with_count d n
+      either true = refl
+      either false = refl
+
+      by : (v : Bool) → is_vertex d p ≡ v → (v && (not (is_junction d p) && is_flat t d p)) ≡ false
+          → thin_at t (with_count d n) p ≡ with_count d n
+      by true e h = ap (λ b. thin_by b (first_of (remove_refusals d p))) h
+      by false e h =
+          ap (thin_by (not (is_junction d p) && is_flat t d p)) (remove_no_vertex d p e)
+          ∙ either (not (is_junction d p) && is_flat t d p)
+
+-- one vertex more
+pub thinned_more : (t : ℤ) (d now : Document) (n : ℕ) (ps : List Position) (i : ℕ) (p : Position)
+    → i < length ps → p ≡ get_or ps i p
+    → fold (thin_at t) (with_count d 0) (take i ps) ≡ with_count now n
+    → fold (thin_at t) (with_count d 0) (take (i + 1) ps) ≡ thin_at t (with_count now n) p
+thinned_more t d now n ps i p l e h =
+    ap (fold (thin_at t) (with_count d 0)) (take_more ps i p l ∙ ap (λ z. take i ps ++ z ∷ []) (sym e))
+    ∙ fold-append (thin_at t) (with_count d 0) (take i ps) (p ∷ [])
+    ∙ ap (λ s. thin_at t s p) h

@@ -1,0 +1,144 @@
+-- What a removal is refused by, from what stands around the vertex.
+use Rattle.std.proofs.Common.{◌≡◌, ◌<◌, ◌≤◌, ℕ, Bool, true, false, refl, sym, ap, ap₂, ◌∙◌, subst, cond}
+use Rattle.std.proofs.Common.{List, [], ◌∷◌, length, ◌||◌, Option, Some, Contains, arith}
+use Rattle.std.specs.Prelude.{not, nat_lt}
+use Rattle.std.specs.Ordering.{is_lt, is_gt}
+use Rattle.std.specs.declared.cmp.Ordering.{Ordering}
+use Rattle.std.specs.declared.cmp.Ordering.TheVariants.{Less, Equal, Greater}
+use Rattle.std.proofs.lemmas.Bool.{false≢true}
+use Rattle.grid_geometry.specs.Position.{Position, position_cmp, position_lt}
+use Rattle.grid_geometry.specs.Segment.{Segment, segment}
+use Rattle.grid_geometry.specs.Ring.{Edge, edges}
+use Rattle.ring_machine.specs.Ring.{has, is_ring, spots}
+use Rattle.ring_machine.specs.Document.{Document}
+use Rattle.ring_machine.specs.Parts.{rings, is_vertex, is_segment}
+use Rattle.ring_machine.specs.Vertices.{del, around, is_junction}
+use Rattle.ring_machine.specs.Planar.{Proper, first_pair}
+use Rattle.ring_machine.specs.Sweep.{remove_sweeps}
+use Rattle.ring_machine.specs.Command.{Refusal, NoVertex, Junction, RingShort, SegmentExists, Sweeps}
+use Rattle.ring_machine.specs.Refusals.{◌unless◌, first_of, planar, are_long, is_bridged}
+use Rattle.ring_machine.specs.Refusals.{remove_refusals}
+use Rattle.ring_machine.proofs.First.{In}
+use Rattle.ring_machine.proofs.Neighbours.{all_in, has-in, begin_place, place_around}
+use Rattle.ring_machine.proofs.Order.{position_lt-irrefl}
+use Rattle.ring_machine.proofs.StaysProper.{edges_start}
+use Rattle.arc_store.specs.Faults.{Refuses}
+use Rattle.arc_store.specs.Spots.{IsShortest, IsBetween}
+use Rattle.arc_store.specs.declared.fault.EditFault.{EditFault}
+use Rattle.arc_store.proofs.Members.{any_in, in_contains, contains_in, in_mapped}
+use Rattle.edit_vertex.specs.Untested.{is_early}
+use Rattle.edit_vertex.proofs.Late.{is_late, late_end, late_fault}
+use Rattle.edit_vertex.proofs.Lists.{all_by, not_all, any_same, lt_holds, lt_fails}
+
+-- ---- the neighbours
+
+-- a vertex stands somewhere between two
+pub vertex_place : (d : Document) (p : Position) → Proper d → is_vertex d p ≡ true
+    → (s : Segment) × In s (around d p)
+vertex_place d p proper h =
+    let r = any_in (λ ring. has ring p) (rings d) h in
+    in_ring r.0 r.1 r.2 (all_in is_ring (rings d) r.0 proper.are_rings r.1)
+  where
+    in_ring : (ring : List Position) → In ring (rings d) → has ring p ≡ true → is_ring ring ≡ true
+        → (s : Segment) × In s (around d p)
+    in_ring [] i t k = absurd (false≢true k)
+    in_ring (x ∷ []) i t k = absurd (false≢true k)
+    in_ring (x ∷ y ∷ zs) i t k =
+        let e = in_mapped (λ (f : Edge). f.0) p (edges (x ∷ y ∷ zs)) (subst (In p) (sym (edges_start x (y ∷ zs))) (has-in p (x ∷ y ∷ zs) t)) in
+        let c = begin_place x y zs e.0 e.1 in
+        let s = segment c.0 e.0.1 in
+        (s, place_around d (x ∷ y ∷ zs) p s i (subst (λ z. In (z, s) (spots (x ∷ y ∷ zs))) e.2 c.1))
+
+pub ordered_differ : (a b : Position) → position_lt a b ≡ true → a ≡ b → ⊥
+ordered_differ a b h e = false≢true (sym (position_lt-irrefl b) ∙ ap (λ z. position_lt z b) (sym e) ∙ h)
+
+pub ordered_ends : (a b : Position) → position_lt a b ≡ true
+    → ((segment a b).lo ≡ a) × ((segment a b).hi ≡ b)
+ordered_ends a b h = by (position_cmp a b) h
+  where
+    by : (o : Ordering) → is_lt o ≡ true
+        → ((cond {A = Segment} (is_gt o) (record { lo = b; hi = a }) (record { lo = a; hi = b })).lo ≡ a) × ((cond {A = Segment} (is_gt o) (record { lo = b; hi = a }) (record { lo = a; hi = b })).hi ≡ b)
+    by Less h = (refl, refl)
+    by Equal h = absurd (false≢true h)
+    by Greater h = absurd (false≢true h)
+
+module _ (d : Document) (p a b : Position) (proper : Proper d) (between : IsBetween d p a b) where
+  pub same_around : (s : Segment) → In s (around d p) → s ≡ segment a b
+  same_around s i = between.each s (in_contains (around d p) s i)
+
+  pub place_there : In (segment a b) (around d p)
+  place_there =
+      let s = vertex_place d p proper between.vertex in
+      subst (λ z. In z (around d p)) (same_around s.0 s.1) s.1
+
+  pub bridged_is : is_bridged d p ≡ is_segment d (segment a b)
+  bridged_is = any_same (is_segment d) (around d p) (segment a b) place_there same_around
+
+-- ---- the shortest ring
+
+abbrev is_long : Position → List Position → Bool
+is_long p ring = not (has ring p) || nat_lt 3 (length ring)
+
+pub rings_long : (d : Document) (p : Position) (n : ℕ) → IsShortest d p n → 3 < n
+    → are_long d p ≡ true
+rings_long d p n s h = all_by (is_long p) (rings d) (λ ring i. each ring i (has ring p) refl)
+  where
+    each : (ring : List Position) → In ring (rings d) → (t : Bool) → has ring p ≡ t
+        → (not t || nat_lt 3 (length ring)) ≡ true
+    each ring i false t = refl
+    each ring i true t = lt_holds 3 (length ring) (omega (arith, h, s.least ring (in_contains (rings d) ring i) t))
+
+pub ring_short : (d : Document) (p : Position) (n : ℕ) → IsShortest d p n → n ≤ 3
+    → are_long d p ≡ false
+ring_short d p n s h =
+    let short : length s.ring ≤ 3 = omega (arith, h, s.long) in
+    not_all (is_long p) (rings d) s.ring (contains_in (rings d) s.ring s.there)
+    (ap (λ t. not t || nat_lt 3 (length s.ring)) s.through ∙ lt_fails 3 (length s.ring) short)
+
+-- ---- the refusal
+
+-- the first refusal by the answers
+abbrev remove_by : Option Refusal → Bool → Bool → Bool → Bool → Bool → Option Refusal
+remove_by conflict sweeps vertex junction long bridged = first_of (
+  NoVertex unless vertex
+  ∷ Junction unless not junction
+  ∷ RingShort unless long
+  ∷ SegmentExists unless not bridged
+  ∷ conflict
+  ∷ Sweeps unless not sweeps
+  ∷ []
+)
+
+module _ (d : Document) (p : Position) where
+  abbrev by : Bool → Bool → Bool → Bool → Option Refusal
+  by vertex junction long bridged =
+      remove_by (planar (del d p)) (remove_sweeps d p) vertex junction long bridged
+
+  pub remove_no_vertex : is_vertex d p ≡ false → first_of (remove_refusals d p) ≡ Some NoVertex
+  unfolding remove_refusals
+  remove_no_vertex h = ap (λ v. by v (is_junction d p) (are_long d p) (is_bridged d p)) h
+
+  pub remove_junction : is_vertex d p ≡ true → is_junction d p ≡ true
+      → first_of (remove_refusals d p) ≡ Some Junction
+  unfolding remove_refusals
+  remove_junction h k = ap₂ (λ v j. by v j (are_long d p) (is_bridged d p)) h k
+
+  module _ (h : is_vertex d p ≡ true) (k : is_junction d p ≡ false) where
+    pub remove_short : are_long d p ≡ false → first_of (remove_refusals d p) ≡ Some RingShort
+    unfolding remove_refusals
+    remove_short l =
+        ap₂ (λ v j. by v j (are_long d p) (is_bridged d p)) h k
+        ∙ ap (λ z. by true false z (is_bridged d p)) l
+
+    pub remove_bridged : are_long d p ≡ true → is_bridged d p ≡ true
+        → first_of (remove_refusals d p) ≡ Some SegmentExists
+    unfolding remove_refusals
+    remove_bridged l m =
+        ap₂ (λ v j. by v j (are_long d p) (is_bridged d p)) h k ∙ ap₂ (by true false) l m
+
+    pub remove_late : are_long d p ≡ true → is_bridged d p ≡ false → (fault : EditFault)
+        → Refuses fault (first_of (remove_refusals d p)) → is_early fault ≡ false
+    unfolding remove_refusals
+    remove_late l m fault r =
+        late_fault fault (first_of (remove_refusals d p))
+        (ap is_late (ap₂ (λ v j. by v j (are_long d p) (is_bridged d p)) h k ∙ ap₂ (by true false) l m) ∙ late_end (first_pair (del d p)) (not (remove_sweeps d p))) r

@@ -1,0 +1,32 @@
+use Rattle.std.proofs.Common.{◌≡◌, true, None, ap, ◌∙◌, subst}
+use Rattle.std.specs.Prelude.{OnOk, OnErr, IfErr}
+use Rattle.ring_machine.specs.Refusals.{first_of, insert_refusals}
+use Rattle.ring_machine.specs.Vertices.{ins}
+use Rattle.arc_store.specs.Faults.{Refuses}
+use Rattle.arc_store.specs.State.{State}
+use Rattle.edit_vertex.specs.Untested.{is_early}
+use Rattle.edit_vertex.proofs.insert.insert_vertex.Goals as goal
+
+-- the beginning of an edit changes the count of tests alone
+pub returns-clause-accepted : goal.returns-clause-accepted
+returns-clause-accepted g c =
+    subst (λ d. OnOk c.insert_now.result (first_of (insert_refusals d c.args.a c.args.b c.args.q) ≡ None)) (ap (λ (s : State). s.doc) c.begin_edit.ensures.begun) c.insert_now.ensures.accepted
+
+pub returns-clause-inserted : goal.returns-clause-inserted
+returns-clause-inserted g c =
+    subst (λ d. OnOk c.insert_now.result (c.insert_now.new.map.doc ≡ ins d c.args.a c.args.b c.args.q)) (ap (λ (s : State). s.doc) c.begin_edit.ensures.begun) c.insert_now.ensures.inserted
+
+pub returns-clause-refused : goal.returns-clause-refused
+returns-clause-refused g c =
+    subst (λ d. IfErr c.insert_now.result (λ fault. Refuses fault (first_of (insert_refusals d c.args.a c.args.b c.args.q)))) (ap (λ (s : State). s.doc) c.begin_edit.ensures.begun) c.insert_now.ensures.refused
+
+pub returns-clause-unchanged : goal.returns-clause-unchanged
+returns-clause-unchanged g c =
+    subst (λ d. OnErr c.insert_now.result (c.insert_now.new.map.doc ≡ d)) (ap (λ (s : State). s.doc) c.begin_edit.ensures.begun) c.insert_now.ensures.unchanged
+
+pub returns-clause-untested : goal.returns-clause-untested
+returns-clause-untested g c =
+    subst (λ n. IfErr c.insert_now.result (λ fault. is_early fault ≡ true → c.insert_now.new.map.tests ≡ n)) (ap (λ (s : State). s.tests) c.begin_edit.ensures.begun) c.insert_now.ensures.untested
+
+pub returns-clause-next : goal.returns-clause-next
+returns-clause-next g c = c.insert_now.ensures.next ∙ ap (λ (s : State). s.next) c.begin_edit.ensures.begun

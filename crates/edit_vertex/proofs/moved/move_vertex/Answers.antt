@@ -1,0 +1,32 @@
+use Rattle.std.proofs.Common.{◌≡◌, true, None, ap, ◌∙◌, subst}
+use Rattle.std.specs.Prelude.{OnOk, OnErr, IfErr}
+use Rattle.ring_machine.specs.Refusals.{first_of, move_refusals}
+use Rattle.ring_machine.specs.Vertices.{put}
+use Rattle.arc_store.specs.Faults.{Refuses}
+use Rattle.arc_store.specs.State.{State}
+use Rattle.edit_vertex.specs.Untested.{is_early}
+use Rattle.edit_vertex.proofs.moved.move_vertex.Goals as goal
+
+-- the beginning of an edit changes the count of tests alone
+pub returns-clause-accepted : goal.returns-clause-accepted
+returns-clause-accepted g c =
+    subst (λ d. OnOk c.move_now.result (first_of (move_refusals d c.args.p c.args.q) ≡ None)) (ap (λ (s : State). s.doc) c.begin_edit.ensures.begun) c.move_now.ensures.accepted
+
+pub returns-clause-moved : goal.returns-clause-moved
+returns-clause-moved g c =
+    subst (λ d. OnOk c.move_now.result (c.move_now.new.map.doc ≡ put d c.args.p c.args.q)) (ap (λ (s : State). s.doc) c.begin_edit.ensures.begun) c.move_now.ensures.moved
+
+pub returns-clause-refused : goal.returns-clause-refused
+returns-clause-refused g c =
+    subst (λ d. IfErr c.move_now.result (λ fault. Refuses fault (first_of (move_refusals d c.args.p c.args.q)))) (ap (λ (s : State). s.doc) c.begin_edit.ensures.begun) c.move_now.ensures.refused
+
+pub returns-clause-unchanged : goal.returns-clause-unchanged
+returns-clause-unchanged g c =
+    subst (λ d. OnErr c.move_now.result (c.move_now.new.map.doc ≡ d)) (ap (λ (s : State). s.doc) c.begin_edit.ensures.begun) c.move_now.ensures.unchanged
+
+pub returns-clause-untested : goal.returns-clause-untested
+returns-clause-untested g c =
+    subst (λ n. IfErr c.move_now.result (λ fault. is_early fault ≡ true → c.move_now.new.map.tests ≡ n)) (ap (λ (s : State). s.tests) c.begin_edit.ensures.begun) c.move_now.ensures.untested
+
+pub returns-clause-next : goal.returns-clause-next
+returns-clause-next g c = c.move_now.ensures.next ∙ ap (λ (s : State). s.next) c.begin_edit.ensures.begun

@@ -1,0 +1,9 @@
+use Rattle.std.proofs.Common.{length, sym, ap, ◌∙◌}
+use Rattle.std.specs.Prelude.{nat_lt}
+use Rattle.ring_machine.specs.Parts.{is_segment}
+use Rattle.edit_vertex.proofs.Inserting.{segment_used}
+use Rattle.edit_vertex.proofs.remove.is_joined.Goals as goal
+
+pub returns-in-Some : goal.returns-in-Some
+returns-in-Some g c =
+    ap (nat_lt 0) c.uses.ensures ∙ segment_used c.args.map.now.doc c.in-Some.s ∙ ap (is_segment c.args.map.now.doc) c.in-Some.ensures.some

@@ -1,0 +1,15 @@
+use Rattle.std.proofs.Common.{◌≡◌, ◌≤◌, take}
+use Rattle.std.specs.List.{fold}
+use Rattle.ring_machine.specs.Planar.{Proper}
+use Rattle.ring_machine.specs.Thin.{thin_at}
+use Rattle.edit_vertex.proofs.Passing.{with_count}
+use Rattle.edit_vertex.proofs.thinning.thin.Given as goal
+
+-- the pass over the vertices so far, and no more left out than these
+abbrev pub invariant-loop-p : goal.invariant-loop-p
+invariant-loop-p g l = record {
+  so_far : fold (thin_at l.t) (with_count l.fn.map.doc 0) (take l.p-index l.ascending) ≡ with_count l.map.doc l.removed;
+  few : l.removed ≤ l.p-index;
+  proper : Proper l.map.doc;
+  next : l.map.next ≡ l.fn.map.next;
+}

@@ -1,0 +1,31 @@
+use Rattle.std.proofs.Common.{◌≡◌, sym, ap, ◌∙◌, subst, to_z, of_z, arith}
+use Rattle.std.specs.Int.{w128}
+use Rattle.std.proofs.lemmas.Int.{ints}
+use Rattle.ring_machine.specs.Planar.{Proper}
+use Rattle.ring_machine.proofs.Accepted.{removed}
+use Rattle.edit_vertex.proofs.Passing.{is_thin, thin_gone, thin_refused, thin_passed}
+use Rattle.edit_vertex.proofs.thinning.thin_at.Goals as goal
+
+pub returns-then-not-is_thin-clause-thinned : goal.returns-then-not-is_thin-clause-thinned
+returns-then-not-is_thin-clause-thinned g c = λ n.
+    let same : to_z w128 (of_z w128 c.args.t) ≡ c.args.t = omega (arith, ints) in
+    thin_passed c.args.t c.args.map.now.doc c.args.p n (ap (λ t. is_thin t c.args.map.now.doc c.args.p) (sym same) ∙ sym c.is_thin.ensures ∙ c.if-not-is_thin.true)
+
+pub returns-in-Ok-clause-thinned : goal.returns-in-Ok-clause-thinned
+returns-in-Ok-clause-thinned g c = λ n.
+    let same : to_z w128 (of_z w128 c.args.t) ≡ c.args.t = omega (arith, ints) in
+    thin_gone c.args.t c.args.map.now.doc c.args.p n (ap (λ t. is_thin t c.args.map.now.doc c.args.p) (sym same) ∙ sym c.is_thin.ensures ∙ c.if-not-is_thin.false) c.in-Ok.ensures.accepted c.remove_now.new.map.doc c.in-Ok.ensures.removed
+
+pub returns-in-Ok-clause-proper : goal.returns-in-Ok-clause-proper
+returns-in-Ok-clause-proper g c =
+    subst Proper (sym c.in-Ok.ensures.removed) (removed c.args.map.now.doc c.args.p c.requires c.in-Ok.ensures.accepted).0
+
+pub returns-in_default : goal.returns-in_default
+returns-in_default g c =
+    let same : to_z w128 (of_z w128 c.args.t) ≡ c.args.t = omega (arith, ints) in
+    record {
+      thinned = λ n. thin_refused c.args.t c.args.map.now.doc c.args.p n (ap (λ t. is_thin t c.args.map.now.doc c.args.p) (sym same) ∙ sym c.is_thin.ensures ∙ c.if-not-is_thin.false) c.in-Err.fault c.in-Err.ensures.refused c.in_default.not-OutOfMemory c.remove_now.new.map.doc c.in-Err.ensures.unchanged;
+      unchanged = tt;
+      proper = subst Proper (sym c.in-Err.ensures.unchanged) c.requires;
+      next = c.in-Err.ensures.next;
+    }

@@ -1,0 +1,53 @@
+ghost use Rattle.std.specs.Prelude.{◌≡◌, None, OnOk, OnErr, IfErr, IsTrue};
+ghost use Rattle.ring_machine.specs.Refusals.{first_of, move_refusals};
+ghost use Rattle.ring_machine.specs.Vertices.{put};
+ghost use Rattle.arc_store.specs.Faults.{Refuses};
+ghost use Rattle.edit_vertex.specs.Untested.{is_early};
+
+use arc_store::{EditFault, Map};
+use grid_geometry::Pos;
+use segment_index::SegIndex;
+use std::alloc::Allocator;
+
+/// Moves the vertex at p to q, in an edit that has begun.
+fn move_now<'a, I: SegIndex, A: Allocator + Copy>(
+    map: &mut Map<'a, I, A>,
+    p: Pos,
+    q: Pos,
+) -> Result<(), EditFault>
+    ensures accepted { OnOk result (first_of (move_refusals map.old.doc p q) ≡ None) }
+    ensures moved { OnOk result (map.new.doc ≡ put map.old.doc p q) }
+    ensures refused { IfErr result
+        (λ fault. Refuses fault (first_of (move_refusals map.old.doc p q))) }
+    ensures unchanged { OnErr result (map.new.doc ≡ map.old.doc) }
+    ensures untested { IfErr result
+        (λ fault. IsTrue (is_early fault) → map.new.tests ≡ map.old.tests) }
+    ensures next { map.new.next ≡ map.old.next }
+{
+    if !map.has_vertex(p) {
+        return Err(EditFault::NoVertex);
+    }
+    if map.has_vertex(q) {
+        return Err(EditFault::Occupied);
+    }
+    map.raw_move(p, q)
+}
+
+/// Moves the vertex at p to q, in every ring that has it. Refused by the first condition that
+/// fails, or for want of memory.
+pub fn move_vertex<'a, I: SegIndex, A: Allocator + Copy>(
+    map: &mut Map<'a, I, A>,
+    p: Pos,
+    q: Pos,
+) -> Result<(), EditFault>
+    ensures accepted { OnOk result (first_of (move_refusals map.old.doc p q) ≡ None) }
+    ensures moved { OnOk result (map.new.doc ≡ put map.old.doc p q) }
+    ensures refused { IfErr result
+        (λ fault. Refuses fault (first_of (move_refusals map.old.doc p q))) }
+    ensures unchanged { OnErr result (map.new.doc ≡ map.old.doc) }
+    ensures untested { IfErr result (λ fault. IsTrue (is_early fault) → map.new.tests ≡ 0) }
+    ensures next { map.new.next ≡ map.old.next }
+{
+    map.begin_edit();
+    move_now(map, p, q)
+}

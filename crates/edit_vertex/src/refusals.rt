@@ -1,0 +1,175 @@
+//! Edits in which each growth is refused in turn: nothing has changed then, and the edit has its
+//! usual answer when it is made again.
+use crate::tests::{Edit, answer, at, has_rings};
+use arc_store::{EditFault, Map};
+use grid_geometry::{Pos, Rect, Seg};
+use plain_rings::PlainMap;
+use refusing_allocator::Refusing;
+use segment_index::{GridIndex, SegIndex};
+use std::alloc::{Allocator, Global};
+use std::process::Abort;
+use std::test::Fail;
+use topo_reader::read;
+
+/// More than the growths of any run below.
+const MANY: u64 = 2000;
+
+// two neighbours, and one that shares a long border with both; a junction has three neighbours
+const THREE: &str =
+    "{\"type\":\"Topology\",\"objects\":{\"l\":{\"type\":\"GeometryCollection\",\"geometries\":[{\"type\":\"Polygon\",\"arcs\":[[0]]},{\"type\":\"Polygon\",\"arcs\":[[1]]},{\"type\":\"Polygon\",\"arcs\":[[2]]}]}},\"arcs\":[[[0,0],[10,0],[10,5],[10,10],[0,10],[0,0]],[[10,0],[20,0],[20,10],[10,10],[10,5],[10,0]],[[0,0],[0,-10],[20,-10],[20,0],[10,0],[0,0]]]}";
+
+/// How many rings have the segment from each position of a ring to the next, one after the other.
+fn uses_along<I: SegIndex, A: Allocator + Copy>(
+    alloc: Global,
+    map: &Map<'_, I, A>,
+    ring: &[Pos],
+) -> Result<Vec<usize>, Fail> {
+    let mut uses = Vec::new(alloc);
+    for at in 1..ring.len() {
+        if let Some(s) = Seg::new(ring[at - 1], ring[at]) {
+            uses.push(map.uses(s))?;
+        }
+    }
+    Ok(uses)
+}
+
+/// How many rings have each segment but the last of each ring.
+fn all_uses<I: SegIndex, A: Allocator + Copy>(
+    alloc: Global,
+    map: &Map<'_, I, A>,
+    plain: &PlainMap<'_>,
+) -> Result<Vec<Vec<usize>>, Fail> {
+    let mut uses = Vec::new(alloc);
+    for polygons in plain.polygons() {
+        for rings in polygons.as_slice() {
+            for ring in rings.as_slice() {
+                uses.push(uses_along(alloc, map, ring.as_slice())?)?;
+            }
+        }
+    }
+    Ok(uses)
+}
+
+/// The map of the text, in a heap that may refuse a growth; `None` where it did.
+fn refused_map<A: Allocator + Copy>(
+    heap: A,
+    alloc: Global,
+    text: &'static str,
+) -> Option<Map<'static, GridIndex<A>, A>> {
+    let raw = match read(heap, alloc, text.as_bytes()) {
+        Ok(raw) => raw,
+        Err(_) => return None,
+    };
+    let index = match GridIndex::new(heap, Rect::new(0, -10, 20, 10)) {
+        Ok(index) => index,
+        Err(_) => return None,
+    };
+    match Map::build(heap, raw, index) {
+        Ok(map) => Some(map),
+        Err(_) => None,
+    }
+}
+
+/// The plain map of the text.
+fn plain_map<R: Abort>(rt: &R, alloc: Global, text: &'static str) -> PlainMap<'static> {
+    match read(alloc, alloc, text.as_bytes()) {
+        Ok(raw) => match PlainMap::build(alloc, raw) {
+            Ok(plain) => plain,
+            Err(_) => panic!(rt; "no two segments conflict"),
+        },
+        Err(_) => panic!(rt; "the text opens"),
+    }
+}
+
+/// What an edit did whose growth of some number was refused.
+#[derive(Clone, Copy, Debug, PartialEq, Eq)]
+enum Outcome {
+    /// There was no map to edit.
+    NoMap,
+    /// The edit was refused for want of memory.
+    Refused,
+    /// No growth was refused.
+    Usual,
+}
+
+/// The edit, where the growth of this number is refused.
+fn refuse<R: Abort>(
+    rt: &R,
+    alloc: Global,
+    text: &'static str,
+    edit: Edit,
+    after: &PlainMap<'_>,
+    nth: u64,
+) -> Result<Outcome, Fail> {
+    let before = plain_map(rt, alloc, text);
+    let heap = Refusing::new(alloc, nth);
+    let Some(mut map) = refused_map(&heap, alloc, text) else {
+        return Ok(Outcome::NoMap);
+    };
+    if heap.was_refused() {
+        return Ok(Outcome::NoMap);
+    }
+    let uses = all_uses(alloc, &map, &before)?;
+    let segments = map.segment_count();
+    let positions = map.position_count();
+    let outcome = match answer(&mut map, edit) {
+        Ok(_) => Outcome::Usual,
+        Err(EditFault::OutOfMemory) => {
+            assert!(rt; heap.was_refused());
+            assert!(rt; has_rings(&map, before.polygons()), "{edit:?} without growth {nth}");
+            assert!(rt; all_uses(alloc, &map, &before)? == uses);
+            assert_eq!(rt; map.segment_count(), segments);
+            assert_eq!(rt; map.position_count(), positions);
+            assert_eq!(rt; map.next_number(), 3);
+            assert_eq!(rt; map.vertices()?.len(), map.vertex_count());
+            assert_eq!(rt; answer(&mut map, edit), Ok(0));
+            Outcome::Refused
+        }
+        Err(_) => panic!(rt; "no other refusal"),
+    };
+    assert!(rt; has_rings(&map, after.polygons()), "{edit:?} with growth {nth} refused once");
+    Ok(outcome)
+}
+
+/// The edit, with each growth refused in turn. Gives how many were.
+fn refuse_each<R: Abort>(
+    rt: &R,
+    alloc: Global,
+    edit: Edit,
+    after: &PlainMap<'_>,
+) -> Result<u64, Fail> {
+    let mut refused = 0u64;
+    for nth in 1..MANY {
+        match refuse(rt, alloc, THREE, edit, after, nth)? {
+            Outcome::NoMap => (),
+            Outcome::Refused => refused = refused.wrapping_add(1),
+            Outcome::Usual => return Ok(refused),
+        }
+    }
+    panic!(rt; "the edit ends");
+}
+
+#[test]
+fn a_refused_growth_changes_nothing(rt: HostRuntime) -> Result<(), Fail> {
+    let alloc = rt.alloc();
+    let (corner, middle) = (at(&rt, 10, 0), at(&rt, 10, 5));
+    let new = at(&rt, 12, 2);
+    for edit in [
+        Edit::Move(corner, new),
+        Edit::Insert(corner, middle, new),
+        Edit::Remove(middle),
+    ] {
+        let mut after = plain_map(&rt, alloc, THREE);
+        let answer = match edit {
+            Edit::Move(p, q) => after.move_vertex(p, q),
+            Edit::Insert(a, b, q) => after.insert_vertex(a, b, q),
+            Edit::Remove(p) => after.remove_vertex(p),
+            Edit::Thin(_) => Ok(()),
+        };
+        assert!(rt; answer.is_ok());
+        let refused = refuse_each(&rt, alloc, edit, &after)?;
+        println!(rt; "{edit:?}: {refused}")?;
+        assert!(rt; 3 < refused);
+    }
+    Ok(())
+}

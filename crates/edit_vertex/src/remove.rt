@@ -1,0 +1,74 @@
+ghost use Rattle.std.specs.Prelude.{◌≡◌, ◌≢◌, None, OnOk, OnErr, IfErr, IsTrue};
+ghost use Rattle.grid_geometry.specs.Segment.{segment};
+ghost use Rattle.ring_machine.specs.Parts.{is_segment};
+ghost use Rattle.ring_machine.specs.Planar.{Proper};
+ghost use Rattle.ring_machine.specs.Refusals.{first_of, remove_refusals};
+ghost use Rattle.ring_machine.specs.Vertices.{del};
+ghost use Rattle.arc_store.specs.Faults.{Refuses};
+ghost use Rattle.edit_vertex.specs.Untested.{is_early};
+
+use arc_store::{EditFault, Map, Spot};
+use grid_geometry::{Pos, Seg};
+use segment_index::SegIndex;
+use std::alloc::Allocator;
+
+/// The fewest positions of a ring (RFC 7946, 3.1.6, without the repeated last one).
+const FEWEST_POSITIONS: usize = 3;
+
+/// Whether the map has the segment of two positions.
+fn is_joined<'a, I: SegIndex, A: Allocator + Copy>(map: &Map<'a, I, A>, a: Pos, b: Pos) -> bool
+    requires apart { a ≢ b }
+    ensures { result ≡ is_segment map.now.doc (segment a b) }
+{
+    match Seg::new(a, b) {
+        Some(s) => 0 < map.uses(s),
+        None => false,
+    }
+}
+
+/// Leaves p out of every ring, in an edit that has begun.
+pub(crate) fn remove_now<'a, I: SegIndex, A: Allocator + Copy>(
+    map: &mut Map<'a, I, A>,
+    p: Pos,
+) -> Result<(), EditFault>
+    requires proper { Proper map.old.doc }
+    ensures accepted { OnOk result (first_of (remove_refusals map.old.doc p) ≡ None) }
+    ensures removed { OnOk result (map.new.doc ≡ del map.old.doc p) }
+    ensures refused { IfErr result
+        (λ fault. Refuses fault (first_of (remove_refusals map.old.doc p))) }
+    ensures unchanged { OnErr result (map.new.doc ≡ map.old.doc) }
+    ensures untested { IfErr result
+        (λ fault. IsTrue (is_early fault) → map.new.tests ≡ map.old.tests) }
+    ensures next { map.new.next ≡ map.old.next }
+{
+    match map.spot(p) {
+        Some(Spot::Between(a, b, shortest)) => {
+            if shortest <= FEWEST_POSITIONS {
+                return Err(EditFault::RingShort);
+            }
+            if is_joined(map, a, b) {
+                return Err(EditFault::SegmentExists);
+            }
+            map.raw_remove(p)
+        }
+        Some(Spot::Junction) => Err(EditFault::Junction),
+        None => Err(EditFault::NoVertex),
+    }
+}
+
+/// Leaves p out of every ring. Refused by the first condition that fails, or for want of memory.
+pub fn remove_vertex<'a, I: SegIndex, A: Allocator + Copy>(
+    map: &mut Map<'a, I, A>,
+    p: Pos,
+) -> Result<(), EditFault>
+    ensures accepted { OnOk result (first_of (remove_refusals map.old.doc p) ≡ None) }
+    ensures removed { OnOk result (map.new.doc ≡ del map.old.doc p) }
+    ensures refused { IfErr result
+        (λ fault. Refuses fault (first_of (remove_refusals map.old.doc p))) }
+    ensures unchanged { OnErr result (map.new.doc ≡ map.old.doc) }
+    ensures untested { IfErr result (λ fault. IsTrue (is_early fault) → map.new.tests ≡ 0) }
+    ensures next { map.new.next ≡ map.old.next }
+{
+    map.begin_edit();
+    remove_now(map, p)
+}

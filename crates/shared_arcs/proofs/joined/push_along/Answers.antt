@@ -1,0 +1,19 @@
+use Rattle.std.proofs.Common.{arith, ap, ◌∙◌, take}
+use Rattle.shared_arcs.specs.Ways.{links}
+use Rattle.shared_arcs.specs.Around.{other_end, other_ends}
+use Rattle.shared_arcs.specs.Listing.{gathered}
+use Rattle.shared_arcs.proofs.AroundLemmas.{ends_more}
+use Rattle.shared_arcs.proofs.Gathering.{gathered-append}
+use Rattle.shared_arcs.proofs.joined.push_along.Goals as goal
+
+pub loop-at-preserved : goal.loop-at-preserved
+loop-at-preserved g c =
+    let k = c.args.k in
+    let path = c.args.path.now in
+    let old = c.args.out.now.items in
+    let edge = other_end k (c.index-path-at.result, c.index-path-at-in-loop-at.result) in
+    let before = other_ends k (links (take c.loop-at.at path)) in
+    c.in_ok-push_edge.ensures
+    ∙ ap (λ z. gathered c.args.from z edge) c.loop-at.invariant
+    ∙ gathered-append c.args.from old before edge c.requires
+    ∙ ap (gathered c.args.from old) (ends_more k path c.loop-at.at _ _ (omega arith) (omega arith) c.index-path-at.is c.index-path-at-in-loop-at.is)

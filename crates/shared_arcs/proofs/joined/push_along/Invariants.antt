@@ -1,0 +1,8 @@
+use Rattle.std.proofs.Common.{◌≡◌, take}
+use Rattle.shared_arcs.specs.Ways.{links}
+use Rattle.shared_arcs.specs.Around.{other_ends}
+use Rattle.shared_arcs.specs.Listing.{gathered}
+use Rattle.shared_arcs.proofs.joined.push_along.Given as goal
+
+abbrev pub invariant-loop-at : goal.invariant-loop-at
+invariant-loop-at g l = l.out.items ≡ gathered l.from l.initial.out.items (other_ends l.k (links (take l.at l.path)))
