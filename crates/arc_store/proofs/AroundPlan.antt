@@ -5,7 +5,7 @@ use Rattle.std.specs.FinMap as table
 use Rattle.grid_geometry.specs.Position.{Position}
 use Rattle.vertex_index.specs.Placement.{Placement}
 use Rattle.shared_arcs.specs.Rings.{Rings}
-use Rattle.shared_arcs.specs.JoinedLists.{ListsJoined}
+use Rattle.shared_arcs.specs.Listing.{ListsJoined}
 use Rattle.arc_store.specs.Stored.{place}
 use Rattle.arc_store.specs.Planned.{ArePlaced, AreAround}
 use Rattle.arc_store.proofs.Planned.{all_different}

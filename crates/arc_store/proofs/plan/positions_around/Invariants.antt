@@ -4,4 +4,4 @@ use Rattle.arc_store.proofs.plan.positions_around.Given as goal
 
 -- the positions so far
 abbrev pub invariant-loop-x : goal.invariant-loop-x
-invariant-loop-x g l = l.around.items ≡ map (place l.vertices) (take l.x-index l.keys.items)
+invariant-loop-x g l = l.around.items ≡ map (place l.vertices) (take l.x-index l.x-items)
