@@ -31,7 +31,8 @@ use Rattle.segment_index.proofs.Singles.{same_segment}
 use Rattle.shared_arcs.specs.Rings.{Rings}
 use Rattle.shared_arcs.specs.Joined.{Joined}
 use Rattle.local_planarity.specs.declared.leaving.Leaving.TheVariants.{EndingAt}
-use Rattle.local_planarity.specs.Edits.{IsAfter, IsEnds, IsHeld}
+use Rattle.local_planarity.specs.Edits.{AreApart, IsAfter, IsEnds, IsHeld}
+use Rattle.local_planarity.proofs.Least.{apart_if_none}
 use Rattle.arc_store.specs.declared.fault.EditFault.{EditFault}
 use Rattle.arc_store.specs.declared.fault.EditFault.TheVariants as edit
 use Rattle.arc_store.specs.declared.frame.Frame.{Frame}
@@ -228,3 +229,36 @@ pub way_found : (d : Document) (held : SegmentSet) → IsIndexed d held → (p q
     → found ≡ (list_any (edge_sweeps d p q) around || crosses_on_way d p q)
 way_found d held i p q around found h none =
     h (all_segments d) (indexed_has d held i) ∙ ap (λ b. b || crosses_on_way d p q) (sym none)
+
+-- ---- the tests of a move, as the code makes them
+
+-- no two held segments conflict
+pub held_apart : (s : Stored) (held : SegmentSet) → Holds s held → AreApart held
+unfolding first_pair
+held_apart s held h =
+    apart_if_none held (all_segments (document_of s)) (indexed_has (document_of s) held h.indexed) h.proper.apart
+
+module _ (s : Stored) (held : SegmentSet) (h : Holds s held) (d : Document) (is : document_of s ≡ d) (k : ℕ) (p q : Position) (at : table.get s.places k ≡ Some p) (vertex : is_vertex d p ≡ true) (free : is_vertex d q ≡ false) (around : List Position) (r : AreAround s.places s.rings k around) (after : List Segment) (comes : after ≡ spokes q around) where
+  was_free : is_vertex (document_of s) q ≡ false
+  was_free = ap (λ z. is_vertex z q) is ∙ free
+
+  passed : IsAfter held (EndingAt p) after (all_segments (put d p q))
+  passed =
+      subst (λ z. IsAfter held (EndingAt p) z (all_segments (put d p q))) (sym comes)
+      (subst (λ z. IsAfter held (EndingAt p) (spokes q around) (all_segments (put z p q))) is (plan_after s held h k p q at was_free around r))
+
+  -- the fault of the first pair in conflict
+  pub move_conflicts : (fault : EditFault)
+      → ((ss : List Segment) → IsAfter held (EndingAt p) after ss → Refuses fault (conflict_of (least_conflict ss)))
+      → Refuses fault (first_of (move_refusals d p q))
+  move_conflicts fault f = move_refuses d p q vertex free fault (f (all_segments (put d p q)) passed)
+
+  -- where no two are in conflict, what was found to be swept over decides
+  pub move_decided : (found : Bool)
+      → ((ss : List Segment) → IsAfter held (EndingAt p) after ss → least_conflict ss ≡ None)
+      → ((e : Document) → IsIndexed e held → found ≡ (list_any (edge_sweeps e p q) around || crosses_on_way e p q))
+      → first_of (move_refusals d p q) ≡ first_of ((Sweeps unless not found) ∷ [])
+  move_decided found f g =
+      move_first d p q vertex free
+      ∙ ap₂ (λ o b. first_of (conflict_of o ∷ (Sweeps unless not b) ∷ [])) (f (all_segments (put d p q)) passed)
+      (sym (g (document_of s) h.indexed ∙ plan_sweeps s held h k p q at was_free around r ∙ ap (λ z. move_sweeps z p q) is))
