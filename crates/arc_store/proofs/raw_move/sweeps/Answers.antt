@@ -1,13 +1,10 @@
-use Rattle.std.proofs.Common.{◌∙◌, ◌≡◌, ap, sym, false, Ok, Err, Result, IfOk}
+use Rattle.std.proofs.Common.{◌∙◌, ap, sym}
 use Rattle.std.specs.List.{list_any}
 use Rattle.std.proofs.lemmas.List.{take_all}
+use Rattle.std.proofs.lemmas.Result.{IfOk-weaker}
 use Rattle.ring_machine.specs.Sweep.{edge_sweeps}
 use Rattle.arc_store.proofs.MovePlan.{edge_found, edges_more, edge_some, way_found}
 use Rattle.arc_store.proofs.raw_move.sweeps.Goals as goal
-
-if_ok : {X Y : Type 0} (P Q : X → Type 0) → ((x : X) → P x → Q x) → (r : Result X Y) → IfOk r P → IfOk r Q
-if_ok P Q f (Ok x) h = f x h
-if_ok P Q f (Err e) h = h
 
 pub loop-a-preserved : goal.loop-a-preserved
 loop-a-preserved g c = λ d i.
@@ -22,6 +19,6 @@ returns-then-branch-clause-sweeps g c = λ d i.
 -- no edge sweeps over a position, so the way decides
 pub returns-clause-sweeps : goal.returns-clause-sweeps
 returns-clause-sweeps g c =
-    if_ok _ _ (λ found h d i. way_found d (g.I.SegIndex.held c.args.index.now) i c.args.p c.args.q c.args.around.now found h
+    IfOk-weaker c.crosses_on_way.result _ _ (λ found h d i. way_found d (g.I.SegIndex.held c.args.index.now) i c.args.p c.args.q c.args.around.now found h
     (sym (ap (list_any (edge_sweeps d c.args.p c.args.q)) (take_all c.loop-a.a-index c.args.around.now c.loop-a-test.false)) ∙ c.loop-a.invariant d i))
-    c.crosses_on_way.result c.crosses_on_way.ensures.crosses
+    c.crosses_on_way.ensures.crosses

@@ -1,12 +1,16 @@
-use Rattle.std.proofs.Common.{◌∙◌, sym, ap, subst, None, false, ◌≡◌}
+use Rattle.std.proofs.Common.{◌∙◌, sym, ap, subst, [], ◌∷◌}
+use Rattle.std.specs.Prelude.{not}
+use Rattle.std.proofs.lemmas.Result.{err_from_is_err_and, on_ok_weaker}
 use Rattle.ring_machine.specs.Parts.{is_vertex}
 use Rattle.ring_machine.specs.Ring.{has}
+use Rattle.ring_machine.specs.Command.{Sweeps}
+use Rattle.ring_machine.specs.Refusals.{first_of, ◌unless◌}
 use Rattle.segment_index.specs.Candidates.{AreAmong, AreSingle}
 use Rattle.arc_store.specs.Kept.{stored}
-use Rattle.arc_store.specs.Planned.{AreNew}
+use Rattle.arc_store.specs.Planned.{AreNew, spokes}
 use Rattle.arc_store.proofs.Base.{vertex_key}
 use Rattle.arc_store.proofs.MovePlan.{all_placed, off_before, off_after, held_apart, move_conflicts, move_decided}
-use Rattle.arc_store.proofs.MovePlan.{plan_new, plan_single, plan_held, plan_once, kept_moved}
+use Rattle.arc_store.proofs.MovePlan.{plan_new, plan_single, plan_held, plan_once, document_after, kept_after}
 use Rattle.arc_store.proofs.map.Map.raw_move.Goals as goal
 
 pub returns-in_default-clause-refused : goal.returns-in_default-clause-refused
@@ -35,31 +39,65 @@ test_planar-requires g c =
     held_apart (stored c.self.inside.frame c.self.inside.borders c.self.inside.vertices) (g.I.SegIndex.held c.self.inside.index) c.self.invariant.holds
 
 pub returns-in_err-test_planar-clause-refused : goal.returns-in_err-test_planar-clause-refused
-returns-in_err-test_planar-clause-refused g c = ?
+returns-in_err-test_planar-clause-refused g c =
+    let e = err_from_is_err_and c.from_residual-in_err-test_planar.result c.from_residual-in_err-test_planar.ensures.1 in
+    rw (e.1, e.2)
+    (move_conflicts (stored c.self.inside.frame c.self.inside.borders c.self.inside.vertices) (g.I.SegIndex.held c.self.inside.index) c.self.invariant.holds c.args.self.now.doc (ap (λ z. z.doc) c.self.view_is) c.in-Some.k c.args.p c.args.q c.in-Some.ensures.found c.requires.vertex c.requires.free c.in_ok-around.around.items c.in_ok-around.ensures c.as_slice-3.result.now
+    (c.as_slice-3.ensures.value ∙ c.in_ok-after.ensures ∙ ap (spokes c.args.q) c.as_slice-2.ensures.value)
+    c.in_err-test_planar.field-0.0 c.in_err-test_planar.ensures.refused)
 
 pub returns-then-branch-clause-refused : goal.returns-then-branch-clause-refused
-returns-then-branch-clause-refused g c = ?
+returns-then-branch-clause-refused g c =
+    move_decided (stored c.self.inside.frame c.self.inside.borders c.self.inside.vertices) (g.I.SegIndex.held c.self.inside.index) c.self.invariant.holds c.args.self.now.doc (ap (λ z. z.doc) c.self.view_is) c.in-Some.k c.args.p c.args.q c.in-Some.ensures.found c.requires.vertex c.requires.free c.in_ok-around.around.items c.in_ok-around.ensures c.as_slice-3.result.now
+    (c.as_slice-3.ensures.value ∙ c.in_ok-after.ensures ∙ ap (spokes c.args.q) c.as_slice-2.ensures.value)
+    c.as_slice-4.result.now c.as_slice-4.ensures.value c.in_ok-sweeps.field-0 c.in_ok-test_planar.ensures.apart c.in_ok-sweeps.ensures.sweeps
+    ∙ ap (λ z. first_of ((Sweeps unless not z) ∷ [])) c.if-branch.true
 
 pub shift-requires-clause-new : goal.shift-requires-clause-new
-shift-requires-clause-new g c = 
+shift-requires-clause-new g c =
     let s = stored c.self.inside.frame c.self.inside.borders c.self.inside.vertices in
-    subst (AreNew (g.I.SegIndex.held c.self.inside.index)) (sym (c.as_slice-after.ensures.value ∙ ?))
+    subst (AreNew (g.I.SegIndex.held c.self.inside.index)) (sym (c.as_slice-after.ensures.value ∙ c.in_ok-after.ensures ∙ ap (spokes c.args.q) c.as_slice-2.ensures.value))
     (plan_new s (g.I.SegIndex.held c.self.inside.index) c.self.invariant.holds c.in-Some.k c.args.p c.args.q c.in-Some.ensures.found (ap (λ z. is_vertex z.doc c.args.q) c.self.view_is ∙ c.requires.free) c.in_ok-around.around.items c.in_ok-around.ensures)
 
 pub shift-requires-clause-after_once : goal.shift-requires-clause-after_once
-shift-requires-clause-after_once g c = ?
+shift-requires-clause-after_once g c =
+    let s = stored c.self.inside.frame c.self.inside.borders c.self.inside.vertices in
+    subst AreSingle (sym (c.as_slice-after.ensures.value ∙ c.in_ok-after.ensures ∙ ap (spokes c.args.q) c.as_slice-2.ensures.value))
+    (plan_single s (g.I.SegIndex.held c.self.inside.index) c.self.invariant.holds c.in-Some.k c.args.p c.args.q c.in-Some.ensures.found (ap (λ z. is_vertex z.doc c.args.q) c.self.view_is ∙ c.requires.free) c.in_ok-around.around.items c.in_ok-around.ensures)
 
 pub shift-requires-clause-held : goal.shift-requires-clause-held
-shift-requires-clause-held g c = ?
+shift-requires-clause-held g c =
+    let s = stored c.self.inside.frame c.self.inside.borders c.self.inside.vertices in
+    subst (AreAmong (g.I.SegIndex.held c.self.inside.index)) (sym (c.as_slice-before.ensures.value ∙ c.in_ok-before.ensures ∙ ap (spokes c.args.p) c.as_slice.ensures.value))
+    (plan_held s (g.I.SegIndex.held c.self.inside.index) c.self.invariant.holds c.in-Some.k c.args.p c.args.q c.in-Some.ensures.found (ap (λ z. is_vertex z.doc c.args.q) c.self.view_is ∙ c.requires.free) c.in_ok-around.around.items c.in_ok-around.ensures)
 
 pub shift-requires-clause-before_once : goal.shift-requires-clause-before_once
-shift-requires-clause-before_once g c = ?
+shift-requires-clause-before_once g c =
+    let s = stored c.self.inside.frame c.self.inside.borders c.self.inside.vertices in
+    subst AreSingle (sym (c.as_slice-before.ensures.value ∙ c.in_ok-before.ensures ∙ ap (spokes c.args.p) c.as_slice.ensures.value))
+    (plan_once s (g.I.SegIndex.held c.self.inside.index) c.self.invariant.holds c.in-Some.k c.args.p c.args.q c.in-Some.ensures.found (ap (λ z. is_vertex z.doc c.args.q) c.self.view_is ∙ c.requires.free) c.in_ok-around.around.items c.in_ok-around.ensures)
 
 pub invariant_of-self-2 : goal.invariant_of-self-2
-invariant_of-self-2 g c = ?
+invariant_of-self-2 g c =
+    kept_after c.shift.result c.self.inside.frame c.self.inside.borders c.self.inside.vertices c.shift.new.vertices (g.I.SegIndex.held c.self.inside.index) (g.I.SegIndex.held c.shift.new.index) c.self.inside.next c.self.inside.positions c.self.inside.segments c.self.invariant c.args.self.now.doc (ap (λ z. z.doc) c.self.view_is) c.in-Some.k c.args.p c.args.q c.in-Some.ensures.found c.requires.free
+    (move_decided (stored c.self.inside.frame c.self.inside.borders c.self.inside.vertices) (g.I.SegIndex.held c.self.inside.index) c.self.invariant.holds c.args.self.now.doc (ap (λ z. z.doc) c.self.view_is) c.in-Some.k c.args.p c.args.q c.in-Some.ensures.found c.requires.vertex c.requires.free c.in_ok-around.around.items c.in_ok-around.ensures c.as_slice-3.result.now
+    (c.as_slice-3.ensures.value ∙ c.in_ok-after.ensures ∙ ap (spokes c.args.q) c.as_slice-2.ensures.value)
+    c.as_slice-4.result.now c.as_slice-4.ensures.value c.in_ok-sweeps.field-0 c.in_ok-test_planar.ensures.apart c.in_ok-sweeps.ensures.sweeps
+    ∙ ap (λ z. first_of ((Sweeps unless not z) ∷ [])) c.if-branch.false)
+    c.in_ok-around.around.items c.in_ok-around.ensures c.as_slice-after.result.now c.as_slice-before.result.now
+    (c.as_slice-after.ensures.value ∙ c.in_ok-after.ensures ∙ ap (spokes c.args.q) c.as_slice-2.ensures.value)
+    (c.as_slice-before.ensures.value ∙ c.in_ok-before.ensures ∙ ap (spokes c.args.p) c.as_slice.ensures.value)
+    c.shift.ensures.moved c.shift.ensures.exchanged c.shift.ensures.vertices c.shift.ensures.index
 
 pub returns-clause-accepted : goal.returns-clause-accepted
-returns-clause-accepted g c = ?
+returns-clause-accepted g c =
+    on_ok_weaker c.shift.result (λ m.
+    move_decided (stored c.self.inside.frame c.self.inside.borders c.self.inside.vertices) (g.I.SegIndex.held c.self.inside.index) c.self.invariant.holds c.args.self.now.doc (ap (λ z. z.doc) c.self.view_is) c.in-Some.k c.args.p c.args.q c.in-Some.ensures.found c.requires.vertex c.requires.free c.in_ok-around.around.items c.in_ok-around.ensures c.as_slice-3.result.now
+    (c.as_slice-3.ensures.value ∙ c.in_ok-after.ensures ∙ ap (spokes c.args.q) c.as_slice-2.ensures.value)
+    c.as_slice-4.result.now c.as_slice-4.ensures.value c.in_ok-sweeps.field-0 c.in_ok-test_planar.ensures.apart c.in_ok-sweeps.ensures.sweeps
+    ∙ ap (λ z. first_of ((Sweeps unless not z) ∷ [])) c.if-branch.false)
+    c.shift.ensures.moved
 
 pub returns-clause-moved : goal.returns-clause-moved
-returns-clause-moved g c = ?
+returns-clause-moved g c =
+    document_after c.shift.result c.self.inside.frame c.self.inside.borders c.self.inside.vertices c.shift.new.vertices c.self.invariant.holds.whole c.args.self.now.doc (ap (λ z. z.doc) c.self.view_is) c.in-Some.k c.args.p c.args.q c.in-Some.ensures.found c.requires.free c.shift.ensures.moved
