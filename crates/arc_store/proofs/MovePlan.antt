@@ -6,7 +6,6 @@ use Rattle.std.specs.Prelude.{not}
 use Rattle.std.specs.List.{list_any}
 use Rattle.std.specs.FinMap as table
 use Rattle.std.specs.FinSet as set
-use Rattle.std.proofs.lemmas.Bool.{false≢true}
 use Rattle.std.proofs.lemmas.List.{length-map}
 use Rattle.std.proofs.lemmas.List.Folds.{list_any_more}
 use Rattle.std.proofs.lemmas.Result.{on_ok_weaker}
@@ -49,7 +48,7 @@ use Rattle.arc_store.proofs.Base.{sweeps_by_joined}
 use Rattle.arc_store.proofs.Indexed.{has-eq, indexed_ends, indexed_only, indexed_has}
 use Rattle.arc_store.proofs.Planned.{any_at}
 use Rattle.arc_store.proofs.Insertions.{any_mapped}
-use Rattle.arc_store.proofs.Moved.{moved_to, segments_to_single, not_there, added_new, added_single}
+use Rattle.arc_store.proofs.Moved.{segments_to_single, not_there, added_new, added_single}
 use Rattle.arc_store.proofs.Moved.{indexed_moved, reindexed, holds_moved, size_moved, document_moved}
 use Rattle.arc_store.proofs.SegmentCounts.{as_many}
 
@@ -101,13 +100,13 @@ module _ (s : Stored) (held : SegmentSet) (h : Holds s held) (k : ℕ) (p q : Po
       (segments_to_single s.places p h.whole.distinct r.keys (λ x i. (joined_kept s h.whole k x ((r.joined x).0 (in_contains r.keys x i))).1) r.once)
 
   -- the segments of the moved document are there after the edit
-  pub plan_after : IsAfter held (EndingAt p) (spokes q around) (all_segments (put (document_of s) p q))
+  plan_after : IsAfter held (EndingAt p) (spokes q around) (all_segments (put (document_of s) p q))
   plan_after t =
       indexed_moved s h.whole k p q at free r.keys r.joined held h.indexed t
       ∙ ap (λ z. (set.contains held t && not (is_end p t)) || has_segment z t) (sym (spokes_are q))
 
   -- what the positions around p say of the sweep
-  pub plan_sweeps :
+  plan_sweeps :
       (list_any (edge_sweeps (document_of s) p q) around || crosses_on_way (document_of s) p q)
       ≡ move_sweeps (document_of s) p q
   plan_sweeps =
@@ -116,14 +115,14 @@ module _ (s : Stored) (held : SegmentSet) (h : Holds s held) (k : ℕ) (p q : Po
       ∙ sym (sweeps_by_joined s h.whole k p at r.keys r.joined q)
 
   -- the index holds the segments of the moved document
-  pub plan_indexed : (held' : SegmentSet) → Exchanges held (spokes q around) (spokes p around) held'
+  plan_indexed : (held' : SegmentSet) → Exchanges held (spokes q around) (spokes p around) held'
       → IsIndexed (put (document_of s) p q) held'
   plan_indexed held' e =
       reindexed s h.whole k p q at free r.keys r.joined held held' h.indexed (λ t.
       e t ∙ ap₂ (λ y z. (set.contains held t || has_segment y t) && not (has_segment z t)) (spokes_are q) (spokes_are p))
 
   -- there are as many segments
-  pub plan_count : (held' : SegmentSet) → Exchanges held (spokes q around) (spokes p around) held'
+  plan_count : (held' : SegmentSet) → Exchanges held (spokes q around) (spokes p around) held'
       → length (distinct_segments (put (document_of s) p q)) ≡ length (distinct_segments (document_of s))
   plan_count held' e =
       omega (
@@ -136,7 +135,7 @@ module _ (s : Stored) (held : SegmentSet) (h : Holds s held) (k : ℕ) (p q : Po
 -- ---- the map
 
 -- an accepted move keeps what is true of the tables
-pub kept_moved : {A : Type 0} (frame : Frame A) (rings : Rings) (places : Placement) (held held' : SegmentSet)
+kept_moved : {A : Type 0} (frame : Frame A) (rings : Rings) (places : Placement) (held held' : SegmentSet)
     (number size_kept single : ℕ) → IsKept frame rings places held number size_kept single
     → (k : ℕ) (p q : Position) → table.get places k ≡ Some p
     → is_vertex (document_of (stored frame rings places)) q ≡ false
@@ -165,18 +164,6 @@ unfolding move_refusals first_pair
 move_first d p q v f =
     ap₂ (λ a b. first_of ((NoVertex unless a) ∷ (Occupied unless not b) ∷ conflict_of (least_conflict (all_segments (put d p q))) ∷ (Sweeps unless not (move_sweeps d p q)) ∷ [])) v f
 
-pub move_accepts : (d : Document) (p q : Position) → is_vertex d p ≡ true → is_vertex d q ≡ false
-    → least_conflict (all_segments (put d p q)) ≡ None → move_sweeps d p q ≡ false
-    → first_of (move_refusals d p q) ≡ None
-move_accepts d p q v f e w =
-    move_first d p q v f ∙ ap₂ (λ o b. first_of (conflict_of o ∷ (Sweeps unless not b) ∷ [])) e w
-
-pub move_refuses_sweep : (d : Document) (p q : Position) → is_vertex d p ≡ true
-    → is_vertex d q ≡ false → least_conflict (all_segments (put d p q)) ≡ None
-    → move_sweeps d p q ≡ true → first_of (move_refusals d p q) ≡ Some Sweeps
-move_refuses_sweep d p q v f e w =
-    move_first d p q v f ∙ ap₂ (λ o b. first_of (conflict_of o ∷ (Sweeps unless not b) ∷ [])) e w
-
 -- a fault that names the first of two refusals, or says nothing, fits both
 pub refuses_first : (fault : EditFault) (o : Option Refusal) (os : List (Option Refusal))
     → Refuses fault o → Refuses fault (first_of (o ∷ os))
@@ -193,7 +180,7 @@ refuses_first (edit.Conflict s t) None os h = absurd cc
 refuses_first edit.Sweeps None os h = absurd cc
 refuses_first edit.OutOfMemory None os h = tt
 
-pub move_refuses : (d : Document) (p q : Position) → is_vertex d p ≡ true → is_vertex d q ≡ false
+move_refuses : (d : Document) (p q : Position) → is_vertex d p ≡ true → is_vertex d q ≡ false
     → (fault : EditFault) → Refuses fault (conflict_of (least_conflict (all_segments (put d p q))))
     → Refuses fault (first_of (move_refusals d p q))
 move_refuses d p q v f fault h =
@@ -264,7 +251,7 @@ module _ (s : Stored) (held : SegmentSet) (h : Holds s held) (d : Document) (is 
       move_first d p q vertex free
       ∙ ap₂ (λ o b. first_of (conflict_of o ∷ (Sweeps unless not b) ∷ [])) (f (all_segments (put d p q)) passed)
       (sym (g (document_of s) h.indexed ∙ ap (λ z. list_any (edge_sweeps (document_of s) p q) z || crosses_on_way (document_of s) p q) all
-          ∙ plan_sweeps s held h k p q at was_free around r ∙ ap (λ z. move_sweeps z p q) is))
+      ∙ plan_sweeps s held h k p q at was_free around r ∙ ap (λ z. move_sweeps z p q) is))
 
 -- ---- the map after the last call of a move
 

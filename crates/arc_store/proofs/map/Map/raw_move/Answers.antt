@@ -1,4 +1,4 @@
-use Rattle.std.proofs.Common.{◌∙◌, sym, ap, subst, [], ◌∷◌}
+use Rattle.std.proofs.Common.{◌≡◌, ◌∙◌, sym, ap, subst, [], ◌∷◌}
 use Rattle.std.specs.Prelude.{not}
 use Rattle.std.proofs.lemmas.Result.{err_from_is_err_and, on_ok_weaker}
 use Rattle.ring_machine.specs.Parts.{is_vertex}
@@ -40,11 +40,11 @@ test_planar-requires g c =
 
 pub returns-in_err-test_planar-clause-refused : goal.returns-in_err-test_planar-clause-refused
 returns-in_err-test_planar-clause-refused g c =
+    let comes : c.as_slice-3.result.now ≡ spokes c.args.q c.in_ok-around.around.items = c.as_slice-3.ensures.value ∙ c.in_ok-after.ensures ∙ ap (spokes c.args.q) c.as_slice-2.ensures.value in
     let e = err_from_is_err_and c.from_residual-in_err-test_planar.result c.from_residual-in_err-test_planar.ensures.1 in
     rw (e.1, e.2)
     (move_conflicts (stored c.self.inside.frame c.self.inside.borders c.self.inside.vertices) (g.I.SegIndex.held c.self.inside.index) c.self.invariant.holds c.args.self.now.doc (ap (λ z. z.doc) c.self.view_is) c.in-Some.k c.args.p c.args.q c.in-Some.ensures.found c.requires.vertex c.requires.free c.in_ok-around.around.items c.in_ok-around.ensures c.as_slice-3.result.now
-    (c.as_slice-3.ensures.value ∙ c.in_ok-after.ensures ∙ ap (spokes c.args.q) c.as_slice-2.ensures.value)
-    c.in_err-test_planar.field-0.0 c.in_err-test_planar.ensures.refused)
+    comes c.in_err-test_planar.field-0.0 c.in_err-test_planar.ensures.refused)
 
 pub returns-then-branch-clause-refused : goal.returns-then-branch-clause-refused
 returns-then-branch-clause-refused g c =
