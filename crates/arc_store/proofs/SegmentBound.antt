@@ -1,5 +1,5 @@
 -- A document has no more segments, each counted once, than its rings have positions.
-use Rattle.std.proofs.Common.{◌≡◌, ◌≤◌, ◌+◌, ℕ, Bool, true, false, cond, List, [], ◌∷◌, ◌++◌, length}
+use Rattle.std.proofs.Common.{◌≡◌, ◌≤◌, ◌+◌, Bool, true, false, cond, List, [], ◌∷◌, ◌++◌, length}
 use Rattle.std.proofs.Common.{arith}
 use Rattle.std.specs.List.{list_any, fold, flat_map, sum_by}
 use Rattle.std.proofs.lemmas.List.{length-append, length-map}

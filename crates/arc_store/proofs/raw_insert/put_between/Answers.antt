@@ -1,4 +1,4 @@
-use Rattle.std.proofs.Common.{◌≡◌, ◌∙◌, ap, sym}
+use Rattle.std.proofs.Common.{◌∙◌, ap}
 use Rattle.std.specs.FinMap as table
 use Rattle.arc_store.proofs.Tables.{place_back}
 use Rattle.arc_store.proofs.raw_insert.put_between.Goals as goal

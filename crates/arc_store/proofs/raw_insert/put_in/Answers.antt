@@ -1,7 +1,5 @@
 use Rattle.arc_store.proofs.Planned.{came_and_went}
 use Rattle.arc_store.proofs.Tables.{one_went}
-use Rattle.arc_store.proofs.SegmentBound.{segments_bound}
-use Rattle.arc_store.proofs.InsertPlan.{kept_inserted}
 use Rattle.arc_store.proofs.raw_insert.put_in.Goals as goal
 
 pub returns-in-Ok-clause-exchanged : goal.returns-in-Ok-clause-exchanged

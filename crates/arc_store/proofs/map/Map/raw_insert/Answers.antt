@@ -1,9 +1,8 @@
-use Rattle.std.proofs.Common.{◌≡◌, ◌+◌, sym, subst, ap, ◌∙◌, arith, [], ◌∷◌}
-use Rattle.grid_geometry.specs.Segment.{segment}
+use Rattle.std.proofs.Common.{sym, subst, ap, ◌∙◌, arith}
 use Rattle.ring_machine.specs.Vertices.{ins}
 use Rattle.segment_index.specs.Candidates.{AreSingle}
-use Rattle.arc_store.specs.Kept.{IsKept, stored}
-use Rattle.arc_store.specs.Planned.{AreNew, Exchanges}
+use Rattle.arc_store.specs.Kept.{stored}
+use Rattle.arc_store.specs.Planned.{AreNew}
 use Rattle.arc_store.specs.Stored.{document_of}
 use Rattle.arc_store.proofs.Indexed.{indexed_apart}
 use Rattle.arc_store.proofs.InsertPlan.{first_key, second_key, insert_off, insert_new, insert_single}
@@ -61,9 +60,8 @@ overflow_add-self g c =
     let accepted = c.in_ok-test_insert.ensures.accepted (document_of s) (insertable s held c.self.invariant.holds c.args.a c.args.b c.args.q border free small) in
     omega (
       arith,
-      c.uses-rings.ensures,
       small,
-      size_grows m.frame m.borders c.put_in.new.borders m.vertices c.put_in.new.vertices held (g.I.SegIndex.held c.put_in.new.index) m.next m.positions m.segments c.self.invariant c.in-Some.i c.in-Some-key_of.j c.args.a c.args.b c.args.q c.in-Some.ensures.found c.in-Some-key_of.ensures.found border free accepted c.in_ok-put_in.ensures.put,
+      size_grows m.frame m.borders c.put_in.new.borders m.vertices c.put_in.new.vertices held (g.I.SegIndex.held c.put_in.new.index) m.next m.positions m.segments c.self.invariant c.in-Some.i c.in-Some-key_of.j c.args.a c.args.b c.args.q c.in-Some.ensures.found c.in-Some-key_of.ensures.found border free accepted c.in_ok-put_in.ensures.put c.uses-rings.result c.uses-rings.ensures,
     )
 
 pub overflow_add-self-2 : goal.overflow_add-self-2
@@ -76,15 +74,12 @@ invariant_of-self-2 g c =
     let m = c.self.inside in
     let s = stored m.frame m.borders m.vertices in
     let held = g.I.SegIndex.held m.index in
-    let held' = g.I.SegIndex.held c.put_in.new.index in
     let border = rw (← c.self.view_is) at c.requires.segment in
     let free = rw (← c.self.view_is) at c.requires.free in
     let small = rw (← c.self.view_is) at c.requires.small in
     let accepted = c.in_ok-test_insert.ensures.accepted (document_of s) (insertable s held c.self.invariant.holds c.args.a c.args.b c.args.q border free small) in
-    subst (λ n. IsKept m.frame c.put_in.new.borders c.put_in.new.vertices held' m.next (m.positions + n) (m.segments + 1)) (sym c.uses-rings.ensures)
-    (kept_inserted m.frame m.borders c.put_in.new.borders m.vertices c.put_in.new.vertices held held' m.next m.positions m.segments c.self.invariant c.in-Some.i c.in-Some-key_of.j c.args.a c.args.b c.args.q c.in-Some.ensures.found c.in-Some-key_of.ensures.found border free accepted c.in_ok-put_in.ensures.put
-    (subst (λ z. Exchanges held z (segment c.args.a c.args.b ∷ []) held') (c.as_slice-after.ensures.value ∙ c.in_ok-after.ensures)
-    (subst (λ z. Exchanges held c.as_slice-after.result.now (z ∷ []) held') c.in-Some-new.ensures.some c.in_ok-put_in.ensures.exchanged)))
+    kept_inserted m.frame m.borders c.put_in.new.borders m.vertices c.put_in.new.vertices held (g.I.SegIndex.held c.put_in.new.index) m.next m.positions m.segments c.self.invariant c.in-Some.i c.in-Some-key_of.j c.args.a c.args.b c.args.q c.in-Some.ensures.found c.in-Some-key_of.ensures.found border free accepted c.in_ok-put_in.ensures.put c.uses-rings.result c.uses-rings.ensures
+    c.in-Some-new.before c.as_slice-after.result.now c.in-Some-new.ensures.some (c.as_slice-after.ensures.value ∙ c.in_ok-after.ensures) c.in_ok-put_in.ensures.exchanged
 
 pub returns-clause-inserted : goal.returns-clause-inserted
 returns-clause-inserted g c =
