@@ -21,6 +21,7 @@ pub mod Tables
 pub mod InsertPlan
 pub mod RemovePlan
 pub mod Planned
+pub mod SegmentBound
 pub mod SegmentCounts
 pub mod MovePlan
 pub mod AroundPlan

@@ -1,0 +1,94 @@
+use Rattle.std.proofs.Common.{sym, subst, ap, ◌∙◌, arith}
+use Rattle.ring_machine.specs.Vertices.{ins}
+use Rattle.segment_index.specs.Candidates.{AreSingle}
+use Rattle.arc_store.specs.Kept.{stored}
+use Rattle.arc_store.specs.Planned.{AreNew}
+use Rattle.arc_store.specs.Stored.{document_of}
+use Rattle.arc_store.proofs.Indexed.{indexed_apart}
+use Rattle.arc_store.proofs.InsertPlan.{first_key, second_key, insert_off, insert_new, insert_single}
+use Rattle.arc_store.proofs.InsertPlan.{insert_unjoined, insertable, doc_inserted, size_grows, kept_inserted}
+use Rattle.arc_store.proofs.SegmentBound.{segments_bound}
+use Rattle.arc_store.proofs.map.Map.raw_insert.Goals as goal
+
+pub returns-in_default-clause-refused : goal.returns-in_default-clause-refused
+returns-in_default-clause-refused g c =
+    let m = c.self.inside in
+    let key = first_key (stored m.frame m.borders m.vertices) (g.I.SegIndex.held m.index) c.self.invariant.holds c.args.a c.args.b c.args.q (rw (← c.self.view_is) at c.requires.segment) (rw (← c.self.view_is) at c.requires.free) in
+    absurd (c.in_default.ensures.absent key.0 key.1)
+
+pub returns-in_default-key_of-clause-refused : goal.returns-in_default-key_of-clause-refused
+returns-in_default-key_of-clause-refused g c =
+    let m = c.self.inside in
+    let key = second_key (stored m.frame m.borders m.vertices) (g.I.SegIndex.held m.index) c.self.invariant.holds c.args.a c.args.b c.args.q (rw (← c.self.view_is) at c.requires.segment) (rw (← c.self.view_is) at c.requires.free) in
+    absurd (c.in_default-key_of.ensures.absent key.0 key.1)
+
+pub spokes-requires : goal.spokes-requires
+spokes-requires g c =
+    let m = c.self.inside in
+    insert_off (stored m.frame m.borders m.vertices) (g.I.SegIndex.held m.index) c.self.invariant.holds c.args.a c.args.b c.args.q (rw (← c.self.view_is) at c.requires.segment) (rw (← c.self.view_is) at c.requires.free)
+
+pub test_insert-requires-clause-apart : goal.test_insert-requires-clause-apart
+test_insert-requires-clause-apart g c =
+    let m = c.self.inside in
+    indexed_apart (document_of (stored m.frame m.borders m.vertices)) (g.I.SegIndex.held m.index) c.self.invariant.holds.indexed c.self.invariant.holds.proper
+
+pub put_in-requires-clause-unjoined : goal.put_in-requires-clause-unjoined
+put_in-requires-clause-unjoined g c =
+    let m = c.self.inside in
+    insert_unjoined (stored m.frame m.borders m.vertices) (g.I.SegIndex.held m.index) c.self.invariant.holds c.args.a c.args.b c.args.q (rw (← c.self.view_is) at c.requires.segment) (rw (← c.self.view_is) at c.requires.free) c.in-Some.i c.in-Some-key_of.j c.in-Some.ensures.found c.in-Some-key_of.ensures.found
+
+pub put_in-requires-clause-new : goal.put_in-requires-clause-new
+put_in-requires-clause-new g c =
+    let m = c.self.inside in
+    subst (AreNew (g.I.SegIndex.held m.index)) (sym (c.as_slice-after.ensures.value ∙ c.in_ok-after.ensures))
+    (insert_new (stored m.frame m.borders m.vertices) (g.I.SegIndex.held m.index) c.self.invariant.holds c.args.a c.args.b c.args.q (rw (← c.self.view_is) at c.requires.segment) (rw (← c.self.view_is) at c.requires.free))
+
+pub put_in-requires-clause-single : goal.put_in-requires-clause-single
+put_in-requires-clause-single g c =
+    let m = c.self.inside in
+    subst AreSingle (sym (c.as_slice-after.ensures.value ∙ c.in_ok-after.ensures))
+    (insert_single (stored m.frame m.borders m.vertices) (g.I.SegIndex.held m.index) c.self.invariant.holds c.args.a c.args.b c.args.q (rw (← c.self.view_is) at c.requires.segment) (rw (← c.self.view_is) at c.requires.free))
+
+pub overflow_add-self : goal.overflow_add-self
+overflow_add-self g c =
+    let m = c.self.inside in
+    let s = stored m.frame m.borders m.vertices in
+    let held = g.I.SegIndex.held m.index in
+    let border = rw (← c.self.view_is) at c.requires.segment in
+    let free = rw (← c.self.view_is) at c.requires.free in
+    let small = rw (← c.self.view_is) at c.requires.small in
+    let accepted = c.in_ok-test_insert.ensures.accepted (document_of s) (insertable s held c.self.invariant.holds c.args.a c.args.b c.args.q border free small) in
+    omega (
+      arith,
+      small,
+      size_grows m.frame m.borders c.put_in.new.borders m.vertices c.put_in.new.vertices held (g.I.SegIndex.held c.put_in.new.index) m.next m.positions m.segments c.self.invariant c.in-Some.i c.in-Some-key_of.j c.args.a c.args.b c.args.q c.in-Some.ensures.found c.in-Some-key_of.ensures.found border free accepted c.in_ok-put_in.ensures.put c.uses-rings.result c.uses-rings.ensures,
+    )
+
+pub overflow_add-self-2 : goal.overflow_add-self-2
+overflow_add-self-2 g c =
+    let m = c.self.inside in
+    omega (arith, c.self.invariant.single, c.self.invariant.holds.small, segments_bound (document_of (stored m.frame m.borders m.vertices)))
+
+pub invariant_of-self-2 : goal.invariant_of-self-2
+invariant_of-self-2 g c =
+    let m = c.self.inside in
+    let s = stored m.frame m.borders m.vertices in
+    let held = g.I.SegIndex.held m.index in
+    let border = rw (← c.self.view_is) at c.requires.segment in
+    let free = rw (← c.self.view_is) at c.requires.free in
+    let small = rw (← c.self.view_is) at c.requires.small in
+    let accepted = c.in_ok-test_insert.ensures.accepted (document_of s) (insertable s held c.self.invariant.holds c.args.a c.args.b c.args.q border free small) in
+    kept_inserted m.frame m.borders c.put_in.new.borders m.vertices c.put_in.new.vertices held (g.I.SegIndex.held c.put_in.new.index) m.next m.positions m.segments c.self.invariant c.in-Some.i c.in-Some-key_of.j c.args.a c.args.b c.args.q c.in-Some.ensures.found c.in-Some-key_of.ensures.found border free accepted c.in_ok-put_in.ensures.put c.uses-rings.result c.uses-rings.ensures
+    c.in-Some-new.before c.as_slice-after.result.now c.in-Some-new.ensures.some (c.as_slice-after.ensures.value ∙ c.in_ok-after.ensures) c.in_ok-put_in.ensures.exchanged
+
+pub returns-clause-inserted : goal.returns-clause-inserted
+returns-clause-inserted g c =
+    let m = c.self.inside in
+    let s = stored m.frame m.borders m.vertices in
+    let held = g.I.SegIndex.held m.index in
+    let border = rw (← c.self.view_is) at c.requires.segment in
+    let free = rw (← c.self.view_is) at c.requires.free in
+    let small = rw (← c.self.view_is) at c.requires.small in
+    let accepted = c.in_ok-test_insert.ensures.accepted (document_of s) (insertable s held c.self.invariant.holds c.args.a c.args.b c.args.q border free small) in
+    doc_inserted m.frame m.borders c.put_in.new.borders m.vertices c.put_in.new.vertices held (g.I.SegIndex.held c.put_in.new.index) m.next m.positions m.segments c.self.invariant c.in-Some.i c.in-Some-key_of.j c.args.a c.args.b c.args.q c.in-Some.ensures.found c.in-Some-key_of.ensures.found border free accepted c.in_ok-put_in.ensures.put
+    ∙ ap (λ z. ins z.doc c.args.a c.args.b c.args.q) c.self.view_is
