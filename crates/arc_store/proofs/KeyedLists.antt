@@ -40,7 +40,7 @@ some_has places k p e = ap is_some e
 keeps_has : (b c : Placement) → Keeps b c → (k : ℕ) → Has b k → Has c k
 keeps_has b c h k there = let p : (p : Position) × (table.get b k ≡ Some p) = has_some b k there in some_has c k p.0 (h k p.0 p.1)
 
-pub place_at : (places : Placement) (k : ℕ) (p : Position) → table.get places k ≡ Some p
+place_at : (places : Placement) (k : ℕ) (p : Position) → table.get places k ≡ Some p
     → place places k ≡ p
 place_at places k p e = ap (λ o. unwrap_or o (position (pos 0) (pos 0))) e
 
@@ -81,14 +81,7 @@ put_new places places' k p new e = subst (λ z. ArePut places z (k ∷ [])) (sym
 
 -- ---- keys after keys
 
-pub put_none : (places : Placement) → ArePut places places []
-put_none places = record {
-  kept = λ k p h. h;
-  placed = λ k h. let l = h.1 in absurd (omega arith);
-  passed = λ k h. inl h;
-}
-
-pub put_more : (a b c : Placement) (ks ls : List ℕ) → ArePut a b ks → ArePut b c ls
+put_more : (a b c : Placement) (ks ls : List ℕ) → ArePut a b ks → ArePut b c ls
     → ArePut a c (ks ++ ls)
 put_more a b c ks ls h g = record {
   kept = λ k p e. g.kept k p (h.kept k p e);
@@ -112,7 +105,7 @@ module _ {X Y : Type 0} where
   Stays at keys = (b c : Placement) → Keeps b c → (x : X)
       → ((k : ℕ) → Contains (keys x) k → Has b k) → at c x ≡ at b x
 
-  pub stays_lists : (at : Placement → X → Y) (keys : X → List ℕ) → Stays at keys
+  stays_lists : (at : Placement → X → Y) (keys : X → List ℕ) → Stays at keys
       → (b c : Placement) → Keeps b c → (xs : List X)
       → ((k : ℕ) → Contains (flat_map keys xs) k → Has b k) → map (at c) xs ≡ map (at b) xs
   stays_lists at keys h b c s [] t = refl
@@ -126,19 +119,15 @@ module _ {X Y : Type 0} where
     pub read : map (at new) xs ≡ ys
     pub put : ArePut old new (flat_map keys xs)
 
-  pub read_none : (at : Placement → X → Y) (keys : X → List ℕ) (places : Placement)
-      → AreRead at keys places places [] []
-  read_none at keys places = record { read = refl; put = put_none places }
-
-  pub read_more : (at : Placement → X → Y) (keys : X → List ℕ) → Stays at keys
+  read_more : (at : Placement → X → Y) (keys : X → List ℕ) → Stays at keys
       → (a b c : Placement) (xs : List X) (ys : List Y) (x : X) (y : Y) → AreRead at keys a b xs ys
       → at c x ≡ y → ArePut b c (keys x) → AreRead at keys a c (xs ++ x ∷ []) (ys ++ y ∷ [])
   read_more at keys stays a b c xs ys x y h e g = record {
     read =
-      map-append (at c) xs (x ∷ [])
-      ∙ ap₂ (λ z w. z ++ w ∷ []) (stays_lists at keys stays b c g.kept xs h.put.placed ∙ h.read) e;
+        map-append (at c) xs (x ∷ [])
+        ∙ ap₂ (λ z w. z ++ w ∷ []) (stays_lists at keys stays b c g.kept xs h.put.placed ∙ h.read) e;
     put =
-      subst (ArePut a c) (sym (flat_map-append keys xs (x ∷ []) ∙ ap (λ z. flat_map keys xs ++ z) (append-nil (keys x)))) (put_more a b c (flat_map keys xs) (keys x) h.put g);
+        subst (ArePut a c) (sym (flat_map-append keys xs (x ∷ []) ∙ ap (λ z. flat_map keys xs ++ z) (append-nil (keys x)))) (put_more a b c (flat_map keys xs) (keys x) h.put g);
   }
 
   pub read_next : (at : Placement → X → Y) (keys : X → List ℕ) → Stays at keys

@@ -83,6 +83,20 @@ fn see_ring<A: Allocator + Copy>(
     see(borders, around, a, k, *first)
 }
 
+/// The rings of a polygon are seen.
+fn see_polygon<A: Allocator + Copy>(
+    borders: &mut Borders<A>,
+    around: &mut Vec<Seen, A>,
+    polygon: &[Vec<VertexKey, A>],
+) -> Result<(), AllocError>
+    ensures { borders.new ≡ borders.old }
+{
+    for ring in polygon {
+        see_ring(borders, around, ring.as_slice())?;
+    }
+    Ok(())
+}
+
 /// The rings of a feature are seen.
 fn see_feature<A: Allocator + Copy>(
     borders: &mut Borders<A>,
@@ -92,9 +106,7 @@ fn see_feature<A: Allocator + Copy>(
     ensures { borders.new ≡ borders.old }
 {
     for polygon in polygons {
-        for ring in polygon.as_slice() {
-            see_ring(borders, around, ring.as_slice())?;
-        }
+        see_polygon(borders, around, polygon.as_slice())?;
     }
     Ok(())
 }
