@@ -25,4 +25,5 @@ pub mod SegmentBound
 pub mod SegmentCounts
 pub mod MovePlan
 pub mod AroundPlan
+pub mod KeyedLists
 mod Examples
