@@ -24,4 +24,7 @@ pub mod Planned
 pub mod SegmentCounts
 pub mod MovePlan
 pub mod AroundPlan
+pub mod FilledLists
+pub mod LaidSegments
+pub mod LaidRings
 mod Examples
