@@ -14,7 +14,7 @@ use Rattle.ring_machine.specs.Planar.{least_conflict}
 use Rattle.ring_machine.specs.Query.{add_segment}
 use Rattle.vertex_index.specs.Placement.{Placement}
 use Rattle.segment_index.specs.Candidates.{SegmentSet, Gives, has, segment_is}
-use Rattle.segment_index.proofs.Singles.{segment_total, same_segment, is-itself}
+use Rattle.segment_index.proofs.Singles.{segment_total, same_segment}
 use Rattle.local_planarity.specs.Edits.{IsHeld}
 use Rattle.local_planarity.proofs.Filling.{contained}
 use Rattle.local_planarity.proofs.Least.{same_least_conflict}

@@ -1,11 +1,10 @@
 -- One ring more among those that are laid.
 use Rattle.std.proofs.Common.{◌≡◌, ◌≢◌, ℕ, Bool, true, false, refl, sym, ap, ap₂, ◌∙◌, cond, subst}
-use Rattle.std.proofs.Common.{List, [], ◌∷◌, ◌++◌, map, ◌&&◌, ◌||◌, Option, Some, None, is_some, inl}
+use Rattle.std.proofs.Common.{List, [], ◌∷◌, ◌++◌, map, ◌&&◌, ◌||◌, Some, None, is_some, inl}
 use Rattle.std.proofs.Common.{inr, arith, Result, Ok, Err, IfOk}
 use Rattle.std.specs.Prelude.{◌==◌, not, IsTrue}
 use Rattle.std.specs.Ordering.{nat_cmp, eq_by_cmp}
 use Rattle.std.specs.FinMap as table
-use Rattle.std.specs.List.{list_any}
 use Rattle.std.proofs.lemmas.Cmp.{nat_cmp_total}
 use Rattle.std.proofs.lemmas.Bool.{false≢true}
 use Rattle.std.proofs.lemmas.Bool.Decides.{Decides-eqb, nat_tests}
@@ -72,7 +71,7 @@ same_map f g [] h = refl
 same_map f g (x ∷ xs) h = ap₂ (λ y z. y ∷ z) (h x (inl refl)) (same_map f g xs (λ y i. h y (inr i)))
 
 -- a ring that was laid under a new number
-pub laid_more : (rings rings' : Rings) (numbers : List ℕ) (keyed : List (List ℕ)) (r : ℕ)
+laid_more : (rings rings' : Rings) (numbers : List ℕ) (keyed : List (List ℕ)) (r : ℕ)
     (keys : List ℕ) → table.get rings r ≡ None → rings' ≡ table.insert rings r (edges keys)
     → IsLaid rings numbers keyed → IsLaid rings' (numbers ++ r ∷ []) (keyed ++ keys ∷ [])
 laid_more rings rings' numbers keyed r keys vacant put laid =

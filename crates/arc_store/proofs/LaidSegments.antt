@@ -3,18 +3,17 @@ use Rattle.std.proofs.Common.{◌≡◌, ◌≢◌, ◌≤◌, ◌<◌, ◌+◌,
 use Rattle.std.proofs.Common.{List, [], ◌∷◌, ◌++◌, map, length, take, drop, get_or, Option, append-nil}
 use Rattle.std.proofs.Common.{append_assoc, drop-cons}
 use Rattle.std.proofs.lemmas.List.{drop_all, map-append}
-use Rattle.grid_geometry.specs.Position.{Position}
 use Rattle.grid_geometry.specs.Segment.{Segment, segment}
 use Rattle.ring_machine.specs.Ring.{segments, segment_of}
 use Rattle.ring_machine.proofs.First.{In, in_right}
-use Rattle.vertex_index.specs.Placement.{Placement, AreDistinct}
+use Rattle.vertex_index.specs.Placement.{Placement}
 use Rattle.segment_index.specs.Candidates.{SegmentSet}
 use Rattle.shared_arcs.specs.Ways.{Edge, links}
-use Rattle.shared_arcs.specs.Rings.{begins, edges}
+use Rattle.shared_arcs.specs.Rings.{edges}
 use Rattle.arc_store.specs.Holds.{GoesRound}
 use Rattle.arc_store.specs.Laying.{IsRound, IsFilled}
 use Rattle.arc_store.specs.Stored.{place}
-use Rattle.arc_store.proofs.Base.{IsKept, one_key}
+use Rattle.arc_store.proofs.Base.{IsKept}
 use Rattle.arc_store.proofs.KeyRings.{edge_apart, edge_ends, edges_round, begins_round, laid}
 use Rattle.arc_store.proofs.Members.{in_contains}
 
