@@ -26,4 +26,7 @@ pub mod SegmentCounts
 pub mod MovePlan
 pub mod AroundPlan
 pub mod KeyedLists
+pub mod FilledLists
+pub mod LaidSegments
+pub mod LaidRings
 mod Examples

@@ -135,7 +135,7 @@ single_added ss s h = by (list_any (segment_eq s) ss) refl
     by true e = h
     by false e = λ t. one t (has-eq ss s ∙ e) (segment_is t s) refl
 
-has_all : (ss xs : List Segment) (t : Segment)
+pub has_all : (ss xs : List Segment) (t : Segment)
     → has (fold add_segment ss xs) t ≡ (has ss t || has xs t)
 has_all ss [] t = or_nothing (has ss t)
 has_all ss (x ∷ xs) t =
