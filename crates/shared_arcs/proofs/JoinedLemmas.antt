@@ -1,5 +1,5 @@
 -- The segments of rings are those of the arcs that they use.
-use Rattle.std.proofs.Common.{◌≡◌, ℕ, ◌≤◌, ◌+◌, Bool, true, false, ◌||◌, ◌&&◌, refl, sym, ap, ◌∙◌, subst, List, [], ◌∷◌, ◌++◌, zero, suc, ◌⊎◌, inl, inr, arith, Contains, is_some, IsSome, Option, get_or, length}
+use Rattle.std.proofs.Common.{◌≡◌, ℕ, ◌≤◌, ◌+◌, Bool, true, false, ◌||◌, ◌&&◌, refl, sym, ap, ◌∙◌, subst, List, [], ◌∷◌, zero, suc, inl, inr, arith, Contains, is_some, IsSome, Option, get_or, length}
 use Rattle.std.proofs.lemmas.List.{get_or_default}
 use Rattle.std.proofs.Common.{None as Absent, Some}
 use Rattle.std.specs.Prelude.{◌==◌}

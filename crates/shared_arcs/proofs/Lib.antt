@@ -9,6 +9,7 @@ pub mod TakeLemmas
 pub mod Held
 pub mod StandLemmas
 pub mod ReadLemmas
+pub mod KeysLeft
 pub mod Gathering
 pub mod RingLemmas
 pub mod WholeLemmas
@@ -20,5 +21,6 @@ pub mod AroundLemmas
 pub mod Removing
 pub mod ShortestLemmas
 pub mod Counting
+pub mod CopyLemmas
 mod Examples
 pub mod CallerLemmas

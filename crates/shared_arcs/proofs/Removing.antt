@@ -2,7 +2,7 @@
 use Rattle.std.proofs.Common.{◌≡◌, ◌≢◌, ℕ, ◌+◌, ◌≤◌, ◌<◌, zero, suc, Bool, true, false, cond, refl, sym, ap, ap₂, ◌∙◌, subst, List, [], ◌∷◌, ◌++◌, map, take, drop, set, length, get_or, ◌⊎◌, inl, inr, arith, Contains}
 use Rattle.std.specs.Prelude.{◌==◌}
 use native.Mathlib.Decide.{ℕ_discrete}
-use Rattle.std.specs.List.{flat_map, remove}
+use Rattle.std.specs.List.{remove}
 use Rattle.std.proofs.lemmas.Bool.{false≢true}
 use Rattle.std.proofs.lemmas.Bool.Decides.{Decides-eqb}
 use Rattle.std.proofs.lemmas.List.{take-append-drop, take_more, map-append, get_or_default, length-take, length-drop, length-append, length-map}
@@ -16,7 +16,7 @@ use Rattle.shared_arcs.specs.Edited.{AreApart, onto, drawn, collapsed, Collapses
 use Rattle.shared_arcs.specs.declared.arc.Arc.{Arc}
 use Rattle.shared_arcs.specs.declared.arc.Stand.{Stand}
 use Rattle.shared_arcs.specs.Stores.{IsPlace, path_in, stand_at, Listed, ListsMore, SameUsers}
-use Rattle.shared_arcs.proofs.Moves.{flip, flipped, is_seg-flip, links-append, times-append}
+use Rattle.shared_arcs.proofs.Moves.{flipped, is_seg-flip, links-append, times-append}
 use Rattle.shared_arcs.proofs.StoreLemmas.{taken_cases}
 use Rattle.shared_arcs.proofs.Held.{none_at}
 use Rattle.shared_arcs.proofs.Segments.{ends_of, is_forth, is_back, times_comm, counts_none, counted, StandsFor, once_for}

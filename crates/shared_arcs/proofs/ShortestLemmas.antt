@@ -1,5 +1,5 @@
 -- The least edge count of the rings at a vertex.
-use Rattle.std.proofs.Common.{◌≡◌, ℕ, ◌+◌, ◌-◌, ◌≤◌, ◌<◌, zero, suc, Bool, true, false, cond, refl, sym, ap, ◌∙◌, subst, List, [], ◌∷◌, ◌++◌, map, take, length, get_or, ◌⊎◌, inl, inr, arith, Contains, Option, Some, None, IfSome, IfNone}
+use Rattle.std.proofs.Common.{◌≡◌, ℕ, ◌+◌, ◌-◌, ◌≤◌, ◌<◌, Bool, true, false, cond, refl, sym, ap, ◌∙◌, subst, List, [], ◌∷◌, ◌++◌, map, take, length, get_or, ◌⊎◌, inl, inr, arith, Contains, Option, Some, None, IfSome, IfNone}
 use Rattle.std.specs.Prelude.{min}
 use Rattle.std.proofs.Math.Nat.{min-eq_left, min-eq_right, min-le_left}
 use Rattle.std.proofs.lemmas.Bool.{false≢true, cases_lt}
@@ -18,7 +18,7 @@ use Rattle.shared_arcs.specs.Rings.{Rings}
 use Rattle.shared_arcs.specs.Joined.{Passes}
 use Rattle.shared_arcs.specs.Shortest.{is_any, touches, edge_count, less_of, least_of, users_at, rings_among}
 use Rattle.shared_arcs.specs.Sound.{rings_of}
-use Rattle.shared_arcs.specs.Stores.{path_of, users_in, uses_in, uses_arc, store, stand_at, Known, Listed, Whole}
+use Rattle.shared_arcs.specs.Stores.{path_of, users_in, uses_in, store, stand_at, Known, Listed, Whole}
 use Rattle.shared_arcs.proofs.Moves.{chain_append}
 use Rattle.shared_arcs.proofs.CutLemmas.{present}
 use Rattle.shared_arcs.proofs.ReadLemmas.{length-walk}

@@ -1,4 +1,5 @@
 pub mod Around
+pub mod Coming
 pub mod Edited
 pub mod Joined
 pub mod Listing

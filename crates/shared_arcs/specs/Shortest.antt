@@ -1,5 +1,5 @@
 -- The rings at a vertex, and the least of their edge counts.
-use Rattle.std.specs.Prelude.{ℕ, ◌-◌, ◌^◌, Bool, true, false, List, [], ◌∷◌, Option, Some, None, length, map, min, if◌then◌else◌}
+use Rattle.std.specs.Prelude.{ℕ, ◌-◌, ◌^◌, Bool, true, false, List, [], ◌∷◌, Option, Some, None, length, min, if◌then◌else◌}
 use Rattle.std.specs.List.{flat_map}
 use Rattle.shared_arcs.specs.declared.arc.Use.{Use}
 use Rattle.shared_arcs.specs.declared.around.Neighbours.{Neighbours}

@@ -9,10 +9,10 @@ use std::test::Fail;
 use vertex_index::VertexKey;
 
 /// More than the growths of any run below.
-const MANY: u64 = 200;
+pub(crate) const MANY: u64 = 200;
 
 /// Puts a vertex that no ring has between two others.
-fn insert<R: Abort, A: Allocator + Copy>(
+pub(crate) fn insert<R: Abort, A: Allocator + Copy>(
     rt: &R,
     borders: &mut Borders<A>,
     a: VertexKey,
@@ -27,7 +27,7 @@ fn insert<R: Abort, A: Allocator + Copy>(
 }
 
 /// Takes out a vertex that has two neighbours, which no ring joins.
-fn remove<R: Abort, A: Allocator + Copy>(
+pub(crate) fn remove<R: Abort, A: Allocator + Copy>(
     rt: &R,
     borders: &mut Borders<A>,
     p: VertexKey,

@@ -8,6 +8,7 @@
 mod arc;
 mod around;
 mod borders;
+mod copying;
 mod cutting;
 mod editing;
 mod joined;
@@ -15,6 +16,7 @@ mod laying;
 mod numbers;
 mod place;
 mod reading;
+mod ring_keys;
 mod standing;
 mod tables;
 mod taking;
@@ -22,8 +24,11 @@ mod vertex_edits;
 
 pub use around::Neighbours;
 pub use borders::Borders;
+pub use ring_keys::RingKeys;
 
 #[cfg(test)]
 mod edit_tests;
+#[cfg(test)]
+mod ring_tests;
 #[cfg(test)]
 mod tests;

@@ -10,7 +10,7 @@ use std::alloc::{AllocError, Allocator};
 use vertex_index::VertexKey;
 
 /// The place in a path of so many keys that comes as the `at`-th, counted from 1.
-fn place_of(len: usize, back: bool, at: usize) -> usize
+pub(crate) fn place_of(len: usize, back: bool, at: usize) -> usize
     requires some { 1 ≤ at }
     requires within { at ≤ len }
     ensures { result ≡ (if back then len - at else at - 1) }

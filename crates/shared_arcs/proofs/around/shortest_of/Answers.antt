@@ -1,4 +1,4 @@
-use Rattle.std.proofs.Common.{ℕ, ap, ◌∙◌, take, map, get_or}
+use Rattle.std.proofs.Common.{ℕ, ap, ◌∙◌, take, map}
 use Rattle.slab.specs.Slab.{get}
 use Rattle.shared_arcs.specs.Shortest.{most, edge_count, less_of, least_of}
 use Rattle.shared_arcs.specs.Stores.{path_in, uses_in}

@@ -1,4 +1,4 @@
-use Rattle.std.proofs.Common.{ℕ, ◌≡◌, ap, ◌∙◌, subst, sym, take_all}
+use Rattle.std.proofs.Common.{ap, subst, sym, take_all}
 use Rattle.slab.specs.Slab.{get}
 use Rattle.shared_arcs.specs.Edited.{Collapses, CollapsesAmong}
 use Rattle.shared_arcs.specs.Stores.{path_in}

@@ -1,4 +1,4 @@
-use Rattle.std.proofs.Common.{◌≡◌, ◌+◌, subst, sym, ap, ◌∙◌, Contains, map, true, false}
+use Rattle.std.proofs.Common.{◌+◌, subst, sym, ap, ◌∙◌, Contains, map, true, false}
 use Rattle.shared_arcs.specs.Ways.{links, times}
 use Rattle.shared_arcs.specs.Edited.{onto}
 use Rattle.shared_arcs.specs.Stores.{IsPlace}

@@ -1,4 +1,4 @@
-use Rattle.std.proofs.Common.{ℕ, Contains, take, inl, inr, subst, sym, take_all}
+use Rattle.std.proofs.Common.{Contains, inl, inr, subst, sym, take_all}
 use Rattle.shared_arcs.specs.Stores.{stand_at}
 use Rattle.shared_arcs.proofs.StoreLemmas.{taken_cases}
 use Rattle.shared_arcs.proofs.editing.list_arcs.Goals as goal

@@ -1,4 +1,4 @@
-use Rattle.std.proofs.Common.{arith, ◌≡◌, ◌∙◌, sym, ap, subst, List, ℕ, length}
+use Rattle.std.proofs.Common.{arith, ◌≡◌, ◌∙◌, ap, subst, List, ℕ, length}
 use Rattle.shared_arcs.specs.Around.{ends_among}
 use Rattle.shared_arcs.specs.Stores.{path_of, stand_at}
 use Rattle.shared_arcs.specs.Listing.{ListsJoined, gathered}

@@ -1,10 +1,9 @@
-use Rattle.std.proofs.Common.{ℕ, ◌≡◌, ◌∙◌, sym, ap, subst}
+use Rattle.std.proofs.Common.{ℕ, ◌∙◌, sym, ap, subst}
 use Rattle.std.specs.FinMap as map
 use Rattle.std.specs.Prelude.{option_map}
 use Rattle.shared_arcs.specs.Edited.{drawn, collapsed}
 use Rattle.shared_arcs.specs.Joined.{Joined}
 use Rattle.shared_arcs.specs.Stores.{path_of}
-use Rattle.shared_arcs.specs.Sound.{rings_of}
 use Rattle.shared_arcs.proofs.Segments.{on_ok_map, on_err_map, either_result}
 use Rattle.shared_arcs.proofs.EditLemmas.{edited_everywhere, once_alike, rings_unedited}
 use Rattle.shared_arcs.proofs.Removing.{drawn-turns, once_collapsed}

@@ -1,7 +1,5 @@
-use Rattle.std.proofs.Common.{sym, subst}
-use Rattle.shared_arcs.specs.Joined.{Passes}
 use Rattle.shared_arcs.specs.Shortest.{most}
-use Rattle.shared_arcs.proofs.ShortestLemmas.{SaysShortest, says_shortest}
+use Rattle.shared_arcs.proofs.ShortestLemmas.{says_shortest}
 use Rattle.shared_arcs.proofs.borders.Borders.shortest.Goals as goal
 
 pub returns-clause-none : goal.returns-clause-none

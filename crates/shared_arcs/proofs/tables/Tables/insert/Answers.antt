@@ -1,8 +1,6 @@
-use Rattle.std.proofs.Common.{◌≡◌, ℕ, ◌+◌, ◌⊎◌, inl, inr, refl, sym, ap, subst, Contains}
-use Rattle.std.specs.List.{insert}
+use Rattle.std.proofs.Common.{◌+◌, inl, refl, sym, subst, Contains}
 use Rattle.slab.specs.Slab.{get}
 use Rattle.shared_arcs.specs.Ways.{links}
-use Rattle.shared_arcs.specs.Edited.{through}
 use Rattle.shared_arcs.specs.Stores.{path_in, path_of}
 use Rattle.shared_arcs.proofs.Growing.{known_alike}
 use Rattle.shared_arcs.proofs.EditLemmas.{listed_edited}

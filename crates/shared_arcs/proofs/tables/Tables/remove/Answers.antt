@@ -1,4 +1,4 @@
-use Rattle.std.proofs.Common.{ℕ, ◌≡◌, refl, sym, ap, ◌∙◌, subst, Contains}
+use Rattle.std.proofs.Common.{refl, sym, ◌∙◌, subst, Contains}
 use Rattle.slab.specs.Slab.{get}
 use Rattle.shared_arcs.specs.Edited.{CollapsesAmong}
 use Rattle.shared_arcs.specs.Stores.{path_in, stand_at}
