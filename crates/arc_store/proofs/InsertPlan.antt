@@ -154,7 +154,7 @@ module _ {A : Type 0} (frame : Frame A) (rings rings' : Rings) (places places' :
 
   -- how the size grows
   pub size_grows : size (ins (document_of was) a b q) ≡ positions + users_of rings j k
-  size_grows = omega (arith, h.positions, users_same was h.holds.whole j k, size_inserted was rings' j k put.key a b q h.holds.whole h.holds.proper insertion)
+  size_grows = omega (arith, h.sized, users_same was h.holds.whole j k, size_inserted was rings' j k put.key a b q h.holds.whole h.holds.proper insertion)
 
   pub kept_inserted : Exchanges held (spokes q (a ∷ b ∷ [])) (segment a b ∷ []) held'
       → IsKept frame rings' places' held' next (positions + users_of rings j k) (segments + 1)
@@ -164,7 +164,8 @@ module _ {A : Type 0} (frame : Frame A) (rings rings' : Rings) (places places' :
         holds = holds_inserted was held held' rings' j k put.key a b q h.holds insertion x;
         counted = h.counted;
         next = h.next;
-        positions = sym size_grows ∙ sym (ap size (document_inserted was rings' j k put.key a b q h.holds.whole h.holds.proper insertion));
-        segments = ap (λ z. z + 1) h.segments ∙ sym (insert_count was held h.holds a b q border free j k first second rings' put.key held' insertion e)
+        few = h.few;
+        sized = sym size_grows ∙ sym (ap size (document_inserted was rings' j k put.key a b q h.holds.whole h.holds.proper insertion));
+        single = ap (λ z. z + 1) h.single ∙ sym (insert_count was held h.holds a b q border free j k first second rings' put.key held' insertion e)
             ∙ sym (ap (λ d. length (distinct_segments d)) (document_inserted was rings' j k put.key a b q h.holds.whole h.holds.proper insertion));
       })

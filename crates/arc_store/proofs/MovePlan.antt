@@ -134,21 +134,22 @@ module _ (s : Stored) (held : SegmentSet) (h : Holds s held) (k : ℕ) (p q : Po
 
 -- an accepted move keeps what is true of the tables
 pub kept_moved : {A : Type 0} (frame : Frame A) (rings : Rings) (places : Placement) (held held' : SegmentSet)
-    (next positions segments : ℕ) → IsKept frame rings places held next positions segments
+    (number size_kept single : ℕ) → IsKept frame rings places held number size_kept single
     → (k : ℕ) (p q : Position) → table.get places k ≡ Some p
     → is_vertex (document_of (stored frame rings places)) q ≡ false
     → first_of (move_refusals (document_of (stored frame rings places)) p q) ≡ None
     → (around : List Position) → AreAround places rings k around
     → Exchanges held (spokes q around) (spokes p around) held'
-    → IsKept frame rings (table.insert places k q) held' next positions segments
-kept_moved frame rings places held held' next positions segments h k p q at free none around r e =
+    → IsKept frame rings (table.insert places k q) held' number size_kept single
+kept_moved frame rings places held held' number size_kept single h k p q at free none around r e =
     let s = stored frame rings places in
     record {
       holds = holds_moved s held held' k p q h.holds at none (plan_indexed s held h.holds k p q at free around r held' e);
       counted = h.counted;
       next = h.next;
-      positions = h.positions ∙ sym (size_moved s h.holds.whole k p q at free);
-      segments = h.segments ∙ sym (ap (λ d. length (distinct_segments d)) (document_moved s h.holds.whole k p q at free) ∙ plan_count s held h.holds k p q at free around r held' e);
+      few = h.few;
+      sized = h.sized ∙ sym (size_moved s h.holds.whole k p q at free);
+      single = h.single ∙ sym (ap (λ d. length (distinct_segments d)) (document_moved s h.holds.whole k p q at free) ∙ plan_count s held h.holds k p q at free around r held' e);
     }
 
 -- ---- refusals
