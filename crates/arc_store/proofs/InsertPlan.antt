@@ -1,13 +1,13 @@
 -- The plan of an insertion between two vertices: what comes and goes, and what is kept.
-use Rattle.std.proofs.Common.{◌≡◌, ◌≢◌, ◌≤◌, ◌+◌, ◌-◌, ℕ, Bool, true, false, refl, sym, ap, ap₂, ◌∙◌}
-use Rattle.std.proofs.Common.{subst, cond, List, [], ◌∷◌, length, ◌||◌, ◌&&◌, ◌⊎◌, inl, inr, arith, Some}
+use Rattle.std.proofs.Common.{◌≡◌, ◌≤◌, ◌+◌, ℕ, Bool, true, false, refl, sym, ap, ap₂, ◌∙◌}
+use Rattle.std.proofs.Common.{subst, cond, List, [], ◌∷◌, length, ◌||◌, ◌&&◌, inl, inr, arith, Some}
 use Rattle.std.proofs.Common.{None}
 use Rattle.std.specs.Prelude.{not}
 use Rattle.std.specs.FinMap as table
 use Rattle.std.specs.FinSet as set
 use Rattle.std.proofs.lemmas.Bool.{false≢true}
 use Rattle.grid_geometry.specs.Position.{Position}
-use Rattle.grid_geometry.specs.Segment.{Segment, segment, segment_eq, is_end}
+use Rattle.grid_geometry.specs.Segment.{Segment, segment, segment_eq}
 use Rattle.grid_geometry.proofs.Conflicts.{segment-comm}
 use Rattle.ring_machine.specs.Ring.{has}
 use Rattle.ring_machine.specs.Parts.{size, is_vertex, is_segment}
@@ -18,9 +18,8 @@ use Rattle.ring_machine.proofs.First.{In}
 use Rattle.ring_machine.proofs.Neighbours.{has-in}
 use Rattle.ring_machine.proofs.Orders.{segment_ordered}
 use Rattle.vertex_index.specs.Placement.{Placement}
-use Rattle.segment_index.specs.Candidates.{SegmentSet, AreAmong, AreSingle, segment_is, times_in, has as has_segment}
+use Rattle.segment_index.specs.Candidates.{SegmentSet, AreAmong, AreSingle, segment_is, has as has_segment}
 use Rattle.segment_index.proofs.Singles.{same_segment}
-use Rattle.shared_arcs.specs.Edited.{AreApart}
 use Rattle.shared_arcs.specs.Joined.{Joined}
 use Rattle.shared_arcs.specs.Rings.{Rings, users_of}
 use Rattle.arc_store.specs.declared.frame.Frame.{Frame}
@@ -29,8 +28,8 @@ use Rattle.arc_store.specs.Holds.{IsIndexed, Holds}
 use Rattle.arc_store.specs.Kept.{IsKept, stored}
 use Rattle.arc_store.specs.Planned.{AreNew, Exchanges, spokes}
 use Rattle.arc_store.specs.Stored.{Stored, document_of}
-use Rattle.arc_store.proofs.Around.{segment_joined, come_over, none_joined, new_apart}
-use Rattle.arc_store.proofs.Base.{key_vertex, vertex_key}
+use Rattle.arc_store.proofs.Around.{come_over, none_joined}
+use Rattle.arc_store.proofs.Base.{vertex_key}
 use Rattle.arc_store.proofs.SegmentCounts.{as_many}
 use Rattle.arc_store.proofs.Ends.{two_ends}
 use Rattle.arc_store.proofs.Indexed.{end_vertex}
@@ -117,12 +116,9 @@ module _ (s : Stored) (held : SegmentSet) (h : Holds s held) (a b q : Position) 
   insertable small = record { indexed = h.indexed; border = border; free = free; small = small }
 
   module _ (j k : ℕ) (first : table.get s.places j ≡ Some a) (second : table.get s.places k ≡ Some b) where
-    -- a key without a position is joined to none, and is neither of the two
+    -- a key without a position is joined to none
     pub insert_unjoined : (n x : ℕ) → table.get s.places n ≡ None → ¬ Joined s.rings n x
     insert_unjoined n x e = none_joined s h.whole n e x
-
-    pub insert_apart : (n : ℕ) → table.get s.places n ≡ None → AreApart j k n
-    insert_apart n e = new_apart s h.whole j k n (segment_joined s h.whole j k a b first second border) e
 
     module _ (rings : Rings) (n : ℕ) (held' : SegmentSet) (i : Insertion s rings j k n a b q) (e : Exchanges held (spokes q (a ∷ b ∷ [])) (segment a b ∷ []) held') where
       pub insert_indexed : IsIndexed (ins (document_of s) a b q) held'
@@ -152,20 +148,24 @@ module _ {A : Type 0} (frame : Frame A) (rings rings' : Rings) (places places' :
       ap (λ z. document_of (stored frame rings' z)) put.placed
       ∙ document_inserted was rings' j k put.key a b q h.holds.whole h.holds.proper insertion
 
-  -- how the size grows
-  pub size_grows : size (ins (document_of was) a b q) ≡ positions + users_of rings j k
-  size_grows = omega (arith, h.sized, users_same was h.holds.whole j k, size_inserted was rings' j k put.key a b q h.holds.whole h.holds.proper insertion)
+  module _ (count : ℕ) (users : count ≡ users_of rings j k) where
+    -- how the size grows
+    pub size_grows : size (ins (document_of was) a b q) ≡ positions + count
+    size_grows = omega (arith, users, h.sized, users_same was h.holds.whole j k, size_inserted was rings' j k put.key a b q h.holds.whole h.holds.proper insertion)
 
-  pub kept_inserted : Exchanges held (spokes q (a ∷ b ∷ [])) (segment a b ∷ []) held'
-      → IsKept frame rings' places' held' next (positions + users_of rings j k) (segments + 1)
-  kept_inserted e =
-      let x = insert_indexed was held h.holds a b q border free j k first second rings' put.key held' insertion e in
-      subst (λ z. IsKept frame rings' z held' next (positions + users_of rings j k) (segments + 1)) (sym put.placed) (record {
-        holds = holds_inserted was held held' rings' j k put.key a b q h.holds insertion x;
-        counted = h.counted;
-        next = h.next;
-        few = h.few;
-        sized = sym size_grows ∙ sym (ap size (document_inserted was rings' j k put.key a b q h.holds.whole h.holds.proper insertion));
-        single = ap (λ z. z + 1) h.single ∙ sym (insert_count was held h.holds a b q border free j k first second rings' put.key held' insertion e)
-            ∙ sym (ap (λ d. length (distinct_segments d)) (document_inserted was rings' j k put.key a b q h.holds.whole h.holds.proper insertion));
-      })
+    pub kept_inserted : (before : Segment) (after : List Segment) → before ≡ segment a b
+        → after ≡ spokes q (a ∷ b ∷ []) → Exchanges held after (before ∷ []) held'
+        → IsKept frame rings' places' held' next (positions + count) (segments + 1)
+    kept_inserted before after goes comes e =
+        let e' : Exchanges held (spokes q (a ∷ b ∷ [])) (segment a b ∷ []) held' = λ t.
+        e t ∙ ap₂ (λ x y. (set.contains held t || has_segment x t) && not (has_segment (y ∷ []) t)) comes goes in
+        let x = insert_indexed was held h.holds a b q border free j k first second rings' put.key held' insertion e' in
+        subst (λ z. IsKept frame rings' z held' next (positions + count) (segments + 1)) (sym put.placed) (record {
+          holds = holds_inserted was held held' rings' j k put.key a b q h.holds insertion x;
+          counted = h.counted;
+          next = h.next;
+          few = h.few;
+          sized = sym size_grows ∙ sym (ap size (document_inserted was rings' j k put.key a b q h.holds.whole h.holds.proper insertion));
+          single = ap (λ z. z + 1) h.single ∙ sym (insert_count was held h.holds a b q border free j k first second rings' put.key held' insertion e')
+              ∙ sym (ap (λ d. length (distinct_segments d)) (document_inserted was rings' j k put.key a b q h.holds.whole h.holds.proper insertion));
+        })

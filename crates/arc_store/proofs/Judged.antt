@@ -1,28 +1,28 @@
 -- What the tests of an edit of one vertex say of its refusals.
-use Rattle.std.proofs.Common.{ℕ, ◌≡◌, ◌≤◌, Bool, true, false, refl, sym, ap, ap₂, ◌∙◌, subst, List, []}
-use Rattle.std.proofs.Common.{◌∷◌, ◌||◌, ◌&&◌, Option, Some, None, arith}
+use Rattle.std.proofs.Common.{ℕ, ◌≡◌, ◌≤◌, Bool, true, sym, ap, ap₂, ◌∙◌, subst, List, []}
+use Rattle.std.proofs.Common.{◌∷◌, ◌||◌, ◌&&◌, Option, None, arith}
 use Rattle.std.specs.Prelude.{not, nat_le}
 use Rattle.std.specs.List.{list_any}
 use Rattle.std.specs.FinSet as set
 use Rattle.grid_geometry.specs.Held.{is_held}
 use Rattle.grid_geometry.specs.Position.{Position}
-use Rattle.grid_geometry.specs.Segment.{Segment, segment, segment_eq, is_end}
+use Rattle.grid_geometry.specs.Segment.{Segment, segment, segment_eq}
 use Rattle.grid_geometry.proofs.Conflicts.{segment-comm}
 use Rattle.ring_machine.specs.Ring as machine
-use Rattle.ring_machine.specs.Command.{Refusal, NoSegment, Occupied, TooLarge, NoVertex, Junction}
-use Rattle.ring_machine.specs.Command.{RingShort, SegmentExists, Sweeps}
+use Rattle.ring_machine.specs.Command.{Refusal, NoSegment, Occupied, TooLarge}
+use Rattle.ring_machine.specs.Command.{Sweeps}
 use Rattle.ring_machine.specs.Document.{Document}
-use Rattle.ring_machine.specs.Parts.{positions, size, is_segment, is_vertex, all_segments}
+use Rattle.ring_machine.specs.Parts.{positions, size, is_vertex, all_segments}
 use Rattle.ring_machine.specs.Planar.{first_pair, least_conflict}
-use Rattle.ring_machine.specs.Refusals.{first_of, conflict_of, planar, is_small, are_long, is_bridged}
-use Rattle.ring_machine.specs.Refusals.{◌unless◌, insert_refusals, remove_refusals}
-use Rattle.ring_machine.specs.Sweep.{insert_sweeps, remove_sweeps}
-use Rattle.ring_machine.specs.Vertices.{ins, del, is_junction}
+use Rattle.ring_machine.specs.Refusals.{first_of, conflict_of, planar, is_small}
+use Rattle.ring_machine.specs.Refusals.{◌unless◌, insert_refusals}
+use Rattle.ring_machine.specs.Sweep.{insert_sweeps}
+use Rattle.ring_machine.specs.Vertices.{ins}
 use Rattle.segment_index.specs.Candidates.{SegmentSet, has as among}
 use Rattle.local_planarity.specs.Edits.{IsAfter, IsEnds}
-use Rattle.local_planarity.specs.declared.leaving.Leaving.TheVariants.{EndingAt, One}
+use Rattle.local_planarity.specs.declared.leaving.Leaving.TheVariants.{One}
 use Rattle.arc_store.specs.declared.fault.EditFault.{EditFault}
-use Rattle.arc_store.specs.Edits.{IsInsertable, IsRemovable}
+use Rattle.arc_store.specs.Edits.{IsInsertable}
 use Rattle.arc_store.specs.Faults.{Refuses}
 use Rattle.arc_store.specs.Holds.{IsIndexed}
 use Rattle.arc_store.specs.Planned.{spokes}

@@ -1,13 +1,14 @@
 -- The plan of a move: what stands around the vertex, what comes and goes, and when it is refused.
 use Rattle.std.proofs.Common.{◌≡◌, ◌≢◌, ◌<◌, ◌+◌, ℕ, Bool, true, false, refl, sym, ap, ap₂, ◌∙◌}
 use Rattle.std.proofs.Common.{subst, List, [], ◌∷◌, map, length, take, get_or, ◌||◌, ◌&&◌, arith, Some, None, Option}
+use Rattle.std.proofs.Common.{Result, Ok, Err, OnOk, OnErr}
 use Rattle.std.specs.Prelude.{not}
 use Rattle.std.specs.List.{list_any}
 use Rattle.std.specs.FinMap as table
 use Rattle.std.specs.FinSet as set
-use Rattle.std.proofs.lemmas.Bool.{false≢true}
 use Rattle.std.proofs.lemmas.List.{length-map}
 use Rattle.std.proofs.lemmas.List.Folds.{list_any_more}
+use Rattle.std.proofs.lemmas.Result.{on_ok_weaker}
 use Rattle.std.proofs.lemmas.Simd.{map-map}
 use Rattle.grid_geometry.specs.Conflict.{conflict}
 use Rattle.grid_geometry.specs.Held.{is_held}
@@ -31,7 +32,8 @@ use Rattle.segment_index.proofs.Singles.{same_segment}
 use Rattle.shared_arcs.specs.Rings.{Rings}
 use Rattle.shared_arcs.specs.Joined.{Joined}
 use Rattle.local_planarity.specs.declared.leaving.Leaving.TheVariants.{EndingAt}
-use Rattle.local_planarity.specs.Edits.{IsAfter, IsEnds, IsHeld}
+use Rattle.local_planarity.specs.Edits.{AreApart, IsAfter, IsEnds, IsHeld}
+use Rattle.local_planarity.proofs.Least.{apart_if_none}
 use Rattle.arc_store.specs.declared.fault.EditFault.{EditFault}
 use Rattle.arc_store.specs.declared.fault.EditFault.TheVariants as edit
 use Rattle.arc_store.specs.declared.frame.Frame.{Frame}
@@ -46,7 +48,7 @@ use Rattle.arc_store.proofs.Base.{sweeps_by_joined}
 use Rattle.arc_store.proofs.Indexed.{has-eq, indexed_ends, indexed_only, indexed_has}
 use Rattle.arc_store.proofs.Planned.{any_at}
 use Rattle.arc_store.proofs.Insertions.{any_mapped}
-use Rattle.arc_store.proofs.Moved.{moved_to, segments_to_single, not_there, added_new, added_single}
+use Rattle.arc_store.proofs.Moved.{segments_to_single, not_there, added_new, added_single}
 use Rattle.arc_store.proofs.Moved.{indexed_moved, reindexed, holds_moved, size_moved, document_moved}
 use Rattle.arc_store.proofs.SegmentCounts.{as_many}
 
@@ -98,13 +100,13 @@ module _ (s : Stored) (held : SegmentSet) (h : Holds s held) (k : ℕ) (p q : Po
       (segments_to_single s.places p h.whole.distinct r.keys (λ x i. (joined_kept s h.whole k x ((r.joined x).0 (in_contains r.keys x i))).1) r.once)
 
   -- the segments of the moved document are there after the edit
-  pub plan_after : IsAfter held (EndingAt p) (spokes q around) (all_segments (put (document_of s) p q))
+  plan_after : IsAfter held (EndingAt p) (spokes q around) (all_segments (put (document_of s) p q))
   plan_after t =
       indexed_moved s h.whole k p q at free r.keys r.joined held h.indexed t
       ∙ ap (λ z. (set.contains held t && not (is_end p t)) || has_segment z t) (sym (spokes_are q))
 
   -- what the positions around p say of the sweep
-  pub plan_sweeps :
+  plan_sweeps :
       (list_any (edge_sweeps (document_of s) p q) around || crosses_on_way (document_of s) p q)
       ≡ move_sweeps (document_of s) p q
   plan_sweeps =
@@ -113,14 +115,14 @@ module _ (s : Stored) (held : SegmentSet) (h : Holds s held) (k : ℕ) (p q : Po
       ∙ sym (sweeps_by_joined s h.whole k p at r.keys r.joined q)
 
   -- the index holds the segments of the moved document
-  pub plan_indexed : (held' : SegmentSet) → Exchanges held (spokes q around) (spokes p around) held'
+  plan_indexed : (held' : SegmentSet) → Exchanges held (spokes q around) (spokes p around) held'
       → IsIndexed (put (document_of s) p q) held'
   plan_indexed held' e =
       reindexed s h.whole k p q at free r.keys r.joined held held' h.indexed (λ t.
       e t ∙ ap₂ (λ y z. (set.contains held t || has_segment y t) && not (has_segment z t)) (spokes_are q) (spokes_are p))
 
   -- there are as many segments
-  pub plan_count : (held' : SegmentSet) → Exchanges held (spokes q around) (spokes p around) held'
+  plan_count : (held' : SegmentSet) → Exchanges held (spokes q around) (spokes p around) held'
       → length (distinct_segments (put (document_of s) p q)) ≡ length (distinct_segments (document_of s))
   plan_count held' e =
       omega (
@@ -133,7 +135,7 @@ module _ (s : Stored) (held : SegmentSet) (h : Holds s held) (k : ℕ) (p q : Po
 -- ---- the map
 
 -- an accepted move keeps what is true of the tables
-pub kept_moved : {A : Type 0} (frame : Frame A) (rings : Rings) (places : Placement) (held held' : SegmentSet)
+kept_moved : {A : Type 0} (frame : Frame A) (rings : Rings) (places : Placement) (held held' : SegmentSet)
     (number size_kept single : ℕ) → IsKept frame rings places held number size_kept single
     → (k : ℕ) (p q : Position) → table.get places k ≡ Some p
     → is_vertex (document_of (stored frame rings places)) q ≡ false
@@ -162,18 +164,6 @@ unfolding move_refusals first_pair
 move_first d p q v f =
     ap₂ (λ a b. first_of ((NoVertex unless a) ∷ (Occupied unless not b) ∷ conflict_of (least_conflict (all_segments (put d p q))) ∷ (Sweeps unless not (move_sweeps d p q)) ∷ [])) v f
 
-pub move_accepts : (d : Document) (p q : Position) → is_vertex d p ≡ true → is_vertex d q ≡ false
-    → least_conflict (all_segments (put d p q)) ≡ None → move_sweeps d p q ≡ false
-    → first_of (move_refusals d p q) ≡ None
-move_accepts d p q v f e w =
-    move_first d p q v f ∙ ap₂ (λ o b. first_of (conflict_of o ∷ (Sweeps unless not b) ∷ [])) e w
-
-pub move_refuses_sweep : (d : Document) (p q : Position) → is_vertex d p ≡ true
-    → is_vertex d q ≡ false → least_conflict (all_segments (put d p q)) ≡ None
-    → move_sweeps d p q ≡ true → first_of (move_refusals d p q) ≡ Some Sweeps
-move_refuses_sweep d p q v f e w =
-    move_first d p q v f ∙ ap₂ (λ o b. first_of (conflict_of o ∷ (Sweeps unless not b) ∷ [])) e w
-
 -- a fault that names the first of two refusals, or says nothing, fits both
 pub refuses_first : (fault : EditFault) (o : Option Refusal) (os : List (Option Refusal))
     → Refuses fault o → Refuses fault (first_of (o ∷ os))
@@ -190,7 +180,7 @@ refuses_first (edit.Conflict s t) None os h = absurd cc
 refuses_first edit.Sweeps None os h = absurd cc
 refuses_first edit.OutOfMemory None os h = tt
 
-pub move_refuses : (d : Document) (p q : Position) → is_vertex d p ≡ true → is_vertex d q ≡ false
+move_refuses : (d : Document) (p q : Position) → is_vertex d p ≡ true → is_vertex d q ≡ false
     → (fault : EditFault) → Refuses fault (conflict_of (least_conflict (all_segments (put d p q))))
     → Refuses fault (first_of (move_refusals d p q))
 move_refuses d p q v f fault h =
@@ -228,3 +218,67 @@ pub way_found : (d : Document) (held : SegmentSet) → IsIndexed d held → (p q
     → found ≡ (list_any (edge_sweeps d p q) around || crosses_on_way d p q)
 way_found d held i p q around found h none =
     h (all_segments d) (indexed_has d held i) ∙ ap (λ b. b || crosses_on_way d p q) (sym none)
+
+-- ---- the tests of a move, as the code makes them
+
+-- no two held segments conflict
+pub held_apart : (s : Stored) (held : SegmentSet) → Holds s held → AreApart held
+unfolding first_pair
+held_apart s held h =
+    apart_if_none held (all_segments (document_of s)) (indexed_has (document_of s) held h.indexed) h.proper.apart
+
+module _ (s : Stored) (held : SegmentSet) (h : Holds s held) (d : Document) (is : document_of s ≡ d) (k : ℕ) (p q : Position) (at : table.get s.places k ≡ Some p) (vertex : is_vertex d p ≡ true) (free : is_vertex d q ≡ false) (around : List Position) (r : AreAround s.places s.rings k around) (after : List Segment) (comes : after ≡ spokes q around) where
+  was_free : is_vertex (document_of s) q ≡ false
+  was_free = ap (λ z. is_vertex z q) is ∙ free
+
+  passed : IsAfter held (EndingAt p) after (all_segments (put d p q))
+  passed =
+      subst (λ z. IsAfter held (EndingAt p) z (all_segments (put d p q))) (sym comes)
+      (subst (λ z. IsAfter held (EndingAt p) (spokes q around) (all_segments (put z p q))) is (plan_after s held h k p q at was_free around r))
+
+  -- the fault of the first pair in conflict
+  pub move_conflicts : (fault : EditFault)
+      → ((ss : List Segment) → IsAfter held (EndingAt p) after ss → Refuses fault (conflict_of (least_conflict ss)))
+      → Refuses fault (first_of (move_refusals d p q))
+  move_conflicts fault f = move_refuses d p q vertex free fault (f (all_segments (put d p q)) passed)
+
+  -- where no two are in conflict, what was found to be swept over decides
+  pub move_decided : (seen : List Position) → seen ≡ around → (found : Bool)
+      → ((ss : List Segment) → IsAfter held (EndingAt p) after ss → least_conflict ss ≡ None)
+      → ((e : Document) → IsIndexed e held → found ≡ (list_any (edge_sweeps e p q) seen || crosses_on_way e p q))
+      → first_of (move_refusals d p q) ≡ first_of ((Sweeps unless not found) ∷ [])
+  move_decided seen all found f g =
+      move_first d p q vertex free
+      ∙ ap₂ (λ o b. first_of (conflict_of o ∷ (Sweeps unless not b) ∷ [])) (f (all_segments (put d p q)) passed)
+      (sym (g (document_of s) h.indexed ∙ ap (λ z. list_any (edge_sweeps (document_of s) p q) z || crosses_on_way (document_of s) p q) all
+      ∙ plan_sweeps s held h k p q at was_free around r ∙ ap (λ z. move_sweeps z p q) is))
+
+-- ---- the map after the last call of a move
+
+-- the document is the moved one
+pub document_after : {A X E : Type 0} (result : Result X E) (frame : Frame A) (rings : Rings)
+    (places places' : Placement) → IsWhole (stored frame rings places) → (d : Document)
+    → document_of (stored frame rings places) ≡ d → (k : ℕ) (p q : Position)
+    → table.get places k ≡ Some p → is_vertex d q ≡ false
+    → OnOk result (places' ≡ table.insert places k q)
+    → OnOk result (document_of (stored frame rings places') ≡ put d p q)
+document_after result frame rings places places' w d is k p q at free moved =
+    on_ok_weaker result (λ m. ap (λ z. document_of (stored frame rings z)) m ∙ document_moved (stored frame rings places) w k p q at (ap (λ z. is_vertex z q) is ∙ free) ∙ ap (λ z. put z p q) is) moved
+
+-- what is true of the tables stays, whether the call fails or not
+pub kept_after : {A X E : Type 0} (result : Result X E) (frame : Frame A) (rings : Rings)
+    (places places' : Placement) (held held' : SegmentSet) (number size_kept single : ℕ)
+    → IsKept frame rings places held number size_kept single → (d : Document)
+    → document_of (stored frame rings places) ≡ d → (k : ℕ) (p q : Position)
+    → table.get places k ≡ Some p → is_vertex d q ≡ false
+    → first_of (move_refusals d p q) ≡ None
+    → (around : List Position) → AreAround places rings k around
+    → (added gone : List Segment) → added ≡ spokes q around → gone ≡ spokes p around
+    → OnOk result (places' ≡ table.insert places k q) → OnOk result (Exchanges held added gone held')
+    → OnErr result (places' ≡ places) → OnErr result (held' ≡ held)
+    → IsKept frame rings places' held' number size_kept single
+kept_after (Ok x) frame rings places places' held held' number size_kept single h d is k p q at free none around r added gone comes goes moved exchanged same unchanged =
+    subst (λ z. IsKept frame rings z held' number size_kept single) (sym moved) (kept_moved frame rings places held held' number size_kept single h k p q at (ap (λ z. is_vertex z q) is ∙ free) (ap (λ z. first_of (move_refusals z p q)) is ∙ none) around r
+    (λ t. exchanged t ∙ ap₂ (λ y z. (set.contains held t || has_segment y t) && not (has_segment z t)) comes goes))
+kept_after (Err e) frame rings places places' held held' number size_kept single h d is k p q at free none around r added gone comes goes moved exchanged same unchanged =
+    subst (λ z. IsKept frame rings z held' number size_kept single) (sym same) (subst (λ z. IsKept frame rings places z number size_kept single) (sym unchanged) h)

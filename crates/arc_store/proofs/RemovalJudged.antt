@@ -9,7 +9,7 @@ use Rattle.grid_geometry.specs.Segment.{Segment, segment_eq, is_end}
 use Rattle.ring_machine.specs.Ring as machine
 use Rattle.ring_machine.specs.Command.{Refusal, NoVertex, Junction, RingShort, SegmentExists, Sweeps}
 use Rattle.ring_machine.specs.Document.{Document}
-use Rattle.ring_machine.specs.Parts.{positions, is_vertex, all_segments}
+use Rattle.ring_machine.specs.Parts.{positions, all_segments}
 use Rattle.ring_machine.specs.Planar.{first_pair, least_conflict}
 use Rattle.ring_machine.specs.Refusals.{first_of, conflict_of, planar, are_long, is_bridged}
 use Rattle.ring_machine.specs.Refusals.{◌unless◌, remove_refusals}

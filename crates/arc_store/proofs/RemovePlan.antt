@@ -1,5 +1,5 @@
 -- The plan of a removal from between two vertices: what comes and goes, and what is kept.
-use Rattle.std.proofs.Common.{◌≡◌, ◌≢◌, ◌≤◌, ◌+◌, ◌-◌, ℕ, Bool, true, false, refl, sym, ap, ap₂, ◌∙◌}
+use Rattle.std.proofs.Common.{◌≡◌, ◌≤◌, ◌+◌, ◌-◌, ℕ, Bool, true, false, refl, sym, ap, ap₂, ◌∙◌}
 use Rattle.std.proofs.Common.{subst, List, [], ◌∷◌, length, inl, inr, arith, Some, None}
 use Rattle.std.specs.FinMap as table
 use Rattle.std.specs.FinSet as set
@@ -33,7 +33,7 @@ use Rattle.arc_store.specs.Stored.{Stored, place, document_of}
 use Rattle.arc_store.proofs.Around.{AreTwo, bridged_two, segments_two, sweeps_two, unbridged_two}
 use Rattle.arc_store.proofs.Around.{two_apart, neighbours_none, neighbours_one, neighbours_more}
 use Rattle.arc_store.proofs.Base.{IsKept as IsPlaced, place_is, joined_kept, joined_apart, joined_back}
-use Rattle.arc_store.proofs.Base.{joined_segment, one_to, one_key, key_vertex}
+use Rattle.arc_store.proofs.Base.{joined_segment, one_to, key_vertex}
 use Rattle.arc_store.proofs.SegmentCounts.{as_many}
 use Rattle.arc_store.proofs.InsertPlan.{one_single, two_single}
 use Rattle.arc_store.proofs.Members.{any_in}
@@ -50,8 +50,7 @@ two_neighbours s w m p here inner (One a) h = absurd (neighbours_one s w m p her
 two_neighbours s w m p here inner (Two j k) h = (j, k, refl)
 two_neighbours s w m p here inner More h = absurd (false≢true (sym inner ∙ neighbours_more s w m p here h))
 
--- the segment that comes, of x and y, and those that go, of x and y to p, in the words of the tests
--- and of the tables
+-- the segment that comes is new, and those that go are held and stand once; so p may go
 pub record IsPlanned (d : Document) (held : SegmentSet) (p : Position) (after : Segment)
     (before : List Segment) : Type 0 where
   pub new : set.contains held after ≡ false
@@ -151,10 +150,6 @@ module _ (s : Stored) (held : SegmentSet) (h : Holds s held) (m j k : ℕ) (p : 
     is_y : b ≡ y
     is_y = place_is s.places k y second
 
-    ends_apart : x ≢ y
-    ends_apart e =
-        two.0 (one_key s.places h.whole.distinct j k first_placed second_placed (is_x ∙ e ∙ sym is_y))
-
     ends_off : has (x ∷ y ∷ []) p ≡ false
     ends_off = ap₂ (λ u v. has (u ∷ v ∷ []) p) (sym is_x) (sym is_y) ∙ remove_off
 
@@ -236,10 +231,6 @@ module _ {A : Type 0} {frame : Frame A} {rings : Rings} {places : Placement} {he
 
   pub three_apart : AreApart j k m
   three_apart = two_apart (stored frame rings places) f.kept.holds.whole m p f.here j k f.two
-
-  pub found_apart : (x y : Position) → table.get places j ≡ Some x → table.get places k ≡ Some y → x ≢ y
-  found_apart =
-      ends_apart (stored frame rings places) held f.kept.holds m j k p f.here f.two f.unjoined
 
   pub found_off : (x y : Position) → table.get places j ≡ Some x → table.get places k ≡ Some y
       → has (x ∷ y ∷ []) p ≡ false

@@ -11,7 +11,7 @@ use Rattle.ring_machine.specs.Parts.{all_segments}
 use Rattle.ring_machine.specs.Query.{add_segment, distinct_segments}
 use Rattle.segment_index.specs.Candidates.{SegmentSet, AreAmong, AreSingle, segment_is, has, times_in}
 use Rattle.segment_index.proofs.Singles.{segment_total, same_sets, same_segment, is-itself, has-is}
-use Rattle.segment_index.proofs.Singles.{times-none, has-some}
+use Rattle.segment_index.proofs.Singles.{times-none}
 use Rattle.arc_store.specs.Holds.{IsIndexed}
 use Rattle.arc_store.specs.Planned.{AreNew, Gains, Exchanges}
 use Rattle.arc_store.proofs.Indexed.{has-eq}

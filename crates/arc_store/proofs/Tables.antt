@@ -1,6 +1,6 @@
 -- Tables after what came in went again, and sets of segments after an edit.
-use Rattle.std.proofs.Common.{ℕ, ◌≡◌, ◌≢◌, Bool, true, false, refl, sym, ap, ap₂, ◌∙◌, List, [], ◌∷◌}
-use Rattle.std.proofs.Common.{◌||◌, ◌&&◌, None, arith}
+use Rattle.std.proofs.Common.{ℕ, ◌≡◌, Bool, true, false, refl, sym, ap, ◌∙◌, List, [], ◌∷◌}
+use Rattle.std.proofs.Common.{◌||◌, ◌&&◌, None}
 use Rattle.std.specs.Prelude.{not}
 use Rattle.std.specs.FinMap as table
 use Rattle.std.specs.FinMap.{same_map, nat_cmp-IsAntisymmetric}
