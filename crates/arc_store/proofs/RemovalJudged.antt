@@ -1,41 +1,36 @@
 -- What the tests of a removal say of its refusals.
-use Rattle.std.proofs.Common.{ℕ, ◌≡◌, ◌≤◌, Bool, true, false, refl, sym, ap, ap₂, ◌∙◌, subst, List, []}
-use Rattle.std.proofs.Common.{◌∷◌, ◌||◌, ◌&&◌, Option, Some, None, arith}
-use Rattle.std.specs.Prelude.{not, nat_le}
+use Rattle.std.proofs.Common.{◌≡◌, Bool, true, false, refl, sym, ap, ap₂, ◌∙◌, subst, List, [], ◌∷◌}
+use Rattle.std.proofs.Common.{◌||◌, ◌&&◌, Option, None}
+use Rattle.std.specs.Prelude.{not}
 use Rattle.std.specs.List.{list_any}
-use Rattle.std.specs.FinSet as set
 use Rattle.grid_geometry.specs.Held.{is_held}
 use Rattle.grid_geometry.specs.Position.{Position}
-use Rattle.grid_geometry.specs.Segment.{Segment, segment, segment_eq, is_end}
-use Rattle.grid_geometry.proofs.Conflicts.{segment-comm}
+use Rattle.grid_geometry.specs.Segment.{Segment, segment_eq, is_end}
 use Rattle.ring_machine.specs.Ring as machine
-use Rattle.ring_machine.specs.Command.{Refusal, NoSegment, Occupied, TooLarge, NoVertex, Junction}
-use Rattle.ring_machine.specs.Command.{RingShort, SegmentExists, Sweeps}
+use Rattle.ring_machine.specs.Command.{Refusal, NoVertex, Junction, RingShort, SegmentExists, Sweeps}
 use Rattle.ring_machine.specs.Document.{Document}
-use Rattle.ring_machine.specs.Parts.{positions, size, is_segment, is_vertex, all_segments}
+use Rattle.ring_machine.specs.Parts.{positions, all_segments}
 use Rattle.ring_machine.specs.Planar.{first_pair, least_conflict}
-use Rattle.ring_machine.specs.Refusals.{first_of, conflict_of, planar, is_small, are_long, is_bridged}
-use Rattle.ring_machine.specs.Refusals.{◌unless◌, insert_refusals, remove_refusals}
-use Rattle.ring_machine.specs.Sweep.{insert_sweeps, remove_sweeps}
-use Rattle.ring_machine.specs.Vertices.{ins, del, is_junction}
-use Rattle.segment_index.specs.Candidates.{SegmentSet, has as among}
+use Rattle.ring_machine.specs.Refusals.{first_of, conflict_of, planar, are_long, is_bridged}
+use Rattle.ring_machine.specs.Refusals.{◌unless◌, remove_refusals}
+use Rattle.ring_machine.specs.Sweep.{remove_sweeps}
+use Rattle.ring_machine.specs.Vertices.{del, is_junction}
+use Rattle.segment_index.specs.Candidates.{SegmentSet}
 use Rattle.local_planarity.specs.Edits.{IsAfter, IsEnds}
-use Rattle.local_planarity.specs.declared.leaving.Leaving.TheVariants.{EndingAt, One}
+use Rattle.local_planarity.specs.declared.leaving.Leaving.TheVariants.{EndingAt}
 use Rattle.arc_store.specs.declared.fault.EditFault.{EditFault}
-use Rattle.arc_store.specs.Edits.{IsInsertable, IsRemovable}
+use Rattle.arc_store.specs.Edits.{IsRemovable}
 use Rattle.arc_store.specs.Faults.{Refuses}
-use Rattle.arc_store.specs.Holds.{IsIndexed}
-use Rattle.arc_store.specs.Planned.{spokes}
-use Rattle.arc_store.proofs.Indexed.{has-eq, indexed_ends, indexed_only}
-use Rattle.arc_store.proofs.Insertions.{segments_ins, segment_eq-sym}
+use Rattle.arc_store.proofs.Indexed.{has-eq}
 use Rattle.arc_store.proofs.MovePlan.{refuses_first}
-use Rattle.arc_store.proofs.Judged.{at_most, ends_of}
+use Rattle.arc_store.proofs.Judged.{ends_of}
 
 or_none : (y : Bool) → y ≡ (y || false)
 or_none true = refl
 or_none false = refl
 
 module _ (d : Document) (held : SegmentSet) (p : Position) (t : Segment) (i : IsRemovable d held p t) where
+  -- what is left to test: conflicts, and what the border sweeps over
   remove_first :
       first_of (remove_refusals d p)
       ≡ first_of (planar (del d p) ∷ (Sweeps unless not (remove_sweeps d p)) ∷ [])
@@ -47,12 +42,14 @@ module _ (d : Document) (held : SegmentSet) (p : Position) (t : Segment) (i : Is
       ∙ ap (λ x. first_of ((RingShort unless x) ∷ (SegmentExists unless not (is_bridged d p)) ∷ rest)) i.long
       ∙ ap (λ x. first_of ((SegmentExists unless not x) ∷ rest)) i.unjoined
 
+  -- the segments after the removal, in the words of the tests
   remove_after : IsAfter held (EndingAt p) (t ∷ []) (all_segments (del d p))
   remove_after s =
       has-eq (all_segments (del d p)) s
       ∙ i.without s
       ∙ ap₂ (λ y z. (y && not (is_end p s)) || z) (sym (i.indexed s)) (or_none (segment_eq s t) ∙ sym (has-eq (t ∷ []) s))
 
+  -- the fault of the first pair in conflict
   pub remove_refused : (fault : EditFault)
       → ((ss : List Segment) → IsAfter held (EndingAt p) (t ∷ []) ss → Refuses fault (conflict_of (least_conflict ss)))
       → Refuses fault (first_of (remove_refusals d p))
@@ -61,12 +58,16 @@ module _ (d : Document) (held : SegmentSet) (p : Position) (t : Segment) (i : Is
       subst (Refuses fault) (sym remove_first)
       (refuses_first fault (conflict_of (least_conflict (all_segments (del d p)))) ((Sweeps unless not (remove_sweeps d p)) ∷ []) (h (all_segments (del d p)) remove_after))
 
-  pub remove_decided : (found : Bool)
+  -- where no two are in conflict, what was found in the triangle of p and the ends decides
+  pub remove_decided : (ends : Segment) → ends ≡ t → (found : Bool)
       → ((ss : List Segment) → IsAfter held (EndingAt p) (t ∷ []) ss → least_conflict ss ≡ None)
-      → ((ps : List Position) → IsEnds held ps → found ≡ list_any (λ w. not (machine.has (t.lo ∷ p ∷ t.hi ∷ []) w) && is_held w t.lo p t.hi) ps)
+      → ((ps : List Position) → IsEnds held ps → found ≡ list_any (λ w. not (machine.has (ends.lo ∷ p ∷ ends.hi ∷ []) w) && is_held w ends.lo p ends.hi) ps)
       → first_of (remove_refusals d p) ≡ first_of ((Sweeps unless not found) ∷ [])
   unfolding first_pair
-  remove_decided found h s =
+  remove_decided ends same found h s =
       remove_first
       ∙ ap (λ o. first_of (conflict_of o ∷ (Sweeps unless not (remove_sweeps d p)) ∷ [])) (h (all_segments (del d p)) remove_after)
-      ∙ ap (λ y. first_of ((Sweeps unless not y) ∷ [])) (i.sweeps ∙ sym (s (positions d) (ends_of d held i.indexed)))
+      ∙ ap (λ y. first_of ((Sweeps unless not y) ∷ [])) (i.sweeps ∙ sym (s (positions d) (ends_of d held i.indexed) ∙ ap swept same))
+    where
+      swept : Segment → Bool
+      swept z = list_any (λ w. not (machine.has (z.lo ∷ p ∷ z.hi ∷ []) w) && is_held w z.lo p z.hi) (positions d)

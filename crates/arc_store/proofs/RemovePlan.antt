@@ -1,14 +1,14 @@
 -- The plan of a removal from between two vertices: what comes and goes, and what is kept.
-use Rattle.std.proofs.Common.{◌≡◌, ◌≢◌, ◌≤◌, ◌+◌, ◌-◌, ℕ, Bool, true, false, refl, sym, ap, ap₂, ◌∙◌}
-use Rattle.std.proofs.Common.{subst, List, [], ◌∷◌, length, ◌||◌, ◌&&◌, ◌⊎◌, inl, inr, arith, Some, None}
-use Rattle.std.specs.Prelude.{not}
+use Rattle.std.proofs.Common.{◌≡◌, ◌≤◌, ◌+◌, ◌-◌, ℕ, Bool, true, false, refl, sym, ap, ap₂, ◌∙◌}
+use Rattle.std.proofs.Common.{subst, List, [], ◌∷◌, length, inl, inr, arith, Some, None}
 use Rattle.std.specs.FinMap as table
 use Rattle.std.specs.FinSet as set
 use Rattle.std.proofs.lemmas.Bool.{false≢true}
 use Rattle.grid_geometry.specs.Position.{Position}
-use Rattle.grid_geometry.specs.Segment.{Segment, segment, segment_eq, is_end}
+use Rattle.grid_geometry.specs.Segment.{Segment, segment, segment_eq}
 use Rattle.ring_machine.specs.Ring.{has}
-use Rattle.ring_machine.specs.Parts.{size, is_vertex, is_segment}
+use Rattle.ring_machine.specs.Document.{Document}
+use Rattle.ring_machine.specs.Parts.{size, is_segment}
 use Rattle.ring_machine.specs.Query.{distinct_segments}
 use Rattle.ring_machine.specs.Refusals.{first_of, remove_refusals, are_long, is_bridged}
 use Rattle.ring_machine.specs.Vertices.{del, is_junction}
@@ -16,25 +16,47 @@ use Rattle.ring_machine.proofs.First.{In}
 use Rattle.ring_machine.proofs.Neighbours.{has-in}
 use Rattle.ring_machine.proofs.RingSegments.{segment_eq-true}
 use Rattle.vertex_index.specs.Placement.{Placement}
-use Rattle.segment_index.specs.Candidates.{SegmentSet, AreAmong, AreSingle, segment_is, has as has_segment}
+use Rattle.segment_index.specs.Candidates.{SegmentSet, AreAmong, AreSingle, segment_is}
 use Rattle.segment_index.proofs.Singles.{same_segment}
-use Rattle.shared_arcs.specs.Joined.{Joined}
+use Rattle.shared_arcs.specs.declared.around.Neighbours.{Neighbours}
+use Rattle.shared_arcs.specs.declared.around.Neighbours.TheVariants as neighbours
+use Rattle.shared_arcs.specs.declared.around.Neighbours.TheVariants.{One, Two, More}
+use Rattle.shared_arcs.specs.Edited.{AreApart}
+use Rattle.shared_arcs.specs.Joined.{Joined, AreNeighbours}
 use Rattle.shared_arcs.specs.Rings.{Rings, users_of}
 use Rattle.arc_store.specs.declared.frame.Frame.{Frame}
 use Rattle.arc_store.specs.Edits.{IsRemovable, TakenOut}
-use Rattle.arc_store.specs.Holds.{IsIndexed, Holds}
+use Rattle.arc_store.specs.Holds.{IsWhole, IsIndexed, Holds}
 use Rattle.arc_store.specs.Kept.{IsKept, stored}
 use Rattle.arc_store.specs.Planned.{AreNew, Exchanges, spokes}
 use Rattle.arc_store.specs.Stored.{Stored, place, document_of}
-use Rattle.arc_store.proofs.Around.{AreTwo, bridged_two, segments_two, sweeps_two}
+use Rattle.arc_store.proofs.Around.{AreTwo, bridged_two, segments_two, sweeps_two, unbridged_two}
+use Rattle.arc_store.proofs.Around.{two_apart, neighbours_none, neighbours_one, neighbours_more}
 use Rattle.arc_store.proofs.Base.{IsKept as IsPlaced, place_is, joined_kept, joined_apart, joined_back}
-use Rattle.arc_store.proofs.Base.{joined_segment, one_to}
+use Rattle.arc_store.proofs.Base.{joined_segment, one_to, key_vertex}
 use Rattle.arc_store.proofs.SegmentCounts.{as_many}
 use Rattle.arc_store.proofs.InsertPlan.{one_single, two_single}
 use Rattle.arc_store.proofs.Members.{any_in}
-use Rattle.arc_store.proofs.Removed.{Removing, document_removed, reindexed_removed, holds_removed}
-use Rattle.arc_store.proofs.Removed.{size_removed}
+use Rattle.arc_store.proofs.Removed.{Removing, without_vertex, document_removed, reindexed_removed}
+use Rattle.arc_store.proofs.Removed.{holds_removed, size_removed}
 use Rattle.arc_store.proofs.RingUsers.{users_same}
+
+-- where a vertex is no junction, the answer on its neighbours gives two
+pub two_neighbours : (s : Stored) → IsWhole s → (m : ℕ) (p : Position) → table.get s.places m ≡ Some p
+    → is_junction (document_of s) p ≡ false → (n : Neighbours) → AreNeighbours s.rings m n
+    → (j : ℕ) × (k : ℕ) × (n ≡ Two j k)
+two_neighbours s w m p here inner neighbours.None h = absurd (neighbours_none s w m p here h)
+two_neighbours s w m p here inner (One a) h = absurd (neighbours_one s w m p here a h)
+two_neighbours s w m p here inner (Two j k) h = (j, k, refl)
+two_neighbours s w m p here inner More h = absurd (false≢true (sym inner ∙ neighbours_more s w m p here h))
+
+-- the segment that comes is new, and those that go are held and stand once; so p may go
+pub record IsPlanned (d : Document) (held : SegmentSet) (p : Position) (after : Segment)
+    (before : List Segment) : Type 0 where
+  pub new : set.contains held after ≡ false
+  pub among : AreAmong held before
+  pub single : AreSingle before
+  pub removable : IsRemovable d held p after
 
 module _ (s : Stored) (held : SegmentSet) (h : Holds s held) (m j k : ℕ) (p : Position) (here : table.get s.places m ≡ Some p) (two : AreTwo s m j k) (unjoined : is_bridged (document_of s) p ≡ false) where
   abbrev a : Position
@@ -53,14 +75,14 @@ module _ (s : Stored) (held : SegmentSet) (h : Holds s held) (m j k : ℕ) (p : 
   joined_k = (two.1 k).1 (inr refl)
 
   -- both have positions
-  pub first_placed : IsPlaced s.places j
+  first_placed : IsPlaced s.places j
   first_placed = (joined_kept s h.whole m j joined_j).1
 
-  pub second_placed : IsPlaced s.places k
+  second_placed : IsPlaced s.places k
   second_placed = (joined_kept s h.whole m k joined_k).1
 
   -- p is neither of them
-  pub remove_off : has (a ∷ b ∷ []) p ≡ false
+  remove_off : has (a ∷ b ∷ []) p ≡ false
   remove_off = by (has (a ∷ b ∷ []) p) refl
     where
       by : (c : Bool) → has (a ∷ b ∷ []) p ≡ c → has (a ∷ b ∷ []) p ≡ false
@@ -71,7 +93,7 @@ module _ (s : Stored) (held : SegmentSet) (h : Holds s held) (m j k : ℕ) (p : 
       ])
 
   -- the segment of the two is new
-  pub bridge_new : set.contains held (segment a b) ≡ false
+  bridge_new : set.contains held (segment a b) ≡ false
   bridge_new = h.indexed (segment a b) ∙ sym (bridged_two s h.whole m p here j k two) ∙ unjoined
 
   bridge_news : AreNew held (segment a b ∷ [])
@@ -84,7 +106,7 @@ module _ (s : Stored) (held : SegmentSet) (h : Holds s held) (m j k : ℕ) (p : 
       at z (inr e) = absurd e
 
   -- those to p are held
-  pub remove_held : AreAmong held (spokes p (a ∷ b ∷ []))
+  remove_held : AreAmong held (spokes p (a ∷ b ∷ []))
   remove_held t i =
       let u = any_in (segment_is t) (spokes p (a ∷ b ∷ [])) i in
       h.indexed t ∙ ap (is_segment (document_of s)) (same_segment t u.0 u.2) ∙ at u.0 u.1
@@ -99,7 +121,8 @@ module _ (s : Stored) (held : SegmentSet) (h : Holds s held) (m j k : ℕ) (p : 
       at z (inr (inl e)) = ap (is_segment (document_of s)) (sym e) ∙ to k joined_k
       at z (inr (inr e)) = absurd e
 
-  pub remove_single : AreSingle (spokes p (a ∷ b ∷ []))
+  -- and are two
+  remove_single : AreSingle (spokes p (a ∷ b ∷ []))
   remove_single = two_single (segment a p) (segment b p) (differ (segment_eq (segment a p) (segment b p)) refl)
     where
       differ : (c : Bool) → segment_eq (segment a p) (segment b p) ≡ c
@@ -107,11 +130,11 @@ module _ (s : Stored) (held : SegmentSet) (h : Holds s held) (m j k : ℕ) (p : 
       differ false e = e
       differ true e = absurd (two.0 (one_to s.places p h.whole.distinct j k first_placed second_placed (segment_eq-true (segment a p) (segment b p) e)))
 
-  pub removable : is_junction (document_of s) p ≡ false → are_long (document_of s) p ≡ true
-      → is_vertex (document_of s) p ≡ true → IsRemovable (document_of s) held p (segment a b)
-  removable inner long vertex = record {
+  removable : is_junction (document_of s) p ≡ false → are_long (document_of s) p ≡ true
+      → IsRemovable (document_of s) held p (segment a b)
+  removable inner long = record {
     indexed = h.indexed;
-    vertex = vertex;
+    vertex = key_vertex s h.whole m p here;
     inner = inner;
     long = long;
     unjoined = unjoined;
@@ -119,51 +142,182 @@ module _ (s : Stored) (held : SegmentSet) (h : Holds s held) (m j k : ℕ) (p : 
     sweeps = sweeps_two s h.whole m p here j k two;
   }
 
+  -- the same of the positions that were read
+  module _ (x y : Position) (first : table.get s.places j ≡ Some x) (second : table.get s.places k ≡ Some y) where
+    is_x : a ≡ x
+    is_x = place_is s.places j x first
+
+    is_y : b ≡ y
+    is_y = place_is s.places k y second
+
+    ends_off : has (x ∷ y ∷ []) p ≡ false
+    ends_off = ap₂ (λ u v. has (u ∷ v ∷ []) p) (sym is_x) (sym is_y) ∙ remove_off
+
+    module _ (after : Segment) (before : List Segment) (comes : after ≡ segment x y) (goes : before ≡ spokes p (x ∷ y ∷ [])) where
+      is_after : segment a b ≡ after
+      is_after = ap₂ segment is_x is_y ∙ sym comes
+
+      is_before : spokes p (a ∷ b ∷ []) ≡ before
+      is_before = ap₂ (λ u v. spokes p (u ∷ v ∷ [])) is_x is_y ∙ sym goes
+
+      planned : is_junction (document_of s) p ≡ false → are_long (document_of s) p ≡ true
+          → IsPlanned (document_of s) held p after before
+      planned inner long =
+          subst (λ z. IsPlanned (document_of s) held p z before) is_after
+          (subst (IsPlanned (document_of s) held p (segment a b)) is_before (record {
+            new = bridge_new;
+            among = remove_held;
+            single = remove_single;
+            removable = removable inner long;
+          }))
+
+      exchanged : (held' : SegmentSet) → Exchanges held (after ∷ []) before held'
+          → Exchanges held (segment a b ∷ []) (spokes p (a ∷ b ∷ [])) held'
+      exchanged held' e =
+          subst (λ z. Exchanges held (z ∷ []) (spokes p (a ∷ b ∷ [])) held') (sym is_after)
+          (subst (λ z. Exchanges held (after ∷ []) z held') (sym is_before) e)
+
   module _ (rings : Rings) (held' : SegmentSet) (i : Removing s rings m j k p) (e : Exchanges held (segment a b ∷ []) (spokes p (a ∷ b ∷ [])) held') where
-    pub remove_indexed : IsIndexed (del (document_of s) p) held'
+    remove_indexed : IsIndexed (del (document_of s) p) held'
     remove_indexed = reindexed_removed s rings m j k p h.whole h.proper i held held' h.indexed e
 
     -- one segment less
-    pub remove_count : length (distinct_segments (del (document_of s) p)) + 1 ≡ length (distinct_segments (document_of s))
+    remove_count : length (distinct_segments (del (document_of s) p)) + 1 ≡ length (distinct_segments (document_of s))
     remove_count =
         omega (arith, as_many (document_of s) (del (document_of s) p) held held' (segment a b ∷ []) (spokes p (a ∷ b ∷ [])) h.indexed remove_indexed (one_single (segment a b)) bridge_news remove_single remove_held e)
 
 -- ---- the map
 
--- an accepted removal keeps what is true of the tables
-module _ {A : Type 0} (frame : Frame A) (rings rings' : Rings) (places places' : Placement) (held held' : SegmentSet) (next positions segments : ℕ) (h : IsKept frame rings places held next positions segments) (m j k : ℕ) (p : Position) (here : table.get places m ≡ Some p) (two : AreTwo (stored frame rings places) m j k)
-    (accepted : first_of (remove_refusals (document_of (stored frame rings places)) p) ≡ None) (unjoined : is_bridged (document_of (stored frame rings places)) p ≡ false) (out : TakenOut places places' rings rings' m k) where
-  abbrev was : Stored
-  was = stored frame rings places
+-- p is the position of m, which has two neighbours and may go, in a map that is kept
+pub record IsFound {A : Type 0} (frame : Frame A) (rings : Rings) (places : Placement) (held : SegmentSet)
+    (number positions segments : ℕ) (p : Position) (m j k : ℕ) : Type 0 where
+  pub kept : IsKept frame rings places held number positions segments
+  pub here : table.get places m ≡ Some p
+  pub two : AreTwo (stored frame rings places) m j k
+  pub inner : is_junction (document_of (stored frame rings places)) p ≡ false
+  pub long : are_long (document_of (stored frame rings places)) p ≡ true
+  pub unjoined : is_bridged (document_of (stored frame rings places)) p ≡ false
 
-  removing : Removing was rings' m j k p
-  removing = record { here = here; two = two; edited = out.edited; accepted = accepted }
+-- as the map's callers see it
+pub found : {A : Type 0} {frame : Frame A} {rings : Rings} {places : Placement} {held : SegmentSet}
+    {number positions segments : ℕ} {p : Position} {m j k : ℕ} {doc : Document}
+    → IsKept frame rings places held number positions segments
+    → document_of (stored frame rings places) ≡ doc → table.get places m ≡ Some p
+    → AreTwo (stored frame rings places) m j k → is_junction doc p ≡ false → are_long doc p ≡ true
+    → is_bridged doc p ≡ false
+    → IsFound frame rings places held number positions segments p m j k
+found {p = p} kept is here two inner long unjoined = record {
+  kept = kept;
+  here = here;
+  two = two;
+  inner = ap (λ d. is_junction d p) is ∙ inner;
+  long = ap (λ d. are_long d p) is ∙ long;
+  unjoined = ap (λ d. is_bridged d p) is ∙ unjoined;
+}
 
+module _ {A : Type 0} {frame : Frame A} {rings : Rings} {places : Placement} {held : SegmentSet} {number positions segments : ℕ} {p : Position} {m j k : ℕ} (f : IsFound frame rings places held number positions segments p m j k) where
+  -- both neighbours have positions
+  pub first_there : IsPlaced places j
+  first_there =
+      first_placed (stored frame rings places) held f.kept.holds m j k p f.here f.two f.unjoined
+
+  pub second_there : IsPlaced places k
+  second_there =
+      second_placed (stored frame rings places) held f.kept.holds m j k p f.here f.two f.unjoined
+
+  -- they are not joined, and the three are different
+  pub not_joined : ¬ Joined rings j k
+  not_joined = unbridged_two (stored frame rings places) f.kept.holds.whole m p f.here j k f.two f.unjoined
+
+  pub three_apart : AreApart j k m
+  three_apart = two_apart (stored frame rings places) f.kept.holds.whole m p f.here j k f.two
+
+  pub found_off : (x y : Position) → table.get places j ≡ Some x → table.get places k ≡ Some y
+      → has (x ∷ y ∷ []) p ≡ false
+  found_off = ends_off (stored frame rings places) held f.kept.holds m j k p f.here f.two f.unjoined
+
+  pub found_planned : (x y : Position) → table.get places j ≡ Some x → table.get places k ≡ Some y
+      → (after : Segment) (before : List Segment) → after ≡ segment x y → before ≡ spokes p (x ∷ y ∷ [])
+      → IsPlanned (document_of (stored frame rings places)) held p after before
+  found_planned x y first second after before comes goes =
+      planned (stored frame rings places) held f.kept.holds m j k p f.here f.two f.unjoined x y first second after before comes goes f.inner f.long
+
+  found_exchange : (x y : Position) → table.get places j ≡ Some x → table.get places k ≡ Some y
+      → (after : Segment) (before : List Segment) → after ≡ segment x y → before ≡ spokes p (x ∷ y ∷ [])
+      → (held' : SegmentSet) → Exchanges held (after ∷ []) before held'
+      → Exchanges held (segment (place places j) (place places k) ∷ []) (spokes p (place places j ∷ place places k ∷ [])) held'
+  found_exchange =
+      exchanged (stored frame rings places) held f.kept.holds m j k p f.here f.two f.unjoined
+
+-- what an accepted removal leaves
+pub record IsTaken {A : Type 0} (frame : Frame A) (rings rings' : Rings) (places places' : Placement)
+    (held' : SegmentSet) (number positions segments : ℕ) (p : Position) (m k : ℕ) : Type 0 where
   -- the document is the one without p
-  pub doc_removed : document_of (stored frame rings' places') ≡ del (document_of was) p
-  doc_removed =
-      ap (λ z. document_of (stored frame rings' z)) out.placed
-      ∙ document_removed was rings' m j k p h.holds.whole h.holds.proper removing
+  pub doc : document_of (stored frame rings' places') ≡ del (document_of (stored frame rings places)) p
+  -- there were positions and a segment to go
+  pub positions_there : users_of rings m k ≤ positions
+  pub segment_there : 1 ≤ segments
+  -- what is true of the tables stayed true
+  pub kept : IsKept frame rings' places' held' number (positions - users_of rings m k) (segments - 1)
 
-  -- how the size shrinks
-  pub size_shrinks : positions ≡ size (del (document_of was) p) + users_of rings m k
-  size_shrinks = omega (arith, h.positions, users_same was h.holds.whole m k, size_removed was rings' m j k p h.holds.whole h.holds.proper removing)
+module _ {A : Type 0} {frame : Frame A} {rings rings' : Rings} {places places' : Placement} {held : SegmentSet} {number positions segments : ℕ} {p : Position} {m j k : ℕ} (f : IsFound frame rings places held number positions segments p m j k) (out : TakenOut places places' rings rings' m k) (accepted : first_of (remove_refusals (document_of (stored frame rings places)) p) ≡ None) where
+  removing : Removing (stored frame rings places) rings' m j k p
+  removing = record { here = f.here; two = f.two; edited = out.edited; accepted = accepted }
 
-  module _ (e : Exchanges held (segment (place places j) (place places k) ∷ []) (spokes p (place places j ∷ place places k ∷ [])) held') where
-    -- there is a segment to go
-    pub one_there : 1 ≤ segments
-    one_there = omega (arith, h.segments, remove_count was held h.holds m j k p here two unjoined rings' held' removing e)
+  is_removed : document_of (without_vertex (stored frame rings places) rings' m) ≡ del (document_of (stored frame rings places)) p
+  is_removed =
+      document_removed (stored frame rings places) rings' m j k p f.kept.holds.whole f.kept.holds.proper removing
 
-    pub kept_removed : IsKept frame rings' places' held' next (positions - users_of rings m k) (segments - 1)
+  size_shrinks : positions ≡ size (del (document_of (stored frame rings places)) p) + users_of rings m k
+  size_shrinks =
+      omega (
+        arith,
+        f.kept.sized,
+        users_same (stored frame rings places) f.kept.holds.whole m k,
+        size_removed (stored frame rings places) rings' m j k p f.kept.holds.whole f.kept.holds.proper removing,
+      )
+
+  module _ (held' : SegmentSet) (e : Exchanges held (segment (place places j) (place places k) ∷ []) (spokes p (place places j ∷ place places k ∷ [])) held') where
+    segments_shrink : segments ≡ length (distinct_segments (del (document_of (stored frame rings places)) p)) + 1
+    segments_shrink =
+        omega (
+          arith,
+          f.kept.single,
+          remove_count (stored frame rings places) held f.kept.holds m j k p f.here f.two f.unjoined rings' held' removing e,
+        )
+
+    kept_removed : IsKept frame rings' places' held' number (positions - users_of rings m k) (segments - 1)
     kept_removed =
-        let x = remove_indexed was held h.holds m j k p here two unjoined rings' held' removing e in
-        let is = document_removed was rings' m j k p h.holds.whole h.holds.proper removing in
-        let fewer : segments - 1 ≡ length (distinct_segments (del (document_of was) p)) = omega (arith, h.segments, remove_count was held h.holds m j k p here two unjoined rings' held' removing e) in
-        let shrunk : positions - users_of rings m k ≡ size (del (document_of was) p) = omega (arith, size_shrinks) in
-        subst (λ z. IsKept frame rings' z held' next (positions - users_of rings m k) (segments - 1)) (sym out.placed) (record {
-          holds = holds_removed was held held' rings' m j k p h.holds removing x;
-          counted = h.counted;
-          next = h.next;
-          positions = shrunk ∙ sym (ap size is);
-          segments = fewer ∙ sym (ap (λ d. length (distinct_segments d)) is);
+        let shrunk : positions - users_of rings m k ≡ size (del (document_of (stored frame rings places)) p) = omega (arith, size_shrinks) in
+        let fewer : segments - 1 ≡ length (distinct_segments (del (document_of (stored frame rings places)) p)) = omega (arith, segments_shrink) in
+        subst (λ z. IsKept frame rings' z held' number (positions - users_of rings m k) (segments - 1)) (sym out.placed) (record {
+          holds = holds_removed (stored frame rings places) held held' rings' m j k p f.kept.holds removing
+              (remove_indexed (stored frame rings places) held f.kept.holds m j k p f.here f.two f.unjoined rings' held' removing e);
+          counted = f.kept.counted;
+          next = f.kept.next;
+          few = f.kept.few;
+          sized = shrunk ∙ sym (ap size is_removed);
+          single = fewer ∙ sym (ap (λ d. length (distinct_segments d)) is_removed);
         })
+
+    is_taken : IsTaken frame rings rings' places places' held' number positions segments p m k
+    is_taken = record {
+      doc = ap (λ z. document_of (stored frame rings' z)) out.placed ∙ is_removed;
+      positions_there = omega (arith, size_shrinks);
+      segment_there = omega (arith, segments_shrink);
+      kept = kept_removed;
+    }
+
+-- the tests accepted the removal, and the tables and the index changed
+pub taken : {A : Type 0} {frame : Frame A} {rings rings' : Rings} {places places' : Placement}
+    {held : SegmentSet} {number positions segments : ℕ} {p : Position} {m j k : ℕ} {x y : Position}
+    {after : Segment} {before : List Segment}
+    → IsFound frame rings places held number positions segments p m j k
+    → table.get places j ≡ Some x → table.get places k ≡ Some y → after ≡ segment x y
+    → before ≡ spokes p (x ∷ y ∷ [])
+    → ((d : Document) → IsRemovable d held p after → first_of (remove_refusals d p) ≡ None)
+    → TakenOut places places' rings rings' m k
+    → (held' : SegmentSet) → Exchanges held (after ∷ []) before held'
+    → IsTaken frame rings rings' places places' held' number positions segments p m k
+taken {frame = frame} {rings = rings} {places = places} {x = x} {y = y} {after = after} {before = before} f first second comes goes accepted out held' e =
+    is_taken f out (accepted (document_of (stored frame rings places)) (found_planned f x y first second after before comes goes).removable) held' (found_exchange f x y first second after before comes goes held' e)
