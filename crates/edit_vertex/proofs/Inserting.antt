@@ -1,6 +1,6 @@
 -- What an insertion is refused by, from how many rings have the segment and how large the map is.
 use Rattle.std.proofs.Common.{◌≡◌, ◌+◌, ◌-◌, ◌<◌, ◌≤◌, Bool, true, false, refl, sym, ap, ap₂, ◌∙◌, subst}
-use Rattle.std.proofs.Common.{List, [], ◌∷◌, length, Option, Some, inl, inr, arith}
+use Rattle.std.proofs.Common.{ℕ, List, [], ◌∷◌, length, Option, Some, inl, inr, arith}
 use Rattle.std.specs.Prelude.{not, nat_lt}
 use Rattle.std.specs.List.{list_any}
 use Rattle.std.proofs.lemmas.Bool.{false≢true}
@@ -30,13 +30,28 @@ use Rattle.arc_store.proofs.Insertions.{has_segment, has_segment_by, is_segment_
 use Rattle.arc_store.proofs.Members.{any_in}
 use Rattle.edit_vertex.specs.Untested.{is_early}
 use Rattle.edit_vertex.proofs.Late.{is_late, late_end, late_fault}
-use Rattle.edit_vertex.proofs.Lists.{kept_any, le_holds, le_fails}
+use Rattle.edit_vertex.proofs.Lists.{kept_any, lt_holds, le_holds, le_fails}
 
 -- ---- the segment
 
 -- it is one of the document where some ring has it
 pub segment_used : (d : Document) (s : Segment) → nat_lt 0 (length (users d s)) ≡ is_segment d s
 segment_used d s = kept_any (has_segment s) (rings d) ∙ sym (is_segment_by d s)
+
+-- how many rings have the segment, as it was asked
+pub used_times : (d : Document) (s t : Segment) (n : ℕ) → t ≡ s → n ≡ length (users d t)
+    → n ≡ length (users d s)
+used_times d s t n is h = h ∙ ap (λ z. length (users d z)) is
+
+pub used_border : (d : Document) (s : Segment) (n : ℕ) → n ≡ length (users d s) → (n ≡ 0 → ⊥)
+    → is_segment d s ≡ true
+used_border d s n h some =
+    let more : 0 < length (users d s) = omega (arith, h, some) in
+    sym (segment_used d s) ∙ lt_holds 0 (length (users d s)) more
+
+pub unused_border : (d : Document) (s : Segment) (n : ℕ) → n ≡ length (users d s) → n ≡ 0
+    → is_segment d s ≡ false
+unused_border d s n h none = sym (segment_used d s) ∙ ap (nat_lt 0) (sym h ∙ none)
 
 differ : (p q : Position) → position_eq p q ≡ false → p ≡ q → ⊥
 differ p q h e = false≢true (sym h ∙ ap (λ z. position_eq z q) e ∙ position_eq-refl q)

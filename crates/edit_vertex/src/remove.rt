@@ -41,18 +41,20 @@ pub(crate) fn remove_now<'a, I: SegIndex, A: Allocator + Copy>(
         (λ fault. IsTrue (is_early fault) → map.new.tests ≡ map.old.tests) }
     ensures next { map.new.next ≡ map.old.next }
 {
-    match map.spot(p) {
-        Some(Spot::Between(a, b, shortest)) => {
-            if shortest <= FEWEST_POSITIONS {
+    let Some(spot) = map.spot(p) else {
+        return Err(EditFault::NoVertex);
+    };
+    match &spot {
+        Spot::Between(a, b, shortest) => {
+            if *shortest <= FEWEST_POSITIONS {
                 return Err(EditFault::RingShort);
             }
-            if is_joined(map, a, b) {
+            if is_joined(map, *a, *b) {
                 return Err(EditFault::SegmentExists);
             }
             map.raw_remove(p)
         }
-        Some(Spot::Junction) => Err(EditFault::Junction),
-        None => Err(EditFault::NoVertex),
+        Spot::Junction => Err(EditFault::Junction),
     }
 }
 

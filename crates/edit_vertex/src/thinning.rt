@@ -27,10 +27,12 @@ fn is_thin<'a, I: SegIndex, A: Allocator + Copy>(map: &Map<'a, I, A>, p: Pos, t:
     ensures { result
         ≡ (is_vertex map.now.doc p && (not (is_junction map.now.doc p) && is_flat t map.now.doc p)) }
 {
-    match map.spot(p) {
-        Some(Spot::Between(a, b, _)) => is_flat_at(a, p, b, t),
-        Some(Spot::Junction) => false,
-        None => false,
+    let Some(spot) = map.spot(p) else {
+        return false;
+    };
+    match &spot {
+        Spot::Between(a, b, _) => is_flat_at(*a, p, *b, t),
+        Spot::Junction => false,
     }
 }
 

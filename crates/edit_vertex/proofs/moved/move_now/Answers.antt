@@ -17,6 +17,6 @@ returns-then-has_vertex-clause-refused g c =
 
 pub returns-clause-untested : goal.returns-clause-untested
 returns-clause-untested g c =
-    IfErr-weaker c.raw_move.result (λ fault. Refuses fault (first_of (move_refusals c.args.map.now.doc c.args.p c.args.q))) (λ fault. is_early fault ≡ true → c.raw_move.new.map.tests ≡ c.args.map.now.tests)
+    IfErr-weaker c.raw_move.result (λ fault. Refuses fault (first_of (move_refusals c.args.map.now.doc c.args.p c.args.q))) (λ fault. is_early fault ≡ true → c.raw_move.new.self.tests ≡ c.args.map.now.tests)
     (λ fault r. not_early fault (move_late c.args.map.now.doc c.args.p c.args.q (sym c.has_vertex.ensures ∙ c.if-not-has_vertex.false) (sym c.has_vertex-2.ensures ∙ c.if-has_vertex.false) fault r))
     c.raw_move.ensures.refused

@@ -18,7 +18,7 @@ returns-in-Ok-clause-thinned g c = λ n.
 
 pub returns-in-Ok-clause-proper : goal.returns-in-Ok-clause-proper
 returns-in-Ok-clause-proper g c =
-    subst Proper (sym c.in-Ok.ensures.removed) (removed c.args.map.now.doc c.args.p c.requires c.in-Ok.ensures.accepted).0
+    subst Proper (sym c.in-Ok.ensures.removed) (removed c.args.map.now.doc c.args.p c.requires.proper c.in-Ok.ensures.accepted).0
 
 pub returns-in_default : goal.returns-in_default
 returns-in_default g c =
@@ -26,6 +26,6 @@ returns-in_default g c =
     record {
       thinned = λ n. thin_refused c.args.t c.args.map.now.doc c.args.p n (ap (λ t. is_thin t c.args.map.now.doc c.args.p) (sym same) ∙ sym c.is_thin.ensures ∙ c.if-not-is_thin.false) c.in-Err.fault c.in-Err.ensures.refused c.in_default.not-OutOfMemory c.remove_now.new.map.doc c.in-Err.ensures.unchanged;
       unchanged = tt;
-      proper = subst Proper (sym c.in-Err.ensures.unchanged) c.requires;
+      proper = subst Proper (sym c.in-Err.ensures.unchanged) c.requires.proper;
       next = c.in-Err.ensures.next;
     }
