@@ -24,4 +24,5 @@ pub mod Planned
 pub mod SegmentCounts
 pub mod MovePlan
 pub mod AroundPlan
+pub mod FrameLemmas
 mod Examples
