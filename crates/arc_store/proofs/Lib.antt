@@ -25,4 +25,8 @@ pub mod SegmentCounts
 pub mod MovePlan
 pub mod AroundPlan
 pub mod FrameLemmas
+pub mod Reading
+pub mod SpotLemmas
+pub mod SortedOnce
+pub mod VertexLists
 mod Examples
