@@ -136,15 +136,15 @@ same_key k = grind (arith, nat_tests)
 one_key : (j k : ℕ) → eq_by_cmp nat_cmp j k ≡ true → j ≡ k
 one_key j k h = grind (arith, nat_tests)
 
+first_true : (a b : Bool) → T (a && b) → T a
+first_true true b p = tt
+first_true false b p = absurd p
+
+second_true : (a b : Bool) → T (a && b) → T b
+second_true true b p = p
+second_true false b p = absurd p
+
 module _ {X : Type 0} where
-  first_true : (a b : Bool) → T (a && b) → T a
-  first_true true b p = tt
-  first_true false b p = absurd p
-
-  second_true : (a b : Bool) → T (a && b) → T b
-  second_true true b p = p
-  second_true false b p = absurd p
-
   -- no entry has a lesser key
   none_below : (k : ℕ) (es : List (ℕ × X)) → T (below_all nat_cmp k es)
       → has_key k (map (λ e. e.0) es) ≡ false
