@@ -29,4 +29,5 @@ pub mod Reading
 pub mod SpotLemmas
 pub mod SortedOnce
 pub mod VertexLists
+pub mod KeyLists
 mod Examples

@@ -18,7 +18,7 @@ use Rattle.ring_machine.proofs.First.{In}
 
 -- ---- the same elements
 
-in_at : {A : Type 0} (xs : List A) (k : ℕ) (d : A) → k < length xs → In (get_or xs k d) xs
+pub in_at : {A : Type 0} (xs : List A) (k : ℕ) (d : A) → k < length xs → In (get_or xs k d) xs
 in_at [] k d l = absurd (omega arith)
 in_at (x ∷ xs) zero d l = inl refl
 in_at (x ∷ xs) (suc k) d l = inr (in_at xs k d (omega arith))
