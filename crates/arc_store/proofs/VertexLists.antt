@@ -1,7 +1,7 @@
 -- The vertices of a kept map: the positions of its keys, and of the keys along its rings.
 use Rattle.std.proofs.Common.{◌≡◌, ◌↔◌, ℕ, Bool, true, false, refl, sym, ap, ap₂, ◌∙◌, subst, List, []}
 use Rattle.std.proofs.Common.{◌∷◌, map, length, ◌||◌, ◌&&◌, inl, inr, arith, Contains, Some, is_some}
-use Rattle.std.specs.Prelude.{◌==◌, not, T}
+use Rattle.std.specs.Prelude.{◌==◌, not, T, Vec, unwrap_or}
 use Rattle.std.specs.FinMap as table
 use Rattle.std.specs.List.{list_any, flat_map, fold, AllByRecursion, IsDistinct}
 use Rattle.std.specs.Ordering.{nat_cmp, is_lt, is_eq, eq_by_cmp}
@@ -23,7 +23,9 @@ use Rattle.ring_machine.proofs.Neighbours.{in-map, in-flat_map, has-in, in-has}
 use Rattle.ring_machine.proofs.Order.{and_both, position_eq-true}
 use Rattle.ring_machine.proofs.Removal.{none_parts, not_true}
 use Rattle.ring_machine.proofs.RingsOf.{rings-in_rings}
-use Rattle.shared_arcs.specs.Rings.{begins}
+use Rattle.vertex_index.specs.Placement.{Placement}
+use Rattle.shared_arcs.specs.Rings.{Rings, begins}
+use Rattle.arc_store.specs.declared.frame.Frame.{Frame}
 use Rattle.arc_store.specs.Frames.{frame_of, feature_numbers, IsCounted}
 use Rattle.arc_store.specs.Holds.{IsWhole}
 use Rattle.arc_store.specs.Kept.{stored}
@@ -31,7 +33,9 @@ use Rattle.arc_store.specs.Keyed.{all_rings}
 use Rattle.arc_store.specs.Stored.{Stored, place, edges_under, positions_along, ring_under, document_of}
 use Rattle.arc_store.proofs.Base.{key_vertex, vertex_key, kept_place, place_is, place_kept, distinct_places, IsKept}
 use Rattle.arc_store.proofs.KeyRings.{has_key, in_canonical, of_canonical}
-use Rattle.arc_store.proofs.Members.{any_in, in_any, in_mapped, in_flat, same_answer}
+use Rattle.arc_store.proofs.Base.{framed, begin_kept}
+use Rattle.arc_store.proofs.FrameLemmas.{frame_rings}
+use Rattle.arc_store.proofs.Members.{any_in, in_any, in_mapped, in_flat, same_answer, contains_in}
 use Rattle.arc_store.proofs.SortedOnce.{Rising, same_rising, all_rise, in_all, all_in, position_total, ties}
 
 -- ---- positions, each once
@@ -201,3 +205,32 @@ module _ (s : Stored) (w : IsWhole s) where
       (λ p i.
           let k = vertex_key s w p (position_vertex p (of_vertices qs p i)) in
           subst (λ z. In z (map (place s.places) ks)) (place_is s.places k.0 p k.1) (in-map (place s.places) k.0 ks (kept_key k.0 (place_kept s.places k.0 p k.1))))
+
+-- ---- the list of all vertices
+
+module _ {A : Type 0} (f : Frame A) (m : Rings) (places : Placement) (w : IsWhole (stored f m places)) (counted : IsCounted f) (fs : List (Vec (Vec ℕ A) A)) (is : fs ≡ f.polygons.items) where
+  framed_rings : all_rings (map feature_numbers fs) ≡ rings (frame_of f)
+  framed_rings = ap (λ (z : List (Vec (Vec ℕ A) A)). all_rings (map feature_numbers z)) is ∙ sym (frame_rings f counted)
+
+  -- the rings of all features are held
+  pub rings_held : (r : ℕ) → Contains (all_rings (map feature_numbers fs)) r → table.contains_key m r ≡ true
+  rings_held r h = (w.named r).0 (subst (λ z. Contains z r) framed_rings h)
+
+  -- and their keys have positions
+  pub keys_placed : (ks : List ℕ)
+      → ks ≡ flat_map (λ r. begins (edges_under m r)) (all_rings (map feature_numbers fs))
+      → (k : ℕ) → Contains ks k → table.contains_key places k ≡ true
+  keys_placed ks e k h =
+      let r = in_flat (λ r. begins (edges_under m r)) k (rings (frame_of f)) (subst (In k) (e ∙ ap (flat_map (λ r. begins (edges_under m r))) framed_rings) (contains_in ks k h)) in
+      let es = framed (stored f m places) w r.0 r.1 in
+      begin_kept (stored f m places) w r.0 es.0 es.1 k (subst (λ o. In k (begins (unwrap_or o []))) es.1 r.2)
+
+  -- their positions, ascending and each once, are the vertices
+  pub vertices_found : (ks : List ℕ)
+      → ks ≡ flat_map (λ r. begins (edges_under m r)) (all_rings (map feature_numbers fs))
+      → (found sorted : List Position) → found ≡ map (place places) ks
+      → sorted ≡ fold add_position [] found → sorted ≡ vertices (document_of (stored f m places))
+  vertices_found ks e found sorted g h =
+      h
+      ∙ ap (fold add_position []) (g ∙ ap (map (place places)) (e ∙ ap (flat_map (λ r. begins (edges_under m r))) framed_rings))
+      ∙ vertices_along (stored f m places)
