@@ -29,4 +29,10 @@ pub mod KeyedLists
 pub mod FilledLists
 pub mod LaidSegments
 pub mod LaidRings
+pub mod FrameLemmas
+pub mod Reading
+pub mod SpotLemmas
+pub mod SortedOnce
+pub mod VertexLists
+pub mod KeyLists
 mod Examples
