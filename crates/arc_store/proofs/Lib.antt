@@ -24,4 +24,11 @@ pub mod Planned
 pub mod SegmentCounts
 pub mod MovePlan
 pub mod AroundPlan
+pub mod FrameLemmas
+pub mod FramedDocument
+pub mod NestedLists
+pub mod KeyedRings
+pub mod Opened
+pub mod LaidLists
+pub mod LaidFirst
 mod Examples
