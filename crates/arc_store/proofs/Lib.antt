@@ -31,4 +31,7 @@ pub mod KeyedRings
 pub mod Opened
 pub mod LaidLists
 pub mod LaidFirst
+pub mod FilledLists
+pub mod LaidSegments
+pub mod LaidRings
 mod Examples

@@ -133,9 +133,9 @@ single_added ss s h = by (list_any (segment_eq s) ss) refl
 
     by : (b : Bool) → list_any (segment_eq s) ss ≡ b → AreSingle (cond b ss (s ∷ ss))
     by true e = h
-    by false e t = one t (has-eq ss s ∙ e) (segment_is t s) refl
+    by false e = λ t. one t (has-eq ss s ∙ e) (segment_is t s) refl
 
-has_all : (ss xs : List Segment) (t : Segment)
+pub has_all : (ss xs : List Segment) (t : Segment)
     → has (fold add_segment ss xs) t ≡ (has ss t || has xs t)
 has_all ss [] t = or_nothing (has ss t)
 has_all ss (x ∷ xs) t =
@@ -155,8 +155,11 @@ single_all ss (x ∷ xs) h = single_all (add_segment ss x) xs (single_added ss x
 pub indexed_len : (d : Document) (held : SegmentSet) → IsIndexed d held
     → length (distinct_segments d) ≡ set.len held
 indexed_len d held h =
-    sym (len_gains set.empty held (distinct_segments d) (single_all [] (all_segments d) (λ t. omega arith)) (λ t e. set.contains-empty segment_cmp t) is
-    ∙ ap (λ n. n + length (distinct_segments d)) (set.len-empty segment_cmp))
+    omega (
+      arith,
+      len_gains set.empty held (distinct_segments d) (single_all [] (all_segments d) (λ t. omega arith)) (λ t e. set.contains-empty segment_cmp t) is,
+      set.len-empty segment_cmp,
+    )
   where
     is : Gains set.empty (distinct_segments d) held
     is t =

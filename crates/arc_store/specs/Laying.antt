@@ -24,11 +24,11 @@ abbrev pub segments_along : Placement → List (List ℕ) → List Segment
 segments_along places keyed = flat_map (λ keys. segments (map (place places) keys)) keyed
 
 -- the index holds these segments, the first pair is theirs, and so many of them are different
-pub record IsFilled (held : SegmentSet) (first : Option (Segment × Segment)) (different : ℕ)
+pub record IsFilled (index : SegmentSet) (pair : Option (Segment × Segment)) (count : ℕ)
     (ss : List Segment) : Type 0 where
-  pub held : IsHeld held ss
-  pub first : least_conflict ss ≡ first
-  pub different : different ≡ length (fold add_segment [] ss)
+  pub held : IsHeld index ss
+  pub first : least_conflict ss ≡ pair
+  pub different : count ≡ length (fold add_segment [] ss)
 
 -- the rings with these numbers go along these keys, and no other ring is there
 pub record IsLaid (rings : Rings) (numbers : List ℕ) (keyed : List (List ℕ)) : Type 0 where

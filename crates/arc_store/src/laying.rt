@@ -3,9 +3,11 @@ ghost use Rattle.std.specs.Prelude.{◌≡◌, ◌≢◌, ◌≤◌, ◌+◌, �
 ghost use Rattle.std.specs.List.{list_all, sum_by};
 ghost use Rattle.std.specs.FinMap as table;
 ghost use Rattle.std.specs.FinSet as set;
-ghost use Rattle.grid_geometry.specs.Segment.{Segment};
+ghost use Rattle.grid_geometry.specs.Segment.{Segment, segment};
+ghost use Rattle.ring_machine.specs.Ring.{segments};
 ghost use Rattle.segment_index.specs.Candidates.{has};
 ghost use Rattle.arc_store.specs.Keyed.{all_rings, polygon_keys, feature_keys};
+ghost use Rattle.arc_store.specs.Stored.{place};
 ghost use Rattle.arc_store.specs.Laying.{IsRound, IsFilled, IsLaid, segments_along};
 ghost use Rattle.arc_store.specs.Frames.{polygon_numbers, feature_numbers};
 ghost use Rattle.std.specs.List.{flat_map};
@@ -32,7 +34,16 @@ pub(crate) struct Laying<I: SegIndex, A: Allocator + Copy> {
 }
 
 impl<I: SegIndex, A: Allocator + Copy> Laying<I, A> {
-    /// Tests a segment that no ring has yet, and puts it into the index.
+    /// Whether the index holds a segment.
+    fn holds(&self, s: Seg) -> Result<bool, AllocError>
+        ensures { IfOk result (λ held. held ≡ set.contains (I.held self.now.index) s) }
+    {
+        let mut near = Vec::new(self.alloc);
+        self.index.candidates(s.rect(), &mut near)?;
+        Ok(near.as_slice().contains(&s))
+    }
+
+    /// Tests a segment that is not in the index, and puts it there.
     fn lay_new(&mut self, s: Seg) -> Result<(), AllocError>
         requires new { set.contains (I.held self.old.index) s ≡ false }
         requires small { self.old.segments ≤ 8000000 }
@@ -50,28 +61,50 @@ impl<I: SegIndex, A: Allocator + Copy> Laying<I, A> {
         Ok(())
     }
 
-    /// Sees to the segment of two vertices, unless a ring has it.
-    fn lay_segment(&mut self, a: VertexKey, b: VertexKey) -> Result<(), AllocError> {
-        if 0 < self.borders.uses(a, b) {
+    /// Sees to the segment of two vertices, which another ring may have brought.
+    fn lay_segment(&mut self, a: VertexKey, b: VertexKey) -> Result<(), AllocError>
+        requires a { IsTrue (table.contains_key self.old.vertices a) }
+        requires b { IsTrue (table.contains_key self.old.vertices b) }
+        requires apart { a ≢ b }
+        requires small { self.old.segments ≤ 8000000 }
+        ensures filled { OnOk result ((ss : List Segment)
+            → IsFilled (I.held self.old.index) self.old.first self.old.segments ss
+            → IsFilled (I.held self.new.index) self.new.first self.new.segments
+                (ss ++ segment (place self.old.vertices a) (place self.old.vertices b) ∷ [])) }
+        ensures vertices { self.new.vertices ≡ self.old.vertices }
+        ensures borders { self.new.borders ≡ self.old.borders }
+        ensures positions { self.new.positions ≡ self.old.positions }
+        ensures few { self.new.segments ≤ self.old.segments + 1 }
+    {
+        let Some(s) = Seg::new(self.vertices.pos(a), self.vertices.pos(b)) else {
+            return Ok(());
+        };
+        if self.holds(s)? {
             return Ok(());
         }
-        match Seg::new(self.vertices.pos(a), self.vertices.pos(b)) {
-            Some(s) => self.lay_new(s),
-            None => Ok(()),
-        }
+        self.lay_new(s)
     }
 
     /// Sees to the segments of a ring.
-    fn lay_segments(&mut self, keys: &[VertexKey]) -> Result<(), AllocError> {
-        let [first, ..] = keys else {
-            return Ok(());
-        };
-        let mut a = *first;
+    fn lay_segments(&mut self, keys: &[VertexKey]) -> Result<(), AllocError>
+        requires round { IsRound self.old.vertices keys.now }
+        requires small { self.old.segments + length keys.now ≤ 8000000 }
+        ensures filled { OnOk result ((ss : List Segment)
+            → IsFilled (I.held self.old.index) self.old.first self.old.segments ss
+            → IsFilled (I.held self.new.index) self.new.first self.new.segments
+                (ss ++ segments (map (place self.old.vertices) keys.now))) }
+        ensures vertices { self.new.vertices ≡ self.old.vertices }
+        ensures borders { self.new.borders ≡ self.old.borders }
+        ensures positions { self.new.positions ≡ self.old.positions }
+        ensures few { self.new.segments ≤ self.old.segments + length keys.now }
+    {
+        let mut a = keys[0];
         for at in 1..keys.len() {
-            self.lay_segment(a, keys[at])?;
-            a = keys[at];
+            let b = keys[at];
+            self.lay_segment(a, b)?;
+            a = b;
         }
-        self.lay_segment(a, *first)
+        self.lay_segment(a, keys[0])
     }
 
     /// Lays the ring along these keys, and gives its number. Fails for want of memory alone.
