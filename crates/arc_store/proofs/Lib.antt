@@ -34,4 +34,5 @@ pub mod LaidFirst
 pub mod FilledLists
 pub mod LaidSegments
 pub mod LaidRings
+pub mod KeyedLists
 mod Examples

@@ -1,5 +1,5 @@
 -- The rings of a map by the keys of their positions.
-use Rattle.std.specs.Prelude.{ℕ, ◌≡◌, List, map, IsTrue, Contains, Vec}
+use Rattle.std.specs.Prelude.{ℕ, ◌≡◌, ◌⊎◌, List, map, Some, IsTrue, Contains, Vec}
 use Rattle.std.specs.FinMap as table
 use Rattle.std.specs.List.{flat_map}
 use Rattle.grid_geometry.specs.Position.{Position}
@@ -28,3 +28,10 @@ pub record IsKeyed (places : Placement) (features : List (List (List (List Posit
   pub at : map (map (map (map (place places)))) keyed ≡ features
   pub placed : (k : ℕ) → Contains (all_keys keyed) k → IsTrue (table.contains_key places k)
   pub passed : (k : ℕ) → IsTrue (table.contains_key places k) → Contains (all_keys keyed) k
+
+-- what had a key has kept it, each of these keys has a position, and no other key came
+pub record ArePut (old new : Placement) (keys : List ℕ) : Type 0 where
+  pub kept : (k : ℕ) (p : Position) → table.get old k ≡ Some p → table.get new k ≡ Some p
+  pub placed : (k : ℕ) → Contains keys k → IsTrue (table.contains_key new k)
+  pub passed : (k : ℕ) → IsTrue (table.contains_key new k)
+      → IsTrue (table.contains_key old k) ⊎ Contains keys k

@@ -1,4 +1,6 @@
 // The junctions of a map that is to be laid: where borders are to end.
+ghost use Rattle.std.specs.Prelude.{◌≡◌, ◌<◌, OnOk, length};
+
 use shared_arcs::Borders;
 use std::alloc::{AllocError, Allocator};
 use vertex_index::VertexKey;
@@ -29,7 +31,9 @@ fn seen_between(seen: Seen, a: VertexKey, b: VertexKey) -> Seen {
 }
 
 /// Makes the table long enough for vertex `k`.
-fn reach<A: Allocator + Copy>(around: &mut Vec<Seen, A>, k: VertexKey) -> Result<(), AllocError> {
+fn reach<A: Allocator + Copy>(around: &mut Vec<Seen, A>, k: VertexKey) -> Result<(), AllocError>
+    ensures { OnOk result (k < length around.new.items) }
+{
     while around.len() <= k.index() {
         around.push(Seen::Nothing)?;
     }
@@ -43,7 +47,9 @@ fn see<A: Allocator + Copy>(
     a: VertexKey,
     k: VertexKey,
     b: VertexKey,
-) -> Result<(), AllocError> {
+) -> Result<(), AllocError>
+    ensures { borders.new ≡ borders.old }
+{
     reach(around, k)?;
     let before = around[k.index()];
     let now = seen_between(before, a, b);
@@ -61,7 +67,9 @@ fn see_ring<A: Allocator + Copy>(
     borders: &mut Borders<A>,
     around: &mut Vec<Seen, A>,
     ring: &[VertexKey],
-) -> Result<(), AllocError> {
+) -> Result<(), AllocError>
+    ensures { borders.new ≡ borders.old }
+{
     let [first, .., last] = ring else {
         return Ok(());
     };
@@ -75,16 +83,30 @@ fn see_ring<A: Allocator + Copy>(
     see(borders, around, a, k, *first)
 }
 
+/// The rings of a polygon are seen.
+fn see_polygon<A: Allocator + Copy>(
+    borders: &mut Borders<A>,
+    around: &mut Vec<Seen, A>,
+    polygon: &[Vec<VertexKey, A>],
+) -> Result<(), AllocError>
+    ensures { borders.new ≡ borders.old }
+{
+    for ring in polygon {
+        see_ring(borders, around, ring.as_slice())?;
+    }
+    Ok(())
+}
+
 /// The rings of a feature are seen.
 fn see_feature<A: Allocator + Copy>(
     borders: &mut Borders<A>,
     around: &mut Vec<Seen, A>,
     polygons: &[Vec<Vec<VertexKey, A>, A>],
-) -> Result<(), AllocError> {
+) -> Result<(), AllocError>
+    ensures { borders.new ≡ borders.old }
+{
     for polygon in polygons {
-        for ring in polygon.as_slice() {
-            see_ring(borders, around, ring.as_slice())?;
-        }
+        see_polygon(borders, around, polygon.as_slice())?;
     }
     Ok(())
 }
@@ -94,7 +116,9 @@ pub(crate) fn mark_junctions<A: Allocator + Copy>(
     alloc: A,
     borders: &mut Borders<A>,
     features: &[Vec<Vec<Vec<VertexKey, A>, A>, A>],
-) -> Result<(), AllocError> {
+) -> Result<(), AllocError>
+    ensures { borders.new ≡ borders.old }
+{
     let mut around = Vec::new(alloc);
     for polygons in features {
         see_feature(borders, &mut around, polygons.as_slice())?;

@@ -1,18 +1,20 @@
 // A vertex for each position of the rings, and the rings by its keys.
-ghost use Rattle.std.specs.Prelude.{◌≡◌, map, IfOk};
+ghost use Rattle.std.specs.Prelude.{◌≡◌, ◌∷◌, [], map, flat_map, IfOk};
 ghost use Rattle.std.specs.FinMap as table;
-ghost use Rattle.topo_reader.specs.Uses.{feature_positions};
-ghost use Rattle.arc_store.specs.Keyed.{feature_keys, IsKeyed};
+ghost use Rattle.topo_reader.specs.Uses.{positions_of, polygon_positions, feature_positions};
+ghost use Rattle.arc_store.specs.Stored.{place};
+ghost use Rattle.arc_store.specs.Keyed.{polygon_keys, feature_keys};
+ghost use Rattle.arc_store.specs.Keyed.{ArePut, IsKeyed};
 
 use grid_geometry::Pos;
 use std::alloc::{AllocError, Allocator};
 use vertex_index::{VertexKey, Vertices};
 
 /// The key of the vertex at a position, where one is put if none stands there.
-fn key_at<A: Allocator + Copy>(
-    vertices: &mut Vertices<A>,
-    p: Pos,
-) -> Result<VertexKey, AllocError> {
+fn key_at<A: Allocator + Copy>(vertices: &mut Vertices<A>, p: Pos) -> Result<VertexKey, AllocError>
+    ensures at { IfOk result (λ keyed. place vertices.new keyed ≡ p) }
+    ensures put { IfOk result (λ keyed. ArePut vertices.old vertices.new (keyed ∷ [])) }
+{
     if let Some(k) = vertices.key_of(p) {
         return Ok(k);
     }
@@ -27,7 +29,10 @@ fn key_ring<A: Allocator + Copy>(
     alloc: A,
     vertices: &mut Vertices<A>,
     ring: &[Pos],
-) -> Result<Vec<VertexKey, A>, AllocError> {
+) -> Result<Vec<VertexKey, A>, AllocError>
+    ensures at { IfOk result (λ keyed. map (place vertices.new) keyed.items ≡ ring.now) }
+    ensures put { IfOk result (λ keyed. ArePut vertices.old vertices.new keyed.items) }
+{
     let mut keys = Vec::new(alloc);
     for p in ring {
         keys.push(key_at(vertices, *p)?)?;
@@ -40,7 +45,12 @@ fn key_polygon<A: Allocator + Copy>(
     alloc: A,
     vertices: &mut Vertices<A>,
     polygon: &[Vec<Pos, A>],
-) -> Result<Vec<Vec<VertexKey, A>, A>, AllocError> {
+) -> Result<Vec<Vec<VertexKey, A>, A>, AllocError>
+    ensures at { IfOk result (λ keyed.
+        map (map (place vertices.new)) (polygon_keys keyed) ≡ map positions_of polygon.now) }
+    ensures put { IfOk result (λ keyed. ArePut vertices.old vertices.new
+        (flat_map (λ keys. keys) (polygon_keys keyed))) }
+{
     let mut keyed = Vec::new(alloc);
     for ring in polygon {
         keyed.push(key_ring(alloc, vertices, ring.as_slice())?)?;
@@ -53,7 +63,12 @@ fn key_feature<A: Allocator + Copy>(
     alloc: A,
     vertices: &mut Vertices<A>,
     polygons: &[Vec<Vec<Pos, A>, A>],
-) -> Result<Vec<Vec<Vec<VertexKey, A>, A>, A>, AllocError> {
+) -> Result<Vec<Vec<Vec<VertexKey, A>, A>, A>, AllocError>
+    ensures at { IfOk result (λ keyed. map (map (map (place vertices.new))) (feature_keys keyed)
+        ≡ map polygon_positions polygons.now) }
+    ensures put { IfOk result (λ keyed. ArePut vertices.old vertices.new
+        (flat_map (λ rings. flat_map (λ keys. keys) rings) (feature_keys keyed))) }
+{
     let mut keyed = Vec::new(alloc);
     for polygon in polygons {
         keyed.push(key_polygon(alloc, vertices, polygon.as_slice())?)?;
