@@ -303,12 +303,12 @@ module _ (s : Stored) (w : IsWhole s) (m : ℕ) (p : Position) (here : table.get
 
   -- ---- long rings
 
-  ring_length : (es : List Edge) → length (canonical (positions_along s.places es)) ≡ length es
+  pub ring_length : (es : List Edge) → length (canonical (positions_along s.places es)) ≡ length es
   ring_length es =
       omega (arith, length-canonical (positions_along s.places es), length-map (begins es) (place s.places), length-map es (λ (e : Edge). e.0))
 
   -- a ring passes m where it has p
-  passes_has : (r : ℕ) (es : List Edge) → table.get s.rings r ≡ Some es → (x : ℕ) → 1 ≤ times m x es
+  pub passes_has : (r : ℕ) (es : List Edge) → table.get s.rings r ≡ Some es → (x : ℕ) → 1 ≤ times m x es
       → has (canonical (positions_along s.places es)) p ≡ true
   passes_has r es e x h =
       let f = times_edge m x es h in
@@ -317,7 +317,7 @@ module _ (s : Stored) (w : IsWhole s) (m : ℕ) (p : Position) (here : table.get
       in-has p (canonical (positions_along s.places es)) (in_canonical (positions_along s.places es) p
       (subst (λ z. In z (positions_along s.places es)) p_is (in-map (place s.places) m (begins es) i)))
 
-  has_passes : (ring : List Position) (l : Laid s ring) → has ring p ≡ true → Passes s.rings m l.along
+  pub has_passes : (ring : List Position) (l : Laid s ring) → has ring p ≡ true → Passes s.rings m l.along
   has_passes ring l h =
       let i = of_canonical (positions_along s.places l.along) p (subst (In p) l.is (has-in p ring h)) in
       let y = in_mapped (place s.places) p (begins l.along) i in

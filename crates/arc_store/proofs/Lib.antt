@@ -35,4 +35,9 @@ pub mod FilledLists
 pub mod LaidSegments
 pub mod LaidRings
 pub mod KeyedLists
+pub mod Reading
+pub mod SpotLemmas
+pub mod SortedOnce
+pub mod VertexLists
+pub mod KeyLists
 mod Examples

@@ -5,6 +5,7 @@ use Rattle.std.proofs.Common.{Option, Some, None, is_some}
 use Rattle.std.specs.Prelude.{not, ◌==◌, unwrap_or, count_by, T}
 use Rattle.std.specs.List.{filter, list_any}
 use Rattle.std.specs.FinMap as table
+use Rattle.std.specs.FinMap.Entries.{below_all}
 use Rattle.std.specs.Ordering.{nat_cmp, is_lt, is_eq, eq_by_cmp}
 use Rattle.std.specs.declared.cmp.Ordering.{Ordering}
 use Rattle.std.specs.declared.cmp.Ordering.TheVariants.{Less, Equal, Greater}
@@ -106,10 +107,6 @@ alike f g (r ∷ rs) h =
 
 -- ---- entries in order
 
-both_true : (a b : Bool) → T a → T b → T (a && b)
-both_true true b p q = q
-both_true false b p q = absurd p
-
 first_true : (a b : Bool) → T (a && b) → T a
 first_true true b p = tt
 first_true false b p = absurd p
@@ -131,12 +128,11 @@ untied r k f = grind (arith, nat_tests)
 
 module _ {X : Type 0} where
   -- a key stands once
-  not_later : (k : ℕ) (v : X) (es : List (ℕ × X)) → T (table.is_sorted nat_cmp ((k, v) ∷ es))
-      → table.find nat_cmp k es ≡ None
-  not_later k v [] h = refl
-  not_later k v (e ∷ es) h =
-      ap (λ b. cond b (Some e.1) (table.find nat_cmp k es)) (not_tied (nat_cmp k e.0) (first_true _ _ (first_true _ _ h)))
-      ∙ not_later k v es (both_true _ _ (second_true _ _ (first_true _ _ h)) (second_true _ _ (second_true _ _ h)))
+  not_later : (k : ℕ) (es : List (ℕ × X)) → T (below_all nat_cmp k es) → table.find nat_cmp k es ≡ None
+  not_later k [] h = refl
+  not_later k (e ∷ es) h =
+      ap (λ b. cond b (Some e.1) (table.find nat_cmp k es)) (not_tied (nat_cmp k e.0) (first_true (is_lt (nat_cmp k e.0)) (below_all nat_cmp k es) h))
+      ∙ not_later k es (second_true (is_lt (nat_cmp k e.0)) (below_all nat_cmp k es) h)
 
   -- as many values pass as numbers in a list that has just the keys, each once
   count_keys : (test : X → Bool) (d : X) (es : List (ℕ × X)) → T (table.is_sorted nat_cmp es)
@@ -149,7 +145,7 @@ module _ {X : Type 0} where
   count_keys test d (e ∷ es) s rs u from to =
       let first : table.find nat_cmp e.0 (e ∷ es) ≡ Some e.1 = ap (λ b. cond b (Some e.1) (table.find nat_cmp e.0 es)) (tied e.0 e.0 refl) in
       let there : In e.0 rs = to e.0 (ap is_some first) in
-      let rest = count_keys test d es (second_true _ _ s) (but e.0 rs) (distinct_but e.0 rs u) keep back in
+      let rest = count_keys test d es (second_true (below_all nat_cmp e.0 es) (table.is_sorted nat_cmp es) s) (but e.0 rs) (distinct_but e.0 rs u) keep back in
       let out = one_out (λ r. test (unwrap_or (table.find nat_cmp r (e ∷ es)) d)) e.0 rs u there in
       let same = alike (λ r. test (unwrap_or (table.find nat_cmp r (e ∷ es)) d)) (λ r. test (unwrap_or (table.find nat_cmp r es) d)) (but e.0 rs) (λ r i. ap (λ o. test (unwrap_or o d)) (later r (apart r i))) in
       out
@@ -166,7 +162,7 @@ module _ {X : Type 0} where
       keep r i = ap is_some (sym (later r (apart r i))) ∙ from r (in_filter (λ z. not (z == e.0)) r rs i).0
 
       differs : (r : ℕ) → is_some (table.find nat_cmp r es) ≡ true → r ≢ e.0
-      differs r h f = false≢true (sym (ap is_some (not_later e.0 e.1 es s)) ∙ ap (λ z. is_some (table.find nat_cmp z es)) (sym f) ∙ h)
+      differs r h f = false≢true (sym (ap is_some (not_later e.0 es (first_true (below_all nat_cmp e.0 es) (table.is_sorted nat_cmp es) s))) ∙ ap (λ z. is_some (table.find nat_cmp z es)) (sym f) ∙ h)
 
       back : (r : ℕ) → is_some (table.find nat_cmp r es) ≡ true → In r (but e.0 rs)
       back r h = filter-in (λ z. not (z == e.0)) r rs (to r (ap is_some (later r (differs r h)) ∙ h)) (ap not (other_key r e.0 (differs r h)))

@@ -1,5 +1,11 @@
-ghost use Rattle.std.specs.Prelude.{◌≡◌, IfOk};
-ghost use Rattle.ring_machine.specs.Query.{vertices};
+ghost use Rattle.std.specs.Prelude.{◌≡◌, ◌++◌, ℕ, true, [], map, Contains, IfOk, OnOk};
+ghost use Rattle.std.specs.FinMap as table;
+ghost use Rattle.std.specs.List.{flat_map, fold};
+ghost use Rattle.ring_machine.specs.Query.{add_position, vertices};
+ghost use Rattle.shared_arcs.specs.Rings.{begins};
+ghost use Rattle.arc_store.specs.Frames.{polygon_numbers, feature_numbers};
+ghost use Rattle.arc_store.specs.Keyed.{all_rings};
+ghost use Rattle.arc_store.specs.Stored.{edges_under, place};
 
 use crate::map::Map;
 use grid_geometry::Pos;
@@ -8,26 +14,51 @@ use shared_arcs::Borders;
 use std::alloc::{AllocError, Allocator};
 use vertex_index::{VertexKey, Vertices};
 
-/// Appends the keys of a feature's rings.
-fn push_feature<A: Allocator + Copy>(
+/// Appends the keys of these rings. Fails for want of memory alone.
+fn push_polygon<A: Allocator + Copy>(
     borders: &Borders<A>,
-    polygons: &[Vec<usize, A>],
+    rings: &[usize],
     keys: &mut Vec<VertexKey, A>,
-) -> Result<(), AllocError> {
-    for rings in polygons {
-        for r in rings.as_slice() {
-            borders.push_keys(*r, keys)?;
-        }
+) -> Result<(), AllocError>
+    requires { (r : ℕ) → Contains rings.now r → table.contains_key borders.now r ≡ true }
+    ensures { OnOk result (keys.new.items
+        ≡ keys.old.items ++ flat_map (λ r. begins (edges_under borders.now r)) rings.now) }
+{
+    for r in rings {
+        borders.push_keys(*r, keys)?;
     }
     Ok(())
 }
 
-/// The keys of all rings.
+/// Appends the keys of a feature's rings. Fails for want of memory alone.
+fn push_feature<A: Allocator + Copy>(
+    borders: &Borders<A>,
+    polygons: &[Vec<usize, A>],
+    keys: &mut Vec<VertexKey, A>,
+) -> Result<(), AllocError>
+    requires { (r : ℕ) → Contains (flat_map polygon_numbers polygons.now) r
+        → table.contains_key borders.now r ≡ true }
+    ensures { OnOk result (keys.new.items
+        ≡ keys.old.items
+        ++ flat_map (λ r. begins (edges_under borders.now r)) (flat_map polygon_numbers polygons.now)) }
+{
+    for rings in polygons {
+        push_polygon(borders, rings.as_slice(), keys)?;
+    }
+    Ok(())
+}
+
+/// The keys of all rings. Fails for want of memory alone.
 fn all_keys<A: Allocator + Copy>(
     alloc: A,
     borders: &Borders<A>,
     features: &[Vec<Vec<usize, A>, A>],
-) -> Result<Vec<VertexKey, A>, AllocError> {
+) -> Result<Vec<VertexKey, A>, AllocError>
+    requires { (r : ℕ) → Contains (all_rings (map feature_numbers features.now)) r
+        → table.contains_key borders.now r ≡ true }
+    ensures { IfOk result (λ keys. keys.items
+        ≡ flat_map (λ r. begins (edges_under borders.now r)) (all_rings (map feature_numbers features.now))) }
+{
     let mut keys = Vec::new(alloc);
     for polygons in features {
         push_feature(borders, polygons.as_slice(), &mut keys)?;
@@ -35,17 +66,28 @@ fn all_keys<A: Allocator + Copy>(
     Ok(keys)
 }
 
-/// The positions under these keys.
+/// The positions under these keys. Fails for want of memory alone.
 fn positions_under<A: Allocator + Copy>(
     alloc: A,
     vertices: &Vertices<A>,
     keys: &[VertexKey],
-) -> Result<Vec<Pos, A>, AllocError> {
+) -> Result<Vec<Pos, A>, AllocError>
+    requires { (k : ℕ) → Contains keys.now k → table.contains_key vertices.now k ≡ true }
+    ensures { IfOk result (λ found. found.items ≡ map (place vertices.now) keys.now) }
+{
     let mut found = Vec::with_capacity(alloc, keys.len())?;
     for k in keys {
         found.push(vertices.pos(*k))?;
     }
     Ok(found)
+}
+
+/// The positions ascending, each once.
+fn sort_once<A: Allocator + Copy>(found: &mut Vec<Pos, A>)
+    ensures { found.new.items ≡ fold add_position [] found.old.items }
+{
+    found.sort_unstable();
+    found.dedup();
 }
 
 impl<'a, I: SegIndex, A: Allocator + Copy> Map<'a, I, A> {
@@ -55,8 +97,7 @@ impl<'a, I: SegIndex, A: Allocator + Copy> Map<'a, I, A> {
     {
         let keys = all_keys(self.alloc, &self.borders, self.frame.polygons.as_slice())?;
         let mut found = positions_under(self.alloc, &self.vertices, keys.as_slice())?;
-        found.sort_unstable();
-        found.dedup();
+        sort_once(&mut found);
         Ok(found)
     }
 }

@@ -1,12 +1,15 @@
-ghost use Rattle.std.specs.Prelude.{◌≡◌};
+ghost use Rattle.std.specs.Prelude.{◌≡◌, true};
+ghost use Rattle.std.specs.FinMap as table;
+ghost use Rattle.grid_geometry.specs.Segment.{segment};
 ghost use Rattle.arc_store.specs.Spots.{IsSpot};
+ghost use Rattle.arc_store.specs.Stored.{place};
 
 use crate::map::Map;
 use grid_geometry::Pos;
 use segment_index::SegIndex;
 use shared_arcs::Neighbours;
 use std::alloc::Allocator;
-use vertex_index::VertexKey;
+use vertex_index::{VertexKey, Vertices};
 
 /// What stands around a vertex.
 #[derive(Clone, Copy, Debug, PartialEq, Eq)]
@@ -18,28 +21,38 @@ pub enum Spot {
     Between(Pos, Pos, usize),
 }
 
-impl<'a, I: SegIndex, A: Allocator + Copy> Map<'a, I, A> {
-    /// The vertex between the two of these keys, where the shortest ring with it has so many
-    /// positions.
-    fn between(&self, a: VertexKey, b: VertexKey, shortest: usize) -> Spot {
-        let (a, b) = (self.vertices.pos(a), self.vertices.pos(b));
-        if b < a {
-            Spot::Between(b, a, shortest)
-        } else {
-            Spot::Between(a, b, shortest)
-        }
+/// The vertex between the two of these keys, where the shortest ring with it has so many positions.
+fn between<A: Allocator + Copy>(
+    vertices: &Vertices<A>,
+    a: VertexKey,
+    b: VertexKey,
+    shortest: usize,
+) -> Spot
+    requires first { table.contains_key vertices.now a ≡ true }
+    requires second { table.contains_key vertices.now b ≡ true }
+    ensures {
+        let t = segment (place vertices.now a) (place vertices.now b) in
+        result ≡ Spot.Between t.lo t.hi shortest
     }
+{
+    let (a, b) = (vertices.pos(a), vertices.pos(b));
+    if a > b {
+        Spot::Between(b, a, shortest)
+    } else {
+        Spot::Between(a, b, shortest)
+    }
+}
 
+impl<'a, I: SegIndex, A: Allocator + Copy> Map<'a, I, A> {
     /// What stands around the vertex at a position; `None` where there is no vertex. Takes no memory.
     pub fn spot(&self, p: Pos) -> Option<Spot>
         ensures { IsSpot self.now.doc p result }
     {
-        match self.vertices.key_of(p) {
-            Some(k) => match (self.borders.neighbours(k), self.borders.shortest(k)) {
-                (Neighbours::Two(a, b), Some(shortest)) => Some(self.between(a, b, shortest)),
-                _ => Some(Spot::Junction),
-            },
-            None => None,
-        }
+        let k = self.vertices.key_of(p)?;
+        let Neighbours::Two(a, b) = self.borders.neighbours(k) else {
+            return Some(Spot::Junction);
+        };
+        let shortest = self.borders.shortest(k)?;
+        Some(between(&self.vertices, a, b, shortest))
     }
 }

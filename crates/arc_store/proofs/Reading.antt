@@ -1,0 +1,89 @@
+-- What a kept map answers on its vertices and on the rings of a segment.
+use Rattle.std.proofs.Common.{◌≡◌, ◌≢◌, ℕ, Bool, true, false, refl, sym, ap, ap₂, ◌∙◌, subst, cond}
+use Rattle.std.proofs.Common.{List, [], ◌∷◌, length, ◌⊎◌, inl, inr, Option, Some, None, is_some}
+use Rattle.std.specs.Prelude.{IfSome, IfNone}
+use Rattle.std.specs.List.{filter}
+use Rattle.std.specs.FinMap as table
+use Rattle.std.specs.Ordering.{is_gt}
+use Rattle.std.specs.declared.cmp.Ordering.{Ordering}
+use Rattle.std.specs.declared.cmp.Ordering.TheVariants.{Less}
+use Rattle.grid_geometry.specs.Position.{Position, position_cmp}
+use Rattle.grid_geometry.specs.Segment.{Segment, segment, IsSegment}
+use Rattle.ring_machine.specs.Parts.{rings, is_vertex}
+use Rattle.ring_machine.proofs.First.{In}
+use Rattle.shared_arcs.specs.Rings as shared
+use Rattle.arc_store.specs.Stored.{Stored, place, document_of}
+use Rattle.arc_store.specs.Holds.{IsWhole}
+use Rattle.arc_store.specs.Spots.{users}
+use Rattle.arc_store.proofs.Base.{key_vertex, vertex_key, place_is, place_kept, kept_place}
+use Rattle.arc_store.proofs.Base.{segment_between, joined_kept}
+use Rattle.arc_store.proofs.Ends.{segment_ends}
+use Rattle.arc_store.proofs.Insertions.{has_segment, is_segment_by}
+use Rattle.arc_store.proofs.Members.{in_any}
+use Rattle.arc_store.proofs.Numbers.{users_count}
+use Rattle.arc_store.proofs.RingUsers.{users_same}
+
+-- the ends of a segment make it
+pub ends_make : (t : Segment) → IsSegment t → segment t.lo t.hi ≡ t
+ends_make t h = by (position_cmp t.lo t.hi) h
+  where
+    by : (o : Ordering) → o ≡ Less
+        → cond {A = Segment} (is_gt o) (record { lo = t.hi; hi = t.lo }) (record { lo = t.lo; hi = t.hi }) ≡ t
+    by o e = ap (λ z. cond {A = Segment} (is_gt z) (record { lo = t.hi; hi = t.lo }) (record { lo = t.lo; hi = t.hi })) e
+
+-- no element passes the test
+pub none_pass : {A : Type 0} (test : A → Bool) (xs : List A)
+    → ((x : A) → In x xs → test x ≡ true → ⊥) → length (filter test xs) ≡ 0
+none_pass test [] h = refl
+none_pass test (x ∷ xs) h = by (test x) refl (none_pass test xs (λ y i. h y (inr i)))
+  where
+    by : (b : Bool) → test x ≡ b → length (filter test xs) ≡ 0
+        → length (cond b (x ∷ filter test xs) (filter test xs)) ≡ 0
+    by true e k = absurd (h x (inl refl) e)
+    by false e k = k
+
+module _ (s : Stored) (w : IsWhole s) where
+  -- what has no key is no vertex
+  pub no_vertex : (p : Position) → ((k : ℕ) → table.get s.places k ≢ Some p)
+      → is_vertex (document_of s) p ≡ false
+  no_vertex p h = by (is_vertex (document_of s) p) refl
+    where
+      by : (b : Bool) → is_vertex (document_of s) p ≡ b → is_vertex (document_of s) p ≡ false
+      by false e = e
+      by true e = let k = vertex_key s w p e in absurd (h k.0 k.1)
+
+  -- a position is a vertex where a key is found
+  pub found_vertex : (p : Position) (o : Option ℕ) → IfSome o (λ k. table.get s.places k ≡ Some p)
+      → IfNone o ((k : ℕ) → table.get s.places k ≢ Some p) → is_some o ≡ is_vertex (document_of s) p
+  found_vertex p (Some k) found absent = sym (key_vertex s w k p found)
+  found_vertex p None found absent = sym (no_vertex p absent)
+
+  -- as many rings have a segment as have that of its ends' keys
+  pub users_read : (a b : ℕ) (t : Segment) → table.get s.places a ≡ Some t.lo
+      → table.get s.places b ≡ Some t.hi → IsSegment t
+      → shared.users_of s.rings a b ≡ length (users (document_of s) t)
+  users_read a b t e f h =
+      sym (users_same s w a b)
+      ∙ sym (users_count s w a b (place_kept s.places a t.lo e) (place_kept s.places b t.hi f))
+      ∙ ap (λ z. length (filter (has_segment z) (rings (document_of s)))) (ap₂ segment (place_is s.places a t.lo e) (place_is s.places b t.hi f) ∙ ends_make t h)
+
+  -- no ring has a segment with an end that has no key
+  pub unused_read : (t : Segment) (p : Position) → (t.lo ≡ p) ⊎ (t.hi ≡ p) → (o : Option ℕ) → o ≡ None
+      → IfNone o ((k : ℕ) → table.get s.places k ≢ Some p) → 0 ≡ length (users (document_of s) t)
+  unused_read t p end o e h =
+      let absent : (k : ℕ) → table.get s.places k ≢ Some p = subst (λ z. IfNone z ((k : ℕ) → table.get s.places k ≢ Some p)) e h in
+      sym (none_pass (has_segment t) (rings (document_of s)) (λ ring i u.
+      let b = segment_between s w t (is_segment_by (document_of s) t ∙ in_any (has_segment t) ring (rings (document_of s)) i u) in
+      let kept = joined_kept s w b.a b.b b.joined in
+      let a_is : place s.places b.a ≢ p = λ m. absent b.a (kept_place s.places b.a kept.0 ∙ ap Some m) in
+      let b_is : place s.places b.b ≢ p = λ m. absent b.b (kept_place s.places b.b kept.1 ∙ ap Some m) in
+      elim (segment_ends (place s.places b.a) (place s.places b.b)) [
+        | inl m ↦ elim end [
+          | inl n ↦ a_is (sym m.0 ∙ sym (ap (λ (z : Segment). z.lo) b.is) ∙ n)
+          | inr n ↦ b_is (sym m.1 ∙ sym (ap (λ (z : Segment). z.hi) b.is) ∙ n)
+        ]
+        | inr m ↦ elim end [
+          | inl n ↦ b_is (sym m.0 ∙ sym (ap (λ (z : Segment). z.lo) b.is) ∙ n)
+          | inr n ↦ a_is (sym m.1 ∙ sym (ap (λ (z : Segment). z.hi) b.is) ∙ n)
+        ]
+      ]))

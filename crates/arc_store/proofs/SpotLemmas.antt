@@ -1,0 +1,87 @@
+-- What stands around a vertex, from the neighbours of its key and the shortest ring that passes it.
+use Rattle.std.proofs.Common.{◌≡◌, ◌≢◌, ◌≤◌, ℕ, true, refl, sym, ap, ◌∙◌, List, [], ◌∷◌}
+use Rattle.std.proofs.Common.{length, arith, inl, inr, Some}
+use Rattle.std.specs.Prelude.{min}
+use Rattle.std.specs.FinMap as table
+use Rattle.std.specs.List.{sum_by}
+use Rattle.std.specs.Ordering.{is_lt}
+use Rattle.std.proofs.lemmas.List.Sums.{sum_by-cons}
+use Rattle.grid_geometry.specs.Position.{Position}
+use Rattle.grid_geometry.specs.Segment.{segment}
+use Rattle.ring_machine.specs.Parts.{rings, size, is_vertex}
+use Rattle.ring_machine.specs.Ring.{canonical}
+use Rattle.ring_machine.specs.Vertices.{is_junction}
+use Rattle.ring_machine.proofs.First.{In}
+use Rattle.shared_arcs.specs.declared.around.Neighbours.{Neighbours}
+use Rattle.shared_arcs.specs.declared.around.Neighbours.TheVariants.{One, Two, More}
+use Rattle.shared_arcs.specs.Joined.{Passes, AreNeighbours}
+use Rattle.shared_arcs.specs.Ways.{Edge}
+use Rattle.arc_store.specs.Stored.{Stored, place, positions_along, document_of}
+use Rattle.arc_store.specs.Holds.{IsWhole}
+use Rattle.arc_store.specs.Spots.{IsBetween, IsShortest}
+use Rattle.arc_store.proofs.Around.{is_there, two_no_junction, around_two, bridge_two, neighbours_none}
+use Rattle.arc_store.proofs.Around.{neighbours_one, neighbours_more, ring_length, passes_has, has_passes}
+use Rattle.arc_store.proofs.Base.{joined_kept, laid_ring, ring_laid, IsKept}
+use Rattle.arc_store.proofs.Members.{contains_in, in_contains}
+use Rattle.arc_store.proofs.Reading.{ends_make}
+
+-- a list is no longer than all together
+length_among : {A : Type 0} (xs : List A) (xss : List (List A)) → In xs xss
+    → length xs ≤ sum_by length xss
+length_among xs [] i = absurd i
+length_among xs (ys ∷ xss) (inl e) = omega (arith, sum_by-cons length ys xss, ap length e)
+length_among xs (ys ∷ xss) (inr i) = omega (arith, sum_by-cons length ys xss, length_among xs xss i)
+
+module _ (s : Stored) (w : IsWhole s) (m : ℕ) (p : Position) (here : table.get s.places m ≡ Some p) where
+  -- a vertex that has not two neighbours is a junction
+  pub spot_junction : (r : Neighbours) → AreNeighbours s.rings m r → ((a b : ℕ) → r ≢ Two a b)
+      → (is_vertex (document_of s) p ≡ true) × (is_junction (document_of s) p ≡ true)
+  spot_junction Neighbours.None h n = absurd (neighbours_none s w m p here h)
+  spot_junction (One a) h n = absurd (neighbours_one s w m p here a h)
+  spot_junction (Two a b) h n = absurd (n a b refl)
+  spot_junction More h n = (is_there s w m p here, neighbours_more s w m p here h)
+
+  module _ (a b : ℕ) (two : AreNeighbours s.rings m (Two a b)) where
+    -- its neighbours have keys
+    pub two_kept : IsKept s.places a × IsKept s.places b
+    two_kept = ((joined_kept s w m a ((two.1 a).1 (inl refl))).1, (joined_kept s w m b ((two.1 b).1 (inr refl))).1)
+
+    -- some ring passes it
+    pub two_pass : ((es : List Edge) → ¬ Passes s.rings m es) → ⊥
+    two_pass h =
+        let j = (two.1 a).1 (inl refl) in
+        h j.edges (record { ring = j.ring; other = a; held = j.held; has = j.has })
+
+    -- it stands between them
+    pub two_between :
+        let t = segment (place s.places a) (place s.places b) in IsBetween (document_of s) p t.lo t.hi
+    two_between =
+        let t = segment (place s.places a) (place s.places b) in
+        record {
+          vertex = is_there s w m p here;
+          inner = two_no_junction s w m p here a b two;
+          order = ap is_lt (bridge_two s w m p here a b two);
+          each = λ u i. around_two s w m p here a b two u (contains_in _ u i) ∙ sym (ends_make t (bridge_two s w m p here a b two));
+        }
+
+  capped : (n l most : ℕ) → n ≡ min l most → l ≤ 4000000 → 4000000 ≤ most → n ≡ l
+  capped n l most e f g = omega (arith, e, f, g)
+
+  -- the shortest ring with it has as many positions as that at its key has edges
+  pub shortest_read : size (document_of s) ≤ 4000000 → (n most : ℕ) → 4000000 ≤ most
+      → (es : List Edge) × Passes s.rings m es × (n ≡ min (length es) most)
+      → ((es : List Edge) → Passes s.rings m es → n ≤ length es) → IsShortest (document_of s) p n
+  shortest_read small n most large some least =
+      let es = some.0 in
+      let v = some.1 in
+      let there = ring_laid s w v.ring es v.held in
+      let long = ring_length s w m p here es in
+      record {
+        ring = canonical (positions_along s.places es);
+        there = in_contains (rings (document_of s)) (canonical (positions_along s.places es)) there;
+        through = passes_has s w m p here v.ring es v.held v.other v.has;
+        long = capped n (length es) most some.2 (omega (arith, length_among (canonical (positions_along s.places es)) (rings (document_of s)) there, long, small)) large ∙ sym long;
+        least = λ r i h.
+            let l = laid_ring s w r (contains_in (rings (document_of s)) r i) in
+            omega (arith, least l.along (has_passes s w m p here r l h), ring_length s w m p here l.along, ap length l.is);
+      }

@@ -1,0 +1,12 @@
+use Rattle.std.proofs.Common.{ap, ◌∙◌}
+use Rattle.ring_machine.specs.Parts.{is_vertex}
+use Rattle.arc_store.specs.Kept.{stored}
+use Rattle.arc_store.proofs.Reading.{found_vertex}
+use Rattle.arc_store.proofs.map.Map.has_vertex.Goals as goal
+
+pub returns : goal.returns
+returns g c =
+    let m = c.self.inside in
+    c.is_some.ensures
+    ∙ found_vertex (stored m.frame m.borders m.vertices) c.self.invariant.holds.whole c.args.p c.key_of.result c.key_of.ensures.found c.key_of.ensures.absent
+    ∙ ap (λ s. is_vertex s.doc c.args.p) c.self.view_is

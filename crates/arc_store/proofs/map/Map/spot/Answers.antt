@@ -1,0 +1,49 @@
+use Rattle.std.proofs.Common.{sym, ap, ◌∙◌, subst, Some, arith}
+use Rattle.ring_machine.specs.Parts.{is_vertex}
+use Rattle.ring_machine.specs.Vertices.{is_junction}
+use Rattle.grid_geometry.specs.Segment.{segment}
+use Rattle.arc_store.specs.Kept.{stored}
+use Rattle.arc_store.specs.Spots.{IsSpot, IsBetween, IsShortest}
+use Rattle.arc_store.specs.Stored.{place}
+use Rattle.arc_store.proofs.Reading.{no_vertex}
+use Rattle.arc_store.proofs.SpotLemmas.{spot_junction, two_pass, two_kept, two_between, shortest_read}
+use Rattle.arc_store.proofs.map.Map.spot.Goals as goal
+
+pub returns-in_err-k : goal.returns-in_err-k
+returns-in_err-k g c =
+    let m = c.self.inside in
+    subst (IsSpot c.args.self.now.doc c.args.p) (sym c.from_residual.ensures)
+    (sym (ap (λ s. is_vertex s.doc c.args.p) c.self.view_is) ∙ no_vertex (stored m.frame m.borders m.vertices) c.self.invariant.holds.whole c.args.p c.in_err-k.ensures.absent)
+
+pub returns-in_default : goal.returns-in_default
+returns-in_default g c =
+    let m = c.self.inside in
+    let h = spot_junction (stored m.frame m.borders m.vertices) c.self.invariant.holds.whole c.in_ok-k.k c.args.p c.in_ok-k.ensures.found c.neighbours.result c.neighbours.ensures c.in_default.not-Two in
+    (sym (ap (λ s. is_vertex s.doc c.args.p) c.self.view_is) ∙ h.0, sym (ap (λ s. is_junction s.doc c.args.p) c.self.view_is) ∙ h.1)
+
+-- some ring passes a vertex
+pub returns-in_err-shortest : goal.returns-in_err-shortest
+returns-in_err-shortest g c =
+    let m = c.self.inside in
+    absurd (two_pass (stored m.frame m.borders m.vertices) c.self.invariant.holds.whole c.in_ok-k.k c.args.p c.in_ok-k.ensures.found c.in-Two.a c.in-Two.b c.in-Two.ensures c.in_err-shortest.ensures.none)
+
+pub between-requires-clause-first : goal.between-requires-clause-first
+between-requires-clause-first g c =
+    let m = c.self.inside in
+    (two_kept (stored m.frame m.borders m.vertices) c.self.invariant.holds.whole c.in_ok-k.k c.args.p c.in_ok-k.ensures.found c.in-Two.a c.in-Two.b c.in-Two.ensures).0
+
+pub between-requires-clause-second : goal.between-requires-clause-second
+between-requires-clause-second g c =
+    let m = c.self.inside in
+    (two_kept (stored m.frame m.borders m.vertices) c.self.invariant.holds.whole c.in_ok-k.k c.args.p c.in_ok-k.ensures.found c.in-Two.a c.in-Two.b c.in-Two.ensures).1
+
+pub returns : goal.returns
+returns g c =
+    let m = c.self.inside in
+    let s = stored m.frame m.borders m.vertices in
+    let w = c.self.invariant.holds.whole in
+    let t = segment (place m.vertices c.in-Two.a) (place m.vertices c.in-Two.b) in
+    let between = two_between s w c.in_ok-k.k c.args.p c.in_ok-k.ensures.found c.in-Two.a c.in-Two.b c.in-Two.ensures in
+    let shortest = shortest_read s w c.in_ok-k.k c.args.p c.in_ok-k.ensures.found c.self.invariant.holds.small c.in_ok-shortest.shortest _ (omega arith) c.in_ok-shortest.ensures.some c.in_ok-shortest.ensures.least in
+    subst (λ z. IsSpot c.args.self.now.doc c.args.p (Some z)) (sym c.between.ensures)
+    (subst (λ s. IsBetween s.doc c.args.p t.lo t.hi × IsShortest s.doc c.args.p c.in_ok-shortest.shortest) c.self.view_is (between, shortest))

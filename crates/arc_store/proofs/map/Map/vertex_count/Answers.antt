@@ -1,0 +1,12 @@
+use Rattle.std.proofs.Common.{ap, ◌∙◌, length}
+use Rattle.ring_machine.specs.Query.{vertices}
+use Rattle.arc_store.specs.Kept.{stored}
+use Rattle.arc_store.proofs.VertexLists.{vertices_counted}
+use Rattle.arc_store.proofs.map.Map.vertex_count.Goals as goal
+
+pub returns : goal.returns
+returns g c =
+    let m = c.self.inside in
+    c.len.ensures.len
+    ∙ vertices_counted (stored m.frame m.borders m.vertices) c.self.invariant.holds.whole
+    ∙ ap (λ s. length (vertices s.doc)) c.self.view_is

@@ -1,0 +1,12 @@
+use Rattle.arc_store.specs.Frames.{polygon_numbers}
+use Rattle.arc_store.proofs.KeyLists.{part_held, part_more}
+use Rattle.arc_store.proofs.positions.push_feature.Goals as goal
+
+pub push_polygon-requires : goal.push_polygon-requires
+push_polygon-requires g c =
+    part_held c.args.borders.now polygon_numbers c.args.polygons.now c.loop-rings.rings-index c.rings-item.result c.as_slice.result.now c.loop-rings-test.true c.rings-item.is c.as_slice.ensures.value c.requires
+
+pub loop-rings-preserved : goal.loop-rings-preserved
+loop-rings-preserved g c =
+    part_more c.args.borders.now polygon_numbers c.args.polygons.now c.loop-rings.rings-index c.rings-item.result c.as_slice.result.now c.loop-rings-test.true c.rings-item.is c.as_slice.ensures.value
+    c.args.keys.now.items c.loop-rings.keys.items c.push_polygon.new.keys.items c.loop-rings.invariant c.in_ok-push_polygon.ensures
