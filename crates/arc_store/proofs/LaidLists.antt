@@ -2,7 +2,7 @@
 use Rattle.std.proofs.Common.{◌≡◌, ◌<◌, ◌≤◌, ℕ, ◌+◌, refl, ap, ap₂, ◌∙◌, sym, subst, List, []}
 use Rattle.std.proofs.Common.{◌∷◌, ◌++◌, map, length, take, get_or, Option, Contains, arith}
 use Rattle.std.specs.List.{flat_map, sum_by}
-use Rattle.std.proofs.lemmas.List.{append-nil, append_assoc, map_push, take_more}
+use Rattle.std.proofs.lemmas.List.{append-nil, append_assoc, length_push, map_push, take_more}
 use Rattle.std.proofs.lemmas.List.{length-map, get_or-map}
 use Rattle.std.proofs.lemmas.List.Concat.{flat_map-append}
 use Rattle.std.proofs.lemmas.List.Sums.{sum_by-append, sum_by-cons, sum_by_more, sum_by-take-le}
@@ -22,6 +22,7 @@ pub record OnWay : Type 0 where
   pub segments : ℕ
   pub positions : ℕ
 
+-- the same by its parts
 abbrev pub way : Rings → SegmentSet → Option (Segment × Segment) → ℕ → ℕ → OnWay
 way borders index first segments positions = record {
   borders = borders;
@@ -41,18 +42,7 @@ pub record Lays (places : Placement) (old new : OnWay) (made : List ℕ) (more :
   pub size : new.positions ≡ old.positions + sum_by length more
   pub few : new.segments ≤ new.positions
 
-pub lays_none : (places : Placement) (w : OnWay) → w.segments ≤ w.positions → Lays places w w [] []
-lays_none places w few = record {
-  laid = λ numbers keyed l.
-      subst (λ z. IsLaid w.borders z (keyed ++ [])) (sym (append-nil numbers))
-      (subst (IsLaid w.borders numbers) (sym (append-nil keyed)) l);
-  filled = λ numbers keyed l f.
-      subst (λ z. IsFilled w.index w.first w.segments (segments_along places z)) (sym (append-nil keyed)) f;
-  size = omega arith;
-  few = few;
-}
-
-pub lays_then : (places : Placement) (a b c : OnWay) (made made' : List ℕ) (more more' : List (List ℕ))
+lays_then : (places : Placement) (a b c : OnWay) (made made' : List ℕ) (more more' : List (List ℕ))
     → Lays places a b made more → Lays places b c made' more'
     → Lays places a c (made ++ made') (more ++ more')
 lays_then places a b c made made' more more' h k = record {
@@ -115,6 +105,10 @@ lays_more places a b c made made' all more more' along e f h k =
 pub taken : {X : Type 0} (xs : List X) (i : ℕ) (x : X) → i < length xs → x ≡ get_or xs i x
     → take (i + 1) xs ≡ take i xs ++ x ∷ []
 taken xs i x l e = take_more xs i x l ∙ ap (λ y. take i xs ++ y ∷ []) (sym e)
+
+pub length_pushed : {X : Type 0} (xs ys : List X) (x : X) → ys ≡ xs ++ x ∷ []
+    → length ys ≡ length xs + 1
+length_pushed xs ys x e = ap length e ∙ length_push xs x
 
 flat_push : {X Y B : Type 0} (h : Y → List B) (g : X → Y) (xs : List X) (x : X)
     → flat_map h (map g (xs ++ x ∷ [])) ≡ flat_map h (map g xs) ++ h (g x)

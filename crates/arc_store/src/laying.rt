@@ -1,16 +1,14 @@
 // A map on the way: its rings are laid one after the other.
-ghost use Rattle.std.specs.Prelude.{◌≡◌, ◌≢◌, ◌≤◌, ◌+◌, ℕ, List, [], ◌∷◌, ◌++◌, length, map, IfOk, OnOk, true, false, IsTrue, Contains};
-ghost use Rattle.std.specs.List.{list_all, sum_by};
+ghost use Rattle.std.specs.Prelude.{◌≡◌, ◌≢◌, ◌≤◌, ◌+◌, ℕ, List, [], ◌∷◌, ◌++◌, length, map, IfOk, OnOk, false, IsTrue, Contains};
+ghost use Rattle.std.specs.List.{flat_map, sum_by};
 ghost use Rattle.std.specs.FinMap as table;
 ghost use Rattle.std.specs.FinSet as set;
 ghost use Rattle.grid_geometry.specs.Segment.{Segment, segment};
 ghost use Rattle.ring_machine.specs.Ring.{segments};
-ghost use Rattle.segment_index.specs.Candidates.{has};
+ghost use Rattle.arc_store.specs.Frames.{polygon_numbers, feature_numbers};
 ghost use Rattle.arc_store.specs.Keyed.{all_rings, polygon_keys, feature_keys};
 ghost use Rattle.arc_store.specs.Stored.{place};
 ghost use Rattle.arc_store.specs.Laying.{IsRound, IsFilled, IsLaid, segments_along};
-ghost use Rattle.arc_store.specs.Frames.{polygon_numbers, feature_numbers};
-ghost use Rattle.std.specs.List.{flat_map};
 
 use grid_geometry::Seg;
 use local_planarity::{TestCount, first_with};

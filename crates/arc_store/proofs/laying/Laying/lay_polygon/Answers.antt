@@ -1,8 +1,8 @@
 use Rattle.std.proofs.Common.{◌+◌, sym, ap, ◌∙◌, subst, arith, [], ◌∷◌, ◌++◌, map, length, take}
-use Rattle.std.proofs.lemmas.List.{take_all, length_push}
+use Rattle.std.proofs.lemmas.List.{take_all, length-map}
 use Rattle.arc_store.specs.Laying.{IsRound, IsLaid, IsFilled, segments_along}
 use Rattle.arc_store.proofs.Counted.{sum_by-map}
-use Rattle.arc_store.proofs.LaidLists.{at_contains, room, taken, map_pushed, way, lays_one, lays_more}
+use Rattle.arc_store.proofs.LaidLists.{at_contains, room, taken, length_pushed, map_pushed, way, lays_one, lays_more}
 use Rattle.arc_store.proofs.laying.Laying.lay_polygon.Goals as goal
 
 pub lay_ring-requires-clause-round : goal.lay_ring-requires-clause-round
@@ -23,9 +23,11 @@ loop-keys-preserved g c =
     let e = taken c.args.rings.now c.loop-keys.keys-index c.keys-item.result c.loop-keys-test.true c.keys-item.is in
     let f = map_pushed (λ ring. ring.items) (take c.loop-keys.keys-index c.args.rings.now) (take (c.loop-keys.keys-index + 1) c.args.rings.now) c.keys-item.result e in
     (c.lay_ring.ensures.vertices ∙ c.loop-keys.invariant.0,
-    ap length c.in_ok-push.ensures.items ∙ length_push c.loop-keys.numbers.items c.in_ok-lay_ring.field-0
-    ∙ ap (λ n. n + 1) c.loop-keys.invariant.1
-    ∙ sym (ap length f ∙ length_push (map (λ ring. ring.items) (take c.loop-keys.keys-index c.args.rings.now)) c.keys-item.result.items),
+    omega (arith, c.loop-keys.invariant.1,
+    length_pushed c.loop-keys.numbers.items c.push.new.self.items c.in_ok-lay_ring.field-0 c.in_ok-push.ensures.items,
+    length_pushed (take c.loop-keys.keys-index c.args.rings.now) (take (c.loop-keys.keys-index + 1) c.args.rings.now) c.keys-item.result e,
+    length-map (take c.loop-keys.keys-index c.args.rings.now) (λ ring. ring.items),
+    length-map (take (c.loop-keys.keys-index + 1) c.args.rings.now) (λ ring. ring.items)),
     lays_more c.args.self.now.vertices
     (way c.args.self.now.borders (g.I.SegIndex.held c.args.self.now.index) c.args.self.now.first c.args.self.now.segments c.args.self.now.positions)
     (way c.loop-keys.self.borders (g.I.SegIndex.held c.loop-keys.self.index) c.loop-keys.self.first c.loop-keys.self.segments c.loop-keys.self.positions)
