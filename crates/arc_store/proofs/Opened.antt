@@ -98,7 +98,6 @@ module _ {A : Type 0} (raw : RawDoc A) (h : IsOfRings (view_raw raw)) (places : 
     (polygons : Vec (Vec (Vec ℕ A) A) A)
     (shape : map (map length) (map feature_numbers polygons.items) ≡ map (map length) keyed)
     (l : IsLaid m (all_rings (map feature_numbers polygons.items)) (all_rings keyed)) where
-
   abbrev o : read.Opened
   o = view_raw raw
 

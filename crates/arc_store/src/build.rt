@@ -43,7 +43,7 @@ fn lay<I: SegIndex, A: Allocator + Copy>(
         × (map (map length) (map feature_numbers made.1.items) ≡ map (map length) keyed)
         × IsLaid made.0.borders (all_rings (map feature_numbers made.1.items)) (all_rings keyed)
         × IsFilled (I.held made.0.index) made.0.first made.0.segments
-            (segments_along made.0.vertices (all_rings keyed))
+        (segments_along made.0.vertices (all_rings keyed))
         × (made.0.positions ≡ sum_by length (all_rings keyed))) }
 {
     let mut vertices = Vertices::new(alloc);

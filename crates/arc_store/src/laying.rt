@@ -68,7 +68,7 @@ impl<I: SegIndex, A: Allocator + Copy> Laying<I, A> {
         ensures filled { OnOk result ((ss : List Segment)
             → IsFilled (I.held self.old.index) self.old.first self.old.segments ss
             → IsFilled (I.held self.new.index) self.new.first self.new.segments
-                (ss ++ segment (place self.old.vertices a) (place self.old.vertices b) ∷ [])) }
+            (ss ++ segment (place self.old.vertices a) (place self.old.vertices b) ∷ [])) }
         ensures vertices { self.new.vertices ≡ self.old.vertices }
         ensures borders { self.new.borders ≡ self.old.borders }
         ensures positions { self.new.positions ≡ self.old.positions }
@@ -90,7 +90,7 @@ impl<I: SegIndex, A: Allocator + Copy> Laying<I, A> {
         ensures filled { OnOk result ((ss : List Segment)
             → IsFilled (I.held self.old.index) self.old.first self.old.segments ss
             → IsFilled (I.held self.new.index) self.new.first self.new.segments
-                (ss ++ segments (map (place self.old.vertices) keys.now))) }
+            (ss ++ segments (map (place self.old.vertices) keys.now))) }
         ensures vertices { self.new.vertices ≡ self.old.vertices }
         ensures borders { self.new.borders ≡ self.old.borders }
         ensures positions { self.new.positions ≡ self.old.positions }
@@ -116,9 +116,9 @@ impl<I: SegIndex, A: Allocator + Copy> Laying<I, A> {
         ensures filled { OnOk result ((numbers : List ℕ) (keyed : List (List ℕ))
             → IsLaid self.old.borders numbers keyed
             → IsFilled (I.held self.old.index) self.old.first self.old.segments
-                (segments_along self.old.vertices keyed)
+            (segments_along self.old.vertices keyed)
             → IsFilled (I.held self.new.index) self.new.first self.new.segments
-                (segments_along self.new.vertices (keyed ++ keys.now ∷ []))) }
+            (segments_along self.new.vertices (keyed ++ keys.now ∷ []))) }
         ensures positions { OnOk result (self.new.positions ≡ self.old.positions + length keys.now) }
         ensures few { OnOk result (self.new.segments ≤ self.new.positions) }
         ensures vertices { self.new.vertices ≡ self.old.vertices }
@@ -138,14 +138,14 @@ impl<I: SegIndex, A: Allocator + Copy> Laying<I, A> {
         ensures laid { IfOk result (λ made. (numbers : List ℕ) (keyed : List (List ℕ))
             → IsLaid self.old.borders numbers keyed
             → IsLaid self.new.borders (numbers ++ made.items)
-                (keyed ++ map (λ ring. ring.items) rings.now)) }
+            (keyed ++ map (λ ring. ring.items) rings.now)) }
         ensures filled { OnOk result ((numbers : List ℕ) (keyed : List (List ℕ))
             → IsLaid self.old.borders numbers keyed
             → IsFilled (I.held self.old.index) self.old.first self.old.segments
-                (segments_along self.old.vertices keyed)
+            (segments_along self.old.vertices keyed)
             → IsFilled (I.held self.new.index) self.new.first self.new.segments
-                (segments_along self.old.vertices
-                    (keyed ++ map (λ ring. ring.items) rings.now))) }
+            (segments_along self.old.vertices
+            (keyed ++ map (λ ring. ring.items) rings.now))) }
         ensures counted { IfOk result (λ made. length made.items
             ≡ length (map (λ ring. ring.items) rings.now)) }
         ensures positions { OnOk result (self.new.positions
@@ -175,15 +175,15 @@ impl<I: SegIndex, A: Allocator + Copy> Laying<I, A> {
         ensures laid { IfOk result (λ made. (numbers : List ℕ) (keyed : List (List ℕ))
             → IsLaid self.old.borders numbers keyed
             → IsLaid self.new.borders
-                (numbers ++ flat_map (λ polygon. polygon) (map polygon_numbers made.items))
-                (keyed ++ flat_map (λ polygon. polygon) (map polygon_keys polygons.now))) }
+            (numbers ++ flat_map (λ polygon. polygon) (map polygon_numbers made.items))
+            (keyed ++ flat_map (λ polygon. polygon) (map polygon_keys polygons.now))) }
         ensures filled { OnOk result ((numbers : List ℕ) (keyed : List (List ℕ))
             → IsLaid self.old.borders numbers keyed
             → IsFilled (I.held self.old.index) self.old.first self.old.segments
-                (segments_along self.old.vertices keyed)
+            (segments_along self.old.vertices keyed)
             → IsFilled (I.held self.new.index) self.new.first self.new.segments
-                (segments_along self.old.vertices
-                    (keyed ++ flat_map (λ polygon. polygon) (map polygon_keys polygons.now)))) }
+            (segments_along self.old.vertices
+            (keyed ++ flat_map (λ polygon. polygon) (map polygon_keys polygons.now)))) }
         ensures counted { IfOk result (λ made. map length (map polygon_numbers made.items)
             ≡ map length (map polygon_keys polygons.now)) }
         ensures positions { OnOk result (self.new.positions ≡ self.old.positions
@@ -211,14 +211,14 @@ impl<I: SegIndex, A: Allocator + Copy> Laying<I, A> {
         ensures laid { IfOk result (λ made. (numbers : List ℕ) (keyed : List (List ℕ))
             → IsLaid self.old.borders numbers keyed
             → IsLaid self.new.borders (numbers ++ all_rings (map feature_numbers made.items))
-                (keyed ++ all_rings (map feature_keys features.now))) }
+            (keyed ++ all_rings (map feature_keys features.now))) }
         ensures filled { OnOk result ((numbers : List ℕ) (keyed : List (List ℕ))
             → IsLaid self.old.borders numbers keyed
             → IsFilled (I.held self.old.index) self.old.first self.old.segments
-                (segments_along self.old.vertices keyed)
+            (segments_along self.old.vertices keyed)
             → IsFilled (I.held self.new.index) self.new.first self.new.segments
-                (segments_along self.old.vertices
-                    (keyed ++ all_rings (map feature_keys features.now)))) }
+            (segments_along self.old.vertices
+            (keyed ++ all_rings (map feature_keys features.now)))) }
         ensures counted { IfOk result (λ made. map (map length) (map feature_numbers made.items)
             ≡ map (map length) (map feature_keys features.now)) }
         ensures positions { OnOk result (self.new.positions

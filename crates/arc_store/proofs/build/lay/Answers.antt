@@ -20,9 +20,12 @@ lay_all-requires-clause-round g c = λ keys i.
 
 pub lay_all-requires-clause-small : goal.lay_all-requires-clause-small
 lay_all-requires-clause-small g c =
-    omega (arith, c.requires.small,
-    size_keyed c.key_all.new.vertices (map feature_positions c.args.features.now) (map feature_keys c.in_ok-keyed.keyed.items) c.in_ok-keyed.ensures,
-    ap (λ z. sum_by length (all_rings (map feature_keys z))) c.as_slice-2.ensures.value)
+    omega (
+      arith,
+      c.requires.small,
+      size_keyed c.key_all.new.vertices (map feature_positions c.args.features.now) (map feature_keys c.in_ok-keyed.keyed.items) c.in_ok-keyed.ensures,
+      ap (λ z. sum_by length (all_rings (map feature_keys z))) c.as_slice-2.ensures.value,
+    )
 
 pub returns-clause-distinct : goal.returns-clause-distinct
 returns-clause-distinct g c =
@@ -31,12 +34,13 @@ returns-clause-distinct g c =
 pub returns-clause-laid : goal.returns-clause-laid
 returns-clause-laid g c =
     let first = laid_none c.mark_junctions.new.borders (c.mark_junctions.ensures ∙ c.new-borders.ensures) in (
-    map feature_keys c.in_ok-keyed.keyed.items,
-    subst (λ places. IsKeyed places (map feature_positions c.args.features.now) (map feature_keys c.in_ok-keyed.keyed.items)) (sym c.in_ok-numbers.ensures.vertices) c.in_ok-keyed.ensures,
-    c.in_ok-numbers.ensures.counted ∙ ap (λ z. map (map length) (map feature_keys z)) c.as_slice-2.ensures.value,
-    subst (λ z. IsLaid c.lay_all.new.self.borders (all_rings (map feature_numbers c.in_ok-numbers.numbers.items)) (all_rings (map feature_keys z))) c.as_slice-2.ensures.value
-    (c.in_ok-numbers.ensures.laid [] [] first),
-    subst (λ z. IsFilled (g.I.SegIndex.held c.lay_all.new.self.index) c.lay_all.new.self.first c.lay_all.new.self.segments (segments_along c.lay_all.new.self.vertices (all_rings (map feature_keys z)))) c.as_slice-2.ensures.value
-    (subst (λ places. IsFilled (g.I.SegIndex.held c.lay_all.new.self.index) c.lay_all.new.self.first c.lay_all.new.self.segments (segments_along places (all_rings (map feature_keys c.as_slice-2.result.now)))) (sym c.in_ok-numbers.ensures.vertices)
-    (c.in_ok-numbers.ensures.filled [] [] first (filled_none (g.I.SegIndex.held c.args.index) c.requires.empty))),
-    omega (arith, c.in_ok-numbers.ensures.positions, ap (λ z. sum_by length (all_rings (map feature_keys z))) c.as_slice-2.ensures.value))
+      map feature_keys c.in_ok-keyed.keyed.items,
+      subst (λ places. IsKeyed places (map feature_positions c.args.features.now) (map feature_keys c.in_ok-keyed.keyed.items)) (sym c.in_ok-numbers.ensures.vertices) c.in_ok-keyed.ensures,
+      c.in_ok-numbers.ensures.counted ∙ ap (λ z. map (map length) (map feature_keys z)) c.as_slice-2.ensures.value,
+      subst (λ z. IsLaid c.lay_all.new.self.borders (all_rings (map feature_numbers c.in_ok-numbers.numbers.items)) (all_rings (map feature_keys z))) c.as_slice-2.ensures.value
+          (c.in_ok-numbers.ensures.laid [] [] first),
+      subst (λ z. IsFilled (g.I.SegIndex.held c.lay_all.new.self.index) c.lay_all.new.self.first c.lay_all.new.self.segments (segments_along c.lay_all.new.self.vertices (all_rings (map feature_keys z)))) c.as_slice-2.ensures.value
+          (subst (λ places. IsFilled (g.I.SegIndex.held c.lay_all.new.self.index) c.lay_all.new.self.first c.lay_all.new.self.segments (segments_along places (all_rings (map feature_keys c.as_slice-2.result.now)))) (sym c.in_ok-numbers.ensures.vertices)
+          (c.in_ok-numbers.ensures.filled [] [] first (filled_none (g.I.SegIndex.held c.args.index) c.requires.empty))),
+      omega (arith, c.in_ok-numbers.ensures.positions, ap (λ z. sum_by length (all_rings (map feature_keys z))) c.as_slice-2.ensures.value),
+    )

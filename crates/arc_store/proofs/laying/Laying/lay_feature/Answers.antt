@@ -23,33 +23,41 @@ lay_polygon-requires-clause-small g c =
     = sum-flat length (λ polygon. polygon) (map polygon_keys c.args.polygons.now) ∙ sum_by-map (λ y. sum_by length (y)) polygon_keys c.args.polygons.now in
     let part : sum_by length (flat_map (λ polygon. polygon) (map polygon_keys (take c.loop-rings.rings-index c.args.polygons.now))) ≡ sum_by (λ x. sum_by length (polygon_keys x)) (take c.loop-rings.rings-index c.args.polygons.now)
     = sum-flat length (λ polygon. polygon) (map polygon_keys (take c.loop-rings.rings-index c.args.polygons.now)) ∙ sum_by-map (λ y. sum_by length (y)) polygon_keys (take c.loop-rings.rings-index c.args.polygons.now) in
-    omega (arith, c.requires.small, c.loop-rings.invariant.2.size, whole, part, ap (λ z. sum_by length (map (λ ring. ring.items) z)) c.as_slice.ensures.value,
-    room (λ x. sum_by length (polygon_keys x)) c.args.polygons.now c.loop-rings.rings-index c.rings-item.result c.loop-rings-test.true c.rings-item.is)
+    omega (
+      arith,
+      c.requires.small,
+      c.loop-rings.invariant.2.size,
+      whole,
+      part,
+      ap (λ z. sum_by length (map (λ ring. ring.items) z)) c.as_slice.ensures.value,
+      room (λ x. sum_by length (polygon_keys x)) c.args.polygons.now c.loop-rings.rings-index c.rings-item.result c.loop-rings-test.true c.rings-item.is,
+    )
 
 pub loop-rings-preserved : goal.loop-rings-preserved
 loop-rings-preserved g c =
-    let e = taken c.args.polygons.now c.loop-rings.rings-index c.rings-item.result c.loop-rings-test.true c.rings-item.is in
-    (c.in_ok-lay_polygon.ensures.vertices ∙ c.loop-rings.invariant.0,
-    map-map length polygon_numbers c.push.new.self.items
-    ∙ shape_pushed (λ y. length (polygon_numbers y)) (λ x. length (polygon_keys x)) c.loop-rings.numbers.items c.push.new.self.items (take c.loop-rings.rings-index c.args.polygons.now) (take (c.loop-rings.rings-index + 1) c.args.polygons.now) c.in_ok-lay_polygon.field-0 c.rings-item.result
-    c.in_ok-push.ensures.items e (sym (map-map length polygon_numbers c.loop-rings.numbers.items) ∙ c.loop-rings.invariant.1 ∙ map-map length polygon_keys (take c.loop-rings.rings-index c.args.polygons.now))
-    (c.in_ok-lay_polygon.ensures.counted ∙ ap (λ z. length (map (λ ring. ring.items) z)) c.as_slice.ensures.value)
-    ∙ sym (map-map length polygon_keys (take (c.loop-rings.rings-index + 1) c.args.polygons.now)),
-    lays_more c.args.self.now.vertices
-    (way c.args.self.now.borders (g.I.SegIndex.held c.args.self.now.index) c.args.self.now.first c.args.self.now.segments c.args.self.now.positions)
-    (way c.loop-rings.self.borders (g.I.SegIndex.held c.loop-rings.self.index) c.loop-rings.self.first c.loop-rings.self.segments c.loop-rings.self.positions)
-    (way c.lay_polygon.new.self.borders (g.I.SegIndex.held c.lay_polygon.new.self.index) c.lay_polygon.new.self.first c.lay_polygon.new.self.segments c.lay_polygon.new.self.positions)
-    (flat_map (λ polygon. polygon) (map polygon_numbers c.loop-rings.numbers.items)) (polygon_numbers c.in_ok-lay_polygon.field-0) (flat_map (λ polygon. polygon) (map polygon_numbers c.push.new.self.items))
-    (flat_map (λ polygon. polygon) (map polygon_keys (take c.loop-rings.rings-index c.args.polygons.now))) (polygon_keys c.rings-item.result) (flat_map (λ polygon. polygon) (map polygon_keys (take (c.loop-rings.rings-index + 1) c.args.polygons.now)))
-    (flat_pushed (λ polygon. polygon) polygon_numbers c.loop-rings.numbers.items c.push.new.self.items c.in_ok-lay_polygon.field-0 c.in_ok-push.ensures.items)
-    (flat_pushed (λ polygon. polygon) polygon_keys (take c.loop-rings.rings-index c.args.polygons.now) (take (c.loop-rings.rings-index + 1) c.args.polygons.now) c.rings-item.result e)
-    c.loop-rings.invariant.2
-    (lays_list c.args.self.now.vertices c.loop-rings.self.vertices
-    (way c.loop-rings.self.borders (g.I.SegIndex.held c.loop-rings.self.index) c.loop-rings.self.first c.loop-rings.self.segments c.loop-rings.self.positions)
-    (way c.lay_polygon.new.self.borders (g.I.SegIndex.held c.lay_polygon.new.self.index) c.lay_polygon.new.self.first c.lay_polygon.new.self.segments c.lay_polygon.new.self.positions)
-    (polygon_numbers c.in_ok-lay_polygon.field-0) (map (λ ring. ring.items) c.as_slice.result.now) (polygon_keys c.rings-item.result)
-    c.loop-rings.invariant.0 (ap (λ z. map (λ ring. ring.items) z) c.as_slice.ensures.value)
-    c.in_ok-lay_polygon.ensures.laid c.in_ok-lay_polygon.ensures.filled c.in_ok-lay_polygon.ensures.positions c.in_ok-lay_polygon.ensures.few))
+    let e = taken c.args.polygons.now c.loop-rings.rings-index c.rings-item.result c.loop-rings-test.true c.rings-item.is in (
+      c.in_ok-lay_polygon.ensures.vertices ∙ c.loop-rings.invariant.0,
+      map-map length polygon_numbers c.push.new.self.items
+          ∙ shape_pushed (λ y. length (polygon_numbers y)) (λ x. length (polygon_keys x)) c.loop-rings.numbers.items c.push.new.self.items (take c.loop-rings.rings-index c.args.polygons.now) (take (c.loop-rings.rings-index + 1) c.args.polygons.now) c.in_ok-lay_polygon.field-0 c.rings-item.result
+          c.in_ok-push.ensures.items e (sym (map-map length polygon_numbers c.loop-rings.numbers.items) ∙ c.loop-rings.invariant.1 ∙ map-map length polygon_keys (take c.loop-rings.rings-index c.args.polygons.now))
+          (c.in_ok-lay_polygon.ensures.counted ∙ ap (λ z. length (map (λ ring. ring.items) z)) c.as_slice.ensures.value)
+          ∙ sym (map-map length polygon_keys (take (c.loop-rings.rings-index + 1) c.args.polygons.now)),
+      lays_more c.args.self.now.vertices
+          (way c.args.self.now.borders (g.I.SegIndex.held c.args.self.now.index) c.args.self.now.first c.args.self.now.segments c.args.self.now.positions)
+          (way c.loop-rings.self.borders (g.I.SegIndex.held c.loop-rings.self.index) c.loop-rings.self.first c.loop-rings.self.segments c.loop-rings.self.positions)
+          (way c.lay_polygon.new.self.borders (g.I.SegIndex.held c.lay_polygon.new.self.index) c.lay_polygon.new.self.first c.lay_polygon.new.self.segments c.lay_polygon.new.self.positions)
+          (flat_map (λ polygon. polygon) (map polygon_numbers c.loop-rings.numbers.items)) (polygon_numbers c.in_ok-lay_polygon.field-0) (flat_map (λ polygon. polygon) (map polygon_numbers c.push.new.self.items))
+          (flat_map (λ polygon. polygon) (map polygon_keys (take c.loop-rings.rings-index c.args.polygons.now))) (polygon_keys c.rings-item.result) (flat_map (λ polygon. polygon) (map polygon_keys (take (c.loop-rings.rings-index + 1) c.args.polygons.now)))
+          (flat_pushed (λ polygon. polygon) polygon_numbers c.loop-rings.numbers.items c.push.new.self.items c.in_ok-lay_polygon.field-0 c.in_ok-push.ensures.items)
+          (flat_pushed (λ polygon. polygon) polygon_keys (take c.loop-rings.rings-index c.args.polygons.now) (take (c.loop-rings.rings-index + 1) c.args.polygons.now) c.rings-item.result e)
+          c.loop-rings.invariant.2
+          (lays_list c.args.self.now.vertices c.loop-rings.self.vertices
+          (way c.loop-rings.self.borders (g.I.SegIndex.held c.loop-rings.self.index) c.loop-rings.self.first c.loop-rings.self.segments c.loop-rings.self.positions)
+          (way c.lay_polygon.new.self.borders (g.I.SegIndex.held c.lay_polygon.new.self.index) c.lay_polygon.new.self.first c.lay_polygon.new.self.segments c.lay_polygon.new.self.positions)
+          (polygon_numbers c.in_ok-lay_polygon.field-0) (map (λ ring. ring.items) c.as_slice.result.now) (polygon_keys c.rings-item.result)
+          c.loop-rings.invariant.0 (ap (λ z. map (λ ring. ring.items) z) c.as_slice.ensures.value)
+          c.in_ok-lay_polygon.ensures.laid c.in_ok-lay_polygon.ensures.filled c.in_ok-lay_polygon.ensures.positions c.in_ok-lay_polygon.ensures.few),
+    )
 
 pub returns-clause-laid : goal.returns-clause-laid
 returns-clause-laid g c = λ numbers keyed l.

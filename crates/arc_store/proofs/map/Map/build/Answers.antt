@@ -32,9 +32,13 @@ pub overflow_cast-next : goal.overflow_cast-next
 overflow_cast-next g c =
     let l = c.in_ok-laid.ensures.laid in
     let k = subst (λ z. IsKeyed c.in_ok-laid.laid.vertices (map feature_positions z) l.0) c.as_slice.ensures.value l.1 in
-    omega (arith, c.len-next.ensures, c.in_ok-laid.numbers.ok,
-    opened_few c.args.raw c.requires.rings c.in_ok-laid.laid.vertices c.in_ok-laid.ensures.distinct l.0 k
-    c.in_ok-laid.laid.borders c.in_ok-laid.numbers l.2 l.3)
+    omega (
+      arith,
+      c.len-next.ensures,
+      c.in_ok-laid.numbers.ok,
+      opened_few c.args.raw c.requires.rings c.in_ok-laid.laid.vertices c.in_ok-laid.ensures.distinct l.0 k
+          c.in_ok-laid.laid.borders c.in_ok-laid.numbers l.2 l.3,
+    )
 
 none_is : {X : Type 0} (o : Option X) → ((x : X) → o ≡ Some x → ⊥) → o ≡ None
 none_is None h = refl
