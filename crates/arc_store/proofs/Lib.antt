@@ -30,6 +30,12 @@ pub mod FilledLists
 pub mod LaidSegments
 pub mod LaidRings
 pub mod FrameLemmas
+pub mod FramedDocument
+pub mod NestedLists
+pub mod KeyedRings
+pub mod Opened
+pub mod LaidLists
+pub mod LaidFirst
 pub mod Reading
 pub mod SpotLemmas
 pub mod SortedOnce

@@ -15,7 +15,7 @@ use Rattle.shared_arcs.specs.Rings as shared
 use Rattle.arc_store.specs.Stored.{Stored, place, document_of}
 use Rattle.arc_store.specs.Holds.{IsWhole}
 use Rattle.arc_store.specs.Spots.{users}
-use Rattle.arc_store.proofs.Base.{key_vertex, vertex_key, place_is, place_kept, kept_place, IsKept}
+use Rattle.arc_store.proofs.Base.{key_vertex, vertex_key, place_is, place_kept, kept_place}
 use Rattle.arc_store.proofs.Base.{segment_between, joined_kept}
 use Rattle.arc_store.proofs.Ends.{segment_ends}
 use Rattle.arc_store.proofs.Insertions.{has_segment, is_segment_by}

@@ -1,5 +1,5 @@
 -- Positions sorted, with each of equal neighbours once, are the vertices.
-use Rattle.std.proofs.Common.{◌≡◌, ℕ, zero, suc, ◌+◌, ◌<◌, Bool, true, false, refl, sym, ap, ap₂, ◌∙◌, subst, cond}
+use Rattle.std.proofs.Common.{◌≡◌, ℕ, zero, suc, ◌<◌, Bool, true, false, refl, sym, ap, ap₂, ◌∙◌, subst, cond}
 use Rattle.std.proofs.Common.{List, [], ◌∷◌, length, get_or, ◌⊎◌, inl, inr, arith}
 use Rattle.std.specs.List.{All, AllByRecursion, fold, dedup, dedup_from}
 use Rattle.std.specs.List.Sorted.{IsPermutation, IsSorted, IsStrictlySortedBy}

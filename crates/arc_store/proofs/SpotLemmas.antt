@@ -1,21 +1,20 @@
 -- What stands around a vertex, from the neighbours of its key and the shortest ring that passes it.
-use Rattle.std.proofs.Common.{◌≡◌, ◌≢◌, ◌≤◌, ◌+◌, ℕ, Bool, true, refl, sym, ap, ◌∙◌, subst, List, [], ◌∷◌}
-use Rattle.std.proofs.Common.{length, arith, inl, inr, Some, Contains}
-use Rattle.std.specs.Prelude.{min, IsTrue}
+use Rattle.std.proofs.Common.{◌≡◌, ◌≢◌, ◌≤◌, ℕ, true, refl, sym, ap, ◌∙◌, List, [], ◌∷◌}
+use Rattle.std.proofs.Common.{length, arith, inl, inr, Some}
+use Rattle.std.specs.Prelude.{min}
 use Rattle.std.specs.FinMap as table
 use Rattle.std.specs.List.{sum_by}
 use Rattle.std.specs.Ordering.{is_lt}
 use Rattle.std.proofs.lemmas.List.Sums.{sum_by-cons}
-use Rattle.grid_geometry.specs.Position.{Position, position_lt}
-use Rattle.grid_geometry.specs.Segment.{Segment, segment}
+use Rattle.grid_geometry.specs.Position.{Position}
+use Rattle.grid_geometry.specs.Segment.{segment}
 use Rattle.ring_machine.specs.Parts.{rings, size, is_vertex}
-use Rattle.ring_machine.specs.Ring.{has, canonical}
+use Rattle.ring_machine.specs.Ring.{canonical}
 use Rattle.ring_machine.specs.Vertices.{is_junction}
 use Rattle.ring_machine.proofs.First.{In}
 use Rattle.shared_arcs.specs.declared.around.Neighbours.{Neighbours}
-use Rattle.shared_arcs.specs.declared.around.Neighbours.TheVariants as Neighbours
 use Rattle.shared_arcs.specs.declared.around.Neighbours.TheVariants.{One, Two, More}
-use Rattle.shared_arcs.specs.Joined.{Joined, Passes, AreNeighbours}
+use Rattle.shared_arcs.specs.Joined.{Passes, AreNeighbours}
 use Rattle.shared_arcs.specs.Ways.{Edge}
 use Rattle.arc_store.specs.Stored.{Stored, place, positions_along, document_of}
 use Rattle.arc_store.specs.Holds.{IsWhole}

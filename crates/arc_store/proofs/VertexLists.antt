@@ -1,6 +1,6 @@
 -- The vertices of a kept map: the positions of its keys, and of the keys along its rings.
-use Rattle.std.proofs.Common.{◌≡◌, ◌↔◌, ℕ, Bool, true, false, refl, sym, ap, ap₂, ◌∙◌, subst, List, []}
-use Rattle.std.proofs.Common.{◌∷◌, map, length, ◌||◌, ◌&&◌, inl, inr, arith, Contains, Some, is_some}
+use Rattle.std.proofs.Common.{◌≡◌, ℕ, Bool, true, false, refl, sym, ap, ap₂, ◌∙◌, subst, List, []}
+use Rattle.std.proofs.Common.{◌∷◌, map, length, ◌||◌, ◌&&◌, inl, inr, arith, Contains, Some}
 use Rattle.std.specs.Prelude.{◌==◌, not, T, Vec, unwrap_or}
 use Rattle.std.specs.FinMap as table
 use Rattle.std.specs.List.{list_any, flat_map, fold, AllByRecursion, IsDistinct}
@@ -20,7 +20,7 @@ use Rattle.ring_machine.specs.Ring.{has, is_distinct}
 use Rattle.ring_machine.specs.WellFormed.{are_distinct}
 use Rattle.ring_machine.proofs.First.{In}
 use Rattle.ring_machine.proofs.Neighbours.{in-map, in-flat_map, has-in, in-has}
-use Rattle.ring_machine.proofs.Order.{and_both, position_eq-true}
+use Rattle.ring_machine.proofs.Order.{and_both}
 use Rattle.ring_machine.proofs.Removal.{none_parts, not_true}
 use Rattle.ring_machine.proofs.RingsOf.{rings-in_rings}
 use Rattle.vertex_index.specs.Placement.{Placement}

@@ -1,5 +1,5 @@
 -- What stands around a vertex, and the rings of a segment.
-use Rattle.std.specs.Prelude.{ℕ, ◌≡◌, ◌≤◌, Bool, true, false, List, length, Contains, IsTrue}
+use Rattle.std.specs.Prelude.{ℕ, ◌≡◌, ◌≤◌, true, false, List, length, Contains, IsTrue}
 use Rattle.std.specs.Prelude.{Option, None, Some}
 use Rattle.std.specs.List.{filter, list_any}
 use Rattle.grid_geometry.specs.Position.{Position, position_lt}

@@ -1,10 +1,17 @@
-ghost use Rattle.std.specs.Prelude.{◌≡◌, IfOk, IfErr, length};
+ghost use Rattle.std.specs.Prelude.{◌≡◌, ◌≤◌, ℕ, List, map, IfOk, IfErr, IsTrue, length};
 ghost use Rattle.std.specs.FinSet as set;
+ghost use Rattle.std.specs.List.{list_all, sum_by};
+ghost use Rattle.ring_machine.specs.Ring.{is_ring};
 ghost use Rattle.ring_machine.specs.Parts.{features};
 ghost use Rattle.ring_machine.specs.Planar.{Proper, first_pair};
 ghost use Rattle.topo_reader.specs.Document.{document_of, IsOfRings};
 ghost use Rattle.topo_reader.specs.DocumentView.{view_raw};
+ghost use Rattle.topo_reader.specs.Uses.{feature_positions};
+ghost use Rattle.vertex_index.specs.Placement.{AreDistinct};
 ghost use Rattle.arc_store.specs.Faults.{Names};
+ghost use Rattle.arc_store.specs.Frames.{feature_numbers};
+ghost use Rattle.arc_store.specs.Keyed.{all_rings, IsKeyed};
+ghost use Rattle.arc_store.specs.Laying.{IsFilled, IsLaid, segments_along};
 
 use crate::fault::BuildFault;
 use crate::frame::Frame;
@@ -20,12 +27,25 @@ use std::alloc::{AllocError, Allocator};
 use topo_reader::RawDoc;
 use vertex_index::Vertices;
 
-/// The tables of these rings, and the numbers of the rings.
+/// The tables of these rings, in an index that is empty, and the numbers of the rings. Fails for
+/// want of memory alone.
 fn lay<I: SegIndex, A: Allocator + Copy>(
     alloc: A,
     index: I,
     features: &[Vec<Vec<Vec<Pos, A>, A>, A>],
-) -> Result<(Laying<I, A>, Vec<Vec<Vec<usize, A>, A>, A>), AllocError> {
+) -> Result<(Laying<I, A>, Vec<Vec<Vec<usize, A>, A>, A>), AllocError>
+    requires rings { IsTrue (list_all is_ring (all_rings (map feature_positions features.now))) }
+    requires small { sum_by length (all_rings (map feature_positions features.now)) ≤ 4000000 }
+    requires empty { I.held index ≡ set.empty }
+    ensures distinct { IfOk result (λ made. AreDistinct made.0.vertices) }
+    ensures laid { IfOk result (λ made. (keyed : List (List (List (List ℕ))))
+        × IsKeyed made.0.vertices (map feature_positions features.now) keyed
+        × (map (map length) (map feature_numbers made.1.items) ≡ map (map length) keyed)
+        × IsLaid made.0.borders (all_rings (map feature_numbers made.1.items)) (all_rings keyed)
+        × IsFilled (I.held made.0.index) made.0.first made.0.segments
+        (segments_along made.0.vertices (all_rings keyed))
+        × (made.0.positions ≡ sum_by length (all_rings keyed))) }
+{
     let mut vertices = Vertices::new(alloc);
     let keyed = key_all(alloc, &mut vertices, features)?;
     let mut borders = Borders::new(alloc);

@@ -1,11 +1,11 @@
 // A map on the way: its rings are laid one after the other.
-ghost use Rattle.std.specs.Prelude.{◌≡◌, ◌≢◌, ◌≤◌, ◌+◌, ℕ, List, [], ◌∷◌, ◌++◌, length, map, IfOk, OnOk, true, false, IsTrue, Contains};
-ghost use Rattle.std.specs.List.{list_all, sum_by};
+ghost use Rattle.std.specs.Prelude.{◌≡◌, ◌≢◌, ◌≤◌, ◌+◌, ℕ, List, [], ◌∷◌, ◌++◌, length, map, IfOk, OnOk, false, IsTrue, Contains};
+ghost use Rattle.std.specs.List.{flat_map, sum_by};
 ghost use Rattle.std.specs.FinMap as table;
 ghost use Rattle.std.specs.FinSet as set;
 ghost use Rattle.grid_geometry.specs.Segment.{Segment, segment};
 ghost use Rattle.ring_machine.specs.Ring.{segments};
-ghost use Rattle.segment_index.specs.Candidates.{has};
+ghost use Rattle.arc_store.specs.Frames.{polygon_numbers, feature_numbers};
 ghost use Rattle.arc_store.specs.Keyed.{all_rings, polygon_keys, feature_keys};
 ghost use Rattle.arc_store.specs.Stored.{place};
 ghost use Rattle.arc_store.specs.Laying.{IsRound, IsFilled, IsLaid, segments_along};
@@ -68,7 +68,7 @@ impl<I: SegIndex, A: Allocator + Copy> Laying<I, A> {
         ensures filled { OnOk result ((ss : List Segment)
             → IsFilled (I.held self.old.index) self.old.first self.old.segments ss
             → IsFilled (I.held self.new.index) self.new.first self.new.segments
-                (ss ++ segment (place self.old.vertices a) (place self.old.vertices b) ∷ [])) }
+            (ss ++ segment (place self.old.vertices a) (place self.old.vertices b) ∷ [])) }
         ensures vertices { self.new.vertices ≡ self.old.vertices }
         ensures borders { self.new.borders ≡ self.old.borders }
         ensures positions { self.new.positions ≡ self.old.positions }
@@ -90,7 +90,7 @@ impl<I: SegIndex, A: Allocator + Copy> Laying<I, A> {
         ensures filled { OnOk result ((ss : List Segment)
             → IsFilled (I.held self.old.index) self.old.first self.old.segments ss
             → IsFilled (I.held self.new.index) self.new.first self.new.segments
-                (ss ++ segments (map (place self.old.vertices) keys.now))) }
+            (ss ++ segments (map (place self.old.vertices) keys.now))) }
         ensures vertices { self.new.vertices ≡ self.old.vertices }
         ensures borders { self.new.borders ≡ self.old.borders }
         ensures positions { self.new.positions ≡ self.old.positions }
@@ -116,9 +116,9 @@ impl<I: SegIndex, A: Allocator + Copy> Laying<I, A> {
         ensures filled { OnOk result ((numbers : List ℕ) (keyed : List (List ℕ))
             → IsLaid self.old.borders numbers keyed
             → IsFilled (I.held self.old.index) self.old.first self.old.segments
-                (segments_along self.old.vertices keyed)
+            (segments_along self.old.vertices keyed)
             → IsFilled (I.held self.new.index) self.new.first self.new.segments
-                (segments_along self.new.vertices (keyed ++ keys.now ∷ []))) }
+            (segments_along self.new.vertices (keyed ++ keys.now ∷ []))) }
         ensures positions { OnOk result (self.new.positions ≡ self.old.positions + length keys.now) }
         ensures few { OnOk result (self.new.segments ≤ self.new.positions) }
         ensures vertices { self.new.vertices ≡ self.old.vertices }
@@ -128,8 +128,31 @@ impl<I: SegIndex, A: Allocator + Copy> Laying<I, A> {
         self.borders.add_ring(keys)
     }
 
-    /// Lays the rings of a polygon, and gives their numbers.
-    fn lay_polygon(&mut self, rings: &[Vec<VertexKey, A>]) -> Result<Vec<usize, A>, AllocError> {
+    /// Lays the rings of a polygon, and gives their numbers. Fails for want of memory alone.
+    fn lay_polygon(&mut self, rings: &[Vec<VertexKey, A>]) -> Result<Vec<usize, A>, AllocError>
+        requires round { (keys : List ℕ) → Contains (map (λ ring. ring.items) rings.now) keys
+            → IsRound self.old.vertices keys }
+        requires small { self.old.positions
+            + sum_by length (map (λ ring. ring.items) rings.now) ≤ 4000000 }
+        requires few { self.old.segments ≤ self.old.positions }
+        ensures laid { IfOk result (λ made. (numbers : List ℕ) (keyed : List (List ℕ))
+            → IsLaid self.old.borders numbers keyed
+            → IsLaid self.new.borders (numbers ++ made.items)
+            (keyed ++ map (λ ring. ring.items) rings.now)) }
+        ensures filled { OnOk result ((numbers : List ℕ) (keyed : List (List ℕ))
+            → IsLaid self.old.borders numbers keyed
+            → IsFilled (I.held self.old.index) self.old.first self.old.segments
+            (segments_along self.old.vertices keyed)
+            → IsFilled (I.held self.new.index) self.new.first self.new.segments
+            (segments_along self.old.vertices
+            (keyed ++ map (λ ring. ring.items) rings.now))) }
+        ensures counted { IfOk result (λ made. length made.items
+            ≡ length (map (λ ring. ring.items) rings.now)) }
+        ensures positions { OnOk result (self.new.positions
+            ≡ self.old.positions + sum_by length (map (λ ring. ring.items) rings.now)) }
+        ensures few { OnOk result (self.new.segments ≤ self.new.positions) }
+        ensures vertices { OnOk result (self.new.vertices ≡ self.old.vertices) }
+    {
         let mut numbers = Vec::new(self.alloc);
         for keys in rings {
             numbers.push(self.lay_ring(keys.as_slice())?)?;
@@ -137,11 +160,37 @@ impl<I: SegIndex, A: Allocator + Copy> Laying<I, A> {
         Ok(numbers)
     }
 
-    /// Lays the rings of a feature, and gives their numbers.
+    /// Lays the rings of a feature, and gives their numbers. Fails for want of memory alone.
     fn lay_feature(
         &mut self,
         polygons: &[Vec<Vec<VertexKey, A>, A>],
-    ) -> Result<Vec<Vec<usize, A>, A>, AllocError> {
+    ) -> Result<Vec<Vec<usize, A>, A>, AllocError>
+        requires round { (keys : List ℕ)
+            → Contains (flat_map (λ polygon. polygon) (map polygon_keys polygons.now)) keys
+            → IsRound self.old.vertices keys }
+        requires small { self.old.positions
+            + sum_by length (flat_map (λ polygon. polygon) (map polygon_keys polygons.now))
+            ≤ 4000000 }
+        requires few { self.old.segments ≤ self.old.positions }
+        ensures laid { IfOk result (λ made. (numbers : List ℕ) (keyed : List (List ℕ))
+            → IsLaid self.old.borders numbers keyed
+            → IsLaid self.new.borders
+            (numbers ++ flat_map (λ polygon. polygon) (map polygon_numbers made.items))
+            (keyed ++ flat_map (λ polygon. polygon) (map polygon_keys polygons.now))) }
+        ensures filled { OnOk result ((numbers : List ℕ) (keyed : List (List ℕ))
+            → IsLaid self.old.borders numbers keyed
+            → IsFilled (I.held self.old.index) self.old.first self.old.segments
+            (segments_along self.old.vertices keyed)
+            → IsFilled (I.held self.new.index) self.new.first self.new.segments
+            (segments_along self.old.vertices
+            (keyed ++ flat_map (λ polygon. polygon) (map polygon_keys polygons.now)))) }
+        ensures counted { IfOk result (λ made. map length (map polygon_numbers made.items)
+            ≡ map length (map polygon_keys polygons.now)) }
+        ensures positions { OnOk result (self.new.positions ≡ self.old.positions
+            + sum_by length (flat_map (λ polygon. polygon) (map polygon_keys polygons.now))) }
+        ensures few { OnOk result (self.new.segments ≤ self.new.positions) }
+        ensures vertices { OnOk result (self.new.vertices ≡ self.old.vertices) }
+    {
         let mut numbers = Vec::new(self.alloc);
         for rings in polygons {
             numbers.push(self.lay_polygon(rings.as_slice())?)?;
@@ -149,11 +198,34 @@ impl<I: SegIndex, A: Allocator + Copy> Laying<I, A> {
         Ok(numbers)
     }
 
-    /// Lays the rings of all features, and gives their numbers.
+    /// Lays the rings of all features, and gives their numbers. Fails for want of memory alone.
     pub(crate) fn lay_all(
         &mut self,
         features: &[Vec<Vec<Vec<VertexKey, A>, A>, A>],
-    ) -> Result<Vec<Vec<Vec<usize, A>, A>, A>, AllocError> {
+    ) -> Result<Vec<Vec<Vec<usize, A>, A>, A>, AllocError>
+        requires round { (keys : List ℕ) → Contains (all_rings (map feature_keys features.now)) keys
+            → IsRound self.old.vertices keys }
+        requires small { self.old.positions
+            + sum_by length (all_rings (map feature_keys features.now)) ≤ 4000000 }
+        requires few { self.old.segments ≤ self.old.positions }
+        ensures laid { IfOk result (λ made. (numbers : List ℕ) (keyed : List (List ℕ))
+            → IsLaid self.old.borders numbers keyed
+            → IsLaid self.new.borders (numbers ++ all_rings (map feature_numbers made.items))
+            (keyed ++ all_rings (map feature_keys features.now))) }
+        ensures filled { OnOk result ((numbers : List ℕ) (keyed : List (List ℕ))
+            → IsLaid self.old.borders numbers keyed
+            → IsFilled (I.held self.old.index) self.old.first self.old.segments
+            (segments_along self.old.vertices keyed)
+            → IsFilled (I.held self.new.index) self.new.first self.new.segments
+            (segments_along self.old.vertices
+            (keyed ++ all_rings (map feature_keys features.now)))) }
+        ensures counted { IfOk result (λ made. map (map length) (map feature_numbers made.items)
+            ≡ map (map length) (map feature_keys features.now)) }
+        ensures positions { OnOk result (self.new.positions
+            ≡ self.old.positions + sum_by length (all_rings (map feature_keys features.now))) }
+        ensures few { OnOk result (self.new.segments ≤ self.new.positions) }
+        ensures vertices { OnOk result (self.new.vertices ≡ self.old.vertices) }
+    {
         let mut numbers = Vec::new(self.alloc);
         for polygons in features {
             numbers.push(self.lay_feature(polygons.as_slice())?)?;

@@ -1,4 +1,4 @@
-use Rattle.std.proofs.Common.{◌≡◌, ◌≤◌, sym, ap, ◌∙◌, subst, false, Some, arith}
+use Rattle.std.proofs.Common.{sym, ap, ◌∙◌, subst, Some, arith}
 use Rattle.ring_machine.specs.Parts.{is_vertex}
 use Rattle.ring_machine.specs.Vertices.{is_junction}
 use Rattle.grid_geometry.specs.Segment.{segment}

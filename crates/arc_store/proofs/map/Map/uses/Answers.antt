@@ -1,4 +1,4 @@
-use Rattle.std.proofs.Common.{refl, ap, ap₂, ◌∙◌, length, inl, inr}
+use Rattle.std.proofs.Common.{refl, ap₂, ◌∙◌, length, inl, inr}
 use Rattle.grid_geometry.specs.Segment.{Segment}
 use Rattle.arc_store.specs.Kept.{stored}
 use Rattle.arc_store.specs.Spots.{users}

@@ -1,4 +1,4 @@
-use Rattle.std.proofs.Common.{ap, sym, ◌∙◌}
+use Rattle.std.proofs.Common.{ap, ◌∙◌}
 use Rattle.ring_machine.specs.Query.{vertices}
 use Rattle.arc_store.proofs.VertexLists.{rings_held, keys_placed, vertices_found}
 use Rattle.arc_store.proofs.map.Map.vertices.Goals as goal

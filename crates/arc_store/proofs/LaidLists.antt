@@ -1,0 +1,159 @@
+-- Rings that are laid one list after the other.
+use Rattle.std.proofs.Common.{◌≡◌, ◌<◌, ◌≤◌, ℕ, ◌+◌, refl, ap, ap₂, ◌∙◌, sym, subst, List, []}
+use Rattle.std.proofs.Common.{◌∷◌, ◌++◌, map, length, take, get_or, Option, Contains, arith}
+use Rattle.std.specs.List.{flat_map, sum_by}
+use Rattle.std.proofs.lemmas.List.{append-nil, append_assoc, length_push, map_push, take_more}
+use Rattle.std.proofs.lemmas.List.{length-map, get_or-map}
+use Rattle.std.proofs.lemmas.List.Concat.{flat_map-append}
+use Rattle.std.proofs.lemmas.List.Sums.{sum_by-append, sum_by-cons, sum_by_more, sum_by-take-le}
+use Rattle.grid_geometry.specs.Segment.{Segment}
+use Rattle.ring_machine.proofs.Neighbours.{in-flat_map}
+use Rattle.vertex_index.specs.Placement.{Placement}
+use Rattle.segment_index.specs.Candidates.{SegmentSet}
+use Rattle.shared_arcs.specs.Rings.{Rings}
+use Rattle.arc_store.specs.Laying.{IsFilled, IsLaid, segments_along}
+use Rattle.arc_store.proofs.Members.{contains_in, in_contains}
+
+-- what a map on the way holds of its rings and of their segments
+pub record OnWay : Type 0 where
+  pub borders : Rings
+  pub index : SegmentSet
+  pub first : Option (Segment × Segment)
+  pub segments : ℕ
+  pub positions : ℕ
+
+-- the same by its parts
+abbrev pub way : Rings → SegmentSet → Option (Segment × Segment) → ℕ → ℕ → OnWay
+way borders index first segments positions = record {
+  borders = borders;
+  index = index;
+  first = first;
+  segments = segments;
+  positions = positions;
+}
+
+-- rings were laid under these numbers, along these keys
+pub record Lays (places : Placement) (old new : OnWay) (made : List ℕ) (more : List (List ℕ)) : Type 0 where
+  pub laid : (numbers : List ℕ) (keyed : List (List ℕ)) → IsLaid old.borders numbers keyed
+      → IsLaid new.borders (numbers ++ made) (keyed ++ more)
+  pub filled : (numbers : List ℕ) (keyed : List (List ℕ)) → IsLaid old.borders numbers keyed
+      → IsFilled old.index old.first old.segments (segments_along places keyed)
+      → IsFilled new.index new.first new.segments (segments_along places (keyed ++ more))
+  pub size : new.positions ≡ old.positions + sum_by length more
+  pub few : new.segments ≤ new.positions
+
+lays_then : (places : Placement) (a b c : OnWay) (made made' : List ℕ) (more more' : List (List ℕ))
+    → Lays places a b made more → Lays places b c made' more'
+    → Lays places a c (made ++ made') (more ++ more')
+lays_then places a b c made made' more more' h k = record {
+  laid = λ numbers keyed l.
+      subst (λ z. IsLaid c.borders z (keyed ++ (more ++ more'))) (append_assoc numbers made made')
+      (subst (IsLaid c.borders (numbers ++ made ++ made')) (append_assoc keyed more more')
+      (k.laid (numbers ++ made) (keyed ++ more) (h.laid numbers keyed l)));
+  filled = λ numbers keyed l f.
+      subst (λ z. IsFilled c.index c.first c.segments (segments_along places z)) (append_assoc keyed more more')
+      (k.filled (numbers ++ made) (keyed ++ more) (h.laid numbers keyed l) (h.filled numbers keyed l f));
+  size = omega (arith, h.size, k.size, sum_by-append length more more');
+  few = k.few;
+}
+
+-- one ring more
+pub lays_one : (places now : Placement) (a b : OnWay) (r : ℕ) (ks ks' : List ℕ) → now ≡ places → ks ≡ ks'
+    → ((numbers : List ℕ) (keyed : List (List ℕ)) → IsLaid a.borders numbers keyed
+    → IsLaid b.borders (numbers ++ r ∷ []) (keyed ++ ks ∷ []))
+    → ((numbers : List ℕ) (keyed : List (List ℕ)) → IsLaid a.borders numbers keyed
+    → IsFilled a.index a.first a.segments (segments_along places keyed)
+    → IsFilled b.index b.first b.segments (segments_along now (keyed ++ ks ∷ [])))
+    → b.positions ≡ a.positions + length ks → b.segments ≤ b.positions
+    → Lays places a b (r ∷ []) (ks' ∷ [])
+lays_one places now a b r ks ks' e i laid filled size few =
+    subst (λ z. Lays places a b (r ∷ []) (z ∷ [])) i (record {
+      laid = laid;
+      filled = λ numbers keyed l f.
+          subst (λ z. IsFilled b.index b.first b.segments (segments_along z (keyed ++ ks ∷ []))) e (filled numbers keyed l f);
+      size = omega (arith, size, sum_by-cons length ks [], none length);
+      few = few;
+    })
+  where
+    none : (f : List ℕ → ℕ) → sum_by f [] ≡ 0
+    none f = refl
+
+-- a list of rings more
+pub lays_list : (places then : Placement) (a b : OnWay) (made : List ℕ) (more more' : List (List ℕ))
+    → then ≡ places → more ≡ more'
+    → ((numbers : List ℕ) (keyed : List (List ℕ)) → IsLaid a.borders numbers keyed
+    → IsLaid b.borders (numbers ++ made) (keyed ++ more))
+    → ((numbers : List ℕ) (keyed : List (List ℕ)) → IsLaid a.borders numbers keyed
+    → IsFilled a.index a.first a.segments (segments_along then keyed)
+    → IsFilled b.index b.first b.segments (segments_along then (keyed ++ more)))
+    → b.positions ≡ a.positions + sum_by length more → b.segments ≤ b.positions
+    → Lays places a b made more'
+lays_list places then a b made more more' e i laid filled size few =
+    subst (Lays places a b made) i
+    (subst (λ z. Lays z a b made more) e (record { laid = laid; filled = filled; size = size; few = few }))
+
+-- rings after rings, the lists said otherwise
+pub lays_more : (places : Placement) (a b c : OnWay) (made made' all : List ℕ)
+    (more more' along : List (List ℕ)) → all ≡ made ++ made' → along ≡ more ++ more'
+    → Lays places a b made more → Lays places b c made' more' → Lays places a c all along
+lays_more places a b c made made' all more more' along e f h k =
+    subst (λ z. Lays places a c z along) (sym e)
+    (subst (Lays places a c (made ++ made')) (sym f) (lays_then places a b c made made' more more' h k))
+
+-- ---- one more of a list
+
+pub taken : {X : Type 0} (xs : List X) (i : ℕ) (x : X) → i < length xs → x ≡ get_or xs i x
+    → take (i + 1) xs ≡ take i xs ++ x ∷ []
+taken xs i x l e = take_more xs i x l ∙ ap (λ y. take i xs ++ y ∷ []) (sym e)
+
+pub length_pushed : {X : Type 0} (xs ys : List X) (x : X) → ys ≡ xs ++ x ∷ []
+    → length ys ≡ length xs + 1
+length_pushed xs ys x e = ap length e ∙ length_push xs x
+
+flat_push : {X Y B : Type 0} (h : Y → List B) (g : X → Y) (xs : List X) (x : X)
+    → flat_map h (map g (xs ++ x ∷ [])) ≡ flat_map h (map g xs) ++ h (g x)
+flat_push h g xs x =
+    ap (flat_map h) (map_push g xs x) ∙ flat_map-append h (map g xs) (g x ∷ [])
+    ∙ ap (λ z. flat_map h (map g xs) ++ z) (append-nil (h (g x)))
+
+-- what a pushed element brings
+pub flat_pushed : {X Y B : Type 0} (h : Y → List B) (g : X → Y) (xs ys : List X) (x : X)
+    → ys ≡ xs ++ x ∷ [] → flat_map h (map g ys) ≡ flat_map h (map g xs) ++ h (g x)
+flat_pushed h g xs ys x e = ap (λ z. flat_map h (map g z)) e ∙ flat_push h g xs x
+
+pub map_pushed : {X Y : Type 0} (g : X → Y) (xs ys : List X) (x : X)
+    → ys ≡ xs ++ x ∷ [] → map g ys ≡ map g xs ++ g x ∷ []
+map_pushed g xs ys x e = ap (map g) e ∙ map_push g xs x
+
+-- lists that grew alike have one shape still
+pub shape_pushed : {X Y W : Type 0} (f : X → W) (g : Y → W) (xs xs' : List X) (ys ys' : List Y) (x : X) (y : Y)
+    → xs' ≡ xs ++ x ∷ [] → ys' ≡ ys ++ y ∷ [] → map f xs ≡ map g ys → f x ≡ g y
+    → map f xs' ≡ map g ys'
+shape_pushed f g xs xs' ys ys' x y e i h k =
+    map_pushed f xs xs' x e ∙ ap₂ (λ a b. a ++ b ∷ []) h k ∙ sym (map_pushed g ys ys' y i)
+
+-- ---- what holds of all of a list holds of each part
+
+pub at_contains : {X Y : Type 0} (f : X → Y) (xs : List X) (i : ℕ) (x : X) (y : Y) → i < length xs
+    → x ≡ get_or xs i x → y ≡ f x → Contains (map f xs) y
+at_contains f xs i x y l e h =
+    (i, omega (arith, l, length-map xs f), get_or-map f xs i x y l ∙ ap f (sym e) ∙ sym h)
+
+pub part_contains : {Y B : Type 0} (h : Y → List B) (ys : List Y) (y : Y) (z : B) → Contains ys y
+    → Contains (h y) z → Contains (flat_map h ys) z
+part_contains h ys y z c d =
+    in_contains (flat_map h ys) z (in-flat_map h y z ys (contains_in ys y c) (contains_in (h y) z d))
+
+-- sums over lists of lists
+pub sum-flat : {X B : Type 0} (s : B → ℕ) (h : X → List B) (xs : List X)
+    → sum_by s (flat_map h xs) ≡ sum_by (λ x. sum_by s (h x)) xs
+sum-flat s h [] = refl
+sum-flat s h (x ∷ xs) =
+    sum_by-append s (h x) (flat_map h xs) ∙ ap (λ z. sum_by s (h x) + z) (sum-flat s h xs)
+    ∙ sym (sum_by-cons (λ y. sum_by s (h y)) x xs)
+
+-- the sum up to an element fits where the whole does
+pub room : {X : Type 0} (s : X → ℕ) (xs : List X) (i : ℕ) (x : X) → i < length xs
+    → x ≡ get_or xs i x → sum_by s (take i xs) + s x ≤ sum_by s xs
+room s xs i x l e =
+    omega (arith, sum_by_more s xs i x l, ap s e, sum_by-take-le s xs (i + 1))
