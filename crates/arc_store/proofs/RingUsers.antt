@@ -1,9 +1,9 @@
 -- How many rings have a segment, counted over the rings that are kept.
-use Rattle.std.proofs.Common.{◌≡◌, ◌≢◌, ◌≤◌, ◌+◌, ◌↔◌, ℕ, Bool, true, false, refl, sym, ap, ap₂, ◌∙◌}
-use Rattle.std.proofs.Common.{subst, cond, List, [], ◌∷◌, map, length, ◌||◌, ◌&&◌, ◌⊎◌, inl, inr, arith}
-use Rattle.std.proofs.Common.{Option, Some, None, is_some}
+use Rattle.std.proofs.Common.{◌≡◌, ◌≢◌, ◌+◌, ℕ, Bool, true, false, refl, sym, ap, ap₂, ◌∙◌}
+use Rattle.std.proofs.Common.{cond, List, [], ◌∷◌, map, length, ◌||◌, ◌&&◌, inl, inr, arith}
+use Rattle.std.proofs.Common.{Some, None, is_some}
 use Rattle.std.specs.Prelude.{not, ◌==◌, unwrap_or, count_by, T}
-use Rattle.std.specs.List.{filter, list_any}
+use Rattle.std.specs.List.{filter}
 use Rattle.std.specs.FinMap as table
 use Rattle.std.specs.FinMap.Entries.{below_all}
 use Rattle.std.specs.Ordering.{nat_cmp, is_lt, is_eq, eq_by_cmp}
@@ -17,8 +17,8 @@ use Rattle.ring_machine.specs.Parts.{rings}
 use Rattle.ring_machine.specs.WellFormed.{are_distinct}
 use Rattle.ring_machine.proofs.First.{In, filter-in}
 use Rattle.ring_machine.proofs.Order.{and_both}
-use Rattle.ring_machine.proofs.Removal.{not_true, none_parts}
-use Rattle.shared_arcs.specs.Ways.{Edge, one}
+use Rattle.ring_machine.proofs.Removal.{not_true}
+use Rattle.shared_arcs.specs.Ways.{one}
 use Rattle.shared_arcs.specs.Rings as shared
 use Rattle.arc_store.specs.Holds.{IsWhole}
 use Rattle.arc_store.specs.Stored.{Stored}
