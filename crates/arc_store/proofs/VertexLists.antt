@@ -200,11 +200,11 @@ module _ (s : Stored) (w : IsWhole s) where
       (distinct_once (map (place s.places) ks) (distinct_places s.places w.distinct ks key_kept (sorted_keys (table.entries s.places) (table.entries_sorted s.places))))
       (rising_once (fold add_position [] qs) (vertices_rise qs))
       (λ p i.
-          let k = in_mapped (place s.places) p ks i in
-          in_vertices qs p (vertex_position p (key_vertex s w k.0 p (kept_place s.places k.0 (key_kept k.0 k.1) ∙ ap Some k.2))))
+      let k = in_mapped (place s.places) p ks i in
+      in_vertices qs p (vertex_position p (key_vertex s w k.0 p (kept_place s.places k.0 (key_kept k.0 k.1) ∙ ap Some k.2))))
       (λ p i.
-          let k = vertex_key s w p (position_vertex p (of_vertices qs p i)) in
-          subst (λ z. In z (map (place s.places) ks)) (place_is s.places k.0 p k.1) (in-map (place s.places) k.0 ks (kept_key k.0 (place_kept s.places k.0 p k.1))))
+      let k = vertex_key s w p (position_vertex p (of_vertices qs p i)) in
+      subst (λ z. In z (map (place s.places) ks)) (place_is s.places k.0 p k.1) (in-map (place s.places) k.0 ks (kept_key k.0 (place_kept s.places k.0 p k.1))))
 
 -- ---- the list of all vertices
 

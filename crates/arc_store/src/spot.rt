@@ -30,10 +30,8 @@ fn between<A: Allocator + Copy>(
 ) -> Spot
     requires first { table.contains_key vertices.now a ≡ true }
     requires second { table.contains_key vertices.now b ≡ true }
-    ensures {
-        let t = segment (place vertices.now a) (place vertices.now b) in
-        result ≡ Spot.Between t.lo t.hi shortest
-    }
+    ensures { let t = segment (place vertices.now a) (place vertices.now b) in
+        result ≡ Spot.Between t.lo t.hi shortest }
 {
     let (a, b) = (vertices.pos(a), vertices.pos(b));
     if a > b {
