@@ -6,6 +6,8 @@ pub mod Kept
 pub mod Keyed
 pub mod Laying
 pub mod Planned
+pub mod Readers
+pub mod RingPlaces
 pub mod Spots
 pub mod State
 pub mod Stored

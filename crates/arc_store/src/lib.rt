@@ -9,6 +9,7 @@ mod begin;
 mod build;
 mod counts;
 mod fault;
+mod features;
 mod frame;
 
 mod junctions;
@@ -26,6 +27,7 @@ mod spot;
 mod users;
 
 pub use fault::{BuildFault, EditFault};
+pub use features::{FeatureView, FrameView};
 pub use map::Map;
 pub use spot::Spot;
 
