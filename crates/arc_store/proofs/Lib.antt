@@ -24,4 +24,6 @@ pub mod Planned
 pub mod SegmentCounts
 pub mod MovePlan
 pub mod AroundPlan
+pub mod FrameLemmas
+pub mod FeatureLemmas
 mod Examples

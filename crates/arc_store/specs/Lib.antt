@@ -5,6 +5,7 @@ pub mod Holds
 pub mod Kept
 pub mod Keyed
 pub mod Laying
+pub mod Leaves
 pub mod Planned
 pub mod Readers
 pub mod RingPlaces

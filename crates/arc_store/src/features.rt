@@ -1,6 +1,7 @@
 ghost use Rattle.std.specs.Prelude.{◌≡◌, ◌↔◌, ℕ, map, length, option_map, unwrap_or, slice_get};
 ghost use Rattle.ring_machine.specs.Parts.{feature};
 ghost use Rattle.topo_outline.specs.Views.{form_of, view_kept};
+ghost use Rattle.arc_store.specs.Leaves.{raw_leaf, raw_leaves, raw_features};
 ghost use Rattle.arc_store.specs.Readers.{shown, IsFrameOf};
 
 use crate::map::Map;
@@ -83,7 +84,9 @@ impl<'m, 'a, A: Allocator + Copy> FeatureView<'m, 'a, A> {
 }
 
 /// The feature of a layer's item.
-fn leaf_of<'m, 'a, A: Allocator + Copy>(item: &'m Item<'a, A>) -> Option<&'m RawFeature<'a, A>> {
+fn leaf_of<'m, 'a, A: Allocator + Copy>(item: &'m Item<'a, A>) -> Option<&'m RawFeature<'a, A>>
+    ensures { option_map (λ f. f.now) result ≡ raw_leaf item.now }
+{
     match item {
         Item::Leaf(feature) => Some(feature),
         _ => None,
@@ -91,7 +94,9 @@ fn leaf_of<'m, 'a, A: Allocator + Copy>(item: &'m Item<'a, A>) -> Option<&'m Raw
 }
 
 /// How many features these items have.
-fn leaf_count<'a, A: Allocator + Copy>(items: &[Item<'a, A>]) -> usize {
+fn leaf_count<'a, A: Allocator + Copy>(items: &[Item<'a, A>]) -> usize
+    ensures { result ≡ length (raw_leaves items.now) }
+{
     let mut count = 0usize;
     for item in items {
         if leaf_of(item).is_some() {
@@ -105,7 +110,9 @@ fn leaf_count<'a, A: Allocator + Copy>(items: &[Item<'a, A>]) -> usize {
 fn leaf_at<'m, 'a, A: Allocator + Copy>(
     items: &'m [Item<'a, A>],
     n: usize,
-) -> Option<&'m RawFeature<'a, A>> {
+) -> Option<&'m RawFeature<'a, A>>
+    ensures { option_map (λ f. f.now) result ≡ slice_get (raw_leaves items.now) n }
+{
     let mut before = 0usize;
     for item in items {
         if let Some(feature) = leaf_of(item) {
@@ -122,7 +129,9 @@ fn leaf_at<'m, 'a, A: Allocator + Copy>(
 fn feature_in<'m, 'a, A: Allocator + Copy>(
     layers: &'m [RawLayer<'a, A>],
     n: usize,
-) -> Option<&'m RawFeature<'a, A>> {
+) -> Option<&'m RawFeature<'a, A>>
+    ensures { option_map (λ f. f.now) result ≡ slice_get (raw_features layers.now) n }
+{
     let mut left = n;
     for layer in layers {
         let count = leaf_count(layer.items.as_slice());

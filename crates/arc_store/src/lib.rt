@@ -22,6 +22,8 @@ mod positions;
 mod raw_insert;
 mod raw_move;
 mod raw_remove;
+mod ring_iter;
+mod rings;
 
 mod spot;
 mod users;
@@ -29,6 +31,7 @@ mod users;
 pub use fault::{BuildFault, EditFault};
 pub use features::{FeatureView, FrameView};
 pub use map::Map;
+pub use ring_iter::RingIter;
 pub use spot::Spot;
 
 #[cfg(test)]
