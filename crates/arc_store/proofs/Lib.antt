@@ -41,4 +41,5 @@ pub mod SpotLemmas
 pub mod SortedOnce
 pub mod VertexLists
 pub mod KeyLists
+pub mod FeatureLemmas
 mod Examples

@@ -5,7 +5,10 @@ pub mod Holds
 pub mod Kept
 pub mod Keyed
 pub mod Laying
+pub mod Leaves
 pub mod Planned
+pub mod Readers
+pub mod RingPlaces
 pub mod Spots
 pub mod State
 pub mod Stored

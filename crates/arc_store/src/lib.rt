@@ -9,6 +9,7 @@ mod begin;
 mod build;
 mod counts;
 mod fault;
+mod features;
 mod frame;
 
 mod junctions;
@@ -21,12 +22,16 @@ mod positions;
 mod raw_insert;
 mod raw_move;
 mod raw_remove;
+mod ring_iter;
+mod rings;
 
 mod spot;
 mod users;
 
 pub use fault::{BuildFault, EditFault};
+pub use features::{FeatureView, FrameView};
 pub use map::Map;
+pub use ring_iter::RingIter;
 pub use spot::Spot;
 
 #[cfg(test)]
