@@ -12,7 +12,7 @@ ghost use Rattle.ring_machine.specs.Vertices.{put, ins, del};
 ghost use Rattle.topo_reader.specs.Document.{document_of, IsOfRings};
 ghost use Rattle.topo_reader.specs.DocumentView.{view_raw};
 ghost use Rattle.plain_rings.specs.Faults.{Names, Refuses};
-ghost use Rattle.plain_rings.specs.Rings.{all_rings, refusals};
+ghost use Rattle.plain_rings.specs.Rings.{all_rings, held, refusals};
 ghost use Rattle.plain_rings.specs.Thin.{IsThinnedPart};
 ghost use Rattle.plain_rings.specs.declared.fault.BuildFault.TheVariants.{Conflict};
 
@@ -238,5 +238,12 @@ impl<'a, A: Allocator + Copy> PlainMap<'a, A> {
         ensures { result ≡ length (features self.now) }
     {
         self.raw.polygons.as_slice().len()
+    }
+
+    /// By feature the polygons, and of each the rings: the outer ring and its holes.
+    pub fn polygons(&self) -> &[Vec<Vec<Vec<Pos, A>, A>, A>]
+        ensures { held result.now ≡ map (λ f. f.polygons) (features self.now) }
+    {
+        self.raw.polygons.as_slice()
     }
 }
