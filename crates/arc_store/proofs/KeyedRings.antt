@@ -52,7 +52,7 @@ sum-mapped at (ks ∷ keyed) =
 module _ (places : Placement) (features : List (List (List (List Position))))
     (keyed : List (List (List (List ℕ)))) (k : IsKeyed places features keyed) where
   -- the rings that were read are those along the keys
-  pub rings_keyed : all_rings features ≡ map (map (place places)) (all_rings keyed)
+  rings_keyed : all_rings features ≡ map (map (place places)) (all_rings keyed)
   rings_keyed = ap all_rings (sym k.at) ∙ all_rings-mapped (map (place places)) keyed
 
   pub ring_keyed : list_all is_ring (all_rings features) ≡ true → (ks : List ℕ)

@@ -12,6 +12,7 @@ use Rattle.vertex_index.specs.Placement.{Placement}
 use Rattle.segment_index.specs.Candidates.{SegmentSet}
 use Rattle.shared_arcs.specs.Rings.{Rings}
 use Rattle.arc_store.specs.Laying.{IsFilled, IsLaid, segments_along}
+use Rattle.arc_store.proofs.Counted.{sum_by-map}
 use Rattle.arc_store.proofs.Members.{contains_in, in_contains}
 
 -- what a map on the way holds of its rings and of their segments
@@ -79,7 +80,7 @@ lays_one places now a b r ks ks' e i laid filled size few =
     none f = refl
 
 -- a list of rings more
-pub lays_list : (places then : Placement) (a b : OnWay) (made : List ℕ) (more more' : List (List ℕ))
+lays_list : (places then : Placement) (a b : OnWay) (made : List ℕ) (more more' : List (List ℕ))
     → then ≡ places → more ≡ more'
     → ((numbers : List ℕ) (keyed : List (List ℕ)) → IsLaid a.borders numbers keyed
     → IsLaid b.borders (numbers ++ made) (keyed ++ more))
@@ -117,7 +118,7 @@ flat_push h g xs x =
     ∙ ap (λ z. flat_map h (map g xs) ++ z) (append-nil (h (g x)))
 
 -- what a pushed element brings
-pub flat_pushed : {X Y B : Type 0} (h : Y → List B) (g : X → Y) (xs ys : List X) (x : X)
+flat_pushed : {X Y B : Type 0} (h : Y → List B) (g : X → Y) (xs ys : List X) (x : X)
     → ys ≡ xs ++ x ∷ [] → flat_map h (map g ys) ≡ flat_map h (map g xs) ++ h (g x)
 flat_pushed h g xs ys x e = ap (λ z. flat_map h (map g z)) e ∙ flat_push h g xs x
 
@@ -145,7 +146,7 @@ part_contains h ys y z c d =
     in_contains (flat_map h ys) z (in-flat_map h y z ys (contains_in ys y c) (contains_in (h y) z d))
 
 -- sums over lists of lists
-pub sum-flat : {X B : Type 0} (s : B → ℕ) (h : X → List B) (xs : List X)
+sum-flat : {X B : Type 0} (s : B → ℕ) (h : X → List B) (xs : List X)
     → sum_by s (flat_map h xs) ≡ sum_by (λ x. sum_by s (h x)) xs
 sum-flat s h [] = refl
 sum-flat s h (x ∷ xs) =
@@ -157,3 +158,37 @@ pub room : {X : Type 0} (s : X → ℕ) (xs : List X) (i : ℕ) (x : X) → i < 
     → x ≡ get_or xs i x → sum_by s (take i xs) + s x ≤ sum_by s xs
 room s xs i x l e =
     omega (arith, sum_by_more s xs i x l, ap s e, sum_by-take-le s xs (i + 1))
+
+-- ---- lists of lists of rings
+
+module _ {X Y Z W : Type 0} (g : X → Y) (h : Y → List (List ℕ)) (f : Z → W) (k : W → List ℕ) where
+  -- what is laid of a list and then of the next
+  pub lays_next : (places then : Placement) (a b c : OnWay) (xs xs' : List X) (x : X)
+      (zs zs' : List Z) (z : Z) (more : List (List ℕ)) → xs' ≡ xs ++ x ∷ [] → zs' ≡ zs ++ z ∷ []
+      → then ≡ places → more ≡ h (g x)
+      → Lays places a b (flat_map k (map f zs)) (flat_map h (map g xs))
+      → ((numbers : List ℕ) (keyed : List (List ℕ)) → IsLaid b.borders numbers keyed
+      → IsLaid c.borders (numbers ++ k (f z)) (keyed ++ more))
+      → ((numbers : List ℕ) (keyed : List (List ℕ)) → IsLaid b.borders numbers keyed
+      → IsFilled b.index b.first b.segments (segments_along then keyed)
+      → IsFilled c.index c.first c.segments (segments_along then (keyed ++ more)))
+      → c.positions ≡ b.positions + sum_by length more → c.segments ≤ c.positions
+      → Lays places a c (flat_map k (map f zs')) (flat_map h (map g xs'))
+  lays_next places then a b c xs xs' x zs zs' z more e i j same before laid filled size few =
+      lays_more places a b c (flat_map k (map f zs)) (k (f z)) (flat_map k (map f zs'))
+      (flat_map h (map g xs)) (h (g x)) (flat_map h (map g xs'))
+      (flat_pushed k f zs zs' z i) (flat_pushed h g xs xs' x e) before
+      (lays_list places then b c (k (f z)) more (h (g x)) j same laid filled size few)
+
+-- the positions up to a list and with it are at most all
+pub fits : {X Y : Type 0} (g : X → Y) (h : Y → List (List ℕ)) (xs : List X) (i : ℕ) (x : X)
+    → i < length xs → x ≡ get_or xs i x
+    → sum_by length (flat_map h (map g (take i xs))) + sum_by length (h (g x))
+    ≤ sum_by length (flat_map h (map g xs))
+fits g h xs i x l e =
+    omega (
+      arith,
+      sum-flat length h (map g xs) ∙ sum_by-map (λ y. sum_by length (h y)) g xs,
+      sum-flat length h (map g (take i xs)) ∙ sum_by-map (λ y. sum_by length (h y)) g (take i xs),
+      room (λ y. sum_by length (h (g y))) xs i x l e,
+    )

@@ -28,7 +28,7 @@ as_long (xs ∷ xss) (ys ∷ yss) l =
 
 -- ---- what is changed in its place
 
-pub joined-mapped : {A B : Type 0} (f : A → B) (xss : List (List A))
+joined-mapped : {A B : Type 0} (f : A → B) (xss : List (List A))
     → joined (map (map f) xss) ≡ map f (joined xss)
 joined-mapped f [] = refl
 joined-mapped f (xs ∷ xss) = ap (λ z. map f xs ++ z) (joined-mapped f xss) ∙ sym (map-append f xs (joined xss))

@@ -1,13 +1,11 @@
-use Rattle.std.proofs.Common.{◌≡◌, ◌+◌, sym, ap, ◌∙◌, subst, arith, ◌++◌, map, length, take}
+use Rattle.std.proofs.Common.{◌+◌, sym, ap, ◌∙◌, subst, arith, ◌++◌, map, length, take}
 use Rattle.std.specs.List.{flat_map, sum_by}
 use Rattle.std.proofs.lemmas.List.{take_all}
 use Rattle.std.proofs.lemmas.Simd.{map-map}
 use Rattle.arc_store.specs.Frames.{feature_numbers}
 use Rattle.arc_store.specs.Keyed.{polygon_keys, feature_keys}
 use Rattle.arc_store.specs.Laying.{IsRound, IsLaid, IsFilled, segments_along}
-use Rattle.arc_store.proofs.Counted.{sum_by-map}
-use Rattle.arc_store.proofs.LaidLists.{way, at_contains, part_contains, room, taken, flat_pushed, shape_pushed}
-use Rattle.arc_store.proofs.LaidLists.{sum-flat, lays_list, lays_more}
+use Rattle.arc_store.proofs.LaidLists.{way, at_contains, part_contains, fits, taken, shape_pushed, lays_next}
 use Rattle.arc_store.proofs.laying.Laying.lay_all.Goals as goal
 
 pub lay_feature-requires-clause-round : goal.lay_feature-requires-clause-round
@@ -19,18 +17,12 @@ lay_feature-requires-clause-round g c = λ keys i.
 
 pub lay_feature-requires-clause-small : goal.lay_feature-requires-clause-small
 lay_feature-requires-clause-small g c =
-    let whole : sum_by length (flat_map (λ polygons. flat_map (λ polygon. polygon) polygons) (map feature_keys c.args.features.now)) ≡ sum_by (λ x. sum_by length (flat_map (λ polygon. polygon) (feature_keys x))) c.args.features.now
-    = sum-flat length (λ polygons. flat_map (λ polygon. polygon) polygons) (map feature_keys c.args.features.now) ∙ sum_by-map (λ y. sum_by length (flat_map (λ polygon. polygon) (y))) feature_keys c.args.features.now in
-    let part : sum_by length (flat_map (λ polygons. flat_map (λ polygon. polygon) polygons) (map feature_keys (take c.loop-polygons.polygons-index c.args.features.now))) ≡ sum_by (λ x. sum_by length (flat_map (λ polygon. polygon) (feature_keys x))) (take c.loop-polygons.polygons-index c.args.features.now)
-    = sum-flat length (λ polygons. flat_map (λ polygon. polygon) polygons) (map feature_keys (take c.loop-polygons.polygons-index c.args.features.now)) ∙ sum_by-map (λ y. sum_by length (flat_map (λ polygon. polygon) (y))) feature_keys (take c.loop-polygons.polygons-index c.args.features.now) in
     omega (
       arith,
       c.requires.small,
       c.loop-polygons.invariant.2.size,
-      whole,
-      part,
       ap (λ z. sum_by length (flat_map (λ polygon. polygon) (map polygon_keys z))) c.as_slice.ensures.value,
-      room (λ x. sum_by length (flat_map (λ polygon. polygon) (feature_keys x))) c.args.features.now c.loop-polygons.polygons-index c.polygons-item.result c.loop-polygons-test.true c.polygons-item.is,
+      fits feature_keys (λ polygons. flat_map (λ polygon. polygon) polygons) c.args.features.now c.loop-polygons.polygons-index c.polygons-item.result c.loop-polygons-test.true c.polygons-item.is,
     )
 
 pub loop-polygons-preserved : goal.loop-polygons-preserved
@@ -42,21 +34,16 @@ loop-polygons-preserved g c =
           c.in_ok-push.ensures.items e (sym (map-map (map length) feature_numbers c.loop-polygons.numbers.items) ∙ c.loop-polygons.invariant.1 ∙ map-map (map length) feature_keys (take c.loop-polygons.polygons-index c.args.features.now))
           (c.in_ok-lay_feature.ensures.counted ∙ ap (λ z. (map length) (map polygon_keys z)) c.as_slice.ensures.value)
           ∙ sym (map-map (map length) feature_keys (take (c.loop-polygons.polygons-index + 1) c.args.features.now)),
-      lays_more c.args.self.now.vertices
+      lays_next feature_keys (λ polygons. flat_map (λ polygon. polygon) polygons) feature_numbers (λ polygons. flat_map (λ polygon. polygon) polygons)
+          c.args.self.now.vertices c.loop-polygons.self.vertices
           (way c.args.self.now.borders (g.I.SegIndex.held c.args.self.now.index) c.args.self.now.first c.args.self.now.segments c.args.self.now.positions)
           (way c.loop-polygons.self.borders (g.I.SegIndex.held c.loop-polygons.self.index) c.loop-polygons.self.first c.loop-polygons.self.segments c.loop-polygons.self.positions)
           (way c.lay_feature.new.self.borders (g.I.SegIndex.held c.lay_feature.new.self.index) c.lay_feature.new.self.first c.lay_feature.new.self.segments c.lay_feature.new.self.positions)
-          (flat_map (λ polygons. flat_map (λ polygon. polygon) polygons) (map feature_numbers c.loop-polygons.numbers.items)) (flat_map (λ polygon. polygon) (feature_numbers c.in_ok-lay_feature.field-0)) (flat_map (λ polygons. flat_map (λ polygon. polygon) polygons) (map feature_numbers c.push.new.self.items))
-          (flat_map (λ polygons. flat_map (λ polygon. polygon) polygons) (map feature_keys (take c.loop-polygons.polygons-index c.args.features.now))) (flat_map (λ polygon. polygon) (feature_keys c.polygons-item.result)) (flat_map (λ polygons. flat_map (λ polygon. polygon) polygons) (map feature_keys (take (c.loop-polygons.polygons-index + 1) c.args.features.now)))
-          (flat_pushed (λ polygons. flat_map (λ polygon. polygon) polygons) feature_numbers c.loop-polygons.numbers.items c.push.new.self.items c.in_ok-lay_feature.field-0 c.in_ok-push.ensures.items)
-          (flat_pushed (λ polygons. flat_map (λ polygon. polygon) polygons) feature_keys (take c.loop-polygons.polygons-index c.args.features.now) (take (c.loop-polygons.polygons-index + 1) c.args.features.now) c.polygons-item.result e)
+          (take c.loop-polygons.polygons-index c.args.features.now) (take (c.loop-polygons.polygons-index + 1) c.args.features.now) c.polygons-item.result
+          c.loop-polygons.numbers.items c.push.new.self.items c.in_ok-lay_feature.field-0 (flat_map (λ polygon. polygon) (map polygon_keys c.as_slice.result.now))
+          e c.in_ok-push.ensures.items c.loop-polygons.invariant.0 (ap (λ z. flat_map (λ polygon. polygon) (map polygon_keys z)) c.as_slice.ensures.value)
           c.loop-polygons.invariant.2
-          (lays_list c.args.self.now.vertices c.loop-polygons.self.vertices
-          (way c.loop-polygons.self.borders (g.I.SegIndex.held c.loop-polygons.self.index) c.loop-polygons.self.first c.loop-polygons.self.segments c.loop-polygons.self.positions)
-          (way c.lay_feature.new.self.borders (g.I.SegIndex.held c.lay_feature.new.self.index) c.lay_feature.new.self.first c.lay_feature.new.self.segments c.lay_feature.new.self.positions)
-          (flat_map (λ polygon. polygon) (feature_numbers c.in_ok-lay_feature.field-0)) (flat_map (λ polygon. polygon) (map polygon_keys c.as_slice.result.now)) (flat_map (λ polygon. polygon) (feature_keys c.polygons-item.result))
-          c.loop-polygons.invariant.0 (ap (λ z. flat_map (λ polygon. polygon) (map polygon_keys z)) c.as_slice.ensures.value)
-          c.in_ok-lay_feature.ensures.laid c.in_ok-lay_feature.ensures.filled c.in_ok-lay_feature.ensures.positions c.in_ok-lay_feature.ensures.few),
+          c.in_ok-lay_feature.ensures.laid c.in_ok-lay_feature.ensures.filled c.in_ok-lay_feature.ensures.positions c.in_ok-lay_feature.ensures.few,
     )
 
 pub returns-clause-laid : goal.returns-clause-laid

@@ -1,13 +1,11 @@
-use Rattle.std.proofs.Common.{◌≡◌, ◌+◌, sym, ap, ◌∙◌, subst, arith, ◌++◌, map, length, take}
+use Rattle.std.proofs.Common.{◌+◌, sym, ap, ◌∙◌, subst, arith, ◌++◌, map, length, take}
 use Rattle.std.specs.List.{flat_map, sum_by}
 use Rattle.std.proofs.lemmas.List.{take_all}
 use Rattle.std.proofs.lemmas.Simd.{map-map}
 use Rattle.arc_store.specs.Frames.{polygon_numbers}
 use Rattle.arc_store.specs.Keyed.{polygon_keys}
 use Rattle.arc_store.specs.Laying.{IsRound, IsLaid, IsFilled, segments_along}
-use Rattle.arc_store.proofs.Counted.{sum_by-map}
-use Rattle.arc_store.proofs.LaidLists.{way, at_contains, part_contains, room, taken, flat_pushed, shape_pushed}
-use Rattle.arc_store.proofs.LaidLists.{sum-flat, lays_list, lays_more}
+use Rattle.arc_store.proofs.LaidLists.{way, at_contains, part_contains, fits, taken, shape_pushed, lays_next}
 use Rattle.arc_store.proofs.laying.Laying.lay_feature.Goals as goal
 
 pub lay_polygon-requires-clause-round : goal.lay_polygon-requires-clause-round
@@ -19,18 +17,12 @@ lay_polygon-requires-clause-round g c = λ keys i.
 
 pub lay_polygon-requires-clause-small : goal.lay_polygon-requires-clause-small
 lay_polygon-requires-clause-small g c =
-    let whole : sum_by length (flat_map (λ polygon. polygon) (map polygon_keys c.args.polygons.now)) ≡ sum_by (λ x. sum_by length (polygon_keys x)) c.args.polygons.now
-    = sum-flat length (λ polygon. polygon) (map polygon_keys c.args.polygons.now) ∙ sum_by-map (λ y. sum_by length (y)) polygon_keys c.args.polygons.now in
-    let part : sum_by length (flat_map (λ polygon. polygon) (map polygon_keys (take c.loop-rings.rings-index c.args.polygons.now))) ≡ sum_by (λ x. sum_by length (polygon_keys x)) (take c.loop-rings.rings-index c.args.polygons.now)
-    = sum-flat length (λ polygon. polygon) (map polygon_keys (take c.loop-rings.rings-index c.args.polygons.now)) ∙ sum_by-map (λ y. sum_by length (y)) polygon_keys (take c.loop-rings.rings-index c.args.polygons.now) in
     omega (
       arith,
       c.requires.small,
       c.loop-rings.invariant.2.size,
-      whole,
-      part,
       ap (λ z. sum_by length (map (λ ring. ring.items) z)) c.as_slice.ensures.value,
-      room (λ x. sum_by length (polygon_keys x)) c.args.polygons.now c.loop-rings.rings-index c.rings-item.result c.loop-rings-test.true c.rings-item.is,
+      fits polygon_keys (λ polygon. polygon) c.args.polygons.now c.loop-rings.rings-index c.rings-item.result c.loop-rings-test.true c.rings-item.is,
     )
 
 pub loop-rings-preserved : goal.loop-rings-preserved
@@ -42,21 +34,16 @@ loop-rings-preserved g c =
           c.in_ok-push.ensures.items e (sym (map-map length polygon_numbers c.loop-rings.numbers.items) ∙ c.loop-rings.invariant.1 ∙ map-map length polygon_keys (take c.loop-rings.rings-index c.args.polygons.now))
           (c.in_ok-lay_polygon.ensures.counted ∙ ap (λ z. length (map (λ ring. ring.items) z)) c.as_slice.ensures.value)
           ∙ sym (map-map length polygon_keys (take (c.loop-rings.rings-index + 1) c.args.polygons.now)),
-      lays_more c.args.self.now.vertices
+      lays_next polygon_keys (λ polygon. polygon) polygon_numbers (λ polygon. polygon)
+          c.args.self.now.vertices c.loop-rings.self.vertices
           (way c.args.self.now.borders (g.I.SegIndex.held c.args.self.now.index) c.args.self.now.first c.args.self.now.segments c.args.self.now.positions)
           (way c.loop-rings.self.borders (g.I.SegIndex.held c.loop-rings.self.index) c.loop-rings.self.first c.loop-rings.self.segments c.loop-rings.self.positions)
           (way c.lay_polygon.new.self.borders (g.I.SegIndex.held c.lay_polygon.new.self.index) c.lay_polygon.new.self.first c.lay_polygon.new.self.segments c.lay_polygon.new.self.positions)
-          (flat_map (λ polygon. polygon) (map polygon_numbers c.loop-rings.numbers.items)) (polygon_numbers c.in_ok-lay_polygon.field-0) (flat_map (λ polygon. polygon) (map polygon_numbers c.push.new.self.items))
-          (flat_map (λ polygon. polygon) (map polygon_keys (take c.loop-rings.rings-index c.args.polygons.now))) (polygon_keys c.rings-item.result) (flat_map (λ polygon. polygon) (map polygon_keys (take (c.loop-rings.rings-index + 1) c.args.polygons.now)))
-          (flat_pushed (λ polygon. polygon) polygon_numbers c.loop-rings.numbers.items c.push.new.self.items c.in_ok-lay_polygon.field-0 c.in_ok-push.ensures.items)
-          (flat_pushed (λ polygon. polygon) polygon_keys (take c.loop-rings.rings-index c.args.polygons.now) (take (c.loop-rings.rings-index + 1) c.args.polygons.now) c.rings-item.result e)
+          (take c.loop-rings.rings-index c.args.polygons.now) (take (c.loop-rings.rings-index + 1) c.args.polygons.now) c.rings-item.result
+          c.loop-rings.numbers.items c.push.new.self.items c.in_ok-lay_polygon.field-0 (map (λ ring. ring.items) c.as_slice.result.now)
+          e c.in_ok-push.ensures.items c.loop-rings.invariant.0 (ap (λ z. map (λ ring. ring.items) z) c.as_slice.ensures.value)
           c.loop-rings.invariant.2
-          (lays_list c.args.self.now.vertices c.loop-rings.self.vertices
-          (way c.loop-rings.self.borders (g.I.SegIndex.held c.loop-rings.self.index) c.loop-rings.self.first c.loop-rings.self.segments c.loop-rings.self.positions)
-          (way c.lay_polygon.new.self.borders (g.I.SegIndex.held c.lay_polygon.new.self.index) c.lay_polygon.new.self.first c.lay_polygon.new.self.segments c.lay_polygon.new.self.positions)
-          (polygon_numbers c.in_ok-lay_polygon.field-0) (map (λ ring. ring.items) c.as_slice.result.now) (polygon_keys c.rings-item.result)
-          c.loop-rings.invariant.0 (ap (λ z. map (λ ring. ring.items) z) c.as_slice.ensures.value)
-          c.in_ok-lay_polygon.ensures.laid c.in_ok-lay_polygon.ensures.filled c.in_ok-lay_polygon.ensures.positions c.in_ok-lay_polygon.ensures.few),
+          c.in_ok-lay_polygon.ensures.laid c.in_ok-lay_polygon.ensures.filled c.in_ok-lay_polygon.ensures.positions c.in_ok-lay_polygon.ensures.few,
     )
 
 pub returns-clause-laid : goal.returns-clause-laid
