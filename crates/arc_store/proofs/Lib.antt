@@ -26,4 +26,5 @@ pub mod MovePlan
 pub mod AroundPlan
 pub mod FrameLemmas
 pub mod FeatureLemmas
+pub mod RingAround
 mod Examples
