@@ -42,4 +42,5 @@ pub mod SortedOnce
 pub mod VertexLists
 pub mod KeyLists
 pub mod FeatureLemmas
+pub mod RingAround
 mod Examples

@@ -1,7 +1,8 @@
-ghost use Rattle.std.specs.Prelude.{◌≡◌, ℕ, List, [], map, true, IfSome, IfNone, Contains};
+ghost use Rattle.std.specs.Prelude.{◌≡◌, ◌<◌, ◌+◌, ◌^◌, ◌⊎◌, ℕ, List, [], ◌∷◌, map, length, drop, true};
+ghost use Rattle.std.specs.Prelude.{IfSome, IfNone, Contains};
 ghost use Rattle.std.specs.FinMap as table;
 ghost use Rattle.std.specs.Iterator.{YieldsFirst, item_count};
-ghost use Rattle.ring_machine.specs.Ring.{canonical};
+ghost use Rattle.ring_machine.specs.Ring.{before, least, canonical};
 ghost use Rattle.arc_store.specs.Stored.{place};
 
 use grid_geometry::Pos;
@@ -35,45 +36,55 @@ impl<'m, A: Allocator + Copy> Model for RingIter<'m, A> {
     ghost invariant = { λ it. IsAround it.vertices.now it.all it.rest it.left };
 }
 
-/// A place in a ring: the place of a key, and its position.
-#[derive(Clone, Copy)]
-struct Least {
-    place: usize,
-    position: Pos,
-}
-
-/// The lesser of a place found before and this one.
-fn lesser(least: Least, place: usize, position: Pos) -> Least {
-    if position < least.position {
-        Least { place, position }
-    } else {
-        least
-    }
-}
-
-/// The place of the key with the least position, where the first key has this position, and how
-/// many keys there are.
+/// The place of the first key with the least position, where the first key has this position, and
+/// how many keys there are.
 fn least_place<A: Allocator + Copy>(
     first: Pos,
     rest: RingKeys<'_, A>,
     vertices: &Vertices<A>,
-) -> (usize, usize) {
-    let mut least = Least {
-        place: 0,
-        position: first,
-    };
+) -> (usize, usize)
+    requires placed { (k : ℕ) → Contains rest k → table.contains_key vertices.now k ≡ true }
+    requires few { 1 + length rest < 2 ^ 64 }
+    ensures place { let ps = map (place vertices.now) rest.entry in result.0 ≡ length (before (least first ps) (first ∷ ps)) }
+    ensures count { result.1 ≡ 1 + length rest.entry }
+{
+    let mut lowest = first;
+    let mut place = 0usize;
     let mut count = 1usize;
     for k in rest {
-        least = lesser(least, count, vertices.pos(k));
+        let p = vertices.pos(k);
+        if p < lowest {
+            lowest = p;
+            place = count;
+        }
         count += 1;
     }
-    (least.place, count)
+    (place, count)
 }
 
-/// The keys but for the first so many.
-fn skip<A: Allocator + Copy>(keys: &mut RingKeys<'_, A>, count: usize) {
+/// Passes so many keys.
+fn skip<A: Allocator + Copy>(keys: &mut RingKeys<'_, A>, count: usize)
+    ensures { keys.new ≡ drop count keys.old }
+{
     for _ in 0..count {
         keys.next();
+    }
+}
+
+/// The next key; the first one of the ring after the last one.
+fn next_key<'m, A: Allocator + Copy>(
+    rest: &mut RingKeys<'m, A>,
+    all: &RingKeys<'m, A>,
+) -> Option<VertexKey>
+    ensures some { IfSome result (λ k. (rest.old ≡ k ∷ rest.new) ⊎ ((rest.old ≡ []) × (all.now ≡ k ∷ rest.new))) }
+    ensures none { IfNone result ((rest.old ≡ []) × (all.now ≡ [])) }
+{
+    match rest.next() {
+        Some(k) => Some(k),
+        None => {
+            *rest = all.again();
+            rest.next()
+        }
     }
 }
 
@@ -84,8 +95,9 @@ impl<'m, A: Allocator + Copy> RingIter<'m, A> {
         vertices: &'m Vertices<A>,
     ) -> Option<RingIter<'m, A>>
         requires placed { (k : ℕ) → Contains all k → table.contains_key vertices.now k ≡ true }
-        ensures some { IfSome result (λ it. it ≡ canonical (map (place vertices.now) all)) }
-        ensures none { IfNone result (all ≡ []) }
+        requires few { length all < 2 ^ 64 }
+        ensures some { IfSome result (λ it. it ≡ canonical (map (place vertices.now) all.entry)) }
+        ensures none { IfNone result (all.entry ≡ []) }
     {
         let mut rest = all.again();
         let first = vertices.pos(rest.next()?);
@@ -98,17 +110,6 @@ impl<'m, A: Allocator + Copy> RingIter<'m, A> {
             rest,
             left,
         })
-    }
-
-    /// The next key; the first one of the ring after the last one.
-    fn next_key(&mut self) -> Option<VertexKey> {
-        match self.rest.next() {
-            Some(k) => Some(k),
-            None => {
-                self.rest = self.all.again();
-                self.rest.next()
-            }
-        }
     }
 }
 
@@ -123,7 +124,7 @@ impl<'m, A: Allocator + Copy> Iterator for RingIter<'m, A> {
         if self.left == 0 {
             return None;
         }
-        let k = self.next_key()?;
+        let k = next_key(&mut self.rest, &self.all)?;
         self.left -= 1;
         Some(self.vertices.pos(k))
     }
