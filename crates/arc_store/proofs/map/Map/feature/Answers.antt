@@ -1,7 +1,7 @@
-use Rattle.std.proofs.Common.{arith, refl, sym, ap, ◌∙◌, length, Some, option_map}
+use Rattle.std.proofs.Common.{◌≤◌, arith, refl, sym, ap, ◌∙◌, subst, length, Some, option_map}
 use Rattle.std.specs.List.{slice_get}
 use Rattle.std.proofs.lemmas.Option.{slice_get_read}
-use Rattle.ring_machine.specs.Parts.{feature}
+use Rattle.ring_machine.specs.Parts.{feature, size}
 use Rattle.arc_store.specs.Kept.{stored}
 use Rattle.arc_store.specs.Leaves.{raw_features}
 use Rattle.arc_store.specs.Readers.{shown, shown_of}
@@ -9,13 +9,16 @@ use Rattle.arc_store.specs.Stored.{ring_under}
 use Rattle.arc_store.proofs.FeatureLemmas.{no_feature, shown_feature, polygons_there}
 use Rattle.arc_store.proofs.map.Map.feature.Goals as goal
 
-pub returns-in_err-feature : goal.returns-in_err-feature
-returns-in_err-feature g c =
+pub returns-in_err-feature-clause-shown : goal.returns-in_err-feature-clause-shown
+returns-in_err-feature-clause-shown g c =
     let m = c.self.inside in
     let n = c.args.n in
     c.from_residual.ensures
     ∙ sym (no_feature (ring_under (stored m.frame m.borders m.vertices)) m.frame n (ap (λ z. slice_get (raw_features z) n) (sym c.as_slice.ensures.value) ∙ sym c.in_err-feature.ensures))
     ∙ ap (λ s. option_map shown (feature s.doc n)) c.self.view_is
+
+pub returns-in_err-feature-clause-small : goal.returns-in_err-feature-clause-small
+returns-in_err-feature-clause-small g c = subst (λ s. size s.doc ≤ 4000000) c.self.view_is c.self.invariant.holds.small
 
 pub returns-in_err-polygons : goal.returns-in_err-polygons
 returns-in_err-polygons g c =
@@ -24,8 +27,8 @@ returns-in_err-polygons g c =
     let there = ap (λ z. slice_get (raw_features z) n) (sym c.as_slice.ensures.value) ∙ sym c.in_ok-feature.ensures in
     absurd (polygons_there (ring_under (stored m.frame m.borders m.vertices)) m.frame c.self.invariant.counted n c.in_ok-feature.feature.now there (omega (arith, c.in_err-polygons.ensures.lookup.3, ap length c.deref.ensures.value)))
 
-pub returns : goal.returns
-returns g c =
+pub returns-clause-shown : goal.returns-clause-shown
+returns-clause-shown g c =
     let m = c.self.inside in
     let n = c.args.n in
     let f = c.in_ok-feature.feature.now in
@@ -37,3 +40,6 @@ returns g c =
     ap (λ ps. Some (shown_of f ps)) c.as_slice-2.ensures.value
     ∙ sym (shown_feature (ring_under (stored m.frame m.borders m.vertices)) m.frame n f p there polygons)
     ∙ ap (λ s. option_map shown (feature s.doc n)) c.self.view_is
+
+pub returns-clause-small : goal.returns-clause-small
+returns-clause-small g c = subst (λ s. size s.doc ≤ 4000000) c.self.view_is c.self.invariant.holds.small
