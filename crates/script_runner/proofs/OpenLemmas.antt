@@ -1,5 +1,5 @@
 -- What opens as a document, and what opens as none.
-use Rattle.std.proofs.Common.{◌≡◌, refl, sym, ap, ◌∙◌, subst, List, ℕ}
+use Rattle.std.proofs.Common.{◌≡◌, sym, ap, ◌∙◌, subst, List, ℕ}
 use Rattle.std.specs.Prelude.{Some, None, Ok}
 use Rattle.grid_geometry.specs.Segment.{Segment}
 use Rattle.ring_machine.specs.Document.{Document}
@@ -8,8 +8,9 @@ use Rattle.topo_reader.specs.Document.{Opened, document_of}
 use Rattle.topo_reader.specs.Opening.{Opens}
 use Rattle.topo_reader.specs.Reads.{Reads, Fits}
 use Rattle.topo_reader.proofs.MeaningOfText.{opens}
-use Rattle.plain_rings.specs.declared.fault.BuildFault.{BuildFault}
-use Rattle.plain_rings.specs.declared.fault.BuildFault.TheVariants as build
+use Rattle.arc_store.specs.Faults.{Names}
+use Rattle.arc_store.specs.declared.fault.BuildFault.{BuildFault}
+use Rattle.arc_store.specs.declared.fault.BuildFault.TheVariants as build
 use Rattle.script_runner.specs.declared.fault.RunFault.{RunFault}
 use Rattle.script_runner.specs.Outcome.{OpensAs, IsUnopened, IsOpenEnd, IsBuildEnd}
 
@@ -35,6 +36,6 @@ in_conflict bytes o s t a e d h =
     none_is_some (s, t) (sym h.proper.apart ∙ is)
 
 -- the end of a run whose map was read, and not built
-pub not_built : (bytes : List ℕ) (o : Opened) (f : BuildFault) (end : RunFault) → Opens bytes o → ((s t : Segment) → f ≡ build.Conflict s t → first_pair (document_of o) ≡ Some (s, t)) → IsBuildEnd f end → IsOpenEnd end bytes
-not_built bytes o (build.Conflict s t) end a pair is = subst (λ z. IsOpenEnd z bytes) (sym is) ((o, a, pair s t refl), (λ e. absurd cc), in_conflict bytes o s t a (pair s t refl))
+pub not_built : (bytes : List ℕ) (o : Opened) (f : BuildFault) (end : RunFault) → Opens bytes o → Names f (first_pair (document_of o)) → IsBuildEnd f end → IsOpenEnd end bytes
+not_built bytes o (build.Conflict s t) end a pair is = subst (λ z. IsOpenEnd z bytes) (sym is) ((o, a, pair), (λ e. absurd cc), in_conflict bytes o s t a pair)
 not_built bytes o build.OutOfMemory end a pair is = subst (λ z. IsOpenEnd z bytes) (sym is) tt

@@ -11,7 +11,7 @@ use Rattle.ring_machine.specs.Vertices.{put, put_ring, ins, ins_ring, del, del_r
 use Rattle.ring_machine.specs.Thin.{Thinning, is_flat, without, thin_at, thinned}
 use Rattle.ring_machine.specs.Query.{area_of, vertices}
 use Rattle.ring_machine.specs.Refusals.{first_of, move_refusals, insert_refusals, remove_refusals, feature_refusals, feature_at}
-use Rattle.ring_machine.specs.Command.{Command, Move, Insert, Remove, Thin, Area, Refusal, NoFeature, Answer, Done, Thinned, AreaIs, Refused}
+use Rattle.ring_machine.specs.Command.{Command, Move, Insert, Remove, Thin, Area, Refusal, Answer, Done, Thinned, AreaIs, Refused}
 use Rattle.ring_machine.specs.Machine.{State, step, edit, changed, query}
 use Rattle.ring_machine.proofs.Steps.{step-move, step-insert, step-remove, step-thin}
 use Rattle.ring_machine.proofs.RingsOf.{features-in_rings}
@@ -19,9 +19,9 @@ use Rattle.script_runner.specs.Answers.{answer_text, refusal_text}
 use Rattle.script_runner.specs.Runs.{opened_state, refusals}
 use Rattle.script_runner.specs.Replies.{Replied, Tells, TellsFault}
 use Rattle.ring_machine.specs.Command as machine
-use Rattle.plain_rings.specs.Faults.{Refuses}
-use Rattle.plain_rings.specs.declared.fault.EditFault.{EditFault}
-use Rattle.plain_rings.specs.declared.fault.EditFault.TheVariants.{NoVertex, NoSegment, Occupied, Junction, RingShort, SegmentExists, TooLarge, Conflict, Sweeps, OutOfMemory}
+use Rattle.arc_store.specs.Faults.{Refuses}
+use Rattle.arc_store.specs.declared.fault.EditFault.{EditFault}
+use Rattle.arc_store.specs.declared.fault.EditFault.TheVariants.{NoFeature, NoVertex, NoSegment, Occupied, Junction, RingShort, SegmentExists, TooLarge, Conflict, Sweeps, OutOfMemory}
 
 step-area : (st : State) (n : ℕ) → step 0 st (Area n) ≡ query st (feature_refusals st.doc n) (AreaIs (area_of (feature_at st.doc n)))
 unfolding step
@@ -56,6 +56,7 @@ by_step d e c old new refuses a st s k t n = record {
 
 refused_by_fault : (fault : EditFault) (o : Option Refusal) (old new : List ℕ) → Refuses fault o → TellsFault fault old new
     → (r : Refusal) × (o ≡ Some r) × (new ≡ old ++ (codes "refused " ++ refusal_text r))
+refused_by_fault NoFeature o old new f t = (machine.NoFeature, f, t)
 refused_by_fault NoVertex o old new f t = (machine.NoVertex, f, t)
 refused_by_fault NoSegment o old new f t = (machine.NoSegment, f, t)
 refused_by_fault Occupied o old new f t = (machine.Occupied, f, t)
@@ -150,7 +151,7 @@ thin_told_as d e t s n old new same count is text = subst (λ z. Replied d e (Th
 there : (d : Document) (n : ℕ) → has_feature d n ≡ true → first_of (feature_refusals d n) ≡ None
 there d n h = rw h refl
 
-missing : (d : Document) (n : ℕ) → has_feature d n ≡ false → first_of (feature_refusals d n) ≡ Some NoFeature
+missing : (d : Document) (n : ℕ) → has_feature d n ≡ false → first_of (feature_refusals d n) ≡ Some machine.NoFeature
 missing d n h = rw h refl
 
 pub measured : (d : Document) (n : ℕ) (old new : List ℕ) → IsTrue (has_feature d n) → new ≡ old ++ signed_decimal (area_of (feature_at d n)) → Replied d d (Area n) old new false
@@ -163,8 +164,8 @@ measured_as d n x z old new e f h t = measured d n old new h (t ∙ ap (λ y. ol
 
 pub not_measured : (d : Document) (n : ℕ) (old new : List ℕ) → (IsTrue (has_feature d n) → ⊥) → new ≡ old ++ codes "refused no feature" → Replied d d (Area n) old new true
 not_measured d n old new h t =
-    by_step d d (Area n) old new true (Refused NoFeature) (opened_state d)
-    (step-area (opened_state d) n ∙ edit-some (opened_state d) (opened_state d) (feature_refusals d n) (AreaIs (area_of (feature_at d n))) NoFeature (missing d n (is_false (has_feature d n) h))) refl t refl
+    by_step d d (Area n) old new true (Refused machine.NoFeature) (opened_state d)
+    (step-area (opened_state d) n ∙ edit-some (opened_state d) (opened_state d) (feature_refusals d n) (AreaIs (area_of (feature_at d n))) machine.NoFeature (missing d n (is_false (has_feature d n) h))) refl t refl
   where
     is_false : (b : Bool) → (IsTrue b → ⊥) → b ≡ false
     is_false true k = absurd (k refl)

@@ -11,8 +11,8 @@ use Rattle.script_runner.specs.Progress.{line_at}
 use Rattle.script_runner.specs.declared.runner.Summary.{Summary}
 use Rattle.script_runner.specs.declared.fault.RunFault.{RunFault}
 use Rattle.script_runner.specs.declared.fault.RunFault.TheVariants as fault
-use Rattle.plain_rings.specs.declared.fault.BuildFault.{BuildFault}
-use Rattle.plain_rings.specs.declared.fault.BuildFault.TheVariants as build
+use Rattle.arc_store.specs.declared.fault.BuildFault.{BuildFault}
+use Rattle.arc_store.specs.declared.fault.BuildFault.TheVariants as build
 use Rattle.script_runner.specs.declared.stop.Halt.{Halt}
 use Rattle.script_runner.specs.declared.stop.Halt.TheVariants as halt
 

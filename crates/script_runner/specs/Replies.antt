@@ -7,8 +7,8 @@ use Rattle.script_runner.specs.Answers.{answer_text, refusal_text}
 use Rattle.script_runner.specs.Runs.{Meaning, Bad, meaning_of, reply_text, state_after, refused_by, refusals, opened_state}
 use Rattle.script_runner.specs.Commands.{says_of}
 use Rattle.ring_machine.specs.Command as machine
-use Rattle.plain_rings.specs.declared.fault.EditFault.{EditFault}
-use Rattle.plain_rings.specs.declared.fault.EditFault.TheVariants.{NoVertex, NoSegment, Occupied, Junction, RingShort, SegmentExists, TooLarge, Conflict, Sweeps, OutOfMemory}
+use Rattle.arc_store.specs.declared.fault.EditFault.{EditFault}
+use Rattle.arc_store.specs.declared.fault.EditFault.TheVariants.{NoFeature, NoVertex, NoSegment, Occupied, Junction, RingShort, SegmentExists, TooLarge, Conflict, Sweeps, OutOfMemory}
 use Rattle.script_runner.specs.declared.lines.Line.{Line}
 
 -- the command is answered: its answer's text was appended, the document is the machine's, and it refuses or not
@@ -32,6 +32,7 @@ meaning_of_said (Some l) = meaning_of (says_of l)
 
 -- the refusal that a fault is; want of memory is none
 abbrev pub refusal_of : EditFault → Option machine.Refusal
+refusal_of NoFeature = Some machine.NoFeature
 refusal_of NoVertex = Some machine.NoVertex
 refusal_of NoSegment = Some machine.NoSegment
 refusal_of Occupied = Some machine.Occupied

@@ -7,9 +7,12 @@ ghost use Rattle.script_runner.specs.Commands.{command_of};
 
 use crate::lines::{Command, Line};
 use crate::stop::OutOfMemory;
+use arc_store::{EditFault, Map};
+use edit_vertex::{insert_vertex, move_vertex, remove_vertex, thin};
 use grid_geometry::{Pos, Seg};
 use itoa::{Buffer, Integer};
-use plain_rings::{EditFault, PlainMap};
+use point_queries::area2_of;
+use segment_index::GridIndex;
 use std::alloc::Allocator;
 
 /// Appends a number in decimal.
@@ -70,6 +73,7 @@ fn push_refusal<A: Allocator + Copy>(
 {
     text.extend_from_slice(b"refused ")?;
     match fault {
+        EditFault::NoFeature => text.extend_from_slice(b"no feature")?,
         EditFault::NoVertex => text.extend_from_slice(b"no vertex")?,
         EditFault::NoSegment => text.extend_from_slice(b"no segment")?,
         EditFault::Occupied => text.extend_from_slice(b"occupied")?,
@@ -105,14 +109,14 @@ fn push_outcome<A: Allocator + Copy>(
 
 /// Leaves flat vertices out and appends how many they were. Answers that it was not refused.
 fn reply_to_thin<A: Allocator + Copy>(
-    map: &mut PlainMap<'_, A>,
+    map: &mut Map<'_, GridIndex<A>, A>,
     bound: i128,
     text: &mut Vec<u8, A>,
 ) -> Result<bool, OutOfMemory>
     ensures { IfOk result (λ refuses.
-        Replied map.old map.new (Thin bound) text.old.items text.new.items refuses) }
+        Replied map.old.doc map.new.doc (Thin bound) text.old.items text.new.items refuses) }
 {
-    let removed = map.thin(bound)?;
+    let removed = thin(map, bound)?;
     text.extend_from_slice(b"ok ")?;
     push_number(text, removed)?;
     Ok(false)
@@ -120,14 +124,14 @@ fn reply_to_thin<A: Allocator + Copy>(
 
 /// Appends twice the area of a feature. Answers whether it was refused.
 fn reply_to_area<A: Allocator + Copy>(
-    map: &PlainMap<'_, A>,
+    map: &Map<'_, GridIndex<A>, A>,
     feature: u32,
     text: &mut Vec<u8, A>,
 ) -> Result<bool, OutOfMemory>
     ensures { IfOk result (λ refuses.
-        Replied map.now map.now (Area feature) text.old.items text.new.items refuses) }
+        Replied map.now.doc map.now.doc (Area feature) text.old.items text.new.items refuses) }
 {
-    match map.area2_of(feature) {
+    match area2_of(map, feature) {
         Ok(area) => {
             push_number(text, area)?;
             Ok(false)
@@ -141,17 +145,18 @@ fn reply_to_area<A: Allocator + Copy>(
 
 /// Answers a command. Answers whether it was refused.
 fn reply_to<A: Allocator + Copy>(
-    map: &mut PlainMap<'_, A>,
+    map: &mut Map<'_, GridIndex<A>, A>,
     command: Command,
     text: &mut Vec<u8, A>,
 ) -> Result<bool, OutOfMemory>
     ensures { IfOk result (λ refuses.
-        Replied map.old map.new (command_of command) text.old.items text.new.items refuses) }
+        Replied map.old.doc map.new.doc (command_of command)
+        text.old.items text.new.items refuses) }
 {
     match command {
-        Command::Move(from, to) => push_outcome(text, map.move_vertex(from, to)),
-        Command::Insert(a, b, new) => push_outcome(text, map.insert_vertex(a, b, new)),
-        Command::Remove(vertex) => push_outcome(text, map.remove_vertex(vertex)),
+        Command::Move(from, to) => push_outcome(text, move_vertex(map, from, to)),
+        Command::Insert(a, b, new) => push_outcome(text, insert_vertex(map, a, b, new)),
+        Command::Remove(vertex) => push_outcome(text, remove_vertex(map, vertex)),
         Command::Thin(bound) => reply_to_thin(map, bound, text),
         Command::Area(feature) => reply_to_area(map, feature, text),
     }
@@ -160,13 +165,13 @@ fn reply_to<A: Allocator + Copy>(
 /// Answers what a line says, with a line feed: nothing where it is skipped, `bad line` where it
 /// says nothing that is taken. Answers whether it was refused.
 pub(crate) fn reply<A: Allocator + Copy>(
-    map: &mut PlainMap<'_, A>,
+    map: &mut Map<'_, GridIndex<A>, A>,
     said: Option<Line>,
     text: &mut Vec<u8, A>,
 ) -> Result<bool, OutOfMemory>
     requires { text.old.items ≡ [] }
     ensures { IfOk result (λ refuses.
-        RepliedLine map.old map.new (meaning_of_said said) text.new.items refuses) }
+        RepliedLine map.old.doc map.new.doc (meaning_of_said said) text.new.items refuses) }
 {
     match said {
         Some(Line::Skip) => Ok(false),

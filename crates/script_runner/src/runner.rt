@@ -9,8 +9,9 @@ use crate::lines::Line;
 use crate::parsing::parse_line;
 use crate::replies::reply;
 use crate::stop::Stop;
+use arc_store::Map;
 use device_io::{Sink, put_all};
-use plain_rings::PlainMap;
+use segment_index::GridIndex;
 use std::alloc::Allocator;
 use std::marker::Model;
 
@@ -67,7 +68,7 @@ pub struct Summary {
 /// The map, the line so far, and the counts.
 #[derive(Drop)]
 pub(crate) struct Runner<'a, A: Allocator + Copy> {
-    map: PlainMap<'a, A>,
+    map: Map<'a, GridIndex<A>, A>,
     line: Vec<u8, A>,
     over: bool,
     answered: u64,
@@ -82,7 +83,7 @@ impl<'a, A: Allocator + Copy> Model for Runner<'a, A> {
     ghost Value = { Progress };
 
     ghost view = { λ r. record {
-      doc = r.map;
+      doc = r.map.doc;
       line = r.line.items;
       over = r.over;
       answered = r.answered;
@@ -95,8 +96,8 @@ impl<'a, A: Allocator + Copy> Model for Runner<'a, A> {
 
 impl<'a, A: Allocator + Copy> Runner<'a, A> {
     /// Nothing was fed.
-    pub(crate) fn new(alloc: A, map: PlainMap<'a, A>) -> Self
-        ensures { result ≡ start map.entry }
+    pub(crate) fn new(alloc: A, map: Map<'a, GridIndex<A>, A>) -> Self
+        ensures { result ≡ start map.entry.doc }
     {
         Runner {
             map,

@@ -5,8 +5,9 @@ ghost use Rattle.script_runner.specs.Outcome.{AnswersAll, Completes, Ends, Halts
 use crate::fault::RunFault;
 use crate::runner::{Runner, Summary};
 use crate::stop::{Halt, Stop};
+use arc_store::{BuildFault, Map};
 use device_io::{Sink, Source};
-use plain_rings::{BuildFault, PlainMap};
+use segment_index::GridIndex;
 use std::alloc::{Allocator, Global};
 use topo_outline::OpenFault;
 use topo_reader::read;
@@ -32,8 +33,8 @@ fn open<'a, A: Allocator + Copy>(
     alloc: A,
     heap: Global,
     bytes: &'a [u8],
-) -> Result<PlainMap<'a, A>, RunFault<'a>>
-    ensures opened { IfOk result (λ map. OpensAs bytes.now map) }
+) -> Result<Map<'a, GridIndex<A>, A>, RunFault<'a>>
+    ensures opened { IfOk result (λ map. OpensAs bytes.now map.doc) }
     ensures refused { IfErr result (λ fault. IsOpenEnd fault bytes.now) }
 {
     let raw = match read(alloc, heap, bytes) {
@@ -41,7 +42,10 @@ fn open<'a, A: Allocator + Copy>(
         Err(OpenFault::OutOfMemory) => return Err(RunFault::OutOfMemory),
         Err(fault) => return Err(RunFault::Open(fault)),
     };
-    match PlainMap::build(alloc, raw) {
+    let Ok(index) = GridIndex::new(alloc, raw.extent()) else {
+        return Err(RunFault::OutOfMemory);
+    };
+    match Map::build(alloc, raw, index) {
         Ok(map) => Ok(map),
         Err(fault) => Err(not_built(fault)),
     }
@@ -50,16 +54,16 @@ fn open<'a, A: Allocator + Copy>(
 /// Answers each line of a script, piece by piece as it comes.
 fn answer_script<'a, A: Allocator + Copy, R: Source, W: Sink>(
     alloc: A,
-    map: PlainMap<'a, A>,
+    map: Map<'a, GridIndex<A>, A>,
     script: &mut R,
     out: &mut W,
 ) -> Result<Summary, Halt>
     requires reader { R.has_failed script.old ≡ false }
     requires writer { W.has_failed out.old ≡ false }
-    ensures done { IfOk result (λ summary. AnswersAll map.entry (R.coming script.old)
+    ensures done { IfOk result (λ summary. AnswersAll map.entry.doc (R.coming script.old)
         (R.coming script.new) (W.taken out.old) (W.taken out.new) summary) }
     ensures end { OnOk result (IsAtEnd (R.coming script.new)) }
-    ensures halted { IfErr result (λ halt. Halts halt map.entry (R.coming script.old)
+    ensures halted { IfErr result (λ halt. Halts halt map.entry.doc (R.coming script.old)
         (R.coming script.new) (W.taken out.old) (W.taken out.new)) }
     ensures write { result ≡ Err Halt.Write → W.has_failed out.new ≡ true }
 {

@@ -1,5 +1,4 @@
-use Rattle.std.proofs.Common.{◌≡◌, rules, ap}
-use Rattle.std.specs.Prelude.{Err}
+use Rattle.std.proofs.Common.{◌≡◌, rules}
 use Rattle.topo_outline.specs.declared.fault.OpenFault.TheVariants as opening
 use Rattle.script_runner.proofs.OpenLemmas.{opens_as, not_read, not_built}
 use Rattle.script_runner.proofs.running.open.Goals as goal
@@ -17,4 +16,4 @@ returns-in-Ok-build-clause-opened g c = opens_as c.args.bytes.now _ _ c.in-Ok.en
 
 pub returns-in-Err-build-clause-refused : goal.returns-in-Err-build-clause-refused
 returns-in-Err-build-clause-refused g c =
-    not_built c.args.bytes.now _ c.in-Err-build.fault c.not_built.result c.in-Ok.ensures.opened (λ s t e. c.in-Err-build.ensures.conflict s t (ap Err e)) c.not_built.ensures
+    not_built c.args.bytes.now _ c.in-Err-build.fault c.not_built.result c.in-Ok.ensures.opened c.in-Err-build.ensures.conflict c.not_built.ensures

@@ -1,0 +1,2 @@
+mod Shows
+mod Rest

@@ -1,0 +1,94 @@
+-- What the readers of a map say of a feature, its polygons and their rings.
+use Rattle.std.proofs.Common.{◌≡◌, ℕ, ◌≤◌, ◌+◌, zero, suc, Bool, true, false, cond, ◌||◌, refl, sym, ap, ◌∙◌, List, [], ◌∷◌, map, length, get_or, Some, None, arith}
+use Rattle.std.specs.Prelude.{◌==◌, Option, is_some, option_map, unwrap_or, slice_get, sum_by}
+use Rattle.std.specs.List.{find, flat_map, list_any}
+use Rattle.std.proofs.lemmas.List.Sums.{sum_by-cons, sum_by-append}
+use Rattle.std.proofs.lemmas.Option.{unwrap_or-slice_get}
+use Rattle.grid_geometry.specs.Position.{Position}
+use Rattle.ring_machine.specs.Document.{Document, Feature}
+use Rattle.ring_machine.specs.Parts.{features, feature, has_feature, rings_of, size}
+use Rattle.ring_machine.specs.Refusals.{feature_at, or_else, no_feature}
+use Rattle.arc_store.specs.Readers.{Shown, shown, element, ring_at}
+
+-- the ring with these numbers, and none where there is no such ring
+ring_is : (d : Document) (n polygon ring : ℕ) → unwrap_or (ring_at d n polygon ring) [] ≡ get_or (get_or (feature_at d n).polygons polygon []) ring []
+ring_is d n polygon ring = of_feature (feature d n)
+  where
+    of_polygon : (o : Option (List (List Position))) → unwrap_or (element o ring) [] ≡ get_or (unwrap_or o []) ring []
+    of_polygon None = refl
+    of_polygon (Some rings) = unwrap_or-slice_get rings ring []
+
+    of_feature : (o : Option Feature) → unwrap_or (element (element (option_map (λ f. f.polygons) o) polygon) ring) [] ≡ get_or (get_or (or_else no_feature o).polygons polygon []) ring []
+    of_feature None = refl
+    of_feature (Some f) =
+        of_polygon (slice_get f.polygons polygon)
+        ∙ ap (λ rings. get_or rings ring []) (unwrap_or-slice_get f.polygons polygon [])
+
+pub ring_read : (d : Document) (n polygon ring : ℕ) (positions : List Position) → Some positions ≡ ring_at d n polygon ring → positions ≡ get_or (get_or (feature_at d n).polygons polygon []) ring []
+ring_read d n polygon ring positions e = ap (λ o. unwrap_or o []) e ∙ ring_is d n polygon ring
+
+pub no_ring_read : (d : Document) (n polygon ring : ℕ) → None ≡ ring_at d n polygon ring → [] ≡ get_or (get_or (feature_at d n).polygons polygon []) ring []
+no_ring_read d n polygon ring e = ap (λ o. unwrap_or o []) e ∙ ring_is d n polygon ring
+
+-- what is shown of a feature has its polygons' numbers of rings
+pub numbers_shown : (d : Document) (n : ℕ) (v : Shown) → Some v ≡ option_map shown (feature d n) → v.rings ≡ map length (feature_at d n).polygons
+numbers_shown d n v = by (feature d n)
+  where
+    by : (o : Option Feature) → Some v ≡ option_map shown o → v.rings ≡ map length (or_else no_feature o).polygons
+    by None e = absurd cc
+    by (Some f) e = ap (λ o. unwrap_or (option_map (λ s. s.rings) o) []) e
+
+pub count_is : (polygons : List (List (List Position))) (i : ℕ) → unwrap_or (slice_get (map length polygons) i) 0 ≡ length (get_or polygons i [])
+count_is [] i = refl
+count_is (p ∷ polygons) zero = refl
+count_is (p ∷ polygons) (suc i) = count_is polygons i
+
+-- a feature has the number where one is shown
+pub is_shown : (d : Document) (n : ℕ) → has_feature d n ≡ is_some (option_map shown (feature d n))
+is_shown d n = at (features d) ∙ kept (feature d n)
+  where
+    kept : (o : Option Feature) → is_some o ≡ is_some (option_map shown o)
+    kept None = refl
+    kept (Some f) = refl
+
+    at : (fs : List Feature) → list_any (λ f. f.number == n) fs ≡ is_some (find (λ f. f.number == n) fs)
+    at [] = refl
+    at (f ∷ fs) = by (f.number == n) (at fs)
+      where
+        by : (b : Bool) → list_any (λ g. g.number == n) fs ≡ is_some (find (λ g. g.number == n) fs)
+            → (b || list_any (λ g. g.number == n) fs) ≡ is_some (cond b (Some f) (find (λ g. g.number == n) fs))
+        by true h = refl
+        by false h = h
+
+-- ---- how many positions there are
+
+sum_joined : {A B : Type 0} (h : B → ℕ) (g : A → List B) (xs : List A) → sum_by h (flat_map g xs) ≡ sum_by (λ x. sum_by h (g x)) xs
+sum_joined h g [] = refl
+sum_joined h g (x ∷ xs) =
+    sum_by-append h (g x) (flat_map g xs) ∙ ap (λ n. sum_by h (g x) + n) (sum_joined h g xs)
+    ∙ sym (sum_by-cons (λ y. sum_by h (g y)) x xs)
+
+-- one of a sum, and nothing where there is none
+pub one_of : {A : Type 0} (h : List A → ℕ) (xs : List (List A)) (i : ℕ) → h [] ≡ 0 → h (get_or xs i []) ≤ sum_by h xs
+one_of h [] i e = omega (arith, e)
+one_of h (x ∷ xs) zero e = simp sum_by-cons (omega arith)
+one_of h (x ∷ xs) (suc i) e = simp sum_by-cons (omega (arith, one_of h xs i e))
+
+-- a feature has no more positions than its document
+pub feature-le-size : (d : Document) (n : ℕ) → sum_by (sum_by length) (feature_at d n).polygons ≤ size d
+feature-le-size d n = omega (arith, at (features d), whole)
+  where
+    whole : size d ≡ sum_by (λ f. sum_by (sum_by length) f.polygons) (features d)
+    whole =
+        sum_joined length rings_of (features d)
+        ∙ ap (λ h. sum_by h (features d)) (λ i f. sum_joined length (λ rings. rings) f.polygons i)
+
+    at : (fs : List Feature) → sum_by (sum_by length) (or_else no_feature (find (λ f. f.number == n) fs)).polygons ≤ sum_by (λ f. sum_by (sum_by length) f.polygons) fs
+    at [] = omega arith
+    at (f ∷ fs) = simp sum_by-cons (by (f.number == n) (at fs))
+      where
+        by : (b : Bool) → sum_by (sum_by length) (or_else no_feature (find (λ g. g.number == n) fs)).polygons ≤ sum_by (λ g. sum_by (sum_by length) g.polygons) fs
+            → sum_by (sum_by length) (or_else no_feature (cond b (Some f) (find (λ g. g.number == n) fs))).polygons
+            ≤ sum_by (sum_by length) f.polygons + sum_by (λ g. sum_by (sum_by length) g.polygons) fs
+        by true h = omega arith
+        by false h = omega (arith, h)
