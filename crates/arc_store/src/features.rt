@@ -11,6 +11,7 @@ use std::marker::Model;
 use topo_outline::{Form, Item, KeptMember, RawFeature, RawLayer};
 
 /// What a map is beside its rings.
+#[derive(Drop)]
 pub struct FrameView<'m, 'a, A: Allocator + Copy = Global> {
     /// The text of the transform, and none where there is none (TopoJSON 1.0, 2.1.2).
     pub transform: Option<&'a [u8]>,
@@ -22,6 +23,7 @@ pub struct FrameView<'m, 'a, A: Allocator + Copy = Global> {
 }
 
 /// A feature of a map, seen with the numbers of its polygons' rings.
+#[derive(Drop)]
 pub struct FeatureView<'m, 'a, A: Allocator + Copy = Global> {
     feature: &'m RawFeature<'a, A>,
     polygons: &'m [Vec<usize, A>],
