@@ -41,6 +41,11 @@ module _ {Y : Type 0} where
   get-right (x ∷ xs) ys k zero e = absurd (omega (arith, e))
   get-right (x ∷ xs) ys k (suc m) e = get-right xs ys k m (omega (arith, e))
 
+  get_none : (xs : List Y) (k : ℕ) → slice_get xs k ≡ None → length xs ≤ k
+  get_none [] k e = omega arith
+  get_none (x ∷ xs) zero e = absurd cc
+  get_none (x ∷ xs) (suc k) e = omega (arith, get_none xs k e)
+
 module _ {X Y : Type 0} where
   -- the element of this number among those that f gives
   pub given_at : (f : X → Option Y) (xs : List X) (i n : ℕ) (x : X) (y : Y) → i < length xs
@@ -266,6 +271,26 @@ module _ {A : Type 0} (g : ℕ → List Position) (f : Frame A) where
   pub polygons_there : IsCounted f → (n : ℕ) (r : RawFeature A) → slice_get raws n ≡ Some r
       → length f.polygons.items ≤ n → ⊥
   polygons_there h n r e k = omega (arith, h, leaves_number f.layers.items, slice_get_within raws n r e)
+
+  -- a feature's polygons, where it has them
+  pub feature_polygons : IsCounted f → (n : ℕ)
+      → option_map (λ k. k.polygons) (feature (in_rings g (frame_of f)) n)
+      ≡ option_map (λ p. placed g (feature_numbers p)) (slice_get f.polygons.items n)
+  feature_polygons h n =
+      ap (option_map (λ k. k.polygons)) (feature_is n)
+      ∙ by (slice_get raws n) (slice_get f.polygons.items n) refl refl
+    where
+      by : (r : Option (RawFeature A)) (p : Option (Vec (Vec ℕ A) A)) → slice_get raws n ≡ r
+          → slice_get f.polygons.items n ≡ p
+          → option_map (λ k. k.polygons) (option_map (in_feature g) (option_map (at_number all n) r))
+          ≡ option_map (λ p. placed g (feature_numbers p)) p
+      by None None e k = refl
+      by (Some r) (Some p) e k =
+          ap (λ ps. Some (placed g (unwrap_or ps []))) (slice_get-map feature_numbers f.polygons.items n ∙ ap (option_map feature_numbers) k)
+      by None (Some p) e k =
+          absurd (omega (arith, h, leaves_number f.layers.items, get_none raws n e, slice_get_within f.polygons.items n p k))
+      by (Some r) None e k =
+          absurd (omega (arith, h, leaves_number f.layers.items, slice_get_within raws n r e, get_none f.polygons.items n k))
 
   abbrev opened_of : List (RawLayer A) → List KeptMember → Document → opened.Opened
   opened_of layers members d = record {

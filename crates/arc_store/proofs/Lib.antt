@@ -27,4 +27,5 @@ pub mod AroundPlan
 pub mod FrameLemmas
 pub mod FeatureLemmas
 pub mod RingAround
+pub mod RingReads
 mod Examples
