@@ -6,7 +6,6 @@ use Rattle.std.specs.Prelude.{◌==◌, unwrap_or, is_some, Vec}
 use Rattle.std.specs.List.{filter_map, flat_map, slice_get, cons_option, find}
 use Rattle.std.proofs.lemmas.Bool.Decides.{nat_tests}
 use Rattle.std.proofs.lemmas.List.{length-append, length-map, take_more}
-use Rattle.std.proofs.lemmas.List.Concat.{flat_map-append}
 use Rattle.std.proofs.lemmas.List.Elements.{filter_map-append}
 use Rattle.std.proofs.lemmas.Option.{slice_get-map, slice_get_within}
 use Rattle.grid_geometry.specs.Position.{Position}
@@ -25,8 +24,8 @@ use Rattle.topo_reader.specs.Document as opened
 use Rattle.arc_store.specs.declared.frame.Frame.{Frame}
 use Rattle.arc_store.specs.Frames.{polygons_at, numbered, items_from, layers_from, polygon_numbers}
 use Rattle.arc_store.specs.Frames.{feature_numbers, frame_of, IsCounted}
-use Rattle.arc_store.specs.Leaves.{raw_leaf, raw_leaves, raw_features}
-use Rattle.arc_store.specs.Readers.{Shown, shown, shown_of}
+use Rattle.arc_store.specs.Leaves.{raw_leaves, raw_features}
+use Rattle.arc_store.specs.Readers.{shown, shown_of}
 
 -- ---- a list's elements that a loop goes through
 

@@ -1,8 +1,8 @@
 -- A ring gone round from its least position on, key by key.
-use Rattle.std.proofs.Common.{◌≡◌, ◌≢◌, ℕ, zero, suc, ◌+◌, ◌-◌, ◌<◌, ◌≤◌, Bool, true, false, cond, refl, sym, ap, pos}
+use Rattle.std.proofs.Common.{◌≡◌, ℕ, zero, suc, ◌+◌, ◌-◌, ◌<◌, ◌≤◌, Bool, true, false, cond, refl, sym, ap, pos}
 use Rattle.std.proofs.Common.{ap₂, ◌∙◌, subst, Option, None, Some, List, [], ◌∷◌, ◌++◌, length, map, take, drop, arith}
 use Rattle.std.proofs.Common.{◌⊎◌, inl, inr}
-use Rattle.std.specs.Prelude.{Contains, unwrap_or, ◌&&◌, IsTrue}
+use Rattle.std.specs.Prelude.{Contains, unwrap_or, ◌&&◌}
 use Rattle.std.specs.FinMap as table
 use Rattle.std.specs.Cmp.{Some-then}
 use Rattle.std.specs.Iterator.{YieldsFirst}
@@ -10,7 +10,7 @@ use Rattle.std.specs.List.{list_all}
 use Rattle.std.specs.Ordering.{int_cmp, is_lt, is_some_and, partial_ordering_then}
 use Rattle.std.proofs.Math.Seq.{drop-append_seam, take-append-add, take-append_seam}
 use Rattle.std.proofs.lemmas.Bool.{false≢true}
-use Rattle.std.proofs.lemmas.List.{drop-drop, drop-map, length-append, length-map, map-append, take-append-le}
+use Rattle.std.proofs.lemmas.List.{drop-drop, drop-map, length-append, length-map, map-append}
 use Rattle.std.proofs.lemmas.List.Sums.{fold-append}
 use Rattle.grid_geometry.specs.Position.{Position, position, position_eq, position_lt}
 use Rattle.ring_machine.specs.Ring.{before, from, least, canonical}
@@ -40,11 +40,12 @@ passed all keys new i (Some k) h e = sym (ap (drop 1) h) ∙ ap (drop 1) e ∙ d
 
 -- ---- the place of the least position
 
--- the code's test
-pub tested_lt : (p q : Position)
-    → is_some_and is_lt (partial_ordering_then (Some (int_cmp p.x q.x)) (Some (int_cmp p.y q.y)))
-    ≡ position_lt p q
-tested_lt p q = ap (is_some_and is_lt) (Some-then (int_cmp p.x q.x) (int_cmp p.y q.y))
+-- what the code's test answers
+pub tested_lt : (p q : Position) (b answer : Bool)
+    → b ≡ is_some_and is_lt (partial_ordering_then (Some (int_cmp p.x q.x)) (Some (int_cmp p.y q.y)))
+    → b ≡ answer → position_lt p q ≡ answer
+tested_lt p q b answer e h =
+    sym (ap (is_some_and is_lt) (Some-then (int_cmp p.x q.x) (int_cmp p.y q.y))) ∙ sym e ∙ h
 
 not_over : (r p q : Position) → position_lt r p ≡ true → position_lt q p ≡ false
     → position_lt r q ≡ true
