@@ -6,7 +6,6 @@ use Rattle.std.specs.Prelude.{◌==◌, unwrap_or, is_some, Vec}
 use Rattle.std.specs.List.{filter_map, flat_map, slice_get, cons_option, find}
 use Rattle.std.proofs.lemmas.Bool.Decides.{nat_tests}
 use Rattle.std.proofs.lemmas.List.{length-append, length-map, take_more}
-use Rattle.std.proofs.lemmas.List.Concat.{flat_map-append}
 use Rattle.std.proofs.lemmas.List.Elements.{filter_map-append}
 use Rattle.std.proofs.lemmas.Option.{slice_get-map, slice_get_within}
 use Rattle.grid_geometry.specs.Position.{Position}
@@ -25,8 +24,8 @@ use Rattle.topo_reader.specs.Document as opened
 use Rattle.arc_store.specs.declared.frame.Frame.{Frame}
 use Rattle.arc_store.specs.Frames.{polygons_at, numbered, items_from, layers_from, polygon_numbers}
 use Rattle.arc_store.specs.Frames.{feature_numbers, frame_of, IsCounted}
-use Rattle.arc_store.specs.Leaves.{raw_leaf, raw_leaves, raw_features}
-use Rattle.arc_store.specs.Readers.{Shown, shown, shown_of}
+use Rattle.arc_store.specs.Leaves.{raw_leaves, raw_features}
+use Rattle.arc_store.specs.Readers.{shown, shown_of}
 
 -- ---- a list's elements that a loop goes through
 
@@ -40,6 +39,11 @@ module _ {Y : Type 0} where
   get-right [] ys k m e = ap (slice_get ys) (omega (arith, e))
   get-right (x ∷ xs) ys k zero e = absurd (omega (arith, e))
   get-right (x ∷ xs) ys k (suc m) e = get-right xs ys k m (omega (arith, e))
+
+  get_none : (xs : List Y) (k : ℕ) → slice_get xs k ≡ None → length xs ≤ k
+  get_none [] k e = omega arith
+  get_none (x ∷ xs) zero e = absurd cc
+  get_none (x ∷ xs) (suc k) e = omega (arith, get_none xs k e)
 
 module _ {X Y : Type 0} where
   -- the element of this number among those that f gives
@@ -266,6 +270,26 @@ module _ {A : Type 0} (g : ℕ → List Position) (f : Frame A) where
   pub polygons_there : IsCounted f → (n : ℕ) (r : RawFeature A) → slice_get raws n ≡ Some r
       → length f.polygons.items ≤ n → ⊥
   polygons_there h n r e k = omega (arith, h, leaves_number f.layers.items, slice_get_within raws n r e)
+
+  -- a feature's polygons, where it has them
+  pub feature_polygons : IsCounted f → (n : ℕ)
+      → option_map (λ k. k.polygons) (feature (in_rings g (frame_of f)) n)
+      ≡ option_map (λ p. placed g (feature_numbers p)) (slice_get f.polygons.items n)
+  feature_polygons h n =
+      ap (option_map (λ k. k.polygons)) (feature_is n)
+      ∙ by (slice_get raws n) (slice_get f.polygons.items n) refl refl
+    where
+      by : (r : Option (RawFeature A)) (p : Option (Vec (Vec ℕ A) A)) → slice_get raws n ≡ r
+          → slice_get f.polygons.items n ≡ p
+          → option_map (λ k. k.polygons) (option_map (in_feature g) (option_map (at_number all n) r))
+          ≡ option_map (λ p. placed g (feature_numbers p)) p
+      by None None e k = refl
+      by (Some r) (Some p) e k =
+          ap (λ ps. Some (placed g (unwrap_or ps []))) (slice_get-map feature_numbers f.polygons.items n ∙ ap (option_map feature_numbers) k)
+      by None (Some p) e k =
+          absurd (omega (arith, h, leaves_number f.layers.items, get_none raws n e, slice_get_within f.polygons.items n p k))
+      by (Some r) None e k =
+          absurd (omega (arith, h, leaves_number f.layers.items, slice_get_within raws n r e, get_none f.polygons.items n k))
 
   abbrev opened_of : List (RawLayer A) → List KeptMember → Document → opened.Opened
   opened_of layers members d = record {

@@ -43,4 +43,5 @@ pub mod VertexLists
 pub mod KeyLists
 pub mod FeatureLemmas
 pub mod RingAround
+pub mod RingReads
 mod Examples

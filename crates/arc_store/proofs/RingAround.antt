@@ -1,8 +1,8 @@
 -- A ring gone round from its least position on, key by key.
-use Rattle.std.proofs.Common.{◌≡◌, ◌≢◌, ℕ, zero, suc, ◌+◌, ◌-◌, ◌<◌, ◌≤◌, Bool, true, false, cond, refl, sym, ap, pos}
+use Rattle.std.proofs.Common.{◌≡◌, ℕ, zero, suc, ◌+◌, ◌-◌, ◌<◌, ◌≤◌, Bool, true, false, cond, refl, sym, ap, pos}
 use Rattle.std.proofs.Common.{ap₂, ◌∙◌, subst, Option, None, Some, List, [], ◌∷◌, ◌++◌, length, map, take, drop, arith}
 use Rattle.std.proofs.Common.{◌⊎◌, inl, inr}
-use Rattle.std.specs.Prelude.{Contains, unwrap_or, ◌&&◌, IsTrue}
+use Rattle.std.specs.Prelude.{Contains, unwrap_or, ◌&&◌}
 use Rattle.std.specs.FinMap as table
 use Rattle.std.specs.Cmp.{Some-then}
 use Rattle.std.specs.Iterator.{YieldsFirst}
@@ -10,7 +10,7 @@ use Rattle.std.specs.List.{list_all}
 use Rattle.std.specs.Ordering.{int_cmp, is_lt, is_some_and, partial_ordering_then}
 use Rattle.std.proofs.Math.Seq.{drop-append_seam, take-append-add, take-append_seam}
 use Rattle.std.proofs.lemmas.Bool.{false≢true}
-use Rattle.std.proofs.lemmas.List.{drop-drop, drop-map, length-append, length-map, map-append, take-append-le}
+use Rattle.std.proofs.lemmas.List.{drop-drop, drop-map, length-append, length-map, map-append}
 use Rattle.std.proofs.lemmas.List.Sums.{fold-append}
 use Rattle.grid_geometry.specs.Position.{Position, position, position_eq, position_lt}
 use Rattle.ring_machine.specs.Ring.{before, from, least, canonical}
@@ -27,11 +27,7 @@ module _ {X : Type 0} where
   pub among_cons : (x : X) (xs : List X) (j : X) → Contains xs j → Contains (x ∷ xs) j
   among_cons x xs j h = (suc h.0, omega (arith, h.1), h.2)
 
-  pub among_middle : (xs : List X) (x : X) (ys : List X) → Contains (xs ++ x ∷ ys) x
-  among_middle [] x ys = (0, omega arith, refl)
-  among_middle (z ∷ xs) x ys = among_cons z (xs ++ x ∷ ys) x (among_middle xs x ys)
-
-  pub among_drop : (n : ℕ) (xs : List X) (j : X) → Contains (drop n xs) j → Contains xs j
+  among_drop : (n : ℕ) (xs : List X) (j : X) → Contains (drop n xs) j → Contains xs j
   among_drop zero xs j h = h
   among_drop (suc n) [] j h = h
   among_drop (suc n) (x ∷ xs) j h = among_cons x xs j (among_drop n xs j h)
@@ -44,11 +40,12 @@ passed all keys new i (Some k) h e = sym (ap (drop 1) h) ∙ ap (drop 1) e ∙ d
 
 -- ---- the place of the least position
 
--- the code's test
-pub tested_lt : (p q : Position)
-    → is_some_and is_lt (partial_ordering_then (Some (int_cmp p.x q.x)) (Some (int_cmp p.y q.y)))
-    ≡ position_lt p q
-tested_lt p q = ap (is_some_and is_lt) (Some-then (int_cmp p.x q.x) (int_cmp p.y q.y))
+-- what the code's test answers
+pub tested_lt : (p q : Position) (b answer : Bool)
+    → b ≡ is_some_and is_lt (partial_ordering_then (Some (int_cmp p.x q.x)) (Some (int_cmp p.y q.y)))
+    → b ≡ answer → position_lt p q ≡ answer
+tested_lt p q b answer e h =
+    sym (ap (is_some_and is_lt) (Some-then (int_cmp p.x q.x) (int_cmp p.y q.y))) ∙ sym e ∙ h
 
 not_over : (r p q : Position) → position_lt r p ≡ true → position_lt q p ≡ false
     → position_lt r q ≡ true
@@ -101,13 +98,13 @@ before_more m (q ∷ qs) rs l = by (position_eq q m) l (before_more m qs rs)
     by false l h = ap (λ z. q ∷ z) (h (omega arith))
 
 -- a position that is less than each before it
-pub lower_one : (p : Position) (ps : List Position) (r : Position) → position_lt r (least p ps) ≡ true
+lower_one : (p : Position) (ps : List Position) (r : Position) → position_lt r (least p ps) ≡ true
     → (least p (ps ++ r ∷ []) ≡ r) × (length (before r (p ∷ ps ++ r ∷ [])) ≡ 1 + length ps)
 lower_one p ps r h =
     (least_more p ps r ∙ ap (λ b. cond b r (least p ps)) h, ap length (before_end r (p ∷ ps) (below_least r p ps h)) ∙ omega arith)
 
 -- one that is not
-pub no_lower_one : (p : Position) (ps : List Position) (r : Position)
+no_lower_one : (p : Position) (ps : List Position) (r : Position)
     → position_lt r (least p ps) ≡ false
     → length (before (least p ps) (p ∷ ps)) < 1 + length ps
     → (least p (ps ++ r ∷ []) ≡ least p ps)
@@ -150,9 +147,9 @@ module _ (places : Placement) where
   at_place : (k : ℕ) (p : Position) → table.get places k ≡ Some p → p ≡ place places k
   at_place k p e = sym (ap (λ o. unwrap_or o (position (pos 0) (pos 0))) e)
 
-  map_last : (first : Position) (ys : List ℕ) (k : ℕ) (p : Position) → table.get places k ≡ Some p
+  map_last : (ys : List ℕ) (k : ℕ) (p : Position) → table.get places k ≡ Some p
       → map (place places) (ys ++ k ∷ []) ≡ map (place places) ys ++ p ∷ []
-  map_last first ys k p there =
+  map_last ys k p there =
       map-append (place places) ys (k ∷ []) ∙ ap (λ z. map (place places) ys ++ z ∷ []) (sym (at_place k p there))
 
   -- the least position, and its first place
@@ -167,7 +164,7 @@ module _ (places : Placement) where
       → IsLowest first (ys ++ k ∷ []) low new
   lower_key first ys k p lowest at count there h e l low i new j =
       let ps = map (place places) ys in
-      let qs = map_last first ys k p there in
+      let qs = map_last ys k p there in
       let both = lower_one first ps p (ap (position_lt p) (sym h.least_is) ∙ l) in
       record {
         least_is = i ∙ sym both.0 ∙ ap (least first) (sym qs);
@@ -182,7 +179,7 @@ module _ (places : Placement) where
       → IsLowest first (ys ++ k ∷ []) low new
   no_lower_key first ys k p lowest at count there h e b l low i new j =
       let ps = map (place places) ys in
-      let qs = map_last first ys k p there in
+      let qs = map_last ys k p there in
       let same = ap (λ z. length (before z (first ∷ ps))) h.least_is in
       let both = no_lower_one first ps p (ap (position_lt p) (sym h.least_is) ∙ l) (omega (arith, b, e, h.place_is, same, length-map ys (place places))) in
       record {
@@ -220,10 +217,6 @@ module _ (places : Placement) where
     abbrev pub Goes : Type 0
     Goes = (rest ≡ k ∷ on) ⊎ ((rest ≡ []) × (all ≡ k ∷ on))
 
-    pub next_placed : IsAround places all rest left → Goes → table.contains_key places k ≡ true
-    next_placed h (inl e) = h.rest_placed k (subst (λ z. Contains z k) (sym e) (among_middle [] k on))
-    next_placed h (inr e) = h.all_placed k (subst (λ z. Contains z k) (sym e.1) (among_middle [] k on))
-
     pub next_around : IsAround places all rest left → Goes → IsAround places all on (left - 1)
     next_around h (inl e) = record {
       enough = omega (arith, h.enough, ap length e);
@@ -235,15 +228,3 @@ module _ (places : Placement) where
       all_placed = h.all_placed;
       rest_placed = λ j i. h.all_placed j (subst (λ z. Contains z j) (sym e.1) (among_cons k on j i));
     }
-
-    pub next_left : IsAround places all rest left → left ≢ 0 → Goes
-        → positions_left places all rest left ≡ place places k ∷ positions_left places all on (left - 1)
-    next_left h l (inl e) =
-        let one : left ≡ suc (left - 1) = omega (arith, l) in
-        ap₂ (λ i z. take i (map (place places) (z ++ all))) one e
-    next_left h l (inr e) =
-        let one : left ≡ suc (left - 1) = omega (arith, l) in
-        let ps = map (place places) on in
-        ap₂ (λ i z. take i (map (place places) (z ++ all))) one e.0
-        ∙ ap (λ z. take (suc (left - 1)) (map (place places) z)) e.1
-        ∙ ap (λ z. place places k ∷ z) (sym (ap (take (left - 1)) (map-append (place places) on all) ∙ take-append-le (left - 1) ps (map (place places) all) (omega (arith, h.enough, ap length e.0, ap length e.1, length-map on (place places)))))

@@ -90,10 +90,7 @@ fn next_key<'m, A: Allocator + Copy>(
 
 impl<'m, A: Allocator + Copy> RingIter<'m, A> {
     /// The positions under these keys, from the least one on.
-    pub(crate) fn begin(
-        all: RingKeys<'m, A>,
-        vertices: &'m Vertices<A>,
-    ) -> Option<RingIter<'m, A>>
+    pub(crate) fn begin(all: RingKeys<'m, A>, vertices: &'m Vertices<A>) -> Option<RingIter<'m, A>>
         requires placed { (k : ℕ) → Contains all k → table.contains_key vertices.now k ≡ true }
         requires few { length all < 2 ^ 64 }
         ensures some { IfSome result (λ it. it ≡ canonical (map (place vertices.now) all.entry)) }

@@ -1,4 +1,4 @@
-use Rattle.std.proofs.Common.{arith, refl, sym, ap, ◌∙◌, [], ◌∷◌, cond, length}
+use Rattle.std.proofs.Common.{arith, refl, sym, ap, [], ◌∷◌, cond, length, true, false}
 use Rattle.std.proofs.lemmas.List.{length-append}
 use Rattle.ring_machine.proofs.Order.{position_eq-refl}
 use Rattle.arc_store.proofs.RingAround.{tested_lt, lower_key, no_lower_key}
@@ -16,13 +16,13 @@ loop-k-preserved g c =
     let there = c.pos-p.ensures.value in
     elim c.if-lt.branch [
       | then-lt w ↦ record {
-            lowest = lower_key c.args.vertices.now c.args.first s.yielded k c.pos-p.result s.lowest s.place s.count there s.invariant.lowest s.invariant.counted (sym (tested_lt c.pos-p.result s.lowest) ∙ sym c.lt.ensures ∙ w.if-lt.true) c.if-lt.lowest w.lowest-is c.if-lt.place w.place-is;
-            within = omega arith;
-            counted = omega (arith, longer);
-          }
+        lowest = lower_key c.args.vertices.now c.args.first s.yielded k c.pos-p.result s.lowest s.place s.count there s.invariant.lowest s.invariant.counted (tested_lt c.pos-p.result s.lowest c.lt.result true c.lt.ensures w.if-lt.true) c.if-lt.lowest w.lowest-is c.if-lt.place w.place-is;
+        within = omega arith;
+        counted = omega (arith, longer);
+      }
       | else-lt w ↦ record {
-            lowest = no_lower_key c.args.vertices.now c.args.first s.yielded k c.pos-p.result s.lowest s.place s.count there s.invariant.lowest s.invariant.counted s.invariant.within (sym (tested_lt c.pos-p.result s.lowest) ∙ sym c.lt.ensures ∙ w.if-lt.false) c.if-lt.lowest w.lowest-is c.if-lt.place w.place-is;
-            within = omega arith;
-            counted = omega (arith, longer);
-          }
+        lowest = no_lower_key c.args.vertices.now c.args.first s.yielded k c.pos-p.result s.lowest s.place s.count there s.invariant.lowest s.invariant.counted s.invariant.within (tested_lt c.pos-p.result s.lowest c.lt.result false c.lt.ensures w.if-lt.false) c.if-lt.lowest w.lowest-is c.if-lt.place w.place-is;
+        within = omega arith;
+        counted = omega (arith, longer);
+      }
     ]

@@ -1,4 +1,4 @@
-use Rattle.std.proofs.Common.{arith, sym, ap, ◌∙◌, ◌++◌, subst, length, drop, map, take}
+use Rattle.std.proofs.Common.{arith, sym, ap, ◌∙◌, subst, length, drop}
 use Rattle.std.specs.Prelude.{Contains}
 use Rattle.arc_store.specs.RingPlaces.{positions_left, IsAround}
 use Rattle.arc_store.proofs.RingAround.{among_cons, begun_left, begun_around}
