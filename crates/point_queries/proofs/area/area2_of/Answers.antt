@@ -49,9 +49,9 @@ loop-polygon-preserved g c =
     let more : to_z w128 (of_z w128 (so_far +ℤ to_z w128 (of_z w128 c.polygon_area-part.result))) ≡ so_far +ℤ query.polygon_area (get_or polygons c.loop-polygon.polygon []) = omega (arith, ints, rest, small, c.feature.ensures.small, c.loop-polygon.invariant.bound, c.polygon_area-part.ensures.value, c.polygon_area-part.ensures.bound) in
     record {
       whole =
-        ap (λ z. fold (λ sum polygon. sum +ℤ query.polygon_area polygon) z (drop (c.loop-polygon.polygon + 1) polygons)) more
-        ∙ sym (fold_rest (λ sum polygon. sum +ℤ query.polygon_area polygon) so_far polygons c.loop-polygon.polygon [] within)
-        ∙ c.loop-polygon.invariant.whole;
+          ap (λ z. fold (λ sum polygon. sum +ℤ query.polygon_area polygon) z (drop (c.loop-polygon.polygon + 1) polygons)) more
+          ∙ sym (fold_rest (λ sum polygon. sum +ℤ query.polygon_area polygon) so_far polygons c.loop-polygon.polygon [] within)
+          ∙ c.loop-polygon.invariant.whole;
       bound = omega (arith, ints, rest, small, c.feature.ensures.small, c.loop-polygon.invariant.bound, c.polygon_area-part.ensures.bound);
     }
 

@@ -44,9 +44,9 @@ loop-hole-preserved g c =
     let less : to_z w128 (of_z w128 (so_far -ℤ to_z w128 (of_z w128 c.ring_area-part.result))) ≡ so_far -ℤ absolute_area (get_or rings c.loop-hole.hole []) = omega (arith, ints, rest, c.requires.few, c.loop-hole.invariant.bound, c.ring_area-part.ensures.value, c.ring_area-part.ensures.bound) in
     record {
       whole =
-        ap (λ z. fold (λ sum hole. sum -ℤ absolute_area hole) z (drop (c.loop-hole.hole + 1) rings)) less
-        ∙ sym (fold_rest (λ sum hole. sum -ℤ absolute_area hole) so_far rings c.loop-hole.hole [] within)
-        ∙ c.loop-hole.invariant.whole;
+          ap (λ z. fold (λ sum hole. sum -ℤ absolute_area hole) z (drop (c.loop-hole.hole + 1) rings)) less
+          ∙ sym (fold_rest (λ sum hole. sum -ℤ absolute_area hole) so_far rings c.loop-hole.hole [] within)
+          ∙ c.loop-hole.invariant.whole;
       bound = omega (arith, ints, rest, c.requires.few, c.loop-hole.invariant.bound, c.ring_area-part.ensures.bound);
     }
 

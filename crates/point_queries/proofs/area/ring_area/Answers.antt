@@ -38,6 +38,20 @@ loop-to-preserved g c =
       bound = omega (arith, ints, all, begun, long, c.requires.few, c.loop-to.invariant.bound, c.term-sum.ensures.bound);
     }
 
+pub overflow_add-sum-2 : goal.overflow_add-sum-2
+overflow_add-sum-2 g c =
+    let is = ring_read c.args.map.now.doc c.args.f c.args.polygon c.args.ring c.in-Some.positions (sym c.in-Some.is ∙ c.ring.ensures) in
+    let all = ap length (sym c.in-Some-next.ensures.steps ∙ is) in
+    let begun = ap length c.into_iter-to-iterator.ensures.into_iter_gives in
+    omega (arith, ints, all, begun, c.requires.few, c.loop-to.invariant.bound, c.term.ensures.bound)
+
+pub abs-requires : goal.abs-requires
+abs-requires g c =
+    let is = ring_read c.args.map.now.doc c.args.f c.args.polygon c.args.ring c.in-Some.positions (sym c.in-Some.is ∙ c.ring.ensures) in
+    let all = ap length (sym c.in-Some-next.ensures.steps ∙ is) in
+    let begun = ap length c.into_iter-to-iterator.ensures.into_iter_gives in
+    omega (arith, ints, all, begun, c.requires.few, c.loop-to.invariant.bound, c.term.ensures.bound)
+
 pub returns-clause-value : goal.returns-clause-value
 returns-clause-value g c =
     let ring = get_or (get_or (feature_at c.args.map.now.doc c.args.f).polygons c.args.polygon []) c.args.ring [] in
