@@ -24,7 +24,7 @@ fn every_lesser_heap_is_refused(rt: HostRuntime) -> Result<(), Fail> {
         let mut refused = 0usize;
         let mut done = false;
         for room in 0..600usize {
-            let heap = LocalHeap::new(rt.alloc(), 64 + 16 * room)?;
+            let heap = LocalHeap::new(rt.alloc(), 64 + 512 * room)?;
             let mut source = FromReader::new(row.0);
             let mut sink = ToWriter::new(Vec::with_capacity(rt.alloc(), 64)?);
             match run(
