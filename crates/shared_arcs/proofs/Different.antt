@@ -82,7 +82,7 @@ length-without r (x ∷ xs) d m = by (length-without r xs d.1) (x == r) refl
 
 -- ---- with a number
 
-any_contained : (r : ℕ) (xs : List ℕ) → list_any (λ k. k == r) xs ≡ true → Contains xs r
+pub any_contained : (r : ℕ) (xs : List ℕ) → list_any (λ k. k == r) xs ≡ true → Contains xs r
 any_contained r [] h = absurd (false≢true h)
 any_contained r (x ∷ xs) h = by (any_contained r xs) (x == r) refl h
   where

@@ -2,6 +2,7 @@ pub mod Different
 pub mod Moves
 pub mod StoreLemmas
 pub mod CutLemmas
+pub mod Knowing
 pub mod Growing
 pub mod Finding
 pub mod Running

@@ -1,16 +1,16 @@
 //! Laying a ring along its keys: over the arcs that have its segments, and over new ones.
 ghost use Rattle.std.specs.Prelude.{◌≡◌, ◌≢◌, ℕ, ◌<◌, ◌≤◌, ◌+◌, ◌-◌, OnOk, OnErr, IfOk, IfSome};
 ghost use Rattle.std.specs.Prelude.{true, false, None, take, drop, length, get_or, reverse};
-ghost use Rattle.std.specs.Prelude.{[], ◌∷◌, ◌++◌};
+ghost use Rattle.std.specs.Prelude.{[], ◌∷◌, ◌++◌, ◌==◌};
+ghost use Rattle.std.specs.List.{list_any};
 ghost use Rattle.slab.specs.Slab.{get, ContainsKey};
 ghost use Rattle.shared_arcs.specs.Ways.{Starts, Takes, times, links, Grows, Keeps, OpenAt, Spoils};
 ghost use Rattle.shared_arcs.specs.Sound.{HoldsOneMore};
-ghost use Rattle.shared_arcs.specs.Stores.{path_in, users_in, uses_in, path_of, store};
-ghost use Rattle.shared_arcs.specs.Stores.{Whole, SamePaths, SameRings, SameUsers, SameKeys};
+ghost use Rattle.shared_arcs.specs.Stores.{path_in, users_in, uses_in, uses_arc, path_of, store};
+ghost use Rattle.shared_arcs.specs.Stores.{Whole, Known, SamePaths, SameRings, SameUsers, SameKeys};
 ghost use Rattle.shared_arcs.specs.Stores.{GoesOn, Learns, HasRoomFor, IsPlace, IsOpen};
 
 use crate::arc::{Arc, Ring, Use};
-use crate::numbers::include;
 use crate::place::{Place, agreed, agreed_back};
 use crate::standing::{list_arc, note};
 use crate::tables::Tables;
@@ -46,22 +46,58 @@ fn go_on<A: Allocator + Copy>(rings: &mut Slab<Ring<A>, A>, r: usize, u: Use)
     ring.uses.push_reserved(u);
 }
 
-/// Arc `i` learns that ring `r` uses it.
+/// Whether some use is of arc `i`.
+fn has_use(uses: &[Use], i: usize) -> bool
+    ensures { result ≡ uses_arc i uses.now }
+{
+    for u in uses {
+        if u.arc == i {
+            return true;
+        }
+    }
+    false
+}
+
+/// Whether arc `i` knows ring `r`, by the shorter list: that of the arc's rings or that of the ring's
+/// uses.
+fn is_known<A: Allocator + Copy>(
+    arcs: &Slab<Arc<A>, A>,
+    rings: &Slab<Ring<A>, A>,
+    i: usize,
+    r: usize,
+) -> bool
+    requires arc_there { ContainsKey arcs.now i }
+    requires there { ContainsKey rings.now r }
+    requires known { Known arcs.now rings.now }
+    ensures { result ≡ list_any (λ k. k == r) (users_in (get arcs.now i)) }
+{
+    let users = arcs.get(i).unwrap().rings.as_slice();
+    let uses = rings.get(r).unwrap().uses.as_slice();
+    if uses.len() < users.len() {
+        return has_use(uses, i);
+    }
+    users.contains(&r)
+}
+
+/// Arc `i` learns that ring `r` uses it, unless it knows.
 fn learn<A: Allocator + Copy>(
     arcs: &mut Slab<Arc<A>, A>,
     i: usize,
     r: usize,
+    known: bool,
 ) -> Result<(), AllocError>
-    requires { ContainsKey arcs.old i }
+    requires there { ContainsKey arcs.old i }
+    requires known { known ≡ list_any (λ k. k == r) (users_in (get arcs.old i)) }
     ensures paths { SamePaths arcs.old arcs.new }
     ensures ok { OnOk result (Learns arcs.old arcs.new i r) }
     ensures err { OnErr result (SameUsers arcs.old arcs.new) }
 {
-    let arc = arcs.get_mut(i).unwrap();
-    match include(&mut arc.rings, r) {
-        Ok(()) => Ok(()),
-        Err(e) => Err(e),
+    if known {
+        return Ok(());
     }
+    let arc = arcs.get_mut(i).unwrap();
+    arc.rings.push(r)?;
+    Ok(())
 }
 
 /// Arc `n` has one more key.
@@ -146,8 +182,9 @@ impl<A: Allocator + Copy> Tables<A> {
         ensures arcs_there { (j : ℕ) → ContainsKey self.old.arcs j → ContainsKey self.new.arcs j }
         ensures held { SameKeys self.old.rings self.new.rings }
     {
+        let known = is_known(&self.arcs, &self.rings, i, r);
         reserve_use(&mut self.rings, r)?;
-        learn(&mut self.arcs, i, r)?;
+        learn(&mut self.arcs, i, r, known)?;
         go_on(&mut self.rings, r, Use { arc: i, back });
         Ok(())
     }
