@@ -199,10 +199,10 @@ fn one_neighbour(rt: HostRuntime) -> Result<(), Fail> {
     Ok(())
 }
 
-/// What came of an edit where one growth was refused.
+/// What came of an edit, or of a copy, where one growth was refused.
 #[derive(Clone, Copy, Debug, PartialEq, Eq)]
-enum Outcome {
-    /// There were no squares to edit: the growth was one of theirs.
+pub(crate) enum Outcome {
+    /// There were no squares to begin with: the growth was one of theirs.
     NoSquares,
     Refused,
     Done,

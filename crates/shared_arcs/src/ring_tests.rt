@@ -1,6 +1,6 @@
 //! A ring's keys one by one, the list of the vertices that are joined to one, and copies.
 use crate::borders::Borders;
-use crate::edit_tests::{MANY, insert, remove};
+use crate::edit_tests::{MANY, Outcome, insert, remove};
 use crate::ring_keys::RingKeys;
 use crate::tests::{LEFT, RIGHT, RIGHT_TURNED, add, arc_count, pick, take, vertex_keys};
 use refusing_allocator::Refusing;
@@ -170,31 +170,71 @@ fn a_list_of_neighbours_that_is_refused(rt: HostRuntime) -> Result<(), Fail> {
     Ok(())
 }
 
-/// Each growth of a copy is refused in turn, and what is copied then goes its own way.
+/// A vertex comes into both squares of the one, and a square goes out of the other.
+fn change<R: Abort, A: Allocator + Copy>(
+    rt: &R,
+    first: &mut Borders<A>,
+    second: &mut Borders<A>,
+    keys: &[VertexKey],
+) -> Result<(), AllocError> {
+    assert!(rt; keys.len() > 6);
+    insert(rt, first, keys[1], keys[2], keys[6])?;
+    take(rt, second, 1);
+    Ok(())
+}
+
+/// Each has its own change, and not the other's.
+fn went_apart<R: Abort, A: Allocator + Copy>(
+    rt: &R,
+    alloc: Global,
+    first: &Borders<A>,
+    second: &Borders<A>,
+    keys: &[VertexKey],
+) -> Result<(), AllocError> {
+    assert!(rt; goes(rt, alloc, first, 0, keys, &[0, 1, 6, 2, 3])?);
+    assert!(rt; goes(rt, alloc, first, 1, keys, &[1, 4, 5, 2, 6])?);
+    assert!(rt; goes(rt, alloc, second, 0, keys, &LEFT)?);
+    assert!(rt; second.keys(1).is_none());
+    Ok(())
+}
+
+/// A copy, with the growth of this number refused. Where it was the copy's, it is made when it is
+/// asked for again, and what is copied then goes its own way.
+fn refuse_copy<R: Abort>(
+    rt: &R,
+    alloc: Global,
+    keys: &[VertexKey],
+    nth: u64,
+) -> Result<Outcome, AllocError> {
+    let heap = Refusing::new(alloc, nth);
+    let Ok(mut first) = squares(rt, alloc, &heap, keys, &RIGHT) else {
+        return Ok(Outcome::NoSquares);
+    };
+    if first.copy().is_ok() {
+        return Ok(Outcome::Done);
+    }
+    let mut second = first.copy()?;
+    change(rt, &mut first, &mut second, keys)?;
+    went_apart(rt, alloc, &first, &second, keys)?;
+    Ok(Outcome::Refused)
+}
+
+/// Each growth of a copy is refused in turn.
 #[test]
 fn a_copy_and_its_original(rt: HostRuntime) -> Result<(), Fail> {
     let alloc = rt.alloc();
-    let held = vertex_keys(&rt, alloc, 7)?;
-    let keys = held.as_slice();
+    let keys = vertex_keys(&rt, alloc, 7)?;
     assert!(rt; keys.len() == 7);
     let mut refused = 0u64;
     for nth in 1..MANY {
-        let heap = Refusing::new(alloc, nth);
-        let Ok(mut first) = squares(&rt, alloc, &heap, keys, &RIGHT) else {
-            continue;
-        };
-        if first.copy().is_ok() {
-            assert!(rt; 4 < refused);
-            return Ok(());
+        match refuse_copy(&rt, alloc, keys.as_slice(), nth)? {
+            Outcome::NoSquares => {}
+            Outcome::Refused => refused = refused.saturating_add(1),
+            Outcome::Done => {
+                assert!(rt; 4 < refused);
+                return Ok(());
+            }
         }
-        refused = refused.saturating_add(1);
-        let mut second = first.copy()?;
-        insert(&rt, &mut first, keys[1], keys[2], keys[6])?;
-        take(&rt, &mut second, 1);
-        assert!(rt; goes(&rt, alloc, &first, 0, keys, &[0, 1, 6, 2, 3])?);
-        assert!(rt; goes(&rt, alloc, &first, 1, keys, &[1, 4, 5, 2, 6])?);
-        assert!(rt; goes(&rt, alloc, &second, 0, keys, &LEFT)?);
-        assert!(rt; second.keys(1).is_none());
     }
     panic!(rt; "the copy ends");
 }
