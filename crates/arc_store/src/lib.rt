@@ -11,12 +11,10 @@ mod counts;
 mod fault;
 mod features;
 mod frame;
-
 mod junctions;
 mod keyed;
 mod laying;
 mod map;
-
 mod plan;
 mod positions;
 mod raw_insert;
@@ -24,7 +22,6 @@ mod raw_move;
 mod raw_remove;
 mod ring_iter;
 mod rings;
-
 mod spot;
 mod users;
 

@@ -121,13 +121,13 @@ size_over d a b q proper h = omega (arith, size_grown d a b q proper, h)
 -- the first refusal by the answers
 abbrev insert_by : Option Refusal → Bool → Bool → Bool → Bool → Option Refusal
 insert_by conflict sweeps border occupied small = first_of (
-  NoSegment unless border
-  ∷ Occupied unless not occupied
-  ∷ TooLarge unless small
-  ∷ conflict
-  ∷ Sweeps unless not sweeps
-  ∷ []
-)
+    NoSegment unless border
+    ∷ Occupied unless not occupied
+    ∷ TooLarge unless small
+    ∷ conflict
+    ∷ Sweeps unless not sweeps
+    ∷ []
+    )
 
 module _ (d : Document) (a b q : Position) where
   abbrev by : Bool → Bool → Bool → Option Refusal

@@ -17,12 +17,12 @@ use Rattle.edit_vertex.proofs.Late.{is_late, late_end, late_fault}
 -- the first refusal by the answers
 abbrev move_by : Option Refusal → Bool → Bool → Bool → Option Refusal
 move_by conflict sweeps vertex occupied = first_of (
-  NoVertex unless vertex
-  ∷ Occupied unless not occupied
-  ∷ conflict
-  ∷ Sweeps unless not sweeps
-  ∷ []
-)
+    NoVertex unless vertex
+    ∷ Occupied unless not occupied
+    ∷ conflict
+    ∷ Sweeps unless not sweeps
+    ∷ []
+    )
 
 module _ (d : Document) (p q : Position) where
   abbrev by : Bool → Bool → Option Refusal

@@ -100,14 +100,14 @@ ring_short d p n s h =
 -- the first refusal by the answers
 abbrev remove_by : Option Refusal → Bool → Bool → Bool → Bool → Bool → Option Refusal
 remove_by conflict sweeps vertex junction long bridged = first_of (
-  NoVertex unless vertex
-  ∷ Junction unless not junction
-  ∷ RingShort unless long
-  ∷ SegmentExists unless not bridged
-  ∷ conflict
-  ∷ Sweeps unless not sweeps
-  ∷ []
-)
+    NoVertex unless vertex
+    ∷ Junction unless not junction
+    ∷ RingShort unless long
+    ∷ SegmentExists unless not bridged
+    ∷ conflict
+    ∷ Sweeps unless not sweeps
+    ∷ []
+    )
 
 module _ (d : Document) (p : Position) where
   abbrev by : Bool → Bool → Bool → Bool → Option Refusal

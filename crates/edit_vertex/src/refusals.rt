@@ -116,7 +116,10 @@ fn refuse<R: Abort>(
         Ok(_) => Outcome::Usual,
         Err(EditFault::OutOfMemory) => {
             assert!(rt; heap.was_refused());
-            assert!(rt; has_rings(&map, before.polygons()), "{edit:?} without growth {nth}");
+            assert!(rt;
+                has_rings(&map, before.polygons()),
+                "{edit:?} without growth {nth}"
+            );
             assert!(rt; all_uses(alloc, &map, &before)? == uses);
             assert_eq!(rt; map.segment_count(), segments);
             assert_eq!(rt; map.position_count(), positions);
@@ -127,7 +130,10 @@ fn refuse<R: Abort>(
         }
         Err(_) => panic!(rt; "no other refusal"),
     };
-    assert!(rt; has_rings(&map, after.polygons()), "{edit:?} with growth {nth} refused once");
+    assert!(rt;
+        has_rings(&map, after.polygons()),
+        "{edit:?} with growth {nth} refused once"
+    );
     Ok(outcome)
 }
 

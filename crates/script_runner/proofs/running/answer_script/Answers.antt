@@ -1,4 +1,6 @@
-use Rattle.std.proofs.Common.{◌++◌, take, drop, rules, arith, length, ◌≡◌, ◌≤◌}
+use Rattle.std.proofs.Common.{◌+◌, ◌++◌, [], ◌∙◌, ap, refl, Err, take, drop, rules, arith, length, ◌≡◌, ◌≤◌}
+use Rattle.std.proofs.KnownBytes.{Consumes-nil, Appends-nil}
+use Rattle.script_runner.specs.Progress.{Progress}
 use Rattle.device_io.proofs.DeviceLemmas.{Appends-more}
 use Rattle.script_runner.proofs.StepLemmas.{Feeds-append}
 use Rattle.script_runner.proofs.RunLemmas.{lines_kept, all_answered, end_read, part_at_end, part_in_piece, piece_came, whole_came, past_limit, fed_length, lines_in_piece}
@@ -68,3 +70,14 @@ loop-n-preserved g c =
       writer = search rules;
       bytes = omega (arith, c.in-Ok-feed.ensures.bytes, length-take-le c.min-taken.result c.get.new.room fits);
     }
+
+pub loop-n-init : goal.loop-n-init
+loop-n-init g c = record {
+  so_far = ([], [], Consumes-nil _, Appends-nil _, (refl, c.new-runner.ensures), refl);
+  reader = c.requires.reader;
+  writer = c.requires.writer;
+  bytes = ap (λ (p : Progress). p.bytes + 1073741824) c.new-runner.ensures;
+}
+
+pub returns-in-Err-Write-feed-clause-write : goal.returns-in-Err-Write-feed-clause-write
+returns-in-Err-Write-feed-clause-write g c = λ _. c.feed.ensures.failed (c.in-Err-Write-feed.is ∙ ap Err c.in-Err-Write-feed.field-0-is)
