@@ -73,6 +73,7 @@ impl<'a, I: SegIndex, A: Allocator + Copy> Map<'a, I, A> {
         ensures built { IfOk result (λ map. map.doc ≡ document_of (view_raw raw.entry)) }
         ensures proper { IfOk result (λ map. Proper map.doc) }
         ensures next { IfOk result (λ map. map.next ≡ length (features map.doc)) }
+        ensures untested { IfOk result (λ map. map.tests ≡ 0) }
         ensures conflict { IfErr result
             (λ fault. Names fault (first_pair (document_of (view_raw raw.entry)))) }
     {
@@ -98,7 +99,7 @@ impl<'a, I: SegIndex, A: Allocator + Copy> Map<'a, I, A> {
             vertices: laid.vertices,
             borders: laid.borders,
             index: laid.index,
-            tests: laid.tests,
+            tests: TestCount::new(),
             next,
             positions: laid.positions,
             segments: laid.segments,

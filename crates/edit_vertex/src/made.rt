@@ -1,4 +1,6 @@
 //! Maps that tests make, and numbers that look drawn.
+ghost use Rattle.std.specs.Prelude.{◌≤◌};
+
 use std::alloc::{AllocError, Global};
 
 /// Numbers that look drawn, the same for the same start.
@@ -14,7 +16,9 @@ impl Drawn {
     }
 
     /// A number below `end`, or 0.
-    pub(crate) fn below(&mut self, end: u64) -> u64 {
+    pub(crate) fn below(&mut self, end: u64) -> u64
+        ensures { result ≤ end }
+    {
         self.state = self
             .state
             .wrapping_mul(6_364_136_223_846_793_005)

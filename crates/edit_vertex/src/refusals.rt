@@ -1,6 +1,7 @@
 //! Edits in which each growth is refused in turn: nothing has changed then, and the edit has its
 //! usual answer when it is made again.
 use crate::tests::{Edit, answer, at, has_rings};
+use crate::thin;
 use arc_store::{EditFault, Map};
 use grid_geometry::{Pos, Rect, Seg};
 use plain_rings::PlainMap;
@@ -17,6 +18,10 @@ const MANY: u64 = 2000;
 // two neighbours, and one that shares a long border with both; a junction has three neighbours
 const THREE: &str =
     "{\"type\":\"Topology\",\"objects\":{\"l\":{\"type\":\"GeometryCollection\",\"geometries\":[{\"type\":\"Polygon\",\"arcs\":[[0]]},{\"type\":\"Polygon\",\"arcs\":[[1]]},{\"type\":\"Polygon\",\"arcs\":[[2]]}]}},\"arcs\":[[[0,0],[10,0],[10,5],[10,10],[0,10],[0,0]],[[10,0],[20,0],[20,10],[10,10],[10,5],[10,0]],[[0,0],[0,-10],[20,-10],[20,0],[10,0],[0,0]]]}";
+
+// two squares with a common side
+const TWO: &str =
+    "{\"type\":\"Topology\",\"objects\":{\"l\":{\"type\":\"GeometryCollection\",\"geometries\":[{\"type\":\"Polygon\",\"arcs\":[[0]]},{\"type\":\"Polygon\",\"arcs\":[[1]]}]}},\"arcs\":[[[0,0],[10,0],[10,10],[0,10],[0,0]],[[10,0],[20,0],[20,10],[10,10],[10,0]]]}";
 
 /// How many rings have the segment from each position of a ring to the next, one after the other.
 fn uses_along<I: SegIndex, A: Allocator + Copy>(
@@ -99,6 +104,7 @@ fn refuse<R: Abort>(
     text: &'static str,
     edit: Edit,
     after: &PlainMap<'_>,
+    usual: u64,
     nth: u64,
 ) -> Result<Outcome, Fail> {
     let before = plain_map(rt, alloc, text);
@@ -125,7 +131,7 @@ fn refuse<R: Abort>(
             assert_eq!(rt; map.position_count(), positions);
             assert_eq!(rt; map.next_number(), 3);
             assert_eq!(rt; map.vertices()?.len(), map.vertex_count());
-            assert_eq!(rt; answer(&mut map, edit), Ok(0));
+            assert_eq!(rt; answer(&mut map, edit), Ok(usual));
             Outcome::Refused
         }
         Err(_) => panic!(rt; "no other refusal"),
@@ -143,16 +149,31 @@ fn refuse_each<R: Abort>(
     alloc: Global,
     edit: Edit,
     after: &PlainMap<'_>,
+    usual: u64,
 ) -> Result<u64, Fail> {
     let mut refused = 0u64;
     for nth in 1..MANY {
-        match refuse(rt, alloc, THREE, edit, after, nth)? {
+        match refuse(rt, alloc, THREE, edit, after, usual, nth)? {
             Outcome::NoMap => (),
             Outcome::Refused => refused = refused.wrapping_add(1),
             Outcome::Usual => return Ok(refused),
         }
     }
     panic!(rt; "the edit ends");
+}
+
+/// What the edit is answered in plain rings.
+fn plain_answer(plain: &mut PlainMap<'_>, edit: Edit) -> Option<u64> {
+    let answer = match edit {
+        Edit::Move(p, q) => plain.move_vertex(p, q),
+        Edit::Insert(a, b, q) => plain.insert_vertex(a, b, q),
+        Edit::Remove(p) => plain.remove_vertex(p),
+        Edit::Thin(t) => return plain.thin(i128::from(t)).ok(),
+    };
+    match answer {
+        Ok(()) => Some(0),
+        Err(_) => None,
+    }
 }
 
 #[test]
@@ -164,18 +185,63 @@ fn a_refused_growth_changes_nothing(rt: HostRuntime) -> Result<(), Fail> {
         Edit::Move(corner, new),
         Edit::Insert(corner, middle, new),
         Edit::Remove(middle),
+        Edit::Thin(0),
     ] {
         let mut after = plain_map(&rt, alloc, THREE);
-        let answer = match edit {
-            Edit::Move(p, q) => after.move_vertex(p, q),
-            Edit::Insert(a, b, q) => after.insert_vertex(a, b, q),
-            Edit::Remove(p) => after.remove_vertex(p),
-            Edit::Thin(_) => Ok(()),
+        let Some(usual) = plain_answer(&mut after, edit) else {
+            panic!(rt; "the edit is accepted");
         };
-        assert!(rt; answer.is_ok());
-        let refused = refuse_each(&rt, alloc, edit, &after)?;
+        let refused = refuse_each(&rt, alloc, edit, &after, usual)?;
         println!(rt; "{edit:?}: {refused}")?;
         assert!(rt; 3 < refused);
     }
+    Ok(())
+}
+
+/// A thinning whose growth of some number is refused: how many vertices had gone; `None` where it
+/// was not refused, or there was no map.
+fn cut_short<R: Abort>(
+    rt: &R,
+    alloc: Global,
+    after: &PlainMap<'_>,
+    nth: u64,
+) -> Result<Option<usize>, Fail> {
+    let heap = Refusing::new(alloc, nth);
+    let Some(mut map) = refused_map(&heap, alloc, TWO) else {
+        return Ok(None);
+    };
+    if heap.was_refused() {
+        return Ok(None);
+    }
+    let before = map.vertex_count();
+    let ended = thin(&mut map, 100);
+    let gone = before.wrapping_sub(map.vertex_count());
+    if ended.is_ok() {
+        assert_eq!(rt; gone, 2);
+        return Ok(None);
+    }
+    assert!(rt; heap.was_refused());
+    assert_eq!(rt; thin(&mut map, 100), Ok(2u64.wrapping_sub(gone as u64)));
+    assert!(rt;
+        has_rings(&map, after.polygons()),
+        "with growth {nth} refused once"
+    );
+    Ok(Some(gone))
+}
+
+#[test]
+fn a_thinning_keeps_what_it_left_out(rt: HostRuntime) -> Result<(), Fail> {
+    let alloc = rt.alloc();
+    let mut after = plain_map(&rt, alloc, TWO);
+    assert_eq!(rt; plain_answer(&mut after, Edit::Thin(100)), Some(2));
+    let (mut none, mut one) = (false, false);
+    for nth in 1..400 {
+        match cut_short(&rt, alloc, &after, nth)? {
+            Some(0) => none = true,
+            Some(1) => one = true,
+            _ => (),
+        }
+    }
+    assert!(rt; none && one);
     Ok(())
 }

@@ -1,0 +1,63 @@
+//! How many pairs of segments an edit tests.
+use crate::tests::at;
+use crate::{move_vertex, remove_vertex};
+use arc_store::{EditFault, Map};
+use segment_index::GridIndex;
+use std::alloc::{AllocError, Global};
+use std::process::Abort;
+use std::test::Fail;
+use topo_reader::read;
+
+/// The text of so many squares in a row, each of side 10, every 100.
+fn squares_text(alloc: Global, count: u32) -> Result<String, AllocError> {
+    let mut text = String::from_str(
+        alloc,
+        "{\"type\":\"Topology\",\"objects\":{\"m\":{\"type\":\"GeometryCollection\",\"geometries\":[",
+    )?;
+    for n in 0..count {
+        let comma = if n == 0 { "" } else { "," };
+        text.push_str(format!(in alloc;
+            "{comma}{{\"type\":\"Polygon\",\"arcs\":[[{n}]]}}"
+        )?.as_str())?;
+    }
+    text.push_str("]}},\"arcs\":[")?;
+    for n in 0..count {
+        let comma = if n == 0 { "" } else { "," };
+        let left = u64::from(n).wrapping_mul(100);
+        let right = left.wrapping_add(10);
+        text.push_str(format!(in alloc;
+            "{comma}[[{left},0],[{right},0],[{right},10],[{left},10],[{left},0]]"
+        )?.as_str())?;
+    }
+    text.push_str("]}")?;
+    Ok(text)
+}
+
+/// The map of these squares in a grid of their extent.
+fn squares<'a, R: Abort>(rt: &R, alloc: Global, text: &'a str) -> Map<'a, GridIndex> {
+    match read(alloc, alloc, text.as_bytes()) {
+        Ok(raw) => match GridIndex::new(alloc, raw.extent()) {
+            Ok(index) => match Map::build(alloc, raw, index) {
+                Ok(map) => map,
+                Err(_) => panic!(rt; "no two segments conflict"),
+            },
+            Err(_) => panic!(rt; "there is memory"),
+        },
+        Err(_) => panic!(rt; "the text opens"),
+    }
+}
+
+#[test]
+fn few_pairs_are_tested(rt: HostRuntime) -> Result<(), Fail> {
+    let alloc = rt.alloc();
+    let text = squares_text(alloc, 64)?;
+    let mut map = squares(&rt, alloc, text.as_str());
+    assert_eq!(rt; map.segment_count(), 256);
+    assert_eq!(rt; map.tests(), 0);
+    let (p, q) = (at(&rt, 10, 10), at(&rt, 9, 9));
+    assert_eq!(rt; move_vertex(&mut map, p, q), Ok(()));
+    assert!(rt; 1 <= map.tests() && map.tests() <= 33);
+    assert_eq!(rt; remove_vertex(&mut map, p), Err(EditFault::NoVertex));
+    assert_eq!(rt; map.tests(), 0);
+    Ok(())
+}
