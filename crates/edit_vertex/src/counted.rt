@@ -47,17 +47,21 @@ fn squares<'a, R: Abort>(rt: &R, alloc: Global, text: &'a str) -> Map<'a, GridIn
     }
 }
 
+/// A corner of the first square moves, and then none is found where it was.
+fn move_a_corner<R: Abort>(rt: &R, map: &mut Map<'_, GridIndex>) {
+    let (p, q) = (at(rt, 10, 10), at(rt, 9, 9));
+    assert_eq!(rt; map.tests(), 0);
+    assert_eq!(rt; move_vertex(map, p, q), Ok(()));
+    assert!(rt; 1 <= map.tests() && map.tests() <= 33);
+    assert_eq!(rt; remove_vertex(map, p), Err(EditFault::NoVertex));
+    assert_eq!(rt; map.tests(), 0);
+}
+
 #[test]
 fn few_pairs_are_tested(rt: HostRuntime) -> Result<(), Fail> {
-    let alloc = rt.alloc();
-    let text = squares_text(alloc, 64)?;
-    let mut map = squares(&rt, alloc, text.as_str());
+    let text = squares_text(rt.alloc(), 64)?;
+    let mut map = squares(&rt, rt.alloc(), text.as_str());
     assert_eq!(rt; map.segment_count(), 256);
-    assert_eq!(rt; map.tests(), 0);
-    let (p, q) = (at(&rt, 10, 10), at(&rt, 9, 9));
-    assert_eq!(rt; move_vertex(&mut map, p, q), Ok(()));
-    assert!(rt; 1 <= map.tests() && map.tests() <= 33);
-    assert_eq!(rt; remove_vertex(&mut map, p), Err(EditFault::NoVertex));
-    assert_eq!(rt; map.tests(), 0);
+    move_a_corner(&rt, &mut map);
     Ok(())
 }

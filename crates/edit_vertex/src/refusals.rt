@@ -1,6 +1,6 @@
 //! Edits in which each growth is refused in turn: nothing has changed then, and the edit has its
 //! usual answer when it is made again.
-use crate::tests::{Edit, answer, at, has_rings};
+use crate::tests::{Edit, answer, at, has_rings, plain_map};
 use crate::thin;
 use arc_store::{EditFault, Map};
 use grid_geometry::{Pos, Rect, Seg};
@@ -75,17 +75,6 @@ fn refused_map<A: Allocator + Copy>(
     }
 }
 
-/// The plain map of the text.
-fn plain_map<R: Abort>(rt: &R, alloc: Global, text: &'static str) -> PlainMap<'static> {
-    match read(alloc, alloc, text.as_bytes()) {
-        Ok(raw) => match PlainMap::build(alloc, raw) {
-            Ok(plain) => plain,
-            Err(_) => panic!(rt; "no two segments conflict"),
-        },
-        Err(_) => panic!(rt; "the text opens"),
-    }
-}
-
 /// What an edit did whose growth of some number was refused.
 #[derive(Clone, Copy, Debug, PartialEq, Eq)]
 enum Outcome {
@@ -97,45 +86,84 @@ enum Outcome {
     Usual,
 }
 
+/// What a map has beside its rings.
+#[derive(Drop)]
+struct Counts {
+    uses: Vec<Vec<usize>>,
+    segments: usize,
+    positions: usize,
+}
+
+/// What the map has, where it has the rings of the plain one.
+fn counts<I: SegIndex, A: Allocator + Copy>(
+    alloc: Global,
+    map: &Map<'_, I, A>,
+    plain: &PlainMap<'_>,
+) -> Result<Counts, Fail> {
+    Ok(Counts {
+        uses: all_uses(alloc, map, plain)?,
+        segments: map.segment_count(),
+        positions: map.position_count(),
+    })
+}
+
+/// Nothing of the map has changed.
+fn stays<R: Abort, I: SegIndex, A: Allocator + Copy>(
+    rt: &R,
+    alloc: Global,
+    map: &Map<'_, I, A>,
+    plain: &PlainMap<'_>,
+    before: &Counts,
+) -> Result<(), Fail> {
+    assert!(rt; has_rings(map, plain.polygons()));
+    assert!(rt; all_uses(alloc, map, plain)? == before.uses);
+    assert_eq!(rt; map.segment_count(), before.segments);
+    assert_eq!(rt; map.position_count(), before.positions);
+    assert_eq!(rt; map.next_number(), 3);
+    assert_eq!(rt; map.vertices()?.len(), map.vertex_count());
+    Ok(())
+}
+
+/// The edit of a map whose memory is refused once, and its usual answer when it is made again.
+fn edit_twice<R: Abort, I: SegIndex, A: Allocator + Copy>(
+    rt: &R,
+    alloc: Global,
+    map: &mut Map<'_, I, A>,
+    edit: Edit,
+    before: &PlainMap<'_>,
+    usual: u64,
+) -> Result<Outcome, Fail> {
+    let counts = counts(alloc, map, before)?;
+    match answer(map, edit) {
+        Ok(_) => Ok(Outcome::Usual),
+        Err(EditFault::OutOfMemory) => {
+            stays(rt, alloc, map, before, &counts)?;
+            assert_eq!(rt; answer(map, edit), Ok(usual));
+            Ok(Outcome::Refused)
+        }
+        Err(_) => panic!(rt; "no other refusal"),
+    }
+}
+
 /// The edit, where the growth of this number is refused.
 fn refuse<R: Abort>(
     rt: &R,
     alloc: Global,
-    text: &'static str,
     edit: Edit,
+    before: &PlainMap<'_>,
     after: &PlainMap<'_>,
     usual: u64,
     nth: u64,
 ) -> Result<Outcome, Fail> {
-    let before = plain_map(rt, alloc, text);
     let heap = Refusing::new(alloc, nth);
-    let Some(mut map) = refused_map(&heap, alloc, text) else {
+    let Some(mut map) = refused_map(&heap, alloc, THREE) else {
         return Ok(Outcome::NoMap);
     };
     if heap.was_refused() {
         return Ok(Outcome::NoMap);
     }
-    let uses = all_uses(alloc, &map, &before)?;
-    let segments = map.segment_count();
-    let positions = map.position_count();
-    let outcome = match answer(&mut map, edit) {
-        Ok(_) => Outcome::Usual,
-        Err(EditFault::OutOfMemory) => {
-            assert!(rt; heap.was_refused());
-            assert!(rt;
-                has_rings(&map, before.polygons()),
-                "{edit:?} without growth {nth}"
-            );
-            assert!(rt; all_uses(alloc, &map, &before)? == uses);
-            assert_eq!(rt; map.segment_count(), segments);
-            assert_eq!(rt; map.position_count(), positions);
-            assert_eq!(rt; map.next_number(), 3);
-            assert_eq!(rt; map.vertices()?.len(), map.vertex_count());
-            assert_eq!(rt; answer(&mut map, edit), Ok(usual));
-            Outcome::Refused
-        }
-        Err(_) => panic!(rt; "no other refusal"),
-    };
+    let outcome = edit_twice(rt, alloc, &mut map, edit, before, usual)?;
+    assert!(rt; heap.was_refused() == (outcome == Outcome::Refused));
     assert!(rt;
         has_rings(&map, after.polygons()),
         "{edit:?} with growth {nth} refused once"
@@ -151,9 +179,10 @@ fn refuse_each<R: Abort>(
     after: &PlainMap<'_>,
     usual: u64,
 ) -> Result<u64, Fail> {
+    let before = plain_map(rt, alloc, THREE);
     let mut refused = 0u64;
     for nth in 1..MANY {
-        match refuse(rt, alloc, THREE, edit, after, usual, nth)? {
+        match refuse(rt, alloc, edit, &before, after, usual, nth)? {
             Outcome::NoMap => (),
             Outcome::Refused => refused = refused.wrapping_add(1),
             Outcome::Usual => return Ok(refused),
@@ -198,35 +227,33 @@ fn a_refused_growth_changes_nothing(rt: HostRuntime) -> Result<(), Fail> {
     Ok(())
 }
 
-/// A thinning whose growth of some number is refused: how many vertices had gone; `None` where it
-/// was not refused, or there was no map.
-fn cut_short<R: Abort>(
+/// A thinning of a map whose memory may be refused once: how many vertices had gone when it was;
+/// `None` where it was not.
+fn thin_twice<R: Abort, I: SegIndex, A: Allocator + Copy>(
     rt: &R,
-    alloc: Global,
+    map: &mut Map<'_, I, A>,
     after: &PlainMap<'_>,
-    nth: u64,
-) -> Result<Option<usize>, Fail> {
-    let heap = Refusing::new(alloc, nth);
-    let Some(mut map) = refused_map(&heap, alloc, TWO) else {
-        return Ok(None);
-    };
-    if heap.was_refused() {
-        return Ok(None);
-    }
+) -> Option<usize> {
     let before = map.vertex_count();
-    let ended = thin(&mut map, 100);
+    let ended = thin(map, 100);
     let gone = before.wrapping_sub(map.vertex_count());
     if ended.is_ok() {
         assert_eq!(rt; gone, 2);
-        return Ok(None);
+        return None;
     }
-    assert!(rt; heap.was_refused());
-    assert_eq!(rt; thin(&mut map, 100), Ok(2u64.wrapping_sub(gone as u64)));
-    assert!(rt;
-        has_rings(&map, after.polygons()),
-        "with growth {nth} refused once"
-    );
-    Ok(Some(gone))
+    assert_eq!(rt; thin(map, 100), Ok(2u64.wrapping_sub(gone as u64)));
+    assert!(rt; has_rings(map, after.polygons()));
+    Some(gone)
+}
+
+/// A thinning whose growth of this number is refused; `None` too where there was no map.
+fn cut_short<R: Abort>(rt: &R, alloc: Global, after: &PlainMap<'_>, nth: u64) -> Option<usize> {
+    let heap = Refusing::new(alloc, nth);
+    let mut map = refused_map(&heap, alloc, TWO)?;
+    if heap.was_refused() {
+        return None;
+    }
+    thin_twice(rt, &mut map, after)
 }
 
 #[test]
@@ -236,7 +263,7 @@ fn a_thinning_keeps_what_it_left_out(rt: HostRuntime) -> Result<(), Fail> {
     assert_eq!(rt; plain_answer(&mut after, Edit::Thin(100)), Some(2));
     let (mut none, mut one) = (false, false);
     for nth in 1..400 {
-        match cut_short(&rt, alloc, &after, nth)? {
+        match cut_short(&rt, alloc, &after, nth) {
             Some(0) => none = true,
             Some(1) => one = true,
             _ => (),

@@ -207,7 +207,6 @@ struct Tally {
 /// Makes drawn edits of both maps, and compares answers and rings. Gives how they were answered.
 fn compare<R: Abort, I: SegIndex>(
     rt: &R,
-    alloc: Global,
     plain: &mut PlainMap<'_>,
     map: &mut Map<'_, I>,
     start: u64,
@@ -237,8 +236,34 @@ fn compare<R: Abort, I: SegIndex>(
             Err(_) => tally.refused = tally.refused.wrapping_add(1),
         }
     }
-    let _ = alloc;
     Ok(tally)
+}
+
+/// The plain map of the text.
+pub(crate) fn plain_map<'a, R: Abort>(rt: &R, alloc: Global, text: &'a str) -> PlainMap<'a> {
+    match read(alloc, alloc, text.as_bytes()) {
+        Ok(raw) => match PlainMap::build(alloc, raw) {
+            Ok(plain) => plain,
+            Err(_) => panic!(rt; "no two segments conflict"),
+        },
+        Err(_) => panic!(rt; "the text opens"),
+    }
+}
+
+/// The map of the text.
+fn stored_map<'a, R: Abort, I: SegIndex>(
+    rt: &R,
+    alloc: Global,
+    text: &'a str,
+    index: I,
+) -> Map<'a, I> {
+    match read(alloc, alloc, text.as_bytes()) {
+        Ok(raw) => match Map::build(alloc, raw, index) {
+            Ok(map) => map,
+            Err(_) => panic!(rt; "no two segments conflict"),
+        },
+        Err(_) => panic!(rt; "the text opens"),
+    }
 }
 
 /// Compares drawn edits of the map of this text.
@@ -250,22 +275,10 @@ fn compare_text<R: Abort, I: SegIndex>(
     start: u64,
     count: u32,
 ) -> Result<Tally, Fail> {
-    match (
-        read(alloc, alloc, text.as_bytes()),
-        read(alloc, alloc, text.as_bytes()),
-    ) {
-        (Ok(raw), Ok(other)) => match (
-            PlainMap::build(alloc, raw),
-            Map::build(alloc, other, index),
-        ) {
-            (Ok(mut plain), Ok(mut map)) => {
-                assert!(rt; has_rings(&map, plain.polygons()), "at the start");
-                compare(rt, alloc, &mut plain, &mut map, start, count)
-            }
-            _ => panic!(rt; "no two segments conflict"),
-        },
-        _ => panic!(rt; "the text opens"),
-    }
+    let mut plain = plain_map(rt, alloc, text);
+    let mut map = stored_map(rt, alloc, text, index);
+    assert!(rt; has_rings(&map, plain.polygons()), "at the start");
+    compare(rt, &mut plain, &mut map, start, count)
 }
 
 #[test]

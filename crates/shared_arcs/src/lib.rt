@@ -27,8 +27,4 @@ pub use borders::Borders;
 pub use ring_keys::RingKeys;
 
 #[cfg(test)]
-mod edit_tests;
-#[cfg(test)]
-mod ring_tests;
-#[cfg(test)]
 mod tests;
