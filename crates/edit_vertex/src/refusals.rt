@@ -95,7 +95,7 @@ struct Counts {
 }
 
 /// What the map has, where it has the rings of the plain one.
-fn counts<I: SegIndex, A: Allocator + Copy>(
+fn counts_of<I: SegIndex, A: Allocator + Copy>(
     alloc: Global,
     map: &Map<'_, I, A>,
     plain: &PlainMap<'_>,
@@ -133,7 +133,7 @@ fn edit_twice<R: Abort, I: SegIndex, A: Allocator + Copy>(
     before: &PlainMap<'_>,
     usual: u64,
 ) -> Result<Outcome, Fail> {
-    let counts = counts(alloc, map, before)?;
+    let counts = counts_of(alloc, map, before)?;
     match answer(map, edit) {
         Ok(_) => Ok(Outcome::Usual),
         Err(EditFault::OutOfMemory) => {

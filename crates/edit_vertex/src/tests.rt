@@ -1,5 +1,8 @@
 //! The same edits of the slow program over plain rings and of the map of shared borders: the same
 //! answers, and after each edit the same rings.
+ghost use Rattle.std.specs.Prelude.{◌≡◌};
+ghost use Rattle.std.specs.FinSet as set;
+
 use crate::made::{Cells, Drawn, cells_text};
 use crate::{insert_vertex, move_vertex, remove_vertex, thin};
 use arc_store::{EditFault, Map};
@@ -256,7 +259,9 @@ fn stored_map<'a, R: Abort, I: SegIndex>(
     alloc: Global,
     text: &'a str,
     index: I,
-) -> Map<'a, I> {
+) -> Map<'a, I>
+    requires { I.held index ≡ set.empty }
+{
     match read(alloc, alloc, text.as_bytes()) {
         Ok(raw) => match Map::build(alloc, raw, index) {
             Ok(map) => map,
@@ -274,7 +279,9 @@ fn compare_text<R: Abort, I: SegIndex>(
     index: I,
     start: u64,
     count: u32,
-) -> Result<Tally, Fail> {
+) -> Result<Tally, Fail>
+    requires { I.held index ≡ set.empty }
+{
     let mut plain = plain_map(rt, alloc, text);
     let mut map = stored_map(rt, alloc, text, index);
     assert!(rt; has_rings(&map, plain.polygons()), "at the start");
