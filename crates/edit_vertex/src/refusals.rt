@@ -129,16 +129,17 @@ fn edit_twice<R: Abort, I: SegIndex, A: Allocator + Copy>(
     rt: &R,
     alloc: Global,
     map: &mut Map<'_, I, A>,
-    edit: Edit,
+    edit: &Edit,
     before: &PlainMap<'_>,
     usual: u64,
 ) -> Result<Outcome, Fail> {
     let counts = counts_of(alloc, map, before)?;
-    match answer(map, edit) {
+    match answer(map, *edit) {
         Ok(_) => Ok(Outcome::Usual),
         Err(EditFault::OutOfMemory) => {
             stays(rt, alloc, map, before, &counts)?;
-            assert_eq!(rt; answer(map, edit), Ok(usual));
+            let again = answer(map, *edit);
+            assert_eq!(rt; again, Ok(usual));
             Ok(Outcome::Refused)
         }
         Err(_) => panic!(rt; "no other refusal"),
@@ -149,7 +150,7 @@ fn edit_twice<R: Abort, I: SegIndex, A: Allocator + Copy>(
 fn refuse<R: Abort>(
     rt: &R,
     alloc: Global,
-    edit: Edit,
+    edit: &Edit,
     before: &PlainMap<'_>,
     after: &PlainMap<'_>,
     usual: u64,
@@ -175,14 +176,14 @@ fn refuse<R: Abort>(
 fn refuse_each<R: Abort>(
     rt: &R,
     alloc: Global,
-    edit: Edit,
+    edit: &Edit,
+    before: &PlainMap<'_>,
     after: &PlainMap<'_>,
     usual: u64,
 ) -> Result<u64, Fail> {
-    let before = plain_map(rt, alloc, THREE);
     let mut refused = 0u64;
     for nth in 1..MANY {
-        match refuse(rt, alloc, edit, &before, after, usual, nth)? {
+        match refuse(rt, alloc, edit, before, after, usual, nth)? {
             Outcome::NoMap => (),
             Outcome::Refused => refused = refused.wrapping_add(1),
             Outcome::Usual => return Ok(refused),
@@ -192,12 +193,12 @@ fn refuse_each<R: Abort>(
 }
 
 /// What the edit is answered in plain rings.
-fn plain_answer(plain: &mut PlainMap<'_>, edit: Edit) -> Option<u64> {
+fn plain_answer(plain: &mut PlainMap<'_>, edit: &Edit) -> Option<u64> {
     let answer = match edit {
-        Edit::Move(p, q) => plain.move_vertex(p, q),
-        Edit::Insert(a, b, q) => plain.insert_vertex(a, b, q),
-        Edit::Remove(p) => plain.remove_vertex(p),
-        Edit::Thin(t) => return plain.thin(i128::from(t)).ok(),
+        Edit::Move(p, q) => plain.move_vertex(*p, *q),
+        Edit::Insert(a, b, q) => plain.insert_vertex(*a, *b, *q),
+        Edit::Remove(p) => plain.remove_vertex(*p),
+        Edit::Thin(t) => return plain.thin(i128::from(*t)).ok(),
     };
     match answer {
         Ok(()) => Some(0),
@@ -205,26 +206,27 @@ fn plain_answer(plain: &mut PlainMap<'_>, edit: Edit) -> Option<u64> {
     }
 }
 
+/// The edit is accepted, and each growth of it refused in turn.
+fn refuse_edit<R: Abort>(rt: &R, alloc: Global, edit: &Edit) -> Result<(), Fail> {
+    let before = plain_map(rt, alloc, THREE);
+    let mut after = plain_map(rt, alloc, THREE);
+    let Some(usual) = plain_answer(&mut after, edit) else {
+        panic!(rt; "the edit is accepted");
+    };
+    let refused = refuse_each(rt, alloc, edit, &before, &after, usual)?;
+    assert!(rt; 3 < refused);
+    Ok(())
+}
+
 #[test]
 fn a_refused_growth_changes_nothing(rt: HostRuntime) -> Result<(), Fail> {
     let alloc = rt.alloc();
     let (corner, middle) = (at(&rt, 10, 0), at(&rt, 10, 5));
     let new = at(&rt, 12, 2);
-    for edit in [
-        Edit::Move(corner, new),
-        Edit::Insert(corner, middle, new),
-        Edit::Remove(middle),
-        Edit::Thin(0),
-    ] {
-        let mut after = plain_map(&rt, alloc, THREE);
-        let Some(usual) = plain_answer(&mut after, edit) else {
-            panic!(rt; "the edit is accepted");
-        };
-        let refused = refuse_each(&rt, alloc, edit, &after, usual)?;
-        println!(rt; "{edit:?}: {refused}")?;
-        assert!(rt; 3 < refused);
-    }
-    Ok(())
+    refuse_edit(&rt, alloc, &Edit::Move(corner, new))?;
+    refuse_edit(&rt, alloc, &Edit::Insert(corner, middle, new))?;
+    refuse_edit(&rt, alloc, &Edit::Remove(middle))?;
+    refuse_edit(&rt, alloc, &Edit::Thin(0))
 }
 
 /// A thinning of a map whose memory may be refused once: how many vertices had gone when it was;
@@ -260,7 +262,7 @@ fn cut_short<R: Abort>(rt: &R, alloc: Global, after: &PlainMap<'_>, nth: u64) ->
 fn a_thinning_keeps_what_it_left_out(rt: HostRuntime) -> Result<(), Fail> {
     let alloc = rt.alloc();
     let mut after = plain_map(&rt, alloc, TWO);
-    assert_eq!(rt; plain_answer(&mut after, Edit::Thin(100)), Some(2));
+    assert_eq!(rt; plain_answer(&mut after, &Edit::Thin(100)), Some(2));
     let (mut none, mut one) = (false, false);
     for nth in 1..400 {
         match cut_short(&rt, alloc, &after, nth) {
