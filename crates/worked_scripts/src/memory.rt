@@ -17,7 +17,7 @@ const ROWS: [(&[u8], &[u8]); 2] = [
     ),
 ];
 
-/// With each lesser heap the run ends for want of memory, with a front of the answers.
+/// With lesser heaps, in steps of 512 bytes, the run ends for want of memory, with a front of the answers.
 #[test]
 fn every_lesser_heap_is_refused(rt: HostRuntime) -> Result<(), Fail> {
     for row in &ROWS[..] {
