@@ -22,8 +22,9 @@ use Rattle.topo_outline.specs.Shape.{Piece, starts, ends, leaf, text, LayerText}
 use Rattle.topo_outline.specs.Views.{form_of, view_head, view_item, view_layer, view_kept}
 use Rattle.topo_reader.specs.Document as opened
 use Rattle.arc_store.specs.declared.frame.Frame.{Frame}
-use Rattle.arc_store.specs.Frames.{polygons_at, numbered, items_from, layers_from, polygon_numbers}
-use Rattle.arc_store.specs.Frames.{feature_numbers, frame_of, IsCounted}
+use Rattle.map_opening.specs.Laying.{polygon_numbers, feature_numbers}
+use Rattle.arc_store.specs.Frames.{polygons_at, numbered, items_from, layers_from}
+use Rattle.arc_store.specs.Frames.{frame_of, IsCounted}
 use Rattle.arc_store.specs.Leaves.{raw_leaves, raw_features}
 use Rattle.arc_store.specs.Readers.{shown, shown_of}
 

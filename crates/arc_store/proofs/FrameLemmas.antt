@@ -18,9 +18,9 @@ use Rattle.topo_outline.specs.Outline.{leaves_in, leaves}
 use Rattle.topo_outline.specs.Shape.{LayerText, Piece, starts, ends, leaf, text}
 use Rattle.topo_outline.specs.Views.{view_layer}
 use Rattle.arc_store.specs.declared.frame.Frame.{Frame}
-use Rattle.arc_store.specs.Frames.{polygons_at, items_from, layers_from, feature_numbers, frame_of}
-use Rattle.arc_store.specs.Frames.{IsCounted}
-use Rattle.arc_store.specs.Keyed.{all_rings}
+use Rattle.map_opening.specs.Laying.{feature_numbers}
+use Rattle.arc_store.specs.Frames.{polygons_at, items_from, layers_from, frame_of, IsCounted}
+use Rattle.map_opening.specs.Keyed.{all_rings}
 
 module _ {R : Type 0} where
   abbrev within_items : List (ItemOf R) → List (FeatureOf R)

@@ -24,17 +24,9 @@ use Rattle.ring_machine.proofs.StaysProper.{edges_start}
 use Rattle.segment_index.specs.Candidates.{SegmentSet, segment_is, has}
 use Rattle.segment_index.proofs.Singles.{segment_eq-is}
 use Rattle.arc_store.specs.Holds.{IsIndexed}
-use Rattle.arc_store.proofs.Members.{in_mapped, in_flat, any_in, in_any, any_alike, same_answer}
+use Rattle.map_opening.proofs.SegmentLists.{has-eq}
+use Rattle.map_opening.proofs.Members.{in_mapped, in_flat, any_in, in_any, any_alike, same_answer}
 use Rattle.arc_store.proofs.Ends.{end_is, end_of_two}
-
--- ---- the two tests of equality
-
-pub segment_is-eq : (s t : Segment) → segment_is s t ≡ segment_eq s t
-segment_is-eq s t =
-    sym (segment_eq-is s t) ∙ ap₂ (λ a b. a && b) (position_eq-sym t.lo s.lo) (position_eq-sym t.hi s.hi)
-
-pub has-eq : (ss : List Segment) (t : Segment) → has ss t ≡ list_any (segment_eq t) ss
-has-eq ss t = any_alike (segment_is t) (segment_eq t) (segment_is-eq t) ss
 
 -- ---- segments and vertices of a document
 

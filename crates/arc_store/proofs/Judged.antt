@@ -26,7 +26,8 @@ use Rattle.arc_store.specs.Edits.{IsInsertable}
 use Rattle.arc_store.specs.Faults.{Refuses}
 use Rattle.arc_store.specs.Holds.{IsIndexed}
 use Rattle.arc_store.specs.Planned.{spokes}
-use Rattle.arc_store.proofs.Indexed.{has-eq, indexed_ends, indexed_only}
+use Rattle.map_opening.proofs.SegmentLists.{has-eq}
+use Rattle.arc_store.proofs.Indexed.{indexed_ends, indexed_only}
 use Rattle.arc_store.proofs.Insertions.{segments_ins, segment_eq-sym}
 use Rattle.arc_store.proofs.MovePlan.{refuses_first}
 

@@ -9,10 +9,10 @@ use Rattle.std.proofs.lemmas.List.Concat.{flat_map-append}
 use Rattle.ring_machine.proofs.First.{In}
 use Rattle.ring_machine.proofs.Neighbours.{in-flat_map}
 use Rattle.shared_arcs.specs.Rings.{Rings, begins}
-use Rattle.arc_store.specs.Frames.{polygon_numbers, feature_numbers}
-use Rattle.arc_store.specs.Keyed.{all_rings}
+use Rattle.map_opening.specs.Laying.{polygon_numbers, feature_numbers}
+use Rattle.map_opening.specs.Keyed.{all_rings}
 use Rattle.arc_store.specs.Stored.{edges_under}
-use Rattle.arc_store.proofs.Members.{contains_in, in_contains, there}
+use Rattle.map_opening.proofs.Members.{contains_in, in_contains, there}
 use Rattle.arc_store.proofs.SortedOnce.{in_at}
 
 -- one element more

@@ -23,10 +23,10 @@ use Rattle.ring_machine.proofs.StaysProper.{ring_long, ring_distinct}
 use Rattle.shared_arcs.specs.Ways.{Edge, links, is_seg}
 use Rattle.shared_arcs.specs.Rings.{begins, edges}
 use Rattle.shared_arcs.specs.Edited.{over, drawn, onto}
-use Rattle.arc_store.specs.Holds.{GoesRound}
+use Rattle.map_opening.specs.Laying.{GoesRound}
 use Rattle.arc_store.proofs.RingEdits.{distinct_turned}
-use Rattle.arc_store.proofs.Members.{same_answer}
-use Rattle.arc_store.proofs.KeyRings.{length-canonical, laid, edges_round, is_seg_ends, ends_is_seg}
+use Rattle.map_opening.proofs.Members.{same_answer}
+use Rattle.map_opening.proofs.KeyRings.{length-canonical, laid, edges_round, is_seg_ends, ends_is_seg}
 
 -- ---- ways
 

@@ -26,7 +26,7 @@ use Rattle.ring_machine.specs.Vertices.{put}
 use Rattle.ring_machine.proofs.First.{In}
 use Rattle.ring_machine.proofs.Neighbours.{has-in}
 use Rattle.ring_machine.proofs.Order.{and_both}
-use Rattle.vertex_index.specs.Placement.{Placement}
+use Rattle.vertex_index.specs.Placement.{Placement, place}
 use Rattle.segment_index.specs.Candidates.{SegmentSet, AreAmong, AreSingle, segment_is, has as has_segment}
 use Rattle.segment_index.proofs.Singles.{same_segment}
 use Rattle.shared_arcs.specs.Rings.{Rings}
@@ -38,14 +38,16 @@ use Rattle.arc_store.specs.declared.fault.EditFault.{EditFault}
 use Rattle.arc_store.specs.declared.fault.EditFault.TheVariants as edit
 use Rattle.arc_store.specs.declared.frame.Frame.{Frame}
 use Rattle.arc_store.specs.Faults.{Refuses}
-use Rattle.arc_store.specs.Stored.{Stored, place, document_of}
+use Rattle.arc_store.specs.Stored.{Stored, document_of}
 use Rattle.arc_store.specs.Holds.{IsWhole, IsIndexed, Holds}
 use Rattle.arc_store.specs.Kept.{IsKept, stored}
 use Rattle.arc_store.specs.Planned.{ArePlaced, AreAround, AreNew, Exchanges, spokes}
-use Rattle.arc_store.proofs.Members.{any_in, in_mapped, in_contains}
-use Rattle.arc_store.proofs.Base.{place_is, joined_kept, joined_apart, segments_to, segments_at}
+use Rattle.map_opening.proofs.Members.{any_in, in_mapped, in_contains}
+use Rattle.map_opening.proofs.Places.{place_is}
+use Rattle.arc_store.proofs.Base.{joined_kept, joined_apart, segments_to, segments_at}
 use Rattle.arc_store.proofs.Base.{sweeps_by_joined}
-use Rattle.arc_store.proofs.Indexed.{has-eq, indexed_ends, indexed_only, indexed_has}
+use Rattle.map_opening.proofs.SegmentLists.{has-eq}
+use Rattle.arc_store.proofs.Indexed.{indexed_ends, indexed_only, indexed_has}
 use Rattle.arc_store.proofs.Planned.{any_at}
 use Rattle.arc_store.proofs.Insertions.{any_mapped}
 use Rattle.arc_store.proofs.Moved.{segments_to_single, not_there, added_new, added_single}

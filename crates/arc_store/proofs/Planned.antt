@@ -16,16 +16,9 @@ use Rattle.segment_index.proofs.Singles.{segment_total, same_sets, same_segment,
 use Rattle.segment_index.proofs.Singles.{times-some, times-push, times-take}
 use Rattle.shared_arcs.specs.Stores.{AllDifferent}
 use Rattle.arc_store.specs.Planned.{AreNew, Gains, Drops, Exchanges}
-use Rattle.arc_store.proofs.KeyRings.{has_key}
+use Rattle.map_opening.proofs.KeyRings.{has_key}
 
 -- ---- lists
-
--- one more mapped element
-pub map_more : {A B : Type 0} (f : A → B) (xs : List A) (i : ℕ) (x : A) → i < length xs
-    → x ≡ get_or xs i x → map f (take (i + 1) xs) ≡ map f (take i xs) ++ f x ∷ []
-map_more f xs i x h e =
-    ap (map f) (take_more xs i x h) ∙ map-append f (take i xs) (get_or xs i x ∷ [])
-    ∙ ap (λ z. map f (take i xs) ++ f z ∷ []) (sym e)
 
 -- a test that passes at an index
 pub any_at : {A : Type 0} (test : A → Bool) (xs : List A) (i : ℕ) (d : A) → i < length xs

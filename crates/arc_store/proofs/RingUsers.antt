@@ -22,8 +22,8 @@ use Rattle.shared_arcs.specs.Ways.{one}
 use Rattle.shared_arcs.specs.Rings as shared
 use Rattle.arc_store.specs.Holds.{IsWhole}
 use Rattle.arc_store.specs.Stored.{Stored}
-use Rattle.arc_store.proofs.KeyRings.{has_key}
-use Rattle.arc_store.proofs.Members.{contains_in, in_contains, in_filter, in_any}
+use Rattle.map_opening.proofs.KeyRings.{has_key}
+use Rattle.map_opening.proofs.Members.{contains_in, in_contains, in_filter, in_any}
 use Rattle.arc_store.proofs.Numbers.{users_of}
 
 -- ---- numbers but for one

@@ -1,9 +1,10 @@
 -- A frame: what was read, with the rings of another kind in the place of positions.
-use Rattle.std.specs.Prelude.{◌≡◌, ℕ, ◌+◌, List, [], ◌∷◌, length, map, Option, option_map, unwrap_or, slice_get, Vec}
+use Rattle.std.specs.Prelude.{◌≡◌, ℕ, ◌+◌, List, [], ◌∷◌, length, map, Option, option_map, unwrap_or, slice_get}
 use Rattle.ring_machine.specs.Document.{Text, Form, Member, Head, FeatureOf, ItemOf, Open, Close, Leaf, Kept, LayerOf, DocumentOf}
 use Rattle.topo_outline.specs.Shape.{Piece, starts, ends, leaf, text, LayerText}
 use Rattle.topo_outline.specs.Outline.{leaves_in, leaves}
 use Rattle.topo_outline.specs.Views.{view_layer, view_kept}
+use Rattle.map_opening.specs.Laying.{feature_numbers}
 use Rattle.arc_store.specs.declared.frame.Frame.{Frame}
 
 module _ {R : Type 0} where
@@ -37,14 +38,6 @@ module _ {R : Type 0} where
   layers_from n all (l ∷ ls) =
       record { name = l.name; items = items_from n all l.pieces }
       ∷ layers_from (n + length (leaves_in l.pieces)) all ls
-
--- the numbers of a polygon's rings
-abbrev pub polygon_numbers : {A : Type 0} → Vec ℕ A → List ℕ
-polygon_numbers p = p.items
-
--- the numbers of the rings of a feature's polygons
-abbrev pub feature_numbers : {A : Type 0} → Vec (Vec ℕ A) A → List (List ℕ)
-feature_numbers f = map polygon_numbers f.items
 
 -- the frame as a document of ring numbers
 abbrev pub frame_of : {A : Type 0} → Frame A → DocumentOf ℕ

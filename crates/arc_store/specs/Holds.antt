@@ -1,5 +1,5 @@
 -- What is true of every map that is kept.
-use Rattle.std.specs.Prelude.{ℕ, ◌≡◌, ◌≤◌, ◌↔◌, List, length, map, Some, is_some, IsTrue, Contains}
+use Rattle.std.specs.Prelude.{ℕ, ◌≡◌, ◌≤◌, ◌↔◌, List, map, Some, is_some, IsTrue, Contains}
 use Rattle.std.specs.FinMap as table
 use Rattle.std.specs.FinSet as set
 use Rattle.grid_geometry.specs.Segment.{Segment}
@@ -10,15 +10,9 @@ use Rattle.ring_machine.specs.WellFormed.{are_distinct}
 use Rattle.vertex_index.specs.Placement.{AreDistinct}
 use Rattle.segment_index.specs.Candidates.{SegmentSet}
 use Rattle.shared_arcs.specs.Ways.{Edge}
-use Rattle.shared_arcs.specs.Rings.{begins, edges}
+use Rattle.shared_arcs.specs.Rings.{begins}
+use Rattle.map_opening.specs.Laying.{GoesRound}
 use Rattle.arc_store.specs.Stored.{Stored, document_of}
-
--- the edges go round at least three different keys
-pub record GoesRound (es : List Edge) : Type 0 where
-  pub keys : List ℕ
-  pub along : es ≡ edges keys
-  pub long : 3 ≤ length keys
-  pub different : IsTrue (are_distinct keys)
 
 -- an edge of ring r begins at the vertex with key k
 abbrev pub Visits : Stored → ℕ → ℕ → Type 0

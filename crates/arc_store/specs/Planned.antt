@@ -7,11 +7,10 @@ use Rattle.std.specs.FinSet as set
 use Rattle.grid_geometry.specs.Position.{Position}
 use Rattle.grid_geometry.specs.Segment.{Segment, segment}
 use Rattle.ring_machine.specs.WellFormed.{are_distinct}
-use Rattle.vertex_index.specs.Placement.{Placement}
+use Rattle.vertex_index.specs.Placement.{Placement, place}
 use Rattle.segment_index.specs.Candidates.{SegmentSet, has}
 use Rattle.shared_arcs.specs.Rings.{Rings}
 use Rattle.shared_arcs.specs.Joined.{Joined}
-use Rattle.arc_store.specs.Stored.{place}
 
 -- each vertex that is joined to k is kept
 abbrev pub ArePlaced : Placement → Rings → ℕ → Type 0
