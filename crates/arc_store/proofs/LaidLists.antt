@@ -10,7 +10,7 @@ use Rattle.grid_geometry.specs.Segment.{Segment}
 use Rattle.ring_machine.proofs.Neighbours.{in-flat_map}
 use Rattle.vertex_index.specs.Placement.{Placement}
 use Rattle.segment_index.specs.Candidates.{SegmentSet}
-use Rattle.shared_arcs.specs.Rings.{Rings}
+use Rattle.arc_tables.specs.Rings.{Rings}
 use Rattle.arc_store.specs.Laying.{IsFilled, IsLaid, segments_along}
 use Rattle.arc_store.proofs.Counted.{sum_by-map}
 use Rattle.arc_store.proofs.Members.{contains_in, in_contains}

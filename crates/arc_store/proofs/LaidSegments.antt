@@ -8,8 +8,8 @@ use Rattle.ring_machine.specs.Ring.{segments, segment_of}
 use Rattle.ring_machine.proofs.First.{In, in_right}
 use Rattle.vertex_index.specs.Placement.{Placement}
 use Rattle.segment_index.specs.Candidates.{SegmentSet}
-use Rattle.shared_arcs.specs.Ways.{Edge, links}
-use Rattle.shared_arcs.specs.Rings.{edges}
+use Rattle.arc_tables.specs.Ways.{Edge, links}
+use Rattle.arc_tables.specs.Rings.{edges}
 use Rattle.arc_store.specs.Holds.{GoesRound}
 use Rattle.arc_store.specs.Laying.{IsRound, IsFilled}
 use Rattle.arc_store.specs.Stored.{place}

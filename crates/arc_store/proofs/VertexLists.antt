@@ -24,7 +24,7 @@ use Rattle.ring_machine.proofs.Order.{and_both}
 use Rattle.ring_machine.proofs.Removal.{none_parts, not_true}
 use Rattle.ring_machine.proofs.RingsOf.{rings-in_rings}
 use Rattle.vertex_index.specs.Placement.{Placement}
-use Rattle.shared_arcs.specs.Rings.{Rings, begins}
+use Rattle.arc_tables.specs.Rings.{Rings, begins}
 use Rattle.arc_store.specs.declared.frame.Frame.{Frame}
 use Rattle.arc_store.specs.Frames.{frame_of, feature_numbers, IsCounted}
 use Rattle.arc_store.specs.Holds.{IsWhole}

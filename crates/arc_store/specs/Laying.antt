@@ -9,7 +9,7 @@ use Rattle.ring_machine.specs.Ring.{segments}
 use Rattle.ring_machine.specs.WellFormed.{are_distinct}
 use Rattle.vertex_index.specs.Placement.{Placement}
 use Rattle.segment_index.specs.Candidates.{SegmentSet}
-use Rattle.shared_arcs.specs.Rings.{Rings, edges}
+use Rattle.arc_tables.specs.Rings.{Rings, edges}
 use Rattle.local_planarity.specs.Edits.{IsHeld}
 use Rattle.arc_store.specs.Stored.{place}
 

@@ -1,5 +1,5 @@
 use Rattle.std.proofs.Common.{◌≡◌, ◌≤◌, ◌+◌}
-use Rattle.shared_arcs.specs.Rings.{edges}
+use Rattle.arc_tables.specs.Rings.{edges}
 use Rattle.arc_store.proofs.LaidSegments.{LaidSo, from_here}
 use Rattle.arc_store.proofs.laying.Laying.lay_segments.Given as goal
 
