@@ -21,12 +21,12 @@ use Rattle.ring_machine.proofs.First.{In}
 use Rattle.ring_machine.proofs.Neighbours.{place_around, has-in, in-has, in-map, all_in}
 use Rattle.ring_machine.proofs.RingSegments.{same_ends}
 use Rattle.ring_machine.proofs.StaysProper.{ring_distinct}
-use Rattle.shared_arcs.specs.Edited.{AreApart}
+use Rattle.arc_tables.specs.Edited.{AreApart}
 use Rattle.shared_arcs.specs.declared.around.Neighbours.TheVariants as Neighbours
 use Rattle.shared_arcs.specs.declared.around.Neighbours.TheVariants.{One, Two, More}
 use Rattle.shared_arcs.specs.Joined.{Joined, Three, Passes, AreNeighbours}
-use Rattle.shared_arcs.specs.Ways.{Edge, times}
-use Rattle.shared_arcs.specs.Rings.{begins}
+use Rattle.arc_tables.specs.Ways.{Edge, times}
+use Rattle.arc_tables.specs.Rings.{begins}
 use Rattle.vertex_index.specs.Placement.{place}
 use Rattle.arc_store.specs.Stored.{Stored, positions_along, document_of}
 use Rattle.arc_store.specs.Holds.{IsWhole}

@@ -4,7 +4,7 @@ use Rattle.std.proofs.Common.{get_or, Contains}
 use Rattle.std.specs.FinMap as table
 use Rattle.grid_geometry.specs.Position.{Position}
 use Rattle.vertex_index.specs.Placement.{Placement, place}
-use Rattle.shared_arcs.specs.Rings.{Rings}
+use Rattle.arc_tables.specs.Rings.{Rings}
 use Rattle.shared_arcs.specs.Listing.{ListsJoined}
 use Rattle.arc_store.specs.Planned.{ArePlaced, AreAround}
 use Rattle.arc_store.proofs.Planned.{all_different}

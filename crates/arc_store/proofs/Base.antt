@@ -30,8 +30,8 @@ use Rattle.ring_machine.proofs.RingsOf.{rings-in_rings}
 use Rattle.ring_machine.proofs.Spots.{Rotated}
 use Rattle.ring_machine.proofs.StaysRing.{canonical_is_ring}
 use Rattle.vertex_index.specs.Placement.{Placement, AreDistinct, place}
-use Rattle.shared_arcs.specs.Ways.{Edge}
-use Rattle.shared_arcs.specs.Rings.{begins}
+use Rattle.arc_tables.specs.Ways.{Edge}
+use Rattle.arc_tables.specs.Rings.{begins}
 use Rattle.shared_arcs.specs.Joined.{Joined}
 use Rattle.arc_store.specs.Stored.{Stored, positions_along, ring_under, document_of}
 use Rattle.map_opening.specs.Laying.{GoesRound}

@@ -7,8 +7,8 @@ use Rattle.grid_geometry.specs.Position.{Position, position}
 use Rattle.ring_machine.specs.Ring.{canonical}
 use Rattle.ring_machine.specs.Document.{DocumentOf, FeatureOf, Polygon, Leaf}
 use Rattle.vertex_index.specs.Placement.{Placement, place}
-use Rattle.shared_arcs.specs.Ways.{Edge}
-use Rattle.shared_arcs.specs.Rings.{Rings, edges, begins}
+use Rattle.arc_tables.specs.Ways.{Edge}
+use Rattle.arc_tables.specs.Rings.{Rings, edges, begins}
 use Rattle.arc_store.specs.Stored.{Stored, positions_along, ring_under, document_of}
 
 abbrev nowhere : Position

@@ -21,7 +21,7 @@ use Rattle.vertex_index.specs.Placement.{Placement}
 use Rattle.segment_index.specs.Candidates.{SegmentSet, AreAmong, AreSingle, segment_is, has as has_segment}
 use Rattle.segment_index.proofs.Singles.{same_segment}
 use Rattle.shared_arcs.specs.Joined.{Joined}
-use Rattle.shared_arcs.specs.Rings.{Rings, users_of}
+use Rattle.arc_tables.specs.Rings.{Rings, users_of}
 use Rattle.arc_store.specs.declared.frame.Frame.{Frame}
 use Rattle.arc_store.specs.Edits.{IsInsertable, PutBetween}
 use Rattle.arc_store.specs.Holds.{IsIndexed, Holds}

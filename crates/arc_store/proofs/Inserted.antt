@@ -26,10 +26,10 @@ use Rattle.ring_machine.proofs.Accepted.{InsertAccepted, insert-accepted, insert
 use Rattle.ring_machine.proofs.Order.{or_true}
 use Rattle.vertex_index.proofs.PlacementLemmas.{get-inserted}
 use Rattle.segment_index.specs.Candidates.{SegmentSet, has as among}
-use Rattle.shared_arcs.specs.Ways.{Edge, is_seg}
-use Rattle.shared_arcs.specs.Rings.{Rings, begins}
+use Rattle.arc_tables.specs.Ways.{Edge, is_seg}
+use Rattle.arc_tables.specs.Rings.{Rings, begins}
 use Rattle.shared_arcs.specs.Joined.{Joined}
-use Rattle.shared_arcs.specs.Edited.{over, through}
+use Rattle.arc_tables.specs.Edited.{over, through}
 use Rattle.vertex_index.specs.Placement.{place}
 use Rattle.arc_store.specs.Stored.{Stored, positions_along, ring_under, document_of}
 use Rattle.map_opening.specs.Laying.{GoesRound}

@@ -24,7 +24,7 @@ use Rattle.ring_machine.proofs.RingSegments.{segment_eq-true, same_ends, ring_on
 use Rattle.ring_machine.proofs.RingsOf.{rings-in_rings}
 use Rattle.ring_machine.proofs.StaysProper.{ring_distinct, edges_start}
 use Rattle.ring_machine.proofs.StaysRing.{AtMostOne}
-use Rattle.shared_arcs.specs.Ways.{one}
+use Rattle.arc_tables.specs.Ways.{one}
 use Rattle.map_opening.proofs.Counted.{sum_by-map, sum_more}
 use Rattle.arc_store.proofs.Ends.{two_positions, two_ends, end_of_two}
 use Rattle.arc_store.proofs.Indexed.{end_vertex}

@@ -8,7 +8,7 @@ use Rattle.std.proofs.lemmas.List.{append-nil, take_more}
 use Rattle.std.proofs.lemmas.List.Concat.{flat_map-append}
 use Rattle.ring_machine.proofs.First.{In}
 use Rattle.ring_machine.proofs.Neighbours.{in-flat_map}
-use Rattle.shared_arcs.specs.Rings.{Rings, begins}
+use Rattle.arc_tables.specs.Rings.{Rings, begins}
 use Rattle.map_opening.specs.Laying.{polygon_numbers, feature_numbers}
 use Rattle.map_opening.specs.Keyed.{all_rings}
 use Rattle.arc_store.specs.Stored.{edges_under}

@@ -36,8 +36,8 @@ use Rattle.vertex_index.specs.Placement.{Placement, AreDistinct, place}
 use Rattle.vertex_index.proofs.PlacementLemmas.{get-inserted}
 use Rattle.segment_index.specs.Candidates.{SegmentSet, AreSingle, has as has_segment, segment_is, times_in}
 use Rattle.segment_index.proofs.Singles.{same_segment}
-use Rattle.shared_arcs.specs.Ways.{Edge}
-use Rattle.shared_arcs.specs.Rings.{begins}
+use Rattle.arc_tables.specs.Ways.{Edge}
+use Rattle.arc_tables.specs.Rings.{begins}
 use Rattle.shared_arcs.specs.Joined.{Joined}
 use Rattle.arc_store.specs.Stored.{Stored, positions_along, ring_under, document_of}
 use Rattle.arc_store.specs.Holds.{Visits, IsWhole, IsIndexed, Holds}

@@ -12,7 +12,7 @@ use Rattle.ring_machine.specs.Parts.{rings, size}
 use Rattle.ring_machine.specs.Vertices.{ins}
 use Rattle.ring_machine.proofs.Arcs.{is_of}
 use Rattle.ring_machine.proofs.First.{In}
-use Rattle.shared_arcs.specs.Ways.{Edge, is_seg, times}
+use Rattle.arc_tables.specs.Ways.{Edge, is_seg, times}
 use Rattle.vertex_index.specs.Placement.{place}
 use Rattle.arc_store.specs.Stored.{Stored, positions_along, edges_under, ring_under, document_of}
 use Rattle.arc_store.specs.Holds.{IsWhole}

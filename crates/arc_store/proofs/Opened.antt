@@ -20,8 +20,8 @@ use Rattle.topo_reader.specs.Document as read
 use Rattle.topo_reader.proofs.Numbering.{rings_document}
 use Rattle.vertex_index.specs.Placement.{Placement, place}
 use Rattle.segment_index.specs.Candidates.{SegmentSet}
-use Rattle.shared_arcs.specs.Ways.{Edge}
-use Rattle.shared_arcs.specs.Rings.{Rings, begins, edges}
+use Rattle.arc_tables.specs.Ways.{Edge}
+use Rattle.arc_tables.specs.Rings.{Rings, begins, edges}
 use Rattle.topo_reader.specs.declared.document.RawDoc.{RawDoc}
 use Rattle.topo_reader.specs.DocumentView.{view_raw}
 use Rattle.topo_reader.specs.Uses.{feature_positions}

@@ -14,7 +14,7 @@ use Rattle.ring_machine.specs.WellFormed.{are_distinct}
 use Rattle.segment_index.specs.Candidates.{SegmentSet, AreAmong, AreSingle, segment_is, has, times_in}
 use Rattle.segment_index.proofs.Singles.{segment_total, same_sets, same_segment, is-itself, has-is, has-some}
 use Rattle.segment_index.proofs.Singles.{times-some, times-push, times-take}
-use Rattle.shared_arcs.specs.Stores.{AllDifferent}
+use Rattle.arc_tables.specs.Stores.{AllDifferent}
 use Rattle.arc_store.specs.Planned.{AreNew, Gains, Drops, Exchanges}
 use Rattle.map_opening.proofs.KeyRings.{has_key}
 

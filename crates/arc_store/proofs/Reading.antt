@@ -11,7 +11,7 @@ use Rattle.grid_geometry.specs.Position.{Position, position_cmp}
 use Rattle.grid_geometry.specs.Segment.{Segment, segment, IsSegment}
 use Rattle.ring_machine.specs.Parts.{rings, is_vertex}
 use Rattle.ring_machine.proofs.First.{In}
-use Rattle.shared_arcs.specs.Rings as shared
+use Rattle.arc_tables.specs.Rings as shared
 use Rattle.vertex_index.specs.Placement.{place}
 use Rattle.arc_store.specs.Stored.{Stored, document_of}
 use Rattle.arc_store.specs.Holds.{IsWhole}

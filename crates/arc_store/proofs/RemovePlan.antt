@@ -21,9 +21,9 @@ use Rattle.segment_index.proofs.Singles.{same_segment}
 use Rattle.shared_arcs.specs.declared.around.Neighbours.{Neighbours}
 use Rattle.shared_arcs.specs.declared.around.Neighbours.TheVariants as neighbours
 use Rattle.shared_arcs.specs.declared.around.Neighbours.TheVariants.{One, Two, More}
-use Rattle.shared_arcs.specs.Edited.{AreApart}
+use Rattle.arc_tables.specs.Edited.{AreApart}
 use Rattle.shared_arcs.specs.Joined.{Joined, AreNeighbours}
-use Rattle.shared_arcs.specs.Rings.{Rings, users_of}
+use Rattle.arc_tables.specs.Rings.{Rings, users_of}
 use Rattle.arc_store.specs.declared.frame.Frame.{Frame}
 use Rattle.arc_store.specs.Edits.{IsRemovable, TakenOut}
 use Rattle.arc_store.specs.Holds.{IsWhole, IsIndexed, Holds}

@@ -33,10 +33,10 @@ use Rattle.ring_machine.proofs.StaysProper.{ring_long, ring_distinct}
 use Rattle.ring_machine.proofs.Accepted.{RemoveAccepted, remove-accepted, removed}
 use Rattle.ring_machine.proofs.RingSegments.{segment_eq-true}
 use Rattle.segment_index.specs.Candidates.{SegmentSet, has as among}
-use Rattle.shared_arcs.specs.Ways.{Edge, is_seg}
-use Rattle.shared_arcs.specs.Rings.{Rings, begins}
+use Rattle.arc_tables.specs.Ways.{Edge, is_seg}
+use Rattle.arc_tables.specs.Rings.{Rings, begins}
 use Rattle.shared_arcs.specs.Joined.{Joined}
-use Rattle.shared_arcs.specs.Edited.{onto, drawn, collapsed}
+use Rattle.arc_tables.specs.Edited.{onto, drawn, collapsed}
 use Rattle.vertex_index.specs.Placement.{place}
 use Rattle.arc_store.specs.Stored.{Stored, positions_along, edges_under, ring_under, document_of}
 use Rattle.map_opening.specs.Laying.{GoesRound}

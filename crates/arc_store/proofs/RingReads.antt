@@ -14,8 +14,8 @@ use Rattle.ring_machine.proofs.First.{In}
 use Rattle.ring_machine.proofs.Neighbours.{in-map, in-flat_map}
 use Rattle.ring_machine.proofs.RingsOf.{rings-in_rings}
 use Rattle.vertex_index.specs.Placement.{Placement, place}
-use Rattle.shared_arcs.specs.Rings.{Rings, begins}
-use Rattle.shared_arcs.specs.Ways.{Edge}
+use Rattle.arc_tables.specs.Rings.{Rings, begins}
+use Rattle.arc_tables.specs.Ways.{Edge}
 use Rattle.arc_store.specs.declared.frame.Frame.{Frame}
 use Rattle.map_opening.specs.Laying.{polygon_numbers, feature_numbers}
 use Rattle.arc_store.specs.Frames.{frame_of, IsCounted}

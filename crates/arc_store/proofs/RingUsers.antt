@@ -18,8 +18,8 @@ use Rattle.ring_machine.specs.WellFormed.{are_distinct}
 use Rattle.ring_machine.proofs.First.{In, filter-in}
 use Rattle.ring_machine.proofs.Order.{and_both}
 use Rattle.ring_machine.proofs.Removal.{not_true}
-use Rattle.shared_arcs.specs.Ways.{one}
-use Rattle.shared_arcs.specs.Rings as shared
+use Rattle.arc_tables.specs.Ways.{one}
+use Rattle.arc_tables.specs.Rings as shared
 use Rattle.arc_store.specs.Holds.{IsWhole}
 use Rattle.arc_store.specs.Stored.{Stored}
 use Rattle.map_opening.proofs.KeyRings.{has_key}

@@ -15,7 +15,7 @@ use Rattle.ring_machine.proofs.First.{In}
 use Rattle.shared_arcs.specs.declared.around.Neighbours.{Neighbours}
 use Rattle.shared_arcs.specs.declared.around.Neighbours.TheVariants.{One, Two, More}
 use Rattle.shared_arcs.specs.Joined.{Passes, AreNeighbours}
-use Rattle.shared_arcs.specs.Ways.{Edge}
+use Rattle.arc_tables.specs.Ways.{Edge}
 use Rattle.vertex_index.specs.Placement.{place}
 use Rattle.arc_store.specs.Stored.{Stored, positions_along, document_of}
 use Rattle.arc_store.specs.Holds.{IsWhole}

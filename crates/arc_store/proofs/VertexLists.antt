@@ -24,7 +24,7 @@ use Rattle.ring_machine.proofs.Order.{and_both}
 use Rattle.ring_machine.proofs.Removal.{none_parts, not_true}
 use Rattle.ring_machine.proofs.RingsOf.{rings-in_rings}
 use Rattle.vertex_index.specs.Placement.{Placement, place}
-use Rattle.shared_arcs.specs.Rings.{Rings, begins}
+use Rattle.arc_tables.specs.Rings.{Rings, begins}
 use Rattle.arc_store.specs.declared.frame.Frame.{Frame}
 use Rattle.map_opening.specs.Laying.{feature_numbers}
 use Rattle.arc_store.specs.Frames.{frame_of, IsCounted}

@@ -9,8 +9,8 @@ use Rattle.ring_machine.specs.Planar.{Proper}
 use Rattle.ring_machine.specs.WellFormed.{are_distinct}
 use Rattle.vertex_index.specs.Placement.{AreDistinct}
 use Rattle.segment_index.specs.Candidates.{SegmentSet}
-use Rattle.shared_arcs.specs.Ways.{Edge}
-use Rattle.shared_arcs.specs.Rings.{begins}
+use Rattle.arc_tables.specs.Ways.{Edge}
+use Rattle.arc_tables.specs.Rings.{begins}
 use Rattle.map_opening.specs.Laying.{GoesRound}
 use Rattle.arc_store.specs.Stored.{Stored, document_of}
 

@@ -4,7 +4,7 @@ use Rattle.ring_machine.specs.Parts.{features, size}
 use Rattle.ring_machine.specs.Query.{distinct_segments}
 use Rattle.segment_index.specs.Candidates.{SegmentSet}
 use Rattle.vertex_index.specs.Placement.{Placement}
-use Rattle.shared_arcs.specs.Rings.{Rings}
+use Rattle.arc_tables.specs.Rings.{Rings}
 use Rattle.arc_store.specs.declared.frame.Frame.{Frame}
 use Rattle.arc_store.specs.Frames.{frame_of, IsCounted}
 use Rattle.arc_store.specs.Stored.{Stored, document_of}

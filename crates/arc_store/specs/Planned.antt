@@ -9,7 +9,7 @@ use Rattle.grid_geometry.specs.Segment.{Segment, segment}
 use Rattle.ring_machine.specs.WellFormed.{are_distinct}
 use Rattle.vertex_index.specs.Placement.{Placement, place}
 use Rattle.segment_index.specs.Candidates.{SegmentSet, has}
-use Rattle.shared_arcs.specs.Rings.{Rings}
+use Rattle.arc_tables.specs.Rings.{Rings}
 use Rattle.shared_arcs.specs.Joined.{Joined}
 
 -- each vertex that is joined to k is kept

@@ -7,8 +7,8 @@ use Rattle.ring_machine.specs.Ring.{canonical}
 use Rattle.ring_machine.specs.Document.{DocumentOf, Document}
 use Rattle.ring_machine.specs.Parts.{in_rings}
 use Rattle.vertex_index.specs.Placement.{Placement, place}
-use Rattle.shared_arcs.specs.Ways.{Edge}
-use Rattle.shared_arcs.specs.Rings.{Rings, begins}
+use Rattle.arc_tables.specs.Ways.{Edge}
+use Rattle.arc_tables.specs.Rings.{Rings, begins}
 
 -- what is kept
 pub record Stored : Type 0 where

@@ -8,7 +8,7 @@ ghost use Rattle.ring_machine.specs.Parts.{is_vertex, is_segment, size};
 ghost use Rattle.ring_machine.specs.Refusals.{first_of, insert_refusals};
 ghost use Rattle.ring_machine.specs.Vertices.{ins};
 ghost use Rattle.segment_index.specs.Candidates.{AreSingle};
-ghost use Rattle.shared_arcs.specs.Edited.{AreApart as AreThree};
+ghost use Rattle.arc_tables.specs.Edited.{AreApart as AreThree};
 ghost use Rattle.shared_arcs.specs.Joined.{Joined};
 ghost use Rattle.local_planarity.specs.Edits.{AreApart};
 ghost use Rattle.arc_store.specs.Edits.{IsInsertable, PutBetween};

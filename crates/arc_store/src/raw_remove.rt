@@ -7,7 +7,7 @@ ghost use Rattle.ring_machine.specs.Parts.{is_vertex};
 ghost use Rattle.ring_machine.specs.Refusals.{first_of, remove_refusals, are_long, is_bridged};
 ghost use Rattle.ring_machine.specs.Vertices.{del, is_junction};
 ghost use Rattle.segment_index.specs.Candidates.{AreAmong, AreSingle};
-ghost use Rattle.shared_arcs.specs.Edited.{AreApart as AreThree};
+ghost use Rattle.arc_tables.specs.Edited.{AreApart as AreThree};
 ghost use Rattle.shared_arcs.specs.Joined.{Joined};
 ghost use Rattle.local_planarity.specs.Edits.{AreApart};
 ghost use Rattle.arc_store.specs.Edits.{IsRemovable, TakenOut};

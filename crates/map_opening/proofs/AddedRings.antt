@@ -14,8 +14,8 @@ use Rattle.ring_machine.proofs.First.{In, in_left, in_right}
 use Rattle.ring_machine.proofs.Neighbours.{in-map}
 use Rattle.ring_machine.proofs.Order.{and_both}
 use Rattle.ring_machine.proofs.Removal.{none_parts, not_true}
-use Rattle.shared_arcs.specs.Ways.{Edge}
-use Rattle.shared_arcs.specs.Rings.{Rings, edges}
+use Rattle.arc_tables.specs.Ways.{Edge}
+use Rattle.arc_tables.specs.Rings.{Rings, edges}
 use Rattle.map_opening.specs.Laying.{IsLaid}
 use Rattle.map_opening.proofs.KeyRings.{has_key}
 use Rattle.map_opening.proofs.Members.{contains_in, in_contains, in_mapped}

@@ -4,7 +4,7 @@ use Rattle.std.proofs.Common.{◌∷◌, map, length, arith, inl, inr}
 use Rattle.std.specs.List.{filter, sum_by}
 use Rattle.std.proofs.lemmas.List.Sums.{sum_by-cons}
 use Rattle.ring_machine.proofs.First.{In}
-use Rattle.shared_arcs.specs.Ways.{one}
+use Rattle.arc_tables.specs.Ways.{one}
 
 pub sum_by-map : {A B : Type 0} (f : B → ℕ) (g : A → B) (xs : List A)
     → sum_by f (map g xs) ≡ sum_by (λ x. f (g x)) xs

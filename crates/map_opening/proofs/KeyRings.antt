@@ -18,8 +18,8 @@ use Rattle.ring_machine.proofs.Edges.{edges_to, edges_to-append, edges_is}
 use Rattle.ring_machine.proofs.First.{In, in-append}
 use Rattle.ring_machine.proofs.Removal.{none_parts, not_true}
 use Rattle.ring_machine.proofs.Arcs.{links-append}
-use Rattle.shared_arcs.specs.Ways.{Edge, links, is_seg, one, times}
-use Rattle.shared_arcs.specs.Rings.{edges, begins}
+use Rattle.arc_tables.specs.Ways.{Edge, links, is_seg, one, times}
+use Rattle.arc_tables.specs.Rings.{edges, begins}
 use Rattle.map_opening.specs.Laying.{GoesRound}
 use Rattle.map_opening.proofs.Members.{in_swap}
 

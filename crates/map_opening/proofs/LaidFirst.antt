@@ -6,7 +6,7 @@ use Rattle.std.specs.Ordering.{nat_cmp}
 use Rattle.std.proofs.lemmas.Bool.{false≢true}
 use Rattle.segment_index.specs.Candidates.{SegmentSet}
 use Rattle.segment_index.proofs.Singles.{contains_none}
-use Rattle.shared_arcs.specs.Rings.{Rings}
+use Rattle.arc_tables.specs.Rings.{Rings}
 use Rattle.map_opening.specs.Laying.{IsFilled, IsLaid}
 
 pub laid_none : (m : Rings) → m ≡ table.empty → IsLaid m [] []

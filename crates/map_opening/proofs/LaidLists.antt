@@ -10,7 +10,7 @@ use Rattle.grid_geometry.specs.Segment.{Segment}
 use Rattle.ring_machine.proofs.Neighbours.{in-flat_map}
 use Rattle.vertex_index.specs.Placement.{Placement}
 use Rattle.segment_index.specs.Candidates.{SegmentSet}
-use Rattle.shared_arcs.specs.Rings.{Rings}
+use Rattle.arc_tables.specs.Rings.{Rings}
 use Rattle.map_opening.specs.Laying.{IsFilled, IsLaid, segments_along}
 use Rattle.map_opening.proofs.Pushed.{flat_pushed}
 use Rattle.map_opening.proofs.Counted.{sum_by-map}

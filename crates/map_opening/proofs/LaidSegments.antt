@@ -8,8 +8,8 @@ use Rattle.ring_machine.specs.Ring.{segments, segment_of}
 use Rattle.ring_machine.proofs.First.{In, in_right}
 use Rattle.vertex_index.specs.Placement.{Placement, place}
 use Rattle.segment_index.specs.Candidates.{SegmentSet}
-use Rattle.shared_arcs.specs.Ways.{Edge, links}
-use Rattle.shared_arcs.specs.Rings.{edges}
+use Rattle.arc_tables.specs.Ways.{Edge, links}
+use Rattle.arc_tables.specs.Rings.{edges}
 use Rattle.map_opening.specs.Laying.{GoesRound, IsRound, IsFilled}
 use Rattle.map_opening.proofs.Places.{IsKept}
 use Rattle.map_opening.proofs.KeyRings.{edge_apart, edge_ends, edges_round, begins_round, laid}

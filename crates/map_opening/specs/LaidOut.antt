@@ -5,7 +5,7 @@ use Rattle.grid_geometry.specs.Position.{Position}
 use Rattle.grid_geometry.specs.Segment.{Segment}
 use Rattle.vertex_index.specs.Placement.{Placement, AreDistinct}
 use Rattle.segment_index.specs.Candidates.{SegmentSet}
-use Rattle.shared_arcs.specs.Rings.{Rings}
+use Rattle.arc_tables.specs.Rings.{Rings}
 use Rattle.map_opening.specs.Keyed.{all_rings, IsKeyed}
 use Rattle.map_opening.specs.Laying.{IsFilled, IsLaid, segments_along}
 

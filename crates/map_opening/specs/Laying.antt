@@ -9,8 +9,8 @@ use Rattle.ring_machine.specs.Ring.{segments}
 use Rattle.ring_machine.specs.WellFormed.{are_distinct}
 use Rattle.vertex_index.specs.Placement.{Placement, place}
 use Rattle.segment_index.specs.Candidates.{SegmentSet}
-use Rattle.shared_arcs.specs.Ways.{Edge}
-use Rattle.shared_arcs.specs.Rings.{Rings, edges}
+use Rattle.arc_tables.specs.Ways.{Edge}
+use Rattle.arc_tables.specs.Rings.{Rings, edges}
 use Rattle.local_planarity.specs.Edits.{IsHeld}
 
 -- the numbers of a polygon's rings

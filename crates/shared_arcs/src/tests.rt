@@ -1,6 +1,6 @@
 //! Squares that share a side, a long ring, and calls that are refused memory.
 use super::Borders;
-use super::place::arcs_at;
+use arc_tables::arcs_at;
 use grid_geometry::Pos;
 use linked_list_allocator::LocalHeap;
 use std::alloc::{AllocError, Allocator, Global};

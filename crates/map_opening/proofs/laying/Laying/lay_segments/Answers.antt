@@ -1,5 +1,5 @@
 use Rattle.std.proofs.Common.{refl, ◌∙◌, arith}
-use Rattle.shared_arcs.proofs.Segments.{on_ok_map}
+use Rattle.arc_tables.proofs.Segments.{on_ok_map}
 use Rattle.map_opening.proofs.LaidSegments.{none_laid, key_joins, key_laid, last_joins, all_laid}
 use Rattle.map_opening.proofs.laying.Laying.lay_segments.Goals as goal
 

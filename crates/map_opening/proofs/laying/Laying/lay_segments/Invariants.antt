@@ -1,5 +1,5 @@
 use Rattle.std.proofs.Common.{◌≡◌, ◌≤◌, ◌+◌}
-use Rattle.shared_arcs.specs.Rings.{edges}
+use Rattle.arc_tables.specs.Rings.{edges}
 use Rattle.map_opening.proofs.LaidSegments.{LaidSo, from_here}
 use Rattle.map_opening.proofs.laying.Laying.lay_segments.Given as goal
 
