@@ -12,7 +12,7 @@ use Rattle.std.proofs.lemmas.Option.{unwrap_or-slice_get}
 use Rattle.ring_machine.specs.Document.{FeatureOf, ItemOf, LayerOf, DocumentOf}
 use Rattle.ring_machine.specs.Parts.{feature_of, features, rings, rings_of, has_feature, in_feature}
 use Rattle.ring_machine.specs.Parts.{in_rings}
-use Rattle.ring_machine.specs.WellFormed.{are_distinct}
+use Rattle.ring_machine.proofs.Numbered.{AreNumbered, numbered-append, numbered_has}
 use Rattle.ring_machine.proofs.RingsOf.{features-in_rings}
 use Rattle.topo_outline.specs.Outline.{leaves_in, leaves}
 use Rattle.topo_outline.specs.Shape.{LayerText, Piece, starts, ends, leaf, text}
@@ -30,17 +30,6 @@ module _ {R : Type 0} where
   within_layers ls = flat_map (λ l. filter_map feature_of l.items) ls
 
   -- ---- numbers in order
-
-  -- the features are numbered on from n
-  abbrev pub AreNumbered : ℕ → List (FeatureOf R) → Type 0
-  AreNumbered n [] = Unit {0}
-  AreNumbered n (f ∷ fs) = (f.number ≡ n) × AreNumbered (n + 1) fs
-
-  numbered-append : (n m : ℕ) (fs gs : List (FeatureOf R)) → AreNumbered n fs
-      → AreNumbered m gs → m ≡ n + length fs → AreNumbered n (fs ++ gs)
-  numbered-append n m [] gs h k e = subst (λ z. AreNumbered z gs) (omega (arith, e)) k
-  numbered-append n m (f ∷ fs) gs h k e =
-      (h.0, numbered-append (n + 1) m fs gs h.1 k (omega (arith, e)))
 
   items_length : (n : ℕ) (all : List (List (List R))) (ps : List Piece)
       → length (within_items (items_from n all ps)) ≡ length (leaves_in ps)
@@ -75,34 +64,6 @@ module _ {R : Type 0} where
       numbered-append n (n + length (leaves_in l.pieces)) (within_items (items_from n all l.pieces)) (within_layers (layers_from (n + length (leaves_in l.pieces)) all ls))
       (items_numbered n all l.pieces) (layers_numbered (n + length (leaves_in l.pieces)) all ls)
       (ap (λ z. n + z) (sym (items_length n all l.pieces)))
-
-  -- some feature has the number where it is less than how many they are
-  numbered_has : (n m : ℕ) (fs : List (FeatureOf R)) → AreNumbered n fs
-      → list_any (λ f. f.number == m) fs ≡ (nat_le n m && nat_lt m (n + length fs))
-  numbered_has n m [] h = grind (arith, nat_tests)
-  numbered_has n m (f ∷ fs) h =
-      ap₂ (λ (y : ℕ) (z : Bool). (y == m) || z) h.0 (numbered_has (n + 1) m fs h.1)
-      ∙ step (length fs)
-    where
-      step : (k : ℕ) → ((n == m) || (nat_le (n + 1) m && nat_lt m (n + 1 + k)))
-          ≡ (nat_le n m && nat_lt m (n + suc k))
-      step k = grind (arith, nat_tests)
-
-  pub numbered_distinct : (n : ℕ) (fs : List (FeatureOf R)) → AreNumbered n fs
-      → are_distinct (map (λ f. f.number) fs) ≡ true
-  numbered_distinct n [] h = refl
-  numbered_distinct n (f ∷ fs) h =
-      ap₂ (λ y z. not y && z) (absent (n + 1) fs h.1 (subst (λ z. z < n + 1) (sym h.0) (omega arith))) (numbered_distinct (n + 1) fs h.1)
-    where
-      other : (m k : ℕ) → k < m → (m == k) ≡ false
-      other m k l = grind (arith, nat_tests)
-
-      absent : (m : ℕ) (gs : List (FeatureOf R)) → AreNumbered m gs → f.number < m
-          → list_any (λ k. k == f.number) (map (λ g. g.number) gs) ≡ false
-      absent m [] k l = refl
-      absent m (g ∷ gs) k l =
-          ap₂ (λ (y : ℕ) (z : Bool). (y == f.number) || z) k.0 (absent (m + 1) gs k.1 (omega (arith, l)))
-          ∙ ap (λ b. b || false) (other m f.number l)
 
   -- ---- rings
 
@@ -161,21 +122,12 @@ module _ {R : Type 0} where
 -- ---- changed rings
 
 module _ {R S : Type 0} (g : R → S) where
-  map_numbers : (fs : List (FeatureOf R))
-      → map (λ f. f.number) (map (in_feature g) fs) ≡ map (λ f. f.number) fs
-  map_numbers [] = refl
-  map_numbers (f ∷ fs) = ap (λ z. f.number ∷ z) (map_numbers fs)
-
   any_number : (m : ℕ) (fs : List (FeatureOf R))
       → list_any (λ f. f.number == m) (map (in_feature g) fs) ≡ list_any (λ f. f.number == m) fs
   any_number m [] = refl
   any_number m (f ∷ fs) = ap (λ z. (f.number == m) || z) (any_number m fs)
 
-  -- changed rings leave the features' numbers
-  pub numbers-in_rings : (d : DocumentOf R)
-      → map (λ f. f.number) (features (in_rings g d)) ≡ map (λ f. f.number) (features d)
-  numbers-in_rings d = ap (map (λ f. f.number)) (features-in_rings g d) ∙ map_numbers (features d)
-
+  -- changed rings leave which numbers there are
   pub has_feature-in_rings : (d : DocumentOf R) (m : ℕ)
       → has_feature (in_rings g d) m ≡ has_feature d m
   has_feature-in_rings d m = ap (list_any (λ f. f.number == m)) (features-in_rings g d) ∙ any_number m (features d)
@@ -190,10 +142,6 @@ module _ {R S : Type 0} (g : R → S) where
 module _ {A : Type 0} (f : Frame A) where
   pub frame_numbered : AreNumbered 0 (features (frame_of f))
   frame_numbered = layers_numbered 0 (map feature_numbers f.polygons.items) (map view_layer f.layers.items)
-
-  -- the numbers of a frame's features are distinct
-  pub frame_distinct : are_distinct (map (λ f. f.number) (features (frame_of f))) ≡ true
-  frame_distinct = numbered_distinct 0 (features (frame_of f)) frame_numbered
 
   -- a frame has as many features as lists of polygons
   pub frame_count : IsCounted f → length (features (frame_of f)) ≡ length f.polygons.items

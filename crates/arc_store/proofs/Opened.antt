@@ -11,8 +11,9 @@ use Rattle.ring_machine.specs.Ring.{canonical, is_ring, segments}
 use Rattle.ring_machine.specs.Parts.{rings, size, features, all_segments}
 use Rattle.ring_machine.specs.Planar.{Proper, first_pair, least_conflict}
 use Rattle.ring_machine.specs.Query.{add_segment}
-use Rattle.ring_machine.specs.WellFormed.{are_distinct}
+use Rattle.ring_machine.specs.WellFormed.{are_distinct, WellFormed}
 use Rattle.ring_machine.proofs.First.{In}
+use Rattle.ring_machine.proofs.FormedRings.{formed-before_rings}
 use Rattle.ring_machine.proofs.Neighbours.{in-map}
 use Rattle.topo_outline.specs.Outline.{leaves}
 use Rattle.topo_reader.specs.Document.{IsOfRings}
@@ -34,7 +35,7 @@ use Rattle.arc_store.specs.Holds.{IsWhole, IsIndexed, Holds}
 use Rattle.arc_store.specs.Kept.{stored, IsKept}
 use Rattle.arc_store.specs.Stored.{Stored, positions_along, ring_under, document_of}
 use Rattle.arc_store.proofs.FramedDocument.{read_framed}
-use Rattle.arc_store.proofs.FrameLemmas.{feature_count-in_rings, frame_count, frame_distinct, frame_rings}
+use Rattle.arc_store.proofs.FrameLemmas.{feature_count-in_rings, frame_count, frame_rings}
 use Rattle.map_opening.proofs.SegmentLists.{has-eq}
 use Rattle.map_opening.proofs.KeyedRings.{ring_keyed, round_keyed, size_keyed, segments_keyed}
 use Rattle.map_opening.proofs.KeyRings.{begins_round}
@@ -189,10 +190,15 @@ module _ {A : Type 0} (raw : RawDoc A) (h : IsOfRings (view_raw raw))
   opened_proper none =
       subst Proper (sym opened_document) (record { are_rings = h.are_rings; apart = opened_pair ∙ none })
 
+  -- the frame is as well formed as what was read
+  opened_formed : WellFormed (frame_of raw_frame)
+  opened_formed =
+      formed-before_rings (ring_under opened) (frame_of raw_frame) (subst WellFormed (sym opened_document) h.formed)
+
   opened_holds : first ≡ None → Holds opened held
   opened_holds none = record {
     whole = opened_whole;
-    numbers = frame_distinct raw_frame;
+    formed = opened_formed;
     proper = opened_proper none;
     small = subst (λ d. size d ≤ 4000000) (sym opened_document) h.small;
     indexed = opened_indexed;

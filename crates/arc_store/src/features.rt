@@ -1,5 +1,7 @@
 ghost use Rattle.std.specs.Prelude.{◌≡◌, ◌≤◌, ◌↔◌, ℕ, map, length, option_map, unwrap_or, slice_get};
 ghost use Rattle.ring_machine.specs.Parts.{feature, size};
+ghost use Rattle.ring_machine.specs.Planar.{Proper};
+ghost use Rattle.ring_machine.specs.WellFormed.{WellFormed};
 ghost use Rattle.topo_outline.specs.Views.{form_of, view_kept};
 ghost use Rattle.arc_store.specs.Leaves.{raw_leaf, raw_leaves, raw_features};
 ghost use Rattle.arc_store.specs.Readers.{shown, IsFrameOf};
@@ -148,7 +150,9 @@ fn feature_in<'m, 'a, A: Allocator + Copy>(
 impl<'a, I: SegIndex, A: Allocator + Copy> Map<'a, I, A> {
     /// What the map is beside its rings.
     pub fn frame(&self) -> FrameView<'_, 'a, A>
-        ensures { IsFrameOf self.now.doc result }
+        ensures shown { IsFrameOf self.now.doc result }
+        ensures formed { WellFormed self.now.doc }
+        ensures proper { Proper self.now.doc }
     {
         FrameView {
             transform: self.frame.transform,

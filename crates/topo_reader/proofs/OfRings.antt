@@ -7,6 +7,7 @@ use Rattle.std.proofs.lemmas.List.Sums.{sum_by-cons}
 use Rattle.grid_geometry.specs.Position.{Position}
 use Rattle.ring_machine.specs.Ring.{is_ring, canonical}
 use Rattle.ring_machine.specs.Parts.{rings, size}
+use Rattle.ring_machine.specs.WellFormed.{WellFormed}
 use Rattle.ring_machine.proofs.Canonical.{canonical_parts}
 use Rattle.ring_machine.proofs.StaysRing.{canonical_is_ring}
 use Rattle.json_spans.specs.Parts.{Node}
@@ -24,8 +25,12 @@ use Rattle.topo_reader.specs.Sizes as sizes
 use Rattle.topo_reader.specs.Rings.{unless, is_at, meet, squeezed, all_of, joined, first_repeat, distinct, ring_of, polygon_of, feature_of, all_rings}
 use Rattle.topo_reader.specs.Document.{Polygons, Opened, document_of, IsOfRings}
 use Rattle.topo_reader.specs.Opening.{polygons_read, opening}
+use Rattle.topo_reader.specs.Reads.{GeometryUses}
+use Rattle.topo_reader.proofs.Formed.{read_formed}
+use Rattle.topo_reader.proofs.MeaningOfRings.{are_rings as rings_meant}
+use Rattle.topo_reader.proofs.MeaningOfUses.{are_uses}
 use Rattle.topo_reader.proofs.Repeats.{none_again}
-use Rattle.topo_reader.proofs.Steps.{at_most, bind_ok, demand_ok, ok_same}
+use Rattle.topo_reader.proofs.Steps.{at_most, bind_ok, demand_ok, ok_same, of_each}
 use Rattle.topo_reader.proofs.Numbering.{rings_within, rings_document, all_within, sum_within}
 
 each_length : {A B : Type 0} (f : A → Result B Fault) (xs : List A) (ys : List B) → each f xs ≡ Ok ys → length ys ≡ length xs
@@ -115,8 +120,15 @@ all_good fs rs h = each_at_good feature_of (list_all (list_all is_ring)) sizes.f
 
 -- ---- what was read is of rings
 
-abbrev IsWhole : OutlineText → List Polygons → Type 0
-IsWhole shape ps = (length (leaves shape.layers) ≤ 200000) × (length ps ≡ length (leaves shape.layers)) × (list_all (list_all (list_all is_ring)) ps ≡ true) × (sum_by (sum_by (sum_by length)) ps ≤ 4000000)
+abbrev made : OutlineText → List Polygons → Opened
+made shape ps = record { transform = shape.transform; layers = shape.layers; members = shape.members; polygons = ps }
+
+record IsWhole (shape : OutlineText) (ps : List Polygons) : Type 0 where
+  few : length (leaves shape.layers) ≤ 200000
+  counted : length ps ≡ length (leaves shape.layers)
+  formed : WellFormed (document_of (made shape ps))
+  are_rings : list_all (list_all (list_all is_ring)) ps ≡ true
+  small : sum_by (sum_by (sum_by length)) ps ≤ 4000000
 
 whole : (n : Node) (shape : OutlineText) (ps : List Polygons) → outline n ≡ Ok shape → polygons_read shape ≡ Ok ps → IsWhole shape ps
 whole n shape ps e h =
@@ -124,22 +136,28 @@ whole n shape ps e h =
     let uses = bind_ok (each (uses_of found.0) (leaves shape.layers)) (λ (uses : List (List (List (List Arc)))). demand (nat_le (sizes.size uses) 4000000) (too_large limit.Positions) (all_rings uses)) ps found.2 in
     let fits = demand_ok (nat_le (sizes.size uses.0) 4000000) (too_large limit.Positions) (all_rings uses.0) ps uses.2 in
     let good = all_good uses.0 ps fits.1 in
-    (at_most (length (leaves shape.layers)) 200000 (outline_means n shape e).1, good.2 ∙ each_length (uses_of found.0) (leaves shape.layers) uses.0 uses.1, good.0, omega (arith, good.1, at_most (sizes.size uses.0) 4000000 fits.0))
-
-abbrev made : OutlineText → List Polygons → Opened
-made shape ps = record { transform = shape.transform; layers = shape.layers; members = shape.members; polygons = ps }
+    let means = outline_means n shape e in
+    let meant = of_each (GeometryUses found.0) (uses_of found.0) (are_uses found.0) (leaves shape.layers) uses.0 uses.1 in
+    record {
+      few = at_most (length (leaves shape.layers)) 200000 means.1;
+      counted = good.2 ∙ each_length (uses_of found.0) (leaves shape.layers) uses.0 uses.1;
+      formed = read_formed n shape found.0 uses.0 ps means.0 meant (rings_meant uses.0 ps fits.1);
+      are_rings = good.0;
+      small = omega (arith, good.1, at_most (sizes.size uses.0) 4000000 fits.0);
+    }
 
 made_of_rings : (shape : OutlineText) (ps : List Polygons) → IsWhole shape ps → IsOfRings (made shape ps)
 made_of_rings shape ps w =
     let same : rings (document_of (made shape ps)) ≡ flat_map rings_within ps =
-    rings_document ps shape.layers ∙ ap (λ (qs : List Polygons). flat_map rings_within qs) (take_all (length (leaves shape.layers)) ps (omega (arith, w.1))) in
+    rings_document ps shape.layers ∙ ap (λ (qs : List Polygons). flat_map rings_within qs) (take_all (length (leaves shape.layers)) ps (omega (arith, w.counted))) in
     let total : size (document_of (made shape ps)) ≡ sum_by (sum_by (sum_by length)) ps =
     ap (λ (rs : List (List Position)). sum_by length rs) same ∙ sum_within length ps in
     record {
-      counted = w.1;
-      few = w.0;
-      are_rings = ap (λ (rs : List (List Position)). list_all is_ring rs) same ∙ all_within is_ring ps w.2;
-      small = omega (arith, total, w.3);
+      counted = w.counted;
+      formed = w.formed;
+      few = w.few;
+      are_rings = ap (λ (rs : List (List Position)). list_all is_ring rs) same ∙ all_within is_ring ps w.are_rings;
+      small = omega (arith, total, w.small);
     }
 
 pub opening_of_rings : (n : Node) (o : Opened) → opening n ≡ Ok o → IsOfRings o
