@@ -24,6 +24,7 @@ pub mod Planned
 pub mod SegmentBound
 pub mod SegmentCounts
 pub mod MovePlan
+pub mod Tested
 pub mod AroundPlan
 pub mod KeyedLists
 pub mod FilledLists

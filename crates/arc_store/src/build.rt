@@ -45,6 +45,7 @@ fn lay<I: SegIndex, A: Allocator + Copy>(
         × IsFilled (I.held made.0.index) made.0.first made.0.segments
         (segments_along made.0.vertices (all_rings keyed))
         × (made.0.positions ≡ sum_by length (all_rings keyed))) }
+    ensures cells { IfOk result (λ made. I.cells made.0.index ≡ I.cells index) }
 {
     let mut vertices = Vertices::new(alloc);
     let keyed = key_all(alloc, &mut vertices, features)?;
@@ -74,6 +75,7 @@ impl<'a, I: SegIndex, A: Allocator + Copy> Map<'a, I, A> {
         ensures proper { IfOk result (λ map. Proper map.doc) }
         ensures next { IfOk result (λ map. map.next ≡ length (features map.doc)) }
         ensures untested { IfOk result (λ map. map.tests ≡ 0) }
+        ensures cells { IfOk result (λ map. map.cells ≡ I.cells index) }
         ensures conflict { IfErr result
             (λ fault. Names fault (first_pair (document_of (view_raw raw.entry)))) }
     {
