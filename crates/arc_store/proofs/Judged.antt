@@ -65,7 +65,7 @@ module _ (d : Document) (held : SegmentSet) (a b q : Position) (i : IsInsertable
 
   -- in the words of what was passed to the tests
   module _ (before : Segment) (after : List Segment) (goes : before ≡ segment a b) (comes : after ≡ spokes q (a ∷ b ∷ [])) where
-    insert_passed : IsAfter held (One before) after (all_segments (ins d a b q))
+    pub insert_passed : IsAfter held (One before) after (all_segments (ins d a b q))
     insert_passed t =
         insert_after t
         ∙ ap₂ (λ y z. (set.contains held t && not (segment_eq y t)) || among z t) (sym goes) (sym comes)

@@ -20,6 +20,7 @@ pub mod Planned
 pub mod SegmentBound
 pub mod SegmentCounts
 pub mod MovePlan
+pub mod Tested
 pub mod AroundPlan
 pub mod FrameLemmas
 pub mod FramedDocument

@@ -102,7 +102,7 @@ module _ (s : Stored) (held : SegmentSet) (h : Holds s held) (k : ℕ) (p q : Po
       (segments_to_single s.places p h.whole.distinct r.keys (λ x i. (joined_kept s h.whole k x ((r.joined x).0 (in_contains r.keys x i))).1) r.once)
 
   -- the segments of the moved document are there after the edit
-  plan_after : IsAfter held (EndingAt p) (spokes q around) (all_segments (put (document_of s) p q))
+  pub plan_after : IsAfter held (EndingAt p) (spokes q around) (all_segments (put (document_of s) p q))
   plan_after t =
       indexed_moved s h.whole k p q at free r.keys r.joined held h.indexed t
       ∙ ap (λ z. (set.contains held t && not (is_end p t)) || has_segment z t) (sym (spokes_are q))

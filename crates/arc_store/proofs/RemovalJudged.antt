@@ -43,7 +43,7 @@ module _ (d : Document) (held : SegmentSet) (p : Position) (t : Segment) (i : Is
       ∙ ap (λ x. first_of ((SegmentExists unless not x) ∷ rest)) i.unjoined
 
   -- the segments after the removal, in the words of the tests
-  remove_after : IsAfter held (EndingAt p) (t ∷ []) (all_segments (del d p))
+  pub remove_after : IsAfter held (EndingAt p) (t ∷ []) (all_segments (del d p))
   remove_after s =
       has-eq (all_segments (del d p)) s
       ∙ i.without s

@@ -1,8 +1,9 @@
 -- A map's tables as what is kept, and as its callers see it.
-use Rattle.std.specs.Prelude.{ℕ, ◌≡◌, ◌≤◌, length}
+use Rattle.std.specs.Prelude.{ℕ, ◌≡◌, ◌≤◌, length, Option}
 use Rattle.ring_machine.specs.Parts.{features, size}
 use Rattle.ring_machine.specs.Query.{distinct_segments}
 use Rattle.segment_index.specs.Candidates.{SegmentSet}
+use Rattle.segment_index.specs.Frames.{Frame as GridFrame}
 use Rattle.vertex_index.specs.Placement.{Placement}
 use Rattle.arc_tables.specs.Rings.{Rings}
 use Rattle.arc_store.specs.declared.frame.Frame.{Frame}
@@ -17,11 +18,12 @@ module _ {A : Type 0} where
   stored frame rings places = record { frame = frame_of frame; rings = rings; places = places }
 
   -- the map as its callers see it
-  abbrev pub state_of : Frame A → Rings → Placement → ℕ → ℕ → State
-  state_of frame rings places next tests = record {
+  abbrev pub state_of : Frame A → Rings → Placement → ℕ → ℕ → Option GridFrame → State
+  state_of frame rings places next tests cells = record {
     doc = document_of (stored frame rings places);
     next = next;
     tests = tests;
+    cells = cells;
   }
 
   -- what is true of the tables of every map

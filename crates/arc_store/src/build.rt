@@ -25,6 +25,7 @@ impl<'a, I: SegIndex, A: Allocator + Copy> Map<'a, I, A> {
         ensures proper { IfOk result (λ map. Proper map.doc) }
         ensures next { IfOk result (λ map. map.next ≡ length (features map.doc)) }
         ensures untested { IfOk result (λ map. map.tests ≡ 0) }
+        ensures cells { IfOk result (λ map. map.cells ≡ I.cells index) }
         ensures conflict { IfErr result
             (λ fault. Names fault (first_pair (document_of (view_raw raw.entry)))) }
     {

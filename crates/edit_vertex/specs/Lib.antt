@@ -1,2 +1,3 @@
+pub mod Tested
 pub mod Thinning
 pub mod Untested

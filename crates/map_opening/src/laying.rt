@@ -52,6 +52,7 @@ impl<I: SegIndex, A: Allocator + Copy> Laying<I, A> {
         ensures borders { self.new.borders ≡ self.old.borders }
         ensures positions { self.new.positions ≡ self.old.positions }
         ensures few { self.new.segments ≤ self.old.segments + 1 }
+        ensures cells { I.cells self.new.index ≡ I.cells self.old.index }
     {
         self.first = first_with(self.alloc, &self.index, s, self.first, &mut self.tests)?;
         self.index.add(s)?;
@@ -73,6 +74,7 @@ impl<I: SegIndex, A: Allocator + Copy> Laying<I, A> {
         ensures borders { self.new.borders ≡ self.old.borders }
         ensures positions { self.new.positions ≡ self.old.positions }
         ensures few { self.new.segments ≤ self.old.segments + 1 }
+        ensures cells { I.cells self.new.index ≡ I.cells self.old.index }
     {
         let Some(s) = Seg::new(self.vertices.pos(a), self.vertices.pos(b)) else {
             return Ok(());
@@ -95,6 +97,7 @@ impl<I: SegIndex, A: Allocator + Copy> Laying<I, A> {
         ensures borders { self.new.borders ≡ self.old.borders }
         ensures positions { self.new.positions ≡ self.old.positions }
         ensures few { self.new.segments ≤ self.old.segments + length keys.now }
+        ensures cells { I.cells self.new.index ≡ I.cells self.old.index }
     {
         let mut a = keys[0];
         for at in 1..keys.len() {
@@ -122,6 +125,7 @@ impl<I: SegIndex, A: Allocator + Copy> Laying<I, A> {
         ensures positions { OnOk result (self.new.positions ≡ self.old.positions + length keys.now) }
         ensures few { OnOk result (self.new.segments ≤ self.new.positions) }
         ensures vertices { self.new.vertices ≡ self.old.vertices }
+        ensures cells { I.cells self.new.index ≡ I.cells self.old.index }
     {
         self.lay_segments(keys)?;
         self.positions += keys.len();
@@ -152,6 +156,7 @@ impl<I: SegIndex, A: Allocator + Copy> Laying<I, A> {
             ≡ self.old.positions + sum_by length (map (λ ring. ring.items) rings.now)) }
         ensures few { OnOk result (self.new.segments ≤ self.new.positions) }
         ensures vertices { OnOk result (self.new.vertices ≡ self.old.vertices) }
+        ensures cells { OnOk result (I.cells self.new.index ≡ I.cells self.old.index) }
     {
         let mut numbers = Vec::new(self.alloc);
         for keys in rings {
@@ -190,6 +195,7 @@ impl<I: SegIndex, A: Allocator + Copy> Laying<I, A> {
             + sum_by length (flat_map (λ polygon. polygon) (map polygon_keys polygons.now))) }
         ensures few { OnOk result (self.new.segments ≤ self.new.positions) }
         ensures vertices { OnOk result (self.new.vertices ≡ self.old.vertices) }
+        ensures cells { OnOk result (I.cells self.new.index ≡ I.cells self.old.index) }
     {
         let mut numbers = Vec::new(self.alloc);
         for rings in polygons {
@@ -225,6 +231,7 @@ impl<I: SegIndex, A: Allocator + Copy> Laying<I, A> {
             ≡ self.old.positions + sum_by length (all_rings (map feature_keys features.now))) }
         ensures few { OnOk result (self.new.segments ≤ self.new.positions) }
         ensures vertices { OnOk result (self.new.vertices ≡ self.old.vertices) }
+        ensures cells { OnOk result (I.cells self.new.index ≡ I.cells self.old.index) }
     {
         let mut numbers = Vec::new(self.alloc);
         for polygons in features {

@@ -47,9 +47,10 @@ pub fn lay<I: SegIndex, A: Allocator + Copy>(
     requires rings { IsTrue (list_all is_ring (all_rings (map feature_positions features.now))) }
     requires small { sum_by length (all_rings (map feature_positions features.now)) ≤ 4000000 }
     requires empty { I.held index ≡ set.empty }
-    ensures { IfOk result (λ laid. IsLaidOut (map feature_positions features.now)
+    ensures laid { IfOk result (λ laid. IsLaidOut (map feature_positions features.now)
         (map feature_numbers laid.numbers.items) laid.vertices laid.borders (I.held laid.index)
         laid.first laid.positions laid.segments) }
+    ensures cells { IfOk result (λ laid. I.cells laid.index ≡ I.cells index) }
 {
     let mut vertices = Vertices::new(alloc);
     let keyed = key_all(alloc, &mut vertices, features)?;

@@ -26,8 +26,8 @@ lay_all-requires-clause-small g c =
       ap (λ z. sum_by length (all_rings (map feature_keys z))) c.as_slice-2.ensures.value,
     )
 
-pub returns : goal.returns
-returns g c =
+pub returns-clause-laid : goal.returns-clause-laid
+returns-clause-laid g c =
     let first = laid_none c.mark_junctions.new.borders (c.mark_junctions.ensures ∙ c.new-borders.ensures) in record {
       keyed = map feature_keys c.in_ok-keyed.keyed.items;
       keys = subst (λ places. IsKeyed places (map feature_positions c.args.features.now) (map feature_keys c.in_ok-keyed.keyed.items)) (sym c.in_ok-numbers.ensures.vertices) c.in_ok-keyed.ensures;

@@ -20,7 +20,7 @@ lay-requires-clause-small g c =
 
 pub returns-in-Some-clause-conflict : goal.returns-in-Some-clause-conflict
 returns-in-Some-clause-conflict g c =
-    opened_pair c.args.raw c.requires.rings c.as_slice.ensures.value c.in_ok-laid.laid.numbers c.in_ok-laid.ensures
+    opened_pair c.args.raw c.requires.rings c.as_slice.ensures.value c.in_ok-laid.laid.numbers c.in_ok-laid.ensures.laid
     ∙ c.in-Some.is
 
 pub overflow_cast-next : goal.overflow_cast-next
@@ -29,7 +29,7 @@ overflow_cast-next g c =
       arith,
       c.len-next.ensures,
       c.in_ok-laid.laid.numbers.ok,
-      opened_few c.args.raw c.requires.rings c.as_slice.ensures.value c.in_ok-laid.laid.numbers c.in_ok-laid.ensures,
+      opened_few c.args.raw c.requires.rings c.as_slice.ensures.value c.in_ok-laid.laid.numbers c.in_ok-laid.ensures.laid,
     )
 
 none_is : {X : Type 0} (o : Option X) → ((x : X) → o ≡ Some x → ⊥) → o ≡ None
@@ -38,20 +38,20 @@ none_is (Some x) h = absurd (h x refl)
 
 pub invariant_of-result : goal.invariant_of-result
 invariant_of-result g c =
-    opened_kept c.args.raw c.requires.rings c.as_slice.ensures.value c.in_ok-laid.laid.numbers c.in_ok-laid.ensures
+    opened_kept c.args.raw c.requires.rings c.as_slice.ensures.value c.in_ok-laid.laid.numbers c.in_ok-laid.ensures.laid
     (none_is c.in_ok-laid.laid.first c.in_default.not-Some)
     c.len-next.result (omega (arith, c.len-next.ensures, c.in_ok-laid.laid.numbers.ok))
 
 pub returns-clause-built : goal.returns-clause-built
 returns-clause-built g c =
-    opened_document c.args.raw c.requires.rings c.as_slice.ensures.value c.in_ok-laid.laid.numbers c.in_ok-laid.ensures
+    opened_document c.args.raw c.requires.rings c.as_slice.ensures.value c.in_ok-laid.laid.numbers c.in_ok-laid.ensures.laid
 
 pub returns-clause-proper : goal.returns-clause-proper
 returns-clause-proper g c =
-    opened_proper c.args.raw c.requires.rings c.as_slice.ensures.value c.in_ok-laid.laid.numbers c.in_ok-laid.ensures
+    opened_proper c.args.raw c.requires.rings c.as_slice.ensures.value c.in_ok-laid.laid.numbers c.in_ok-laid.ensures.laid
     (none_is c.in_ok-laid.laid.first c.in_default.not-Some)
 
 pub returns-clause-next : goal.returns-clause-next
 returns-clause-next g c =
     let n : c.len-next.result ≡ length c.in_ok-laid.laid.numbers.items = omega (arith, c.len-next.ensures, c.in_ok-laid.laid.numbers.ok) in
-    n ∙ sym (opened_features c.args.raw c.requires.rings c.as_slice.ensures.value c.in_ok-laid.laid.numbers c.in_ok-laid.ensures)
+    n ∙ sym (opened_features c.args.raw c.requires.rings c.as_slice.ensures.value c.in_ok-laid.laid.numbers c.in_ok-laid.ensures.laid)

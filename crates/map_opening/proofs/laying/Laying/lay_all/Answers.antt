@@ -44,6 +44,7 @@ loop-polygons-preserved g c =
           e c.in_ok-push.ensures.items c.loop-polygons.invariant.0 (ap (λ z. flat_map (λ polygon. polygon) (map polygon_keys z)) c.as_slice.ensures.value)
           c.loop-polygons.invariant.2
           c.in_ok-lay_feature.ensures.laid c.in_ok-lay_feature.ensures.filled c.in_ok-lay_feature.ensures.positions c.in_ok-lay_feature.ensures.few,
+      c.in_ok-lay_feature.ensures.cells ∙ c.loop-polygons.invariant.3,
     )
 
 pub returns-clause-laid : goal.returns-clause-laid

@@ -13,3 +13,4 @@ invariant-loop-polygons g l =
     (way l.fn.self.borders (g.I.SegIndex.held l.fn.self.index) l.fn.self.first l.fn.self.segments l.fn.self.positions)
     (way l.self.borders (g.I.SegIndex.held l.self.index) l.self.first l.self.segments l.self.positions)
     (flat_map (λ polygons. flat_map (λ polygon. polygon) polygons) (map feature_numbers l.numbers.items)) (flat_map (λ polygons. flat_map (λ polygon. polygon) polygons) (map feature_keys (take l.polygons-index l.features)))
+    × (g.I.SegIndex.cells l.self.index ≡ g.I.SegIndex.cells l.fn.self.index)

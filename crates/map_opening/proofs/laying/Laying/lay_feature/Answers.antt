@@ -44,6 +44,7 @@ loop-rings-preserved g c =
           e c.in_ok-push.ensures.items c.loop-rings.invariant.0 (ap (λ z. map (λ ring. ring.items) z) c.as_slice.ensures.value)
           c.loop-rings.invariant.2
           c.in_ok-lay_polygon.ensures.laid c.in_ok-lay_polygon.ensures.filled c.in_ok-lay_polygon.ensures.positions c.in_ok-lay_polygon.ensures.few,
+      c.in_ok-lay_polygon.ensures.cells ∙ c.loop-rings.invariant.3,
     )
 
 pub returns-clause-laid : goal.returns-clause-laid

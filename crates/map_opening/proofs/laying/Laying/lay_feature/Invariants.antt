@@ -13,3 +13,4 @@ invariant-loop-rings g l =
     (way l.fn.self.borders (g.I.SegIndex.held l.fn.self.index) l.fn.self.first l.fn.self.segments l.fn.self.positions)
     (way l.self.borders (g.I.SegIndex.held l.self.index) l.self.first l.self.segments l.self.positions)
     (flat_map (λ polygon. polygon) (map polygon_numbers l.numbers.items)) (flat_map (λ polygon. polygon) (map polygon_keys (take l.rings-index l.polygons)))
+    × (g.I.SegIndex.cells l.self.index ≡ g.I.SegIndex.cells l.fn.self.index)

@@ -53,6 +53,7 @@ loop-keys-preserved g c =
           (λ numbers keyed l h. c.in_ok-lay_ring.ensures.filled numbers keyed l
           (subst (λ places. IsFilled (g.I.SegIndex.held c.loop-keys.self.index) c.loop-keys.self.first c.loop-keys.self.segments (segments_along places keyed)) (sym c.loop-keys.invariant.0) h))
           c.in_ok-lay_ring.ensures.positions c.in_ok-lay_ring.ensures.few),
+      c.lay_ring.ensures.cells ∙ c.loop-keys.invariant.3,
     )
 
 pub returns-clause-laid : goal.returns-clause-laid

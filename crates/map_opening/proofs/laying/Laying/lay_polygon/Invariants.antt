@@ -10,3 +10,4 @@ invariant-loop-keys g l =
     (way l.fn.self.borders (g.I.SegIndex.held l.fn.self.index) l.fn.self.first l.fn.self.segments l.fn.self.positions)
     (way l.self.borders (g.I.SegIndex.held l.self.index) l.self.first l.self.segments l.self.positions)
     l.numbers.items (map (λ ring. ring.items) (take l.keys-index l.rings))
+    × (g.I.SegIndex.cells l.self.index ≡ g.I.SegIndex.cells l.fn.self.index)

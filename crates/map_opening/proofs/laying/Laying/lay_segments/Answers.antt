@@ -12,6 +12,7 @@ loop-at-init g c = record {
   vertices = refl;
   borders = refl;
   positions = refl;
+  cells = refl;
 }
 
 pub lay_segment-requires-clause-a : goal.lay_segment-requires-clause-a
@@ -51,6 +52,7 @@ loop-at-preserved g c = record {
   vertices = c.lay_segment.ensures.vertices ∙ c.loop-at.invariant.vertices;
   borders = c.lay_segment.ensures.borders ∙ c.loop-at.invariant.borders;
   positions = c.lay_segment.ensures.positions ∙ c.loop-at.invariant.positions;
+  cells = c.lay_segment.ensures.cells ∙ c.loop-at.invariant.cells;
 }
 
 pub lay_segment-requires-2-clause-a : goal.lay_segment-requires-2-clause-a

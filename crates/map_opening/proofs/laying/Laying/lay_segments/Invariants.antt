@@ -13,4 +13,5 @@ invariant-loop-at g l = record {
   vertices : l.self.vertices ≡ l.initial.self.vertices;
   borders : l.self.borders ≡ l.initial.self.borders;
   positions : l.self.positions ≡ l.initial.self.positions;
+  cells : g.I.SegIndex.cells l.self.index ≡ g.I.SegIndex.cells l.initial.self.index;
 }
