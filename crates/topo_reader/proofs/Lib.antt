@@ -16,6 +16,7 @@ pub mod Numbering
 pub mod Bracketed
 pub mod Fitting
 pub mod Formed
+pub mod Keeping
 pub mod OfRings
 pub mod Leaves
 pub mod Widening

@@ -14,6 +14,8 @@ use Rattle.json_spans.specs.Parts.{Node}
 use Rattle.topo_outline.specs.Faults.{Fault, arcs_do_not_meet, ring_short, too_large, ◌>>=◌, each, each_at, demand}
 use Rattle.topo_outline.specs.Gives.{Gives}
 use Rattle.topo_outline.specs.Shape.{OutlineText}
+use Rattle.topo_outline.specs.IsOutline.{NestsAtMost}
+use Rattle.topo_outline.specs.Kept.{KeepsTexts}
 use Rattle.topo_outline.specs.Outline.{leaves, outline}
 use Rattle.topo_outline.proofs.Shaped.{outline_means}
 use Rattle.topo_outline.specs.declared.fault.RingAt.{RingAt}
@@ -27,6 +29,7 @@ use Rattle.topo_reader.specs.Document.{Polygons, Opened, document_of, IsOfRings}
 use Rattle.topo_reader.specs.Opening.{polygons_read, opening}
 use Rattle.topo_reader.specs.Reads.{GeometryUses}
 use Rattle.topo_reader.proofs.Formed.{read_formed}
+use Rattle.topo_reader.proofs.Keeping.{read_keeps}
 use Rattle.topo_reader.proofs.MeaningOfRings.{are_rings as rings_meant}
 use Rattle.topo_reader.proofs.MeaningOfUses.{are_uses}
 use Rattle.topo_reader.proofs.Repeats.{none_again}
@@ -127,11 +130,12 @@ record IsWhole (shape : OutlineText) (ps : List Polygons) : Type 0 where
   few : length (leaves shape.layers) ≤ 200000
   counted : length ps ≡ length (leaves shape.layers)
   formed : WellFormed (document_of (made shape ps))
+  keeps : KeepsTexts (document_of (made shape ps))
   are_rings : list_all (list_all (list_all is_ring)) ps ≡ true
   small : sum_by (sum_by (sum_by length)) ps ≤ 4000000
 
-whole : (n : Node) (shape : OutlineText) (ps : List Polygons) → outline n ≡ Ok shape → polygons_read shape ≡ Ok ps → IsWhole shape ps
-whole n shape ps e h =
+whole : (n : Node) (shape : OutlineText) (ps : List Polygons) → NestsAtMost 100 n → outline n ≡ Ok shape → polygons_read shape ≡ Ok ps → IsWhole shape ps
+whole n shape ps nests e h =
     let found = bind_ok (arcs (is_some shape.transform) shape.arcs) (λ (found : List Arc). each (uses_of found) (leaves shape.layers) >>= λ uses. demand (nat_le (sizes.size uses) 4000000) (too_large limit.Positions) (all_rings uses)) ps h in
     let uses = bind_ok (each (uses_of found.0) (leaves shape.layers)) (λ (uses : List (List (List (List Arc)))). demand (nat_le (sizes.size uses) 4000000) (too_large limit.Positions) (all_rings uses)) ps found.2 in
     let fits = demand_ok (nat_le (sizes.size uses.0) 4000000) (too_large limit.Positions) (all_rings uses.0) ps uses.2 in
@@ -142,6 +146,7 @@ whole n shape ps e h =
       few = at_most (length (leaves shape.layers)) 200000 means.1;
       counted = good.2 ∙ each_length (uses_of found.0) (leaves shape.layers) uses.0 uses.1;
       formed = read_formed n shape found.0 uses.0 ps means.0 meant (rings_meant uses.0 ps fits.1);
+      keeps = read_keeps 100 n shape ps nests means.0;
       are_rings = good.0;
       small = omega (arith, good.1, at_most (sizes.size uses.0) 4000000 fits.0);
     }
@@ -155,17 +160,18 @@ made_of_rings shape ps w =
     record {
       counted = w.counted;
       formed = w.formed;
+      keeps = w.keeps;
       few = w.few;
       are_rings = ap (λ (rs : List (List Position)). list_all is_ring rs) same ∙ all_within is_ring ps w.are_rings;
       small = omega (arith, total, w.small);
     }
 
-pub opening_of_rings : (n : Node) (o : Opened) → opening n ≡ Ok o → IsOfRings o
-opening_of_rings n o h =
+pub opening_of_rings : (n : Node) (o : Opened) → NestsAtMost 100 n → opening n ≡ Ok o → IsOfRings o
+opening_of_rings n o nests h =
     let shape = bind_ok (outline n) (λ (shape : OutlineText). polygons_read shape >>= λ ps. Ok (made shape ps)) o h in
     let ps = bind_ok (polygons_read shape.0) (λ (ps : List Polygons). Ok (made shape.0 ps)) o shape.2 in
-    subst IsOfRings (ok_same (made shape.0 ps.0) o ps.2) (made_of_rings shape.0 ps.0 (whole n shape.0 ps.0 shape.1 ps.1))
+    subst IsOfRings (ok_same (made shape.0 ps.0) o ps.2) (made_of_rings shape.0 ps.0 (whole n shape.0 ps.0 nests shape.1 ps.1))
 
-pub gives_of_rings : {X : Type 0} (view : X → Opened) (r : Result X OpenFault) (n : Node) → Gives view r (opening n) → IfOk r (λ x. IsOfRings (view x))
-gives_of_rings view (Ok x) n h = opening_of_rings n (view x) h
-gives_of_rings view (Err e) n h = tt
+pub gives_of_rings : {X : Type 0} (view : X → Opened) (r : Result X OpenFault) (n : Node) → NestsAtMost 100 n → Gives view r (opening n) → IfOk r (λ x. IsOfRings (view x))
+gives_of_rings view (Ok x) n nests h = opening_of_rings n (view x) nests h
+gives_of_rings view (Err e) n nests h = tt
