@@ -312,6 +312,7 @@ holds_inserted s held held' after j k n a b q h i x =
     record {
       whole = whole_inserted s after j k n a b q h.whole h.proper i;
       formed = h.formed;
+      keeps = h.keeps;
       proper = subst Proper (sym is) (inserted (document_of s) a b q h.proper i.accepted).0;
       small = subst (λ d. size d ≤ 4000000) (sym is) (at_most (size (ins (document_of s) a b q)) 4000000 (insert-accepted (document_of s) a b q i.accepted).small);
       indexed = subst (λ d. IsIndexed d held') (sym is) x;

@@ -378,6 +378,7 @@ holds_moved s held held' k p q h at none indexed =
     record {
       whole = whole_moved s h.whole k p q at accepted.free;
       formed = h.formed;
+      keeps = h.keeps;
       proper = subst Proper (sym is) (moved (document_of s) p q h.proper none).0;
       small = omega (arith, h.small, size_moved s h.whole k p q at accepted.free);
       indexed = subst (λ d. IsIndexed d held') (sym is) indexed;

@@ -15,7 +15,9 @@ use Rattle.ring_machine.specs.WellFormed.{are_distinct, WellFormed}
 use Rattle.ring_machine.proofs.First.{In}
 use Rattle.ring_machine.proofs.FormedRings.{formed-before_rings}
 use Rattle.ring_machine.proofs.Neighbours.{in-map}
+use Rattle.topo_outline.specs.Kept.{KeepsTexts}
 use Rattle.topo_outline.specs.Outline.{leaves}
+use Rattle.topo_outline.proofs.KeptRings.{keeps-before_rings}
 use Rattle.topo_reader.specs.Document.{IsOfRings}
 use Rattle.topo_reader.specs.Document as read
 use Rattle.topo_reader.proofs.Numbering.{rings_document}
@@ -195,10 +197,16 @@ module _ {A : Type 0} (raw : RawDoc A) (h : IsOfRings (view_raw raw))
   opened_formed =
       formed-before_rings (ring_under opened) (frame_of raw_frame) (subst WellFormed (sym opened_document) h.formed)
 
+  -- and has the same texts
+  opened_keeps : KeepsTexts (frame_of raw_frame)
+  opened_keeps =
+      keeps-before_rings (ring_under opened) (frame_of raw_frame) (subst KeepsTexts (sym opened_document) h.keeps)
+
   opened_holds : first ≡ None → Holds opened held
   opened_holds none = record {
     whole = opened_whole;
     formed = opened_formed;
+    keeps = opened_keeps;
     proper = opened_proper none;
     small = subst (λ d. size d ≤ 4000000) (sym opened_document) h.small;
     indexed = opened_indexed;

@@ -463,6 +463,7 @@ holds_removed s held held' after m j k p h i x =
     record {
       whole = whole_removed s after m j k p h.whole h.proper i;
       formed = h.formed;
+      keeps = h.keeps;
       proper = subst Proper (sym is) (removed (document_of s) p h.proper i.accepted).0;
       small = subst (λ d. size d ≤ 4000000) (sym is) (omega (arith, h.small, size_removed s after m j k p h.whole h.proper i));
       indexed = subst (λ d. IsIndexed d held') (sym is) x;

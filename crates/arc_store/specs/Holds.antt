@@ -7,6 +7,7 @@ use Rattle.ring_machine.specs.Document.{Document}
 use Rattle.ring_machine.specs.Parts.{rings, size, is_segment}
 use Rattle.ring_machine.specs.Planar.{Proper}
 use Rattle.ring_machine.specs.WellFormed.{are_distinct, WellFormed}
+use Rattle.topo_outline.specs.Kept.{KeepsTexts}
 use Rattle.vertex_index.specs.Placement.{AreDistinct}
 use Rattle.segment_index.specs.Candidates.{SegmentSet}
 use Rattle.arc_tables.specs.Ways.{Edge}
@@ -33,11 +34,12 @@ pub record IsWhole (s : Stored) : Type 0 where
 abbrev pub IsIndexed : Document → SegmentSet → Type 0
 IsIndexed d held = (t : Segment) → set.contains held t ≡ is_segment d t
 
--- the map: its tables belong together, its frame is well formed, its document is proper and within
--- the limit, and the index holds the document's segments
+-- the map: its tables belong together, its frame is well formed and has texts that opening would
+-- keep, its document is proper and within the limit, and the index holds the document's segments
 pub record Holds (s : Stored) (held : SegmentSet) : Type 0 where
   pub whole : IsWhole s
   pub formed : WellFormed s.frame
+  pub keeps : KeepsTexts s.frame
   pub proper : Proper (document_of s)
   pub small : size (document_of s) ≤ 4000000
   pub indexed : IsIndexed (document_of s) held

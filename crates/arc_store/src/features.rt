@@ -2,6 +2,7 @@ ghost use Rattle.std.specs.Prelude.{◌≡◌, ◌≤◌, ◌↔◌, ℕ, map, l
 ghost use Rattle.ring_machine.specs.Parts.{feature, size};
 ghost use Rattle.ring_machine.specs.Planar.{Proper};
 ghost use Rattle.ring_machine.specs.WellFormed.{WellFormed};
+ghost use Rattle.topo_outline.specs.Kept.{KeepsTexts};
 ghost use Rattle.topo_outline.specs.Views.{form_of, view_kept};
 ghost use Rattle.arc_store.specs.Leaves.{raw_leaf, raw_leaves, raw_features};
 ghost use Rattle.arc_store.specs.Readers.{shown, IsFrameOf};
@@ -152,6 +153,7 @@ impl<'a, I: SegIndex, A: Allocator + Copy> Map<'a, I, A> {
     pub fn frame(&self) -> FrameView<'_, 'a, A>
         ensures shown { IsFrameOf self.now.doc result }
         ensures formed { WellFormed self.now.doc }
+        ensures keeps { KeepsTexts self.now.doc }
         ensures proper { Proper self.now.doc }
     {
         FrameView {

@@ -13,6 +13,8 @@ use Rattle.ring_machine.specs.Refusals.{first_of, insert_refusals, remove_refusa
 use Rattle.ring_machine.proofs.FormedRings.{formed-in_rings}
 use Rattle.ring_machine.proofs.RingsOf.{rings-in_rings}
 use Rattle.ring_machine.proofs.Accepted.{insert-accepted, inserted, removed}
+use Rattle.topo_outline.specs.Kept.{KeepsTexts}
+use Rattle.topo_outline.proofs.KeptRings.{keeps-in_rings}
 use Rattle.topo_reader.specs.declared.document.RawDoc.{RawDoc}
 use Rattle.topo_reader.specs.Document.{Opened, document_of}
 use Rattle.topo_reader.specs.DocumentView.{view_raw}
@@ -37,6 +39,7 @@ stays o g plain proper small =
       of_rings = record {
         counted = length-map o.polygons (map (map g)) ∙ plain.of_rings.counted;
         formed = subst WellFormed is (formed-in_rings g (document_of o) plain.of_rings.formed);
+        keeps = subst KeepsTexts is (keeps-in_rings g (document_of o) plain.of_rings.keeps);
         few = plain.of_rings.few;
         are_rings = subst (λ d. IsTrue (list_all is_ring (rings d))) is proper.are_rings;
         small = subst (λ d. size d ≤ 4000000) is small;

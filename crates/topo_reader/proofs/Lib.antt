@@ -16,6 +16,8 @@ pub mod Numbering
 pub mod Bracketed
 pub mod Fitting
 pub mod Formed
+pub mod Keeping
+pub mod Meant
 pub mod OfRings
 pub mod Leaves
 pub mod Widening

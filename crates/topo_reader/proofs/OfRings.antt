@@ -14,6 +14,7 @@ use Rattle.json_spans.specs.Parts.{Node}
 use Rattle.topo_outline.specs.Faults.{Fault, arcs_do_not_meet, ring_short, too_large, ◌>>=◌, each, each_at, demand}
 use Rattle.topo_outline.specs.Gives.{Gives}
 use Rattle.topo_outline.specs.Shape.{OutlineText}
+use Rattle.topo_outline.specs.Kept.{KeepsTexts}
 use Rattle.topo_outline.specs.Outline.{leaves, outline}
 use Rattle.topo_outline.proofs.Shaped.{outline_means}
 use Rattle.topo_outline.specs.declared.fault.RingAt.{RingAt}
@@ -25,12 +26,10 @@ use Rattle.topo_reader.specs.Sizes as sizes
 use Rattle.topo_reader.specs.Rings.{unless, is_at, meet, squeezed, all_of, joined, first_repeat, distinct, ring_of, polygon_of, feature_of, all_rings}
 use Rattle.topo_reader.specs.Document.{Polygons, Opened, document_of, IsOfRings}
 use Rattle.topo_reader.specs.Opening.{polygons_read, opening}
-use Rattle.topo_reader.specs.Reads.{GeometryUses}
-use Rattle.topo_reader.proofs.Formed.{read_formed}
-use Rattle.topo_reader.proofs.MeaningOfRings.{are_rings as rings_meant}
-use Rattle.topo_reader.proofs.MeaningOfUses.{are_uses}
+use Rattle.topo_reader.proofs.Meant.{meant_formed, meant_keeps}
+use Rattle.topo_reader.proofs.MeaningOfText.{IsRead}
 use Rattle.topo_reader.proofs.Repeats.{none_again}
-use Rattle.topo_reader.proofs.Steps.{at_most, bind_ok, demand_ok, ok_same, of_each}
+use Rattle.topo_reader.proofs.Steps.{at_most, bind_ok, demand_ok, ok_same}
 use Rattle.topo_reader.proofs.Numbering.{rings_within, rings_document, all_within, sum_within}
 
 each_length : {A B : Type 0} (f : A → Result B Fault) (xs : List A) (ys : List B) → each f xs ≡ Ok ys → length ys ≡ length xs
@@ -120,15 +119,8 @@ all_good fs rs h = each_at_good feature_of (list_all (list_all is_ring)) sizes.f
 
 -- ---- what was read is of rings
 
-abbrev made : OutlineText → List Polygons → Opened
-made shape ps = record { transform = shape.transform; layers = shape.layers; members = shape.members; polygons = ps }
-
-record IsWhole (shape : OutlineText) (ps : List Polygons) : Type 0 where
-  few : length (leaves shape.layers) ≤ 200000
-  counted : length ps ≡ length (leaves shape.layers)
-  formed : WellFormed (document_of (made shape ps))
-  are_rings : list_all (list_all (list_all is_ring)) ps ≡ true
-  small : sum_by (sum_by (sum_by length)) ps ≤ 4000000
+abbrev IsWhole : OutlineText → List Polygons → Type 0
+IsWhole shape ps = (length (leaves shape.layers) ≤ 200000) × (length ps ≡ length (leaves shape.layers)) × (list_all (list_all (list_all is_ring)) ps ≡ true) × (sum_by (sum_by (sum_by length)) ps ≤ 4000000)
 
 whole : (n : Node) (shape : OutlineText) (ps : List Polygons) → outline n ≡ Ok shape → polygons_read shape ≡ Ok ps → IsWhole shape ps
 whole n shape ps e h =
@@ -136,36 +128,35 @@ whole n shape ps e h =
     let uses = bind_ok (each (uses_of found.0) (leaves shape.layers)) (λ (uses : List (List (List (List Arc)))). demand (nat_le (sizes.size uses) 4000000) (too_large limit.Positions) (all_rings uses)) ps found.2 in
     let fits = demand_ok (nat_le (sizes.size uses.0) 4000000) (too_large limit.Positions) (all_rings uses.0) ps uses.2 in
     let good = all_good uses.0 ps fits.1 in
-    let means = outline_means n shape e in
-    let meant = of_each (GeometryUses found.0) (uses_of found.0) (are_uses found.0) (leaves shape.layers) uses.0 uses.1 in
-    record {
-      few = at_most (length (leaves shape.layers)) 200000 means.1;
-      counted = good.2 ∙ each_length (uses_of found.0) (leaves shape.layers) uses.0 uses.1;
-      formed = read_formed n shape found.0 uses.0 ps means.0 meant (rings_meant uses.0 ps fits.1);
-      are_rings = good.0;
-      small = omega (arith, good.1, at_most (sizes.size uses.0) 4000000 fits.0);
-    }
+    (at_most (length (leaves shape.layers)) 200000 (outline_means n shape e).1, good.2 ∙ each_length (uses_of found.0) (leaves shape.layers) uses.0 uses.1, good.0, omega (arith, good.1, at_most (sizes.size uses.0) 4000000 fits.0))
 
-made_of_rings : (shape : OutlineText) (ps : List Polygons) → IsWhole shape ps → IsOfRings (made shape ps)
-made_of_rings shape ps w =
+abbrev made : OutlineText → List Polygons → Opened
+made shape ps = record { transform = shape.transform; layers = shape.layers; members = shape.members; polygons = ps }
+
+made_of_rings : (shape : OutlineText) (ps : List Polygons) → IsWhole shape ps → WellFormed (document_of (made shape ps)) → KeepsTexts (document_of (made shape ps)) → IsOfRings (made shape ps)
+made_of_rings shape ps w formed keeps =
     let same : rings (document_of (made shape ps)) ≡ flat_map rings_within ps =
-    rings_document ps shape.layers ∙ ap (λ (qs : List Polygons). flat_map rings_within qs) (take_all (length (leaves shape.layers)) ps (omega (arith, w.counted))) in
+    rings_document ps shape.layers ∙ ap (λ (qs : List Polygons). flat_map rings_within qs) (take_all (length (leaves shape.layers)) ps (omega (arith, w.1))) in
     let total : size (document_of (made shape ps)) ≡ sum_by (sum_by (sum_by length)) ps =
     ap (λ (rs : List (List Position)). sum_by length rs) same ∙ sum_within length ps in
     record {
-      counted = w.counted;
-      formed = w.formed;
-      few = w.few;
-      are_rings = ap (λ (rs : List (List Position)). list_all is_ring rs) same ∙ all_within is_ring ps w.are_rings;
-      small = omega (arith, total, w.small);
+      counted = w.1;
+      formed = formed;
+      keeps = keeps;
+      few = w.0;
+      are_rings = ap (λ (rs : List (List Position)). list_all is_ring rs) same ∙ all_within is_ring ps w.2;
+      small = omega (arith, total, w.3);
     }
 
-pub opening_of_rings : (n : Node) (o : Opened) → opening n ≡ Ok o → IsOfRings o
-opening_of_rings n o h =
+pub opening_of_rings : (n : Node) (o : Opened) → opening n ≡ Ok o → WellFormed (document_of o) → KeepsTexts (document_of o) → IsOfRings o
+opening_of_rings n o h formed keeps =
     let shape = bind_ok (outline n) (λ (shape : OutlineText). polygons_read shape >>= λ ps. Ok (made shape ps)) o h in
     let ps = bind_ok (polygons_read shape.0) (λ (ps : List Polygons). Ok (made shape.0 ps)) o shape.2 in
-    subst IsOfRings (ok_same (made shape.0 ps.0) o ps.2) (made_of_rings shape.0 ps.0 (whole n shape.0 ps.0 shape.1 ps.1))
+    let is = ok_same (made shape.0 ps.0) o ps.2 in
+    subst IsOfRings is (made_of_rings shape.0 ps.0 (whole n shape.0 ps.0 shape.1 ps.1) (subst (λ (p : Opened). WellFormed (document_of p)) (sym is) formed) (subst (λ (p : Opened). KeepsTexts (document_of p)) (sym is) keeps))
 
-pub gives_of_rings : {X : Type 0} (view : X → Opened) (r : Result X OpenFault) (n : Node) → Gives view r (opening n) → IfOk r (λ x. IsOfRings (view x))
-gives_of_rings view (Ok x) n h = opening_of_rings n (view x) h
-gives_of_rings view (Err e) n h = tt
+-- what is answered is of rings, where the bytes mean it
+pub gives_of_rings : {X : Type 0} (view : X → Opened) (bytes : List ℕ) (r : Result X OpenFault) (n : Node) → Gives view r (opening n) → IfOk r (λ x. IsRead bytes (document_of (view x))) → IfOk r (λ x. IsOfRings (view x))
+gives_of_rings view bytes (Ok x) n h read =
+    opening_of_rings n (view x) h (meant_formed bytes (document_of (view x)) read.0) (meant_keeps bytes (document_of (view x)) read.0)
+gives_of_rings view bytes (Err e) n h read = tt

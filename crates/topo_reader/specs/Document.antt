@@ -7,6 +7,7 @@ use Rattle.ring_machine.specs.Document.{Text, Form, Member, Head, Feature, Item,
 use Rattle.ring_machine.specs.Parts.{rings, size}
 use Rattle.ring_machine.specs.WellFormed.{WellFormed}
 use Rattle.topo_outline.specs.Shape.{Piece, starts, ends, leaf, text, LayerText}
+use Rattle.topo_outline.specs.Kept.{KeepsTexts}
 use Rattle.topo_outline.specs.Outline.{leaves_in, leaves}
 
 -- the polygons of one feature: an outer ring and its holes each (RFC 7946, 3.1.6)
@@ -59,11 +60,13 @@ document_of o = record {
   members = o.members;
 }
 
--- what every opened topology is: each feature has its polygons, its document is well formed, each
--- list is a ring, and the numbers of features and positions are within their limits
+-- what every opened topology is: each feature has its polygons, its document is well formed, its
+-- texts are ones that opening would keep, each list is a ring, and the numbers of features and
+-- positions are within their limits
 pub record IsOfRings (o : Opened) : Type 0 where
   pub counted : length o.polygons ≡ length (leaves o.layers)
   pub formed : WellFormed (document_of o)
+  pub keeps : KeepsTexts (document_of o)
   pub few : length (leaves o.layers) ≤ 200000
   pub are_rings : IsTrue (list_all is_ring (rings (document_of o)))
   pub small : size (document_of o) ≤ 4000000
