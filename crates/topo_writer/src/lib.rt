@@ -1,0 +1,9 @@
+//! The text of a map, as TopoJSON 1.0: each border once, and what was read and is not known as it
+//! stood.
+#![tactic(auto)]
+
+mod fault;
+mod text;
+
+pub use fault::WriteFault;
+pub use text::{push_comma, push_number, push_pair};
