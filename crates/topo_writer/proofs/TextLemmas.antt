@@ -3,7 +3,8 @@ use Rattle.std.proofs.Common.{true, ◌≡◌, ℕ, zero, suc, ◌+◌, ◌<◌,
 use Rattle.std.specs.Prelude.{codes, nat_lt}
 use Rattle.std.proofs.lemmas.List.{append-nil, map-append, take_more}
 use Rattle.std.proofs.lemmas.List.Concat.{flat_map-append}
-use Rattle.map_text.specs.Text.{further, commas, comma_if}
+use Rattle.ring_machine.specs.Document.{Member}
+use Rattle.map_text.specs.Text.{further, commas, comma_if, member_text}
 
 -- one more text at the end
 further_push : (ts : List (List ℕ)) (t : List ℕ)
@@ -39,3 +40,29 @@ items_step f xs i x h e old now mid end p q r =
     ∙ append_assoc (old ++ commas (map f (take i xs))) (comma_if (nat_lt 0 i)) (f x)
     ∙ append_assoc old (commas (map f (take i xs))) (comma_if (nat_lt 0 i) ++ f x)
     ∙ ap (λ z. old ++ z) (sym (commas_step f xs i x h e))
+
+-- a buffer that has the first items, each after a comma, gets one item more
+pub further_step : {T : Type 0} (f : T → List ℕ) (xs : List T) (i : ℕ) (x : T)
+    → i < length xs → x ≡ get_or xs i x
+    → further (map f (take (i + 1) xs)) ≡ further (map f (take i xs)) ++ (codes "," ++ f x)
+further_step f xs i x h e =
+    ap (λ z. further (map f z)) (take_more xs i x h ∙ ap (λ z. take i xs ++ z ∷ []) (sym e))
+    ∙ ap further (map-append f (take i xs) (x ∷ []))
+    ∙ further_push (map f (take i xs)) (f x)
+
+pub further_items : {T : Type 0} (f : T → List ℕ) (xs : List T) (i : ℕ) (x : T)
+    → i < length xs → x ≡ get_or xs i x
+    → (old now end : List ℕ) → now ≡ old ++ further (map f (take i xs))
+    → end ≡ now ++ (codes "," ++ f x)
+    → end ≡ old ++ further (map f (take (i + 1) xs))
+further_items f xs i x h e old now end p q =
+    q ∙ ap (λ z. z ++ (codes "," ++ f x)) p
+    ∙ append_assoc old (further (map f (take i xs))) (codes "," ++ f x)
+    ∙ ap (λ z. old ++ z) (sym (further_step f xs i x h e))
+
+-- members one after another
+pub further_both : (a b : List Member)
+    → further (map member_text (a ++ b)) ≡ further (map member_text a) ++ further (map member_text b)
+further_both a b =
+    ap further (map-append member_text a b)
+    ∙ flat_map-append (λ u. codes "," ++ u) (map member_text a) (map member_text b)

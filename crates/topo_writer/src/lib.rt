@@ -3,6 +3,7 @@
 #![tactic(auto)]
 
 mod fault;
+mod members;
 mod text;
 
 pub use fault::WriteFault;
