@@ -5,3 +5,4 @@ pub mod Around
 pub mod Junctions
 pub mod OnceEach
 pub mod Borders
+pub mod Ends
