@@ -1,5 +1,5 @@
 -- What stands round a position in the rings: where no junction is, every ring goes on alike.
-use Rattle.std.proofs.Common.{◌≡◌, ℕ, ◌≤◌, Bool, true, false, refl, sym, ap, ap₂, ◌∙◌, subst, cond}
+use Rattle.std.proofs.Common.{◌≡◌, ◌≤◌, Bool, true, false, refl, sym, ap, ap₂, ◌∙◌, subst, cond}
 use Rattle.std.proofs.Common.{List, [], ◌∷◌, ◌++◌, inl, inr, arith, length, append_assoc, pos}
 use Rattle.std.specs.Prelude.{not}
 use Rattle.std.specs.Ordering.{is_gt}
@@ -48,15 +48,22 @@ placed v ring l h = by (in_split v ring h)
       where
         long : 2 ≤ length (s.1 ++ s.0)
         long = omega (arith, ap length s.2, length-append s.0 (v ∷ s.1), length-append s.1 s.0)
+
         at : Rotated ring (v ∷ s.1 ++ s.0)
         at = record { us = s.0; vs = v ∷ s.1; from = s.2; to = refl }
+
         go : (ws : List Position) → s.1 ++ s.0 ≡ ws → Placed v ring
         go [] k = absurd (omega (arith, long, ap length k))
         go (x ∷ []) k = absurd (omega (arith, long, ap length k))
         go (x ∷ y ∷ more) k =
             let tail = with_last y more in
-            record { u = tail.1; x = x; rest = tail.0; turned = rotated-trans ring (v ∷ x ∷ y ∷ more) (tail.1 ∷ v ∷ x ∷ tail.0) (subst (λ z. Rotated ring (v ∷ z)) k at)
-              (record { us = v ∷ x ∷ tail.0; vs = tail.1 ∷ []; from = ap (λ z. v ∷ x ∷ z) tail.2; to = refl }) }
+            record {
+              u = tail.1;
+              x = x;
+              rest = tail.0;
+              turned = rotated-trans ring (v ∷ x ∷ y ∷ more) (tail.1 ∷ v ∷ x ∷ tail.0) (subst (λ z. Rotated ring (v ∷ z)) k at)
+                  (record { us = v ∷ x ∷ tail.0; vs = tail.1 ∷ []; from = ap (λ z. v ∷ x ∷ z) tail.2; to = refl });
+            }
 
 -- three that follow each other on the way round
 module _ (T : Position → Position → Position → Type 0) (q : Position) (qs : List Position) (l : 2 ≤ length qs) (h : (u v x : Position) (rest : List Position) → Rotated (q ∷ qs) (u ∷ v ∷ x ∷ rest) → T u v x) where
@@ -69,6 +76,7 @@ module _ (T : Position → Position → Position → Type 0) (q : Position) (qs 
           last : (cs : List Position) → cs ++ u ∷ v ∷ [] ≡ q ∷ qs → x ≡ q → T u v x
           last [] k f = absurd (omega (arith, ap length k))
           last (c ∷ cs) k f = h u v x cs (record { us = c ∷ cs; vs = u ∷ v ∷ []; from = sym k; to = ap (λ z. u ∷ v ∷ z ∷ cs) (let g : c ≡ q = cc in f ∙ sym g) })
+
           on : (ys : List Position) → x ∷ bs ≡ ys ++ w.1 ∷ [] → (as' ++ u ∷ v ∷ ys ≡ q ∷ qs) × (w.1 ≡ q) → T u v x
           on [] k s = last as' s.0 (let g : x ≡ w.1 = cc in g ∙ s.1)
           on (y ∷ ys) k s = h u v x (ys ++ as') (record { us = as'; vs = u ∷ v ∷ y ∷ ys; from = sym s.0; to = ap (λ z. u ∷ v ∷ z ∷ (ys ++ as')) (let g : x ≡ y = cc in g) })

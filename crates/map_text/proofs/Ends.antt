@@ -10,7 +10,7 @@ use Rattle.ring_machine.specs.Vertices.{is_junction}
 use Rattle.ring_machine.proofs.Removal.{none_parts}
 use Rattle.ring_machine.proofs.First.{In}
 use Rattle.ring_machine.proofs.Neighbours.{all_of}
-use Rattle.map_text.specs.Arcs.{before_first, from_first, begun, led_from, cut_way, cut_round, pieces, is_arc}
+use Rattle.map_text.specs.Arcs.{begun, led_from, cut_way, cut_round, pieces, is_arc}
 use Rattle.map_text.specs.Arcs.{with_piece, with_pieces, arcs_of}
 use Rattle.map_text.specs.Saved.{IsCut, between, closed}
 use Rattle.map_text.proofs.Lists.{each_in, each-append, each-flat_map, in_rotated}

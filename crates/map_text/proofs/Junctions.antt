@@ -112,7 +112,6 @@ ring_first j m ps ((p ∷ qs) ∷ rs) (inr i) h = by (list_any j (p ∷ qs)) (ri
 -- j is the test for junctions, and nb the neighbours of a position that is none
 module _ (j : Position → Bool) (nb : Position → Segment) (rs : List (List Position)) (are : (ring : List Position) → In ring rs → Ring ring)
     (fact : (ring : List Position) → In ring rs → (u v x : Position) (rest : List Position) → Rotated ring (u ∷ v ∷ x ∷ rest) → j v ≡ false → segment_of (u, x) ≡ nb v) where
-
   abbrev pub next : Position → Position → Position
   next u v = other_end u (nb v)
 
@@ -125,8 +124,9 @@ module _ (j : Position → Bool) (nb : Position → Segment) (rs : List (List Po
         let n = none_in j other v free h in
         let e : segment_of (u, x) ≡ segment_of (p.u, p.x) = fact ring i u v x rest r n ∙ sym (fact other io p.u v p.x p.rest p.turned n) in
         elim (same_ends (u, x) (p.u, p.x) e) [
-            inl s ↦ subst (λ z. In z other) s.1 (in_rotated p.x (p.u ∷ v ∷ p.x ∷ p.rest) other (rotated-sym p.turned) (inr (inr (inl refl))))
-          | inr s ↦ subst (λ z. In z other) s.0 (in_rotated p.u (p.u ∷ v ∷ p.x ∷ p.rest) other (rotated-sym p.turned) (inl refl)) ]
+          | inl s ↦ subst (λ z. In z other) s.1 (in_rotated p.x (p.u ∷ v ∷ p.x ∷ p.rest) other (rotated-sym p.turned) (inr (inr (inl refl))))
+          | inr s ↦ subst (λ z. In z other) s.0 (in_rotated p.u (p.u ∷ v ∷ p.x ∷ p.rest) other (rotated-sym p.turned) (inl refl))
+        ]
 
     walk : (a b : Position) (ws : List Position) → AllTriples (λ u v x. In v other → In x other) (a ∷ b ∷ ws) → In b other → AllByRecursion (λ w. In w other) ws
     walk a b [] t h = tt
@@ -142,6 +142,7 @@ module _ (j : Position → Bool) (nb : Position → Segment) (rs : List (List Po
       where
         trans : {ys zs : List Position} → Rotated ring ys → Rotated ys zs → Rotated ring zs
         trans r s = rotated-trans _ _ _ r s
+
         here : (u x : Position) (rest : List Position) → AllByRecursion (λ z. In z other) (x ∷ rest ++ u ∷ []) → In w (u ∷ v ∷ x ∷ rest) → In w other
         here u x rest all (inl e) = subst (λ z. In z other) e (each_in (λ z. In z other) (x ∷ rest ++ u ∷ []) u all (in_right u (x ∷ rest) (u ∷ []) (inl refl)))
         here u x rest all (inr (inl e)) = subst (λ z. In z other) e h
@@ -168,8 +169,9 @@ module _ (j : Position → Bool) (nb : Position → Segment) (rs : List (List Po
           let is : ring ≡ q ∷ qs = sym (begun_none j ring t) ∙ e in
           let low = all_in (position_lt q) qs v (ap begins_least (sym is) ∙ (are ring i).least) iv in
           elim there [
-              inl s ↦ false≢true (sym (position_lt-irrefl q) ∙ ap (position_lt q) (sym s) ∙ low)
-            | inr s ↦ false≢true (sym (position_lt-asym q v low) ∙ all_in (position_lt v) ps q (are (v ∷ ps) iv').least s) ]
+            | inl s ↦ false≢true (sym (position_lt-irrefl q) ∙ ap (position_lt q) (sym s) ∙ low)
+            | inr s ↦ false≢true (sym (position_lt-asym q v low) ∙ all_in (position_lt v) ps q (are (v ∷ ps) iv').least s)
+          ]
 
   first_marked : (ring : List Position) → In ring rs → (q : Position) (qs : List Position) → begun j ring ≡ q ∷ qs → k q ≡ true
   first_marked ring i q qs e = by (list_any j ring) refl
@@ -206,8 +208,8 @@ module _ (j : Position → Bool) (nb : Position → Segment) (rs : List (List Po
           let r : Rotated ring (q ∷ q' ∷ qs) = subst (Rotated ring) e (begun_rotated j ring) in
           let l : 2 ≤ length (q' ∷ qs) = omega (arith, (are ring i).long, ap length r.from, ap length r.to, length-append r.us r.vs, length-append r.vs r.us) in
           cut_pieces j k next q q' (qs ++ q ∷ []) (first_marked ring i q (q' ∷ qs) e)
-            (all_triples (GoesOn j k next) q (q' ∷ qs) l (λ u v x rest s. goes_on ring i u v x rest (rotated-trans ring (q ∷ q' ∷ qs) (u ∷ v ∷ x ∷ rest) r s)))
-            (marked q (q' ∷ qs) (λ v iv. same v iv (j v) refl (has (firsts_of j rs) v) refl) (first_marked ring i q (q' ∷ qs) e))
+          (all_triples (GoesOn j k next) q (q' ∷ qs) l (λ u v x rest s. goes_on ring i u v x rest (rotated-trans ring (q ∷ q' ∷ qs) (u ∷ v ∷ x ∷ rest) r s)))
+          (marked q (q' ∷ qs) (λ v iv. same v iv (j v) refl (has (firsts_of j rs) v) refl) (first_marked ring i q (q' ∷ qs) e))
         where
           same : (v : Position) → In v (q' ∷ qs) → (b : Bool) → j v ≡ b → (c : Bool) → has (firsts_of j rs) v ≡ c → j v ≡ (j v || has (firsts_of j rs) v)
           same v iv true f c g = rw f refl

@@ -6,3 +6,6 @@ pub mod Junctions
 pub mod OnceEach
 pub mod Borders
 pub mod Ends
+pub mod Indexed
+pub mod RingsBack
+pub mod Saved

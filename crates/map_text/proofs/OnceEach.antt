@@ -71,14 +71,15 @@ module _ (k : Position → Bool) (next : Position → Position → Position) whe
       let ae = link_at e.0 a e.1 in
       let pf = link_at f.0 ps f.1 in
       elim (same_ends e.0 f.0 (segment_eq-true (segment_of e.0) s e.2 ∙ sym (segment_eq-true (segment_of f.0) s f.2))) [
-          inl h ↦
+        | inl h ↦
             let pf' : ps ≡ pf.0 ++ e.0.0 ∷ e.0.1 ∷ pf.1 = pf.2 ∙ ap₂ (λ y z. pf.0 ++ y ∷ z ∷ pf.1) h.0 h.1 in
             let same : a ≡ ps = ae.2 ∙ same_piece k next ae.0 e.0.0 e.0.1 ae.1 pf.0 pf.1 (subst (IsPiece k next) ae.2 ia) (subst (IsPiece k next) pf' ip) ∙ sym pf' in
             or_left (are_equal a ps) (are_equal (reverse a) ps) (ap (are_equal a) (sym same) ∙ are_equal-refl a)
         | inr h ↦
             let pf' : ps ≡ pf.0 ++ e.0.1 ∷ e.0.0 ∷ pf.1 = pf.2 ∙ ap₂ (λ y z. pf.0 ++ y ∷ z ∷ pf.1) h.0 h.1 in
             let same : ps ≡ reverse a = pf' ∙ reversed_piece k next pf.0 e.0.1 e.0.0 pf.1 ae.0 ae.1 (subst (IsPiece k next) pf' ip) (subst (IsPiece k next) ae.2 ia) ∙ ap reverse (sym ae.2) in
-            or_right (are_equal a ps) (are_equal (reverse a) ps) (ap (are_equal (reverse a)) same ∙ are_equal-refl (reverse a)) ]
+            or_right (are_equal a ps) (are_equal (reverse a) ps) (ap (are_equal (reverse a)) same ∙ are_equal-refl (reverse a))
+      ]
 
   -- an arc has the segment: the piece is that arc
   shares_one : (s : Segment) (arcs : List (List Position)) (ps : List Position) → AllByRecursion (IsPiece k next) arcs → IsPiece k next ps → 1 ≤ times s (flat_map links arcs) → 1 ≤ times s (links ps) → is_arc arcs ps ≡ true
@@ -93,10 +94,12 @@ module _ (k : Position → Bool) (next : Position → Position → Position) whe
   same_times : (s : Segment) (arcs : List (List Position)) (ps : List Position) → is_arc arcs ps ≡ true → times s (links ps) ≤ times s (flat_map links arcs)
   same_times s [] ps h = absurd (false≢true h)
   same_times s (a ∷ arcs) ps h = elim (or_true (is_same a ps) (is_arc arcs ps) h) [
-      inr k ↦ omega (arith, same_times s arcs ps k, times-append s (links a) (flat_map links arcs))
+    | inr k ↦ omega (arith, same_times s arcs ps k, times-append s (links a) (flat_map links arcs))
     | inl k ↦ elim (or_true (are_equal a ps) (are_equal (reverse a) ps) k) [
-          inl l ↦ omega (arith, ap (λ z. times s (links z)) (are_equal-true a ps l), times-append s (links a) (flat_map links arcs))
-        | inr l ↦ omega (arith, sym (ap (times s) (links-reverse a) ∙ times-flipped s (links a)) ∙ ap (λ z. times s (links z)) (are_equal-true (reverse a) ps l), times-append s (links a) (flat_map links arcs)) ] ]
+      | inl l ↦ omega (arith, ap (λ z. times s (links z)) (are_equal-true a ps l), times-append s (links a) (flat_map links arcs))
+      | inr l ↦ omega (arith, sym (ap (times s) (links-reverse a) ∙ times-flipped s (links a)) ∙ ap (λ z. times s (links z)) (are_equal-true (reverse a) ps l), times-append s (links a) (flat_map links arcs))
+    ]
+  ]
 
   -- each piece has a segment at most once
   pub record Simple (ps : List Position) : Type 0 where
