@@ -1,0 +1,6 @@
+//! From a map to its text.
+#![tactic(auto)]
+
+mod arcs;
+
+pub use arcs::Arcs;
