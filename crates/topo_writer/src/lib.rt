@@ -2,5 +2,6 @@
 #![tactic(auto)]
 
 mod arcs;
+mod cutting;
 
 pub use arcs::Arcs;
