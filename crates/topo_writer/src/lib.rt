@@ -2,9 +2,12 @@
 //! stood.
 #![tactic(auto)]
 
+mod arcs;
+mod cutting;
 mod fault;
 mod members;
 mod text;
 
+pub use arcs::Arcs;
 pub use fault::WriteFault;
 pub use text::{push_comma, push_number, push_pair};
