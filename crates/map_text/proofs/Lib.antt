@@ -1,0 +1,11 @@
+pub mod Examples
+pub mod Lists
+pub mod Cuts
+pub mod Around
+pub mod Junctions
+pub mod OnceEach
+pub mod Borders
+pub mod Ends
+pub mod Indexed
+pub mod RingsBack
+pub mod Saved
