@@ -4,5 +4,6 @@ pub mod Gives
 pub mod Shape
 pub mod Outline
 pub mod IsOutline
+pub mod Kept
 pub mod Views
 pub mod OutlineView
