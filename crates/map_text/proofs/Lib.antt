@@ -1,1 +1,5 @@
 pub mod Examples
+pub mod GrammarDeeper
+pub mod GrammarLists
+pub mod GrammarObjects
+pub mod MembersKnown
