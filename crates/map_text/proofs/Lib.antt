@@ -3,3 +3,5 @@ pub mod GrammarDeeper
 pub mod GrammarLists
 pub mod GrammarObjects
 pub mod MembersKnown
+pub mod MembersSeen
+pub mod MembersFields
