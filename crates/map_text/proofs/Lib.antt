@@ -5,3 +5,4 @@ pub mod GrammarObjects
 pub mod MembersKnown
 pub mod MembersSeen
 pub mod MembersFields
+pub mod GrammarNumbers
