@@ -6,3 +6,5 @@ pub mod MembersKnown
 pub mod MembersSeen
 pub mod MembersFields
 pub mod GrammarNumbers
+pub mod ReadingLists
+pub mod ReadingArcs
