@@ -8,3 +8,4 @@ pub mod MembersFields
 pub mod GrammarNumbers
 pub mod ReadingLists
 pub mod ReadingArcs
+pub mod ReadingUses
