@@ -9,3 +9,4 @@ pub mod GrammarNumbers
 pub mod ReadingLists
 pub mod ReadingArcs
 pub mod ReadingUses
+pub mod ReadingTrees
