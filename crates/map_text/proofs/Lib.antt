@@ -10,3 +10,4 @@ pub mod ReadingLists
 pub mod ReadingArcs
 pub mod ReadingUses
 pub mod ReadingTrees
+pub mod ReadingPlaces

@@ -37,18 +37,18 @@ all_seen (t ∷ ts) (m ∷ ms) = seen_as t m ∷ all_seen ts ms
 abbrev pub Says : Member → List ℕ → Type 0
 Says m name = decoded m.name ≡ Some name
 
-abbrev entries_of : List (List ℕ) → List (Node × Node) → List EntryNode
+abbrev pub entries_of : List (List ℕ) → List (Node × Node) → List EntryNode
 entries_of [] ms = []
 entries_of (t ∷ ts) [] = []
 entries_of (t ∷ ts) (m ∷ ms) = entry_of t m ∷ entries_of ts ms
 
-are_entries : (ts : List (List ℕ)) (ms : List (Node × Node)) → AllZip Says (map as_member ms) ts → Entries ms ts (entries_of ts ms)
+pub are_entries : (ts : List (List ℕ)) (ms : List (Node × Node)) → AllZip Says (map as_member ms) ts → Entries ms ts (entries_of ts ms)
 are_entries [] [] h = no_entry
 are_entries [] (m ∷ ms) h = absurd h
 are_entries (t ∷ ts) [] h = absurd h
 are_entries (t ∷ ts) (m ∷ ms) h = entry h.0 (are_entries ts ms h.1)
 
-entries_seen : (ts : List (List ℕ)) (ms : List (Node × Node)) → map seen (entries_of ts ms) ≡ all_seen ts (map as_member ms)
+pub entries_seen : (ts : List (List ℕ)) (ms : List (Node × Node)) → map seen (entries_of ts ms) ≡ all_seen ts (map as_member ms)
 entries_seen [] ms = refl
 entries_seen (t ∷ ts) [] = refl
 entries_seen (t ∷ ts) (m ∷ ms) = ap (λ (ss : List Seen). seen_as t (as_member m) ∷ ss) (entries_seen ts ms)
