@@ -11,3 +11,4 @@ pub mod ReadingArcs
 pub mod ReadingUses
 pub mod ReadingTrees
 pub mod ReadingPlaces
+pub mod ReadingFeatures
