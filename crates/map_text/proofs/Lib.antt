@@ -12,3 +12,4 @@ pub mod ReadingUses
 pub mod ReadingTrees
 pub mod ReadingPlaces
 pub mod ReadingFeatures
+pub mod ReadingGeometries

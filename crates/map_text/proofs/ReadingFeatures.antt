@@ -221,13 +221,14 @@ collection_json h ts k j =
     subst IsJson (sym (collection_is h ts)) (written_json owner.Collection (collection_fields h (list_text ts)) h.members (collections_are_fields h (list_text ts) k (list_is_json ts j)) k.members)
 
 -- the text is read as a collection of the geometries that its texts are read as
-pub collection_read : (h : Head) (ts : List Text) (n : Node) (ps : List Piece) → IsKeptHead owner.Collection h → AllByRecursion IsJson ts → n.bytes ≡ collection_text h ts
-    → ((ns : List Node) → map bytes_of ns ≡ ts → (ps : List Piece) × AreGeometries ns ps) → (qs : List Piece) × IsGeometry n (starts h ∷ qs ++ ends ∷ [])
-collection_read h ts n ps k j e inner =
+pub collection_read : (Q : List Piece → Type 0) (h : Head) (ts : List Text) (n : Node) → IsKeptHead owner.Collection h → AllByRecursion IsJson ts → n.bytes ≡ collection_text h ts
+    → ((ns : List Node) → map bytes_of ns ≡ ts → (ps : List Piece) × AreGeometries ns ps × Q ps) → (qs : List Piece) × IsGeometry n (starts h ∷ (qs ++ (ends ∷ []))) × Q qs
+collection_read Q h ts n k j e inner =
     let fs = collection_fields h (list_text ts) in
     let w = written_object owner.Collection n fs h.members (collections_are_fields h (list_text ts) k (list_is_json ts j)) refl k.members (e ∙ collection_is h ts) in
     let at_list = node_there (value_at word.Geometries w.entries) (list_text ts) (w.values word.Geometries refl) in
     let found = inner (items at_list.0) (items_are at_list.0 ts at_list.2 j) in
     (found.0,
-    subst (λ z. IsGeometry n (starts z ∷ found.0 ++ ends ∷ [])) (same_head owner.Collection w.entries h (w.texts word.Id refl) (w.texts word.Properties refl) w.keeps)
-    (collection w.has (has_type owner.Collection n fs h.members (codes "\"GeometryCollection\"") (codes "GeometryCollection") w (w.values word.Type refl) collection_named refl) at_list.1 (list_there at_list.0 ts at_list.2) found.1))
+    subst (λ z. IsGeometry n (starts z ∷ (found.0 ++ (ends ∷ [])))) (same_head owner.Collection w.entries h (w.texts word.Id refl) (w.texts word.Properties refl) w.keeps)
+    (collection w.has (has_type owner.Collection n fs h.members (codes "\"GeometryCollection\"") (codes "GeometryCollection") w (w.values word.Type refl) collection_named refl) at_list.1 (list_there at_list.0 ts at_list.2) found.1),
+    found.2)
