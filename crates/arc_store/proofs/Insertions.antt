@@ -19,8 +19,8 @@ use Rattle.ring_machine.proofs.Arcs.{g_ins, ins_is, ins-keeps, is_of}
 use Rattle.ring_machine.proofs.Edges.{starts, starts_of, by_edges, edges_is, edges_to, closed}
 use Rattle.ring_machine.proofs.Edges.{edited_chain, starts-flat_map}
 use Rattle.ring_machine.proofs.First.{In}
-use Rattle.ring_machine.proofs.Removal.{position_eq-sym}
-use Rattle.ring_machine.proofs.RingSegments.{segment_eq-true, same_ends, ring_once}
+use Rattle.ring_machine.proofs.RingSegments.{segment_eq-true, segment_eq-sym, same_ends}
+use Rattle.ring_machine.proofs.RingSegments.{ring_once}
 use Rattle.ring_machine.proofs.RingsOf.{rings-in_rings}
 use Rattle.ring_machine.proofs.StaysProper.{ring_distinct, edges_start}
 use Rattle.ring_machine.proofs.StaysRing.{AtMostOne}
@@ -37,9 +37,6 @@ use Rattle.arc_store.proofs.RingEdits.{edges_turned, canonical_rotated}
 -- the ring has this segment
 abbrev pub has_segment : Segment → List Position → Bool
 has_segment t ring = list_any (segment_eq t) (segments ring)
-
-pub segment_eq-sym : (s t : Segment) → segment_eq s t ≡ segment_eq t s
-segment_eq-sym s t = ap₂ (λ y z. y && z) (position_eq-sym s.lo t.lo) (position_eq-sym s.hi t.hi)
 
 pub any_mapped : {A B : Type 0} (f : A → B) (test : B → Bool) (xs : List A)
     → list_any test (map f xs) ≡ list_any (λ x. test (f x)) xs

@@ -27,7 +27,8 @@ use Rattle.arc_store.specs.Faults.{Refuses}
 use Rattle.arc_store.specs.Holds.{IsIndexed}
 use Rattle.arc_store.specs.Planned.{spokes}
 use Rattle.arc_store.proofs.Indexed.{has-eq, indexed_ends, indexed_only}
-use Rattle.arc_store.proofs.Insertions.{segments_ins, segment_eq-sym}
+use Rattle.ring_machine.proofs.RingSegments.{segment_eq-sym}
+use Rattle.arc_store.proofs.Insertions.{segments_ins}
 use Rattle.arc_store.proofs.MovePlan.{refuses_first}
 
 -- ---- what both have in common

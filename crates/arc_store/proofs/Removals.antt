@@ -27,7 +27,7 @@ use Rattle.ring_machine.proofs.Arcs.{is_of, links-append}
 use Rattle.ring_machine.proofs.First.{In, in-append, in_left}
 use Rattle.ring_machine.proofs.Neighbours.{all_in, has-in, in-has, edge_in, end_place, place_around}
 use Rattle.ring_machine.proofs.Removal.{others, filter_lacks}
-use Rattle.ring_machine.proofs.RingSegments.{segment_eq-true}
+use Rattle.ring_machine.proofs.RingSegments.{segment_eq-true, segment_eq-sym}
 use Rattle.ring_machine.proofs.RingsOf.{rings-in_rings}
 use Rattle.ring_machine.proofs.Spots.{Rotated}
 use Rattle.ring_machine.proofs.StaysProper.{ring_distinct, ring_long}
@@ -35,7 +35,7 @@ use Rattle.shared_arcs.specs.Ways.{one}
 use Rattle.arc_store.proofs.Counted.{sum_by-map, sum_more}
 use Rattle.arc_store.proofs.Ends.{two_ends, end_of_two}
 use Rattle.arc_store.proofs.Insertions.{AreRings, has_segment, has_segment_by, is_segment_by}
-use Rattle.arc_store.proofs.Insertions.{segment_eq-sym, any_mapped, any_parts}
+use Rattle.arc_store.proofs.Insertions.{any_mapped, any_parts}
 use Rattle.arc_store.proofs.KeyRings.{length-canonical, beside_edges}
 use Rattle.arc_store.proofs.Members.{any_in, in_any, same_answer, in_mapped, in_flat, in_filter}
 use Rattle.arc_store.proofs.RingEdits.{edges_turned, edge_turned, canonical_rotated, canonical_ring}

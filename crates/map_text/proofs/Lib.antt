@@ -13,3 +13,13 @@ pub mod ReadingTrees
 pub mod ReadingPlaces
 pub mod ReadingFeatures
 pub mod ReadingGeometries
+pub mod Lists
+pub mod Cuts
+pub mod Around
+pub mod Junctions
+pub mod OnceEach
+pub mod Borders
+pub mod Ends
+pub mod Indexed
+pub mod RingsBack
+pub mod Saved

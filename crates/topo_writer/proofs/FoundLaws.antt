@@ -1,0 +1,87 @@
+-- What is found after one more arc.
+use Rattle.std.proofs.Common.{◌≡◌, ℕ, zero, suc, ◌+◌, Bool, true, false, refl, sym, ap, ap₂, ◌∙◌, cond}
+use Rattle.std.proofs.Common.{List, [], ◌∷◌, ◌++◌, arith, length, ◌<◌, get_or, Option, Some, None, ℤ}
+use Rattle.std.proofs.Common.{pos, negsuc}
+use Rattle.grid_geometry.specs.Position.{Position, position, position_eq}
+use Rattle.grid_geometry.specs.Ring.{Edge}
+use Rattle.ring_machine.specs.Ring.{edge_eq}
+use Rattle.ring_machine.proofs.Order.{and_both, position_eq-true, position_eq-refl}
+use Rattle.topo_writer.specs.Found.{first_edge, last_edge, found_from, found, at_place}
+
+pub edge_eq-true : (e f : Edge) → edge_eq e f ≡ true → e ≡ f
+edge_eq-true e f h =
+    let k = and_both (position_eq e.0 f.0) (position_eq e.1 f.1) h in
+    λ i. (position_eq-true e.0 f.0 k.0 i, position_eq-true e.1 f.1 k.1 i)
+
+pub edge_eq-refl : (e : Edge) → edge_eq e e ≡ true
+edge_eq-refl e = rw (position_eq-refl e.0) (position_eq-refl e.1)
+
+abbrev or_else : Option ℤ → Option ℤ → Option ℤ
+or_else None o = o
+or_else (Some i) o = Some i
+
+abbrev named : ℕ → List Position → Edge → Option ℤ
+named n ps e = cond (edge_eq (first_edge ps) e) (Some (pos n)) (cond (edge_eq (last_edge ps) e) (Some (negsuc n)) None)
+
+found_push : (n : ℕ) (arcs : List (List Position)) (ps : List Position) (e : Edge)
+    → found_from n (arcs ++ ps ∷ []) e ≡ or_else (found_from n arcs e) (named (length arcs + n) ps e)
+found_push n [] ps e = let k : 0 + n ≡ n = omega arith in ap (λ m. named m ps e) (sym k)
+found_push n (a ∷ arcs) ps e = by (edge_eq (first_edge a) e) (edge_eq (last_edge a) e) (found_push (n + 1) arcs ps e)
+  where
+    count : length arcs + (n + 1) ≡ length (a ∷ arcs) + n
+    count = omega arith
+
+    by : (b c : Bool) → found_from (n + 1) (arcs ++ ps ∷ []) e ≡ or_else (found_from (n + 1) arcs e) (named (length arcs + (n + 1)) ps e)
+        → cond b (Some (pos n)) (cond c (Some (negsuc n)) (found_from (n + 1) (arcs ++ ps ∷ []) e))
+        ≡ or_else (cond b (Some (pos n)) (cond c (Some (negsuc n)) (found_from (n + 1) arcs e))) (named (length (a ∷ arcs) + n) ps e)
+    by true c h = refl
+    by false true h = refl
+    by false false h = h ∙ ap (λ m. or_else (found_from (n + 1) arcs e) (named m ps e)) count
+
+found_new : (arcs : List (List Position)) (ps : List Position) (e : Edge)
+    → found (arcs ++ ps ∷ []) e ≡ or_else (found arcs e) (named (length arcs) ps e)
+found_new arcs ps e =
+    let k : length arcs + 0 ≡ length arcs = omega arith in
+    found_push 0 arcs ps e ∙ ap (λ m. or_else (found arcs e) (named m ps e)) k
+
+pub found_first : (arcs : List (List Position)) (ps : List Position) → found arcs (first_edge ps) ≡ None
+    → found (arcs ++ ps ∷ []) (first_edge ps) ≡ Some (pos (length arcs))
+found_first arcs ps h =
+    found_new arcs ps (first_edge ps)
+    ∙ ap (λ o. or_else o (named (length arcs) ps (first_edge ps))) h
+    ∙ ap (λ b. cond b (Some (pos (length arcs))) (cond (edge_eq (last_edge ps) (first_edge ps)) (Some (negsuc (length arcs))) None)) (edge_eq-refl (first_edge ps))
+
+-- two entries for one more arc, under edges that are its first and its last
+module _ (arcs : List (List Position)) (ps : List Position) (g0 g1 g2 : Edge → Option ℤ) (f l : Edge) (i k : ℤ)
+    (fe : f ≡ first_edge ps) (le : l ≡ last_edge ps) (ie : i ≡ pos (length arcs)) (ke : k ≡ negsuc (length arcs))
+    (h0 : (e : Edge) → g0 e ≡ found arcs e) (nf : found arcs (first_edge ps) ≡ None) (nl : found arcs (last_edge ps) ≡ None)
+    (a : edge_eq (first_edge ps) (last_edge ps) ≡ false)
+    (h1 : (e : Edge) → g1 e ≡ cond (edge_eq f e) (Some i) (g0 e)) (h2 : (e : Edge) → g2 e ≡ cond (edge_eq l e) (Some k) (g1 e)) where
+  cases : (e : Edge) (b c : Bool) → edge_eq (last_edge ps) e ≡ b → edge_eq (first_edge ps) e ≡ c
+      → cond b (Some (negsuc (length arcs))) (cond c (Some (pos (length arcs))) (found arcs e))
+      ≡ or_else (found arcs e) (cond c (Some (pos (length arcs))) (cond b (Some (negsuc (length arcs))) None))
+  cases e true c p q =
+      let h = edge_eq-true (last_edge ps) e p in
+      sym (ap₂ (λ o t. or_else o (cond t (Some (pos (length arcs))) (Some (negsuc (length arcs))))) (ap (found arcs) (sym h) ∙ nl) (sym q ∙ ap (edge_eq (first_edge ps)) (sym h) ∙ a))
+  cases e false true p q = sym (ap (λ o. or_else o (Some (pos (length arcs)))) (ap (found arcs) (sym (edge_eq-true (first_edge ps) e q)) ∙ nf))
+  cases e false false p q = none (found arcs e)
+    where
+      none : (o : Option ℤ) → o ≡ or_else o None
+      none None = refl
+      none (Some z) = refl
+
+  one : (e : Edge) → g1 e ≡ cond (edge_eq (first_edge ps) e) (Some (pos (length arcs))) (found arcs e)
+  one e = h1 e ∙ ap₂ (λ x y. cond (edge_eq x e) (Some y) (g0 e)) fe ie ∙ ap (λ o. cond (edge_eq (first_edge ps) e) (Some (pos (length arcs))) o) (h0 e)
+
+  pub found_both : (e : Edge) → g2 e ≡ found (arcs ++ ps ∷ []) e
+  found_both e =
+      h2 e ∙ ap₂ (λ x y. cond (edge_eq x e) (Some y) (g1 e)) le ke ∙ ap (λ o. cond (edge_eq (last_edge ps) e) (Some (negsuc (length arcs))) o) (one e)
+      ∙ cases e (edge_eq (last_edge ps) e) (edge_eq (first_edge ps) e) refl refl ∙ sym (found_new arcs ps e)
+
+at_same : (ps : List Position) (i : ℕ) (d e : Position) → i < length ps → get_or ps i d ≡ get_or ps i e
+at_same [] i d e h = absurd (omega arith)
+at_same (p ∷ ps) zero d e h = refl
+at_same (p ∷ ps) (suc i) d e h = at_same ps i d e (omega arith)
+
+pub at_place_is : (ps : List Position) (i : ℕ) (x : Position) → i < length ps → x ≡ get_or ps i x → x ≡ at_place ps i
+at_place_is ps i x h e = e ∙ at_same ps i x (position (pos 0) (pos 0)) h

@@ -1,0 +1,39 @@
+-- A way that is cut while one goes along it, and its pieces found one after another.
+use Rattle.std.specs.Prelude.{ℤ, pos, Bool, true, false, ◌||◌, if◌then◌else◌, List, [], ◌∷◌, ◌++◌}
+use Rattle.std.specs.Prelude.{unwrap_or}
+use Rattle.grid_geometry.specs.Position.{Position}
+use Rattle.topo_writer.specs.Found.{found, first_edge, with_found, Fits}
+
+-- nothing is left
+abbrev pub is_end : List Position → Bool
+is_end [] = true
+is_end (p ∷ ps) = false
+
+-- the pieces of the way, of which the first goes on from what stands; one ends at each junction
+-- and at the end of the way
+abbrev pub cut_after : (Position → Bool) → List Position → List Position → List (List Position)
+cut_after junction piece [] = []
+cut_after junction piece (p ∷ ps) =
+    if is_end ps || junction p
+    then ((piece ++ p ∷ []) ∷ cut_after junction (p ∷ []) ps)
+    else cut_after junction (piece ++ p ∷ []) ps
+
+-- the arcs after these pieces
+abbrev pub all_found : List (List Position) → List (List Position) → List (List Position)
+all_found arcs [] = arcs
+all_found arcs (piece ∷ pieces) = all_found (with_found arcs piece) pieces
+
+-- the index of a piece when it has been found or has become an arc
+abbrev pub index_found : List (List Position) → List Position → ℤ
+index_found arcs piece = unwrap_or (found (with_found arcs piece) (first_edge piece)) (pos 0)
+
+-- the indexes of these pieces, each as it was found
+abbrev pub indexes_found : List (List Position) → List (List Position) → List ℤ
+indexes_found arcs [] = []
+indexes_found arcs (piece ∷ pieces) =
+    index_found arcs piece ∷ indexes_found (with_found arcs piece) pieces
+
+-- each piece fits beside the arcs before it
+abbrev pub FitAll : List (List Position) → List (List Position) → Type 0
+FitAll arcs [] = Unit {0}
+FitAll arcs (piece ∷ pieces) = Fits arcs piece × FitAll (with_found arcs piece) pieces
