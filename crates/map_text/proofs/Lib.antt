@@ -23,3 +23,5 @@ pub mod Ends
 pub mod Indexed
 pub mod RingsBack
 pub mod Saved
+pub mod ReadingRings
+pub mod ReadingLayers

@@ -17,19 +17,19 @@ pub all_made : {A : Type 0} (Q P : A → Type 0) (xs : List A) → ((x : A) → 
 all_made Q P [] h q = tt
 all_made Q P (x ∷ xs) h q = (h x q.0, all_made Q P xs h q.1)
 
-abbrev head_of : Text → List Text → Text
+abbrev head_of : {A : Type 0} → A → List A → A
 head_of u [] = u
 head_of u (t ∷ ts) = t
 
-abbrev tail_of : List Text → List Text
+abbrev tail_of : {A : Type 0} → List A → List A
 tail_of [] = []
 tail_of (t ∷ ts) = ts
 
-pub first_same : (s t : Text) (ss ts : List Text) → s ∷ ss ≡ t ∷ ts → s ≡ t
+pub first_same : {A : Type 0} (s t : A) (ss ts : List A) → s ∷ ss ≡ t ∷ ts → s ≡ t
 first_same s t ss ts e = ap (head_of s) e
 
-pub rest_same : (s t : Text) (ss ts : List Text) → s ∷ ss ≡ t ∷ ts → ss ≡ ts
-rest_same s t ss ts e = ap tail_of e
+pub rest_same : {A : Type 0} (s t : A) (ss ts : List A) → s ∷ ss ≡ t ∷ ts → ss ≡ ts
+rest_same {A} s t ss ts e = ap (tail_of {A = A}) e
 
 -- each node with these bytes stands for x, where Q holds of x
 abbrev pub Stands : {A : Type 0} → (A → Type 0) → (Node → A → Type 0) → (A → Text) → Type 0
@@ -61,6 +61,6 @@ pub record AreTwo (ns : List Node) (s t : Text) : Type 0 where
 
 pub two : (ns : List Node) (s t : Text) → map bytes_of ns ≡ s ∷ t ∷ [] → AreTwo ns s t
 two [] s t e = absurd cc
-two (n ∷ []) s t e = let more : [] ≡ t ∷ [] = ap tail_of e in absurd cc
-two (m ∷ n ∷ []) s t e = record { first = m; second = n; are = refl; first_is = first_same m.bytes s (n.bytes ∷ []) (t ∷ []) e; second_is = first_same n.bytes t [] [] (ap tail_of e) }
-two (m ∷ n ∷ k ∷ ns) s t e = let more : k.bytes ∷ map bytes_of ns ≡ [] = ap (λ z. tail_of (tail_of z)) e in absurd cc
+two (n ∷ []) s t e = let more : [] ≡ t ∷ [] = rest_same n.bytes s [] (t ∷ []) e in absurd cc
+two (m ∷ n ∷ []) s t e = record { first = m; second = n; are = refl; first_is = first_same m.bytes s (n.bytes ∷ []) (t ∷ []) e; second_is = first_same n.bytes t [] [] (rest_same m.bytes s (n.bytes ∷ []) (t ∷ []) e) }
+two (m ∷ n ∷ k ∷ ns) s t e = let more : k.bytes ∷ map bytes_of ns ≡ [] = ap (λ (z : List Text). tail_of (tail_of z)) e in absurd cc

@@ -14,6 +14,7 @@ use Rattle.topo_reader.specs.Reads.{IsUse, forward, backward, RingUses, PolygonU
 use Rattle.map_text.specs.Text.{list_text, ring_text, polygon_text, shape_text}
 use Rattle.map_text.proofs.GrammarLists.{bytes_of, items_are, list_is_json}
 use Rattle.map_text.proofs.GrammarNumbers.{whole_is_json, whole_read}
+use Rattle.map_text.proofs.Indexed.{Names, is_use}
 use Rattle.map_text.proofs.ReadingLists.{first_same, rest_same, list_there}
 
 -- ---- lists of which each element goes with one of another list
@@ -43,7 +44,7 @@ all_tested test f (n ∷ ns) (x ∷ xs) h e =
 
 -- the index is one that 64 bits with a sign hold, and names the arc
 abbrev pub IsIndex : List Arc → ℤ → Arc → Type 0
-IsIndex arcs z a = (unsigned_abs z < 2 ^ 63) × (arc_named arcs z ≡ Some a)
+IsIndex arcs z a = (unsigned_abs z < 2 ^ 63) × Names arcs z a
 
 abbrev pub RingIndexes : List Arc → List ℤ → List Arc → Type 0
 RingIndexes arcs zs uses = AllZip (IsIndex arcs) zs uses
@@ -68,19 +69,12 @@ polygons_json arcs ps uses h = list_is_json (map polygon_text ps) (all_json (Pol
 
 -- ---- uses
 
-by_name : (o : Option Arc) (a : Arc) → option_map reverse o ≡ Some a → (b : Arc) × (o ≡ Some b) × (reverse b ≡ a)
-by_name None a e = absurd cc
-by_name (Some b) a e = let same : reverse b ≡ a = cc in (b, refl, same)
-
-is_use : (arcs : List Arc) (n : Node) (z : ℤ) (a : Arc) → IsIndex arcs z a → n.bytes ≡ signed_decimal z → IsUse arcs n a
-is_use arcs n (pos i) a h e = forward (ap whole_of e ∙ whole_read (pos i) h.0) h.1
-is_use arcs n (negsuc i) a h e =
-    let found = by_name (slice_get arcs i) a h.1 in
-    subst (IsUse arcs n) found.2 (backward (ap whole_of e ∙ whole_read (negsuc i) h.0) found.1)
+read_use : (arcs : List Arc) (n : Node) (z : ℤ) (a : Arc) → IsIndex arcs z a → n.bytes ≡ signed_decimal z → IsUse arcs n a
+read_use arcs n z a h e = is_use arcs n z a (ap whole_of e ∙ whole_read z h.0) h.1
 
 ring_uses : (arcs : List Arc) (n : Node) (zs : List ℤ) (uses : List Arc) → RingIndexes arcs zs uses → n.bytes ≡ ring_text zs → RingUses arcs n uses
 ring_uses arcs n zs uses h e =
-    zipped_with (IsIndex arcs) (IsUse arcs) signed_decimal (items n) zs uses (is_use arcs) (items_are n (map signed_decimal zs) e (all_json (IsIndex arcs) signed_decimal zs uses (index_json arcs) h)) h
+    zipped_with (IsIndex arcs) (IsUse arcs) signed_decimal (items n) zs uses (read_use arcs) (items_are n (map signed_decimal zs) e (all_json (IsIndex arcs) signed_decimal zs uses (index_json arcs) h)) h
 
 polygon_items : (arcs : List Arc) (n : Node) (rings : List (List ℤ)) (uses : List (List Arc)) → PolygonIndexes arcs rings uses → n.bytes ≡ polygon_text rings → map bytes_of (items n) ≡ map ring_text rings
 polygon_items arcs n rings uses h e = items_are n (map ring_text rings) e (all_json (RingIndexes arcs) ring_text rings uses (ring_json arcs) h)
