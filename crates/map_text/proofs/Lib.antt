@@ -1,4 +1,18 @@
 pub mod Examples
+pub mod GrammarDeeper
+pub mod GrammarLists
+pub mod GrammarObjects
+pub mod MembersKnown
+pub mod MembersSeen
+pub mod MembersFields
+pub mod GrammarNumbers
+pub mod ReadingLists
+pub mod ReadingArcs
+pub mod ReadingUses
+pub mod ReadingTrees
+pub mod ReadingPlaces
+pub mod ReadingFeatures
+pub mod ReadingGeometries
 pub mod Lists
 pub mod Cuts
 pub mod Around
@@ -9,3 +23,5 @@ pub mod Ends
 pub mod Indexed
 pub mod RingsBack
 pub mod Saved
+pub mod ReadingRings
+pub mod ReadingLayers

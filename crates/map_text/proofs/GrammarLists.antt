@@ -1,0 +1,86 @@
+-- The list of values, as the writer writes it, is a value, and these are its items.
+use Rattle.std.proofs.Common.{◌≡◌, ℕ, zero, suc, ◌+◌, List, [], ◌∷◌, ◌++◌, length, map, refl, sym, ap, ◌∙◌, subst, append_assoc}
+use Rattle.std.specs.List.{AllByRecursion}
+use Rattle.std.proofs.lemmas.List.{append-nil}
+use Rattle.ring_machine.specs.Document.{Text}
+use Rattle.json_spans.specs.Grammar.{no_space, Value, list, Items, no_item, some_items, item, MoreItems, list_end, next_item}
+use Rattle.json_spans.specs.Parts.{Node}
+use Rattle.json_spans.specs.Walk.{items}
+use Rattle.json_spans.specs.Inside.{IsValue, Padded, padded, Parted, last_part, next_part, Bracketed, no_part, parts, ListOf}
+use Rattle.json_spans.proofs.Framing.{value_framed}
+use Rattle.json_spans.proofs.Padding.{stands}
+use Rattle.json_spans.proofs.Itemized.{only_items}
+use Rattle.topo_outline.specs.Kept.{IsJson}
+use Rattle.map_text.specs.Text.{further, list_text}
+use Rattle.map_text.proofs.GrammarDeeper.{all_at_once}
+
+abbrev pub bytes_of : Node → List ℕ
+bytes_of node = node.bytes
+
+-- ---- the value
+
+more_items : (n : ℕ) (ts : List Text) → AllByRecursion (IsValue n) ts → MoreItems n (further ts ++ (93 ∷ [])) []
+more_items n [] h = list_end
+more_items n (t ∷ ts) h =
+    subst (λ z. MoreItems n z []) (sym (append_assoc (44 ∷ t) (further ts) (93 ∷ [])))
+    (next_item no_space (item (stands (value_framed h.0) (further ts ++ (93 ∷ []))) no_space (more_items n ts h.1)))
+
+list_is_value : (n : ℕ) (ts : List Text) → AllByRecursion (IsValue n) ts → IsValue (suc n) (list_text ts)
+list_is_value n [] h = list no_space no_item
+list_is_value n (t ∷ ts) h =
+    subst (λ z. Value (suc n) (91 ∷ z) []) (sym (append_assoc t (further ts) (93 ∷ [])))
+    (list no_space (some_items (item (stands (value_framed h.0) (further ts ++ (93 ∷ []))) no_space (more_items n ts h.1))))
+
+-- the list of JSON values is JSON
+pub list_is_json : (ts : List Text) → AllByRecursion IsJson ts → IsJson (list_text ts)
+list_is_json ts h = let all = all_at_once ts h in (suc all.0, list_is_value all.0 ts all.1)
+
+-- ---- the items
+
+pub bare : {A : List ℕ → Type 0} (place : ℕ) (t : List ℕ) → A t → Padded A place t (record { at_byte = place + 0; bytes = t })
+bare {A = A} place t v = subst (λ z. Padded A place z (record { at_byte = place + 0; bytes = t })) (append-nil t) (padded {front = []} {bytes = t} {back = []} no_space v no_space)
+
+record Listed (n place : ℕ) (inside : List ℕ) (ts : List Text) : Type 0 where
+  nodes : List Node
+  parted : Parted (Padded (IsValue n)) 93 place inside nodes
+  are : map bytes_of nodes ≡ ts
+
+listed : (n place : ℕ) (t : Text) (ts : List Text) → IsValue n t → AllByRecursion (IsValue n) ts → Listed n place ((t ++ further ts) ++ (93 ∷ [])) (t ∷ ts)
+listed n place t [] v h = record {
+  nodes = record { at_byte = place + 0; bytes = t } ∷ [];
+  parted = subst (λ z. Parted (Padded (IsValue n)) 93 place (z ++ (93 ∷ [])) (record { at_byte = place + 0; bytes = t } ∷ [])) (sym (append-nil t)) (last_part (bare place t v));
+  are = refl;
+}
+listed n place t (u ∷ us) v h =
+    let rest = listed n (place + length t + 1) u us h.0 h.1 in
+    record {
+      nodes = record { at_byte = place + 0; bytes = t } ∷ rest.nodes;
+      parted = subst (λ z. Parted (Padded (IsValue n)) 93 place z (record { at_byte = place + 0; bytes = t } ∷ rest.nodes)) (sym (append_assoc t (44 ∷ (u ++ further us)) (93 ∷ []))) (next_part (bare place t v) rest.parted);
+      are = ap (λ (z : List Text). t ∷ z) rest.are;
+    }
+
+record HasList (n : ℕ) (node : Node) (ts : List Text) : Type 0 where
+  nodes : List Node
+  list : ListOf n node nodes
+  are : map bytes_of nodes ≡ ts
+
+has_list : (n : ℕ) (node : Node) (ts : List Text) → node.bytes ≡ list_text ts → AllByRecursion (IsValue n) ts → HasList n node ts
+has_list n node [] e h = record {
+  nodes = [];
+  list = subst (λ z. Bracketed (Padded (IsValue n)) 91 93 node.at_byte z []) (sym e) (no_part no_space);
+  are = refl;
+}
+has_list n node (t ∷ ts) e h =
+    let all = listed n (node.at_byte + 1) t ts h.0 h.1 in
+    record {
+      nodes = all.nodes;
+      list = subst (λ z. Bracketed (Padded (IsValue n)) 91 93 node.at_byte z all.nodes) (sym e) (parts all.parted);
+      are = all.are;
+    }
+
+-- the items of a list are the values that it was made of
+pub items_are : (node : Node) (ts : List Text) → node.bytes ≡ list_text ts → AllByRecursion IsJson ts → map bytes_of (items node) ≡ ts
+items_are node ts e h =
+    let all = all_at_once ts h in
+    let found = has_list all.0 node ts e all.1 in
+    ap (λ (ns : List Node). map bytes_of ns) (sym (only_items node all.0 found.nodes found.list)) ∙ found.are

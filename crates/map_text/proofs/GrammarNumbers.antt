@@ -1,0 +1,102 @@
+-- A written whole number is a JSON number, and is read as it was.
+use Rattle.std.proofs.Common.{◌≡◌, ℕ, zero, suc, ◌+◌, ◌-◌, ◌*◌, ◌<◌, ◌≤◌, ◌/◌, ◌%◌, ◌^◌, Bool, true, false, refl, sym, ap, ◌∙◌, subst, List, [], ◌∷◌, ◌++◌, ◌⊎◌, inl, inr, arith, ℤ, pos, negsuc}
+use Rattle.std.specs.Prelude.{IsTrue, unsigned_abs, Ok, nat_lt, nat_le}
+use Rattle.std.specs.List.{AllByRecursion}
+use Rattle.std.specs.Fmt.{decimal, signed_decimal}
+use Rattle.std.proofs.lemmas.Fmt.{decimal_by_steps}
+use Rattle.std.proofs.lemmas.Bool.{lt-ltb}
+use Rattle.std.proofs.lemmas.Bool.Decides.{nat_tests}
+use Rattle.std.proofs.lemmas.List.{append-nil}
+use Rattle.json_spans.specs.Bytes.{is_digit, is_nonzero}
+use Rattle.json_spans.specs.Grammar.{Digits, no_digit, digit, SomeDigits, digits, no_exponent, no_fraction, Unsigned, zero_first, digit_first, minus, plain_number, number}
+use Rattle.json_spans.specs.Whole.{value_from, whole_of, no_point, IsWhole, plain, negative, minus as minus_of}
+use Rattle.json_spans.specs.Inside.{IsValue}
+use Rattle.json_spans.proofs.Meant.{whole_is}
+use Rattle.topo_outline.specs.Kept.{IsJson}
+
+-- ---- digits
+
+digit_ok : (d : ℕ) → d < 10 → is_digit (48 + d) ≡ true
+digit_ok d h = grind (arith, nat_tests)
+
+nonzero_ok : (d : ℕ) → 0 < d → d < 10 → is_nonzero (48 + d) ≡ true
+nonzero_ok d h k = grind (arith, nat_tests)
+
+digits_push : {xs : List ℕ} (y : ℕ) → is_digit y ≡ true → Digits xs [] → Digits (xs ++ y ∷ []) []
+digits_push y e no_digit = digit {x = y} e no_digit
+digits_push y e (digit {x = x} f d) = digit {x = x} f (digits_push y e d)
+
+some_push : {xs : List ℕ} (y : ℕ) → is_digit y ≡ true → SomeDigits xs [] → SomeDigits (xs ++ y ∷ []) []
+some_push y e (digits {x = x} f d) = digits {x = x} f (digits_push y e d)
+
+value_push : (m : ℕ) (xs : List ℕ) (y : ℕ) → value_from m (xs ++ y ∷ []) ≡ value_from m xs * 10 + (y - 48)
+unfolding value_from
+value_push m [] y = refl
+value_push m (x ∷ xs) y = value_push (m * 10 + (x - 48)) xs y
+
+-- ---- a decimal number
+
+-- 0, or digits of which the first is not 0
+data Numeral : List ℕ → Type 0 where
+  just_zero : Numeral (48 ∷ [])
+  led : {x : ℕ} {xs : List ℕ} → is_nonzero x ≡ true → Digits xs [] → Numeral (x ∷ xs)
+
+record IsDecimal (n : ℕ) (ds : List ℕ) : Type 0 where
+  is_numeral : Numeral ds
+  some : SomeDigits ds []
+  value : value_from 0 ds ≡ n
+  plain_zero : (n ≡ 0) ⊎ (0 < n)
+
+numeral_push : {ds : List ℕ} (n y : ℕ) → is_digit y ≡ true → value_from 0 ds ≡ n → 0 < n → Numeral ds → Numeral (ds ++ y ∷ [])
+unfolding value_from
+numeral_push n y e v h just_zero = absurd (omega (arith, v))
+numeral_push n y e v h (led {x = x} f d) = led {x = x} f (digits_push y e d)
+
+one_digit : (n : ℕ) → n < 10 → IsDecimal n ((48 + n) ∷ [])
+unfolding value_from
+one_digit zero h = record { is_numeral = just_zero; some = digits {x = 48} refl no_digit; value = refl; plain_zero = inl refl }
+one_digit (suc n) h = record {
+  is_numeral = led {x = 48 + suc n} (nonzero_ok (suc n) (omega arith) h) no_digit;
+  some = digits {x = 48 + suc n} (digit_ok (suc n) h) no_digit;
+  value = omega arith;
+  plain_zero = inr (omega arith);
+}
+
+more_digits : (n : ℕ) (ds : List ℕ) → 10 ≤ n → IsDecimal (n / 10) ds → IsDecimal n (ds ++ (48 + n % 10) ∷ [])
+more_digits n ds h d =
+    let ok : is_digit (48 + n % 10) ≡ true = digit_ok (n % 10) (omega arith) in
+    record {
+      is_numeral = numeral_push (n / 10) (48 + n % 10) ok d.value (omega arith) d.is_numeral;
+      some = some_push (48 + n % 10) ok d.some;
+      value = omega (arith, value_push 0 ds (48 + n % 10), d.value);
+      plain_zero = inr (omega arith);
+    }
+
+decimal_is : (n : ℕ) → n < 2 ^ 64 → IsDecimal n (decimal n)
+decimal_is n h = decimal_by_steps IsDecimal one_digit more_digits n h
+
+-- ---- JSON
+
+unsigned_read : {ds : List ℕ} → Numeral ds → Unsigned ds []
+unsigned_read just_zero = zero_first (no_fraction no_exponent)
+unsigned_read (led {x = x} e d) = digit_first {x = x} e d (no_fraction no_exponent)
+
+pub whole_is_json : (z : ℤ) → unsigned_abs z < 2 ^ 64 → IsJson (signed_decimal z)
+whole_is_json (pos n) h = (0, number (plain_number (unsigned_read (decimal_is n h).is_numeral)))
+whole_is_json (negsuc n) h = (0, number (minus (unsigned_read (decimal_is (suc n) h).is_numeral)))
+
+-- ---- what is read
+
+is_plain : (n : ℕ) (ds : List ℕ) → IsDecimal n ds → IsWhole ds (pos n)
+is_plain n ds d = subst (λ z. IsWhole z (pos n)) (append-nil ds) (subst (λ m. IsWhole (ds ++ []) (pos m)) d.value (plain d.some no_point))
+
+is_negative : (n : ℕ) (ds : List ℕ) → IsDecimal (suc n) ds → IsWhole (45 ∷ ds) (negsuc n)
+is_negative n ds d = subst (λ z. IsWhole (45 ∷ z) (negsuc n)) (append-nil ds) (subst (λ m. IsWhole (45 ∷ (ds ++ [])) (minus_of m)) d.value (negative d.some no_point))
+
+pub whole_read : (z : ℤ) → unsigned_abs z < 2 ^ 63 → whole_of (signed_decimal z) ≡ Ok z
+whole_read (pos n) h =
+    let fits : nat_lt n (2 ^ 63) ≡ true = lt-ltb _ _ h in
+    whole_is (decimal n) (pos n) (is_plain n (decimal n) (decimal_is n (omega (arith, h)))) ∙ rw fits refl
+whole_read (negsuc n) h =
+    let fits : nat_le (suc n) (2 ^ 63) ≡ true = search (arith, nat_tests) in
+    whole_is (45 ∷ decimal (suc n)) (negsuc n) (is_negative n (decimal (suc n)) (decimal_is (suc n) (omega (arith, h)))) ∙ rw fits refl
