@@ -38,8 +38,8 @@ use Rattle.map_opening.specs.Laying.{GoesRound}
 use Rattle.map_opening.proofs.Places.{IsKept, place_is, kept_place, place_kept, one_key}
 use Rattle.map_opening.proofs.Places.{distinct_places}
 use Rattle.arc_store.specs.Holds.{IsWhole}
-use Rattle.map_opening.proofs.Members.{contains_in, in_contains, in_mapped, in_flat, in_filter, any_in}
-use Rattle.map_opening.proofs.Members.{in_any, same_answer, there}
+use Rattle.ring_machine.proofs.Members.{contains_in, in_contains, in_mapped, in_flat, in_filter, any_in}
+use Rattle.ring_machine.proofs.Members.{in_any, same_answer, there}
 use Rattle.arc_store.proofs.Ends.{segment_ends, end_of_two, two_ends}
 use Rattle.map_opening.proofs.KeyRings.{edge_of_canonical, edge_in_canonical, in_canonical}
 use Rattle.map_opening.proofs.KeyRings.{of_canonical, laid, begins_round, edges_round, edge_ends}

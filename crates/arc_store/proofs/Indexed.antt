@@ -25,7 +25,7 @@ use Rattle.segment_index.specs.Candidates.{SegmentSet, segment_is, has}
 use Rattle.segment_index.proofs.Singles.{segment_eq-is}
 use Rattle.arc_store.specs.Holds.{IsIndexed}
 use Rattle.map_opening.proofs.SegmentLists.{has-eq}
-use Rattle.map_opening.proofs.Members.{in_mapped, in_flat, any_in, in_any, any_alike, same_answer}
+use Rattle.ring_machine.proofs.Members.{in_mapped, in_flat, any_in, in_any, any_alike, same_answer}
 use Rattle.arc_store.proofs.Ends.{end_is, end_of_two}
 
 -- ---- segments and vertices of a document

@@ -1,2 +1,1 @@
-pub mod Thinning
 pub mod Untested

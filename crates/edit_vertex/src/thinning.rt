@@ -5,7 +5,7 @@ ghost use Rattle.ring_machine.specs.Parts.{is_vertex};
 ghost use Rattle.ring_machine.specs.Planar.{Proper};
 ghost use Rattle.ring_machine.specs.Thin.{is_flat, thinned, thin_at};
 ghost use Rattle.ring_machine.specs.Vertices.{is_junction};
-ghost use Rattle.edit_vertex.specs.Thinning.{IsThinnedPart};
+ghost use Rattle.ring_machine.specs.Thin.{IsThinnedPart};
 
 use crate::remove::remove_now;
 use arc_store::{EditFault, Map, Spot};

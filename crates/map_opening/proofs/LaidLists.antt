@@ -14,7 +14,7 @@ use Rattle.shared_arcs.specs.Rings.{Rings}
 use Rattle.map_opening.specs.Laying.{IsFilled, IsLaid, segments_along}
 use Rattle.map_opening.proofs.Pushed.{flat_pushed}
 use Rattle.map_opening.proofs.Counted.{sum_by-map}
-use Rattle.map_opening.proofs.Members.{contains_in, in_contains}
+use Rattle.ring_machine.proofs.Members.{contains_in, in_contains}
 
 -- what a map on the way holds of its rings and of their segments
 pub record OnWay : Type 0 where
