@@ -37,7 +37,7 @@ use Rattle.arc_store.proofs.Base.{key_vertex, document_ring, laid_ring, joined_a
 use Rattle.arc_store.proofs.Base.{joined_around, joined_segment, joined_differ}
 use Rattle.arc_store.proofs.Ends.{two_positions, end_is, end_of_two}
 use Rattle.arc_store.proofs.Insertions.{AreRings, Comes, segments_come}
-use Rattle.map_opening.proofs.Members.{any_in, in_mapped}
+use Rattle.ring_machine.proofs.Members.{any_in, in_mapped}
 use Rattle.map_opening.proofs.KeyRings.{length-canonical, times_edge, edge_times, edge_ends}
 use Rattle.map_opening.proofs.KeyRings.{in_canonical, of_canonical}
 use Rattle.arc_store.proofs.Removals.{segments_del, HasSides, begun_there, spot_is, spot_of}

@@ -1,15 +1,14 @@
 -- A map that is kept, seen as its document: rings, vertices, segments, and what stands around a
 -- vertex.
-use Rattle.std.proofs.Common.{◌≡◌, ◌≢◌, ◌≤◌, ◌↔◌, ℕ, Bool, true, false, refl, sym, ap, ap₂, ◌∙◌}
+use Rattle.std.proofs.Common.{◌≡◌, ◌≢◌, ◌≤◌, ◌↔◌, ℕ, Bool, true, refl, sym, ap, ap₂, ◌∙◌}
 use Rattle.std.proofs.Common.{subst, List, [], ◌∷◌, map, length, ◌||◌, ◌&&◌, ◌⊎◌, inl, inr, arith}
-use Rattle.std.proofs.Common.{Some, is_some, Contains, pos}
-use Rattle.std.specs.Prelude.{◌==◌, not, unwrap_or, IsTrue}
+use Rattle.std.proofs.Common.{Some, is_some, Contains}
+use Rattle.std.specs.Prelude.{unwrap_or}
 use Rattle.std.specs.List.{list_any, filter, flat_map}
 use Rattle.std.specs.FinMap as table
 use Rattle.std.proofs.lemmas.Bool.{false≢true}
-use Rattle.std.proofs.lemmas.Bool.Decides.{Decides-eqb}
 use Rattle.std.proofs.lemmas.List.{length-map}
-use Rattle.grid_geometry.specs.Position.{Position, position, position_eq}
+use Rattle.grid_geometry.specs.Position.{Position, position_eq}
 use Rattle.grid_geometry.specs.Segment.{Segment, segment, segment_eq, is_end}
 use Rattle.grid_geometry.specs.Ring as geometry
 use Rattle.grid_geometry.proofs.Conflicts.{segment-comm}
@@ -24,7 +23,6 @@ use Rattle.ring_machine.proofs.Canonical.{canonical_parts}
 use Rattle.ring_machine.proofs.First.{In}
 use Rattle.ring_machine.proofs.Neighbours.{in-map, in-flat_map, has-in, in-has, end_place, begin_place}
 use Rattle.ring_machine.proofs.Neighbours.{place_around, first_end, second_end}
-use Rattle.ring_machine.proofs.Removal.{none_parts, not_true}
 use Rattle.ring_machine.proofs.RingSegments.{segment_eq-true, same_ends}
 use Rattle.ring_machine.proofs.RingsOf.{rings-in_rings}
 use Rattle.ring_machine.proofs.Spots.{Rotated}
@@ -38,12 +36,12 @@ use Rattle.map_opening.specs.Laying.{GoesRound}
 use Rattle.map_opening.proofs.Places.{IsKept, place_is, kept_place, place_kept, one_key}
 use Rattle.map_opening.proofs.Places.{distinct_places}
 use Rattle.arc_store.specs.Holds.{IsWhole}
-use Rattle.map_opening.proofs.Members.{contains_in, in_contains, in_mapped, in_flat, in_filter, any_in}
-use Rattle.map_opening.proofs.Members.{in_any, same_answer, there}
+use Rattle.ring_machine.proofs.Members.{contains_in, in_contains, in_mapped, in_flat, in_filter, any_in}
+use Rattle.ring_machine.proofs.Members.{in_any, same_answer, there}
 use Rattle.arc_store.proofs.Ends.{segment_ends, end_of_two, two_ends}
 use Rattle.map_opening.proofs.KeyRings.{edge_of_canonical, edge_in_canonical, in_canonical}
 use Rattle.map_opening.proofs.KeyRings.{of_canonical, laid, begins_round, edges_round, edge_ends}
-use Rattle.map_opening.proofs.KeyRings.{edge_apart, times_edge, edge_times, beside_edges, has_key}
+use Rattle.map_opening.proofs.KeyRings.{edge_apart, times_edge, edge_times, beside_edges}
 
 -- ---- what a ring of the document was made of
 

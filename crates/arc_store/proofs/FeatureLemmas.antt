@@ -9,8 +9,8 @@ use Rattle.std.proofs.lemmas.List.{length-append, length-map, take_more}
 use Rattle.std.proofs.lemmas.List.Elements.{filter_map-append}
 use Rattle.std.proofs.lemmas.Option.{slice_get-map, slice_get_within}
 use Rattle.grid_geometry.specs.Position.{Position}
-use Rattle.ring_machine.specs.Document.{FeatureOf, Open, Close, Leaf, Kept, Layer, Document}
-use Rattle.ring_machine.specs.Parts.{feature_of, features, feature, in_feature, in_item, in_layer, in_rings}
+use Rattle.ring_machine.specs.Document.{FeatureOf, Layer, Document}
+use Rattle.ring_machine.specs.Parts.{feature_of, features, feature, in_feature, in_rings}
 use Rattle.ring_machine.proofs.RingsOf.{features-in_rings}
 use Rattle.topo_outline.specs.declared.document.Item.{Item}
 use Rattle.topo_outline.specs.declared.document.Item.TheVariants as item
@@ -18,15 +18,15 @@ use Rattle.topo_outline.specs.declared.document.KeptMember.{KeptMember}
 use Rattle.topo_outline.specs.declared.document.RawFeature.{RawFeature}
 use Rattle.topo_outline.specs.declared.document.RawLayer.{RawLayer}
 use Rattle.topo_outline.specs.Outline.{leaves_in, leaves}
-use Rattle.topo_outline.specs.Shape.{Piece, starts, ends, leaf, text, LayerText}
 use Rattle.topo_outline.specs.Views.{form_of, view_head, view_item, view_layer, view_kept}
 use Rattle.topo_reader.specs.Document as opened
 use Rattle.arc_store.specs.declared.frame.Frame.{Frame}
 use Rattle.map_opening.specs.Laying.{polygon_numbers, feature_numbers}
-use Rattle.arc_store.specs.Frames.{polygons_at, numbered, items_from, layers_from}
+use Rattle.topo_reader.specs.Document.{polygons_at, numbered, items_from, layers_from}
 use Rattle.arc_store.specs.Frames.{frame_of, IsCounted}
 use Rattle.arc_store.specs.Leaves.{raw_leaves, raw_features}
 use Rattle.arc_store.specs.Readers.{shown, shown_of}
+use Rattle.arc_store.proofs.FramedDocument.{layers_read}
 
 -- ---- a list's elements that a loop goes through
 
@@ -206,29 +206,6 @@ module _ (g : ℕ → List Position) where
   abbrev placed : List (List ℕ) → List (List (List Position))
   placed ps = map (map g) ps
 
-  polygons_placed : (all : List (List (List ℕ))) (n : ℕ)
-      → placed (polygons_at all n) ≡ opened.polygons_at (map placed all) n
-  polygons_placed all n = by (slice_get all n) ∙ sym (ap (λ ps. unwrap_or ps []) (slice_get-map placed all n))
-    where
-      by : (ps : Option (List (List ℕ))) → placed (unwrap_or ps []) ≡ unwrap_or (option_map placed ps) []
-      by None = refl
-      by (Some ps) = refl
-
-  items_placed : (n : ℕ) (all : List (List (List ℕ))) (ps : List Piece)
-      → map (in_item (in_feature g)) (items_from n all ps) ≡ opened.items_from n (map placed all) ps
-  items_placed n all [] = refl
-  items_placed n all (starts head ∷ ps) = ap (λ z. Open head ∷ z) (items_placed n all ps)
-  items_placed n all (ends ∷ ps) = ap (λ z. Close ∷ z) (items_placed n all ps)
-  items_placed n all (text t ∷ ps) = ap (λ z. Kept t ∷ z) (items_placed n all ps)
-  items_placed n all (leaf form head arcs ∷ ps) =
-      ap₂ (λ qs z. Leaf (opened.numbered n form head qs) ∷ z) (polygons_placed all n) (items_placed (n + 1) all ps)
-
-  layers_placed : (n : ℕ) (all : List (List (List ℕ))) (ls : List LayerText)
-      → map (in_layer (map (in_item (in_feature g)))) (layers_from n all ls) ≡ opened.layers_from n (map placed all) ls
-  layers_placed n all [] = refl
-  layers_placed n all (l ∷ ls) =
-      ap₂ (λ is z. record { name = l.name; items = is } ∷ z) (items_placed n all l.pieces) (layers_placed (n + length (leaves_in l.pieces)) all ls)
-
 -- ---- what is shown
 
 module _ {A : Type 0} (g : ℕ → List Position) (f : Frame A) where
@@ -322,7 +299,7 @@ module _ {A : Type 0} (g : ℕ → List Position) (f : Frame A) where
       let ls = map view_layer f.layers.items in
       let there : List Layer → Document = λ z. record { transform = option_map (λ t. t.now) f.transform; layers = z; members = map view_kept f.members.items } in
       sym e
-      ∙ ap there (layers_placed g 0 all ls ∙ ap (λ ps. opened.layers_from 0 ps ls) (sym (polygons_kept h)))
+      ∙ ap there (layers_read g 0 all ls ∙ ap (λ ps. layers_from 0 ps ls) (sym (polygons_kept h)))
       ∙ ap (λ z. opened.document_of (opened_of f.layers.items f.members.items z)) e
       ∙ ap (λ z. opened.document_of (opened_of z f.members.items d)) (sym k)
       ∙ ap (λ z. opened.document_of (opened_of layers z d)) (sym l)

@@ -36,7 +36,7 @@ use Rattle.arc_store.proofs.Indexed.{end_vertex}
 use Rattle.arc_store.proofs.Inserted.{Insertion, document_inserted, reindexed_inserted}
 use Rattle.arc_store.proofs.Inserted.{holds_inserted, size_inserted}
 use Rattle.arc_store.proofs.Insertions.{Comes}
-use Rattle.map_opening.proofs.Members.{any_in}
+use Rattle.ring_machine.proofs.Members.{any_in}
 use Rattle.arc_store.proofs.RingUsers.{users_same}
 
 -- ---- lists of one and of two

@@ -35,7 +35,7 @@ use Rattle.arc_store.specs.Stored.{Stored, positions_along, ring_under, document
 use Rattle.map_opening.specs.Laying.{GoesRound}
 use Rattle.arc_store.specs.Holds.{Visits, IsWhole, IsIndexed, Holds}
 use Rattle.map_opening.proofs.SegmentLists.{has-eq}
-use Rattle.map_opening.proofs.Members.{contains_in, in_contains, in_mapped, in_flat}
+use Rattle.ring_machine.proofs.Members.{contains_in, in_contains, in_mapped, in_flat}
 use Rattle.arc_store.proofs.Around.{segment_joined, come_over}
 use Rattle.arc_store.proofs.Insertions.{Comes, segments_ins}
 use Rattle.arc_store.proofs.Numbers.{users_of, size_over}
@@ -45,7 +45,7 @@ use Rattle.map_opening.proofs.KeyRings.{laid, edge_ends, ends_is_seg, times_edge
 use Rattle.arc_store.proofs.KeyWays.{edited_along, edited_way, over_keeps, round_way, round_of_way}
 use Rattle.arc_store.proofs.KeyWays.{seg_same}
 use Rattle.arc_store.proofs.RingEdits.{ring_pivot}
-use Rattle.map_opening.proofs.Members.{is_some-mapped, mapped_there}
+use Rattle.ring_machine.proofs.Members.{is_some-mapped, mapped_there}
 use Rattle.map_opening.proofs.Places.{place_alike, insert_other}
 
 -- ---- one ring

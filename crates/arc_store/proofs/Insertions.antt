@@ -28,7 +28,7 @@ use Rattle.arc_tables.specs.Ways.{one}
 use Rattle.map_opening.proofs.Counted.{sum_by-map, sum_more}
 use Rattle.arc_store.proofs.Ends.{two_positions, two_ends, end_of_two}
 use Rattle.arc_store.proofs.Indexed.{end_vertex}
-use Rattle.map_opening.proofs.Members.{any_alike}
+use Rattle.ring_machine.proofs.Members.{any_alike}
 use Rattle.map_opening.proofs.KeyRings.{length-canonical}
 use Rattle.arc_store.proofs.RingEdits.{edges_turned, canonical_rotated}
 

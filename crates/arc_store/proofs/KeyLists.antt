@@ -12,8 +12,8 @@ use Rattle.arc_tables.specs.Rings.{Rings, begins}
 use Rattle.map_opening.specs.Laying.{polygon_numbers, feature_numbers}
 use Rattle.map_opening.specs.Keyed.{all_rings}
 use Rattle.arc_store.specs.Stored.{edges_under}
-use Rattle.map_opening.proofs.Members.{contains_in, in_contains, there}
-use Rattle.arc_store.proofs.SortedOnce.{in_at}
+use Rattle.ring_machine.proofs.Members.{contains_in, in_contains, there}
+use Rattle.ring_machine.proofs.SortedOnce.{in_at}
 
 -- one element more
 flat_more : {A B : Type 0} (f : A → List B) (xs : List A) (i : ℕ) (d : A) → i < length xs

@@ -25,7 +25,7 @@ use Rattle.arc_tables.specs.Rings.{begins, edges}
 use Rattle.arc_tables.specs.Edited.{over, drawn, onto}
 use Rattle.map_opening.specs.Laying.{GoesRound}
 use Rattle.arc_store.proofs.RingEdits.{distinct_turned}
-use Rattle.map_opening.proofs.Members.{same_answer}
+use Rattle.ring_machine.proofs.Members.{same_answer}
 use Rattle.map_opening.proofs.KeyRings.{length-canonical, laid, edges_round, is_seg_ends, ends_is_seg}
 
 -- ---- ways

@@ -27,7 +27,6 @@ pub mod FramedDocument
 pub mod Opened
 pub mod Reading
 pub mod SpotLemmas
-pub mod SortedOnce
 pub mod VertexLists
 pub mod KeyLists
 pub mod FeatureLemmas

@@ -42,7 +42,7 @@ use Rattle.arc_store.specs.Stored.{Stored, document_of}
 use Rattle.arc_store.specs.Holds.{IsWhole, IsIndexed, Holds}
 use Rattle.arc_store.specs.Kept.{IsKept, stored}
 use Rattle.arc_store.specs.Planned.{ArePlaced, AreAround, AreNew, Exchanges, spokes}
-use Rattle.map_opening.proofs.Members.{any_in, in_mapped, in_contains}
+use Rattle.ring_machine.proofs.Members.{any_in, in_mapped, in_contains}
 use Rattle.map_opening.proofs.Places.{place_is}
 use Rattle.arc_store.proofs.Base.{joined_kept, joined_apart, segments_to, segments_at}
 use Rattle.arc_store.proofs.Base.{sweeps_by_joined}

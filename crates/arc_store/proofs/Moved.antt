@@ -41,7 +41,7 @@ use Rattle.arc_tables.specs.Rings.{begins}
 use Rattle.shared_arcs.specs.Joined.{Joined}
 use Rattle.arc_store.specs.Stored.{Stored, positions_along, ring_under, document_of}
 use Rattle.arc_store.specs.Holds.{Visits, IsWhole, IsIndexed, Holds}
-use Rattle.map_opening.proofs.Members.{contains_in, in_contains, in_mapped, any_in, in_any, same_answer}
+use Rattle.ring_machine.proofs.Members.{contains_in, in_contains, in_mapped, any_in, in_any, same_answer}
 use Rattle.arc_store.proofs.Ends.{two_positions, end_of_two, two_ends}
 use Rattle.map_opening.proofs.KeyRings.{in_canonical, length-canonical, has_key}
 use Rattle.map_opening.proofs.Places.{insert_other}

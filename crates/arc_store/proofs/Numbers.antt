@@ -23,7 +23,7 @@ use Rattle.arc_store.proofs.Insertions.{size_ins, has_segment, has_segment_by, a
 use Rattle.map_opening.proofs.KeyRings.{laid, edges_round, edge_ends, times_edge, edge_times}
 use Rattle.map_opening.proofs.KeyRings.{is_seg_ends, ends_is_seg}
 use Rattle.arc_store.proofs.KeyWays.{seg_same}
-use Rattle.map_opening.proofs.Members.{any_in, in_any}
+use Rattle.ring_machine.proofs.Members.{any_in, in_any}
 use Rattle.arc_store.proofs.Removals.{any_alike_in}
 use Rattle.arc_store.proofs.RingEdits.{edges_turned, canonical_rotated}
 

@@ -42,7 +42,7 @@ use Rattle.map_opening.proofs.SegmentLists.{has-eq}
 use Rattle.map_opening.proofs.KeyedRings.{ring_keyed, round_keyed, size_keyed, segments_keyed}
 use Rattle.map_opening.proofs.KeyRings.{begins_round}
 use Rattle.map_opening.proofs.LaidSegments.{goes_round}
-use Rattle.map_opening.proofs.Members.{contains_in, in_contains, in_mapped, in_flat}
+use Rattle.ring_machine.proofs.Members.{contains_in, in_contains, in_mapped, in_flat}
 use Rattle.map_opening.proofs.NestedLists.{same_features}
 use Rattle.arc_store.proofs.RingEdits.{canonical_ring}
 

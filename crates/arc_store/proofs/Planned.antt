@@ -1,18 +1,18 @@
 -- Steps of loops over a list, and what an index comes to hold where segments come and go.
 use Rattle.std.proofs.Common.{◌≡◌, ◌≤◌, ◌<◌, ◌+◌, ℕ, Bool, true, false, refl, sym, ap, ap₂, ◌∙◌}
-use Rattle.std.proofs.Common.{cond, List, [], ◌∷◌, ◌++◌, map, length, take, get_or, ◌||◌, ◌&&◌}
+use Rattle.std.proofs.Common.{cond, List, [], ◌∷◌, length, take, get_or, ◌||◌, ◌&&◌}
 use Rattle.std.proofs.Common.{arith, leb, zero, suc}
 use Rattle.std.specs.Prelude.{not, ◌==◌, ◌≢◌}
 use Rattle.std.specs.List.{list_any, AllByRecursion}
 use Rattle.std.specs.FinSet as set
 use Rattle.std.proofs.lemmas.Bool.{false≢true}
 use Rattle.std.proofs.lemmas.Bool.Decides.{Decides-eqb}
-use Rattle.std.proofs.lemmas.List.{take_more, map-append}
+use Rattle.std.proofs.lemmas.List.{take_more}
 use Rattle.std.proofs.lemmas.List.Folds.{list_any_more}
 use Rattle.grid_geometry.specs.Segment.{Segment}
 use Rattle.ring_machine.specs.WellFormed.{are_distinct}
 use Rattle.segment_index.specs.Candidates.{SegmentSet, AreAmong, AreSingle, segment_is, has, times_in}
-use Rattle.segment_index.proofs.Singles.{segment_total, same_sets, same_segment, is-itself, has-is, has-some}
+use Rattle.segment_index.proofs.Singles.{segment_total, same_sets, is-itself, has-is, has-some}
 use Rattle.segment_index.proofs.Singles.{times-some, times-push, times-take}
 use Rattle.arc_tables.specs.Stores.{AllDifferent}
 use Rattle.arc_store.specs.Planned.{AreNew, Gains, Drops, Exchanges}

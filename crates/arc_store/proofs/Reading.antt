@@ -20,7 +20,7 @@ use Rattle.map_opening.proofs.Places.{place_is, place_kept, kept_place}
 use Rattle.arc_store.proofs.Base.{key_vertex, vertex_key, segment_between, joined_kept}
 use Rattle.arc_store.proofs.Ends.{segment_ends}
 use Rattle.arc_store.proofs.Insertions.{has_segment, is_segment_by}
-use Rattle.map_opening.proofs.Members.{in_any}
+use Rattle.ring_machine.proofs.Members.{in_any}
 use Rattle.arc_store.proofs.Numbers.{users_count}
 use Rattle.arc_store.proofs.RingUsers.{users_same}
 

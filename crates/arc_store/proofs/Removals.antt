@@ -37,7 +37,7 @@ use Rattle.arc_store.proofs.Ends.{two_ends, end_of_two}
 use Rattle.arc_store.proofs.Insertions.{AreRings, has_segment, has_segment_by, is_segment_by}
 use Rattle.arc_store.proofs.Insertions.{any_mapped, any_parts}
 use Rattle.map_opening.proofs.KeyRings.{length-canonical, beside_edges}
-use Rattle.map_opening.proofs.Members.{any_in, in_any, same_answer, in_mapped, in_flat, in_filter}
+use Rattle.ring_machine.proofs.Members.{any_in, in_any, same_answer, in_mapped, in_flat, in_filter}
 use Rattle.arc_store.proofs.RingEdits.{edges_turned, edge_turned, canonical_rotated, canonical_ring}
 use Rattle.arc_store.proofs.RingEdits.{BegunAt, begun_at, edge_back, rest_lacks, next_differs}
 use Rattle.arc_store.proofs.RingEdits.{last_differs}

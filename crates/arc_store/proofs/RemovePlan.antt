@@ -37,7 +37,7 @@ use Rattle.arc_store.proofs.Base.{joined_kept, joined_apart, joined_back}
 use Rattle.arc_store.proofs.Base.{joined_segment, one_to, key_vertex}
 use Rattle.arc_store.proofs.SegmentCounts.{as_many}
 use Rattle.arc_store.proofs.InsertPlan.{one_single, two_single}
-use Rattle.map_opening.proofs.Members.{any_in}
+use Rattle.ring_machine.proofs.Members.{any_in}
 use Rattle.arc_store.proofs.Removed.{Removing, without_vertex, document_removed, reindexed_removed}
 use Rattle.arc_store.proofs.Removed.{holds_removed, size_removed}
 use Rattle.arc_store.proofs.RingUsers.{users_same}

@@ -42,8 +42,8 @@ use Rattle.arc_store.specs.Stored.{Stored, positions_along, edges_under, ring_un
 use Rattle.map_opening.specs.Laying.{GoesRound}
 use Rattle.arc_store.specs.Holds.{IsWhole, IsIndexed, Holds}
 use Rattle.map_opening.proofs.SegmentLists.{has-eq}
-use Rattle.map_opening.proofs.Members.{in_any, contains_in, in_contains, in_mapped, in_flat}
-use Rattle.map_opening.proofs.Members.{same_answer, is_some-mapped, mapped_there}
+use Rattle.ring_machine.proofs.Members.{in_any, contains_in, in_contains, in_mapped, in_flat}
+use Rattle.ring_machine.proofs.Members.{same_answer, is_some-mapped, mapped_there}
 use Rattle.arc_store.proofs.Around.{AreTwo, two_ways, bridged_two, segments_two, bridge_two}
 use Rattle.map_opening.proofs.Counted.{filter-mapped}
 use Rattle.arc_store.proofs.Ends.{two_ends}

@@ -26,7 +26,7 @@ use Rattle.arc_store.specs.Stored.{document_of, ring_under}
 use Rattle.arc_store.proofs.FeatureLemmas.{feature_polygons}
 use Rattle.arc_store.proofs.FrameLemmas.{frame_rings}
 use Rattle.map_opening.proofs.KeyRings.{length-canonical, begins_round}
-use Rattle.map_opening.proofs.Members.{in_contains}
+use Rattle.ring_machine.proofs.Members.{in_contains}
 
 in_get : {X : Type 0} (xs : List X) (i : ℕ) (x : X) → slice_get xs i ≡ Some x → In x xs
 in_get [] i x e = absurd cc

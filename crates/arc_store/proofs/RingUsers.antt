@@ -23,7 +23,7 @@ use Rattle.arc_tables.specs.Rings as shared
 use Rattle.arc_store.specs.Holds.{IsWhole}
 use Rattle.arc_store.specs.Stored.{Stored}
 use Rattle.map_opening.proofs.KeyRings.{has_key}
-use Rattle.map_opening.proofs.Members.{contains_in, in_contains, in_filter, in_any}
+use Rattle.ring_machine.proofs.Members.{contains_in, in_contains, in_filter, in_any}
 use Rattle.arc_store.proofs.Numbers.{users_of}
 
 -- ---- numbers but for one

@@ -2,16 +2,14 @@
 use Rattle.std.proofs.Common.{◌≡◌, ◌≤◌, ◌+◌, ℕ, Bool, true, false, refl, sym, ap, ap₂, ◌∙◌, cond}
 use Rattle.std.proofs.Common.{List, [], ◌∷◌, length, ◌||◌, ◌&&◌, arith, leb}
 use Rattle.std.specs.Prelude.{not}
-use Rattle.std.specs.List.{list_any, fold}
 use Rattle.std.specs.FinSet as set
 use Rattle.std.proofs.lemmas.Bool.{false≢true}
-use Rattle.grid_geometry.specs.Segment.{Segment, segment_cmp, segment_eq}
+use Rattle.grid_geometry.specs.Segment.{Segment, segment_cmp}
 use Rattle.ring_machine.specs.Document.{Document}
 use Rattle.ring_machine.specs.Parts.{all_segments}
-use Rattle.ring_machine.specs.Query.{add_segment, distinct_segments}
+use Rattle.ring_machine.specs.Query.{distinct_segments}
 use Rattle.segment_index.specs.Candidates.{SegmentSet, AreAmong, AreSingle, segment_is, has, times_in}
-use Rattle.segment_index.proofs.Singles.{segment_total, same_sets, same_segment, is-itself, has-is}
-use Rattle.segment_index.proofs.Singles.{times-none}
+use Rattle.segment_index.proofs.Singles.{segment_total, same_sets, is-itself, has-is}
 use Rattle.arc_store.specs.Holds.{IsIndexed}
 use Rattle.arc_store.specs.Planned.{AreNew, Gains, Exchanges}
 use Rattle.map_opening.proofs.SegmentLists.{has-eq, or_nothing, has_all, single_all}

@@ -24,7 +24,7 @@ use Rattle.arc_store.proofs.Around.{is_there, two_no_junction, around_two, bridg
 use Rattle.arc_store.proofs.Around.{neighbours_one, neighbours_more, ring_length, passes_has, has_passes}
 use Rattle.map_opening.proofs.Places.{IsKept}
 use Rattle.arc_store.proofs.Base.{joined_kept, laid_ring, ring_laid}
-use Rattle.map_opening.proofs.Members.{contains_in, in_contains}
+use Rattle.ring_machine.proofs.Members.{contains_in, in_contains}
 use Rattle.arc_store.proofs.Reading.{ends_make}
 
 -- a list is no longer than all together

@@ -36,8 +36,8 @@ use Rattle.map_opening.proofs.Places.{kept_place, place_is, place_kept, distinct
 use Rattle.arc_store.proofs.Base.{key_vertex, vertex_key, framed, begin_kept}
 use Rattle.map_opening.proofs.KeyRings.{has_key, in_canonical, of_canonical}
 use Rattle.arc_store.proofs.FrameLemmas.{frame_rings}
-use Rattle.map_opening.proofs.Members.{any_in, in_any, in_mapped, in_flat, same_answer, contains_in}
-use Rattle.arc_store.proofs.SortedOnce.{Rising, same_rising, all_rise, in_all, all_in, position_total, ties}
+use Rattle.ring_machine.proofs.Members.{any_in, in_any, in_mapped, in_flat, same_answer, contains_in}
+use Rattle.ring_machine.proofs.SortedOnce.{Rising, same_rising, all_rise, in_all, all_in, position_total, ties}
 
 -- ---- positions, each once
 

@@ -1,3 +1,2 @@
 pub mod Tested
-pub mod Thinning
 pub mod Untested

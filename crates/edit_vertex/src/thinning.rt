@@ -7,7 +7,7 @@ ghost use Rattle.ring_machine.specs.Thin.{is_flat, thinned, thin_at};
 ghost use Rattle.ring_machine.specs.Vertices.{is_junction};
 ghost use Rattle.segment_index.specs.Times.{times_by};
 ghost use Rattle.edit_vertex.specs.Tested.{most_at, most_for_thin};
-ghost use Rattle.edit_vertex.specs.Thinning.{IsThinnedPart};
+ghost use Rattle.ring_machine.specs.Thin.{IsThinnedPart};
 
 use crate::remove::remove_now;
 use arc_store::{EditFault, Map, Spot};

@@ -18,7 +18,7 @@ use Rattle.arc_tables.specs.Ways.{Edge}
 use Rattle.arc_tables.specs.Rings.{Rings, edges}
 use Rattle.map_opening.specs.Laying.{IsLaid}
 use Rattle.map_opening.proofs.KeyRings.{has_key}
-use Rattle.map_opening.proofs.Members.{contains_in, in_contains, in_mapped}
+use Rattle.ring_machine.proofs.Members.{contains_in, in_contains, in_mapped}
 
 -- ---- a number more
 

@@ -21,7 +21,7 @@ use Rattle.local_planarity.proofs.Least.{same_least_conflict}
 use Rattle.map_opening.specs.Laying.{IsFilled}
 use Rattle.map_opening.proofs.Places.{place_is}
 use Rattle.map_opening.proofs.SegmentLists.{has-eq, has_all}
-use Rattle.map_opening.proofs.Members.{same_answer}
+use Rattle.ring_machine.proofs.Members.{same_answer}
 
 -- ---- what the index has near a segment
 

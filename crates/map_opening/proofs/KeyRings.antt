@@ -21,7 +21,7 @@ use Rattle.ring_machine.proofs.Arcs.{links-append}
 use Rattle.arc_tables.specs.Ways.{Edge, links, is_seg, one, times}
 use Rattle.arc_tables.specs.Rings.{edges, begins}
 use Rattle.map_opening.specs.Laying.{GoesRound}
-use Rattle.map_opening.proofs.Members.{in_swap}
+use Rattle.ring_machine.proofs.Members.{in_swap}
 
 -- ---- a ring begun elsewhere
 

@@ -1,6 +1,6 @@
 -- What was put under keys part by part was put under the keys of all parts.
 use Rattle.std.proofs.Common.{◌≡◌, ◌⊎◌, ◌<◌, ℕ, zero, suc, refl, sym, subst, ap, ap₂, ◌∙◌, List, [], ◌∷◌, ◌++◌}
-use Rattle.std.proofs.Common.{map, inl, inr, Option, Some, None, arith, Contains}
+use Rattle.std.proofs.Common.{map, inl, inr, Some, None, arith, Contains}
 use Rattle.std.proofs.lemmas.Bool.{false≢true}
 use Rattle.std.specs.Prelude.{Vec, is_some, slice_index_or}
 use native.Mathlib.Decide.{ℕ_discrete}

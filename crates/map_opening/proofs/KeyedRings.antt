@@ -19,7 +19,7 @@ use Rattle.ring_machine.proofs.StaysProper.{ring_long, ring_distinct}
 use Rattle.vertex_index.specs.Placement.{Placement, place}
 use Rattle.map_opening.specs.Keyed.{all_rings, all_keys, IsKeyed}
 use Rattle.map_opening.specs.Laying.{IsRound, segments_along}
-use Rattle.map_opening.proofs.Members.{contains_in, in_contains}
+use Rattle.ring_machine.proofs.Members.{contains_in, in_contains}
 use Rattle.map_opening.proofs.NestedLists.{all_rings-mapped}
 
 -- different positions have different keys

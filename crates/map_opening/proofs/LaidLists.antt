@@ -1,10 +1,9 @@
 -- Rings that are laid one list after the other.
-use Rattle.std.proofs.Common.{◌≡◌, ◌<◌, ◌≤◌, ℕ, ◌+◌, refl, ap, ap₂, ◌∙◌, sym, subst, List, []}
+use Rattle.std.proofs.Common.{◌≡◌, ◌<◌, ◌≤◌, ℕ, ◌+◌, refl, ap, ◌∙◌, sym, subst, List, []}
 use Rattle.std.proofs.Common.{◌∷◌, ◌++◌, map, length, take, get_or, Option, Contains, arith}
 use Rattle.std.specs.List.{flat_map, sum_by}
-use Rattle.std.proofs.lemmas.List.{append-nil, append_assoc, length_push, map_push, take_more}
+use Rattle.std.proofs.lemmas.List.{append_assoc}
 use Rattle.std.proofs.lemmas.List.{length-map, get_or-map}
-use Rattle.std.proofs.lemmas.List.Concat.{flat_map-append}
 use Rattle.std.proofs.lemmas.List.Sums.{sum_by-append, sum_by-cons, sum_by_more, sum_by-take-le}
 use Rattle.grid_geometry.specs.Segment.{Segment}
 use Rattle.ring_machine.proofs.Neighbours.{in-flat_map}
@@ -14,7 +13,7 @@ use Rattle.arc_tables.specs.Rings.{Rings}
 use Rattle.map_opening.specs.Laying.{IsFilled, IsLaid, segments_along}
 use Rattle.map_opening.proofs.Pushed.{flat_pushed}
 use Rattle.map_opening.proofs.Counted.{sum_by-map}
-use Rattle.map_opening.proofs.Members.{contains_in, in_contains}
+use Rattle.ring_machine.proofs.Members.{contains_in, in_contains}
 
 -- what a map on the way holds of its rings and of their segments
 pub record OnWay : Type 0 where

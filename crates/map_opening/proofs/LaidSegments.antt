@@ -13,7 +13,7 @@ use Rattle.arc_tables.specs.Rings.{edges}
 use Rattle.map_opening.specs.Laying.{GoesRound, IsRound, IsFilled}
 use Rattle.map_opening.proofs.Places.{IsKept}
 use Rattle.map_opening.proofs.KeyRings.{edge_apart, edge_ends, edges_round, begins_round, laid}
-use Rattle.map_opening.proofs.Members.{in_contains}
+use Rattle.ring_machine.proofs.Members.{in_contains}
 
 -- ---- edges
 

@@ -1,4 +1,3 @@
-pub mod Members
 pub mod Pushed
 pub mod Counted
 pub mod KeyRings

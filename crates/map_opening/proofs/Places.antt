@@ -15,7 +15,7 @@ use Rattle.ring_machine.proofs.Order.{and_both, position_eq-true}
 use Rattle.ring_machine.proofs.Removal.{none_parts, not_true}
 use Rattle.vertex_index.specs.Placement.{Placement, AreDistinct, place}
 use Rattle.map_opening.proofs.KeyRings.{has_key}
-use Rattle.map_opening.proofs.Members.{there}
+use Rattle.ring_machine.proofs.Members.{there}
 
 -- keys with the same answer have the same position
 pub place_alike : (places places' : Placement) (x y : ℕ)

@@ -7,7 +7,7 @@ use Rattle.ring_machine.specs.Query.{add_segment}
 use Rattle.ring_machine.proofs.Removal.{position_eq-sym}
 use Rattle.segment_index.specs.Candidates.{AreSingle, segment_is, has, times_in}
 use Rattle.segment_index.proofs.Singles.{segment_eq-is, same_segment, times-none}
-use Rattle.map_opening.proofs.Members.{any_alike}
+use Rattle.ring_machine.proofs.Members.{any_alike}
 
 -- ---- the two tests of equality
 

@@ -7,7 +7,7 @@ use Rattle.map_opening.specs.Keyed.{all_rings, feature_keys, IsKeyed}
 use Rattle.map_opening.specs.Laying.{feature_numbers, IsFilled, IsLaid, segments_along}
 use Rattle.map_opening.proofs.KeyedRings.{round_keyed, size_keyed}
 use Rattle.map_opening.proofs.LaidFirst.{laid_none, filled_none}
-use Rattle.map_opening.proofs.Members.{contains_in}
+use Rattle.ring_machine.proofs.Members.{contains_in}
 use Rattle.map_opening.proofs.opening.lay.Goals as goal
 
 pub lay_all-requires-clause-round : goal.lay_all-requires-clause-round

@@ -1,6 +1,7 @@
 -- Positions sorted, with each of equal neighbours once, are the vertices.
-use Rattle.std.proofs.Common.{◌≡◌, Bool, true, false, refl, sym, ap, ap₂, ◌∙◌, cond, List, [], ◌∷◌, ◌⊎◌, inl, inr}
-use Rattle.std.specs.List.{AllByRecursion, fold, dedup}
+use Rattle.std.proofs.Common.{◌≡◌, ℕ, zero, suc, ◌<◌, Bool, true, false, refl, sym, ap, ap₂, ◌∙◌, subst, cond}
+use Rattle.std.proofs.Common.{List, [], ◌∷◌, length, get_or, ◌⊎◌, inl, inr, arith}
+use Rattle.std.specs.List.{All, AllByRecursion, fold, dedup, dedup_from}
 use Rattle.std.specs.List.Sorted.{IsPermutation, IsSorted, IsStrictlySortedBy}
 use Rattle.std.specs.List.Retain.{IsFiltered, DiffersFromLast}
 use Rattle.std.specs.Ordering.{int_cmp, eq_by_cmp, is_lt}
@@ -9,16 +10,73 @@ use Rattle.std.specs.Cmp.{IsTotalOrder, int_cmp_total, on_total, then_total, tie
 use Rattle.std.proofs.lemmas.Bool.{false≢true}
 use Rattle.std.proofs.lemmas.List.Filters.{dedup_is}
 use Rattle.std.proofs.lemmas.List.Kept.{IsStrictlySortedBy-dedup}
-use Rattle.std.proofs.lemmas.List.Sorted.{IsPermutation-sym}
+use Rattle.std.proofs.lemmas.List.Sorted.{All-permutation, IsPermutation-sym}
 use Rattle.grid_geometry.specs.Position.{Position, position_cmp, position_eq, position_lt}
 use Rattle.ring_machine.specs.Query.{add_position}
 use Rattle.ring_machine.proofs.Order.{position_eq-true, position_eq-refl, position_lt-trans, position_lt-irrefl, position_lt-asym, position_lt-total}
 use Rattle.ring_machine.proofs.First.{In}
-use Rattle.plain_rings.proofs.LeastPair.{in_permuted, in_recursion}
-use Rattle.plain_rings.proofs.OnceEach.{none_new, none_lost}
+
+-- ---- the same elements
+
+pub in_at : {A : Type 0} (xs : List A) (k : ℕ) (d : A) → k < length xs → In (get_or xs k d) xs
+in_at [] k d l = absurd (omega arith)
+in_at (x ∷ xs) zero d l = inl refl
+in_at (x ∷ xs) (suc k) d l = inr (in_at xs k d (omega arith))
+
+each_in : {A : Type 0} (P : A → Type 0) (xs : List A) (a : A) → All P xs → In a xs → P a
+each_in P [] a h i = absurd i
+each_in P (x ∷ xs) a h (inl e) = subst P e (h 0 x (omega arith))
+each_in P (x ∷ xs) a h (inr i) = each_in P xs a (λ k d l. h (suc k) d (omega arith)) i
+
+pub in_permuted : {A : Type 0} (xs ys : List A) → IsPermutation xs ys → (a : A) → In a ys → In a xs
+in_permuted xs ys p a i = each_in (λ z. In z xs) ys a (All-permutation (λ z. In z xs) xs ys p (in_at xs)) i
+
+pub in_recursion : {A : Type 0} (P : A → Type 0) (xs : List A) (a : A) → AllByRecursion P xs → In a xs → P a
+in_recursion P [] a h i = absurd i
+in_recursion P (x ∷ xs) a h (inl e) = subst P e h.0
+in_recursion P (x ∷ xs) a h (inr i) = in_recursion P xs a h.1 i
+
+module _ {A : Type 0} (eq : A → A → Bool) (same_by : (a b : A) → eq a b ≡ true → a ≡ b) where
+  kept : (k : A) (xs : List A) (a : A) → In a (dedup_from eq k xs) → In a (k ∷ xs)
+  kept k [] a i = i
+  kept k (x ∷ xs) a i = by (eq x k) i (kept k xs a) (kept x xs a)
+    where
+      further : In a (k ∷ xs) → In a (k ∷ x ∷ xs)
+      further (inl e) = inl e
+      further (inr j) = inr (inr j)
+
+      by : (b : Bool) → In a (cond b (dedup_from eq k xs) (k ∷ dedup_from eq x xs)) → (In a (dedup_from eq k xs) → In a (k ∷ xs)) → (In a (dedup_from eq x xs) → In a (x ∷ xs)) → In a (k ∷ x ∷ xs)
+      by true i same other = further (same i)
+      by false (inl e) same other = inl e
+      by false (inr j) same other = inr (other j)
+
+  still_there : (k : A) (xs : List A) (a : A) → In a (k ∷ xs) → In a (dedup_from eq k xs)
+  still_there k [] a i = i
+  still_there k (x ∷ xs) a i = by (eq x k) refl (still_there k xs a) (still_there x xs a)
+    where
+      same : eq x k ≡ true → In a (k ∷ x ∷ xs) → In a (k ∷ xs)
+      same e (inl f) = inl f
+      same e (inr (inl f)) = inl (sym (same_by x k e) ∙ f)
+      same e (inr (inr j)) = inr j
+
+      other : In a (k ∷ x ∷ xs) → (In a (x ∷ xs) → In a (dedup_from eq x xs)) → In a (k ∷ dedup_from eq x xs)
+      other (inl f) there = inl f
+      other (inr j) there = inr (there j)
+
+      by : (b : Bool) → eq x k ≡ b → (In a (k ∷ xs) → In a (dedup_from eq k xs)) → (In a (x ∷ xs) → In a (dedup_from eq x xs)) → In a (cond b (dedup_from eq k xs) (k ∷ dedup_from eq x xs))
+      by true e there next = there (same e i)
+      by false e there next = other i next
+
+  pub none_new : (xs : List A) (a : A) → In a (dedup eq xs) → In a xs
+  none_new [] a i = i
+  none_new (x ∷ xs) a i = kept x xs a i
+
+  pub none_lost : (xs : List A) (a : A) → In a xs → In a (dedup eq xs)
+  none_lost [] a i = i
+  none_lost (x ∷ xs) a i = still_there x xs a i
 
 -- each is less than all after it
-abbrev Rising : List Position → Type 0
+abbrev pub Rising : List Position → Type 0
 Rising [] = Unit {0}
 Rising (p ∷ ps) = AllByRecursion (λ q. position_lt p q ≡ true) ps × Rising ps
 
@@ -39,7 +97,7 @@ rest_in : (p q : Position) (ps qs : List Position) → p ≡ q → AllByRecursio
 rest_in p q ps qs same h a i (inl e) = absurd (apart p a (in_recursion (λ r. position_lt p r ≡ true) ps a h i) (same ∙ e))
 rest_in p q ps qs same h a i (inr j) = j
 
-same_rising : (ps qs : List Position) → Rising ps → Rising qs → ((a : Position) → In a ps → In a qs) → ((a : Position) → In a qs → In a ps) → ps ≡ qs
+pub same_rising : (ps qs : List Position) → Rising ps → Rising qs → ((a : Position) → In a ps → In a qs) → ((a : Position) → In a qs → In a ps) → ps ≡ qs
 same_rising [] [] h k f g = refl
 same_rising [] (q ∷ qs) h k f g = absurd (g q (inl refl))
 same_rising (p ∷ ps) [] h k f g = absurd (f p (inl refl))
@@ -104,18 +162,18 @@ with_in (q ∷ qs) p a i = by (position_lt p q) (position_eq p q) refl i (with_i
 
 -- ---- all of them
 
-all_rise : (ps so_far : List Position) → Rising so_far → Rising (fold add_position so_far ps)
+pub all_rise : (ps so_far : List Position) → Rising so_far → Rising (fold add_position so_far ps)
 all_rise [] so_far h = h
 all_rise (p ∷ ps) so_far h = all_rise ps (add_position so_far p) (rises_with so_far p h)
 
-in_all : (ps so_far : List Position) (a : Position) → In a (fold add_position so_far ps) → In a so_far ⊎ In a ps
+pub in_all : (ps so_far : List Position) (a : Position) → In a (fold add_position so_far ps) → In a so_far ⊎ In a ps
 in_all [] so_far a i = inl i
 in_all (p ∷ ps) so_far a i = elim (in_all ps (add_position so_far p) a i) [
   | inl j ↦ elim (in_with so_far p a j) [ inl e ↦ inr (inl e) | inr k ↦ inl k ]
   | inr j ↦ inr (inr j)
 ]
 
-all_in : (ps so_far : List Position) (a : Position) → In a so_far ⊎ In a ps → In a (fold add_position so_far ps)
+pub all_in : (ps so_far : List Position) (a : Position) → In a so_far ⊎ In a ps → In a (fold add_position so_far ps)
 all_in [] so_far a (inl i) = i
 all_in [] so_far a (inr i) = absurd i
 all_in (p ∷ ps) so_far a (inl i) = all_in ps (add_position so_far p) a (inl (with_in so_far p a (inr i)))
@@ -124,10 +182,10 @@ all_in (p ∷ ps) so_far a (inr (inr i)) = all_in ps (add_position so_far p) a (
 
 -- ---- sorted ones
 
-position_total : IsTotalOrder position_cmp
+pub position_total : IsTotalOrder position_cmp
 position_total = then_total (on_total (λ (p : Position). p.x) int_cmp_total) (on_total (λ (p : Position). p.y) int_cmp_total)
 
-ties : (p q : Position) → position_eq p q ≡ eq_by_cmp position_cmp p q
+pub ties : (p q : Position) → position_eq p q ≡ eq_by_cmp position_cmp p q
 ties p q = tied_then (int_cmp p.x q.x) (int_cmp p.y q.y)
 
 below_all : (p : Position) (ps : List Position) → AllByRecursion (λ q. position_cmp p q ≡ Less) ps → AllByRecursion (λ q. position_lt p q ≡ true) ps
