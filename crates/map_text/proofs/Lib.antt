@@ -25,3 +25,4 @@ pub mod RingsBack
 pub mod Saved
 pub mod ReadingRings
 pub mod ReadingLayers
+pub mod ReadingBack

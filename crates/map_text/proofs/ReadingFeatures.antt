@@ -99,7 +99,7 @@ ring_fields f h ps = type_field (type_text f) ∷ id_field h.id ∷ properties_f
 abbrev null_fields : Head → List Field
 null_fields h = type_field (type_text form.Null) ∷ id_field h.id ∷ properties_field h.properties ∷ []
 
-four_joined : (a b c d e : List Member) → (a ++ (b ++ (c ++ (d ++ [])))) ++ e ≡ a ++ (b ++ (c ++ (d ++ e)))
+pub four_joined : (a b c d e : List Member) → (a ++ (b ++ (c ++ (d ++ [])))) ++ e ≡ a ++ (b ++ (c ++ (d ++ e)))
 four_joined a b c d e = simp append_assoc
 
 three_joined : (a b c e : List Member) → (a ++ (b ++ (c ++ []))) ++ e ≡ a ++ (b ++ (c ++ e))

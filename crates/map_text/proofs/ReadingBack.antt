@@ -1,0 +1,236 @@
+-- The written text of a document is read as the document.
+use Rattle.std.proofs.Common.{◌≡◌, ℕ, ◌+◌, ◌<◌, ◌≤◌, ◌^◌, List, [], ◌∷◌, ◌++◌, map, length, Bool, true, false, refl, sym, ap, ◌∙◌, subst, arith, codes, ℤ}
+use Rattle.std.specs.Prelude.{Option, Some, None, option_map, is_some, IsTrue}
+use Rattle.std.specs.List.{AllByRecursion, AllZip, list_all, flat_map, filter_map}
+use Rattle.grid_geometry.specs.Position.{Position, InRange}
+use Rattle.ring_machine.specs.Ring.{is_ring}
+use Rattle.ring_machine.specs.Document.{Text, Member, Layer, Document, DocumentOf}
+use Rattle.ring_machine.specs.Parts.{feature_of, rings, size, in_feature, in_item, in_layer}
+use Rattle.ring_machine.specs.WellFormed.{is_geometry, WellFormed, Same}
+use Rattle.ring_machine.specs.Vertices.{is_junction}
+use Rattle.json_spans.specs.Grammar.{no_space, Json, json}
+use Rattle.json_spans.specs.Parts.{Node}
+use Rattle.json_spans.specs.Trimmed.{trimmed}
+use Rattle.json_spans.specs.Inside.{IsValue}
+use Rattle.json_spans.specs.Kinds.{kind_of}
+use Rattle.json_spans.proofs.Padding.{value_solid, trimmed_is}
+use Rattle.topo_outline.specs.declared.words.Word.TheVariants as word
+use Rattle.topo_outline.specs.declared.members.Owner.TheVariants as owner
+use Rattle.topo_outline.specs.Words.{word_of}
+use Rattle.topo_outline.specs.Shape.{is_list_kind, EntryNode, OutlineText, LayerText}
+use Rattle.topo_outline.specs.IsOutline.{value_at, HasEntries, HasType, IsTransform, no_transform, AreLayers, IsOutline}
+use Rattle.topo_outline.specs.Kept.{IsJson, IsName, IfThere, IsKeptTransform, KeepsItem, KeepsTexts}
+use Rattle.topo_reader.specs.Indexes.{Arc}
+use Rattle.topo_reader.specs.Document.{Opened, document_of}
+use Rattle.topo_reader.specs.Opening.{root_of}
+use Rattle.topo_reader.specs.Reads.{AreArcs, Reads}
+use Rattle.map_text.specs.Arcs.{pieces, arcs_of, indexes, indexed}
+use Rattle.map_text.specs.Text.{object_text, member, member_if, arcs_text, layer_member, text_of}
+use Rattle.map_text.specs.Saved.{Saved}
+use Rattle.map_text.proofs.Ends.{arcs_long, arcs_each}
+use Rattle.map_text.proofs.Saved.{saved_by}
+use Rattle.map_text.proofs.GrammarLists.{bytes_of, bare}
+use Rattle.map_text.proofs.GrammarObjects.{IsMember, object_is_json}
+use Rattle.map_text.proofs.MembersKnown.{transform_named, objects_named, topology_named}
+use Rattle.map_text.proofs.MembersSeen.{Says, IsSeen, object_seen}
+use Rattle.map_text.proofs.MembersFields.{Field, present, IsField, HasFields, written_object, written_json}
+use Rattle.map_text.proofs.ReadingLists.{all_made, list_there}
+use Rattle.map_text.proofs.ReadingArcs.{IsLine, arcs_json, arcs_read}
+use Rattle.map_text.proofs.ReadingPlaces.{node_there, kept_transform}
+use Rattle.map_text.proofs.ReadingFeatures.{name_json, type_field, arcs_field, type_is_field, arcs_is_field, has_type, four_joined}
+use Rattle.map_text.proofs.ReadingRings.{IsDrawn, Drawn, all_drawn, all_both, all_passed, all_plain, IsPlain, items_written}
+use Rattle.map_text.proofs.ReadingLayers.{layer_polygons, IsPlainLayer, layer_json, IsReadLayer, AreReadLayers, layer_as, layers_read, layer_uses, layers_use, layers_lead, layers_same}
+
+-- a document whose text is read back: well formed, of rings in range and of texts that are kept, and
+-- with fewer positions than 64 bits with a sign hold
+pub record IsWritable (d : Document) : Type 0 where
+  pub formed : WellFormed d
+  pub keeps : KeepsTexts d
+  pub are_rings : IsTrue (list_all is_ring (rings d))
+  pub in_range : AllByRecursion (AllByRecursion InRange) (rings d)
+  pub small : size d < 2 ^ 63
+
+-- ---- the layers
+
+abbrev ring_indexes : Document → List Position → List ℤ
+ring_indexes d = indexes (is_junction d) (arcs_of d)
+
+abbrev ring_pieces : Document → List Position → List Arc
+ring_pieces d = pieces (is_junction d)
+
+abbrev Plain : Document → Layer → Type 0
+Plain d = IsPlainLayer (arcs_of d) (ring_indexes d) (ring_pieces d)
+
+plain_layers : (d : Document) (ls : List Layer) → AllByRecursion (λ (l : Layer). is_geometry l.items ≡ true) ls → AllByRecursion (λ (l : Layer). AllByRecursion (IsPlain (Drawn d)) (filter_map feature_of l.items)) ls → AllByRecursion (λ (l : Layer). AllByRecursion KeepsItem l.items) ls → AllByRecursion (Plain d) ls
+plain_layers d [] h k t = tt
+plain_layers d (l ∷ ls) h k t =
+    (record { geometry = h.0; written = items_written (arcs_of d) (ring_indexes d) (ring_pieces d) l.items k.0 t.0; plain = k.0 }, plain_layers d ls h.1 k.1 t.1)
+
+are_plain : (d : Document) → IsWritable d → AllByRecursion (Plain d) d.layers
+are_plain d w = plain_layers d d.layers (all_passed (λ (l : Layer). is_geometry l.items) d.layers w.formed.geometries) (all_plain (Drawn d) d w.formed.forms (all_drawn d w.are_rings w.small)) w.keeps.items
+
+abbrev layer_is : Document → Layer → Member
+layer_is d = layer_as (arcs_of d) (ring_indexes d) (ring_pieces d)
+
+layers_as : (d : Document) (ls : List Layer) → map layer_member (map (in_layer (map (in_item (in_feature (ring_indexes d))))) ls) ≡ map (layer_is d) ls
+layers_as d [] = refl
+layers_as d (l ∷ ls) = ap (λ (z : List Member). layer_is d l ∷ z) (layers_as d ls)
+
+layers_are_members : (d : Document) (ls : List Layer) (ts : List (List ℕ)) → AllZip (λ (l : Layer) t. IsName l.name t) ls ts → AllByRecursion (Plain d) ls → AllByRecursion IsMember (map (layer_is d) ls)
+layers_are_members d [] ts k h = tt
+layers_are_members d (l ∷ ls) [] k h = absurd k
+layers_are_members d (l ∷ ls) (t ∷ ts) k h =
+    (record { string = k.0.string; json = layer_json (arcs_of d) (ring_indexes d) (ring_pieces d) l h.0 }, layers_are_members d ls ts k.1 h.1)
+
+layers_said : (d : Document) (ls : List Layer) (ts : List (List ℕ)) → AllZip (λ (l : Layer) t. IsName l.name t) ls ts → AllZip Says (map (layer_is d) ls) ts
+layers_said d [] [] k = tt
+layers_said d [] (t ∷ ts) k = absurd k
+layers_said d (l ∷ ls) [] k = absurd k
+layers_said d (l ∷ ls) (t ∷ ts) k = (k.0.says, layers_said d ls ts k.1)
+
+abbrev objects_text : Document → Text
+objects_text d = object_text (map (layer_is d) d.layers)
+
+objects_json : (d : Document) → IsWritable d → IsJson (objects_text d)
+objects_json d w = object_is_json (map (layer_is d) d.layers) (layers_are_members d d.layers w.keeps.layer_names w.keeps.layers_named (are_plain d w))
+
+-- `objects`, as it is read
+record HasLayers (d : Document) (n : Node) : Type 0 where
+  named : List EntryNode
+  has : HasEntries n named
+  read : AreReadLayers (arcs_of d) (ring_indexes d) (ring_pieces d) named d.layers
+
+objects_read : (d : Document) → IsWritable d → (n : Node) → n.bytes ≡ objects_text d → HasLayers d n
+objects_read d w n e =
+    let k = w.keeps in
+    let o = object_seen n (map (layer_is d) d.layers) k.layer_names e (layers_are_members d d.layers k.layer_names k.layers_named (are_plain d w)) (layers_said d d.layers k.layer_names k.layers_named) k.layers_differ in
+    record { named = o.entries; has = o.has; read = layers_read (arcs_of d) (ring_indexes d) (ring_pieces d) d.layers k.layer_names o.entries k.layers_named (are_plain d w) o.are }
+
+-- ---- the arcs
+
+are_lines : (d : Document) → IsWritable d → AllByRecursion IsLine (arcs_of d)
+are_lines d w =
+    all_made (λ a. AllByRecursion InRange a × (2 ≤ length a)) IsLine (arcs_of d) (λ a h. record { range = h.0; long = h.1 })
+    (all_both (AllByRecursion InRange) (λ a. 2 ≤ length a) (arcs_of d) (arcs_each InRange d w.in_range) (arcs_long d))
+
+abbrev all_arcs_text : Document → Text
+all_arcs_text d = arcs_text (is_some d.transform) (arcs_of d)
+
+-- ---- the members of the topology
+
+abbrev transform_field : Option Text → Field
+transform_field value = record { word = word.Transform; says = codes "transform"; token = codes "\"transform\""; value = value }
+
+abbrev objects_field : Text → Field
+objects_field value = record { word = word.Objects; says = codes "objects"; token = codes "\"objects\""; value = Some value }
+
+transform_is_field : (value : Option Text) → IfThere IsJson value → IsField owner.Topology (transform_field value)
+unfolding word_of
+transform_is_field value j = record { named = transform_named; word_is = refl; known = refl; json = j }
+
+objects_is_field : (value : Text) → IsJson value → IsField owner.Topology (objects_field value)
+unfolding word_of
+objects_is_field value j = record { named = objects_named; word_is = refl; known = refl; json = j }
+
+abbrev fields : Document → List Field
+fields d = type_field (codes "\"Topology\"") ∷ transform_field d.transform ∷ objects_field (objects_text d) ∷ arcs_field (Some (all_arcs_text d)) ∷ []
+
+transform_json : (v : Option Text) → IfThere IsKeptTransform v → IfThere IsJson v
+transform_json None k = tt
+transform_json (Some t) k = k.value
+
+are_fields : (d : Document) → IsWritable d → AllByRecursion (IsField owner.Topology) (fields d)
+are_fields d w = (
+  type_is_field owner.Topology (codes "\"Topology\"") refl (name_json _ _ topology_named),
+  (transform_is_field d.transform (transform_json d.transform w.keeps.transform),
+  (objects_is_field (objects_text d) (objects_json d w),
+  (arcs_is_field owner.Topology (Some (all_arcs_text d)) refl (arcs_json (is_some d.transform) (arcs_of d) (are_lines d w)), tt))),
+)
+
+text_is : (d : Document) → text_of d ≡ object_text (present (fields d) ++ d.members)
+text_is d =
+    let parts : Text → List Member = λ (objects : Text). member (codes "\"type\"") (codes "\"Topology\"") ∷ (member_if (codes "\"transform\"") d.transform ++ (member (codes "\"objects\"") objects ∷ (member (codes "\"arcs\"") (all_arcs_text d) ∷ d.members))) in
+    ap (λ (z : List Member). object_text (parts (object_text z))) (layers_as d d.layers)
+    ∙ ap object_text (sym (four_joined (member (codes "\"type\"") (codes "\"Topology\"") ∷ []) (member_if (codes "\"transform\"") d.transform) (member (codes "\"objects\"") (objects_text d) ∷ []) (member (codes "\"arcs\"") (all_arcs_text d) ∷ []) d.members))
+
+pub text_json : (d : Document) → IsWritable d → IsJson (text_of d)
+text_json d w = subst IsJson (sym (text_is d)) (written_json owner.Topology (fields d) d.members (are_fields d w) w.keeps.members)
+
+-- ---- the topology
+
+transform_read : (o : Option Node) (v : Option Text) → option_map bytes_of o ≡ v → IfThere IsKeptTransform v → IsTransform o v
+transform_read None None e k = no_transform
+transform_read None (Some t) e k = absurd cc
+transform_read (Some n) None e k = absurd cc
+transform_read (Some n) (Some t) e k = let same : n.bytes ≡ t = cc in kept_transform t n k same
+
+root_is : (levels : ℕ) (bytes : List ℕ) → IsValue levels bytes → (root_of bytes).bytes ≡ bytes
+root_is levels bytes v = ap bytes_of (trimmed_is (value_solid levels) (bare 0 bytes v))
+
+-- the outline of the text, with its layers and its arcs
+record IsOutlined (d : Document) (root : Node) : Type 0 where
+  arcs : Node
+  layers : List LayerText
+  outline : IsOutline root (record { transform = d.transform; layers = layers; arcs = arcs; members = d.members })
+  arcs_are : arcs.bytes ≡ all_arcs_text d
+  read : AllZip (IsReadLayer (arcs_of d) (ring_indexes d) (ring_pieces d)) d.layers layers
+
+outlined : (d : Document) → IsWritable d → (root : Node) → root.bytes ≡ text_of d → IsOutlined d root
+outlined d w root e =
+    let o = written_object owner.Topology root (fields d) d.members (are_fields d w) refl w.keeps.members (e ∙ text_is d) in
+    let objects = node_there (value_at word.Objects o.entries) (objects_text d) (o.values word.Objects refl) in
+    let found = node_there (value_at word.Arcs o.entries) (all_arcs_text d) (o.values word.Arcs refl) in
+    let inside = objects_read d w objects.0 objects.2 in
+    record {
+      arcs = found.0;
+      layers = inside.read.texts;
+      outline = record {
+        entries = o.entries;
+        objects = objects.0;
+        named = inside.named;
+        of_root = o.has;
+        topology = has_type owner.Topology root (fields d) d.members (codes "\"Topology\"") (codes "Topology") o (o.values word.Type refl) topology_named refl;
+        transform = transform_read (value_at word.Transform o.entries) d.transform (o.values word.Transform refl) w.keeps.transform;
+        has_objects = objects.1;
+        of_objects = inside.has;
+        layers = inside.read.layers;
+        has_arcs = found.1;
+        are_arcs = ap (λ (z : List ℕ). is_list_kind (kind_of z)) found.2;
+        members = sym o.keeps;
+      };
+      arcs_are = found.2;
+      read = inside.read.read;
+    }
+
+-- ---- the document
+
+abbrev as_read : (d : Document) → List LayerText → Opened
+as_read d layers = record { transform = d.transform; layers = layers; members = d.members; polygons = flat_map layer_polygons d.layers }
+
+same_as_read : (d : Document) → IsWritable d → (layers : List LayerText) → AllZip (IsReadLayer (arcs_of d) (ring_indexes d) (ring_pieces d)) d.layers layers → Same d (document_of (as_read d layers))
+same_as_read d w layers h =
+    ap (λ (ls : List Layer). let e : Document = record { transform = d.transform; layers = ls; members = d.members } in e)
+    (layers_same (arcs_of d) (ring_indexes d) (ring_pieces d) d.layers layers h (are_plain d w) (flat_map layer_polygons d.layers) [] 0 refl refl)
+
+abbrev reading : (d : Document) → (w : IsWritable d) → (o : IsOutlined d (root_of (text_of d))) → Reads (text_of d) (document_of (as_read d o.layers))
+reading d w o = record {
+  levels = (text_json d w).0;
+  json = json no_space (text_json d w).1 no_space;
+  shape = record { transform = d.transform; layers = o.layers; arcs = o.arcs; members = d.members };
+  arcs = arcs_of d;
+  uses = flat_map (layer_uses (arcs_of d) (ring_indexes d) (ring_pieces d)) d.layers;
+  polygons = flat_map layer_polygons d.layers;
+  topology = o.outline;
+  arcs_are = arcs_read (is_some d.transform) o.arcs (arcs_of d) (are_lines d w) o.arcs_are;
+  uses_are = layers_use (arcs_of d) (ring_indexes d) (ring_pieces d) d.layers o.layers o.read (are_plain d w);
+  rings_are = layers_lead (arcs_of d) (ring_indexes d) (ring_pieces d) d.layers (are_plain d w);
+  document = refl;
+}
+
+-- the text of a document keeps it: it is read as the document, but for the numbers of its features,
+-- and each border stands in it once
+pub text_saves : (d : Document) → IsWritable d → Saved (text_of d) d
+text_saves d w =
+    let j = text_json d w in
+    let o = outlined d w (root_of (text_of d)) (root_is j.0 (text_of d) j.1) in
+    saved_by (text_of d) d (document_of (as_read d o.layers)) w.are_rings (reading d w o) refl (same_as_read d w o.layers o.read)
