@@ -27,6 +27,3 @@ pub use features::{FeatureView, FrameView};
 pub use map::Map;
 pub use ring_iter::RingIter;
 pub use spot::Spot;
-
-#[cfg(test)]
-mod tests;

@@ -12,6 +12,3 @@ mod vertex_edits;
 pub use around::Neighbours;
 pub use borders::Borders;
 pub use ring_keys::RingKeys;
-
-#[cfg(test)]
-mod tests;

@@ -1,7 +1,7 @@
 //! How many pairs of segments an edit tests.
-use crate::tests::at;
-use crate::{move_vertex, remove_vertex};
+use crate::compared::at;
 use arc_store::{EditFault, Map};
+use edit_vertex::{move_vertex, remove_vertex};
 use segment_index::GridIndex;
 use std::alloc::{AllocError, Global};
 use std::process::Abort;

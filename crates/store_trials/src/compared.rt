@@ -3,9 +3,10 @@
 ghost use Rattle.std.specs.Prelude.{◌≡◌};
 ghost use Rattle.std.specs.FinSet as set;
 
+use crate::columbus::COLUMBUS;
 use crate::made::{Cells, Drawn, cells_text};
-use crate::{insert_vertex, move_vertex, remove_vertex, thin};
 use arc_store::{EditFault, Map};
+use edit_vertex::{insert_vertex, move_vertex, remove_vertex, thin};
 use grid_geometry::{Pos, Rect};
 use plain_rings::{EditFault as PlainFault, PlainMap};
 use segment_index::{GridIndex, ListIndex, SegIndex};
@@ -40,10 +41,63 @@ pub(crate) fn at<R: Abort>(rt: &R, x: i64, y: i64) -> Pos {
     Pos::new(x, y).expect(rt, "in range")
 }
 
-/// A position near the maps above.
-fn drawn_position<R: Abort>(rt: &R, drawn: &mut Drawn) -> Pos {
-    let x = drawn.from(-2, 30);
-    let y = drawn.from(-2, 20);
+/// Where edits are drawn.
+#[derive(Clone, Copy)]
+struct Field {
+    left: i32,
+    low: i32,
+    width: u32,
+    height: u32,
+    /// How far a vertex goes at most, to each side.
+    step: u32,
+    /// The bound of a thinning is below this.
+    flat: u32,
+}
+
+/// That of the maps above.
+const SMALL: Field = Field {
+    left: -2,
+    low: -2,
+    width: 30,
+    height: 20,
+    step: 3,
+    flat: 6,
+};
+
+/// That of the real map.
+const REAL: Field = Field {
+    left: 356_000,
+    low: 290_000,
+    width: 527_000,
+    height: 441_000,
+    step: 3000,
+    flat: 2_000_000,
+};
+
+/// A position of the field.
+fn drawn_position<R: Abort>(rt: &R, field: &Field, drawn: &mut Drawn) -> Pos {
+    let x = drawn.from(field.left, field.width);
+    let y = drawn.from(field.low, field.height);
+    at(rt, x, y)
+}
+
+/// A bound of a thinning.
+fn drawn_bound(field: &Field, drawn: &mut Drawn) -> u32 {
+    u32::try_from(drawn.below(u64::from(field.flat))).unwrap_or(0)
+}
+
+/// A position near this one.
+fn drawn_near<R: Abort>(rt: &R, field: &Field, p: Pos, drawn: &mut Drawn) -> Pos {
+    let step = i64::from(field.step);
+    let count = field.step.saturating_mul(2).saturating_add(1);
+    let x = p
+        .x()
+        .saturating_add(drawn.from(0, count))
+        .saturating_sub(step);
+    let y = p
+        .y()
+        .saturating_add(drawn.from(0, count))
+        .saturating_sub(step);
     at(rt, x, y)
 }
 
@@ -62,17 +116,13 @@ fn drawn_place(plain: &PlainMap<'_>, drawn: &mut Drawn) -> Option<(Pos, Pos)> {
 }
 
 /// An edit that may be accepted or refused.
-fn drawn_edit<R: Abort>(rt: &R, plain: &PlainMap<'_>, drawn: &mut Drawn) -> Edit {
-    let other = drawn_position(rt, drawn);
+fn drawn_edit<R: Abort>(rt: &R, field: &Field, plain: &PlainMap<'_>, drawn: &mut Drawn) -> Edit {
+    let other = drawn_position(rt, field, drawn);
     let (p, next) = match drawn_place(plain, drawn) {
         Some(place) => place,
         None => (other, other),
     };
-    let by = at(
-        rt,
-        p.x().saturating_add(drawn.from(-3, 7)).clamp(-100, 100),
-        p.y().saturating_add(drawn.from(-3, 7)).clamp(-100, 100),
-    );
+    let by = drawn_near(rt, field, p, drawn);
     match drawn.below(40) {
         0 => Edit::Move(other, by),
         1 => Edit::Move(p, next),
@@ -84,7 +134,7 @@ fn drawn_edit<R: Abort>(rt: &R, plain: &PlainMap<'_>, drawn: &mut Drawn) -> Edit
         17..=19 => Edit::Insert(next, p, other),
         20..=28 => Edit::Insert(p, next, by),
         29 => Edit::Remove(other),
-        30 => Edit::Thin(drawn.below(6) as u32),
+        30 => Edit::Thin(drawn_bound(field, drawn)),
         _ => Edit::Remove(p),
     }
 }
@@ -205,6 +255,8 @@ struct Tally {
     refused: usize,
     conflicts: usize,
     sweeps: usize,
+    /// How many vertices the thinnings left out.
+    thinned: u64,
 }
 
 /// Makes drawn edits of both maps, and compares answers and rings. Gives how they were answered.
@@ -212,6 +264,7 @@ fn compare<R: Abort, I: SegIndex>(
     rt: &R,
     plain: &mut PlainMap<'_>,
     map: &mut Map<'_, I>,
+    field: &Field,
     start: u64,
     count: u32,
 ) -> Result<Tally, Fail> {
@@ -221,9 +274,10 @@ fn compare<R: Abort, I: SegIndex>(
         refused: 0,
         conflicts: 0,
         sweeps: 0,
+        thinned: 0,
     };
     for n in 0..count {
-        let edit = drawn_edit(rt, plain, &mut drawn);
+        let edit = drawn_edit(rt, field, plain, &mut drawn);
         let want = plain_answer(plain, edit);
         let got = answer(map, edit);
         assert_eq!(rt; got, want, "edit {n} from {start}: {edit:?}");
@@ -233,7 +287,10 @@ fn compare<R: Abort, I: SegIndex>(
         );
         assert_eq!(rt; map.vertices()?.len(), map.vertex_count());
         match got {
-            Ok(_) => tally.accepted = tally.accepted.wrapping_add(1),
+            Ok(gone) => {
+                tally.accepted = tally.accepted.wrapping_add(1);
+                tally.thinned = tally.thinned.wrapping_add(gone);
+            }
             Err(EditFault::Conflict { .. }) => tally.conflicts = tally.conflicts.wrapping_add(1),
             Err(EditFault::Sweeps) => tally.sweeps = tally.sweeps.wrapping_add(1),
             Err(_) => tally.refused = tally.refused.wrapping_add(1),
@@ -277,6 +334,7 @@ fn compare_text<R: Abort, I: SegIndex>(
     alloc: Global,
     text: &str,
     index: I,
+    field: &Field,
     start: u64,
     count: u32,
 ) -> Result<Tally, Fail>
@@ -285,7 +343,7 @@ fn compare_text<R: Abort, I: SegIndex>(
     let mut plain = plain_map(rt, alloc, text);
     let mut map = stored_map(rt, alloc, text, index);
     assert!(rt; has_rings(&map, plain.polygons()), "at the start");
-    compare(rt, &mut plain, &mut map, start, count)
+    compare(rt, &mut plain, &mut map, field, start, count)
 }
 
 #[test]
@@ -303,11 +361,23 @@ fn the_same_as_plain_rings(rt: HostRuntime) -> Result<(), Fail> {
         .enumerate()
     {
         let list = ListIndex::new(alloc);
-        let tally = compare_text(&rt, alloc, *text, list, start as u64, 300)?;
+        let tally = compare_text(&rt, alloc, *text, list, &SMALL, start as u64, 300)?;
         println!(rt; "{start}: {tally:?}")?;
         assert!(rt; 20 < tally.accepted && 20 < tally.refused);
         let grid = GridIndex::new(alloc, Rect::new(0, 0, 24, 16))?;
-        compare_text(&rt, alloc, *text, grid, 10 + start as u64, 300)?;
+        compare_text(&rt, alloc, *text, grid, &SMALL, 10 + start as u64, 300)?;
     }
+    Ok(())
+}
+
+/// Edits of a part of a real map.
+#[test]
+fn the_same_on_a_real_map(rt: HostRuntime) -> Result<(), Fail> {
+    let alloc = rt.alloc();
+    let grid = GridIndex::new(alloc, Rect::new(356_039, 290_608, 882_173, 730_496))?;
+    let tally = compare_text(&rt, alloc, COLUMBUS, grid, &REAL, 20, 300)?;
+    println!(rt; "real: {tally:?}")?;
+    assert!(rt; 50 < tally.accepted && 20 < tally.refused);
+    assert!(rt; 0 < tally.conflicts && 0 < tally.thinned);
     Ok(())
 }

@@ -1,5 +1,5 @@
 //! Real maps.
-use crate::Map;
+use arc_store::Map;
 use segment_index::ListIndex;
 use std::alloc::Global;
 use std::process::Abort;

@@ -1,8 +1,8 @@
 //! Edits in which each growth is refused in turn: nothing has changed then, and the edit has its
 //! usual answer when it is made again.
-use crate::tests::{Edit, answer, at, has_rings, plain_map};
-use crate::thin;
+use crate::compared::{Edit, answer, at, has_rings, plain_map};
 use arc_store::{EditFault, Map};
+use edit_vertex::thin;
 use grid_geometry::{Pos, Rect, Seg};
 use plain_rings::PlainMap;
 use refusing_allocator::Refusing;
