@@ -1,10 +1,10 @@
 -- The first pair in conflict of ascending segments is the least pair in conflict.
-use Rattle.std.proofs.Common.{◌≡◌, ℕ, zero, suc, ◌+◌, ◌<◌, Bool, true, false, refl, sym, ap, ◌∙◌, subst, cond, List, [], ◌∷◌, length, drop, get_or, arith, ◌&&◌, ◌||◌, inl, inr, Option, None, Some}
-use Rattle.std.specs.List.{All, find, AllByRecursion}
+use Rattle.std.proofs.Common.{◌≡◌, ℕ, ◌+◌, ◌<◌, Bool, true, false, refl, sym, ap, ◌∙◌, subst, cond, List, [], ◌∷◌, length, drop, get_or, ◌&&◌, ◌||◌, inl, inr, Option, None, Some}
+use Rattle.std.specs.List.{find}
 use Rattle.std.specs.List.Sorted.{IsSorted, IsPermutation}
 use Rattle.std.proofs.lemmas.Bool.{false≢true}
 use Rattle.std.proofs.lemmas.List.{at_drop_more}
-use Rattle.std.proofs.lemmas.List.Sorted.{All-permutation, IsPermutation-sym}
+use Rattle.std.proofs.lemmas.List.Sorted.{IsPermutation-sym}
 use Rattle.grid_geometry.specs.Segment.{Segment, segment_cmp, segment_lt, segment_eq}
 use Rattle.grid_geometry.specs.Conflict.{conflict}
 use Rattle.grid_geometry.proofs.Conflicts.{conflict-comm, conflict-same}

@@ -1,5 +1,5 @@
 -- Each of several equal neighbours once: the same segments, and those that ascend still do.
-use Rattle.std.proofs.Common.{◌≡◌, zero, suc, ◌+◌, Bool, true, false, refl, sym, ap, ◌∙◌, subst, cond, List, [], ◌∷◌, get_or, arith, inl, inr}
+use Rattle.std.proofs.Common.{◌≡◌, zero, suc, ◌+◌, Bool, true, false, sym, ap, ◌∙◌, subst, cond, List, [], ◌∷◌, get_or, arith}
 use Rattle.std.specs.List.{All, AllByRecursion, dedup, dedup_from}
 use Rattle.std.specs.List.Sorted.{IsSorted}
 use Rattle.std.specs.List.Retain.{IsFiltered, DiffersFromLast}
