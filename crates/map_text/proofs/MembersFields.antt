@@ -1,7 +1,7 @@
 -- A written object has the members that the writer knows, by their words, and keeps the others.
-use Rattle.std.proofs.Common.{◌≡◌, ◌≢◌, not, ◌&&◌, ℕ, List, [], ◌∷◌, ◌++◌, map, Bool, true, false, refl, sym, ap, ap₂, ◌∙◌, subst, cond, true≢false, bytes_eq}
+use Rattle.std.proofs.Common.{◌≡◌, not, ◌&&◌, ℕ, List, [], ◌∷◌, ◌++◌, map, Bool, true, false, refl, sym, ap, ap₂, ◌∙◌, subst, cond, true≢false, bytes_eq}
 use Rattle.std.specs.Prelude.{Option, Some, None, option_map, ◌==◌, if◌then◌else◌}
-use Rattle.std.specs.List.{AllByRecursion, AllZip, AllPairs, IsDistinct}
+use Rattle.std.specs.List.{AllByRecursion, AllZip, IsDistinct}
 use Rattle.std.proofs.lemmas.Bool.{eqb-true, eq-eqb}
 use Rattle.std.proofs.lemmas.Slice.Eq.{bytes_eq-Decides}
 use Rattle.std.proofs.lemmas.Map.Made.{AllPairs-from_IsDistinct, IsDistinct-from_AllPairs}
@@ -17,7 +17,7 @@ use Rattle.topo_outline.specs.Kept.{IsJson, IsName, IfThere, IsKeptMember, AreKe
 use Rattle.map_text.specs.Text.{member_if, object_text}
 use Rattle.map_text.proofs.GrammarLists.{bytes_of}
 use Rattle.map_text.proofs.GrammarObjects.{IsMember, object_is_json}
-use Rattle.map_text.proofs.MembersSeen.{Seen, seen, seen_as, all_seen, Says, IsSeen, object_seen, seen_value, value_seen, text_seen, seen_kept, kept_seen}
+use Rattle.map_text.proofs.MembersSeen.{Seen, seen, all_seen, Says, object_seen, seen_value, value_seen, text_seen, seen_kept, kept_seen}
 
 -- a member that the writer knows, with its value if it is there
 pub record Field : Type 0 where
@@ -230,14 +230,17 @@ unlike_fields o s (f ∷ fs) ts h k u = by f.value (unlike_fields o s fs ts (sec
   where
     apart : (code f.word == code (word_of s)) ≡ false
     apart = unheld (code f.word == code (word_of s)) (first_is (not (code f.word == code (word_of s))) (has_no (code (word_of s)) fs) h)
+
     other : bytes_eq f.says s ≡ false
     other = names_differ f.says s (rw k.0.word_is apart)
+
     turned : bytes_eq s f.says ≡ false
     turned = by_test (bytes_eq s f.says) refl
       where
         by_test : (b : Bool) → bytes_eq s f.says ≡ b → bytes_eq s f.says ≡ false
         by_test true e = absurd (true≢false (sym ((bytes_eq-Decides f.says s).1 (sym ((bytes_eq-Decides s f.says).0 e))) ∙ other))
         by_test false e = e
+
     by : (v : Option Text) → Unlike s (names_of fs ++ ts) → Unlike s ((name_if f.says v ++ names_of fs) ++ ts)
     by None e = e
     by (Some t) e = (turned, e)
@@ -249,8 +252,10 @@ all_distinct o (f ∷ fs) ms ts a h k d = by f.value (all_distinct o fs ms ts (s
   where
     kept_unlike : Unlike f.says ts
     kept_unlike = unlike_kept o f.says ms ts (ap (is_known o) h.0.word_is ∙ h.0.known) k
+
     here : has_no (code (word_of f.says)) fs ≡ true
     here = subst (λ w. has_no (code w) fs ≡ true) (sym h.0.word_is) (first_is (has_no (code f.word) fs) (are_apart fs) a)
+
     by : (v : Option Text) → IsDistinct bytes_eq (names_of fs ++ ts) → IsDistinct bytes_eq ((name_if f.says v ++ names_of fs) ++ ts)
     by None e = e
     by (Some t) e = (unlike_fields o f.says fs ts here h.1 kept_unlike, e)

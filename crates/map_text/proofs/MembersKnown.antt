@@ -7,7 +7,7 @@ use Rattle.serde_json.specs.Data.{string}
 use Rattle.serde_json.proofs.OnLiterals.{serde_json_on_literals}
 use Rattle.json_spans.specs.Bytes.{is_ascii}
 use Rattle.json_spans.specs.Grammar.{Chars, quote, ascii}
-use Rattle.json_spans.specs.Inside.{IsText, quoted}
+use Rattle.json_spans.specs.Inside.{quoted}
 use Rattle.json_spans.proofs.Decoding.{decoded_as}
 use Rattle.topo_outline.specs.Kept.{IsName}
 

@@ -1,6 +1,6 @@
 -- The rings of a document, by the indexes of their arcs: what is written for each feature.
-use Rattle.std.proofs.Common.{◌≡◌, ◌&&◌, ℕ, zero, suc, ◌+◌, ◌<◌, ◌≤◌, ◌^◌, List, [], ◌∷◌, ◌++◌, map, length, Bool, true, false, refl, sym, ap, ◌∙◌, subst, arith, cond, ℤ, pos, negsuc}
-use Rattle.std.specs.Prelude.{unsigned_abs, Option, Some, None, option_map, reverse, slice_get, sum_by, IsTrue, ◌==◌}
+use Rattle.std.proofs.Common.{◌≡◌, ◌&&◌, ℕ, suc, ◌+◌, ◌<◌, ◌≤◌, ◌^◌, List, [], ◌∷◌, ◌++◌, map, length, Bool, true, false, refl, ap, arith, cond, ℤ, pos, negsuc}
+use Rattle.std.specs.Prelude.{unsigned_abs, Option, Some, None, option_map, reverse, slice_get, sum_by, IsTrue}
 use Rattle.std.specs.List.{AllByRecursion, AllZip, list_all, flat_map, filter_map}
 use Rattle.std.proofs.lemmas.Bool.{eqb-true}
 use Rattle.std.proofs.lemmas.List.{length-append}
@@ -23,7 +23,7 @@ use Rattle.map_text.proofs.Junctions.{begun_rotated}
 use Rattle.map_text.proofs.Indexed.{Names, indexes_name}
 use Rattle.map_text.proofs.RingsBack.{pieces_lead}
 use Rattle.map_text.proofs.ReadingLists.{all_made}
-use Rattle.map_text.proofs.ReadingUses.{IsIndex, RingIndexes, PolygonIndexes, ShapeIndexes, Fits, one, several, nothing}
+use Rattle.map_text.proofs.ReadingUses.{RingIndexes, PolygonIndexes, ShapeIndexes, Fits, one, several, nothing}
 use Rattle.map_text.proofs.ReadingGeometries.{IsWritten, IsWrittenFeature, all_front, all_back}
 
 -- ---- a document has no more arcs than positions
