@@ -1,5 +1,5 @@
 -- The rings of a document, by the indexes of their arcs: what is written for each feature.
-use Rattle.std.proofs.Common.{◌≡◌, ◌&&◌, ℕ, suc, ◌+◌, ◌<◌, ◌≤◌, ◌^◌, List, [], ◌∷◌, ◌++◌, map, length, Bool, true, false, refl, ap, arith, cond, ℤ, pos, negsuc}
+use Rattle.std.proofs.Common.{◌≡◌, ℕ, suc, ◌+◌, ◌<◌, ◌≤◌, ◌^◌, List, [], ◌∷◌, ◌++◌, map, length, Bool, true, false, refl, ap, arith, cond, ℤ, pos, negsuc}
 use Rattle.std.specs.Prelude.{unsigned_abs, Option, Some, None, option_map, reverse, slice_get, sum_by, IsTrue}
 use Rattle.std.specs.List.{AllByRecursion, AllZip, list_all, flat_map, filter_map}
 use Rattle.std.proofs.lemmas.Bool.{eqb-true}
@@ -114,12 +114,7 @@ all_both P Q [] h k = tt
 all_both P Q (x ∷ xs) h k = ((h.0, k.0), all_both P Q xs h.1 k.1)
 
 pub all_passed : {A : Type 0} (test : A → Bool) (xs : List A) → list_all test xs ≡ true → AllByRecursion (λ x. test x ≡ true) xs
-all_passed test [] h = tt
-all_passed test (x ∷ xs) h = by (test x) refl h (all_passed test xs)
-  where
-    by : (b : Bool) → test x ≡ b → (b && list_all test xs) ≡ true → (list_all test xs ≡ true → AllByRecursion (λ y. test y ≡ true) xs) → AllByRecursion (λ y. test y ≡ true) (x ∷ xs)
-    by true e k go = (e, go k)
-    by false e k go = absurd cc
+all_passed test xs h = all_of (λ x. test x ≡ true) xs (λ x i. all_in test xs x h i)
 
 -- a feature of the document that is written
 pub record IsPlain (drawn : List Position → Type 0) (f : Feature) : Type 0 where
