@@ -20,7 +20,7 @@ land = collection (codes "\"land\"")
     ∷ [])
 
 -- two squares with a common side
-abbrev M : Document
+abbrev pub M : Document
 M = document (land ∷ [])
 
 -- M, and above it a layer that is the union of the squares

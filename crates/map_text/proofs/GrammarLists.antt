@@ -1,9 +1,9 @@
 -- The list of values, as the writer writes it, is a value, and these are its items.
-use Rattle.std.proofs.Common.{◌≡◌, ℕ, zero, suc, ◌+◌, List, [], ◌∷◌, ◌++◌, length, map, refl, sym, ap, ◌∙◌, subst, append_assoc}
+use Rattle.std.proofs.Common.{◌≡◌, ℕ, suc, ◌+◌, List, [], ◌∷◌, ◌++◌, length, map, refl, sym, ap, ◌∙◌, subst, append_assoc}
 use Rattle.std.specs.List.{AllByRecursion}
 use Rattle.std.proofs.lemmas.List.{append-nil}
 use Rattle.ring_machine.specs.Document.{Text}
-use Rattle.json_spans.specs.Grammar.{no_space, Value, list, Items, no_item, some_items, item, MoreItems, list_end, next_item}
+use Rattle.json_spans.specs.Grammar.{no_space, Value, list, no_item, some_items, item, MoreItems, list_end, next_item}
 use Rattle.json_spans.specs.Parts.{Node}
 use Rattle.json_spans.specs.Walk.{items}
 use Rattle.json_spans.specs.Inside.{IsValue, Padded, padded, Parted, last_part, next_part, Bracketed, no_part, parts, ListOf}

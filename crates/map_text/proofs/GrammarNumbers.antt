@@ -1,7 +1,6 @@
 -- A written whole number is a JSON number, and is read as it was.
-use Rattle.std.proofs.Common.{◌≡◌, ℕ, zero, suc, ◌+◌, ◌-◌, ◌*◌, ◌<◌, ◌≤◌, ◌/◌, ◌%◌, ◌^◌, Bool, true, false, refl, sym, ap, ◌∙◌, subst, List, [], ◌∷◌, ◌++◌, ◌⊎◌, inl, inr, arith, ℤ, pos, negsuc}
-use Rattle.std.specs.Prelude.{IsTrue, unsigned_abs, Ok, nat_lt, nat_le}
-use Rattle.std.specs.List.{AllByRecursion}
+use Rattle.std.proofs.Common.{◌≡◌, ℕ, zero, suc, ◌+◌, ◌-◌, ◌*◌, ◌<◌, ◌≤◌, ◌/◌, ◌%◌, ◌^◌, true, refl, ◌∙◌, subst, List, [], ◌∷◌, ◌++◌, arith, ℤ, pos, negsuc}
+use Rattle.std.specs.Prelude.{unsigned_abs, Ok, nat_lt, nat_le}
 use Rattle.std.specs.Fmt.{decimal, signed_decimal}
 use Rattle.std.proofs.lemmas.Fmt.{decimal_by_steps}
 use Rattle.std.proofs.lemmas.Bool.{lt-ltb}
@@ -10,7 +9,6 @@ use Rattle.std.proofs.lemmas.List.{append-nil}
 use Rattle.json_spans.specs.Bytes.{is_digit, is_nonzero}
 use Rattle.json_spans.specs.Grammar.{Digits, no_digit, digit, SomeDigits, digits, no_exponent, no_fraction, Unsigned, zero_first, digit_first, minus, plain_number, number}
 use Rattle.json_spans.specs.Whole.{value_from, whole_of, no_point, IsWhole, plain, negative, minus as minus_of}
-use Rattle.json_spans.specs.Inside.{IsValue}
 use Rattle.json_spans.proofs.Meant.{whole_is}
 use Rattle.topo_outline.specs.Kept.{IsJson}
 
@@ -45,7 +43,6 @@ record IsDecimal (n : ℕ) (ds : List ℕ) : Type 0 where
   is_numeral : Numeral ds
   some : SomeDigits ds []
   value : value_from 0 ds ≡ n
-  plain_zero : (n ≡ 0) ⊎ (0 < n)
 
 numeral_push : {ds : List ℕ} (n y : ℕ) → is_digit y ≡ true → value_from 0 ds ≡ n → 0 < n → Numeral ds → Numeral (ds ++ y ∷ [])
 unfolding value_from
@@ -54,12 +51,11 @@ numeral_push n y e v h (led {x = x} f d) = led {x = x} f (digits_push y e d)
 
 one_digit : (n : ℕ) → n < 10 → IsDecimal n ((48 + n) ∷ [])
 unfolding value_from
-one_digit zero h = record { is_numeral = just_zero; some = digits {x = 48} refl no_digit; value = refl; plain_zero = inl refl }
+one_digit zero h = record { is_numeral = just_zero; some = digits {x = 48} refl no_digit; value = refl }
 one_digit (suc n) h = record {
   is_numeral = led {x = 48 + suc n} (nonzero_ok (suc n) (omega arith) h) no_digit;
   some = digits {x = 48 + suc n} (digit_ok (suc n) h) no_digit;
   value = omega arith;
-  plain_zero = inr (omega arith);
 }
 
 more_digits : (n : ℕ) (ds : List ℕ) → 10 ≤ n → IsDecimal (n / 10) ds → IsDecimal n (ds ++ (48 + n % 10) ∷ [])
@@ -69,7 +65,6 @@ more_digits n ds h d =
       is_numeral = numeral_push (n / 10) (48 + n % 10) ok d.value (omega arith) d.is_numeral;
       some = some_push (48 + n % 10) ok d.some;
       value = omega (arith, value_push 0 ds (48 + n % 10), d.value);
-      plain_zero = inr (omega arith);
     }
 
 decimal_is : (n : ℕ) → n < 2 ^ 64 → IsDecimal n (decimal n)

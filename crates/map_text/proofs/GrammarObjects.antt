@@ -1,9 +1,9 @@
 -- The object with these members, as the writer writes it, is a value, and these are its members.
-use Rattle.std.proofs.Common.{◌≡◌, ℕ, zero, suc, ◌+◌, List, [], ◌∷◌, ◌++◌, length, map, refl, sym, ap, ◌∙◌, subst, append_assoc}
+use Rattle.std.proofs.Common.{◌≡◌, ℕ, suc, ◌+◌, List, [], ◌∷◌, ◌++◌, length, map, refl, sym, ap, ◌∙◌, subst, append_assoc}
 use Rattle.std.specs.List.{AllByRecursion}
 use Rattle.std.proofs.lemmas.List.{append-nil}
-use Rattle.ring_machine.specs.Document.{Text, Member}
-use Rattle.json_spans.specs.Grammar.{no_space, Value, object, Members, no_member, some_members, SomeMembers, name, member as behind_name, MoreMembers, object_end, next_member}
+use Rattle.ring_machine.specs.Document.{Member}
+use Rattle.json_spans.specs.Grammar.{no_space, Value, object, no_member, some_members, SomeMembers, name, member as behind_name, MoreMembers, object_end, next_member}
 use Rattle.json_spans.specs.Parts.{Node}
 use Rattle.json_spans.specs.Walk.{members}
 use Rattle.json_spans.specs.Inside.{IsValue, IsText, quoted, Pair, pair, Parted, last_part, next_part, Bracketed, no_part, parts, ObjectOf}

@@ -26,3 +26,4 @@ pub mod Saved
 pub mod ReadingRings
 pub mod ReadingLayers
 pub mod ReadingBack
+pub mod ExamplesWritable

@@ -1,7 +1,7 @@
 -- A written object has the members that the writer knows, by their words, and keeps the others.
-use Rattle.std.proofs.Common.{◌≡◌, ◌≢◌, not, ◌&&◌, ℕ, List, [], ◌∷◌, ◌++◌, map, Bool, true, false, refl, sym, ap, ap₂, ◌∙◌, subst, cond, true≢false, bytes_eq}
+use Rattle.std.proofs.Common.{◌≡◌, not, ◌&&◌, ℕ, List, [], ◌∷◌, ◌++◌, map, Bool, true, false, refl, sym, ap, ap₂, ◌∙◌, subst, cond, true≢false, bytes_eq}
 use Rattle.std.specs.Prelude.{Option, Some, None, option_map, ◌==◌, if◌then◌else◌}
-use Rattle.std.specs.List.{AllByRecursion, AllZip, AllPairs, IsDistinct}
+use Rattle.std.specs.List.{AllByRecursion, AllZip, IsDistinct}
 use Rattle.std.proofs.lemmas.Bool.{eqb-true, eq-eqb}
 use Rattle.std.proofs.lemmas.Slice.Eq.{bytes_eq-Decides}
 use Rattle.std.proofs.lemmas.Map.Made.{AllPairs-from_IsDistinct, IsDistinct-from_AllPairs}
@@ -13,11 +13,13 @@ use Rattle.topo_outline.specs.declared.members.Owner.{Owner}
 use Rattle.topo_outline.specs.Words.{word_of}
 use Rattle.topo_outline.specs.Shape.{EntryNode, code, kept, text_of, is_known}
 use Rattle.topo_outline.specs.IsOutline.{HasEntries, value_at}
+use Rattle.ring_machine.proofs.Order.{and_both}
+use Rattle.ring_machine.proofs.Removal.{not_true}
 use Rattle.topo_outline.specs.Kept.{IsJson, IsName, IfThere, IsKeptMember, AreKeptMembers}
 use Rattle.map_text.specs.Text.{member_if, object_text}
 use Rattle.map_text.proofs.GrammarLists.{bytes_of}
 use Rattle.map_text.proofs.GrammarObjects.{IsMember, object_is_json}
-use Rattle.map_text.proofs.MembersSeen.{Seen, seen, seen_as, all_seen, Says, IsSeen, object_seen, seen_value, value_seen, text_seen, seen_kept, kept_seen}
+use Rattle.map_text.proofs.MembersSeen.{Seen, seen, all_seen, Says, object_seen, seen_value, value_seen, text_seen, seen_kept, kept_seen}
 
 -- a member that the writer knows, with its value if it is there
 pub record Field : Type 0 where
@@ -108,18 +110,6 @@ names_differ s t h = by (bytes_eq s t) refl
         reflexive n = eq-eqb n n refl
     by false e = e
 
-first_is : (a b : Bool) → (a && b) ≡ true → a ≡ true
-first_is true b e = refl
-first_is false b e = absurd cc
-
-second_is : (a b : Bool) → (a && b) ≡ true → b ≡ true
-second_is true b e = e
-second_is false b e = absurd cc
-
-unheld : (b : Bool) → not b ≡ true → b ≡ false
-unheld true h = absurd (true≢false (sym h))
-unheld false h = refl
-
 -- ---- what is seen
 
 abbrev seen_if : Word → Text → Option Text → List Seen
@@ -149,19 +139,19 @@ kept_has_no o w (m ∷ ms) (t ∷ ts) known h = rw (codes_differ o (word_of t) w
 
 passes_fields : (c : ℕ) (fs : List Field) (ss : List Seen) → has_no c fs ≡ true → seen_value c (fields_seen fs ++ ss) ≡ seen_value c ss
 passes_fields c [] ss h = refl
-passes_fields c (f ∷ fs) ss h = by f.value (passes_fields c fs ss (second_is (not (code f.word == c)) (has_no c fs) h))
+passes_fields c (f ∷ fs) ss h = by f.value (passes_fields c fs ss (and_both (not (code f.word == c)) (has_no c fs) h).1)
   where
     by : (v : Option Text) → seen_value c (fields_seen fs ++ ss) ≡ seen_value c ss → seen_value c ((seen_if f.word f.token v ++ fields_seen fs) ++ ss) ≡ seen_value c ss
     by None e = e
-    by (Some t) e = rw (unheld (code f.word == c) (first_is (not (code f.word == c)) (has_no c fs) h)) e
+    by (Some t) e = rw (not_true (code f.word == c) (and_both (not (code f.word == c)) (has_no c fs) h).0) e
 
 finds_field : (c : ℕ) (fs : List Field) (ss : List Seen) → are_apart fs ≡ true → seen_value c ss ≡ None → seen_value c (fields_seen fs ++ ss) ≡ field_value c fs
 finds_field c [] ss h none = none
-finds_field c (f ∷ fs) ss h none = by (code f.word == c) refl f.value (finds_field c fs ss (second_is (has_no (code f.word) fs) (are_apart fs) h) none)
+finds_field c (f ∷ fs) ss h none = by (code f.word == c) refl f.value (finds_field c fs ss (and_both (has_no (code f.word) fs) (are_apart fs) h).1 none)
   where
     by : (b : Bool) → (code f.word == c) ≡ b → (v : Option Text) → seen_value c (fields_seen fs ++ ss) ≡ field_value c fs → seen_value c ((seen_if f.word f.token v ++ fields_seen fs) ++ ss) ≡ cond (code f.word == c) v (field_value c fs)
     by true t None e =
-        let here : has_no c fs ≡ true = subst (λ z. has_no z fs ≡ true) (eqb-true (code f.word) c t) (first_is (has_no (code f.word) fs) (are_apart fs) h) in
+        let here : has_no c fs ≡ true = subst (λ z. has_no z fs ≡ true) (eqb-true (code f.word) c t) (and_both (has_no (code f.word) fs) (are_apart fs) h).0 in
         rw t (passes_fields c fs ss here ∙ none)
     by true t (Some v) e = rw t refl
     by false t None e = rw t e
@@ -226,18 +216,21 @@ unlike_kept o s (m ∷ ms) (t ∷ ts) known k =
 
 unlike_fields : (o : Owner) (s : List ℕ) (fs : List Field) (ts : List (List ℕ)) → has_no (code (word_of s)) fs ≡ true → AllByRecursion (IsField o) fs → Unlike s ts → Unlike s (names_of fs ++ ts)
 unlike_fields o s [] ts h k u = u
-unlike_fields o s (f ∷ fs) ts h k u = by f.value (unlike_fields o s fs ts (second_is (not (code f.word == code (word_of s))) (has_no (code (word_of s)) fs) h) k.1 u)
+unlike_fields o s (f ∷ fs) ts h k u = by f.value (unlike_fields o s fs ts (and_both (not (code f.word == code (word_of s))) (has_no (code (word_of s)) fs) h).1 k.1 u)
   where
     apart : (code f.word == code (word_of s)) ≡ false
-    apart = unheld (code f.word == code (word_of s)) (first_is (not (code f.word == code (word_of s))) (has_no (code (word_of s)) fs) h)
+    apart = not_true (code f.word == code (word_of s)) (and_both (not (code f.word == code (word_of s))) (has_no (code (word_of s)) fs) h).0
+
     other : bytes_eq f.says s ≡ false
     other = names_differ f.says s (rw k.0.word_is apart)
+
     turned : bytes_eq s f.says ≡ false
     turned = by_test (bytes_eq s f.says) refl
       where
         by_test : (b : Bool) → bytes_eq s f.says ≡ b → bytes_eq s f.says ≡ false
         by_test true e = absurd (true≢false (sym ((bytes_eq-Decides f.says s).1 (sym ((bytes_eq-Decides s f.says).0 e))) ∙ other))
         by_test false e = e
+
     by : (v : Option Text) → Unlike s (names_of fs ++ ts) → Unlike s ((name_if f.says v ++ names_of fs) ++ ts)
     by None e = e
     by (Some t) e = (turned, e)
@@ -245,12 +238,14 @@ unlike_fields o s (f ∷ fs) ts h k u = by f.value (unlike_fields o s fs ts (sec
 all_distinct : (o : Owner) (fs : List Field) (ms : List Member) (ts : List (List ℕ)) → are_apart fs ≡ true → AllByRecursion (IsField o) fs → AllZip (IsKeptMember o) ms ts → IsDistinct bytes_eq ts → IsDistinct bytes_eq (names_of fs ++ ts)
 unfolding IsDistinct
 all_distinct o [] ms ts a h k d = d
-all_distinct o (f ∷ fs) ms ts a h k d = by f.value (all_distinct o fs ms ts (second_is (has_no (code f.word) fs) (are_apart fs) a) h.1 k d)
+all_distinct o (f ∷ fs) ms ts a h k d = by f.value (all_distinct o fs ms ts (and_both (has_no (code f.word) fs) (are_apart fs) a).1 h.1 k d)
   where
     kept_unlike : Unlike f.says ts
     kept_unlike = unlike_kept o f.says ms ts (ap (is_known o) h.0.word_is ∙ h.0.known) k
+
     here : has_no (code (word_of f.says)) fs ≡ true
-    here = subst (λ w. has_no (code w) fs ≡ true) (sym h.0.word_is) (first_is (has_no (code f.word) fs) (are_apart fs) a)
+    here = subst (λ w. has_no (code w) fs ≡ true) (sym h.0.word_is) (and_both (has_no (code f.word) fs) (are_apart fs) a).0
+
     by : (v : Option Text) → IsDistinct bytes_eq (names_of fs ++ ts) → IsDistinct bytes_eq ((name_if f.says v ++ names_of fs) ++ ts)
     by None e = e
     by (Some t) e = (unlike_fields o f.says fs ts here h.1 kept_unlike, e)

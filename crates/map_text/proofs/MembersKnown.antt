@@ -1,5 +1,5 @@
 -- The names and the types that the writer makes are JSON strings, and decode to themselves.
-use Rattle.std.proofs.Common.{◌≡◌, ◌&&◌, ℕ, Bool, true, false, List, [], ◌∷◌, ◌++◌, refl, codes}
+use Rattle.std.proofs.Common.{◌≡◌, ℕ, true, List, [], ◌∷◌, ◌++◌, refl, codes}
 use Rattle.std.specs.Prelude.{Some, IsUtf8}
 use Rattle.std.specs.List.{list_all}
 use Rattle.serde_json.specs.Read.{read}
@@ -7,27 +7,20 @@ use Rattle.serde_json.specs.Data.{string}
 use Rattle.serde_json.proofs.OnLiterals.{serde_json_on_literals}
 use Rattle.json_spans.specs.Bytes.{is_ascii}
 use Rattle.json_spans.specs.Grammar.{Chars, quote, ascii}
-use Rattle.json_spans.specs.Inside.{IsText, quoted}
+use Rattle.json_spans.specs.Inside.{quoted}
 use Rattle.json_spans.proofs.Decoding.{decoded_as}
+use Rattle.ring_machine.proofs.Order.{and_both}
 use Rattle.topo_outline.specs.Kept.{IsName}
 
 -- the name between quotation marks
 abbrev pub token_of : List ℕ → List ℕ
 token_of name = 34 ∷ (name ++ (34 ∷ []))
 
-first_is : (a b : Bool) → (a && b) ≡ true → a ≡ true
-first_is true b e = refl
-first_is false b e = absurd cc
-
-second_is : (a b : Bool) → (a && b) ≡ true → b ≡ true
-second_is true b e = e
-second_is false b e = absurd cc
-
 plain_chars : (name : List ℕ) → list_all is_ascii name ≡ true → Chars (name ++ (34 ∷ [])) []
 plain_chars [] e = quote
-plain_chars (c ∷ cs) e = ascii {a = c} (first_is (is_ascii c) (list_all is_ascii cs) e) (plain_chars cs (second_is (is_ascii c) (list_all is_ascii cs) e))
+plain_chars (c ∷ cs) e = ascii {a = c} (and_both (is_ascii c) (list_all is_ascii cs) e).0 (plain_chars cs (and_both (is_ascii c) (list_all is_ascii cs) e).1)
 
-plain_name : (name : List ℕ) → list_all is_ascii name ≡ true → IsUtf8 (token_of name) → read (token_of name) ≡ Some (string name) → IsName (token_of name) name
+pub plain_name : (name : List ℕ) → list_all is_ascii name ≡ true → IsUtf8 (token_of name) → read (token_of name) ≡ Some (string name) → IsName (token_of name) name
 plain_name name e u r = record { string = quoted (plain_chars name e); says = decoded_as (token_of name) (string name) u r }
 
 pub type_named : IsName (codes "\"type\"") (codes "type")

@@ -1,6 +1,6 @@
 -- The members of a written object, as a reader sees them: what their names say, and their texts.
-use Rattle.std.proofs.Common.{◌≡◌, ◌≢◌, not, ℕ, List, [], ◌∷◌, ◌++◌, map, Bool, true, false, refl, sym, ap, ap₂, ◌∙◌, subst, cond}
-use Rattle.std.specs.Prelude.{Option, Some, None, option_map, ◌==◌, if◌then◌else◌, find, filter}
+use Rattle.std.proofs.Common.{◌≡◌, ◌≢◌, not, ℕ, List, [], ◌∷◌, map, Bool, true, false, refl, sym, ap, ◌∙◌, subst, cond}
+use Rattle.std.specs.Prelude.{Option, Some, None, option_map, ◌==◌, if◌then◌else◌, filter}
 use Rattle.std.specs.List.{AllByRecursion, AllZip, AllPairs}
 use Rattle.ring_machine.specs.Document.{Text, Member}
 use Rattle.json_spans.specs.Parts.{Node}

@@ -1,7 +1,7 @@
 -- The written arcs are read as they were.
-use Rattle.std.proofs.Common.{◌≡◌, ℕ, ◌≤◌, ◌<◌, ◌^◌, List, [], ◌∷◌, map, Bool, true, false, length, refl, sym, ap, ap₂, ◌∙◌, subst, arith, ℤ, pos, negsuc, ◌+ℤ◌, ◌-ℤ◌}
-use Rattle.std.specs.Prelude.{unsigned_abs, Ok}
-use Rattle.std.specs.List.{AllByRecursion, AllZip}
+use Rattle.std.proofs.Common.{◌≡◌, ◌≤◌, ◌<◌, ◌^◌, List, [], ◌∷◌, map, Bool, true, false, length, sym, ap, ap₂, ◌∙◌, arith, ℤ, pos, ◌+ℤ◌, ◌-ℤ◌}
+use Rattle.std.specs.Prelude.{unsigned_abs}
+use Rattle.std.specs.List.{AllByRecursion}
 use Rattle.std.specs.Fmt.{signed_decimal}
 use Rattle.std.proofs.lemmas.Int.{ints}
 use Rattle.grid_geometry.specs.Position.{Position, position, InRange}
@@ -14,7 +14,7 @@ use Rattle.topo_reader.specs.Reads.{IsSum, Sums, no_pair, pair, ArePositions, Is
 use Rattle.map_text.specs.Text.{pair_text, differences, pairs, arc_text, arcs_text}
 use Rattle.map_text.proofs.GrammarLists.{bytes_of, items_are, list_is_json}
 use Rattle.map_text.proofs.GrammarNumbers.{whole_is_json, whole_read}
-use Rattle.map_text.proofs.ReadingLists.{all_mapped, all_made, Stands, first_same, rest_same, zipped, list_there, list_stands, list_json, AreTwo, two}
+use Rattle.map_text.proofs.ReadingLists.{all_mapped, Stands, first_same, rest_same, zipped, list_there, list_stands, list_json, two}
 
 -- ---- whole numbers
 

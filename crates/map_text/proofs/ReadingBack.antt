@@ -1,54 +1,44 @@
 -- The written text of a document is read as the document.
-use Rattle.std.proofs.Common.{◌≡◌, ℕ, ◌+◌, ◌<◌, ◌≤◌, ◌^◌, List, [], ◌∷◌, ◌++◌, map, length, Bool, true, false, refl, sym, ap, ◌∙◌, subst, arith, codes, ℤ}
-use Rattle.std.specs.Prelude.{Option, Some, None, option_map, is_some, IsTrue}
-use Rattle.std.specs.List.{AllByRecursion, AllZip, list_all, flat_map, filter_map}
+use Rattle.std.proofs.Common.{◌≡◌, ℕ, ◌≤◌, List, [], ◌∷◌, ◌++◌, map, length, true, refl, sym, ap, ◌∙◌, subst, codes, ℤ}
+use Rattle.std.specs.Prelude.{Option, Some, None, option_map, is_some}
+use Rattle.std.specs.List.{AllByRecursion, AllZip, flat_map, filter_map}
 use Rattle.grid_geometry.specs.Position.{Position, InRange}
-use Rattle.ring_machine.specs.Ring.{is_ring}
-use Rattle.ring_machine.specs.Document.{Text, Member, Layer, Document, DocumentOf}
-use Rattle.ring_machine.specs.Parts.{feature_of, rings, size, in_feature, in_item, in_layer}
-use Rattle.ring_machine.specs.WellFormed.{is_geometry, WellFormed, Same}
+use Rattle.ring_machine.specs.Document.{Text, Member, Layer, Document}
+use Rattle.ring_machine.specs.Parts.{feature_of, in_feature, in_item, in_layer}
+use Rattle.ring_machine.specs.WellFormed.{is_geometry, Same}
 use Rattle.ring_machine.specs.Vertices.{is_junction}
-use Rattle.json_spans.specs.Grammar.{no_space, Json, json}
+use Rattle.json_spans.specs.Grammar.{no_space, json}
 use Rattle.json_spans.specs.Parts.{Node}
-use Rattle.json_spans.specs.Trimmed.{trimmed}
 use Rattle.json_spans.specs.Inside.{IsValue}
 use Rattle.json_spans.specs.Kinds.{kind_of}
 use Rattle.json_spans.proofs.Padding.{value_solid, trimmed_is}
 use Rattle.topo_outline.specs.declared.words.Word.TheVariants as word
 use Rattle.topo_outline.specs.declared.members.Owner.TheVariants as owner
 use Rattle.topo_outline.specs.Words.{word_of}
-use Rattle.topo_outline.specs.Shape.{is_list_kind, EntryNode, OutlineText, LayerText}
-use Rattle.topo_outline.specs.IsOutline.{value_at, HasEntries, HasType, IsTransform, no_transform, AreLayers, IsOutline}
-use Rattle.topo_outline.specs.Kept.{IsJson, IsName, IfThere, IsKeptTransform, KeepsItem, KeepsTexts}
+use Rattle.topo_outline.specs.Shape.{is_list_kind, EntryNode, LayerText}
+use Rattle.topo_outline.specs.IsOutline.{value_at, HasEntries, IsTransform, no_transform, IsOutline}
+use Rattle.topo_outline.specs.Kept.{IsJson, IsName, IfThere, IsKeptTransform, KeepsItem}
 use Rattle.topo_reader.specs.Indexes.{Arc}
 use Rattle.topo_reader.specs.Document.{Opened, document_of}
 use Rattle.topo_reader.specs.Opening.{root_of}
-use Rattle.topo_reader.specs.Reads.{AreArcs, Reads}
-use Rattle.map_text.specs.Arcs.{pieces, arcs_of, indexes, indexed}
+use Rattle.topo_reader.specs.Reads.{Reads}
+use Rattle.map_text.specs.Arcs.{pieces, arcs_of, indexes}
 use Rattle.map_text.specs.Text.{object_text, member, member_if, arcs_text, layer_member, text_of}
 use Rattle.map_text.specs.Saved.{Saved}
+use Rattle.map_text.specs.Writable.{IsWritable}
 use Rattle.map_text.proofs.Ends.{arcs_long, arcs_each}
 use Rattle.map_text.proofs.Saved.{saved_by}
 use Rattle.map_text.proofs.GrammarLists.{bytes_of, bare}
 use Rattle.map_text.proofs.GrammarObjects.{IsMember, object_is_json}
 use Rattle.map_text.proofs.MembersKnown.{transform_named, objects_named, topology_named}
-use Rattle.map_text.proofs.MembersSeen.{Says, IsSeen, object_seen}
-use Rattle.map_text.proofs.MembersFields.{Field, present, IsField, HasFields, written_object, written_json}
-use Rattle.map_text.proofs.ReadingLists.{all_made, list_there}
+use Rattle.map_text.proofs.MembersSeen.{Says, object_seen}
+use Rattle.map_text.proofs.MembersFields.{Field, present, IsField, written_object, written_json}
+use Rattle.map_text.proofs.ReadingLists.{all_made}
 use Rattle.map_text.proofs.ReadingArcs.{IsLine, arcs_json, arcs_read}
 use Rattle.map_text.proofs.ReadingPlaces.{node_there, kept_transform}
 use Rattle.map_text.proofs.ReadingFeatures.{name_json, type_field, arcs_field, type_is_field, arcs_is_field, has_type, four_joined}
-use Rattle.map_text.proofs.ReadingRings.{IsDrawn, Drawn, all_drawn, all_both, all_passed, all_plain, IsPlain, items_written}
+use Rattle.map_text.proofs.ReadingRings.{Drawn, all_drawn, all_both, all_passed, all_plain, IsPlain, items_written}
 use Rattle.map_text.proofs.ReadingLayers.{layer_polygons, IsPlainLayer, layer_json, IsReadLayer, AreReadLayers, layer_as, layers_read, layer_uses, layers_use, layers_lead, layers_same}
-
--- a document whose text is read back: well formed, of rings in range and of texts that are kept, and
--- with fewer positions than 64 bits with a sign hold
-pub record IsWritable (d : Document) : Type 0 where
-  pub formed : WellFormed d
-  pub keeps : KeepsTexts d
-  pub are_rings : IsTrue (list_all is_ring (rings d))
-  pub in_range : AllByRecursion (AllByRecursion InRange) (rings d)
-  pub small : size d < 2 ^ 63
 
 -- ---- the layers
 
@@ -142,9 +132,13 @@ transform_json (Some t) k = k.value
 are_fields : (d : Document) → IsWritable d → AllByRecursion (IsField owner.Topology) (fields d)
 are_fields d w = (
   type_is_field owner.Topology (codes "\"Topology\"") refl (name_json _ _ topology_named),
-  (transform_is_field d.transform (transform_json d.transform w.keeps.transform),
-  (objects_is_field (objects_text d) (objects_json d w),
-  (arcs_is_field owner.Topology (Some (all_arcs_text d)) refl (arcs_json (is_some d.transform) (arcs_of d) (are_lines d w)), tt))),
+  (
+    transform_is_field d.transform (transform_json d.transform w.keeps.transform),
+    (
+      objects_is_field (objects_text d) (objects_json d w),
+      (arcs_is_field owner.Topology (Some (all_arcs_text d)) refl (arcs_json (is_some d.transform) (arcs_of d) (are_lines d w)), tt),
+    ),
+  ),
 )
 
 text_is : (d : Document) → text_of d ≡ object_text (present (fields d) ++ d.members)

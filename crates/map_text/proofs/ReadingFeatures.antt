@@ -1,8 +1,8 @@
 -- The written text of a feature, and that of a collection, is a geometry with its id, its properties
 -- and its members.
-use Rattle.std.proofs.Common.{◌≡◌, ℕ, List, [], ◌∷◌, ◌++◌, map, Bool, true, false, refl, sym, ap, ap₂, ◌∙◌, subst, append_assoc, codes, ℤ}
-use Rattle.std.specs.Prelude.{Option, Some, None, option_map}
-use Rattle.std.specs.List.{AllByRecursion, AllZip}
+use Rattle.std.proofs.Common.{◌≡◌, ℕ, List, [], ◌∷◌, ◌++◌, map, true, refl, sym, ap, ◌∙◌, subst, append_assoc, codes, ℤ}
+use Rattle.std.specs.Prelude.{Option, Some, option_map}
+use Rattle.std.specs.List.{AllByRecursion}
 use Rattle.ring_machine.specs.Document.{Text, Form, Head, Member, FeatureOf}
 use Rattle.ring_machine.specs.Document as form
 use Rattle.json_spans.specs.Grammar.{null, text as string_value}
@@ -12,19 +12,18 @@ use Rattle.json_spans.specs.Walk.{items}
 use Rattle.json_spans.specs.Kinds.{kind_of}
 use Rattle.json_spans.specs.Decoded.{decoded}
 use Rattle.json_spans.specs.declared.kinds.Kind.TheVariants as kind
-use Rattle.topo_outline.specs.declared.words.Word.{Word}
 use Rattle.topo_outline.specs.declared.words.Word.TheVariants as word
 use Rattle.topo_outline.specs.declared.members.Owner.{Owner}
 use Rattle.topo_outline.specs.declared.members.Owner.TheVariants as owner
 use Rattle.topo_outline.specs.Words.{word_of}
-use Rattle.topo_outline.specs.Shape.{EntryNode, code, is_list, is_known, text_of, kept, head, Piece, starts, ends, leaf}
-use Rattle.topo_outline.specs.IsOutline.{HasEntries, HasType, value_at, IsGeometry, AreGeometries, null_geometry, polygon, multi_polygon, collection}
-use Rattle.topo_outline.specs.Kept.{IsJson, IsName, IfThere, IsKeptHead, AreKeptMembers, owner_of, head_of}
+use Rattle.topo_outline.specs.Shape.{EntryNode, is_known, text_of, kept, head, Piece, starts, ends, leaf}
+use Rattle.topo_outline.specs.IsOutline.{HasType, value_at, IsGeometry, AreGeometries, null_geometry, polygon, multi_polygon, collection}
+use Rattle.topo_outline.specs.Kept.{IsJson, IsName, IfThere, IsKeptHead, owner_of, head_of}
 use Rattle.topo_reader.specs.Indexes.{Arc}
-use Rattle.map_text.specs.Text.{list_text, object_text, member_text, further, commas, member, member_if, type_text, polygon_text, shape_text, feature_text, members_before, opening_text, closing_text}
+use Rattle.map_text.specs.Text.{list_text, object_text, member_text, further, commas, member, member_if, type_text, polygon_text, shape_text, feature_text, opening_text, closing_text}
 use Rattle.map_text.proofs.GrammarLists.{bytes_of, items_are, list_is_json}
 use Rattle.map_text.proofs.MembersKnown.{type_named, id_named, properties_named, arcs_named, geometries_named, polygon_named, multi_polygon_named, collection_named}
-use Rattle.map_text.proofs.MembersFields.{Field, present, IsField, are_apart, HasFields, written_object, written_json}
+use Rattle.map_text.proofs.MembersFields.{Field, present, IsField, HasFields, written_object, written_json}
 use Rattle.map_text.proofs.ReadingLists.{list_there}
 use Rattle.map_text.proofs.ReadingPlaces.{node_there}
 use Rattle.map_text.proofs.ReadingUses.{ShapeIndexes, Fits, shape_json, IsShape, polygon_lists, shape_lists, one, several, nothing}
@@ -130,12 +129,13 @@ polygon_text_made arcs h p u k s =
     record {
       json = subst IsJson (sym is) (written_json owner.Rings fs h.members are k.members);
       read = λ n e.
-        let w = written_object owner.Rings n fs h.members are refl k.members (e ∙ is) in
-        let at_arcs = node_there (value_at word.Arcs w.entries) (polygon_text p) (w.values word.Arcs refl) in
-        (at_arcs.0,
-        subst (λ z. IsGeometry n (leaf form.Polygon z at_arcs.0 ∷ [])) (same_head owner.Rings w.entries h (w.texts word.Id refl) (w.texts word.Properties refl) w.keeps)
-        (polygon w.has (has_type owner.Rings n fs h.members (type_text form.Polygon) (codes "Polygon") w (w.values word.Type refl) polygon_named refl) at_arcs.1 (polygon_lists arcs at_arcs.0 p u s.0 at_arcs.2)),
-        at_arcs.2);
+          let w = written_object owner.Rings n fs h.members are refl k.members (e ∙ is) in
+          let at_arcs = node_there (value_at word.Arcs w.entries) (polygon_text p) (w.values word.Arcs refl) in (
+            at_arcs.0,
+            subst (λ z. IsGeometry n (leaf form.Polygon z at_arcs.0 ∷ [])) (same_head owner.Rings w.entries h (w.texts word.Id refl) (w.texts word.Properties refl) w.keeps)
+                (polygon w.has (has_type owner.Rings n fs h.members (type_text form.Polygon) (codes "Polygon") w (w.values word.Type refl) polygon_named refl) at_arcs.1 (polygon_lists arcs at_arcs.0 p u s.0 at_arcs.2)),
+            at_arcs.2,
+          );
     }
 
 multi_polygon_text_made : (arcs : List Arc) (h : Head) (ps : List (List (List ℤ))) (us : List (List (List Arc))) → IsKeptHead owner.Rings h → ShapeIndexes arcs ps us → IsLeafText form.MultiPolygon h ps (text_by form.MultiPolygon h ps)
@@ -146,12 +146,13 @@ multi_polygon_text_made arcs h ps us k s =
     record {
       json = subst IsJson (sym is) (written_json owner.Rings fs h.members are k.members);
       read = λ n e.
-        let w = written_object owner.Rings n fs h.members are refl k.members (e ∙ is) in
-        let at_arcs = node_there (value_at word.Arcs w.entries) (list_text (map polygon_text ps)) (w.values word.Arcs refl) in
-        (at_arcs.0,
-        subst (λ z. IsGeometry n (leaf form.MultiPolygon z at_arcs.0 ∷ [])) (same_head owner.Rings w.entries h (w.texts word.Id refl) (w.texts word.Properties refl) w.keeps)
-        (multi_polygon w.has (has_type owner.Rings n fs h.members (type_text form.MultiPolygon) (codes "MultiPolygon") w (w.values word.Type refl) multi_polygon_named refl) at_arcs.1 (shape_lists arcs at_arcs.0 ps us s at_arcs.2)),
-        at_arcs.2);
+          let w = written_object owner.Rings n fs h.members are refl k.members (e ∙ is) in
+          let at_arcs = node_there (value_at word.Arcs w.entries) (list_text (map polygon_text ps)) (w.values word.Arcs refl) in (
+            at_arcs.0,
+            subst (λ z. IsGeometry n (leaf form.MultiPolygon z at_arcs.0 ∷ [])) (same_head owner.Rings w.entries h (w.texts word.Id refl) (w.texts word.Properties refl) w.keeps)
+                (multi_polygon w.has (has_type owner.Rings n fs h.members (type_text form.MultiPolygon) (codes "MultiPolygon") w (w.values word.Type refl) multi_polygon_named refl) at_arcs.1 (shape_lists arcs at_arcs.0 ps us s at_arcs.2)),
+            at_arcs.2,
+          );
     }
 
 null_text_made : (h : Head) → IsKeptHead owner.Null h → IsLeafText form.Null h [] (text_by form.Null h [])
@@ -162,12 +163,13 @@ null_text_made h k =
     record {
       json = subst IsJson (sym is) (written_json owner.Null fs h.members are k.members);
       read = λ n e.
-        let w = written_object owner.Null n fs h.members are refl k.members (e ∙ is) in
-        let at_type = node_there (value_at word.Type w.entries) (type_text form.Null) (w.values word.Type refl) in
-        (n,
-        subst (λ z. IsGeometry n (leaf form.Null z n ∷ [])) (same_head owner.Null w.entries h (w.texts word.Id refl) (w.texts word.Properties refl) w.keeps)
-        (null_geometry w.has at_type.1 (ap kind_of at_type.2)),
-        tt);
+          let w = written_object owner.Null n fs h.members are refl k.members (e ∙ is) in
+          let at_type = node_there (value_at word.Type w.entries) (type_text form.Null) (w.values word.Type refl) in (
+            n,
+            subst (λ z. IsGeometry n (leaf form.Null z n ∷ [])) (same_head owner.Null w.entries h (w.texts word.Id refl) (w.texts word.Properties refl) w.keeps)
+                (null_geometry w.has at_type.1 (ap kind_of at_type.2)),
+            tt,
+          );
     }
 
 made_by : (arcs : List Arc) {f : Form} {ps : List (List (List ℤ))} (h : Head) (us : List (List (List Arc))) → Fits f ps → IsKeptHead (owner_of f) h → ShapeIndexes arcs ps us → IsLeafText f h ps (text_by f h ps)
@@ -227,8 +229,9 @@ collection_read Q h ts n k j e inner =
     let fs = collection_fields h (list_text ts) in
     let w = written_object owner.Collection n fs h.members (collections_are_fields h (list_text ts) k (list_is_json ts j)) refl k.members (e ∙ collection_is h ts) in
     let at_list = node_there (value_at word.Geometries w.entries) (list_text ts) (w.values word.Geometries refl) in
-    let found = inner (items at_list.0) (items_are at_list.0 ts at_list.2 j) in
-    (found.0,
-    subst (λ z. IsGeometry n (starts z ∷ (found.0 ++ (ends ∷ [])))) (same_head owner.Collection w.entries h (w.texts word.Id refl) (w.texts word.Properties refl) w.keeps)
-    (collection w.has (has_type owner.Collection n fs h.members (codes "\"GeometryCollection\"") (codes "GeometryCollection") w (w.values word.Type refl) collection_named refl) at_list.1 (list_there at_list.0 ts at_list.2) found.1),
-    found.2)
+    let found = inner (items at_list.0) (items_are at_list.0 ts at_list.2 j) in (
+      found.0,
+      subst (λ z. IsGeometry n (starts z ∷ (found.0 ++ (ends ∷ [])))) (same_head owner.Collection w.entries h (w.texts word.Id refl) (w.texts word.Properties refl) w.keeps)
+          (collection w.has (has_type owner.Collection n fs h.members (codes "\"GeometryCollection\"") (codes "GeometryCollection") w (w.values word.Type refl) collection_named refl) at_list.1 (list_there at_list.0 ts at_list.2) found.1),
+      found.2,
+    )

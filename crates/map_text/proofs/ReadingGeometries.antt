@@ -1,7 +1,7 @@
 -- The written text of a tree of items is read as a geometry with the same items.
-use Rattle.std.proofs.Common.{◌≡◌, ℕ, List, [], ◌∷◌, ◌++◌, map, Bool, true, false, refl, sym, ap, ◌∙◌, subst, ℤ}
+use Rattle.std.proofs.Common.{◌≡◌, List, [], ◌∷◌, ◌++◌, map, ℤ}
 use Rattle.std.specs.List.{AllByRecursion, AllZip}
-use Rattle.ring_machine.specs.Document.{Text, Head, FeatureOf, ItemOf, Open, Close, Leaf, Kept}
+use Rattle.ring_machine.specs.Document.{Text, Head, FeatureOf, Open, Close, Leaf, Kept}
 use Rattle.json_spans.specs.Parts.{Node}
 use Rattle.topo_outline.specs.declared.members.Owner.TheVariants as owner
 use Rattle.topo_outline.specs.Shape.{Piece, starts, ends, leaf, text}

@@ -1,6 +1,6 @@
 -- The written layers are read with the same items, and their features with the same rings.
-use Rattle.std.proofs.Common.{◌≡◌, ℕ, zero, suc, ◌+◌, List, [], ◌∷◌, ◌++◌, map, length, Bool, true, false, refl, sym, ap, ap₂, ◌∙◌, subst, append_assoc, arith, ℤ}
-use Rattle.std.specs.Prelude.{Option, Some, None, slice_get, unwrap_or}
+use Rattle.std.proofs.Common.{◌≡◌, ℕ, ◌+◌, List, [], ◌∷◌, ◌++◌, map, length, true, false, refl, sym, ap, ap₂, ◌∙◌, subst, append_assoc, arith, ℤ}
+use Rattle.std.specs.Prelude.{Some, slice_get}
 use Rattle.std.specs.List.{AllByRecursion, AllZip, flat_map, filter_map}
 use Rattle.std.proofs.lemmas.List.{length-append, length-map}
 use Rattle.std.proofs.lemmas.Slice.Zip.{AllZip-long}
@@ -10,18 +10,18 @@ use Rattle.ring_machine.specs.Parts.{feature_of, in_feature, in_item, in_layer}
 use Rattle.ring_machine.specs.WellFormed.{is_geometry}
 use Rattle.json_spans.specs.Parts.{Node}
 use Rattle.topo_outline.specs.Shape.{EntryNode, Piece, starts, ends, leaf, text, LayerText}
-use Rattle.topo_outline.specs.Outline.{leaf_of, at_most_one, leaves_in, leaves}
+use Rattle.topo_outline.specs.Outline.{leaves_in, leaves}
 use Rattle.topo_outline.specs.IsOutline.{AreLayers, no_layer}
 use Rattle.topo_outline.specs.IsOutline as shape
 use Rattle.topo_outline.specs.Kept.{IsJson, IsName, head_of}
 use Rattle.topo_reader.specs.Indexes.{Arc}
 use Rattle.topo_reader.specs.Reads.{GeometryUses, AreRings, IsRing}
-use Rattle.topo_reader.specs.Document.{Polygons, polygons_at, numbered, items_from, layers_from}
+use Rattle.topo_reader.specs.Document.{Polygons, polygons_at, items_from, layers_from}
 use Rattle.map_text.specs.Text.{items_text, layer_member}
 use Rattle.map_text.proofs.MembersSeen.{Seen, seen, seen_as, all_seen}
 use Rattle.map_text.proofs.ReadingLists.{first_same, rest_same}
 use Rattle.map_text.proofs.ReadingUses.{IsShape, geometry_uses}
-use Rattle.map_text.proofs.ReadingTrees.{IsTree, tree, geometry_mapped, tree_text, layer_written}
+use Rattle.map_text.proofs.ReadingTrees.{IsTree, tree, geometry_mapped, layer_written}
 use Rattle.map_text.proofs.ReadingGeometries.{IsWritten, IsPieceOf, opens, closes, feature, kept, zip_joined, tree_json, IsRead, tree_read}
 use Rattle.map_text.proofs.ReadingRings.{IsDrawn, IsPlain, named_polygons, plain_fits}
 
@@ -57,6 +57,7 @@ module _ (arcs : List Arc) (g : List Position → List ℤ) (cut : List Position
     pub geometry : is_geometry l.items ≡ true
     pub written : AllByRecursion (IsWritten arcs) (map (in_item (in_feature g)) l.items)
     pub plain : AllByRecursion (IsPlain (IsDrawn arcs g cut)) (filter_map feature_of l.items)
+
   layer_tree : (l : Layer) → IsPlainLayer l → IsTree (map (in_item (in_feature g)) l.items)
   layer_tree l h = tree (map (in_item (in_feature g)) l.items) (geometry_mapped (in_feature g) l.items ∙ h.geometry)
 

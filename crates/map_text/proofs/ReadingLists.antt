@@ -1,5 +1,5 @@
 -- The items of a written list stand for what it was made of, one by one.
-use Rattle.std.proofs.Common.{◌≡◌, ℕ, List, [], ◌∷◌, map, true, refl, ap}
+use Rattle.std.proofs.Common.{◌≡◌, List, [], ◌∷◌, map, true, refl, ap}
 use Rattle.std.specs.List.{AllByRecursion, AllZip}
 use Rattle.ring_machine.specs.Document.{Text}
 use Rattle.json_spans.specs.Parts.{Node}

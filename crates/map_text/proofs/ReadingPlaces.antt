@@ -1,13 +1,12 @@
 -- What a kept text means does not depend on the place where it stands.
 use Rattle.std.proofs.Common.{◌≡◌, ℕ, zero, suc, ◌+◌, List, [], ◌∷◌, map, take, drop, length, Bool, true, false, refl, sym, ap, ap₂, ◌∙◌, subst, codes, ◌⊎◌, inl, inr}
 use Rattle.std.specs.Prelude.{Option, Some, None, option_map}
-use Rattle.std.specs.List.{AllByRecursion, AllZip, AllPairs}
+use Rattle.std.specs.List.{AllZip}
 use Rattle.ring_machine.specs.Document.{Text, Member}
 use Rattle.json_spans.specs.Parts.{Node, comma_at, colon_at, after_comma, if_more, parts_from, parts_left, has_first}
 use Rattle.json_spans.specs.Trimmed.{trimmed, spaces_before, before_spaces}
 use Rattle.json_spans.specs.Walk.{raw_parts, items, members, member_of, behind_colon}
 use Rattle.json_spans.specs.Kinds.{kind_of}
-use Rattle.json_spans.specs.declared.kinds.Kind.TheVariants as kind
 use Rattle.topo_outline.specs.declared.words.Word.{Word}
 use Rattle.topo_outline.specs.declared.words.Word.TheVariants as word
 use Rattle.topo_outline.specs.Shape.{is_list_kind, is_kind_object, EntryNode, entry_of, code, Piece, text}
@@ -17,7 +16,7 @@ use Rattle.topo_outline.specs.Kept.{IsKeptGeometry, IsKeptTransform}
 use Rattle.map_text.proofs.GrammarLists.{bytes_of}
 use Rattle.map_text.proofs.GrammarObjects.{as_member}
 use Rattle.map_text.proofs.MembersSeen.{Seen, seen, all_seen, Says, entries_of, are_entries, entries_seen, seen_value, value_seen}
-use Rattle.map_text.proofs.ReadingLists.{AreTwo, two}
+use Rattle.map_text.proofs.ReadingLists.{two}
 
 -- ---- parts at two places
 

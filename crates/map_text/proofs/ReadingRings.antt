@@ -1,6 +1,6 @@
 -- The rings of a document, by the indexes of their arcs: what is written for each feature.
-use Rattle.std.proofs.Common.{◌≡◌, ◌&&◌, ℕ, zero, suc, ◌+◌, ◌<◌, ◌≤◌, ◌^◌, List, [], ◌∷◌, ◌++◌, map, length, Bool, true, false, refl, sym, ap, ◌∙◌, subst, arith, cond, ℤ, pos, negsuc}
-use Rattle.std.specs.Prelude.{unsigned_abs, Option, Some, None, option_map, reverse, slice_get, sum_by, IsTrue, ◌==◌}
+use Rattle.std.proofs.Common.{◌≡◌, ℕ, suc, ◌+◌, ◌<◌, ◌≤◌, ◌^◌, List, [], ◌∷◌, ◌++◌, map, length, Bool, true, false, refl, ap, arith, cond, ℤ, pos, negsuc}
+use Rattle.std.specs.Prelude.{unsigned_abs, Option, Some, None, option_map, reverse, slice_get, sum_by, IsTrue}
 use Rattle.std.specs.List.{AllByRecursion, AllZip, list_all, flat_map, filter_map}
 use Rattle.std.proofs.lemmas.Bool.{eqb-true}
 use Rattle.std.proofs.lemmas.List.{length-append}
@@ -23,7 +23,7 @@ use Rattle.map_text.proofs.Junctions.{begun_rotated}
 use Rattle.map_text.proofs.Indexed.{Names, indexes_name}
 use Rattle.map_text.proofs.RingsBack.{pieces_lead}
 use Rattle.map_text.proofs.ReadingLists.{all_made}
-use Rattle.map_text.proofs.ReadingUses.{IsIndex, RingIndexes, PolygonIndexes, ShapeIndexes, Fits, one, several, nothing}
+use Rattle.map_text.proofs.ReadingUses.{RingIndexes, PolygonIndexes, ShapeIndexes, Fits, one, several, nothing}
 use Rattle.map_text.proofs.ReadingGeometries.{IsWritten, IsWrittenFeature, all_front, all_back}
 
 -- ---- a document has no more arcs than positions
@@ -114,12 +114,7 @@ all_both P Q [] h k = tt
 all_both P Q (x ∷ xs) h k = ((h.0, k.0), all_both P Q xs h.1 k.1)
 
 pub all_passed : {A : Type 0} (test : A → Bool) (xs : List A) → list_all test xs ≡ true → AllByRecursion (λ x. test x ≡ true) xs
-all_passed test [] h = tt
-all_passed test (x ∷ xs) h = by (test x) refl h (all_passed test xs)
-  where
-    by : (b : Bool) → test x ≡ b → (b && list_all test xs) ≡ true → (list_all test xs ≡ true → AllByRecursion (λ y. test y ≡ true) xs) → AllByRecursion (λ y. test y ≡ true) (x ∷ xs)
-    by true e k go = (e, go k)
-    by false e k go = absurd cc
+all_passed test xs h = all_of (λ x. test x ≡ true) xs (λ x i. all_in test xs x h i)
 
 -- a feature of the document that is written
 pub record IsPlain (drawn : List Position → Type 0) (f : Feature) : Type 0 where

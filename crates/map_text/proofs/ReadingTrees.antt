@@ -1,5 +1,5 @@
 -- The items of a layer are one tree, and its text is put together from those of its parts.
-use Rattle.std.proofs.Common.{◌≡◌, ℕ, zero, suc, List, [], ◌∷◌, ◌++◌, map, Bool, true, false, refl, sym, ap, ◌∙◌, subst, append_assoc, codes, ℤ}
+use Rattle.std.proofs.Common.{◌≡◌, ℕ, zero, suc, List, [], ◌∷◌, ◌++◌, map, Bool, true, false, refl, sym, ap, ◌∙◌, subst, append_assoc, ℤ}
 use Rattle.std.proofs.lemmas.List.{append-nil}
 use Rattle.ring_machine.specs.Document.{Text, Head, FeatureOf, ItemOf, Open, Close, Leaf, Kept}
 use Rattle.ring_machine.specs.Parts.{in_item}

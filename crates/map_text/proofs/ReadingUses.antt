@@ -1,6 +1,6 @@
 -- The written indexes of a feature's rings are read as uses of the arcs that they name.
-use Rattle.std.proofs.Common.{◌≡◌, ◌&&◌, ℕ, ◌<◌, ◌^◌, List, [], ◌∷◌, map, Bool, true, false, refl, sym, ap, ap₂, ◌∙◌, subst, arith, ℤ, pos, negsuc}
-use Rattle.std.specs.Prelude.{unsigned_abs, Ok, Option, Some, None, option_map, slice_get, reverse}
+use Rattle.std.proofs.Common.{◌≡◌, ◌&&◌, ◌<◌, ◌^◌, List, [], ◌∷◌, map, Bool, true, refl, ap, ap₂, ◌∙◌, arith, ℤ}
+use Rattle.std.specs.Prelude.{unsigned_abs}
 use Rattle.std.specs.List.{AllByRecursion, AllZip, list_all}
 use Rattle.std.specs.Fmt.{signed_decimal}
 use Rattle.ring_machine.specs.Document.{Text, Form, Polygon, MultiPolygon, Null}
@@ -9,8 +9,8 @@ use Rattle.json_spans.specs.Walk.{items}
 use Rattle.json_spans.specs.Whole.{whole_of}
 use Rattle.topo_outline.specs.Shape.{is_list, are_lists, are_lists_of_lists}
 use Rattle.topo_outline.specs.Kept.{IsJson, IfThere}
-use Rattle.topo_reader.specs.Indexes.{Arc, arc_named}
-use Rattle.topo_reader.specs.Reads.{IsUse, forward, backward, RingUses, PolygonUses, GeometryUses}
+use Rattle.topo_reader.specs.Indexes.{Arc}
+use Rattle.topo_reader.specs.Reads.{IsUse, RingUses, PolygonUses, GeometryUses}
 use Rattle.map_text.specs.Text.{list_text, ring_text, polygon_text, shape_text}
 use Rattle.map_text.proofs.GrammarLists.{bytes_of, items_are, list_is_json}
 use Rattle.map_text.proofs.GrammarNumbers.{whole_is_json, whole_read}

@@ -1,7 +1,7 @@
 -- Slots and keys that mirror each other, and what keeps them so.
 use Rattle.std.proofs.Common.{◌≡◌, ◌≢◌, ◌↔◌, ℕ, zero, suc, ◌<◌, Bool, true, false, cond, ◌&&◌, List}
 use Rattle.std.proofs.Common.{[], ◌∷◌, length, set, Option, Some, None, IfSome, IfNone, is_some}
-use Rattle.std.proofs.Common.{refl, sym, ap, ◌∙◌, arith}
+use Rattle.std.proofs.Common.{refl, sym, ap, ◌∙◌, subst, arith}
 use Rattle.std.specs.Ordering.{nat_cmp, int_eq, eq_by_cmp}
 use Rattle.std.specs.Cmp.{signed_Decides}
 use Rattle.std.specs.List.{AllZip}
@@ -12,8 +12,8 @@ use Rattle.std.proofs.lemmas.Bool.Decides.{nat_tests}
 use Rattle.std.proofs.lemmas.List.{get_or-set_same, get_or-set_other}
 use Rattle.std.proofs.lemmas.List.Elements.{same_from_all_zip}
 use Rattle.slab.specs.Slab as slab
-use Rattle.grid_geometry.specs.Position.{Position, position_eq}
-use Rattle.vertex_index.specs.Placement.{Placement, IsOccupied, AreDistinct}
+use Rattle.grid_geometry.specs.Position.{Position, InRange, position_eq}
+use Rattle.vertex_index.specs.Placement.{Placement, IsOccupied, AreDistinct, AreInRange}
 use Rattle.vertex_index.specs.Mirrors.{placement_of, in_slot, key_in, Mirrors}
 use Rattle.vertex_index.proofs.PlacementLemmas.{get-placement_of}
 
@@ -44,15 +44,25 @@ not_apart p q one ep =
 module _ (s : List (Option Position)) (es : List (Position × ℕ)) (m : Mirrors s es) where
   -- a new position in a slot that had none
   pub Mirrors-add : (t : List (Option Position)) (fs : List (Position × ℕ)) (k : ℕ) (p : Position)
-      → in_slot s k ≡ None → key_in es p ≡ None
+      → InRange p → in_slot s k ≡ None → key_in es p ≡ None
       → in_slot t k ≡ Some p → ((j : ℕ) → j ≢ k → in_slot t j ≡ in_slot s j)
       → ((q : Position) → key_in fs q ≡ cond (position_eq p q) (Some k) (key_in es q))
       → Mirrors t fs
-  Mirrors-add t fs k p vacant new here others found = record {
+  Mirrors-add t fs k p good vacant new here others found = record {
     there = λ j q e. there j q e (eq_by_cmp nat_cmp j k) refl (position_eq p q) refl;
     back = λ q j e. back q j e (position_eq p q) refl;
+    range = λ j q e. range j q e (eq_by_cmp nat_cmp j k) refl;
   }
     where
+      range : (j : ℕ) (q : Position) → in_slot t j ≡ Some q → (b : Bool) → eq_by_cmp nat_cmp j k ≡ b
+          → InRange q
+      range j q e true ej =
+          let at_k : j ≡ k = grind (arith, nat_tests) in
+          let one : Some p ≡ Some q = sym here ∙ ap (in_slot t) (sym at_k) ∙ e in
+          let same : p ≡ q = cc in
+          subst InRange same good
+      range j q e false ej = m.range j q (sym (others j (grind (arith, nat_tests))) ∙ e)
+
       found_if : (q : Position) (c : Bool) → position_eq p q ≡ c
           → key_in fs q ≡ cond c (Some k) (key_in es q)
       found_if q c ep = found q ∙ ap (λ b. cond b (Some k) (key_in es q)) ep
@@ -93,8 +103,17 @@ module _ (s : List (Option Position)) (es : List (Position × ℕ)) (m : Mirrors
   Mirrors-remove t fs k p was here others found = record {
     there = λ j q e. there j q e (eq_by_cmp nat_cmp j k) refl (position_eq p q) refl;
     back = λ q j e. back q j e (position_eq p q) refl;
+    range = λ j q e. range j q e (eq_by_cmp nat_cmp j k) refl;
   }
     where
+      range : (j : ℕ) (q : Position) → in_slot t j ≡ Some q → (b : Bool) → eq_by_cmp nat_cmp j k ≡ b
+          → InRange q
+      range j q e true ej =
+          let at_k : j ≡ k = grind (arith, nat_tests) in
+          let bad : None ≡ Some q = sym here ∙ ap (in_slot t) (sym at_k) ∙ e in
+          absurd (let b : ⊥ = cc in b)
+      range j q e false ej = m.range j q (sym (others j (grind (arith, nat_tests))) ∙ e)
+
       found_if : (q : Position) (c : Bool) → position_eq p q ≡ c
           → key_in fs q ≡ cond c None (key_in es q)
       found_if q c ep = found q ∙ ap (λ b. cond b None (key_in es q)) ep
@@ -194,6 +213,10 @@ module _ (s : List (Option Position)) (es : List (Position × ℕ)) (m : Mirrors
       let key_k : key_in es p ≡ Some k = m.there k p (in_map k ∙ ek) in
       let jk : Some j ≡ Some k = sym key_j ∙ key_k in cc
 
+  -- each position is in range, since it stands in a slot
+  pub in_range : AreInRange v
+  in_range k p e = m.range k p (in_map k ∙ e)
+
 -- ---- a position put into a slot that has one
 
 within : (l : List (Option Position)) (k : ℕ) (p : Position) → in_slot l k ≡ Some p → k < length l
@@ -212,14 +235,14 @@ set_others l k q j elsewhere = get_or-set_other l k j (Some q) None elsewhere
 -- it takes the place of the other as if that had gone first
 pub Mirrors-shift : (s : List (Option Position)) (es : List (Position × ℕ)) → Mirrors s es
     → (fs gs : List (Position × ℕ)) (k : ℕ) (p q : Position)
-    → in_slot s k ≡ Some p → key_in es q ≡ None
+    → InRange q → in_slot s k ≡ Some p → key_in es q ≡ None
     → ((r : Position) → key_in fs r ≡ cond (position_eq p r) None (key_in es r))
     → ((r : Position) → key_in gs r ≡ cond (position_eq q r) (Some k) (key_in fs r))
     → Mirrors (set s k (Some q)) gs
-Mirrors-shift s es m fs gs k p q was new gone found =
+Mirrors-shift s es m fs gs k p q good was new gone found =
     let emptied = Mirrors-remove s es m (set s k None) fs k p was vacant rest gone in
     let still_new : key_in fs q ≡ None = gone q ∙ by (position_eq p q) in
-    Mirrors-add (set s k None) fs emptied (set s k (Some q)) gs k q vacant still_new
+    Mirrors-add (set s k None) fs emptied (set s k (Some q)) gs k q good vacant still_new
     (set_here s k p q was) (λ j ne. set_others s k q j ne ∙ sym (rest j ne)) found
   where
     vacant : in_slot (set s k None) k ≡ None

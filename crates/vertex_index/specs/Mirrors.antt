@@ -3,7 +3,7 @@ use Rattle.std.specs.Prelude.{◌≡◌, ℕ, List, Option, None, Some, slice_in
 use Rattle.std.specs.FinMap as map
 use Rattle.std.specs.Map as pairs
 use Rattle.slab.specs.Slab as slab
-use Rattle.grid_geometry.specs.Position.{Position, position_eq}
+use Rattle.grid_geometry.specs.Position.{Position, InRange, position_eq}
 use Rattle.vertex_index.specs.Placement.{Placement}
 
 -- the positions in the slots, each under the number of its slot
@@ -18,7 +18,9 @@ in_slot slots k = slice_index_or slots k None
 abbrev pub key_in : List (Position × ℕ) → Position → Option ℕ
 key_in keys p = pairs.lookup (position_eq p) keys
 
--- the key of a position in a slot is the slot's number, and a key names the slot of its position
+-- the key of a position in a slot is the slot's number, a key names the slot of its position, and
+-- each position in a slot is in range
 pub record Mirrors (slots : List (Option Position)) (keys : List (Position × ℕ)) : Type 0 where
   pub there : (k : ℕ) (p : Position) → in_slot slots k ≡ Some p → key_in keys p ≡ Some k
   pub back : (p : Position) (k : ℕ) → key_in keys p ≡ Some k → in_slot slots k ≡ Some p
+  pub range : (k : ℕ) (p : Position) → in_slot slots k ≡ Some p → InRange p

@@ -3,7 +3,7 @@ use Rattle.std.specs.Prelude.{◌≡◌, ℕ, ℤ, pos, Some, refl, unwrap_or}
 use Rattle.std.specs.Coded.{Coded, code_by, coded×, coded_ℤ}
 use Rattle.std.specs.Ordering.{nat_cmp}
 use Rattle.std.specs.FinMap as map
-use Rattle.grid_geometry.specs.Position.{Position, position}
+use Rattle.grid_geometry.specs.Position.{Position, position, InRange}
 
 -- which position stands under which key
 abbrev pub Placement : Type 0
@@ -20,6 +20,10 @@ place m k = unwrap_or (map.get m k) (position (pos 0) (pos 0))
 -- no two keys have the same position
 abbrev pub AreDistinct : Placement → Type 0
 AreDistinct m = (j k : ℕ) (p : Position) → map.get m j ≡ Some p → map.get m k ≡ Some p → j ≡ k
+
+-- each position is in range
+abbrev pub AreInRange : Placement → Type 0
+AreInRange m = (k : ℕ) (p : Position) → map.get m k ≡ Some p → InRange p
 
 -- a position is stored as the pair of its coordinates
 abbrev pub position_code : Coded Position

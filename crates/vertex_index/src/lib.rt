@@ -9,7 +9,7 @@ ghost use Rattle.std.specs.Prelude.{◌≡◌, ◌≢◌, ◌↔◌, ℕ, Some, 
 ghost use Rattle.std.specs.Prelude.{IfSome, IfNone, IfOk, OnOk, OnErr};
 ghost use Rattle.std.specs.Ordering.{nat_cmp};
 ghost use Rattle.std.specs.FinMap as map;
-ghost use Rattle.vertex_index.specs.Placement.{IsOccupied, AreDistinct};
+ghost use Rattle.vertex_index.specs.Placement.{IsOccupied, AreDistinct, AreInRange};
 ghost use Rattle.vertex_index.specs.declared.fault.AddFault.{AddFault};
 ghost use Rattle.vertex_index.specs.declared.fault.ShiftFault.{ShiftFault};
 
@@ -66,6 +66,7 @@ impl<A: Allocator + Copy> Vertices<A> {
     pub fn len(&self) -> usize
         ensures len { result ≡ map.len self.now }
         ensures distinct { AreDistinct self.now }
+        ensures range { AreInRange self.now }
     {
         self.slots.len()
     }
@@ -103,6 +104,7 @@ impl<A: Allocator + Copy> Vertices<A> {
         }
         self.slots.reserve(1)?;
         self.keys.reserve(1)?;
+        let _ = p.x(); // so that it is known to be in range
         let key = VertexKey::new(self.slots.insert_reserved(p));
         self.keys.insert(p, key).unwrap();
         Ok(key)
@@ -122,6 +124,7 @@ impl<A: Allocator + Copy> Vertices<A> {
             return Err(ShiftFault::Occupied);
         }
         self.keys.reserve(1)?;
+        let _ = q.x(); // so that it is known to be in range
         let place = self.slots.get_mut(k.index()).unwrap();
         let before = *place;
         *place = q;

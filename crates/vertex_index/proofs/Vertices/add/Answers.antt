@@ -69,7 +69,7 @@ found_here g c q =
 
 pub invariant_of-self-2 : goal.invariant_of-self-2
 invariant_of-self-2 g c =
-    Mirrors-add _ _ c.self.invariant _ _ c.insert_reserved.result c.args.p (vacant_here g c)
+    Mirrors-add _ _ c.self.invariant _ _ c.insert_reserved.result c.args.p c.x.ensures.range (vacant_here g c)
     (no_key _ c.args.p (no_key_here g c)) c.insert_reserved.ensures.updates.changed
     (others_kept g c) (found_here g c)
 

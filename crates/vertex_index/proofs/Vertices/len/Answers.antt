@@ -1,7 +1,7 @@
 use Rattle.std.proofs.Common.{◌∙◌, sym, ap}
 use Rattle.std.specs.FinMap as map
 use Rattle.vertex_index.proofs.PlacementLemmas.{len-placement_of}
-use Rattle.vertex_index.proofs.MirrorLemmas.{distinct}
+use Rattle.vertex_index.proofs.MirrorLemmas.{distinct, in_range}
 use Rattle.vertex_index.proofs.Vertices.len.Goals as goal
 
 pub returns-clause-len : goal.returns-clause-len
@@ -10,3 +10,6 @@ returns-clause-len g c =
 
 pub returns-clause-distinct : goal.returns-clause-distinct
 returns-clause-distinct g c = distinct _ _ c.self.invariant _ c.self.view_is
+
+pub returns-clause-range : goal.returns-clause-range
+returns-clause-range g c = in_range _ _ c.self.invariant _ c.self.view_is

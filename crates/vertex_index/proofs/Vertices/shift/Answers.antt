@@ -66,7 +66,7 @@ found_here g c r =
 pub invariant_of-self-2 : goal.invariant_of-self-2
 invariant_of-self-2 g c =
     Mirrors-shift _ _ c.self.invariant _ _ c.index.result c.unwrap-place.result.now c.args.q
-    (was g c) (no_key _ c.args.q (no_key_here g c)) (gone_here g c) (found_here g c)
+    c.x.ensures.range (was g c) (no_key _ c.args.q (no_key_here g c)) (gone_here g c) (found_here g c)
 
 pub returns-clause-ok : goal.returns-clause-ok
 returns-clause-ok g c =

@@ -1,0 +1,63 @@
+-- A document that is writable, worked out.
+use Rattle.std.proofs.Common.{◌≢◌, ℕ, ◌≤◌, List, [], ◌∷◌, refl, arith, codes, bytes_eq}
+use Rattle.std.specs.List.{IsDistinct, AllPairs}
+use Rattle.std.proofs.lemmas.Slice.Eq.{bytes_eq-Decides}
+use Rattle.std.proofs.lemmas.Map.Made.{AllPairs-from_IsDistinct}
+use Rattle.serde_json.proofs.OnLiterals.{serde_json_on_literals}
+use Rattle.grid_geometry.specs.Position.{InRange}
+use Rattle.ring_machine.proofs.Worked.{at}
+use Rattle.json_spans.specs.Grammar.{text, quote, ascii}
+use Rattle.topo_outline.specs.declared.members.Owner.{Owner}
+use Rattle.topo_outline.specs.Kept.{IsJson, IsName, AreKeptMembers}
+use Rattle.map_text.specs.Text.{text_of}
+use Rattle.map_text.specs.Saved.{Saved}
+use Rattle.map_text.specs.Writable.{IsWritable}
+use Rattle.map_text.proofs.Examples.{M}
+use Rattle.map_text.proofs.MembersKnown.{plain_name}
+use Rattle.map_text.proofs.ReadingBack.{text_saves}
+
+land_named : IsName (codes "\"land\"") (codes "land")
+unfolding serde_json_on_literals
+land_named = plain_name (codes "land") refl (codes "\"land\"", (refl, refl)) refl
+
+-- a JSON string of one letter
+letter : IsJson (codes "\"A\"")
+letter = (0, text (ascii {a = 65} refl quote))
+
+other_letter : IsJson (codes "\"B\"")
+other_letter = (0, text (ascii {a = 66} refl quote))
+
+differ : (names : List (List ℕ)) → IsDistinct bytes_eq names → AllPairs (λ t u. t ≢ u) names
+differ names d = AllPairs-from_IsDistinct bytes_eq-Decides names d
+
+no_members : (o : Owner) → AreKeptMembers o []
+unfolding IsDistinct
+no_members o = record { names = []; each = tt; differ = differ [] tt }
+
+near : (x y : ℕ) → x ≤ 100 → y ≤ 100 → InRange (at x y)
+near x y h k = record { across = omega (arith, h); upward = omega (arith, k) }
+
+-- the two squares are writable
+writable : IsWritable M
+unfolding IsDistinct
+writable = record {
+  formed = record { geometries = refl; forms = refl; numbers = refl };
+  keeps = record {
+    transform = tt;
+    layer_names = codes "land" ∷ [];
+    layers_named = (land_named, tt);
+    layers_differ = differ (codes "land" ∷ []) (tt, tt);
+    items = ((record { id = tt; properties = tt; members = no_members _ }, (record { id = letter; properties = tt; members = no_members _ }, (record { id = other_letter; properties = tt; members = no_members _ }, (tt, tt)))), tt);
+    members = no_members _;
+  };
+  are_rings = refl;
+  in_range = (
+    (near 0 0 (omega arith) (omega arith), (near 10 0 (omega arith) (omega arith), (near 10 10 (omega arith) (omega arith), (near 0 10 (omega arith) (omega arith), tt)))),
+    ((near 10 0 (omega arith) (omega arith), (near 20 0 (omega arith) (omega arith), (near 20 10 (omega arith) (omega arith), (near 10 10 (omega arith) (omega arith), tt)))), tt),
+  );
+  small = omega arith;
+}
+
+-- so their text is read as the two squares again
+kept : Saved (text_of M) M
+kept = text_saves M writable
