@@ -9,3 +9,4 @@ pub mod Levels
 pub mod Nesting
 pub mod Shaped
 pub mod Promised
+pub mod Copied
