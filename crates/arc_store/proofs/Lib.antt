@@ -45,3 +45,4 @@ pub mod FeatureLemmas
 pub mod RingAround
 pub mod RingReads
 mod Examples
+pub mod Copied

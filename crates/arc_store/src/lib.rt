@@ -7,6 +7,7 @@
 
 mod begin;
 mod build;
+mod copying;
 mod counts;
 mod fault;
 mod features;

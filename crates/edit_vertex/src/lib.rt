@@ -14,6 +14,8 @@ pub use remove::remove_vertex;
 pub use thinning::thin;
 
 #[cfg(test)]
+mod copies;
+#[cfg(test)]
 mod counted;
 #[cfg(test)]
 mod made;
