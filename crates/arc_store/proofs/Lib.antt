@@ -46,3 +46,4 @@ pub mod RingAround
 pub mod RingReads
 mod Examples
 pub mod Copied
+pub mod Listed

@@ -1,6 +1,6 @@
 -- A frame: what was read, with the rings of another kind in the place of positions.
-use Rattle.std.specs.Prelude.{◌≡◌, ℕ, ◌+◌, List, [], ◌∷◌, length, map, option_map, unwrap_or, slice_get, Vec}
-use Rattle.ring_machine.specs.Document.{Form, Head, FeatureOf, ItemOf, Open, Close, Leaf, Kept, LayerOf, DocumentOf}
+use Rattle.std.specs.Prelude.{◌≡◌, ℕ, ◌+◌, List, [], ◌∷◌, length, map, Option, option_map, unwrap_or, slice_get, Vec}
+use Rattle.ring_machine.specs.Document.{Text, Form, Member, Head, FeatureOf, ItemOf, Open, Close, Leaf, Kept, LayerOf, DocumentOf}
 use Rattle.topo_outline.specs.Shape.{Piece, starts, ends, leaf, text, LayerText}
 use Rattle.topo_outline.specs.Outline.{leaves_in, leaves}
 use Rattle.topo_outline.specs.Views.{view_layer, view_kept}

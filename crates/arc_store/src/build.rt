@@ -18,6 +18,7 @@ use crate::frame::Frame;
 use crate::junctions::mark_junctions;
 use crate::keyed::key_all;
 use crate::laying::Laying;
+use crate::leaf::list_leaves;
 use crate::map::Map;
 use grid_geometry::Pos;
 use local_planarity::TestCount;
@@ -83,6 +84,7 @@ impl<'a, I: SegIndex, A: Allocator + Copy> Map<'a, I, A> {
             members,
             polygons,
         } = raw;
+        let leaves = list_leaves(alloc, layers.as_slice())?;
         let (laid, numbers) = lay(alloc, index, polygons.as_slice())?;
         if let Some((s, t)) = laid.first {
             return Err(BuildFault::Conflict { s, t });
@@ -95,6 +97,7 @@ impl<'a, I: SegIndex, A: Allocator + Copy> Map<'a, I, A> {
                 layers,
                 members,
                 polygons: numbers,
+                leaves,
             },
             vertices: laid.vertices,
             borders: laid.borders,

@@ -1,6 +1,7 @@
 //! Copies of a map, in memory of the same allocator.
 ghost use Rattle.std.specs.Prelude.{◌≡◌, IfOk};
 ghost use Rattle.arc_store.specs.Frames.{frame_of, IsCounted};
+ghost use Rattle.arc_store.specs.Leaves.{IsListed};
 
 use crate::frame::Frame;
 use crate::map::Map;
@@ -12,15 +13,18 @@ impl<'a, A: Allocator + Copy> Frame<'a, A> {
     fn copy(&self) -> Result<Frame<'a, A>, AllocError>
         ensures frame { IfOk result (λ copy. frame_of copy ≡ frame_of self.now) }
         ensures counted { IfOk result (λ copy. IsCounted self.now → IsCounted copy) }
+        ensures listed { IfOk result (λ copy. IsListed self.now → IsListed copy) }
     {
         let layers = self.layers.clone()?;
         let members = self.members.clone()?;
         let polygons = self.polygons.clone()?;
+        let leaves = self.leaves.clone()?;
         Ok(Frame {
             transform: self.transform,
             layers,
             members,
             polygons,
+            leaves,
         })
     }
 }

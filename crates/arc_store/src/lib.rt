@@ -15,6 +15,7 @@ mod frame;
 mod junctions;
 mod keyed;
 mod laying;
+mod leaf;
 mod map;
 mod plan;
 mod positions;

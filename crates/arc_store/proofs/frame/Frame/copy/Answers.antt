@@ -17,6 +17,7 @@ returns-clause-frame g c =
       layers = c.in_ok-layers.layers;
       members = c.in_ok-members.members;
       polygons = c.in_ok-polygons.polygons;
+      leaves = c.in_ok-leaves.leaves;
     } in
     frame_copied f copy refl
     (copied_map (λ layer copy. view_layer copy ≡ view_layer layer) view_layer (λ layer copy same. same) f.layers.items c.in_ok-layers.layers.items c.in_ok-layers.ensures.cases.0)
@@ -32,3 +33,8 @@ returns-clause-counted g c h =
     ∙ length-map f.polygons.items feature_numbers
     ∙ h
     ∙ ap (λ ls. length (leaves ls)) (sym (copied_map (λ layer copy. view_layer copy ≡ view_layer layer) view_layer (λ layer copy same. same) f.layers.items c.in_ok-layers.layers.items c.in_ok-layers.ensures.cases.0))
+
+pub returns-clause-listed : goal.returns-clause-listed
+returns-clause-listed g c h =
+    let f = c.args.self.now in
+    rw (copied_map (λ layer copy. view_layer copy ≡ view_layer layer) view_layer (λ layer copy same. same) f.layers.items c.in_ok-layers.layers.items c.in_ok-layers.ensures.cases.0, each_same f.leaves.items c.in_ok-leaves.leaves.items c.in_ok-leaves.ensures.cases.0) h
