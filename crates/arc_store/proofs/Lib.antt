@@ -33,3 +33,5 @@ pub mod FeatureLemmas
 pub mod RingAround
 pub mod RingReads
 mod Examples
+pub mod Copied
+pub mod Listed

@@ -32,9 +32,11 @@ use Rattle.map_opening.specs.Keyed.{all_rings, all_keys}
 use Rattle.map_opening.specs.LaidOut.{IsLaidOut}
 use Rattle.map_opening.specs.Laying.{GoesRound, IsRound, IsLaid, feature_numbers, segments_along}
 use Rattle.arc_store.specs.declared.frame.Frame.{Frame}
+use Rattle.arc_store.specs.declared.leaf.Leaf.{Leaf}
 use Rattle.arc_store.specs.Frames.{frame_of, IsCounted}
 use Rattle.arc_store.specs.Holds.{IsWhole, IsIndexed, Holds}
 use Rattle.arc_store.specs.Kept.{stored, IsKept}
+use Rattle.arc_store.specs.Leaves.{IsListed}
 use Rattle.arc_store.specs.Stored.{Stored, positions_along, ring_under, document_of}
 use Rattle.arc_store.proofs.FramedDocument.{read_framed}
 use Rattle.arc_store.proofs.FrameLemmas.{feature_count-in_rings, frame_count, frame_rings}
@@ -97,7 +99,8 @@ module _ {A : Type 0} (raw : RawDoc A) (h : IsOfRings (view_raw raw))
     {given : List (Vec (Vec (Vec Position A) A) A)} (same : given ≡ raw.polygons.items)
     (polygons : Vec (Vec (Vec ℕ A) A) A) {places : Placement} {m : Rings} {held : SegmentSet}
     {first : Option (Segment × Segment)} {positions count : ℕ}
-    (was : IsLaidOut (map feature_positions given) (map feature_numbers polygons.items) places m held first positions count) where
+    (was : IsLaidOut (map feature_positions given) (map feature_numbers polygons.items) places m held first positions count)
+    (leaves : Vec Leaf A) where
   abbrev o : read.Opened
   o = view_raw raw
 
@@ -118,6 +121,7 @@ module _ {A : Type 0} (raw : RawDoc A) (h : IsOfRings (view_raw raw))
     layers = raw.layers;
     members = raw.members;
     polygons = polygons;
+    leaves = leaves;
   }
 
   abbrev opened : Stored
@@ -225,11 +229,12 @@ module _ {A : Type 0} (raw : RawDoc A) (h : IsOfRings (view_raw raw))
   pub opened_few : length polygons.items ≤ 200000
   opened_few = omega (arith, opened_counted, h.few)
 
-  pub opened_kept : first ≡ None → (number : ℕ) → number ≡ length polygons.items
+  pub opened_kept : first ≡ None → (number : ℕ) → number ≡ length polygons.items → IsListed raw_frame
       → IsKept raw_frame m places held number positions count
-  opened_kept none number n = record {
+  opened_kept none number n listed = record {
     holds = opened_holds none;
     counted = opened_counted;
+    listed = listed;
     next = n ∙ sym (frame_count raw_frame opened_counted);
     few = omega (arith, n, opened_few);
     sized = w.size ∙ sym opened_size;

@@ -8,6 +8,7 @@ ghost use Rattle.arc_store.specs.Faults.{Names};
 
 use crate::fault::BuildFault;
 use crate::frame::Frame;
+use crate::leaf::list_leaves;
 use crate::map::Map;
 use local_planarity::TestCount;
 use map_opening::lay;
@@ -35,6 +36,7 @@ impl<'a, I: SegIndex, A: Allocator + Copy> Map<'a, I, A> {
             members,
             polygons,
         } = raw;
+        let leaves = list_leaves(alloc, layers.as_slice())?;
         let laid = lay(alloc, index, polygons.as_slice())?;
         if let Some((s, t)) = laid.first {
             return Err(BuildFault::Conflict { s, t });
@@ -47,6 +49,7 @@ impl<'a, I: SegIndex, A: Allocator + Copy> Map<'a, I, A> {
                 layers,
                 members,
                 polygons: laid.numbers,
+                leaves,
             },
             vertices: laid.vertices,
             borders: laid.borders,

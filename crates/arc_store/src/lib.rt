@@ -7,10 +7,12 @@
 
 mod begin;
 mod build;
+mod copying;
 mod counts;
 mod fault;
 mod features;
 mod frame;
+mod leaf;
 mod map;
 mod plan;
 mod positions;

@@ -7,6 +7,8 @@ mod columbus;
 #[cfg(test)]
 mod compared;
 #[cfg(test)]
+mod copies;
+#[cfg(test)]
 mod counted;
 #[cfg(test)]
 mod cuts;

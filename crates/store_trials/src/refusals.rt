@@ -13,10 +13,10 @@ use std::test::Fail;
 use topo_reader::read;
 
 /// More than the growths of any run below.
-const MANY: u64 = 2000;
+pub(crate) const MANY: u64 = 2000;
 
 // two neighbours, and one that shares a long border with both; a junction has three neighbours
-const THREE: &str =
+pub(crate) const THREE: &str =
     "{\"type\":\"Topology\",\"objects\":{\"l\":{\"type\":\"GeometryCollection\",\"geometries\":[{\"type\":\"Polygon\",\"arcs\":[[0]]},{\"type\":\"Polygon\",\"arcs\":[[1]]},{\"type\":\"Polygon\",\"arcs\":[[2]]}]}},\"arcs\":[[[0,0],[10,0],[10,5],[10,10],[0,10],[0,0]],[[10,0],[20,0],[20,10],[10,10],[10,5],[10,0]],[[0,0],[0,-10],[20,-10],[20,0],[10,0],[0,0]]]}";
 
 // two squares with a common side
@@ -56,7 +56,7 @@ fn all_uses<I: SegIndex, A: Allocator + Copy>(
 }
 
 /// The map of the text, in a heap that may refuse a growth; `None` where it did.
-fn refused_map<A: Allocator + Copy>(
+pub(crate) fn refused_map<A: Allocator + Copy>(
     heap: A,
     alloc: Global,
     text: &'static str,
@@ -77,7 +77,7 @@ fn refused_map<A: Allocator + Copy>(
 
 /// What an edit did whose growth of some number was refused.
 #[derive(Clone, Copy, Debug, PartialEq, Eq)]
-enum Outcome {
+pub(crate) enum Outcome {
     /// There was no map to edit.
     NoMap,
     /// The edit was refused for want of memory.
@@ -88,14 +88,14 @@ enum Outcome {
 
 /// What a map has beside its rings.
 #[derive(Drop)]
-struct Counts {
+pub(crate) struct Counts {
     uses: Vec<Vec<usize>>,
     segments: usize,
     positions: usize,
 }
 
 /// What the map has, where it has the rings of the plain one.
-fn counts_of<I: SegIndex, A: Allocator + Copy>(
+pub(crate) fn counts_of<I: SegIndex, A: Allocator + Copy>(
     alloc: Global,
     map: &Map<'_, I, A>,
     plain: &PlainMap<'_>,
@@ -108,7 +108,7 @@ fn counts_of<I: SegIndex, A: Allocator + Copy>(
 }
 
 /// Nothing of the map has changed.
-fn stays<R: Abort, I: SegIndex, A: Allocator + Copy>(
+pub(crate) fn stays<R: Abort, I: SegIndex, A: Allocator + Copy>(
     rt: &R,
     alloc: Global,
     map: &Map<'_, I, A>,

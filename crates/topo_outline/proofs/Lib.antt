@@ -11,3 +11,4 @@ pub mod KeptRings
 pub mod Nesting
 pub mod Shaped
 pub mod Promised
+pub mod Copied
