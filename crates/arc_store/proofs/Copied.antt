@@ -1,5 +1,5 @@
 -- A map with the tables of another is kept as that one is.
-use Rattle.std.proofs.Common.{◌≡◌, ◌∙◌, ℕ, refl, sym, ap, subst, List, map, length}
+use Rattle.std.proofs.Common.{◌≡◌, ◌∙◌, ℕ, refl, sym, ap, subst, List, map, length, Option}
 use Rattle.std.specs.Prelude.{Vec}
 use Rattle.std.specs.List.{AllZip, each_same}
 use Rattle.std.specs.Vec.{vec_len}
@@ -9,10 +9,12 @@ use Rattle.ring_machine.specs.Query.{distinct_segments}
 use Rattle.topo_outline.specs.Views.{view_layer}
 use Rattle.topo_outline.proofs.Copied.{copied_map}
 use Rattle.segment_index.specs.Candidates.{SegmentSet}
+use Rattle.segment_index.specs.Frames.{Frame as GridFrame}
 use Rattle.vertex_index.specs.Placement.{Placement}
-use Rattle.shared_arcs.specs.Rings.{Rings}
+use Rattle.arc_tables.specs.Rings.{Rings}
 use Rattle.arc_store.specs.declared.frame.Frame.{Frame}
-use Rattle.arc_store.specs.Frames.{polygon_numbers, feature_numbers, frame_of, IsCounted}
+use Rattle.map_opening.specs.Laying.{polygon_numbers, feature_numbers}
+use Rattle.arc_store.specs.Frames.{frame_of, IsCounted}
 use Rattle.arc_store.specs.Holds.{Holds}
 use Rattle.arc_store.specs.Kept.{state_of, IsKept}
 use Rattle.arc_store.specs.State.{State}
@@ -58,12 +60,14 @@ module _ {A : Type 0} where
       }
 
   pub state_copied : (f copy : Frame A) (rings rings' : Rings) (places places' : Placement) (next tests : ℕ)
-      → frame_of copy ≡ frame_of f → rings' ≡ rings → places' ≡ places
-      → state_of copy rings' places' next tests ≡ state_of f rings places next tests
-  state_copied f copy rings rings' places places' next tests e r p =
+      (cells cells' : Option GridFrame)
+      → frame_of copy ≡ frame_of f → rings' ≡ rings → places' ≡ places → cells' ≡ cells
+      → state_of copy rings' places' next tests cells' ≡ state_of f rings places next tests cells
+  state_copied f copy rings rings' places places' next tests cells cells' e r p q =
       let whole : DocumentOf ℕ → State = λ d. record {
         doc = document_of (record { frame = d; rings = rings; places = places });
         next = next;
         tests = tests;
+        cells = cells;
       } in
-      rw (r, p) (ap whole e)
+      rw (r, p, q) (ap whole e)

@@ -5,7 +5,7 @@ use Rattle.topo_outline.specs.Outline.{leaves}
 use Rattle.topo_outline.specs.Views.{view_layer}
 use Rattle.topo_outline.proofs.Copied.{copied_map}
 use Rattle.arc_store.specs.declared.frame.Frame.{Frame}
-use Rattle.arc_store.specs.Frames.{feature_numbers}
+use Rattle.map_opening.specs.Laying.{feature_numbers}
 use Rattle.arc_store.proofs.Copied.{numbers_copied, frame_copied}
 use Rattle.arc_store.proofs.frame.Frame.copy.Goals as goal
 

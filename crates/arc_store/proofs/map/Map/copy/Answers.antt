@@ -11,5 +11,5 @@ invariant_of-result g c =
 pub returns : goal.returns
 returns g c =
     let m = c.self.inside in
-    state_copied m.frame c.in_ok-frame.frame m.borders c.in_ok-borders.borders m.vertices c.in_ok-vertices.vertices m.next m.tests c.in_ok-frame.ensures.frame c.in_ok-borders.ensures c.in_ok-vertices.ensures
+    state_copied m.frame c.in_ok-frame.frame m.borders c.in_ok-borders.borders m.vertices c.in_ok-vertices.vertices m.next m.tests (g.I.SegIndex.cells m.index) (g.I.SegIndex.cells c.in_ok-index.index) c.in_ok-frame.ensures.frame c.in_ok-borders.ensures c.in_ok-vertices.ensures c.in_ok-index.ensures.cells
     ∙ c.self.view_is
