@@ -2,15 +2,16 @@
 -- an edge are those that are found whole.
 use Rattle.std.proofs.Common.{◌≡◌, ℕ, ◌+◌, ◌-◌, ◌≤◌, Bool, true, false, refl, sym, ap, ap₂, ◌∙◌}
 use Rattle.std.proofs.Common.{subst, cond, List, [], ◌∷◌, ◌++◌, ◌||◌, arith, length, reverse}
-use Rattle.std.proofs.Common.{append_assoc, Option, Some, None, ℤ, pos, negsuc, map, append-nil}
+use Rattle.std.proofs.Common.{◌<◌, take, drop, append_assoc, Option, Some, None, ℤ, pos, negsuc, map, append-nil}
 use Rattle.std.specs.Prelude.{is_some, unwrap_or}
 use Rattle.std.specs.List.{AllByRecursion}
 use Rattle.std.proofs.lemmas.Bool.{false≢true}
-use Rattle.std.proofs.lemmas.List.{reverse-reverse, get_or-reverse, length-reverse}
+use Rattle.std.proofs.lemmas.List.{drop_more, reverse-reverse, get_or-reverse, length-reverse}
 use Rattle.grid_geometry.specs.Position.{Position, position, position_eq}
 use Rattle.ring_machine.specs.Ring.{edge_eq}
 use Rattle.ring_machine.proofs.Order.{and_both, position_eq-true}
 use Rattle.ring_machine.proofs.Pieces.{IsPiece, same_piece, reversed}
+use Rattle.map_text.specs.Arcs.{begun, cut_round, pieces}
 use Rattle.map_text.specs.Arcs.{led_from, cut_way, are_equal, index_from, is_arc, with_piece}
 use Rattle.map_text.specs.Arcs.{with_pieces, index_of}
 use Rattle.map_text.proofs.Indexed.{becomes_arc}
@@ -46,6 +47,17 @@ cut_after_is j us p (q ∷ r ∷ rs) = by (j q) (cut_after_is j [] q (r ∷ rs))
 
 pub cut_way_is : (j : Position → Bool) (p : Position) (ws : List Position) → cut_after j (p ∷ []) ws ≡ cut_way j p ws
 cut_way_is j p ws = cut_after_is j [] p ws ∙ none_before (cut_way j p ws)
+
+-- the way round a ring from its first junction
+pub round_is : (j : Position → Bool) (ring way : List Position) (n : ℕ) → n < length ring
+    → begun j ring ≡ drop n ring ++ take n ring → way ≡ (drop n ring ++ take n ring) ++ at_place ring n ∷ []
+    → cut_after j (take 1 way) (drop 1 way) ≡ pieces j ring
+round_is j ring way n l b e =
+    let x : Position = at_place ring n in
+    let ys : List Position = drop (n + 1) ring ++ take n ring in
+    let whole : drop n ring ++ take n ring ≡ x ∷ ys = ap (λ z. z ++ take n ring) (drop_more ring n (position (pos 0) (pos 0)) l) in
+    let w : way ≡ x ∷ (ys ++ x ∷ []) = e ∙ ap (λ z. z ++ x ∷ []) whole in
+    ap (λ z. cut_after j (take 1 z) (drop 1 z)) w ∙ cut_way_is j x (ys ++ x ∷ []) ∙ ap (cut_round j) (sym (b ∙ whole))
 
 -- ---- finding
 
@@ -204,7 +216,7 @@ module _ (k : Position → Bool) (next : Position → Position → Position) whe
     pub piece : IsPiece k next ps
     pub one_way : are_equal ps (reverse ps) ≡ false
 
-  all_borders : (pss : List (List Position)) → AllByRecursion Whole pss → AllByRecursion Border pss
+  pub all_borders : (pss : List (List Position)) → AllByRecursion Whole pss → AllByRecursion Border pss
   all_borders [] h = tt
   all_borders (ps ∷ pss) h = (border_of ps h.0.long h.0.piece, all_borders pss h.1)
 

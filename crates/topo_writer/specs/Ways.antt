@@ -1,7 +1,12 @@
 -- A way that is cut while one goes along it, and its pieces found one after another.
 use Rattle.std.specs.Prelude.{ℤ, pos, Bool, true, false, ◌||◌, if◌then◌else◌, List, [], ◌∷◌, ◌++◌}
-use Rattle.std.specs.Prelude.{unwrap_or}
+use Rattle.std.specs.Prelude.{unwrap_or, Contains}
+use Rattle.std.specs.List.{flat_map, AllByRecursion}
 use Rattle.grid_geometry.specs.Position.{Position}
+use Rattle.ring_machine.specs.Document.{Document}
+use Rattle.ring_machine.specs.Parts.{rings}
+use Rattle.ring_machine.specs.Vertices.{is_junction}
+use Rattle.map_text.specs.Arcs.{pieces}
 use Rattle.topo_writer.specs.Found.{found, first_edge, with_found, Fits}
 
 -- nothing is left
@@ -37,3 +42,13 @@ indexes_found arcs (piece ∷ pieces) =
 abbrev pub FitAll : List (List Position) → List (List Position) → Type 0
 FitAll arcs [] = Unit {0}
 FitAll arcs (piece ∷ pieces) = Fits arcs piece × FitAll (with_found arcs piece) pieces
+
+-- ---- pieces of a document
+
+-- the pieces of all rings of the document
+abbrev pub all_pieces : Document → List (List Position)
+all_pieces d = flat_map (pieces (is_junction d)) (rings d)
+
+-- each of these is a piece of the document
+abbrev pub ArePieces : Document → List (List Position) → Type 0
+ArePieces d arcs = AllByRecursion (Contains (all_pieces d)) arcs
