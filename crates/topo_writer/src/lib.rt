@@ -3,5 +3,6 @@
 
 mod arcs;
 mod cutting;
+mod texts;
 
 pub use arcs::Arcs;
