@@ -3,6 +3,7 @@
 
 mod arcs;
 mod cutting;
+mod rings;
 mod texts;
 
 pub use arcs::Arcs;

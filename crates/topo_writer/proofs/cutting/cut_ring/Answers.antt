@@ -3,7 +3,7 @@ use Rattle.ring_machine.specs.Vertices.{is_junction}
 use Rattle.map_text.specs.Arcs.{pieces, with_pieces, indexes}
 use Rattle.topo_writer.specs.Ways.{cut_after, all_found, indexes_found, FitAll, ArePieces}
 use Rattle.topo_writer.proofs.Ways.{round_is}
-use Rattle.topo_writer.proofs.Rings.{ring_fits, ring_arcs, ring_indexes, still_pieces}
+use Rattle.topo_writer.proofs.RingPieces.{ring_fits, ring_arcs, ring_indexes, still_pieces}
 use Rattle.topo_writer.proofs.cutting.cut_ring.Given.{Over}
 use Rattle.topo_writer.proofs.cutting.cut_ring.Goals as goal
 
