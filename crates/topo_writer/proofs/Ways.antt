@@ -20,6 +20,7 @@ use Rattle.map_text.proofs.OnceEach.{are_equal-true, are_equal-refl}
 use Rattle.topo_writer.specs.Found.{first_edge, last_edge, found_from, found, with_found, Fits, at_place}
 use Rattle.topo_writer.specs.Ways.{cut_after, all_found, indexes_found, FitAll}
 use Rattle.topo_writer.proofs.FoundLaws.{edge_eq-refl}
+use Rattle.topo_writer.proofs.Later.{index_kept, with_pieces_new}
 
 -- ---- cutting
 
@@ -145,30 +146,6 @@ module _ (k : Position → Bool) (next : Position → Position → Position) whe
   }
 
   -- ---- all pieces, one after another
-
-  index_kept : (n : ℕ) (arcs new : List (List Position)) (ps : List Position) → is_arc arcs ps ≡ true → index_from n (arcs ++ new) ps ≡ index_from n arcs ps
-  index_kept n [] new ps h = absurd (false≢true h)
-  index_kept n (a ∷ arcs) new ps h = by (are_equal a ps) (are_equal (reverse a) ps) h (index_kept (n + 1) arcs new ps)
-    where
-      by : (b c : Bool) → ((b || c) || is_arc arcs ps) ≡ true → (is_arc arcs ps ≡ true → index_from (n + 1) (arcs ++ new) ps ≡ index_from (n + 1) arcs ps)
-          → cond b (Some (pos n)) (cond c (Some (negsuc n)) (index_from (n + 1) (arcs ++ new) ps)) ≡ cond b (Some (pos n)) (cond c (Some (negsuc n)) (index_from (n + 1) arcs ps))
-      by true c t f = refl
-      by false true t f = refl
-      by false false t f = f t
-
-  with_piece_new : (arcs : List (List Position)) (ps : List Position) → (new : List (List Position)) × (with_piece arcs ps ≡ arcs ++ new)
-  with_piece_new arcs ps = by (is_arc arcs ps)
-    where
-      by : (b : Bool) → (new : List (List Position)) × (cond b arcs (arcs ++ ps ∷ []) ≡ arcs ++ new)
-      by true = ([], sym (append-nil arcs))
-      by false = (ps ∷ [], refl)
-
-  with_pieces_new : (arcs pss : List (List Position)) → (new : List (List Position)) × (with_pieces arcs pss ≡ arcs ++ new)
-  with_pieces_new arcs [] = ([], sym (append-nil arcs))
-  with_pieces_new arcs (ps ∷ pss) =
-      let w = with_piece_new arcs ps in
-      let r = with_pieces_new (with_piece arcs ps) pss in
-      (w.0 ++ r.0, r.1 ∙ ap (λ z. z ++ r.0) w.1 ∙ append_assoc arcs w.0 r.0)
 
   borders_more : (arcs : List (List Position)) (ps : List Position) → AllByRecursion Border arcs → Border ps → AllByRecursion Border (with_piece arcs ps)
   borders_more arcs ps h b = by (is_arc arcs ps)

@@ -3,10 +3,11 @@ use Rattle.std.specs.Prelude.{ℤ, pos, Bool, true, false, ◌||◌, if◌then�
 use Rattle.std.specs.Prelude.{unwrap_or, Contains}
 use Rattle.std.specs.List.{flat_map, AllByRecursion}
 use Rattle.grid_geometry.specs.Position.{Position}
-use Rattle.ring_machine.specs.Document.{Document}
+use Rattle.ring_machine.specs.Document.{Document, Text}
 use Rattle.ring_machine.specs.Parts.{rings}
 use Rattle.ring_machine.specs.Vertices.{is_junction}
-use Rattle.map_text.specs.Arcs.{pieces}
+use Rattle.map_text.specs.Arcs.{pieces, indexes}
+use Rattle.map_text.specs.Text.{ring_text}
 use Rattle.topo_writer.specs.Found.{found, first_edge, with_found, Fits}
 
 -- nothing is left
@@ -52,3 +53,7 @@ all_pieces d = flat_map (pieces (is_junction d)) (rings d)
 -- each of these is a piece of the document
 abbrev pub ArePieces : Document → List (List Position) → Type 0
 ArePieces d arcs = AllByRecursion (Contains (all_pieces d)) arcs
+
+-- a ring by the indexes of its arcs
+abbrev pub written_ring : (Position → Bool) → List (List Position) → List Position → Text
+written_ring junction arcs ring = ring_text (indexes junction arcs ring)
