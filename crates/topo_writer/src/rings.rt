@@ -1,5 +1,6 @@
 //! The rings of a map, in the text.
 ghost use Rattle.std.specs.Prelude.{◌≡◌, ◌+◌, ◌≤◌, ◌++◌, length, Contains, OnOk, IfOk};
+ghost use Rattle.std.specs.List.{flat_map, sum_by, AllByRecursion};
 ghost use Rattle.indexmap.specs.IndexMap.{get};
 ghost use Rattle.ring_machine.specs.Ring.{edge_eq};
 ghost use Rattle.ring_machine.specs.Parts.{rings};
@@ -8,12 +9,12 @@ ghost use Rattle.ring_machine.specs.Vertices.{is_junction};
 ghost use Rattle.map_text.specs.Arcs.{pieces, with_pieces, indexes};
 ghost use Rattle.map_text.specs.Text.{ring_text};
 ghost use Rattle.topo_writer.specs.Found.{Mirrors};
-ghost use Rattle.topo_writer.specs.Reading.{positions_at};
-ghost use Rattle.topo_writer.specs.Ways.{ArePieces};
+ghost use Rattle.topo_writer.specs.Reading.{positions_at, rings_at};
+ghost use Rattle.topo_writer.specs.Ways.{ArePieces, written_rings};
 
 use crate::arcs::Arcs;
 use crate::cutting::cut_ring;
-use crate::texts::push_ring;
+use crate::texts::{push_comma, push_ring};
 use arc_store::Map;
 use grid_geometry::Pos;
 use segment_index::SegIndex;
@@ -66,5 +67,35 @@ pub(crate) fn push_ring_of<'a, I: SegIndex, A: Allocator + Copy>(
     let mut indexes = Vec::new(alloc);
     cut_ring(alloc, map, arcs, &mut indexes, positions.as_slice())?;
     push_ring(text, indexes.as_slice())?;
+    Ok(())
+}
+
+/// Appends the rings of a polygon of the map, with commas between them.
+fn push_rings_of<'a, I: SegIndex, A: Allocator + Copy>(
+    alloc: A,
+    map: &Map<'a, I, A>,
+    arcs: &mut Arcs<A>,
+    text: &mut Vec<u8, A>,
+    n: u32,
+    polygon: usize,
+    count: usize,
+) -> Result<(), AllocError>
+    requires proper { Proper map.now.doc }
+    requires count { count ≡ length (rings_at map.now.doc n polygon) }
+    requires there { AllByRecursion (Contains (rings map.now.doc)) (rings_at map.now.doc n polygon) }
+    requires mirrors { Mirrors (get edge_eq arcs.old.starts) arcs.old.list.items }
+    requires pieces { ArePieces map.now.doc arcs.old.list.items }
+    requires few { length arcs.old.list.items + sum_by length (rings_at map.now.doc n polygon) ≤ 4000000 }
+    ensures mirrors { OnOk result (Mirrors (get edge_eq arcs.new.starts) arcs.new.list.items) }
+    ensures pieces { OnOk result (ArePieces map.now.doc arcs.new.list.items) }
+    ensures arcs { OnOk result (arcs.new.list.items
+        ≡ with_pieces arcs.old.list.items (flat_map (pieces (is_junction map.now.doc)) (rings_at map.now.doc n polygon))) }
+    ensures text { OnOk result (text.new.items
+        ≡ text.old.items ++ written_rings (is_junction map.now.doc) arcs.new.list.items (rings_at map.now.doc n polygon)) }
+{
+    for ring in 0..count {
+        push_comma(text, ring > 0)?;
+        push_ring_of(alloc, map, arcs, text, n, polygon, ring)?;
+    }
     Ok(())
 }
