@@ -1,16 +1,16 @@
 -- Later arcs leave the indexes of earlier rings as they are.
 use Rattle.std.proofs.Common.{◌≡◌, ℕ, ◌+◌, ◌≤◌, ◌<◌, Bool, true, false, refl, sym, ap, ap₂, ◌∙◌, cond}
-use Rattle.std.proofs.Common.{List, [], ◌∷◌, ◌++◌, ◌||◌, arith, length, reverse, take, drop, zero, suc}
-use Rattle.std.proofs.Common.{append_assoc, Option, Some, inl, inr, ℤ, pos, negsuc, map, get_or}
+use Rattle.std.proofs.Common.{List, [], ◌∷◌, ◌++◌, ◌||◌, arith, length, reverse, take}
+use Rattle.std.proofs.Common.{append_assoc, Some, inl, inr, pos, negsuc, map, get_or}
 use Rattle.std.specs.Prelude.{unwrap_or, nat_lt}
-use Rattle.std.specs.List.{AllByRecursion, flat_map}
+use Rattle.std.specs.List.{flat_map}
 use Rattle.std.proofs.lemmas.Bool.{false≢true}
 use Rattle.std.proofs.lemmas.List.{append-nil, length-append, take_more}
 use Rattle.std.proofs.lemmas.List.Concat.{flat_map-append}
 use Rattle.grid_geometry.specs.Position.{Position}
 use Rattle.ring_machine.specs.Document.{Text}
 use Rattle.ring_machine.proofs.First.{In}
-use Rattle.ring_machine.proofs.Neighbours.{all_of, in-flat_map}
+use Rattle.ring_machine.proofs.Neighbours.{in-flat_map}
 use Rattle.map_text.specs.Arcs.{are_equal, index_from, index_of, indexes, is_arc, with_piece}
 use Rattle.map_text.specs.Arcs.{with_pieces, pieces, led_from, cut_way, cut_round, begun}
 use Rattle.map_text.specs.Text.{commas, comma_if, ring_text}
@@ -43,7 +43,6 @@ with_pieces_new arcs (ps ∷ pss) =
     let w = with_piece_new arcs ps in
     let r = with_pieces_new (with_piece arcs ps) pss in
     (w.0 ++ r.0, r.1 ∙ ap (λ z. z ++ r.0) w.1 ∙ append_assoc arcs w.0 r.0)
-
 
 index_stays : (arcs more : List (List Position)) (ps : List Position) → is_arc arcs ps ≡ true
     → index_of (with_pieces arcs more) ps ≡ index_of arcs ps
@@ -89,8 +88,8 @@ module _ (j : Position → Bool) (start : List (List Position)) where
       → end ≡ o ++ commas (map (written_ring j next) (take (i + 1) rs))
   text_step rs i r h e now next p q o text mid end s t u =
       let same : map (written_ring j now) (take i rs) ≡ map (written_ring j next) (take i rs) =
-          ap (λ z. map (written_ring j z) (take i rs)) p ∙ sym (rings_stay (take i rs) (pieces j r))
-          ∙ ap (λ z. map (written_ring j (with_pieces z (pieces j r))) (take i rs)) (sym p) ∙ ap (λ z. map (written_ring j z) (take i rs)) (sym q) in
+      ap (λ z. map (written_ring j z) (take i rs)) p ∙ sym (rings_stay (take i rs) (pieces j r))
+      ∙ ap (λ z. map (written_ring j (with_pieces z (pieces j r))) (take i rs)) (sym p) ∙ ap (λ z. map (written_ring j z) (take i rs)) (sym q) in
       items_step (written_ring j next) rs i r h e o text mid end (s ∙ ap (λ z. o ++ commas z) same) t u
 
 -- ---- how many arcs there are

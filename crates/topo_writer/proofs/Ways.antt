@@ -2,7 +2,7 @@
 -- an edge are those that are found whole.
 use Rattle.std.proofs.Common.{◌≡◌, ℕ, ◌+◌, ◌-◌, ◌≤◌, Bool, true, false, refl, sym, ap, ap₂, ◌∙◌}
 use Rattle.std.proofs.Common.{subst, cond, List, [], ◌∷◌, ◌++◌, ◌||◌, arith, length, reverse}
-use Rattle.std.proofs.Common.{◌<◌, take, drop, append_assoc, Option, Some, None, ℤ, pos, negsuc, map, append-nil}
+use Rattle.std.proofs.Common.{◌<◌, take, drop, append_assoc, Option, Some, None, ℤ, pos, negsuc, map}
 use Rattle.std.specs.Prelude.{is_some, unwrap_or}
 use Rattle.std.specs.List.{AllByRecursion}
 use Rattle.std.proofs.lemmas.Bool.{false≢true}

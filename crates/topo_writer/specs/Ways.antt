@@ -7,7 +7,7 @@ use Rattle.ring_machine.specs.Document.{Document, Text}
 use Rattle.ring_machine.specs.Parts.{rings}
 use Rattle.ring_machine.specs.Vertices.{is_junction}
 use Rattle.map_text.specs.Arcs.{pieces, indexes}
-use Rattle.map_text.specs.Text.{commas, ring_text}
+use Rattle.map_text.specs.Text.{commas, ring_text, polygon_text}
 use Rattle.topo_writer.specs.Found.{found, first_edge, with_found, Fits}
 
 -- nothing is left
@@ -62,3 +62,8 @@ written_ring junction arcs ring = ring_text (indexes junction arcs ring)
 abbrev pub written_rings :
     (Position → Bool) → List (List Position) → List (List Position) → Text
 written_rings junction arcs some = commas (map (written_ring junction arcs) some)
+
+-- a polygon by the indexes of its rings' arcs
+abbrev pub written_polygon :
+    (Position → Bool) → List (List Position) → List (List Position) → Text
+written_polygon junction arcs polygon = polygon_text (map (indexes junction arcs) polygon)

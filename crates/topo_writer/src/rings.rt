@@ -10,7 +10,7 @@ ghost use Rattle.map_text.specs.Arcs.{pieces, with_pieces, indexes};
 ghost use Rattle.map_text.specs.Text.{ring_text};
 ghost use Rattle.topo_writer.specs.Found.{Mirrors};
 ghost use Rattle.topo_writer.specs.Reading.{positions_at, rings_at};
-ghost use Rattle.topo_writer.specs.Ways.{ArePieces, written_rings};
+ghost use Rattle.topo_writer.specs.Ways.{ArePieces, written_rings, written_polygon};
 
 use crate::arcs::Arcs;
 use crate::cutting::cut_ring;
@@ -97,5 +97,35 @@ fn push_rings_of<'a, I: SegIndex, A: Allocator + Copy>(
         push_comma(text, ring > 0)?;
         push_ring_of(alloc, map, arcs, text, n, polygon, ring)?;
     }
+    Ok(())
+}
+
+/// Appends a polygon of the map, which has so many rings, by the indexes of its arcs. A piece that is
+/// no arc yet becomes the next one.
+pub(crate) fn push_polygon_of<'a, I: SegIndex, A: Allocator + Copy>(
+    alloc: A,
+    map: &Map<'a, I, A>,
+    arcs: &mut Arcs<A>,
+    text: &mut Vec<u8, A>,
+    n: u32,
+    polygon: usize,
+    count: usize,
+) -> Result<(), AllocError>
+    requires proper { Proper map.now.doc }
+    requires count { count ≡ length (rings_at map.now.doc n polygon) }
+    requires there { AllByRecursion (Contains (rings map.now.doc)) (rings_at map.now.doc n polygon) }
+    requires mirrors { Mirrors (get edge_eq arcs.old.starts) arcs.old.list.items }
+    requires pieces { ArePieces map.now.doc arcs.old.list.items }
+    requires few { length arcs.old.list.items + sum_by length (rings_at map.now.doc n polygon) ≤ 4000000 }
+    ensures mirrors { OnOk result (Mirrors (get edge_eq arcs.new.starts) arcs.new.list.items) }
+    ensures pieces { OnOk result (ArePieces map.now.doc arcs.new.list.items) }
+    ensures arcs { OnOk result (arcs.new.list.items
+        ≡ with_pieces arcs.old.list.items (flat_map (pieces (is_junction map.now.doc)) (rings_at map.now.doc n polygon))) }
+    ensures text { OnOk result (text.new.items
+        ≡ text.old.items ++ written_polygon (is_junction map.now.doc) arcs.new.list.items (rings_at map.now.doc n polygon)) }
+{
+    text.extend_from_slice(b"[")?;
+    push_rings_of(alloc, map, arcs, text, n, polygon, count)?;
+    text.extend_from_slice(b"]")?;
     Ok(())
 }

@@ -31,11 +31,7 @@ pub(crate) fn push_comma<A: Allocator + Copy>(
 }
 
 /// Appends a pair of numbers.
-fn push_pair<A: Allocator + Copy>(
-    text: &mut Vec<u8, A>,
-    x: i64,
-    y: i64,
-) -> Result<(), AllocError>
+fn push_pair<A: Allocator + Copy>(text: &mut Vec<u8, A>, x: i64, y: i64) -> Result<(), AllocError>
     ensures { OnOk result (text.new.items ≡ text.old.items ++ pair_text (position x y)) }
 {
     text.extend_from_slice(b"[")?;

@@ -1,13 +1,12 @@
-use Rattle.std.proofs.Common.{rules, arith, refl, ◌≡◌, sym, ap, ◌∙◌, subst, ◌<◌, ◌++◌, [], length, get_or, take}
+use Rattle.std.proofs.Common.{arith, refl, ◌≡◌, sym, ap, ◌∙◌, subst, ◌<◌, [], length, get_or}
 use Rattle.std.specs.Prelude.{Contains}
-use Rattle.std.proofs.lemmas.List.{append-nil, take_all}
+use Rattle.std.proofs.lemmas.List.{append-nil}
 use Rattle.std.proofs.lemmas.List.Sums.{sum_by-drop_more}
 use Rattle.ring_machine.specs.Parts.{rings}
 use Rattle.ring_machine.specs.Vertices.{is_junction}
 use Rattle.topo_writer.specs.Reading.{positions_at, rings_at}
 use Rattle.topo_writer.proofs.Later.{arcs_step, text_step, ring_few}
 use Rattle.topo_writer.proofs.ReadRings.{ring_is, each_place, same_place}
-use Rattle.topo_writer.proofs.rings.push_rings_of.Given.{Over}
 use Rattle.topo_writer.proofs.rings.push_rings_of.Goals as goal
 
 pub push_ring_of-requires-clause-there : goal.push_ring_of-requires-clause-there

@@ -1,4 +1,4 @@
-use Rattle.std.proofs.Common.{rules, arith, ◌≡◌, pos, ap, ap₂, sym, ◌∙◌, ◌++◌, ◌<◌, length, get_or, take, map, to_z, of_z, w64, subst}
+use Rattle.std.proofs.Common.{rules, arith, ◌≡◌, pos, ap, ap₂, ◌∙◌, ◌++◌, ◌<◌, length, get_or, map, to_z, of_z, w64}
 use Rattle.std.proofs.Math.Facts.{to_z-of_z}
 use Rattle.std.proofs.lemmas.List.{take_all}
 use Rattle.grid_geometry.specs.Position.{position}
