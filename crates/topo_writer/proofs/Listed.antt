@@ -13,7 +13,7 @@ use Rattle.topo_writer.specs.Ways.{written_ring, written_rings, written_polygon}
 pub further_push : (ts : List Text) (t : Text) → further (ts ++ t ∷ []) ≡ further ts ++ (codes "," ++ t)
 further_push ts t = flat_map-append (λ u. codes "," ++ u) ts (t ∷ []) ∙ ap (λ z. further ts ++ z) (append-nil (codes "," ++ t))
 
-positive : (i : ℕ) → nat_lt 0 (suc i) ≡ true
+pub positive : (i : ℕ) → nat_lt 0 (suc i) ≡ true
 positive i = grind arith
 
 -- one more item, after a comma where something stands before

@@ -4,6 +4,8 @@
 mod arcs;
 mod cutting;
 mod rings;
+mod sending;
 mod texts;
 
 pub use arcs::Arcs;
+pub use sending::WriteFault;
