@@ -1,6 +1,6 @@
 -- What a device holds of texts with commas between them.
-use Rattle.std.proofs.Common.{◌≡◌, ℕ, zero, suc, ◌+◌, ◌≤◌, ◌<◌, length, take, List, [], ◌∷◌, ◌++◌, map}
-use Rattle.std.proofs.Common.{Option, refl, sym, ap, subst, ◌∙◌, arith, append_assoc, get_or}
+use Rattle.std.proofs.Common.{◌≡◌, ℕ, zero, suc, ◌+◌, ◌<◌, length, take, List, [], ◌∷◌, ◌++◌, map}
+use Rattle.std.proofs.Common.{Option, sym, ap, subst, ◌∙◌, arith, append_assoc, get_or}
 use Rattle.std.specs.Prelude.{codes, nat_lt}
 use Rattle.std.specs.Io.KnownBytes.{Appends}
 use Rattle.std.proofs.lemmas.List.{length-append, take-append-le}
@@ -13,9 +13,11 @@ use Rattle.topo_writer.proofs.Listed.{positive, commas_step}
 -- a prefix of a part, after parts that went in whole, is one of the whole
 pub prefix_after : (a b c : Option (List ℕ)) (xs ys zs : List ℕ) → Appends a b xs → AppendsPrefix b c ys → AppendsPrefix a c (xs ++ (ys ++ zs))
 prefix_after a b c xs ys zs p q =
-    let n = q.0 in
-    (length xs + n, omega (arith, q.1, length-append xs (ys ++ zs), length-append ys zs),
-      subst (Appends a c) (sym (take-append-add xs (ys ++ zs) n ∙ ap (λ z. xs ++ z) (take-append-le n ys zs q.1))) (Appends-more a b c xs (take n ys) p q.2))
+    let n = q.0 in (
+      length xs + n,
+      omega (arith, q.1, length-append xs (ys ++ zs), length-append ys zs),
+      subst (Appends a c) (sym (take-append-add xs (ys ++ zs) n ∙ ap (λ z. xs ++ z) (take-append-le n ys zs q.1))) (Appends-more a b c xs (take n ys) p q.2),
+    )
 
 -- what went in whole is a prefix of more
 pub prefix_whole : (a b : Option (List ℕ)) (xs zs : List ℕ) → Appends a b xs → AppendsPrefix a b (xs ++ zs)
