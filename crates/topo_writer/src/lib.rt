@@ -1,11 +1,14 @@
-//! From a map to its text.
+//! The text of a map, as TopoJSON 1.0: each border once, and what was read and is not known as it
+//! stood.
 #![tactic(auto)]
 
 mod arcs;
 mod cutting;
+mod members;
 mod rings;
 mod sending;
 mod texts;
 
 pub use arcs::Arcs;
 pub use sending::WriteFault;
+pub use texts::{push_comma, push_number, push_pair};

@@ -9,7 +9,10 @@ use itoa::Buffer;
 use std::alloc::{AllocError, Allocator};
 
 /// Appends a number in decimal.
-fn push_number<A: Allocator + Copy>(text: &mut Vec<u8, A>, number: i64) -> Result<(), AllocError>
+pub fn push_number<A: Allocator + Copy>(
+    text: &mut Vec<u8, A>,
+    number: i64,
+) -> Result<(), AllocError>
     ensures { OnOk result (text.new.items ≡ text.old.items ++ signed_decimal number) }
 {
     let mut buffer = Buffer::new();
@@ -18,10 +21,7 @@ fn push_number<A: Allocator + Copy>(text: &mut Vec<u8, A>, number: i64) -> Resul
 }
 
 /// Appends a comma where something stands before.
-pub(crate) fn push_comma<A: Allocator + Copy>(
-    text: &mut Vec<u8, A>,
-    more: bool,
-) -> Result<(), AllocError>
+pub fn push_comma<A: Allocator + Copy>(text: &mut Vec<u8, A>, more: bool) -> Result<(), AllocError>
     ensures { OnOk result (text.new.items ≡ text.old.items ++ comma_if more) }
 {
     if more {
@@ -31,7 +31,11 @@ pub(crate) fn push_comma<A: Allocator + Copy>(
 }
 
 /// Appends a pair of numbers.
-fn push_pair<A: Allocator + Copy>(text: &mut Vec<u8, A>, x: i64, y: i64) -> Result<(), AllocError>
+pub fn push_pair<A: Allocator + Copy>(
+    text: &mut Vec<u8, A>,
+    x: i64,
+    y: i64,
+) -> Result<(), AllocError>
     ensures { OnOk result (text.new.items ≡ text.old.items ++ pair_text (position x y)) }
 {
     text.extend_from_slice(b"[")?;
