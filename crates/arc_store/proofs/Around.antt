@@ -21,23 +21,25 @@ use Rattle.ring_machine.proofs.First.{In}
 use Rattle.ring_machine.proofs.Neighbours.{place_around, has-in, in-has, in-map, all_in}
 use Rattle.ring_machine.proofs.RingSegments.{same_ends}
 use Rattle.ring_machine.proofs.StaysProper.{ring_distinct}
-use Rattle.shared_arcs.specs.Edited.{AreApart}
+use Rattle.arc_tables.specs.Edited.{AreApart}
 use Rattle.shared_arcs.specs.declared.around.Neighbours.TheVariants as Neighbours
 use Rattle.shared_arcs.specs.declared.around.Neighbours.TheVariants.{One, Two, More}
 use Rattle.shared_arcs.specs.Joined.{Joined, Three, Passes, AreNeighbours}
-use Rattle.shared_arcs.specs.Ways.{Edge, times}
-use Rattle.shared_arcs.specs.Rings.{begins}
-use Rattle.arc_store.specs.Stored.{Stored, place, positions_along, document_of}
+use Rattle.arc_tables.specs.Ways.{Edge, times}
+use Rattle.arc_tables.specs.Rings.{begins}
+use Rattle.vertex_index.specs.Placement.{place}
+use Rattle.arc_store.specs.Stored.{Stored, positions_along, document_of}
 use Rattle.arc_store.specs.Holds.{IsWhole}
-use Rattle.arc_store.proofs.Base.{joined_apart, Laid, ring_laid, begin_kept, IsKept}
-use Rattle.arc_store.proofs.Base.{segment_between, joined_back, place_is, place_kept, one_key}
+use Rattle.map_opening.proofs.Places.{IsKept, place_is, place_kept, one_key}
+use Rattle.arc_store.proofs.Base.{joined_apart, Laid, ring_laid, begin_kept}
+use Rattle.arc_store.proofs.Base.{segment_between, joined_back}
 use Rattle.arc_store.proofs.Base.{key_vertex, document_ring, laid_ring, joined_at, joined_kept}
 use Rattle.arc_store.proofs.Base.{joined_around, joined_segment, joined_differ}
 use Rattle.arc_store.proofs.Ends.{two_positions, end_is, end_of_two}
 use Rattle.arc_store.proofs.Insertions.{AreRings, Comes, segments_come}
-use Rattle.arc_store.proofs.Members.{any_in, in_mapped}
-use Rattle.arc_store.proofs.KeyRings.{length-canonical, times_edge, edge_times, edge_ends}
-use Rattle.arc_store.proofs.KeyRings.{in_canonical, of_canonical}
+use Rattle.ring_machine.proofs.Members.{any_in, in_mapped}
+use Rattle.map_opening.proofs.KeyRings.{length-canonical, times_edge, edge_times, edge_ends}
+use Rattle.map_opening.proofs.KeyRings.{in_canonical, of_canonical}
 use Rattle.arc_store.proofs.Removals.{segments_del, HasSides, begun_there, spot_is, spot_of}
 use Rattle.arc_store.proofs.Removals.{all_equal_in, no_junction, around_is, around_has, bridged_by}
 use Rattle.arc_store.proofs.Removals.{sweeps_by, flat_by}

@@ -3,10 +3,9 @@ use Rattle.std.proofs.Common.{◌≡◌, ◌<◌, ℕ, true, sym, ap, ◌∙◌,
 use Rattle.std.proofs.Common.{get_or, Contains}
 use Rattle.std.specs.FinMap as table
 use Rattle.grid_geometry.specs.Position.{Position}
-use Rattle.vertex_index.specs.Placement.{Placement}
-use Rattle.shared_arcs.specs.Rings.{Rings}
+use Rattle.vertex_index.specs.Placement.{Placement, place}
+use Rattle.arc_tables.specs.Rings.{Rings}
 use Rattle.shared_arcs.specs.Listing.{ListsJoined}
-use Rattle.arc_store.specs.Stored.{place}
 use Rattle.arc_store.specs.Planned.{ArePlaced, AreAround}
 use Rattle.arc_store.proofs.Planned.{all_different}
 

@@ -1,15 +1,14 @@
 -- A map that is kept, seen as its document: rings, vertices, segments, and what stands around a
 -- vertex.
-use Rattle.std.proofs.Common.{◌≡◌, ◌≢◌, ◌≤◌, ◌↔◌, ℕ, Bool, true, false, refl, sym, ap, ap₂, ◌∙◌}
+use Rattle.std.proofs.Common.{◌≡◌, ◌≢◌, ◌≤◌, ◌↔◌, ℕ, Bool, true, refl, sym, ap, ap₂, ◌∙◌}
 use Rattle.std.proofs.Common.{subst, List, [], ◌∷◌, map, length, ◌||◌, ◌&&◌, ◌⊎◌, inl, inr, arith}
-use Rattle.std.proofs.Common.{Some, is_some, Contains, pos}
-use Rattle.std.specs.Prelude.{◌==◌, not, unwrap_or, IsTrue}
+use Rattle.std.proofs.Common.{Some, is_some, Contains}
+use Rattle.std.specs.Prelude.{unwrap_or}
 use Rattle.std.specs.List.{list_any, filter, flat_map}
 use Rattle.std.specs.FinMap as table
 use Rattle.std.proofs.lemmas.Bool.{false≢true}
-use Rattle.std.proofs.lemmas.Bool.Decides.{Decides-eqb}
 use Rattle.std.proofs.lemmas.List.{length-map}
-use Rattle.grid_geometry.specs.Position.{Position, position, position_eq}
+use Rattle.grid_geometry.specs.Position.{Position, position_eq}
 use Rattle.grid_geometry.specs.Segment.{Segment, segment, segment_eq, is_end}
 use Rattle.grid_geometry.specs.Ring as geometry
 use Rattle.grid_geometry.proofs.Conflicts.{segment-comm}
@@ -24,70 +23,25 @@ use Rattle.ring_machine.proofs.Canonical.{canonical_parts}
 use Rattle.ring_machine.proofs.First.{In}
 use Rattle.ring_machine.proofs.Neighbours.{in-map, in-flat_map, has-in, in-has, end_place, begin_place}
 use Rattle.ring_machine.proofs.Neighbours.{place_around, first_end, second_end}
-use Rattle.ring_machine.proofs.Removal.{none_parts, not_true}
 use Rattle.ring_machine.proofs.RingSegments.{segment_eq-true, same_ends}
 use Rattle.ring_machine.proofs.RingsOf.{rings-in_rings}
 use Rattle.ring_machine.proofs.Spots.{Rotated}
 use Rattle.ring_machine.proofs.StaysRing.{canonical_is_ring}
-use Rattle.vertex_index.specs.Placement.{Placement, AreDistinct}
-use Rattle.shared_arcs.specs.Ways.{Edge}
-use Rattle.shared_arcs.specs.Rings.{begins}
+use Rattle.vertex_index.specs.Placement.{Placement, AreDistinct, place}
+use Rattle.arc_tables.specs.Ways.{Edge}
+use Rattle.arc_tables.specs.Rings.{begins}
 use Rattle.shared_arcs.specs.Joined.{Joined}
-use Rattle.arc_store.specs.Stored.{Stored, place, positions_along, ring_under, document_of}
-use Rattle.arc_store.specs.Holds.{GoesRound, IsWhole}
-use Rattle.arc_store.proofs.Members.{contains_in, in_contains, in_mapped, in_flat, in_filter, any_in}
-use Rattle.arc_store.proofs.Members.{in_any, same_answer, there}
+use Rattle.arc_store.specs.Stored.{Stored, positions_along, ring_under, document_of}
+use Rattle.map_opening.specs.Laying.{GoesRound}
+use Rattle.map_opening.proofs.Places.{IsKept, place_is, kept_place, place_kept, one_key}
+use Rattle.map_opening.proofs.Places.{distinct_places}
+use Rattle.arc_store.specs.Holds.{IsWhole}
+use Rattle.ring_machine.proofs.Members.{contains_in, in_contains, in_mapped, in_flat, in_filter, any_in}
+use Rattle.ring_machine.proofs.Members.{in_any, same_answer, there}
 use Rattle.arc_store.proofs.Ends.{segment_ends, end_of_two, two_ends}
-use Rattle.arc_store.proofs.KeyRings.{edge_of_canonical, edge_in_canonical, in_canonical}
-use Rattle.arc_store.proofs.KeyRings.{of_canonical, laid, begins_round, edges_round, edge_ends}
-use Rattle.arc_store.proofs.KeyRings.{edge_apart, times_edge, edge_times, beside_edges, has_key}
-
--- ---- places
-
--- a vertex with this key is kept
-abbrev pub IsKept : Placement → ℕ → Type 0
-IsKept places k = IsTrue (table.contains_key places k)
-
-pub place_is : (places : Placement) (k : ℕ) (p : Position) → table.get places k ≡ Some p
-    → place places k ≡ p
-place_is places k p e = ap (λ o. unwrap_or o (position (pos 0) (pos 0))) e
-
-pub kept_place : (places : Placement) (k : ℕ) → IsKept places k
-    → table.get places k ≡ Some (place places k)
-kept_place places k h =
-    let o = there (table.get places k) h in
-    o.1 ∙ ap Some (sym (place_is places k o.0 o.1))
-
-pub place_kept : (places : Placement) (k : ℕ) (p : Position) → table.get places k ≡ Some p
-    → IsKept places k
-place_kept places k p e = ap is_some e
-
--- two keys of one position are one key
-pub one_key : (places : Placement) → AreDistinct places → (j k : ℕ) → IsKept places j
-    → IsKept places k → place places j ≡ place places k → j ≡ k
-one_key places d j k h i e =
-    d j k (place places k) (kept_place places j h ∙ ap Some e) (kept_place places k i)
-
--- positions of different keys are different
-pub distinct_places : (places : Placement) → AreDistinct places → (ks : List ℕ)
-    → ((k : ℕ) → In k ks → IsKept places k) → are_distinct ks ≡ true
-    → is_distinct (map (place places) ks) ≡ true
-distinct_places places d [] kept h = refl
-distinct_places places d (k ∷ ks) kept h =
-    let h' = and_both (not (has_key k ks)) (are_distinct ks) h in
-    ap₂ (λ a b. not a && b) (absent ks (λ j i. kept j (inr i)) (not_true _ h'.0)) (distinct_places places d ks (λ j i. kept j (inr i)) h'.1)
-  where
-    absent : (js : List ℕ) → ((j : ℕ) → In j js → IsKept places j) → has_key k js ≡ false
-        → has (map (place places) js) (place places k) ≡ false
-    absent [] kept' n = refl
-    absent (j ∷ js) kept' n =
-        let n' = none_parts (j == k) (has_key k js) n in
-        ap₂ (λ a b. a || b) (apart (position_eq (place places k) (place places j)) refl n'.0) (absent js (λ i m. kept' i (inr m)) n'.1)
-      where
-        apart : (t : Bool) → position_eq (place places k) (place places j) ≡ t → (j == k) ≡ false
-            → position_eq (place places k) (place places j) ≡ false
-        apart false e m = e
-        apart true e m = absurd (false≢true (sym m ∙ (Decides-eqb j k).1 (one_key places d j k (kept' j (inl refl)) (kept k (inl refl)) (sym (position_eq-true (place places k) (place places j) e)))))
+use Rattle.map_opening.proofs.KeyRings.{edge_of_canonical, edge_in_canonical, in_canonical}
+use Rattle.map_opening.proofs.KeyRings.{of_canonical, laid, begins_round, edges_round, edge_ends}
+use Rattle.map_opening.proofs.KeyRings.{edge_apart, times_edge, edge_times, beside_edges}
 
 -- ---- what a ring of the document was made of
 

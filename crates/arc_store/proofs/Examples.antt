@@ -6,10 +6,10 @@ use Rattle.std.specs.FinMap as table
 use Rattle.grid_geometry.specs.Position.{Position, position}
 use Rattle.ring_machine.specs.Ring.{canonical}
 use Rattle.ring_machine.specs.Document.{DocumentOf, FeatureOf, Polygon, Leaf}
-use Rattle.vertex_index.specs.Placement.{Placement}
-use Rattle.shared_arcs.specs.Ways.{Edge}
-use Rattle.shared_arcs.specs.Rings.{Rings, edges, begins}
-use Rattle.arc_store.specs.Stored.{Stored, place, positions_along, ring_under, document_of}
+use Rattle.vertex_index.specs.Placement.{Placement, place}
+use Rattle.arc_tables.specs.Ways.{Edge}
+use Rattle.arc_tables.specs.Rings.{Rings, edges, begins}
+use Rattle.arc_store.specs.Stored.{Stored, positions_along, ring_under, document_of}
 
 abbrev nowhere : Position
 nowhere = position (pos 0) (pos 0)

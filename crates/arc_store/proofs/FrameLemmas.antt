@@ -1,26 +1,25 @@
 -- The features of a frame: how many they are, that they are numbered in order, and their rings.
-use Rattle.std.proofs.Common.{◌≡◌, ℕ, zero, suc, ◌+◌, ◌<◌, Bool, true, false, arith, refl}
-use Rattle.std.proofs.Common.{sym, ap, ap₂, ◌∙◌, subst, List, [], ◌∷◌, ◌++◌, length, map, take, drop}
-use Rattle.std.proofs.Common.{get_or, add-one, ◌&&◌, ◌||◌}
+use Rattle.std.proofs.Common.{◌≡◌, ℕ, suc, ◌+◌, ◌<◌, Bool, true, false, arith, refl}
+use Rattle.std.proofs.Common.{sym, ap, ap₂, ◌∙◌, subst, List, [], ◌∷◌, ◌++◌, length, map}
+use Rattle.std.proofs.Common.{◌&&◌, ◌||◌}
 use Rattle.std.specs.Prelude.{◌==◌, nat_lt, nat_le, not}
 use Rattle.std.specs.List.{list_any, flat_map, filter_map}
-use Rattle.std.proofs.Math.Seq.{take-add}
 use Rattle.std.proofs.lemmas.Bool.Decides.{nat_tests}
-use Rattle.std.proofs.lemmas.List.{drop-drop, length-append, length-map, take_all}
-use Rattle.std.proofs.lemmas.List.Concat.{flat_map-append}
-use Rattle.std.proofs.lemmas.Option.{unwrap_or-slice_get}
+use Rattle.std.proofs.lemmas.List.{length-append, length-map, take_all}
 use Rattle.ring_machine.specs.Document.{FeatureOf, ItemOf, LayerOf, DocumentOf}
-use Rattle.ring_machine.specs.Parts.{feature_of, features, rings, rings_of, has_feature, in_feature}
+use Rattle.ring_machine.specs.Parts.{feature_of, features, rings, has_feature, in_feature}
 use Rattle.ring_machine.specs.Parts.{in_rings}
-use Rattle.ring_machine.specs.WellFormed.{are_distinct}
+use Rattle.ring_machine.proofs.Numbered.{AreNumbered, numbered-append, numbered_has}
 use Rattle.ring_machine.proofs.RingsOf.{features-in_rings}
 use Rattle.topo_outline.specs.Outline.{leaves_in, leaves}
 use Rattle.topo_outline.specs.Shape.{LayerText, Piece, starts, ends, leaf, text}
 use Rattle.topo_outline.specs.Views.{view_layer}
 use Rattle.arc_store.specs.declared.frame.Frame.{Frame}
-use Rattle.arc_store.specs.Frames.{polygons_at, items_from, layers_from, feature_numbers, frame_of}
-use Rattle.arc_store.specs.Frames.{IsCounted}
-use Rattle.arc_store.specs.Keyed.{all_rings}
+use Rattle.map_opening.specs.Laying.{feature_numbers}
+use Rattle.topo_reader.specs.Document.{items_from, layers_from}
+use Rattle.topo_reader.proofs.Numbering.{rings_document}
+use Rattle.arc_store.specs.Frames.{frame_of, IsCounted}
+use Rattle.map_opening.specs.Keyed.{all_rings}
 
 module _ {R : Type 0} where
   abbrev within_items : List (ItemOf R) → List (FeatureOf R)
@@ -30,17 +29,6 @@ module _ {R : Type 0} where
   within_layers ls = flat_map (λ l. filter_map feature_of l.items) ls
 
   -- ---- numbers in order
-
-  -- the features are numbered on from n
-  abbrev pub AreNumbered : ℕ → List (FeatureOf R) → Type 0
-  AreNumbered n [] = Unit {0}
-  AreNumbered n (f ∷ fs) = (f.number ≡ n) × AreNumbered (n + 1) fs
-
-  numbered-append : (n m : ℕ) (fs gs : List (FeatureOf R)) → AreNumbered n fs
-      → AreNumbered m gs → m ≡ n + length fs → AreNumbered n (fs ++ gs)
-  numbered-append n m [] gs h k e = subst (λ z. AreNumbered z gs) (omega (arith, e)) k
-  numbered-append n m (f ∷ fs) gs h k e =
-      (h.0, numbered-append (n + 1) m fs gs h.1 k (omega (arith, e)))
 
   items_length : (n : ℕ) (all : List (List (List R))) (ps : List Piece)
       → length (within_items (items_from n all ps)) ≡ length (leaves_in ps)
@@ -76,106 +64,16 @@ module _ {R : Type 0} where
       (items_numbered n all l.pieces) (layers_numbered (n + length (leaves_in l.pieces)) all ls)
       (ap (λ z. n + z) (sym (items_length n all l.pieces)))
 
-  -- some feature has the number where it is less than how many they are
-  numbered_has : (n m : ℕ) (fs : List (FeatureOf R)) → AreNumbered n fs
-      → list_any (λ f. f.number == m) fs ≡ (nat_le n m && nat_lt m (n + length fs))
-  numbered_has n m [] h = grind (arith, nat_tests)
-  numbered_has n m (f ∷ fs) h =
-      ap₂ (λ (y : ℕ) (z : Bool). (y == m) || z) h.0 (numbered_has (n + 1) m fs h.1)
-      ∙ step (length fs)
-    where
-      step : (k : ℕ) → ((n == m) || (nat_le (n + 1) m && nat_lt m (n + 1 + k)))
-          ≡ (nat_le n m && nat_lt m (n + suc k))
-      step k = grind (arith, nat_tests)
-
-  pub numbered_distinct : (n : ℕ) (fs : List (FeatureOf R)) → AreNumbered n fs
-      → are_distinct (map (λ f. f.number) fs) ≡ true
-  numbered_distinct n [] h = refl
-  numbered_distinct n (f ∷ fs) h =
-      ap₂ (λ y z. not y && z) (absent (n + 1) fs h.1 (subst (λ z. z < n + 1) (sym h.0) (omega arith))) (numbered_distinct (n + 1) fs h.1)
-    where
-      other : (m k : ℕ) → k < m → (m == k) ≡ false
-      other m k l = grind (arith, nat_tests)
-
-      absent : (m : ℕ) (gs : List (FeatureOf R)) → AreNumbered m gs → f.number < m
-          → list_any (λ k. k == f.number) (map (λ g. g.number) gs) ≡ false
-      absent m [] k l = refl
-      absent m (g ∷ gs) k l =
-          ap₂ (λ (y : ℕ) (z : Bool). (y == f.number) || z) k.0 (absent (m + 1) gs k.1 (omega (arith, l)))
-          ∙ ap (λ b. b || false) (other m f.number l)
-
-  -- ---- rings
-
-  -- the rings of one feature
-  abbrev rings_within : List (List R) → List R
-  rings_within ps = flat_map (λ polygon. polygon) ps
-
-  take-nil : (k : ℕ) → take {A = List (List R)} k [] ≡ []
-  take-nil k = take_all {A = List (List R)} k [] (omega arith)
-
-  -- the polygons of feature n, and those of the features behind it
-  at_place : (all : List (List (List R))) (n k : ℕ)
-      → rings_within (polygons_at all n) ++ flat_map rings_within (take k (drop (suc n) all))
-      ≡ flat_map rings_within (take (suc k) (drop n all))
-  at_place all n k = rw (unwrap_or-slice_get all n []) (by all n)
-    where
-      by : (all : List (List (List R))) (n : ℕ)
-          → rings_within (get_or all n []) ++ flat_map rings_within (take k (drop (suc n) all))
-          ≡ flat_map rings_within (take (suc k) (drop n all))
-      by [] zero = ap (λ (ps : List (List (List R))). flat_map rings_within ps) (take-nil k)
-      by [] (suc n) = ap (λ (ps : List (List (List R))). flat_map rings_within ps) (take-nil k)
-      by (ps ∷ all) zero = refl
-      by (ps ∷ all) (suc n) = by all n
-
-  -- the rings of the items whose features are numbered from n
-  items_rings : (all : List (List (List R))) (n : ℕ) (ps : List Piece)
-      → flat_map rings_of (within_items (items_from n all ps))
-      ≡ flat_map rings_within (take (length (leaves_in ps)) (drop n all))
-  unfolding leaves_in
-  items_rings all n [] = refl
-  items_rings all n (starts head ∷ ps) = items_rings all n ps
-  items_rings all n (ends ∷ ps) = items_rings all n ps
-  items_rings all n (text t ∷ ps) = items_rings all n ps
-  items_rings all n (leaf form head node ∷ ps) =
-      ap (λ (rs : List R). rings_within (polygons_at all n) ++ rs) (items_rings all (n + 1) ps ∙ ap (λ (m : ℕ). flat_map rings_within (take (length (leaves_in ps)) (drop m all))) (add-one n))
-      ∙ at_place all n (length (leaves_in ps))
-
-  layers_rings : (all : List (List (List R))) (n : ℕ) (ls : List LayerText)
-      → flat_map rings_of (within_layers (layers_from n all ls))
-      ≡ flat_map rings_within (take (length (leaves ls)) (drop n all))
-  unfolding leaves
-  layers_rings all n [] = refl
-  layers_rings all n (l ∷ ls) =
-      flat_map-append rings_of (within_items (items_from n all l.pieces)) (within_layers (layers_from (n + length (leaves_in l.pieces)) all ls))
-      ∙ ap₂ (λ (rs ss : List R). rs ++ ss) (items_rings all n l.pieces) (layers_rings all (n + length (leaves_in l.pieces)) ls)
-      ∙ sym (split (length (leaves_in l.pieces)) (length (leaves ls)) (length (leaves_in l.pieces ++ leaves ls)) (length-append (leaves_in l.pieces) (leaves ls)))
-    where
-      split : (j k m : ℕ) → m ≡ j + k
-          → flat_map rings_within (take m (drop n all))
-          ≡ flat_map rings_within (take j (drop n all)) ++ flat_map rings_within (take k (drop (n + j) all))
-      split j k m e =
-          ap (λ (i : ℕ). flat_map rings_within (take i (drop n all))) e
-          ∙ ap (λ (ps : List (List (List R))). flat_map rings_within ps) (take-add j k (drop n all) ∙ ap (λ (ps : List (List (List R))). take j (drop n all) ++ take k ps) (drop-drop j n all))
-          ∙ flat_map-append rings_within (take j (drop n all)) (take k (drop (n + j) all))
 
 -- ---- changed rings
 
 module _ {R S : Type 0} (g : R → S) where
-  map_numbers : (fs : List (FeatureOf R))
-      → map (λ f. f.number) (map (in_feature g) fs) ≡ map (λ f. f.number) fs
-  map_numbers [] = refl
-  map_numbers (f ∷ fs) = ap (λ z. f.number ∷ z) (map_numbers fs)
-
   any_number : (m : ℕ) (fs : List (FeatureOf R))
       → list_any (λ f. f.number == m) (map (in_feature g) fs) ≡ list_any (λ f. f.number == m) fs
   any_number m [] = refl
   any_number m (f ∷ fs) = ap (λ z. (f.number == m) || z) (any_number m fs)
 
-  -- changed rings leave the features' numbers
-  pub numbers-in_rings : (d : DocumentOf R)
-      → map (λ f. f.number) (features (in_rings g d)) ≡ map (λ f. f.number) (features d)
-  numbers-in_rings d = ap (map (λ f. f.number)) (features-in_rings g d) ∙ map_numbers (features d)
-
+  -- changed rings leave which numbers there are
   pub has_feature-in_rings : (d : DocumentOf R) (m : ℕ)
       → has_feature (in_rings g d) m ≡ has_feature d m
   has_feature-in_rings d m = ap (list_any (λ f. f.number == m)) (features-in_rings g d) ∙ any_number m (features d)
@@ -190,10 +88,6 @@ module _ {R S : Type 0} (g : R → S) where
 module _ {A : Type 0} (f : Frame A) where
   pub frame_numbered : AreNumbered 0 (features (frame_of f))
   frame_numbered = layers_numbered 0 (map feature_numbers f.polygons.items) (map view_layer f.layers.items)
-
-  -- the numbers of a frame's features are distinct
-  pub frame_distinct : are_distinct (map (λ f. f.number) (features (frame_of f))) ≡ true
-  frame_distinct = numbered_distinct 0 (features (frame_of f)) frame_numbered
 
   -- a frame has as many features as lists of polygons
   pub frame_count : IsCounted f → length (features (frame_of f)) ≡ length f.polygons.items
@@ -212,5 +106,5 @@ module _ {A : Type 0} (f : Frame A) where
   -- the rings of a frame, one after the other
   pub frame_rings : IsCounted f → rings (frame_of f) ≡ all_rings (map feature_numbers f.polygons.items)
   frame_rings h =
-      layers_rings (map feature_numbers f.polygons.items) 0 (map view_layer f.layers.items)
+      rings_document (map feature_numbers f.polygons.items) (map view_layer f.layers.items)
       ∙ ap (λ (ps : List (List (List ℕ))). all_rings ps) (take_all (length (leaves (map view_layer f.layers.items))) (map feature_numbers f.polygons.items) (omega (arith, h, length-map f.polygons.items (feature_numbers {A = A}))))

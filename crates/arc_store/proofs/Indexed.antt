@@ -1,7 +1,6 @@
 -- What an index that holds the segments of a document says of the document.
-use Rattle.std.proofs.Common.{◌≡◌, Bool, true, false, refl, sym, ap, ap₂, ◌∙◌, subst, List, []}
-use Rattle.std.proofs.Common.{◌∷◌, ◌&&◌, ◌⊎◌, inl, inr, Option, None}
-use Rattle.std.specs.List.{list_any}
+use Rattle.std.proofs.Common.{◌≡◌, Bool, true, false, refl, sym, ap, ◌∙◌, subst, List, []}
+use Rattle.std.proofs.Common.{◌∷◌, ◌⊎◌, inl, inr, Option, None}
 use Rattle.std.specs.FinSet as set
 use Rattle.grid_geometry.specs.Position.{Position}
 use Rattle.grid_geometry.specs.Segment.{Segment, segment_eq, segment_lt, is_end}
@@ -18,23 +17,13 @@ use Rattle.ring_machine.proofs.First.{In, least_conflict_is}
 use Rattle.ring_machine.proofs.Local.{Bad, IsLeast}
 use Rattle.ring_machine.proofs.Neighbours.{in-map, in-flat_map, has-in, in-has, edge_in, first_end}
 use Rattle.ring_machine.proofs.Neighbours.{vertex_in}
-use Rattle.ring_machine.proofs.Removal.{position_eq-sym}
 use Rattle.ring_machine.proofs.RingSegments.{segment_eq-true}
 use Rattle.ring_machine.proofs.StaysProper.{edges_start}
-use Rattle.segment_index.specs.Candidates.{SegmentSet, segment_is, has}
-use Rattle.segment_index.proofs.Singles.{segment_eq-is}
+use Rattle.segment_index.specs.Candidates.{SegmentSet, has}
 use Rattle.arc_store.specs.Holds.{IsIndexed}
-use Rattle.arc_store.proofs.Members.{in_mapped, in_flat, any_in, in_any, any_alike, same_answer}
+use Rattle.map_opening.proofs.SegmentLists.{has-eq}
+use Rattle.ring_machine.proofs.Members.{in_mapped, in_flat, any_in, in_any, same_answer}
 use Rattle.arc_store.proofs.Ends.{end_is, end_of_two}
-
--- ---- the two tests of equality
-
-pub segment_is-eq : (s t : Segment) → segment_is s t ≡ segment_eq s t
-segment_is-eq s t =
-    sym (segment_eq-is s t) ∙ ap₂ (λ a b. a && b) (position_eq-sym t.lo s.lo) (position_eq-sym t.hi s.hi)
-
-pub has-eq : (ss : List Segment) (t : Segment) → has ss t ≡ list_any (segment_eq t) ss
-has-eq ss t = any_alike (segment_is t) (segment_eq t) (segment_is-eq t) ss
 
 -- ---- segments and vertices of a document
 

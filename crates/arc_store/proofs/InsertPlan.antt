@@ -21,7 +21,7 @@ use Rattle.vertex_index.specs.Placement.{Placement}
 use Rattle.segment_index.specs.Candidates.{SegmentSet, AreAmong, AreSingle, segment_is, has as has_segment}
 use Rattle.segment_index.proofs.Singles.{same_segment}
 use Rattle.shared_arcs.specs.Joined.{Joined}
-use Rattle.shared_arcs.specs.Rings.{Rings, users_of}
+use Rattle.arc_tables.specs.Rings.{Rings, users_of}
 use Rattle.arc_store.specs.declared.frame.Frame.{Frame}
 use Rattle.arc_store.specs.Edits.{IsInsertable, PutBetween}
 use Rattle.arc_store.specs.Holds.{IsIndexed, Holds}
@@ -36,7 +36,7 @@ use Rattle.arc_store.proofs.Indexed.{end_vertex}
 use Rattle.arc_store.proofs.Inserted.{Insertion, document_inserted, reindexed_inserted}
 use Rattle.arc_store.proofs.Inserted.{holds_inserted, size_inserted}
 use Rattle.arc_store.proofs.Insertions.{Comes}
-use Rattle.arc_store.proofs.Members.{any_in}
+use Rattle.ring_machine.proofs.Members.{any_in}
 use Rattle.arc_store.proofs.RingUsers.{users_same}
 
 -- ---- lists of one and of two
@@ -163,6 +163,7 @@ module _ {A : Type 0} (frame : Frame A) (rings rings' : Rings) (places places' :
         subst (λ z. IsKept frame rings' z held' next (positions + count) (segments + 1)) (sym put.placed) (record {
           holds = holds_inserted was held held' rings' j k put.key a b q h.holds insertion x;
           counted = h.counted;
+          listed = h.listed;
           next = h.next;
           few = h.few;
           sized = sym size_grows ∙ sym (ap size (document_inserted was rings' j k put.key a b q h.holds.whole h.holds.proper insertion));

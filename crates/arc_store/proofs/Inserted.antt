@@ -26,24 +26,27 @@ use Rattle.ring_machine.proofs.Accepted.{InsertAccepted, insert-accepted, insert
 use Rattle.ring_machine.proofs.Order.{or_true}
 use Rattle.vertex_index.proofs.PlacementLemmas.{get-inserted}
 use Rattle.segment_index.specs.Candidates.{SegmentSet, has as among}
-use Rattle.shared_arcs.specs.Ways.{Edge, is_seg}
-use Rattle.shared_arcs.specs.Rings.{Rings, begins}
+use Rattle.arc_tables.specs.Ways.{Edge, is_seg}
+use Rattle.arc_tables.specs.Rings.{Rings, begins}
 use Rattle.shared_arcs.specs.Joined.{Joined}
-use Rattle.shared_arcs.specs.Edited.{over, through}
-use Rattle.arc_store.specs.Stored.{Stored, place, positions_along, ring_under, document_of}
-use Rattle.arc_store.specs.Holds.{GoesRound, Visits, IsWhole, IsIndexed, Holds}
-use Rattle.arc_store.proofs.Indexed.{has-eq}
-use Rattle.arc_store.proofs.Members.{contains_in, in_contains, in_mapped, in_flat}
+use Rattle.arc_tables.specs.Edited.{over, through}
+use Rattle.vertex_index.specs.Placement.{place}
+use Rattle.arc_store.specs.Stored.{Stored, positions_along, ring_under, document_of}
+use Rattle.map_opening.specs.Laying.{GoesRound}
+use Rattle.arc_store.specs.Holds.{Visits, IsWhole, IsIndexed, Holds}
+use Rattle.map_opening.proofs.SegmentLists.{has-eq}
+use Rattle.ring_machine.proofs.Members.{contains_in, in_contains, in_mapped, in_flat}
 use Rattle.arc_store.proofs.Around.{segment_joined, come_over}
 use Rattle.arc_store.proofs.Insertions.{Comes, segments_ins}
 use Rattle.arc_store.proofs.Numbers.{users_of, size_over}
-use Rattle.arc_store.proofs.Base.{IsKept, place_is, place_kept, one_key, ring_under_is, begin_kept}
-use Rattle.arc_store.proofs.Base.{framed, key_vertex}
-use Rattle.arc_store.proofs.KeyRings.{laid, edge_ends, ends_is_seg, times_edge}
+use Rattle.map_opening.proofs.Places.{IsKept, place_is, place_kept, one_key}
+use Rattle.arc_store.proofs.Base.{ring_under_is, begin_kept, framed, key_vertex}
+use Rattle.map_opening.proofs.KeyRings.{laid, edge_ends, ends_is_seg, times_edge}
 use Rattle.arc_store.proofs.KeyWays.{edited_along, edited_way, over_keeps, round_way, round_of_way}
 use Rattle.arc_store.proofs.KeyWays.{seg_same}
 use Rattle.arc_store.proofs.RingEdits.{ring_pivot}
-use Rattle.arc_store.proofs.Places.{place_alike, insert_other, is_some-mapped, mapped_there}
+use Rattle.ring_machine.proofs.Members.{is_some-mapped, mapped_there}
+use Rattle.map_opening.proofs.Places.{place_alike, insert_other}
 
 -- ---- one ring
 
@@ -308,7 +311,8 @@ holds_inserted s held held' after j k n a b q h i x =
     let is = document_inserted s after j k n a b q h.whole h.proper i in
     record {
       whole = whole_inserted s after j k n a b q h.whole h.proper i;
-      numbers = h.numbers;
+      formed = h.formed;
+      keeps = h.keeps;
       proper = subst Proper (sym is) (inserted (document_of s) a b q h.proper i.accepted).0;
       small = subst (λ d. size d ≤ 4000000) (sym is) (at_most (size (ins (document_of s) a b q)) 4000000 (insert-accepted (document_of s) a b q i.accepted).small);
       indexed = subst (λ d. IsIndexed d held') (sym is) x;

@@ -26,9 +26,10 @@ use Rattle.arc_store.specs.Edits.{IsInsertable}
 use Rattle.arc_store.specs.Faults.{Refuses}
 use Rattle.arc_store.specs.Holds.{IsIndexed}
 use Rattle.arc_store.specs.Planned.{spokes}
-use Rattle.arc_store.proofs.Indexed.{has-eq, indexed_ends, indexed_only}
-use Rattle.ring_machine.proofs.RingSegments.{segment_eq-sym}
+use Rattle.map_opening.proofs.SegmentLists.{has-eq}
+use Rattle.arc_store.proofs.Indexed.{indexed_ends, indexed_only}
 use Rattle.arc_store.proofs.Insertions.{segments_ins}
+use Rattle.ring_machine.proofs.RingSegments.{segment_eq-sym}
 use Rattle.arc_store.proofs.MovePlan.{refuses_first}
 
 -- ---- what both have in common
@@ -65,7 +66,7 @@ module _ (d : Document) (held : SegmentSet) (a b q : Position) (i : IsInsertable
 
   -- in the words of what was passed to the tests
   module _ (before : Segment) (after : List Segment) (goes : before ≡ segment a b) (comes : after ≡ spokes q (a ∷ b ∷ [])) where
-    insert_passed : IsAfter held (One before) after (all_segments (ins d a b q))
+    pub insert_passed : IsAfter held (One before) after (all_segments (ins d a b q))
     insert_passed t =
         insert_after t
         ∙ ap₂ (λ y z. (set.contains held t && not (segment_eq y t)) || among z t) (sym goes) (sym comes)

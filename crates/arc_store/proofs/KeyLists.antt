@@ -8,12 +8,12 @@ use Rattle.std.proofs.lemmas.List.{append-nil, take_more}
 use Rattle.std.proofs.lemmas.List.Concat.{flat_map-append}
 use Rattle.ring_machine.proofs.First.{In}
 use Rattle.ring_machine.proofs.Neighbours.{in-flat_map}
-use Rattle.shared_arcs.specs.Rings.{Rings, begins}
-use Rattle.arc_store.specs.Frames.{polygon_numbers, feature_numbers}
-use Rattle.arc_store.specs.Keyed.{all_rings}
+use Rattle.arc_tables.specs.Rings.{Rings, begins}
+use Rattle.map_opening.specs.Laying.{polygon_numbers, feature_numbers}
+use Rattle.map_opening.specs.Keyed.{all_rings}
 use Rattle.arc_store.specs.Stored.{edges_under}
-use Rattle.arc_store.proofs.Members.{contains_in, in_contains, there}
-use Rattle.arc_store.proofs.SortedOnce.{in_at}
+use Rattle.ring_machine.proofs.Members.{contains_in, in_contains, there}
+use Rattle.ring_machine.proofs.SortedOnce.{in_at}
 
 -- one element more
 flat_more : {A B : Type 0} (f : A → List B) (xs : List A) (i : ℕ) (d : A) → i < length xs

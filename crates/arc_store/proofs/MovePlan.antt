@@ -26,10 +26,10 @@ use Rattle.ring_machine.specs.Vertices.{put}
 use Rattle.ring_machine.proofs.First.{In}
 use Rattle.ring_machine.proofs.Neighbours.{has-in}
 use Rattle.ring_machine.proofs.Order.{and_both}
-use Rattle.vertex_index.specs.Placement.{Placement}
+use Rattle.vertex_index.specs.Placement.{Placement, place}
 use Rattle.segment_index.specs.Candidates.{SegmentSet, AreAmong, AreSingle, segment_is, has as has_segment}
 use Rattle.segment_index.proofs.Singles.{same_segment}
-use Rattle.shared_arcs.specs.Rings.{Rings}
+use Rattle.arc_tables.specs.Rings.{Rings}
 use Rattle.shared_arcs.specs.Joined.{Joined}
 use Rattle.local_planarity.specs.declared.leaving.Leaving.TheVariants.{EndingAt}
 use Rattle.local_planarity.specs.Edits.{AreApart, IsAfter, IsEnds, IsHeld}
@@ -38,14 +38,16 @@ use Rattle.arc_store.specs.declared.fault.EditFault.{EditFault}
 use Rattle.arc_store.specs.declared.fault.EditFault.TheVariants as edit
 use Rattle.arc_store.specs.declared.frame.Frame.{Frame}
 use Rattle.arc_store.specs.Faults.{Refuses}
-use Rattle.arc_store.specs.Stored.{Stored, place, document_of}
+use Rattle.arc_store.specs.Stored.{Stored, document_of}
 use Rattle.arc_store.specs.Holds.{IsWhole, IsIndexed, Holds}
 use Rattle.arc_store.specs.Kept.{IsKept, stored}
 use Rattle.arc_store.specs.Planned.{ArePlaced, AreAround, AreNew, Exchanges, spokes}
-use Rattle.arc_store.proofs.Members.{any_in, in_mapped, in_contains}
-use Rattle.arc_store.proofs.Base.{place_is, joined_kept, joined_apart, segments_to, segments_at}
+use Rattle.ring_machine.proofs.Members.{any_in, in_mapped, in_contains}
+use Rattle.map_opening.proofs.Places.{place_is}
+use Rattle.arc_store.proofs.Base.{joined_kept, joined_apart, segments_to, segments_at}
 use Rattle.arc_store.proofs.Base.{sweeps_by_joined}
-use Rattle.arc_store.proofs.Indexed.{has-eq, indexed_ends, indexed_only, indexed_has}
+use Rattle.map_opening.proofs.SegmentLists.{has-eq}
+use Rattle.arc_store.proofs.Indexed.{indexed_ends, indexed_only, indexed_has}
 use Rattle.arc_store.proofs.Planned.{any_at}
 use Rattle.arc_store.proofs.Insertions.{any_mapped}
 use Rattle.arc_store.proofs.Moved.{segments_to_single, not_there, added_new, added_single}
@@ -100,7 +102,7 @@ module _ (s : Stored) (held : SegmentSet) (h : Holds s held) (k : ℕ) (p q : Po
       (segments_to_single s.places p h.whole.distinct r.keys (λ x i. (joined_kept s h.whole k x ((r.joined x).0 (in_contains r.keys x i))).1) r.once)
 
   -- the segments of the moved document are there after the edit
-  plan_after : IsAfter held (EndingAt p) (spokes q around) (all_segments (put (document_of s) p q))
+  pub plan_after : IsAfter held (EndingAt p) (spokes q around) (all_segments (put (document_of s) p q))
   plan_after t =
       indexed_moved s h.whole k p q at free r.keys r.joined held h.indexed t
       ∙ ap (λ z. (set.contains held t && not (is_end p t)) || has_segment z t) (sym (spokes_are q))
@@ -148,6 +150,7 @@ kept_moved frame rings places held held' number size_kept single h k p q at free
     record {
       holds = holds_moved s held held' k p q h.holds at none (plan_indexed s held h.holds k p q at free around r held' e);
       counted = h.counted;
+      listed = h.listed;
       next = h.next;
       few = h.few;
       sized = h.sized ∙ sym (size_moved s h.holds.whole k p q at free);

@@ -32,25 +32,26 @@ use Rattle.ring_machine.proofs.Removal.{none_parts, not_true}
 use Rattle.ring_machine.proofs.RingSegments.{segment_eq-true}
 use Rattle.ring_machine.proofs.RingsOf.{rings-in_rings}
 use Rattle.ring_machine.proofs.StaysRing.{put-distinct}
-use Rattle.vertex_index.specs.Placement.{Placement, AreDistinct}
+use Rattle.vertex_index.specs.Placement.{Placement, AreDistinct, place}
 use Rattle.vertex_index.proofs.PlacementLemmas.{get-inserted}
 use Rattle.segment_index.specs.Candidates.{SegmentSet, AreSingle, has as has_segment, segment_is, times_in}
 use Rattle.segment_index.proofs.Singles.{same_segment}
-use Rattle.shared_arcs.specs.Ways.{Edge}
-use Rattle.shared_arcs.specs.Rings.{begins}
+use Rattle.arc_tables.specs.Ways.{Edge}
+use Rattle.arc_tables.specs.Rings.{begins}
 use Rattle.shared_arcs.specs.Joined.{Joined}
-use Rattle.arc_store.specs.Stored.{Stored, place, positions_along, ring_under, document_of}
+use Rattle.arc_store.specs.Stored.{Stored, positions_along, ring_under, document_of}
 use Rattle.arc_store.specs.Holds.{Visits, IsWhole, IsIndexed, Holds}
-use Rattle.arc_store.proofs.Members.{contains_in, in_contains, in_mapped, any_in, in_any, same_answer}
+use Rattle.ring_machine.proofs.Members.{contains_in, in_contains, in_mapped, any_in, in_any, same_answer}
 use Rattle.arc_store.proofs.Ends.{two_positions, end_of_two, two_ends}
-use Rattle.arc_store.proofs.KeyRings.{in_canonical, length-canonical, has_key}
-use Rattle.arc_store.proofs.Places.{insert_other}
-use Rattle.arc_store.proofs.Base.{IsKept, place_is, kept_place, place_kept, one_key, joined_back}
+use Rattle.map_opening.proofs.KeyRings.{in_canonical, length-canonical, has_key}
+use Rattle.map_opening.proofs.Places.{insert_other}
+use Rattle.map_opening.proofs.Places.{IsKept, place_is, kept_place, place_kept, one_key}
+use Rattle.arc_store.proofs.Base.{joined_back, framed, ring_laid, key_vertex}
 use Rattle.arc_store.proofs.Base.{begin_kept, positions_distinct, positions_long, ring_under_is}
-use Rattle.arc_store.proofs.Base.{framed, ring_laid, key_vertex}
 use Rattle.arc_store.proofs.Base.{segment_between, joined_segment, joined_kept, joined_differ}
 use Rattle.arc_store.proofs.Base.{AreJoined, segments_to, segments_at, one_to}
-use Rattle.arc_store.proofs.Indexed.{end_vertex, has-eq}
+use Rattle.map_opening.proofs.SegmentLists.{has-eq}
+use Rattle.arc_store.proofs.Indexed.{end_vertex}
 
 -- ---- lists
 
@@ -376,7 +377,8 @@ holds_moved s held held' k p q h at none indexed =
     let is = document_moved s h.whole k p q at accepted.free in
     record {
       whole = whole_moved s h.whole k p q at accepted.free;
-      numbers = h.numbers;
+      formed = h.formed;
+      keeps = h.keeps;
       proper = subst Proper (sym is) (moved (document_of s) p q h.proper none).0;
       small = omega (arith, h.small, size_moved s h.whole k p q at accepted.free);
       indexed = subst (λ d. IsIndexed d held') (sym is) indexed;

@@ -12,18 +12,18 @@ use Rattle.ring_machine.specs.Parts.{rings, size}
 use Rattle.ring_machine.specs.Vertices.{ins}
 use Rattle.ring_machine.proofs.Arcs.{is_of}
 use Rattle.ring_machine.proofs.First.{In}
-use Rattle.shared_arcs.specs.Ways.{Edge, is_seg, times}
-use Rattle.arc_store.specs.Stored.{Stored, place, positions_along, edges_under, ring_under}
-use Rattle.arc_store.specs.Stored.{document_of}
+use Rattle.arc_tables.specs.Ways.{Edge, is_seg, times}
+use Rattle.vertex_index.specs.Placement.{place}
+use Rattle.arc_store.specs.Stored.{Stored, positions_along, edges_under, ring_under, document_of}
 use Rattle.arc_store.specs.Holds.{IsWhole}
-use Rattle.arc_store.proofs.Base.{place_is, place_kept, document_ring, IsKept, one_key, begin_kept}
-use Rattle.arc_store.proofs.Base.{framed, ring_under_is, rings_are}
-use Rattle.arc_store.proofs.Counted.{filter-mapped}
+use Rattle.map_opening.proofs.Places.{place_is, place_kept, IsKept, one_key}
+use Rattle.arc_store.proofs.Base.{document_ring, begin_kept, framed, ring_under_is, rings_are}
+use Rattle.map_opening.proofs.Counted.{filter-mapped}
 use Rattle.arc_store.proofs.Insertions.{size_ins, has_segment, has_segment_by, any_mapped}
-use Rattle.arc_store.proofs.KeyRings.{laid, edges_round, edge_ends, times_edge, edge_times}
-use Rattle.arc_store.proofs.KeyRings.{is_seg_ends, ends_is_seg}
+use Rattle.map_opening.proofs.KeyRings.{laid, edges_round, edge_ends, times_edge, edge_times}
+use Rattle.map_opening.proofs.KeyRings.{is_seg_ends, ends_is_seg}
 use Rattle.arc_store.proofs.KeyWays.{seg_same}
-use Rattle.arc_store.proofs.Members.{any_in, in_any}
+use Rattle.ring_machine.proofs.Members.{any_in, in_any}
 use Rattle.arc_store.proofs.Removals.{any_alike_in}
 use Rattle.arc_store.proofs.RingEdits.{edges_turned, canonical_rotated}
 

@@ -5,50 +5,53 @@ use Rattle.std.specs.Prelude.{unwrap_or, Vec}
 use Rattle.std.specs.List.{list_all, list_any, flat_map, fold, sum_by}
 use Rattle.std.specs.FinMap as table
 use Rattle.std.proofs.lemmas.List.{length-map, take_all}
+use Rattle.grid_geometry.specs.Position.{Position}
 use Rattle.grid_geometry.specs.Segment.{Segment, segment_eq}
 use Rattle.ring_machine.specs.Ring.{canonical, is_ring, segments}
 use Rattle.ring_machine.specs.Parts.{rings, size, features, all_segments}
 use Rattle.ring_machine.specs.Planar.{Proper, first_pair, least_conflict}
 use Rattle.ring_machine.specs.Query.{add_segment}
-use Rattle.ring_machine.specs.WellFormed.{are_distinct}
+use Rattle.ring_machine.specs.WellFormed.{are_distinct, WellFormed}
 use Rattle.ring_machine.proofs.First.{In}
+use Rattle.ring_machine.proofs.FormedRings.{formed-before_rings}
 use Rattle.ring_machine.proofs.Neighbours.{in-map}
+use Rattle.topo_outline.specs.Kept.{KeepsTexts}
 use Rattle.topo_outline.specs.Outline.{leaves}
+use Rattle.topo_outline.proofs.KeptRings.{keeps-before_rings}
 use Rattle.topo_reader.specs.Document.{IsOfRings}
 use Rattle.topo_reader.specs.Document as read
 use Rattle.topo_reader.proofs.Numbering.{rings_document}
-use Rattle.vertex_index.specs.Placement.{Placement, AreDistinct}
+use Rattle.vertex_index.specs.Placement.{Placement, place}
 use Rattle.segment_index.specs.Candidates.{SegmentSet}
-use Rattle.shared_arcs.specs.Ways.{Edge}
-use Rattle.shared_arcs.specs.Rings.{Rings, begins, edges}
+use Rattle.arc_tables.specs.Ways.{Edge}
+use Rattle.arc_tables.specs.Rings.{Rings, begins, edges}
 use Rattle.topo_reader.specs.declared.document.RawDoc.{RawDoc}
 use Rattle.topo_reader.specs.DocumentView.{view_raw}
 use Rattle.topo_reader.specs.Uses.{feature_positions}
+use Rattle.map_opening.specs.Keyed.{all_rings, all_keys}
+use Rattle.map_opening.specs.LaidOut.{IsLaidOut}
+use Rattle.map_opening.specs.Laying.{GoesRound, IsRound, IsLaid, feature_numbers, segments_along}
 use Rattle.arc_store.specs.declared.frame.Frame.{Frame}
-use Rattle.arc_store.specs.Frames.{feature_numbers, frame_of, IsCounted}
-use Rattle.arc_store.specs.Holds.{GoesRound, IsWhole, IsIndexed, Holds}
-use Rattle.arc_store.specs.Keyed.{all_rings, all_keys, IsKeyed}
+use Rattle.arc_store.specs.declared.leaf.Leaf.{Leaf}
+use Rattle.arc_store.specs.Frames.{frame_of, IsCounted}
+use Rattle.arc_store.specs.Holds.{IsWhole, IsIndexed, Holds}
 use Rattle.arc_store.specs.Kept.{stored, IsKept}
-use Rattle.arc_store.specs.Laying.{IsRound, IsLaid, IsFilled, segments_along}
-use Rattle.arc_store.specs.Stored.{Stored, place, positions_along, ring_under, document_of}
+use Rattle.arc_store.specs.Leaves.{IsListed}
+use Rattle.arc_store.specs.Stored.{Stored, positions_along, ring_under, document_of}
 use Rattle.arc_store.proofs.FramedDocument.{read_framed}
-use Rattle.arc_store.proofs.FrameLemmas.{feature_count-in_rings, frame_count, frame_distinct, frame_rings}
-use Rattle.arc_store.proofs.Indexed.{has-eq}
-use Rattle.arc_store.proofs.KeyedRings.{ring_keyed, round_keyed, size_keyed, segments_keyed}
-use Rattle.arc_store.proofs.KeyRings.{begins_round}
-use Rattle.arc_store.proofs.Members.{contains_in, in_contains, in_mapped, in_flat}
-use Rattle.arc_store.proofs.NestedLists.{same_features}
+use Rattle.arc_store.proofs.FrameLemmas.{feature_count-in_rings, frame_count, frame_rings}
+use Rattle.map_opening.proofs.SegmentLists.{has-eq}
+use Rattle.map_opening.proofs.KeyedRings.{ring_keyed, round_keyed, size_keyed, segments_keyed}
+use Rattle.map_opening.proofs.KeyRings.{begins_round}
+use Rattle.map_opening.proofs.LaidSegments.{goes_round}
+use Rattle.ring_machine.proofs.Members.{contains_in, in_contains, in_mapped, in_flat}
+use Rattle.map_opening.proofs.NestedLists.{same_features}
 use Rattle.arc_store.proofs.RingEdits.{canonical_ring}
 
 -- ---- numbers and keys
 
--- a ring can go along these keys
-abbrev round_along : (places : Placement) (ks : List ℕ) → IsRound places ks → GoesRound (edges ks)
-round_along places ks r =
-    record { keys = ks; along = refl; long = r.long; different = r.different }
-
 begins_along : (places : Placement) (ks : List ℕ) → IsRound places ks → begins (edges ks) ≡ ks
-begins_along places ks r = begins_round (edges ks) (round_along places ks r)
+begins_along places ks r = begins_round (edges ks) (goes_round places ks r)
 
 module _ (m : Rings) (numbers : List ℕ) (keyed : List (List ℕ)) (l : IsLaid m numbers keyed) where
   -- the ring under a number goes along one of these lists of keys
@@ -92,17 +95,24 @@ module _ (o : read.Opened) (h : IsOfRings o) where
   pub read_small : sum_by length (all_rings o.polygons) ≤ 4000000
   read_small = omega (arith, ap (sum_by length) read_rings, h.small)
 
-module _ {A : Type 0} (raw : RawDoc A) (h : IsOfRings (view_raw raw)) (places : Placement)
-    (distinct : AreDistinct places) (keyed : List (List (List (List ℕ))))
-    (k : IsKeyed places (map feature_positions raw.polygons.items) keyed) (m : Rings)
-    (polygons : Vec (Vec (Vec ℕ A) A) A)
-    (shape : map (map length) (map feature_numbers polygons.items) ≡ map (map length) keyed)
-    (l : IsLaid m (all_rings (map feature_numbers polygons.items)) (all_rings keyed)) where
+module _ {A : Type 0} (raw : RawDoc A) (h : IsOfRings (view_raw raw))
+    {given : List (Vec (Vec (Vec Position A) A) A)} (same : given ≡ raw.polygons.items)
+    (polygons : Vec (Vec (Vec ℕ A) A) A) {places : Placement} {m : Rings} {held : SegmentSet}
+    {first : Option (Segment × Segment)} {positions count : ℕ}
+    (was : IsLaidOut (map feature_positions given) (map feature_numbers polygons.items) places m held first positions count)
+    (leaves : Vec Leaf A) where
   abbrev o : read.Opened
   o = view_raw raw
 
   abbrev numbers : List (List (List ℕ))
   numbers = map feature_numbers polygons.items
+
+  -- the rings that were read were laid
+  w : IsLaidOut o.polygons numbers places m held first positions count
+  w = subst (λ z. IsLaidOut (map feature_positions z) numbers places m held first positions count) same was
+
+  abbrev keyed : List (List (List (List ℕ)))
+  keyed = w.keyed
 
   -- the frame of what was read, with numbers in the place of rings
   abbrev raw_frame : Frame A
@@ -111,27 +121,28 @@ module _ {A : Type 0} (raw : RawDoc A) (h : IsOfRings (view_raw raw)) (places : 
     layers = raw.layers;
     members = raw.members;
     polygons = polygons;
+    leaves = leaves;
   }
 
   abbrev opened : Stored
   opened = stored raw_frame m places
 
   round_key : (ks : List ℕ) → In ks (all_rings keyed) → IsRound places ks
-  round_key = round_keyed places o.polygons keyed k (read_are_rings o h)
+  round_key = round_keyed places o.polygons keyed w.keys (read_are_rings o h)
 
   -- the map means what was read
   pub opened_document : document_of opened ≡ read.document_of o
   opened_document =
       read_framed (ring_under opened) o numbers
-      (same_features (ring_under opened) (map (place places)) numbers keyed shape
-      (rings_under opened (all_rings numbers) (all_rings keyed) l.along round_key (ring_keyed places o.polygons keyed k (read_are_rings o h)))
-      ∙ k.at)
+      (same_features (ring_under opened) (map (place places)) numbers keyed w.shape
+      (rings_under opened (all_rings numbers) (all_rings keyed) w.laid.along round_key (ring_keyed places o.polygons keyed w.keys (read_are_rings o h)))
+      ∙ w.keys.at)
 
   opened_counted : IsCounted raw_frame
   opened_counted =
       sym (length-map polygons.items feature_numbers) ∙ sym (length-map numbers (map length))
-      ∙ ap length shape ∙ length-map keyed (map length)
-      ∙ sym (length-map keyed (map (map (map (place places))))) ∙ ap length k.at ∙ h.counted
+      ∙ ap length w.shape ∙ length-map keyed (map length)
+      ∙ sym (length-map keyed (map (map (map (place places))))) ∙ ap length w.keys.at ∙ h.counted
 
   opened_rings : rings (frame_of raw_frame) ≡ all_rings numbers
   opened_rings = frame_rings raw_frame opened_counted
@@ -140,26 +151,26 @@ module _ {A : Type 0} (raw : RawDoc A) (h : IsOfRings (view_raw raw)) (places : 
   opened_along : (r : ℕ) (es : List Edge) → table.get m r ≡ Some es
       → (ks : List ℕ) × In ks (all_rings keyed) × (es ≡ edges ks)
   opened_along r es e =
-      let f = laid_along m (all_rings numbers) (all_rings keyed) l r
-      (contains_in (all_rings numbers) r (l.only r (ap is_some e))) in
+      let f = laid_along m (all_rings numbers) (all_rings keyed) w.laid r
+      (contains_in (all_rings numbers) r (w.laid.only r (ap is_some e))) in
       (f.0, f.1, ap (λ z. unwrap_or z []) (sym e ∙ f.2))
 
   opened_whole : IsWhole opened
   opened_whole = record {
     named = λ r. (
-      λ c. let f = laid_along m (all_rings numbers) (all_rings keyed) l r (subst (In r) opened_rings (contains_in (rings (frame_of raw_frame)) r c)) in ap is_some f.2,
-      λ t. subst (λ z. Contains z r) (sym opened_rings) (l.only r t),
+      λ c. let f = laid_along m (all_rings numbers) (all_rings keyed) w.laid r (subst (In r) opened_rings (contains_in (rings (frame_of raw_frame)) r c)) in ap is_some f.2,
+      λ t. subst (λ z. Contains z r) (sym opened_rings) (w.laid.only r t),
     );
-    once = ap are_distinct opened_rings ∙ l.once;
+    once = ap are_distinct opened_rings ∙ w.laid.once;
     round = λ r es e. let f = opened_along r es e in
-        subst GoesRound (sym f.2) (round_along places f.0 (round_key f.0 f.1));
+        subst GoesRound (sym f.2) (goes_round places f.0 (round_key f.0 f.1));
     placed = λ r x v. let f = opened_along r v.0 v.1 in
         (round_key f.0 f.1).placed x
         (subst (λ z. Contains z x) (ap begins f.2 ∙ begins_along places f.0 (round_key f.0 f.1)) v.2);
-    passed = λ x c. let f = in_flat (λ ks. ks) x (all_rings keyed) (contains_in (all_keys keyed) x (k.passed x c)) in
-        let r = along_laid m (all_rings numbers) (all_rings keyed) l f.0 f.1 in
+    passed = λ x c. let f = in_flat (λ ks. ks) x (all_rings keyed) (contains_in (all_keys keyed) x (w.keys.passed x c)) in
+        let r = along_laid m (all_rings numbers) (all_rings keyed) w.laid f.0 f.1 in
         (r.0, (edges f.0, r.2, subst (λ z. Contains z x) (sym (begins_along places f.0 (round_key f.0 f.1))) (in_contains f.0 x f.2)));
-    distinct = distinct;
+    distinct = w.distinct;
   }
 
   -- ---- its segments
@@ -167,46 +178,48 @@ module _ {A : Type 0} (raw : RawDoc A) (h : IsOfRings (view_raw raw)) (places : 
   opened_segments : all_segments (document_of opened) ≡ segments_along places (all_rings keyed)
   opened_segments =
       ap all_segments opened_document ∙ ap (flat_map segments) (read_rings o h)
-      ∙ segments_keyed places o.polygons keyed k
+      ∙ segments_keyed places o.polygons keyed w.keys
 
-  opened_indexed : (held : SegmentSet) (segments : ℕ)
-      → IsFilled held None segments (segments_along places (all_rings keyed))
-      → IsIndexed (document_of opened) held
-  opened_indexed held segments f t =
-      sym (f.held t) ∙ has-eq (segments_along places (all_rings keyed)) t
+  opened_indexed : IsIndexed (document_of opened) held
+  opened_indexed t =
+      sym (w.filled.held t) ∙ has-eq (segments_along places (all_rings keyed)) t
       ∙ ap (list_any (segment_eq t)) (sym opened_segments)
 
   -- the first pair of what was read
-  pub opened_pair : (held : SegmentSet) (first : Option (Segment × Segment)) (segments : ℕ)
-      → IsFilled held first segments (segments_along places (all_rings keyed))
-      → first_pair (read.document_of o) ≡ first
+  pub opened_pair : first_pair (read.document_of o) ≡ first
   unfolding first_pair
-  opened_pair held first segments f =
+  opened_pair =
       ap (λ d. least_conflict (all_segments d)) (sym opened_document)
-      ∙ ap least_conflict opened_segments ∙ f.first
+      ∙ ap least_conflict opened_segments ∙ w.filled.first
 
-  pub opened_proper : (held : SegmentSet) (segments : ℕ)
-      → IsFilled held None segments (segments_along places (all_rings keyed))
-      → Proper (document_of opened)
-  opened_proper held segments f =
-      subst Proper (sym opened_document)
-      (record { are_rings = h.are_rings; apart = opened_pair held None segments f })
+  pub opened_proper : first ≡ None → Proper (document_of opened)
+  opened_proper none =
+      subst Proper (sym opened_document) (record { are_rings = h.are_rings; apart = opened_pair ∙ none })
 
-  opened_holds : (held : SegmentSet) (segments : ℕ)
-      → IsFilled held None segments (segments_along places (all_rings keyed))
-      → Holds opened held
-  opened_holds held segments f = record {
+  -- the frame is as well formed as what was read
+  opened_formed : WellFormed (frame_of raw_frame)
+  opened_formed =
+      formed-before_rings (ring_under opened) (frame_of raw_frame) (subst WellFormed (sym opened_document) h.formed)
+
+  -- and has the same texts
+  opened_keeps : KeepsTexts (frame_of raw_frame)
+  opened_keeps =
+      keeps-before_rings (ring_under opened) (frame_of raw_frame) (subst KeepsTexts (sym opened_document) h.keeps)
+
+  opened_holds : first ≡ None → Holds opened held
+  opened_holds none = record {
     whole = opened_whole;
-    numbers = frame_distinct raw_frame;
-    proper = opened_proper held segments f;
+    formed = opened_formed;
+    keeps = opened_keeps;
+    proper = opened_proper none;
     small = subst (λ d. size d ≤ 4000000) (sym opened_document) h.small;
-    indexed = opened_indexed held segments f;
+    indexed = opened_indexed;
   }
 
   opened_size : size (document_of opened) ≡ sum_by length (all_rings keyed)
   opened_size =
       ap size opened_document ∙ ap (sum_by length) (read_rings o h)
-      ∙ size_keyed places o.polygons keyed k
+      ∙ size_keyed places o.polygons keyed w.keys
 
   -- features are numbered from 0
   pub opened_features : length (features (document_of opened)) ≡ length polygons.items
@@ -216,15 +229,14 @@ module _ {A : Type 0} (raw : RawDoc A) (h : IsOfRings (view_raw raw)) (places : 
   pub opened_few : length polygons.items ≤ 200000
   opened_few = omega (arith, opened_counted, h.few)
 
-  pub opened_kept : (held : SegmentSet) (number positions segments : ℕ)
-      → number ≡ length polygons.items → positions ≡ sum_by length (all_rings keyed)
-      → IsFilled held None segments (segments_along places (all_rings keyed))
-      → IsKept raw_frame m places held number positions segments
-  opened_kept held number positions segments n p f = record {
-    holds = opened_holds held segments f;
+  pub opened_kept : first ≡ None → (number : ℕ) → number ≡ length polygons.items → IsListed raw_frame
+      → IsKept raw_frame m places held number positions count
+  opened_kept none number n listed = record {
+    holds = opened_holds none;
     counted = opened_counted;
+    listed = listed;
     next = n ∙ sym (frame_count raw_frame opened_counted);
     few = omega (arith, n, opened_few);
-    sized = p ∙ sym opened_size;
-    single = f.different ∙ ap (λ ss. length (fold add_segment [] ss)) (sym opened_segments);
+    sized = w.size ∙ sym opened_size;
+    single = w.filled.different ∙ ap (λ ss. length (fold add_segment [] ss)) (sym opened_segments);
   }

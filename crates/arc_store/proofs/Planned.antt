@@ -1,31 +1,24 @@
 -- Steps of loops over a list, and what an index comes to hold where segments come and go.
 use Rattle.std.proofs.Common.{◌≡◌, ◌≤◌, ◌<◌, ◌+◌, ℕ, Bool, true, false, refl, sym, ap, ap₂, ◌∙◌}
-use Rattle.std.proofs.Common.{cond, List, [], ◌∷◌, ◌++◌, map, length, take, get_or, ◌||◌, ◌&&◌}
+use Rattle.std.proofs.Common.{cond, List, [], ◌∷◌, length, take, get_or, ◌||◌, ◌&&◌}
 use Rattle.std.proofs.Common.{arith, leb, zero, suc}
 use Rattle.std.specs.Prelude.{not, ◌==◌, ◌≢◌}
 use Rattle.std.specs.List.{list_any, AllByRecursion}
 use Rattle.std.specs.FinSet as set
 use Rattle.std.proofs.lemmas.Bool.{false≢true}
 use Rattle.std.proofs.lemmas.Bool.Decides.{Decides-eqb}
-use Rattle.std.proofs.lemmas.List.{take_more, map-append}
+use Rattle.std.proofs.lemmas.List.{take_more}
 use Rattle.std.proofs.lemmas.List.Folds.{list_any_more}
 use Rattle.grid_geometry.specs.Segment.{Segment}
 use Rattle.ring_machine.specs.WellFormed.{are_distinct}
 use Rattle.segment_index.specs.Candidates.{SegmentSet, AreAmong, AreSingle, segment_is, has, times_in}
-use Rattle.segment_index.proofs.Singles.{segment_total, same_sets, same_segment, is-itself, has-is, has-some}
+use Rattle.segment_index.proofs.Singles.{segment_total, same_sets, is-itself, has-is, has-some}
 use Rattle.segment_index.proofs.Singles.{times-some, times-push, times-take}
-use Rattle.shared_arcs.specs.Stores.{AllDifferent}
+use Rattle.arc_tables.specs.Stores.{AllDifferent}
 use Rattle.arc_store.specs.Planned.{AreNew, Gains, Drops, Exchanges}
-use Rattle.arc_store.proofs.KeyRings.{has_key}
+use Rattle.map_opening.proofs.KeyRings.{has_key}
 
 -- ---- lists
-
--- one more mapped element
-pub map_more : {A B : Type 0} (f : A → B) (xs : List A) (i : ℕ) (x : A) → i < length xs
-    → x ≡ get_or xs i x → map f (take (i + 1) xs) ≡ map f (take i xs) ++ f x ∷ []
-map_more f xs i x h e =
-    ap (map f) (take_more xs i x h) ∙ map-append f (take i xs) (get_or xs i x ∷ [])
-    ∙ ap (λ z. map f (take i xs) ++ f z ∷ []) (sym e)
 
 -- a test that passes at an index
 pub any_at : {A : Type 0} (test : A → Bool) (xs : List A) (i : ℕ) (d : A) → i < length xs

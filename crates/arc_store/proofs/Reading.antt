@@ -11,15 +11,16 @@ use Rattle.grid_geometry.specs.Position.{Position, position_cmp}
 use Rattle.grid_geometry.specs.Segment.{Segment, segment, IsSegment}
 use Rattle.ring_machine.specs.Parts.{rings, is_vertex}
 use Rattle.ring_machine.proofs.First.{In}
-use Rattle.shared_arcs.specs.Rings as shared
-use Rattle.arc_store.specs.Stored.{Stored, place, document_of}
+use Rattle.arc_tables.specs.Rings as shared
+use Rattle.vertex_index.specs.Placement.{place}
+use Rattle.arc_store.specs.Stored.{Stored, document_of}
 use Rattle.arc_store.specs.Holds.{IsWhole}
 use Rattle.arc_store.specs.Spots.{users}
-use Rattle.arc_store.proofs.Base.{key_vertex, vertex_key, place_is, place_kept, kept_place}
-use Rattle.arc_store.proofs.Base.{segment_between, joined_kept}
+use Rattle.map_opening.proofs.Places.{place_is, place_kept, kept_place}
+use Rattle.arc_store.proofs.Base.{key_vertex, vertex_key, segment_between, joined_kept}
 use Rattle.arc_store.proofs.Ends.{segment_ends}
 use Rattle.arc_store.proofs.Insertions.{has_segment, is_segment_by}
-use Rattle.arc_store.proofs.Members.{in_any}
+use Rattle.ring_machine.proofs.Members.{in_any}
 use Rattle.arc_store.proofs.Numbers.{users_count}
 use Rattle.arc_store.proofs.RingUsers.{users_same}
 

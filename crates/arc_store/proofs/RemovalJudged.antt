@@ -21,7 +21,7 @@ use Rattle.local_planarity.specs.declared.leaving.Leaving.TheVariants.{EndingAt}
 use Rattle.arc_store.specs.declared.fault.EditFault.{EditFault}
 use Rattle.arc_store.specs.Edits.{IsRemovable}
 use Rattle.arc_store.specs.Faults.{Refuses}
-use Rattle.arc_store.proofs.Indexed.{has-eq}
+use Rattle.map_opening.proofs.SegmentLists.{has-eq}
 use Rattle.arc_store.proofs.MovePlan.{refuses_first}
 use Rattle.arc_store.proofs.Judged.{ends_of}
 
@@ -43,7 +43,7 @@ module _ (d : Document) (held : SegmentSet) (p : Position) (t : Segment) (i : Is
       ∙ ap (λ x. first_of ((SegmentExists unless not x) ∷ rest)) i.unjoined
 
   -- the segments after the removal, in the words of the tests
-  remove_after : IsAfter held (EndingAt p) (t ∷ []) (all_segments (del d p))
+  pub remove_after : IsAfter held (EndingAt p) (t ∷ []) (all_segments (del d p))
   remove_after s =
       has-eq (all_segments (del d p)) s
       ∙ i.without s

@@ -15,28 +15,29 @@ use Rattle.ring_machine.specs.Vertices.{del, is_junction}
 use Rattle.ring_machine.proofs.First.{In}
 use Rattle.ring_machine.proofs.Neighbours.{has-in}
 use Rattle.ring_machine.proofs.RingSegments.{segment_eq-true}
-use Rattle.vertex_index.specs.Placement.{Placement}
+use Rattle.vertex_index.specs.Placement.{Placement, place}
 use Rattle.segment_index.specs.Candidates.{SegmentSet, AreAmong, AreSingle, segment_is}
 use Rattle.segment_index.proofs.Singles.{same_segment}
 use Rattle.shared_arcs.specs.declared.around.Neighbours.{Neighbours}
 use Rattle.shared_arcs.specs.declared.around.Neighbours.TheVariants as neighbours
 use Rattle.shared_arcs.specs.declared.around.Neighbours.TheVariants.{One, Two, More}
-use Rattle.shared_arcs.specs.Edited.{AreApart}
+use Rattle.arc_tables.specs.Edited.{AreApart}
 use Rattle.shared_arcs.specs.Joined.{Joined, AreNeighbours}
-use Rattle.shared_arcs.specs.Rings.{Rings, users_of}
+use Rattle.arc_tables.specs.Rings.{Rings, users_of}
 use Rattle.arc_store.specs.declared.frame.Frame.{Frame}
 use Rattle.arc_store.specs.Edits.{IsRemovable, TakenOut}
 use Rattle.arc_store.specs.Holds.{IsWhole, IsIndexed, Holds}
 use Rattle.arc_store.specs.Kept.{IsKept, stored}
 use Rattle.arc_store.specs.Planned.{AreNew, Exchanges, spokes}
-use Rattle.arc_store.specs.Stored.{Stored, place, document_of}
+use Rattle.arc_store.specs.Stored.{Stored, document_of}
 use Rattle.arc_store.proofs.Around.{AreTwo, bridged_two, segments_two, sweeps_two, unbridged_two}
 use Rattle.arc_store.proofs.Around.{two_apart, neighbours_none, neighbours_one, neighbours_more}
-use Rattle.arc_store.proofs.Base.{IsKept as IsPlaced, place_is, joined_kept, joined_apart, joined_back}
+use Rattle.map_opening.proofs.Places.{IsKept as IsPlaced, place_is}
+use Rattle.arc_store.proofs.Base.{joined_kept, joined_apart, joined_back}
 use Rattle.arc_store.proofs.Base.{joined_segment, one_to, key_vertex}
 use Rattle.arc_store.proofs.SegmentCounts.{as_many}
 use Rattle.arc_store.proofs.InsertPlan.{one_single, two_single}
-use Rattle.arc_store.proofs.Members.{any_in}
+use Rattle.ring_machine.proofs.Members.{any_in}
 use Rattle.arc_store.proofs.Removed.{Removing, without_vertex, document_removed, reindexed_removed}
 use Rattle.arc_store.proofs.Removed.{holds_removed, size_removed}
 use Rattle.arc_store.proofs.RingUsers.{users_same}
@@ -294,6 +295,7 @@ module _ {A : Type 0} {frame : Frame A} {rings rings' : Rings} {places places' :
           holds = holds_removed (stored frame rings places) held held' rings' m j k p f.kept.holds removing
               (remove_indexed (stored frame rings places) held f.kept.holds m j k p f.here f.two f.unjoined rings' held' removing e);
           counted = f.kept.counted;
+          listed = f.kept.listed;
           next = f.kept.next;
           few = f.kept.few;
           sized = shrunk ∙ sym (ap size is_removed);

@@ -33,32 +33,33 @@ use Rattle.ring_machine.proofs.StaysProper.{ring_long, ring_distinct}
 use Rattle.ring_machine.proofs.Accepted.{RemoveAccepted, remove-accepted, removed}
 use Rattle.ring_machine.proofs.RingSegments.{segment_eq-true}
 use Rattle.segment_index.specs.Candidates.{SegmentSet, has as among}
-use Rattle.shared_arcs.specs.Ways.{Edge, is_seg}
-use Rattle.shared_arcs.specs.Rings.{Rings, begins}
+use Rattle.arc_tables.specs.Ways.{Edge, is_seg}
+use Rattle.arc_tables.specs.Rings.{Rings, begins}
 use Rattle.shared_arcs.specs.Joined.{Joined}
-use Rattle.shared_arcs.specs.Edited.{onto, drawn, collapsed}
-use Rattle.arc_store.specs.Stored.{Stored, place, positions_along, edges_under, ring_under}
-use Rattle.arc_store.specs.Stored.{document_of}
-use Rattle.arc_store.specs.Holds.{GoesRound, IsWhole, IsIndexed, Holds}
-use Rattle.arc_store.proofs.Indexed.{has-eq}
-use Rattle.arc_store.proofs.Members.{in_any, contains_in, in_contains, in_mapped, in_flat}
-use Rattle.arc_store.proofs.Members.{same_answer}
+use Rattle.arc_tables.specs.Edited.{onto, drawn, collapsed}
+use Rattle.vertex_index.specs.Placement.{place}
+use Rattle.arc_store.specs.Stored.{Stored, positions_along, edges_under, ring_under, document_of}
+use Rattle.map_opening.specs.Laying.{GoesRound}
+use Rattle.arc_store.specs.Holds.{IsWhole, IsIndexed, Holds}
+use Rattle.map_opening.proofs.SegmentLists.{has-eq}
+use Rattle.ring_machine.proofs.Members.{in_any, contains_in, in_contains, in_mapped, in_flat}
+use Rattle.ring_machine.proofs.Members.{same_answer, is_some-mapped, mapped_there}
 use Rattle.arc_store.proofs.Around.{AreTwo, two_ways, bridged_two, segments_two, bridge_two}
-use Rattle.arc_store.proofs.Counted.{filter-mapped}
+use Rattle.map_opening.proofs.Counted.{filter-mapped}
 use Rattle.arc_store.proofs.Ends.{two_ends}
 use Rattle.arc_store.proofs.Insertions.{has_segment, has_segment_by}
 use Rattle.arc_store.proofs.Numbers.{users_of, framed_has}
 use Rattle.arc_store.proofs.Removals.{segments_off, size_del}
-use Rattle.arc_store.proofs.Base.{AreJoined, segments_at, document_ring, rings_are, IsKept}
-use Rattle.arc_store.proofs.Base.{place_is, place_kept, one_key, ring_under_is, begin_kept, framed}
+use Rattle.map_opening.proofs.Places.{IsKept, place_is, place_kept, one_key}
+use Rattle.arc_store.proofs.Base.{AreJoined, segments_at, document_ring, rings_are}
+use Rattle.arc_store.proofs.Base.{ring_under_is, begin_kept, framed}
 use Rattle.arc_store.proofs.Base.{ring_is_ring, joined_kept, joined_differ}
-use Rattle.arc_store.proofs.KeyRings.{laid, edge_ends, edge_apart, is_seg_ends, ends_is_seg}
-use Rattle.arc_store.proofs.KeyRings.{in_canonical, of_canonical}
+use Rattle.map_opening.proofs.KeyRings.{laid, edge_ends, edge_apart, is_seg_ends, ends_is_seg}
+use Rattle.map_opening.proofs.KeyRings.{in_canonical, of_canonical}
 use Rattle.arc_store.proofs.KeyWays.{edited_along, edited_way, drawn_keeps, round_way, round_of_way}
 use Rattle.arc_store.proofs.RingEdits.{ring_pivot, canonical_ring, begun_at, edge_on, edge_back}
 use Rattle.arc_store.proofs.RingEdits.{beside_next, beside_last}
-use Rattle.arc_store.proofs.Places.{place_alike, remove_here, remove_other, is_some-mapped}
-use Rattle.arc_store.proofs.Places.{mapped_there}
+use Rattle.map_opening.proofs.Places.{place_alike, remove_here, remove_other}
 
 -- ---- one ring
 
@@ -461,7 +462,8 @@ holds_removed s held held' after m j k p h i x =
     let is = document_removed s after m j k p h.whole h.proper i in
     record {
       whole = whole_removed s after m j k p h.whole h.proper i;
-      numbers = h.numbers;
+      formed = h.formed;
+      keeps = h.keeps;
       proper = subst Proper (sym is) (removed (document_of s) p h.proper i.accepted).0;
       small = subst (λ d. size d ≤ 4000000) (sym is) (omega (arith, h.small, size_removed s after m j k p h.whole h.proper i));
       indexed = subst (λ d. IsIndexed d held') (sym is) x;

@@ -17,9 +17,8 @@ use Rattle.ring_machine.specs.Ring.{before, from, least, canonical}
 use Rattle.ring_machine.proofs.Canonical.{Below}
 use Rattle.ring_machine.proofs.Order.{position_eq-refl, position_lt-apart, position_lt-total}
 use Rattle.ring_machine.proofs.Order.{position_lt-trans, and_both}
-use Rattle.vertex_index.specs.Placement.{Placement}
+use Rattle.vertex_index.specs.Placement.{Placement, place}
 use Rattle.arc_store.specs.RingPlaces.{positions_left, IsAround}
-use Rattle.arc_store.specs.Stored.{place}
 
 -- ---- elements of lists
 

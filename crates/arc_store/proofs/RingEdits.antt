@@ -17,8 +17,8 @@ use Rattle.ring_machine.proofs.Spots.{Rotated, rotated-trans}
 use Rattle.ring_machine.proofs.Removal.{not_true, NextTo, second, last, Beside}
 use Rattle.ring_machine.proofs.StaysProper.{ring_distinct}
 use Rattle.ring_machine.proofs.StaysRing.{distinct_swap}
-use Rattle.arc_store.proofs.Members.{in_swap}
-use Rattle.arc_store.proofs.KeyRings.{edges_swap}
+use Rattle.ring_machine.proofs.Members.{in_swap}
+use Rattle.map_opening.proofs.KeyRings.{edges_swap}
 
 -- ---- the canonical ring only turns
 

@@ -13,19 +13,20 @@ use Rattle.ring_machine.specs.Ring.{canonical}
 use Rattle.ring_machine.proofs.First.{In}
 use Rattle.ring_machine.proofs.Neighbours.{in-map, in-flat_map}
 use Rattle.ring_machine.proofs.RingsOf.{rings-in_rings}
-use Rattle.vertex_index.specs.Placement.{Placement}
-use Rattle.shared_arcs.specs.Rings.{Rings, begins}
-use Rattle.shared_arcs.specs.Ways.{Edge}
+use Rattle.vertex_index.specs.Placement.{Placement, place}
+use Rattle.arc_tables.specs.Rings.{Rings, begins}
+use Rattle.arc_tables.specs.Ways.{Edge}
 use Rattle.arc_store.specs.declared.frame.Frame.{Frame}
-use Rattle.arc_store.specs.Frames.{polygon_numbers, feature_numbers, frame_of, IsCounted}
+use Rattle.map_opening.specs.Laying.{polygon_numbers, feature_numbers}
+use Rattle.arc_store.specs.Frames.{frame_of, IsCounted}
 use Rattle.arc_store.specs.Holds.{IsWhole}
 use Rattle.arc_store.specs.Kept.{stored}
 use Rattle.arc_store.specs.Readers.{element, ring_at}
-use Rattle.arc_store.specs.Stored.{place, document_of, ring_under}
+use Rattle.arc_store.specs.Stored.{document_of, ring_under}
 use Rattle.arc_store.proofs.FeatureLemmas.{feature_polygons}
 use Rattle.arc_store.proofs.FrameLemmas.{frame_rings}
-use Rattle.arc_store.proofs.KeyRings.{length-canonical, begins_round}
-use Rattle.arc_store.proofs.Members.{in_contains}
+use Rattle.map_opening.proofs.KeyRings.{length-canonical, begins_round}
+use Rattle.ring_machine.proofs.Members.{in_contains}
 
 in_get : {X : Type 0} (xs : List X) (i : ℕ) (x : X) → slice_get xs i ≡ Some x → In x xs
 in_get [] i x e = absurd cc

@@ -18,12 +18,12 @@ use Rattle.ring_machine.specs.WellFormed.{are_distinct}
 use Rattle.ring_machine.proofs.First.{In, filter-in}
 use Rattle.ring_machine.proofs.Order.{and_both}
 use Rattle.ring_machine.proofs.Removal.{not_true}
-use Rattle.shared_arcs.specs.Ways.{one}
-use Rattle.shared_arcs.specs.Rings as shared
+use Rattle.arc_tables.specs.Ways.{one}
+use Rattle.arc_tables.specs.Rings as shared
 use Rattle.arc_store.specs.Holds.{IsWhole}
 use Rattle.arc_store.specs.Stored.{Stored}
-use Rattle.arc_store.proofs.KeyRings.{has_key}
-use Rattle.arc_store.proofs.Members.{contains_in, in_contains, in_filter, in_any}
+use Rattle.map_opening.proofs.KeyRings.{has_key}
+use Rattle.ring_machine.proofs.Members.{contains_in, in_contains, in_filter, in_any}
 use Rattle.arc_store.proofs.Numbers.{users_of}
 
 -- ---- numbers but for one

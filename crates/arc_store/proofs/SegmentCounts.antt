@@ -2,23 +2,17 @@
 use Rattle.std.proofs.Common.{◌≡◌, ◌≤◌, ◌+◌, ℕ, Bool, true, false, refl, sym, ap, ap₂, ◌∙◌, cond}
 use Rattle.std.proofs.Common.{List, [], ◌∷◌, length, ◌||◌, ◌&&◌, arith, leb}
 use Rattle.std.specs.Prelude.{not}
-use Rattle.std.specs.List.{list_any, fold}
 use Rattle.std.specs.FinSet as set
 use Rattle.std.proofs.lemmas.Bool.{false≢true}
-use Rattle.grid_geometry.specs.Segment.{Segment, segment_cmp, segment_eq}
+use Rattle.grid_geometry.specs.Segment.{Segment, segment_cmp}
 use Rattle.ring_machine.specs.Document.{Document}
 use Rattle.ring_machine.specs.Parts.{all_segments}
-use Rattle.ring_machine.specs.Query.{add_segment, distinct_segments}
+use Rattle.ring_machine.specs.Query.{distinct_segments}
 use Rattle.segment_index.specs.Candidates.{SegmentSet, AreAmong, AreSingle, segment_is, has, times_in}
-use Rattle.segment_index.proofs.Singles.{segment_total, same_sets, same_segment, is-itself, has-is}
-use Rattle.segment_index.proofs.Singles.{times-none}
+use Rattle.segment_index.proofs.Singles.{segment_total, same_sets, is-itself, has-is}
 use Rattle.arc_store.specs.Holds.{IsIndexed}
 use Rattle.arc_store.specs.Planned.{AreNew, Gains, Exchanges}
-use Rattle.arc_store.proofs.Indexed.{has-eq}
-
-or_nothing : (b : Bool) → b ≡ (b || false)
-or_nothing true = refl
-or_nothing false = refl
+use Rattle.map_opening.proofs.SegmentLists.{has-eq, or_nothing, has_all, single_all}
 
 or_swap : (a b c : Bool) → (a || (b || c)) ≡ (b || (a || c))
 or_swap true true c = refl
@@ -109,47 +103,6 @@ len_exchanges old new added gone single free once among h =
         ∙ ap (λ b. b || has gone t) (sym (h t))
 
 -- ---- the segments of a document, each once
-
-has_added : (ss : List Segment) (s t : Segment)
-    → has (add_segment ss s) t ≡ (segment_is t s || has ss t)
-has_added ss s t = by (list_any (segment_eq s) ss) refl
-  where
-    known : has ss s ≡ true → (b : Bool) → segment_is t s ≡ b → has ss t ≡ (b || has ss t)
-    known h true e = ap (has ss) (same_segment t s e) ∙ h
-    known h false e = refl
-
-    by : (b : Bool) → list_any (segment_eq s) ss ≡ b
-        → has (cond b ss (s ∷ ss)) t ≡ (segment_is t s || has ss t)
-    by true e = known (has-eq ss s ∙ e) (segment_is t s) refl
-    by false e = refl
-
-single_added : (ss : List Segment) (s : Segment) → AreSingle ss → AreSingle (add_segment ss s)
-single_added ss s h = by (list_any (segment_eq s) ss) refl
-  where
-    one : (t : Segment) → has ss s ≡ false → (b : Bool) → segment_is t s ≡ b
-        → cond b 1 0 + times_in ss t ≤ 1
-    one t e true f = omega (arith, times-none ss t (ap (has ss) (same_segment t s f) ∙ e))
-    one t e false f = omega (arith, h t)
-
-    by : (b : Bool) → list_any (segment_eq s) ss ≡ b → AreSingle (cond b ss (s ∷ ss))
-    by true e = h
-    by false e = λ t. one t (has-eq ss s ∙ e) (segment_is t s) refl
-
-pub has_all : (ss xs : List Segment) (t : Segment)
-    → has (fold add_segment ss xs) t ≡ (has ss t || has xs t)
-has_all ss [] t = or_nothing (has ss t)
-has_all ss (x ∷ xs) t =
-    has_all (add_segment ss x) xs t ∙ ap (λ b. b || has xs t) (has_added ss x t)
-    ∙ turned (segment_is t x) (has ss t) (has xs t)
-  where
-    turned : (a b c : Bool) → ((a || b) || c) ≡ (b || (a || c))
-    turned true true c = refl
-    turned true false c = refl
-    turned false b c = refl
-
-single_all : (ss xs : List Segment) → AreSingle ss → AreSingle (fold add_segment ss xs)
-single_all ss [] h = h
-single_all ss (x ∷ xs) h = single_all (add_segment ss x) xs (single_added ss x h)
 
 -- an index of the document's segments holds as many
 pub indexed_len : (d : Document) (held : SegmentSet) → IsIndexed d held

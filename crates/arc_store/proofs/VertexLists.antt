@@ -23,20 +23,21 @@ use Rattle.ring_machine.proofs.Neighbours.{in-map, in-flat_map, has-in, in-has}
 use Rattle.ring_machine.proofs.Order.{and_both}
 use Rattle.ring_machine.proofs.Removal.{none_parts, not_true}
 use Rattle.ring_machine.proofs.RingsOf.{rings-in_rings}
-use Rattle.vertex_index.specs.Placement.{Placement}
-use Rattle.shared_arcs.specs.Rings.{Rings, begins}
+use Rattle.vertex_index.specs.Placement.{Placement, place}
+use Rattle.arc_tables.specs.Rings.{Rings, begins}
 use Rattle.arc_store.specs.declared.frame.Frame.{Frame}
-use Rattle.arc_store.specs.Frames.{frame_of, feature_numbers, IsCounted}
+use Rattle.map_opening.specs.Laying.{feature_numbers}
+use Rattle.arc_store.specs.Frames.{frame_of, IsCounted}
 use Rattle.arc_store.specs.Holds.{IsWhole}
 use Rattle.arc_store.specs.Kept.{stored}
-use Rattle.arc_store.specs.Keyed.{all_rings}
-use Rattle.arc_store.specs.Stored.{Stored, place, edges_under, positions_along, ring_under, document_of}
-use Rattle.arc_store.proofs.Base.{key_vertex, vertex_key, kept_place, place_is, place_kept, distinct_places, IsKept}
-use Rattle.arc_store.proofs.KeyRings.{has_key, in_canonical, of_canonical}
-use Rattle.arc_store.proofs.Base.{framed, begin_kept}
+use Rattle.map_opening.specs.Keyed.{all_rings}
+use Rattle.arc_store.specs.Stored.{Stored, edges_under, positions_along, ring_under, document_of}
+use Rattle.map_opening.proofs.Places.{kept_place, place_is, place_kept, distinct_places, IsKept}
+use Rattle.arc_store.proofs.Base.{key_vertex, vertex_key, framed, begin_kept}
+use Rattle.map_opening.proofs.KeyRings.{has_key, in_canonical, of_canonical}
 use Rattle.arc_store.proofs.FrameLemmas.{frame_rings}
-use Rattle.arc_store.proofs.Members.{any_in, in_any, in_mapped, in_flat, same_answer, contains_in}
-use Rattle.arc_store.proofs.SortedOnce.{Rising, same_rising, all_rise, in_all, all_in, position_total, ties}
+use Rattle.ring_machine.proofs.Members.{any_in, in_any, in_mapped, in_flat, same_answer, contains_in}
+use Rattle.ring_machine.proofs.SortedOnce.{Rising, same_rising, all_rise, in_all, all_in, position_total, ties}
 
 -- ---- positions, each once
 

@@ -10,8 +10,8 @@ use Rattle.ring_machine.specs.Vertices.{ins, del, is_junction}
 use Rattle.ring_machine.specs.Sweep.{holds_other, remove_sweeps}
 use Rattle.vertex_index.specs.Placement.{Placement}
 use Rattle.segment_index.specs.Candidates.{SegmentSet}
-use Rattle.shared_arcs.specs.Edited.{through, collapsed}
-use Rattle.shared_arcs.specs.Rings.{Rings}
+use Rattle.arc_tables.specs.Edited.{through, collapsed}
+use Rattle.arc_tables.specs.Rings.{Rings}
 use Rattle.arc_store.specs.Holds.{IsIndexed}
 
 -- q, which is no vertex, may come between the ends of a segment: an index holds the segments, and

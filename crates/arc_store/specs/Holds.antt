@@ -1,24 +1,19 @@
 -- What is true of every map that is kept.
-use Rattle.std.specs.Prelude.{ℕ, ◌≡◌, ◌≤◌, ◌↔◌, List, length, map, Some, is_some, IsTrue, Contains}
+use Rattle.std.specs.Prelude.{ℕ, ◌≡◌, ◌≤◌, ◌↔◌, List, Some, is_some, IsTrue, Contains}
 use Rattle.std.specs.FinMap as table
 use Rattle.std.specs.FinSet as set
 use Rattle.grid_geometry.specs.Segment.{Segment}
 use Rattle.ring_machine.specs.Document.{Document}
-use Rattle.ring_machine.specs.Parts.{features, rings, size, is_segment}
+use Rattle.ring_machine.specs.Parts.{rings, size, is_segment}
 use Rattle.ring_machine.specs.Planar.{Proper}
-use Rattle.ring_machine.specs.WellFormed.{are_distinct}
+use Rattle.ring_machine.specs.WellFormed.{are_distinct, WellFormed}
+use Rattle.topo_outline.specs.Kept.{KeepsTexts}
 use Rattle.vertex_index.specs.Placement.{AreDistinct}
 use Rattle.segment_index.specs.Candidates.{SegmentSet}
-use Rattle.shared_arcs.specs.Ways.{Edge}
-use Rattle.shared_arcs.specs.Rings.{begins, edges}
+use Rattle.arc_tables.specs.Ways.{Edge}
+use Rattle.arc_tables.specs.Rings.{begins}
+use Rattle.map_opening.specs.Laying.{GoesRound}
 use Rattle.arc_store.specs.Stored.{Stored, document_of}
-
--- the edges go round at least three different keys
-pub record GoesRound (es : List Edge) : Type 0 where
-  pub keys : List ℕ
-  pub along : es ≡ edges keys
-  pub long : 3 ≤ length keys
-  pub different : IsTrue (are_distinct keys)
 
 -- an edge of ring r begins at the vertex with key k
 abbrev pub Visits : Stored → ℕ → ℕ → Type 0
@@ -39,11 +34,12 @@ pub record IsWhole (s : Stored) : Type 0 where
 abbrev pub IsIndexed : Document → SegmentSet → Type 0
 IsIndexed d held = (t : Segment) → set.contains held t ≡ is_segment d t
 
--- the map: its tables belong together, feature numbers are distinct, its document is proper and
--- within the limit, and the index holds the document's segments
+-- the map: its tables belong together, its frame is well formed and has texts that opening would
+-- keep, its document is proper and within the limit, and the index holds the document's segments
 pub record Holds (s : Stored) (held : SegmentSet) : Type 0 where
   pub whole : IsWhole s
-  pub numbers : IsTrue (are_distinct (map (λ f. f.number) (features s.frame)))
+  pub formed : WellFormed s.frame
+  pub keeps : KeepsTexts s.frame
   pub proper : Proper (document_of s)
   pub small : size (document_of s) ≤ 4000000
   pub indexed : IsIndexed (document_of s) held

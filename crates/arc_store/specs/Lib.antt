@@ -3,8 +3,6 @@ pub mod Faults
 pub mod Frames
 pub mod Holds
 pub mod Kept
-pub mod Keyed
-pub mod Laying
 pub mod Leaves
 pub mod Planned
 pub mod Readers

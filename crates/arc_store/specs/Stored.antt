@@ -1,24 +1,20 @@
 -- A map as the store keeps it, and the document that it means: a frame with numbers in place of
 -- rings, the edges of each ring by its number, and the position of each vertex by its key.
-use Rattle.std.specs.Prelude.{ℕ, pos, List, [], map, unwrap_or}
+use Rattle.std.specs.Prelude.{ℕ, List, [], map, unwrap_or}
 use Rattle.std.specs.FinMap as table
-use Rattle.grid_geometry.specs.Position.{Position, position}
+use Rattle.grid_geometry.specs.Position.{Position}
 use Rattle.ring_machine.specs.Ring.{canonical}
 use Rattle.ring_machine.specs.Document.{DocumentOf, Document}
 use Rattle.ring_machine.specs.Parts.{in_rings}
-use Rattle.vertex_index.specs.Placement.{Placement}
-use Rattle.shared_arcs.specs.Ways.{Edge}
-use Rattle.shared_arcs.specs.Rings.{Rings, begins}
+use Rattle.vertex_index.specs.Placement.{Placement, place}
+use Rattle.arc_tables.specs.Ways.{Edge}
+use Rattle.arc_tables.specs.Rings.{Rings, begins}
 
 -- what is kept
 pub record Stored : Type 0 where
   pub frame : DocumentOf ℕ
   pub rings : Rings
   pub places : Placement
-
--- the position of the vertex with this key
-abbrev pub place : Placement → ℕ → Position
-place places k = unwrap_or (table.get places k) (position (pos 0) (pos 0))
 
 -- the positions of a ring with these edges, in order
 abbrev pub positions_along : Placement → List Edge → List Position

@@ -1,14 +1,17 @@
-ghost use Rattle.std.specs.Prelude.{◌≡◌, ◌≤◌, ◌↔◌, ℕ, map, length, option_map, unwrap_or, slice_get};
+ghost use Rattle.std.specs.Prelude.{◌≡◌, ◌≤◌, map, length, option_map, unwrap_or, slice_get};
 ghost use Rattle.ring_machine.specs.Parts.{feature, size};
+ghost use Rattle.ring_machine.specs.Planar.{Proper};
+ghost use Rattle.ring_machine.specs.WellFormed.{WellFormed};
+ghost use Rattle.topo_outline.specs.Kept.{KeepsTexts};
 ghost use Rattle.topo_outline.specs.Views.{form_of, view_kept};
-ghost use Rattle.arc_store.specs.Leaves.{raw_leaf, raw_leaves, raw_features};
 ghost use Rattle.arc_store.specs.Readers.{shown, IsFrameOf};
 
+use crate::leaf::feature_at;
 use crate::map::Map;
 use segment_index::SegIndex;
 use std::alloc::{Allocator, Global};
 use std::marker::Model;
-use topo_outline::{Form, Item, KeptMember, RawFeature, RawLayer};
+use topo_outline::{Form, KeptMember, RawFeature, RawLayer};
 
 /// What a map is beside its rings.
 #[derive(Drop)]
@@ -85,70 +88,13 @@ impl<'m, 'a, A: Allocator + Copy> FeatureView<'m, 'a, A> {
     }
 }
 
-/// The feature of a layer's item.
-fn leaf_of<'m, 'a, A: Allocator + Copy>(item: &'m Item<'a, A>) -> Option<&'m RawFeature<'a, A>>
-    ensures { option_map (λ f. f.now) result ≡ raw_leaf item.now }
-{
-    match item {
-        Item::Leaf(feature) => Some(feature),
-        _ => None,
-    }
-}
-
-/// How many features these items have.
-fn leaf_count<'a, A: Allocator + Copy>(items: &[Item<'a, A>]) -> usize
-    ensures { result ≡ length (raw_leaves items.now) }
-{
-    let mut count = 0usize;
-    for item in items {
-        if leaf_of(item).is_some() {
-            count += 1;
-        }
-    }
-    count
-}
-
-/// The feature of these items before which so many stand.
-fn leaf_at<'m, 'a, A: Allocator + Copy>(
-    items: &'m [Item<'a, A>],
-    n: usize,
-) -> Option<&'m RawFeature<'a, A>>
-    ensures { option_map (λ f. f.now) result ≡ slice_get (raw_leaves items.now) n }
-{
-    let mut before = 0usize;
-    for item in items {
-        if let Some(feature) = leaf_of(item) {
-            if before == n {
-                return Some(feature);
-            }
-            before += 1;
-        }
-    }
-    None
-}
-
-/// The feature of these layers before which so many stand.
-fn feature_in<'m, 'a, A: Allocator + Copy>(
-    layers: &'m [RawLayer<'a, A>],
-    n: usize,
-) -> Option<&'m RawFeature<'a, A>>
-    ensures { option_map (λ f. f.now) result ≡ slice_get (raw_features layers.now) n }
-{
-    let mut left = n;
-    for layer in layers {
-        let count = leaf_count(layer.items.as_slice());
-        if left < count {
-            return leaf_at(layer.items.as_slice(), left);
-        }
-        left -= count;
-    }
-    None
-}
-
 impl<'a, I: SegIndex, A: Allocator + Copy> Map<'a, I, A> {
     /// What the map is beside its rings.
     pub fn frame(&self) -> FrameView<'_, 'a, A>
-        ensures { IsFrameOf self.now.doc result }
+        ensures shown { IsFrameOf self.now.doc result }
+        ensures formed { WellFormed self.now.doc }
+        ensures keeps { KeepsTexts self.now.doc }
+        ensures proper { Proper self.now.doc }
     {
         FrameView {
             transform: self.frame.transform,
@@ -157,13 +103,14 @@ impl<'a, I: SegIndex, A: Allocator + Copy> Map<'a, I, A> {
         }
     }
 
-    /// The feature with this number; `None` where no feature has it. Walks the items of the layers.
-    /// The rings of a map have at most 4,000,000 positions, each ring counted for itself.
+    /// The feature with this number; `None` where no feature has it. Takes no walk and no memory. The
+    /// rings of a map have at most 4,000,000 positions, each ring counted for itself.
     pub fn feature(&self, n: u32) -> Option<FeatureView<'_, 'a, A>>
         ensures shown { result ≡ option_map shown (feature self.now.doc n) }
         ensures small { size self.now.doc ≤ 4000000 }
     {
-        let feature = feature_in(self.frame.layers.as_slice(), n as usize)?;
+        let leaf = self.frame.leaves.get(n as usize)?;
+        let feature = feature_at(self.frame.layers.as_slice(), *leaf)?;
         let polygons = self.frame.polygons.get(n as usize)?;
         Some(FeatureView {
             feature,

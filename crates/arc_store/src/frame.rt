@@ -1,4 +1,5 @@
 // What a map is beside its rings.
+use crate::leaf::Leaf;
 use std::alloc::{Allocator, Global};
 use topo_outline::{KeptMember, RawLayer};
 
@@ -13,4 +14,6 @@ pub(crate) struct Frame<'a, A: Allocator + Copy = Global> {
     pub(crate) members: Vec<KeptMember<'a>, A>,
     /// By feature the polygons, each by the number of its outer ring and those of its holes.
     pub(crate) polygons: Vec<Vec<Vec<usize, A>, A>, A>,
+    /// Where each feature stands among the items of the layers.
+    pub(crate) leaves: Vec<Leaf, A>,
 }

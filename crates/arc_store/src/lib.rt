@@ -7,13 +7,12 @@
 
 mod begin;
 mod build;
+mod copying;
 mod counts;
 mod fault;
 mod features;
 mod frame;
-mod junctions;
-mod keyed;
-mod laying;
+mod leaf;
 mod map;
 mod plan;
 mod positions;
@@ -30,6 +29,3 @@ pub use features::{FeatureView, FrameView};
 pub use map::Map;
 pub use ring_iter::RingIter;
 pub use spot::Spot;
-
-#[cfg(test)]
-mod tests;

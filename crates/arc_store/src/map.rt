@@ -7,8 +7,8 @@ use std::marker::Model;
 use vertex_index::Vertices;
 
 /// A map of shared borders, in which no two segments conflict. It is seen as its document, the
-/// number of the next new feature, and how many tests the last edit made. Its index always holds
-/// exactly the segments of its document.
+/// number of the next new feature, how many tests the last edit made, and the frame of the cells of
+/// its index. The index always holds exactly the segments of its document.
 #[derive(Drop)]
 pub struct Map<'a, I: SegIndex, A: Allocator + Copy = Global> {
     pub(crate) alloc: A,
@@ -31,7 +31,7 @@ impl<'a, I: SegIndex, A: Allocator + Copy> Model for Map<'a, I, A> {
 
     ghost use Rattle.arc_store.specs.Kept.{state_of, IsKept};
 
-    ghost view = { λ m. state_of m.frame m.borders m.vertices m.next m.tests };
+    ghost view = { λ m. state_of m.frame m.borders m.vertices m.next m.tests (I.cells m.index) };
 
     ghost invariant = { λ m. IsKept m.frame m.borders m.vertices (I.held m.index) m.next m.positions m.segments };
 }

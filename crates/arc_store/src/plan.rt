@@ -5,6 +5,7 @@ ghost use Rattle.ring_machine.specs.Planar.{least_conflict};
 ghost use Rattle.ring_machine.specs.Refusals.{conflict_of};
 ghost use Rattle.ring_machine.specs.Ring as machine;
 ghost use Rattle.segment_index.specs.Candidates.{AreAmong, AreSingle};
+ghost use Rattle.segment_index.specs.Times.{times_by};
 ghost use Rattle.local_planarity.specs.Edits.{AreApart, IsAfter};
 ghost use Rattle.local_planarity.specs.Tests.{most_tests};
 ghost use Rattle.arc_store.specs.Faults.{Refuses};
@@ -73,7 +74,7 @@ pub(crate) fn test_planar<I: SegIndex, A: Allocator + Copy>(
         → IsAfter (I.held index.now) leaving added.now ss
         → Refuses fault (conflict_of (least_conflict ss))) }
     ensures few { (ss : List Segment) → IsAfter (I.held index.now) leaving added.now ss
-        → tests.new ≤ tests.old + most_tests (I.times index.now) ss added.now }
+        → tests.new ≤ tests.old + most_tests (times_by (I.cells index.now)) ss added.now }
 {
     match first_conflict(alloc, index, leaving, added, tests) {
         Ok(Some((s, t))) => Err(EditFault::Conflict { s, t }),
@@ -87,7 +88,7 @@ pub(crate) fn discard_all<I: SegIndex>(index: &mut I, segments: &[Seg])
     requires held { AreAmong (I.held index.old) segments.now }
     requires once { AreSingle segments.now }
     ensures dropped { Drops (I.held index.old) segments.now (I.held index.new) }
-    ensures times { I.times index.new ≡ I.times index.old }
+    ensures cells { I.cells index.new ≡ I.cells index.old }
 {
     for s in segments {
         index.discard(*s);
@@ -101,7 +102,7 @@ pub(crate) fn add_all<I: SegIndex>(index: &mut I, segments: &[Seg]) -> Result<()
     requires once { AreSingle segments.now }
     ensures gained { OnOk result (Gains (I.held index.old) segments.now (I.held index.new)) }
     ensures unchanged { OnErr result (I.held index.new ≡ I.held index.old) }
-    ensures times { I.times index.new ≡ I.times index.old }
+    ensures cells { I.cells index.new ≡ I.cells index.old }
 {
     for at in 0..segments.len() {
         match index.add(segments[at]) {

@@ -2,10 +2,11 @@ ghost use Rattle.std.specs.Prelude.{◌≡◌, ◌++◌, ℕ, true, [], map, Con
 ghost use Rattle.std.specs.FinMap as table;
 ghost use Rattle.std.specs.List.{flat_map, fold};
 ghost use Rattle.ring_machine.specs.Query.{add_position, vertices};
-ghost use Rattle.shared_arcs.specs.Rings.{begins};
-ghost use Rattle.arc_store.specs.Frames.{polygon_numbers, feature_numbers};
-ghost use Rattle.arc_store.specs.Keyed.{all_rings};
-ghost use Rattle.arc_store.specs.Stored.{edges_under, place};
+ghost use Rattle.arc_tables.specs.Rings.{begins};
+ghost use Rattle.map_opening.specs.Laying.{polygon_numbers, feature_numbers};
+ghost use Rattle.map_opening.specs.Keyed.{all_rings};
+ghost use Rattle.vertex_index.specs.Placement.{place};
+ghost use Rattle.arc_store.specs.Stored.{edges_under};
 
 use crate::map::Map;
 use grid_geometry::Pos;

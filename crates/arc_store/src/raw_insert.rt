@@ -1,16 +1,19 @@
-ghost use Rattle.std.specs.Prelude.{◌≡◌, ◌≢◌, ◌≤◌, ℕ, true, false, None, [], ◌∷◌};
+ghost use Rattle.std.specs.Prelude.{◌≡◌, ◌≢◌, ◌≤◌, ◌+◌, ℕ, true, false, List, None, [], ◌∷◌};
 ghost use Rattle.std.specs.Prelude.{OnOk, OnErr, IfErr};
 ghost use Rattle.std.specs.FinMap as table;
 ghost use Rattle.std.specs.FinSet as set;
-ghost use Rattle.grid_geometry.specs.Segment.{segment};
+ghost use Rattle.grid_geometry.specs.Segment.{Segment, segment};
 ghost use Rattle.ring_machine.specs.Document.{Document};
 ghost use Rattle.ring_machine.specs.Parts.{is_vertex, is_segment, size};
 ghost use Rattle.ring_machine.specs.Refusals.{first_of, insert_refusals};
 ghost use Rattle.ring_machine.specs.Vertices.{ins};
 ghost use Rattle.segment_index.specs.Candidates.{AreSingle};
-ghost use Rattle.shared_arcs.specs.Edited.{AreApart as AreThree};
+ghost use Rattle.segment_index.specs.Times.{times_by};
+ghost use Rattle.arc_tables.specs.Edited.{AreApart as AreThree};
 ghost use Rattle.shared_arcs.specs.Joined.{Joined};
-ghost use Rattle.local_planarity.specs.Edits.{AreApart};
+ghost use Rattle.local_planarity.specs.Edits.{AreApart, IsAfter};
+ghost use Rattle.local_planarity.specs.Tests.{most_for, most_tests};
+ghost use Rattle.local_planarity.specs.declared.leaving.Leaving.TheVariants.{One};
 ghost use Rattle.arc_store.specs.Edits.{IsInsertable, PutBetween};
 ghost use Rattle.arc_store.specs.Faults.{Refuses};
 ghost use Rattle.arc_store.specs.Planned as planned;
@@ -78,6 +81,7 @@ fn put_in<I: SegIndex, A: Allocator + Copy>(
     ensures vertices { OnErr result (vertices.new ≡ vertices.old) }
     ensures borders { OnErr result (borders.new ≡ borders.old) }
     ensures unchanged { OnErr result (I.held index.new ≡ I.held index.old) }
+    ensures cells { I.cells index.new ≡ I.cells index.old }
 {
     add_all(index, after)?;
     match put_between(vertices, borders, ends.0, ends.1, q) {
@@ -112,6 +116,8 @@ fn test_insert<I: SegIndex, A: Allocator + Copy>(
     ensures refused { IfErr result (λ fault. (d : Document)
         → IsInsertable d (I.held index.now) ends.0 ends.1 q
         → Refuses fault (first_of (insert_refusals d ends.0 ends.1 q))) }
+    ensures few { (ss : List Segment) → IsAfter (I.held index.now) (One before) after.now ss
+        → tests.new ≤ tests.old + most_tests (times_by (I.cells index.now)) ss after.now }
 {
     let (a, b) = ends;
     match test_planar(alloc, index, Leaving::One(before), after, tests) {
@@ -139,6 +145,9 @@ impl<'a, I: SegIndex, A: Allocator + Copy> Map<'a, I, A> {
             (λ fault. Refuses fault (first_of (insert_refusals self.old.doc a b q))) }
         ensures unchanged { OnErr result (self.new.doc ≡ self.old.doc) }
         ensures next { self.new.next ≡ self.old.next }
+        ensures few { self.new.tests ≤ self.old.tests
+            + most_for (times_by self.old.cells) self.old.doc (ins self.old.doc a b q) }
+        ensures cells { self.new.cells ≡ self.old.cells }
     {
         let Some(i) = self.vertices.key_of(a) else {
             return Err(EditFault::NoSegment);

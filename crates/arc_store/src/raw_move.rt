@@ -9,8 +9,9 @@ ghost use Rattle.ring_machine.specs.Parts.{is_vertex};
 ghost use Rattle.ring_machine.specs.Refusals.{first_of, move_refusals};
 ghost use Rattle.ring_machine.specs.Vertices.{put};
 ghost use Rattle.segment_index.specs.Candidates.{AreAmong, AreSingle};
+ghost use Rattle.segment_index.specs.Times.{times_by};
 ghost use Rattle.local_planarity.specs.Edits.{IsHeld};
-ghost use Rattle.local_planarity.specs.Tests.{most_given};
+ghost use Rattle.local_planarity.specs.Tests.{most_for_move, most_given};
 ghost use Rattle.arc_store.specs.Faults.{Refuses};
 ghost use Rattle.arc_store.specs.Holds.{IsIndexed};
 ghost use Rattle.arc_store.specs.Planned.{AreNew, Exchanges};
@@ -39,7 +40,7 @@ fn sweeps<I: SegIndex, A: Allocator + Copy>(
     ensures sweeps { IfOk result (λ found. (d : Document) → IsIndexed d (I.held index.now)
         → found ≡ (list_any (edge_sweeps d p q) around.now || crosses_on_way d p q)) }
     ensures few { (ss : List Segment) → IsHeld (I.held index.now) ss
-        → tests.new ≤ tests.old + most_given (I.times index.now) ss (segment p q) }
+        → tests.new ≤ tests.old + most_given (times_by (I.cells index.now)) ss (segment p q) }
 {
     for a in around {
         if holds_other(alloc, index, &[*a, p], *a, p, q)? {
@@ -70,6 +71,7 @@ fn shift<I: SegIndex, A: Allocator + Copy>(
     ensures memory { IfErr result (λ fault. fault ≡ OutOfMemory) }
     ensures vertices { OnErr result (vertices.new ≡ vertices.old) }
     ensures index { OnErr result (I.held index.new ≡ I.held index.old) }
+    ensures cells { I.cells index.new ≡ I.cells index.old }
 {
     add_all(index, after)?;
     match vertices.shift(k, q) {
@@ -96,6 +98,9 @@ impl<'a, I: SegIndex, A: Allocator + Copy> Map<'a, I, A> {
             (λ fault. Refuses fault (first_of (move_refusals self.old.doc p q))) }
         ensures unchanged { OnErr result (self.new.doc ≡ self.old.doc) }
         ensures next { self.new.next ≡ self.old.next }
+        ensures few { self.new.tests ≤ self.old.tests
+            + most_for_move (times_by self.old.cells) self.old.doc p q }
+        ensures cells { self.new.cells ≡ self.old.cells }
     {
         let Some(k) = self.vertices.key_of(p) else {
             return Err(EditFault::NoVertex);

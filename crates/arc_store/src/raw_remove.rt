@@ -1,15 +1,19 @@
-ghost use Rattle.std.specs.Prelude.{◌≡◌, ◌⊎◌, ℕ, true, false, None, [], ◌∷◌};
+ghost use Rattle.std.specs.Prelude.{◌≡◌, ◌≤◌, ◌+◌, ◌⊎◌, ℕ, true, false, List, None, [], ◌∷◌};
 ghost use Rattle.std.specs.Prelude.{OnOk, OnErr, IfErr};
 ghost use Rattle.std.specs.FinMap as table;
 ghost use Rattle.std.specs.FinSet as set;
+ghost use Rattle.grid_geometry.specs.Segment.{Segment};
 ghost use Rattle.ring_machine.specs.Document.{Document};
 ghost use Rattle.ring_machine.specs.Parts.{is_vertex};
 ghost use Rattle.ring_machine.specs.Refusals.{first_of, remove_refusals, are_long, is_bridged};
 ghost use Rattle.ring_machine.specs.Vertices.{del, is_junction};
 ghost use Rattle.segment_index.specs.Candidates.{AreAmong, AreSingle};
-ghost use Rattle.shared_arcs.specs.Edited.{AreApart as AreThree};
+ghost use Rattle.segment_index.specs.Times.{times_by};
+ghost use Rattle.arc_tables.specs.Edited.{AreApart as AreThree};
 ghost use Rattle.shared_arcs.specs.Joined.{Joined};
-ghost use Rattle.local_planarity.specs.Edits.{AreApart};
+ghost use Rattle.local_planarity.specs.Edits.{AreApart, IsAfter};
+ghost use Rattle.local_planarity.specs.Tests.{most_for, most_tests};
+ghost use Rattle.local_planarity.specs.declared.leaving.Leaving.TheVariants.{EndingAt};
 ghost use Rattle.arc_store.specs.Edits.{IsRemovable, TakenOut};
 ghost use Rattle.arc_store.specs.Faults.{Refuses};
 ghost use Rattle.arc_store.specs.Planned.{Exchanges};
@@ -51,6 +55,7 @@ fn take_out<I: SegIndex, A: Allocator + Copy>(
     ensures vertices { OnErr result (vertices.new ≡ vertices.old) }
     ensures borders { OnErr result (borders.new ≡ borders.old) }
     ensures unchanged { OnErr result (I.held index.new ≡ I.held index.old) }
+    ensures cells { I.cells index.new ≡ I.cells index.old }
 {
     index.add(after)?;
     match borders.remove(k, ends.0, ends.1) {
@@ -81,6 +86,9 @@ fn test_remove<I: SegIndex, A: Allocator + Copy>(
     ensures refused { IfErr result (λ fault. (d : Document)
         → IsRemovable d (I.held index.now) p after
         → Refuses fault (first_of (remove_refusals d p))) }
+    ensures few { (ss : List Segment)
+        → IsAfter (I.held index.now) (EndingAt p) (after ∷ []) ss
+        → tests.new ≤ tests.old + most_tests (times_by (I.cells index.now)) ss (after ∷ []) }
 {
     let (a, b) = (after.lo, after.hi);
     match test_planar(alloc, index, Leaving::EndingAt(p), &[after], tests) {
@@ -109,6 +117,9 @@ impl<'a, I: SegIndex, A: Allocator + Copy> Map<'a, I, A> {
             (λ fault. Refuses fault (first_of (remove_refusals self.old.doc p))) }
         ensures unchanged { OnErr result (self.new.doc ≡ self.old.doc) }
         ensures next { self.new.next ≡ self.old.next }
+        ensures few { self.new.tests ≤ self.old.tests
+            + most_for (times_by self.old.cells) self.old.doc (del self.old.doc p) }
+        ensures cells { self.new.cells ≡ self.old.cells }
     {
         let Some(k) = self.vertices.key_of(p) else {
             return Err(EditFault::NoVertex);

@@ -3,7 +3,7 @@ ghost use Rattle.std.specs.Prelude.{IfSome, IfNone, Contains};
 ghost use Rattle.std.specs.FinMap as table;
 ghost use Rattle.std.specs.Iterator.{YieldsFirst, item_count};
 ghost use Rattle.ring_machine.specs.Ring.{before, least, canonical};
-ghost use Rattle.arc_store.specs.Stored.{place};
+ghost use Rattle.vertex_index.specs.Placement.{place};
 
 use grid_geometry::Pos;
 use shared_arcs::RingKeys;

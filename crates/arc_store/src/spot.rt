@@ -2,7 +2,7 @@ ghost use Rattle.std.specs.Prelude.{◌≡◌, true};
 ghost use Rattle.std.specs.FinMap as table;
 ghost use Rattle.grid_geometry.specs.Segment.{segment};
 ghost use Rattle.arc_store.specs.Spots.{IsSpot};
-ghost use Rattle.arc_store.specs.Stored.{place};
+ghost use Rattle.vertex_index.specs.Placement.{place};
 
 use crate::map::Map;
 use grid_geometry::Pos;

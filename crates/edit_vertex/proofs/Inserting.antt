@@ -27,7 +27,7 @@ use Rattle.arc_store.specs.Faults.{Refuses}
 use Rattle.arc_store.specs.Spots.{users}
 use Rattle.arc_store.specs.declared.fault.EditFault.{EditFault}
 use Rattle.arc_store.proofs.Insertions.{has_segment, has_segment_by, is_segment_by, size_ins}
-use Rattle.arc_store.proofs.Members.{any_in}
+use Rattle.ring_machine.proofs.Members.{any_in}
 use Rattle.edit_vertex.specs.Untested.{is_early}
 use Rattle.edit_vertex.proofs.Late.{is_late, late_end, late_fault}
 use Rattle.edit_vertex.proofs.Lists.{kept_any, lt_holds, le_holds, le_fails}

@@ -4,3 +4,4 @@ pub mod Moving
 pub mod Inserting
 pub mod Removing
 pub mod Passing
+pub mod Examples

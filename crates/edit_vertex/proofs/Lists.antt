@@ -7,7 +7,7 @@ use Rattle.std.proofs.lemmas.Bool.{false≢true}
 use Rattle.std.proofs.lemmas.Bool.Decides.{nat_tests}
 use Rattle.ring_machine.proofs.First.{In}
 use Rattle.ring_machine.proofs.Neighbours.{all_in}
-use Rattle.arc_store.proofs.Members.{in_any, any_in, same_answer}
+use Rattle.ring_machine.proofs.Members.{in_any, any_in, same_answer}
 
 pub all_by : {A : Type 0} (test : A → Bool) (xs : List A) → ((x : A) → In x xs → test x ≡ true)
     → list_all test xs ≡ true

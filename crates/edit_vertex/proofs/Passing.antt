@@ -1,5 +1,5 @@
 -- One vertex of a pass of thinning, and the pass as far as it has come.
-use Rattle.std.proofs.Common.{◌≡◌, ℕ, ◌+◌, ◌<◌, Bool, true, false, refl, sym, ap, ap₂, ◌∙◌, cond, ℤ}
+use Rattle.std.proofs.Common.{◌≡◌, ℕ, zero, suc, ◌+◌, ◌<◌, ◌≤◌, Bool, true, false, refl, sym, ap, ap₂, ◌∙◌, cond, ℤ}
 use Rattle.std.proofs.Common.{List, [], ◌∷◌, ◌++◌, take, length, get_or, Option, None, Some, arith}
 use Rattle.std.specs.Prelude.{not, ◌&&◌, pos, unsigned_abs, int_le}
 use Rattle.std.specs.List.{fold}
@@ -7,7 +7,7 @@ use Rattle.std.proofs.lemmas.Bool.{false≢true}
 use Rattle.std.proofs.lemmas.List.{take_more}
 use Rattle.std.proofs.lemmas.List.Sums.{fold-append}
 use Rattle.grid_geometry.specs.Position.{Position}
-use Rattle.grid_geometry.specs.Segment.{Segment, segment}
+use Rattle.grid_geometry.specs.Segment.{Segment, Box, segment}
 use Rattle.grid_geometry.specs.Orientation.{orientation}
 use Rattle.ring_machine.specs.Document.{Document}
 use Rattle.ring_machine.specs.Parts.{is_vertex}
@@ -21,6 +21,8 @@ use Rattle.arc_store.specs.Spots.{IsBetween}
 use Rattle.arc_store.specs.declared.fault.EditFault.{EditFault}
 use Rattle.arc_store.specs.declared.fault.EditFault.TheVariants.{OutOfMemory}
 use Rattle.arc_store.specs.declared.fault.EditFault.TheVariants as edit
+use Rattle.local_planarity.specs.Tests.{most_for}
+use Rattle.edit_vertex.specs.Tested.{most_at, most_over}
 use Rattle.edit_vertex.proofs.Lists.{all_same}
 use Rattle.edit_vertex.proofs.Removing.{same_around, place_there, ordered_ends, remove_no_vertex}
 
@@ -123,3 +125,34 @@ thinned_more t d now n ps i p l e h =
     ap (fold (thin_at t) (with_count d 0)) (take_more ps i p l ∙ ap (λ z. take i ps ++ z ∷ []) (sym e))
     ∙ fold-append (thin_at t) (with_count d 0) (take i ps) (p ∷ [])
     ∙ ap (λ s. thin_at t s p) h
+
+-- ---- how many tests the pass takes
+
+module _ (times : Segment → Box → ℕ) (t : ℤ) where
+  -- at a vertex that is thin those of its removal
+  pub most_thin : (d : Document) (p : Position) → is_thin t d p ≡ true
+      → most_at times t d p ≡ most_for times d (del d p)
+  most_thin d p h = ap (λ b. cond b (most_for times d (del d p)) 0) (parts t d p 0 h)
+
+  over-push : (s : Thinning) (ps : List Position) (p : Position)
+      → most_over times t s (ps ++ p ∷ []) ≡ most_over times t s ps + most_at times t (fold (thin_at t) s ps).doc p
+  over-push s [] p = omega arith
+  over-push s (q ∷ ps) p = omega (arith, over-push (thin_at t s q) ps p)
+
+  -- one vertex more
+  pub most_more : (s : Thinning) (now : Document) (n : ℕ) (ps : List Position) (i : ℕ)
+      (p : Position) (before after : ℕ) → i < length ps → p ≡ get_or ps i p
+      → fold (thin_at t) s (take i ps) ≡ with_count now n
+      → before ≤ most_over times t s (take i ps) → after ≤ before + most_at times t now p
+      → after ≤ most_over times t s (take (i + 1) ps)
+  most_more s now n ps i p before after l e h k m =
+      let at : most_at times t (fold (thin_at t) s (take i ps)).doc p ≡ most_at times t now p = ap (λ (z : Thinning). most_at times t z.doc p) h in
+      let more : most_over times t s (take (i + 1) ps) ≡ most_over times t s (take i ps ++ p ∷ []) = ap (most_over times t s) (take_more ps i p l ∙ ap (λ z. take i ps ++ z ∷ []) (sym e)) in
+      omega (arith, at, more, over-push s (take i ps) p, k, m)
+
+  -- a part of the pass takes no more than the whole
+  pub most_part : (s : Thinning) (ps : List Position) (i : ℕ)
+      → most_over times t s (take i ps) ≤ most_over times t s ps
+  most_part s ps zero = omega arith
+  most_part s [] (suc i) = omega arith
+  most_part s (p ∷ ps) (suc i) = omega (arith, most_part (thin_at t s p) ps i)

@@ -25,7 +25,7 @@ use Rattle.ring_machine.proofs.StaysProper.{edges_start}
 use Rattle.arc_store.specs.Faults.{Refuses}
 use Rattle.arc_store.specs.Spots.{IsShortest, IsBetween}
 use Rattle.arc_store.specs.declared.fault.EditFault.{EditFault}
-use Rattle.arc_store.proofs.Members.{any_in, in_contains, contains_in, in_mapped}
+use Rattle.ring_machine.proofs.Members.{any_in, in_contains, contains_in, in_mapped}
 use Rattle.edit_vertex.specs.Untested.{is_early}
 use Rattle.edit_vertex.proofs.Late.{is_late, late_end, late_fault}
 use Rattle.edit_vertex.proofs.Lists.{all_by, not_all, any_same, lt_holds, lt_fails}

@@ -1,2 +1,2 @@
-pub mod Thinning
+pub mod Tested
 pub mod Untested

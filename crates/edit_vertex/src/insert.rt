@@ -1,7 +1,9 @@
-ghost use Rattle.std.specs.Prelude.{◌≡◌, None, OnOk, OnErr, IfErr, IsTrue};
+ghost use Rattle.std.specs.Prelude.{◌≡◌, ◌≤◌, ◌+◌, None, OnOk, OnErr, IfErr, IsTrue};
 ghost use Rattle.ring_machine.specs.Planar.{Proper};
 ghost use Rattle.ring_machine.specs.Refusals.{first_of, insert_refusals};
 ghost use Rattle.ring_machine.specs.Vertices.{ins};
+ghost use Rattle.segment_index.specs.Times.{times_by};
+ghost use Rattle.local_planarity.specs.Tests.{most_for};
 ghost use Rattle.arc_store.specs.Faults.{Refuses};
 ghost use Rattle.edit_vertex.specs.Untested.{is_early};
 
@@ -29,6 +31,9 @@ fn insert_now<'a, I: SegIndex, A: Allocator + Copy>(
     ensures untested { IfErr result
         (λ fault. IsTrue (is_early fault) → map.new.tests ≡ map.old.tests) }
     ensures next { map.new.next ≡ map.old.next }
+    ensures few { map.new.tests ≤ map.old.tests
+        + most_for (times_by map.old.cells) map.old.doc (ins map.old.doc a b q) }
+    ensures cells { map.new.cells ≡ map.old.cells }
 {
     let Some(s) = Seg::new(a, b) else {
         return Err(EditFault::NoSegment);
@@ -61,6 +66,9 @@ pub fn insert_vertex<'a, I: SegIndex, A: Allocator + Copy>(
     ensures unchanged { OnErr result (map.new.doc ≡ map.old.doc) }
     ensures untested { IfErr result (λ fault. IsTrue (is_early fault) → map.new.tests ≡ 0) }
     ensures next { map.new.next ≡ map.old.next }
+    ensures few { map.new.tests
+        ≤ most_for (times_by map.old.cells) map.old.doc (ins map.old.doc a b q) }
+    ensures cells { map.new.cells ≡ map.old.cells }
 {
     map.begin_edit();
     insert_now(map, a, b, q)

@@ -12,12 +12,3 @@ pub use insert::insert_vertex;
 pub use moved::move_vertex;
 pub use remove::remove_vertex;
 pub use thinning::thin;
-
-#[cfg(test)]
-mod counted;
-#[cfg(test)]
-mod made;
-#[cfg(test)]
-mod refusals;
-#[cfg(test)]
-mod tests;

@@ -1,6 +1,8 @@
-ghost use Rattle.std.specs.Prelude.{◌≡◌, None, OnOk, OnErr, IfErr, IsTrue};
+ghost use Rattle.std.specs.Prelude.{◌≡◌, ◌≤◌, ◌+◌, None, OnOk, OnErr, IfErr, IsTrue};
 ghost use Rattle.ring_machine.specs.Refusals.{first_of, move_refusals};
 ghost use Rattle.ring_machine.specs.Vertices.{put};
+ghost use Rattle.segment_index.specs.Times.{times_by};
+ghost use Rattle.local_planarity.specs.Tests.{most_for_move};
 ghost use Rattle.arc_store.specs.Faults.{Refuses};
 ghost use Rattle.edit_vertex.specs.Untested.{is_early};
 
@@ -23,6 +25,9 @@ fn move_now<'a, I: SegIndex, A: Allocator + Copy>(
     ensures untested { IfErr result
         (λ fault. IsTrue (is_early fault) → map.new.tests ≡ map.old.tests) }
     ensures next { map.new.next ≡ map.old.next }
+    ensures few { map.new.tests ≤ map.old.tests
+        + most_for_move (times_by map.old.cells) map.old.doc p q }
+    ensures cells { map.new.cells ≡ map.old.cells }
 {
     if !map.has_vertex(p) {
         return Err(EditFault::NoVertex);
@@ -47,6 +52,9 @@ pub fn move_vertex<'a, I: SegIndex, A: Allocator + Copy>(
     ensures unchanged { OnErr result (map.new.doc ≡ map.old.doc) }
     ensures untested { IfErr result (λ fault. IsTrue (is_early fault) → map.new.tests ≡ 0) }
     ensures next { map.new.next ≡ map.old.next }
+    ensures few { map.new.tests
+        ≤ most_for_move (times_by map.old.cells) map.old.doc p q }
+    ensures cells { map.new.cells ≡ map.old.cells }
 {
     map.begin_edit();
     move_now(map, p, q)

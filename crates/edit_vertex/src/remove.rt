@@ -1,9 +1,11 @@
-ghost use Rattle.std.specs.Prelude.{◌≡◌, ◌≢◌, None, OnOk, OnErr, IfErr, IsTrue};
+ghost use Rattle.std.specs.Prelude.{◌≡◌, ◌≢◌, ◌≤◌, ◌+◌, None, OnOk, OnErr, IfErr, IsTrue};
 ghost use Rattle.grid_geometry.specs.Segment.{segment};
 ghost use Rattle.ring_machine.specs.Parts.{is_segment};
 ghost use Rattle.ring_machine.specs.Planar.{Proper};
 ghost use Rattle.ring_machine.specs.Refusals.{first_of, remove_refusals};
 ghost use Rattle.ring_machine.specs.Vertices.{del};
+ghost use Rattle.segment_index.specs.Times.{times_by};
+ghost use Rattle.local_planarity.specs.Tests.{most_for};
 ghost use Rattle.arc_store.specs.Faults.{Refuses};
 ghost use Rattle.edit_vertex.specs.Untested.{is_early};
 
@@ -40,6 +42,9 @@ pub(crate) fn remove_now<'a, I: SegIndex, A: Allocator + Copy>(
     ensures untested { IfErr result
         (λ fault. IsTrue (is_early fault) → map.new.tests ≡ map.old.tests) }
     ensures next { map.new.next ≡ map.old.next }
+    ensures few { map.new.tests ≤ map.old.tests
+        + most_for (times_by map.old.cells) map.old.doc (del map.old.doc p) }
+    ensures cells { map.new.cells ≡ map.old.cells }
 {
     let Some(spot) = map.spot(p) else {
         return Err(EditFault::NoVertex);
@@ -70,6 +75,9 @@ pub fn remove_vertex<'a, I: SegIndex, A: Allocator + Copy>(
     ensures unchanged { OnErr result (map.new.doc ≡ map.old.doc) }
     ensures untested { IfErr result (λ fault. IsTrue (is_early fault) → map.new.tests ≡ 0) }
     ensures next { map.new.next ≡ map.old.next }
+    ensures few { map.new.tests
+        ≤ most_for (times_by map.old.cells) map.old.doc (del map.old.doc p) }
+    ensures cells { map.new.cells ≡ map.old.cells }
 {
     map.begin_edit();
     remove_now(map, p)

@@ -1,11 +1,13 @@
-ghost use Rattle.std.specs.Prelude.{◌≡◌, ℕ, ◌+◌, ◌&&◌, not, if◌then◌else◌, OnOk, OnErr, IfOk};
+ghost use Rattle.std.specs.Prelude.{◌≡◌, ◌≤◌, ℕ, ◌+◌, ◌&&◌, not, if◌then◌else◌, OnOk, OnErr, IfOk};
 ghost use Rattle.std.specs.Prelude.{int_le, pos, unsigned_abs};
 ghost use Rattle.grid_geometry.specs.Orientation.{orientation};
 ghost use Rattle.ring_machine.specs.Parts.{is_vertex};
 ghost use Rattle.ring_machine.specs.Planar.{Proper};
 ghost use Rattle.ring_machine.specs.Thin.{is_flat, thinned, thin_at};
 ghost use Rattle.ring_machine.specs.Vertices.{is_junction};
-ghost use Rattle.edit_vertex.specs.Thinning.{IsThinnedPart};
+ghost use Rattle.segment_index.specs.Times.{times_by};
+ghost use Rattle.edit_vertex.specs.Tested.{most_at, most_for_thin};
+ghost use Rattle.ring_machine.specs.Thin.{IsThinnedPart};
 
 use crate::remove::remove_now;
 use arc_store::{EditFault, Map, Spot};
@@ -49,6 +51,9 @@ fn thin_at<'a, I: SegIndex, A: Allocator + Copy>(
     ensures unchanged { OnErr result (map.new.doc ≡ map.old.doc) }
     ensures proper { Proper map.new.doc }
     ensures next { map.new.next ≡ map.old.next }
+    ensures few { map.new.tests ≤ map.old.tests
+        + most_at (times_by map.old.cells) t map.old.doc p }
+    ensures cells { map.new.cells ≡ map.old.cells }
 {
     if !is_thin(map, p, t) {
         return Ok(false);
@@ -74,6 +79,8 @@ pub fn thin<'a, I: SegIndex, A: Allocator + Copy>(
     ensures thinned { OnOk result (map.new.doc ≡ (thinned t map.old.doc).doc) }
     ensures part { OnErr result (IsThinnedPart t map.old.doc map.new.doc) }
     ensures next { map.new.next ≡ map.old.next }
+    ensures few { map.new.tests ≤ most_for_thin (times_by map.old.cells) t map.old.doc }
+    ensures cells { map.new.cells ≡ map.old.cells }
 {
     map.begin_edit();
     let vertices = map.vertices()?;

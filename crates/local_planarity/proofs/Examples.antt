@@ -2,11 +2,15 @@
 use Rattle.std.proofs.Common.{◌≡◌, pos, true, false, refl, [], ◌∷◌, None, Some}
 use Rattle.grid_geometry.specs.Position.{position}
 use Rattle.grid_geometry.specs.Segment.{Segment, segment}
+use Rattle.ring_machine.specs.Vertices.{put, del}
+use Rattle.ring_machine.proofs.Worked.{at, M}
+use Rattle.segment_index.specs.Frames.{Frame, line}
+use Rattle.segment_index.specs.Times.{times_by}
 use Rattle.local_planarity.specs.declared.leaving.Leaving.TheVariants.{Nothing, EndingAt, One}
 use Rattle.local_planarity.specs.Edits.{leaves}
 use Rattle.local_planarity.specs.Pairs.{ordered, lesser}
 use Rattle.local_planarity.specs.Spans.{box_of_three}
-use Rattle.local_planarity.specs.Tests.{pairs, most_tests}
+use Rattle.local_planarity.specs.Tests.{pairs, most_tests, added, most_for, most_for_move}
 
 -- 0 0 to 10 0, and 10 0 to 10 10
 abbrev lower : Segment
@@ -62,3 +66,36 @@ one = refl
 -- two added ones, each with two candidates given twice at most: eight, and one against each other
 eight_and_one : most_tests (λ t rect. 2) (lower ∷ right ∷ []) (lower ∷ right ∷ []) ≡ 9
 eight_and_one = refl
+
+-- ---- two squares with a common side, which have seven segments
+
+-- the common corner moves, and three segments come
+moved_corner : added M (put M (at 10 10) (at 12 12))
+    ≡ (segment (at 12 12) (at 20 10) ∷ segment (at 0 10) (at 12 12) ∷ segment (at 10 0) (at 12 12) ∷ [])
+moved_corner = refl
+
+-- in a list each of them against seven candidates, three pairs, and the way against seven
+in_a_list : most_for_move (times_by None) M (at 10 10) (at 12 12) ≡ 31
+unfolding most_for_move most_for
+in_a_list = refl
+
+-- cells of 10 by 10 from 0 0 on
+abbrev tens : Frame
+tens = record { x0 = pos 0; y0 = pos 0; width = 10; height = 10 }
+
+-- in these cells sixteen candidates, three pairs, and three candidates for the way
+in_a_grid : most_for_move (times_by (Some tens)) M (at 10 10) (at 12 12) ≡ 22
+unfolding most_for_move most_for line
+in_a_grid = refl
+
+-- a corner goes, and one segment comes
+corner_gone : added M (del M (at 0 0)) ≡ (segment (at 0 10) (at 10 0) ∷ [])
+corner_gone = refl
+
+six_left : most_for (times_by None) M (del M (at 0 0)) ≡ 6
+unfolding most_for
+six_left = refl
+
+ten_in_cells : most_for (times_by (Some tens)) M (del M (at 0 0)) ≡ 10
+unfolding most_for line
+ten_in_cells = refl

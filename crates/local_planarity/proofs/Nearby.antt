@@ -108,7 +108,7 @@ most_so_far times ss added k = sum_by (most_given times ss) (take k added) + pai
 pairs-one : (k : ℕ) → pairs (k + 1) ≡ k + pairs k
 pairs-one k = let e : k + 1 ≡ suc k = omega arith in ap pairs e
 
-pairs-mono : (k n : ℕ) → pairs k ≤ pairs (n + k)
+pub pairs-mono : (k n : ℕ) → pairs k ≤ pairs (n + k)
 pairs-mono k zero = omega (arith, ap pairs (plus k))
   where
     plus : (k : ℕ) → 0 + k ≡ k

@@ -1,7 +1,12 @@
 -- How many tests of two segments an edit takes at most.
-use Rattle.std.specs.Prelude.{ℕ, zero, suc, ◌+◌, List, length}
-use Rattle.std.specs.List.{sum_by}
-use Rattle.grid_geometry.specs.Segment.{Segment, Box, box_of}
+use Rattle.std.specs.Prelude.{ℕ, zero, suc, ◌+◌, not, List, length}
+use Rattle.std.specs.List.{filter, sum_by}
+use Rattle.grid_geometry.specs.Position.{Position}
+use Rattle.grid_geometry.specs.Segment.{Segment, Box, box_of, segment}
+use Rattle.ring_machine.specs.Document.{Document}
+use Rattle.ring_machine.specs.Parts.{is_segment}
+use Rattle.ring_machine.specs.Query.{distinct_segments}
+use Rattle.ring_machine.specs.Vertices.{put}
 
 -- how many candidates for the box of s an index gives at most, where it holds these segments and
 -- gives each so many times
@@ -16,3 +21,20 @@ pairs (suc n) = n + pairs n
 -- each added segment against its candidates, and the added ones against each other
 abbrev pub most_tests : (Segment → Box → ℕ) → List Segment → List Segment → ℕ
 most_tests times ss added = sum_by (most_given times ss) added + pairs (length added)
+
+-- ---- over documents
+
+-- the segments that the edited document has and the first has not, each once
+abbrev pub added : Document → Document → List Segment
+added d edited = filter (λ s. not (is_segment d s)) (distinct_segments edited)
+
+-- how many tests the edit of a document takes at most: each segment that it adds against its
+-- candidates among the segments after it, and the added ones against each other
+unfoldable pub most_for : (Segment → Box → ℕ) → Document → Document → ℕ
+most_for times d edited = most_tests times (distinct_segments edited) (added d edited)
+
+-- how many tests a move from p to q takes at most: those of the edit, and the way from p to q
+-- against its candidates among the segments before it
+unfoldable pub most_for_move : (Segment → Box → ℕ) → Document → Position → Position → ℕ
+most_for_move times d p q =
+    most_for times d (put d p q) + most_given times (distinct_segments d) (segment p q)

@@ -2,6 +2,7 @@
 ghost use Rattle.std.specs.Prelude.{◌≡◌, ◌+◌, ◌≤◌, ◌∷◌, List, IfOk};
 ghost use Rattle.grid_geometry.specs.Segment.{Segment};
 ghost use Rattle.ring_machine.specs.Planar.{least_conflict};
+ghost use Rattle.segment_index.specs.Times.{times_by};
 ghost use Rattle.local_planarity.specs.Edits.{AreApart, IsAfter, IsHeld};
 ghost use Rattle.local_planarity.specs.Tests.{most_given, most_tests};
 
@@ -27,7 +28,7 @@ pub fn first_conflict<I: SegIndex, A: Allocator + Copy>(
     ensures first { IfOk result (λ pair. (ss : List Segment)
         → IsAfter (I.held index.now) leaving added.now ss → least_conflict ss ≡ pair) }
     ensures few { (ss : List Segment) → IsAfter (I.held index.now) leaving added.now ss
-        → tests.new ≤ tests.old + most_tests (I.times index.now) ss added.now }
+        → tests.new ≤ tests.old + most_tests (times_by (I.cells index.now)) ss added.now }
 {
     let mut first = None;
     for (at, s) in added.iter().enumerate() {
@@ -50,7 +51,7 @@ pub fn first_with<I: SegIndex, A: Allocator + Copy>(
     ensures first { IfOk result (λ pair. (ss : List Segment) → IsHeld (I.held index.now) ss
         → least_conflict ss ≡ first → least_conflict (s ∷ ss) ≡ pair) }
     ensures few { (ss : List Segment) → IsHeld (I.held index.now) ss
-        → tests.new ≤ tests.old + most_given (I.times index.now) ss s }
+        → tests.new ≤ tests.old + most_given (times_by (I.cells index.now)) ss s }
 {
     let near = staying_near(alloc, index, &Leaving::Nothing, s)?;
     Ok(first_against(s, near.as_slice(), first, tests))

@@ -1,5 +1,6 @@
 ghost use Rattle.std.specs.Prelude.{◌≡◌, IfOk, not};
 ghost use Rattle.std.specs.List.{filter};
+ghost use Rattle.segment_index.specs.Times.{times_by};
 ghost use Rattle.local_planarity.specs.Edits.{leaves};
 ghost use Rattle.local_planarity.specs.Near.{IsNear};
 
@@ -23,7 +24,7 @@ pub(crate) fn staying_near<I: SegIndex, A: Allocator + Copy>(
     s: Seg,
 ) -> Result<Vec<Seg, A>, AllocError>
     ensures { IfOk result
-        (λ v. IsNear (I.held index.now) (I.times index.now) leaving.now s v.items) }
+        (λ v. IsNear (I.held index.now) (times_by (I.cells index.now)) leaving.now s v.items) }
 {
     let mut near = Vec::new(alloc);
     index.candidates(s.rect(), &mut near)?;

@@ -6,6 +6,7 @@ ghost use Rattle.grid_geometry.specs.Held.{is_held};
 ghost use Rattle.grid_geometry.specs.Position.{Position};
 ghost use Rattle.grid_geometry.specs.Segment.{Segment, is_end, segment};
 ghost use Rattle.ring_machine.specs.Ring as machine;
+ghost use Rattle.segment_index.specs.Times.{times_by};
 ghost use Rattle.local_planarity.specs.Edits.{IsEnds, IsHeld};
 ghost use Rattle.local_planarity.specs.Tests.{most_given};
 
@@ -76,7 +77,7 @@ pub fn crosses_on_way<I: SegIndex, A: Allocator + Copy>(
     ensures crosses { IfOk result (λ found. (ss : List Segment) → IsHeld (I.held index.now) ss
         → found ≡ list_any (λ t. not (is_end p t) && geometry.conflict (segment p q) t) ss) }
     ensures few { (ss : List Segment) → IsHeld (I.held index.now) ss
-        → tests.new ≤ tests.old + most_given (I.times index.now) ss (segment p q) }
+        → tests.new ≤ tests.old + most_given (times_by (I.cells index.now)) ss (segment p q) }
 {
     match Seg::new(p, q) {
         Some(way) => {

@@ -61,7 +61,7 @@ stays_arc arcs qs ps h = by (is_arc arcs qs)
     by true = h
     by false = list_any-append (λ a. is_same a ps) arcs (qs ∷ []) ∙ or_left (is_arc arcs ps) (is_arc (qs ∷ []) ps) h
 
-becomes_arc : (arcs : List Arc) (ps : List Position) → is_arc (with_piece arcs ps) ps ≡ true
+pub becomes_arc : (arcs : List Arc) (ps : List Position) → is_arc (with_piece arcs ps) ps ≡ true
 becomes_arc arcs ps = by (is_arc arcs ps) refl
   where
     by : (b : Bool) → is_arc arcs ps ≡ b → is_arc (cond b arcs (arcs ++ ps ∷ [])) ps ≡ true

@@ -8,9 +8,13 @@ use Rattle.ring_machine.specs.Ring.{is_ring}
 use Rattle.ring_machine.specs.Parts.{rings, size, in_rings}
 use Rattle.ring_machine.specs.Vertices.{ins, ins_ring, del, del_ring}
 use Rattle.ring_machine.specs.Planar.{Proper}
+use Rattle.ring_machine.specs.WellFormed.{WellFormed}
 use Rattle.ring_machine.specs.Refusals.{first_of, insert_refusals, remove_refusals}
+use Rattle.ring_machine.proofs.FormedRings.{formed-in_rings}
 use Rattle.ring_machine.proofs.RingsOf.{rings-in_rings}
 use Rattle.ring_machine.proofs.Accepted.{insert-accepted, inserted, removed}
+use Rattle.topo_outline.specs.Kept.{KeepsTexts}
+use Rattle.topo_outline.proofs.KeptRings.{keeps-in_rings}
 use Rattle.topo_reader.specs.declared.document.RawDoc.{RawDoc}
 use Rattle.topo_reader.specs.Document.{Opened, document_of}
 use Rattle.topo_reader.specs.DocumentView.{view_raw}
@@ -34,6 +38,8 @@ stays o g plain proper small =
     record {
       of_rings = record {
         counted = length-map o.polygons (map (map g)) ∙ plain.of_rings.counted;
+        formed = subst WellFormed is (formed-in_rings g (document_of o) plain.of_rings.formed);
+        keeps = subst KeepsTexts is (keeps-in_rings g (document_of o) plain.of_rings.keeps);
         few = plain.of_rings.few;
         are_rings = subst (λ d. IsTrue (list_all is_ring (rings d))) is proper.are_rings;
         small = subst (λ d. size d ≤ 4000000) is small;

@@ -1,24 +1,21 @@
 -- Rings after an edit that gives them more or fewer positions.
-use Rattle.std.proofs.Common.{◌≡◌, ℕ, ◌+◌, ◌≤◌, Bool, true, false, refl, sym, ap, ap₂, ◌∙◌, cond, List, [], ◌∷◌, ◌++◌, map, length, arith, ◌&&◌, ◌||◌, inl, inr}
+use Rattle.std.proofs.Common.{◌≡◌, ◌+◌, ◌≤◌, Bool, true, false, refl, sym, ap, ap₂, ◌∙◌, cond, List, [], ◌∷◌, map, length, arith, ◌&&◌, ◌||◌, inl, inr}
 use Rattle.std.specs.Prelude.{not, nat_lt}
 use Rattle.std.specs.List.{list_all, flat_map, filter, sum_by}
-use Rattle.std.proofs.lemmas.Bool.{false≢true}
 use Rattle.std.proofs.lemmas.List.{length-map, length-append}
 use Rattle.std.proofs.lemmas.List.Sums.{sum_by-cons}
 use Rattle.grid_geometry.specs.Position.{Position, position_eq}
-use Rattle.grid_geometry.specs.Segment.{Segment, segment, segment_eq}
-use Rattle.grid_geometry.specs.Ring.{Edge, edges}
+use Rattle.grid_geometry.specs.Segment.{segment, segment_eq}
+use Rattle.grid_geometry.specs.Ring.{edges}
 use Rattle.grid_geometry.proofs.Conflicts.{segment-comm}
-use Rattle.ring_machine.specs.Ring.{has, is_distinct, is_ring, segment_of, segments}
+use Rattle.ring_machine.specs.Ring.{has, is_ring, segment_of, segments}
 use Rattle.ring_machine.specs.Vertices.{ins_ring, del_ring}
-use Rattle.ring_machine.proofs.Arcs.{is_of}
 use Rattle.ring_machine.proofs.Order.{and_both, or_true, position_eq-true, position_eq-refl}
 use Rattle.ring_machine.proofs.Orders.{segment_ordered}
-use Rattle.ring_machine.proofs.Removal.{none_parts, others, filter_lacks}
-use Rattle.ring_machine.proofs.RingSegments.{ring_once, segment_eq-true, same_ends}
-use Rattle.ring_machine.proofs.StaysProper.{ring_long, ring_distinct, others_long, edges_start}
-use Rattle.ring_machine.proofs.StaysRing.{canonical_is_ring, ins-distinct, del-distinct}
-use Rattle.plain_rings.specs.Edits.{begin_of, are_long}
+use Rattle.ring_machine.proofs.Removal.{none_parts, others}
+use Rattle.ring_machine.proofs.RingSegments.{segment_eq-true, same_ends}
+use Rattle.ring_machine.proofs.StaysProper.{ins_is_ring, del_is_ring, edges_start}
+use Rattle.plain_rings.specs.Edits.{are_long}
 use Rattle.plain_rings.specs.Rings.{has_vertex}
 use Rattle.plain_rings.proofs.StaysPlain.{canonical_length}
 
@@ -54,42 +51,12 @@ ends_are x y a b = both_ways _ _ there back
 
 -- ---- rings stay rings
 
-longer : (s : Segment) (q : Position) (es : List Edge) → length es ≤ length (flat_map (begin_of s q) es)
-longer s q [] = omega arith
-longer s q (e ∷ es) = by (is_of s e) (longer s q es)
-  where
-    by : (t : Bool) → length es ≤ length (flat_map (begin_of s q) es) → length (e ∷ es) ≤ length (cond t (e.0 ∷ q ∷ []) (e.0 ∷ []) ++ flat_map (begin_of s q) es)
-    by true h = omega (arith, h)
-    by false h = omega (arith, h)
-
-ins_is_ring : (a b q : Position) (ring : List Position) → is_ring ring ≡ true → has ring q ≡ false → is_ring (ins_ring a b q ring) ≡ true
-ins_is_ring a b q [] h k = absurd (false≢true h)
-ins_is_ring a b q (x ∷ []) h k = absurd (false≢true h)
-ins_is_ring a b q (x ∷ y ∷ []) h k = absurd (false≢true h)
-ins_is_ring a b q (x ∷ y ∷ z ∷ ps) h k =
-    let d = ring_distinct (x ∷ y ∷ z ∷ ps) h in
-    let starts = edges_start x (y ∷ z ∷ ps) in
-    let es = edges (x ∷ y ∷ z ∷ ps) in
-    canonical_is_ring (flat_map (begin_of (segment a b) q) es)
-    (omega (arith, longer (segment a b) q es, length-map es (λ e. e.0), ap length starts))
-    (ins-distinct (is_of (segment a b)) q es (ring_once (segment a b) x y z ps d) (ap (λ l. has l q) starts ∙ k) (ap is_distinct starts ∙ d))
-
 pub ins_are_rings : (a b q : Position) (rings : List (List Position)) → list_all is_ring rings ≡ true → has_vertex rings q ≡ false → list_all is_ring (map (ins_ring a b q) rings) ≡ true
 ins_are_rings a b q [] h k = refl
 ins_are_rings a b q (r ∷ rings) h k =
     let h' = and_both (is_ring r) (list_all is_ring rings) h in
     let k' = none_parts (has r q) (has_vertex rings q) k in
     ap₂ (λ s t. s && t) (ins_is_ring a b q r h'.0 k'.0) (ins_are_rings a b q rings h'.1 k'.1)
-
-del_is_ring : (p : Position) (ring : List Position) → is_ring ring ≡ true → (not (has ring p) || nat_lt 3 (length ring)) ≡ true → is_ring (del_ring p ring) ≡ true
-del_is_ring p ring h k = by (has ring p) refl k
-  where
-    by : (t : Bool) → has ring p ≡ t → (not t || nat_lt 3 (length ring)) ≡ true → is_ring (del_ring p ring) ≡ true
-    by false e m = canonical_is_ring (others p ring) (omega (arith, ring_long ring h, ap length (filter_lacks p ring e))) (del-distinct p ring (ring_distinct ring h))
-    by true e m = canonical_is_ring (others p ring) (omega (arith, more (length ring) m, others_long p ring (ring_distinct ring h))) (del-distinct p ring (ring_distinct ring h))
-      where
-        more : (n : ℕ) → nat_lt 3 n ≡ true → 4 ≤ n
-        more n m = grind arith
 
 pub del_are_rings : (p : Position) (rings : List (List Position)) → list_all is_ring rings ≡ true → are_long rings p ≡ true → list_all is_ring (map (del_ring p) rings) ≡ true
 del_are_rings p [] h k = refl

@@ -1,10 +1,10 @@
 -- The first pair in conflict of ascending segments is the least pair in conflict.
-use Rattle.std.proofs.Common.{◌≡◌, ℕ, zero, suc, ◌+◌, ◌<◌, Bool, true, false, refl, sym, ap, ◌∙◌, subst, cond, List, [], ◌∷◌, length, drop, get_or, arith, ◌&&◌, ◌||◌, inl, inr, Option, None, Some}
-use Rattle.std.specs.List.{All, find, AllByRecursion}
+use Rattle.std.proofs.Common.{◌≡◌, ℕ, ◌+◌, ◌<◌, Bool, true, false, refl, sym, ap, ◌∙◌, subst, cond, List, [], ◌∷◌, length, drop, get_or, ◌&&◌, ◌||◌, inl, inr, Option, None, Some}
+use Rattle.std.specs.List.{find}
 use Rattle.std.specs.List.Sorted.{IsSorted, IsPermutation}
 use Rattle.std.proofs.lemmas.Bool.{false≢true}
 use Rattle.std.proofs.lemmas.List.{at_drop_more}
-use Rattle.std.proofs.lemmas.List.Sorted.{All-permutation, IsPermutation-sym}
+use Rattle.std.proofs.lemmas.List.Sorted.{IsPermutation-sym}
 use Rattle.grid_geometry.specs.Segment.{Segment, segment_cmp, segment_lt, segment_eq}
 use Rattle.grid_geometry.specs.Conflict.{conflict}
 use Rattle.grid_geometry.proofs.Conflicts.{conflict-comm, conflict-same}
@@ -12,6 +12,7 @@ use Rattle.ring_machine.specs.Planar.{pair_lt, least_conflict}
 use Rattle.ring_machine.proofs.Orders.{segment_ordered}
 use Rattle.ring_machine.proofs.Local.{Bad, IsLeast, same_least}
 use Rattle.ring_machine.proofs.First.{In, least_conflict_is, least_conflict_unique}
+use Rattle.ring_machine.proofs.SortedOnce.{in_permuted, in_recursion}
 use Rattle.plain_rings.specs.Pairs.{paired, first_in}
 use Rattle.plain_rings.proofs.Ascending.{Ascends, ascends}
 
@@ -20,19 +21,6 @@ abbrev pub BadOf : List Segment → Segment × Segment → Type 0
 BadOf ss u = Bad segment_lt conflict conflict-comm (λ s. In s ss) u
 
 -- ---- one order or another
-
-in_at : {A : Type 0} (xs : List A) (k : ℕ) (d : A) → k < length xs → In (get_or xs k d) xs
-in_at [] k d l = absurd (omega arith)
-in_at (x ∷ xs) zero d l = inl refl
-in_at (x ∷ xs) (suc k) d l = inr (in_at xs k d (omega arith))
-
-in_all : {A : Type 0} (P : A → Type 0) (xs : List A) (a : A) → All P xs → In a xs → P a
-in_all P [] a h i = absurd i
-in_all P (x ∷ xs) a h (inl e) = subst P e (h 0 x (omega arith))
-in_all P (x ∷ xs) a h (inr i) = in_all P xs a (λ k d l. h (suc k) d (omega arith)) i
-
-pub in_permuted : {A : Type 0} (xs ys : List A) → IsPermutation xs ys → (a : A) → In a ys → In a xs
-in_permuted xs ys p a i = in_all (λ z. In z xs) ys a (All-permutation (λ z. In z xs) xs ys p (in_at xs)) i
 
 -- the least pair depends on which segments there are, not on their order or how often they stand there
 pub same_segments : (ss ts : List Segment) → ((s : Segment) → In s ss → In s ts) → ((s : Segment) → In s ts → In s ss) → least_conflict ss ≡ least_conflict ts
@@ -46,11 +34,6 @@ pub least_permuted : (ss ts : List Segment) → IsPermutation ss ts → least_co
 least_permuted ss ts p = same_segments ts ss (in_permuted ss ts p) (in_permuted ts ss (IsPermutation-sym ss ts p))
 
 -- ---- the first pair
-
-pub in_recursion : {A : Type 0} (P : A → Type 0) (xs : List A) (a : A) → AllByRecursion P xs → In a xs → P a
-in_recursion P [] a h i = absurd i
-in_recursion P (x ∷ xs) a h (inl e) = subst P e h.0
-in_recursion P (x ∷ xs) a h (inr i) = in_recursion P xs a h.1 i
 
 -- what is found stands there and passes, and what passes is not below it
 pub record IsFound (s : Segment) (ss : List Segment) (t : Segment) : Type 0 where

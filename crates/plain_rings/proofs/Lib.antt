@@ -14,5 +14,4 @@ pub mod Places
 pub mod EditedRings
 pub mod RefusingEdits
 pub mod Changed
-pub mod SortedOnce
 pub mod Thinning

@@ -1,5 +1,5 @@
 -- Each of several equal neighbours once: the same segments, and those that ascend still do.
-use Rattle.std.proofs.Common.{◌≡◌, zero, suc, ◌+◌, Bool, true, false, refl, sym, ap, ◌∙◌, subst, cond, List, [], ◌∷◌, get_or, arith, inl, inr}
+use Rattle.std.proofs.Common.{◌≡◌, zero, suc, ◌+◌, Bool, true, false, sym, ap, ◌∙◌, subst, cond, List, [], ◌∷◌, get_or, arith}
 use Rattle.std.specs.List.{All, AllByRecursion, dedup, dedup_from}
 use Rattle.std.specs.List.Sorted.{IsSorted}
 use Rattle.std.specs.List.Retain.{IsFiltered, DiffersFromLast}
@@ -7,50 +7,9 @@ use Rattle.std.proofs.lemmas.List.Filters.{dedup_is, All-dedup}
 use Rattle.grid_geometry.specs.Segment.{Segment, IsSegment, segment_cmp, segment_lt, segment_eq}
 use Rattle.ring_machine.specs.Planar.{least_conflict}
 use Rattle.ring_machine.proofs.Orders.{segment_ordered}
-use Rattle.ring_machine.proofs.First.{In}
+use Rattle.ring_machine.proofs.SortedOnce.{none_new, none_lost}
 use Rattle.plain_rings.proofs.Ascending.{Ascends, ascends}
 use Rattle.plain_rings.proofs.LeastPair.{same_segments}
-
--- ---- the same elements
-
-module _ {A : Type 0} (eq : A → A → Bool) (same_by : (a b : A) → eq a b ≡ true → a ≡ b) where
-  kept : (k : A) (xs : List A) (a : A) → In a (dedup_from eq k xs) → In a (k ∷ xs)
-  kept k [] a i = i
-  kept k (x ∷ xs) a i = by (eq x k) i (kept k xs a) (kept x xs a)
-    where
-      further : In a (k ∷ xs) → In a (k ∷ x ∷ xs)
-      further (inl e) = inl e
-      further (inr j) = inr (inr j)
-
-      by : (b : Bool) → In a (cond b (dedup_from eq k xs) (k ∷ dedup_from eq x xs)) → (In a (dedup_from eq k xs) → In a (k ∷ xs)) → (In a (dedup_from eq x xs) → In a (x ∷ xs)) → In a (k ∷ x ∷ xs)
-      by true i same other = further (same i)
-      by false (inl e) same other = inl e
-      by false (inr j) same other = inr (other j)
-
-  still_there : (k : A) (xs : List A) (a : A) → In a (k ∷ xs) → In a (dedup_from eq k xs)
-  still_there k [] a i = i
-  still_there k (x ∷ xs) a i = by (eq x k) refl (still_there k xs a) (still_there x xs a)
-    where
-      same : eq x k ≡ true → In a (k ∷ x ∷ xs) → In a (k ∷ xs)
-      same e (inl f) = inl f
-      same e (inr (inl f)) = inl (sym (same_by x k e) ∙ f)
-      same e (inr (inr j)) = inr j
-
-      other : In a (k ∷ x ∷ xs) → (In a (x ∷ xs) → In a (dedup_from eq x xs)) → In a (k ∷ dedup_from eq x xs)
-      other (inl f) there = inl f
-      other (inr j) there = inr (there j)
-
-      by : (b : Bool) → eq x k ≡ b → (In a (k ∷ xs) → In a (dedup_from eq k xs)) → (In a (x ∷ xs) → In a (dedup_from eq x xs)) → In a (cond b (dedup_from eq k xs) (k ∷ dedup_from eq x xs))
-      by true e there next = there (same e i)
-      by false e there next = other i next
-
-  pub none_new : (xs : List A) (a : A) → In a (dedup eq xs) → In a xs
-  none_new [] a i = i
-  none_new (x ∷ xs) a i = kept x xs a i
-
-  pub none_lost : (xs : List A) (a : A) → In a xs → In a (dedup eq xs)
-  none_lost [] a i = i
-  none_lost (x ∷ xs) a i = still_there x xs a i
 
 abbrev once_from : Segment → List Segment → List Segment
 once_from = dedup_from segment_eq

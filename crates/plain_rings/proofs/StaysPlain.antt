@@ -10,11 +10,15 @@ use Rattle.ring_machine.specs.Document.{Document}
 use Rattle.ring_machine.specs.Parts.{rings, size}
 use Rattle.ring_machine.specs.Vertices.{put, put_ring}
 use Rattle.ring_machine.specs.Planar.{Proper}
+use Rattle.ring_machine.specs.WellFormed.{WellFormed}
 use Rattle.ring_machine.specs.Refusals.{first_of, move_refusals}
 use Rattle.ring_machine.proofs.Canonical.{canonical_parts}
+use Rattle.ring_machine.proofs.FormedRings.{formed-in_rings}
 use Rattle.ring_machine.proofs.RingsOf.{rings-in_rings}
 use Rattle.ring_machine.proofs.StaysProper.{put_is_proper}
 use Rattle.ring_machine.proofs.Accepted.{move-accepted}
+use Rattle.topo_outline.specs.Kept.{KeepsTexts}
+use Rattle.topo_outline.proofs.KeptRings.{keeps-in_rings}
 use Rattle.topo_reader.specs.Document.{Opened, document_of}
 use Rattle.plain_rings.specs.Plain.{IsPlain}
 use Rattle.plain_rings.proofs.Documents.{rings_changed}
@@ -51,6 +55,8 @@ stays_plain o p q plain none =
     record {
       of_rings = record {
         counted = length-map o.polygons (map (map (put_ring p q))) ∙ plain.of_rings.counted;
+        formed = subst WellFormed is (formed-in_rings (put_ring p q) (document_of o) plain.of_rings.formed);
+        keeps = subst KeepsTexts is (keeps-in_rings (put_ring p q) (document_of o) plain.of_rings.keeps);
         few = plain.of_rings.few;
         are_rings = subst (λ d. IsTrue (list_all is_ring (rings d))) is proper.are_rings;
         small = subst (λ d. size d ≤ 4000000) is small;

@@ -13,7 +13,7 @@ ghost use Rattle.topo_reader.specs.Document.{document_of, IsOfRings};
 ghost use Rattle.topo_reader.specs.DocumentView.{view_raw};
 ghost use Rattle.plain_rings.specs.Faults.{Names, Refuses};
 ghost use Rattle.plain_rings.specs.Rings.{all_rings, held, refusals};
-ghost use Rattle.plain_rings.specs.Thin.{IsThinnedPart};
+ghost use Rattle.ring_machine.specs.Thin.{IsThinnedPart};
 ghost use Rattle.plain_rings.specs.declared.fault.BuildFault.TheVariants.{Conflict};
 
 use crate::area::feature_area;

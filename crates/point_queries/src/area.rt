@@ -69,8 +69,7 @@ fn polygon_area<'a, I: SegIndex, A: Allocator + Copy>(
 }
 
 /// Twice the area of the feature with this number: its outer rings less their holes (RFC 7946,
-/// 3.1.6), whichever way they turn. Takes no memory; walks the items of the layers and the rings of
-/// the feature.
+/// 3.1.6), whichever way they turn. Takes no memory; walks the rings of the feature and no others.
 pub fn area2_of<'a, I: SegIndex, A: Allocator + Copy>(
     map: &Map<'a, I, A>,
     f: u32,

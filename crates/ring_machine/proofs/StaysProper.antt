@@ -52,7 +52,7 @@ others_long p (x ∷ ps) d =
     by true e k h = omega (arith, ap length (filter_lacks p ps (subst (λ z. has ps z ≡ false) (position_eq-true x p e) k)))
     by false e k h = omega (arith, h)
 
-del_is_ring : (p : Position) (ring : List Position) → is_ring ring ≡ true
+pub del_is_ring : (p : Position) (ring : List Position) → is_ring ring ≡ true
     → (not (has ring p) || nat_lt 3 (length ring)) ≡ true → is_ring (del_ring p ring) ≡ true
 del_is_ring p ring h k = by (has ring p) refl k
   where
@@ -85,7 +85,7 @@ longer s q (e ∷ es) = by (is_of s e) (longer s q es)
     by true h = omega (arith, h)
     by false h = omega (arith, h)
 
-ins_is_ring : (a b q : Position) (ring : List Position) → is_ring ring ≡ true → has ring q ≡ false
+pub ins_is_ring : (a b q : Position) (ring : List Position) → is_ring ring ≡ true → has ring q ≡ false
     → is_ring (ins_ring a b q ring) ≡ true
 ins_is_ring a b q [] h k = absurd (false≢true h)
 ins_is_ring a b q (x ∷ []) h k = absurd (false≢true h)

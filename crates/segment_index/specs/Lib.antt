@@ -4,3 +4,4 @@ pub mod Covers
 pub mod Frames
 pub mod Cells
 pub mod Grids
+pub mod Times

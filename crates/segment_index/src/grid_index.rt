@@ -1,7 +1,6 @@
-ghost use Rattle.std.specs.Prelude.{◌≡◌, IfOk};
+ghost use Rattle.std.specs.Prelude.{◌≡◌, Some, IfOk};
 ghost use Rattle.std.specs.FinSet as set;
 ghost use Rattle.segment_index.specs.Frames.{frame_of};
-ghost use Rattle.segment_index.specs.Grids.{shared_cells};
 
 use crate::column::Column;
 use crate::columns::{copy_all, empty_columns, gather_all, put_all, take_all};
@@ -41,8 +40,8 @@ impl<A: Allocator + Copy> GridIndex<A> {
     pub fn new(alloc: A, extent: Option<Rect>) -> Result<Self, AllocError>
         ensures empty { IfOk result (λ g. g.held ≡ set.empty) }
         ensures frame { IfOk result (λ g. g.frame ≡ frame_of extent) }
-        ensures times { IfOk result
-            (λ g. ⟦<GridIndex<A> as SegIndex>⟧.times g ≡ shared_cells (frame_of extent)) }
+        ensures cells { IfOk result
+            (λ g. ⟦<GridIndex<A> as SegIndex>⟧.cells g ≡ Some (frame_of extent)) }
     {
         let columns = empty_columns(alloc)?;
         Ok(Self {
@@ -55,7 +54,7 @@ impl<A: Allocator + Copy> GridIndex<A> {
 impl<A: Allocator + Copy> SegIndex for GridIndex<A> {
     ghost held = { λ a. a.held };
 
-    ghost times = { λ a t rect. shared_cells a.frame t rect };
+    ghost cells = { λ a. Some a.frame };
 
     fn add(&mut self, s: Seg) -> Result<(), AllocError> {
         let cover = self.frame.cover(s.rect());

@@ -10,9 +10,9 @@ use Rattle.std.proofs.lemmas.List.Elements.{Contains-append_left, Contains-appen
 use Rattle.slab.proofs.SlabLemmas.{Contains-cons, Contains-cons_cases}
 use Rattle.shared_arcs.specs.declared.around.Neighbours.{Neighbours}
 use Rattle.shared_arcs.specs.declared.around.Neighbours.TheVariants.{None, One, Two, More}
-use Rattle.shared_arcs.specs.Ways.{Edge, links, times, is_seg, one}
+use Rattle.arc_tables.specs.Ways.{Edge, links, times, is_seg, one}
 use Rattle.shared_arcs.specs.Around.{noted, noted_all, other_end, other_ends, ends_among}
-use Rattle.shared_arcs.proofs.Moves.{links-append}
+use Rattle.arc_tables.proofs.Moves.{links-append}
 
 -- ---- what was seen
 

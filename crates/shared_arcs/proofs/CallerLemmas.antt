@@ -9,13 +9,13 @@ use Rattle.std.proofs.lemmas.Bool.{false≢true}
 use Rattle.std.proofs.lemmas.Bool.Decides.{Decides-eqb}
 use Rattle.std.proofs.lemmas.List.Sums.{sum_by-cons}
 use Rattle.std.specs.FinMap as rings
-use Rattle.shared_arcs.specs.Ways.{Edge, times, is_seg, one}
-use Rattle.shared_arcs.specs.Rings.{Rings, has_segment, users_of}
-use Rattle.shared_arcs.specs.Edited.{onto, collapsed}
+use Rattle.arc_tables.specs.Ways.{Edge, times, is_seg, one}
+use Rattle.arc_tables.specs.Rings.{Rings, has_segment, users_of}
+use Rattle.arc_tables.specs.Edited.{onto, collapsed}
 use Rattle.shared_arcs.specs.Joined.{Joined}
-use Rattle.shared_arcs.proofs.CutLemmas.{or_right, not_used}
-use Rattle.shared_arcs.proofs.Segments.{ends_of, is_forth, is_back}
-use Rattle.shared_arcs.proofs.Removing.{onto_p, onto_b, onto_other}
+use Rattle.arc_tables.proofs.CutLemmas.{or_right, not_used}
+use Rattle.arc_tables.proofs.Segments.{ends_of, is_forth, is_back}
+use Rattle.arc_tables.proofs.Removing.{onto_p, onto_b, onto_other}
 
 -- ---- a segment that no ring uses joins no two vertices
 

@@ -3,9 +3,9 @@ use Rattle.std.proofs.Common.{◌≡◌, ℕ, ◌≤◌, refl, ap, ap₂, ◌∙
 use Rattle.std.proofs.lemmas.List.{length-take-le}
 use Rattle.std.proofs.Math.Seq.{take-append_seam, drop-append_seam, drop-length, take-length}
 use Rattle.slab.proofs.SlabLemmas.{Contains-cons, Contains-cons_cases}
-use Rattle.shared_arcs.specs.Stores.{including, AllDifferent}
+use Rattle.arc_tables.specs.Stores.{including, AllDifferent}
 use Rattle.shared_arcs.specs.Listing.{including_all, gathered}
-use Rattle.shared_arcs.proofs.Different.{none_contained, different_including, in_including, itself_including, from_including}
+use Rattle.arc_tables.proofs.Different.{none_contained, different_including, in_including, itself_including, from_including}
 
 -- ---- a list with more numbers
 

@@ -9,20 +9,20 @@ use Rattle.std.proofs.lemmas.Bool.Decides.{Decides-eqb}
 use Rattle.std.specs.FinMap as rings
 use Rattle.slab.specs.Slab.{get, ContainsKey}
 use Rattle.slab.proofs.SlabLemmas.{Contains-cons}
-use Rattle.shared_arcs.specs.declared.arc.Use.{Use}
-use Rattle.shared_arcs.specs.declared.arc.Arc.{Arc}
-use Rattle.shared_arcs.specs.declared.tables.Tables.{Tables}
+use Rattle.arc_tables.specs.declared.arc.Use.{Use}
+use Rattle.arc_tables.specs.declared.arc.Arc.{Arc}
+use Rattle.arc_tables.specs.declared.tables.Tables.{Tables}
 use Rattle.shared_arcs.specs.declared.around.Neighbours.{Neighbours}
 use Rattle.shared_arcs.specs.declared.around.Neighbours.TheVariants.{None, One, Two, More}
-use Rattle.shared_arcs.specs.Ways.{Edge, links, walk, chain, times, is_seg, one, edges_of}
+use Rattle.arc_tables.specs.Ways.{Edge, links, walk, chain, times, is_seg, one, edges_of}
 use Rattle.shared_arcs.specs.Around.{noted_all, other_ends, ends_among}
 use Rattle.shared_arcs.specs.Joined.{Joined, AreNeighbours}
-use Rattle.shared_arcs.specs.Stores.{path_of, path_in, users_in, uses_in, uses_arc, store, stand_at, Known, Listed}
-use Rattle.shared_arcs.specs.Sound.{rings_of}
+use Rattle.arc_tables.specs.Stores.{path_of, path_in, users_in, uses_in, uses_arc, store, stand_at, Known, Listed}
+use Rattle.arc_tables.specs.Sound.{rings_of}
 use Rattle.shared_arcs.specs.Listing.{ListsJoined, gathered, including_all}
-use Rattle.shared_arcs.proofs.Moves.{times-append, times-flipped, links-reverse}
-use Rattle.shared_arcs.proofs.CutLemmas.{or_split, or_left, or_right, present}
-use Rattle.shared_arcs.proofs.RingLemmas.{held_ring, ring_here}
+use Rattle.arc_tables.proofs.Moves.{times-append, times-flipped, links-reverse}
+use Rattle.arc_tables.proofs.CutLemmas.{or_split, or_left, or_right, present}
+use Rattle.arc_tables.proofs.RingLemmas.{held_ring, ring_here}
 use Rattle.shared_arcs.proofs.AroundLemmas.{Sees, sees_alike, sees_list, in_flat_map, to_flat_map, ends_times, times_ends}
 use Rattle.shared_arcs.proofs.Gathering.{gathered_behind, only_including, themselves_including, different_including_all}
 

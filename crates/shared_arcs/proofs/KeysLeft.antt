@@ -3,17 +3,17 @@ use Rattle.std.proofs.Common.{◌≡◌, ℕ, zero, suc, ◌+◌, ◌-◌, ◌<�
 use Rattle.std.proofs.lemmas.List.{drop_all, map-append, get_or-reverse, length-take-le}
 use Rattle.std.specs.FinMap as rings
 use Rattle.slab.specs.Slab.{Slab, get}
-use Rattle.shared_arcs.specs.declared.arc.Use.{Use}
-use Rattle.shared_arcs.specs.declared.arc.Arc.{Arc}
-use Rattle.shared_arcs.specs.declared.arc.Ring.{Ring}
-use Rattle.shared_arcs.specs.declared.tables.Tables.{Tables}
-use Rattle.shared_arcs.specs.Ways.{links, walk, chain}
-use Rattle.shared_arcs.specs.Rings.{begins}
-use Rattle.shared_arcs.specs.Stores.{path_in, path_of, uses_in}
-use Rattle.shared_arcs.specs.Sound.{rings_of}
+use Rattle.arc_tables.specs.declared.arc.Use.{Use}
+use Rattle.arc_tables.specs.declared.arc.Arc.{Arc}
+use Rattle.arc_tables.specs.declared.arc.Ring.{Ring}
+use Rattle.arc_tables.specs.declared.tables.Tables.{Tables}
+use Rattle.arc_tables.specs.Ways.{links, walk, chain}
+use Rattle.arc_tables.specs.Rings.{begins}
+use Rattle.arc_tables.specs.Stores.{path_in, path_of, uses_in}
+use Rattle.arc_tables.specs.Sound.{rings_of}
 use Rattle.shared_arcs.specs.Coming.{from_place, keys_left}
 use Rattle.shared_arcs.proofs.ReadLemmas.{begins_links, length-walk}
-use Rattle.shared_arcs.proofs.RingLemmas.{ring_here}
+use Rattle.arc_tables.proofs.RingLemmas.{ring_here}
 
 length-begins : (back : Bool) (ps : List ℕ) → length (begins (links (walk back ps))) ≡ length ps - 1
 length-begins back ps =

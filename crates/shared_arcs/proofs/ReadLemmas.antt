@@ -5,12 +5,12 @@ use Rattle.std.specs.Option.{option_copied}
 use Rattle.std.specs.Borrow.{Bor}
 use Rattle.std.proofs.lemmas.List.{take_more, length-reverse, map-append, append-nil, get_or-reverse}
 use Rattle.std.proofs.lemmas.Bool.Decides.{Decides-eqb}
-use Rattle.shared_arcs.specs.declared.arc.Use.{Use}
-use Rattle.shared_arcs.specs.Ways.{links, walk, chain}
-use Rattle.shared_arcs.specs.Rings.{begins}
-use Rattle.shared_arcs.specs.Stores.{uses_arc}
-use Rattle.shared_arcs.proofs.Moves.{chain_append}
-use Rattle.shared_arcs.proofs.CutLemmas.{or_left, or_right}
+use Rattle.arc_tables.specs.declared.arc.Use.{Use}
+use Rattle.arc_tables.specs.Ways.{links, walk, chain}
+use Rattle.arc_tables.specs.Rings.{begins}
+use Rattle.arc_tables.specs.Stores.{uses_arc}
+use Rattle.arc_tables.proofs.Moves.{chain_append}
+use Rattle.arc_tables.proofs.CutLemmas.{or_left, or_right}
 
 -- the links of a path begin at its keys but for the last
 pub begins_links : (ps : List ℕ) → begins (links ps) ≡ take (length ps - 1) ps

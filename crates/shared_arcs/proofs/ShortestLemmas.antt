@@ -8,21 +8,21 @@ use Rattle.std.specs.List.{flat_map}
 use Rattle.std.proofs.lemmas.List.Concat.{flat_map-append}
 use Rattle.slab.specs.Slab.{get}
 use Rattle.slab.proofs.SlabLemmas.{Contains-cons, Contains-cons_cases}
-use Rattle.shared_arcs.specs.declared.arc.Use.{Use}
-use Rattle.shared_arcs.specs.declared.tables.Tables.{Tables}
+use Rattle.arc_tables.specs.declared.arc.Use.{Use}
+use Rattle.arc_tables.specs.declared.tables.Tables.{Tables}
 use Rattle.shared_arcs.specs.declared.around.Neighbours.{Neighbours}
 use Rattle.shared_arcs.specs.declared.around.Neighbours.TheVariants as neighbours
-use Rattle.shared_arcs.specs.Ways.{Edge, links, walk, chain, times, edges_of}
+use Rattle.arc_tables.specs.Ways.{Edge, links, walk, chain, times, edges_of}
 use Rattle.shared_arcs.specs.Around.{noted_all, other_ends}
-use Rattle.shared_arcs.specs.Rings.{Rings}
+use Rattle.arc_tables.specs.Rings.{Rings}
 use Rattle.shared_arcs.specs.Joined.{Passes}
 use Rattle.shared_arcs.specs.Shortest.{is_any, touches, edge_count, less_of, least_of, users_at, rings_among}
-use Rattle.shared_arcs.specs.Sound.{rings_of}
-use Rattle.shared_arcs.specs.Stores.{path_of, users_in, uses_in, store, stand_at, Known, Listed, Whole}
-use Rattle.shared_arcs.proofs.Moves.{chain_append}
-use Rattle.shared_arcs.proofs.CutLemmas.{present}
+use Rattle.arc_tables.specs.Sound.{rings_of}
+use Rattle.arc_tables.specs.Stores.{path_of, users_in, uses_in, store, stand_at, Known, Listed, Whole}
+use Rattle.arc_tables.proofs.Moves.{chain_append}
+use Rattle.arc_tables.proofs.CutLemmas.{present}
 use Rattle.shared_arcs.proofs.ReadLemmas.{length-walk}
-use Rattle.shared_arcs.proofs.RingLemmas.{ring_here}
+use Rattle.arc_tables.proofs.RingLemmas.{ring_here}
 use Rattle.shared_arcs.proofs.AroundLemmas.{Sees, sees_list, in_flat_map, to_flat_map, ends_times, times_ends}
 use Rattle.shared_arcs.proofs.JoinedLemmas.{arc_of_segment, segment_of_arc, stands_in, edges_held}
 

@@ -1,10 +1,5 @@
 pub mod Around
 pub mod Coming
-pub mod Edited
 pub mod Joined
 pub mod Listing
-pub mod Rings
 pub mod Shortest
-pub mod Sound
-pub mod Stores
-pub mod Ways

@@ -1,8 +1,8 @@
 -- The list of the vertices that are joined to one.
 use Rattle.std.specs.Prelude.{ℕ, ◌≡◌, ◌↔◌, List, [], ◌∷◌, ◌++◌, take, drop, Contains}
-use Rattle.shared_arcs.specs.Rings.{Rings}
+use Rattle.arc_tables.specs.Rings.{Rings}
 use Rattle.shared_arcs.specs.Joined.{Joined}
-use Rattle.shared_arcs.specs.Stores.{AllDifferent, including}
+use Rattle.arc_tables.specs.Stores.{AllDifferent, including}
 
 -- the list with these numbers, each of which comes last where it is new
 abbrev pub including_all : List ℕ → List ℕ → List ℕ

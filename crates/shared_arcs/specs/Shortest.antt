@@ -1,10 +1,10 @@
 -- The rings at a vertex, and the least of their edge counts.
 use Rattle.std.specs.Prelude.{ℕ, ◌-◌, ◌^◌, Bool, true, false, List, [], ◌∷◌, Option, Some, None, length, min, if◌then◌else◌}
 use Rattle.std.specs.List.{flat_map}
-use Rattle.shared_arcs.specs.declared.arc.Use.{Use}
+use Rattle.arc_tables.specs.declared.arc.Use.{Use}
 use Rattle.shared_arcs.specs.declared.around.Neighbours.{Neighbours}
 use Rattle.shared_arcs.specs.declared.around.Neighbours.TheVariants as neighbours
-use Rattle.shared_arcs.specs.Ways.{chain, links}
+use Rattle.arc_tables.specs.Ways.{chain, links}
 use Rattle.shared_arcs.specs.Around.{noted_all, other_ends}
 
 -- whether there is a neighbour

@@ -1,15 +1,13 @@
 //! What stands around a vertex: its neighbours, and the rings that pass it.
 ghost use Rattle.std.specs.Prelude.{◌≡◌, map};
 ghost use Rattle.slab.specs.Slab.{get};
-ghost use Rattle.shared_arcs.specs.Ways.{links};
+ghost use Rattle.arc_tables.specs.Ways.{links};
 ghost use Rattle.shared_arcs.specs.Around.{noted, noted_all, other_end, other_ends, ends_among};
 ghost use Rattle.shared_arcs.specs.Shortest.{most, edge_count, less_of, least_of, touches, users_at, rings_among};
-ghost use Rattle.shared_arcs.specs.Stores.{path_in, path_of, users_in, uses_in, stand_at};
+ghost use Rattle.arc_tables.specs.Stores.{path_in, path_of, users_in, uses_in, stand_at};
 ghost use Rattle.shared_arcs.specs.declared.around.Neighbours.{Neighbours};
 
-use crate::arc::{Arc, Ring, Use};
-use crate::place::arcs_at;
-use crate::tables::Tables;
+use arc_tables::{Arc, Ring, Tables, Use, arcs_at};
 use slab::Slab;
 use std::alloc::Allocator;
 use vertex_index::VertexKey;
@@ -206,20 +204,18 @@ fn shortest_among<A: Allocator + Copy>(
     least
 }
 
-impl<A: Allocator + Copy> Tables<A> {
-    /// The vertices that some ring joins to `k`.
-    pub(crate) fn neighbours(&self, k: VertexKey) -> Neighbours
-        ensures { result ≡ noted_all Neighbours.None
-            (ends_among (path_of self.now) (stand_at self.now.stands.items k) k) }
-    {
-        neighbours_among(&self.arcs, arcs_at(&self.stands, k), k)
-    }
+/// The vertices that some ring joins to `k`.
+pub(crate) fn neighbours_at<A: Allocator + Copy>(tables: &Tables<A>, k: VertexKey) -> Neighbours
+    ensures { result ≡ noted_all Neighbours.None
+        (ends_among (path_of tables.now) (stand_at tables.now.stands.items k) k) }
+{
+    neighbours_among(&tables.arcs, arcs_at(&tables.stands, k), k)
+}
 
-    /// The edge count of the shortest ring that passes `k`.
-    pub(crate) fn shortest(&self, k: VertexKey) -> Option<usize>
-        ensures { result ≡ least_of None (map (λ r. edge_count most (path_of self.now) (uses_in (get self.now.rings r)))
-            (rings_among (path_of self.now) (λ j. users_in (get self.now.arcs j)) (stand_at self.now.stands.items k) k)) }
-    {
-        shortest_among(&self.arcs, &self.rings, arcs_at(&self.stands, k), k)
-    }
+/// The edge count of the shortest ring that passes `k`.
+pub(crate) fn shortest_ring<A: Allocator + Copy>(tables: &Tables<A>, k: VertexKey) -> Option<usize>
+    ensures { result ≡ least_of None (map (λ r. edge_count most (path_of tables.now) (uses_in (get tables.now.rings r)))
+        (rings_among (path_of tables.now) (λ j. users_in (get tables.now.arcs j)) (stand_at tables.now.stands.items k) k)) }
+{
+    shortest_among(&tables.arcs, &tables.rings, arcs_at(&tables.stands, k), k)
 }

@@ -1,10 +1,10 @@
 //! Rings over shared arcs, as a caller sees them.
 ghost use Rattle.std.specs.Prelude.{◌≡◌, ◌≤◌, ◌++◌, true, None, IfOk, OnOk, OnErr, IfSome, length};
 ghost use Rattle.std.specs.FinMap as map;
-ghost use Rattle.shared_arcs.specs.Rings.{begins, edges, users_of};
+ghost use Rattle.arc_tables.specs.Rings.{begins, edges, users_of};
 
-use crate::standing::mark_end;
-use crate::tables::Tables;
+use crate::reading::push_ring_keys;
+use arc_tables::{Tables, mark_end};
 use slab::Slab;
 use std::alloc::{AllocError, Allocator, Global};
 use std::marker::Model;
@@ -20,13 +20,13 @@ pub struct Borders<A: Allocator + Copy = Global> {
 impl<A: Allocator + Copy> Model for Borders<A> {
     ghost use Rattle.std.specs.Coded.{coded_ℕ};
     ghost use Rattle.std.specs.FinMap as map;
-    ghost use Rattle.shared_arcs.specs.Rings.{Rings, edges_code};
+    ghost use Rattle.arc_tables.specs.Rings.{Rings, edges_code};
 
     ghost Value = { Rings };
 
     ghost coded = { map.code coded_ℕ edges_code };
 
-    ghost use Rattle.shared_arcs.specs.Sound.{rings_of, Sound};
+    ghost use Rattle.arc_tables.specs.Sound.{rings_of, Sound};
 
     ghost view = { λ b. rings_of b.tables };
 
@@ -109,8 +109,18 @@ impl<A: Allocator + Copy> Borders<A> {
         ensures { OnOk result
             (IfSome (map.get self.now r) (λ es. out.new.items ≡ out.old.items ++ begins es)) }
     {
-        match self.tables.push_keys(r, out) {
+        match push_ring_keys(&self.tables, r, out) {
             Ok(()) => Ok(()),
+            Err(e) => Err(e),
+        }
+    }
+
+    /// The same rings under the same numbers. Fails for want of memory alone.
+    pub fn copy(&self) -> Result<Borders<A>, AllocError>
+        ensures { IfOk result (λ copy. copy ≡ self.now) }
+    {
+        match self.tables.copy() {
+            Ok(tables) => Ok(Borders { tables }),
             Err(e) => Err(e),
         }
     }

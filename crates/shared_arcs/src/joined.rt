@@ -1,15 +1,14 @@
 //! The list of the vertices that are joined to one.
 ghost use Rattle.std.specs.Prelude.{◌≡◌, ◌≤◌, OnOk, [], ◌∷◌, length};
 ghost use Rattle.slab.specs.Slab.{get};
-ghost use Rattle.shared_arcs.specs.Ways.{links};
+ghost use Rattle.arc_tables.specs.Ways.{links};
 ghost use Rattle.shared_arcs.specs.Around.{other_end, other_ends, ends_among};
-ghost use Rattle.shared_arcs.specs.Stores.{path_in};
+ghost use Rattle.arc_tables.specs.Stores.{path_in};
 ghost use Rattle.shared_arcs.specs.Listing.{gathered, ListsJoined};
 
-use crate::arc::Arc;
 use crate::around::path_at;
 use crate::borders::Borders;
-use crate::place::arcs_at;
+use arc_tables::{Arc, arcs_at};
 use slab::Slab;
 use std::alloc::{AllocError, Allocator};
 use vertex_index::VertexKey;

@@ -1,11 +1,11 @@
 //! Reading a ring's keys from its arcs.
 ghost use Rattle.std.specs.Prelude.{◌≡◌, ◌≤◌, ◌-◌, ◌++◌, OnOk, if◌then◌else◌};
 ghost use Rattle.slab.specs.Slab.{ContainsKey};
-ghost use Rattle.shared_arcs.specs.Ways.{links, walk, edges_of};
-ghost use Rattle.shared_arcs.specs.Rings.{begins};
-ghost use Rattle.shared_arcs.specs.Stores.{store, Whole};
+ghost use Rattle.arc_tables.specs.Ways.{links, walk, edges_of};
+ghost use Rattle.arc_tables.specs.Rings.{begins};
+ghost use Rattle.arc_tables.specs.Stores.{store, Whole};
 
-use crate::tables::Tables;
+use arc_tables::Tables;
 use std::alloc::{AllocError, Allocator};
 use vertex_index::VertexKey;
 
@@ -32,22 +32,20 @@ fn push_begins<A: Allocator>(
     Ok(())
 }
 
-impl<A: Allocator + Copy> Tables<A> {
-    /// Appends the keys at which the edges of a ring begin.
-    pub(crate) fn push_keys<B: Allocator>(
-        &self,
-        r: usize,
-        out: &mut Vec<VertexKey, B>,
-    ) -> Result<(), AllocError>
-        requires whole { Whole self.now }
-        requires held { ContainsKey self.now.rings r }
-        ensures { OnOk result
-            (out.new.items ≡ out.old.items ++ begins (edges_of (store self.now) r)) }
-    {
-        for u in self.rings.get(r).unwrap().uses.as_slice() {
-            let arc = self.arcs.get(u.arc).unwrap();
-            push_begins(arc.keys.as_slice(), u.back, out)?;
-        }
-        Ok(())
+/// Appends the keys at which the edges of a ring begin.
+pub(crate) fn push_ring_keys<A: Allocator + Copy, B: Allocator>(
+    tables: &Tables<A>,
+    r: usize,
+    out: &mut Vec<VertexKey, B>,
+) -> Result<(), AllocError>
+    requires whole { Whole tables.now }
+    requires held { ContainsKey tables.now.rings r }
+    ensures { OnOk result
+        (out.new.items ≡ out.old.items ++ begins (edges_of (store tables.now) r)) }
+{
+    for u in tables.rings.get(r).unwrap().uses.as_slice() {
+        let arc = tables.arcs.get(u.arc).unwrap();
+        push_begins(arc.keys.as_slice(), u.back, out)?;
     }
+    Ok(())
 }

@@ -3,14 +3,14 @@ ghost use Rattle.std.specs.Prelude.{◌≡◌, ◌≤◌, option_map};
 ghost use Rattle.std.specs.FinMap as map;
 ghost use Rattle.std.specs.Iterator.{YieldsFirst, item_count};
 ghost use Rattle.slab.specs.Slab.{get};
-ghost use Rattle.shared_arcs.specs.Rings.{begins};
-ghost use Rattle.shared_arcs.specs.Stores.{path_in};
-ghost use Rattle.shared_arcs.specs.Ways.{chain};
+ghost use Rattle.arc_tables.specs.Rings.{begins};
+ghost use Rattle.arc_tables.specs.Stores.{path_in};
+ghost use Rattle.arc_tables.specs.Ways.{chain};
 
-use crate::arc::{Arc, Use};
 use crate::around::path_at;
 use crate::borders::Borders;
 use crate::reading::place_of;
+use arc_tables::{Arc, Use};
 use slab::Slab;
 use std::alloc::{Allocator, Global};
 use std::iter::FusedIterator;

@@ -1,11 +1,11 @@
 //! The edits of one vertex in every ring at once, and what stands around it.
 ghost use Rattle.std.specs.Prelude.{◌≡◌, ◌≤◌, ◌⊎◌, ℕ, List, OnOk, OnErr, IfSome, IfNone, option_map, length, min};
 ghost use Rattle.std.specs.FinMap as map;
-ghost use Rattle.shared_arcs.specs.Ways.{Edge};
-ghost use Rattle.shared_arcs.specs.Edited.{AreApart, through, collapsed};
+ghost use Rattle.arc_tables.specs.Ways.{Edge};
+ghost use Rattle.arc_tables.specs.Edited.{AreApart, through, collapsed};
 ghost use Rattle.shared_arcs.specs.Joined.{Joined, Passes, AreNeighbours};
 
-use crate::around::Neighbours;
+use crate::around::{Neighbours, neighbours_at, shortest_ring};
 use crate::borders::Borders;
 use std::alloc::{AllocError, Allocator};
 use vertex_index::VertexKey;
@@ -40,7 +40,7 @@ impl<A: Allocator + Copy> Borders<A> {
     pub fn neighbours(&self, k: VertexKey) -> Neighbours
         ensures { AreNeighbours self.now k result }
     {
-        self.tables.neighbours(k)
+        neighbours_at(&self.tables, k)
     }
 
     /// How many edges the shortest ring with a segment at `k` has, `None` where no ring has one. It
@@ -52,6 +52,6 @@ impl<A: Allocator + Copy> Borders<A> {
         ensures least { IfSome result (λ n. (es : List Edge) → Passes self.now k es
             → n ≤ length es) }
     {
-        self.tables.shortest(k)
+        shortest_ring(&self.tables, k)
     }
 }

@@ -11,7 +11,7 @@ use Rattle.json_spans.specs.declared.kinds.Kind.{Kind}
 use Rattle.json_spans.specs.declared.kinds.Kind.TheVariants as kind
 use Rattle.json_spans.proofs.Grouped.{items_are_values, members_are_values}
 use Rattle.topo_outline.specs.declared.words.Word.{Word}
-use Rattle.topo_outline.specs.Shape.{is_list, is_list_kind, is_kind_object, EntryNode, code, member}
+use Rattle.topo_outline.specs.Shape.{is_list, is_object, is_list_kind, is_kind_object, EntryNode, code, member}
 use Rattle.topo_outline.specs.IsOutline.{Entries, no_entry, entry, HasEntries, value_at, NestsAtMost}
 
 -- the value of each member has at most k levels
@@ -50,11 +50,15 @@ each_value : (k : ℕ) (ms : List (Node × Node)) → AllByRecursion (λ m. IsTe
 each_value k [] h = tt
 each_value k (m ∷ ms) h = (h.0.1, each_value k ms h.1)
 
+-- the name of each member of an object is a string, and its value has fewer levels
+pub object_parts : (k : ℕ) (n : Node) → NestsAtMost k n → is_object n ≡ true → (j : ℕ) × (suc j ≤ k) × AllByRecursion (λ m. IsText m.0.bytes × IsValue j m.1.bytes) (members n)
+object_parts zero n h object = absurd (members_are_values n zero h (an_object (kind_of n.bytes) object))
+object_parts (suc k) n h object = (k, omega arith, recursion_from_All (λ m. IsText m.0.bytes × IsValue k m.1.bytes) (members n) (members_are_values n (suc k) h (an_object (kind_of n.bytes) object)))
+
 pub object_nests : (k : ℕ) (n : Node) (es : List EntryNode) → NestsAtMost k n → HasEntries n es → (j : ℕ) × (suc j ≤ k) × AllNest j es
-object_nests zero n es h o = absurd (members_are_values n zero h (an_object (kind_of n.bytes) o.object))
-object_nests (suc k) n es h o =
-    let all = members_are_values n (suc k) h (an_object (kind_of n.bytes) o.object) in
-    (k, omega arith, values_nest k o.entries (each_value k (members n) (recursion_from_All (λ m. IsText m.0.bytes × IsValue k m.1.bytes) (members n) all)))
+object_nests k n es h o =
+    let (j, less, parts) = object_parts k n h o.object in
+    (j, less, values_nest j o.entries (each_value j (members n) parts))
 
 pub list_nests : (k : ℕ) (n : Node) → NestsAtMost k n → is_list n ≡ true → (j : ℕ) × (suc j ≤ k) × AllByRecursion (NestsAtMost j) (items n)
 list_nests zero n h list = absurd (items_are_values n zero h (a_list (kind_of n.bytes) list))

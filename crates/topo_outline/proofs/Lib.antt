@@ -6,6 +6,9 @@ pub mod Steps
 pub mod Entering
 pub mod Typing
 pub mod Levels
+pub mod Keeping
+pub mod KeptRings
 pub mod Nesting
 pub mod Shaped
 pub mod Promised
+pub mod Copied

@@ -15,6 +15,7 @@ macro_rules! or_return {
     };
 }
 
+mod copying;
 mod document;
 mod entries;
 mod fault;

@@ -13,6 +13,11 @@ pub mod Named
 pub mod Summing
 pub mod Turning
 pub mod Numbering
+pub mod Bracketed
+pub mod Fitting
+pub mod Formed
+pub mod Keeping
+pub mod Meant
 pub mod OfRings
 pub mod Leaves
 pub mod Widening

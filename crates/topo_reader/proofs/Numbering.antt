@@ -9,64 +9,76 @@ use Rattle.std.proofs.lemmas.List.Folds.{list_all-append}
 use Rattle.std.proofs.lemmas.List.Sums.{sum_by-cons, sum_by-append}
 use Rattle.std.proofs.lemmas.Option.{unwrap_or-slice_get}
 use Rattle.grid_geometry.specs.Position.{Position}
-use Rattle.ring_machine.specs.Document.{Item, Layer}
+use Rattle.ring_machine.specs.Document.{ItemOf, LayerOf}
 use Rattle.ring_machine.specs.Parts.{feature_of, rings_of}
 use Rattle.ring_machine.proofs.Order.{and_both}
 use Rattle.topo_outline.specs.Shape.{LayerText, Piece, starts, ends, leaf, text}
 use Rattle.topo_outline.specs.Outline.{leaves_in, leaves}
 use Rattle.topo_reader.specs.Document.{Polygons, polygons_at, items_from, layers_from}
 
-take-nil : (k : ℕ) → take {A = Polygons} k [] ≡ []
-take-nil k = take_all {A = Polygons} k [] (omega arith)
+module _ {R : Type 0} where
+  abbrev within_items : List (ItemOf R) → List R
+  within_items is = flat_map rings_of (filter_map feature_of is)
 
--- the rings of one feature
-abbrev pub rings_within : Polygons → List (List Position)
-rings_within ps = flat_map (λ polygon. polygon) ps
+  abbrev within_layers : List (LayerOf R) → List R
+  within_layers ls = flat_map rings_of (flat_map (λ l. filter_map feature_of l.items) ls)
 
-abbrev within_items : List Item → List (List Position)
-within_items is = flat_map rings_of (filter_map feature_of is)
+  -- the rings of one feature
+  abbrev pub rings_within : List (List R) → List R
+  rings_within ps = flat_map (λ polygon. polygon) ps
 
-abbrev within_layers : List Layer → List (List Position)
-within_layers ls = flat_map rings_of (flat_map (λ l. filter_map feature_of l.items) ls)
+  take-nil : (k : ℕ) → take {A = List (List R)} k [] ≡ []
+  take-nil k = take_all {A = List (List R)} k [] (omega arith)
 
--- the polygons of feature n, and those of the features behind it
-at_place : (all : List Polygons) (n k : ℕ) → rings_within (polygons_at all n) ++ flat_map rings_within (take k (drop (suc n) all)) ≡ flat_map rings_within (take (suc k) (drop n all))
-at_place all n k = rw (unwrap_or-slice_get all n []) (by all n)
-  where
-    by : (all : List Polygons) (n : ℕ) → rings_within (get_or all n []) ++ flat_map rings_within (take k (drop (suc n) all)) ≡ flat_map rings_within (take (suc k) (drop n all))
-    by [] zero = ap (λ (ps : List Polygons). flat_map rings_within ps) (take-nil k)
-    by [] (suc n) = ap (λ (ps : List Polygons). flat_map rings_within ps) (take-nil k)
-    by (ps ∷ all) zero = refl
-    by (ps ∷ all) (suc n) = by all n
+  -- the polygons of feature n, and those of the features behind it
+  at_place : (all : List (List (List R))) (n k : ℕ)
+      → rings_within (polygons_at all n) ++ flat_map rings_within (take k (drop (suc n) all))
+      ≡ flat_map rings_within (take (suc k) (drop n all))
+  at_place all n k = rw (unwrap_or-slice_get all n []) (by all n)
+    where
+      by : (all : List (List (List R))) (n : ℕ)
+          → rings_within (get_or all n []) ++ flat_map rings_within (take k (drop (suc n) all))
+          ≡ flat_map rings_within (take (suc k) (drop n all))
+      by [] zero = ap (λ (ps : List (List (List R))). flat_map rings_within ps) (take-nil k)
+      by [] (suc n) = ap (λ (ps : List (List (List R))). flat_map rings_within ps) (take-nil k)
+      by (ps ∷ all) zero = refl
+      by (ps ∷ all) (suc n) = by all n
 
--- the rings of the items whose features are numbered from n
-items_rings : (all : List Polygons) (n : ℕ) (ps : List Piece) → within_items (items_from n all ps) ≡ flat_map rings_within (take (length (leaves_in ps)) (drop n all))
-unfolding leaves_in
-items_rings all n [] = refl
-items_rings all n (starts head ∷ ps) = items_rings all n ps
-items_rings all n (ends ∷ ps) = items_rings all n ps
-items_rings all n (text t ∷ ps) = items_rings all n ps
-items_rings all n (leaf form head node ∷ ps) =
-    ap (λ (rs : List (List Position)). rings_within (polygons_at all n) ++ rs) (items_rings all (n + 1) ps ∙ ap (λ (m : ℕ). flat_map rings_within (take (length (leaves_in ps)) (drop m all))) (add-one n))
-    ∙ at_place all n (length (leaves_in ps))
+  -- the rings of the items whose features are numbered from n
+  items_rings : (all : List (List (List R))) (n : ℕ) (ps : List Piece)
+      → within_items (items_from n all ps)
+      ≡ flat_map rings_within (take (length (leaves_in ps)) (drop n all))
+  unfolding leaves_in
+  items_rings all n [] = refl
+  items_rings all n (starts head ∷ ps) = items_rings all n ps
+  items_rings all n (ends ∷ ps) = items_rings all n ps
+  items_rings all n (text t ∷ ps) = items_rings all n ps
+  items_rings all n (leaf form head node ∷ ps) =
+      ap (λ (rs : List R). rings_within (polygons_at all n) ++ rs) (items_rings all (n + 1) ps ∙ ap (λ (m : ℕ). flat_map rings_within (take (length (leaves_in ps)) (drop m all))) (add-one n))
+      ∙ at_place all n (length (leaves_in ps))
 
-layers_rings : (all : List Polygons) (n : ℕ) (ls : List LayerText) → within_layers (layers_from n all ls) ≡ flat_map rings_within (take (length (leaves ls)) (drop n all))
-unfolding leaves
-layers_rings all n [] = refl
-layers_rings all n (l ∷ ls) =
-    flat_map-append rings_of (filter_map feature_of (items_from n all l.pieces)) (flat_map (λ l'. filter_map feature_of l'.items) (layers_from (n + length (leaves_in l.pieces)) all ls))
-    ∙ ap₂ (λ (rs ss : List (List Position)). rs ++ ss) (items_rings all n l.pieces) (layers_rings all (n + length (leaves_in l.pieces)) ls)
-    ∙ sym (split (length (leaves_in l.pieces)) (length (leaves ls)) (length (leaves_in l.pieces ++ leaves ls)) (length-append (leaves_in l.pieces) (leaves ls)))
-  where
-    split : (j k m : ℕ) → m ≡ j + k → flat_map rings_within (take m (drop n all)) ≡ flat_map rings_within (take j (drop n all)) ++ flat_map rings_within (take k (drop (n + j) all))
-    split j k m e =
-        ap (λ (i : ℕ). flat_map rings_within (take i (drop n all))) e
-        ∙ ap (λ (ps : List Polygons). flat_map rings_within ps) (take-add j k (drop n all) ∙ ap (λ (ps : List Polygons). take j (drop n all) ++ take k ps) (drop-drop j n all))
-        ∙ flat_map-append rings_within (take j (drop n all)) (take k (drop (n + j) all))
+  layers_rings : (all : List (List (List R))) (n : ℕ) (ls : List LayerText)
+      → within_layers (layers_from n all ls)
+      ≡ flat_map rings_within (take (length (leaves ls)) (drop n all))
+  unfolding leaves
+  layers_rings all n [] = refl
+  layers_rings all n (l ∷ ls) =
+      flat_map-append rings_of (filter_map feature_of (items_from n all l.pieces)) (flat_map (λ l'. filter_map feature_of l'.items) (layers_from (n + length (leaves_in l.pieces)) all ls))
+      ∙ ap₂ (λ (rs ss : List R). rs ++ ss) (items_rings all n l.pieces) (layers_rings all (n + length (leaves_in l.pieces)) ls)
+      ∙ sym (split (length (leaves_in l.pieces)) (length (leaves ls)) (length (leaves_in l.pieces ++ leaves ls)) (length-append (leaves_in l.pieces) (leaves ls)))
+    where
+      split : (j k m : ℕ) → m ≡ j + k
+          → flat_map rings_within (take m (drop n all))
+          ≡ flat_map rings_within (take j (drop n all)) ++ flat_map rings_within (take k (drop (n + j) all))
+      split j k m e =
+          ap (λ (i : ℕ). flat_map rings_within (take i (drop n all))) e
+          ∙ ap (λ (ps : List (List (List R))). flat_map rings_within ps) (take-add j k (drop n all) ∙ ap (λ (ps : List (List (List R))). take j (drop n all) ++ take k ps) (drop-drop j n all))
+          ∙ flat_map-append rings_within (take j (drop n all)) (take k (drop (n + j) all))
 
--- the rings of all layers are those of as many features
-pub rings_document : (all : List Polygons) (ls : List LayerText) → within_layers (layers_from 0 all ls) ≡ flat_map rings_within (take (length (leaves ls)) all)
-rings_document all ls = layers_rings all 0 ls
+  -- the rings of all layers are those of as many features
+  pub rings_document : (all : List (List (List R))) (ls : List LayerText)
+      → within_layers (layers_from 0 all ls) ≡ flat_map rings_within (take (length (leaves ls)) all)
+  rings_document all ls = layers_rings all 0 ls
 
 -- ---- tests and sums over all rings
 

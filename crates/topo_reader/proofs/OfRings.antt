@@ -7,12 +7,14 @@ use Rattle.std.proofs.lemmas.List.Sums.{sum_by-cons}
 use Rattle.grid_geometry.specs.Position.{Position}
 use Rattle.ring_machine.specs.Ring.{is_ring, canonical}
 use Rattle.ring_machine.specs.Parts.{rings, size}
+use Rattle.ring_machine.specs.WellFormed.{WellFormed}
 use Rattle.ring_machine.proofs.Canonical.{canonical_parts}
 use Rattle.ring_machine.proofs.StaysRing.{canonical_is_ring}
 use Rattle.json_spans.specs.Parts.{Node}
 use Rattle.topo_outline.specs.Faults.{Fault, arcs_do_not_meet, ring_short, too_large, ◌>>=◌, each, each_at, demand}
 use Rattle.topo_outline.specs.Gives.{Gives}
 use Rattle.topo_outline.specs.Shape.{OutlineText}
+use Rattle.topo_outline.specs.Kept.{KeepsTexts}
 use Rattle.topo_outline.specs.Outline.{leaves, outline}
 use Rattle.topo_outline.proofs.Shaped.{outline_means}
 use Rattle.topo_outline.specs.declared.fault.RingAt.{RingAt}
@@ -24,6 +26,8 @@ use Rattle.topo_reader.specs.Sizes as sizes
 use Rattle.topo_reader.specs.Rings.{unless, is_at, meet, squeezed, all_of, joined, first_repeat, distinct, ring_of, polygon_of, feature_of, all_rings}
 use Rattle.topo_reader.specs.Document.{Polygons, Opened, document_of, IsOfRings}
 use Rattle.topo_reader.specs.Opening.{polygons_read, opening}
+use Rattle.topo_reader.proofs.Meant.{meant_formed, meant_keeps}
+use Rattle.topo_reader.proofs.MeaningOfText.{IsRead}
 use Rattle.topo_reader.proofs.Repeats.{none_again}
 use Rattle.topo_reader.proofs.Steps.{at_most, bind_ok, demand_ok, ok_same}
 use Rattle.topo_reader.proofs.Numbering.{rings_within, rings_document, all_within, sum_within}
@@ -129,25 +133,30 @@ whole n shape ps e h =
 abbrev made : OutlineText → List Polygons → Opened
 made shape ps = record { transform = shape.transform; layers = shape.layers; members = shape.members; polygons = ps }
 
-made_of_rings : (shape : OutlineText) (ps : List Polygons) → IsWhole shape ps → IsOfRings (made shape ps)
-made_of_rings shape ps w =
+made_of_rings : (shape : OutlineText) (ps : List Polygons) → IsWhole shape ps → WellFormed (document_of (made shape ps)) → KeepsTexts (document_of (made shape ps)) → IsOfRings (made shape ps)
+made_of_rings shape ps w formed keeps =
     let same : rings (document_of (made shape ps)) ≡ flat_map rings_within ps =
     rings_document ps shape.layers ∙ ap (λ (qs : List Polygons). flat_map rings_within qs) (take_all (length (leaves shape.layers)) ps (omega (arith, w.1))) in
     let total : size (document_of (made shape ps)) ≡ sum_by (sum_by (sum_by length)) ps =
     ap (λ (rs : List (List Position)). sum_by length rs) same ∙ sum_within length ps in
     record {
       counted = w.1;
+      formed = formed;
+      keeps = keeps;
       few = w.0;
       are_rings = ap (λ (rs : List (List Position)). list_all is_ring rs) same ∙ all_within is_ring ps w.2;
       small = omega (arith, total, w.3);
     }
 
-pub opening_of_rings : (n : Node) (o : Opened) → opening n ≡ Ok o → IsOfRings o
-opening_of_rings n o h =
+pub opening_of_rings : (n : Node) (o : Opened) → opening n ≡ Ok o → WellFormed (document_of o) → KeepsTexts (document_of o) → IsOfRings o
+opening_of_rings n o h formed keeps =
     let shape = bind_ok (outline n) (λ (shape : OutlineText). polygons_read shape >>= λ ps. Ok (made shape ps)) o h in
     let ps = bind_ok (polygons_read shape.0) (λ (ps : List Polygons). Ok (made shape.0 ps)) o shape.2 in
-    subst IsOfRings (ok_same (made shape.0 ps.0) o ps.2) (made_of_rings shape.0 ps.0 (whole n shape.0 ps.0 shape.1 ps.1))
+    let is = ok_same (made shape.0 ps.0) o ps.2 in
+    subst IsOfRings is (made_of_rings shape.0 ps.0 (whole n shape.0 ps.0 shape.1 ps.1) (subst (λ (p : Opened). WellFormed (document_of p)) (sym is) formed) (subst (λ (p : Opened). KeepsTexts (document_of p)) (sym is) keeps))
 
-pub gives_of_rings : {X : Type 0} (view : X → Opened) (r : Result X OpenFault) (n : Node) → Gives view r (opening n) → IfOk r (λ x. IsOfRings (view x))
-gives_of_rings view (Ok x) n h = opening_of_rings n (view x) h
-gives_of_rings view (Err e) n h = tt
+-- what is answered is of rings, where the bytes mean it
+pub gives_of_rings : {X : Type 0} (view : X → Opened) (bytes : List ℕ) (r : Result X OpenFault) (n : Node) → Gives view r (opening n) → IfOk r (λ x. IsRead bytes (document_of (view x))) → IfOk r (λ x. IsOfRings (view x))
+gives_of_rings view bytes (Ok x) n h read =
+    opening_of_rings n (view x) h (meant_formed bytes (document_of (view x)) read.0) (meant_keeps bytes (document_of (view x)) read.0)
+gives_of_rings view bytes (Err e) n h read = tt

@@ -3,9 +3,11 @@ use Rattle.std.specs.Prelude.{◌≡◌, ℕ, ◌+◌, ◌≤◌, List, [], ◌�
 use Rattle.std.specs.List.{list_all}
 use Rattle.grid_geometry.specs.Position.{Position}
 use Rattle.ring_machine.specs.Ring.{is_ring}
-use Rattle.ring_machine.specs.Document.{Text, Form, Member, Head, Feature, Item, Open, Close, Leaf, Kept, Layer, Document}
+use Rattle.ring_machine.specs.Document.{Text, Form, Member, Head, FeatureOf, ItemOf, Open, Close, Leaf, Kept, LayerOf, Document}
 use Rattle.ring_machine.specs.Parts.{rings, size}
+use Rattle.ring_machine.specs.WellFormed.{WellFormed}
 use Rattle.topo_outline.specs.Shape.{Piece, starts, ends, leaf, text, LayerText}
+use Rattle.topo_outline.specs.Kept.{KeepsTexts}
 use Rattle.topo_outline.specs.Outline.{leaves_in, leaves}
 
 -- the polygons of one feature: an outer ring and its holes each (RFC 7946, 3.1.6)
@@ -19,36 +21,38 @@ pub record Opened : Type 0 where
   pub members : List Member
   pub polygons : List Polygons
 
--- the polygons of feature n
-abbrev pub polygons_at : List Polygons → ℕ → Polygons
-polygons_at all n = unwrap_or (slice_get all n) []
+-- with rings of any kind
+module _ {R : Type 0} where
+  -- the polygons of feature n
+  abbrev pub polygons_at : List (List (List R)) → ℕ → List (List R)
+  polygons_at all n = unwrap_or (slice_get all n) []
 
--- a feature with its number and its polygons
-abbrev pub numbered : ℕ → Form → Head → Polygons → Feature
-numbered n form head polygons = record {
-  number = n;
-  id = head.id;
-  form = form;
-  properties = head.properties;
-  members = head.members;
-  polygons = polygons;
-}
+  -- a feature with its number and its polygons
+  abbrev pub numbered : ℕ → Form → Head → List (List R) → FeatureOf R
+  numbered n form head polygons = record {
+    number = n;
+    id = head.id;
+    form = form;
+    properties = head.properties;
+    members = head.members;
+    polygons = polygons;
+  }
 
--- the items, their features numbered from n in the order of the text
-abbrev pub items_from : ℕ → List Polygons → List Piece → List Item
-items_from n all [] = []
-items_from n all (starts head ∷ ps) = Open head ∷ items_from n all ps
-items_from n all (ends ∷ ps) = Close ∷ items_from n all ps
-items_from n all (leaf form head arcs ∷ ps) =
-    Leaf (numbered n form head (polygons_at all n)) ∷ items_from (n + 1) all ps
-items_from n all (text t ∷ ps) = Kept t ∷ items_from n all ps
+  -- the items, their features numbered from n in the order of the text
+  abbrev pub items_from : ℕ → List (List (List R)) → List Piece → List (ItemOf R)
+  items_from n all [] = []
+  items_from n all (starts head ∷ ps) = Open head ∷ items_from n all ps
+  items_from n all (ends ∷ ps) = Close ∷ items_from n all ps
+  items_from n all (leaf form head arcs ∷ ps) =
+      Leaf (numbered n form head (polygons_at all n)) ∷ items_from (n + 1) all ps
+  items_from n all (text t ∷ ps) = Kept t ∷ items_from n all ps
 
--- the layers, the features of each numbered on from those before it
-abbrev pub layers_from : ℕ → List Polygons → List LayerText → List Layer
-layers_from n all [] = []
-layers_from n all (l ∷ ls) =
-    record { name = l.name; items = items_from n all l.pieces }
-    ∷ layers_from (n + length (leaves_in l.pieces)) all ls
+  -- the layers, the features of each numbered on from those before it
+  abbrev pub layers_from : ℕ → List (List (List R)) → List LayerText → List (LayerOf R)
+  layers_from n all [] = []
+  layers_from n all (l ∷ ls) =
+      record { name = l.name; items = items_from n all l.pieces }
+      ∷ layers_from (n + length (leaves_in l.pieces)) all ls
 
 -- the document: features are numbered from 0 in the order of the text
 abbrev pub document_of : Opened → Document
@@ -58,10 +62,13 @@ document_of o = record {
   members = o.members;
 }
 
--- what every opened topology is: each feature has its polygons, each list is a ring,
--- and the numbers of features and positions are within their limits
+-- what every opened topology is: each feature has its polygons, its document is well formed, its
+-- texts are ones that opening would keep, each list is a ring, and the numbers of features and
+-- positions are within their limits
 pub record IsOfRings (o : Opened) : Type 0 where
   pub counted : length o.polygons ≡ length (leaves o.layers)
+  pub formed : WellFormed (document_of o)
+  pub keeps : KeepsTexts (document_of o)
   pub few : length (leaves o.layers) ≤ 200000
   pub are_rings : IsTrue (list_all is_ring (rings (document_of o)))
   pub small : size (document_of o) ≤ 4000000

@@ -1,6 +1,6 @@
 -- No junction stands where no vertex does.
 use Rattle.std.proofs.Common.{◌≡◌, Bool, true, false, refl, sym, ap, ◌∙◌, subst, cond, List, [], ◌∷◌}
-use Rattle.std.proofs.Common.{◌++◌, take, inl, inr, map, ◌||◌}
+use Rattle.std.proofs.Common.{◌++◌, take, inl, inr, map}
 use Rattle.std.specs.Prelude.{not}
 use Rattle.std.specs.List.{filter, flat_map, list_any}
 use Rattle.std.proofs.lemmas.Bool.{false≢true}

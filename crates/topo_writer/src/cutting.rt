@@ -25,11 +25,7 @@ fn is_junction<'a, I: SegIndex, A: Allocator + Copy>(map: &Map<'a, I, A>, p: Pos
 }
 
 /// Whether a piece of the way ends at a place.
-fn ends_at<'a, I: SegIndex, A: Allocator + Copy>(
-    map: &Map<'a, I, A>,
-    way: &[Pos],
-    i: usize,
-) -> bool
+fn ends_at<'a, I: SegIndex, A: Allocator + Copy>(map: &Map<'a, I, A>, way: &[Pos], i: usize) -> bool
     requires { i < length way.now }
     ensures { result ≡ (is_end (drop (i + 1) way.now) || is_junction map.now.doc (at_place way.now i)) }
 {

@@ -1,7 +1,13 @@
-//! From a map to its text.
+//! The text of a map, as TopoJSON 1.0: each border once, and what was read and is not known as it
+//! stood.
 #![tactic(auto)]
 
 mod arcs;
 mod cutting;
+mod fault;
+mod members;
+mod text;
 
 pub use arcs::Arcs;
+pub use fault::WriteFault;
+pub use text::{push_comma, push_number, push_pair};

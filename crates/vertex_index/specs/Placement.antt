@@ -1,5 +1,5 @@
 -- Positions under keys.
-use Rattle.std.specs.Prelude.{◌≡◌, ℕ, ℤ, Some, refl}
+use Rattle.std.specs.Prelude.{◌≡◌, ℕ, ℤ, pos, Some, refl, unwrap_or}
 use Rattle.std.specs.Coded.{Coded, code_by, coded×, coded_ℤ}
 use Rattle.std.specs.Ordering.{nat_cmp}
 use Rattle.std.specs.FinMap as map
@@ -12,6 +12,10 @@ Placement = map.FinMap nat_cmp Position
 -- a vertex stands at this position
 abbrev pub IsOccupied : Placement → Position → Type 0
 IsOccupied m p = (k : ℕ) × (map.get m k ≡ Some p)
+
+-- the position of the vertex with this key
+abbrev pub place : Placement → ℕ → Position
+place m k = unwrap_or (map.get m k) (position (pos 0) (pos 0))
 
 -- no two keys have the same position
 abbrev pub AreDistinct : Placement → Type 0

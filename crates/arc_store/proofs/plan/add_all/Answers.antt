@@ -10,19 +10,19 @@ add-requires g c =
     next_new (g.I.SegIndex.held c.args.index.now) (g.I.SegIndex.held c.loop-at.index) c.args.segments.now c.loop-at.at c.index-segments-at.result c.requires.new c.requires.once c.loop-at-test.true c.index-segments-at.is c.loop-at.invariant.gained
 
 pub loop-at-init : goal.loop-at-init
-loop-at-init g c = record { gained = gains_none (g.I.SegIndex.held c.args.index.now); times = refl }
+loop-at-init g c = record { gained = gains_none (g.I.SegIndex.held c.args.index.now); cells = refl }
 
 pub loop-at-preserved : goal.loop-at-preserved
 loop-at-preserved g c = record {
   gained = gained_more (g.I.SegIndex.held c.args.index.now) (g.I.SegIndex.held c.loop-at.index) (g.I.SegIndex.held c.add.new.self) c.args.segments.now c.loop-at.at c.index-segments-at.result c.loop-at-test.true c.index-segments-at.is c.loop-at.invariant.gained c.in-Ok.ensures.added;
-  times = c.add.ensures.times ∙ c.loop-at.invariant.times;
+  cells = c.add.ensures.cells ∙ c.loop-at.invariant.cells;
 }
 
 pub returns : goal.returns
 returns g c = record {
   gained = subst (λ z. Gains (g.I.SegIndex.held c.args.index.now) z (g.I.SegIndex.held c.loop-at.index)) (take_all c.loop-at.at c.args.segments.now c.loop-at-test.false) c.loop-at.invariant.gained;
   unchanged = tt;
-  times = c.loop-at.invariant.times;
+  cells = c.loop-at.invariant.cells;
 }
 
 pub discard_all-requires-clause-once : goal.discard_all-requires-clause-once

@@ -6,5 +6,5 @@ use Rattle.arc_store.proofs.plan.add_all.Given as goal
 abbrev pub invariant-loop-at : goal.invariant-loop-at
 invariant-loop-at g l = record {
   gained : Gains (g.I.SegIndex.held l.initial.index) (take l.at l.segments) (g.I.SegIndex.held l.index);
-  times : g.I.SegIndex.times l.index ≡ g.I.SegIndex.times l.initial.index;
+  cells : g.I.SegIndex.cells l.index ≡ g.I.SegIndex.cells l.initial.index;
 }

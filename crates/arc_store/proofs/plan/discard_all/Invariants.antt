@@ -6,5 +6,5 @@ use Rattle.arc_store.proofs.plan.discard_all.Given as goal
 abbrev pub invariant-loop-s : goal.invariant-loop-s
 invariant-loop-s g l = record {
   dropped : Drops (g.I.SegIndex.held l.initial.index) (take l.s-index l.segments) (g.I.SegIndex.held l.index);
-  times : g.I.SegIndex.times l.index ≡ g.I.SegIndex.times l.initial.index;
+  cells : g.I.SegIndex.cells l.index ≡ g.I.SegIndex.cells l.initial.index;
 }

@@ -1,6 +1,6 @@
 use Rattle.std.proofs.Common.{◌∙◌, ap, map, get_or, length, arith}
 use Rattle.std.proofs.lemmas.List.{take_all}
-use Rattle.arc_store.specs.Stored.{place}
+use Rattle.vertex_index.specs.Placement.{place}
 use Rattle.arc_store.proofs.AroundPlan.{key_placed, around_is}
 use Rattle.arc_store.proofs.plan.positions_around.Goals as goal
 

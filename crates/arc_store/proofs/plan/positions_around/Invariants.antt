@@ -1,5 +1,5 @@
 use Rattle.std.proofs.Common.{◌≡◌, take, map}
-use Rattle.arc_store.specs.Stored.{place}
+use Rattle.vertex_index.specs.Placement.{place}
 use Rattle.arc_store.proofs.plan.positions_around.Given as goal
 
 -- the positions so far

@@ -3,7 +3,8 @@ use Rattle.std.proofs.lemmas.Bool.{false≢true}
 use Rattle.grid_geometry.specs.Segment.{segment}
 use Rattle.grid_geometry.specs.Position.{position_eq}
 use Rattle.ring_machine.proofs.Order.{position_eq-refl}
-use Rattle.arc_store.proofs.Planned.{map_more, any_at}
+use Rattle.map_opening.proofs.Pushed.{map_more}
+use Rattle.arc_store.proofs.Planned.{any_at}
 use Rattle.arc_store.proofs.plan.spokes.Goals as goal
 use Rattle.arc_store.proofs.plan.spokes.Goals.{in-Some+in_ok-push, in_default}
 

@@ -1,7 +1,7 @@
 use Rattle.std.proofs.Common.{sym, ap, ◌∙◌, subst, []}
 use Rattle.std.specs.List.{flat_map}
 use Rattle.std.proofs.lemmas.List.{take_all}
-use Rattle.arc_store.specs.Frames.{polygon_numbers}
+use Rattle.map_opening.specs.Laying.{polygon_numbers}
 use Rattle.arc_store.proofs.KeyLists.{keys_of, ring_numbers, AreHeld, part_held, part_more, rings_listed}
 use Rattle.arc_store.proofs.positions.all_keys.Goals as goal
 

@@ -1,4 +1,4 @@
-use Rattle.arc_store.specs.Frames.{polygon_numbers}
+use Rattle.map_opening.specs.Laying.{polygon_numbers}
 use Rattle.arc_store.proofs.KeyLists.{part_held, part_more}
 use Rattle.arc_store.proofs.positions.push_feature.Goals as goal
 

@@ -1,6 +1,6 @@
 use Rattle.std.proofs.Common.{◌≡◌, ◌++◌, take}
 use Rattle.std.specs.List.{flat_map}
-use Rattle.arc_store.specs.Frames.{polygon_numbers}
+use Rattle.map_opening.specs.Laying.{polygon_numbers}
 use Rattle.arc_store.proofs.KeyLists.{keys_of}
 use Rattle.arc_store.proofs.positions.push_feature.Given as goal
 

@@ -1,4 +1,4 @@
-use Rattle.arc_store.proofs.SortedOnce.{sorted_once}
+use Rattle.ring_machine.proofs.SortedOnce.{sorted_once}
 use Rattle.arc_store.proofs.positions.sort_once.Goals as goal
 
 pub returns : goal.returns

@@ -1,7 +1,9 @@
-use Rattle.std.proofs.Common.{◌≡◌, true, None, ap, ◌∙◌, subst}
+use Rattle.std.proofs.Common.{◌≡◌, ◌≤◌, ◌+◌, true, None, ap, ◌∙◌, subst, arith}
 use Rattle.std.specs.Prelude.{OnOk, OnErr, IfErr}
 use Rattle.ring_machine.specs.Refusals.{first_of, remove_refusals}
 use Rattle.ring_machine.specs.Vertices.{del}
+use Rattle.segment_index.specs.Times.{times_by}
+use Rattle.local_planarity.specs.Tests.{most_for}
 use Rattle.arc_store.specs.Faults.{Refuses}
 use Rattle.arc_store.specs.State.{State}
 use Rattle.edit_vertex.specs.Untested.{is_early}
@@ -30,3 +32,10 @@ returns-clause-untested g c =
 
 pub returns-clause-next : goal.returns-clause-next
 returns-clause-next g c = c.remove_now.ensures.next ∙ ap (λ (s : State). s.next) c.begin_edit.ensures.begun
+
+pub returns-clause-few : goal.returns-clause-few
+returns-clause-few g c =
+    omega (arith, subst (λ (s : State). c.remove_now.new.map.tests ≤ s.tests + most_for (times_by s.cells) s.doc (del s.doc c.args.p)) c.begin_edit.ensures.begun c.remove_now.ensures.few)
+
+pub returns-clause-cells : goal.returns-clause-cells
+returns-clause-cells g c = c.remove_now.ensures.cells ∙ ap (λ (s : State). s.cells) c.begin_edit.ensures.begun

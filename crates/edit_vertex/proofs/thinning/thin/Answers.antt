@@ -1,14 +1,17 @@
-use Rattle.std.proofs.Common.{◌≡◌, sym, ap, ◌∙◌, take, to_z, of_z, arith}
+use Rattle.std.proofs.Common.{◌≡◌, ◌≤◌, ◌+◌, sym, ap, ◌∙◌, subst, take, to_z, of_z, arith}
 use Rattle.std.specs.Int.{w128}
 use Rattle.std.proofs.lemmas.Int.{ints}
 use Rattle.std.specs.List.{fold}
+use Rattle.std.proofs.lemmas.Grind.{common_steps}
 use Rattle.std.proofs.lemmas.List.{take_all}
-use Rattle.ring_machine.specs.Document.{Document}
 use Rattle.ring_machine.specs.Query.{vertices}
 use Rattle.ring_machine.specs.Thin.{Thinning, thin_at, thinned}
+use Rattle.segment_index.specs.Times.{times_by}
 use Rattle.arc_store.specs.State.{State}
-use Rattle.edit_vertex.proofs.Passing.{with_count}
+use Rattle.edit_vertex.specs.Tested.{most_at, most_over, most_for_thin}
+use Rattle.edit_vertex.proofs.Passing.{with_count, most_more, most_part}
 use Rattle.edit_vertex.proofs.thinning.thin.Goals as goal
+use Rattle.edit_vertex.proofs.thinning.thin.Goals.{in-Ok-true, in-Ok-false}
 
 pub returns-in-Err-clause-part : goal.returns-in-Err-clause-part
 returns-in-Err-clause-part g c =
@@ -32,3 +35,56 @@ returns-clause-thinned g c =
     let old = ap (λ (s : State). s.doc) c.begin_edit.ensures.begun in
     let all = c.as_slice-ascending.ensures.value ∙ c.in_ok-vertices.ensures ∙ ap vertices old in
     sym (ap (λ (s : Thinning). s.doc) c.loop-p.invariant.so_far) ∙ ap (λ t. (fold (thin_at t) (with_count c.args.map.now.doc 0) (take c.loop-p.p-index c.as_slice-ascending.result.now)).doc) same ∙ ap (λ ps. (fold (thin_at c.args.t) (with_count c.args.map.now.doc 0) ps).doc) (take_all c.loop-p.p-index c.as_slice-ascending.result.now c.loop-p-test.false ∙ all)
+
+-- ---- how many tests
+
+pub loop-p-preserved : goal.loop-p-preserved
+loop-p-preserved g c =
+    let t = to_z w128 (of_z w128 c.args.t) in
+    record {
+      so_far = grind (arith, common_steps);
+      few = elim c.if-thin_at.branch [
+        | in-Ok-true w ↦ omega (arith, w.removed-is, c.loop-p.invariant.few)
+        | in-Ok-false w ↦ omega (arith, w.removed-is, c.loop-p.invariant.few)
+      ];
+      proper = c.thin_at.ensures.proper;
+      next = c.thin_at.ensures.next ∙ c.loop-p.invariant.next;
+      cells = c.thin_at.ensures.cells ∙ c.loop-p.invariant.cells;
+      tests = most_more (times_by c.args.map.now.cells) t (with_count c.args.map.now.doc 0) c.loop-p.map.doc c.loop-p.removed c.as_slice-ascending.result.now c.loop-p.p-index c.p-item.result c.loop-p.map.tests c.thin_at.new.map.tests c.loop-p-test.true c.p-item.is c.loop-p.invariant.so_far c.loop-p.invariant.tests
+          (subst (λ cells. c.thin_at.new.map.tests ≤ c.loop-p.map.tests + most_at (times_by cells) t c.loop-p.map.doc c.p-item.result) c.loop-p.invariant.cells c.thin_at.ensures.few);
+    }
+
+pub returns-clause-few : goal.returns-clause-few
+unfolding most_for_thin
+returns-clause-few g c =
+    let same : to_z w128 (of_z w128 c.args.t) ≡ c.args.t = omega (arith, ints) in
+    let old = ap (λ (s : State). s.doc) c.begin_edit.ensures.begun in
+    let all = c.as_slice-ascending.ensures.value ∙ c.in_ok-vertices.ensures ∙ ap vertices old in
+    let times = times_by c.args.map.now.cells in
+    let first = with_count c.args.map.now.doc 0 in
+    omega (
+      arith,
+      c.loop-p.invariant.tests,
+      ap (λ t. most_over times t first (take c.loop-p.p-index c.as_slice-ascending.result.now)) same,
+      ap (λ ps. most_over times c.args.t first ps) (take_all c.loop-p.p-index c.as_slice-ascending.result.now c.loop-p-test.false ∙ all),
+    )
+
+-- what was made so far, and the removal for which there was no memory
+pub returns-in-Err-clause-few : goal.returns-in-Err-clause-few
+unfolding most_for_thin
+returns-in-Err-clause-few g c =
+    let same : to_z w128 (of_z w128 c.args.t) ≡ c.args.t = omega (arith, ints) in
+    let old = ap (λ (s : State). s.doc) c.begin_edit.ensures.begun in
+    let all = c.as_slice-ascending.ensures.value ∙ c.in_ok-vertices.ensures ∙ ap vertices old in
+    let times = times_by c.args.map.now.cells in
+    let first = with_count c.args.map.now.doc 0 in
+    let t = to_z w128 (of_z w128 c.args.t) in
+    let ps = c.as_slice-ascending.result.now in
+    omega (
+      arith,
+      most_more times t first c.loop-p.map.doc c.loop-p.removed ps c.loop-p.p-index c.p-item.result c.loop-p.map.tests c.thin_at.new.map.tests c.loop-p-test.true c.p-item.is c.loop-p.invariant.so_far c.loop-p.invariant.tests
+          (subst (λ cells. c.thin_at.new.map.tests ≤ c.loop-p.map.tests + most_at (times_by cells) t c.loop-p.map.doc c.p-item.result) c.loop-p.invariant.cells c.in-Err.ensures.few),
+      most_part times t first ps (c.loop-p.p-index + 1),
+      ap (λ z. most_over times z first ps) same,
+      ap (λ z. most_over times c.args.t first z) all,
+    )

@@ -2,6 +2,8 @@ use Rattle.std.proofs.Common.{◌≡◌, ◌≤◌, take}
 use Rattle.std.specs.List.{fold}
 use Rattle.ring_machine.specs.Planar.{Proper}
 use Rattle.ring_machine.specs.Thin.{thin_at}
+use Rattle.segment_index.specs.Times.{times_by}
+use Rattle.edit_vertex.specs.Tested.{most_over}
 use Rattle.edit_vertex.proofs.Passing.{with_count}
 use Rattle.edit_vertex.proofs.thinning.thin.Given as goal
 
@@ -12,4 +14,6 @@ invariant-loop-p g l = record {
   few : l.removed ≤ l.p-index;
   proper : Proper l.map.doc;
   next : l.map.next ≡ l.fn.map.next;
+  cells : l.map.cells ≡ l.fn.map.cells;
+  tests : l.map.tests ≤ most_over (times_by l.fn.map.cells) l.t (with_count l.fn.map.doc 0) (take l.p-index l.ascending);
 }

@@ -3,7 +3,8 @@ use Rattle.std.specs.Int.{w128}
 use Rattle.std.proofs.lemmas.Int.{ints}
 use Rattle.ring_machine.specs.Planar.{Proper}
 use Rattle.ring_machine.proofs.Accepted.{removed}
-use Rattle.edit_vertex.proofs.Passing.{is_thin, thin_gone, thin_refused, thin_passed}
+use Rattle.segment_index.specs.Times.{times_by}
+use Rattle.edit_vertex.proofs.Passing.{is_thin, thin_gone, thin_refused, thin_passed, most_thin}
 use Rattle.edit_vertex.proofs.thinning.thin_at.Goals as goal
 
 pub returns-then-not-is_thin-clause-thinned : goal.returns-then-not-is_thin-clause-thinned
@@ -28,4 +29,11 @@ returns-in_default g c =
       unchanged = tt;
       proper = subst Proper (sym c.in-Err.ensures.unchanged) c.requires.proper;
       next = c.in-Err.ensures.next;
+      few = omega (arith, c.in-Err.ensures.few, most_thin (times_by c.args.map.now.cells) c.args.t c.args.map.now.doc c.args.p (ap (λ t. is_thin t c.args.map.now.doc c.args.p) (sym same) ∙ sym c.is_thin.ensures ∙ c.if-not-is_thin.false));
+      cells = c.in-Err.ensures.cells;
     }
+
+pub returns-in-Ok-clause-few : goal.returns-in-Ok-clause-few
+returns-in-Ok-clause-few g c =
+    let same : to_z w128 (of_z w128 c.args.t) ≡ c.args.t = omega (arith, ints) in
+    omega (arith, c.in-Ok.ensures.few, most_thin (times_by c.args.map.now.cells) c.args.t c.args.map.now.doc c.args.p (ap (λ t. is_thin t c.args.map.now.doc c.args.p) (sym same) ∙ sym c.is_thin.ensures ∙ c.if-not-is_thin.false))

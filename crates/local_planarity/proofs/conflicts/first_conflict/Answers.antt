@@ -1,4 +1,5 @@
 use Rattle.std.proofs.Common.{◌≡◌, ◌≤◌, ◌+◌, ap, ◌∙◌, length, arith}
+use Rattle.segment_index.specs.Times.{times_by}
 use Rattle.local_planarity.specs.Pairs.{first_against}
 use Rattle.local_planarity.proofs.Least.{stay_apart, next_first, all_added}
 use Rattle.local_planarity.proofs.Nearby.{near_few, after_has, no_more, one_more_tests}
@@ -13,7 +14,7 @@ loop-at-init g c = record {
 pub loop-at-preserved : goal.loop-at-preserved
 loop-at-preserved g c =
     let held = g.I.SegIndex.held c.args.index.now in
-    let times = g.I.SegIndex.times c.args.index.now in
+    let times = times_by (g.I.SegIndex.cells c.args.index.now) in
     let added = c.args.added.now in
     let at = c.loop-at.at in
     let s = c.index-added-at.result in
@@ -32,9 +33,9 @@ loop-at-preserved g c =
 pub returns : goal.returns
 returns g c = record {
   first = λ ss e. all_added (g.I.SegIndex.held c.args.index.now) c.args.leaving c.args.added.now c.loop-at.at ss c.loop-at.first c.loop-at-test.false e c.loop-at.invariant.first;
-  few = λ ss e. omega (arith, c.loop-at.invariant.few ss e, no_more (g.I.SegIndex.times c.args.index.now) ss c.args.added.now c.loop-at.at c.loop-at.auto.at-end);
+  few = λ ss e. omega (arith, c.loop-at.invariant.few ss e, no_more (times_by (g.I.SegIndex.cells c.args.index.now)) ss c.args.added.now c.loop-at.at c.loop-at.auto.at-end);
 }
 
 pub returns-in_err-near-clause-few : goal.returns-in_err-near-clause-few
 returns-in_err-near-clause-few g c = λ ss e.
-    omega (arith, c.loop-at.invariant.few ss e, no_more (g.I.SegIndex.times c.args.index.now) ss c.args.added.now c.loop-at.at c.loop-at.auto.at-end)
+    omega (arith, c.loop-at.invariant.few ss e, no_more (times_by (g.I.SegIndex.cells c.args.index.now)) ss c.args.added.now c.loop-at.at c.loop-at.auto.at-end)

@@ -1,6 +1,7 @@
 use Rattle.std.proofs.Common.{◌+◌, ◌≤◌, ◌||◌, List, take}
 use Rattle.grid_geometry.specs.Segment.{Segment}
 use Rattle.segment_index.specs.Candidates.{has}
+use Rattle.segment_index.specs.Times.{times_by}
 use Rattle.local_planarity.specs.Edits.{stays, IsAfter}
 use Rattle.local_planarity.proofs.Least.{IsFirst, BadIn}
 use Rattle.local_planarity.proofs.Nearby.{most_so_far}
@@ -11,5 +12,5 @@ abbrev pub invariant-loop-at : goal.invariant-loop-at
 invariant-loop-at g l = record {
   first : IsFirst (BadIn (λ t. stays (g.I.SegIndex.held l.index) l.leaving t || has (take l.at l.added) t)) l.first;
   few : (ss : List Segment) → IsAfter (g.I.SegIndex.held l.index) l.leaving l.added ss
-      → l.tests ≤ l.initial.tests + most_so_far (g.I.SegIndex.times l.index) ss l.added l.at;
+      → l.tests ≤ l.initial.tests + most_so_far (times_by (g.I.SegIndex.cells l.index)) ss l.added l.at;
 }

@@ -2,6 +2,7 @@ use Rattle.std.proofs.Common.{ap, ◌∙◌, ◌≡◌, length, arith, subst}
 use Rattle.std.specs.List.{list_any}
 use Rattle.grid_geometry.specs.Segment.{segment}
 use Rattle.grid_geometry.specs.Conflict.{conflict}
+use Rattle.segment_index.specs.Times.{times_by}
 use Rattle.local_planarity.specs.declared.leaving.Leaving.TheVariants.{EndingAt}
 use Rattle.local_planarity.specs.Near.{IsNear}
 use Rattle.local_planarity.proofs.Sweeping.{crosses_is}
@@ -11,7 +12,7 @@ use Rattle.local_planarity.proofs.sweeps.crosses_on_way.Goals as goal
 pub returns-in_ok-near-in-Some : goal.returns-in_ok-near-in-Some
 returns-in_ok-near-in-Some g c =
     let held = g.I.SegIndex.held c.args.index.now in
-    let times = g.I.SegIndex.times c.args.index.now in
+    let times = times_by (g.I.SegIndex.cells c.args.index.now) in
     let near = c.in_ok-near-in-Some.near.items in
     let way = segment c.args.p c.args.q in
     let there : IsNear held times (EndingAt c.args.p) way near = subst (λ s. IsNear held times (EndingAt c.args.p) s near) c.in-Some.ensures.some (c.in_ok-near-in-Some.ensures) in

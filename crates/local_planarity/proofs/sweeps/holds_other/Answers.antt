@@ -1,12 +1,13 @@
 use Rattle.std.proofs.Common.{subst, true}
 use Rattle.segment_index.specs.Candidates.{Gives}
+use Rattle.segment_index.specs.Times.{times_by}
 use Rattle.local_planarity.proofs.Sweeping.{holds_is}
 use Rattle.local_planarity.proofs.sweeps.holds_other.Goals as goal
 
 pub returns : goal.returns
 returns g c =
     let held = g.I.SegIndex.held c.args.index.now in
-    let times = g.I.SegIndex.times c.args.index.now in
+    let times = times_by (g.I.SegIndex.cells c.args.index.now) in
     λ ps ends. holds_is held times c.args.these.now c.args.a c.args.b c.args.c c.new-near.result.items c.candidates.new.out.items ps c.holds_end.result
     c.new-near.ensures.items
     (subst (λ r. Gives held times r c.new-near.result.items c.candidates.new.out.items true) c.box_of_three.ensures (c.in_ok-candidates.ensures))

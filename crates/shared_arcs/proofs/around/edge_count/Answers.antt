@@ -2,7 +2,7 @@ use Rattle.std.proofs.Common.{ℕ, ◌+◌, ◌-◌, ap, ◌∙◌, take, length
 use Rattle.std.specs.Prelude.{min}
 use Rattle.slab.specs.Slab.{get}
 use Rattle.shared_arcs.specs.Shortest.{most, edge_count}
-use Rattle.shared_arcs.specs.Stores.{path_in}
+use Rattle.arc_tables.specs.Stores.{path_in}
 use Rattle.shared_arcs.proofs.ShortestLemmas.{count_more}
 use Rattle.shared_arcs.proofs.around.edge_count.Goals as goal
 

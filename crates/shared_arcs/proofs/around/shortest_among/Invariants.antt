@@ -1,7 +1,7 @@
 use Rattle.std.proofs.Common.{◌≡◌, take, map, None}
 use Rattle.slab.specs.Slab.{get}
 use Rattle.shared_arcs.specs.Shortest.{most, edge_count, least_of, rings_among}
-use Rattle.shared_arcs.specs.Stores.{path_in, users_in, uses_in}
+use Rattle.arc_tables.specs.Stores.{path_in, users_in, uses_in}
 use Rattle.shared_arcs.proofs.around.shortest_among.Given as goal
 
 abbrev pub invariant-loop-i : goal.invariant-loop-i

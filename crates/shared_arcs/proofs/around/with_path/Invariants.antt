@@ -1,5 +1,5 @@
 use Rattle.std.proofs.Common.{◌≡◌, take}
-use Rattle.shared_arcs.specs.Ways.{links}
+use Rattle.arc_tables.specs.Ways.{links}
 use Rattle.shared_arcs.specs.Around.{noted_all, other_ends}
 use Rattle.shared_arcs.proofs.around.with_path.Given as goal
 

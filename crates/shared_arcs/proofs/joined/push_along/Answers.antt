@@ -1,5 +1,5 @@
 use Rattle.std.proofs.Common.{arith, ap, ◌∙◌, take}
-use Rattle.shared_arcs.specs.Ways.{links}
+use Rattle.arc_tables.specs.Ways.{links}
 use Rattle.shared_arcs.specs.Around.{other_end, other_ends}
 use Rattle.shared_arcs.specs.Listing.{gathered}
 use Rattle.shared_arcs.proofs.AroundLemmas.{ends_more}

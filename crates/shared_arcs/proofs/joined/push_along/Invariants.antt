@@ -1,5 +1,5 @@
 use Rattle.std.proofs.Common.{◌≡◌, take}
-use Rattle.shared_arcs.specs.Ways.{links}
+use Rattle.arc_tables.specs.Ways.{links}
 use Rattle.shared_arcs.specs.Around.{other_ends}
 use Rattle.shared_arcs.specs.Listing.{gathered}
 use Rattle.shared_arcs.proofs.joined.push_along.Given as goal

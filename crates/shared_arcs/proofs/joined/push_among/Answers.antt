@@ -1,8 +1,8 @@
 use Rattle.std.proofs.Common.{ap, ◌∙◌, take, ◌++◌, ℕ, List}
 use Rattle.slab.specs.Slab.{get}
-use Rattle.shared_arcs.specs.Ways.{links}
+use Rattle.arc_tables.specs.Ways.{links}
 use Rattle.shared_arcs.specs.Around.{other_ends, ends_among}
-use Rattle.shared_arcs.specs.Stores.{path_in}
+use Rattle.arc_tables.specs.Stores.{path_in}
 use Rattle.shared_arcs.specs.Listing.{gathered}
 use Rattle.shared_arcs.proofs.AroundLemmas.{ends_among_more}
 use Rattle.shared_arcs.proofs.Gathering.{gathered-append}

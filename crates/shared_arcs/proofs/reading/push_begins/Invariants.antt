@@ -1,5 +1,5 @@
 use Rattle.std.proofs.Common.{◌≡◌, ◌++◌, take, ◌-◌}
-use Rattle.shared_arcs.specs.Ways.{walk}
+use Rattle.arc_tables.specs.Ways.{walk}
 use Rattle.shared_arcs.proofs.reading.push_begins.Given as goal
 
 abbrev pub invariant-loop-at : goal.invariant-loop-at

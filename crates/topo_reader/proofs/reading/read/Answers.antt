@@ -5,11 +5,11 @@ use Rattle.topo_reader.proofs.MeaningOfText.{gives_read, gives_unread}
 use Rattle.topo_reader.proofs.OfRings.{gives_of_rings}
 use Rattle.topo_reader.proofs.reading.read.Goals as goal
 
-pub returns-in-Ok-clause-of_rings : goal.returns-in-Ok-clause-of_rings
-returns-in-Ok-clause-of_rings g c = gives_of_rings view_raw c.opened.result (node c.span.result) c.opened.ensures
-
 pub returns-in-Ok-clause-reads : goal.returns-in-Ok-clause-reads
 returns-in-Ok-clause-reads g c = gives_read view_raw c.args.bytes.now c.opened.result (node c.span.result) (ap node c.span.ensures ∙ c.in-Ok.ensures.span) (omega (arith, c.if-bytes-gt-MAX_BYTES.false)) c.in-Ok.ensures.json c.opened.ensures
+
+pub returns-in-Ok-clause-of_rings : goal.returns-in-Ok-clause-of_rings
+returns-in-Ok-clause-of_rings g c = gives_of_rings view_raw c.args.bytes.now c.opened.result (node c.span.result) c.opened.ensures (returns-in-Ok-clause-reads g c)
 
 pub returns-in-Ok-clause-unread : goal.returns-in-Ok-clause-unread
 returns-in-Ok-clause-unread g c = gives_unread view_raw c.args.bytes.now c.opened.result (node c.span.result) (ap node c.span.ensures ∙ c.in-Ok.ensures.span) c.opened.ensures

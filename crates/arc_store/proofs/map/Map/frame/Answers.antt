@@ -1,10 +1,31 @@
-use Rattle.std.proofs.Common.{ap}
+use Rattle.std.proofs.Common.{ap, subst}
+use Rattle.ring_machine.specs.Planar.{Proper}
+use Rattle.ring_machine.specs.WellFormed.{WellFormed}
+use Rattle.ring_machine.proofs.FormedRings.{formed-in_rings}
+use Rattle.topo_outline.specs.Kept.{KeepsTexts}
+use Rattle.topo_outline.proofs.KeptRings.{keeps-in_rings}
+use Rattle.arc_store.specs.Frames.{frame_of}
 use Rattle.arc_store.specs.Kept.{stored}
 use Rattle.arc_store.specs.Stored.{ring_under}
 use Rattle.arc_store.proofs.FeatureLemmas.{frame_shown}
 use Rattle.arc_store.proofs.map.Map.frame.Goals as goal
 
-pub returns : goal.returns
-returns g c =
+pub returns-clause-shown : goal.returns-clause-shown
+returns-clause-shown g c =
     let m = c.self.inside in
     frame_shown (ring_under (stored m.frame m.borders m.vertices)) m.frame c.self.invariant.counted c.args.self.now.doc (ap (λ s. s.doc) c.self.view_is) c.as_slice.result.now c.as_slice.ensures.value c.as_slice-2.result.now c.as_slice-2.ensures.value
+
+pub returns-clause-formed : goal.returns-clause-formed
+returns-clause-formed g c =
+    let m = c.self.inside in
+    subst WellFormed (ap (λ s. s.doc) c.self.view_is)
+    (formed-in_rings (ring_under (stored m.frame m.borders m.vertices)) (frame_of m.frame) c.self.invariant.holds.formed)
+
+pub returns-clause-keeps : goal.returns-clause-keeps
+returns-clause-keeps g c =
+    let m = c.self.inside in
+    subst KeepsTexts (ap (λ s. s.doc) c.self.view_is)
+    (keeps-in_rings (ring_under (stored m.frame m.borders m.vertices)) (frame_of m.frame) c.self.invariant.holds.keeps)
+
+pub returns-clause-proper : goal.returns-clause-proper
+returns-clause-proper g c = subst Proper (ap (λ s. s.doc) c.self.view_is) c.self.invariant.holds.proper

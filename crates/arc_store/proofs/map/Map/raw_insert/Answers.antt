@@ -8,6 +8,7 @@ use Rattle.arc_store.proofs.Indexed.{indexed_apart}
 use Rattle.arc_store.proofs.InsertPlan.{first_key, second_key, insert_off, insert_new, insert_single}
 use Rattle.arc_store.proofs.InsertPlan.{insert_unjoined, insertable, doc_inserted, size_grows, kept_inserted}
 use Rattle.arc_store.proofs.SegmentBound.{segments_bound}
+use Rattle.arc_store.proofs.Tested.{inserted_few}
 use Rattle.arc_store.proofs.map.Map.raw_insert.Goals as goal
 
 pub returns-in_default-clause-refused : goal.returns-in_default-clause-refused
@@ -92,3 +93,17 @@ returns-clause-inserted g c =
     let accepted = c.in_ok-test_insert.ensures.accepted (document_of s) (insertable s held c.self.invariant.holds c.args.a c.args.b c.args.q border free small) in
     doc_inserted m.frame m.borders c.put_in.new.borders m.vertices c.put_in.new.vertices held (g.I.SegIndex.held c.put_in.new.index) m.next m.positions m.segments c.self.invariant c.in-Some.i c.in-Some-key_of.j c.args.a c.args.b c.args.q c.in-Some.ensures.found c.in-Some-key_of.ensures.found border free accepted c.in_ok-put_in.ensures.put
     ∙ ap (λ z. ins z.doc c.args.a c.args.b c.args.q) c.self.view_is
+
+-- ---- the tests
+
+pub returns-in_err-test_insert-clause-few : goal.returns-in_err-test_insert-clause-few
+returns-in_err-test_insert-clause-few g c =
+    inserted_few c.self.invariant c.self.view_is c.args.a c.args.b c.args.q c.requires.segment c.requires.free c.requires.small c.in-Some-new.before c.as_slice-after.result.now c.in-Some-new.ensures.some (c.as_slice-after.ensures.value ∙ c.in_ok-after.ensures) c.test_insert.new.tests c.test_insert.ensures.few
+
+pub returns-in_err-put_in-clause-few : goal.returns-in_err-put_in-clause-few
+returns-in_err-put_in-clause-few g c =
+    inserted_few c.self.invariant c.self.view_is c.args.a c.args.b c.args.q c.requires.segment c.requires.free c.requires.small c.in-Some-new.before c.as_slice-after.result.now c.in-Some-new.ensures.some (c.as_slice-after.ensures.value ∙ c.in_ok-after.ensures) c.test_insert.new.tests c.test_insert.ensures.few
+
+pub returns-clause-few : goal.returns-clause-few
+returns-clause-few g c =
+    inserted_few c.self.invariant c.self.view_is c.args.a c.args.b c.args.q c.requires.segment c.requires.free c.requires.small c.in-Some-new.before c.as_slice-after.result.now c.in-Some-new.ensures.some (c.as_slice-after.ensures.value ∙ c.in_ok-after.ensures) c.test_insert.new.tests c.test_insert.ensures.few

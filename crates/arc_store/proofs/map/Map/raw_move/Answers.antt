@@ -11,6 +11,7 @@ use Rattle.arc_store.specs.Planned.{AreNew, spokes}
 use Rattle.arc_store.proofs.Base.{vertex_key}
 use Rattle.arc_store.proofs.MovePlan.{all_placed, off_before, off_after, held_apart, move_conflicts, move_decided}
 use Rattle.arc_store.proofs.MovePlan.{plan_new, plan_single, plan_held, plan_once, document_after, kept_after}
+use Rattle.arc_store.proofs.Tested.{conflicts_few, sweeps_few}
 use Rattle.arc_store.proofs.map.Map.raw_move.Goals as goal
 
 pub returns-in_default-clause-refused : goal.returns-in_default-clause-refused
@@ -101,3 +102,28 @@ returns-clause-accepted g c =
 pub returns-clause-moved : goal.returns-clause-moved
 returns-clause-moved g c =
     document_after c.shift.result c.self.inside.frame c.self.inside.borders c.self.inside.vertices c.shift.new.vertices c.self.invariant.holds.whole c.args.self.now.doc (ap (λ z. z.doc) c.self.view_is) c.in-Some.k c.args.p c.args.q c.in-Some.ensures.found c.requires.free c.shift.ensures.moved
+
+-- ---- how many tests
+
+pub returns-in_err-test_planar-clause-few : goal.returns-in_err-test_planar-clause-few
+returns-in_err-test_planar-clause-few g c =
+    conflicts_few c.self.invariant c.self.view_is c.in-Some.k c.args.p c.args.q c.in-Some.ensures.found c.requires.free c.in_ok-around.around.items c.in_ok-around.ensures c.as_slice-3.result.now
+    (c.as_slice-3.ensures.value ∙ c.in_ok-after.ensures ∙ ap (spokes c.args.q) c.as_slice-2.ensures.value) c.test_planar.new.tests c.test_planar.ensures.few
+
+pub returns-in_err-sweeps-clause-few : goal.returns-in_err-sweeps-clause-few
+returns-in_err-sweeps-clause-few g c =
+    sweeps_few c.self.invariant c.self.view_is c.in-Some.k c.args.p c.args.q c.in-Some.ensures.found c.requires.free c.in_ok-around.around.items c.in_ok-around.ensures c.as_slice-3.result.now
+    (c.as_slice-3.ensures.value ∙ c.in_ok-after.ensures ∙ ap (spokes c.args.q) c.as_slice-2.ensures.value) c.test_planar.new.tests c.test_planar.ensures.few
+    c.sweeps.new.tests c.sweeps.ensures.few
+
+pub returns-then-branch-clause-few : goal.returns-then-branch-clause-few
+returns-then-branch-clause-few g c =
+    sweeps_few c.self.invariant c.self.view_is c.in-Some.k c.args.p c.args.q c.in-Some.ensures.found c.requires.free c.in_ok-around.around.items c.in_ok-around.ensures c.as_slice-3.result.now
+    (c.as_slice-3.ensures.value ∙ c.in_ok-after.ensures ∙ ap (spokes c.args.q) c.as_slice-2.ensures.value) c.test_planar.new.tests c.test_planar.ensures.few
+    c.sweeps.new.tests c.sweeps.ensures.few
+
+pub returns-clause-few : goal.returns-clause-few
+returns-clause-few g c =
+    sweeps_few c.self.invariant c.self.view_is c.in-Some.k c.args.p c.args.q c.in-Some.ensures.found c.requires.free c.in_ok-around.around.items c.in_ok-around.ensures c.as_slice-3.result.now
+    (c.as_slice-3.ensures.value ∙ c.in_ok-after.ensures ∙ ap (spokes c.args.q) c.as_slice-2.ensures.value) c.test_planar.new.tests c.test_planar.ensures.few
+    c.sweeps.new.tests c.sweeps.ensures.few

@@ -8,6 +8,7 @@ use Rattle.arc_store.proofs.Base.{vertex_key}
 use Rattle.arc_store.proofs.Indexed.{indexed_apart}
 use Rattle.arc_store.proofs.RemovePlan.{two_neighbours, found, first_there, second_there}
 use Rattle.arc_store.proofs.RemovePlan.{found_off, found_planned, not_joined, three_apart, taken}
+use Rattle.arc_store.proofs.Tested.{removed_few}
 use Rattle.arc_store.proofs.map.Map.raw_remove.Goals as goal
 
 -- ---- the vertex and its neighbours are there
@@ -105,3 +106,23 @@ pub returns-clause-removed : goal.returns-clause-removed
 returns-clause-removed g c =
     let f = found c.self.invariant (ap (λ z. z.doc) c.self.view_is) c.in-Some.ensures.found c.in-Two.ensures c.requires.inner c.requires.long c.requires.unjoined in
     rw (← c.self.view_is) (taken f c.pos-a.ensures.value c.pos-b.ensures.value c.in-Some-new.ensures.some (c.as_slice-before.ensures.value ∙ c.in_ok-before.ensures) c.in_ok-test_remove.ensures.accepted c.in_ok-take_out.ensures.taken (g.I.SegIndex.held c.take_out.new.index) c.in_ok-take_out.ensures.exchanged).doc
+
+-- ---- how many tests
+
+pub returns-in_err-test_remove-clause-few : goal.returns-in_err-test_remove-clause-few
+returns-in_err-test_remove-clause-few g c =
+    let f = found c.self.invariant (ap (λ z. z.doc) c.self.view_is) c.in-Some.ensures.found c.in-Two.ensures c.requires.inner c.requires.long c.requires.unjoined in
+    let plan = found_planned f c.pos-a.result c.pos-b.result c.pos-a.ensures.value c.pos-b.ensures.value c.in-Some-new.after c.as_slice-before.result.now c.in-Some-new.ensures.some (c.as_slice-before.ensures.value ∙ c.in_ok-before.ensures) in
+    removed_few c.self.invariant c.self.view_is c.args.p c.in-Some-new.after c.as_slice-before.result.now plan c.test_remove.new.tests c.test_remove.ensures.few
+
+pub returns-in_err-take_out-clause-few : goal.returns-in_err-take_out-clause-few
+returns-in_err-take_out-clause-few g c =
+    let f = found c.self.invariant (ap (λ z. z.doc) c.self.view_is) c.in-Some.ensures.found c.in-Two.ensures c.requires.inner c.requires.long c.requires.unjoined in
+    let plan = found_planned f c.pos-a.result c.pos-b.result c.pos-a.ensures.value c.pos-b.ensures.value c.in-Some-new.after c.as_slice-before.result.now c.in-Some-new.ensures.some (c.as_slice-before.ensures.value ∙ c.in_ok-before.ensures) in
+    removed_few c.self.invariant c.self.view_is c.args.p c.in-Some-new.after c.as_slice-before.result.now plan c.test_remove.new.tests c.test_remove.ensures.few
+
+pub returns-clause-few : goal.returns-clause-few
+returns-clause-few g c =
+    let f = found c.self.invariant (ap (λ z. z.doc) c.self.view_is) c.in-Some.ensures.found c.in-Two.ensures c.requires.inner c.requires.long c.requires.unjoined in
+    let plan = found_planned f c.pos-a.result c.pos-b.result c.pos-a.ensures.value c.pos-b.ensures.value c.in-Some-new.after c.as_slice-before.result.now c.in-Some-new.ensures.some (c.as_slice-before.ensures.value ∙ c.in_ok-before.ensures) in
+    removed_few c.self.invariant c.self.view_is c.args.p c.in-Some-new.after c.as_slice-before.result.now plan c.test_remove.new.tests c.test_remove.ensures.few

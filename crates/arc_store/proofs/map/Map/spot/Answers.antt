@@ -4,7 +4,7 @@ use Rattle.ring_machine.specs.Vertices.{is_junction}
 use Rattle.grid_geometry.specs.Segment.{segment}
 use Rattle.arc_store.specs.Kept.{stored}
 use Rattle.arc_store.specs.Spots.{IsSpot, IsBetween, IsShortest}
-use Rattle.arc_store.specs.Stored.{place}
+use Rattle.vertex_index.specs.Placement.{place}
 use Rattle.arc_store.proofs.Reading.{no_vertex}
 use Rattle.arc_store.proofs.SpotLemmas.{spot_junction, two_pass, two_kept, two_between, shortest_read}
 use Rattle.arc_store.proofs.map.Map.spot.Goals as goal

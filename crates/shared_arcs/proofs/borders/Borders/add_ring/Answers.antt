@@ -1,9 +1,9 @@
 use Rattle.std.proofs.Common.{◌≡◌, ap, sym, ◌∙◌, subst, ◌++◌, ◌∷◌, []}
 use Rattle.std.specs.FinMap as map
-use Rattle.shared_arcs.specs.Ways.{links, Grows}
-use Rattle.shared_arcs.specs.Rings.{edges}
-use Rattle.shared_arcs.specs.Stores.{store}
-use Rattle.shared_arcs.proofs.RingLemmas.{rings_grown, rings_kept, none_there, around}
+use Rattle.arc_tables.specs.Ways.{links, Grows}
+use Rattle.arc_tables.specs.Rings.{edges}
+use Rattle.arc_tables.specs.Stores.{store}
+use Rattle.arc_tables.proofs.RingLemmas.{rings_grown, rings_kept, none_there, around}
 use Rattle.shared_arcs.proofs.borders.Borders.add_ring.Goals as goal
 
 pub returns-in-Ok-clause-new : goal.returns-in-Ok-clause-new

@@ -1,5 +1,5 @@
 use Rattle.std.proofs.Common.{◌∙◌}
-use Rattle.shared_arcs.proofs.CopyLemmas.{copy_sound, copy_rings}
+use Rattle.arc_tables.proofs.CopyLemmas.{copy_sound, copy_rings}
 use Rattle.shared_arcs.proofs.borders.Borders.copy.Goals as goal
 
 pub invariant_of-result : goal.invariant_of-result

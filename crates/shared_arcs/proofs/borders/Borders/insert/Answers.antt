@@ -1,12 +1,12 @@
 use Rattle.std.proofs.Common.{ℕ, ◌∙◌, sym, ap, subst}
 use Rattle.std.specs.FinMap as map
 use Rattle.std.specs.Prelude.{option_map}
-use Rattle.shared_arcs.specs.Edited.{over, through}
+use Rattle.arc_tables.specs.Edited.{over, through}
 use Rattle.shared_arcs.specs.Joined.{Joined}
-use Rattle.shared_arcs.specs.Stores.{path_of}
-use Rattle.shared_arcs.proofs.Segments.{on_ok_map, on_err_map, either_result}
-use Rattle.shared_arcs.proofs.EditLemmas.{edited_everywhere, once_alike, rings_unedited}
-use Rattle.shared_arcs.proofs.Inserting.{over-turns, once_through}
+use Rattle.arc_tables.specs.Stores.{path_of}
+use Rattle.arc_tables.proofs.Segments.{on_ok_map, on_err_map, either_result}
+use Rattle.arc_tables.proofs.EditLemmas.{edited_everywhere, once_alike, rings_unedited}
+use Rattle.arc_tables.proofs.Inserting.{over-turns, once_through}
 use Rattle.shared_arcs.proofs.JoinedLemmas.{each_used, not_joined}
 use Rattle.shared_arcs.proofs.borders.Borders.insert.Goals as goal
 

@@ -1,11 +1,11 @@
 use Rattle.std.proofs.Common.{Some, option_map, ap, sym, ◌∙◌}
 use Rattle.std.specs.FinMap as map
 use Rattle.std.specs.Option.{option_copied}
-use Rattle.shared_arcs.specs.Rings.{begins}
-use Rattle.shared_arcs.specs.Ways.{chain}
-use Rattle.shared_arcs.specs.Stores.{path_of}
+use Rattle.arc_tables.specs.Rings.{begins}
+use Rattle.arc_tables.specs.Ways.{chain}
+use Rattle.arc_tables.specs.Stores.{path_of}
 use Rattle.shared_arcs.proofs.KeysLeft.{keys_here}
-use Rattle.shared_arcs.proofs.RingLemmas.{none_there}
+use Rattle.arc_tables.proofs.RingLemmas.{none_there}
 use Rattle.shared_arcs.proofs.borders.Borders.keys.Goals as goal
 
 pub returns-in-Some : goal.returns-in-Some

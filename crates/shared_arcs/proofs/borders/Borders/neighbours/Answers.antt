@@ -1,11 +1,11 @@
 use Rattle.std.proofs.Common.{sym, subst}
 use Rattle.shared_arcs.specs.Joined.{AreNeighbours}
-use Rattle.shared_arcs.specs.Sound.{rings_of}
+use Rattle.arc_tables.specs.Sound.{rings_of}
 use Rattle.shared_arcs.proofs.JoinedLemmas.{neighbours_seen, each_used}
 use Rattle.shared_arcs.proofs.borders.Borders.neighbours.Goals as goal
 
 pub returns : goal.returns
 returns g c =
     let t = c.self.inside.tables in
-    subst (λ m. AreNeighbours m c.args.k c.neighbours.result) c.self.view_is
-    (subst (AreNeighbours (rings_of t) c.args.k) (sym c.neighbours.ensures) (neighbours_seen t c.args.k (each_used t c.self.invariant.whole.known) c.self.invariant.whole.listed))
+    subst (λ m. AreNeighbours m c.args.k c.neighbours_at.result) c.self.view_is
+    (subst (AreNeighbours (rings_of t) c.args.k) (sym c.neighbours_at.ensures) (neighbours_seen t c.args.k (each_used t c.self.invariant.whole.known) c.self.invariant.whole.listed))

@@ -1,13 +1,13 @@
 use Rattle.std.proofs.Common.{◌≡◌, ap, sym, ◌∙◌, subst, IfSome, ◌++◌}
 use Rattle.std.specs.FinMap as map
-use Rattle.shared_arcs.specs.Rings.{begins}
-use Rattle.shared_arcs.proofs.RingLemmas.{held_ring, ring_here}
+use Rattle.arc_tables.specs.Rings.{begins}
+use Rattle.arc_tables.proofs.RingLemmas.{held_ring, ring_here}
 use Rattle.shared_arcs.proofs.borders.Borders.push_keys.Goals as goal
 
-pub push_keys-requires-clause-held : goal.push_keys-requires-clause-held
-push_keys-requires-clause-held g c = held_ring c.self.inside.tables c.args.r (ap (λ m. map.contains_key m c.args.r) c.self.view_is ∙ c.requires)
+pub push_ring_keys-requires-clause-held : goal.push_ring_keys-requires-clause-held
+push_ring_keys-requires-clause-held g c = held_ring c.self.inside.tables c.args.r (ap (λ m. map.contains_key m c.args.r) c.self.view_is ∙ c.requires)
 
 pub returns-in-Ok : goal.returns-in-Ok
 returns-in-Ok g c =
     let held = held_ring c.self.inside.tables c.args.r (ap (λ m. map.contains_key m c.args.r) c.self.view_is ∙ c.requires) in
-    subst (λ o. IfSome o (λ es. c.push_keys.new.out.items ≡ c.args.out.now.items ++ begins es)) (sym (ring_here c.self.inside.tables c.args.r held) ∙ ap (λ m. map.get m c.args.r) c.self.view_is) c.in-Ok.ensures
+    subst (λ o. IfSome o (λ es. c.push_ring_keys.new.out.items ≡ c.args.out.now.items ++ begins es)) (sym (ring_here c.self.inside.tables c.args.r held) ∙ ap (λ m. map.get m c.args.r) c.self.view_is) c.in-Ok.ensures

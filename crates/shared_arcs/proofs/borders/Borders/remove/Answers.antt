@@ -1,12 +1,12 @@
 use Rattle.std.proofs.Common.{ℕ, ◌∙◌, sym, ap, subst}
 use Rattle.std.specs.FinMap as map
 use Rattle.std.specs.Prelude.{option_map}
-use Rattle.shared_arcs.specs.Edited.{drawn, collapsed}
+use Rattle.arc_tables.specs.Edited.{drawn, collapsed}
 use Rattle.shared_arcs.specs.Joined.{Joined}
-use Rattle.shared_arcs.specs.Stores.{path_of}
-use Rattle.shared_arcs.proofs.Segments.{on_ok_map, on_err_map, either_result}
-use Rattle.shared_arcs.proofs.EditLemmas.{edited_everywhere, once_alike, rings_unedited}
-use Rattle.shared_arcs.proofs.Removing.{drawn-turns, once_collapsed}
+use Rattle.arc_tables.specs.Stores.{path_of}
+use Rattle.arc_tables.proofs.Segments.{on_ok_map, on_err_map, either_result}
+use Rattle.arc_tables.proofs.EditLemmas.{edited_everywhere, once_alike, rings_unedited}
+use Rattle.arc_tables.proofs.Removing.{drawn-turns, once_collapsed}
 use Rattle.shared_arcs.proofs.JoinedLemmas.{each_used, not_joined, arc_joined}
 use Rattle.shared_arcs.proofs.borders.Borders.remove.Goals as goal
 

@@ -1,5 +1,5 @@
 use Rattle.std.proofs.Common.{rules, arith, ◌≡◌, pos, negsuc, None, Some, sym, ap, ap₂, ◌∙◌, length, ◌++◌}
-use Rattle.std.proofs.Common.{[], ◌∷◌, ◌<◌, ◌-◌, to_z, of_z, w64}
+use Rattle.std.proofs.Common.{[], ◌∷◌, ◌-◌, to_z, of_z, w64}
 use Rattle.std.proofs.Math.Facts.{to_z-of_z}
 use Rattle.indexmap.specs.IndexMap.{get}
 use Rattle.ring_machine.specs.Ring.{edge_eq}

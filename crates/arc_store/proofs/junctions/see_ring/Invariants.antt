@@ -1,6 +1,0 @@
-use Rattle.std.proofs.Common.{◌≡◌}
-use Rattle.arc_store.proofs.junctions.see_ring.Given as goal
-
--- no ring has changed
-abbrev pub invariant-loop-at : goal.invariant-loop-at
-invariant-loop-at g l = l.borders ≡ l.initial.borders

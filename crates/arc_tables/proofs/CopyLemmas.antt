@@ -1,0 +1,88 @@
+-- Copies of the tables hold the same.
+use Rattle.std.proofs.Common.{◌≡◌, ℕ, zero, suc, Option, Some, None, is_some, List, [], ◌∷◌, map, Contains, get_or, refl, sym, ap, ap₂, subst}
+use Rattle.std.specs.List.{AllZip}
+use Rattle.slab.specs.Slab.{Slab, get, IsSlabClone, IsSlotClone}
+use Rattle.arc_tables.specs.declared.arc.Arc.{Arc}
+use Rattle.arc_tables.specs.declared.arc.Ring.{Ring}
+use Rattle.arc_tables.specs.declared.arc.Stand.{Stand}
+use Rattle.arc_tables.specs.declared.tables.Tables.{Tables}
+use Rattle.arc_tables.specs.Stores.{path_in, users_in, uses_in, store, SamePaths, SameUsers, SameRings, SameKeys, ListsMore}
+use Rattle.arc_tables.specs.Sound.{Sound, rings_of}
+use Rattle.arc_tables.proofs.Moves.{keeps_same}
+use Rattle.arc_tables.proofs.RingLemmas.{rings_kept}
+use Rattle.arc_tables.proofs.WholeLemmas.{whole_same}
+
+module _ {T : Type 0} (is_clone : T → T → Type 0) where
+  cloned_place : (xs ys : List (Option T)) (k : ℕ) → AllZip (IsSlotClone is_clone) xs ys → IsSlotClone is_clone (get_or xs k None) (get_or ys k None)
+  cloned_place [] [] k h = refl
+  cloned_place [] (y ∷ ys) k h = absurd h
+  cloned_place (x ∷ xs) [] k h = absurd h
+  cloned_place (x ∷ xs) (y ∷ ys) zero h = h.0
+  cloned_place (x ∷ xs) (y ∷ ys) (suc k) h = cloned_place xs ys k h.1
+
+  cloned_at : (s t : Slab T) → IsSlabClone is_clone s t → (k : ℕ) → IsSlotClone is_clone (get s k) (get t k)
+  cloned_at s t c k = cloned_place s.slots t.slots k c.slots
+
+  cloned_there : (o p : Option T) → IsSlotClone is_clone o p → is_some p ≡ is_some o
+  cloned_there None p h = ap is_some h
+  cloned_there (Some v) None h = absurd h
+  cloned_there (Some v) (Some w) h = refl
+
+module _ {A : Type 0} where
+  -- copies have the same keys, rings, uses and arcs
+  abbrev pub SameArc : Arc A → Arc A → Type 0
+  SameArc arc copy = (copy.keys.items ≡ arc.keys.items) × (copy.rings.items ≡ arc.rings.items)
+
+  abbrev pub SameUses : Ring A → Ring A → Type 0
+  SameUses ring copy = copy.uses.items ≡ ring.uses.items
+
+  abbrev pub SameStand : Stand A → Stand A → Type 0
+  SameStand stand copy = (copy.arcs.items ≡ stand.arcs.items) × (copy.ends ≡ stand.ends)
+
+  cloned_path : (o p : Option (Arc A)) → IsSlotClone SameArc o p → path_in p ≡ path_in o
+  cloned_path None p h = ap path_in h
+  cloned_path (Some v) None h = absurd h
+  cloned_path (Some v) (Some w) h = h.0
+
+  cloned_users : (o p : Option (Arc A)) → IsSlotClone SameArc o p → users_in p ≡ users_in o
+  cloned_users None p h = ap users_in h
+  cloned_users (Some v) None h = absurd h
+  cloned_users (Some v) (Some w) h = h.1
+
+  cloned_uses : (o p : Option (Ring A)) → IsSlotClone SameUses o p → uses_in p ≡ uses_in o
+  cloned_uses None p h = ap uses_in h
+  cloned_uses (Some v) None h = absurd h
+  cloned_uses (Some v) (Some w) h = h
+
+  pub cloned_arcs : (s t : Slab (Arc A)) → IsSlabClone SameArc s t → SamePaths s t × SameUsers s t
+  cloned_arcs s t c = (
+    (λ j. cloned_path (get s j) (get t j) (cloned_at SameArc s t c j)),
+    record {
+      there = λ j. cloned_there SameArc (get s j) (get t j) (cloned_at SameArc s t c j);
+      users = λ j. cloned_users (get s j) (get t j) (cloned_at SameArc s t c j);
+    },
+  )
+
+  pub cloned_rings : (s t : Slab (Ring A)) → IsSlabClone SameUses s t → SameRings s t × SameKeys s t
+  cloned_rings s t c = (
+    (λ k. cloned_uses (get s k) (get t k) (cloned_at SameUses s t c k)),
+    (λ k. cloned_there SameUses (get s k) (get t k) (cloned_at SameUses s t c k)),
+  )
+
+  cloned_lists : (ss ts : List (Stand A)) → AllZip SameStand ss ts → map (λ (s : Stand A). s.arcs.items) ts ≡ map (λ (s : Stand A). s.arcs.items) ss
+  cloned_lists [] [] h = refl
+  cloned_lists [] (t ∷ ts) h = absurd h
+  cloned_lists (s ∷ ss) [] h = absurd h
+  cloned_lists (s ∷ ss) (t ∷ ts) h = ap₂ (λ x xs. x ∷ xs) h.0.0 (cloned_lists ss ts h.1)
+
+  pub cloned_stands : (ss ts : List (Stand A)) → AllZip SameStand ss ts → ListsMore ss ts
+  cloned_stands ss ts h j m c = subst (λ ls. Contains (get_or ls j []) m) (sym (cloned_lists ss ts h)) c
+
+  pub copy_sound : (s t : Tables A) → SamePaths s.arcs t.arcs × SameUsers s.arcs t.arcs → SameRings s.rings t.rings → ListsMore s.stands.items t.stands.items → Sound s → Sound t
+  copy_sound s t arcs rings more h = record {
+    whole = whole_same s t arcs.0 arcs.1 rings more h.whole;
+    once = (keeps_same (store s) (store t) arcs.0 rings).once h.once;
+  }
+
+  pub copy_rings : (s t : Tables A) → SamePaths s.arcs t.arcs → SameRings s.rings t.rings × SameKeys s.rings t.rings → rings_of t ≡ rings_of s
+  copy_rings s t paths rings = rings_kept s t rings.1 (keeps_same (store s) (store t) paths rings.0)

@@ -1,0 +1,57 @@
+-- Worked examples of what could be wrong by one.
+use Rattle.std.proofs.Common.{◌≡◌, ℕ, true, List, [], ◌∷◌, map, refl, ap}
+use Rattle.std.specs.Prelude.{count_by}
+use Rattle.std.specs.Ordering.{nat_cmp}
+use Rattle.std.specs.FinMap as map_of
+use Rattle.arc_tables.specs.Ways.{Edge, links, both_parts, times}
+use Rattle.arc_tables.specs.Rings.{Rings, edges, begins, has_segment, users_of}
+use Rattle.arc_tables.specs.Stores.{without, including}
+
+-- a path of three keys has two edges, and a ring of three keys has three
+path_edges : links {A = ℕ} (7 ∷ 8 ∷ 9 ∷ []) ≡ (7, 8) ∷ (8, 9) ∷ []
+path_edges = refl
+
+ring_edges : edges (7 ∷ 8 ∷ 9 ∷ []) ≡ (7, 8) ∷ (8, 9) ∷ (9, 7) ∷ []
+ring_edges = refl
+
+ring_keys : begins (edges (7 ∷ 8 ∷ 9 ∷ [])) ≡ 7 ∷ 8 ∷ 9 ∷ []
+ring_keys = refl
+
+-- a ring of two keys goes along its segment twice
+there_and_back : times 8 7 (edges (7 ∷ 8 ∷ [])) ≡ 2
+there_and_back = refl
+
+-- in reverse the new arc, which is the rest, comes first
+reversed_parts : both_parts 4 6 (record { arc = 4; back = true }) ≡ record { arc = 6; back = true } ∷ record { arc = 4; back = true } ∷ []
+reversed_parts = refl
+
+forgotten : without 3 (3 ∷ 5 ∷ 3 ∷ []) ≡ 5 ∷ []
+forgotten = refl
+
+known_already : including 3 (3 ∷ 5 ∷ []) ≡ 3 ∷ 5 ∷ []
+known_already = refl
+
+learnt : including 4 (3 ∷ 5 ∷ []) ≡ 3 ∷ 5 ∷ 4 ∷ []
+learnt = refl
+
+-- two squares, under 0 and 2, of which the second is gone round the other way
+abbrev squares : List (ℕ × List Edge)
+squares = (0, edges (0 ∷ 1 ∷ 2 ∷ 3 ∷ [])) ∷ (2, edges (1 ∷ 4 ∷ 5 ∷ 2 ∷ [])) ∷ []
+
+abbrev both_squares : Rings
+both_squares = map_of.from_sorted {R = nat_cmp} squares
+
+counted : (a b : ℕ) → users_of both_squares a b ≡ count_by (has_segment a b) (map (λ e. e.1) squares)
+counted a b = ap (λ es. count_by (has_segment a b) (map (λ e. e.1) es)) (map_of.entries-from_sorted nat_cmp squares tt)
+
+shared_side : users_of both_squares 1 2 ≡ 2
+shared_side = counted 1 2
+
+shared_side_back : users_of both_squares 2 1 ≡ 2
+shared_side_back = counted 2 1
+
+own_side : users_of both_squares 0 1 ≡ 1
+own_side = counted 0 1
+
+diagonal : users_of both_squares 0 2 ≡ 0
+diagonal = counted 0 2

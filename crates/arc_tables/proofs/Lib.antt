@@ -1,0 +1,20 @@
+pub mod Different
+pub mod Moves
+pub mod StoreLemmas
+pub mod CutLemmas
+pub mod Knowing
+pub mod Growing
+pub mod Finding
+pub mod Running
+pub mod TakeLemmas
+pub mod Held
+pub mod StandLemmas
+pub mod RingLemmas
+pub mod WholeLemmas
+pub mod Segments
+pub mod EditLemmas
+pub mod Inserting
+pub mod Removing
+pub mod Counting
+pub mod CopyLemmas
+mod Examples

@@ -1,0 +1,80 @@
+-- Tables that hold the same belong together still.
+use Rattle.std.proofs.Common.{◌≡◌, ◌≢◌, ℕ, refl, sym, ap, ◌∙◌, subst, List, Contains, Some, None, is_some, [], ◌∷◌, ◌++◌, inl, inr, arith}
+use native.Mathlib.Decide.{ℕ_discrete}
+use Rattle.slab.specs.Slab.{Slab, get}
+use Rattle.arc_tables.specs.declared.arc.Use.{Use}
+use Rattle.arc_tables.specs.declared.arc.Arc.{Arc}
+use Rattle.arc_tables.specs.declared.arc.Ring.{Ring}
+use Rattle.arc_tables.specs.declared.arc.Stand.{Stand}
+use Rattle.std.proofs.lemmas.List.Elements.{Contains-append_cases}
+use Rattle.slab.proofs.SlabLemmas.{Contains-cons_cases}
+use Rattle.arc_tables.specs.Ways.{Edge, Grows}
+use Rattle.arc_tables.proofs.Moves.{kept_grows, keeps_same}
+use Rattle.arc_tables.proofs.Growing.{known_alike, same_users}
+use Rattle.arc_tables.specs.declared.tables.Tables.{Tables}
+use Rattle.arc_tables.specs.Stores.{path_in, uses_in, stand_at, Listed, ListsMore, Whole, SameRings, SamePaths, SameKeys, SameUsers, GoesOn, store, store_of}
+
+module _ {A : Type 0} where
+  -- the same arcs and uses, and no vertex forgot an arc
+  pub whole_alike : (s t : Tables A) → ((j : ℕ) → get t.arcs j ≡ get s.arcs j) → SameRings s.rings t.rings → ListsMore s.stands.items t.stands.items → Whole s → Whole t
+  whole_alike s t arcs rings more w = record {
+    known = known_alike s.arcs t.arcs s.rings t.rings (same_users s.arcs t.arcs arcs) rings w.known;
+    listed = λ j k m. more k j (w.listed j k (subst (λ o. Contains (path_in o) k) (arcs j) m));
+  }
+
+  -- the same paths, and no vertex forgot an arc
+  pub listed_paths : (arcs arcs' : Slab (Arc A)) (ss ss' : List (Stand A)) → SamePaths arcs arcs' → ListsMore ss ss' → Listed arcs ss → Listed arcs' ss'
+  listed_paths arcs arcs' ss ss' same more h j k m = more k j (h j k (subst (λ z. Contains z k) (same j) m))
+
+  pub whole_same : (s t : Tables A) → SamePaths s.arcs t.arcs → SameUsers s.arcs t.arcs → SameRings s.rings t.rings → ListsMore s.stands.items t.stands.items → Whole s → Whole t
+  whole_same s t paths m rings more w = record {
+    known = known_alike s.arcs t.arcs s.rings t.rings m rings w.known;
+    listed = listed_paths s.arcs t.arcs s.stands.items t.stands.items paths more w.listed;
+  }
+
+  -- a ring goes on, where only room was made before
+  pub goes_on_after : (old mid new : Slab (Ring A)) (r : ℕ) (u : Use) → SameRings old mid → GoesOn mid new r u → GoesOn old new r u
+  goes_on_after old mid new r u same g = record {
+    ring = g.ring ∙ ap (λ z. z ++ u ∷ []) (same r);
+    others = λ k f. g.others k f ∙ same k;
+  }
+
+  -- arc n, which is new, is listed for its vertices
+  pub listed_new : (arcs arcs' : Slab (Arc A)) (ss ss' : List (Stand A)) (n : ℕ) (keys : List ℕ) → path_in (get arcs' n) ≡ keys → ((j : ℕ) → j ≢ n → get arcs' j ≡ get arcs j) →
+      ListsMore ss ss' → ((k : ℕ) → Contains keys k → Contains (stand_at ss' k) n) → Listed arcs ss → Listed arcs' ss'
+  listed_new arcs arcs' ss ss' n keys e o more noted h j k m = by (ℕ_discrete j n)
+    where
+      by : Dec (j ≡ n) → Contains (stand_at ss' k) j
+      by (yes f) = subst (λ z. Contains (stand_at ss' k) z) (sym f) (noted k (subst (λ z. Contains z k) (ap (λ z. path_in (get arcs' z)) f ∙ e) m))
+      by (no f) = more k j (h j k (subst (λ q. Contains (path_in q) k) (o j f) m))
+
+  -- arc n goes on to b
+  pub whole_longer : (s t : Tables A) (n b : ℕ) → SameUsers s.arcs t.arcs → SameRings s.rings t.rings → path_in (get t.arcs n) ≡ path_in (get s.arcs n) ++ b ∷ [] → ((j : ℕ) → j ≢ n → get t.arcs j ≡ get s.arcs j) →
+      ListsMore s.stands.items t.stands.items → Contains (stand_at t.stands.items b) n → Whole s → Whole t
+  whole_longer s t n b m rings e o more noted w = record {
+    known = known_alike s.arcs t.arcs s.rings t.rings m rings w.known;
+    listed = listed_new s.arcs t.arcs s.stands.items t.stands.items n (path_in (get s.arcs n) ++ b ∷ []) e o more (λ k x. elim (Contains-append_cases (path_in (get s.arcs n)) (b ∷ []) k x) [
+      | inl y ↦ more k n (w.listed n k y)
+      | inr y ↦ elim (Contains-cons_cases b k [] y) [ inl z ↦ subst (λ z. Contains (stand_at t.stands.items z) n) z noted | inr z ↦ absurd (omega (arith, z.1)) ]
+    ]) w.listed;
+  }
+
+  -- a ring without uses comes in
+  pub empty_ring : (old new : Slab (Ring A)) (r : ℕ) (v : Ring A) → get old r ≡ None → get new r ≡ Some v → v.uses.items ≡ [] → ((k : ℕ) → k ≢ r → get new k ≡ get old k) → SameRings old new
+  empty_ring old new r v was is e o k = by (ℕ_discrete k r)
+    where
+      by : Dec (k ≡ r) → uses_in (get new k) ≡ uses_in (get old k)
+      by (yes f) = ap (λ z. uses_in (get new z)) f ∙ ap uses_in is ∙ e ∙ sym (ap (λ z. uses_in (get old z)) f ∙ ap uses_in was)
+      by (no f) = ap uses_in (o k f)
+
+  -- a ring came in, was changed, and went again
+  pub one_fewer : (old mid after new : Slab (Ring A)) (r : ℕ) → get old r ≡ None → ((k : ℕ) → k ≢ r → get mid k ≡ get old k) → SameKeys mid after → get new r ≡ None → ((k : ℕ) → k ≢ r → get new k ≡ get after k) → SameKeys old new
+  one_fewer old mid after new r was o same gone p k = by (ℕ_discrete k r)
+    where
+      by : Dec (k ≡ r) → is_some (get new k) ≡ is_some (get old k)
+      by (yes f) = ap (λ z. is_some (get new z)) f ∙ ap is_some gone ∙ sym (ap (λ z. is_some (get old z)) f ∙ ap is_some was)
+      by (no f) = ap is_some (p k f) ∙ same k ∙ ap is_some (o k f)
+
+  -- a ring came in, and was laid
+  pub laid_grows : (s t : Tables A) (rings : Slab (Ring A)) (r : ℕ) (es : List Edge) → SameRings s.rings rings → Grows r es (store_of s.arcs rings) (store t) → Grows r es (store s) (store t)
+  laid_grows s t rings r es same g = kept_grows r es (store s) (store_of s.arcs rings) (store t) (keeps_same (store s) (store_of s.arcs rings) (λ j. refl) same) g

@@ -1,0 +1,7 @@
+use Rattle.std.proofs.Common.{◌≡◌, take}
+use Rattle.std.specs.List.{flat_map}
+use Rattle.arc_tables.specs.Ways.{both_parts}
+use Rattle.arc_tables.proofs.cutting.doubled.Given as goal
+
+abbrev pub invariant-loop-u : goal.invariant-loop-u
+invariant-loop-u g l = l.more.items ≡ flat_map (both_parts l.i l.n) (take l.u-index l.uses)

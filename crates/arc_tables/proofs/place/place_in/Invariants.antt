@@ -1,0 +1,6 @@
+use Rattle.std.proofs.Common.{◌≡◌, take}
+use Rattle.arc_tables.specs.Ways.{times, links}
+use Rattle.arc_tables.proofs.place.place_in.Given as goal
+
+abbrev pub invariant-loop-at : goal.invariant-loop-at
+invariant-loop-at l = times l.a l.b (links (take l.at l.path)) ≡ 0

@@ -1,0 +1,11 @@
+use Rattle.arc_tables.proofs.CopyLemmas.{cloned_arcs, cloned_rings, cloned_stands}
+use Rattle.arc_tables.proofs.tables.Tables.copy.Goals as goal
+
+pub returns-clause-arcs : goal.returns-clause-arcs
+returns-clause-arcs g c = cloned_arcs c.args.self.now.arcs c.in_ok-arcs.arcs c.in_ok-arcs.ensures.cases
+
+pub returns-clause-rings : goal.returns-clause-rings
+returns-clause-rings g c = cloned_rings c.args.self.now.rings c.in_ok-rings.rings c.in_ok-rings.ensures.cases
+
+pub returns-clause-stands : goal.returns-clause-stands
+returns-clause-stands g c = cloned_stands c.args.self.now.stands.items c.in_ok-stands.stands.items c.in_ok-stands.ensures.cases.0

@@ -1,0 +1,37 @@
+-- What an edit of one vertex makes of a ring's edges.
+use Rattle.std.specs.Prelude.{ℕ, ◌==◌, ◌≡◌, ◌≢◌, ◌⊎◌, if◌then◌else◌, List, [], ◌∷◌, Contains}
+use Rattle.std.specs.List.{flat_map}
+use Rattle.arc_tables.specs.Ways.{Edge, is_seg, links}
+
+-- three different vertices
+abbrev pub AreApart : ℕ → ℕ → ℕ → Type 0
+AreApart a b c = (a ≢ b) × (a ≢ c) × (b ≢ c)
+
+-- an edge of a and b leads over q, in its direction, and any other stays
+abbrev pub over : ℕ → ℕ → ℕ → Edge → List Edge
+over a b q e = if is_seg a b e then ((e.0, q) ∷ (q, e.1) ∷ []) else (e ∷ [])
+
+-- the ring leads over q wherever it went between a and b
+abbrev pub through : ℕ → ℕ → ℕ → List Edge → List Edge
+through a b q es = flat_map (over a b q) es
+
+-- b in place of p
+abbrev pub onto : ℕ → ℕ → ℕ → ℕ
+onto p b k = if k == p then b else k
+
+-- an edge of p and b goes, and on any other p moves onto b
+abbrev pub drawn : ℕ → ℕ → Edge → List Edge
+drawn p b e = if is_seg p b e then [] else ((onto p b e.0, onto p b e.1) ∷ [])
+
+-- p moves onto its neighbour b, and the edges between them go
+abbrev pub collapsed : ℕ → ℕ → List Edge → List Edge
+collapsed p b es = flat_map (drawn p b) es
+
+-- p moved onto b in a path, and the edges between them went
+pub record Collapses (p b : ℕ) (old new : List ℕ) : Type 0 where
+  pub edges : links new ≡ collapsed p b (links old)
+  pub keys : (k : ℕ) → Contains new k → (k ≢ p) × (Contains old k ⊎ (k ≡ b))
+
+-- it did in the path of arc j, where that is among these, and any other path stayed
+abbrev pub CollapsesAmong : List ℕ → ℕ → ℕ → ℕ → List ℕ → List ℕ → Type 0
+CollapsesAmong among j p b old new = (Contains among j × Collapses p b old new) ⊎ ((new ≡ old) × ¬ (Contains among j))

@@ -1,0 +1,5 @@
+pub mod Edited
+pub mod Rings
+pub mod Sound
+pub mod Stores
+pub mod Ways

@@ -1,0 +1,64 @@
+//! Copies of the tables, in memory of the same allocator.
+ghost use Rattle.std.specs.Prelude.{IfOk};
+ghost use Rattle.arc_tables.specs.Stores.{SamePaths, SameUsers, SameRings, SameKeys, ListsMore};
+
+use crate::arc::{Arc, Ring, Stand};
+use crate::tables::Tables;
+use std::alloc::{AllocError, Allocator};
+
+impl<A: Allocator + Copy> Clone for Arc<A> {
+    ghost use Rattle.std.specs.Prelude.{◌≡◌};
+
+    ghost is_clone = { λ arc copy. (copy.keys.items ≡ arc.keys.items) × (copy.rings.items ≡ arc.rings.items) };
+
+    fn clone(&self) -> Result<Arc<A>, AllocError> {
+        Ok(Arc {
+            keys: self.keys.clone()?,
+            rings: self.rings.clone()?,
+        })
+    }
+}
+
+impl<A: Allocator + Copy> Clone for Ring<A> {
+    ghost use Rattle.std.specs.Prelude.{◌≡◌};
+
+    ghost is_clone = { λ ring copy. copy.uses.items ≡ ring.uses.items };
+
+    fn clone(&self) -> Result<Ring<A>, AllocError> {
+        Ok(Ring {
+            uses: self.uses.clone()?,
+        })
+    }
+}
+
+impl<A: Allocator + Copy> Clone for Stand<A> {
+    ghost use Rattle.std.specs.Prelude.{◌≡◌};
+
+    ghost is_clone = { λ stand copy. (copy.arcs.items ≡ stand.arcs.items) × (copy.ends ≡ stand.ends) };
+
+    fn clone(&self) -> Result<Stand<A>, AllocError> {
+        Ok(Stand {
+            arcs: self.arcs.clone()?,
+            ends: self.ends,
+        })
+    }
+}
+
+impl<A: Allocator + Copy> Tables<A> {
+    /// Tables that hold the same. Fails for want of memory alone.
+    pub fn copy(&self) -> Result<Tables<A>, AllocError>
+        ensures arcs { IfOk result (λ copy. SamePaths self.now.arcs copy.arcs × SameUsers self.now.arcs copy.arcs) }
+        ensures rings { IfOk result (λ copy. SameRings self.now.rings copy.rings × SameKeys self.now.rings copy.rings) }
+        ensures stands { IfOk result (λ copy. ListsMore self.now.stands.items copy.stands.items) }
+    {
+        let arcs = self.arcs.clone()?;
+        let rings = self.rings.clone()?;
+        let stands = self.stands.clone()?;
+        Ok(Tables {
+            alloc: self.alloc,
+            arcs,
+            rings,
+            stands,
+        })
+    }
+}

@@ -1,0 +1,137 @@
+//! Where a segment stands in the arcs.
+ghost use Rattle.std.specs.Prelude.{◌≡◌, ℕ, ◌≤◌, ◌==◌, ◌&&◌, IfSome, IfNone, IfOk};
+ghost use Rattle.std.specs.Prelude.{Contains, take, length, reverse};
+ghost use Rattle.slab.specs.Slab.{get, ContainsKey};
+ghost use Rattle.arc_tables.specs.Ways.{times, links};
+ghost use Rattle.arc_tables.specs.Rings.{users_of};
+ghost use Rattle.arc_tables.specs.Stores.{path_in, path_of, stand_at, IsPlace, Whole};
+ghost use Rattle.arc_tables.specs.Sound.{rings_of, Sound};
+
+use crate::arc::{Arc, Stand};
+use crate::tables::Tables;
+use slab::Slab;
+use std::alloc::{AllocError, Allocator};
+use vertex_index::VertexKey;
+
+/// Where a segment stands: from the key at this place of an arc to the next, or the other way.
+#[derive(Clone, Copy, Debug, PartialEq, Eq)]
+pub(crate) struct Place {
+    pub(crate) arc: usize,
+    pub(crate) at: usize,
+    pub(crate) back: bool,
+}
+
+/// Whether the edge leads from a to b.
+fn leads(here: VertexKey, next: VertexKey, a: VertexKey, b: VertexKey) -> bool
+    ensures { result ≡ (here == a && next == b) }
+{
+    here == a && next == b
+}
+
+/// The place of the segment in a path, and whether it goes the other way there.
+pub(crate) fn place_in(path: &[VertexKey], a: VertexKey, b: VertexKey) -> Option<(usize, bool)>
+    ensures some { IfSome result (λ p. IsPlace path.now p.0 p.1 a b) }
+    ensures none { IfNone result (times a b (links path.now) ≡ 0) }
+{
+    for at in 1..path.len() {
+        let (here, next) = (path[at - 1], path[at]);
+        if leads(here, next, a, b) {
+            return Some((at - 1, false));
+        }
+        if leads(here, next, b, a) {
+            return Some((at - 1, true));
+        }
+    }
+    None
+}
+
+/// The place of the segment in one of these arcs.
+fn find_among<A: Allocator + Copy>(
+    arcs: &Slab<Arc<A>, A>,
+    among: &[usize],
+    a: VertexKey,
+    b: VertexKey,
+) -> Option<Place>
+    ensures some { IfSome result (λ p. IsPlace (path_in (get arcs.now p.arc)) p.at p.back a b) }
+    ensures there { IfSome result (λ p. ContainsKey arcs.now p.arc) }
+    ensures none { IfNone result ((j : ℕ) → Contains among.now j
+        → times a b (links (path_in (get arcs.now j))) ≡ 0) }
+{
+    for arc in among {
+        if let Some(border) = arcs.get(*arc) {
+            if let Some((at, back)) = place_in(border.keys.as_slice(), a, b) {
+                return Some(Place {
+                    arc: *arc,
+                    at,
+                    back,
+                });
+            }
+        }
+    }
+    None
+}
+
+/// The arcs that are listed for a vertex.
+pub fn arcs_at<A: Allocator + Copy>(stands: &Vec<Stand<A>, A>, k: VertexKey) -> &[usize]
+    ensures { result.now ≡ stand_at stands.now.items k }
+{
+    match stands.get(k.index()) {
+        Some(stand) => stand.arcs.as_slice(),
+        None => &[],
+    }
+}
+
+impl<A: Allocator + Copy> Tables<A> {
+    /// The place of the segment of a and b, in the arcs of a.
+    pub(crate) fn find(&self, a: VertexKey, b: VertexKey) -> Option<Place>
+        requires { Whole self.now }
+        ensures some { IfSome result (λ p. IsPlace (path_of self.now p.arc) p.at p.back a b) }
+        ensures there { IfSome result (λ p. ContainsKey self.now.arcs p.arc) }
+        ensures none { IfNone result ((j : ℕ) → times a b (links (path_of self.now j)) ≡ 0) }
+    {
+        find_among(&self.arcs, arcs_at(&self.stands, a), a, b)
+    }
+
+    /// How many rings have the segment of a and b: those of the arc that has it.
+    pub fn uses(&self, a: VertexKey, b: VertexKey) -> usize
+        requires { Sound self.now }
+        ensures { result ≡ users_of (rings_of self.now) a b }
+    {
+        match self.find(a, b) {
+            Some(place) => self.arcs.get(place.arc).unwrap().rings.len(),
+            None => 0,
+        }
+    }
+}
+
+/// How far two lists agree.
+pub(crate) fn agreed(xs: &[VertexKey], ys: &[VertexKey]) -> usize
+    ensures xs { result ≤ length xs.now }
+    ensures ys { result ≤ length ys.now }
+    ensures same { take result xs.now ≡ take result ys.now }
+    ensures all { (k : ℕ) → k ≤ length xs.now → k ≤ length ys.now
+        → take k xs.now ≡ take k ys.now → k ≤ result }
+{
+    let mut len = 0usize;
+    while len < xs.len() && len < ys.len() && xs[len] == ys[len] {
+        len += 1;
+    }
+    len
+}
+
+/// How far the reverse of a path agrees with these keys.
+pub(crate) fn agreed_back<A: Allocator + Copy>(
+    alloc: A,
+    path: &[VertexKey],
+    keys: &[VertexKey],
+) -> Result<usize, AllocError>
+    ensures path { IfOk result (λ m. m ≤ length path.now) }
+    ensures keys { IfOk result (λ m. m ≤ length keys.now) }
+    ensures same { IfOk result (λ m. take m (reverse path.now) ≡ take m keys.now) }
+    ensures all { IfOk result (λ m. 2 ≤ length path.now → 2 ≤ length keys.now
+        → take 2 (reverse path.now) ≡ take 2 keys.now → 2 ≤ m) }
+{
+    let mut turned = Vec::from_slice(alloc, path)?;
+    turned.reverse();
+    Ok(agreed(turned.as_slice(), keys))
+}

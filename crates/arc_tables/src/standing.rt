@@ -1,0 +1,135 @@
+//! The arcs that each vertex stands in.
+ghost use Rattle.std.specs.Prelude.{◌≡◌, ◌≢◌, ℕ, ◌<◌, ◌==◌, OnOk, Contains, vec_len};
+ghost use Rattle.std.specs.List.{list_any};
+ghost use Rattle.arc_tables.specs.Stores.{stand_at, ListsMore, UnlistsOnly, UnlistsOff};
+
+use crate::arc::Stand;
+use crate::numbers::{include, take_from};
+use std::alloc::{AllocError, Allocator};
+use vertex_index::VertexKey;
+
+/// Makes the table long enough for vertex `k`.
+fn reach<A: Allocator + Copy>(
+    alloc: A,
+    stands: &mut Vec<Stand<A>, A>,
+    k: VertexKey,
+) -> Result<(), AllocError>
+    ensures kept { (j : ℕ) → stand_at stands.new.items j ≡ stand_at stands.old.items j }
+    ensures ok { OnOk result (k < vec_len stands.new) }
+{
+    while stands.len() <= k.index() {
+        stands.push(Stand {
+            arcs: Vec::new(alloc),
+            ends: false,
+        })?;
+    }
+    Ok(())
+}
+
+/// Lists arc `n` for a vertex.
+pub(crate) fn list_arc<A: Allocator + Copy>(
+    alloc: A,
+    stands: &mut Vec<Stand<A>, A>,
+    k: VertexKey,
+    n: usize,
+) -> Result<(), AllocError>
+    ensures kept { ListsMore stands.old.items stands.new.items }
+    ensures listed { OnOk result (Contains (stand_at stands.new.items k) n) }
+{
+    reach(alloc, stands, k)?;
+    let stand = stands.get_mut(k.index()).unwrap();
+    match include(&mut stand.arcs, n) {
+        Ok(()) => Ok(()),
+        Err(e) => Err(e),
+    }
+}
+
+/// Lists arc `n` for each of these vertices.
+pub(crate) fn note<A: Allocator + Copy>(
+    alloc: A,
+    stands: &mut Vec<Stand<A>, A>,
+    keys: &[VertexKey],
+    n: usize,
+) -> Result<(), AllocError>
+    ensures kept { ListsMore stands.old.items stands.new.items }
+    ensures noted { OnOk result
+        ((k : ℕ) → Contains keys.now k → Contains (stand_at stands.new.items k) n) }
+{
+    for k in keys {
+        list_arc(alloc, stands, *k, n)?;
+    }
+    Ok(())
+}
+
+/// Vertex `k` forgets arc `i`.
+fn unlist<A: Allocator + Copy>(stands: &mut Vec<Stand<A>, A>, k: VertexKey, i: usize)
+    ensures arc { UnlistsOnly stands.old.items stands.new.items i }
+    ensures others { (j : ℕ) → j ≢ k → stand_at stands.new.items j ≡ stand_at stands.old.items j }
+{
+    if let Some(stand) = stands.get_mut(k.index()) {
+        take_from(&mut stand.arcs, i);
+    }
+}
+
+/// These vertices forget arc `i`.
+pub(crate) fn unlist_all<A: Allocator + Copy>(
+    stands: &mut Vec<Stand<A>, A>,
+    keys: &[VertexKey],
+    i: usize,
+)
+    ensures { UnlistsOnly stands.old.items stands.new.items i }
+{
+    for k in keys {
+        unlist(stands, *k, i);
+    }
+}
+
+/// Whether the key is one of these.
+fn has_key(keys: &[VertexKey], k: VertexKey) -> bool
+    ensures { result ≡ list_any (λ x. x == k) keys.now }
+{
+    keys.contains(&k)
+}
+
+/// Vertex `k` forgets arc `i`, unless it stands on this path.
+fn unlist_off<A: Allocator + Copy>(
+    stands: &mut Vec<Stand<A>, A>,
+    path: &[VertexKey],
+    k: VertexKey,
+    i: usize,
+)
+    ensures { UnlistsOff path.now stands.old.items stands.new.items i }
+{
+    if has_key(path, k) {
+        return;
+    }
+    unlist(stands, k, i);
+}
+
+/// Vertices that moved to another arc forget arc `i`, but for those that its path still has.
+pub(crate) fn unlist_moved<A: Allocator + Copy>(
+    stands: &mut Vec<Stand<A>, A>,
+    path: &[VertexKey],
+    moved: &[VertexKey],
+    i: usize,
+)
+    ensures { UnlistsOff path.now stands.old.items stands.new.items i }
+{
+    for k in moved {
+        unlist_off(stands, path, *k, i);
+    }
+}
+
+/// New arcs end at vertex `k` from now on. Fails for want of memory alone.
+pub fn mark_end<A: Allocator + Copy>(
+    alloc: A,
+    stands: &mut Vec<Stand<A>, A>,
+    k: VertexKey,
+) -> Result<(), AllocError>
+    ensures { ListsMore stands.old.items stands.new.items }
+{
+    reach(alloc, stands, k)?;
+    let stand = stands.get_mut(k.index()).unwrap();
+    stand.ends = true;
+    Ok(())
+}

@@ -1,0 +1,69 @@
+-- Lists of lists of lists, and all that stands in them.
+use Rattle.std.proofs.Common.{◌≡◌, refl, sym, ap, ap₂, ◌∙◌, List, [], ◌∷◌, ◌++◌, map, length}
+use Rattle.std.proofs.Common.{get_or, drop, arith}
+use Rattle.std.specs.List.{flat_map}
+use Rattle.std.proofs.lemmas.List.{length-map, map-append, length-append}
+use Rattle.map_opening.specs.Keyed.{all_rings}
+
+-- all that stands in lists
+abbrev joined : {A : Type 0} → List (List A) → List A
+joined xss = flat_map (λ xs. xs) xss
+
+parts : {A : Type 0} (xs ys us vs : List A) → length xs ≡ length ys → xs ++ us ≡ ys ++ vs
+    → (xs ≡ ys) × (us ≡ vs)
+parts [] [] us vs l e = (refl, e)
+parts [] (y ∷ ys) us vs l e = absurd (omega (arith, l))
+parts (x ∷ xs) [] us vs l e = absurd (omega (arith, l))
+parts (x ∷ xs) (y ∷ ys) us vs l e =
+    let k = parts xs ys us vs (omega (arith, l)) (ap (drop 1) e) in
+    (ap₂ (λ a b. a ∷ b) (ap (λ z. get_or z 0 x) e) k.0, k.1)
+
+as_long : {A B : Type 0} (xss : List (List A)) (yss : List (List B))
+    → map length xss ≡ map length yss → length (joined xss) ≡ length (joined yss)
+as_long [] [] l = refl
+as_long [] (ys ∷ yss) l = absurd (omega (arith, ap length l))
+as_long (xs ∷ xss) [] l = absurd (omega (arith, ap length l))
+as_long (xs ∷ xss) (ys ∷ yss) l =
+    omega (arith, length-append xs (joined xss), length-append ys (joined yss), ap (λ z. get_or z 0 0) l, as_long xss yss (ap (drop 1) l))
+
+-- ---- what is changed in its place
+
+joined-mapped : {A B : Type 0} (f : A → B) (xss : List (List A))
+    → joined (map (map f) xss) ≡ map f (joined xss)
+joined-mapped f [] = refl
+joined-mapped f (xs ∷ xss) = ap (λ z. map f xs ++ z) (joined-mapped f xss) ∙ sym (map-append f xs (joined xss))
+
+pub all_rings-mapped : {A B : Type 0} (f : A → B) (features : List (List (List A)))
+    → all_rings (map (map (map f)) features) ≡ map f (all_rings features)
+all_rings-mapped f [] = refl
+all_rings-mapped f (ps ∷ features) =
+    ap₂ (λ y z. y ++ z) (joined-mapped f ps) (all_rings-mapped f features)
+    ∙ sym (map-append f (joined ps) (all_rings features))
+
+-- ---- lists of one shape
+
+module _ {A B C : Type 0} (f : A → C) (g : B → C) where
+  same_polygons : (xss : List (List A)) (yss : List (List B)) → map length xss ≡ map length yss
+      → map f (joined xss) ≡ map g (joined yss) → map (map f) xss ≡ map (map g) yss
+  same_polygons [] [] l e = refl
+  same_polygons [] (ys ∷ yss) l e = absurd (omega (arith, ap length l))
+  same_polygons (xs ∷ xss) [] l e = absurd (omega (arith, ap length l))
+  same_polygons (xs ∷ xss) (ys ∷ yss) l e =
+      let k = parts (map f xs) (map g ys) (map f (joined xss)) (map g (joined yss))
+      (length-map xs f ∙ ap (λ z. get_or z 0 0) l ∙ sym (length-map ys g))
+      (sym (map-append f xs (joined xss)) ∙ e ∙ map-append g ys (joined yss)) in
+      ap₂ (λ a b. a ∷ b) k.0 (same_polygons xss yss (ap (drop 1) l) k.1)
+
+  -- lists of one shape in which the same stands are the same
+  pub same_features : (xs : List (List (List A))) (ys : List (List (List B)))
+      → map (map length) xs ≡ map (map length) ys
+      → map f (all_rings xs) ≡ map g (all_rings ys) → map (map (map f)) xs ≡ map (map (map g)) ys
+  same_features [] [] l e = refl
+  same_features [] (y ∷ ys) l e = absurd (omega (arith, ap length l))
+  same_features (x ∷ xs) [] l e = absurd (omega (arith, ap length l))
+  same_features (x ∷ xs) (y ∷ ys) l e =
+      let first : map length x ≡ map length y = ap (λ z. get_or z 0 []) l in
+      let k = parts (map f (joined x)) (map g (joined y)) (map f (all_rings xs)) (map g (all_rings ys))
+      (length-map (joined x) f ∙ as_long x y first ∙ sym (length-map (joined y) g))
+      (sym (map-append f (joined x) (all_rings xs)) ∙ e ∙ map-append g (joined y) (all_rings ys)) in
+      ap₂ (λ a b. a ∷ b) (same_polygons x y first k.0) (same_features xs ys (ap (drop 1) l) k.1)

@@ -1,7 +1,0 @@
-use Rattle.std.proofs.Common.{◌≡◌, take}
-use Rattle.std.specs.List.{flat_map}
-use Rattle.shared_arcs.specs.Ways.{both_parts}
-use Rattle.shared_arcs.proofs.cutting.doubled.Given as goal
-
-abbrev pub invariant-loop-u : goal.invariant-loop-u
-invariant-loop-u g l = l.more.items ≡ flat_map (both_parts l.i l.n) (take l.u-index l.uses)

@@ -1,9 +1,0 @@
-use Rattle.std.proofs.Common.{ℕ, Contains, take}
-use Rattle.shared_arcs.specs.Stores.{stand_at, ListsMore}
-use Rattle.shared_arcs.proofs.editing.list_arcs.Given as goal
-
-abbrev pub invariant-loop-i : goal.invariant-loop-i
-invariant-loop-i g l = record {
-  kept : ListsMore l.fn.stands.items l.stands.items;
-  listed : (i : ℕ) → Contains (take l.i-index l.among) i → Contains (stand_at l.stands.items l.k) i;
-}

@@ -1,7 +1,0 @@
-use Rattle.std.proofs.Common.{◌≡◌, false, take}
-use Rattle.shared_arcs.specs.Stores.{uses_arc}
-use Rattle.shared_arcs.proofs.laying.has_use.Given as goal
-
--- no use so far is of the arc
-abbrev pub invariant-loop-u : goal.invariant-loop-u
-invariant-loop-u l = record { none : uses_arc l.i (take l.u-index l.uses) ≡ false }

@@ -1,8 +1,0 @@
-use Rattle.std.proofs.Common.{ℕ, ◌≡◌, take, Contains}
-use Rattle.slab.specs.Slab.{get}
-use Rattle.shared_arcs.specs.Ways.{times, links}
-use Rattle.shared_arcs.specs.Stores.{path_in}
-use Rattle.shared_arcs.proofs.place.find_among.Given as goal
-
-abbrev pub invariant-loop-arc : goal.invariant-loop-arc
-invariant-loop-arc g l = (j : ℕ) → Contains (take l.arc-index l.among) j → times l.a l.b (links (path_in (get l.arcs j))) ≡ 0

@@ -1,6 +1,0 @@
-use Rattle.std.proofs.Common.{◌≡◌, take}
-use Rattle.shared_arcs.specs.Ways.{times, links}
-use Rattle.shared_arcs.proofs.place.place_in.Given as goal
-
-abbrev pub invariant-loop-at : goal.invariant-loop-at
-invariant-loop-at l = times l.a l.b (links (take l.at l.path)) ≡ 0

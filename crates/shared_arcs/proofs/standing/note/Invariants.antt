@@ -1,9 +1,0 @@
-use Rattle.std.proofs.Common.{ℕ, Contains, take}
-use Rattle.shared_arcs.specs.Stores.{stand_at, ListsMore}
-use Rattle.shared_arcs.proofs.standing.note.Given as goal
-
-abbrev pub invariant-loop-k : goal.invariant-loop-k
-invariant-loop-k g l = record {
-  kept : ListsMore l.fn.stands.items l.stands.items;
-  noted : (k : ℕ) → Contains (take l.k-index l.keys) k → Contains (stand_at l.stands.items k) l.n;
-}

@@ -1,5 +1,0 @@
-use Rattle.shared_arcs.specs.Stores.{UnlistsOff}
-use Rattle.shared_arcs.proofs.standing.unlist_moved.Given as goal
-
-abbrev pub invariant-loop-k : goal.invariant-loop-k
-invariant-loop-k g l = UnlistsOff l.path l.fn.stands.items l.stands.items l.i

@@ -1,6 +1,0 @@
-use Rattle.std.proofs.Common.{sym, ◌∙◌}
-use Rattle.shared_arcs.proofs.StandLemmas.{unlists_off}
-use Rattle.shared_arcs.proofs.standing.unlist_off.Goals as goal
-
-pub returns : goal.returns
-returns g c = unlists_off c.args.path.now c.args.stands.now.items c.unlist.new.stands.items c.args.k c.args.i (sym c.has_key.ensures ∙ c.if-has_key.false) c.unlist.ensures.arc c.unlist.ensures.others

@@ -1,7 +1,0 @@
-use Rattle.std.proofs.Common.{sym, subst, Contains}
-use Rattle.shared_arcs.specs.Stores.{path_of}
-use Rattle.shared_arcs.proofs.Finding.{none_unless, if_none_map}
-use Rattle.shared_arcs.proofs.tables.Tables.find.Goals as goal
-
-pub returns-clause-none : goal.returns-clause-none
-returns-clause-none g c = if_none_map c.find_among.result (λ none j. none_unless c.args.a c.args.b (path_of c.args.self.now j) (λ m. none j (subst (λ z. Contains z j) (sym c.arcs_at.ensures) (c.requires.listed j c.args.a m)))) c.find_among.ensures.none

@@ -1,0 +1,26 @@
+//! Tests of the store: the same edits beside those of plain rings, growths that are refused, how arcs
+//! are cut, and how few pairs of segments an edit tests.
+#![tactic(auto)]
+
+#[cfg(test)]
+mod columbus;
+#[cfg(test)]
+mod compared;
+#[cfg(test)]
+mod copies;
+#[cfg(test)]
+mod counted;
+#[cfg(test)]
+mod cuts;
+#[cfg(test)]
+mod made;
+#[cfg(test)]
+mod opened;
+#[cfg(test)]
+mod refusals;
+#[cfg(test)]
+mod refused_calls;
+#[cfg(test)]
+mod shared;
+#[cfg(test)]
+mod squares;

@@ -1,0 +1,26 @@
+//! Real maps.
+use arc_store::Map;
+use segment_index::ListIndex;
+use std::alloc::Global;
+use std::process::Abort;
+use topo_reader::read;
+
+// two squares with a common side
+const SQUARES: &[u8] =
+    b"{\"type\":\"Topology\",\"objects\":{\"m\":{\"type\":\"GeometryCollection\",\"geometries\":[{\"type\":\"Polygon\",\"arcs\":[[0]]},{\"type\":\"Polygon\",\"arcs\":[[1]]}]}},\"arcs\":[[[0,0],[10,0],[10,10],[0,10],[0,0]],[[10,0],[20,0],[20,10],[10,10],[10,0]]]}";
+
+#[test]
+fn two_squares(rt: HostRuntime) {
+    let alloc = rt.alloc();
+    match read(alloc, alloc, SQUARES) {
+        Ok(raw) => match Map::build(alloc, raw, ListIndex::new(alloc)) {
+            Ok(map) => {
+                assert_eq!(rt; map.vertex_count(), 6);
+                assert_eq!(rt; map.segment_count(), 7);
+                assert_eq!(rt; map.position_count(), 8);
+            }
+            Err(_) => panic!(rt; "it is planar"),
+        },
+        Err(_) => panic!(rt; "the text opens"),
+    }
+}

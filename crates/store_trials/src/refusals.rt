@@ -1,0 +1,276 @@
+//! Edits in which each growth is refused in turn: nothing has changed then, and the edit has its
+//! usual answer when it is made again.
+use crate::compared::{Edit, answer, at, has_rings, plain_map};
+use arc_store::{EditFault, Map};
+use edit_vertex::thin;
+use grid_geometry::{Pos, Rect, Seg};
+use plain_rings::PlainMap;
+use refusing_allocator::Refusing;
+use segment_index::{GridIndex, SegIndex};
+use std::alloc::{Allocator, Global};
+use std::process::Abort;
+use std::test::Fail;
+use topo_reader::read;
+
+/// More than the growths of any run below.
+pub(crate) const MANY: u64 = 2000;
+
+// two neighbours, and one that shares a long border with both; a junction has three neighbours
+pub(crate) const THREE: &str =
+    "{\"type\":\"Topology\",\"objects\":{\"l\":{\"type\":\"GeometryCollection\",\"geometries\":[{\"type\":\"Polygon\",\"arcs\":[[0]]},{\"type\":\"Polygon\",\"arcs\":[[1]]},{\"type\":\"Polygon\",\"arcs\":[[2]]}]}},\"arcs\":[[[0,0],[10,0],[10,5],[10,10],[0,10],[0,0]],[[10,0],[20,0],[20,10],[10,10],[10,5],[10,0]],[[0,0],[0,-10],[20,-10],[20,0],[10,0],[0,0]]]}";
+
+// two squares with a common side
+const TWO: &str =
+    "{\"type\":\"Topology\",\"objects\":{\"l\":{\"type\":\"GeometryCollection\",\"geometries\":[{\"type\":\"Polygon\",\"arcs\":[[0]]},{\"type\":\"Polygon\",\"arcs\":[[1]]}]}},\"arcs\":[[[0,0],[10,0],[10,10],[0,10],[0,0]],[[10,0],[20,0],[20,10],[10,10],[10,0]]]}";
+
+/// How many rings have the segment from each position of a ring to the next, one after the other.
+fn uses_along<I: SegIndex, A: Allocator + Copy>(
+    alloc: Global,
+    map: &Map<'_, I, A>,
+    ring: &[Pos],
+) -> Result<Vec<usize>, Fail> {
+    let mut uses = Vec::new(alloc);
+    for at in 1..ring.len() {
+        if let Some(s) = Seg::new(ring[at - 1], ring[at]) {
+            uses.push(map.uses(s))?;
+        }
+    }
+    Ok(uses)
+}
+
+/// How many rings have each segment but the last of each ring.
+fn all_uses<I: SegIndex, A: Allocator + Copy>(
+    alloc: Global,
+    map: &Map<'_, I, A>,
+    plain: &PlainMap<'_>,
+) -> Result<Vec<Vec<usize>>, Fail> {
+    let mut uses = Vec::new(alloc);
+    for polygons in plain.polygons() {
+        for rings in polygons.as_slice() {
+            for ring in rings.as_slice() {
+                uses.push(uses_along(alloc, map, ring.as_slice())?)?;
+            }
+        }
+    }
+    Ok(uses)
+}
+
+/// The map of the text, in a heap that may refuse a growth; `None` where it did.
+pub(crate) fn refused_map<A: Allocator + Copy>(
+    heap: A,
+    alloc: Global,
+    text: &'static str,
+) -> Option<Map<'static, GridIndex<A>, A>> {
+    let raw = match read(heap, alloc, text.as_bytes()) {
+        Ok(raw) => raw,
+        Err(_) => return None,
+    };
+    let index = match GridIndex::new(heap, Rect::new(0, -10, 20, 10)) {
+        Ok(index) => index,
+        Err(_) => return None,
+    };
+    match Map::build(heap, raw, index) {
+        Ok(map) => Some(map),
+        Err(_) => None,
+    }
+}
+
+/// What an edit did whose growth of some number was refused.
+#[derive(Clone, Copy, Debug, PartialEq, Eq)]
+pub(crate) enum Outcome {
+    /// There was no map to edit.
+    NoMap,
+    /// The edit was refused for want of memory.
+    Refused,
+    /// No growth was refused.
+    Usual,
+}
+
+/// What a map has beside its rings.
+#[derive(Drop)]
+pub(crate) struct Counts {
+    uses: Vec<Vec<usize>>,
+    segments: usize,
+    positions: usize,
+}
+
+/// What the map has, where it has the rings of the plain one.
+pub(crate) fn counts_of<I: SegIndex, A: Allocator + Copy>(
+    alloc: Global,
+    map: &Map<'_, I, A>,
+    plain: &PlainMap<'_>,
+) -> Result<Counts, Fail> {
+    Ok(Counts {
+        uses: all_uses(alloc, map, plain)?,
+        segments: map.segment_count(),
+        positions: map.position_count(),
+    })
+}
+
+/// Nothing of the map has changed.
+pub(crate) fn stays<R: Abort, I: SegIndex, A: Allocator + Copy>(
+    rt: &R,
+    alloc: Global,
+    map: &Map<'_, I, A>,
+    plain: &PlainMap<'_>,
+    before: &Counts,
+) -> Result<(), Fail> {
+    assert!(rt; has_rings(map, plain.polygons()));
+    assert!(rt; all_uses(alloc, map, plain)? == before.uses);
+    assert_eq!(rt; map.segment_count(), before.segments);
+    assert_eq!(rt; map.position_count(), before.positions);
+    assert_eq!(rt; map.next_number(), 3);
+    assert_eq!(rt; map.vertices()?.len(), map.vertex_count());
+    Ok(())
+}
+
+/// The edit of a map whose memory is refused once, and its usual answer when it is made again.
+fn edit_twice<R: Abort, I: SegIndex, A: Allocator + Copy>(
+    rt: &R,
+    alloc: Global,
+    map: &mut Map<'_, I, A>,
+    edit: &Edit,
+    before: &PlainMap<'_>,
+    usual: u64,
+) -> Result<Outcome, Fail> {
+    let counts = counts_of(alloc, map, before)?;
+    match answer(map, *edit) {
+        Ok(_) => Ok(Outcome::Usual),
+        Err(EditFault::OutOfMemory) => {
+            stays(rt, alloc, map, before, &counts)?;
+            let again = answer(map, *edit);
+            assert_eq!(rt; again, Ok(usual));
+            Ok(Outcome::Refused)
+        }
+        Err(_) => panic!(rt; "no other refusal"),
+    }
+}
+
+/// The edit, where the growth of this number is refused.
+fn refuse<R: Abort>(
+    rt: &R,
+    alloc: Global,
+    edit: &Edit,
+    before: &PlainMap<'_>,
+    after: &PlainMap<'_>,
+    usual: u64,
+    nth: u64,
+) -> Result<Outcome, Fail> {
+    let heap = Refusing::new(alloc, nth);
+    let Some(mut map) = refused_map(&heap, alloc, THREE) else {
+        return Ok(Outcome::NoMap);
+    };
+    if heap.was_refused() {
+        return Ok(Outcome::NoMap);
+    }
+    let outcome = edit_twice(rt, alloc, &mut map, edit, before, usual)?;
+    assert!(rt; heap.was_refused() == (outcome == Outcome::Refused));
+    assert!(rt;
+        has_rings(&map, after.polygons()),
+        "{edit:?} with growth {nth} refused once"
+    );
+    Ok(outcome)
+}
+
+/// The edit, with each growth refused in turn. Gives how many were.
+fn refuse_each<R: Abort>(
+    rt: &R,
+    alloc: Global,
+    edit: &Edit,
+    before: &PlainMap<'_>,
+    after: &PlainMap<'_>,
+    usual: u64,
+) -> Result<u64, Fail> {
+    let mut refused = 0u64;
+    for nth in 1..MANY {
+        match refuse(rt, alloc, edit, before, after, usual, nth)? {
+            Outcome::NoMap => (),
+            Outcome::Refused => refused = refused.wrapping_add(1),
+            Outcome::Usual => return Ok(refused),
+        }
+    }
+    panic!(rt; "the edit ends");
+}
+
+/// What the edit is answered in plain rings.
+fn plain_answer(plain: &mut PlainMap<'_>, edit: &Edit) -> Option<u64> {
+    let answer = match edit {
+        Edit::Move(p, q) => plain.move_vertex(*p, *q),
+        Edit::Insert(a, b, q) => plain.insert_vertex(*a, *b, *q),
+        Edit::Remove(p) => plain.remove_vertex(*p),
+        Edit::Thin(t) => return plain.thin(i128::from(*t)).ok(),
+    };
+    match answer {
+        Ok(()) => Some(0),
+        Err(_) => None,
+    }
+}
+
+/// The edit is accepted, and each growth of it refused in turn.
+fn refuse_edit<R: Abort>(rt: &R, alloc: Global, edit: &Edit) -> Result<(), Fail> {
+    let before = plain_map(rt, alloc, THREE);
+    let mut after = plain_map(rt, alloc, THREE);
+    let Some(usual) = plain_answer(&mut after, edit) else {
+        panic!(rt; "the edit is accepted");
+    };
+    let refused = refuse_each(rt, alloc, edit, &before, &after, usual)?;
+    assert!(rt; 3 < refused);
+    Ok(())
+}
+
+#[test]
+fn a_refused_growth_changes_nothing(rt: HostRuntime) -> Result<(), Fail> {
+    let alloc = rt.alloc();
+    let (corner, middle) = (at(&rt, 10, 0), at(&rt, 10, 5));
+    let new = at(&rt, 12, 2);
+    refuse_edit(&rt, alloc, &Edit::Move(corner, new))?;
+    refuse_edit(&rt, alloc, &Edit::Insert(corner, middle, new))?;
+    refuse_edit(&rt, alloc, &Edit::Remove(middle))?;
+    refuse_edit(&rt, alloc, &Edit::Thin(0))
+}
+
+/// A thinning of a map whose memory may be refused once: how many vertices had gone when it was;
+/// `None` where it was not.
+fn thin_twice<R: Abort, I: SegIndex, A: Allocator + Copy>(
+    rt: &R,
+    map: &mut Map<'_, I, A>,
+    after: &PlainMap<'_>,
+) -> Option<usize> {
+    let before = map.vertex_count();
+    let ended = thin(map, 100);
+    let gone = before.wrapping_sub(map.vertex_count());
+    if ended.is_ok() {
+        assert_eq!(rt; gone, 2);
+        return None;
+    }
+    assert_eq!(rt; thin(map, 100), Ok(2u64.wrapping_sub(gone as u64)));
+    assert!(rt; has_rings(map, after.polygons()));
+    Some(gone)
+}
+
+/// A thinning whose growth of this number is refused; `None` too where there was no map.
+fn cut_short<R: Abort>(rt: &R, alloc: Global, after: &PlainMap<'_>, nth: u64) -> Option<usize> {
+    let heap = Refusing::new(alloc, nth);
+    let mut map = refused_map(&heap, alloc, TWO)?;
+    if heap.was_refused() {
+        return None;
+    }
+    thin_twice(rt, &mut map, after)
+}
+
+#[test]
+fn a_thinning_keeps_what_it_left_out(rt: HostRuntime) -> Result<(), Fail> {
+    let alloc = rt.alloc();
+    let mut after = plain_map(&rt, alloc, TWO);
+    assert_eq!(rt; plain_answer(&mut after, &Edit::Thin(100)), Some(2));
+    let (mut none, mut one) = (false, false);
+    for nth in 1..400 {
+        match cut_short(&rt, alloc, &after, nth) {
+            Some(0) => none = true,
+            Some(1) => one = true,
+            _ => (),
+        }
+    }
+    assert!(rt; none && one);
+    Ok(())
+}

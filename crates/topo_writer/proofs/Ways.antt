@@ -1,0 +1,216 @@
+-- A way that is cut while one goes along it is cut as the definition says, and arcs that are found by
+-- an edge are those that are found whole.
+use Rattle.std.proofs.Common.{◌≡◌, ℕ, ◌+◌, ◌-◌, ◌≤◌, Bool, true, false, refl, sym, ap, ap₂, ◌∙◌}
+use Rattle.std.proofs.Common.{subst, cond, List, [], ◌∷◌, ◌++◌, ◌||◌, arith, length, reverse}
+use Rattle.std.proofs.Common.{append_assoc, Option, Some, None, ℤ, pos, negsuc, map, append-nil}
+use Rattle.std.specs.Prelude.{is_some, unwrap_or}
+use Rattle.std.specs.List.{AllByRecursion}
+use Rattle.std.proofs.lemmas.Bool.{false≢true}
+use Rattle.std.proofs.lemmas.List.{reverse-reverse, get_or-reverse, length-reverse}
+use Rattle.grid_geometry.specs.Position.{Position, position, position_eq}
+use Rattle.ring_machine.specs.Ring.{edge_eq}
+use Rattle.ring_machine.proofs.Order.{and_both, position_eq-true}
+use Rattle.ring_machine.proofs.Pieces.{IsPiece, same_piece, reversed}
+use Rattle.map_text.specs.Arcs.{led_from, cut_way, are_equal, index_from, is_arc, with_piece}
+use Rattle.map_text.specs.Arcs.{with_pieces, index_of}
+use Rattle.map_text.proofs.Indexed.{becomes_arc}
+use Rattle.map_text.proofs.Lists.{each-append}
+use Rattle.map_text.proofs.OnceEach.{are_equal-true, are_equal-refl}
+use Rattle.topo_writer.specs.Found.{first_edge, last_edge, found_from, found, with_found, Fits, at_place}
+use Rattle.topo_writer.specs.Ways.{cut_after, all_found, indexes_found, FitAll}
+use Rattle.topo_writer.proofs.FoundLaws.{edge_eq-refl}
+
+-- ---- cutting
+
+abbrev put_before : List Position → List (List Position) → List (List Position)
+put_before us [] = []
+put_before us (ps ∷ pss) = (us ++ ps) ∷ pss
+
+none_before : (pss : List (List Position)) → put_before [] pss ≡ pss
+none_before [] = refl
+none_before (ps ∷ pss) = refl
+
+before_longer : (us : List Position) (p : Position) (pss : List (List Position)) → put_before (us ++ p ∷ []) pss ≡ put_before us (led_from p pss)
+before_longer us p [] = refl
+before_longer us p (ps ∷ pss) = ap (λ z. z ∷ pss) (append_assoc us (p ∷ []) ps)
+
+cut_after_is : (j : Position → Bool) (us : List Position) (p : Position) (ws : List Position) → cut_after j (us ++ p ∷ []) ws ≡ put_before us (cut_way j p ws)
+cut_after_is j us p [] = refl
+cut_after_is j us p (q ∷ []) = ap (λ z. z ∷ []) (append_assoc us (p ∷ []) (q ∷ []))
+cut_after_is j us p (q ∷ r ∷ rs) = by (j q) (cut_after_is j [] q (r ∷ rs)) (cut_after_is j (us ++ p ∷ []) q (r ∷ rs))
+  where
+    by : (b : Bool) → cut_after j (q ∷ []) (r ∷ rs) ≡ put_before [] (cut_way j q (r ∷ rs)) → cut_after j ((us ++ p ∷ []) ++ q ∷ []) (r ∷ rs) ≡ put_before (us ++ p ∷ []) (cut_way j q (r ∷ rs))
+        → cond b (((us ++ p ∷ []) ++ q ∷ []) ∷ cut_after j (q ∷ []) (r ∷ rs)) (cut_after j ((us ++ p ∷ []) ++ q ∷ []) (r ∷ rs)) ≡ put_before us (cond b ((p ∷ q ∷ []) ∷ cut_way j q (r ∷ rs)) (led_from p (cut_way j q (r ∷ rs))))
+    by true h k = ap₂ (λ y z. y ∷ z) (append_assoc us (p ∷ []) (q ∷ [])) (h ∙ none_before (cut_way j q (r ∷ rs)))
+    by false h k = k ∙ before_longer us p (cut_way j q (r ∷ rs))
+
+pub cut_way_is : (j : Position → Bool) (p : Position) (ws : List Position) → cut_after j (p ∷ []) ws ≡ cut_way j p ws
+cut_way_is j p ws = cut_after_is j [] p ws ∙ none_before (cut_way j p ws)
+
+-- ---- finding
+
+same_bool : (b c : Bool) → (b ≡ true → c ≡ true) → (c ≡ true → b ≡ true) → b ≡ c
+same_bool true c f g = sym (f refl)
+same_bool false true f g = g refl
+same_bool false false f g = refl
+
+-- two positions or more
+abbrev pub IsLong : List Position → Type 0
+IsLong [] = ⊥
+IsLong (p ∷ []) = ⊥
+IsLong (p ∷ q ∷ ps) = Unit {0}
+
+module _ (k : Position → Bool) (next : Position → Position → Position) where
+  -- of two pieces that begin alike
+  same_first : (a ps : List Position) → IsLong a → IsLong ps → IsPiece k next a → IsPiece k next ps → edge_eq (first_edge a) (first_edge ps) ≡ are_equal a ps
+  same_first [] ps la lp ia ip = absurd la
+  same_first (p ∷ []) ps la lp ia ip = absurd la
+  same_first (p ∷ q ∷ as') [] la lp ia ip = absurd lp
+  same_first (p ∷ q ∷ as') (r ∷ []) la lp ia ip = absurd lp
+  same_first (p ∷ q ∷ as') (r ∷ s ∷ ps) la lp ia ip = same_bool _ _
+      (λ h. let e = and_both (position_eq p r) (position_eq q s) h in
+      let x = position_eq-true p r e.0 in
+      let y = position_eq-true q s e.1 in
+      let is : r ∷ s ∷ ps ≡ p ∷ q ∷ ps = ap₂ (λ u v. u ∷ v ∷ ps) (sym x) (sym y) in
+      ap (are_equal (p ∷ q ∷ as')) (is ∙ sym (same_piece k next [] p q as' [] ps ia (subst (IsPiece k next) is ip))) ∙ are_equal-refl (p ∷ q ∷ as'))
+      (λ h. ap (λ z. edge_eq (p, q) (first_edge z)) (sym (are_equal-true (p ∷ q ∷ as') (r ∷ s ∷ ps) h)) ∙ edge_eq-refl (p, q))
+
+  pub record Border (a : List Position) : Type 0 where
+    pub piece : IsPiece k next a
+    pub long : IsLong a
+    pub back_long : IsLong (reverse a)
+    pub last_is : last_edge a ≡ first_edge (reverse a)
+
+  pub found_is : (n : ℕ) (arcs : List (List Position)) (ps : List Position) → AllByRecursion Border arcs → Border ps → found_from n arcs (first_edge ps) ≡ index_from n arcs ps
+  found_is n [] ps h b = refl
+  found_is n (a ∷ arcs) ps h b =
+      let one = same_first a ps h.0.long b.long h.0.piece b.piece in
+      let two = ap (λ e. edge_eq e (first_edge ps)) h.0.last_is ∙ same_first (reverse a) ps h.0.back_long b.long (reversed k next a h.0.piece) b.piece in
+      ap₂ (λ x y. cond x (Some (pos n)) (cond y (Some (negsuc n)) (found_from (n + 1) arcs (first_edge ps)))) one two
+      ∙ ap (λ z. cond (are_equal a ps) (Some (pos n)) (cond (are_equal (reverse a) ps) (Some (negsuc n)) z)) (found_is (n + 1) arcs ps h.1 b)
+
+  some_is : (n : ℕ) (arcs : List (List Position)) (ps : List Position) → is_some (index_from n arcs ps) ≡ is_arc arcs ps
+  some_is n [] ps = refl
+  some_is n (a ∷ arcs) ps = by (are_equal a ps) (are_equal (reverse a) ps) (some_is (n + 1) arcs ps)
+    where
+      by : (b c : Bool) → is_some (index_from (n + 1) arcs ps) ≡ is_arc arcs ps → is_some (cond b (Some (pos n)) (cond c (Some (negsuc n)) (index_from (n + 1) arcs ps))) ≡ ((b || c) || is_arc arcs ps)
+      by true c h = refl
+      by false true h = refl
+      by false false h = h
+
+  pub with_found_is : (arcs : List (List Position)) (ps : List Position) → AllByRecursion Border arcs → Border ps → with_found arcs ps ≡ with_piece arcs ps
+  with_found_is arcs ps h b = ap (λ t. cond t arcs (arcs ++ ps ∷ [])) (ap is_some (found_is 0 arcs ps h b) ∙ some_is 0 arcs ps)
+
+  -- a path in reverse is an arc where the path is
+  reverse_eq : (a ps : List Position) → are_equal a (reverse ps) ≡ are_equal (reverse a) ps
+  reverse_eq a ps = same_bool _ _
+      (λ h. ap (λ z. are_equal z ps) (ap reverse (are_equal-true a (reverse ps) h) ∙ reverse-reverse ps) ∙ are_equal-refl ps)
+      (λ h. ap (λ z. are_equal z (reverse ps)) (sym (reverse-reverse a) ∙ ap reverse (are_equal-true (reverse a) ps h)) ∙ are_equal-refl (reverse ps))
+
+  or_swap : (b c : Bool) → (b || c) ≡ (c || b)
+  or_swap true true = refl
+  or_swap true false = refl
+  or_swap false true = refl
+  or_swap false false = refl
+
+  reverse_arc : (arcs : List (List Position)) (ps : List Position) → is_arc arcs (reverse ps) ≡ is_arc arcs ps
+  reverse_arc [] ps = refl
+  reverse_arc (a ∷ arcs) ps =
+      let other : are_equal (reverse a) (reverse ps) ≡ are_equal a ps = reverse_eq (reverse a) ps ∙ ap (λ z. are_equal z ps) (reverse-reverse a) in
+      ap₂ (λ x y. x || y) (ap₂ (λ x y. x || y) (reverse_eq a ps) other ∙ or_swap (are_equal (reverse a) ps) (are_equal a ps)) (reverse_arc arcs ps)
+
+  none_of : (o : Option ℤ) → is_some o ≡ false → o ≡ None
+  none_of None h = refl
+  none_of (Some z) h = absurd (false≢true (sym h))
+
+  pub fits : (arcs : List (List Position)) (ps : List Position) → AllByRecursion Border arcs → Border ps → Border (reverse ps) → 2 ≤ length ps → are_equal ps (reverse ps) ≡ false → Fits arcs ps
+  fits arcs ps h b r l n = record {
+    long = l;
+    apart = ap (edge_eq (first_edge ps)) b.last_is ∙ same_first ps (reverse ps) b.long r.long b.piece r.piece ∙ n;
+    both = λ none.
+        let e : is_arc arcs ps ≡ false = sym (some_is 0 arcs ps) ∙ ap is_some (sym (found_is 0 arcs ps h b) ∙ none) in
+        ap (found arcs) b.last_is ∙ none_of (found arcs (first_edge (reverse ps))) (ap is_some (found_is 0 arcs (reverse ps) h r) ∙ some_is 0 arcs (reverse ps) ∙ reverse_arc arcs ps ∙ e);
+  }
+
+  -- ---- all pieces, one after another
+
+  index_kept : (n : ℕ) (arcs new : List (List Position)) (ps : List Position) → is_arc arcs ps ≡ true → index_from n (arcs ++ new) ps ≡ index_from n arcs ps
+  index_kept n [] new ps h = absurd (false≢true h)
+  index_kept n (a ∷ arcs) new ps h = by (are_equal a ps) (are_equal (reverse a) ps) h (index_kept (n + 1) arcs new ps)
+    where
+      by : (b c : Bool) → ((b || c) || is_arc arcs ps) ≡ true → (is_arc arcs ps ≡ true → index_from (n + 1) (arcs ++ new) ps ≡ index_from (n + 1) arcs ps)
+          → cond b (Some (pos n)) (cond c (Some (negsuc n)) (index_from (n + 1) (arcs ++ new) ps)) ≡ cond b (Some (pos n)) (cond c (Some (negsuc n)) (index_from (n + 1) arcs ps))
+      by true c t f = refl
+      by false true t f = refl
+      by false false t f = f t
+
+  with_piece_new : (arcs : List (List Position)) (ps : List Position) → (new : List (List Position)) × (with_piece arcs ps ≡ arcs ++ new)
+  with_piece_new arcs ps = by (is_arc arcs ps)
+    where
+      by : (b : Bool) → (new : List (List Position)) × (cond b arcs (arcs ++ ps ∷ []) ≡ arcs ++ new)
+      by true = ([], sym (append-nil arcs))
+      by false = (ps ∷ [], refl)
+
+  with_pieces_new : (arcs pss : List (List Position)) → (new : List (List Position)) × (with_pieces arcs pss ≡ arcs ++ new)
+  with_pieces_new arcs [] = ([], sym (append-nil arcs))
+  with_pieces_new arcs (ps ∷ pss) =
+      let w = with_piece_new arcs ps in
+      let r = with_pieces_new (with_piece arcs ps) pss in
+      (w.0 ++ r.0, r.1 ∙ ap (λ z. z ++ r.0) w.1 ∙ append_assoc arcs w.0 r.0)
+
+  borders_more : (arcs : List (List Position)) (ps : List Position) → AllByRecursion Border arcs → Border ps → AllByRecursion Border (with_piece arcs ps)
+  borders_more arcs ps h b = by (is_arc arcs ps)
+    where
+      by : (t : Bool) → AllByRecursion Border (cond t arcs (arcs ++ ps ∷ []))
+      by true = h
+      by false = each-append Border arcs (ps ∷ []) h (b, tt)
+
+  abbrev or_zero : Option ℤ → ℤ
+  or_zero o = unwrap_or o (pos 0)
+
+  -- what goes on as the pieces come is what the definition says of them all; later arcs leave the indexes as they are
+  pub streamed : (arcs pss : List (List Position)) → AllByRecursion Border arcs → AllByRecursion Border pss → (all_found arcs pss ≡ with_pieces arcs pss) × (indexes_found arcs pss ≡ map (index_of (with_pieces arcs pss)) pss)
+  streamed arcs [] h b = (refl, refl)
+  streamed arcs (ps ∷ pss) h b =
+      let w = with_found_is arcs ps h b.0 in
+      let h' = borders_more arcs ps h b.0 in
+      let r = streamed (with_piece arcs ps) pss h' b.1 in
+      let new = with_pieces_new (with_piece arcs ps) pss in
+      let one : or_zero (found (with_piece arcs ps) (first_edge ps)) ≡ index_of (with_pieces (with_piece arcs ps) pss) ps =
+      ap or_zero (found_is 0 (with_piece arcs ps) ps h' b.0 ∙ sym (ap (λ z. index_from 0 z ps) new.1 ∙ index_kept 0 (with_piece arcs ps) new.0 ps (becomes_arc arcs ps))) in
+      (ap (λ z. all_found z pss) w ∙ r.0, ap (λ z. or_zero (found z (first_edge ps)) ∷ indexes_found z pss) w ∙ ap₂ (λ y z. y ∷ z) one r.1)
+
+  long_of : (ps : List Position) → 2 ≤ length ps → IsLong ps
+  long_of [] h = absurd (omega arith)
+  long_of (p ∷ []) h = absurd (omega arith)
+  long_of (p ∷ q ∷ ps) h = tt
+
+  pub border_of : (ps : List Position) → 2 ≤ length ps → IsPiece k next ps → Border ps
+  border_of ps l i = record {
+    piece = i;
+    long = long_of ps l;
+    back_long = long_of (reverse ps) (omega (arith, l, length-reverse ps));
+    last_is =
+        let a = get_or-reverse ps 0 (position (pos 0) (pos 0)) (omega arith) in
+        let b = get_or-reverse ps 1 (position (pos 0) (pos 0)) (omega arith) in
+        let m : length ps - 1 - 0 ≡ length ps - 1 = omega arith in
+        let n : length ps - 1 - 1 ≡ length ps - 2 = omega arith in
+        ap₂ (λ x y. (x, y)) (ap (at_place ps) (sym m) ∙ sym a) (ap (at_place ps) (sym n) ∙ sym b);
+  }
+
+  -- a path that is not its own reverse
+  pub record Whole (ps : List Position) : Type 0 where
+    pub long : 2 ≤ length ps
+    pub piece : IsPiece k next ps
+    pub one_way : are_equal ps (reverse ps) ≡ false
+
+  all_borders : (pss : List (List Position)) → AllByRecursion Whole pss → AllByRecursion Border pss
+  all_borders [] h = tt
+  all_borders (ps ∷ pss) h = (border_of ps h.0.long h.0.piece, all_borders pss h.1)
+
+  pub fit_all : (arcs pss : List (List Position)) → AllByRecursion Border arcs → AllByRecursion Whole pss → FitAll arcs pss
+  fit_all arcs [] h b = tt
+  fit_all arcs (ps ∷ pss) h b =
+      let p = border_of ps b.0.long b.0.piece in
+      let r = border_of (reverse ps) (omega (arith, b.0.long, length-reverse ps)) (reversed k next ps b.0.piece) in
+      (fits arcs ps h p r b.0.long b.0.one_way, fit_all (with_found arcs ps) pss (subst (AllByRecursion Border) (sym (with_found_is arcs ps h p)) (borders_more arcs ps h p)) b.1)

@@ -1,0 +1,7 @@
+use Rattle.std.proofs.Common.{◌≡◌, ◌++◌, map, take}
+use Rattle.topo_outline.specs.Views.{view_kept}
+use Rattle.map_text.specs.Text.{further, member_text}
+use Rattle.topo_writer.proofs.members.push_kept.Given as goal
+
+abbrev pub invariant-loop-member : goal.invariant-loop-member
+invariant-loop-member g l = l.text.items ≡ l.fn.text.items ++ further (map member_text (map view_kept (take l.member-index l.members)))

@@ -1,0 +1,44 @@
+use device_io::Failed;
+use std::alloc::{AllocError, AllocFailed};
+use thiserror::Error;
+
+/// Why a text was not written whole.
+#[derive(Clone, Copy, Debug, PartialEq, Eq, Error)]
+pub enum WriteFault {
+    /// The writer failed.
+    #[error("the writer failed")]
+    Device,
+    /// A growth was refused.
+    #[error("out of memory")]
+    OutOfMemory,
+}
+
+impl From<Failed> for WriteFault {
+    ghost use Rattle.topo_writer.specs.declared.fault.WriteFault.TheVariants.{Device};
+
+    ghost from_gives = { λ _ e. e ≡ Device };
+
+    fn from(_e: Failed) -> WriteFault {
+        WriteFault::Device
+    }
+}
+
+impl From<AllocError> for WriteFault {
+    ghost use Rattle.topo_writer.specs.declared.fault.WriteFault.TheVariants.{OutOfMemory};
+
+    ghost from_gives = { λ _ e. e ≡ OutOfMemory };
+
+    fn from(_e: AllocError) -> WriteFault {
+        WriteFault::OutOfMemory
+    }
+}
+
+impl<T: Drop> From<AllocFailed<T>> for WriteFault {
+    ghost use Rattle.topo_writer.specs.declared.fault.WriteFault.TheVariants.{OutOfMemory};
+
+    ghost from_gives = { λ _ e. e ≡ OutOfMemory };
+
+    fn from(_e: AllocFailed<T>) -> WriteFault {
+        WriteFault::OutOfMemory
+    }
+}
