@@ -35,3 +35,4 @@ pub mod RingReads
 mod Examples
 pub mod Copied
 pub mod Listed
+pub mod Ranged
