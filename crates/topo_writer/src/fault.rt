@@ -1,3 +1,5 @@
+ghost use Rattle.std.specs.Prelude.{◌≡◌};
+
 use device_io::Failed;
 use std::alloc::{AllocError, AllocFailed};
 use thiserror::Error;
