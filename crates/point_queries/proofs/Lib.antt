@@ -1,2 +1,2 @@
-mod Shows
+pub mod Shows
 mod Rest

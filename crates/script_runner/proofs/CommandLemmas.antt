@@ -9,10 +9,10 @@ use Rattle.std.specs.Int.{FitsUnsignedBits}
 use Rattle.std.proofs.lemmas.Str.{IsUtf8-from_ascii, IsAscii-append}
 use Rattle.std.proofs.lemmas.Str.Ascii.{IsAscii-cons}
 use Rattle.grid_geometry.specs.Position.{Position, InRange}
-use Rattle.ring_machine.specs.Command.{Command, Move, Insert, Remove, Thin, Area}
+use Rattle.ring_machine.specs.Command.{Command, Move, Insert, Remove, Thin, Area, Rings, Count}
 use Rattle.script_runner.specs.Lines.{spaced, spaced_position, most_bound, Asks, Says}
 use Rattle.script_runner.specs.Words.{is_letter, EndsWord, IsSpaced, IsPlace}
-use Rattle.script_runner.specs.Commands.{command_of, IsMoveTail, IsInsertTail, IsRemoveTail, IsThinTail, IsAreaTail}
+use Rattle.script_runner.specs.Commands.{command_of, IsMoveTail, IsInsertTail, IsRemoveTail, IsThinTail, IsFeatureTail, IsAreaTail, IsRingsTail, IsCountTail}
 use Rattle.script_runner.specs.declared.lines.Command.{Command as CommandLine}
 use Rattle.script_runner.proofs.WordLemmas.{IsWord, rest_of, word-taken, word-rest, taken-rest, spaced_once, place_once, same_behind, number_ascii, fits_in_range, wide_once, wide_ascii}
 
@@ -25,25 +25,34 @@ pub is_nil : (xs : List ℕ) → (length xs == 0) ≡ true → xs ≡ []
 is_nil [] h = refl
 is_nil (x ∷ xs) h = let k : length xs + 1 ≡ 0 = grind (arith, nat_tests) in absurd (omega arith)
 
--- ---- a question for an area
+-- ---- the number of a feature, and the questions that have one
 
-area_spaced : (tail : List ℕ) (n : ℕ) → IsAreaTail tail (Area n) → IsSpaced tail (pos n) []
-area_spaced tail n h = record { whole = h.0 ∙ sym (append-nil (spaced (pos n))); ends = tt; fits = record { sfits = omega (arith, h.1) } }
+feature_spaced : (tail : List ℕ) (n : ℕ) → IsFeatureTail tail n → IsSpaced tail (pos n) []
+feature_spaced tail n h = record { whole = h.0 ∙ sym (append-nil (spaced (pos n))); ends = tt; fits = record { sfits = omega (arith, h.1) } }
 
-pub area_none : (tail : List ℕ) (c : Command) → ((z : ℤ) (rest : List ℕ) → ¬ IsSpaced tail z rest) → IsAreaTail tail c → ⊥
-area_none tail (Area n) never h = never (pos n) [] (area_spaced tail n h)
+pub feature_none : (tail : List ℕ) (n : ℕ) → ((z : ℤ) (rest : List ℕ) → ¬ IsSpaced tail z rest) → IsFeatureTail tail n → ⊥
+feature_none tail n never h = never (pos n) [] (feature_spaced tail n h)
+
+feature_once : (tail rest : List ℕ) (z : ℤ) (n : ℕ) → IsSpaced tail z rest → IsFeatureTail tail n → (z ≡ pos n) × (rest ≡ [])
+feature_once tail rest z n s h = spaced_once tail rest [] z (pos n) s (feature_spaced tail n h)
+
+pub feature_long : (tail rest : List ℕ) (z : ℤ) (n : ℕ) → IsSpaced tail z rest → (rest ≡ [] → ⊥) → IsFeatureTail tail n → ⊥
+feature_long tail rest z n s more h = more (feature_once tail rest z n s h).1
+
+pub feature_huge : (tail rest : List ℕ) (z : ℤ) (n : ℕ) → IsSpaced tail z rest → ((m : ℕ) → z ≡ pos m → m < 2 ^ 32 → ⊥) → IsFeatureTail tail n → ⊥
+feature_huge tail rest z n s out h = out n (feature_once tail rest z n s h).0 h.1
+
+pub area_none : (tail : List ℕ) (c : Command) → ((n : ℕ) → ¬ IsFeatureTail tail n) → IsAreaTail tail c → ⊥
+area_none tail (Area n) never h = never n h
 area_none tail _ never h = h
 
-pub area_once : (tail rest : List ℕ) (z : ℤ) (n : ℕ) → IsSpaced tail z rest → IsAreaTail tail (Area n) → (z ≡ pos n) × (rest ≡ [])
-area_once tail rest z n s h = spaced_once tail rest [] z (pos n) s (area_spaced tail n h)
+pub rings_none : (tail : List ℕ) (c : Command) → ((n : ℕ) → ¬ IsFeatureTail tail n) → IsRingsTail tail c → ⊥
+rings_none tail (Rings n) never h = never n h
+rings_none tail _ never h = h
 
-pub area_long : (tail rest : List ℕ) (z : ℤ) (c : Command) → IsSpaced tail z rest → (rest ≡ [] → ⊥) → IsAreaTail tail c → ⊥
-area_long tail rest z (Area n) s more h = more (area_once tail rest z n s h).1
-area_long tail rest z _ s more h = h
-
-pub area_huge : (tail rest : List ℕ) (z : ℤ) (c : Command) → IsSpaced tail z rest → ((n : ℕ) → z ≡ pos n → n < 2 ^ 32 → ⊥) → IsAreaTail tail c → ⊥
-area_huge tail rest z (Area n) s out h = out n (area_once tail rest z n s h).0 h.1
-area_huge tail rest z _ s out h = h
+pub count_long : (tail : List ℕ) (c : Command) → (tail ≡ [] → ⊥) → IsCountTail tail c → ⊥
+count_long tail Count more h = more h
+count_long tail _ more h = h
 
 pub fits_along : (n : ℕ) (y z : ℤ) → y ≡ z → z ≡ pos n → n < 2 ^ 32 → FitsUnsignedBits 32 y
 fits_along n y z e f h = subst (FitsUnsignedBits 32) (sym (e ∙ f)) h
@@ -171,7 +180,9 @@ Behind word tail c =
     (MatchBool (bytes_eq word (codes "insert")) (IsInsertTail tail c)
     (MatchBool (bytes_eq word (codes "remove")) (IsRemoveTail tail c)
     (MatchBool (bytes_eq word (codes "thin")) (IsThinTail tail c)
-    (MatchBool (bytes_eq word (codes "area")) (IsAreaTail tail c) ⊥))))
+    (MatchBool (bytes_eq word (codes "area")) (IsAreaTail tail c)
+    (MatchBool (bytes_eq word (codes "rings")) (IsRingsTail tail c)
+    (MatchBool (bytes_eq word (codes "count")) (IsCountTail tail c) ⊥))))))
 
 -- the word and the rest of a line that begins with a word
 front_word : (line word front args : List ℕ) → IsWord front → EndsWord args → line ≡ front ++ args → word ≡ take_while is_letter line → word ≡ front
@@ -200,6 +211,14 @@ tail_area : (line tail : List ℕ) (c : Command) → line ≡ codes "area" ++ ta
 tail_area line tail (Area n) e h = (e ∙ ap (λ t. codes "area" ++ t) h.0, h.1)
 tail_area line tail _ e h = absurd h
 
+tail_rings : (line tail : List ℕ) (c : Command) → line ≡ codes "rings" ++ tail → IsRingsTail tail c → Asks line c
+tail_rings line tail (Rings n) e h = (e ∙ ap (λ t. codes "rings" ++ t) h.0, h.1)
+tail_rings line tail _ e h = absurd h
+
+tail_count : (line tail : List ℕ) (c : Command) → line ≡ codes "count" ++ tail → IsCountTail tail c → Asks line c
+tail_count line tail Count e h = e ∙ ap (λ t. codes "count" ++ t) h
+tail_count line tail _ e h = absurd h
+
 module _ (line word tail : List ℕ) (taken : word ≡ take_while is_letter line) (left : tail ≡ rest_of line) where
   by_front : (front args : List ℕ) (c : Command) → IsWord front → EndsWord args → line ≡ front ++ args → Behind front args c → Behind word tail c
   by_front front args c w k e h =
@@ -211,6 +230,8 @@ module _ (line word tail : List ℕ) (taken : word ≡ take_while is_letter line
   asked_behind (Remove p) h = by_front (codes "remove") (spaced_position p) (Remove p) (search rules) refl h.0 (refl, h.1)
   asked_behind (Thin (pos t)) h = by_front (codes "thin") (spaced (pos t)) (Thin (pos t)) (search rules) refl h.0 (refl, h.1)
   asked_behind (Area n) h = by_front (codes "area") (spaced (pos n)) (Area n) (search rules) refl h.0 (refl, h.1)
+  asked_behind (Rings n) h = by_front (codes "rings") (spaced (pos n)) (Rings n) (search rules) refl h.0 (refl, h.1)
+  asked_behind Count h = by_front (codes "count") [] Count (search rules) tt h refl
   asked_behind _ h = absurd h
 
   whole : line ≡ word ++ tail
@@ -243,6 +264,14 @@ module _ (line word tail : List ℕ) (taken : word ≡ take_while is_letter line
       → MatchOption o ((c : Command) → ¬ Asks line c) (λ c. Asks line (command_of c))
   arm_area = arm (codes "area") (IsAreaTail tail) (λ c h. h) (tail_area line tail)
 
+  pub arm_rings : (o : Option CommandLine) → word ≡ codes "rings" → MatchOption o ((c : Command) → ¬ IsRingsTail tail c) (λ c. IsRingsTail tail (command_of c))
+      → MatchOption o ((c : Command) → ¬ Asks line c) (λ c. Asks line (command_of c))
+  arm_rings = arm (codes "rings") (IsRingsTail tail) (λ c h. h) (tail_rings line tail)
+
+  pub arm_count : (o : Option CommandLine) → word ≡ codes "count" → MatchOption o ((c : Command) → ¬ IsCountTail tail c) (λ c. IsCountTail tail (command_of c))
+      → MatchOption o ((c : Command) → ¬ Asks line c) (λ c. Asks line (command_of c))
+  arm_count = arm (codes "count") (IsCountTail tail) (λ c h. h) (tail_count line tail)
+
 -- ---- every line that says something is UTF-8
 
 spaced_ascii : (z : ℤ) → FitsSigned w64 z → IsAscii (spaced z)
@@ -261,6 +290,8 @@ asked_ascii line (Insert a b q) h =
 asked_ascii line (Remove p) h = subst IsAscii (sym h.0) (IsAscii-append (codes "remove") (spaced_position p) (search rules) (place_ascii p h.1))
 asked_ascii line (Thin (pos t)) h = subst IsAscii (sym h.0) (IsAscii-append (codes "thin") (spaced (pos t)) (search rules) (IsAscii-cons 32 (decimal t) (omega arith) (wide_ascii t (in_bound t h.1))))
 asked_ascii line (Area n) h = subst IsAscii (sym h.0) (IsAscii-append (codes "area") (spaced (pos n)) (search rules) (spaced_ascii (pos n) (record { sfits = omega (arith, h.1) })))
+asked_ascii line (Rings n) h = subst IsAscii (sym h.0) (IsAscii-append (codes "rings") (spaced (pos n)) (search rules) (spaced_ascii (pos n) (record { sfits = omega (arith, h.1) })))
+asked_ascii line Count h = subst IsAscii (sym h) (search rules)
 asked_ascii line _ h = absurd h
 
 pub said_utf8 : (line : List ℕ) (asked : Option Command) → Says line asked → IsUtf8 line

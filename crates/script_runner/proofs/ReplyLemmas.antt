@@ -9,13 +9,13 @@ use Rattle.ring_machine.specs.Document.{Document}
 use Rattle.ring_machine.specs.Parts.{features, has_feature, in_feature, in_rings}
 use Rattle.ring_machine.specs.Vertices.{put, put_ring, ins, ins_ring, del, del_ring, is_junction}
 use Rattle.ring_machine.specs.Thin.{Thinning, is_flat, without, thin_at, thinned}
-use Rattle.ring_machine.specs.Query.{area_of, vertices}
+use Rattle.ring_machine.specs.Query.{area_of, vertices, distinct_segments, counts_of}
 use Rattle.ring_machine.specs.Refusals.{first_of, move_refusals, insert_refusals, remove_refusals, feature_refusals, feature_at}
-use Rattle.ring_machine.specs.Command.{Command, Move, Insert, Remove, Thin, Area, Refusal, Answer, Done, Thinned, AreaIs, Refused}
+use Rattle.ring_machine.specs.Command.{Command, Move, Insert, Remove, Thin, Area, Rings, Count, Refusal, Answer, Done, Thinned, AreaIs, RingsAre, CountsAre, Refused}
 use Rattle.ring_machine.specs.Machine.{State, step, edit, changed, query}
 use Rattle.ring_machine.proofs.Steps.{step-move, step-insert, step-remove, step-thin}
 use Rattle.ring_machine.proofs.RingsOf.{features-in_rings}
-use Rattle.script_runner.specs.Answers.{answer_text, refusal_text}
+use Rattle.script_runner.specs.Answers.{answer_text, refusal_text, polygons_text, numbers_text}
 use Rattle.script_runner.specs.Runs.{opened_state, refusals}
 use Rattle.script_runner.specs.Replies.{Replied, Tells, TellsFault}
 use Rattle.ring_machine.specs.Command as machine
@@ -26,6 +26,14 @@ use Rattle.arc_store.specs.declared.fault.EditFault.TheVariants.{NoFeature, NoVe
 step-area : (st : State) (n : ℕ) → step 0 st (Area n) ≡ query st (feature_refusals st.doc n) (AreaIs (area_of (feature_at st.doc n)))
 unfolding step
 step-area st n = refl
+
+step-rings : (st : State) (n : ℕ) → step 0 st (Rings n) ≡ query st (feature_refusals st.doc n) (RingsAre (feature_at st.doc n).polygons)
+unfolding step
+step-rings st n = refl
+
+step-count : (st : State) → step 0 st Count ≡ (CountsAre (counts_of st.doc), st)
+unfolding step
+step-count st = refl
 
 -- no refusal, and the first refusal
 edit-none : (st after : State) (rs : List (Option Refusal)) (a : Answer) → first_of rs ≡ None → edit st rs a after ≡ (a, after)
@@ -146,7 +154,7 @@ module _ (d : Document) (t : ℤ) where
 pub thin_told_as : (d e : Document) (t s : ℤ) (n : ℕ) (old new : List ℕ) → s ≡ t → n ≡ (thinned s d).removed → e ≡ (thinned s d).doc → new ≡ old ++ (codes "ok " ++ decimal n) → Replied d e (Thin t) old new false
 thin_told_as d e t s n old new same count is text = subst (λ z. Replied d e (Thin z) old new false) same (thin_told d s e n old new count is text)
 
--- ---- a question for an area
+-- ---- a question about a feature
 
 there : (d : Document) (n : ℕ) → has_feature d n ≡ true → first_of (feature_refusals d n) ≡ None
 there d n h = rw h refl
@@ -154,19 +162,40 @@ there d n h = rw h refl
 missing : (d : Document) (n : ℕ) → has_feature d n ≡ false → first_of (feature_refusals d n) ≡ Some machine.NoFeature
 missing d n h = rw h refl
 
-pub measured : (d : Document) (n : ℕ) (old new : List ℕ) → IsTrue (has_feature d n) → new ≡ old ++ signed_decimal (area_of (feature_at d n)) → Replied d d (Area n) old new false
-measured d n old new h t =
-    by_step d d (Area n) old new false (AreaIs (area_of (feature_at d n))) (opened_state d)
-    (step-area (opened_state d) n ∙ edit-none (opened_state d) (opened_state d) (feature_refusals d n) (AreaIs (area_of (feature_at d n))) (there d n h)) refl t refl
+module _ (d : Document) (n : ℕ) (c : Command) (a : Answer)
+    (asks : step 0 (opened_state d) c ≡ query (opened_state d) (feature_refusals d n) a) (old new : List ℕ) where
+  found : refusals a ≡ 0 → IsTrue (has_feature d n) → new ≡ old ++ answer_text a → Replied d d c old new false
+  found z h t =
+      by_step d d c old new false a (opened_state d)
+      (asks ∙ edit-none (opened_state d) (opened_state d) (feature_refusals d n) a (there d n h)) refl t (sym z)
+
+  not_found : (IsTrue (has_feature d n) → ⊥) → new ≡ old ++ codes "refused no feature" → Replied d d c old new true
+  not_found h t =
+      by_step d d c old new true (Refused machine.NoFeature) (opened_state d)
+      (asks ∙ edit-some (opened_state d) (opened_state d) (feature_refusals d n) a machine.NoFeature (missing d n (is_false (has_feature d n) h))) refl t refl
+    where
+      is_false : (b : Bool) → (IsTrue b → ⊥) → b ≡ false
+      is_false true k = absurd (k refl)
+      is_false false k = refl
 
 pub measured_as : (d : Document) (n : ℕ) (x z : ℤ) (old new : List ℕ) → x ≡ z → z ≡ area_of (feature_at d n) → IsTrue (has_feature d n) → new ≡ old ++ signed_decimal x → Replied d d (Area n) old new false
-measured_as d n x z old new e f h t = measured d n old new h (t ∙ ap (λ y. old ++ signed_decimal y) (e ∙ f))
+measured_as d n x z old new e f h t =
+    found d n (Area n) (AreaIs (area_of (feature_at d n))) (step-area (opened_state d) n) old new refl h (t ∙ ap (λ y. old ++ signed_decimal y) (e ∙ f))
 
 pub not_measured : (d : Document) (n : ℕ) (old new : List ℕ) → (IsTrue (has_feature d n) → ⊥) → new ≡ old ++ codes "refused no feature" → Replied d d (Area n) old new true
-not_measured d n old new h t =
-    by_step d d (Area n) old new true (Refused machine.NoFeature) (opened_state d)
-    (step-area (opened_state d) n ∙ edit-some (opened_state d) (opened_state d) (feature_refusals d n) (AreaIs (area_of (feature_at d n))) machine.NoFeature (missing d n (is_false (has_feature d n) h))) refl t refl
-  where
-    is_false : (b : Bool) → (IsTrue b → ⊥) → b ≡ false
-    is_false true k = absurd (k refl)
-    is_false false k = refl
+not_measured d n old new = not_found d n (Area n) (AreaIs (area_of (feature_at d n))) (step-area (opened_state d) n) old new
+
+pub listed : (d : Document) (n : ℕ) (old new : List ℕ) → IsTrue (has_feature d n) → new ≡ old ++ polygons_text (feature_at d n).polygons → Replied d d (Rings n) old new false
+listed d n old new = found d n (Rings n) (RingsAre (feature_at d n).polygons) (step-rings (opened_state d) n) old new refl
+
+pub not_listed : (d : Document) (n : ℕ) (old new : List ℕ) → (IsTrue (has_feature d n) → ⊥) → new ≡ old ++ codes "refused no feature" → Replied d d (Rings n) old new true
+not_listed d n old new = not_found d n (Rings n) (RingsAre (feature_at d n).polygons) (step-rings (opened_state d) n) old new
+
+-- ---- the question for the counts
+
+pub counted : (d : Document) (f v s : ℕ) (old new : List ℕ) → f ≡ length (features d) → v ≡ length (vertices d) → s ≡ length (distinct_segments d) → new ≡ old ++ numbers_text f v s
+    → Replied d d Count old new false
+counted d f v s old new ef ev es t =
+    by_step d d Count old new false (CountsAre (counts_of d)) (opened_state d) (step-count (opened_state d)) refl
+    (t ∙ ap (λ n. old ++ numbers_text n v s) ef ∙ ap (λ n. old ++ numbers_text (length (features d)) n s) ev
+    ∙ ap (λ n. old ++ numbers_text (length (features d)) (length (vertices d)) n) es) refl

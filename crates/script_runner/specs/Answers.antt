@@ -1,9 +1,11 @@
 -- The text of an answer.
-use Rattle.std.specs.Prelude.{ℕ, List, [], ◌++◌, codes, decimal}
+use Rattle.std.specs.Prelude.{ℕ, List, [], ◌++◌, map, codes, decimal}
 use Rattle.std.specs.Fmt.{signed_decimal}
 use Rattle.grid_geometry.specs.Position.{Position}
 use Rattle.grid_geometry.specs.Segment.{Segment}
-use Rattle.ring_machine.specs.Command.{Refusal, NoFeature, NoVertex, NoSegment, Occupied, Junction, RingShort, SegmentExists, NoCollection, NotOnOuterRing, RepeatedPoint, WrongSide, TooLarge, SameFeature, NotOnePolygon, NotNeighbours, SameSide, NothingToUndo, Sweeps, Conflict, Runs, CommonElse, Answer, Done, Thinned, AreaIs, Refused}
+use Rattle.ring_machine.specs.Command.{Refusal, NoFeature, NoVertex, NoSegment, Occupied, Junction, RingShort, SegmentExists, NoCollection, NotOnOuterRing, RepeatedPoint, WrongSide, TooLarge, SameFeature, NotOnePolygon, NotNeighbours, SameSide, NothingToUndo, Sweeps, Conflict, Runs, CommonElse, Answer, Done, Thinned, AreaIs, RingsAre, CountsAre, Refused}
+use Rattle.ring_machine.specs.Query.{Counts}
+use Rattle.map_text.specs.Text.{list_text, pair_text}
 
 -- both numbers, a space between them
 abbrev pub position_text : Position → List ℕ
@@ -37,10 +39,33 @@ refusal_text SameSide = codes "same side"
 refusal_text NothingToUndo = codes "nothing to undo"
 refusal_text Sweeps = codes "sweeps"
 
+-- a ring as a list of JSON (RFC 8259, 5): the pairs of its positions, the last one not repeated
+abbrev pub ring_text : List Position → List ℕ
+ring_text positions = list_text (map pair_text positions)
+
+-- a polygon as the list of its rings, the outer ring first
+abbrev pub polygon_text : List (List Position) → List ℕ
+polygon_text rings = list_text (map ring_text rings)
+
+-- a feature as the list of its polygons
+abbrev pub polygons_text : List (List (List Position)) → List ℕ
+polygons_text polygons = list_text (map polygon_text polygons)
+
+-- three numbers with what they count before them
+abbrev pub numbers_text : ℕ → ℕ → ℕ → List ℕ
+numbers_text features vertices segments =
+    codes "features " ++ (decimal features ++ (codes " vertices " ++ (decimal vertices
+    ++ (codes " segments " ++ decimal segments))))
+
+abbrev pub counts_text : Counts → List ℕ
+counts_text c = numbers_text c.feature_count c.vertex_count c.segment_count
+
 -- the texts of the answers to the lines that there are
 abbrev pub answer_text : Answer → List ℕ
 answer_text Done = codes "ok"
 answer_text (Thinned n) = codes "ok " ++ decimal n
 answer_text (AreaIs z) = signed_decimal z
+answer_text (RingsAre polygons) = polygons_text polygons
+answer_text (CountsAre counts) = counts_text counts
 answer_text (Refused r) = codes "refused " ++ refusal_text r
 answer_text _ = []

@@ -1,7 +1,7 @@
 -- The lines of the code as the machine's commands.
-use Rattle.std.specs.Prelude.{◌≡◌, ℕ, pos, ◌<◌, ◌≤◌, ◌^◌, List, ◌++◌, Option, None, Some}
+use Rattle.std.specs.Prelude.{◌≡◌, ℕ, pos, ◌<◌, ◌≤◌, ◌^◌, List, [], ◌++◌, Option, None, Some}
 use Rattle.grid_geometry.specs.Position.{InRange}
-use Rattle.ring_machine.specs.Command.{Command, Move, Insert, Remove, Thin, Area}
+use Rattle.ring_machine.specs.Command.{Command, Move, Insert, Remove, Thin, Area, Rings, Count}
 use Rattle.script_runner.specs.Lines.{spaced, spaced_position, most_bound}
 use Rattle.script_runner.specs.declared.lines.Command.{Command as CommandLine}
 use Rattle.script_runner.specs.declared.lines.Command.TheVariants as line
@@ -14,6 +14,8 @@ command_of (line.Insert a b q) = Insert a b q
 command_of (line.Remove p) = Remove p
 command_of (line.Thin t) = Thin t
 command_of (line.Area n) = Area n
+command_of (line.Rings n) = Rings n
+command_of line.Count = Count
 
 abbrev pub says_of : Line → Option Command
 says_of Skip = None
@@ -39,6 +41,18 @@ abbrev pub IsThinTail : List ℕ → Command → Type 0
 IsThinTail tail (Thin (pos t)) = (tail ≡ spaced (pos t)) × (t ≤ most_bound)
 IsThinTail tail _ = ⊥
 
+-- the number of a feature, and no more
+abbrev pub IsFeatureTail : List ℕ → ℕ → Type 0
+IsFeatureTail tail n = (tail ≡ spaced (pos n)) × (n < 2 ^ 32)
+
 abbrev pub IsAreaTail : List ℕ → Command → Type 0
-IsAreaTail tail (Area n) = (tail ≡ spaced (pos n)) × (n < 2 ^ 32)
+IsAreaTail tail (Area n) = IsFeatureTail tail n
 IsAreaTail tail _ = ⊥
+
+abbrev pub IsRingsTail : List ℕ → Command → Type 0
+IsRingsTail tail (Rings n) = IsFeatureTail tail n
+IsRingsTail tail _ = ⊥
+
+abbrev pub IsCountTail : List ℕ → Command → Type 0
+IsCountTail tail Count = tail ≡ []
+IsCountTail tail _ = ⊥

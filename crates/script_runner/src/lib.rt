@@ -5,6 +5,7 @@ mod fault;
 mod lines;
 mod parsing;
 mod replies;
+mod ring_lists;
 mod runner;
 mod running;
 mod stop;

@@ -15,6 +15,10 @@ pub enum Command {
     Thin(i128),
     /// `area f`: twice the area of a feature.
     Area(u32),
+    /// `rings f`: the positions of a feature's rings, by polygon and ring.
+    Rings(u32),
+    /// `count`: how many features, vertices and segments there are.
+    Count,
 }
 
 /// What a line of a script asks.

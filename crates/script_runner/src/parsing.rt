@@ -2,7 +2,8 @@ ghost use Rattle.std.specs.Prelude.{◌≡◌, ◌++◌, List, ℕ, codes, Match
 ghost use Rattle.ring_machine.specs.Command.{Command as Asked};
 ghost use Rattle.script_runner.specs.Lines.{Says, Asks, is_comment};
 ghost use Rattle.script_runner.specs.Commands.{command_of, says_of, IsMoveTail, IsInsertTail};
-ghost use Rattle.script_runner.specs.Commands.{IsRemoveTail, IsThinTail, IsAreaTail};
+ghost use Rattle.script_runner.specs.Commands.{IsRemoveTail, IsThinTail, IsFeatureTail};
+ghost use Rattle.script_runner.specs.Commands.{IsAreaTail, IsRingsTail, IsCountTail};
 
 use crate::lines::{Command, Line, LineFault};
 use crate::words::{behind, spaced_number, spaced_position, split_word, wide_number};
@@ -88,11 +89,11 @@ fn thin_behind(tail: &[u8]) -> Option<Command>
     }
 }
 
-/// The question for an area that stands behind the word `area`.
-fn area_behind(tail: &[u8]) -> Option<Command>
+/// The number of a feature that stands behind a word.
+fn feature_behind(tail: &[u8]) -> Option<u32>
     ensures { MatchOption result
-        ((c : Asked) → ¬ IsAreaTail tail.now c)
-        (λ c. IsAreaTail tail.now (command_of c)) }
+        ((n : ℕ) → ¬ IsFeatureTail tail.now n)
+        (λ n. IsFeatureTail tail.now n) }
 {
     let Some((number, end)) = spaced_number(tail) else {
         return None;
@@ -101,8 +102,45 @@ fn area_behind(tail: &[u8]) -> Option<Command>
         return None;
     }
     match u32::try_from(number) {
-        Ok(feature) => Some(Command::Area(feature)),
+        Ok(feature) => Some(feature),
         Err(_) => None,
+    }
+}
+
+/// The question for an area that stands behind the word `area`.
+fn area_behind(tail: &[u8]) -> Option<Command>
+    ensures { MatchOption result
+        ((c : Asked) → ¬ IsAreaTail tail.now c)
+        (λ c. IsAreaTail tail.now (command_of c)) }
+{
+    match feature_behind(tail) {
+        Some(feature) => Some(Command::Area(feature)),
+        None => None,
+    }
+}
+
+/// The question for rings that stands behind the word `rings`.
+fn rings_behind(tail: &[u8]) -> Option<Command>
+    ensures { MatchOption result
+        ((c : Asked) → ¬ IsRingsTail tail.now c)
+        (λ c. IsRingsTail tail.now (command_of c)) }
+{
+    match feature_behind(tail) {
+        Some(feature) => Some(Command::Rings(feature)),
+        None => None,
+    }
+}
+
+/// The question for the counts, where nothing stands behind the word `count`.
+fn count_behind(tail: &[u8]) -> Option<Command>
+    ensures { MatchOption result
+        ((c : Asked) → ¬ IsCountTail tail.now c)
+        (λ c. IsCountTail tail.now (command_of c)) }
+{
+    if tail.is_empty() {
+        Some(Command::Count)
+    } else {
+        None
     }
 }
 
@@ -123,6 +161,10 @@ fn command(line: &[u8]) -> Option<Command>
         thin_behind(tail)
     } else if word == b"area".as_slice() {
         area_behind(tail)
+    } else if word == b"rings".as_slice() {
+        rings_behind(tail)
+    } else if word == b"count".as_slice() {
+        count_behind(tail)
     } else {
         None
     }

@@ -1,11 +1,12 @@
 // The answers to lines, and their texts.
 ghost use Rattle.std.specs.Prelude.{◌≡◌, ◌++◌, [], ℕ, List, OnOk, IfOk, IsSomeAnd, codes};
-ghost use Rattle.ring_machine.specs.Command.{Thin, Area};
-ghost use Rattle.script_runner.specs.Answers.{position_text, segment_text};
+ghost use Rattle.ring_machine.specs.Command.{Thin, Area, Count};
+ghost use Rattle.script_runner.specs.Answers.{position_text, segment_text, numbers_text};
 ghost use Rattle.script_runner.specs.Replies.{Replied, RepliedLine, Tells, TellsFault, meaning_of_said};
 ghost use Rattle.script_runner.specs.Commands.{command_of};
 
 use crate::lines::{Command, Line};
+use crate::ring_lists::reply_to_rings;
 use crate::stop::OutOfMemory;
 use arc_store::{EditFault, Map};
 use edit_vertex::{insert_vertex, move_vertex, remove_vertex, thin};
@@ -143,6 +144,42 @@ fn reply_to_area<A: Allocator + Copy>(
     }
 }
 
+/// Appends how many features, vertices and segments there are.
+fn push_counts<A: Allocator + Copy>(
+    text: &mut Vec<u8, A>,
+    features: usize,
+    vertices: usize,
+    segments: usize,
+) -> Result<(), OutOfMemory>
+    ensures { OnOk result (text.new.items
+        ≡ text.old.items ++ numbers_text features vertices segments) }
+{
+    text.extend_from_slice(b"features ")?;
+    push_number(text, features)?;
+    text.extend_from_slice(b" vertices ")?;
+    push_number(text, vertices)?;
+    text.extend_from_slice(b" segments ")?;
+    push_number(text, segments)?;
+    Ok(())
+}
+
+/// Appends the counts of the map. Answers that it was not refused.
+fn reply_to_count<A: Allocator + Copy>(
+    map: &Map<'_, GridIndex<A>, A>,
+    text: &mut Vec<u8, A>,
+) -> Result<bool, OutOfMemory>
+    ensures { IfOk result (λ refuses.
+        Replied map.now.doc map.now.doc Count text.old.items text.new.items refuses) }
+{
+    push_counts(
+        text,
+        map.feature_count(),
+        map.vertex_count(),
+        map.segment_count(),
+    )?;
+    Ok(false)
+}
+
 /// Answers a command. Answers whether it was refused.
 fn reply_to<A: Allocator + Copy>(
     map: &mut Map<'_, GridIndex<A>, A>,
@@ -159,6 +196,8 @@ fn reply_to<A: Allocator + Copy>(
         Command::Remove(vertex) => push_outcome(text, remove_vertex(map, vertex)),
         Command::Thin(bound) => reply_to_thin(map, bound, text),
         Command::Area(feature) => reply_to_area(map, feature, text),
+        Command::Rings(feature) => reply_to_rings(map, feature, text),
+        Command::Count => reply_to_count(map, text),
     }
 }
 

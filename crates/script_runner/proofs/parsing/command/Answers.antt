@@ -1,5 +1,5 @@
 use Rattle.std.proofs.Common.{◌≡◌, codes, rules}
-use Rattle.script_runner.proofs.CommandLemmas.{arm_move, arm_insert, arm_remove, arm_thin, arm_area}
+use Rattle.script_runner.proofs.CommandLemmas.{arm_move, arm_insert, arm_remove, arm_thin, arm_area, arm_rings, arm_count}
 use Rattle.script_runner.proofs.parsing.command.Goals as goal
 
 pub returns-then-eq : goal.returns-then-eq
@@ -26,3 +26,13 @@ pub returns-then-eq-5 : goal.returns-then-eq-5
 returns-then-eq-5 c =
     let is : c.split_word.result.0.now ≡ codes "area" = search rules in
     arm_area c.args.line.now c.split_word.result.0.now c.split_word.result.1.now c.split_word.ensures.word c.split_word.ensures.rest c.area_behind.result is c.area_behind.ensures
+
+pub returns-then-eq-6 : goal.returns-then-eq-6
+returns-then-eq-6 c =
+    let is : c.split_word.result.0.now ≡ codes "rings" = search rules in
+    arm_rings c.args.line.now c.split_word.result.0.now c.split_word.result.1.now c.split_word.ensures.word c.split_word.ensures.rest c.rings_behind.result is c.rings_behind.ensures
+
+pub returns-then-eq-7 : goal.returns-then-eq-7
+returns-then-eq-7 c =
+    let is : c.split_word.result.0.now ≡ codes "count" = search rules in
+    arm_count c.args.line.now c.split_word.result.0.now c.split_word.result.1.now c.split_word.ensures.word c.split_word.ensures.rest c.count_behind.result is c.count_behind.ensures
