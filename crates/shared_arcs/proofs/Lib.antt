@@ -22,6 +22,7 @@ pub mod AroundLemmas
 pub mod Removing
 pub mod ShortestLemmas
 pub mod Counting
+pub mod UserLemmas
 pub mod CopyLemmas
 mod Examples
 pub mod CallerLemmas

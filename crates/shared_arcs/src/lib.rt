@@ -17,6 +17,7 @@ mod numbers;
 mod place;
 mod reading;
 mod ring_keys;
+mod ring_users;
 mod standing;
 mod tables;
 mod taking;
