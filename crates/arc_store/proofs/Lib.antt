@@ -44,4 +44,6 @@ pub mod KeyLists
 pub mod FeatureLemmas
 pub mod RingAround
 pub mod RingReads
+pub mod NameLists
+pub mod NamedRings
 mod Examples

@@ -25,11 +25,13 @@ use Rattle.topo_reader.specs.declared.document.RawDoc.{RawDoc}
 use Rattle.topo_reader.specs.DocumentView.{view_raw}
 use Rattle.topo_reader.specs.Uses.{feature_positions}
 use Rattle.arc_store.specs.declared.frame.Frame.{Frame}
+use Rattle.arc_store.specs.declared.names.RingName.{RingName}
 use Rattle.arc_store.specs.Frames.{feature_numbers, frame_of, IsCounted}
 use Rattle.arc_store.specs.Holds.{GoesRound, IsWhole, IsIndexed, Holds}
 use Rattle.arc_store.specs.Keyed.{all_rings, all_keys, IsKeyed}
 use Rattle.arc_store.specs.Kept.{stored, IsKept}
 use Rattle.arc_store.specs.Laying.{IsRound, IsLaid, IsFilled, segments_along}
+use Rattle.arc_store.specs.Named.{AreNamed}
 use Rattle.arc_store.specs.Stored.{Stored, place, positions_along, ring_under, document_of}
 use Rattle.arc_store.proofs.FramedDocument.{read_framed}
 use Rattle.arc_store.proofs.FrameLemmas.{feature_count-in_rings, frame_count, frame_distinct, frame_rings}
@@ -95,7 +97,7 @@ module _ (o : read.Opened) (h : IsOfRings o) where
 module _ {A : Type 0} (raw : RawDoc A) (h : IsOfRings (view_raw raw)) (places : Placement)
     (distinct : AreDistinct places) (keyed : List (List (List (List ℕ))))
     (k : IsKeyed places (map feature_positions raw.polygons.items) keyed) (m : Rings)
-    (polygons : Vec (Vec (Vec ℕ A) A) A)
+    (polygons : Vec (Vec (Vec ℕ A) A) A) (names : Vec (Option RingName) A)
     (shape : map (map length) (map feature_numbers polygons.items) ≡ map (map length) keyed)
     (l : IsLaid m (all_rings (map feature_numbers polygons.items)) (all_rings keyed)) where
   abbrev o : read.Opened
@@ -111,6 +113,7 @@ module _ {A : Type 0} (raw : RawDoc A) (h : IsOfRings (view_raw raw)) (places : 
     layers = raw.layers;
     members = raw.members;
     polygons = polygons;
+    names = names;
   }
 
   abbrev opened : Stored
@@ -217,12 +220,13 @@ module _ {A : Type 0} (raw : RawDoc A) (h : IsOfRings (view_raw raw)) (places : 
   opened_few = omega (arith, opened_counted, h.few)
 
   pub opened_kept : (held : SegmentSet) (number positions segments : ℕ)
-      → number ≡ length polygons.items → positions ≡ sum_by length (all_rings keyed)
+      → AreNamed names.items numbers → number ≡ length polygons.items → positions ≡ sum_by length (all_rings keyed)
       → IsFilled held None segments (segments_along places (all_rings keyed))
       → IsKept raw_frame m places held number positions segments
-  opened_kept held number positions segments n p f = record {
+  opened_kept held number positions segments named n p f = record {
     holds = opened_holds held segments f;
     counted = opened_counted;
+    named = named;
     next = n ∙ sym (frame_count raw_frame opened_counted);
     few = omega (arith, n, opened_few);
     sized = p ∙ sym opened_size;

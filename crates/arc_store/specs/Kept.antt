@@ -1,12 +1,13 @@
 -- A map's tables as what is kept, and as its callers see it.
-use Rattle.std.specs.Prelude.{ℕ, ◌≡◌, ◌≤◌, length}
+use Rattle.std.specs.Prelude.{ℕ, ◌≡◌, ◌≤◌, length, map}
 use Rattle.ring_machine.specs.Parts.{features, size}
 use Rattle.ring_machine.specs.Query.{distinct_segments}
 use Rattle.segment_index.specs.Candidates.{SegmentSet}
 use Rattle.vertex_index.specs.Placement.{Placement}
 use Rattle.shared_arcs.specs.Rings.{Rings}
 use Rattle.arc_store.specs.declared.frame.Frame.{Frame}
-use Rattle.arc_store.specs.Frames.{frame_of, IsCounted}
+use Rattle.arc_store.specs.Frames.{feature_numbers, frame_of, IsCounted}
+use Rattle.arc_store.specs.Named.{AreNamed}
 use Rattle.arc_store.specs.Stored.{Stored, document_of}
 use Rattle.arc_store.specs.State.{State}
 use Rattle.arc_store.specs.Holds.{Holds}
@@ -29,6 +30,7 @@ module _ {A : Type 0} where
       (number positions segments : ℕ) : Type 0 where
     pub holds : Holds (stored frame rings places) held
     pub counted : IsCounted frame
+    pub named : AreNamed frame.names.items (map feature_numbers frame.polygons.items)
     -- features are numbered from 0, and the next new one comes after them
     pub next : number ≡ length (features (frame_of frame))
     pub few : number ≤ 200000

@@ -6,6 +6,7 @@ pub mod Kept
 pub mod Keyed
 pub mod Laying
 pub mod Leaves
+pub mod Named
 pub mod Planned
 pub mod Readers
 pub mod RingPlaces

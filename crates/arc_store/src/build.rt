@@ -12,6 +12,7 @@ ghost use Rattle.arc_store.specs.Faults.{Names};
 ghost use Rattle.arc_store.specs.Frames.{feature_numbers};
 ghost use Rattle.arc_store.specs.Keyed.{all_rings, IsKeyed};
 ghost use Rattle.arc_store.specs.Laying.{IsFilled, IsLaid, segments_along};
+ghost use Rattle.arc_store.specs.Named.{AreNamed};
 
 use crate::fault::BuildFault;
 use crate::frame::Frame;
@@ -19,6 +20,7 @@ use crate::junctions::mark_junctions;
 use crate::keyed::key_all;
 use crate::laying::Laying;
 use crate::map::Map;
+use crate::names::{RingName, name_all};
 use grid_geometry::Pos;
 use local_planarity::TestCount;
 use segment_index::SegIndex;
@@ -33,10 +35,12 @@ fn lay<I: SegIndex, A: Allocator + Copy>(
     alloc: A,
     index: I,
     features: &[Vec<Vec<Vec<Pos, A>, A>, A>],
-) -> Result<(Laying<I, A>, Vec<Vec<Vec<usize, A>, A>, A>), AllocError>
+) -> Result<(Laying<I, A>, Vec<Vec<Vec<usize, A>, A>, A>, Vec<Option<RingName>, A>), AllocError>
     requires rings { IsTrue (list_all is_ring (all_rings (map feature_positions features.now))) }
     requires small { sum_by length (all_rings (map feature_positions features.now)) ≤ 4000000 }
+    requires few { length features.now ≤ 200000 }
     requires empty { I.held index ≡ set.empty }
+    ensures named { IfOk result (λ made. AreNamed made.2.items (map feature_numbers made.1.items)) }
     ensures distinct { IfOk result (λ made. AreDistinct made.0.vertices) }
     ensures laid { IfOk result (λ made. (keyed : List (List (List (List ℕ))))
         × IsKeyed made.0.vertices (map feature_positions features.now) keyed
@@ -61,7 +65,8 @@ fn lay<I: SegIndex, A: Allocator + Copy>(
         segments: 0,
     };
     let numbers = laying.lay_all(keyed.as_slice())?;
-    Ok((laying, numbers))
+    let names = name_all(alloc, numbers.as_slice())?;
+    Ok((laying, numbers, names))
 }
 
 impl<'a, I: SegIndex, A: Allocator + Copy> Map<'a, I, A> {
@@ -83,7 +88,7 @@ impl<'a, I: SegIndex, A: Allocator + Copy> Map<'a, I, A> {
             members,
             polygons,
         } = raw;
-        let (laid, numbers) = lay(alloc, index, polygons.as_slice())?;
+        let (laid, numbers, names) = lay(alloc, index, polygons.as_slice())?;
         if let Some((s, t)) = laid.first {
             return Err(BuildFault::Conflict { s, t });
         }
@@ -95,6 +100,7 @@ impl<'a, I: SegIndex, A: Allocator + Copy> Map<'a, I, A> {
                 layers,
                 members,
                 polygons: numbers,
+                names,
             },
             vertices: laid.vertices,
             borders: laid.borders,

@@ -1,4 +1,5 @@
 // What a map is beside its rings.
+use crate::names::RingName;
 use std::alloc::{Allocator, Global};
 use topo_outline::{KeptMember, RawLayer};
 
@@ -13,4 +14,6 @@ pub(crate) struct Frame<'a, A: Allocator + Copy = Global> {
     pub(crate) members: Vec<KeptMember<'a>, A>,
     /// By feature the polygons, each by the number of its outer ring and those of its holes.
     pub(crate) polygons: Vec<Vec<Vec<usize, A>, A>, A>,
+    /// By a ring's number where it stands; `None` where there is no such ring.
+    pub(crate) names: Vec<Option<RingName>, A>,
 }

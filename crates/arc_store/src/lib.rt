@@ -15,6 +15,7 @@ mod junctions;
 mod keyed;
 mod laying;
 mod map;
+mod names;
 mod plan;
 mod positions;
 mod raw_insert;
@@ -28,6 +29,7 @@ mod users;
 pub use fault::{BuildFault, EditFault};
 pub use features::{FeatureView, FrameView};
 pub use map::Map;
+pub use names::RingName;
 pub use ring_iter::RingIter;
 pub use spot::Spot;
 

@@ -1,10 +1,12 @@
-use Rattle.std.proofs.Common.{sym, ap, ◌∙◌, subst, arith, map, length, [], Contains}
+use Rattle.std.proofs.Common.{sym, ap, ◌∙◌, subst, arith, map, length, [], Contains, ◌≡◌}
+use Rattle.std.proofs.lemmas.List.{length-map}
 use Rattle.std.specs.List.{sum_by}
 use Rattle.topo_reader.specs.Uses.{feature_positions}
 use Rattle.vertex_index.specs.Placement.{AreDistinct}
 use Rattle.vertex_index.proofs.MirrorLemmas.{distinct}
 use Rattle.arc_store.specs.Frames.{feature_numbers}
 use Rattle.arc_store.specs.Keyed.{all_rings, feature_keys, IsKeyed}
+use Rattle.arc_store.specs.Stored.{place}
 use Rattle.arc_store.specs.Laying.{IsFilled, IsLaid, segments_along}
 use Rattle.arc_store.proofs.KeyedRings.{round_keyed, size_keyed}
 use Rattle.arc_store.proofs.LaidFirst.{laid_none, filled_none}
@@ -26,6 +28,30 @@ lay_all-requires-clause-small g c =
       size_keyed c.key_all.new.vertices (map feature_positions c.args.features.now) (map feature_keys c.in_ok-keyed.keyed.items) c.in_ok-keyed.ensures,
       ap (λ z. sum_by length (all_rings (map feature_keys z))) c.as_slice-2.ensures.value,
     )
+
+pub name_all-requires : goal.name_all-requires
+name_all-requires g c = record {
+  few =
+      let keyed = c.in_ok-keyed.keyed.items in
+      let made = c.in_ok-numbers.numbers.items in
+      let laid = c.as_slice-2.result.now in
+      let at : map (map (map (map (place c.key_all.new.vertices)))) (map feature_keys keyed) ≡ map feature_positions c.args.features.now = c.in_ok-keyed.ensures.at in
+      omega (
+        arith,
+        c.requires.few,
+        ap length c.as_slice-3.ensures.value,
+        length-map made feature_numbers,
+        length-map (map feature_numbers made) (map length),
+        ap length c.in_ok-numbers.ensures.counted,
+        length-map (map feature_keys laid) (map length),
+        length-map laid feature_keys,
+        ap length c.as_slice-2.ensures.value,
+        length-map keyed feature_keys,
+        length-map (map feature_keys keyed) (map (map (map (place c.key_all.new.vertices)))),
+        ap length at,
+        length-map c.args.features.now feature_positions,
+      );
+}
 
 pub returns-clause-distinct : goal.returns-clause-distinct
 returns-clause-distinct g c =

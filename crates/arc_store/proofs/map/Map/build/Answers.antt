@@ -24,7 +24,7 @@ returns-in-Some-clause-conflict g c =
     let l = c.in_ok-laid.ensures.laid in
     let k = subst (λ z. IsKeyed c.in_ok-laid.laid.vertices (map feature_positions z) l.0) c.as_slice.ensures.value l.1 in
     opened_pair c.args.raw c.requires.rings c.in_ok-laid.laid.vertices c.in_ok-laid.ensures.distinct l.0 k
-    c.in_ok-laid.laid.borders c.in_ok-laid.numbers l.2 l.3
+    c.in_ok-laid.laid.borders c.in_ok-laid.numbers c.in_ok-laid.names l.2 l.3
     (g.I.SegIndex.held c.in_ok-laid.laid.index) c.in_ok-laid.laid.first c.in_ok-laid.laid.segments l.4
     ∙ c.in-Some.is
 
@@ -37,7 +37,7 @@ overflow_cast-next g c =
       c.len-next.ensures,
       c.in_ok-laid.numbers.ok,
       opened_few c.args.raw c.requires.rings c.in_ok-laid.laid.vertices c.in_ok-laid.ensures.distinct l.0 k
-          c.in_ok-laid.laid.borders c.in_ok-laid.numbers l.2 l.3,
+          c.in_ok-laid.laid.borders c.in_ok-laid.numbers c.in_ok-laid.names l.2 l.3,
     )
 
 none_is : {X : Type 0} (o : Option X) → ((x : X) → o ≡ Some x → ⊥) → o ≡ None
@@ -50,8 +50,8 @@ invariant_of-result g c =
     let k = subst (λ z. IsKeyed c.in_ok-laid.laid.vertices (map feature_positions z) l.0) c.as_slice.ensures.value l.1 in
     let none : c.in_ok-laid.laid.first ≡ None = none_is c.in_ok-laid.laid.first c.in_default.not-Some in
     opened_kept c.args.raw c.requires.rings c.in_ok-laid.laid.vertices c.in_ok-laid.ensures.distinct l.0 k
-    c.in_ok-laid.laid.borders c.in_ok-laid.numbers l.2 l.3
-    (g.I.SegIndex.held c.in_ok-laid.laid.index) c.len-next.result c.in_ok-laid.laid.positions c.in_ok-laid.laid.segments
+    c.in_ok-laid.laid.borders c.in_ok-laid.numbers c.in_ok-laid.names l.2 l.3
+    (g.I.SegIndex.held c.in_ok-laid.laid.index) c.len-next.result c.in_ok-laid.laid.positions c.in_ok-laid.laid.segments c.in_ok-laid.ensures.named
     (omega (arith, c.len-next.ensures, c.in_ok-laid.numbers.ok)) l.5
     (subst (λ z. IsFilled (g.I.SegIndex.held c.in_ok-laid.laid.index) z c.in_ok-laid.laid.segments (segments_along c.in_ok-laid.laid.vertices (all_rings l.0))) none l.4)
 
@@ -60,7 +60,7 @@ returns-clause-built g c =
     let l = c.in_ok-laid.ensures.laid in
     let k = subst (λ z. IsKeyed c.in_ok-laid.laid.vertices (map feature_positions z) l.0) c.as_slice.ensures.value l.1 in
     opened_document c.args.raw c.requires.rings c.in_ok-laid.laid.vertices c.in_ok-laid.ensures.distinct l.0 k
-    c.in_ok-laid.laid.borders c.in_ok-laid.numbers l.2 l.3
+    c.in_ok-laid.laid.borders c.in_ok-laid.numbers c.in_ok-laid.names l.2 l.3
 
 pub returns-clause-proper : goal.returns-clause-proper
 returns-clause-proper g c =
@@ -68,7 +68,7 @@ returns-clause-proper g c =
     let k = subst (λ z. IsKeyed c.in_ok-laid.laid.vertices (map feature_positions z) l.0) c.as_slice.ensures.value l.1 in
     let none : c.in_ok-laid.laid.first ≡ None = none_is c.in_ok-laid.laid.first c.in_default.not-Some in
     opened_proper c.args.raw c.requires.rings c.in_ok-laid.laid.vertices c.in_ok-laid.ensures.distinct l.0 k
-    c.in_ok-laid.laid.borders c.in_ok-laid.numbers l.2 l.3
+    c.in_ok-laid.laid.borders c.in_ok-laid.numbers c.in_ok-laid.names l.2 l.3
     (g.I.SegIndex.held c.in_ok-laid.laid.index) c.in_ok-laid.laid.segments
     (subst (λ z. IsFilled (g.I.SegIndex.held c.in_ok-laid.laid.index) z c.in_ok-laid.laid.segments (segments_along c.in_ok-laid.laid.vertices (all_rings l.0))) none l.4)
 
@@ -78,4 +78,4 @@ returns-clause-next g c =
     let k = subst (λ z. IsKeyed c.in_ok-laid.laid.vertices (map feature_positions z) l.0) c.as_slice.ensures.value l.1 in
     let n : c.len-next.result ≡ length c.in_ok-laid.numbers.items = omega (arith, c.len-next.ensures, c.in_ok-laid.numbers.ok) in
     n ∙ sym (opened_features c.args.raw c.requires.rings c.in_ok-laid.laid.vertices c.in_ok-laid.ensures.distinct l.0 k
-    c.in_ok-laid.laid.borders c.in_ok-laid.numbers l.2 l.3)
+    c.in_ok-laid.laid.borders c.in_ok-laid.numbers c.in_ok-laid.names l.2 l.3)
