@@ -46,4 +46,5 @@ pub mod RingAround
 pub mod RingReads
 pub mod NameLists
 pub mod NamedRings
+pub mod NearLemmas
 mod Examples

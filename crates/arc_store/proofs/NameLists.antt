@@ -215,12 +215,12 @@ module _ (all : List (List (List ℕ))) where
         (λ o k q. (
           q.0,
           ap (λ z. element (element (slice_get all z) o.polygon) o.ring) q.0
-          ∙ ap (λ z. element (element z o.polygon) o.ring) here ∙ q.1,
+              ∙ ap (λ z. element (element z o.polygon) o.ring) here ∙ q.1,
         ))
         (λ o k i e. (
           e,
           sym (ap (λ z. element (element z o.polygon) o.ring) here)
-          ∙ sym (ap (λ z. element (element (slice_get all z) o.polygon) o.ring) e) ∙ i,
+              ∙ sym (ap (λ z. element (element (slice_get all z) o.polygon) o.ring) e) ∙ i,
         ))
         a b c g h
 
@@ -257,8 +257,7 @@ distinct_parts [] vs d = (refl, d, λ r i j. absurd i)
 distinct_parts (u ∷ us) vs d =
     let b = and_both (not (has_key u (us ++ vs))) (are_distinct (us ++ vs)) d in
     let rest = distinct_parts us vs b.1 in
-    let off : In u (us ++ vs) → ⊥ = λ i. false≢true (sym (not_true _ b.0) ∙ in_any (λ m. m == u) u (us ++ vs) i ((Decides-eqb u u).1 refl)) in
-    (
+    let off : In u (us ++ vs) → ⊥ = λ i. false≢true (sym (not_true _ b.0) ∙ in_any (λ m. m == u) u (us ++ vs) i ((Decides-eqb u u).1 refl)) in (
       ap₂ (λ y z. not y && z) (lacks u us (λ i. off (in_left u us vs i))) rest.0,
       rest.1,
       λ r i j. elim i [

@@ -9,7 +9,7 @@ use Rattle.std.proofs.lemmas.List.{append-nil, take_more}
 use Rattle.std.proofs.lemmas.List.Elements.{filter_map-append}
 use Rattle.std.proofs.lemmas.Option.{slice_get-map}
 use Rattle.grid_geometry.specs.Position.{Position}
-use Rattle.grid_geometry.specs.Segment.{Segment, segment, segment_eq, IsSegment}
+use Rattle.grid_geometry.specs.Segment.{Segment, segment, segment_eq}
 use Rattle.ring_machine.specs.Document.{Document}
 use Rattle.ring_machine.specs.Parts.{rings}
 use Rattle.ring_machine.specs.Ring.{segments}
@@ -32,12 +32,13 @@ use Rattle.arc_store.specs.Readers.{element, ring_at}
 use Rattle.arc_store.specs.Spots.{users}
 use Rattle.arc_store.specs.Stored.{Stored, place, document_of, ring_under}
 use Rattle.arc_store.proofs.Base.{framed, place_is, place_kept, rings_are}
+use Rattle.arc_store.proofs.Ends.{segment_ends}
 use Rattle.arc_store.proofs.FrameLemmas.{frame_rings}
 use Rattle.arc_store.proofs.Insertions.{has_segment}
 use Rattle.arc_store.proofs.Members.{contains_in, in_contains}
 use Rattle.arc_store.proofs.NameLists.{number_in, one_name}
 use Rattle.arc_store.proofs.Numbers.{ring_has}
-use Rattle.arc_store.proofs.Reading.{ends_make, unused_read}
+use Rattle.arc_store.proofs.Reading.{unused_read}
 use Rattle.arc_store.proofs.RingReads.{in_get, ring_read}
 
 -- ---- the names of a list of numbers
@@ -151,14 +152,16 @@ module _ {A : Type 0} (f : Frame A) (m : Rings) (places : Placement) (counted : 
           ap (λ z. element (element z name.polygon) name.ring) (slice_get-map feature_numbers f.polygons.items name.feature)
           ∙ on (slice_get f.polygons.items name.feature)
 
-  module _ (a b : ℕ) (t : Segment) (at_a : table.get places a ≡ Some t.lo) (at_b : table.get places b ≡ Some t.hi)
-      (is : IsSegment t) where
+  module _ (a b : ℕ) (p q : Position) (at_a : table.get places a ≡ Some p) (at_b : table.get places b ≡ Some q) where
+    abbrev t : Segment
+    t = segment p q
+
     -- a ring of the frame has the segment as that of its ends' keys
     has_by_keys : (r : ℕ) (es : List Edge) → table.get m r ≡ Some es
         → has_segment t (ring_under s r) ≡ list_any (is_seg a b) es
     has_by_keys r es e =
-        ap (λ z. has_segment z (ring_under s r)) (sym (ends_make t is) ∙ sym (ap₂ segment (place_is places a t.lo at_a) (place_is places b t.hi at_b)))
-        ∙ ring_has s whole a b (place_kept places a t.lo at_a) (place_kept places b t.hi at_b) r es e
+        ap (λ z. has_segment z (ring_under s r)) (sym (ap₂ segment (place_is places a p at_a) (place_is places b q at_b)))
+        ∙ ring_has s whole a b (place_kept places a p at_a) (place_kept places b q at_b) r es e
 
     has_of : (name : RingName) (r : ℕ) → number_at all name ≡ Some r → HasSegment m a b r
         → RingHas (document_of s) t name
@@ -172,12 +175,15 @@ module _ {A : Type 0} (f : Frame A) (m : Rings) (places : Placement) (counted : 
         → (r : ℕ) × (number_at all name ≡ Some r) × HasSegment m a b r
     of_has name h =
         let k = mapped_some (ring_under s) (number_at all name) h.positions (sym (ring_by_name name) ∙ h.there) in
-        let es = framed s whole k.0 (in_frame name k.0 k.1) in
-        (k.0, k.1, record {
-          edges = es.0;
-          held = es.1;
-          has = sym (has_by_keys k.0 es.0 es.1) ∙ ap (has_segment t) k.2 ∙ h.has;
-        })
+        let es = framed s whole k.0 (in_frame name k.0 k.1) in (
+          k.0,
+          k.1,
+          record {
+            edges = es.0;
+            held = es.1;
+            has = sym (has_by_keys k.0 es.0 es.1) ∙ ap (has_segment t) k.2 ∙ h.has;
+          },
+        )
 
     -- the names of the rings that were listed
     pub rings_listed : (numbers : List ℕ) → ListsUsers m a b [] numbers → (old new : List RingName)
@@ -215,10 +221,10 @@ module _ {A : Type 0} (f : Frame A) (m : Rings) (places : Placement) (counted : 
         unlisted r c = subst (In r) (sym l.appended) (contains_in l.found r c)
 
   -- no ring has a segment with an end that has no key
-  pub none_listed : (t : Segment) (p : Position) → (t.lo ≡ p) ⊎ (t.hi ≡ p) → (o : Option ℕ) → o ≡ None
+  none_at : (t : Segment) (p : Position) → (t.lo ≡ p) ⊎ (t.hi ≡ p) → (o : Option ℕ) → o ≡ None
       → IfNone o ((k : ℕ) → table.get places k ≢ Some p) → (old : List RingName)
       → ListsRings (document_of s) t old old
-  none_listed t p end o e absent old = record {
+  none_at t p end o e absent old = record {
     found = [];
     appended = sym (append-nil old);
     all = λ n. (
@@ -232,3 +238,13 @@ module _ {A : Type 0} (f : Frame A) (m : Rings) (places : Placement) (counted : 
     );
     once = λ i j x d h. absurd cc;
   }
+
+  pub none_from : (p q : Position) (o : Option ℕ) → o ≡ None → IfNone o ((k : ℕ) → table.get places k ≢ Some p)
+      → (old : List RingName) → ListsRings (document_of s) (segment p q) old old
+  none_from p q o e absent old =
+      none_at (segment p q) p (elim (segment_ends p q) [ inl m ↦ inl m.0 | inr m ↦ inr m.1 ]) o e absent old
+
+  pub none_to : (p q : Position) (o : Option ℕ) → o ≡ None → IfNone o ((k : ℕ) → table.get places k ≢ Some q)
+      → (old : List RingName) → ListsRings (document_of s) (segment p q) old old
+  none_to p q o e absent old =
+      none_at (segment p q) q (elim (segment_ends p q) [ inl m ↦ inr m.1 | inr m ↦ inl m.0 ]) o e absent old

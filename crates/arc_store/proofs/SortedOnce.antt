@@ -28,7 +28,7 @@ each_in P [] a h i = absurd i
 each_in P (x ∷ xs) a h (inl e) = subst P e (h 0 x (omega arith))
 each_in P (x ∷ xs) a h (inr i) = each_in P xs a (λ k d l. h (suc k) d (omega arith)) i
 
-in_permuted : {A : Type 0} (xs ys : List A) → IsPermutation xs ys → (a : A) → In a ys → In a xs
+pub in_permuted : {A : Type 0} (xs ys : List A) → IsPermutation xs ys → (a : A) → In a ys → In a xs
 in_permuted xs ys p a i = each_in (λ z. In z xs) ys a (All-permutation (λ z. In z xs) xs ys p (in_at xs)) i
 
 in_recursion : {A : Type 0} (P : A → Type 0) (xs : List A) (a : A) → AllByRecursion P xs → In a xs → P a

@@ -7,6 +7,7 @@ pub mod Keyed
 pub mod Laying
 pub mod Leaves
 pub mod Named
+pub mod Near
 pub mod Planned
 pub mod Readers
 pub mod RingPlaces

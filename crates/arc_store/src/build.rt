@@ -35,7 +35,14 @@ fn lay<I: SegIndex, A: Allocator + Copy>(
     alloc: A,
     index: I,
     features: &[Vec<Vec<Vec<Pos, A>, A>, A>],
-) -> Result<(Laying<I, A>, Vec<Vec<Vec<usize, A>, A>, A>, Vec<Option<RingName>, A>), AllocError>
+) -> Result<
+    (
+        Laying<I, A>,
+        Vec<Vec<Vec<usize, A>, A>, A>,
+        Vec<Option<RingName>, A>,
+    ),
+    AllocError,
+>
     requires rings { IsTrue (list_all is_ring (all_rings (map feature_positions features.now))) }
     requires small { sum_by length (all_rings (map feature_positions features.now)) ≤ 4000000 }
     requires few { length features.now ≤ 200000 }

@@ -16,6 +16,7 @@ mod keyed;
 mod laying;
 mod map;
 mod names;
+mod near;
 mod plan;
 mod positions;
 mod raw_insert;

@@ -1,11 +1,12 @@
 ghost use Rattle.std.specs.Prelude.{◌≡◌, ◌≤◌, ◌<◌, ◌++◌, ℕ, map, length, Option, Some, List, OnOk, IfOk, slice_get};
 ghost use Rattle.std.specs.List.{filter_map};
+ghost use Rattle.grid_geometry.specs.Segment.{segment};
 ghost use Rattle.arc_store.specs.Frames.{polygon_numbers, feature_numbers};
 ghost use Rattle.arc_store.specs.Named.{Gain, AreNamed, ListsRings, name_of};
 ghost use Rattle.arc_store.specs.Readers.{element};
 
 use crate::map::Map;
-use grid_geometry::Seg;
+use grid_geometry::Pos;
 use segment_index::SegIndex;
 use std::alloc::{AllocError, Allocator};
 
@@ -113,16 +114,17 @@ fn push_names<B: Allocator>(
 }
 
 impl<'a, I: SegIndex, A: Allocator + Copy> Map<'a, I, A> {
-    /// Appends the rings that have this segment, each once. Fails for want of memory alone; some of
-    /// them may then have been appended.
+    /// Appends the rings that have the segment of these two positions, each once. Fails for want of
+    /// memory alone; some of them may then have been appended.
     pub fn push_users<B: Allocator>(
         &self,
-        s: Seg,
+        a: Pos,
+        b: Pos,
         out: &mut Vec<RingName, B>,
     ) -> Result<(), AllocError>
-        ensures { OnOk result (ListsRings self.now.doc s out.old.items out.new.items) }
+        ensures { OnOk result (ListsRings self.now.doc (segment a b) out.old.items out.new.items) }
     {
-        let (Some(a), Some(b)) = (self.vertices.key_of(s.lo), self.vertices.key_of(s.hi)) else {
+        let (Some(a), Some(b)) = (self.vertices.key_of(a), self.vertices.key_of(b)) else {
             return Ok(());
         };
         let mut numbers = Vec::new(self.alloc);

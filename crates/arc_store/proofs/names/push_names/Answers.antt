@@ -1,4 +1,4 @@
-use Rattle.std.proofs.Common.{◌≡◌, ◌<◌, ap, sym, ◌∙◌, arith, length, get_or, Some, ◌∷◌, [], ◌++◌, refl}
+use Rattle.std.proofs.Common.{◌<◌, ap, sym, ◌∙◌, arith, length, get_or, [], ◌++◌, refl}
 use Rattle.std.proofs.lemmas.List.{append-nil}
 use Rattle.std.specs.List.{cons_option}
 use Rattle.arc_store.specs.Named.{name_of}

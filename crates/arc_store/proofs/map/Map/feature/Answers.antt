@@ -1,11 +1,13 @@
-use Rattle.std.proofs.Common.{◌≤◌, arith, refl, sym, ap, ◌∙◌, subst, length, Some, option_map}
+use Rattle.std.proofs.Common.{◌≡◌, ◌≤◌, true, map, arith, refl, sym, ap, ◌∙◌, subst, length, Some, option_map}
 use Rattle.std.specs.List.{slice_get}
 use Rattle.std.proofs.lemmas.Option.{slice_get_read}
-use Rattle.ring_machine.specs.Parts.{feature, size}
+use Rattle.ring_machine.specs.Parts.{feature, features, size}
+use Rattle.ring_machine.specs.WellFormed.{are_distinct}
 use Rattle.arc_store.specs.Kept.{stored}
 use Rattle.arc_store.specs.Leaves.{raw_features}
 use Rattle.arc_store.specs.Readers.{shown, shown_of}
 use Rattle.arc_store.specs.Stored.{ring_under}
+use Rattle.arc_store.proofs.FrameLemmas.{numbers-in_rings}
 use Rattle.arc_store.proofs.FeatureLemmas.{no_feature, shown_feature, polygons_there}
 use Rattle.arc_store.proofs.map.Map.feature.Goals as goal
 
@@ -43,3 +45,17 @@ returns-clause-shown g c =
 
 pub returns-clause-small : goal.returns-clause-small
 returns-clause-small g c = subst (λ s. size s.doc ≤ 4000000) c.self.view_is c.self.invariant.holds.small
+
+pub returns-in_err-feature-clause-distinct : goal.returns-in_err-feature-clause-distinct
+returns-in_err-feature-clause-distinct g c =
+    let m = c.self.inside in
+    let s = stored m.frame m.borders m.vertices in
+    subst (λ z. are_distinct (map (λ f. f.number) (features z.doc)) ≡ true) c.self.view_is
+    (ap are_distinct (numbers-in_rings (ring_under s) s.frame) ∙ c.self.invariant.holds.numbers)
+
+pub returns-clause-distinct : goal.returns-clause-distinct
+returns-clause-distinct g c =
+    let m = c.self.inside in
+    let s = stored m.frame m.borders m.vertices in
+    subst (λ z. are_distinct (map (λ f. f.number) (features z.doc)) ≡ true) c.self.view_is
+    (ap are_distinct (numbers-in_rings (ring_under s) s.frame) ∙ c.self.invariant.holds.numbers)

@@ -1,4 +1,5 @@
 use Rattle.std.proofs.Common.{ap, ◌∙◌}
+use Rattle.std.proofs.lemmas.Result.{err_from_is_err_and}
 use Rattle.ring_machine.specs.Query.{vertices}
 use Rattle.arc_store.proofs.VertexLists.{rings_held, keys_placed, vertices_found}
 use Rattle.arc_store.proofs.map.Map.vertices.Goals as goal
@@ -20,3 +21,8 @@ returns g c =
     vertices_found m.frame m.borders m.vertices c.self.invariant.holds.whole c.self.invariant.counted c.as_slice.result.now c.as_slice.ensures.value
     c.as_slice-2.result.now (c.as_slice-2.ensures.value ∙ c.in_ok-keys.ensures) c.in_ok-found.found.items c.sort_once.new.found.items c.in_ok-found.ensures c.sort_once.ensures
     ∙ ap (λ s. vertices s.doc) c.self.view_is
+
+pub returns-in_err-found : goal.returns-in_err-found
+returns-in_err-found g c =
+    let p = err_from_is_err_and c.from_residual-in_err-found.result c.from_residual-in_err-found.ensures.1 in
+    rw (p.1) tt
