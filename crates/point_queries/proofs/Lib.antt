@@ -1,2 +1,5 @@
 mod Shows
 mod Rest
+mod Sharers
+mod Ascending
+mod SharedBorders

@@ -2,5 +2,7 @@
 #![tactic(auto)]
 
 mod area;
+mod sharing;
 
 pub use area::{NoFeature, area2_of};
+pub use sharing::{QueryFault, neighbours};
