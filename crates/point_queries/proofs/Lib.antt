@@ -3,3 +3,4 @@ mod Rest
 mod Sharers
 mod Ascending
 mod SharedBorders
+mod OnBorders

@@ -91,12 +91,11 @@ pub ring_named : (d : Document) → are_distinct (map (λ f. f.number) (features
 ring_named d distinct g i ps h =
     let a = in_flat (λ (polygon : List (List Position)). polygon) ps g.polygons h in
     let polygon = place_of g.polygons a.0 a.1 in
-    let ring = place_of a.0 ps a.2 in
-    (
+    let ring = place_of a.0 ps a.2 in (
       record { feature = g.number; polygon = polygon.0; ring = ring.0 },
       refl,
       ap (λ o. element (element (option_map (λ f. f.polygons) o) polygon.0) ring.0) (in_found (features d) distinct g i)
-      ∙ ap (λ o. element o ring.0) polygon.1 ∙ ring.1,
+          ∙ ap (λ o. element o ring.0) polygon.1 ∙ ring.1,
     )
 
 -- ---- edges and segments of a feature
@@ -128,8 +127,7 @@ module _ (d : Document) (distinct : are_distinct (map (λ f. f.number) (features
       let g = named_ring d name h.has.positions h.has.there in
       let s = segment h.edge.0 h.edge.1 in
       let t = any_in (segment_eq s) (segments h.has.positions) h.has.has in
-      let there = in-flat_map segments h.has.positions t.0 (rings_of g.0) g.3 t.1 in
-      (
+      let there = in-flat_map segments h.has.positions t.0 (rings_of g.0) g.3 t.1 in (
         g.0,
         g.1,
         g.2,
@@ -145,16 +143,19 @@ module _ (d : Document) (distinct : are_distinct (map (λ f. f.number) (features
       let t = any_in (segment_eq s.0) (segments_of g) s.2 in
       let ring = in_flat segments t.0 (rings_of g) t.1 in
       let name = ring_named d distinct g i ring.0 ring.1 in
-      let e = segment_edge f s.0 s.1 in
-      (name.0, name.1, record {
-        edge = e.0;
-        there = in_contains (edges_of f) e.0 e.1;
-        has = record {
-          positions = ring.0;
-          there = name.2;
-          has = in_any (segment_eq (segment (e.0).0 (e.0).1)) t.0 (segments ring.0) ring.2 (ap (λ z. segment_eq z t.0) e.2 ∙ t.2);
-        };
-      })
+      let e = segment_edge f s.0 s.1 in (
+        name.0,
+        name.1,
+        record {
+          edge = e.0;
+          there = in_contains (edges_of f) e.0 e.1;
+          has = record {
+            positions = ring.0;
+            there = name.2;
+            has = in_any (segment_eq (segment (e.0).0 (e.0).1)) t.0 (segments ring.0) ring.2 (ap (λ z. segment_eq z t.0) e.2 ∙ t.2);
+          };
+        },
+      )
 
   -- the numbers of the other features of these rings, ascending, are those of the neighbours
   pub neighbours_are : (n : ℕ) → f.number ≡ n → (names : List RingName) → ListsUsers d (edges_of f) [] names
@@ -179,8 +180,7 @@ module _ (d : Document) (distinct : are_distinct (map (λ f. f.number) (features
           let b = in_filter other m (map (λ (name : RingName). name.feature) names) a in
           let name = in_mapped (λ (name : RingName). name.feature) m names b.0 in
           let one = (l.all name.0).0 (in_contains l.found name.0 (subst (In name.0) l.appended name.1)) in
-          let g = common_of name.0 one in
-          (
+          let g = common_of name.0 one in (
             g.0,
             g.1,
             both (not ((g.0).number == f.number)) (have_common f g.0) (ap₂ (λ y z. not (y == z)) (g.2 ∙ name.2) number ∙ b.1) g.3,

@@ -1,18 +1,19 @@
 -- The rings that have a segment of some edges, an edge and a ring at a time.
 use Rattle.std.proofs.Common.{◌≡◌, ℕ, ◌+◌, ◌<◌, refl, sym, ap, ap₂, ◌∙◌, subst, List, [], ◌∷◌, ◌++◌, take, length}
-use Rattle.std.proofs.Common.{get_or, Contains, append_assoc, inl, inr, ◌⊎◌, arith}
+use Rattle.std.proofs.Common.{get_or, Contains, append_assoc, inl, inr, arith, cond, true, false}
 use Rattle.std.specs.List.{flat_map}
 use Rattle.std.proofs.lemmas.List.{append-nil, take_more}
 use Rattle.std.proofs.lemmas.List.Concat.{flat_map-append}
 use Rattle.grid_geometry.specs.Position.{Position}
 use Rattle.grid_geometry.specs.Ring.{Edge, edges}
-use Rattle.grid_geometry.specs.Segment.{segment}
+use Rattle.grid_geometry.specs.Orientation.{is_on}
+use Rattle.grid_geometry.specs.Segment.{Segment, segment}
 use Rattle.ring_machine.specs.Document.{Document}
 use Rattle.ring_machine.proofs.First.{In, in-append, in_left, in_right}
 use Rattle.arc_store.specs.declared.names.RingName.{RingName}
 use Rattle.arc_store.specs.Named.{RingHas, ListsRings}
 use Rattle.arc_store.proofs.Members.{contains_in, in_contains}
-use Rattle.point_queries.specs.Users.{HasOne, ListsUsers}
+use Rattle.point_queries.specs.Users.{HasOne, ListsUsers, on_edge}
 
 pub users_none : (d : Document) (old : List RingName) → ListsUsers d [] old old
 users_none d old = record {
@@ -63,3 +64,14 @@ users_more f d xs i x a b c l g h =
     (sym (ap (flat_map f) (take_more xs i x l) ∙ flat_map-append f (take i xs) (get_or xs i x ∷ [])
     ∙ ap (λ z. flat_map f (take i xs) ++ z) (append-nil (f (get_or xs i x)))))
     (users_both d (flat_map f (take i xs)) (f (get_or xs i x)) a b c g h)
+
+-- a segment, where p lies on it
+pub on_listed : (d : Document) (p : Position) (s : Segment) (old new : List RingName) → is_on p s.lo s.hi ≡ true
+    → ListsRings d (segment s.lo s.hi) old new → ListsUsers d (on_edge p s) old new
+on_listed d p s old new h l =
+    subst (λ b. ListsUsers d (cond b ((s.lo, s.hi) ∷ []) []) old new) (sym h) (users_one d s.lo s.hi old new l)
+
+pub off_listed : (d : Document) (p : Position) (s : Segment) (old : List RingName) → is_on p s.lo s.hi ≡ false
+    → ListsUsers d (on_edge p s) old old
+off_listed d p s old h =
+    subst (λ b. ListsUsers d (cond b ((s.lo, s.hi) ∷ []) []) old old) (sym h) (users_none d old)

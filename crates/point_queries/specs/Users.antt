@@ -1,11 +1,17 @@
 -- The rings that have a segment of some edges, and the features that have such rings.
-use Rattle.std.specs.Prelude.{ℕ, ◌≡◌, ◌≢◌, ◌<◌, ◌++◌, ◌↔◌, List, [], ◌∷◌, Contains}
+use Rattle.std.specs.Prelude.{ℕ, ◌≡◌, ◌≢◌, ◌<◌, ◌++◌, ◌↔◌, List, [], ◌∷◌, Contains, if◌then◌else◌}
 use Rattle.std.specs.List.{AllByRecursion}
+use Rattle.grid_geometry.specs.Orientation.{is_on}
+use Rattle.grid_geometry.specs.Position.{Position}
 use Rattle.grid_geometry.specs.Ring.{Edge}
-use Rattle.grid_geometry.specs.Segment.{segment}
+use Rattle.grid_geometry.specs.Segment.{Segment, segment}
 use Rattle.ring_machine.specs.Document.{Document}
 use Rattle.arc_store.specs.declared.names.RingName.{RingName}
 use Rattle.arc_store.specs.Named.{RingHas}
+
+-- the edge of a segment on which p lies
+abbrev pub on_edge : Position → Segment → List Edge
+on_edge p s = if is_on p s.lo s.hi then (s.lo, s.hi) ∷ [] else []
 
 -- the ring with this name has the segment of one of these edges
 pub record HasOne (d : Document) (es : List Edge) (name : RingName) : Type 0 where

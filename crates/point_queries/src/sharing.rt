@@ -98,7 +98,7 @@ fn others<A: Allocator + Copy>(
 }
 
 /// The numbers ascending, each once.
-fn sort_once<A: Allocator + Copy>(found: &mut Vec<u32, A>)
+pub(crate) fn sort_once<A: Allocator + Copy>(found: &mut Vec<u32, A>)
     ensures { IsSorted found.old.items found.new.items }
 {
     found.sort_unstable();
