@@ -89,8 +89,7 @@ module _ (d : Document) (distinct : are_distinct (map (λ f. f.number) (features
       let is : segment h.edge.0 h.edge.1 ≡ s.0 = ap (λ (z : Edge). segment z.0 z.1) (sym e.1) ∙ of_ends d s.0 (near_in s.0 s.1) in
       let g = named_ring d name h.has.positions h.has.there in
       let t = any_in (segment_eq (segment h.edge.0 h.edge.1)) (segments h.has.positions) h.has.has in
-      let same : s.0 ≡ t.0 = sym is ∙ segment_eq-true (segment h.edge.0 h.edge.1) t.0 t.2 in
-      (
+      let same : s.0 ≡ t.0 = sym is ∙ segment_eq-true (segment h.edge.0 h.edge.1) t.0 t.2 in (
         g.0,
         g.1,
         in_any (λ s. is_on p s.lo s.hi) t.0 (segments_of g.0)
@@ -107,16 +106,19 @@ module _ (d : Document) (distinct : are_distinct (map (λ f. f.number) (features
       let all : In s.0 (all_segments d) = in-flat_map segments ring.0 s.0 (rings d) (in-flat_map rings_of g ring.0 (features d) i ring.1) ring.2 in
       let there : In s.0 near =
       subst (In s.0) (sym n.appended) (contains_in n.found s.0 (n.covers s.0 (segment_in d s.0 all) (on_meets p s.0 s.2))) in
-      let name = ring_named d distinct g i ring.0 ring.1 in
-      (name.0, name.1, record {
-        edge = ((s.0).lo, (s.0).hi);
-        there = in_contains (flat_map (on_edge p) near) ((s.0).lo, (s.0).hi) (in-flat_map (on_edge p) s.0 ((s.0).lo, (s.0).hi) near there (on_edge_there p s.0 s.2));
-        has = record {
-          positions = ring.0;
-          there = name.2;
-          has = in_any (segment_eq (segment (s.0).lo (s.0).hi)) s.0 (segments ring.0) ring.2 (ap (λ z. segment_eq z s.0) (of_ends d s.0 all) ∙ segment_ordered.eq-refl s.0);
-        };
-      })
+      let name = ring_named d distinct g i ring.0 ring.1 in (
+        name.0,
+        name.1,
+        record {
+          edge = ((s.0).lo, (s.0).hi);
+          there = in_contains (flat_map (on_edge p) near) ((s.0).lo, (s.0).hi) (in-flat_map (on_edge p) s.0 ((s.0).lo, (s.0).hi) near there (on_edge_there p s.0 s.2));
+          has = record {
+            positions = ring.0;
+            there = name.2;
+            has = in_any (segment_eq (segment (s.0).lo (s.0).hi)) s.0 (segments ring.0) ring.2 (ap (λ z. segment_eq z s.0) (of_ends d s.0 all) ∙ segment_ordered.eq-refl s.0);
+          };
+        },
+      )
 
   -- the numbers of the features of these rings, ascending, are those on whose borders p lies
   pub border_are : (names : List RingName) → ListsUsers d (flat_map (on_edge p) near) [] names

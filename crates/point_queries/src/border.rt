@@ -41,10 +41,7 @@ fn push_on<'a, I: SegIndex, A: Allocator + Copy>(
 }
 
 /// The numbers of the features of these rings.
-fn numbers_of<A: Allocator + Copy>(
-    alloc: A,
-    names: &[RingName],
-) -> Result<Vec<u32, A>, AllocError>
+fn numbers_of<A: Allocator + Copy>(alloc: A, names: &[RingName]) -> Result<Vec<u32, A>, AllocError>
     ensures { IfOk result (λ found. found.items ≡ map (λ name. name.feature) names.now) }
 {
     let mut found = Vec::with_capacity(alloc, names.len())?;

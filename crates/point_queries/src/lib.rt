@@ -8,3 +8,6 @@ mod sharing;
 pub use area::{NoFeature, area2_of};
 pub use border::border_at;
 pub use sharing::{QueryFault, neighbours};
+
+#[cfg(test)]
+mod tests;
