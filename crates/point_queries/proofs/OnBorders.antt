@@ -1,17 +1,17 @@
 -- The features on whose borders a position lies, by the segments near it.
-use Rattle.std.proofs.Common.{◌≡◌, ℕ, ℤ, Bool, true, false, refl, sym, ap, ap₂, ◌∙◌, subst, cond, ◌&&◌, ◌||◌, arith}
-use Rattle.std.proofs.Common.{List, [], ◌∷◌, map, inl, inr, Contains, int_le}
-use Rattle.std.specs.List.{flat_map, list_any}
+use Rattle.std.proofs.Common.{◌≡◌, ℕ, ℤ, Bool, true, false, refl, sym, ap, ap₂, ◌∙◌, subst, cond, ◌&&◌, arith}
+use Rattle.std.proofs.Common.{List, [], ◌∷◌, map, inl, inr, int_le}
+use Rattle.std.specs.List.{flat_map}
 use Rattle.std.specs.Int.{int_min, int_max}
 use Rattle.std.proofs.lemmas.Bool.{false≢true}
 use Rattle.std.proofs.lemmas.Int.{ints, clamps}
-use Rattle.grid_geometry.specs.Orientation.{orientation, is_on, is_between, is_in_box}
+use Rattle.grid_geometry.specs.Orientation.{is_on, is_between, is_in_box}
 use Rattle.grid_geometry.specs.Position.{Position}
 use Rattle.grid_geometry.specs.Ring.{Edge, edges}
 use Rattle.grid_geometry.specs.Segment.{Segment, Box, segment, segment_eq, box_of, boxes_meet}
 use Rattle.grid_geometry.proofs.Conflicts.{segment-comm}
 use Rattle.ring_machine.specs.Document.{Document, Feature}
-use Rattle.ring_machine.specs.Parts.{features, rings, rings_of, is_segment, all_segments}
+use Rattle.ring_machine.specs.Parts.{features, rings, rings_of, all_segments}
 use Rattle.ring_machine.specs.Query.{segments_of, is_on_border, border_at}
 use Rattle.ring_machine.specs.Ring.{segment_of, segments}
 use Rattle.ring_machine.specs.WellFormed.{are_distinct}

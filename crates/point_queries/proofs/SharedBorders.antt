@@ -1,6 +1,6 @@
 -- Two features have a segment in common where a ring of one has the segment of an edge of the other.
-use Rattle.std.proofs.Common.{◌≡◌, ◌≢◌, ℕ, zero, suc, Bool, true, false, refl, sym, ap, ap₂, ◌∙◌, subst, cond}
-use Rattle.std.proofs.Common.{List, [], ◌∷◌, map, inl, inr, Contains, Option, Some, None, option_map, ◌&&◌}
+use Rattle.std.proofs.Common.{◌≡◌, ℕ, suc, Bool, true, false, refl, sym, ap, ap₂, ◌∙◌, subst, cond}
+use Rattle.std.proofs.Common.{List, [], ◌∷◌, map, inl, inr, Option, Some, None, option_map, ◌&&◌}
 use Rattle.std.specs.Prelude.{not, ◌==◌, unwrap_or, slice_get}
 use Rattle.std.specs.List.{find, filter, flat_map, list_any}
 use Rattle.std.proofs.lemmas.Bool.{false≢true}
@@ -18,9 +18,7 @@ use Rattle.ring_machine.proofs.First.{In, filter-in}
 use Rattle.ring_machine.proofs.Neighbours.{in-map, in-flat_map}
 use Rattle.ring_machine.proofs.Order.{and_both}
 use Rattle.ring_machine.proofs.Removal.{not_true}
-use Rattle.ring_machine.proofs.RingSegments.{segment_eq-true}
 use Rattle.arc_store.specs.declared.names.RingName.{RingName}
-use Rattle.arc_store.specs.Named.{RingHas}
 use Rattle.arc_store.specs.Readers.{Shown, shown, element, ring_at}
 use Rattle.arc_store.proofs.Members.{contains_in, in_contains, in_filter, in_mapped, in_flat, any_in, in_any}
 use Rattle.arc_store.proofs.NameLists.{element_is}

@@ -1,19 +1,19 @@
 -- The rings that have a segment of some edges, an edge and a ring at a time.
-use Rattle.std.proofs.Common.{◌≡◌, ℕ, ◌+◌, ◌<◌, refl, sym, ap, ap₂, ◌∙◌, subst, List, [], ◌∷◌, ◌++◌, take, length}
-use Rattle.std.proofs.Common.{get_or, Contains, append_assoc, inl, inr, arith, cond, true, false}
+use Rattle.std.proofs.Common.{◌≡◌, ℕ, ◌+◌, ◌<◌, refl, sym, ap, ◌∙◌, subst, List, [], ◌∷◌, ◌++◌, take, length}
+use Rattle.std.proofs.Common.{get_or, append_assoc, inl, inr, arith, cond, true, false}
 use Rattle.std.specs.List.{flat_map}
 use Rattle.std.proofs.lemmas.List.{append-nil, take_more}
 use Rattle.std.proofs.lemmas.List.Concat.{flat_map-append}
 use Rattle.grid_geometry.specs.Position.{Position}
-use Rattle.grid_geometry.specs.Ring.{Edge, edges}
+use Rattle.grid_geometry.specs.Ring.{Edge}
 use Rattle.grid_geometry.specs.Orientation.{is_on}
 use Rattle.grid_geometry.specs.Segment.{Segment, segment}
 use Rattle.ring_machine.specs.Document.{Document}
-use Rattle.ring_machine.proofs.First.{In, in-append, in_left, in_right}
+use Rattle.ring_machine.proofs.First.{in-append, in_left, in_right}
 use Rattle.arc_store.specs.declared.names.RingName.{RingName}
 use Rattle.arc_store.specs.Named.{RingHas, ListsRings}
 use Rattle.arc_store.proofs.Members.{contains_in, in_contains}
-use Rattle.point_queries.specs.Users.{HasOne, ListsUsers, on_edge}
+use Rattle.point_queries.specs.Users.{ListsUsers, on_edge}
 
 pub users_none : (d : Document) (old : List RingName) → ListsUsers d [] old old
 users_none d old = record {

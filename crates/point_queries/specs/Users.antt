@@ -1,5 +1,5 @@
 -- The rings that have a segment of some edges, and the features that have such rings.
-use Rattle.std.specs.Prelude.{ℕ, ◌≡◌, ◌≢◌, ◌<◌, ◌++◌, ◌↔◌, List, [], ◌∷◌, Contains, if◌then◌else◌}
+use Rattle.std.specs.Prelude.{ℕ, ◌≡◌, ◌<◌, ◌++◌, ◌↔◌, List, [], ◌∷◌, Contains, if◌then◌else◌}
 use Rattle.std.specs.List.{AllByRecursion}
 use Rattle.grid_geometry.specs.Orientation.{is_on}
 use Rattle.grid_geometry.specs.Position.{Position}

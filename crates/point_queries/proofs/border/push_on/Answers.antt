@@ -1,4 +1,4 @@
-use Rattle.std.proofs.Common.{◌≡◌, ◌∙◌, ◌<◌, sym, ap, subst, length, get_or, arith}
+use Rattle.std.proofs.Common.{◌∙◌, ◌<◌, sym, ap, subst, length, arith}
 use Rattle.grid_geometry.specs.Segment.{Segment, segment}
 use Rattle.arc_store.specs.Named.{ListsRings}
 use Rattle.point_queries.specs.Users.{ListsUsers, on_edge}

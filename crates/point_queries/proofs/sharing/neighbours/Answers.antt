@@ -1,13 +1,13 @@
-use Rattle.std.proofs.Common.{◌≡◌, ◌<◌, ◌≤◌, ◌∙◌, refl, sym, ap, subst, true, false, List, [], length, get_or, arith, take, take_all, map, Some, Option, IfErr}
-use Rattle.std.specs.Prelude.{is_some, unwrap_or, slice_get, not, ◌==◌, option_map}
+use Rattle.std.proofs.Common.{◌≡◌, ◌<◌, ◌≤◌, ◌∙◌, sym, ap, subst, true, [], length, arith, take_all, map, IfErr}
+use Rattle.std.specs.Prelude.{is_some, unwrap_or, slice_get, not, ◌==◌}
 use Rattle.std.specs.List.{filter, flat_map}
 use Rattle.std.proofs.lemmas.List.{length-map}
 use Rattle.std.proofs.lemmas.Result.{err_from_is_err_and}
 use Rattle.grid_geometry.specs.Ring.{edges}
-use Rattle.ring_machine.specs.Parts.{has_feature, feature, features}
+use Rattle.ring_machine.specs.Parts.{has_feature}
 use Rattle.ring_machine.specs.Refusals.{feature_at}
 use Rattle.point_queries.specs.Told.{Tells}
-use Rattle.point_queries.specs.Users.{ListsUsers, IsSorted}
+use Rattle.point_queries.specs.Users.{ListsUsers}
 use Rattle.point_queries.proofs.SharedBorders.{edges_of, shown_number, neighbours_are}
 use Rattle.point_queries.proofs.Sharers.{users_more}
 use Rattle.point_queries.proofs.Shows.{numbers_shown, count_is, is_shown}

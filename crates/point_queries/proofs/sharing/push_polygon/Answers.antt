@@ -1,4 +1,4 @@
-use Rattle.std.proofs.Common.{◌≡◌, ◌<◌, ◌≤◌, ap, subst, [], length, get_or, arith, take, take_all}
+use Rattle.std.proofs.Common.{◌<◌, ◌≤◌, subst, [], length, get_or, arith, take_all}
 use Rattle.std.specs.List.{flat_map}
 use Rattle.grid_geometry.specs.Ring.{edges}
 use Rattle.ring_machine.specs.Refusals.{feature_at}

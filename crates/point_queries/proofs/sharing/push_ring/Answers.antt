@@ -1,8 +1,6 @@
 use Rattle.std.proofs.Common.{◌≡◌, ◌∙◌, refl, sym, ap, subst, List, [], ◌∷◌, ◌++◌, append_assoc, get_or}
-use Rattle.grid_geometry.specs.Position.{Position}
 use Rattle.grid_geometry.specs.Ring.{Edge, edges, links}
 use Rattle.ring_machine.specs.Refusals.{feature_at}
-use Rattle.arc_store.specs.declared.names.RingName.{RingName}
 use Rattle.point_queries.specs.Users.{ListsUsers}
 use Rattle.point_queries.proofs.Sharers.{users_none, users_one, users_both}
 use Rattle.point_queries.proofs.Shows.{ring_read, no_ring_read}
