@@ -1,7 +1,7 @@
 -- The table of rings' names: how it grows, and that a ring has one name.
 use Rattle.std.proofs.Common.{◌≡◌, ◌≢◌, ℕ, zero, suc, ◌+◌, ◌<◌, ◌≤◌, Bool, true, false, refl, sym, ap, ap₂}
-use Rattle.std.proofs.Common.{◌∙◌, subst, List, [], ◌∷◌, ◌++◌, map, length, slice_set, ◌⊎◌, inl, inr, arith}
-use Rattle.std.proofs.Common.{Option, Some, None, option_map, get_or, ◌&&◌, ◌||◌}
+use Rattle.std.proofs.Common.{◌∙◌, subst, List, [], ◌∷◌, ◌++◌, length, slice_set, ◌⊎◌, inl, inr, arith}
+use Rattle.std.proofs.Common.{Option, Some, None, ◌&&◌, ◌||◌}
 use Rattle.std.specs.Prelude.{not, ◌==◌, unwrap_or, slice_get}
 use Rattle.std.specs.List.{flat_map}
 use Rattle.std.proofs.lemmas.Bool.{false≢true}
@@ -17,7 +17,7 @@ use Rattle.arc_store.specs.Keyed.{all_rings}
 use Rattle.arc_store.specs.Named.{number_at, IsNamed, Gain, AreNamed}
 use Rattle.arc_store.specs.Readers.{element}
 use Rattle.arc_store.proofs.KeyRings.{has_key}
-use Rattle.arc_store.proofs.Members.{in_any, in_flat}
+use Rattle.arc_store.proofs.Members.{in_any}
 use Rattle.arc_store.proofs.RingReads.{in_get}
 
 -- ---- the table grows

@@ -1,18 +1,16 @@
 -- The rings of a segment by their names.
-use Rattle.std.proofs.Common.{◌≡◌, ◌≢◌, ℕ, zero, suc, ◌+◌, ◌<◌, Bool, true, false, refl, sym, ap, ap₂, ◌∙◌, subst}
+use Rattle.std.proofs.Common.{◌≡◌, ◌≢◌, ℕ, zero, suc, ◌+◌, ◌<◌, true, refl, sym, ap, ap₂, ◌∙◌, subst}
 use Rattle.std.proofs.Common.{List, [], ◌∷◌, ◌++◌, map, take, length, get_or, inl, inr, arith, Contains}
 use Rattle.std.proofs.Common.{Option, Some, None, option_map, append_assoc, ◌⊎◌, ◌≤◌}
-use Rattle.std.specs.Prelude.{unwrap_or, slice_get, IfNone, IsTrue, Vec}
+use Rattle.std.specs.Prelude.{unwrap_or, slice_get, IfNone, Vec}
 use Rattle.std.specs.FinMap as table
 use Rattle.std.specs.List.{filter_map, cons_option, list_any, AllByRecursion}
 use Rattle.std.proofs.lemmas.List.{append-nil, take_more}
 use Rattle.std.proofs.lemmas.List.Elements.{filter_map-append}
 use Rattle.std.proofs.lemmas.Option.{slice_get-map}
 use Rattle.grid_geometry.specs.Position.{Position}
-use Rattle.grid_geometry.specs.Segment.{Segment, segment, segment_eq}
-use Rattle.ring_machine.specs.Document.{Document}
+use Rattle.grid_geometry.specs.Segment.{Segment, segment}
 use Rattle.ring_machine.specs.Parts.{rings}
-use Rattle.ring_machine.specs.Ring.{segments}
 use Rattle.ring_machine.specs.WellFormed.{are_distinct}
 use Rattle.ring_machine.proofs.First.{In, filter-in}
 use Rattle.ring_machine.proofs.Neighbours.{in-map}
@@ -30,7 +28,7 @@ use Rattle.arc_store.specs.Kept.{stored}
 use Rattle.arc_store.specs.Named.{number_at, IsNamed, AreNamed, name_in, name_of, RingHas, AreOnce, ListsRings}
 use Rattle.arc_store.specs.Readers.{element, ring_at}
 use Rattle.arc_store.specs.Spots.{users}
-use Rattle.arc_store.specs.Stored.{Stored, place, document_of, ring_under}
+use Rattle.arc_store.specs.Stored.{Stored, document_of, ring_under}
 use Rattle.arc_store.proofs.Base.{framed, place_is, place_kept, rings_are}
 use Rattle.arc_store.proofs.Ends.{segment_ends}
 use Rattle.arc_store.proofs.FrameLemmas.{frame_rings}

@@ -1,6 +1,5 @@
 -- What an index gives near a box, as segments of the document.
-use Rattle.std.proofs.Common.{◌≡◌, ℕ, Bool, true, sym, ap, ◌∙◌, subst, List, Contains}
-use Rattle.std.specs.List.{list_any}
+use Rattle.std.proofs.Common.{◌≡◌, ℕ, Bool, true, sym, ◌∙◌, subst, List, Contains}
 use Rattle.grid_geometry.specs.Segment.{Segment, Box, segment_eq}
 use Rattle.ring_machine.specs.Document.{Document}
 use Rattle.ring_machine.proofs.Orders.{segment_ordered}

@@ -6,7 +6,6 @@ use Rattle.grid_geometry.specs.Segment.{Segment, segment_eq}
 use Rattle.ring_machine.specs.Document.{Document}
 use Rattle.ring_machine.specs.Ring.{segments}
 use Rattle.arc_store.specs.declared.names.RingName.{RingName}
-use Rattle.arc_store.specs.Keyed.{all_rings}
 use Rattle.arc_store.specs.Readers.{element, ring_at}
 
 -- ---- the table
