@@ -64,7 +64,6 @@ module _ {R : Type 0} where
       (items_numbered n all l.pieces) (layers_numbered (n + length (leaves_in l.pieces)) all ls)
       (ap (λ z. n + z) (sym (items_length n all l.pieces)))
 
-
 -- ---- changed rings
 
 module _ {R S : Type 0} (g : R → S) where

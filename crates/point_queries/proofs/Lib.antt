@@ -1,2 +1,6 @@
 mod Shows
 mod Rest
+mod Sharers
+mod Ascending
+mod SharedBorders
+mod OnBorders
