@@ -8,15 +8,15 @@ use Rattle.std.proofs.lemmas.Bool.Decides.{nat_tests}
 use Rattle.std.proofs.lemmas.List.{length-append, length-map}
 use Rattle.std.proofs.lemmas.Option.{slice_get-map, slice_get_within}
 use Rattle.grid_geometry.specs.Position.{Position}
-use Rattle.ring_machine.specs.Document.{Form, Head, FeatureOf, Open, Close, Leaf, Kept, Layer, Document}
-use Rattle.ring_machine.specs.Parts.{feature_of, features, feature, in_feature, in_item, in_layer, in_rings}
+use Rattle.ring_machine.specs.Document.{Form, Head, FeatureOf, Layer, Document}
+use Rattle.ring_machine.specs.Parts.{feature_of, features, feature, in_feature, in_rings}
 use Rattle.ring_machine.proofs.RingsOf.{features-in_rings}
 use Rattle.topo_outline.specs.declared.document.KeptMember.{KeptMember}
 use Rattle.topo_outline.specs.declared.document.RawFeature.{RawFeature}
 use Rattle.topo_outline.specs.declared.document.RawLayer.{RawLayer}
 use Rattle.topo_outline.specs.Outline.{leaves_in, leaves}
 use Rattle.topo_outline.specs.Shape.{Piece, starts, ends, leaf, text, LayerText}
-use Rattle.topo_outline.specs.Views.{form_of, view_head, view_item, view_layer, view_kept}
+use Rattle.topo_outline.specs.Views.{form_of, view_head, view_layer, view_kept}
 use Rattle.topo_reader.specs.Document as opened
 use Rattle.topo_reader.specs.Document.{polygons_at, numbered, items_from, layers_from}
 use Rattle.map_opening.specs.Laying.{polygon_numbers, feature_numbers}

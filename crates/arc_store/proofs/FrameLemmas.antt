@@ -1,8 +1,8 @@
 -- The features of a frame: how many they are, that they are numbered in order, and their rings.
-use Rattle.std.proofs.Common.{◌≡◌, ℕ, suc, ◌+◌, ◌<◌, Bool, true, false, arith, refl}
-use Rattle.std.proofs.Common.{sym, ap, ap₂, ◌∙◌, subst, List, [], ◌∷◌, ◌++◌, length, map}
+use Rattle.std.proofs.Common.{◌≡◌, ℕ, ◌+◌, arith, refl}
+use Rattle.std.proofs.Common.{sym, ap, ap₂, ◌∙◌, List, [], ◌∷◌, length, map}
 use Rattle.std.proofs.Common.{◌&&◌, ◌||◌}
-use Rattle.std.specs.Prelude.{◌==◌, nat_lt, nat_le, not}
+use Rattle.std.specs.Prelude.{◌==◌, nat_lt, nat_le}
 use Rattle.std.specs.List.{list_any, flat_map, filter_map}
 use Rattle.std.proofs.lemmas.Bool.Decides.{nat_tests}
 use Rattle.std.proofs.lemmas.List.{length-append, length-map, take_all}

@@ -38,3 +38,4 @@ pub mod NearLemmas
 mod Examples
 pub mod Copied
 pub mod Listed
+pub mod Ranged

@@ -1,5 +1,7 @@
 ghost use Rattle.std.specs.Prelude.{◌≡◌, ◌≤◌, map, length, option_map, unwrap_or, slice_get, IsTrue};
-ghost use Rattle.ring_machine.specs.Parts.{feature, features, size};
+ghost use Rattle.std.specs.List.{AllByRecursion};
+ghost use Rattle.grid_geometry.specs.Position.{InRange};
+ghost use Rattle.ring_machine.specs.Parts.{feature, features, rings, size};
 ghost use Rattle.ring_machine.specs.Planar.{Proper};
 ghost use Rattle.ring_machine.specs.WellFormed.{are_distinct, WellFormed};
 ghost use Rattle.topo_outline.specs.Kept.{KeepsTexts};
@@ -95,7 +97,10 @@ impl<'a, I: SegIndex, A: Allocator + Copy> Map<'a, I, A> {
         ensures formed { WellFormed self.now.doc }
         ensures keeps { KeepsTexts self.now.doc }
         ensures proper { Proper self.now.doc }
+        ensures range { AllByRecursion (AllByRecursion InRange) (rings self.now.doc) }
+        ensures small { size self.now.doc ≤ 4000000 }
     {
+        let _ = self.vertices.len(); // it tells that the positions are in range
         FrameView {
             transform: self.frame.transform,
             layers: self.frame.layers.as_slice(),

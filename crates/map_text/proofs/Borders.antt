@@ -127,20 +127,20 @@ module _ (d : Document) (are : (ring : List Position) → In ring (rings d) → 
   abbrev pub junction : Position → Bool
   junction p = is_junction d p
 
-  abbrev beside : Position → Segment
+  abbrev pub beside : Position → Segment
   beside p = first_of (around d p)
 
-  proper : (ring : List Position) → In ring (rings d) → Ring ring
+  pub proper : (ring : List Position) → In ring (rings d) → Ring ring
   proper ring i = ring_parts ring (are ring i)
 
   -- where pieces end, and how one goes on
-  abbrev ends : Position → Bool
+  abbrev pub ends : Position → Bool
   ends p = k junction beside (rings d) proper (neighbours d) p
 
-  abbrev goes : Position → Position → Position
+  abbrev pub goes : Position → Position → Position
   goes u v = next junction beside (rings d) proper (neighbours d) u v
 
-  simple : AllByRecursion (Simple ends goes) (flat_map (pieces junction) (rings d))
+  pub simple : AllByRecursion (Simple ends goes) (flat_map (pieces junction) (rings d))
   simple = each-flat_map (Simple ends goes) (pieces junction) (rings d) (λ ring i. all_simple ends goes (pieces junction ring)
       (ring_pieces junction beside (rings d) proper (neighbours d) ring i)
       (λ s. let e = ring_times junction s ring in let m = ring_at_most s ring (proper ring i) in omega arith))

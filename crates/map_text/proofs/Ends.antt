@@ -93,7 +93,7 @@ arcs_cut d = each_arc (IsCut (is_junction d)) d (λ ring i. ring_cut (is_junctio
 
 -- ---- their positions
 
-long_cut : (j : Position → Bool) (arc : List Position) → IsCut j arc → 2 ≤ length arc
+pub long_cut : (j : Position → Bool) (arc : List Position) → IsCut j arc → 2 ≤ length arc
 long_cut j arc (between p q inner is at_p at_q free) = omega (arith, ap length is, length-append inner (q ∷ []))
 long_cut j arc (closed p inner is free) = omega (arith, ap length is, length-append inner (p ∷ []))
 

@@ -74,7 +74,7 @@ kept_arc : (arcs pss : List Arc) (ps : List Position) → is_arc arcs ps ≡ tru
 kept_arc arcs [] ps h = h
 kept_arc arcs (qs ∷ pss) ps h = kept_arc (with_piece arcs qs) pss ps (stays_arc arcs qs ps h)
 
-all_arcs : (arcs pss : List Arc) → AllByRecursion (λ ps. is_arc (with_pieces arcs pss) ps ≡ true) pss
+pub all_arcs : (arcs pss : List Arc) → AllByRecursion (λ ps. is_arc (with_pieces arcs pss) ps ≡ true) pss
 all_arcs arcs [] = tt
 all_arcs arcs (ps ∷ pss) = (kept_arc (with_piece arcs ps) pss ps (becomes_arc arcs ps), all_arcs (with_piece arcs ps) pss)
 

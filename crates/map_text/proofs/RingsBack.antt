@@ -2,7 +2,7 @@
 use Rattle.std.proofs.Common.{◌≡◌, ◌≢◌, ◌≤◌, Bool, true, false, refl, sym, ap, ◌∙◌, subst, cond}
 use Rattle.std.proofs.Common.{List, [], ◌∷◌, ◌++◌, arith, length}
 use Rattle.std.specs.Prelude.{not}
-use Rattle.std.specs.List.{flat_map}
+use Rattle.std.specs.List.{flat_map, AllByRecursion}
 use Rattle.std.proofs.lemmas.Bool.{false≢true}
 use Rattle.std.proofs.lemmas.List.{append-nil, length-append}
 use Rattle.grid_geometry.specs.Position.{Position, position_eq}
@@ -41,7 +41,7 @@ cut_chain j p (v ∷ ws) z = tail ws (cut_chain j v ws z)
 -- ---- their positions
 
 -- no two neighbours are equal
-abbrev Apart : List Position → Type 0
+abbrev pub Apart : List Position → Type 0
 Apart [] = Unit {0}
 Apart (p ∷ []) = Unit {0}
 Apart (p ∷ q ∷ ps) = (p ≢ q) × Apart (q ∷ ps)
@@ -81,6 +81,34 @@ apart_round : (q v : Position) (vs : List Position) → is_distinct (q ∷ v ∷
 apart_round q v vs d =
     let d' = and_both (not (has (v ∷ vs) q)) _ d in
     (differs q v (none_parts (position_eq q v) _ (not_true _ d'.0)).0, apart_to q v vs d'.1 (not_true _ d'.0))
+
+-- ---- neighbours in a piece
+
+led_apart : (p q r : Position) (pss : List Arc) → Begins q r pss → p ≢ q → AllByRecursion Apart pss → AllByRecursion Apart (led_from p pss)
+led_apart p q r pss b n h = subst (λ z. AllByRecursion Apart z → AllByRecursion Apart (led_from p z)) (sym b.is) (λ k. ((n, k.0), k.1)) h
+
+way_apart : (j : Position → Bool) (p q : Position) (qs : List Position) → Apart (p ∷ q ∷ qs) → AllByRecursion Apart (cut_way j p (q ∷ qs))
+way_apart j p q [] a = ((a.0, tt), tt)
+way_apart j p q (r ∷ rs) a = by (j q) (first_part j q r rs) (way_apart j q r rs a.1)
+  where
+    by : (b : Bool) → Begins q r (cut_way j q (r ∷ rs)) → AllByRecursion Apart (cut_way j q (r ∷ rs))
+        → AllByRecursion Apart (cond b ((p ∷ q ∷ []) ∷ cut_way j q (r ∷ rs)) (led_from p (cut_way j q (r ∷ rs))))
+    by true f h = ((a.0, tt), h)
+    by false f h = led_apart p q r (cut_way j q (r ∷ rs)) f a.0 h
+
+-- no two neighbours in a piece of a ring are equal
+pub pieces_apart : (j : Position → Bool) (ring : List Position) → is_ring ring ≡ true → AllByRecursion Apart (pieces j ring)
+pieces_apart j ring is =
+    let r = ring_parts ring is in
+    let t = begun_rotated j ring in
+    go (begun j ring)
+    (omega (arith, r.long, ap length t.from, ap length t.to, length-append t.us t.vs, length-append t.vs t.us))
+    (rotated_distinct ring (begun j ring) t r.distinct)
+  where
+    go : (ps : List Position) → 3 ≤ length ps → is_distinct ps ≡ true → AllByRecursion Apart (cut_round j ps)
+    go [] l d = tt
+    go (q ∷ []) l d = absurd (omega (arith, l))
+    go (q ∷ v ∷ vs) l d = way_apart j q v (vs ++ q ∷ []) (apart_round q v vs d)
 
 -- ---- the ring
 

@@ -78,7 +78,7 @@ module _ (arcs : List (List Position)) (ps : List Position) (g0 g1 g2 : Edge →
       h2 e ∙ ap₂ (λ x y. cond (edge_eq x e) (Some y) (g1 e)) le ke ∙ ap (λ o. cond (edge_eq (last_edge ps) e) (Some (negsuc (length arcs))) o) (one e)
       ∙ cases e (edge_eq (last_edge ps) e) (edge_eq (first_edge ps) e) refl refl ∙ sym (found_new arcs ps e)
 
-at_same : (ps : List Position) (i : ℕ) (d e : Position) → i < length ps → get_or ps i d ≡ get_or ps i e
+pub at_same : (ps : List Position) (i : ℕ) (d e : Position) → i < length ps → get_or ps i d ≡ get_or ps i e
 at_same [] i d e h = absurd (omega arith)
 at_same (p ∷ ps) zero d e h = refl
 at_same (p ∷ ps) (suc i) d e h = at_same ps i d e (omega arith)

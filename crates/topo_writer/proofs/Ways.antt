@@ -2,15 +2,16 @@
 -- an edge are those that are found whole.
 use Rattle.std.proofs.Common.{◌≡◌, ℕ, ◌+◌, ◌-◌, ◌≤◌, Bool, true, false, refl, sym, ap, ap₂, ◌∙◌}
 use Rattle.std.proofs.Common.{subst, cond, List, [], ◌∷◌, ◌++◌, ◌||◌, arith, length, reverse}
-use Rattle.std.proofs.Common.{append_assoc, Option, Some, None, ℤ, pos, negsuc, map, append-nil}
+use Rattle.std.proofs.Common.{◌<◌, take, drop, append_assoc, Option, Some, None, ℤ, pos, negsuc, map}
 use Rattle.std.specs.Prelude.{is_some, unwrap_or}
 use Rattle.std.specs.List.{AllByRecursion}
 use Rattle.std.proofs.lemmas.Bool.{false≢true}
-use Rattle.std.proofs.lemmas.List.{reverse-reverse, get_or-reverse, length-reverse}
+use Rattle.std.proofs.lemmas.List.{drop_more, reverse-reverse, get_or-reverse, length-reverse}
 use Rattle.grid_geometry.specs.Position.{Position, position, position_eq}
 use Rattle.ring_machine.specs.Ring.{edge_eq}
 use Rattle.ring_machine.proofs.Order.{and_both, position_eq-true}
 use Rattle.ring_machine.proofs.Pieces.{IsPiece, same_piece, reversed}
+use Rattle.map_text.specs.Arcs.{begun, cut_round, pieces}
 use Rattle.map_text.specs.Arcs.{led_from, cut_way, are_equal, index_from, is_arc, with_piece}
 use Rattle.map_text.specs.Arcs.{with_pieces, index_of}
 use Rattle.map_text.proofs.Indexed.{becomes_arc}
@@ -19,6 +20,7 @@ use Rattle.map_text.proofs.OnceEach.{are_equal-true, are_equal-refl}
 use Rattle.topo_writer.specs.Found.{first_edge, last_edge, found_from, found, with_found, Fits, at_place}
 use Rattle.topo_writer.specs.Ways.{cut_after, all_found, indexes_found, FitAll}
 use Rattle.topo_writer.proofs.FoundLaws.{edge_eq-refl}
+use Rattle.topo_writer.proofs.Later.{index_kept, with_pieces_new}
 
 -- ---- cutting
 
@@ -46,6 +48,17 @@ cut_after_is j us p (q ∷ r ∷ rs) = by (j q) (cut_after_is j [] q (r ∷ rs))
 
 pub cut_way_is : (j : Position → Bool) (p : Position) (ws : List Position) → cut_after j (p ∷ []) ws ≡ cut_way j p ws
 cut_way_is j p ws = cut_after_is j [] p ws ∙ none_before (cut_way j p ws)
+
+-- the way round a ring from its first junction
+pub round_is : (j : Position → Bool) (ring way : List Position) (n : ℕ) → n < length ring
+    → begun j ring ≡ drop n ring ++ take n ring → way ≡ (drop n ring ++ take n ring) ++ at_place ring n ∷ []
+    → cut_after j (take 1 way) (drop 1 way) ≡ pieces j ring
+round_is j ring way n l b e =
+    let x : Position = at_place ring n in
+    let ys : List Position = drop (n + 1) ring ++ take n ring in
+    let whole : drop n ring ++ take n ring ≡ x ∷ ys = ap (λ z. z ++ take n ring) (drop_more ring n (position (pos 0) (pos 0)) l) in
+    let w : way ≡ x ∷ (ys ++ x ∷ []) = e ∙ ap (λ z. z ++ x ∷ []) whole in
+    ap (λ z. cut_after j (take 1 z) (drop 1 z)) w ∙ cut_way_is j x (ys ++ x ∷ []) ∙ ap (cut_round j) (sym (b ∙ whole))
 
 -- ---- finding
 
@@ -134,30 +147,6 @@ module _ (k : Position → Bool) (next : Position → Position → Position) whe
 
   -- ---- all pieces, one after another
 
-  index_kept : (n : ℕ) (arcs new : List (List Position)) (ps : List Position) → is_arc arcs ps ≡ true → index_from n (arcs ++ new) ps ≡ index_from n arcs ps
-  index_kept n [] new ps h = absurd (false≢true h)
-  index_kept n (a ∷ arcs) new ps h = by (are_equal a ps) (are_equal (reverse a) ps) h (index_kept (n + 1) arcs new ps)
-    where
-      by : (b c : Bool) → ((b || c) || is_arc arcs ps) ≡ true → (is_arc arcs ps ≡ true → index_from (n + 1) (arcs ++ new) ps ≡ index_from (n + 1) arcs ps)
-          → cond b (Some (pos n)) (cond c (Some (negsuc n)) (index_from (n + 1) (arcs ++ new) ps)) ≡ cond b (Some (pos n)) (cond c (Some (negsuc n)) (index_from (n + 1) arcs ps))
-      by true c t f = refl
-      by false true t f = refl
-      by false false t f = f t
-
-  with_piece_new : (arcs : List (List Position)) (ps : List Position) → (new : List (List Position)) × (with_piece arcs ps ≡ arcs ++ new)
-  with_piece_new arcs ps = by (is_arc arcs ps)
-    where
-      by : (b : Bool) → (new : List (List Position)) × (cond b arcs (arcs ++ ps ∷ []) ≡ arcs ++ new)
-      by true = ([], sym (append-nil arcs))
-      by false = (ps ∷ [], refl)
-
-  with_pieces_new : (arcs pss : List (List Position)) → (new : List (List Position)) × (with_pieces arcs pss ≡ arcs ++ new)
-  with_pieces_new arcs [] = ([], sym (append-nil arcs))
-  with_pieces_new arcs (ps ∷ pss) =
-      let w = with_piece_new arcs ps in
-      let r = with_pieces_new (with_piece arcs ps) pss in
-      (w.0 ++ r.0, r.1 ∙ ap (λ z. z ++ r.0) w.1 ∙ append_assoc arcs w.0 r.0)
-
   borders_more : (arcs : List (List Position)) (ps : List Position) → AllByRecursion Border arcs → Border ps → AllByRecursion Border (with_piece arcs ps)
   borders_more arcs ps h b = by (is_arc arcs ps)
     where
@@ -204,7 +193,7 @@ module _ (k : Position → Bool) (next : Position → Position → Position) whe
     pub piece : IsPiece k next ps
     pub one_way : are_equal ps (reverse ps) ≡ false
 
-  all_borders : (pss : List (List Position)) → AllByRecursion Whole pss → AllByRecursion Border pss
+  pub all_borders : (pss : List (List Position)) → AllByRecursion Whole pss → AllByRecursion Border pss
   all_borders [] h = tt
   all_borders (ps ∷ pss) h = (border_of ps h.0.long h.0.piece, all_borders pss h.1)
 

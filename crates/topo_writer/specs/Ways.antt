@@ -1,7 +1,13 @@
 -- A way that is cut while one goes along it, and its pieces found one after another.
 use Rattle.std.specs.Prelude.{ℤ, pos, Bool, true, false, ◌||◌, if◌then◌else◌, List, [], ◌∷◌, ◌++◌}
-use Rattle.std.specs.Prelude.{unwrap_or}
+use Rattle.std.specs.Prelude.{map, unwrap_or, Contains}
+use Rattle.std.specs.List.{flat_map, AllByRecursion}
 use Rattle.grid_geometry.specs.Position.{Position}
+use Rattle.ring_machine.specs.Document.{Document, Text}
+use Rattle.ring_machine.specs.Parts.{rings}
+use Rattle.ring_machine.specs.Vertices.{is_junction}
+use Rattle.map_text.specs.Arcs.{pieces, indexes}
+use Rattle.map_text.specs.Text.{commas, ring_text, polygon_text}
 use Rattle.topo_writer.specs.Found.{found, first_edge, with_found, Fits}
 
 -- nothing is left
@@ -37,3 +43,27 @@ indexes_found arcs (piece ∷ pieces) =
 abbrev pub FitAll : List (List Position) → List (List Position) → Type 0
 FitAll arcs [] = Unit {0}
 FitAll arcs (piece ∷ pieces) = Fits arcs piece × FitAll (with_found arcs piece) pieces
+
+-- ---- pieces of a document
+
+-- the pieces of all rings of the document
+abbrev pub all_pieces : Document → List (List Position)
+all_pieces d = flat_map (pieces (is_junction d)) (rings d)
+
+-- each of these is a piece of the document
+abbrev pub ArePieces : Document → List (List Position) → Type 0
+ArePieces d arcs = AllByRecursion (Contains (all_pieces d)) arcs
+
+-- a ring by the indexes of its arcs
+abbrev pub written_ring : (Position → Bool) → List (List Position) → List Position → Text
+written_ring junction arcs ring = ring_text (indexes junction arcs ring)
+
+-- these rings with commas between them
+abbrev pub written_rings :
+    (Position → Bool) → List (List Position) → List (List Position) → Text
+written_rings junction arcs some = commas (map (written_ring junction arcs) some)
+
+-- a polygon by the indexes of its rings' arcs
+abbrev pub written_polygon :
+    (Position → Bool) → List (List Position) → List (List Position) → Text
+written_polygon junction arcs polygon = polygon_text (map (indexes junction arcs) polygon)

@@ -4,10 +4,11 @@
 
 mod arcs;
 mod cutting;
-mod fault;
 mod members;
-mod text;
+mod rings;
+mod sending;
+mod texts;
 
 pub use arcs::Arcs;
-pub use fault::WriteFault;
-pub use text::{push_comma, push_number, push_pair};
+pub use sending::WriteFault;
+pub use texts::{push_comma, push_number, push_pair};

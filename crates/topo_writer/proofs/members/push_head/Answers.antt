@@ -1,7 +1,7 @@
 use Rattle.std.proofs.Common.{◌≡◌, ◌++◌, map, option_map, sym, ap, ◌∙◌, append_assoc}
 use Rattle.std.specs.Prelude.{codes}
 use Rattle.map_text.specs.Text.{further, member_if, member_text}
-use Rattle.topo_writer.proofs.TextLemmas.{further_both}
+use Rattle.topo_writer.proofs.MemberLemmas.{further_both}
 use Rattle.topo_writer.proofs.members.push_head.Goals as goal
 
 pub returns : goal.returns

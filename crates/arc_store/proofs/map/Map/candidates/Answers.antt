@@ -1,4 +1,4 @@
-use Rattle.std.proofs.Common.{◌≡◌, ◌∙◌, true, map, ap, is_ok, subst}
+use Rattle.std.proofs.Common.{◌≡◌, true, map, ap, is_ok, subst}
 use Rattle.ring_machine.specs.Parts.{features}
 use Rattle.ring_machine.specs.WellFormed.{are_distinct}
 use Rattle.arc_store.specs.Kept.{stored}

@@ -1,4 +1,7 @@
-use Rattle.std.proofs.Common.{ap, subst}
+use Rattle.std.proofs.Common.{◌≤◌, ap, subst}
+use Rattle.std.specs.List.{AllByRecursion}
+use Rattle.grid_geometry.specs.Position.{InRange}
+use Rattle.ring_machine.specs.Parts.{rings, size}
 use Rattle.ring_machine.specs.Planar.{Proper}
 use Rattle.ring_machine.specs.WellFormed.{WellFormed}
 use Rattle.ring_machine.proofs.FormedRings.{formed-in_rings}
@@ -8,6 +11,7 @@ use Rattle.arc_store.specs.Frames.{frame_of}
 use Rattle.arc_store.specs.Kept.{stored}
 use Rattle.arc_store.specs.Stored.{ring_under}
 use Rattle.arc_store.proofs.FeatureLemmas.{frame_shown}
+use Rattle.arc_store.proofs.Ranged.{rings_in_range}
 use Rattle.arc_store.proofs.map.Map.frame.Goals as goal
 
 pub returns-clause-shown : goal.returns-clause-shown
@@ -29,3 +33,12 @@ returns-clause-keeps g c =
 
 pub returns-clause-proper : goal.returns-clause-proper
 returns-clause-proper g c = subst Proper (ap (λ s. s.doc) c.self.view_is) c.self.invariant.holds.proper
+
+pub returns-clause-range : goal.returns-clause-range
+returns-clause-range g c =
+    let m = c.self.inside in
+    subst (λ d. AllByRecursion (AllByRecursion InRange) (rings d)) (ap (λ s. s.doc) c.self.view_is)
+    (rings_in_range (stored m.frame m.borders m.vertices) c.len.ensures.range)
+
+pub returns-clause-small : goal.returns-clause-small
+returns-clause-small g c = subst (λ d. size d ≤ 4000000) (ap (λ s. s.doc) c.self.view_is) c.self.invariant.holds.small

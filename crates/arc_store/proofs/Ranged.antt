@@ -1,0 +1,48 @@
+-- Each position of a map's rings is in range, since each vertex stands at one.
+use Rattle.std.proofs.Common.{◌≡◌, ℕ, List, [], ◌∷◌, ◌++◌, map, Option, Some, None, refl, sym, subst, arith}
+use Rattle.std.specs.Prelude.{unwrap_or, pos}
+use Rattle.std.specs.List.{AllByRecursion}
+use Rattle.std.specs.FinMap as table
+use Rattle.grid_geometry.specs.Position.{Position, InRange, position}
+use Rattle.ring_machine.specs.Ring.{canonical}
+use Rattle.ring_machine.specs.Parts.{rings}
+use Rattle.ring_machine.proofs.Canonical.{canonical_parts}
+use Rattle.ring_machine.proofs.RingsOf.{rings-in_rings}
+use Rattle.vertex_index.specs.Placement.{Placement, place, AreInRange}
+use Rattle.arc_tables.specs.Rings.{begins}
+use Rattle.arc_store.specs.Stored.{Stored, edges_under, ring_under, document_of}
+
+each_joined : {A : Type 0} (P : A → Type 0) (xs ys : List A) → AllByRecursion P xs → AllByRecursion P ys → AllByRecursion P (xs ++ ys)
+each_joined P [] ys h k = k
+each_joined P (x ∷ xs) ys h k = (h.0, each_joined P xs ys h.1 k)
+
+each_front : {A : Type 0} (P : A → Type 0) (xs ys : List A) → AllByRecursion P (xs ++ ys) → AllByRecursion P xs
+each_front P [] ys h = tt
+each_front P (x ∷ xs) ys h = (h.0, each_front P xs ys h.1)
+
+each_back : {A : Type 0} (P : A → Type 0) (xs ys : List A) → AllByRecursion P (xs ++ ys) → AllByRecursion P ys
+each_back P [] ys h = h
+each_back P (x ∷ xs) ys h = each_back P xs ys h.1
+
+each_made : {A B : Type 0} (P : B → Type 0) (f : A → B) (xs : List A) → ((x : A) → P (f x)) → AllByRecursion P (map f xs)
+each_made P f [] h = tt
+each_made P f (x ∷ xs) h = (h x, each_made P f xs h)
+
+each_canonical : (P : Position → Type 0) (ps : List Position) → AllByRecursion P ps → AllByRecursion P (canonical ps)
+each_canonical P ps h =
+    let parts = canonical_parts ps in
+    let whole : AllByRecursion P (parts.0 ++ parts.1) = subst (AllByRecursion P) parts.2 h in
+    subst (AllByRecursion P) (sym parts.3) (each_joined P parts.1 parts.0 (each_back P parts.0 parts.1 whole) (each_front P parts.0 parts.1 whole))
+
+place_in_range : (m : Placement) (k : ℕ) → AreInRange m → InRange (place m k)
+place_in_range m k h = by (table.get m k) refl
+  where
+    by : (o : Option Position) → table.get m k ≡ o → InRange (unwrap_or o (position (pos 0) (pos 0)))
+    by None e = record { across = omega arith; upward = omega arith }
+    by (Some p) e = h k p e
+
+pub rings_in_range : (s : Stored) → AreInRange s.places → AllByRecursion (AllByRecursion InRange) (rings (document_of s))
+rings_in_range s h =
+    subst (AllByRecursion (AllByRecursion InRange)) (sym (rings-in_rings (ring_under s) s.frame))
+    (each_made (AllByRecursion InRange) (ring_under s) (rings s.frame) (λ r. each_canonical InRange (map (place s.places) (begins (edges_under s.rings r)))
+    (each_made InRange (place s.places) (begins (edges_under s.rings r)) (λ k. place_in_range s.places k h))))

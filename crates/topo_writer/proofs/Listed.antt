@@ -1,0 +1,53 @@
+-- Texts with commas between them, one after another.
+use Rattle.std.proofs.Common.{◌≡◌, ℕ, zero, suc, ◌+◌, ◌<◌, length, take, List, [], ◌∷◌, ◌++◌, map}
+use Rattle.std.proofs.Common.{true, refl, sym, ap, ◌∙◌, arith, append_assoc, get_or}
+use Rattle.std.specs.Prelude.{Bool, codes, nat_lt}
+use Rattle.std.proofs.lemmas.List.{append-nil, map-append, take_more}
+use Rattle.std.proofs.lemmas.List.Concat.{flat_map-append}
+use Rattle.grid_geometry.specs.Position.{Position}
+use Rattle.ring_machine.specs.Document.{Text}
+use Rattle.map_text.specs.Arcs.{indexes}
+use Rattle.map_text.specs.Text.{further, commas, comma_if, ring_text}
+use Rattle.topo_writer.specs.Ways.{written_ring, written_rings, written_polygon}
+
+pub further_push : (ts : List Text) (t : Text) → further (ts ++ t ∷ []) ≡ further ts ++ (codes "," ++ t)
+further_push ts t = flat_map-append (λ u. codes "," ++ u) ts (t ∷ []) ∙ ap (λ z. further ts ++ z) (append-nil (codes "," ++ t))
+
+pub positive : (i : ℕ) → nat_lt 0 (suc i) ≡ true
+positive i = grind arith
+
+-- one more item, after a comma where something stands before
+pub commas_step : {A : Type 0} (f : A → Text) (xs : List A) (i : ℕ) (x : A) → i < length xs → x ≡ get_or xs i x
+    → commas (map f (take (i + 1) xs)) ≡ commas (map f (take i xs)) ++ (comma_if (nat_lt 0 i) ++ f x)
+commas_step f [] i x h e = absurd (omega (arith, h))
+commas_step f (y ∷ ys) zero x h e = append-nil (f y) ∙ ap f (sym e)
+commas_step f (y ∷ ys) (suc i) x h e =
+    ap (λ z. commas (map f z)) (take_more (y ∷ ys) (suc i) x h ∙ ap (λ z. take (suc i) (y ∷ ys) ++ z ∷ []) (sym e))
+    ∙ ap (λ z. f y ++ further z) (map-append f (take i ys) (x ∷ []))
+    ∙ ap (λ z. f y ++ z) (further_push (map f (take i ys)) (f x))
+    ∙ sym (append_assoc (f y) (further (map f (take i ys))) (codes "," ++ f x))
+    ∙ ap (λ b. (f y ++ further (map f (take i ys))) ++ (comma_if b ++ f x)) (sym (positive i))
+
+-- the text before, with one more item
+pub items_step : {A : Type 0} (f : A → Text) (xs : List A) (i : ℕ) (x : A) → i < length xs → x ≡ get_or xs i x
+    → (o now mid end : Text) → now ≡ o ++ commas (map f (take i xs)) → mid ≡ now ++ comma_if (nat_lt 0 i) → end ≡ mid ++ f x
+    → end ≡ o ++ commas (map f (take (i + 1) xs))
+items_step f xs i x h e o now mid end p q r =
+    r ∙ ap (λ z. z ++ f x) (q ∙ ap (λ z. z ++ comma_if (nat_lt 0 i)) p)
+    ∙ append_assoc (o ++ commas (map f (take i xs))) (comma_if (nat_lt 0 i)) (f x)
+    ∙ append_assoc o (commas (map f (take i xs))) (comma_if (nat_lt 0 i) ++ f x)
+    ∙ ap (λ z. o ++ z) (sym (commas_step f xs i x h e))
+
+-- a polygon is the list of its written rings
+pub polygon_is : (j : Position → Bool) (arcs polygon : List (List Position))
+    → codes "[" ++ (written_rings j arcs polygon ++ codes "]") ≡ written_polygon j arcs polygon
+polygon_is j arcs polygon = ap (λ z. codes "[" ++ (commas z ++ codes "]")) (twice polygon)
+  where
+    twice : (rings : List (List Position)) → map (written_ring j arcs) rings ≡ map ring_text (map (indexes j arcs) rings)
+    twice [] = refl
+    twice (r ∷ rs) = ap (λ z. written_ring j arcs r ∷ z) (twice rs)
+
+-- a text between brackets
+pub bracketed : (o w a b c : Text) → a ≡ o ++ codes "[" → b ≡ a ++ w → c ≡ b ++ codes "]" → c ≡ o ++ (codes "[" ++ (w ++ codes "]"))
+bracketed o w a b c p q r =
+    r ∙ ap (λ z. z ++ codes "]") (q ∙ ap (λ z. z ++ w) p) ∙ append_assoc (o ++ codes "[") w (codes "]") ∙ append_assoc o (codes "[") (w ++ codes "]")

@@ -1,0 +1,28 @@
+-- The rings of a polygon, one after another.
+use Rattle.std.proofs.Common.{◌≡◌, ℕ, zero, suc, ◌<◌, refl, List, [], ◌∷◌, length, get_or, arith, Option, Some, None}
+use Rattle.std.specs.Prelude.{option_map, unwrap_or}
+use Rattle.std.specs.List.{AllByRecursion}
+use Rattle.std.proofs.lemmas.Option.{unwrap_or-slice_get}
+use Rattle.grid_geometry.specs.Position.{Position}
+use Rattle.ring_machine.specs.Document.{Document}
+use Rattle.ring_machine.specs.Parts.{feature}
+use Rattle.arc_store.specs.Readers.{element}
+use Rattle.topo_writer.specs.Reading.{positions_at, rings_at}
+
+-- a ring of a polygon is the ring with its number
+pub ring_is : (d : Document) (n polygon ring : ℕ) → positions_at d n polygon ring ≡ get_or (rings_at d n polygon) ring []
+ring_is d n polygon ring = by (element (option_map (λ f. f.polygons) (feature d n)) polygon)
+  where
+    by : (o : Option (List (List Position))) → unwrap_or (element o ring) [] ≡ get_or (unwrap_or o []) ring []
+    by None = refl
+    by (Some rs) = unwrap_or-slice_get rs ring []
+
+pub each_place : {A : Type 0} (P : A → Type 0) (xs : List A) (i : ℕ) (d : A) → AllByRecursion P xs → i < length xs → P (get_or xs i d)
+each_place P [] i d h l = absurd (omega (arith, l))
+each_place P (x ∷ xs) zero d h l = h.0
+each_place P (x ∷ xs) (suc i) d h l = each_place P xs i d h.1 (omega (arith, l))
+
+pub same_place : {A : Type 0} (xs : List A) (i : ℕ) (d e : A) → i < length xs → get_or xs i d ≡ get_or xs i e
+same_place [] i d e h = absurd (omega (arith, h))
+same_place (x ∷ xs) zero d e h = refl
+same_place (x ∷ xs) (suc i) d e h = same_place xs i d e (omega (arith, h))

@@ -1,0 +1,93 @@
+-- What is cut of a ring of a proper document, beside arcs that are pieces of it.
+use Rattle.std.proofs.Common.{◌≡◌, ◌≤◌, Bool, true, false, refl, List, [], ◌∷◌}
+use Rattle.std.proofs.Common.{length, arith}
+use Rattle.std.specs.Prelude.{Contains}
+use Rattle.std.specs.List.{AllByRecursion}
+use Rattle.grid_geometry.specs.Position.{Position, position_eq}
+use Rattle.ring_machine.specs.Ring.{is_ring}
+use Rattle.ring_machine.specs.Document.{Document}
+use Rattle.ring_machine.specs.Parts.{rings}
+use Rattle.ring_machine.specs.Planar.{Proper}
+use Rattle.ring_machine.specs.Vertices.{is_junction}
+use Rattle.ring_machine.proofs.First.{In}
+use Rattle.ring_machine.proofs.Order.{position_eq-true}
+use Rattle.ring_machine.proofs.Neighbours.{all_of, all_in, in-flat_map}
+use Rattle.arc_store.proofs.Members.{contains_in, in_contains}
+use Rattle.map_text.specs.Arcs.{pieces, with_pieces, indexes}
+use Rattle.map_text.specs.Saved.{IsCut}
+use Rattle.map_text.proofs.Lists.{each_in, each-flat_map}
+use Rattle.map_text.proofs.OnceEach.{Simple}
+use Rattle.map_text.proofs.Borders.{ends, goes, simple}
+use Rattle.map_text.proofs.Ends.{ring_cut, long_cut, with_pieces-each}
+use Rattle.map_text.proofs.RingsBack.{Apart, pieces_apart}
+use Rattle.topo_writer.specs.Ways.{all_found, indexes_found, FitAll, all_pieces, ArePieces}
+use Rattle.topo_writer.proofs.Ways.{Whole, Border, all_borders, fit_all, streamed}
+use Rattle.topo_writer.proofs.OneWay.{one_way}
+
+apart_eq : (p q : Position) → (p ≡ q → ⊥) → position_eq p q ≡ false
+apart_eq p q n = by (position_eq p q) refl
+  where
+    by : (b : Bool) → position_eq p q ≡ b → position_eq p q ≡ false
+    by false e = e
+    by true e = absurd (n (position_eq-true p q e))
+
+module _ (d : Document) (proper : Proper d) where
+  are : (ring : List Position) → In ring (rings d) → is_ring ring ≡ true
+  are ring i = all_in is_ring (rings d) ring proper.are_rings i
+
+  abbrev IsWhole : List Position → Type 0
+  IsWhole = Whole (ends d are) (goes d are)
+
+  abbrev IsBorder : List Position → Type 0
+  IsBorder = Border (ends d are) (goes d are)
+
+  whole : (piece : List Position) → Simple (ends d are) (goes d are) piece → 2 ≤ length piece → Apart piece → IsWhole piece
+  whole [] s l a = absurd (omega (arith, l))
+  whole (p ∷ []) s l a = absurd (omega (arith, l))
+  whole (p ∷ q ∷ ps) s l a = record { long = l; piece = s.piece; one_way = one_way p q ps (apart_eq p q a.0) s.once }
+
+  long : AllByRecursion (λ piece. 2 ≤ length piece) (all_pieces d)
+  long = each-flat_map (λ piece. 2 ≤ length piece) (pieces (is_junction d)) (rings d) (λ ring i.
+      all_of (λ piece. 2 ≤ length piece) (pieces (is_junction d) ring) (λ piece k.
+      long_cut (is_junction d) piece (each_in (IsCut (is_junction d)) (pieces (is_junction d) ring) piece (ring_cut (is_junction d) ring) k)))
+
+  apart : AllByRecursion Apart (all_pieces d)
+  apart = each-flat_map Apart (pieces (is_junction d)) (rings d) (λ ring i. pieces_apart (is_junction d) ring (are ring i))
+
+  whole_piece : (piece : List Position) → In piece (all_pieces d) → IsWhole piece
+  whole_piece piece i =
+      whole piece (each_in (Simple (ends d are) (goes d are)) (all_pieces d) piece (simple d are) i)
+      (each_in (λ ps. 2 ≤ length ps) (all_pieces d) piece long i) (each_in Apart (all_pieces d) piece apart i)
+
+  borders : (arcs : List (List Position)) → ArePieces d arcs → AllByRecursion IsBorder arcs
+  borders arcs h = all_borders (ends d are) (goes d are) arcs (all_of IsWhole arcs (λ a i. whole_piece a (contains_in (all_pieces d) a (each_in (Contains (all_pieces d)) arcs a h i))))
+
+  module _ (ring : List Position) (there : Contains (rings d) ring) where
+    in_all : (piece : List Position) → In piece (pieces (is_junction d) ring) → In piece (all_pieces d)
+    in_all piece i = in-flat_map (pieces (is_junction d)) ring piece (rings d) (contains_in (rings d) ring there) i
+
+    ring_whole : AllByRecursion IsWhole (pieces (is_junction d) ring)
+    ring_whole = all_of IsWhole (pieces (is_junction d) ring) (λ piece i. whole_piece piece (in_all piece i))
+
+    pub ring_fits : (arcs : List (List Position)) → ArePieces d arcs → FitAll arcs (pieces (is_junction d) ring)
+    ring_fits arcs h = fit_all (ends d are) (goes d are) arcs (pieces (is_junction d) ring) (borders arcs h) ring_whole
+
+    both : (arcs : List (List Position)) → ArePieces d arcs
+        → (all_found arcs (pieces (is_junction d) ring) ≡ with_pieces arcs (pieces (is_junction d) ring))
+        × (indexes_found arcs (pieces (is_junction d) ring) ≡ indexes (is_junction d) (with_pieces arcs (pieces (is_junction d) ring)) ring)
+    both arcs h =
+        streamed (ends d are) (goes d are) arcs (pieces (is_junction d) ring) (borders arcs h)
+        (all_borders (ends d are) (goes d are) (pieces (is_junction d) ring) ring_whole)
+
+    pub ring_arcs : (arcs : List (List Position)) → ArePieces d arcs
+        → all_found arcs (pieces (is_junction d) ring) ≡ with_pieces arcs (pieces (is_junction d) ring)
+    ring_arcs arcs h = (both arcs h).0
+
+    pub ring_indexes : (arcs : List (List Position)) → ArePieces d arcs
+        → indexes_found arcs (pieces (is_junction d) ring) ≡ indexes (is_junction d) (with_pieces arcs (pieces (is_junction d) ring)) ring
+    ring_indexes arcs h = (both arcs h).1
+
+    pub still_pieces : (arcs : List (List Position)) → ArePieces d arcs → ArePieces d (with_pieces arcs (pieces (is_junction d) ring))
+    still_pieces arcs h =
+        with_pieces-each (Contains (all_pieces d)) arcs (pieces (is_junction d) ring) h
+        (all_of (Contains (all_pieces d)) (pieces (is_junction d) ring) (λ piece i. in_contains (all_pieces d) piece (in_all piece i)))

@@ -1,0 +1,57 @@
+use Rattle.std.proofs.Common.{arith, refl, ◌≡◌, sym, ap, ◌∙◌, subst, ◌<◌, [], length, get_or}
+use Rattle.std.specs.Prelude.{Contains}
+use Rattle.std.proofs.lemmas.List.{append-nil}
+use Rattle.std.proofs.lemmas.List.Sums.{sum_by-drop_more}
+use Rattle.ring_machine.specs.Parts.{rings}
+use Rattle.ring_machine.specs.Vertices.{is_junction}
+use Rattle.topo_writer.specs.Reading.{positions_at, rings_at}
+use Rattle.topo_writer.proofs.Later.{arcs_step, text_step, ring_few}
+use Rattle.topo_writer.proofs.ReadRings.{ring_is, each_place, same_place}
+use Rattle.topo_writer.proofs.rings.push_rings_of.Goals as goal
+
+pub push_ring_of-requires-clause-there : goal.push_ring_of-requires-clause-there
+push_ring_of-requires-clause-there g c =
+    let rs = rings_at c.args.map.now.doc c.args.n c.args.polygon in
+    let h : c.loop-ring.ring < length rs = omega (arith, c.requires.count) in
+    subst (Contains (rings c.args.map.now.doc)) (sym (ring_is c.args.map.now.doc c.args.n c.args.polygon c.loop-ring.ring))
+    (each_place (Contains (rings c.args.map.now.doc)) rs c.loop-ring.ring [] c.requires.there h)
+
+pub push_ring_of-requires-clause-mirrors : goal.push_ring_of-requires-clause-mirrors
+push_ring_of-requires-clause-mirrors g c = c.loop-ring.invariant.mirrors
+
+pub push_ring_of-requires-clause-pieces : goal.push_ring_of-requires-clause-pieces
+push_ring_of-requires-clause-pieces g c = c.loop-ring.invariant.of_document
+
+pub push_ring_of-requires-clause-few : goal.push_ring_of-requires-clause-few
+push_ring_of-requires-clause-few g c =
+    let rs = rings_at c.args.map.now.doc c.args.n c.args.polygon in
+    let h : c.loop-ring.ring < length rs = omega (arith, c.requires.count) in
+    omega (arith, c.loop-ring.invariant.few, sum_by-drop_more length rs c.loop-ring.ring [] h, ap length (ring_is c.args.map.now.doc c.args.n c.args.polygon c.loop-ring.ring))
+
+pub loop-ring-init : goal.loop-ring-init
+loop-ring-init g c = record {
+  mirrors = c.requires.mirrors;
+  of_document = c.requires.pieces;
+  few = c.requires.few;
+  arcs = refl;
+  text = sym (append-nil c.args.text.now.items);
+}
+
+pub loop-ring-preserved : goal.loop-ring-preserved
+loop-ring-preserved g c =
+    let d = c.args.map.now.doc in
+    let rs = rings_at d c.args.n c.args.polygon in
+    let i = c.loop-ring.ring in
+    let r = positions_at d c.args.n c.args.polygon i in
+    let h : i < length rs = omega (arith, c.requires.count) in
+    let is : r ≡ get_or rs i [] = ring_is d c.args.n c.args.polygon i in
+    let e : r ≡ get_or rs i r = is ∙ same_place rs i [] r h in
+    let arcs = c.in_ok-push_ring_of.ensures.arcs in
+    record {
+      mirrors = c.in_ok-push_ring_of.ensures.mirrors;
+      of_document = c.in_ok-push_ring_of.ensures.pieces;
+      few = omega (arith, c.loop-ring.invariant.few, sum_by-drop_more length rs i [] h, ap length is, ap length arcs, ring_few (is_junction d) c.loop-ring.arcs.list.items r);
+      arcs = arcs_step (is_junction d) c.args.arcs.now.list.items rs i r h e c.loop-ring.arcs.list.items c.push_ring_of.new.arcs.list.items c.loop-ring.invariant.arcs arcs;
+      text = text_step (is_junction d) c.args.arcs.now.list.items rs i r h e c.loop-ring.arcs.list.items c.push_ring_of.new.arcs.list.items c.loop-ring.invariant.arcs arcs
+          c.args.text.now.items c.loop-ring.text.items c.push_comma.new.text.items c.push_ring_of.new.text.items c.loop-ring.invariant.text c.in_ok-push_comma.ensures c.in_ok-push_ring_of.ensures.text;
+    }

@@ -1,0 +1,15 @@
+-- The rings of a map, as they are read.
+use Rattle.std.specs.Prelude.{ℕ, List, [], unwrap_or, option_map}
+use Rattle.grid_geometry.specs.Position.{Position}
+use Rattle.ring_machine.specs.Document.{Document}
+use Rattle.ring_machine.specs.Parts.{feature}
+use Rattle.arc_store.specs.Readers.{element, ring_at}
+
+-- the positions of the ring with this number of the polygon with this number of a feature; none
+-- where there is no such ring
+abbrev pub positions_at : Document → ℕ → ℕ → ℕ → List Position
+positions_at d n polygon ring = unwrap_or (ring_at d n polygon ring) []
+
+-- the rings of the polygon with this number of a feature; none where there is no such polygon
+abbrev pub rings_at : Document → ℕ → ℕ → List (List Position)
+rings_at d n polygon = unwrap_or (element (option_map (λ f. f.polygons) (feature d n)) polygon) []

@@ -1,0 +1,101 @@
+//! What is sent to a device.
+ghost use Rattle.std.specs.Prelude.{◌≡◌, ◌++◌, map, false, true, Err, OnOk, OnErr};
+ghost use Rattle.std.specs.Io.KnownBytes.{Appends};
+ghost use Rattle.device_io.specs.Devices.{AppendsPrefix};
+ghost use Rattle.map_text.specs.Text.{commas, comma_if, arc_text};
+ghost use Rattle.topo_writer.specs.declared.sending.WriteFault.TheVariants.{Device, OutOfMemory};
+
+use crate::arcs::Arc;
+use crate::texts::{push_arc, push_comma};
+use device_io::{Failed, Sink, put_all};
+use grid_geometry::Pos;
+use std::alloc::{AllocError, Allocator};
+use thiserror::Error;
+
+/// Why a text was not written whole.
+#[derive(Clone, Copy, Debug, PartialEq, Eq, Error)]
+pub enum WriteFault {
+    /// The writer failed.
+    #[error("the writer failed")]
+    Device,
+    /// There was no memory for a piece of the text.
+    #[error("out of memory")]
+    OutOfMemory,
+}
+
+impl From<AllocError> for WriteFault {
+    ghost use Rattle.std.specs.Prelude.{◌≡◌};
+    ghost use Rattle.topo_writer.specs.declared.sending.WriteFault.TheVariants.{OutOfMemory};
+
+    ghost from_gives = { λ _ e. e ≡ OutOfMemory };
+
+    fn from(_e: AllocError) -> WriteFault {
+        WriteFault::OutOfMemory
+    }
+}
+
+impl From<Failed> for WriteFault {
+    ghost use Rattle.std.specs.Prelude.{◌≡◌};
+    ghost use Rattle.topo_writer.specs.declared.sending.WriteFault.TheVariants.{Device};
+
+    ghost from_gives = { λ _ e. e ≡ Device };
+
+    fn from(_e: Failed) -> WriteFault {
+        WriteFault::Device
+    }
+}
+
+/// Appends an arc, and a comma where something stands before.
+fn push_next<A: Allocator + Copy>(
+    text: &mut Vec<u8, A>,
+    delta: bool,
+    arc: &[Pos],
+    more: bool,
+) -> Result<(), AllocError>
+    ensures { OnOk result (text.new.items ≡ text.old.items ++ (comma_if more ++ arc_text delta arc.now)) }
+{
+    push_comma(text, more)?;
+    push_arc(text, delta, arc)?;
+    Ok(())
+}
+
+/// Sends an arc, and a comma where something stands before.
+fn send_arc<A: Allocator + Copy, W: Sink>(
+    alloc: A,
+    out: &mut W,
+    delta: bool,
+    arc: &[Pos],
+    more: bool,
+) -> Result<(), WriteFault>
+    requires { W.has_failed out.old ≡ false }
+    ensures ok { OnOk result (Appends (W.taken out.old) (W.taken out.new) (comma_if more ++ arc_text delta arc.now)) }
+    ensures works { OnOk result (W.has_failed out.new ≡ false) }
+    ensures err { OnErr result (AppendsPrefix (W.taken out.old) (W.taken out.new) (comma_if more ++ arc_text delta arc.now)) }
+    ensures device { result ≡ Err Device → W.has_failed out.new ≡ true }
+    ensures memory { result ≡ Err OutOfMemory → W.has_failed out.new ≡ false }
+{
+    let mut text = Vec::new(alloc);
+    push_next(&mut text, delta, arc, more)?;
+    put_all(out, text.as_slice())?;
+    Ok(())
+}
+
+/// Sends the arcs, with commas between them.
+pub(crate) fn send_arcs<A: Allocator + Copy, W: Sink>(
+    alloc: A,
+    out: &mut W,
+    delta: bool,
+    arcs: &[Arc<A>],
+) -> Result<(), WriteFault>
+    requires { W.has_failed out.old ≡ false }
+    ensures ok { OnOk result (Appends (W.taken out.old) (W.taken out.new) (commas (map (arc_text delta) arcs.now))) }
+    ensures works { OnOk result (W.has_failed out.new ≡ false) }
+    ensures err { OnErr result (AppendsPrefix (W.taken out.old) (W.taken out.new) (commas (map (arc_text delta) arcs.now))) }
+    ensures device { result ≡ Err Device → W.has_failed out.new ≡ true }
+    ensures memory { result ≡ Err OutOfMemory → W.has_failed out.new ≡ false }
+{
+    for i in 0..arcs.len() {
+        send_arc(alloc, out, delta, arcs[i].positions(), i > 0)?;
+    }
+    Ok(())
+}

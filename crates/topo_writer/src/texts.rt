@@ -1,0 +1,134 @@
+//! The pieces of a text (RFC 8259).
+ghost use Rattle.std.specs.Prelude.{◌≡◌, ◌<◌, ◌++◌, ◌-ℤ◌, pos, map, length, get_or, OnOk};
+ghost use Rattle.std.specs.Fmt.{signed_decimal};
+ghost use Rattle.grid_geometry.specs.Position.{position};
+ghost use Rattle.map_text.specs.Text.{commas, comma_if, pair_text, pairs, arc_text, ring_text};
+
+use grid_geometry::Pos;
+use itoa::Buffer;
+use std::alloc::{AllocError, Allocator};
+
+/// Appends a number in decimal.
+pub fn push_number<A: Allocator + Copy>(
+    text: &mut Vec<u8, A>,
+    number: i64,
+) -> Result<(), AllocError>
+    ensures { OnOk result (text.new.items ≡ text.old.items ++ signed_decimal number) }
+{
+    let mut buffer = Buffer::new();
+    text.extend_from_slice(buffer.format(number).as_bytes())?;
+    Ok(())
+}
+
+/// Appends a comma where something stands before.
+pub fn push_comma<A: Allocator + Copy>(text: &mut Vec<u8, A>, more: bool) -> Result<(), AllocError>
+    ensures { OnOk result (text.new.items ≡ text.old.items ++ comma_if more) }
+{
+    if more {
+        text.extend_from_slice(b",")?;
+    }
+    Ok(())
+}
+
+/// Appends a pair of numbers.
+pub fn push_pair<A: Allocator + Copy>(
+    text: &mut Vec<u8, A>,
+    x: i64,
+    y: i64,
+) -> Result<(), AllocError>
+    ensures { OnOk result (text.new.items ≡ text.old.items ++ pair_text (position x y)) }
+{
+    text.extend_from_slice(b"[")?;
+    push_number(text, x)?;
+    text.extend_from_slice(b",")?;
+    push_number(text, y)?;
+    text.extend_from_slice(b"]")?;
+    Ok(())
+}
+
+/// How far a position lies to the right of another.
+fn across(p: Pos, before: Pos) -> i64
+    ensures { result ≡ p.x -ℤ before.x }
+{
+    p.x() - before.x()
+}
+
+/// How far a position lies above another.
+fn upward(p: Pos, before: Pos) -> i64
+    ensures { result ≡ p.y -ℤ before.y }
+{
+    p.y() - before.y()
+}
+
+/// The pair of an arc at a place: with a transform the difference to the position before, and the
+/// position itself at the first place and without one (TopoJSON 1.0, 2.1.2).
+fn pair_at(delta: bool, arc: &[Pos], i: usize) -> (i64, i64)
+    requires { i < length arc.now }
+    ensures { position result.0 result.1 ≡ get_or (pairs delta arc.now) i (position (pos 0) (pos 0)) }
+{
+    let p = arc[i];
+    if !delta || i == 0 {
+        return (p.x(), p.y());
+    }
+    let before = arc[i - 1];
+    (across(p, before), upward(p, before))
+}
+
+/// Appends the pairs of an arc, with commas between them.
+fn push_pairs<A: Allocator + Copy>(
+    text: &mut Vec<u8, A>,
+    delta: bool,
+    arc: &[Pos],
+) -> Result<(), AllocError>
+    ensures { OnOk result (text.new.items
+        ≡ text.old.items ++ commas (map pair_text (pairs delta arc.now))) }
+{
+    for i in 0..arc.len() {
+        push_comma(text, i > 0)?;
+        let (x, y) = pair_at(delta, arc, i);
+        push_pair(text, x, y)?;
+    }
+    Ok(())
+}
+
+/// Appends an arc.
+pub(crate) fn push_arc<A: Allocator + Copy>(
+    text: &mut Vec<u8, A>,
+    delta: bool,
+    arc: &[Pos],
+) -> Result<(), AllocError>
+    ensures { OnOk result (text.new.items ≡ text.old.items ++ arc_text delta arc.now) }
+{
+    text.extend_from_slice(b"[")?;
+    push_pairs(text, delta, arc)?;
+    text.extend_from_slice(b"]")?;
+    Ok(())
+}
+
+/// Appends numbers, with commas between them.
+fn push_numbers<A: Allocator + Copy>(
+    text: &mut Vec<u8, A>,
+    numbers: &[i64],
+) -> Result<(), AllocError>
+    ensures { OnOk result (text.new.items
+        ≡ text.old.items ++ commas (map signed_decimal numbers.now)) }
+{
+    for i in 0..numbers.len() {
+        push_comma(text, i > 0)?;
+        push_number(text, numbers[i])?;
+    }
+    Ok(())
+}
+
+/// Appends a ring by the indexes of its arcs.
+pub(crate) fn push_ring<A: Allocator + Copy>(
+    text: &mut Vec<u8, A>,
+    indexes: &[i64],
+) -> Result<(), AllocError>
+    ensures { OnOk result (text.new.items ≡ text.old.items ++ ring_text indexes.now) }
+{
+    text.extend_from_slice(b"[")?;
+    push_numbers(text, indexes)?;
+    text.extend_from_slice(b"]")?;
+    Ok(())
+}
