@@ -19,6 +19,7 @@ use Rattle.arc_store.specs.Holds.{Holds}
 use Rattle.arc_store.specs.Kept.{state_of, IsKept}
 use Rattle.arc_store.specs.State.{State}
 use Rattle.arc_store.specs.Leaves.{IsListed}
+use Rattle.arc_store.specs.Named.{AllNamed}
 use Rattle.arc_store.specs.Stored.{Stored, document_of}
 
 module _ {A : Type 0} where
@@ -44,15 +45,16 @@ module _ {A : Type 0} where
   frame_copied f copy t ls ms ns = rw (t, ls, ms, ns) refl
 
   pub kept_copied : (f copy : Frame A) (rings : Rings) (places : Placement) (held : SegmentSet) (number positions segments : ℕ)
-      → frame_of copy ≡ frame_of f → (IsCounted f → IsCounted copy) → (IsListed f → IsListed copy)
+      → frame_of copy ≡ frame_of f → (IsCounted f → IsCounted copy) → (IsListed f → IsListed copy) → (AllNamed f → AllNamed copy)
       → IsKept f rings places held number positions segments
       → IsKept copy rings places held number positions segments
-  kept_copied f copy rings places held number positions segments e counted listed k =
+  kept_copied f copy rings places held number positions segments e counted listed named k =
       let whole : DocumentOf ℕ → Stored = λ d. record { frame = d; rings = rings; places = places } in
       record {
         holds = subst (λ d. Holds (whole d) held) (sym e) k.holds;
         counted = counted k.counted;
         listed = listed k.listed;
+        named = named k.named;
         next = k.next ∙ ap (λ d. length (features d)) (sym e);
         few = k.few;
         sized = k.sized ∙ ap (λ d. size (document_of (whole d))) (sym e);

@@ -32,6 +32,9 @@ pub mod KeyLists
 pub mod FeatureLemmas
 pub mod RingAround
 pub mod RingReads
+pub mod NameLists
+pub mod NamedRings
+pub mod NearLemmas
 mod Examples
 pub mod Copied
 pub mod Listed

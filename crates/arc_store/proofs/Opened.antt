@@ -33,10 +33,12 @@ use Rattle.map_opening.specs.LaidOut.{IsLaidOut}
 use Rattle.map_opening.specs.Laying.{GoesRound, IsRound, IsLaid, feature_numbers, segments_along}
 use Rattle.arc_store.specs.declared.frame.Frame.{Frame}
 use Rattle.arc_store.specs.declared.leaf.Leaf.{Leaf}
+use Rattle.arc_store.specs.declared.names.RingName.{RingName}
 use Rattle.arc_store.specs.Frames.{frame_of, IsCounted}
 use Rattle.arc_store.specs.Holds.{IsWhole, IsIndexed, Holds}
 use Rattle.arc_store.specs.Kept.{stored, IsKept}
 use Rattle.arc_store.specs.Leaves.{IsListed}
+use Rattle.arc_store.specs.Named.{AreNamed}
 use Rattle.arc_store.specs.Stored.{Stored, positions_along, ring_under, document_of}
 use Rattle.arc_store.proofs.FramedDocument.{read_framed}
 use Rattle.arc_store.proofs.FrameLemmas.{feature_count-in_rings, frame_count, frame_rings}
@@ -100,7 +102,28 @@ module _ {A : Type 0} (raw : RawDoc A) (h : IsOfRings (view_raw raw))
     (polygons : Vec (Vec (Vec ℕ A) A) A) {places : Placement} {m : Rings} {held : SegmentSet}
     {first : Option (Segment × Segment)} {positions count : ℕ}
     (was : IsLaidOut (map feature_positions given) (map feature_numbers polygons.items) places m held first positions count)
-    (leaves : Vec Leaf A) where
+  where
+    -- the rings that were read were laid
+    read_laid : IsLaidOut (view_raw raw).polygons (map feature_numbers polygons.items) places m held first positions count
+    read_laid = subst (λ z. IsLaidOut (map feature_positions z) (map feature_numbers polygons.items) places m held first positions count) same was
+
+    -- each feature that was read has its numbers
+    laid_counted : length polygons.items ≡ length (leaves (view_raw raw).layers)
+    laid_counted =
+        let l = read_laid in
+        sym (length-map polygons.items feature_numbers) ∙ sym (length-map (map feature_numbers polygons.items) (map length))
+        ∙ ap length l.shape ∙ length-map l.keyed (map length)
+        ∙ sym (length-map l.keyed (map (map (map (place places))))) ∙ ap length l.keys.at ∙ h.counted
+
+    pub opened_few : length polygons.items ≤ 200000
+    opened_few = omega (arith, laid_counted, h.few)
+
+module _ {A : Type 0} (raw : RawDoc A) (h : IsOfRings (view_raw raw))
+    {given : List (Vec (Vec (Vec Position A) A) A)} (same : given ≡ raw.polygons.items)
+    (polygons : Vec (Vec (Vec ℕ A) A) A) {places : Placement} {m : Rings} {held : SegmentSet}
+    {first : Option (Segment × Segment)} {positions count : ℕ}
+    (was : IsLaidOut (map feature_positions given) (map feature_numbers polygons.items) places m held first positions count)
+    (leaves : Vec Leaf A) (names : Vec (Option RingName) A) where
   abbrev o : read.Opened
   o = view_raw raw
 
@@ -109,7 +132,7 @@ module _ {A : Type 0} (raw : RawDoc A) (h : IsOfRings (view_raw raw))
 
   -- the rings that were read were laid
   w : IsLaidOut o.polygons numbers places m held first positions count
-  w = subst (λ z. IsLaidOut (map feature_positions z) numbers places m held first positions count) same was
+  w = read_laid raw h same polygons was
 
   abbrev keyed : List (List (List (List ℕ)))
   keyed = w.keyed
@@ -122,6 +145,7 @@ module _ {A : Type 0} (raw : RawDoc A) (h : IsOfRings (view_raw raw))
     members = raw.members;
     polygons = polygons;
     leaves = leaves;
+    names = names;
   }
 
   abbrev opened : Stored
@@ -139,10 +163,7 @@ module _ {A : Type 0} (raw : RawDoc A) (h : IsOfRings (view_raw raw))
       ∙ w.keys.at)
 
   opened_counted : IsCounted raw_frame
-  opened_counted =
-      sym (length-map polygons.items feature_numbers) ∙ sym (length-map numbers (map length))
-      ∙ ap length w.shape ∙ length-map keyed (map length)
-      ∙ sym (length-map keyed (map (map (map (place places))))) ∙ ap length w.keys.at ∙ h.counted
+  opened_counted = laid_counted raw h same polygons was
 
   opened_rings : rings (frame_of raw_frame) ≡ all_rings numbers
   opened_rings = frame_rings raw_frame opened_counted
@@ -226,17 +247,15 @@ module _ {A : Type 0} (raw : RawDoc A) (h : IsOfRings (view_raw raw))
   opened_features =
       feature_count-in_rings (ring_under opened) (frame_of raw_frame) ∙ frame_count raw_frame opened_counted
 
-  pub opened_few : length polygons.items ≤ 200000
-  opened_few = omega (arith, opened_counted, h.few)
-
   pub opened_kept : first ≡ None → (number : ℕ) → number ≡ length polygons.items → IsListed raw_frame
-      → IsKept raw_frame m places held number positions count
-  opened_kept none number n listed = record {
+      → AreNamed names.items numbers → IsKept raw_frame m places held number positions count
+  opened_kept none number n listed named = record {
     holds = opened_holds none;
     counted = opened_counted;
     listed = listed;
+    named = named;
     next = n ∙ sym (frame_count raw_frame opened_counted);
-    few = omega (arith, n, opened_few);
+    few = omega (arith, n, opened_few raw h same polygons was);
     sized = w.size ∙ sym opened_size;
     single = w.filled.different ∙ ap (λ ss. length (fold add_segment [] ss)) (sym opened_segments);
   }

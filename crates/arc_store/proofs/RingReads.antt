@@ -28,7 +28,7 @@ use Rattle.arc_store.proofs.FrameLemmas.{frame_rings}
 use Rattle.map_opening.proofs.KeyRings.{length-canonical, begins_round}
 use Rattle.ring_machine.proofs.Members.{in_contains}
 
-in_get : {X : Type 0} (xs : List X) (i : ℕ) (x : X) → slice_get xs i ≡ Some x → In x xs
+pub in_get : {X : Type 0} (xs : List X) (i : ℕ) (x : X) → slice_get xs i ≡ Some x → In x xs
 in_get [] i x e = absurd cc
 in_get (z ∷ xs) zero x e = inl cc
 in_get (z ∷ xs) (suc i) x e = inr (in_get xs i x e)
@@ -63,7 +63,7 @@ module _ {A : Type 0} (f : Frame A) (held : Rings) (places : Placement) where
   at = ring_under (stored f held places)
 
   -- the numbers lead to the ring's own number
-  ring_read : IsCounted f → (n polygon ring : ℕ)
+  pub ring_read : IsCounted f → (n polygon ring : ℕ)
       → ring_at (document_of (stored f held places)) n polygon ring
       ≡ option_map at (element (option_map (λ rs. rs.items) (element (option_map (λ p. p.items) (slice_get f.polygons.items n)) polygon)) ring)
   ring_read h n polygon ring =

@@ -4,6 +4,8 @@ pub mod Frames
 pub mod Holds
 pub mod Kept
 pub mod Leaves
+pub mod Named
+pub mod Near
 pub mod Planned
 pub mod Readers
 pub mod RingPlaces

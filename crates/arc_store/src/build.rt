@@ -10,6 +10,7 @@ use crate::fault::BuildFault;
 use crate::frame::Frame;
 use crate::leaf::list_leaves;
 use crate::map::Map;
+use crate::names::name_all;
 use local_planarity::TestCount;
 use map_opening::lay;
 use segment_index::SegIndex;
@@ -38,6 +39,7 @@ impl<'a, I: SegIndex, A: Allocator + Copy> Map<'a, I, A> {
         } = raw;
         let leaves = list_leaves(alloc, layers.as_slice())?;
         let laid = lay(alloc, index, polygons.as_slice())?;
+        let names = name_all(alloc, laid.numbers.as_slice())?;
         if let Some((s, t)) = laid.first {
             return Err(BuildFault::Conflict { s, t });
         }
@@ -50,6 +52,7 @@ impl<'a, I: SegIndex, A: Allocator + Copy> Map<'a, I, A> {
                 members,
                 polygons: laid.numbers,
                 leaves,
+                names,
             },
             vertices: laid.vertices,
             borders: laid.borders,

@@ -2,6 +2,7 @@
 ghost use Rattle.std.specs.Prelude.{◌≡◌, IfOk};
 ghost use Rattle.arc_store.specs.Frames.{frame_of, IsCounted};
 ghost use Rattle.arc_store.specs.Leaves.{IsListed};
+ghost use Rattle.arc_store.specs.Named.{AllNamed};
 
 use crate::frame::Frame;
 use crate::map::Map;
@@ -9,22 +10,25 @@ use segment_index::SegIndex;
 use std::alloc::{AllocError, Allocator};
 
 impl<'a, A: Allocator + Copy> Frame<'a, A> {
-    /// The same texts and numbers. Fails for want of memory alone.
-    fn copy(&self) -> Result<Frame<'a, A>, AllocError>
+    /// The same texts, numbers and names. Fails for want of memory alone.
+    fn copy(&self, alloc: A) -> Result<Frame<'a, A>, AllocError>
         ensures frame { IfOk result (λ copy. frame_of copy ≡ frame_of self.now) }
         ensures counted { IfOk result (λ copy. IsCounted self.now → IsCounted copy) }
         ensures listed { IfOk result (λ copy. IsListed self.now → IsListed copy) }
+        ensures named { IfOk result (λ copy. AllNamed self.now → AllNamed copy) }
     {
         let layers = self.layers.clone()?;
         let members = self.members.clone()?;
         let polygons = self.polygons.clone()?;
         let leaves = self.leaves.clone()?;
+        let names = Vec::from_slice(alloc, self.names.as_slice())?;
         Ok(Frame {
             transform: self.transform,
             layers,
             members,
             polygons,
             leaves,
+            names,
         })
     }
 }
@@ -35,7 +39,7 @@ impl<'a, I: SegIndex, A: Allocator + Copy> Map<'a, I, A> {
     pub fn copy(&self) -> Result<Map<'a, I, A>, AllocError>
         ensures { IfOk result (λ copy. copy ≡ self.now) }
     {
-        let frame = self.frame.copy()?;
+        let frame = self.frame.copy(self.alloc)?;
         let vertices = self.vertices.copy()?;
         let borders = self.borders.copy()?;
         let index = self.index.copy()?;

@@ -1,9 +1,9 @@
-ghost use Rattle.std.specs.Prelude.{◌≡◌, ◌≤◌, map, length, option_map, unwrap_or, slice_get};
+ghost use Rattle.std.specs.Prelude.{◌≡◌, ◌≤◌, map, length, option_map, unwrap_or, slice_get, IsTrue};
 ghost use Rattle.std.specs.List.{AllByRecursion};
 ghost use Rattle.grid_geometry.specs.Position.{InRange};
-ghost use Rattle.ring_machine.specs.Parts.{feature, rings, size};
+ghost use Rattle.ring_machine.specs.Parts.{feature, features, rings, size};
 ghost use Rattle.ring_machine.specs.Planar.{Proper};
-ghost use Rattle.ring_machine.specs.WellFormed.{WellFormed};
+ghost use Rattle.ring_machine.specs.WellFormed.{are_distinct, WellFormed};
 ghost use Rattle.topo_outline.specs.Kept.{KeepsTexts};
 ghost use Rattle.topo_outline.specs.Views.{form_of, view_kept};
 ghost use Rattle.arc_store.specs.Readers.{shown, IsFrameOf};
@@ -109,10 +109,12 @@ impl<'a, I: SegIndex, A: Allocator + Copy> Map<'a, I, A> {
     }
 
     /// The feature with this number; `None` where no feature has it. Takes no walk and no memory. The
-    /// rings of a map have at most 4,000,000 positions, each ring counted for itself.
+    /// rings of a map have at most 4,000,000 positions, each ring counted for itself, and no two
+    /// features have one number.
     pub fn feature(&self, n: u32) -> Option<FeatureView<'_, 'a, A>>
         ensures shown { result ≡ option_map shown (feature self.now.doc n) }
         ensures small { size self.now.doc ≤ 4000000 }
+        ensures distinct { IsTrue (are_distinct (map (λ f. f.number) (features self.now.doc))) }
     {
         let leaf = self.frame.leaves.get(n as usize)?;
         let feature = feature_at(self.frame.layers.as_slice(), *leaf)?;

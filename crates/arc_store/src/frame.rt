@@ -1,5 +1,6 @@
 // What a map is beside its rings.
 use crate::leaf::Leaf;
+use crate::names::RingName;
 use std::alloc::{Allocator, Global};
 use topo_outline::{KeptMember, RawLayer};
 
@@ -16,4 +17,6 @@ pub(crate) struct Frame<'a, A: Allocator + Copy = Global> {
     pub(crate) polygons: Vec<Vec<Vec<usize, A>, A>, A>,
     /// Where each feature stands among the items of the layers.
     pub(crate) leaves: Vec<Leaf, A>,
+    /// By a ring's number where it stands; `None` where there is no such ring.
+    pub(crate) names: Vec<Option<RingName>, A>,
 }

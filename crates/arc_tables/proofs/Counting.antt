@@ -80,7 +80,7 @@ module _ {X : Type 0} (p : X → Bool) where
 
 -- ---- the segments of a ring, and the arcs that it uses
 
-segment_times : (a b : ℕ) (es : List Edge) → has_segment a b es ≡ true → 1 ≤ times a b es
+pub segment_times : (a b : ℕ) (es : List Edge) → has_segment a b es ≡ true → 1 ≤ times a b es
 segment_times a b [] h = absurd (false≢true h)
 segment_times a b (e ∷ es) h = by (is_seg a b e) (segment_times a b es) h
   where
@@ -88,7 +88,7 @@ segment_times a b (e ∷ es) h = by (is_seg a b e) (segment_times a b es) h
     by true later k = omega arith
     by false later k = let l = later k in omega arith
 
-times_segment : (a b : ℕ) (es : List Edge) → 1 ≤ times a b es → has_segment a b es ≡ true
+pub times_segment : (a b : ℕ) (es : List Edge) → 1 ≤ times a b es → has_segment a b es ≡ true
 times_segment a b [] h = absurd (omega arith)
 times_segment a b (e ∷ es) h = by (is_seg a b e) (times_segment a b es) h
   where
@@ -101,7 +101,7 @@ times_walk a b true ps = ap (times a b) (links-reverse ps) ∙ times-flipped a b
 times_walk a b false ps = refl
 
 module _ (a b : ℕ) (path : ℕ → List ℕ) where
-  chain_has : (n : ℕ) (us : List Use) → 1 ≤ times a b (links (path n)) → uses_arc n us ≡ true → 1 ≤ times a b (chain path us)
+  pub chain_has : (n : ℕ) (us : List Use) → 1 ≤ times a b (links (path n)) → uses_arc n us ≡ true → 1 ≤ times a b (chain path us)
   chain_has n [] l h = absurd (false≢true h)
   chain_has n (u ∷ us) l h = by (or_split (u.arc == n) (uses_arc n us) h) (chain_has n us l)
     where
@@ -111,7 +111,7 @@ module _ (a b : ℕ) (path : ℕ → List ℕ) where
           omega (arith, times-append a b (links (walk u.back (path u.arc))) (chain path us), times_walk a b u.back (path u.arc))
       by (inr k) later = let l = later k in omega (arith, times-append a b (links (walk u.back (path u.arc))) (chain path us))
 
-  chain_uses : (us : List Use) → 1 ≤ times a b (chain path us) → (n : ℕ) × (uses_arc n us ≡ true) × (1 ≤ times a b (links (path n)))
+  pub chain_uses : (us : List Use) → 1 ≤ times a b (chain path us) → (n : ℕ) × (uses_arc n us ≡ true) × (1 ≤ times a b (links (path n)))
   chain_uses [] h = absurd (omega arith)
   chain_uses (u ∷ us) h = by (times a b (links (path u.arc))) refl (chain_uses us)
     where

@@ -16,5 +16,6 @@ pub mod EditLemmas
 pub mod Inserting
 pub mod Removing
 pub mod Counting
+pub mod UserLemmas
 pub mod CopyLemmas
 mod Examples

@@ -12,6 +12,7 @@ mod editing;
 mod laying;
 mod numbers;
 mod place;
+mod ring_users;
 mod standing;
 mod tables;
 mod taking;

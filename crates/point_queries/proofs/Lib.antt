@@ -1,2 +1,6 @@
 pub mod Shows
 mod Rest
+mod Sharers
+mod Ascending
+mod SharedBorders
+mod OnBorders

@@ -2,6 +2,7 @@
 ghost use Rattle.std.specs.Prelude.{◌≡◌, ◌≤◌, ◌++◌, true, None, IfOk, OnOk, OnErr, IfSome, length};
 ghost use Rattle.std.specs.FinMap as map;
 ghost use Rattle.arc_tables.specs.Rings.{begins, edges, users_of};
+ghost use Rattle.arc_tables.specs.Users.{ListsUsers};
 
 use crate::reading::push_ring_keys;
 use arc_tables::{Tables, mark_end};
@@ -96,6 +97,22 @@ impl<A: Allocator + Copy> Borders<A> {
         ensures { result ≡ users_of self.now a b }
     {
         self.tables.uses(a, b)
+    }
+
+    /// Appends the numbers of the rings that have the segment of these two vertices, in either
+    /// direction, each once. Fails for want of memory alone.
+    pub fn push_users<B: Allocator>(
+        &self,
+        a: VertexKey,
+        b: VertexKey,
+        out: &mut Vec<usize, B>,
+    ) -> Result<(), AllocError>
+        ensures { OnOk result (ListsUsers self.now a b out.old.items out.new.items) }
+    {
+        match self.tables.push_users(a, b, out) {
+            Ok(()) => Ok(()),
+            Err(e) => Err(e),
+        }
     }
 
     /// Appends the keys of a ring that is held, in order. Fails for want of memory alone; some of

@@ -73,3 +73,23 @@ fn a_shared_side_is_counted_twice(rt: HostRuntime) -> Result<(), Fail> {
     count_squares(&rt, alloc, keys.as_slice(), &RIGHT)?;
     count_squares(&rt, alloc, keys.as_slice(), &RIGHT_TURNED)
 }
+
+/// The rings of the side of vertices 1 and 2 are listed behind what stood there, each once.
+#[test]
+fn a_shared_side_lists_both_rings(rt: HostRuntime) -> Result<(), Fail> {
+    let alloc = rt.alloc();
+    let keys = vertex_keys(&rt, alloc, 6)?;
+    let left = pick(&rt, alloc, keys.as_slice(), &LEFT)?;
+    let right = pick(&rt, alloc, keys.as_slice(), &RIGHT_TURNED)?;
+    let mut borders = Borders::new(alloc);
+    let first = add(&rt, &mut borders, left.as_slice())?;
+    let second = add(&rt, &mut borders, right.as_slice())?;
+    let a = key(&rt, keys.as_slice(), 1);
+    let b = key(&rt, keys.as_slice(), 2);
+    let mut listed = Vec::new(alloc);
+    borders.push_users(b, a, &mut listed)?;
+    borders.push_users(a, a, &mut listed)?;
+    listed.sort_unstable();
+    assert_eq!(rt; listed.as_slice(), [first, second].as_slice());
+    Ok(())
+}

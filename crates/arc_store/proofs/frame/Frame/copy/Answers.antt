@@ -18,6 +18,7 @@ returns-clause-frame g c =
       members = c.in_ok-members.members;
       polygons = c.in_ok-polygons.polygons;
       leaves = c.in_ok-leaves.leaves;
+      names = c.in_ok-names.names;
     } in
     frame_copied f copy refl
     (copied_map (λ layer copy. view_layer copy ≡ view_layer layer) view_layer (λ layer copy same. same) f.layers.items c.in_ok-layers.layers.items c.in_ok-layers.ensures.cases.0)
@@ -38,3 +39,8 @@ pub returns-clause-listed : goal.returns-clause-listed
 returns-clause-listed g c h =
     let f = c.args.self.now in
     rw (copied_map (λ layer copy. view_layer copy ≡ view_layer layer) view_layer (λ layer copy same. same) f.layers.items c.in_ok-layers.layers.items c.in_ok-layers.ensures.cases.0, each_same f.leaves.items c.in_ok-leaves.leaves.items c.in_ok-leaves.ensures.cases.0) h
+
+pub returns-clause-named : goal.returns-clause-named
+returns-clause-named g c h =
+    let f = c.args.self.now in
+    rw (c.in_ok-names.ensures.items ∙ c.as_slice.ensures.value, numbers_copied f.polygons.items c.in_ok-polygons.polygons.items c.in_ok-polygons.ensures.cases.0) h

@@ -1,5 +1,7 @@
-use Rattle.std.proofs.Common.{◌≤◌, arith, sym, ap, ◌∙◌, subst, map, length, Some, option_map}
-use Rattle.ring_machine.specs.Parts.{feature, size}
+use Rattle.std.proofs.Common.{◌≡◌, ◌≤◌, true, arith, sym, ap, ◌∙◌, subst, map, length, Some, option_map}
+use Rattle.ring_machine.specs.Parts.{feature, features, size}
+use Rattle.ring_machine.specs.WellFormed.{are_distinct}
+use Rattle.ring_machine.proofs.FormedRings.{formed-in_rings}
 use Rattle.topo_outline.specs.Views.{view_layer}
 use Rattle.arc_store.specs.Kept.{stored}
 use Rattle.arc_store.specs.Leaves.{featured_at, view_feature}
@@ -65,3 +67,24 @@ returns-clause-shown g c =
 
 pub returns-clause-small : goal.returns-clause-small
 returns-clause-small g c = subst (λ s. size s.doc ≤ 4000000) c.self.view_is c.self.invariant.holds.small
+
+pub returns-in_err-leaf-clause-distinct : goal.returns-in_err-leaf-clause-distinct
+returns-in_err-leaf-clause-distinct g c =
+    let m = c.self.inside in
+    let s = stored m.frame m.borders m.vertices in
+    subst (λ z. are_distinct (map (λ f. f.number) (features z.doc)) ≡ true) c.self.view_is
+    (formed-in_rings (ring_under s) s.frame c.self.invariant.holds.formed).numbers
+
+pub returns-in_err-feature-clause-distinct : goal.returns-in_err-feature-clause-distinct
+returns-in_err-feature-clause-distinct g c =
+    let m = c.self.inside in
+    let s = stored m.frame m.borders m.vertices in
+    subst (λ z. are_distinct (map (λ f. f.number) (features z.doc)) ≡ true) c.self.view_is
+    (formed-in_rings (ring_under s) s.frame c.self.invariant.holds.formed).numbers
+
+pub returns-clause-distinct : goal.returns-clause-distinct
+returns-clause-distinct g c =
+    let m = c.self.inside in
+    let s = stored m.frame m.borders m.vertices in
+    subst (λ z. are_distinct (map (λ f. f.number) (features z.doc)) ≡ true) c.self.view_is
+    (formed-in_rings (ring_under s) s.frame c.self.invariant.holds.formed).numbers

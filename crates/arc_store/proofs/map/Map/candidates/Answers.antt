@@ -1,0 +1,34 @@
+use Rattle.std.proofs.Common.{◌≡◌, true, map, ap, is_ok, subst}
+use Rattle.ring_machine.specs.Parts.{features}
+use Rattle.ring_machine.specs.WellFormed.{are_distinct}
+use Rattle.arc_store.specs.Kept.{stored}
+use Rattle.arc_store.specs.Near.{ListsNear}
+use Rattle.arc_store.specs.Stored.{ring_under}
+use Rattle.segment_index.specs.Times.{times_by}
+use Rattle.ring_machine.proofs.FormedRings.{formed-in_rings}
+use Rattle.arc_store.proofs.NearLemmas.{near_listed}
+use Rattle.arc_store.proofs.map.Map.candidates.Goals as goal
+
+pub returns-in-Ok-clause-near : goal.returns-in-Ok-clause-near
+returns-in-Ok-clause-near g c =
+    let m = c.self.inside in
+    subst (λ s. ListsNear s.doc c.args.rect c.args.out.now.items c.candidates.new.out.items) c.self.view_is
+    (near_listed _ (g.I.SegIndex.held m.index) (times_by (g.I.SegIndex.cells m.index)) c.args.rect c.args.out.now.items c.candidates.new.out.items (is_ok c.candidates.result)
+    c.self.invariant.holds.indexed (ap is_ok c.in-Ok.is) c.candidates.ensures)
+
+pub returns-in-Ok-clause-distinct : goal.returns-in-Ok-clause-distinct
+returns-in-Ok-clause-distinct g c =
+    let m = c.self.inside in
+    let s = stored m.frame m.borders m.vertices in
+    subst (λ z. are_distinct (map (λ f. f.number) (features z.doc)) ≡ true) c.self.view_is
+    (formed-in_rings (ring_under s) s.frame c.self.invariant.holds.formed).numbers
+
+pub returns-in-Err : goal.returns-in-Err
+returns-in-Err g c = record {
+  near = tt;
+  distinct =
+      let m = c.self.inside in
+      let s = stored m.frame m.borders m.vertices in
+      subst (λ z. are_distinct (map (λ f. f.number) (features z.doc)) ≡ true) c.self.view_is
+      (formed-in_rings (ring_under s) s.frame c.self.invariant.holds.formed).numbers;
+}

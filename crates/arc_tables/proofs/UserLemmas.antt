@@ -1,0 +1,65 @@
+-- Which rings have a segment: those of the arc that has it.
+use Rattle.std.proofs.Common.{◌≡◌, ℕ, ◌≤◌, true, refl, sym, ap, ◌∙◌, subst, arith}
+use Rattle.std.proofs.Common.{List, [], ◌++◌, Option, Some, None, is_some}
+use Rattle.std.proofs.lemmas.Bool.{false≢true}
+use Rattle.std.proofs.lemmas.List.{append-nil}
+use Rattle.slab.specs.Slab.{get}
+use Rattle.arc_tables.specs.declared.arc.Ring.{Ring}
+use Rattle.arc_tables.specs.declared.tables.Tables.{Tables}
+use Rattle.arc_tables.specs.Ways.{Edge, links, chain, times}
+use Rattle.arc_tables.specs.Rings.{has_segment}
+use Rattle.arc_tables.specs.Stores.{path_of, users_in, uses_in, uses_arc}
+use Rattle.arc_tables.specs.Sound.{edges_in, rings_of, Sound}
+use Rattle.arc_tables.specs.Users.{HasSegment, ListsUsers}
+use Rattle.arc_tables.proofs.Counting.{segment_times, times_segment, chain_has, chain_uses}
+use Rattle.arc_tables.proofs.RingLemmas.{get_rings, ring_here}
+
+module _ {A : Type 0} where
+  used_there : (i : ℕ) (o : Option (Ring A)) → uses_arc i (uses_in o) ≡ true → is_some o ≡ true
+  used_there i None h = absurd (false≢true h)
+  used_there i (Some r) h = refl
+
+  edges_there : (path : ℕ → List ℕ) (o : Option (Ring A)) (es : List Edge) → edges_in path o ≡ Some es
+      → es ≡ chain path (uses_in o)
+  edges_there path None es e = absurd cc
+  edges_there path (Some r) es e = cc
+
+  module _ (t : Tables A) (a b : ℕ) where
+    -- the arcs of a ring with the segment
+    arc_used : (r : ℕ) → HasSegment (rings_of t) a b r
+        → (n : ℕ) × (uses_arc n (uses_in (get t.rings r)) ≡ true) × (1 ≤ times a b (links (path_of t n)))
+    arc_used r h =
+        let es = edges_there (path_of t) (get t.rings r) h.edges (sym (get_rings t r) ∙ h.held) in
+        chain_uses a b (path_of t) (uses_in (get t.rings r))
+        (segment_times a b (chain (path_of t) (uses_in (get t.rings r))) (ap (has_segment a b) (sym es) ∙ h.has))
+
+    -- arc n has the segment
+    pub listed_here : Sound t → (n : ℕ) → 1 ≤ times a b (links (path_of t n)) → (old new users : List ℕ)
+        → users ≡ users_in (get t.arcs n) → new ≡ old ++ users → ListsUsers (rings_of t) a b old new
+    listed_here s n l old new users is e = record {
+      found = users_in (get t.arcs n);
+      appended = e ∙ ap (λ z. old ++ z) is;
+      all = λ r. (
+        λ m. let u = s.whole.known.used r n m in record {
+          edges = chain (path_of t) (uses_in (get t.rings r));
+          held = ring_here t r (used_there n (get t.rings r) u);
+          has = times_segment a b (chain (path_of t) (uses_in (get t.rings r))) (chain_has a b (path_of t) n (uses_in (get t.rings r)) l u);
+        },
+        λ h. let u = arc_used r h in
+            s.whole.known.users r n (subst (λ z. uses_arc z (uses_in (get t.rings r)) ≡ true) (s.once.apart a b u.0 n u.2 l) u.1),
+      );
+      once = s.whole.known.single n;
+    }
+
+    -- no arc has the segment
+    pub listed_nowhere : ((n : ℕ) → times a b (links (path_of t n)) ≡ 0) → (old : List ℕ)
+        → ListsUsers (rings_of t) a b old old
+    listed_nowhere none old = record {
+      found = [];
+      appended = sym (append-nil old);
+      all = λ r. (
+        λ m. absurd (omega (arith, m.1)),
+        λ h. let u = arc_used r h in absurd (omega (arith, u.2, none u.0)),
+      );
+      once = tt;
+    }

@@ -1,0 +1,200 @@
+-- Ascending numbers, each once: sorted ones, and those of features.
+use Rattle.std.proofs.Common.{◌≡◌, ◌≢◌, ℕ, ◌<◌, Bool, true, false, refl, sym, ap, ap₂, ◌∙◌, subst, cond}
+use Rattle.std.proofs.Common.{List, [], ◌∷◌, map, ◌⊎◌, inl, inr, arith}
+use Rattle.std.specs.Prelude.{nat_le, nat_eq, not, ◌==◌}
+use Rattle.std.specs.List.{AllByRecursion, fold, filter, dedup, list_any}
+use Rattle.std.specs.List.Sorted as sorting
+use Rattle.std.specs.List.Sorted.{IsPermutation, IsStrictlySortedBy}
+use Rattle.std.specs.List.Retain.{IsFiltered, DiffersFromLast}
+use Rattle.std.specs.Ordering.{nat_cmp, eq_by_cmp}
+use Rattle.std.specs.declared.cmp.Ordering.TheVariants.{Less}
+use Rattle.std.proofs.lemmas.Bool.{false≢true}
+use Rattle.std.proofs.lemmas.Bool.Decides.{Decides-eqb, nat_tests}
+use Rattle.std.proofs.lemmas.Cmp.{nat_cmp_total}
+use Rattle.std.proofs.lemmas.List.Filters.{dedup_is}
+use Rattle.std.proofs.lemmas.List.Kept.{IsStrictlySortedBy-dedup}
+use Rattle.std.proofs.lemmas.List.Sorted.{IsPermutation-sym}
+use Rattle.ring_machine.specs.Document.{Feature}
+use Rattle.ring_machine.specs.Query.{add_number, numbers}
+use Rattle.ring_machine.specs.WellFormed.{are_distinct}
+use Rattle.ring_machine.proofs.First.{In, filter-in}
+use Rattle.ring_machine.proofs.Neighbours.{in-map}
+use Rattle.ring_machine.proofs.Order.{and_both}
+use Rattle.ring_machine.proofs.Removal.{not_true}
+use Rattle.ring_machine.proofs.Members.{contains_in, in_contains, in_filter, in_any}
+use Rattle.ring_machine.proofs.SortedOnce.{in_permuted, none_new, none_lost}
+use Rattle.point_queries.specs.Users.{Rises, IsSorted}
+
+-- ---- one list for the same numbers
+
+in_all : (P : ℕ → Type 0) (ns : List ℕ) → AllByRecursion P ns → (m : ℕ) → In m ns → P m
+in_all P [] h m i = absurd i
+in_all P (n ∷ ns) h m (inl e) = subst P e h.0
+in_all P (n ∷ ns) h m (inr i) = in_all P ns h.1 m i
+
+first_same : (n m : ℕ) (ns ms : List ℕ) → Rises (n ∷ ns) → Rises (m ∷ ms) → In n (m ∷ ms) → In m (n ∷ ns) → n ≡ m
+first_same n m ns ms h k (inl e) j = sym e
+first_same n m ns ms h k (inr i) (inl e) = e
+first_same n m ns ms h k (inr i) (inr j) =
+    absurd (omega (arith, in_all (λ z. m < z) ms k.0 n i, in_all (λ z. n < z) ns h.0 m j))
+
+rest_in : (n m : ℕ) (ns ms : List ℕ) → n ≡ m → AllByRecursion (λ z. n < z) ns → (a : ℕ) → In a ns → In a (m ∷ ms) → In a ms
+rest_in n m ns ms same h a i (inl e) = absurd (omega (arith, in_all (λ z. n < z) ns h a i, e, same))
+rest_in n m ns ms same h a i (inr j) = j
+
+pub same_rises : (ns ms : List ℕ) → Rises ns → Rises ms → ((a : ℕ) → In a ns → In a ms)
+    → ((a : ℕ) → In a ms → In a ns) → ns ≡ ms
+same_rises [] [] h k f g = refl
+same_rises [] (m ∷ ms) h k f g = absurd (g m (inl refl))
+same_rises (n ∷ ns) [] h k f g = absurd (f n (inl refl))
+same_rises (n ∷ ns) (m ∷ ms) h k f g =
+    let same = first_same n m ns ms h k (f n (inl refl)) (g m (inl refl)) in
+    ap₂ (λ z zs. z ∷ zs) same
+    (same_rises ns ms h.1 k.1 (λ a i. rest_in n m ns ms same h.0 a i (f a (inr i))) (λ a i. rest_in m n ms ns (sym same) k.0 a i (g a (inr i))))
+
+-- ---- sorted numbers
+
+ties : (n m : ℕ) → nat_eq n m ≡ eq_by_cmp nat_cmp n m
+ties n m = grind (arith, nat_tests)
+
+same_by : (n m : ℕ) → nat_eq n m ≡ true → n ≡ m
+same_by n m e = (Decides-eqb n m).0 e
+
+less : (n m : ℕ) → nat_cmp n m ≡ Less → n < m
+less n m e = grind (arith, nat_tests)
+
+all_less : (n : ℕ) (ns : List ℕ) → AllByRecursion (λ m. nat_cmp n m ≡ Less) ns → AllByRecursion (λ m. n < m) ns
+all_less n [] h = tt
+all_less n (m ∷ ns) h = (less n m h.0, all_less n ns h.1)
+
+rise : (ns : List ℕ) → IsStrictlySortedBy nat_cmp ns → Rises ns
+unfolding IsStrictlySortedBy
+rise [] h = tt
+rise (n ∷ ns) h = (all_less n ns h.0, rise ns h.1)
+
+pub numbers_sorted : (ns sorted once : List ℕ) → IsPermutation ns sorted → sorting.IsSorted nat_cmp sorted
+    → IsFiltered (DiffersFromLast nat_eq) [] sorted once → IsSorted ns once
+numbers_sorted ns sorted once permutation ascending filtered =
+    subst (IsSorted ns) (sym (dedup_is nat_eq sorted once filtered)) (record {
+      rises = rise (dedup nat_eq sorted) (IsStrictlySortedBy-dedup nat_cmp_total ties sorted ascending);
+      same = λ m. (
+        λ c. in_contains ns m (in_permuted ns sorted permutation m (none_new nat_eq same_by sorted m (contains_in (dedup nat_eq sorted) m c))),
+        λ c. in_contains (dedup nat_eq sorted) m (none_lost nat_eq same_by sorted m (in_permuted sorted ns (IsPermutation-sym ns sorted permutation) m (contains_in ns m c))),
+      );
+    })
+
+-- ---- the numbers of features
+
+all_with : (P : ℕ → Type 0) (n : ℕ) (ms : List ℕ) → P n → AllByRecursion P ms → AllByRecursion P (add_number n ms)
+all_with P n [] h k = (h, tt)
+all_with P n (m ∷ ms) h k = by (nat_le n m) (all_with P n ms h k.1)
+  where
+    by : (b : Bool) → AllByRecursion P (add_number n ms) → AllByRecursion P (cond b (n ∷ m ∷ ms) (m ∷ add_number n ms))
+    by true rest = (h, k)
+    by false rest = (k.0, rest)
+
+all_beyond : (n m : ℕ) (ms : List ℕ) → n < m → AllByRecursion (λ z. m < z) ms → AllByRecursion (λ z. n < z) ms
+all_beyond n m [] l h = tt
+all_beyond n m (k ∷ ms) l h = (omega (arith, l, h.0), all_beyond n m ms l h.1)
+
+rises_with : (n : ℕ) (ms : List ℕ) → (In n ms → ⊥) → Rises ms → Rises (add_number n ms)
+rises_with n [] new h = (tt, tt)
+rises_with n (m ∷ ms) new h = by (nat_le n m) refl (rises_with n ms (λ i. new (inr i)) h.1)
+  where
+    differ : m ≢ n
+    differ e = new (inl e)
+
+    by : (b : Bool) → nat_le n m ≡ b → Rises (add_number n ms) → Rises (cond b (n ∷ m ∷ ms) (m ∷ add_number n ms))
+    by true e rest =
+        let f = differ in
+        let l : n < m = grind (arith, nat_tests) in
+        ((l, all_beyond n m ms l h.0), h)
+    by false e rest =
+        let l : m < n = grind (arith, nat_tests) in
+        (all_with (λ z. m < z) n ms l h.0, rest)
+
+in_with : (n : ℕ) (ms : List ℕ) (a : ℕ) → In a (add_number n ms) → (n ≡ a) ⊎ In a ms
+in_with n [] a (inl e) = inl e
+in_with n [] a (inr i) = inr i
+in_with n (m ∷ ms) a i = by (nat_le n m) i (in_with n ms a)
+  where
+    by : (b : Bool) → In a (cond b (n ∷ m ∷ ms) (m ∷ add_number n ms)) → (In a (add_number n ms) → (n ≡ a) ⊎ In a ms)
+        → (n ≡ a) ⊎ In a (m ∷ ms)
+    by true (inl e) rest = inl e
+    by true (inr j) rest = inr j
+    by false (inl e) rest = inr (inl e)
+    by false (inr j) rest = elim (rest j) [ inl e ↦ inl e | inr k ↦ inr (inr k) ]
+
+with_in : (n : ℕ) (ms : List ℕ) (a : ℕ) → (n ≡ a) ⊎ In a ms → In a (add_number n ms)
+with_in n [] a i = i
+with_in n (m ∷ ms) a i = by (nat_le n m) i (with_in n ms a)
+  where
+    by : (b : Bool) → (n ≡ a) ⊎ In a (m ∷ ms) → ((n ≡ a) ⊎ In a ms → In a (add_number n ms))
+        → In a (cond b (n ∷ m ∷ ms) (m ∷ add_number n ms))
+    by true j rest = j
+    by false (inl e) rest = inr (rest (inl e))
+    by false (inr (inl e)) rest = inl e
+    by false (inr (inr j)) rest = inr (rest (inr j))
+
+abbrev added : List ℕ → Feature → List ℕ
+added ns f = add_number f.number ns
+
+in_fold : (fs : List Feature) (ns : List ℕ) (a : ℕ) → In a (fold added ns fs)
+    → In a ns ⊎ ((g : Feature) × In g fs × (g.number ≡ a))
+in_fold [] ns a i = inl i
+in_fold (f ∷ fs) ns a i = elim (in_fold fs (added ns f) a i) [
+  | inl j ↦ elim (in_with f.number ns a j) [ inl e ↦ inr (f, inl refl, e) | inr k ↦ inl k ]
+  | inr h ↦ inr (h.0, inr h.1, h.2)
+]
+
+fold_in : (fs : List Feature) (ns : List ℕ) (a : ℕ) → In a ns → In a (fold added ns fs)
+fold_in [] ns a i = i
+fold_in (f ∷ fs) ns a i = fold_in fs (added ns f) a (with_in f.number ns a (inr i))
+
+each_in : (fs : List Feature) (ns : List ℕ) (g : Feature) → In g fs → In g.number (fold added ns fs)
+each_in [] ns g i = absurd i
+each_in (f ∷ fs) ns g (inl e) = fold_in fs (added ns f) g.number (with_in f.number ns g.number (inl (ap (λ z. z.number) e)))
+each_in (f ∷ fs) ns g (inr i) = each_in fs (added ns f) g i
+
+-- each feature has a number of its own
+abbrev Apart : List Feature → Type 0
+Apart [] = Unit {0}
+Apart (f ∷ fs) = ((g : Feature) → In g fs → g.number ≢ f.number) × Apart fs
+
+apart : (fs : List Feature) → are_distinct (map (λ f. f.number) fs) ≡ true → Apart fs
+apart [] d = tt
+apart (f ∷ fs) d =
+    let b = and_both (not (list_any (λ m. m == f.number) (map (λ f. f.number) fs))) (are_distinct (map (λ f. f.number) fs)) d in
+    (λ g i e. false≢true (sym (not_true _ b.0) ∙ in_any (λ m. m == f.number) g.number (map (λ f. f.number) fs) (in-map (λ f. f.number) g fs i) ((Decides-eqb g.number f.number).1 e)), apart fs b.1)
+
+apart_among : (test : Feature → Bool) (fs : List Feature) → Apart fs → Apart (filter test fs)
+apart_among test [] h = tt
+apart_among test (f ∷ fs) h = by (test f) (apart_among test fs h.1)
+  where
+    by : (b : Bool) → Apart (filter test fs) → Apart (cond b (f ∷ filter test fs) (filter test fs))
+    by true rest = (λ g i. h.0 g (in_filter test g fs i).0, rest)
+    by false rest = rest
+
+rises_fold : (fs : List Feature) (ns : List ℕ) → Apart fs → ((g : Feature) → In g fs → In g.number ns → ⊥)
+    → Rises ns → Rises (fold added ns fs)
+rises_fold [] ns d new h = h
+rises_fold (f ∷ fs) ns d new h =
+    rises_fold fs (added ns f) d.1
+    (λ g i j. elim (in_with f.number ns g.number j) [ inl e ↦ d.0 g i (sym e) | inr k ↦ new g (inr i) k ])
+    (rises_with f.number ns (λ i. new f (inl refl) i) h)
+
+-- an ascending list with the numbers of the features that pass, and no others
+pub numbers_are : (test : Feature → Bool) (fs : List Feature) (ns : List ℕ)
+    → are_distinct (map (λ f. f.number) fs) ≡ true → Rises ns
+    → ((m : ℕ) → In m ns → (g : Feature) × In g fs × (test g ≡ true) × (g.number ≡ m))
+    → ((g : Feature) → In g fs → test g ≡ true → In g.number ns)
+    → ns ≡ numbers (filter test fs)
+numbers_are test fs ns d h from to =
+    same_rises ns (numbers (filter test fs)) h
+    (rises_fold (filter test fs) [] (apart_among test fs (apart fs d)) (λ g i j. j) tt)
+    (λ m i. let g = from m i in
+    subst (λ z. In z (numbers (filter test fs))) g.3 (each_in (filter test fs) [] g.0 (filter-in test g.0 fs g.1 g.2)))
+    (λ m i. elim (in_fold (filter test fs) [] m i) [
+      | inl j ↦ absurd j
+      | inr g ↦ let k = in_filter test g.0 fs g.1 in subst (λ z. In z ns) g.2 (to g.0 k.0 k.1)
+    ])

@@ -1,0 +1,204 @@
+-- Two features have a segment in common where a ring of one has the segment of an edge of the other.
+use Rattle.std.proofs.Common.{◌≡◌, ℕ, suc, Bool, true, false, refl, sym, ap, ap₂, ◌∙◌, subst, cond}
+use Rattle.std.proofs.Common.{List, [], ◌∷◌, map, inl, inr, Option, Some, None, option_map, ◌&&◌}
+use Rattle.std.specs.Prelude.{not, ◌==◌, unwrap_or, slice_get}
+use Rattle.std.specs.List.{find, filter, flat_map, list_any}
+use Rattle.std.proofs.lemmas.Bool.{false≢true}
+use Rattle.std.proofs.lemmas.Bool.Decides.{Decides-eqb}
+use Rattle.grid_geometry.specs.Position.{Position}
+use Rattle.grid_geometry.specs.Ring.{Edge, edges}
+use Rattle.grid_geometry.specs.Segment.{Segment, segment, segment_eq}
+use Rattle.ring_machine.specs.Document.{Document, Feature}
+use Rattle.ring_machine.specs.Parts.{features, feature, rings_of}
+use Rattle.ring_machine.specs.Query.{segments_of, have_common, neighbours_of}
+use Rattle.ring_machine.specs.Refusals.{feature_at, or_else, no_feature}
+use Rattle.ring_machine.specs.Ring.{segment_of, segments}
+use Rattle.ring_machine.specs.WellFormed.{are_distinct}
+use Rattle.ring_machine.proofs.First.{In, filter-in}
+use Rattle.ring_machine.proofs.Neighbours.{in-map, in-flat_map}
+use Rattle.ring_machine.proofs.Order.{and_both}
+use Rattle.ring_machine.proofs.Removal.{not_true}
+use Rattle.arc_store.specs.declared.names.RingName.{RingName}
+use Rattle.arc_store.specs.Readers.{Shown, shown, element, ring_at}
+use Rattle.ring_machine.proofs.Members.{contains_in, in_contains, in_filter, in_mapped, in_flat, any_in, in_any}
+use Rattle.arc_store.proofs.NameLists.{element_is}
+use Rattle.arc_store.proofs.RingReads.{in_get}
+use Rattle.point_queries.specs.Users.{HasOne, ListsUsers, IsSorted}
+use Rattle.point_queries.proofs.Ascending.{numbers_are}
+
+-- ---- the feature with a number
+
+pub found_in : (n : ℕ) (fs : List Feature) (g : Feature) → find (λ f. f.number == n) fs ≡ Some g
+    → In g fs × (g.number ≡ n)
+found_in n [] g e = absurd cc
+found_in n (f ∷ fs) g e = by (f.number == n) refl e (found_in n fs g)
+  where
+    by : (b : Bool) → (f.number == n) ≡ b → cond b (Some f) (find (λ f. f.number == n) fs) ≡ Some g
+        → (find (λ f. f.number == n) fs ≡ Some g → In g fs × (g.number ≡ n)) → In g (f ∷ fs) × (g.number ≡ n)
+    by true t h rest =
+        let same : f ≡ g = ap (λ o. unwrap_or o f) h in
+        (inl same, ap (λ (z : Feature). z.number) (sym same) ∙ (Decides-eqb f.number n).0 t)
+    by false t h rest = let k = rest h in (inr k.0, k.1)
+
+pub in_found : (fs : List Feature) → are_distinct (map (λ f. f.number) fs) ≡ true → (g : Feature) → In g fs
+    → find (λ f. f.number == g.number) fs ≡ Some g
+in_found [] d g i = absurd i
+in_found (f ∷ fs) d g (inl e) =
+    ap (λ b. cond b (Some f) (find (λ f. f.number == g.number) fs)) ((Decides-eqb f.number g.number).1 (ap (λ (z : Feature). z.number) e))
+    ∙ ap Some e
+in_found (f ∷ fs) d g (inr i) =
+    by (f.number == g.number) refl (and_both (not (list_any (λ m. m == f.number) (map (λ f. f.number) fs))) (are_distinct (map (λ f. f.number) fs)) d)
+    (λ k. in_found fs k g i)
+  where
+    by : (b : Bool) → (f.number == g.number) ≡ b
+        → (not (list_any (λ m. m == f.number) (map (λ f. f.number) fs)) ≡ true) × (are_distinct (map (λ f. f.number) fs) ≡ true)
+        → (are_distinct (map (λ f. f.number) fs) ≡ true → find (λ f. f.number == g.number) fs ≡ Some g)
+        → cond b (Some f) (find (λ f. f.number == g.number) fs) ≡ Some g
+    by true t k rest =
+        absurd (false≢true (sym (not_true _ k.0) ∙ in_any (λ m. m == f.number) g.number (map (λ f. f.number) fs) (in-map (λ f. f.number) g fs i) ((Decides-eqb g.number f.number).1 (sym ((Decides-eqb f.number g.number).0 t)))))
+    by false t k rest = rest k.1
+
+-- ---- rings by their names
+
+mapped_some : {X Y : Type 0} (f : X → Y) (o : Option X) (y : Y) → option_map f o ≡ Some y
+    → (x : X) × (o ≡ Some x) × (f x ≡ y)
+mapped_some f None y e = absurd cc
+mapped_some f (Some x) y e = (x, refl, ap (λ o. unwrap_or o y) e)
+
+place_of : {X : Type 0} (xs : List X) (x : X) → In x xs → (i : ℕ) × (slice_get xs i ≡ Some x)
+place_of [] x i = absurd i
+place_of (y ∷ xs) x (inl e) = (0, ap Some e)
+place_of (y ∷ xs) x (inr i) = let k = place_of xs x i in (suc k.0, k.1)
+
+-- a ring with a name is a ring of the feature that the name has
+pub named_ring : (d : Document) (name : RingName) (ps : List Position)
+    → ring_at d name.feature name.polygon name.ring ≡ Some ps
+    → (g : Feature) × In g (features d) × (g.number ≡ name.feature) × In ps (rings_of g)
+named_ring d name ps e =
+    let a = element_is (element (option_map (λ f. f.polygons) (feature d name.feature)) name.polygon) name.ring ps e in
+    let b = element_is (option_map (λ f. f.polygons) (feature d name.feature)) name.polygon a.0 a.1 in
+    let g = mapped_some (λ f. f.polygons) (feature d name.feature) b.0 b.1 in
+    let at = found_in name.feature (features d) g.0 g.1 in
+    let polygon : In a.0 (g.0).polygons = subst (In a.0) (sym g.2) (in_get b.0 name.polygon a.0 b.2) in
+    (g.0, at.0, at.1, in-flat_map (λ (polygon : List (List Position)). polygon) a.0 ps (g.0).polygons polygon (in_get a.0 name.ring ps a.2))
+
+-- each ring of a feature has a name
+pub ring_named : (d : Document) → are_distinct (map (λ f. f.number) (features d)) ≡ true
+    → (g : Feature) → In g (features d) → (ps : List Position) → In ps (rings_of g)
+    → (name : RingName) × (name.feature ≡ g.number) × (ring_at d name.feature name.polygon name.ring ≡ Some ps)
+ring_named d distinct g i ps h =
+    let a = in_flat (λ (polygon : List (List Position)). polygon) ps g.polygons h in
+    let polygon = place_of g.polygons a.0 a.1 in
+    let ring = place_of a.0 ps a.2 in (
+      record { feature = g.number; polygon = polygon.0; ring = ring.0 },
+      refl,
+      ap (λ o. element (element (option_map (λ f. f.polygons) o) polygon.0) ring.0) (in_found (features d) distinct g i)
+          ∙ ap (λ o. element o ring.0) polygon.1 ∙ ring.1,
+    )
+
+-- ---- edges and segments of a feature
+
+abbrev pub edges_of : Feature → List Edge
+edges_of f = flat_map (flat_map edges) f.polygons
+
+edge_segment : (f : Feature) (e : Edge) → In e (edges_of f) → In (segment e.0 e.1) (segments_of f)
+edge_segment f e i =
+    let a = in_flat (flat_map edges) e f.polygons i in
+    let b = in_flat edges e a.0 a.2 in
+    in-flat_map segments b.0 (segment e.0 e.1) (rings_of f)
+    (in-flat_map (λ (polygon : List (List Position)). polygon) a.0 b.0 f.polygons a.1 b.1)
+    (in-map segment_of e (edges b.0) b.2)
+
+segment_edge : (f : Feature) (s : Segment) → In s (segments_of f)
+    → (e : Edge) × In e (edges_of f) × (segment e.0 e.1 ≡ s)
+segment_edge f s i =
+    let a = in_flat segments s (rings_of f) i in
+    let b = in_flat (λ (polygon : List (List Position)). polygon) a.0 f.polygons a.1 in
+    let e = in_mapped segment_of s (edges a.0) a.2 in
+    (e.0, in-flat_map (flat_map edges) b.0 e.0 f.polygons b.1 (in-flat_map edges a.0 e.0 b.0 b.2 e.1), e.2)
+
+module _ (d : Document) (distinct : are_distinct (map (λ f. f.number) (features d)) ≡ true) (f : Feature) where
+  -- a ring with a segment of the feature's is that of a feature with a common segment
+  common_of : (name : RingName) → HasOne d (edges_of f) name
+      → (g : Feature) × In g (features d) × (g.number ≡ name.feature) × (have_common f g ≡ true)
+  common_of name h =
+      let g = named_ring d name h.has.positions h.has.there in
+      let s = segment h.edge.0 h.edge.1 in
+      let t = any_in (segment_eq s) (segments h.has.positions) h.has.has in
+      let there = in-flat_map segments h.has.positions t.0 (rings_of g.0) g.3 t.1 in (
+        g.0,
+        g.1,
+        g.2,
+        in_any (λ s. list_any (segment_eq s) (segments_of g.0)) s (segments_of f)
+            (edge_segment f h.edge (contains_in (edges_of f) h.edge h.there))
+            (in_any (segment_eq s) t.0 (segments_of g.0) there t.2),
+      )
+
+  of_common : (g : Feature) → In g (features d) → have_common f g ≡ true
+      → (name : RingName) × (name.feature ≡ g.number) × HasOne d (edges_of f) name
+  of_common g i h =
+      let s = any_in (λ s. list_any (segment_eq s) (segments_of g)) (segments_of f) h in
+      let t = any_in (segment_eq s.0) (segments_of g) s.2 in
+      let ring = in_flat segments t.0 (rings_of g) t.1 in
+      let name = ring_named d distinct g i ring.0 ring.1 in
+      let e = segment_edge f s.0 s.1 in (
+        name.0,
+        name.1,
+        record {
+          edge = e.0;
+          there = in_contains (edges_of f) e.0 e.1;
+          has = record {
+            positions = ring.0;
+            there = name.2;
+            has = in_any (segment_eq (segment (e.0).0 (e.0).1)) t.0 (segments ring.0) ring.2 (ap (λ z. segment_eq z t.0) e.2 ∙ t.2);
+          };
+        },
+      )
+
+  -- the numbers of the other features of these rings, ascending, are those of the neighbours
+  pub neighbours_are : (n : ℕ) → f.number ≡ n → (names : List RingName) → ListsUsers d (edges_of f) [] names
+      → (found sorted : List ℕ) → found ≡ filter (λ m. not (m == n)) (map (λ name. name.feature) names)
+      → IsSorted found sorted → sorted ≡ neighbours_of d f
+  neighbours_are n number names l found sorted e o =
+      numbers_are test (features d) sorted distinct o.rises from to
+    where
+      test : Feature → Bool
+      test g = not (g.number == f.number) && have_common f g
+
+      other : ℕ → Bool
+      other m = not (m == n)
+
+      both : (a b : Bool) → a ≡ true → b ≡ true → (a && b) ≡ true
+      both true b h k = k
+      both false b h k = absurd (false≢true h)
+
+      from : (m : ℕ) → In m sorted → (g : Feature) × In g (features d) × (test g ≡ true) × (g.number ≡ m)
+      from m i =
+          let a = subst (In m) e (contains_in found m ((o.same m).0 (in_contains sorted m i))) in
+          let b = in_filter other m (map (λ (name : RingName). name.feature) names) a in
+          let name = in_mapped (λ (name : RingName). name.feature) m names b.0 in
+          let one = (l.all name.0).0 (in_contains l.found name.0 (subst (In name.0) l.appended name.1)) in
+          let g = common_of name.0 one in (
+            g.0,
+            g.1,
+            both (not ((g.0).number == f.number)) (have_common f g.0) (ap₂ (λ y z. not (y == z)) (g.2 ∙ name.2) number ∙ b.1) g.3,
+            g.2 ∙ name.2,
+          )
+
+      to : (g : Feature) → In g (features d) → test g ≡ true → In g.number sorted
+      to g i h =
+          let t = and_both (not (g.number == f.number)) (have_common f g) h in
+          let name = of_common g i t.1 in
+          let there : In name.0 names = subst (In name.0) (sym l.appended) (contains_in l.found name.0 ((l.all name.0).1 name.2)) in
+          let among : In g.number (map (λ (name : RingName). name.feature) names) = subst (λ z. In z (map (λ (name : RingName). name.feature) names)) name.1 (in-map (λ (name : RingName). name.feature) name.0 names there) in
+          let kept = filter-in other g.number (map (λ (name : RingName). name.feature) names) among (ap (λ z. not (g.number == z)) (sym number) ∙ t.0) in
+          contains_in sorted g.number ((o.same g.number).1 (in_contains found g.number (subst (In g.number) (sym e) kept)))
+
+-- a feature that is shown has the number that it was asked for by
+pub shown_number : (d : Document) (n : ℕ) (v : Shown) → Some v ≡ option_map shown (feature d n)
+    → (feature_at d n).number ≡ n
+shown_number d n v e = by (feature d n) refl e
+  where
+    by : (o : Option Feature) → feature d n ≡ o → Some v ≡ option_map shown o → (or_else no_feature o).number ≡ n
+    by None h k = absurd cc
+    by (Some f) h k = (found_in n (features d) f h).1

@@ -1,0 +1,9 @@
+use Rattle.std.proofs.Common.{take}
+use Rattle.std.specs.List.{flat_map}
+use Rattle.point_queries.specs.Users.{ListsUsers, on_edge}
+use Rattle.point_queries.proofs.border.push_on.Given as goal
+
+-- the rings of the segments so far
+abbrev pub invariant-loop-s : goal.invariant-loop-s
+invariant-loop-s g l =
+    ListsUsers l.map.doc (flat_map (on_edge l.p) (take l.s-index l.near)) l.fn.out.items l.out.items

@@ -1,0 +1,69 @@
+use Rattle.std.proofs.Common.{◌≡◌, ◌<◌, ◌≤◌, ◌∙◌, sym, ap, subst, true, [], length, arith, take_all, map, IfErr}
+use Rattle.std.specs.Prelude.{is_some, unwrap_or, slice_get, not, ◌==◌}
+use Rattle.std.specs.List.{filter, flat_map}
+use Rattle.std.proofs.lemmas.List.{length-map}
+use Rattle.std.proofs.lemmas.Result.{err_from_is_err_and}
+use Rattle.grid_geometry.specs.Ring.{edges}
+use Rattle.ring_machine.specs.Parts.{has_feature}
+use Rattle.ring_machine.specs.Refusals.{feature_at}
+use Rattle.point_queries.specs.Told.{Tells}
+use Rattle.point_queries.specs.Users.{ListsUsers}
+use Rattle.point_queries.proofs.SharedBorders.{edges_of, shown_number, neighbours_are}
+use Rattle.point_queries.proofs.Sharers.{users_more}
+use Rattle.point_queries.proofs.Shows.{numbers_shown, count_is, is_shown}
+use Rattle.point_queries.proofs.sharing.neighbours.Goals as goal
+
+pub returns-in_default-clause-fault : goal.returns-in_default-clause-fault
+returns-in_default-clause-fault g c =
+    is_shown c.args.map.now.doc c.args.f ∙ ap is_some (sym c.feature.ensures.shown ∙ c.in_default.is)
+
+pub push_polygon-requires : goal.push_polygon-requires
+push_polygon-requires g c =
+    let d = c.args.map.now.doc in
+    let polygons = (feature_at d c.args.f).polygons in
+    let numbers = numbers_shown d c.args.f c.in-Some.feature (sym c.in-Some.is ∙ c.feature.ensures.shown) in
+    c.ring_count.ensures ∙ ap (λ ns. unwrap_or (slice_get ns c.loop-polygon.polygon) 0) numbers ∙ count_is polygons c.loop-polygon.polygon
+
+pub returns-in_err-push_polygon-clause-fault : goal.returns-in_err-push_polygon-clause-fault
+returns-in_err-push_polygon-clause-fault g c =
+    let d = c.args.map.now.doc in
+    let there : has_feature d c.args.f ≡ true = is_shown d c.args.f ∙ ap is_some (sym c.feature.ensures.shown ∙ c.in-Some.is) in
+    let p = err_from_is_err_and c.from_residual.result c.from_residual.ensures.1 in
+    subst (λ r. IfErr r (λ fault. Tells d c.args.f fault)) (sym p.1) (subst (Tells d c.args.f) (sym p.2) there)
+
+pub loop-polygon-preserved : goal.loop-polygon-preserved
+loop-polygon-preserved g c =
+    let d = c.args.map.now.doc in
+    let polygons = (feature_at d c.args.f).polygons in
+    let numbers = numbers_shown d c.args.f c.in-Some.feature (sym c.in-Some.is ∙ c.feature.ensures.shown) in
+    let long = c.polygon_count-polygon-end.ensures ∙ ap length numbers ∙ length-map polygons length in
+    let within : c.loop-polygon.polygon < length polygons = omega (arith, long, c.loop-polygon-test.true) in
+    users_more (flat_map edges) d polygons c.loop-polygon.polygon [] [] c.loop-polygon.names.items c.push_polygon.new.out.items within
+    c.loop-polygon.invariant c.in_ok-push_polygon.ensures
+
+pub returns-in_err-found-clause-fault : goal.returns-in_err-found-clause-fault
+returns-in_err-found-clause-fault g c =
+    let d = c.args.map.now.doc in
+    let there : has_feature d c.args.f ≡ true = is_shown d c.args.f ∙ ap is_some (sym c.feature.ensures.shown ∙ c.in-Some.is) in
+    let p = err_from_is_err_and c.from_residual-in_err-found.result c.from_residual-in_err-found.ensures.1 in
+    subst (λ r. IfErr r (λ fault. Tells d c.args.f fault)) (sym p.1) (subst (Tells d c.args.f) (sym p.2) there)
+
+pub returns-clause-found : goal.returns-clause-found
+returns-clause-found g c =
+    let d = c.args.map.now.doc in
+    let f = feature_at d c.args.f in
+    let polygons = f.polygons in
+    let shows = sym c.in-Some.is ∙ c.feature.ensures.shown in
+    let long = c.polygon_count-polygon-end.ensures ∙ ap length (numbers_shown d c.args.f c.in-Some.feature shows) ∙ length-map polygons length in
+    let past : length polygons ≤ c.loop-polygon.polygon = omega (arith, long, c.loop-polygon-test.false) in
+    let names = c.loop-polygon.names.items in
+    let lists : ListsUsers d (edges_of f) [] names =
+    subst (λ ps. ListsUsers d (flat_map (flat_map edges) ps) [] names) (take_all c.loop-polygon.polygon polygons past) c.loop-polygon.invariant in
+    neighbours_are d c.feature.ensures.distinct f c.args.f (shown_number d c.args.f c.in-Some.feature shows) names lists
+    c.in_ok-found.found.items c.sort_once.new.found.items
+    (c.in_ok-found.ensures ∙ ap (λ z. filter (λ m. not (m == c.args.f)) (map (λ name. name.feature) z)) c.as_slice.ensures.value)
+    c.sort_once.ensures
+
+pub returns-clause-there : goal.returns-clause-there
+returns-clause-there g c =
+    is_shown c.args.map.now.doc c.args.f ∙ ap is_some (sym c.feature.ensures.shown ∙ c.in-Some.is)

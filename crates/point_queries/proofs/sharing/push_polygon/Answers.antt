@@ -1,0 +1,22 @@
+use Rattle.std.proofs.Common.{◌<◌, ◌≤◌, subst, [], length, get_or, arith, take_all}
+use Rattle.std.specs.List.{flat_map}
+use Rattle.grid_geometry.specs.Ring.{edges}
+use Rattle.ring_machine.specs.Refusals.{feature_at}
+use Rattle.point_queries.specs.Users.{ListsUsers}
+use Rattle.point_queries.proofs.Sharers.{users_more}
+use Rattle.point_queries.proofs.sharing.push_polygon.Goals as goal
+
+pub loop-ring-preserved : goal.loop-ring-preserved
+loop-ring-preserved g c =
+    let d = c.args.map.now.doc in
+    let rings = get_or (feature_at d c.args.f).polygons c.args.polygon [] in
+    let within : c.loop-ring.ring < length rings = omega (arith, c.requires, c.loop-ring-test.true) in
+    users_more edges d rings c.loop-ring.ring [] c.args.out.now.items c.loop-ring.out.items c.push_ring.new.out.items within
+    c.loop-ring.invariant c.in_ok-push_ring.ensures
+
+pub returns : goal.returns
+returns g c =
+    let d = c.args.map.now.doc in
+    let rings = get_or (feature_at d c.args.f).polygons c.args.polygon [] in
+    let past : length rings ≤ c.loop-ring.ring = omega (arith, c.requires, c.loop-ring-test.false) in
+    subst (λ rs. ListsUsers d (flat_map edges rs) c.args.out.now.items c.loop-ring.out.items) (take_all c.loop-ring.ring rings past) c.loop-ring.invariant

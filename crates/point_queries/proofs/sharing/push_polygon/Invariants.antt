@@ -1,0 +1,12 @@
+use Rattle.std.proofs.Common.{[], take, get_or}
+use Rattle.std.specs.List.{flat_map}
+use Rattle.grid_geometry.specs.Ring.{edges}
+use Rattle.ring_machine.specs.Refusals.{feature_at}
+use Rattle.point_queries.specs.Users.{ListsUsers}
+use Rattle.point_queries.proofs.sharing.push_polygon.Given as goal
+
+-- the rings that have a segment of the rings so far
+abbrev pub invariant-loop-ring : goal.invariant-loop-ring
+invariant-loop-ring g l =
+    ListsUsers l.map.doc (flat_map edges (take l.ring (get_or (feature_at l.map.doc l.f).polygons l.polygon [])))
+    l.fn.out.items l.out.items

@@ -1,0 +1,11 @@
+-- What a fault of a question says.
+use Rattle.std.specs.Prelude.{ℕ, ◌≡◌, true, false}
+use Rattle.ring_machine.specs.Document.{Document}
+use Rattle.ring_machine.specs.Parts.{has_feature}
+use Rattle.point_queries.specs.declared.sharing.QueryFault.{QueryFault}
+use Rattle.point_queries.specs.declared.sharing.QueryFault.TheVariants.{NoFeature, OutOfMemory}
+
+-- no feature has the number; want of memory comes only where one has it
+abbrev pub Tells : Document → ℕ → QueryFault → Type 0
+Tells d n NoFeature = has_feature d n ≡ false
+Tells d n OutOfMemory = has_feature d n ≡ true
