@@ -44,13 +44,13 @@ with_pieces_new arcs (ps ∷ pss) =
     let r = with_pieces_new (with_piece arcs ps) pss in
     (w.0 ++ r.0, r.1 ∙ ap (λ z. z ++ r.0) w.1 ∙ append_assoc arcs w.0 r.0)
 
-index_stays : (arcs more : List (List Position)) (ps : List Position) → is_arc arcs ps ≡ true
+pub index_stays : (arcs more : List (List Position)) (ps : List Position) → is_arc arcs ps ≡ true
     → index_of (with_pieces arcs more) ps ≡ index_of arcs ps
 index_stays arcs more ps h =
     let new = with_pieces_new arcs more in
     ap (λ o. unwrap_or o (pos 0)) (ap (λ z. index_from 0 z ps) new.1 ∙ index_kept 0 arcs new.0 ps h)
 
-map_alike : {A B : Type 0} (f g : A → B) (xs : List A) → ((x : A) → In x xs → f x ≡ g x) → map f xs ≡ map g xs
+pub map_alike : {A B : Type 0} (f g : A → B) (xs : List A) → ((x : A) → In x xs → f x ≡ g x) → map f xs ≡ map g xs
 map_alike f g [] h = refl
 map_alike f g (x ∷ xs) h = ap₂ (λ y z. y ∷ z) (h x (inl refl)) (map_alike f g xs (λ y i. h y (inr i)))
 
@@ -69,7 +69,7 @@ module _ (j : Position → Bool) (start : List (List Position)) where
       → map (written_ring j (with_pieces (after rs) more)) rs ≡ map (written_ring j (after rs)) rs
   rings_stay rs more = map_alike (written_ring j (with_pieces (after rs) more)) (written_ring j (after rs)) rs (λ ring i. ap ring_text (ring_stays rs more ring i))
 
-  with_pieces-append : (arcs xs ys : List (List Position)) → with_pieces arcs (xs ++ ys) ≡ with_pieces (with_pieces arcs xs) ys
+  pub with_pieces-append : (arcs xs ys : List (List Position)) → with_pieces arcs (xs ++ ys) ≡ with_pieces (with_pieces arcs xs) ys
   with_pieces-append arcs [] ys = refl
   with_pieces-append arcs (x ∷ xs) ys = with_pieces-append (with_piece arcs x) xs ys
 

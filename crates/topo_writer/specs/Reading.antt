@@ -1,5 +1,6 @@
 -- The rings of a map, as they are read.
 use Rattle.std.specs.Prelude.{ℕ, List, [], unwrap_or, option_map}
+use Rattle.std.specs.List.{flat_map}
 use Rattle.grid_geometry.specs.Position.{Position}
 use Rattle.ring_machine.specs.Document.{Document}
 use Rattle.ring_machine.specs.Parts.{feature}
@@ -13,3 +14,11 @@ positions_at d n polygon ring = unwrap_or (ring_at d n polygon ring) []
 -- the rings of the polygon with this number of a feature; none where there is no such polygon
 abbrev pub rings_at : Document → ℕ → ℕ → List (List Position)
 rings_at d n polygon = unwrap_or (element (option_map (λ f. f.polygons) (feature d n)) polygon) []
+
+-- the polygons of a feature; none where there is no such feature
+abbrev pub polygons_at : Document → ℕ → List (List (List Position))
+polygons_at d n = unwrap_or (option_map (λ f. f.polygons) (feature d n)) []
+
+-- the rings of a feature, polygon after polygon
+abbrev pub all_rings_at : Document → ℕ → List (List Position)
+all_rings_at d n = flat_map (λ polygon. polygon) (polygons_at d n)

@@ -1,13 +1,14 @@
 -- A way that is cut while one goes along it, and its pieces found one after another.
 use Rattle.std.specs.Prelude.{ℤ, pos, Bool, true, false, ◌||◌, if◌then◌else◌, List, [], ◌∷◌, ◌++◌}
-use Rattle.std.specs.Prelude.{map, unwrap_or, Contains}
+use Rattle.std.specs.Prelude.{map, unwrap_or, Contains, codes}
 use Rattle.std.specs.List.{flat_map, AllByRecursion}
 use Rattle.grid_geometry.specs.Position.{Position}
-use Rattle.ring_machine.specs.Document.{Document, Text}
-use Rattle.ring_machine.specs.Parts.{rings}
+use Rattle.ring_machine.specs.Document.{Document, Feature, Form, Text}
+use Rattle.ring_machine.specs.Parts.{rings, in_feature}
 use Rattle.ring_machine.specs.Vertices.{is_junction}
 use Rattle.map_text.specs.Arcs.{pieces, indexes}
-use Rattle.map_text.specs.Text.{commas, ring_text, polygon_text}
+use Rattle.map_text.specs.Text.{commas, further, member_if, member_text, feature_text}
+use Rattle.map_text.specs.Text.{ring_text, polygon_text, shape_text}
 use Rattle.topo_writer.specs.Found.{found, first_edge, with_found, Fits}
 
 -- nothing is left
@@ -67,3 +68,18 @@ written_rings junction arcs some = commas (map (written_ring junction arcs) some
 abbrev pub written_polygon :
     (Position → Bool) → List (List Position) → List (List Position) → Text
 written_polygon junction arcs polygon = polygon_text (map (indexes junction arcs) polygon)
+
+-- these polygons with commas between them
+abbrev pub written_polygons :
+    (Position → Bool) → List (List Position) → List (List (List Position)) → Text
+written_polygons junction arcs some = commas (map (written_polygon junction arcs) some)
+
+-- the polygons of a feature as its member, after a comma; nothing where there is no such member
+abbrev pub written_shape :
+    (Position → Bool) → List (List Position) → Form → List (List (List Position)) → Text
+written_shape junction arcs form polygons = further (map member_text
+    (member_if (codes "\"arcs\"") (shape_text form (map (map (indexes junction arcs)) polygons))))
+
+-- a feature by the indexes of its rings' arcs
+abbrev pub written_feature : (Position → Bool) → List (List Position) → Feature → Text
+written_feature junction arcs f = feature_text (in_feature (indexes junction arcs) f)

@@ -7,6 +7,7 @@ mod cutting;
 mod members;
 mod rings;
 mod sending;
+mod shapes;
 mod texts;
 
 pub use arcs::Arcs;

@@ -1,0 +1,68 @@
+use Rattle.std.proofs.Common.{arith, refl, ◌≡◌, sym, ap, ◌∙◌, subst, ◌<◌, ◌++◌, [], length, get_or}
+use Rattle.std.specs.Prelude.{Contains}
+use Rattle.std.specs.List.{sum_by, flat_map, AllByRecursion}
+use Rattle.std.proofs.lemmas.List.{append-nil, take_all}
+use Rattle.map_text.specs.Arcs.{pieces, with_pieces}
+use Rattle.ring_machine.specs.Parts.{rings}
+use Rattle.ring_machine.specs.Vertices.{is_junction}
+use Rattle.topo_writer.specs.Reading.{rings_at, polygons_at}
+use Rattle.topo_writer.specs.Ways.{written_polygon, written_polygons}
+use Rattle.topo_writer.proofs.LaterParts.{each_part, in_place, polygon_same, rings_few, left_step, part_arcs, part_text}
+use Rattle.topo_writer.proofs.ReadRings.{same_place}
+use Rattle.topo_writer.proofs.SeenParts.{polygon_is_at, seen_count, seen_ring_count}
+use Rattle.topo_writer.proofs.shapes.push_polygons_of.Goals as goal
+
+pub push_polygon_of-requires-clause-count : goal.push_polygon_of-requires-clause-count
+push_polygon_of-requires-clause-count g c =
+    c.ring_count.ensures ∙ seen_ring_count c.args.map.now.doc c.args.n c.loop-polygon.polygon c.args.view.now c.requires.seen
+
+pub push_polygon_of-requires-clause-there : goal.push_polygon_of-requires-clause-there
+push_polygon_of-requires-clause-there g c =
+    let d = c.args.map.now.doc in
+    let ps = polygons_at d c.args.n in
+    let h : c.loop-polygon.polygon < length ps = omega (arith, seen_count d c.args.n c.args.view.now c.requires.seen) in
+    subst (AllByRecursion (Contains (rings d))) (sym (polygon_is_at d c.args.n c.loop-polygon.polygon))
+    (each_part (Contains (rings d)) (λ polygon. polygon) ps (get_or ps c.loop-polygon.polygon []) (in_place ps c.loop-polygon.polygon [] h) c.requires.there)
+
+pub push_polygon_of-requires-clause-mirrors : goal.push_polygon_of-requires-clause-mirrors
+push_polygon_of-requires-clause-mirrors g c = c.loop-polygon.invariant.mirrors
+
+pub push_polygon_of-requires-clause-pieces : goal.push_polygon_of-requires-clause-pieces
+push_polygon_of-requires-clause-pieces g c = c.loop-polygon.invariant.of_document
+
+pub push_polygon_of-requires-clause-few : goal.push_polygon_of-requires-clause-few
+push_polygon_of-requires-clause-few g c =
+    let d = c.args.map.now.doc in
+    let ps = polygons_at d c.args.n in
+    let i = c.loop-polygon.polygon in
+    let h : i < length ps = omega (arith, seen_count d c.args.n c.args.view.now c.requires.seen) in
+    let e : rings_at d c.args.n i ≡ get_or ps i (rings_at d c.args.n i) = polygon_is_at d c.args.n i ∙ same_place ps i [] (rings_at d c.args.n i) h in
+    omega (arith, c.loop-polygon.invariant.few, left_step (λ polygon. polygon) ps i (rings_at d c.args.n i) h e)
+
+pub loop-polygon-init : goal.loop-polygon-init
+loop-polygon-init g c = record {
+  mirrors = c.requires.mirrors;
+  of_document = c.requires.pieces;
+  few = c.requires.few;
+  arcs = refl;
+  text = sym (append-nil c.args.text.now.items);
+}
+
+pub loop-polygon-preserved : goal.loop-polygon-preserved
+loop-polygon-preserved g c =
+    let d = c.args.map.now.doc in
+    let j = is_junction d in
+    let ps = polygons_at d c.args.n in
+    let i = c.loop-polygon.polygon in
+    let p = rings_at d c.args.n i in
+    let h : i < length ps = omega (arith, seen_count d c.args.n c.args.view.now c.requires.seen) in
+    let e : p ≡ get_or ps i p = polygon_is_at d c.args.n i ∙ same_place ps i [] p h in
+    let arcs = c.in_ok-push_polygon_of.ensures.arcs in
+    record {
+      mirrors = c.in_ok-push_polygon_of.ensures.mirrors;
+      of_document = c.in_ok-push_polygon_of.ensures.pieces;
+      few = omega (arith, c.loop-polygon.invariant.few, left_step (λ polygon. polygon) ps i p h e, ap length arcs, rings_few j c.loop-polygon.arcs.list.items p);
+      arcs = part_arcs j c.args.arcs.now.list.items (λ polygon. polygon) ps i p h e c.loop-polygon.arcs.list.items c.push_polygon_of.new.arcs.list.items c.loop-polygon.invariant.arcs arcs;
+      text = part_text j c.args.arcs.now.list.items (λ polygon. polygon) (written_polygon j) (polygon_same j) ps i p h e c.loop-polygon.arcs.list.items c.push_polygon_of.new.arcs.list.items c.loop-polygon.invariant.arcs arcs
+          c.args.text.now.items c.loop-polygon.text.items c.push_comma.new.text.items c.push_polygon_of.new.text.items c.loop-polygon.invariant.text c.in_ok-push_comma.ensures c.in_ok-push_polygon_of.ensures.text;
+    }

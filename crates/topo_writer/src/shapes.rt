@@ -1,0 +1,140 @@
+//! The polygons of a feature, in the text.
+ghost use Rattle.std.specs.Prelude.{◌≡◌, ◌+◌, ◌≤◌, ◌++◌, length, Some, option_map, Contains, OnOk};
+ghost use Rattle.std.specs.List.{flat_map, sum_by, AllByRecursion};
+ghost use Rattle.indexmap.specs.IndexMap.{get};
+ghost use Rattle.ring_machine.specs.Ring.{edge_eq};
+ghost use Rattle.ring_machine.specs.Parts.{feature, rings};
+ghost use Rattle.ring_machine.specs.Planar.{Proper};
+ghost use Rattle.ring_machine.specs.Vertices.{is_junction};
+ghost use Rattle.arc_store.specs.Readers.{shown};
+ghost use Rattle.map_text.specs.Arcs.{pieces, with_pieces};
+ghost use Rattle.topo_writer.specs.Found.{Mirrors};
+ghost use Rattle.topo_writer.specs.Reading.{all_rings_at, polygons_at};
+ghost use Rattle.topo_outline.specs.Views.{form_of};
+ghost use Rattle.ring_machine.specs.Document.{Feature};
+ghost use Rattle.ring_machine.specs.WellFormed.{fits_form};
+ghost use Rattle.map_text.specs.Text.{type_text};
+ghost use Rattle.std.specs.Prelude.{true};
+ghost use Rattle.topo_writer.specs.Ways.{ArePieces, written_feature, written_polygons, written_shape};
+
+use crate::arcs::Arcs;
+use crate::members::{push_kept, push_member_if};
+use crate::rings::push_polygon_of;
+use crate::texts::push_comma;
+use arc_store::{FeatureView, Map};
+use segment_index::SegIndex;
+use std::alloc::{AllocError, Allocator};
+use topo_outline::Form;
+
+/// Appends the polygons of the feature with this number, with commas between them.
+pub(crate) fn push_polygons_of<'a, I: SegIndex, A: Allocator + Copy>(
+    alloc: A,
+    map: &Map<'a, I, A>,
+    arcs: &mut Arcs<A>,
+    text: &mut Vec<u8, A>,
+    view: &FeatureView<'_, 'a, A>,
+    n: u32,
+) -> Result<(), AllocError>
+    requires proper { Proper map.now.doc }
+    requires seen { Some view.now ≡ option_map shown (feature map.now.doc n) }
+    requires there { AllByRecursion (Contains (rings map.now.doc)) (all_rings_at map.now.doc n) }
+    requires mirrors { Mirrors (get edge_eq arcs.old.starts) arcs.old.list.items }
+    requires pieces { ArePieces map.now.doc arcs.old.list.items }
+    requires few { length arcs.old.list.items + sum_by length (all_rings_at map.now.doc n) ≤ 4000000 }
+    ensures mirrors { OnOk result (Mirrors (get edge_eq arcs.new.starts) arcs.new.list.items) }
+    ensures pieces { OnOk result (ArePieces map.now.doc arcs.new.list.items) }
+    ensures arcs { OnOk result (arcs.new.list.items
+        ≡ with_pieces arcs.old.list.items (flat_map (pieces (is_junction map.now.doc)) (all_rings_at map.now.doc n))) }
+    ensures text { OnOk result (text.new.items
+        ≡ text.old.items ++ written_polygons (is_junction map.now.doc) arcs.new.list.items (polygons_at map.now.doc n)) }
+{
+    for polygon in 0..view.polygon_count() {
+        push_comma(text, polygon > 0)?;
+        push_polygon_of(alloc, map, arcs, text, n, polygon, view.ring_count(polygon))?;
+    }
+    Ok(())
+}
+
+/// Appends the member `arcs` of the feature with this number, after a comma: its one polygon, or the
+/// list of its polygons, or nothing (TopoJSON 1.0, 2.2).
+fn push_shape<'a, I: SegIndex, A: Allocator + Copy>(
+    alloc: A,
+    map: &Map<'a, I, A>,
+    arcs: &mut Arcs<A>,
+    text: &mut Vec<u8, A>,
+    view: &FeatureView<'_, 'a, A>,
+    n: u32,
+) -> Result<(), AllocError>
+    requires proper { Proper map.now.doc }
+    requires seen { Some view.now ≡ option_map shown (feature map.now.doc n) }
+    requires fits { (f : Feature) → feature map.now.doc n ≡ Some f → fits_form f ≡ true }
+    requires there { AllByRecursion (Contains (rings map.now.doc)) (all_rings_at map.now.doc n) }
+    requires mirrors { Mirrors (get edge_eq arcs.old.starts) arcs.old.list.items }
+    requires pieces { ArePieces map.now.doc arcs.old.list.items }
+    requires few { length arcs.old.list.items + sum_by length (all_rings_at map.now.doc n) ≤ 4000000 }
+    ensures mirrors { OnOk result (Mirrors (get edge_eq arcs.new.starts) arcs.new.list.items) }
+    ensures pieces { OnOk result (ArePieces map.now.doc arcs.new.list.items) }
+    ensures arcs { OnOk result (arcs.new.list.items
+        ≡ with_pieces arcs.old.list.items (flat_map (pieces (is_junction map.now.doc)) (all_rings_at map.now.doc n))) }
+    ensures text { OnOk result (text.new.items
+        ≡ text.old.items ++ written_shape (is_junction map.now.doc) arcs.new.list.items view.now.form (polygons_at map.now.doc n)) }
+{
+    match view.form() {
+        Form::Polygon => {
+            text.extend_from_slice(b",\"arcs\":")?;
+            push_polygon_of(alloc, map, arcs, text, n, 0, view.ring_count(0))?;
+        }
+        Form::MultiPolygon => {
+            text.extend_from_slice(b",\"arcs\":[")?;
+            push_polygons_of(alloc, map, arcs, text, view, n)?;
+            text.extend_from_slice(b"]")?;
+        }
+        Form::Null => {}
+    }
+    Ok(())
+}
+
+/// The value of `type` (TopoJSON 1.0, 2.2).
+fn type_token(form: Form) -> &'static [u8]
+    ensures { result.now ≡ type_text (form_of form) }
+{
+    match form {
+        Form::Polygon => b"\"Polygon\"",
+        Form::MultiPolygon => b"\"MultiPolygon\"",
+        Form::Null => b"null",
+    }
+}
+
+/// Appends the feature with this number, by the indexes of its rings' arcs. A piece that is no arc yet
+/// becomes the next one.
+pub(crate) fn push_feature<'a, I: SegIndex, A: Allocator + Copy>(
+    alloc: A,
+    map: &Map<'a, I, A>,
+    arcs: &mut Arcs<A>,
+    text: &mut Vec<u8, A>,
+    view: &FeatureView<'_, 'a, A>,
+    n: u32,
+) -> Result<(), AllocError>
+    requires proper { Proper map.now.doc }
+    requires seen { Some view.now ≡ option_map shown (feature map.now.doc n) }
+    requires fits { (f : Feature) → feature map.now.doc n ≡ Some f → fits_form f ≡ true }
+    requires there { AllByRecursion (Contains (rings map.now.doc)) (all_rings_at map.now.doc n) }
+    requires mirrors { Mirrors (get edge_eq arcs.old.starts) arcs.old.list.items }
+    requires pieces { ArePieces map.now.doc arcs.old.list.items }
+    requires few { length arcs.old.list.items + sum_by length (all_rings_at map.now.doc n) ≤ 4000000 }
+    ensures mirrors { OnOk result (Mirrors (get edge_eq arcs.new.starts) arcs.new.list.items) }
+    ensures pieces { OnOk result (ArePieces map.now.doc arcs.new.list.items) }
+    ensures arcs { OnOk result (arcs.new.list.items
+        ≡ with_pieces arcs.old.list.items (flat_map (pieces (is_junction map.now.doc)) (all_rings_at map.now.doc n))) }
+    ensures text { OnOk result ((f : Feature) → feature map.now.doc n ≡ Some f
+        → text.new.items ≡ text.old.items ++ written_feature (is_junction map.now.doc) arcs.new.list.items f) }
+{
+    text.extend_from_slice(b"{\"type\":")?;
+    text.extend_from_slice(type_token(view.form()))?;
+    push_member_if(text, b"\"id\"", view.id())?;
+    push_member_if(text, b"\"properties\"", view.properties())?;
+    push_shape(alloc, map, arcs, text, view, n)?;
+    push_kept(text, view.members())?;
+    text.extend_from_slice(b"}")?;
+    Ok(())
+}
