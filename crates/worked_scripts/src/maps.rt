@@ -31,3 +31,7 @@ pub(crate) const UNION_ABOVE: &str =
 /// The polygon with a dent in the second layer, the square in the first, by other names.
 pub(crate) const OTHER_NAMES: &str =
     "{\"type\":\"Topology\",\"objects\":{\"b\":{\"type\":\"Polygon\",\"arcs\":[[0]]},\"a\":{\"type\":\"Polygon\",\"arcs\":[[1]]}},\"arcs\":[[[0,0],[10,0],[10,10],[0,10],[0,0]],[[0,0],[0,-10],[10,-10],[10,0],[5,-2],[0,0]]]}";
+
+/// Two islands of one feature, the first with a hole.
+pub(crate) const ISLANDS: &str =
+    "{\"type\":\"Topology\",\"objects\":{\"i\":{\"type\":\"MultiPolygon\",\"arcs\":[[[0],[1]],[[2]]]}},\"arcs\":[[[0,9],[0,0],[9,0],[0,9]],[[3,1],[1,1],[1,3],[3,1]],[[20,0],[30,0],[20,8],[20,0]]]}";

@@ -1,5 +1,7 @@
 // Scripts and their answers on a map, the counts behind the answers.
-use crate::maps::{DELTAS, DENTED, HOLES, OTHER_NAMES, TRIANGLE_INSIDE, TWO_SQUARES, UNION_ABOVE};
+use crate::maps::{
+    DELTAS, DENTED, HOLES, ISLANDS, OTHER_NAMES, TRIANGLE_INSIDE, TWO_SQUARES, UNION_ABOVE,
+};
 use crate::told::{are_answered, told};
 use std::test::Fail;
 
@@ -261,6 +263,19 @@ fn lines_with_a_mistake(rt: HostRuntime) -> Result<(), Fail> {
         "area 0 ",
         "area +0",
         "area -1",
+        "rings",
+        "rings ",
+        "rings 01",
+        "rings 0 0",
+        "rings 0 ",
+        "rings -1",
+        "rings 4294967296",
+        "ring 0",
+        "count ",
+        "count 0",
+        "counts",
+        "Count",
+        " count",
         "undo",
     ];
     for row in &rows[..] {
@@ -292,6 +307,77 @@ fn areas(rt: HostRuntime) -> Result<(), Fail> {
             OTHER_NAMES,
             "area 0\narea 1",
             "200\n180\nanswered 2, refused 0",
+        ),
+    ];
+    are_answered(&rt, rt.alloc(), &rows[..])
+}
+
+/// Rings of features as nested lists.
+#[test]
+fn rings(rt: HostRuntime) -> Result<(), Fail> {
+    let rows = [
+        // each ring from its least position; no such feature
+        (
+            TWO_SQUARES,
+            "rings 0\nrings 1\nrings 9\nrings 4294967295",
+            "[[[[0,0],[10,0],[10,10],[0,10]]]]\n[[[[10,0],[20,0],[20,10],[10,10]]]]\nrefused no feature\nrefused no feature\nanswered 4, refused 2",
+        ),
+        // after edits, and after a refusal
+        (
+            TWO_SQUARES,
+            "insert 10 0 10 10 8 -5\nmove 20 0 22 -7\nremove 10 10\nrings 0\nrings 1",
+            "refused conflict 0 0 10 0 / 8 -5 10 10\nok\nrefused junction\n[[[[0,0],[10,0],[10,10],[0,10]]]]\n[[[[10,0],[22,-7],[20,10],[10,10]]]]\nanswered 5, refused 2",
+        ),
+        // holes behind the outer ring
+        (
+            HOLES,
+            "rings 0",
+            "[[[[0,0],[10,0],[20,0],[20,10],[10,10],[0,10]],[[0,0],[2,4],[4,2]],[[14,4],[14,6],[16,6],[16,4]]]]\nanswered 1, refused 0",
+        ),
+        // several polygons
+        (
+            ISLANDS,
+            "rings 0\nmove 30 0 30 -1\nrings 0",
+            "[[[[0,0],[9,0],[0,9]],[[1,1],[1,3],[3,1]]],[[[20,0],[30,0],[20,8]]]]\nok\n[[[[0,0],[9,0],[0,9]],[[1,1],[1,3],[3,1]]],[[[20,0],[30,-1],[20,8]]]]\nanswered 3, refused 0",
+        ),
+        // a feature without polygons
+        (DELTAS, "rings 1", "[]\nanswered 1, refused 0"),
+    ];
+    are_answered(&rt, rt.alloc(), &rows[..])
+}
+
+/// How many features, vertices and segments there are.
+#[test]
+fn counts(rt: HostRuntime) -> Result<(), Fail> {
+    let rows = [
+        // a common side and its ends count once
+        (
+            TWO_SQUARES,
+            "count",
+            "features 2 vertices 6 segments 7\nanswered 1, refused 0",
+        ),
+        // after edits, and after a refusal
+        (
+            TWO_SQUARES,
+            "insert 10 0 10 10 8 5\ncount\nremove 0 0\ncount\nremove 10 0\ncount",
+            "ok\nfeatures 2 vertices 7 segments 8\nok\nfeatures 2 vertices 6 segments 7\nrefused junction\nfeatures 2 vertices 6 segments 7\nanswered 6, refused 1",
+        ),
+        // holes, one of them at a corner
+        (
+            HOLES,
+            "count",
+            "features 1 vertices 12 segments 13\nanswered 1, refused 0",
+        ),
+        // layers, a collection in another, and a feature without rings
+        (
+            UNION_ABOVE,
+            "count",
+            "features 3 vertices 6 segments 7\nanswered 1, refused 0",
+        ),
+        (
+            DELTAS,
+            "count",
+            "features 2 vertices 3 segments 3\nanswered 1, refused 0",
         ),
     ];
     are_answered(&rt, rt.alloc(), &rows[..])
