@@ -1,7 +1,7 @@
 //! Copies of a map: an edit of one leaves the map as it was, and so does a copy whose growth is
 //! refused.
-use crate::refusals::{MANY, Outcome, THREE, counts_of, refused_map, stays};
 use crate::compared::{Edit, answer, at, has_rings, plain_map};
+use crate::refusals::{MANY, Outcome, THREE, counts_of, refused_map, stays};
 use arc_store::Map;
 use plain_rings::PlainMap;
 use refusing_allocator::Refusing;

@@ -65,11 +65,11 @@ feature_texts j arcs f o a b i p s k e ha hb hi hp hs hk he =
     let tk = further (map member_text f.members) in
     let y = codes "}" in
     let all : e ≡ o ++ (codes "{\"type\":" ++ (t ++ (ti ++ (tp ++ (ts ++ (tk ++ y)))))) =
-        then o (codes "{\"type\":") (t ++ (ti ++ (tp ++ (ts ++ (tk ++ y))))) a e ha
-        (then a t (ti ++ (tp ++ (ts ++ (tk ++ y)))) b e hb
-        (then b ti (tp ++ (ts ++ (tk ++ y))) i e hi
-        (then i tp (ts ++ (tk ++ y)) p e hp
-        (then p ts (tk ++ y) s e hs
-        (then s tk y k e hk he))))) in
+    then o (codes "{\"type\":") (t ++ (ti ++ (tp ++ (ts ++ (tk ++ y))))) a e ha
+    (then a t (ti ++ (tp ++ (ts ++ (tk ++ y)))) b e hb
+    (then b ti (tp ++ (ts ++ (tk ++ y))) i e hi
+    (then i tp (ts ++ (tk ++ y)) p e hp
+    (then p ts (tk ++ y) s e hs
+    (then s tk y k e hk he))))) in
     all ∙ ap (λ z. o ++ (codes "{\"type\":" ++ z))
     (joined t ti tp ts tk y (further (map member_text (ids ++ (properties ++ (shape ++ f.members))))) (further_four ids properties shape f.members))
