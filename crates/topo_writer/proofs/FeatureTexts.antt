@@ -1,9 +1,9 @@
 -- The text of a feature, part after part.
-use Rattle.std.proofs.Common.{◌≡◌, refl, sym, ap, ◌∙◌, List, [], ◌∷◌, ◌++◌, map, append_assoc, Option}
+use Rattle.std.proofs.Common.{◌≡◌, refl, sym, ap, ◌∙◌, List, [], ◌∷◌, ◌++◌, map, append_assoc}
 use Rattle.std.specs.Prelude.{codes}
 use Rattle.std.proofs.lemmas.List.{append-nil}
 use Rattle.grid_geometry.specs.Position.{Position}
-use Rattle.ring_machine.specs.Document.{Document, Feature, Form, Member, Polygon, MultiPolygon, Text}
+use Rattle.ring_machine.specs.Document.{Feature, Member, Polygon, MultiPolygon, Text}
 use Rattle.map_text.specs.Arcs.{indexes}
 use Rattle.map_text.specs.Text.{commas, further, member_if, member_text, polygon_text, shape_text, type_text}
 use Rattle.topo_writer.specs.Ways.{written_feature, written_polygon, written_polygons, written_shape}
@@ -65,11 +65,11 @@ feature_texts j arcs f o a b i p s k e ha hb hi hp hs hk he =
     let tk = further (map member_text f.members) in
     let y = codes "}" in
     let all : e ≡ o ++ (codes "{\"type\":" ++ (t ++ (ti ++ (tp ++ (ts ++ (tk ++ y)))))) =
-        then o (codes "{\"type\":") (t ++ (ti ++ (tp ++ (ts ++ (tk ++ y))))) a e ha
-        (then a t (ti ++ (tp ++ (ts ++ (tk ++ y)))) b e hb
-        (then b ti (tp ++ (ts ++ (tk ++ y))) i e hi
-        (then i tp (ts ++ (tk ++ y)) p e hp
-        (then p ts (tk ++ y) s e hs
-        (then s tk y k e hk he))))) in
+    then o (codes "{\"type\":") (t ++ (ti ++ (tp ++ (ts ++ (tk ++ y))))) a e ha
+    (then a t (ti ++ (tp ++ (ts ++ (tk ++ y)))) b e hb
+    (then b ti (tp ++ (ts ++ (tk ++ y))) i e hi
+    (then i tp (ts ++ (tk ++ y)) p e hp
+    (then p ts (tk ++ y) s e hs
+    (then s tk y k e hk he))))) in
     all ∙ ap (λ z. o ++ (codes "{\"type\":" ++ z))
     (joined t ti tp ts tk y (further (map member_text (ids ++ (properties ++ (shape ++ f.members))))) (further_four ids properties shape f.members))

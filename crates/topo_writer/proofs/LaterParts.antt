@@ -67,8 +67,13 @@ module _ (j : Position → Bool) where
   pub rings_few : (arcs rs : List (List Position)) → length (with_pieces arcs (flat_map (pieces j) rs)) ≤ length arcs + sum_by length rs
   rings_few arcs [] = omega arith
   rings_few arcs (r ∷ rs) =
-      omega (arith, ring_few j arcs r, rings_few (with_pieces arcs (pieces j r)) rs, sum_by-cons length r rs,
-      ap length (with_pieces-append j arcs arcs (pieces j r) (flat_map (pieces j) rs)))
+      omega (
+        arith,
+        ring_few j arcs r,
+        rings_few (with_pieces arcs (pieces j r)) rs,
+        sum_by-cons length r rs,
+        ap length (with_pieces-append j arcs arcs (pieces j r) (flat_map (pieces j) rs)),
+      )
 
 -- ---- parts, one after another
 
@@ -91,8 +96,8 @@ module _ (j : Position → Bool) (start : List (List Position)) {X : Type 0} (ow
   part_arcs xs i x h e now next p q =
       let front = flat_map own (take i xs) in
       let whole : flat_map own (take (i + 1) xs) ≡ front ++ own x =
-          ap (flat_map own) (take_more xs i x h ∙ ap (λ z. take i xs ++ z ∷ []) (sym e))
-          ∙ flat_map-append own (take i xs) (x ∷ []) ∙ ap (λ z. front ++ z) (append-nil (own x)) in
+      ap (flat_map own) (take_more xs i x h ∙ ap (λ z. take i xs ++ z ∷ []) (sym e))
+      ∙ flat_map-append own (take i xs) (x ∷ []) ∙ ap (λ z. front ++ z) (append-nil (own x)) in
       q ∙ ap (λ z. with_pieces z (flat_map (pieces j) (own x))) p
       ∙ sym (with_pieces-append j start start (flat_map (pieces j) front) (flat_map (pieces j) (own x)))
       ∙ ap (with_pieces start) (sym (flat_map-append (pieces j) front (own x)))
