@@ -1,5 +1,5 @@
 -- The rings of a feature are rings of its document, and no more than those.
-use Rattle.std.proofs.Common.{◌≡◌, ℕ, ◌≤◌, Bool, true, false, refl, ap, ◌∙◌, cond, List, [], ◌∷◌}
+use Rattle.std.proofs.Common.{◌≡◌, ℕ, ◌≤◌, Bool, true, false, refl, ap, cond, List, [], ◌∷◌}
 use Rattle.std.proofs.Common.{length, arith, Option, Some, None, inl, inr}
 use Rattle.std.specs.Prelude.{option_map, unwrap_or, Contains, ◌==◌}
 use Rattle.std.specs.List.{flat_map, find, sum_by, AllByRecursion}
