@@ -1,9 +1,9 @@
 -- The text of a feature, part after part.
-use Rattle.std.proofs.Common.{◌≡◌, refl, sym, ap, ◌∙◌, List, [], ◌∷◌, ◌++◌, map, append_assoc, Option}
+use Rattle.std.proofs.Common.{◌≡◌, refl, sym, ap, ◌∙◌, List, [], ◌∷◌, ◌++◌, map, append_assoc}
 use Rattle.std.specs.Prelude.{codes}
 use Rattle.std.proofs.lemmas.List.{append-nil}
 use Rattle.grid_geometry.specs.Position.{Position}
-use Rattle.ring_machine.specs.Document.{Document, Feature, Form, Member, Polygon, MultiPolygon, Text}
+use Rattle.ring_machine.specs.Document.{Feature, Member, Polygon, MultiPolygon, Text}
 use Rattle.map_text.specs.Arcs.{indexes}
 use Rattle.map_text.specs.Text.{commas, further, member_if, member_text, polygon_text, shape_text, type_text}
 use Rattle.topo_writer.specs.Ways.{written_feature, written_polygon, written_polygons, written_shape}

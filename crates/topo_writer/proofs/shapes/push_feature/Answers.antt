@@ -1,6 +1,5 @@
 use Rattle.std.proofs.Common.{◌≡◌, ap, ◌∙◌, ◌++◌, map}
 use Rattle.std.specs.Prelude.{codes}
-use Rattle.ring_machine.specs.Document.{Member}
 use Rattle.ring_machine.specs.Vertices.{is_junction}
 use Rattle.arc_store.specs.Readers.{shown, Shown}
 use Rattle.map_text.specs.Text.{further, member_if, member_text, type_text}

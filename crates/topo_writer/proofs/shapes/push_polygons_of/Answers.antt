@@ -1,12 +1,11 @@
-use Rattle.std.proofs.Common.{arith, refl, ◌≡◌, sym, ap, ◌∙◌, subst, ◌<◌, ◌++◌, [], length, get_or}
+use Rattle.std.proofs.Common.{arith, refl, ◌≡◌, sym, ap, ◌∙◌, subst, ◌<◌, [], length, get_or}
 use Rattle.std.specs.Prelude.{Contains}
-use Rattle.std.specs.List.{sum_by, flat_map, AllByRecursion}
-use Rattle.std.proofs.lemmas.List.{append-nil, take_all}
-use Rattle.map_text.specs.Arcs.{pieces, with_pieces}
+use Rattle.std.specs.List.{AllByRecursion}
+use Rattle.std.proofs.lemmas.List.{append-nil}
 use Rattle.ring_machine.specs.Parts.{rings}
 use Rattle.ring_machine.specs.Vertices.{is_junction}
 use Rattle.topo_writer.specs.Reading.{rings_at, polygons_at}
-use Rattle.topo_writer.specs.Ways.{written_polygon, written_polygons}
+use Rattle.topo_writer.specs.Ways.{written_polygon}
 use Rattle.topo_writer.proofs.LaterParts.{each_part, in_place, polygon_same, rings_few, left_step, part_arcs, part_text}
 use Rattle.topo_writer.proofs.ReadRings.{same_place}
 use Rattle.topo_writer.proofs.SeenParts.{polygon_is_at, seen_count, seen_ring_count}

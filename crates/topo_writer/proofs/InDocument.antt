@@ -1,0 +1,56 @@
+-- The rings of a feature are rings of its document, and no more than those.
+use Rattle.std.proofs.Common.{◌≡◌, ℕ, ◌≤◌, Bool, true, false, refl, ap, cond, List, [], ◌∷◌}
+use Rattle.std.proofs.Common.{length, arith, Option, Some, None, inl, inr}
+use Rattle.std.specs.Prelude.{option_map, unwrap_or, Contains, ◌==◌}
+use Rattle.std.specs.List.{flat_map, find, sum_by, AllByRecursion}
+use Rattle.std.proofs.lemmas.List.Sums.{sum_by-append}
+use Rattle.grid_geometry.specs.Position.{Position}
+use Rattle.ring_machine.specs.Document.{Document, Feature}
+use Rattle.ring_machine.specs.Parts.{feature, features, rings, rings_of, size}
+use Rattle.ring_machine.specs.WellFormed.{WellFormed, fits_form}
+use Rattle.ring_machine.proofs.First.{In}
+use Rattle.ring_machine.proofs.Neighbours.{all_of, all_in, in-flat_map}
+use Rattle.arc_store.proofs.Members.{in_contains}
+use Rattle.topo_writer.specs.Reading.{all_rings_at}
+
+find_in : {A : Type 0} (test : A → Bool) (xs : List A) (a : A) → find test xs ≡ Some a → In a xs
+find_in test [] a h = absurd cc
+find_in test (x ∷ xs) a h = by (test x) h (find_in test xs a)
+  where
+    by : (t : Bool) → cond t (Some x) (find test xs) ≡ Some a → (find test xs ≡ Some a → In a xs) → In a (x ∷ xs)
+    by true e k = let same : x ≡ a = cc in inl same
+    by false e k = inr (k e)
+
+feature_there : (d : Document) (n : ℕ) (f : Feature) → feature d n ≡ Some f → In f (features d)
+feature_there d n f e = find_in (λ g. g.number == n) (features d) f e
+
+-- the rings of a feature are rings of the document
+pub rings_there : (d : Document) (n : ℕ) → AllByRecursion (Contains (rings d)) (all_rings_at d n)
+rings_there d n = by (feature d n) refl
+  where
+    by : (o : Option Feature) → feature d n ≡ o
+        → AllByRecursion (Contains (rings d)) (flat_map (λ polygon. polygon) (unwrap_or (option_map (λ f. f.polygons) o) []))
+    by None e = tt
+    by (Some f) e =
+        all_of (Contains (rings d)) (rings_of f)
+        (λ ring i. in_contains (rings d) ring (in-flat_map rings_of f ring (features d) (feature_there d n f e) i))
+
+-- its form is as its polygons are
+pub form_fits : (d : Document) → WellFormed d → (n : ℕ) (f : Feature) → feature d n ≡ Some f → fits_form f ≡ true
+form_fits d formed n f e = all_in fits_form (features d) f formed.forms (feature_there d n f e)
+
+part_few : {X : Type 0} (own : X → List (List Position)) (xs : List X) (x : X) → In x xs
+    → sum_by length (own x) ≤ sum_by length (flat_map own xs)
+part_few own [] x i = absurd i
+part_few own (y ∷ ys) x (inl e) =
+    omega (arith, ap (λ z. sum_by length (own z)) e, sum_by-append length (own y) (flat_map own ys))
+part_few own (y ∷ ys) x (inr i) = omega (arith, part_few own ys x i, sum_by-append length (own y) (flat_map own ys))
+
+-- the rings of a feature have no more positions than those of the document
+pub feature_few : (d : Document) (n : ℕ) → sum_by length (all_rings_at d n) ≤ size d
+feature_few d n = by (feature d n) refl
+  where
+    by : (o : Option Feature) → feature d n ≡ o
+        → sum_by length (flat_map (λ polygon. polygon) (unwrap_or (option_map (λ f. f.polygons) o) [])) ≤ size d
+    by None e = omega arith
+    by (Some f) e = part_few rings_of (features d) f (feature_there d n f e)
