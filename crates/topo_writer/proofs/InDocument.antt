@@ -10,7 +10,7 @@ use Rattle.ring_machine.specs.Parts.{feature, features, rings, rings_of, size}
 use Rattle.ring_machine.specs.WellFormed.{WellFormed, fits_form}
 use Rattle.ring_machine.proofs.First.{In}
 use Rattle.ring_machine.proofs.Neighbours.{all_of, all_in, in-flat_map}
-use Rattle.arc_store.proofs.Members.{in_contains}
+use Rattle.ring_machine.proofs.Members.{in_contains}
 use Rattle.topo_writer.specs.Reading.{all_rings_at}
 
 find_in : {A : Type 0} (test : A → Bool) (xs : List A) (a : A) → find test xs ≡ Some a → In a xs

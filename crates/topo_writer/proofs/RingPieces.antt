@@ -12,7 +12,7 @@ use Rattle.ring_machine.specs.Vertices.{is_junction}
 use Rattle.ring_machine.proofs.First.{In}
 use Rattle.ring_machine.proofs.Order.{position_eq-true}
 use Rattle.ring_machine.proofs.Neighbours.{all_of, all_in, in-flat_map}
-use Rattle.arc_store.proofs.Members.{contains_in, in_contains}
+use Rattle.ring_machine.proofs.Members.{contains_in, in_contains}
 use Rattle.map_text.specs.Arcs.{pieces, with_pieces, indexes}
 use Rattle.map_text.specs.Saved.{IsCut}
 use Rattle.map_text.proofs.Lists.{each_in, each-flat_map}
