@@ -30,6 +30,7 @@ pub mod SpotLemmas
 pub mod VertexLists
 pub mod KeyLists
 pub mod FeatureLemmas
+pub mod ItemLemmas
 pub mod RingAround
 pub mod RingReads
 pub mod NameLists

@@ -2,6 +2,7 @@ pub mod Edits
 pub mod Faults
 pub mod Frames
 pub mod Holds
+pub mod Items
 pub mod Kept
 pub mod Leaves
 pub mod Named

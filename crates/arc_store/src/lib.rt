@@ -12,6 +12,7 @@ mod counts;
 mod fault;
 mod features;
 mod frame;
+mod items;
 mod leaf;
 mod map;
 mod names;
@@ -28,6 +29,7 @@ mod users;
 
 pub use fault::{BuildFault, EditFault};
 pub use features::{FeatureView, FrameView};
+pub use items::{ItemIter, ItemView};
 pub use map::Map;
 pub use names::RingName;
 pub use ring_iter::RingIter;
