@@ -1,11 +1,13 @@
 -- A map with the tables of another is kept as that one is.
-use Rattle.std.proofs.Common.{◌≡◌, ◌∙◌, ℕ, refl, sym, ap, subst, List, map, length, Option}
+use Rattle.std.proofs.Common.{◌≡◌, ◌≤◌, ◌∙◌, ℕ, refl, sym, ap, subst, List, map, length, Option}
 use Rattle.std.specs.Prelude.{Vec}
 use Rattle.std.specs.List.{AllZip, each_same}
 use Rattle.std.specs.Vec.{vec_len}
 use Rattle.ring_machine.specs.Document.{DocumentOf}
 use Rattle.ring_machine.specs.Parts.{features, size}
 use Rattle.ring_machine.specs.Query.{distinct_segments}
+use Rattle.topo_outline.specs.declared.document.RawLayer.{RawLayer}
+use Rattle.topo_outline.specs.Outline.{leaves}
 use Rattle.topo_outline.specs.Views.{view_layer}
 use Rattle.topo_outline.proofs.Copied.{copied_map}
 use Rattle.segment_index.specs.Candidates.{SegmentSet}
@@ -18,7 +20,7 @@ use Rattle.arc_store.specs.Frames.{frame_of, IsCounted}
 use Rattle.arc_store.specs.Holds.{Holds}
 use Rattle.arc_store.specs.Kept.{state_of, IsKept}
 use Rattle.arc_store.specs.State.{State}
-use Rattle.arc_store.specs.Leaves.{IsListed}
+use Rattle.arc_store.specs.Leaves.{IsListed, AreFirst, firsts_from}
 use Rattle.arc_store.specs.Named.{AllNamed}
 use Rattle.arc_store.specs.Stored.{Stored, document_of}
 
@@ -44,16 +46,26 @@ module _ {A : Type 0} where
       → frame_of copy ≡ frame_of f
   frame_copied f copy t ls ms ns = rw (t, ls, ms, ns) refl
 
+  -- layers that look the same have the same first features
+  pub firsts_copied : (ls copies : List (RawLayer A)) → map view_layer copies ≡ map view_layer ls
+      → (firsts copied : List ℕ) → copied ≡ firsts → AreFirst ls firsts → AreFirst copies copied
+  firsts_copied ls copies e firsts copied h k = record {
+    are = h ∙ k.are ∙ ap (firsts_from 0) (sym e);
+    few = subst (λ z. length (leaves z) ≤ 200000) (sym e) k.few;
+  }
+
   pub kept_copied : (f copy : Frame A) (rings : Rings) (places : Placement) (held : SegmentSet) (number positions segments : ℕ)
-      → frame_of copy ≡ frame_of f → (IsCounted f → IsCounted copy) → (IsListed f → IsListed copy) → (AllNamed f → AllNamed copy)
+      → frame_of copy ≡ frame_of f → (IsCounted f → IsCounted copy) → (IsListed f → IsListed copy)
+      → (AreFirst f.layers.items f.firsts.items → AreFirst copy.layers.items copy.firsts.items) → (AllNamed f → AllNamed copy)
       → IsKept f rings places held number positions segments
       → IsKept copy rings places held number positions segments
-  kept_copied f copy rings places held number positions segments e counted listed named k =
+  kept_copied f copy rings places held number positions segments e counted listed firsts named k =
       let whole : DocumentOf ℕ → Stored = λ d. record { frame = d; rings = rings; places = places } in
       record {
         holds = subst (λ d. Holds (whole d) held) (sym e) k.holds;
         counted = counted k.counted;
         listed = listed k.listed;
+        firsts = firsts k.firsts;
         named = named k.named;
         next = k.next ∙ ap (λ d. length (features d)) (sym e);
         few = k.few;

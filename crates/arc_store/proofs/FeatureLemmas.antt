@@ -123,24 +123,6 @@ module _ {R S : Type 0} (g : R → S) where
       by true e = refl
       by false e = e
 
-  polygons_changed : (fs : List (FeatureOf R))
-      → map (λ f. f.polygons) (map (in_feature g) fs) ≡ map (map (map g)) (map (λ f. f.polygons) fs)
-  polygons_changed [] = refl
-  polygons_changed (f ∷ fs) = ap (λ z. map (map g) f.polygons ∷ z) (polygons_changed fs)
-
-module _ {R : Type 0} (all : List (List (List R))) where
-  polygons_numbered : (n : ℕ) (fs : List (Form × Head)) (rest : List (List (List R)))
-      → length rest ≡ length fs
-      → ((k : ℕ) → polygons_at all (n + k) ≡ polygons_at rest k)
-      → map (λ f. f.polygons) (numbered_from all n fs) ≡ rest
-  polygons_numbered n [] [] e h = refl
-  polygons_numbered n [] (p ∷ ps) e h = absurd (omega (arith, e))
-  polygons_numbered n (f ∷ fs) [] e h = absurd (omega (arith, e))
-  polygons_numbered n (f ∷ fs) (p ∷ ps) e h =
-      let here : n ≡ n + 0 = omega arith in
-      let on = λ (k : ℕ). let next : n + 1 + k ≡ n + suc k = omega arith in ap (polygons_at all) next ∙ h (suc k) in
-      ap₂ (λ z zs. z ∷ zs) (ap (polygons_at all) here ∙ h 0) (polygons_numbered (n + 1) fs ps (omega (arith, e)) on)
-
 module _ (g : ℕ → List Position) where
   abbrev placed : List (List ℕ) → List (List (List Position))
   placed ps = map (map g) ps
@@ -210,38 +192,3 @@ module _ {A : Type 0} (g : ℕ → List Position) (f : Frame A) where
           absurd (omega (arith, h, leaves_number layers, get_none raws n e, slice_get_within f.polygons.items n p k))
       by (Some r) None e k =
           absurd (omega (arith, h, leaves_number layers, slice_get_within raws n r e, get_none f.polygons.items n k))
-
-  abbrev opened_of : List (RawLayer A) → List KeptMember → Document → opened.Opened
-  opened_of layers members d = record {
-    transform = option_map (λ t. t.now) f.transform;
-    layers = map view_layer layers;
-    members = map view_kept members;
-    polygons = map (λ k. k.polygons) (features d);
-  }
-
-  polygons_kept : IsCounted f → map (λ k. k.polygons) (features (in_rings g (frame_of f))) ≡ map (placed g) all
-  polygons_kept h =
-      ap (map (λ k. k.polygons)) (features-in_rings g (frame_of f))
-      ∙ polygons_changed g (features (frame_of f))
-      ∙ ap (λ fs. map (placed g) (map (λ k. k.polygons) fs)) (layers_are all 0 layers)
-      ∙ ap (map (placed g)) (polygons_numbered all 0 raws all count same)
-    where
-      count : length all ≡ length raws
-      count = omega (arith, h, leaves_number layers, length-map f.polygons.items (feature_numbers {A = A}))
-
-      same : (k : ℕ) → polygons_at all (0 + k) ≡ polygons_at all k
-      same k = let here : 0 + k ≡ k = omega arith in ap (polygons_at all) here
-
-  -- the frame with its features' polygons is the document
-  pub frame_shown : IsCounted f → (d : Document) → in_rings g (frame_of f) ≡ d
-      → (layers : List (RawLayer A)) → layers ≡ f.layers.items
-      → (members : List KeptMember) → members ≡ f.members.items
-      → d ≡ opened.document_of (opened_of layers members d)
-  frame_shown h d e layers k members l =
-      let ls = map view_layer f.layers.items in
-      let there : List Layer → Document = λ z. record { transform = option_map (λ t. t.now) f.transform; layers = z; members = map view_kept f.members.items } in
-      sym e
-      ∙ ap there (layers_read g 0 all ls ∙ ap (λ ps. layers_from 0 ps ls) (sym (polygons_kept h)))
-      ∙ ap (λ z. opened.document_of (opened_of f.layers.items f.members.items z)) e
-      ∙ ap (λ z. opened.document_of (opened_of z f.members.items d)) (sym k)
-      ∙ ap (λ z. opened.document_of (opened_of layers z d)) (sym l)

@@ -164,6 +164,7 @@ module _ {A : Type 0} (frame : Frame A) (rings rings' : Rings) (places places' :
           holds = holds_inserted was held held' rings' j k put.key a b q h.holds insertion x;
           counted = h.counted;
           listed = h.listed;
+          firsts = h.firsts;
           named = h.named;
           next = h.next;
           few = h.few;

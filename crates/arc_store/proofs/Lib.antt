@@ -27,10 +27,13 @@ pub mod FramedDocument
 pub mod Opened
 pub mod Reading
 pub mod SpotLemmas
+pub mod NoJunction
 pub mod VertexLists
 pub mod KeyLists
 pub mod FeatureLemmas
 pub mod ItemLemmas
+pub mod FrameViewLemmas
+pub mod Firsts
 pub mod RingAround
 pub mod RingReads
 pub mod NameLists

@@ -151,6 +151,7 @@ kept_moved frame rings places held held' number size_kept single h k p q at free
       holds = holds_moved s held held' k p q h.holds at none (plan_indexed s held h.holds k p q at free around r held' e);
       counted = h.counted;
       listed = h.listed;
+      firsts = h.firsts;
       named = h.named;
       next = h.next;
       few = h.few;

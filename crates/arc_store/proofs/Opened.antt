@@ -37,7 +37,7 @@ use Rattle.arc_store.specs.declared.names.RingName.{RingName}
 use Rattle.arc_store.specs.Frames.{frame_of, IsCounted}
 use Rattle.arc_store.specs.Holds.{IsWhole, IsIndexed, Holds}
 use Rattle.arc_store.specs.Kept.{stored, IsKept}
-use Rattle.arc_store.specs.Leaves.{IsListed}
+use Rattle.arc_store.specs.Leaves.{IsListed, AreFirst}
 use Rattle.arc_store.specs.Named.{AreNamed}
 use Rattle.arc_store.specs.Stored.{Stored, positions_along, ring_under, document_of}
 use Rattle.arc_store.proofs.FramedDocument.{read_framed}
@@ -123,7 +123,7 @@ module _ {A : Type 0} (raw : RawDoc A) (h : IsOfRings (view_raw raw))
     (polygons : Vec (Vec (Vec ℕ A) A) A) {places : Placement} {m : Rings} {held : SegmentSet}
     {first : Option (Segment × Segment)} {positions count : ℕ}
     (was : IsLaidOut (map feature_positions given) (map feature_numbers polygons.items) places m held first positions count)
-    (leaves : Vec Leaf A) (names : Vec (Option RingName) A) where
+    (leaves : Vec Leaf A) (firsts : Vec ℕ A) (names : Vec (Option RingName) A) where
   abbrev o : read.Opened
   o = view_raw raw
 
@@ -145,6 +145,7 @@ module _ {A : Type 0} (raw : RawDoc A) (h : IsOfRings (view_raw raw))
     members = raw.members;
     polygons = polygons;
     leaves = leaves;
+    firsts = firsts;
     names = names;
   }
 
@@ -248,11 +249,13 @@ module _ {A : Type 0} (raw : RawDoc A) (h : IsOfRings (view_raw raw))
       feature_count-in_rings (ring_under opened) (frame_of raw_frame) ∙ frame_count raw_frame opened_counted
 
   pub opened_kept : first ≡ None → (number : ℕ) → number ≡ length polygons.items → IsListed raw_frame
+      → AreFirst raw.layers.items firsts.items
       → AreNamed names.items numbers → IsKept raw_frame m places held number positions count
-  opened_kept none number n listed named = record {
+  opened_kept none number n listed first named = record {
     holds = opened_holds none;
     counted = opened_counted;
     listed = listed;
+    firsts = first;
     named = named;
     next = n ∙ sym (frame_count raw_frame opened_counted);
     few = omega (arith, n, opened_few raw h same polygons was);

@@ -296,6 +296,7 @@ module _ {A : Type 0} {frame : Frame A} {rings rings' : Rings} {places places' :
               (remove_indexed (stored frame rings places) held f.kept.holds m j k p f.here f.two f.unjoined rings' held' removing e);
           counted = f.kept.counted;
           listed = f.kept.listed;
+          firsts = f.kept.firsts;
           named = f.kept.named;
           next = f.kept.next;
           few = f.kept.few;

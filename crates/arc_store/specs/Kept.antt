@@ -8,7 +8,7 @@ use Rattle.vertex_index.specs.Placement.{Placement}
 use Rattle.arc_tables.specs.Rings.{Rings}
 use Rattle.arc_store.specs.declared.frame.Frame.{Frame}
 use Rattle.arc_store.specs.Frames.{frame_of, IsCounted}
-use Rattle.arc_store.specs.Leaves.{IsListed}
+use Rattle.arc_store.specs.Leaves.{IsListed, AreFirst}
 use Rattle.arc_store.specs.Named.{AllNamed}
 use Rattle.arc_store.specs.Stored.{Stored, document_of}
 use Rattle.arc_store.specs.State.{State}
@@ -34,6 +34,7 @@ module _ {A : Type 0} where
     pub holds : Holds (stored frame rings places) held
     pub counted : IsCounted frame
     pub listed : IsListed frame
+    pub firsts : AreFirst frame.layers.items frame.firsts.items
     pub named : AllNamed frame
     -- features are numbered from 0, and the next new one comes after them
     pub next : number ≡ length (features (frame_of frame))

@@ -1,12 +1,13 @@
 -- What is shown of a map: its frame, its features, and their rings.
-use Rattle.std.specs.Prelude.{ℕ, ◌≡◌, List, map, length, Option, None, Some, option_map, slice_get, Vec}
+use Rattle.std.specs.Prelude.{ℕ, List, [], map, length, Option, None, Some, option_map, slice_get, Vec}
 use Rattle.grid_geometry.specs.Position.{Position}
-use Rattle.ring_machine.specs.Document.{Text, Form, Member, Feature, Document}
-use Rattle.ring_machine.specs.Parts.{feature, features}
-use Rattle.topo_outline.specs.Views.{form_of, view_head, view_kept, view_layer}
+use Rattle.ring_machine.specs.Document.{Text, Form, Member, Feature, LayerOf, Document}
+use Rattle.ring_machine.specs.Parts.{feature}
+use Rattle.topo_outline.specs.Views.{form_of, view_head, view_layer}
 use Rattle.topo_outline.specs.declared.document.RawFeature.{RawFeature}
-use Rattle.topo_reader.specs.Document as opened
-use Rattle.arc_store.specs.declared.features.FrameView.{FrameView}
+use Rattle.topo_outline.specs.declared.document.RawLayer.{RawLayer}
+use Rattle.topo_reader.specs.Document.{layers_from}
+use Rattle.arc_store.specs.Items.{ShownItem, shown_item}
 
 -- a feature without the positions of its rings: by polygon how many rings there are
 pub record Shown : Type 0 where
@@ -38,14 +39,36 @@ shown_of f polygons =
       rings = map (λ rings. length rings.items) polygons;
     }
 
--- a frame with the polygons of the document's features in it is the document
-abbrev pub IsFrameOf : {A : Type 0} → Document → FrameView A → Type 0
-IsFrameOf d v = d ≡ opened.document_of (record {
-  transform = option_map (λ t. t.now) v.transform;
-  layers = map view_layer v.layers.now;
-  members = map view_kept v.members.now;
-  polygons = map (λ f. f.polygons) (features d);
-})
+-- a layer as it is shown: its items without the rings
+pub record ShownLayer : Type 0 where
+  pub name : Text
+  pub items : List ShownItem
+
+-- what a document is beside its rings
+pub record ShownFrame : Type 0 where
+  pub transform : Option Text
+  pub layers : List ShownLayer
+  pub members : List Member
+
+-- what is shown of a layer
+abbrev pub shown_layer : {R : Type 0} → LayerOf R → ShownLayer
+shown_layer l = record { name = l.name; items = map shown_item l.items }
+
+-- what is shown of a document beside its rings
+abbrev pub shown_frame : Document → ShownFrame
+shown_frame d = record {
+  transform = d.transform;
+  layers = map shown_layer d.layers;
+  members = d.members;
+}
+
+-- what is shown of layers whose features are numbered from 0
+abbrev pub shown_parts : {A : Type 0} → Option Text → List (RawLayer A) → List Member → ShownFrame
+shown_parts transform layers members = record {
+  transform = transform;
+  layers = map shown_layer (layers_from {R = ℕ} 0 [] (map view_layer layers));
+  members = members;
+}
 
 -- the list's element with this number, where there is a list
 abbrev pub element : {R : Type 0} → Option (List R) → ℕ → Option R

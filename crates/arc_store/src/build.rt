@@ -8,7 +8,7 @@ ghost use Rattle.arc_store.specs.Faults.{Names};
 
 use crate::fault::BuildFault;
 use crate::frame::Frame;
-use crate::leaf::list_leaves;
+use crate::leaf::{first_numbers, list_leaves};
 use crate::map::Map;
 use crate::names::name_all;
 use local_planarity::TestCount;
@@ -38,6 +38,7 @@ impl<'a, I: SegIndex, A: Allocator + Copy> Map<'a, I, A> {
             polygons,
         } = raw;
         let leaves = list_leaves(alloc, layers.as_slice())?;
+        let firsts = first_numbers(alloc, layers.as_slice())?;
         let laid = lay(alloc, index, polygons.as_slice())?;
         let names = name_all(alloc, laid.numbers.as_slice())?;
         if let Some((s, t)) = laid.first {
@@ -52,6 +53,7 @@ impl<'a, I: SegIndex, A: Allocator + Copy> Map<'a, I, A> {
                 members,
                 polygons: laid.numbers,
                 leaves,
+                firsts,
                 names,
             },
             vertices: laid.vertices,

@@ -1,7 +1,7 @@
 //! Copies of a map, in memory of the same allocator.
 ghost use Rattle.std.specs.Prelude.{◌≡◌, IfOk};
 ghost use Rattle.arc_store.specs.Frames.{frame_of, IsCounted};
-ghost use Rattle.arc_store.specs.Leaves.{IsListed};
+ghost use Rattle.arc_store.specs.Leaves.{IsListed, AreFirst};
 ghost use Rattle.arc_store.specs.Named.{AllNamed};
 
 use crate::frame::Frame;
@@ -15,12 +15,15 @@ impl<'a, A: Allocator + Copy> Frame<'a, A> {
         ensures frame { IfOk result (λ copy. frame_of copy ≡ frame_of self.now) }
         ensures counted { IfOk result (λ copy. IsCounted self.now → IsCounted copy) }
         ensures listed { IfOk result (λ copy. IsListed self.now → IsListed copy) }
+        ensures firsts { IfOk result (λ copy. AreFirst self.now.layers.items self.now.firsts.items
+            → AreFirst copy.layers.items copy.firsts.items) }
         ensures named { IfOk result (λ copy. AllNamed self.now → AllNamed copy) }
     {
         let layers = self.layers.clone()?;
         let members = self.members.clone()?;
         let polygons = self.polygons.clone()?;
         let leaves = self.leaves.clone()?;
+        let firsts = Vec::from_slice(alloc, self.firsts.as_slice())?;
         let names = Vec::from_slice(alloc, self.names.as_slice())?;
         Ok(Frame {
             transform: self.transform,
@@ -28,6 +31,7 @@ impl<'a, A: Allocator + Copy> Frame<'a, A> {
             members,
             polygons,
             leaves,
+            firsts,
             names,
         })
     }

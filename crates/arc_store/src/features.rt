@@ -6,26 +6,15 @@ ghost use Rattle.ring_machine.specs.Planar.{Proper};
 ghost use Rattle.ring_machine.specs.WellFormed.{are_distinct, WellFormed};
 ghost use Rattle.topo_outline.specs.Kept.{KeepsTexts};
 ghost use Rattle.topo_outline.specs.Views.{form_of, view_kept};
-ghost use Rattle.arc_store.specs.Readers.{shown, IsFrameOf};
+ghost use Rattle.arc_store.specs.Readers.{shown, shown_frame};
 
+use crate::frame_view::FrameView;
 use crate::leaf::feature_at;
 use crate::map::Map;
 use segment_index::SegIndex;
 use std::alloc::{Allocator, Global};
 use std::marker::Model;
-use topo_outline::{Form, KeptMember, RawFeature, RawLayer};
-
-/// What a map is beside its rings.
-#[derive(Drop)]
-pub struct FrameView<'m, 'a, A: Allocator + Copy = Global> {
-    /// The text of the transform, and none where there is none (TopoJSON 1.0, 2.1.2).
-    pub transform: Option<&'a [u8]>,
-    /// The members of `objects`, in order (TopoJSON 1.0, 2.1.5). Their features are numbered from 0,
-    /// in the order of the text.
-    pub layers: &'m [RawLayer<'a, A>],
-    /// The members that are neither known nor a `bbox`, in order.
-    pub members: &'m [KeptMember<'a>],
-}
+use topo_outline::{Form, KeptMember, RawFeature};
 
 /// A feature of a map, seen with the numbers of its polygons' rings.
 #[derive(Drop)]
@@ -93,7 +82,7 @@ impl<'m, 'a, A: Allocator + Copy> FeatureView<'m, 'a, A> {
 impl<'a, I: SegIndex, A: Allocator + Copy> Map<'a, I, A> {
     /// What the map is beside its rings.
     pub fn frame(&self) -> FrameView<'_, 'a, A>
-        ensures shown { IsFrameOf self.now.doc result }
+        ensures shown { result ≡ shown_frame self.now.doc }
         ensures formed { WellFormed self.now.doc }
         ensures keeps { KeepsTexts self.now.doc }
         ensures proper { Proper self.now.doc }
@@ -104,6 +93,7 @@ impl<'a, I: SegIndex, A: Allocator + Copy> Map<'a, I, A> {
         FrameView {
             transform: self.frame.transform,
             layers: self.frame.layers.as_slice(),
+            firsts: self.frame.firsts.as_slice(),
             members: self.frame.members.as_slice(),
         }
     }

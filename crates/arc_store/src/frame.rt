@@ -17,6 +17,8 @@ pub(crate) struct Frame<'a, A: Allocator + Copy = Global> {
     pub(crate) polygons: Vec<Vec<Vec<usize, A>, A>, A>,
     /// Where each feature stands among the items of the layers.
     pub(crate) leaves: Vec<Leaf, A>,
+    /// By layer the number of its first feature.
+    pub(crate) firsts: Vec<u32, A>,
     /// By a ring's number where it stands; `None` where there is no such ring.
     pub(crate) names: Vec<Option<RingName>, A>,
 }

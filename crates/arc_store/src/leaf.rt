@@ -1,9 +1,10 @@
 // Where the features stand among the items of the layers.
-ghost use Rattle.std.specs.Prelude.{◌≡◌, ◌++◌, List, Some, map, option_map, slice_get, IfOk, OnOk};
+ghost use Rattle.std.specs.Prelude.{◌≡◌, ◌≤◌, ◌++◌, List, Some, map, length, option_map, slice_get, IfOk, OnOk};
 ghost use Rattle.std.specs.List.{filter_map};
+ghost use Rattle.topo_outline.specs.Outline.{leaves_in, leaves};
 ghost use Rattle.topo_outline.specs.Shape.{LayerText};
 ghost use Rattle.topo_outline.specs.Views.{view_item, view_layer};
-ghost use Rattle.arc_store.specs.Leaves.{featured, featured_at, AreLeaves, view_feature};
+ghost use Rattle.arc_store.specs.Leaves.{featured, featured_at, AreFirst, AreLeaves, view_feature};
 
 use std::alloc::{AllocError, Allocator};
 use topo_outline::{Item, RawFeature, RawLayer};
@@ -71,4 +72,35 @@ pub(crate) fn list_leaves<'a, A: Allocator + Copy>(
         push_leaves(of.items.as_slice(), layer, &mut leaves)?;
     }
     Ok(leaves)
+}
+
+/// How many of these items are features.
+fn count_leaves<'a, A: Allocator + Copy>(items: &[Item<'a, A>]) -> u32
+    requires few { length (leaves_in (map view_item items.now)) ≤ 200000 }
+    ensures { result ≡ length (leaves_in (map view_item items.now)) }
+{
+    let mut count = 0;
+    for item in items {
+        if leaf_of(item).is_some() {
+            count += 1;
+        }
+    }
+    count
+}
+
+/// By layer the number of its first feature. Fails for want of memory alone.
+pub(crate) fn first_numbers<'a, A: Allocator + Copy>(
+    alloc: A,
+    layers: &[RawLayer<'a, A>],
+) -> Result<Vec<u32, A>, AllocError>
+    requires few { length (leaves (map view_layer layers.now)) ≤ 200000 }
+    ensures { IfOk result (λ firsts. AreFirst layers.now firsts.items) }
+{
+    let mut firsts = Vec::new(alloc);
+    let mut number = 0;
+    for layer in layers {
+        firsts.push(number)?;
+        number += count_leaves(layer.items.as_slice());
+    }
+    Ok(firsts)
 }

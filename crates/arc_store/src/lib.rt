@@ -12,6 +12,7 @@ mod counts;
 mod fault;
 mod features;
 mod frame;
+mod frame_view;
 mod items;
 mod leaf;
 mod map;
@@ -28,7 +29,8 @@ mod spot;
 mod users;
 
 pub use fault::{BuildFault, EditFault};
-pub use features::{FeatureView, FrameView};
+pub use features::FeatureView;
+pub use frame_view::FrameView;
 pub use items::{ItemIter, ItemView};
 pub use map::Map;
 pub use names::RingName;

@@ -1,6 +1,7 @@
 ghost use Rattle.std.specs.Prelude.{◌≡◌, true};
 ghost use Rattle.std.specs.FinMap as table;
 ghost use Rattle.grid_geometry.specs.Segment.{segment};
+ghost use Rattle.ring_machine.specs.Vertices.{is_junction};
 ghost use Rattle.arc_store.specs.Spots.{IsSpot};
 ghost use Rattle.vertex_index.specs.Placement.{place};
 
@@ -52,5 +53,19 @@ impl<'a, I: SegIndex, A: Allocator + Copy> Map<'a, I, A> {
         };
         let shortest = self.borders.shortest(k)?;
         Some(between(&self.vertices, a, b, shortest))
+    }
+
+    /// Whether borders meet at a position: a vertex that has different neighbours at two of its
+    /// places. Takes no memory.
+    pub fn is_junction(&self, p: Pos) -> bool
+        ensures { result ≡ is_junction self.now.doc p }
+    {
+        let Some(k) = self.vertices.key_of(p) else {
+            return false;
+        };
+        match self.borders.neighbours(k) {
+            Neighbours::Two(..) => false,
+            _ => true,
+        }
     }
 }

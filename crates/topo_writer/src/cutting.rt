@@ -12,28 +12,17 @@ ghost use Rattle.topo_writer.specs.Found.{at_place, with_found, Fits, Mirrors};
 ghost use Rattle.topo_writer.specs.Ways.{is_end, cut_after, all_found, index_found, indexes_found, FitAll, ArePieces};
 
 use crate::arcs::Arcs;
-use arc_store::{Map, Spot};
+use arc_store::Map;
 use grid_geometry::Pos;
 use segment_index::SegIndex;
 use std::alloc::{AllocError, Allocator};
-
-/// Whether borders meet at a position.
-fn is_junction<'a, I: SegIndex, A: Allocator + Copy>(map: &Map<'a, I, A>, p: Pos) -> bool
-    ensures { result ≡ is_junction map.now.doc p }
-{
-    match map.spot(p) {
-        Some(Spot::Junction) => true,
-        Some(Spot::Between(..)) => false,
-        None => false,
-    }
-}
 
 /// Whether a piece of the way ends at a place.
 fn ends_at<'a, I: SegIndex, A: Allocator + Copy>(map: &Map<'a, I, A>, way: &[Pos], i: usize) -> bool
     requires { i < length way.now }
     ensures { result ≡ (is_end (drop (i + 1) way.now) || is_junction map.now.doc (at_place way.now i)) }
 {
-    i + 1 == way.len() || is_junction(map, way[i])
+    i + 1 == way.len() || map.is_junction(way[i])
 }
 
 /// Takes one more position into the piece, which may end there; the next one then begins there.
@@ -100,7 +89,7 @@ fn first_junction<'a, I: SegIndex, A: Allocator + Copy>(map: &Map<'a, I, A>, rin
     ensures begun { begun (is_junction map.now.doc) ring.now ≡ drop result ring.now ++ take result ring.now }
 {
     for i in 0..ring.len() {
-        if is_junction(map, ring[i]) {
+        if map.is_junction(ring[i]) {
             return i;
         }
     }

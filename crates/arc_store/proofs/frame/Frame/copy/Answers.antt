@@ -6,7 +6,7 @@ use Rattle.topo_outline.specs.Views.{view_layer}
 use Rattle.topo_outline.proofs.Copied.{copied_map}
 use Rattle.arc_store.specs.declared.frame.Frame.{Frame}
 use Rattle.map_opening.specs.Laying.{feature_numbers}
-use Rattle.arc_store.proofs.Copied.{numbers_copied, frame_copied}
+use Rattle.arc_store.proofs.Copied.{numbers_copied, frame_copied, firsts_copied}
 use Rattle.arc_store.proofs.frame.Frame.copy.Goals as goal
 
 pub returns-clause-frame : goal.returns-clause-frame
@@ -18,6 +18,7 @@ returns-clause-frame g c =
       members = c.in_ok-members.members;
       polygons = c.in_ok-polygons.polygons;
       leaves = c.in_ok-leaves.leaves;
+      firsts = c.in_ok-firsts.firsts;
       names = c.in_ok-names.names;
     } in
     frame_copied f copy refl
@@ -40,7 +41,14 @@ returns-clause-listed g c h =
     let f = c.args.self.now in
     rw (copied_map (λ layer copy. view_layer copy ≡ view_layer layer) view_layer (λ layer copy same. same) f.layers.items c.in_ok-layers.layers.items c.in_ok-layers.ensures.cases.0, each_same f.leaves.items c.in_ok-leaves.leaves.items c.in_ok-leaves.ensures.cases.0) h
 
+pub returns-clause-firsts : goal.returns-clause-firsts
+returns-clause-firsts g c h =
+    let f = c.args.self.now in
+    firsts_copied f.layers.items c.in_ok-layers.layers.items
+    (copied_map (λ layer copy. view_layer copy ≡ view_layer layer) view_layer (λ layer copy same. same) f.layers.items c.in_ok-layers.layers.items c.in_ok-layers.ensures.cases.0)
+    f.firsts.items c.in_ok-firsts.firsts.items (c.in_ok-firsts.ensures.items ∙ c.as_slice.ensures.value) h
+
 pub returns-clause-named : goal.returns-clause-named
 returns-clause-named g c h =
     let f = c.args.self.now in
-    rw (c.in_ok-names.ensures.items ∙ c.as_slice.ensures.value, numbers_copied f.polygons.items c.in_ok-polygons.polygons.items c.in_ok-polygons.ensures.cases.0) h
+    rw (c.in_ok-names.ensures.items ∙ c.as_slice-2.ensures.value, numbers_copied f.polygons.items c.in_ok-polygons.polygons.items c.in_ok-polygons.ensures.cases.0) h

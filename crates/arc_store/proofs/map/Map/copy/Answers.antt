@@ -6,7 +6,7 @@ pub invariant_of-result : goal.invariant_of-result
 invariant_of-result g c =
     let m = c.self.inside in
     rw (c.in_ok-vertices.ensures, c.in_ok-borders.ensures, c.in_ok-index.ensures.held)
-    (kept_copied m.frame c.in_ok-frame.frame m.borders m.vertices (g.I.SegIndex.held m.index) m.next m.positions m.segments c.in_ok-frame.ensures.frame c.in_ok-frame.ensures.counted c.in_ok-frame.ensures.listed c.in_ok-frame.ensures.named c.self.invariant)
+    (kept_copied m.frame c.in_ok-frame.frame m.borders m.vertices (g.I.SegIndex.held m.index) m.next m.positions m.segments c.in_ok-frame.ensures.frame c.in_ok-frame.ensures.counted c.in_ok-frame.ensures.listed c.in_ok-frame.ensures.firsts c.in_ok-frame.ensures.named c.self.invariant)
 
 pub returns : goal.returns
 returns g c =

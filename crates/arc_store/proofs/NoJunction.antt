@@ -1,0 +1,62 @@
+-- No junction stands where no vertex does.
+use Rattle.std.proofs.Common.{◌≡◌, Bool, true, false, refl, sym, ap, ◌∙◌, subst, cond, List, [], ◌∷◌}
+use Rattle.std.proofs.Common.{◌++◌, take, inl, inr, map}
+use Rattle.std.specs.Prelude.{not}
+use Rattle.std.specs.List.{filter, flat_map, list_any}
+use Rattle.std.proofs.lemmas.Bool.{false≢true}
+use Rattle.grid_geometry.specs.Position.{Position, position_eq}
+use Rattle.grid_geometry.specs.Segment.{Segment}
+use Rattle.ring_machine.specs.Ring.{has, between_each, spots}
+use Rattle.ring_machine.specs.Document.{Document}
+use Rattle.ring_machine.specs.Parts.{rings, is_vertex}
+use Rattle.ring_machine.specs.Vertices.{all_equal, is_junction}
+use Rattle.ring_machine.proofs.Order.{position_eq-true}
+use Rattle.ring_machine.proofs.Removal.{none_parts}
+use Rattle.ring_machine.proofs.First.{In, in-append}
+use Rattle.ring_machine.proofs.Neighbours.{in-has}
+
+place_in : (ps : List Position) (p : Position) (s : Segment) → In (p, s) (between_each ps) → In p ps
+place_in [] p s i = absurd i
+place_in (a ∷ []) p s i = absurd i
+place_in (a ∷ b ∷ []) p s i = absurd i
+place_in (a ∷ b ∷ c ∷ ps) p s (inl e) = inr (inl (ap (λ (spot : Position × Segment). spot.0) e))
+place_in (a ∷ b ∷ c ∷ ps) p s (inr i) = inr (place_in (b ∷ c ∷ ps) p s i)
+
+front_in : (ring : List Position) (p : Position) → In p (take 2 ring) → In p ring
+front_in [] p i = absurd i
+front_in (a ∷ []) p i = i
+front_in (a ∷ b ∷ ps) p (inl e) = inl e
+front_in (a ∷ b ∷ ps) p (inr (inl e)) = inr (inl e)
+front_in (a ∷ b ∷ ps) p (inr (inr i)) = absurd i
+
+spot_in : (ring : List Position) (p : Position) (s : Segment) → In (p, s) (spots ring) → In p ring
+spot_in ring p s i = elim (in-append p ring (take 2 ring) (place_in (ring ++ take 2 ring) p s i)) [
+  | inl h ↦ h
+  | inr h ↦ front_in ring p h
+]
+
+-- the places of p in a list of places that has none
+none_left : {A : Type 0} (test : A → Bool) (xs : List A) → ((x : A) → In x xs → test x ≡ false) → (ys : List A)
+    → filter test (xs ++ ys) ≡ filter test ys
+none_left test [] h ys = refl
+none_left test (x ∷ xs) h ys =
+    ap (λ b. cond b (x ∷ filter test (xs ++ ys)) (filter test (xs ++ ys))) (h x (inl refl)) ∙ none_left test xs (λ y i. h y (inr i)) ys
+
+not_there : (ring : List Position) (p : Position) → has ring p ≡ false → (spot : Position × Segment) → In spot (spots ring)
+    → position_eq p spot.0 ≡ false
+not_there ring p h spot i = by (position_eq p spot.0) refl
+  where
+    by : (b : Bool) → position_eq p spot.0 ≡ b → position_eq p spot.0 ≡ false
+    by false e = e
+    by true e =
+        absurd (false≢true (sym h ∙ in-has p ring (subst (λ q. In q ring) (sym (position_eq-true p spot.0 e)) (spot_in ring spot.0 spot.1 i))))
+
+nowhere : (rs : List (List Position)) (p : Position) → list_any (λ ring. has ring p) rs ≡ false
+    → filter (λ (spot : Position × Segment). position_eq p spot.0) (flat_map spots rs) ≡ []
+nowhere [] p h = refl
+nowhere (r ∷ rs) p h =
+    let n = none_parts (has r p) (list_any (λ ring. has ring p) rs) h in
+    none_left (λ (spot : Position × Segment). position_eq p spot.0) (spots r) (not_there r p n.0) (flat_map spots rs) ∙ nowhere rs p n.1
+
+pub no_vertex : (d : Document) (p : Position) → is_vertex d p ≡ false → is_junction d p ≡ false
+no_vertex d p h = ap (λ (ss : List (Position × Segment)). not (all_equal (map (λ spot. spot.1) ss))) (nowhere (rings d) p h)
