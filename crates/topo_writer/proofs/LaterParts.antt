@@ -41,7 +41,7 @@ in_place (x ∷ xs) (suc i) d l = inr (in_place xs i d (omega (arith, l)))
 -- ---- rings whose pieces are arcs
 
 -- the piece is one of the arcs
-abbrev Known : List (List Position) → List Position → Type 0
+abbrev pub Known : List (List Position) → List Position → Type 0
 Known arcs ps = is_arc arcs ps ≡ true
 
 module _ (j : Position → Bool) where
@@ -51,7 +51,7 @@ module _ (j : Position → Bool) where
       map_alike (index_of (with_pieces arcs more)) (index_of arcs) (pieces j ring)
       (λ ps k. index_stays arcs more ps (each_in (Known arcs) (pieces j ring) ps h k))
 
-  rings_same : (arcs more rs : List (List Position)) → AllByRecursion (Known arcs) (flat_map (pieces j) rs)
+  pub rings_same : (arcs more rs : List (List Position)) → AllByRecursion (Known arcs) (flat_map (pieces j) rs)
       → map (indexes j (with_pieces arcs more)) rs ≡ map (indexes j arcs) rs
   rings_same arcs more [] h = refl
   rings_same arcs more (r ∷ rs) h =

@@ -4,12 +4,16 @@
 
 mod arcs;
 mod cutting;
+mod items;
+mod layers;
 mod members;
 mod rings;
 mod sending;
 mod shapes;
 mod texts;
+mod writing;
 
 pub use arcs::Arcs;
 pub use sending::WriteFault;
 pub use texts::{push_comma, push_number, push_pair};
+pub use writing::write;

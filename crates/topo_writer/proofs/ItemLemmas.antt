@@ -1,0 +1,156 @@
+-- The items of a layer as they are shown are those of the document.
+use Rattle.std.proofs.Common.{◌≡◌, ℕ, Bool, true, false, refl, sym, ap, ◌∙◌, subst, cond, List, [], ◌∷◌, ◌++◌, ◌||◌, map, arith, Some, inl, inr}
+use Rattle.std.specs.Prelude.{◌==◌, not, Contains, unwrap_or}
+use Rattle.std.specs.List.{filter_map, find, list_any}
+use Rattle.std.proofs.lemmas.Bool.{false≢true}
+use Rattle.std.proofs.lemmas.Bool.Decides.{nat_tests}
+use Rattle.ring_machine.specs.Document.{Document, Feature, Item, ItemOf, Head, Open, Close, Leaf, Kept, Layer}
+use Rattle.ring_machine.specs.Parts.{feature, feature_of, features}
+use Rattle.ring_machine.specs.WellFormed.{WellFormed, are_distinct, is_geometry}
+use Rattle.ring_machine.proofs.First.{In}
+use Rattle.ring_machine.proofs.Order.{and_both}
+use Rattle.ring_machine.proofs.Neighbours.{all_in, in-flat_map}
+use Rattle.ring_machine.proofs.Members.{contains_in}
+use Rattle.arc_store.specs.Items.{ShownItem, Opens, Closes, Stands, Keeps, shown_item}
+use Rattle.topo_writer.specs.Items.{bare, item_at, written_item, written_at, feature_at, IsThere, ShowsLayer}
+use Rattle.topo_writer.specs.Opened.{is_begin, open_after, more_after}
+use Rattle.topo_writer.proofs.Later.{map_alike}
+use Rattle.topo_writer.proofs.OpenedLemmas.{geometry_begins}
+
+-- ---- a feature is the one with its number
+
+same_number : (n : ℕ) → (n == n) ≡ true
+same_number n = grind (arith, nat_tests)
+
+-- the number of a feature of these is one of their numbers
+number_in : (fs : List Feature) (f : Feature) → In f fs → list_any (λ m. m == f.number) (map (λ g. g.number) fs) ≡ true
+number_in [] f i = absurd i
+number_in (g ∷ fs) f (inl e) =
+    ap (λ b. b || list_any (λ m. m == f.number) (map (λ g. g.number) fs)) (ap (λ (h : Feature). h.number == f.number) e ∙ same_number f.number)
+number_in (g ∷ fs) f (inr i) = by (g.number == f.number) (number_in fs f i)
+  where
+    by : (b : Bool) → list_any (λ m. m == f.number) (map (λ g. g.number) fs) ≡ true → (b || list_any (λ m. m == f.number) (map (λ g. g.number) fs)) ≡ true
+    by true h = refl
+    by false h = h
+
+not_false : (b : Bool) → not b ≡ true → b ≡ false
+not_false true h = absurd (false≢true h)
+not_false false h = refl
+
+same_is : (m n : ℕ) → (m == n) ≡ true → m ≡ n
+same_is m n h = grind (arith, nat_tests, h)
+
+found_own : (fs : List Feature) (f : Feature) → are_distinct (map (λ g. g.number) fs) ≡ true → In f fs
+    → find (λ g. g.number == f.number) fs ≡ Some f
+found_own [] f d i = absurd i
+found_own (g ∷ fs) f d (inl e) =
+    ap (λ b. cond b (Some g) (find (λ h. h.number == f.number) fs)) (ap (λ (h : Feature). h.number == f.number) e ∙ same_number f.number)
+    ∙ ap (λ z. Some z) e
+found_own (g ∷ fs) f d (inr i) =
+    let both = and_both (not (list_any (λ m. m == g.number) (map (λ h. h.number) fs))) (are_distinct (map (λ h. h.number) fs)) d in
+    by (g.number == f.number) refl (not_false _ both.0) (found_own fs f both.1 i)
+  where
+    by : (b : Bool) → (g.number == f.number) ≡ b → list_any (λ m. m == g.number) (map (λ h. h.number) fs) ≡ false
+        → find (λ h. h.number == f.number) fs ≡ Some f → cond b (Some g) (find (λ h. h.number == f.number) fs) ≡ Some f
+    by true e n k =
+        absurd (false≢true (sym n ∙ ap (λ m. list_any (λ k. k == m) (map (λ h. h.number) fs)) (same_is g.number f.number e) ∙ number_in fs f i))
+    by false e n k = k
+
+leaf_in : (items : List Item) (f : Feature) → In (Leaf f) items → In f (filter_map feature_of items)
+leaf_in [] f i = absurd i
+leaf_in (x ∷ items) f (inl e) = subst (λ z. In f (filter_map feature_of (z ∷ items))) (sym e) (inl refl)
+leaf_in (Open h ∷ items) f (inr i) = leaf_in items f i
+leaf_in (Close ∷ items) f (inr i) = leaf_in items f i
+leaf_in (Leaf g ∷ items) f (inr i) = inr (leaf_in items f i)
+leaf_in (Kept t ∷ items) f (inr i) = leaf_in items f i
+
+module _ (d : Document) (formed : WellFormed d) (layer : Layer) (there : Contains d.layers layer) where
+  -- the feature of a leaf is the one with its number
+  pub leaf_feature : (f : Feature) → In (Leaf f) layer.items → feature d f.number ≡ Some f
+  leaf_feature f i =
+      found_own (features d) f formed.numbers
+      (in-flat_map (λ l. filter_map feature_of l.items) layer f d.layers (contains_in d.layers layer there) (leaf_in layer.items f i))
+
+  item_back : (i : Item) → In i layer.items → item_at d (shown_item i) ≡ i
+  item_back (Open h) i = refl
+  item_back Close i = refl
+  item_back (Leaf f) i = ap (λ o. Leaf (unwrap_or o (bare f.number))) (leaf_feature f i)
+  item_back (Kept t) i = refl
+
+  mapped_twice : (items : List Item) → map (item_at d) (map shown_item items) ≡ map (λ i. item_at d (shown_item i)) items
+  mapped_twice [] = refl
+  mapped_twice (i ∷ items) = ap (λ z. item_at d (shown_item i) ∷ z) (mapped_twice items)
+
+  same_all : (items : List Item) → map (λ i. i) items ≡ items
+  same_all [] = refl
+  same_all (i ∷ items) = ap (λ z. i ∷ z) (same_all items)
+
+  pub items_back : map (item_at d) (map shown_item layer.items) ≡ layer.items
+  items_back = mapped_twice layer.items ∙ map_alike (λ i. item_at d (shown_item i)) (λ i. i) layer.items item_back ∙ same_all layer.items
+
+-- ---- the items of a layer are a geometry
+
+begin_written : (d : Document) (heads : List Head) (items : List Item) → is_begin heads (map (written_item d) items) ≡ is_begin heads items
+begin_written d heads [] = refl
+begin_written d heads (Open h ∷ items) = begin_written d (h ∷ heads) items
+begin_written d [] (Close ∷ items) = refl
+begin_written d (h ∷ heads) (Close ∷ items) = begin_written d heads items
+begin_written d heads (Leaf f ∷ items) = begin_written d heads items
+begin_written d heads (Kept t ∷ items) = begin_written d heads items
+
+written_map : (d : Document) (items : List ShownItem) → map (written_at d) items ≡ map (written_item d) (map (item_at d) items)
+written_map d [] = refl
+written_map d (s ∷ items) = ap (λ z. written_at d s ∷ z) (written_map d items)
+
+-- the items of a layer as they are written
+pub written_layer : (d : Document) → WellFormed d → (layer : Layer) → Contains d.layers layer
+    → map (written_at d) (map shown_item layer.items) ≡ map (written_item d) layer.items
+written_layer d formed layer there =
+    written_map d (map shown_item layer.items) ∙ ap (map (written_item d)) (items_back d formed layer there)
+
+pub written_begins : (d : Document) → WellFormed d → (items : List ShownItem) → ShowsLayer d items → is_begin [] (map (written_at d) items) ≡ true
+written_begins d formed items s =
+    ap (λ z. is_begin [] (map (written_at d) z)) s.shows ∙ ap (is_begin []) (written_layer d formed s.layer s.there)
+    ∙ begin_written d [] s.layer.items
+    ∙ geometry_begins s.layer.items (all_in (λ l. is_geometry l.items) d.layers s.layer formed.geometries (contains_in d.layers s.layer s.there))
+
+stands_there : (d : Document) → WellFormed d → (items : List ShownItem) → ShowsLayer d items → (n : ℕ) → In (Stands n) items
+    → feature d n ≡ Some (feature_at d n)
+stands_there d formed items s n i = go s.layer.items (λ f k. leaf_feature d formed s.layer s.there f k) (subst (In (Stands n)) s.shows i)
+  where
+    known : (f : Feature) → feature d f.number ≡ Some f → feature d f.number ≡ Some (feature_at d f.number)
+    known f e = e ∙ ap (λ o. Some (unwrap_or o (bare f.number))) (sym e)
+
+    go : (xs : List Item) → ((f : Feature) → In (Leaf f) xs → feature d f.number ≡ Some f) → In (Stands n) (map shown_item xs) → feature d n ≡ Some (feature_at d n)
+    go [] h k = absurd k
+    go (Open o ∷ xs) h (inl e) = absurd cc
+    go (Close ∷ xs) h (inl e) = absurd cc
+    go (Leaf f ∷ xs) h (inl e) =
+        let same : f.number ≡ n = cc in
+        subst (λ m. feature d m ≡ Some (feature_at d m)) same (known f (h f (inl refl)))
+    go (Kept t ∷ xs) h (inl e) = absurd cc
+    go (x ∷ xs) h (inr k) = go xs (λ f m. h f (inr m)) k
+
+-- what is shown in a layer is there
+pub shown_there : (d : Document) → WellFormed d → (items : List ShownItem) → ShowsLayer d items → (s : ShownItem) → In s items → IsThere d s
+shown_there d formed items shows (Opens h) i = tt
+shown_there d formed items shows Closes i = tt
+shown_there d formed items shows (Stands n) i = stands_there d formed items shows n i
+shown_there d formed items shows (Keeps t) i = tt
+
+-- ---- one item more
+
+pub open_both : {R : Type 0} (heads : List Head) (xs ys : List (ItemOf R)) → open_after heads (xs ++ ys) ≡ open_after (open_after heads xs) ys
+open_both heads [] ys = refl
+open_both heads (Open h ∷ xs) ys = open_both (h ∷ heads) xs ys
+open_both [] (Close ∷ xs) ys = open_both [] xs ys
+open_both (h ∷ heads) (Close ∷ xs) ys = open_both heads xs ys
+open_both heads (Leaf f ∷ xs) ys = open_both heads xs ys
+open_both heads (Kept t ∷ xs) ys = open_both heads xs ys
+
+pub more_both : {R : Type 0} (more : Bool) (xs ys : List (ItemOf R)) → more_after more (xs ++ ys) ≡ more_after (more_after more xs) ys
+more_both more [] ys = refl
+more_both more (Open h ∷ xs) ys = more_both false xs ys
+more_both more (Close ∷ xs) ys = more_both true xs ys
+more_both more (Leaf f ∷ xs) ys = more_both true xs ys
+more_both more (Kept t ∷ xs) ys = more_both true xs ys

@@ -1,0 +1,86 @@
+-- One item more of a layer.
+use Rattle.std.proofs.Common.{◌≡◌, Bool, true, false, refl, sym, ap, ap₂, ◌∙◌, List, [], ◌∷◌, ◌++◌, map, append_assoc}
+use Rattle.std.specs.List.{flat_map}
+use Rattle.std.proofs.lemmas.List.{append-nil, map-append}
+use Rattle.std.proofs.lemmas.List.Concat.{flat_map-append}
+use Rattle.grid_geometry.specs.Position.{Position}
+use Rattle.ring_machine.specs.Document.{Document, Head, Close, Text}
+use Rattle.ring_machine.specs.Vertices.{is_junction}
+use Rattle.map_text.specs.Arcs.{pieces, with_pieces}
+use Rattle.map_text.specs.Text.{comma_if, closing_text, items_text}
+use Rattle.arc_store.specs.Items.{ShownItem}
+use Rattle.topo_writer.specs.Items.{item_at, item_rings, written_at}
+use Rattle.topo_writer.specs.Opened.{is_begin, open_after, more_after}
+use Rattle.topo_writer.proofs.ItemLemmas.{open_both, more_both}
+use Rattle.topo_writer.proofs.Later.{with_pieces-append}
+use Rattle.topo_writer.proofs.Leading.{item_rings-append}
+use Rattle.topo_writer.proofs.OpenedLemmas.{items_both, begin_left}
+
+-- ---- the text of one item
+
+-- the end of a collection needs no comma
+pub close_alike : (heads : List Head) (more : Bool) → items_text heads true (Close ∷ []) ≡ items_text heads more (Close ∷ [])
+close_alike [] more = refl
+close_alike (h ∷ heads) more = refl
+
+pub closed_text : (o : Text) (head : Head) (heads : List Head) (now : Text) → now ≡ o ++ closing_text head
+    → now ≡ o ++ items_text (head ∷ heads) true (Close ∷ [])
+closed_text o head heads now e = e ∙ ap (λ z. o ++ z) (sym (append-nil (closing_text head)))
+
+-- a text alone after a comma
+pub alone : (o : Text) (more : Bool) (t now : Text) → now ≡ o ++ (comma_if more ++ t) → now ≡ o ++ (comma_if more ++ (t ++ []))
+alone o more t now e = e ∙ ap (λ z. o ++ (comma_if more ++ z)) (sym (append-nil t))
+
+-- a comma and then a text
+pub after_comma : (o : Text) (more : Bool) (t mid now : Text) → mid ≡ o ++ comma_if more → now ≡ mid ++ t → now ≡ o ++ (comma_if more ++ t)
+after_comma o more t mid now e f = f ∙ ap (λ z. z ++ t) e ∙ append_assoc o (comma_if more) t
+
+-- ---- after the items before it
+
+module _ (d : Document) (xs : List ShownItem) (s : ShownItem) where
+  abbrev one_more : List ShownItem
+  one_more = xs ++ s ∷ []
+
+  written_more : map (written_at d) one_more ≡ map (written_at d) xs ++ written_at d s ∷ []
+  written_more = map-append (written_at d) xs (s ∷ [])
+
+  pub heads_step : (now next : List Head) → now ≡ open_after [] (map (written_at d) xs) → next ≡ open_after now (written_at d s ∷ [])
+      → next ≡ open_after [] (map (written_at d) one_more)
+  heads_step now next p q =
+      q ∙ ap (λ z. open_after z (written_at d s ∷ [])) p ∙ sym (open_both [] (map (written_at d) xs) (written_at d s ∷ []))
+      ∙ ap (open_after []) (sym written_more)
+
+  pub more_step : (now next : Bool) → now ≡ more_after false (map (written_at d) xs) → next ≡ more_after now (written_at d s ∷ [])
+      → next ≡ more_after false (map (written_at d) one_more)
+  more_step now next p q =
+      q ∙ ap (λ z. more_after z (written_at d s ∷ [])) p ∙ sym (more_both false (map (written_at d) xs) (written_at d s ∷ []))
+      ∙ ap (more_after false) (sym written_more)
+
+  pub text_step : (rest : List ShownItem) → is_begin [] (map (written_at d) (xs ++ s ∷ rest)) ≡ true
+      → (o now next : Text) (heads : List Head) (more : Bool) → heads ≡ open_after [] (map (written_at d) xs)
+      → more ≡ more_after false (map (written_at d) xs) → now ≡ o ++ items_text [] false (map (written_at d) xs)
+      → next ≡ now ++ items_text heads more (written_at d s ∷ []) → next ≡ o ++ items_text [] false (map (written_at d) one_more)
+  text_step rest b o now next heads more h m p q =
+      let ws = map (written_at d) xs in
+      let w = written_at d s ∷ [] in
+      let begins : is_begin [] ws ≡ true = begin_left [] ws (map (written_at d) (s ∷ rest)) (ap (is_begin []) (sym (map-append (written_at d) xs (s ∷ rest))) ∙ b) in
+      q ∙ ap₂ (λ y z. now ++ items_text y z w) h m
+      ∙ ap (λ z. z ++ items_text (open_after [] ws) (more_after false ws) w) p
+      ∙ append_assoc o (items_text [] false ws) (items_text (open_after [] ws) (more_after false ws) w)
+      ∙ ap (λ z. o ++ z) (sym (items_both [] false ws w begins))
+      ∙ ap (λ z. o ++ items_text [] false z) (sym written_more)
+
+  pub arcs_step : (start now next : List (List Position))
+      → now ≡ with_pieces start (flat_map (pieces (is_junction d)) (item_rings (map (item_at d) xs)))
+      → next ≡ with_pieces now (flat_map (pieces (is_junction d)) (item_rings (item_at d s ∷ [])))
+      → next ≡ with_pieces start (flat_map (pieces (is_junction d)) (item_rings (map (item_at d) one_more)))
+  arcs_step start now next p q =
+      let j = is_junction d in
+      let front = item_rings (map (item_at d) xs) in
+      let mine = item_rings (item_at d s ∷ []) in
+      let both : item_rings (map (item_at d) one_more) ≡ front ++ mine =
+      ap item_rings (map-append (item_at d) xs (s ∷ [])) ∙ item_rings-append (map (item_at d) xs) (item_at d s ∷ []) in
+      q ∙ ap (λ z. with_pieces z (flat_map (pieces j) mine)) p
+      ∙ sym (with_pieces-append j start start (flat_map (pieces j) front) (flat_map (pieces j) mine))
+      ∙ ap (with_pieces start) (sym (flat_map-append (pieces j) front mine))
+      ∙ ap (λ z. with_pieces start (flat_map (pieces j) z)) (sym both)

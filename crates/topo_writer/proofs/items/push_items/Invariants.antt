@@ -1,0 +1,25 @@
+use Rattle.std.proofs.Common.{◌≡◌, ◌++◌, [], map, false}
+use Rattle.std.specs.List.{flat_map}
+use Rattle.indexmap.specs.IndexMap.{get}
+use Rattle.ring_machine.specs.Ring.{edge_eq}
+use Rattle.ring_machine.specs.Vertices.{is_junction}
+use Rattle.arc_store.specs.Items.{view_item_view}
+use Rattle.map_text.specs.Arcs.{pieces, with_pieces}
+use Rattle.map_text.specs.Text.{items_text}
+use Rattle.topo_writer.specs.Found.{Mirrors}
+use Rattle.topo_writer.specs.Items.{item_at, item_rings, open_heads, written_at, LeadsOn}
+use Rattle.topo_writer.specs.Opened.{more_after, open_after}
+use Rattle.topo_writer.specs.Ways.{ArePieces}
+use Rattle.topo_writer.proofs.items.push_items.Given as goal
+
+abbrev pub invariant-loop-item : goal.invariant-loop-item
+invariant-loop-item g l = record {
+  all : l.fn.items ≡ map view_item_view l.yielded ++ l.item-iterator;
+  mirrors : Mirrors (get edge_eq l.arcs.starts) l.arcs.list.items;
+  of_document : ArePieces l.map.doc l.arcs.list.items;
+  leads : LeadsOn l.map.doc l.arcs.list.items (map (item_at l.map.doc) l.item-iterator);
+  arcs : l.arcs.list.items ≡ with_pieces l.fn.arcs.list.items (flat_map (pieces (is_junction l.map.doc)) (item_rings (map (item_at l.map.doc) (map view_item_view l.yielded))));
+  text : l.text.items ≡ l.fn.text.items ++ items_text [] false (map (written_at l.map.doc) (map view_item_view l.yielded));
+  heads : open_heads l.heads.items ≡ open_after [] (map (written_at l.map.doc) (map view_item_view l.yielded));
+  more : l.more ≡ more_after false (map (written_at l.map.doc) (map view_item_view l.yielded));
+}

@@ -1,0 +1,34 @@
+use Rattle.std.proofs.Common.{◌≡◌, ◌<◌, ap, ◌∙◌, arith, length}
+use Rattle.topo_writer.specs.Sections.{arcs_after, layer_at, layer_text}
+use Rattle.topo_writer.proofs.LayerLemmas.{arcs_whole, layer_count, layer_there}
+use Rattle.topo_writer.proofs.SectionLemmas.{on_err}
+use Rattle.topo_writer.proofs.Sent.{sent_step, sent_part}
+use Rattle.topo_writer.proofs.layers.send_layers.Goals as goal
+
+pub returns-in_err-send_layer-clause-err : goal.returns-in_err-send_layer-clause-err
+returns-in_err-send_layer-clause-err g c =
+    let d = c.args.map.now.doc in
+    let i = c.loop-i.i in
+    let within : i < length d.layers = omega (arith, layer_count d c.args.frame.now c.requires.frame) in
+    on_err c.from_residual.result _
+    (sent_part (layer_text d) d.layers i (layer_at d i) within (layer_there d i within) _ _ _ c.loop-i.invariant.sent c.in_err-send_layer.ensures.err)
+
+pub loop-i-preserved : goal.loop-i-preserved
+loop-i-preserved g c =
+    let d = c.args.map.now.doc in
+    let i = c.loop-i.i in
+    let within : i < length d.layers = omega (arith, layer_count d c.args.frame.now c.requires.frame) in
+    record {
+      sent =
+          sent_step (layer_text d) d.layers i (layer_at d i) within (layer_there d i within) _ _ _ c.loop-i.invariant.sent c.in_ok-send_layer.ensures.ok;
+      works = c.in_ok-send_layer.ensures.works;
+      mirrors = c.in_ok-send_layer.ensures.mirrors;
+      pieces = c.in_ok-send_layer.ensures.pieces;
+      arcs = c.in_ok-send_layer.ensures.arcs;
+    }
+
+pub returns-clause-arcs : goal.returns-clause-arcs
+returns-clause-arcs g c =
+    let d = c.args.map.now.doc in
+    let all : c.loop-i.i ≡ length d.layers = omega (arith, layer_count d c.args.frame.now c.requires.frame) in
+    c.loop-i.invariant.arcs ∙ ap (arcs_after d) all ∙ arcs_whole d

@@ -1,0 +1,112 @@
+//! The layers of a map, sent to a device one after another.
+ghost use Rattle.std.specs.Prelude.{◌≡◌, ◌+◌, ◌<◌, ◌++◌, [], length, nat_lt, false, true, Err, OnOk, OnErr};
+ghost use Rattle.std.specs.Io.KnownBytes.{Appends};
+ghost use Rattle.indexmap.specs.IndexMap.{get};
+ghost use Rattle.device_io.specs.Devices.{AppendsPrefix};
+ghost use Rattle.ring_machine.specs.Ring.{edge_eq};
+ghost use Rattle.map_text.specs.Arcs.{arcs_of};
+ghost use Rattle.map_text.specs.Text.{comma_if};
+ghost use Rattle.topo_writer.specs.Found.{Mirrors};
+ghost use Rattle.topo_writer.specs.Sections.{arcs_after, layer_at, layer_text, layers_text, IsMapFrame};
+ghost use Rattle.topo_writer.specs.Ways.{ArePieces};
+ghost use Rattle.topo_writer.specs.declared.sending.WriteFault.TheVariants.{Device, OutOfMemory};
+
+use crate::arcs::Arcs;
+use crate::items::push_items;
+use crate::sending::WriteFault;
+use crate::texts::push_comma;
+use arc_store::{FrameView, Map};
+use device_io::{Sink, put_all};
+use segment_index::SegIndex;
+use std::alloc::{AllocError, Allocator};
+
+/// Appends the layer with this number, and a comma where something stands before. A piece that is no
+/// arc yet becomes the next one.
+fn push_layer<'m, 'a, I: SegIndex, A: Allocator + Copy>(
+    alloc: A,
+    map: &Map<'a, I, A>,
+    frame: &FrameView<'m, 'a, A>,
+    i: usize,
+    arcs: &mut Arcs<A>,
+    text: &mut Vec<u8, A>,
+) -> Result<(), AllocError>
+    requires frame { IsMapFrame map.now.doc frame.now }
+    requires there { i < length map.now.doc.layers }
+    requires mirrors { Mirrors (get edge_eq arcs.old.starts) arcs.old.list.items }
+    requires pieces { ArePieces map.now.doc arcs.old.list.items }
+    requires arcs { arcs.old.list.items ≡ arcs_after map.now.doc i }
+    ensures mirrors { OnOk result (Mirrors (get edge_eq arcs.new.starts) arcs.new.list.items) }
+    ensures pieces { OnOk result (ArePieces map.now.doc arcs.new.list.items) }
+    ensures arcs { OnOk result (arcs.new.list.items ≡ arcs_after map.now.doc (i + 1)) }
+    ensures text { OnOk result (text.new.items
+        ≡ text.old.items ++ (comma_if (nat_lt 0 i) ++ layer_text map.now.doc (layer_at map.now.doc i))) }
+{
+    let Some(name) = frame.layer_name(i) else {
+        return Ok(());
+    };
+    let Some(items) = frame.items(i) else {
+        return Ok(());
+    };
+    push_comma(text, i > 0)?;
+    text.extend_from_slice(name)?;
+    text.extend_from_slice(b":")?;
+    push_items(alloc, map, arcs, text, items)?;
+    Ok(())
+}
+
+/// Sends the layer with this number, and a comma where something stands before.
+fn send_layer<'m, 'a, I: SegIndex, A: Allocator + Copy, W: Sink>(
+    alloc: A,
+    map: &Map<'a, I, A>,
+    frame: &FrameView<'m, 'a, A>,
+    i: usize,
+    arcs: &mut Arcs<A>,
+    out: &mut W,
+) -> Result<(), WriteFault>
+    requires working { W.has_failed out.old ≡ false }
+    requires frame { IsMapFrame map.now.doc frame.now }
+    requires there { i < length map.now.doc.layers }
+    requires mirrors { Mirrors (get edge_eq arcs.old.starts) arcs.old.list.items }
+    requires pieces { ArePieces map.now.doc arcs.old.list.items }
+    requires arcs { arcs.old.list.items ≡ arcs_after map.now.doc i }
+    ensures mirrors { OnOk result (Mirrors (get edge_eq arcs.new.starts) arcs.new.list.items) }
+    ensures pieces { OnOk result (ArePieces map.now.doc arcs.new.list.items) }
+    ensures arcs { OnOk result (arcs.new.list.items ≡ arcs_after map.now.doc (i + 1)) }
+    ensures ok { OnOk result (Appends (W.taken out.old) (W.taken out.new)
+        (comma_if (nat_lt 0 i) ++ layer_text map.now.doc (layer_at map.now.doc i))) }
+    ensures works { OnOk result (W.has_failed out.new ≡ false) }
+    ensures err { OnErr result (AppendsPrefix (W.taken out.old) (W.taken out.new)
+        (comma_if (nat_lt 0 i) ++ layer_text map.now.doc (layer_at map.now.doc i))) }
+    ensures device { result ≡ Err Device → W.has_failed out.new ≡ true }
+    ensures memory { result ≡ Err OutOfMemory → W.has_failed out.new ≡ false }
+{
+    let mut text = Vec::new(alloc);
+    push_layer(alloc, map, frame, i, arcs, &mut text)?;
+    put_all(out, text.as_slice())?;
+    Ok(())
+}
+
+/// Sends the layers, with commas between them, and takes their arcs into the list.
+pub(crate) fn send_layers<'m, 'a, I: SegIndex, A: Allocator + Copy, W: Sink>(
+    alloc: A,
+    map: &Map<'a, I, A>,
+    frame: &FrameView<'m, 'a, A>,
+    arcs: &mut Arcs<A>,
+    out: &mut W,
+) -> Result<(), WriteFault>
+    requires working { W.has_failed out.old ≡ false }
+    requires frame { IsMapFrame map.now.doc frame.now }
+    requires mirrors { Mirrors (get edge_eq arcs.old.starts) [] }
+    requires none { arcs.old.list.items ≡ [] }
+    ensures arcs { OnOk result (arcs.new.list.items ≡ arcs_of map.now.doc) }
+    ensures ok { OnOk result (Appends (W.taken out.old) (W.taken out.new) (layers_text map.now.doc)) }
+    ensures works { OnOk result (W.has_failed out.new ≡ false) }
+    ensures err { OnErr result (AppendsPrefix (W.taken out.old) (W.taken out.new) (layers_text map.now.doc)) }
+    ensures device { result ≡ Err Device → W.has_failed out.new ≡ true }
+    ensures memory { result ≡ Err OutOfMemory → W.has_failed out.new ≡ false }
+{
+    for i in 0..frame.layer_count() {
+        send_layer(alloc, map, frame, i, arcs, out)?;
+    }
+    Ok(())
+}

@@ -1,0 +1,129 @@
+//! The text of a whole map, sent to a device.
+ghost use Rattle.std.specs.Prelude.{◌≡◌, ◌++◌, [], false, true, map, option_map, Err, OnOk, OnErr};
+ghost use Rattle.std.specs.Io.KnownBytes.{Appends};
+ghost use Rattle.device_io.specs.Devices.{AppendsPrefix};
+ghost use Rattle.map_text.specs.Saved.{Saved};
+ghost use Rattle.map_text.specs.Text.{text_of};
+ghost use Rattle.topo_outline.specs.Views.{view_kept};
+ghost use Rattle.topo_writer.specs.Sections.{begin_text, end_text, IsMapFrame};
+ghost use Rattle.topo_writer.specs.declared.sending.WriteFault.TheVariants.{Device, OutOfMemory};
+
+use crate::arcs::Arcs;
+use crate::layers::send_layers;
+use crate::members::{push_kept, push_member_if};
+use crate::sending::{WriteFault, send_arcs};
+use arc_store::{FrameView, Map};
+use device_io::{Sink, put_all};
+use segment_index::SegIndex;
+use std::alloc::{AllocError, Allocator};
+use topo_outline::KeptMember;
+
+/// Appends the begin of the text, up to the first layer (TopoJSON 1.0, 2.1).
+fn push_begin<A: Allocator + Copy>(
+    text: &mut Vec<u8, A>,
+    transform: Option<&[u8]>,
+) -> Result<(), AllocError>
+    ensures { OnOk result (text.new.items
+        ≡ text.old.items ++ begin_text (option_map (λ t. t.now) transform.entry)) }
+{
+    text.extend_from_slice(b"{\"type\":\"Topology\"")?;
+    push_member_if(text, b"\"transform\"", transform)?;
+    text.extend_from_slice(b",\"objects\":{")?;
+    Ok(())
+}
+
+/// Appends the end of the text, from the last arc on.
+fn push_end<A: Allocator + Copy>(
+    text: &mut Vec<u8, A>,
+    members: &[KeptMember<'_>],
+) -> Result<(), AllocError>
+    ensures { OnOk result (text.new.items ≡ text.old.items ++ end_text (map view_kept members.now)) }
+{
+    text.extend_from_slice(b"]")?;
+    push_kept(text, members)?;
+    text.extend_from_slice(b"}")
+}
+
+/// Sends the begin of the text, up to the first layer.
+fn send_begin<A: Allocator + Copy, W: Sink>(
+    alloc: A,
+    out: &mut W,
+    transform: Option<&[u8]>,
+) -> Result<(), WriteFault>
+    requires { W.has_failed out.old ≡ false }
+    ensures ok { OnOk result (Appends (W.taken out.old) (W.taken out.new) (begin_text (option_map (λ t. t.now) transform.entry))) }
+    ensures works { OnOk result (W.has_failed out.new ≡ false) }
+    ensures err { OnErr result (AppendsPrefix (W.taken out.old) (W.taken out.new) (begin_text (option_map (λ t. t.now) transform.entry))) }
+    ensures device { result ≡ Err Device → W.has_failed out.new ≡ true }
+    ensures memory { result ≡ Err OutOfMemory → W.has_failed out.new ≡ false }
+{
+    let mut text = Vec::new(alloc);
+    push_begin(&mut text, transform)?;
+    put_all(out, text.as_slice())?;
+    Ok(())
+}
+
+/// Sends the end of the text, from the last arc on.
+fn send_end<A: Allocator + Copy, W: Sink>(
+    alloc: A,
+    out: &mut W,
+    members: &[KeptMember<'_>],
+) -> Result<(), WriteFault>
+    requires { W.has_failed out.old ≡ false }
+    ensures ok { OnOk result (Appends (W.taken out.old) (W.taken out.new) (end_text (map view_kept members.now))) }
+    ensures works { OnOk result (W.has_failed out.new ≡ false) }
+    ensures err { OnErr result (AppendsPrefix (W.taken out.old) (W.taken out.new) (end_text (map view_kept members.now))) }
+    ensures device { result ≡ Err Device → W.has_failed out.new ≡ true }
+    ensures memory { result ≡ Err OutOfMemory → W.has_failed out.new ≡ false }
+{
+    let mut text = Vec::new(alloc);
+    push_end(&mut text, members)?;
+    put_all(out, text.as_slice())?;
+    Ok(())
+}
+
+/// Sends the text of a map that has this frame.
+fn send_map<'m, 'a, I: SegIndex, A: Allocator + Copy, W: Sink>(
+    alloc: A,
+    map: &Map<'a, I, A>,
+    frame: &FrameView<'m, 'a, A>,
+    out: &mut W,
+) -> Result<(), WriteFault>
+    requires working { W.has_failed out.old ≡ false }
+    requires frame { IsMapFrame map.now.doc frame.now }
+    ensures ok { OnOk result (Appends (W.taken out.old) (W.taken out.new) (text_of map.now.doc)) }
+    ensures works { OnOk result (W.has_failed out.new ≡ false) }
+    ensures err { OnErr result (AppendsPrefix (W.taken out.old) (W.taken out.new) (text_of map.now.doc)) }
+    ensures device { result ≡ Err Device → W.has_failed out.new ≡ true }
+    ensures memory { result ≡ Err OutOfMemory → W.has_failed out.new ≡ false }
+{
+    let mut arcs = Arcs::new(alloc);
+    send_begin(alloc, out, frame.transform())?;
+    send_layers(alloc, map, frame, &mut arcs, out)?;
+    put_all(out, b"},\"arcs\":[")?;
+    let delta = frame.transform().is_some();
+    send_arcs(alloc, out, delta, arcs.list.as_slice())?;
+    send_end(alloc, out, frame.members())?;
+    Ok(())
+}
+
+/// Writes the text of a map (TopoJSON 1.0): its layers by name, each border in one arc, and the
+/// members that were kept. The map is not changed. Where the writer fails in this call, the fault is
+/// `Device`, and where memory for a piece of the text is refused, `OutOfMemory`; a front of the text
+/// may have been taken then.
+pub fn write<'a, I: SegIndex, A: Allocator + Copy, W: Sink>(
+    alloc: A,
+    map: &Map<'a, I, A>,
+    out: &mut W,
+) -> Result<(), WriteFault>
+    requires { W.has_failed out.old ≡ false }
+    ensures ok { OnOk result (Appends (W.taken out.old) (W.taken out.new) (text_of map.now.doc)) }
+    ensures works { OnOk result (W.has_failed out.new ≡ false) }
+    ensures err { OnErr result (AppendsPrefix (W.taken out.old) (W.taken out.new) (text_of map.now.doc)) }
+    ensures device { result ≡ Err Device → W.has_failed out.new ≡ true }
+    ensures memory { result ≡ Err OutOfMemory → W.has_failed out.new ≡ false }
+    ensures saved { Saved (text_of map.now.doc) map.now.doc }
+{
+    let frame = map.frame();
+    send_map(alloc, map, &frame, out)
+}
