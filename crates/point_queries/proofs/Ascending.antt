@@ -1,10 +1,10 @@
 -- Ascending numbers, each once: sorted ones, and those of features.
 use Rattle.std.proofs.Common.{◌≡◌, ◌≢◌, ℕ, ◌<◌, Bool, true, false, refl, sym, ap, ap₂, ◌∙◌, subst, cond}
-use Rattle.std.proofs.Common.{List, [], ◌∷◌, map, ◌⊎◌, inl, inr, arith}
+use Rattle.std.proofs.Common.{List, [], ◌∷◌, map, ◌⊎◌, inl, inr, arith, zero, suc, ◌≤◌, length, get_or, Result, Ok, Err, is_ok, MatchResult}
 use Rattle.std.specs.Prelude.{nat_le, nat_eq, not, ◌==◌}
 use Rattle.std.specs.List.{AllByRecursion, fold, filter, dedup, list_any}
 use Rattle.std.specs.List.Sorted as sorting
-use Rattle.std.specs.List.Sorted.{IsPermutation, IsStrictlySortedBy}
+use Rattle.std.specs.List.Sorted.{IsPermutation, IsStrictlySortedBy, IsBinarySearchResult}
 use Rattle.std.specs.List.Retain.{IsFiltered, DiffersFromLast}
 use Rattle.std.specs.Ordering.{nat_cmp, eq_by_cmp}
 use Rattle.std.specs.declared.cmp.Ordering.TheVariants.{Less}
@@ -13,7 +13,7 @@ use Rattle.std.proofs.lemmas.Bool.Decides.{Decides-eqb, nat_tests}
 use Rattle.std.proofs.lemmas.Cmp.{nat_cmp_total}
 use Rattle.std.proofs.lemmas.List.Filters.{dedup_is}
 use Rattle.std.proofs.lemmas.List.Kept.{IsStrictlySortedBy-dedup}
-use Rattle.std.proofs.lemmas.List.Sorted.{IsPermutation-sym}
+use Rattle.std.proofs.lemmas.List.Sorted.{IsPermutation-sym, searched}
 use Rattle.ring_machine.specs.Document.{Feature}
 use Rattle.ring_machine.specs.Query.{add_number, numbers}
 use Rattle.ring_machine.specs.WellFormed.{are_distinct}
@@ -21,8 +21,8 @@ use Rattle.ring_machine.proofs.First.{In, filter-in}
 use Rattle.ring_machine.proofs.Neighbours.{in-map}
 use Rattle.ring_machine.proofs.Order.{and_both}
 use Rattle.ring_machine.proofs.Removal.{not_true}
-use Rattle.ring_machine.proofs.Members.{contains_in, in_contains, in_filter, in_any}
-use Rattle.ring_machine.proofs.SortedOnce.{in_permuted, none_new, none_lost}
+use Rattle.ring_machine.proofs.Members.{contains_in, in_contains, in_filter, in_any, any_in}
+use Rattle.ring_machine.proofs.SortedOnce.{in_at, in_permuted, none_new, none_lost}
 use Rattle.point_queries.specs.Users.{Rises, IsSorted}
 
 -- ---- one list for the same numbers
@@ -198,3 +198,59 @@ numbers_are test fs ns d h from to =
       | inl j ↦ absurd j
       | inr g ↦ let k = in_filter test g.0 fs g.1 in subst (λ z. In z ns) g.2 (to g.0 k.0 k.1)
     ])
+
+-- the numbers of features that have numbers of their own
+pub numbers_rise : (test : Feature → Bool) (fs : List Feature) → are_distinct (map (λ f. f.number) fs) ≡ true
+    → Rises (numbers (filter test fs))
+numbers_rise test fs d = rises_fold (filter test fs) [] (apart_among test fs (apart fs d)) (λ g i j. j) tt
+
+pub in_numbers : (fs : List Feature) (m : ℕ) → In m (numbers fs) → (g : Feature) × In g fs × (g.number ≡ m)
+in_numbers fs m i = elim (in_fold fs [] m i) [
+  | inl j ↦ absurd j
+  | inr g ↦ g
+]
+
+pub numbers_have : (fs : List Feature) (g : Feature) → In g fs → In g.number (numbers fs)
+numbers_have fs g i = each_in fs [] g i
+
+-- ---- a search among them
+
+rises_far : (ns : List ℕ) → Rises ns → (i j : ℕ) → i ≤ j → j < length ns → get_or ns i 0 ≤ get_or ns j 0
+rises_far [] h i j l k = absurd (omega arith)
+rises_far (n ∷ ns) h zero zero l k = omega arith
+rises_far (n ∷ ns) h zero (suc j) l k =
+    omega (arith, in_all (λ z. n < z) ns h.0 (get_or ns j 0) (in_at ns j 0 (omega arith)))
+rises_far (n ∷ ns) h (suc i) zero l k = absurd (omega arith)
+rises_far (n ∷ ns) h (suc i) (suc j) l k = rises_far ns h.1 i j (omega arith) (omega arith)
+
+at_index : (ns : List ℕ) (n : ℕ) → In n ns → (k : ℕ) × (k < length ns) × (get_or ns k 0 ≡ n)
+at_index [] n i = absurd i
+at_index (m ∷ ns) n (inl e) = (0, omega arith, e)
+at_index (m ∷ ns) n (inr i) = let k = at_index ns n i in (suc k.0, omega (arith, k.1), k.2)
+
+abbrev Found : List ℕ → ℕ → Result ℕ ℕ → Type 0
+Found ns n r = MatchResult r (λ i. (i < length ns) × (get_or ns i 0 ≡ n)) (λ i. (i ≤ length ns) × ((k : ℕ) → k < i → get_or ns k 0 < n) × ((k : ℕ) → i ≤ k → k < length ns → n < get_or ns k 0))
+
+below_or : (k i : ℕ) → (k < i) ⊎ (i ≤ k)
+below_or k zero = inr (omega arith)
+below_or zero (suc i) = inl (omega arith)
+below_or (suc k) (suc i) = elim (below_or k i) [ inl h ↦ inl (omega (arith, h)) | inr h ↦ inr (omega (arith, h)) ]
+
+among_by : (ns : List ℕ) (n : ℕ) (r : Result ℕ ℕ) → Found ns n r → is_ok r ≡ list_any (λ m. m == n) ns
+among_by ns n (Ok i) h = sym (in_any (λ m. m == n) (get_or ns i 0) ns (in_at ns i 0 h.0) ((Decides-eqb (get_or ns i 0) n).1 h.1))
+among_by ns n (Err i) h = sym (by (list_any (λ m. m == n) ns) refl)
+  where
+    by : (b : Bool) → list_any (λ m. m == n) ns ≡ b → b ≡ false
+    by false e = refl
+    by true e =
+        let m = any_in (λ m. m == n) ns e in
+        let same : m.0 ≡ n = (Decides-eqb m.0 n).0 m.2 in
+        let k = at_index ns m.0 m.1 in
+        elim (below_or k.0 i) [
+          | inl u ↦ absurd (omega (arith, h.1 k.0 u, k.2, same))
+          | inr u ↦ absurd (omega (arith, h.2 k.0 u k.1, k.2, same))
+        ]
+
+pub among : (ns : List ℕ) (n : ℕ) (r : Result ℕ ℕ) → Rises ns → IsBinarySearchResult (λ y. nat_cmp y n) ns r
+    → is_ok r ≡ list_any (λ m. m == n) ns
+among ns n r h s = among_by ns n r (searched ns n r s (rises_far ns h))

@@ -4,3 +4,9 @@ mod Sharers
 mod Ascending
 mod SharedBorders
 mod OnBorders
+mod Odds
+mod Passing
+mod PassedRings
+mod PassedSegments
+mod OddRings
+mod HeldFeatures

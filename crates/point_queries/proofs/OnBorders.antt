@@ -38,7 +38,7 @@ again a b = elim (segment_ends a b) [
   | inr m ↦ ap₂ segment m.0 m.1 ∙ sym (segment-comm a b)
 ]
 
-of_ends : (d : Document) (s : Segment) → In s (all_segments d) → segment s.lo s.hi ≡ s
+pub of_ends : (d : Document) (s : Segment) → In s (all_segments d) → segment s.lo s.hi ≡ s
 of_ends d s i =
     let ring = in_flat segments s (rings d) i in
     let e = in_mapped segment_of s (edges ring.0) ring.2 in

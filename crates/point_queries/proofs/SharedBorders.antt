@@ -65,7 +65,7 @@ mapped_some : {X Y : Type 0} (f : X → Y) (o : Option X) (y : Y) → option_map
 mapped_some f None y e = absurd cc
 mapped_some f (Some x) y e = (x, refl, ap (λ o. unwrap_or o y) e)
 
-place_of : {X : Type 0} (xs : List X) (x : X) → In x xs → (i : ℕ) × (slice_get xs i ≡ Some x)
+pub place_of : {X : Type 0} (xs : List X) (x : X) → In x xs → (i : ℕ) × (slice_get xs i ≡ Some x)
 place_of [] x i = absurd i
 place_of (y ∷ xs) x (inl e) = (0, ap Some e)
 place_of (y ∷ xs) x (inr i) = let k = place_of xs x i in (suc k.0, k.1)

@@ -4,7 +4,7 @@ ghost use Rattle.std.specs.List.{flat_map};
 ghost use Rattle.ring_machine.specs.Query as query;
 ghost use Rattle.point_queries.specs.Users.{ListsUsers, on_edge};
 
-use crate::sharing::sort_once;
+use crate::numbers::{Numbers, sort_once};
 use arc_store::{Map, RingName};
 use grid_geometry::{Pos, Rect, Seg, on};
 use segment_index::SegIndex;
@@ -41,7 +41,10 @@ fn push_on<'a, I: SegIndex, A: Allocator + Copy>(
 }
 
 /// The numbers of the features of these rings.
-fn numbers_of<A: Allocator + Copy>(alloc: A, names: &[RingName]) -> Result<Vec<u32, A>, AllocError>
+pub(crate) fn numbers_of<A: Allocator + Copy>(
+    alloc: A,
+    names: &[RingName],
+) -> Result<Vec<u32, A>, AllocError>
     ensures { IfOk result (λ found. found.items ≡ map (λ name. name.feature) names.now) }
 {
     let mut found = Vec::with_capacity(alloc, names.len())?;
@@ -53,12 +56,12 @@ fn numbers_of<A: Allocator + Copy>(alloc: A, names: &[RingName]) -> Result<Vec<u
 
 /// The numbers of the features on whose borders p lies, ascending. Reads the cells at p and the arcs
 /// of the segments on which it lies.
-pub fn border_at<'a, I: SegIndex, A: Allocator + Copy>(
+pub(crate) fn border_at<'a, I: SegIndex, A: Allocator + Copy>(
     alloc: A,
     map: &Map<'a, I, A>,
     p: Pos,
-) -> Result<Vec<u32, A>, AllocError>
-    ensures { IfOk result (λ found. found.items ≡ query.border_at map.now.doc p) }
+) -> Result<Numbers<A>, AllocError>
+    ensures { IfOk result (λ found. found ≡ query.border_at map.now.doc p) }
 {
     let mut near = Vec::new(alloc);
     map.candidates(box_at(p), &mut near)?;
@@ -66,5 +69,5 @@ pub fn border_at<'a, I: SegIndex, A: Allocator + Copy>(
     push_on(map, p, near.as_slice(), &mut names)?;
     let mut found = numbers_of(alloc, names.as_slice())?;
     sort_once(&mut found);
-    Ok(found)
+    Ok(Numbers(found))
 }

@@ -3,10 +3,15 @@
 
 mod area;
 mod border;
+mod inside;
+mod numbers;
+mod odd;
+mod passed;
 mod sharing;
 
 pub use area::{NoFeature, area2_of};
-pub use border::border_at;
+pub use inside::at;
+pub use numbers::{At, Numbers};
 pub use sharing::{QueryFault, neighbours};
 
 #[cfg(test)]

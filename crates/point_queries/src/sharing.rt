@@ -5,9 +5,10 @@ ghost use Rattle.grid_geometry.specs.Ring.{edges};
 ghost use Rattle.ring_machine.specs.Parts.{has_feature};
 ghost use Rattle.ring_machine.specs.Query as query;
 ghost use Rattle.ring_machine.specs.Refusals.{feature_at};
-ghost use Rattle.point_queries.specs.Users.{ListsUsers, IsSorted};
+ghost use Rattle.point_queries.specs.Users.{ListsUsers};
 ghost use Rattle.point_queries.specs.Told.{Tells};
 
+use crate::numbers::{Numbers, sort_once};
 use arc_store::{Map, RingName};
 use segment_index::SegIndex;
 use std::alloc::{AllocError, Allocator};
@@ -97,22 +98,14 @@ fn others<A: Allocator + Copy>(
     Ok(found)
 }
 
-/// The numbers ascending, each once.
-pub(crate) fn sort_once<A: Allocator + Copy>(found: &mut Vec<u32, A>)
-    ensures { IsSorted found.old.items found.new.items }
-{
-    found.sort_unstable();
-    found.dedup();
-}
-
 /// The numbers of the other features that have a segment in common with the feature with this
 /// number, ascending. Reads the rings of the feature, and the arcs at their positions.
 pub fn neighbours<'a, I: SegIndex, A: Allocator + Copy>(
     alloc: A,
     map: &Map<'a, I, A>,
     f: u32,
-) -> Result<Vec<u32, A>, QueryFault>
-    ensures found { IfOk result (λ found. found.items
+) -> Result<Numbers<A>, QueryFault>
+    ensures found { IfOk result (λ found. found
         ≡ query.neighbours_of map.now.doc (feature_at map.now.doc f)) }
     ensures there { IfOk result (λ found. IsTrue (has_feature map.now.doc f)) }
     ensures fault { IfErr result (λ fault. Tells map.now.doc f fault) }
@@ -126,5 +119,5 @@ pub fn neighbours<'a, I: SegIndex, A: Allocator + Copy>(
     }
     let mut found = others(alloc, names.as_slice(), f)?;
     sort_once(&mut found);
-    Ok(found)
+    Ok(Numbers(found))
 }

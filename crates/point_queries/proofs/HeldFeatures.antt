@@ -1,0 +1,225 @@
+-- The features that hold a position, by the rings that have an odd number of the segments that count.
+use Rattle.std.proofs.Common.{◌≡◌, ℕ, zero, suc, Bool, true, false, refl, sym, ap, ap₂, ◌∙◌, subst, ◌&&◌, arith}
+use Rattle.std.proofs.Common.{List, [], ◌∷◌, map, Option, Some, None, is_some, unwrap_or, inl, inr}
+use Rattle.std.specs.Prelude.{not, ◌==◌, slice_get, option_map}
+use Rattle.std.specs.List.{list_any, list_all, filter, fold, flat_map, find}
+use Rattle.std.specs.BTreeSet.{BTreeSet, contains}
+use Rattle.std.proofs.lemmas.Bool.{false≢true}
+use Rattle.std.proofs.lemmas.Bool.Decides.{Decides-eqb}
+use Rattle.grid_geometry.specs.Position.{Position}
+use Rattle.grid_geometry.specs.Ring.{xor, is_inside}
+use Rattle.grid_geometry.specs.Segment.{Segment, segment_eq, segment}
+use Rattle.ring_machine.specs.Document.{Document, Feature}
+use Rattle.ring_machine.specs.Parts.{features, feature, rings, rings_of}
+use Rattle.ring_machine.specs.Query.{is_on_border, is_in_polygon, is_in_feature, border_at, inside_at}
+use Rattle.ring_machine.specs.Ring.{segments, is_ring}
+use Rattle.ring_machine.specs.WellFormed.{are_distinct}
+use Rattle.ring_machine.proofs.First.{In, filter-in}
+use Rattle.ring_machine.proofs.Members.{contains_in, in_contains, in_filter, in_mapped, any_in, in_any, there, mapped_there}
+use Rattle.ring_machine.proofs.Neighbours.{in-map, in-flat_map}
+use Rattle.ring_machine.proofs.Order.{and_both}
+use Rattle.ring_machine.proofs.Removal.{not_true}
+use Rattle.arc_store.specs.declared.names.RingName.{RingName}
+use Rattle.arc_store.specs.Readers.{element, ring_at}
+use Rattle.arc_store.proofs.Indexed.{in_segments, segment_in}
+use Rattle.arc_store.proofs.NameLists.{element_is}
+use Rattle.arc_store.proofs.RingReads.{in_get}
+use Rattle.point_queries.specs.declared.odd.PolygonName.{PolygonName}
+use Rattle.point_queries.specs.Odd.{odd, ArePassed, AreOdd, ListsOdd, is_name, is_polygon, is_held, is_passed, polygon_of, polygon_cmp, ring_of, ring_has}
+use Rattle.point_queries.specs.Users.{IsSorted}
+use Rattle.point_queries.proofs.Ascending.{numbers_are, in_numbers, numbers_have}
+use Rattle.point_queries.proofs.Odds.{odd-alike, odd-exchange, odd-some, xor-assoc, xor-false}
+use Rattle.point_queries.proofs.OnBorders.{of_ends}
+use Rattle.point_queries.proofs.PassedRings.{odd_ring}
+use Rattle.point_queries.proofs.SharedBorders.{found_in, in_found, place_of}
+
+refuted : (b : Bool) → (b ≡ true → ⊥) → b ≡ false
+refuted false h = refl
+refuted true h = absurd (h refl)
+
+both : (a b : Bool) → a ≡ true → b ≡ true → (a && b) ≡ true
+both a b e f = ap₂ (λ y z. y && z) e f
+
+all_true : {X : Type 0} (test : X → Bool) (xs : List X) (x : X) → list_all test xs ≡ true → In x xs → test x ≡ true
+all_true test [] x h i = absurd i
+all_true test (y ∷ ys) x h (inl e) = ap test (sym e) ∙ (and_both (test y) (list_all test ys) h).0
+all_true test (y ∷ ys) x h (inr i) = all_true test ys x (and_both (test y) (list_all test ys) h).1 i
+
+-- ---- the names of a polygon's rings
+
+-- a name for each element, by its place
+abbrev names_at : {X : Type 0} → (ℕ → RingName) → List X → List RingName
+names_at name [] = []
+names_at name (x ∷ xs) = name 0 ∷ names_at (λ i. name (suc i)) xs
+
+none_at : {X : Type 0} (test : RingName → Bool) (name : ℕ → RingName) (xs : List X) → ((i : ℕ) → test (name i) ≡ false)
+    → odd test (names_at name xs) ≡ false
+none_at test name [] h = refl
+none_at test name (x ∷ xs) h = ap₂ xor (h 0) (none_at test (λ i. name (suc i)) xs (λ i. h (suc i)))
+
+one_at : {X : Type 0} (test : RingName → Bool) (name : ℕ → RingName) (xs : List X) (r : ℕ) (x : X) → slice_get xs r ≡ Some x
+    → test (name r) ≡ true → ((i : ℕ) → (i ≡ r → ⊥) → test (name i) ≡ false) → odd test (names_at name xs) ≡ true
+one_at test name [] r x e h k = absurd cc
+one_at test name (y ∷ ys) zero x e h k =
+    ap₂ xor h (none_at test (λ i. name (suc i)) ys (λ i. k (suc i) (λ f. omega (arith, f))))
+one_at test name (y ∷ ys) (suc r) x e h k =
+    ap₂ xor (k 0 (λ f. omega (arith, f))) (one_at test (λ i. name (suc i)) ys r x e h (λ i f. k (suc i) (λ g. f (omega (arith, g)))))
+
+fold_at : (p : Position) (test : RingName → Bool) (name : ℕ → RingName) (polygon : List (List Position)) (b : Bool)
+    → ((r : ℕ) (ring : List Position) → slice_get polygon r ≡ Some ring → test (name r) ≡ is_inside p ring)
+    → fold (λ so_far ring. xor so_far (is_inside p ring)) b polygon ≡ xor b (odd test (names_at name polygon))
+fold_at p test name [] b h = sym (xor-false b)
+fold_at p test name (ring ∷ polygon) b h =
+    fold_at p test (λ i. name (suc i)) polygon (xor b (is_inside p ring)) (λ r s e. h (suc r) s e)
+    ∙ xor-assoc b (is_inside p ring) (odd test (names_at (λ i. name (suc i)) polygon))
+    ∙ ap (λ z. xor b (xor z (odd test (names_at (λ i. name (suc i)) polygon)))) (sym (h 0 ring refl))
+
+apart_and : (a b c : Bool) → (a && b) ≡ false → (a && (b && c)) ≡ false
+apart_and true true c h = absurd (false≢true (sym h))
+apart_and true false c h = refl
+apart_and false b c h = refl
+
+module _ (d : Document) (distinct : are_distinct (map (λ f. f.number) (features d)) ≡ true)
+    (are_rings : list_all is_ring (rings d) ≡ true) (p : Position) (ss : List Segment) (a : ArePassed d p ss)
+    (names : List RingName) (l : ListsOdd d ss [] names) where
+  -- ---- one polygon
+  module _ (g : Feature) (i : In g (features d)) (k : ℕ) (polygon : List (List Position)) (e : slice_get g.polygons k ≡ Some polygon) where
+    abbrev name_of : ℕ → RingName
+    name_of r = record { feature = g.number; polygon = k; ring = r }
+
+    ring_here : (r : ℕ) → ring_of d (name_of r) ≡ slice_get polygon r
+    ring_here r =
+        ap (λ o. element (element (option_map (λ f. f.polygons) o) k) r) (in_found (features d) distinct g i)
+        ∙ ap (λ o. element o r) e
+
+    odd_here : (r : ℕ) (ring : List Position) → slice_get polygon r ≡ Some ring → odd (is_name (name_of r)) names ≡ is_inside p ring
+    odd_here r ring f =
+        ap (odd (is_name (name_of r))) l.appended ∙ l.odds (name_of r)
+        ∙ odd-alike (ring_has d (name_of r)) (λ s. list_any (segment_eq s) (segments ring)) ss
+        (λ s j. ap₂ (λ (z : Segment) (o : Option (List Position)). list_any (segment_eq z) (segments (unwrap_or o []))) (of_ends d s (in_segments d s (a.among s (in_contains ss s j)).0)) (ring_here r ∙ f))
+        ∙ odd_ring p ss (λ s j. (a.among s (in_contains ss s j)).1) a.apart ring (all_true is_ring (rings d) ring are_rings in_rings)
+        (λ t j h. contains_in ss t (a.covers t (segment_in d t (in-flat_map segments ring t (rings d) in_rings j)) h))
+      where
+        in_rings : In ring (rings d)
+        in_rings =
+            in-flat_map rings_of g ring (features d) i
+            (in-flat_map (λ (polygon : List (List Position)). polygon) polygon ring g.polygons (in_get g.polygons k polygon e) (in_get polygon r ring f))
+
+    abbrev here : PolygonName
+    here = record { feature = g.number; polygon = k }
+
+    one_name : (name : RingName) → In name names
+        → is_polygon here (polygon_of name) ≡ odd (λ m. is_name m name) (names_at name_of polygon)
+    one_name name j = by (is_polygon here (polygon_of name)) refl
+      where
+        by : (b : Bool) → is_polygon here (polygon_of name) ≡ b → b ≡ odd (λ m. is_name m name) (names_at name_of polygon)
+        by false f = sym (none_at (λ m. is_name m name) name_of polygon (λ r. apart_and (g.number == name.feature) (k == name.polygon) (r == name.ring) f))
+        by true f =
+            let same = and_both (g.number == name.feature) (k == name.polygon) f in
+            let number : g.number ≡ name.feature = (Decides-eqb g.number name.feature).0 same.0 in
+            let place : k ≡ name.polygon = (Decides-eqb k name.polygon).0 same.1 in
+            let ring = there (ring_of d name) (l.rings name (in_contains l.found name (subst (In name) l.appended j))) in
+            sym (one_at (λ m. is_name m name) name_of polygon name.ring ring.0
+            (sym (ring_here name.ring) ∙ ap₂ (λ n q. ring_at d n q name.ring) number place ∙ ring.1)
+            (both (g.number == name.feature) (k == name.polygon && name.ring == name.ring) same.0 (both (k == name.polygon) (name.ring == name.ring) same.1 ((Decides-eqb name.ring name.ring).1 refl)))
+            (λ r differ. refuted (is_name (name_of r) name) (λ t. differ ((Decides-eqb r name.ring).0 (and_both (k == name.polygon) (r == name.ring) (and_both (g.number == name.feature) (k == name.polygon && r == name.ring) t).1).1))))
+
+    -- an odd number of the rings are the polygon's where it holds the position
+    odd_polygon : odd (λ name. is_polygon here (polygon_of name)) names ≡ is_in_polygon p polygon
+    odd_polygon =
+        odd-alike (λ name. is_polygon here (polygon_of name)) (λ name. odd (λ m. is_name m name) (names_at name_of polygon)) names one_name
+        ∙ odd-exchange (λ name m. is_name m name) names (names_at name_of polygon)
+        ∙ sym (fold_at p (λ m. odd (is_name m) names) name_of polygon false odd_here)
+
+  -- ---- all features
+
+  -- the polygon of a name
+  polygon_named : (name : RingName) → In name names
+      → (g : Feature) × In g (features d) × (g.number ≡ name.feature) × ((polygon : List (List Position)) × (slice_get g.polygons name.polygon ≡ Some polygon))
+  polygon_named name j =
+      let ring = there (ring_of d name) (l.rings name (in_contains l.found name (subst (In name) l.appended j))) in
+      let b = element_is (element (option_map (λ f. f.polygons) (feature d name.feature)) name.polygon) name.ring ring.0 ring.1 in
+      let c = element_is (option_map (λ f. f.polygons) (feature d name.feature)) name.polygon b.0 b.1 in
+      let g = mapped_there (λ (f : Feature). f.polygons) (feature d name.feature) c.0 c.1 in
+      let at = found_in name.feature (features d) g.0 g.1 in
+      (g.0, at.0, at.1, (b.0, ap (λ z. slice_get z name.polygon) g.2 ∙ c.2))
+
+  -- features with one number are one
+  same_feature : (f g : Feature) → In f (features d) → In g (features d) → f.number ≡ g.number → f ≡ g
+  same_feature f g i j e =
+      ap (λ o. unwrap_or o f) (sym (in_found (features d) distinct f i) ∙ ap (λ n. find (λ h. h.number == n) (features d)) e ∙ in_found (features d) distinct g j)
+
+  module _ (border : List ℕ) (on : border ≡ border_at d p) where
+    abbrev is_there : ℕ → Bool
+    is_there n = list_any (λ m. m == n) border
+
+    on_border : (g : Feature) → In g (features d) → is_on_border p g ≡ true → is_there g.number ≡ true
+    on_border g i h =
+        in_any (λ m. m == g.number) g.number border
+        (subst (In g.number) (sym on) (numbers_have (filter (is_on_border p) (features d)) g (filter-in (is_on_border p) g (features d) i h)))
+        ((Decides-eqb g.number g.number).1 refl)
+
+    of_border : (g : Feature) → In g (features d) → is_there g.number ≡ true → is_on_border p g ≡ true
+    of_border g i h =
+        let m = any_in (λ m. m == g.number) border h in
+        let f = in_numbers (filter (is_on_border p) (features d)) m.0 (subst (In m.0) on m.1) in
+        let k = in_filter (is_on_border p) f.0 (features d) f.1 in
+        subst (λ z. is_on_border p z ≡ true) (same_feature f.0 g k.0 i (f.2 ∙ (Decides-eqb m.0 g.number).0 m.2)) k.1
+
+    module _ (polygons : BTreeSet PolygonName) (o : AreOdd names polygons) where
+      held_in : (name : RingName) → In name names → is_held polygons border name ≡ true
+          → (g : Feature) × In g (features d) × (is_in_feature p g ≡ true) × (g.number ≡ name.feature)
+      held_in name j h =
+          let k = and_both (contains polygon_cmp polygons (polygon_of name)) (not (is_there name.feature)) h in
+          let t = polygon_named name j in
+          let g = t.0 in
+          let polygon = t.3 in
+          let here : PolygonName = record { feature = g.number; polygon = name.polygon } in
+          let inside : is_in_polygon p polygon.0 ≡ true =
+          sym (odd_polygon g t.1 name.polygon polygon.0 polygon.1) ∙ sym (o here)
+          ∙ ap (λ n. contains polygon_cmp polygons (record { feature = n; polygon = name.polygon })) t.2 ∙ k.0 in
+          let off : is_on_border p g ≡ false =
+          refuted (is_on_border p g) (λ u. false≢true (sym (not_true (is_there name.feature) k.1) ∙ ap is_there (sym t.2) ∙ on_border g t.1 u)) in (
+            g,
+            t.1,
+            both (not (is_on_border p g)) (list_any (is_in_polygon p) g.polygons) (ap not off) (in_any (is_in_polygon p) polygon.0 g.polygons (in_get g.polygons name.polygon polygon.0 polygon.1) inside),
+            t.2,
+          )
+
+      in_held : (g : Feature) → In g (features d) → is_in_feature p g ≡ true
+          → (name : RingName) × In name names × (is_held polygons border name ≡ true) × (name.feature ≡ g.number)
+      in_held g i h =
+          let k = and_both (not (is_on_border p g)) (list_any (is_in_polygon p) g.polygons) h in
+          let polygon = any_in (is_in_polygon p) g.polygons k.1 in
+          let place = place_of g.polygons polygon.0 polygon.1 in
+          let here : PolygonName = record { feature = g.number; polygon = place.0 } in
+          let many : odd (λ name. is_polygon here (polygon_of name)) names ≡ true = odd_polygon g i place.0 polygon.0 place.1 ∙ polygon.2 in
+          let name = odd-some (λ name. is_polygon here (polygon_of name)) names many in
+          let same = and_both (g.number == (name.0).feature) (place.0 == (name.0).polygon) name.2 in
+          let number : g.number ≡ (name.0).feature = (Decides-eqb g.number (name.0).feature).0 same.0 in
+          let at : place.0 ≡ (name.0).polygon = (Decides-eqb place.0 (name.0).polygon).0 same.1 in (
+            name.0,
+            name.1,
+            both (contains polygon_cmp polygons (polygon_of name.0)) (not (is_there (name.0).feature))
+                (ap₂ (λ n q. contains polygon_cmp polygons (record { feature = n; polygon = q })) (sym number) (sym at) ∙ o here ∙ many)
+                (ap not (refuted (is_there (name.0).feature) (λ u. false≢true (sym (not_true (is_on_border p g) k.0) ∙ of_border g i (ap is_there number ∙ u))))),
+            sym number,
+          )
+
+      -- the numbers of the features of the rings held, ascending, are those that hold the position
+      pub inside_are : (within : List RingName) → within ≡ filter (is_held polygons border) names
+          → (found sorted : List ℕ) → found ≡ map (λ name. name.feature) within → IsSorted found sorted
+          → sorted ≡ inside_at d p
+      inside_are within w found sorted e s =
+          numbers_are (is_in_feature p) (features d) sorted distinct s.rises
+          (λ m j.
+          let b = subst (In m) e (contains_in found m ((s.same m).0 (in_contains sorted m j))) in
+          let name = in_mapped (λ (name : RingName). name.feature) m within b in
+          let k = in_filter (is_held polygons border) name.0 names (subst (In name.0) w name.1) in
+          let g = held_in name.0 k.0 k.1 in
+          (g.0, g.1, g.2, g.3 ∙ name.2))
+          (λ g j h.
+          let name = in_held g j h in
+          let kept : In name.0 within = subst (In name.0) (sym w) (filter-in (is_held polygons border) name.0 names name.1 name.2) in
+          let among : In g.number found = subst (λ z. In g.number z) (sym e) (subst (λ z. In z (map (λ (name : RingName). name.feature) within)) name.3 (in-map (λ (name : RingName). name.feature) name.0 within kept)) in
+          contains_in sorted g.number ((s.same g.number).1 (in_contains found g.number among)))

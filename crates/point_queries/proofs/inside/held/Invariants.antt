@@ -1,0 +1,8 @@
+use Rattle.std.proofs.Common.{◌≡◌, take}
+use Rattle.std.specs.List.{filter}
+use Rattle.point_queries.specs.Odd.{is_held}
+use Rattle.point_queries.proofs.inside.held.Given as goal
+
+-- those so far
+abbrev pub invariant-loop-ring : goal.invariant-loop-ring
+invariant-loop-ring g l = l.found.items ≡ filter (is_held l.polygons l.border) (take l.ring-index l.rings)

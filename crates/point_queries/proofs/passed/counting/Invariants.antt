@@ -1,0 +1,8 @@
+use Rattle.std.proofs.Common.{◌≡◌, take}
+use Rattle.std.specs.List.{filter}
+use Rattle.point_queries.specs.Odd.{is_passed}
+use Rattle.point_queries.proofs.passed.counting.Given as goal
+
+-- those so far
+abbrev pub invariant-loop-s : goal.invariant-loop-s
+invariant-loop-s g l = l.found.items ≡ filter (is_passed l.p) (take l.s-index l.near)

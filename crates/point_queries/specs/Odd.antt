@@ -1,0 +1,95 @@
+-- What stands an odd number of times, and the segments that count for a position.
+use Rattle.std.specs.Prelude.{◌≡◌, ◌++◌, ◌==◌, ◌&&◌, not, ℕ, Bool, false, true, pos, is_some, unwrap_or}
+use Rattle.std.specs.Prelude.{List, [], ◌∷◌, Contains, IsTrue, Option}
+use Rattle.std.specs.List.{list_any}
+use Rattle.std.specs.BTreeSet.{BTreeSet, contains}
+use Rattle.std.specs.Ordering.{nat_cmp, ordering_then}
+use Rattle.std.specs.declared.cmp.Ordering.{Ordering}
+use Rattle.grid_geometry.specs.Position.{Position}
+use Rattle.grid_geometry.specs.Ring.{is_counted, xor}
+use Rattle.grid_geometry.specs.Segment.{Segment, Box, box_of, boxes_meet, segment, segment_eq}
+use Rattle.ring_machine.specs.Document.{Document}
+use Rattle.ring_machine.specs.Parts.{is_segment}
+use Rattle.ring_machine.specs.Ring.{segments}
+use Rattle.arc_store.specs.declared.names.RingName.{RingName}
+use Rattle.arc_store.specs.Readers.{ring_at}
+use Rattle.point_queries.specs.declared.odd.PolygonName.{PolygonName}
+
+-- an odd number of the elements pass the test
+abbrev pub odd : {X : Type 0} → (X → Bool) → List X → Bool
+odd test [] = false
+odd test (x ∷ xs) = xor (test x) (odd test xs)
+
+-- no element is equal to one after it
+abbrev pub AreApart : {X : Type 0} → (X → X → Bool) → List X → Type 0
+AreApart eq [] = Unit {0}
+AreApart eq (x ∷ xs) = (list_any (eq x) xs ≡ false) × AreApart eq xs
+
+-- ---- segments
+
+-- the ray from p to the right, as far as positions are in range
+abbrev pub ray : Position → Box
+ray p = record { x0 = p.x; y0 = p.y; x1 = pos 1000000000000; y1 = p.y }
+
+-- the segment counts for p: the ray passes it
+abbrev pub is_passed : Position → Segment → Bool
+is_passed p s = is_counted p s.lo s.hi
+
+-- these are the segments of the document that count for p, each once
+pub record ArePassed (d : Document) (p : Position) (ss : List Segment) : Type 0 where
+  pub among : (s : Segment) → Contains ss s → IsTrue (is_segment d s) × IsTrue (is_passed p s)
+  pub covers : (s : Segment) → IsTrue (is_segment d s) → IsTrue (is_passed p s) → Contains ss s
+  pub apart : AreApart segment_eq ss
+
+-- ---- rings
+
+-- the ring with this name
+abbrev pub ring_of : Document → RingName → Option (List Position)
+ring_of d name = ring_at d name.feature name.polygon name.ring
+
+-- the ring with this name has the segment
+abbrev pub ring_has : Document → RingName → Segment → Bool
+ring_has d name s = list_any (segment_eq (segment s.lo s.hi)) (segments (unwrap_or (ring_of d name) []))
+
+-- both are the name of one ring
+abbrev pub is_name : RingName → RingName → Bool
+is_name a b = a.feature == b.feature && (a.polygon == b.polygon && a.ring == b.ring)
+
+-- what was appended are rings, each an odd number of times where it has an odd number of these
+-- segments
+pub record ListsOdd (d : Document) (ss : List Segment) (old new : List RingName) : Type 0 where
+  pub found : List RingName
+  pub appended : new ≡ old ++ found
+  pub rings : (name : RingName) → Contains found name → IsTrue (is_some (ring_of d name))
+  pub odds : (name : RingName) → odd (is_name name) found ≡ odd (ring_has d name) ss
+
+-- ---- polygons
+
+-- the polygon of a ring
+abbrev pub polygon_of : RingName → PolygonName
+polygon_of name = record { feature = name.feature; polygon = name.polygon }
+
+-- both are the name of one polygon
+abbrev pub is_polygon : PolygonName → PolygonName → Bool
+is_polygon a b = a.feature == b.feature && a.polygon == b.polygon
+
+-- the order of polygons: by the feature, then by the place among its polygons
+abbrev pub polygon_cmp : PolygonName → PolygonName → Ordering
+polygon_cmp a b = ordering_then (nat_cmp a.feature b.feature) (nat_cmp a.polygon b.polygon)
+
+-- the polygon came in where it was not, and went where it was
+abbrev pub Toggles : PolygonName → BTreeSet PolygonName → BTreeSet PolygonName → Type 0
+Toggles name old new =
+    (x : PolygonName) → contains polygon_cmp new x
+    ≡ xor (is_polygon x name) (contains polygon_cmp old x)
+
+-- the polygons with an odd number of these rings
+abbrev pub AreOdd : List RingName → BTreeSet PolygonName → Type 0
+AreOdd names found =
+    (x : PolygonName) → contains polygon_cmp found x ≡ odd (λ name. is_polygon x (polygon_of name)) names
+
+-- the ring is of one of these polygons, and its feature's number is not among these
+abbrev pub is_held : BTreeSet PolygonName → List ℕ → RingName → Bool
+is_held polygons border name =
+    contains polygon_cmp polygons (polygon_of name)
+    && not (list_any (λ m. m == name.feature) border)

@@ -1,0 +1,62 @@
+// The polygons that have an odd number of given segments.
+ghost use Rattle.std.specs.Prelude.{IfOk, OnOk};
+ghost use Rattle.point_queries.specs.Odd.{ListsOdd, Toggles, AreOdd};
+
+use arc_store::{Map, RingName};
+use grid_geometry::Seg;
+use segment_index::SegIndex;
+use std::alloc::{AllocError, Allocator};
+use std::collections::BTreeSet;
+
+/// A polygon: its feature's number, and its place among the polygons of the feature.
+#[derive(Clone, Copy, Debug, PartialEq, Eq, PartialOrd, Ord)]
+pub(crate) struct PolygonName {
+    pub(crate) feature: u32,
+    pub(crate) polygon: usize,
+}
+
+/// Appends the rings that have these segments, a ring for each of its own. Fails for want of memory
+/// alone.
+pub(crate) fn push_rings<'a, I: SegIndex, A: Allocator + Copy>(
+    map: &Map<'a, I, A>,
+    segments: &[Seg],
+    out: &mut Vec<RingName, A>,
+) -> Result<(), AllocError>
+    ensures { OnOk result (ListsOdd map.now.doc segments.now out.old.items out.new.items) }
+{
+    for s in segments {
+        map.push_users(s.lo, s.hi, out)?;
+    }
+    Ok(())
+}
+
+/// Takes the polygon out where it is there, and else puts it in.
+fn toggle<A: Allocator + Copy>(
+    polygons: &mut BTreeSet<PolygonName, A>,
+    name: PolygonName,
+) -> Result<(), AllocError>
+    ensures { OnOk result (Toggles name polygons.old polygons.new) }
+{
+    if !polygons.remove(&name) {
+        polygons.insert(name)?;
+    }
+    Ok(())
+}
+
+/// The polygons that an odd number of these rings belong to.
+pub(crate) fn odd_polygons<A: Allocator + Copy>(
+    alloc: A,
+    rings: &[RingName],
+) -> Result<BTreeSet<PolygonName, A>, AllocError>
+    ensures { IfOk result (AreOdd rings.now) }
+{
+    let mut found = BTreeSet::new(alloc);
+    for ring in rings {
+        let name = PolygonName {
+            feature: ring.feature,
+            polygon: ring.polygon,
+        };
+        toggle(&mut found, name)?;
+    }
+    Ok(found)
+}
