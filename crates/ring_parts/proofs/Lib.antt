@@ -1,0 +1,9 @@
+pub mod Turning
+pub mod Searching
+pub mod PathLists
+pub mod LeastOff
+pub mod Lists
+pub mod Lengths
+pub mod Ways
+pub mod Counted
+pub mod Rests

@@ -1,0 +1,93 @@
+-- The edges of a ring off its run, by the positions where they begin.
+use Rattle.std.proofs.Common.{◌≡◌, ℕ, zero, suc, ◌+◌, ◌<◌, ◌≤◌, Bool, true, false, refl, sym, ap, ap₂, ◌∙◌, cond, List, [], ◌∷◌, ◌++◌, map, length, take, drop, get_or, drop_of_length-le, arith, append_assoc}
+use Rattle.std.specs.Prelude.{not}
+use Rattle.std.specs.List.{zip, filter, prefix_len}
+use Rattle.std.proofs.lemmas.List.{at_drop_more, drop_more, map-append, length-map}
+use Rattle.std.proofs.lemmas.List.Elements.{filter-append}
+use Rattle.grid_geometry.specs.Position.{Position}
+use Rattle.grid_geometry.specs.Ring.{Edge, edges}
+use Rattle.ring_machine.specs.Join.{off_run, is_common}
+use Rattle.ring_machine.proofs.Edges.{edges_to, edges_is, starts}
+use Rattle.ring_parts.specs.Borders.{off_ones}
+
+-- ---- the first that passes
+
+pub off_turn : (bs : List Bool) (i : ℕ) (d : Bool) → i < length bs → prefix_len not (drop i bs) ≡ cond (not (get_or bs i d)) (1 + prefix_len not (drop (i + 1) bs)) 0
+off_turn bs i d l = at_drop_more (prefix_len not) bs i d l
+
+pub off_done : (bs : List Bool) (i : ℕ) → length bs ≤ i → prefix_len not (drop i bs) ≡ 0
+off_done bs i l = ap (prefix_len not) (drop_of_length-le bs l)
+
+-- ---- a position at a time
+
+off_here : (ps : List Position) (bs : List Bool) (i : ℕ) (p : Position) (b : Bool) → i < length ps → i < length bs → p ≡ get_or ps i p → b ≡ get_or bs i b
+    → off_ones (drop i ps) (drop i bs) ≡ off_ones (p ∷ drop (i + 1) ps) (b ∷ drop (i + 1) bs)
+off_here ps bs i p b l k e f =
+    ap₂ (λ xs ys. off_ones xs ys) (drop_more ps i p l ∙ ap (λ q. q ∷ drop (i + 1) ps) (sym e)) (drop_more bs i b k ∙ ap (λ c. c ∷ drop (i + 1) bs) (sym f))
+
+pub taken_off : (rest more : List Position) (ps : List Position) (bs : List Bool) (i : ℕ) (p : Position) (b : Bool) → i < length ps → i < length bs → p ≡ get_or ps i p → b ≡ get_or bs i b → b ≡ false → more ≡ rest ++ p ∷ []
+    → more ++ off_ones (drop (i + 1) ps) (drop (i + 1) bs) ≡ rest ++ off_ones (drop i ps) (drop i bs)
+taken_off rest more ps bs i p b l k e f h m =
+    let left = off_ones (drop (i + 1) ps) (drop (i + 1) bs) in
+    ap (λ qs. qs ++ left) m ∙ append_assoc rest (p ∷ []) left
+    ∙ sym (ap (λ qs. rest ++ qs) (off_here ps bs i p b l k e f ∙ ap (λ c. off_ones (p ∷ drop (i + 1) ps) (c ∷ drop (i + 1) bs)) h))
+
+pub left_on : (rest : List Position) (ps : List Position) (bs : List Bool) (i : ℕ) (p : Position) (b : Bool) → i < length ps → i < length bs → p ≡ get_or ps i p → b ≡ get_or bs i b → b ≡ true
+    → rest ++ off_ones (drop (i + 1) ps) (drop (i + 1) bs) ≡ rest ++ off_ones (drop i ps) (drop i bs)
+left_on rest ps bs i p b l k e f h = sym (ap (λ qs. rest ++ qs) (off_here ps bs i p b l k e f ∙ ap (λ c. off_ones (p ∷ drop (i + 1) ps) (c ∷ drop (i + 1) bs)) h))
+
+pub all_off : (rest : List Position) (ps : List Position) (bs : List Bool) (i : ℕ) → length ps ≤ i → rest ++ off_ones (drop i ps) (drop i bs) ≡ rest ++ []
+all_off rest ps bs i l = ap (λ qs. rest ++ off_ones qs (drop i bs)) (drop_of_length-le ps l)
+
+-- ---- the whole rest
+
+map-take : {A B : Type 0} (of : A → B) (k : ℕ) (xs : List A) → map of (take k xs) ≡ take k (map of xs)
+map-take of zero xs = refl
+map-take of (suc k) [] = refl
+map-take of (suc k) (x ∷ xs) = ap (λ ys. of x ∷ ys) (map-take of k xs)
+
+map-drop : {A B : Type 0} (of : A → B) (k : ℕ) (xs : List A) → map of (drop k xs) ≡ drop k (map of xs)
+map-drop of zero xs = refl
+map-drop of (suc k) [] = refl
+map-drop of (suc k) (x ∷ xs) = map-drop of k xs
+
+turned_map : {A B : Type 0} (of : A → B) (k : ℕ) (xs : List A) → map of (drop k xs ++ take k xs) ≡ drop k (map of xs) ++ take k (map of xs)
+turned_map of k xs = map-append of (drop k xs) (take k xs) ∙ ap₂ (λ ys zs. ys ++ zs) (map-drop of k xs) (map-take of k xs)
+
+module _ (c : Edge → Bool) where
+  off_starts : (es : List Edge) → off_ones (map (λ e. e.0) es) (map c es) ≡ map (λ e. e.0) (filter (λ e. not (c e)) es)
+  off_starts [] = refl
+  off_starts (e ∷ es) = by (c e) (off_starts es)
+    where
+      by : (b : Bool) → off_ones (map (λ e. e.0) es) (map c es) ≡ map (λ e. e.0) (filter (λ e. not (c e)) es)
+          → map (λ u. u.0) (cond (not b) ((e.0, b) ∷ filter (λ u. not u.1) (zip (map (λ f. f.0) es) (map c es))) (filter (λ u. not u.1) (zip (map (λ f. f.0) es) (map c es))))
+          ≡ map (λ f. f.0) (cond (not b) (e ∷ filter (λ f. not (c f)) es) (filter (λ f. not (c f)) es))
+      by true h = h
+      by false h = ap (λ ps. e.0 ∷ ps) h
+
+  same_place : (es : List Edge) → prefix_len (λ e. not (c e)) es ≡ prefix_len not (map c es)
+  same_place [] = refl
+  same_place (e ∷ es) = ap (λ n. cond (not (c e)) (1 + n) 0) (same_place es)
+
+  -- each edge begins at a position of the ring, in their order
+  ring_starts : (ring : List Position) → map (λ e. e.0) (edges ring) ≡ ring
+  ring_starts [] = refl
+  ring_starts (p ∷ ps) = ap starts (edges_is p ps) ∙ on p (p ∷ ps)
+    where
+      on : (q : Position) (qs : List Position) → starts (edges_to q qs) ≡ qs
+      on q [] = refl
+      on q (r ∷ rs) = ap (λ z. r ∷ z) (on q rs)
+
+  pub rest_is : (ring begun : List Position) (bs turned : List Bool) (k : ℕ) → bs ≡ map c (edges ring) → k ≡ prefix_len not bs → turned ≡ drop k bs ++ take k bs → begun ≡ drop k ring ++ take k ring
+      → off_ones begun turned ≡ map (λ e. e.0) (off_run c (edges ring))
+  rest_is ring begun bs turned k is at t u =
+      let es = edges ring in
+      let place : k ≡ prefix_len (λ e. not (c e)) es = at ∙ ap (prefix_len not) is ∙ sym (same_place es) in
+      ap₂ (λ xs ys. off_ones xs ys)
+      (u ∙ ap (λ r. drop k r ++ take k r) (sym (ring_starts ring)) ∙ sym (turned_map (λ e. e.0) k es))
+      (t ∙ ap (λ r. drop k r ++ take k r) is ∙ sym (turned_map c k es))
+      ∙ off_starts (drop k es ++ take k es)
+      ∙ ap (λ n. map (λ e. e.0) (filter (λ e. not (c e)) (drop n es ++ take n es))) place
+
+  pub as_many : (ring : List Position) (bs : List Bool) → bs ≡ map c (edges ring) → length bs ≡ length ring
+  as_many ring bs is = ap length is ∙ length-map (edges ring) c ∙ sym (length-map (edges ring) (λ e. e.0)) ∙ ap length (ring_starts ring)

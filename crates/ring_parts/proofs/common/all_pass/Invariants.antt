@@ -1,0 +1,7 @@
+use Rattle.std.proofs.Common.{◌≡◌, take, true}
+use Rattle.std.specs.List.{list_all}
+use Rattle.ring_parts.proofs.common.all_pass.Given as goal
+
+-- all so far
+abbrev pub invariant-loop-one : goal.invariant-loop-one
+invariant-loop-one l = list_all (λ b. b) (take l.one-index l.common) ≡ true

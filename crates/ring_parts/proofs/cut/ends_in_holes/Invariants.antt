@@ -1,0 +1,8 @@
+use Rattle.std.proofs.Common.{◌≡◌, map, take, false, ◌||◌}
+use Rattle.std.specs.List.{list_any}
+use Rattle.ring_machine.specs.Ring.{has}
+use Rattle.ring_parts.proofs.cut.ends_in_holes.Given as goal
+
+-- none so far
+abbrev pub invariant-loop-hole : goal.invariant-loop-hole
+invariant-loop-hole g l = list_any (λ h. has h l.path.first || has h l.path.last) (map (λ r. r.items) (take l.hole-index l.holes)) ≡ false

@@ -1,0 +1,8 @@
+use Rattle.std.proofs.Common.{◌≡◌, ◌++◌, drop}
+use Rattle.grid_geometry.specs.Ring.{edges}
+use Rattle.ring_parts.proofs.Ways.{walk}
+use Rattle.ring_parts.proofs.edges.push_edges.Given as goal
+
+-- the edges so far and those of the way that is left are those of the ring
+abbrev pub invariant-loop-to : goal.invariant-loop-to
+invariant-loop-to g l = l.found.items ++ walk l.from (drop l.to-index l.rest) l.first ≡ l.fn.found.items ++ edges l.ring

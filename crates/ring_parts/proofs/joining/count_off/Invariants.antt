@@ -1,0 +1,10 @@
+use Rattle.std.proofs.Common.{◌≡◌, ◌+◌, drop}
+use Rattle.std.specs.Prelude.{not}
+use Rattle.std.specs.List.{prefix_len}
+use Rattle.ring_parts.proofs.joining.count_off.Given as goal
+
+abbrev pub invariant-loop-one : goal.invariant-loop-one
+invariant-loop-one l = record {
+  counted : l.count ≡ l.one-index;
+  left : l.one-index + prefix_len not (drop l.one-index l.common) ≡ prefix_len not l.common;
+}

@@ -1,0 +1,10 @@
+use Rattle.std.proofs.Common.{◌≡◌, drop}
+use Rattle.std.specs.Prelude.{not}
+use Rattle.ring_machine.specs.Ring.{has}
+use Rattle.ring_machine.specs.Cut.{least_off}
+use Rattle.ring_parts.proofs.LeastOff.{least_with}
+use Rattle.ring_parts.proofs.membership.Members.least_off.Given as goal
+
+-- the least so far, with those that are left, is the least of all
+abbrev pub invariant-loop-p : goal.invariant-loop-p
+invariant-loop-p g l = least_with (λ p. not (has l.self.ring.now p)) l.least (drop l.p-index l.hole) ≡ least_off l.self.ring.now l.hole

@@ -1,0 +1,29 @@
+-- The edges of rings by their ends, and how common ones follow each other.
+use Rattle.std.specs.Prelude.{ℕ, Bool, not, ◌&&◌, List, [], ◌∷◌, ◌++◌, map}
+use Rattle.std.specs.List.{zip, count_by, filter}
+use Rattle.std.specs.Ordering.{ordering_then}
+use Rattle.std.specs.declared.cmp.Ordering.{Ordering}
+use Rattle.grid_geometry.specs.Position.{Position, position_cmp}
+use Rattle.grid_geometry.specs.Ring.{Edge}
+use Rattle.ring_machine.specs.Ring.{segment_of}
+
+-- the ends of an edge, the lesser one first
+abbrev pub ends_of : Edge → Edge
+ends_of e = ((segment_of e).lo, (segment_of e).hi)
+
+-- the order of edges: by where they begin, then by where they end
+abbrev pub edge_cmp : Edge → Edge → Ordering
+edge_cmp e f = ordering_then (position_cmp e.0 f.0) (position_cmp e.1 f.1)
+
+-- each test with the next one, the last with the first
+abbrev pub neighbours : List Bool → List (Bool × Bool)
+neighbours [] = []
+neighbours (b ∷ bs) = zip (b ∷ bs) (bs ++ b ∷ [])
+
+-- how many pass after one that does not, the first after the last
+abbrev pub begins : List Bool → ℕ
+begins bs = count_by (λ u. not u.0 && u.1) (neighbours bs)
+
+-- the positions whose tests fail
+abbrev pub off_ones : List Position → List Bool → List Position
+off_ones ps bs = map (λ u. u.0) (filter (λ u. not u.1) (zip ps bs))

@@ -1,0 +1,86 @@
+// Two rings joined along their only common run.
+ghost use Rattle.std.specs.Prelude.{◌≡◌, ◌≤◌, ◌++◌, Bool, OnOk, IfOk, not, length, map};
+ghost use Rattle.std.specs.List.{prefix_len};
+ghost use Rattle.grid_geometry.specs.Ring.{edges};
+ghost use Rattle.ring_machine.specs.Join as spec;
+ghost use Rattle.ring_parts.specs.Borders.{off_ones};
+
+use crate::common::common_edges;
+use crate::rotation::begin_at_least;
+use crate::same_sides::{passed_alike, turned};
+use crate::sides::Border;
+use grid_geometry::Pos;
+use std::alloc::{AllocError, AllocFailed, Allocator};
+
+/// How many there are before the first that passes.
+#[tactic(auto, using(crate::proofs::Rests::off_turn, crate::proofs::Rests::off_done))]
+fn count_off(common: &[bool]) -> usize
+    ensures value { result ≡ prefix_len not common.now }
+    ensures within { result ≤ length common.now }
+{
+    let mut count = 0;
+    for one in common {
+        if *one {
+            return count;
+        }
+        count += 1;
+    }
+    count
+}
+
+/// Appends the positions whose edges are not common.
+fn push_off<A: Allocator + Copy>(
+    rest: &mut Vec<Pos, A>,
+    ring: &[Pos],
+    common: &[bool],
+) -> Result<(), AllocFailed<Pos>>
+    requires { length common.now ≡ length ring.now }
+    ensures { OnOk result (rest.new.items ≡ rest.old.items ++ off_ones ring.now common.now) }
+{
+    for (place, pos) in ring.iter().enumerate() {
+        if !common[place] {
+            rest.push(*pos)?;
+        }
+    }
+    Ok(())
+}
+
+/// Appends where the edges begin that are off the ring's only run, from the end of the run on.
+fn push_rest<A: Allocator + Copy>(
+    rest: &mut Vec<Pos, A>,
+    alloc: A,
+    ring: &[Pos],
+    other: &Border<'_, A>,
+) -> Result<(), AllocError>
+    ensures { OnOk result
+        (rest.new.items
+        ≡ rest.old.items
+        ++ map (λ e. e.0) (spec.off_run (spec.is_common other.now.ring.now) (edges ring.now))) }
+{
+    let mut common = common_edges(alloc, ring, other)?;
+    let mut begun = Vec::from_slice(alloc, ring)?;
+    let place = count_off(common.as_slice());
+    common.rotate_left(place);
+    begun.rotate_left(place);
+    push_off(rest, begun.as_slice(), common.as_slice())?;
+    Ok(())
+}
+
+/// The rest of the first ring, then the rest of the second, which is turned where both pass the run
+/// in the same direction; begun at its least position.
+pub fn joined<A: Allocator + Copy>(
+    alloc: A,
+    first: &Border<'_, A>,
+    second: &Border<'_, A>,
+) -> Result<Vec<Pos, A>, AllocError>
+    ensures { IfOk result
+        (λ ring. ring.items ≡ spec.joined first.now.ring.now second.now.ring.now) }
+{
+    let alike = passed_alike(alloc, first.ring(), second.ring())?;
+    let other = turned(alloc, second.ring(), alike)?;
+    let mut rest = Vec::new(alloc);
+    push_rest(&mut rest, alloc, first.ring(), second)?;
+    push_rest(&mut rest, alloc, other.as_slice(), first)?;
+    begin_at_least(&mut rest);
+    Ok(rest)
+}

@@ -1,0 +1,30 @@
+//! The two parts of a polygon that a path cuts, and the ring of two that are joined along their
+//! common run, as lists of positions.
+#![tactic(auto)]
+
+mod common;
+mod cut;
+mod edges;
+mod joining;
+mod membership;
+mod paths;
+mod polygons;
+mod rotation;
+mod same_sides;
+mod sides;
+mod sorted;
+mod stretch;
+
+pub use common::{has_common, runs};
+pub use cut::{first_cut, is_cut_by, is_wrong_side};
+pub use joining::joined;
+pub use membership::Members;
+pub use paths::{Path, has_twice};
+pub use polygons::{first_polygon, second_polygon};
+pub use rotation::canonical;
+pub use same_sides::{passed_alike, same_side};
+pub use sides::Border;
+pub use stretch::{first_part, second_part};
+
+#[cfg(test)]
+mod tests;

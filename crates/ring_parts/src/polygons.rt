@@ -1,0 +1,87 @@
+// The two polygons of one that a path cuts.
+ghost use Rattle.std.specs.Prelude.{◌≡◌, [], ◌∷◌, ◌++◌, IfOk, OnOk};
+ghost use Rattle.std.specs.List.{filter};
+ghost use Rattle.ring_machine.specs.Ring.{canonical};
+ghost use Rattle.ring_machine.specs.Cut as spec;
+ghost use Rattle.ring_parts.specs.Seen.{path_seen, rings_seen, goes_to};
+
+use crate::membership::Members;
+use crate::paths::Path;
+use crate::rotation::canonical;
+use crate::stretch::{first_part, second_part};
+use grid_geometry::Pos;
+use std::alloc::{AllocError, Allocator};
+
+/// The polygon of one ring, in its canonical rotation.
+fn of_one_ring<A: Allocator + Copy>(
+    alloc: A,
+    ring: &[Pos],
+) -> Result<Vec<Vec<Pos, A>, A>, AllocError>
+    ensures { IfOk result (λ polygon. rings_seen polygon.items ≡ canonical ring.now ∷ []) }
+{
+    let mut polygon = Vec::new(alloc);
+    polygon.push(canonical(alloc, ring)?)?;
+    Ok(polygon)
+}
+
+/// Appends the holes that go with the first part, or the others.
+fn push_holes<A: Allocator + Copy>(
+    polygon: &mut Vec<Vec<Pos, A>, A>,
+    alloc: A,
+    first: &Members<'_, A>,
+    with_first: bool,
+    holes: &[Vec<Pos, A>],
+) -> Result<(), AllocError>
+    ensures { OnOk result
+        (rings_seen polygon.new.items
+        ≡ rings_seen polygon.old.items
+        ++ filter (goes_to with_first first.now.ring.now) (rings_seen holes.now)) }
+{
+    for hole in holes {
+        if first.goes_first(hole.as_slice()) == with_first {
+            polygon.push(Vec::from_slice(alloc, hole.as_slice())?)?;
+        }
+    }
+    Ok(())
+}
+
+/// The first part of a polygon with its holes, in their order.
+pub fn first_polygon<A: Allocator + Copy>(
+    alloc: A,
+    path: &Path<'_>,
+    polygon: &[Vec<Pos, A>],
+) -> Result<Vec<Vec<Pos, A>, A>, AllocError>
+    ensures { IfOk result
+        (λ part. rings_seen part.items
+        ≡ spec.first_polygon (path_seen path.now) (rings_seen polygon.now)) }
+{
+    let [outer, holes @ ..] = polygon else {
+        return Ok(Vec::new(alloc));
+    };
+    let first = first_part(alloc, outer.as_slice(), path)?;
+    let members = Members::new(alloc, first.as_slice())?;
+    let mut part = of_one_ring(alloc, first.as_slice())?;
+    push_holes(&mut part, alloc, &members, true, holes)?;
+    Ok(part)
+}
+
+/// The second part of a polygon with the other holes, in their order.
+pub fn second_polygon<A: Allocator + Copy>(
+    alloc: A,
+    path: &Path<'_>,
+    polygon: &[Vec<Pos, A>],
+) -> Result<Vec<Vec<Pos, A>, A>, AllocError>
+    ensures { IfOk result
+        (λ part. rings_seen part.items
+        ≡ spec.second_polygon (path_seen path.now) (rings_seen polygon.now)) }
+{
+    let [outer, holes @ ..] = polygon else {
+        return Ok(Vec::new(alloc));
+    };
+    let first = first_part(alloc, outer.as_slice(), path)?;
+    let members = Members::new(alloc, first.as_slice())?;
+    let second = second_part(alloc, outer.as_slice(), path)?;
+    let mut part = of_one_ring(alloc, second.as_slice())?;
+    push_holes(&mut part, alloc, &members, false, holes)?;
+    Ok(part)
+}
