@@ -1,0 +1,102 @@
+-- Keys of the positions of a ring, and that they differ as the positions do.
+use Rattle.std.proofs.Common.{◌≡◌, ◌≢◌, ℕ, zero, suc, Bool, true, false, refl, sym, ap, ap₂, ◌∙◌, subst}
+use Rattle.std.proofs.Common.{List, [], ◌∷◌, map, Some, take, length, ◌||◌, ◌&&◌, inl, arith}
+use Rattle.std.specs.Prelude.{◌==◌, not, unwrap_or}
+use Rattle.std.specs.List.{list_any}
+use Rattle.std.specs.FinMap as table
+use Rattle.std.proofs.lemmas.Bool.{false≢true}
+use Rattle.std.proofs.lemmas.Bool.Decides.{Decides-eqb}
+use Rattle.std.proofs.lemmas.List.{length-map}
+use native.Mathlib.Decide.{ℕ_discrete}
+use Rattle.grid_geometry.specs.Position.{Position, position_eq}
+use Rattle.ring_machine.specs.Ring.{has, is_distinct, is_ring}
+use Rattle.ring_machine.specs.WellFormed.{are_distinct}
+use Rattle.ring_machine.proofs.Order.{and_both, position_eq-refl}
+use Rattle.ring_machine.proofs.Removal.{none_parts, not_true}
+use Rattle.ring_machine.proofs.StaysProper.{ring_long}
+use Rattle.vertex_index.specs.Placement.{Placement, AreDistinct, place}
+use Rattle.vertex_index.proofs.PlacementLemmas.{get-inserted}
+use Rattle.map_opening.specs.Keyed.{ArePut}
+use Rattle.map_opening.specs.Laying.{IsRound}
+use Rattle.map_opening.proofs.KeyedLists.{AreRead, singles}
+use Rattle.map_opening.proofs.Places.{insert_other}
+
+-- ---- a position that comes in
+
+same_value : {X : Type 0} (x y : X) → Some x ≡ Some y → x ≡ y
+same_value x y e = ap (λ o. unwrap_or o x) e
+
+pub distinct_more : (m : Placement) (n : ℕ) (p : Position) → AreDistinct m → ((k : ℕ) → table.get m k ≢ Some p)
+    → (m' : Placement) → m' ≡ table.insert m n p → AreDistinct m'
+distinct_more m n p d new m' e = subst AreDistinct (sym e) (λ j k q a b. by j k q a b (ℕ_discrete j n) (ℕ_discrete k n))
+  where
+    here : (j : ℕ) (q : Position) → table.get (table.insert m n p) j ≡ Some q → j ≡ n → q ≡ p
+    here j q a s = same_value q p (sym a ∙ ap (table.get (table.insert m n p)) s ∙ get-inserted m n p)
+
+    by : (j k : ℕ) (q : Position) → table.get (table.insert m n p) j ≡ Some q
+        → table.get (table.insert m n p) k ≡ Some q → Dec (j ≡ n) → Dec (k ≡ n) → j ≡ k
+    by j k q a b (yes s) (yes t) = s ∙ sym t
+    by j k q a b (yes s) (no g) = absurd (new k (sym (insert_other m n p k g) ∙ b ∙ ap Some (here j q a s)))
+    by j k q a b (no f) (yes t) = absurd (new j (sym (insert_other m n p j f) ∙ a ∙ ap Some (here k q b t)))
+    by j k q a b (no f) (no g) = d j k q (sym (insert_other m n p j f) ∙ a) (sym (insert_other m n p k g) ∙ b)
+
+-- ---- different positions
+
+keys_distinct : (at : ℕ → Position) (ks : List ℕ) → is_distinct (map at ks) ≡ true → are_distinct ks ≡ true
+keys_distinct at [] d = refl
+keys_distinct at (k ∷ ks) d =
+    let d' = and_both (not (has (map at ks) (at k))) (is_distinct (map at ks)) d in
+    ap₂ (λ a b. not a && b) (absent ks (not_true _ d'.0)) (keys_distinct at ks d'.1)
+  where
+    absent : (js : List ℕ) → has (map at js) (at k) ≡ false → list_any (λ m. m == k) js ≡ false
+    absent [] n = refl
+    absent (j ∷ js) n =
+        let n' = none_parts (position_eq (at k) (at j)) (has (map at js) (at k)) n in
+        ap₂ (λ a b. a || b) (apart (j == k) refl n'.0) (absent js n'.1)
+      where
+        apart : (t : Bool) → (j == k) ≡ t → position_eq (at k) (at j) ≡ false → (j == k) ≡ false
+        apart false e m = e
+        apart true e m =
+            let same : j ≡ k = (Decides-eqb j k).0 e in
+            absurd (false≢true (sym m ∙ ap (λ i. position_eq (at k) (at i)) same ∙ position_eq-refl (at k)))
+
+absent_take : (p : Position) (i : ℕ) (ps : List Position) → has ps p ≡ false → has (take i ps) p ≡ false
+absent_take p zero ps h = refl
+absent_take p (suc i) [] h = refl
+absent_take p (suc i) (q ∷ ps) h =
+    let h' = none_parts (position_eq p q) (has ps p) h in
+    ap₂ (λ a b. a || b) h'.0 (absent_take p i ps h'.1)
+
+distinct_take : (i : ℕ) (ps : List Position) → is_distinct ps ≡ true → is_distinct (take i ps) ≡ true
+distinct_take zero ps h = refl
+distinct_take (suc i) [] h = refl
+distinct_take (suc i) (p ∷ ps) h =
+    let h' = and_both (not (has ps p)) (is_distinct ps) h in
+    ap₂ (λ a b. not a && b) (absent_take p i ps (not_true _ h'.0)) (distinct_take i ps h'.1)
+
+-- ---- the loop over a ring's positions
+
+abbrev pub IsRead : Placement → Placement → List ℕ → List Position → Type 0
+IsRead p q ks ps = AreRead place (λ k. k ∷ []) p q ks ps
+
+pub read_none : (p : Placement) (ks : List ℕ) (ps : List Position) → ks ≡ [] → IsRead p p ks (take 0 ps)
+read_none p ks ps e = subst (λ z. IsRead p p z (take 0 ps)) (sym e) (record {
+  read = refl;
+  put = record { kept = λ k q h. h; placed = λ k c. absurd (omega (arith, c.1)); passed = λ k c. inl c };
+})
+
+pub read_put : (p q : Placement) (ks : List ℕ) (ps : List Position) → IsRead p q ks ps → ArePut p q ks
+read_put p q ks ps h = subst (ArePut p q) (singles ks) h.put
+
+pub read_different : (p q : Placement) (ks : List ℕ) (i : ℕ) (ps : List Position) → IsRead p q ks (take i ps)
+    → is_distinct ps ≡ true → are_distinct ks ≡ true
+read_different p q ks i ps h d = keys_distinct (place q) ks (ap is_distinct h.read ∙ distinct_take i ps d)
+
+-- a ring can be laid along its keys
+pub keys_round : (p q : Placement) (ks : List ℕ) (ps : List Position) → ArePut p q ks → are_distinct ks ≡ true
+    → map (place q) ks ≡ ps → is_ring ps ≡ true → IsRound q ks
+keys_round p q ks ps put d at r = record {
+  long = omega (arith, ring_long ps r, length-map ks (place q), ap length at);
+  different = d;
+  placed = put.placed;
+}

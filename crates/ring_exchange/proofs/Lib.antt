@@ -1,0 +1,11 @@
+pub mod Edges
+pub mod Used
+pub mod Held
+pub mod SideSteps
+pub mod Visited
+pub mod Unvisited
+pub mod Gathered
+pub mod Exchanged
+pub mod Numbered
+pub mod Keys
+pub mod Series

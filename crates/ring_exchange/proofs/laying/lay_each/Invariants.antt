@@ -1,0 +1,22 @@
+use Rattle.std.proofs.Common.{◌≡◌, ◌≤◌, ◌+◌, take, length, map, vec_len}
+use Rattle.std.specs.Prelude.{vec_capacity}
+use Rattle.std.specs.FinSet as set
+use Rattle.std.specs.List.{sum_by}
+use Rattle.vertex_index.specs.Placement.{place}
+use Rattle.ring_exchange.specs.Laid.{numbers_of, AreThere, AreAdded, KeepsPlaces}
+use Rattle.ring_exchange.specs.Standing.{Stands}
+use Rattle.ring_exchange.proofs.laying.lay_each.Given as goal
+
+-- the rings so far are laid
+abbrev pub invariant-loop-ring : goal.invariant-loop-ring
+invariant-loop-ring g l = record {
+  stands : Stands l.vertices l.borders (g.I.SegIndex.held l.index);
+  there : AreThere l.borders l.laid.items;
+  added : AreAdded l.initial.borders l.borders (numbers_of l.laid.items);
+  at : map (λ ring. map (place l.vertices) ring.keys.items) l.laid.items ≡ map (λ ring. ring.items) (take l.ring-index l.rings);
+  kept : KeepsPlaces l.initial.vertices l.vertices;
+  counted : l.segments ≡ set.len (g.I.SegIndex.held l.index);
+  few : l.segments ≤ l.initial.segments + sum_by length (map (λ ring. ring.items) (take l.ring-index l.rings));
+  room : vec_len l.laid + length l.rings ≤ vec_capacity l.laid + l.ring-index;
+  cells : g.I.SegIndex.cells l.index ≡ g.I.SegIndex.cells l.initial.index;
+}

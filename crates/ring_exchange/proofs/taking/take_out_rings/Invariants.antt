@@ -1,0 +1,15 @@
+use Rattle.std.proofs.Common.{◌≡◌, take}
+use Rattle.std.specs.FinSet as set
+use Rattle.ring_exchange.specs.Laid.{numbers_of, AreGone, KeepsPlaces}
+use Rattle.ring_exchange.specs.Standing.{Stands}
+use Rattle.ring_exchange.proofs.taking.take_out_rings.Given as goal
+
+-- the rings so far are gone
+abbrev pub invariant-loop-ring : goal.invariant-loop-ring
+invariant-loop-ring g l = record {
+  stands : Stands l.vertices l.borders (g.I.SegIndex.held l.index);
+  gone : AreGone l.initial.borders l.borders (numbers_of (take l.ring-index l.rings));
+  places : KeepsPlaces l.vertices l.initial.vertices;
+  counted : l.segments ≡ set.len (g.I.SegIndex.held l.index);
+  cells : g.I.SegIndex.cells l.index ≡ g.I.SegIndex.cells l.initial.index;
+}

@@ -1,0 +1,215 @@
+//! Rings laid into the tables.
+ghost use Rattle.std.specs.Prelude.{◌≡◌, ◌≤◌, ◌+◌, ◌++◌, [], None, IsTrue, length, map};
+ghost use Rattle.std.specs.Prelude.{IfOk, OnOk, OnErr};
+ghost use Rattle.std.specs.List.{list_all, sum_by};
+ghost use Rattle.std.specs.FinMap as table;
+ghost use Rattle.std.specs.FinSet as set;
+ghost use Rattle.std.specs.Prelude.{vec_len, vec_capacity};
+ghost use Rattle.ring_machine.specs.Ring.{is_ring};
+ghost use Rattle.ring_machine.specs.WellFormed.{are_distinct};
+ghost use Rattle.vertex_index.specs.Placement.{AreDistinct, place};
+ghost use Rattle.arc_tables.specs.Rings.{edges};
+ghost use Rattle.map_opening.specs.Keyed.{ArePut};
+ghost use Rattle.map_opening.specs.Laying.{IsRound};
+ghost use Rattle.ring_exchange.specs.Laid.{numbers_of, AreThere, AreAdded, AreAppended, KeepsPlaces};
+ghost use Rattle.ring_exchange.specs.Standing.{Stands};
+ghost use Rattle.ring_exchange.specs.Steps.{AreKeyed, HoldsWith};
+
+use crate::keying::key_ring;
+use crate::laid::LaidRing;
+use crate::lonely::remove_all_lonely;
+use crate::sides::{add_sides, drop_sides};
+use crate::taking::take_out_rings;
+use grid_geometry::Pos;
+use segment_index::SegIndex;
+use shared_arcs::Borders;
+use std::alloc::{AllocError, Allocator};
+use vertex_index::{VertexKey, Vertices};
+
+/// Lays a ring along keys of vertices. Where that fails for want of memory, the borders are as they
+/// were, and the index holds what it held.
+fn lay_along<I: SegIndex, A: Allocator + Copy>(
+    vertices: &Vertices<A>,
+    borders: &mut Borders<A>,
+    index: &mut I,
+    segments: &mut usize,
+    keys: &[VertexKey],
+) -> Result<usize, AllocError>
+    requires keyed { AreKeyed vertices.now borders.old }
+    requires round { IsRound vertices.now keys.now }
+    requires holds { HoldsWith vertices.now borders.old (I.held index.old) [] }
+    requires counted { segments.old ≡ set.len (I.held index.old) }
+    requires small { segments.old + length keys.now ≤ 8000000 }
+    ensures free { IfOk result (λ r. table.get borders.old r ≡ None) }
+    ensures ok { IfOk result (λ r. borders.new ≡ table.insert borders.old r (edges keys.now)) }
+    ensures err { OnErr result (borders.new ≡ borders.old) }
+    ensures holds { HoldsWith vertices.now borders.new (I.held index.new) [] }
+    ensures counted { segments.new ≡ set.len (I.held index.new) }
+    ensures few { OnOk result (segments.new ≤ segments.old + length keys.now) }
+    ensures cells { I.cells index.new ≡ I.cells index.old }
+{
+    add_sides(vertices, borders, index, segments, keys)?;
+    match borders.add_ring(keys) {
+        Ok(r) => Ok(r),
+        Err(e) => {
+            drop_sides(vertices, borders, index, segments, keys, keys.len());
+            Err(e)
+        }
+    }
+}
+
+/// Lays a ring, and gathers its keys. Where that fails for want of memory, some of them have been
+/// gathered, and their vertices are there; the borders are as they were, and the index holds what
+/// it held.
+fn lay_new<I: SegIndex, A: Allocator + Copy>(
+    vertices: &mut Vertices<A>,
+    borders: &mut Borders<A>,
+    index: &mut I,
+    segments: &mut usize,
+    ring: &[Pos],
+    keys: &mut Vec<VertexKey, A>,
+) -> Result<usize, AllocError>
+    requires stands { Stands vertices.old borders.old (I.held index.old) }
+    requires ring { IsTrue (is_ring ring.now) }
+    requires counted { segments.old ≡ set.len (I.held index.old) }
+    requires small { segments.old + length ring.now ≤ 8000000 }
+    requires none { keys.old.items ≡ [] }
+    requires room { vec_len keys.old + length ring.now ≤ vec_capacity keys.old }
+    ensures free { IfOk result (λ r. table.get borders.old r ≡ None) }
+    ensures ok { IfOk result (λ r. borders.new ≡ table.insert borders.old r (edges keys.new.items)) }
+    ensures at { OnOk result (map (place vertices.new) keys.new.items ≡ ring.now) }
+    ensures stands { OnOk result (Stands vertices.new borders.new (I.held index.new)) }
+    ensures err { OnErr result (borders.new ≡ borders.old) }
+    ensures holds { HoldsWith vertices.new borders.new (I.held index.new) [] }
+    ensures put { ArePut vertices.old vertices.new keys.new.items }
+    ensures different { IsTrue (are_distinct keys.new.items) }
+    ensures distinct { AreDistinct vertices.new }
+    ensures counted { segments.new ≡ set.len (I.held index.new) }
+    ensures few { OnOk result (segments.new ≤ segments.old + length ring.now) }
+    ensures cells { I.cells index.new ≡ I.cells index.old }
+{
+    key_ring(vertices, ring, keys)?;
+    match lay_along(vertices, borders, index, segments, keys.as_slice()) {
+        Ok(r) => Ok(r),
+        Err(e) => Err(e),
+    }
+}
+
+/// Lays a ring. Where that fails for want of memory, nothing has changed.
+fn lay_ring<I: SegIndex, A: Allocator + Copy>(
+    alloc: A,
+    vertices: &mut Vertices<A>,
+    borders: &mut Borders<A>,
+    index: &mut I,
+    segments: &mut usize,
+    ring: &[Pos],
+) -> Result<LaidRing<A>, AllocError>
+    requires stands { Stands vertices.old borders.old (I.held index.old) }
+    requires ring { IsTrue (is_ring ring.now) }
+    requires counted { segments.old ≡ set.len (I.held index.old) }
+    requires small { segments.old + length ring.now ≤ 8000000 }
+    ensures stands { Stands vertices.new borders.new (I.held index.new) }
+    ensures free { IfOk result (λ laid. table.get borders.old laid.number ≡ None) }
+    ensures ok { IfOk result
+        (λ laid. borders.new ≡ table.insert borders.old laid.number (edges laid.keys.items)) }
+    ensures at { IfOk result (λ laid. map (place vertices.new) laid.keys.items ≡ ring.now) }
+    ensures kept { KeepsPlaces vertices.old vertices.new }
+    ensures err { OnErr result (borders.new ≡ borders.old) }
+    ensures counted { segments.new ≡ set.len (I.held index.new) }
+    ensures few { OnOk result (segments.new ≤ segments.old + length ring.now) }
+    ensures cells { I.cells index.new ≡ I.cells index.old }
+{
+    let mut keys = Vec::with_capacity(alloc, ring.len())?;
+    match lay_new(vertices, borders, index, segments, ring, &mut keys) {
+        Ok(number) => Ok(LaidRing { number, keys }),
+        Err(e) => {
+            remove_all_lonely(vertices, borders, keys.as_slice());
+            Err(e)
+        }
+    }
+}
+
+/// Lays these rings, and gathers them. Where that fails for want of memory, some of them are laid.
+fn lay_each<I: SegIndex, A: Allocator + Copy>(
+    alloc: A,
+    vertices: &mut Vertices<A>,
+    borders: &mut Borders<A>,
+    index: &mut I,
+    segments: &mut usize,
+    rings: &[Vec<Pos, A>],
+    laid: &mut Vec<LaidRing<A>, A>,
+) -> Result<(), AllocError>
+    requires stands { Stands vertices.old borders.old (I.held index.old) }
+    requires rings { IsTrue (list_all is_ring (map (λ ring. ring.items) rings.now)) }
+    requires counted { segments.old ≡ set.len (I.held index.old) }
+    requires small { segments.old
+        + sum_by length (map (λ ring. ring.items) rings.now) ≤ 8000000 }
+    requires none { laid.old.items ≡ [] }
+    requires room { vec_len laid.old + length rings.now ≤ vec_capacity laid.old }
+    ensures stands { Stands vertices.new borders.new (I.held index.new) }
+    ensures there { AreThere borders.new laid.new.items }
+    ensures added { AreAdded borders.old borders.new (numbers_of laid.new.items) }
+    ensures at { OnOk result (map (λ ring. map (place vertices.new) ring.keys.items) laid.new.items
+        ≡ map (λ ring. ring.items) rings.now) }
+    ensures kept { KeepsPlaces vertices.old vertices.new }
+    ensures counted { segments.new ≡ set.len (I.held index.new) }
+    ensures cells { I.cells index.new ≡ I.cells index.old }
+{
+    for ring in rings {
+        let one = lay_ring(alloc, vertices, borders, index, segments, ring.as_slice())?;
+        laid.push_reserved(one);
+    }
+    Ok(())
+}
+
+/// Appends the numbers of rings, for which there is room.
+fn push_numbers<A: Allocator + Copy>(laid: &[LaidRing<A>], numbers: &mut Vec<usize, A>)
+    requires { vec_len numbers.old + length laid.now ≤ vec_capacity numbers.old }
+    ensures { numbers.new.items ≡ numbers.old.items ++ numbers_of laid.now }
+{
+    for ring in laid {
+        numbers.push_reserved(ring.number);
+    }
+}
+
+/// Lays these rings, and appends their numbers, in order. Fails for want of memory alone, and then
+/// nothing has changed.
+pub fn lay_rings<I: SegIndex, A: Allocator + Copy>(
+    alloc: A,
+    vertices: &mut Vertices<A>,
+    borders: &mut Borders<A>,
+    index: &mut I,
+    segments: &mut usize,
+    rings: &[Vec<Pos, A>],
+    numbers: &mut Vec<usize, A>,
+) -> Result<(), AllocError>
+    requires stands { Stands vertices.old borders.old (I.held index.old) }
+    requires rings { IsTrue (list_all is_ring (map (λ ring. ring.items) rings.now)) }
+    requires counted { segments.old ≡ set.len (I.held index.old) }
+    requires small { segments.old
+        + sum_by length (map (λ ring. ring.items) rings.now) ≤ 8000000 }
+    ensures stands { Stands vertices.new borders.new (I.held index.new) }
+    ensures laid { OnOk result (AreAppended vertices.new borders.old borders.new
+        (map (λ ring. ring.items) rings.now) numbers.old.items numbers.new.items) }
+    ensures kept { KeepsPlaces vertices.old vertices.new }
+    ensures borders { OnErr result (borders.new ≡ borders.old) }
+    ensures places { OnErr result (vertices.new ≡ vertices.old) }
+    ensures held { OnErr result (I.held index.new ≡ I.held index.old) }
+    ensures numbers { OnErr result (numbers.new.items ≡ numbers.old.items) }
+    ensures counted { segments.new ≡ set.len (I.held index.new) }
+    ensures cells { I.cells index.new ≡ I.cells index.old }
+{
+    numbers.reserve(rings.len())?;
+    let mut laid = Vec::with_capacity(alloc, rings.len())?;
+    match lay_each(alloc, vertices, borders, index, segments, rings, &mut laid) {
+        Ok(()) => {
+            push_numbers(laid.as_slice(), numbers);
+            Ok(())
+        }
+        Err(e) => {
+            let some = laid.as_slice();
+            take_out_rings(vertices, borders, index, segments, some);
+            Err(e)
+        }
+    }
+}
