@@ -16,12 +16,16 @@ For each map there is one line a measure:
     bytes     seconds to read the bytes of the file; the least of several times
     scan      seconds to go over the text as JSON and no further: the program is given the text in a list, which is no
               topology; the least of several runs
-    open      seconds to open the map, with an empty script; the least of several runs
+    open      seconds to open the map and no further: the script is a folder, which can't be read; the least of several
+              runs
+    save      seconds that a run with an empty script takes beside that; the least of several runs
     edits     accepted edits a second: vertices moved by one unit and back
     queries   `area` lines answered a second
+    at        `at` lines answered a second, at positions drawn between the coordinates of the vertices
+    sharing   `neighbours` lines answered a second
     memory    the most memory that opening the map and a few edits took
 
-The time of opening is taken off before edits and queries are counted. Their number is adapted, so
+The time of opening and saving is taken off before edits and questions are counted. Their number is adapted, so
 that a run takes some seconds. A measure that fails says `failed`, and why; a map or a program that
 is not there has a line that says so.
 
@@ -246,6 +250,13 @@ class Runner:
         script.write_text("".join(line + "\n" for line in lines), encoding="ascii")
         return self.started(path, script, lambda child: 0)
 
+    def opened(self, path):
+        """Runs a script that can't be read, so that nothing comes after opening."""
+        done = self.started(path, self.folder, lambda child: 0)
+        if done.status != 3 or done.err.strip() != "script fault":
+            raise Failed(why(done))
+        return done
+
     def watched(self, path, lines):
         """Runs a script whose end is held back until the memory in use has been read."""
         script = self.folder / "pipe"
@@ -259,7 +270,8 @@ class Runner:
         out, err = self.folder / "out", self.folder / "err"
         with open(out, "wb") as to, open(err, "wb") as errors:
             start = time.perf_counter()
-            child = subprocess.Popen([self.program, path, script], stdin=subprocess.DEVNULL, stdout=to, stderr=errors)
+            words = [self.program, path, script, "--out", self.folder / "saved.json"]
+            child = subprocess.Popen(words, stdin=subprocess.DEVNULL, stdout=to, stderr=errors)
             late = threading.Timer(self.limit, child.kill)
             late.start()
             peak = beside(child)
@@ -379,26 +391,44 @@ def measure_open(runner, map_, opening):
     return f"{opening:9.3f} s      {size:.2f} MB, {size / opening:.1f} MB/s"
 
 
+def measure_save(runner, map_, opening, whole):
+    size = (runner.folder / "saved.json").stat().st_size / 1e6
+    if whole <= opening:
+        raise Failed("saving takes no time beside opening")
+    return f"{whole - opening:9.3f} s      {size:.2f} MB, {size / (whole - opening):.1f} MB/s"
+
+
 def measure_edits(runner, map_, opening, drawn, seconds):
     moves = Moves(runner, map_.path, drawn.vertices)
     each, count, spent = rate(moves.run, opening, seconds)
     return f"{each:9.1f} /s     {count} moves in {spent:.2f} s"
 
 
-def measure_queries(runner, map_, opening, drawn, seconds, seed):
-    rand = random.Random(seed)
-    if not drawn.features:
-        raise Failed("the map has no feature")
-
+def measure_questions(runner, map_, opening, seconds, ask, answer):
+    """Lines a second that `ask` gives, each answered by a text of this form."""
     def run(lines):
-        asked = [f"area {rand.randrange(drawn.features)}" for _ in range(lines)]
-        done = runner.accepted(map_.path, asked)
-        if not all(re.fullmatch("-?[0-9]+", answer) for answer in done.out.splitlines()):
-            raise Failed(f"an answer is no number: {why(done)}")
+        done = runner.accepted(map_.path, [ask() for _ in range(lines)])
+        if not all(re.fullmatch(answer, text) for text in done.out.splitlines()):
+            raise Failed(f"an answer has another form: {why(done)}")
         return done, lines
 
     each, count, spent = rate(run, opening, seconds)
-    return f"{each:9.1f} /s     {count} areas in {spent:.2f} s"
+    return f"{each:9.1f} /s     {count} lines in {spent:.2f} s"
+
+
+def of_features(word, drawn, rand):
+    """Gives lines of this word and the number of a feature."""
+    if not drawn.features:
+        raise Failed("the map has no feature")
+    return lambda: f"{word} {rand.randrange(drawn.features)}"
+
+
+def of_positions(drawn, rand):
+    """Gives lines that ask what lies at a position, between the coordinates of the vertices."""
+    if not drawn.vertices:
+        raise Failed("the map has no vertex")
+    (west, east), (south, north) = ((min(along), max(along)) for along in zip(*drawn.vertices))
+    return lambda: f"at {rand.randint(west, east)} {rand.randint(south, north)}"
 
 
 def measure_memory(runner, map_, drawn):
@@ -409,7 +439,7 @@ def measure_memory(runner, map_, drawn):
 
 
 def measure(options, runner, map_):
-    """Prints a line for each measure of a map. Saving gets its own beside these once the program saves."""
+    """Prints a line for each measure of a map."""
     def line(name, take):
         try:
             said = take()
@@ -420,14 +450,23 @@ def measure(options, runner, map_):
     line("bytes", lambda: measure_bytes(map_))
     line("scan", lambda: measure_scan(runner, map_))
     try:
-        opening = least(lambda: runner.accepted(map_.path, []).seconds)
+        opening = least(lambda: runner.opened(map_.path).seconds)
+        whole = least(lambda: runner.accepted(map_.path, []).seconds)
     except Failed as reason:
         print(f"{map_.name:24} open        failed: {reason}", flush=True)
         return
     drawn = apart(draw, map_.path, options.seed)
     line("open", lambda: measure_open(runner, map_, opening))
-    line("edits", lambda: measure_edits(runner, map_, opening, drawn, options.seconds))
-    line("queries", lambda: measure_queries(runner, map_, opening, drawn, options.seconds, options.seed))
+    line("save", lambda: measure_save(runner, map_, opening, whole))
+    line("edits", lambda: measure_edits(runner, map_, whole, drawn, options.seconds))
+    rand = random.Random(options.seed)
+
+    def questions(ask, answer):
+        return measure_questions(runner, map_, whole, options.seconds, ask, answer)
+
+    line("queries", lambda: questions(of_features("area", drawn, rand), "-?[0-9]+"))
+    line("at", lambda: questions(of_positions(drawn, rand), "inside:( [0-9]+)* border:( [0-9]+)*"))
+    line("sharing", lambda: questions(of_features("neighbours", drawn, rand), "neighbours:( [0-9]+)*"))
     line("memory", lambda: measure_memory(runner, map_, drawn))
 
 

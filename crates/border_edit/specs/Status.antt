@@ -2,7 +2,7 @@
 use Rattle.std.specs.Prelude.{ℕ, ◌==◌, Result, Ok, Err, if◌then◌else◌}
 use Rattle.script_runner.specs.declared.runner.Summary.{Summary}
 use Rattle.script_runner.specs.declared.fault.RunFault.{RunFault}
-use Rattle.script_runner.specs.declared.fault.RunFault.TheVariants.{Open, Read, Write, OutOfMemory}
+use Rattle.script_runner.specs.declared.fault.RunFault.TheVariants.{Open, Read, Write, Save, OutOfMemory}
 
 -- 0 where all lines were accepted, 1 where some answer is a refusal or a bad line, 2 where the map
 -- was not opened, and 3 where a device failed or a growth was refused
@@ -11,4 +11,5 @@ status_of (Ok summary) = if summary.refused == 0 then 0 else 1
 status_of (Err (Open fault)) = 2
 status_of (Err Read) = 3
 status_of (Err Write) = 3
+status_of (Err Save) = 3
 status_of (Err OutOfMemory) = 3

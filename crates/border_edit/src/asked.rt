@@ -7,4 +7,6 @@ pub struct Words {
     pub map: String,
     /// The path of the script.
     pub script: String,
+    /// The path of the file that the map is saved in.
+    pub out: String,
 }

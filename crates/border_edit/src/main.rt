@@ -1,5 +1,5 @@
-//! The program: a script of editing commands is run on a map, and its answers go to standard
-//! output, one a line.
+//! The program: a script of editing commands is run on a map, its answers go to standard output, one
+//! a line, and the map goes to a file.
 #![tactic(auto)]
 
 mod asked;
@@ -9,10 +9,10 @@ mod stop;
 use command_line::words;
 use device_io::{FromReader, ToWriter};
 use script_runner::run;
-use std::env;
 use std::fs::File;
 use std::io::{BufWriter, Read};
 use std::process::ExitCode;
+use std::{env, fs};
 use stop::{Stop, status};
 
 /// One byte more than a map may have, so that a longer one is found too large.
@@ -37,7 +37,8 @@ fn map_bytes(rt: &HostRuntime, path: &str) -> Result<Vec<u8>, Stop> {
     Ok(bytes)
 }
 
-/// Runs a script on a map and gives the status of the run. A fault has its line on standard error.
+/// Runs a script on a map, saves the map where the whole script was answered, and gives the status of
+/// the run. A fault has its line on standard error, and leaves the file of the saved map as it is.
 fn edit(rt: &HostRuntime) -> Result<u8, Stop> {
     let alloc = rt.alloc();
     let given = words_given(rt)?;
@@ -48,20 +49,34 @@ fn edit(rt: &HostRuntime) -> Result<u8, Stop> {
     let answers = BufWriter::new(alloc, rt.stdout()).map_err(|_| Stop::NoMemory)?;
     let mut source = FromReader::new(script);
     let mut sink = ToWriter::new(answers);
-    let outcome = run(alloc, alloc, map.as_slice(), &mut source, &mut sink);
-    if let Err(fault) = &outcome {
-        let _ = rt.eprintln(fault);
+    let mut saved = ToWriter::new(Vec::new(alloc));
+    let outcome = run(
+        alloc,
+        alloc,
+        map.as_slice(),
+        &mut source,
+        &mut sink,
+        &mut saved,
+    );
+    match &outcome {
+        Ok(_) => fs::write(rt, words.out.as_str(), saved.writer.as_slice()).map_err(
+            |e| Stop::of_file(e, Stop::Save),
+        )?,
+        Err(fault) => {
+            let _ = rt.eprintln(fault);
+        }
     }
     Ok(status(&outcome))
 }
 
-/// Says why no script was run: help on standard output, all else on standard error.
+/// Says what ended the program: help on standard output, all else on standard error.
 fn tell(rt: &HostRuntime, stop: &Stop) {
     let _ = match stop {
         Stop::Words(error) if error.use_stderr() => rt.eprint(error),
         Stop::Words(error) => rt.print(error),
         Stop::Map => rt.eprintln("map fault"),
         Stop::Script => rt.eprintln("script fault"),
+        Stop::Save => rt.eprintln("save fault"),
         Stop::NoMemory => rt.eprintln("out of memory"),
     };
 }

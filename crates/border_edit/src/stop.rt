@@ -1,4 +1,4 @@
-//! What ends the program before a script is run, and the statuses that it ends with.
+//! What ends the program beside a run, and the statuses that it ends with.
 ghost use Rattle.std.specs.Prelude.{◌≡◌, ◌≢◌};
 ghost use Rattle.std.specs.IoError.{error_kind};
 ghost use Rattle.border_edit.specs.Status.{status_of};
@@ -8,7 +8,7 @@ use script_runner::{RunFault, Summary};
 use std::alloc::{AllocError, AllocFailed};
 use std::io::{Error, ErrorKind};
 
-/// What ends the program before a script is run.
+/// What ends the program before a script is run, or after it.
 #[derive(Debug, Drop)]
 pub enum Stop {
     /// The words ask for help, or do not parse.
@@ -17,6 +17,8 @@ pub enum Stop {
     Map,
     /// The script can't be opened.
     Script,
+    /// The file of the saved map can't be written.
+    Save,
     /// A growth was refused.
     NoMemory,
 }
@@ -44,7 +46,7 @@ impl Stop {
                 Mistake::DisplayHelp | Mistake::DisplayVersion => 0,
                 _ => 64,
             },
-            Stop::Map | Stop::Script | Stop::NoMemory => 3,
+            Stop::Map | Stop::Script | Stop::Save | Stop::NoMemory => 3,
         }
     }
 }
@@ -57,7 +59,7 @@ pub fn status(outcome: &Result<Summary, RunFault<'_>>) -> u8
         Ok(summary) if summary.refused == 0 => 0,
         Ok(_) => 1,
         Err(RunFault::Open(_)) => 2,
-        Err(RunFault::Read | RunFault::Write | RunFault::OutOfMemory) => 3,
+        Err(RunFault::Read | RunFault::Write | RunFault::Save | RunFault::OutOfMemory) => 3,
     }
 }
 

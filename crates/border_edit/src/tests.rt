@@ -14,11 +14,32 @@ fn given(alloc: Global, words: &[&str]) -> Result<Vec<String>, AllocError> {
 }
 
 #[test]
-fn a_map_and_a_script_are_taken(rt: HostRuntime) -> Result<(), Fail> {
-    let given = given(rt.alloc(), &["border_edit", "map.json", "script.txt"])?;
-    let words = words(rt.alloc(), given.as_slice())?;
-    assert_eq!(rt; words.map.as_str(), "map.json");
-    assert_eq!(rt; words.script.as_str(), "script.txt");
+fn a_map_a_script_and_a_file_are_taken(rt: HostRuntime) -> Result<(), Fail> {
+    let table = [
+        [
+            "border_edit",
+            "map.json",
+            "script.txt",
+            "--out",
+            "saved.json",
+        ]
+        .as_slice(),
+        &[
+            "border_edit",
+            "--out",
+            "saved.json",
+            "map.json",
+            "script.txt",
+        ],
+        &["border_edit", "map.json", "--out=saved.json", "script.txt"],
+    ];
+    for line in table {
+        let given = given(rt.alloc(), line)?;
+        let words = words(rt.alloc(), given.as_slice())?;
+        assert_eq!(rt; words.map.as_str(), "map.json");
+        assert_eq!(rt; words.script.as_str(), "script.txt");
+        assert_eq!(rt; words.out.as_str(), "saved.json");
+    }
     Ok(())
 }
 
@@ -27,8 +48,31 @@ fn all_other_words_stop_the_program(rt: HostRuntime) -> Result<(), Fail> {
     let table = [
         (["border_edit"].as_slice(), 64),
         (&["border_edit", "map.json"], 64),
-        (&["border_edit", "map.json", "script.txt", "more"], 64),
-        (&["border_edit", "--quiet", "map.json", "script.txt"], 64),
+        (&["border_edit", "map.json", "script.txt"], 64),
+        (&["border_edit", "map.json", "script.txt", "--out"], 64),
+        (&["border_edit", "map.json", "--out", "saved.json"], 64),
+        (
+            &[
+                "border_edit",
+                "map.json",
+                "script.txt",
+                "more",
+                "--out",
+                "saved.json",
+            ],
+            64,
+        ),
+        (
+            &[
+                "border_edit",
+                "--quiet",
+                "map.json",
+                "script.txt",
+                "--out",
+                "saved.json",
+            ],
+            64,
+        ),
         (&["border_edit", "--help"], 0),
         (&["border_edit", "map.json", "-h"], 0),
     ];

@@ -1,5 +1,5 @@
 -- Which command a line asks for, by its word.
-use Rattle.std.proofs.Common.{◌≡◌, ℕ, ℤ, pos, ◌<◌, ◌^◌, ◌++◌, ◌+◌, refl, sym, ap, ap₂, ◌∙◌, subst, MatchBool, rules, ◌≤◌, List, [], ◌∷◌, length, ◌==◌, false, true, arith, append-nil, FitsSigned, w64, Option, None, Some, MatchOption, codes}
+use Rattle.std.proofs.Common.{◌≡◌, ℕ, ℤ, pos, ◌<◌, ◌^◌, ◌++◌, ◌+◌, refl, sym, ap, ap₂, ◌∙◌, subst, MatchBool, rules, ◌≤◌, List, [], ◌∷◌, length, ◌==◌, false, true, arith, append-nil, FitsSigned, w64, Option, None, Some, MatchOption, IsSomeAnd, codes}
 use Rattle.std.specs.Str.{IsUtf8, IsAscii, bytes_eq}
 use Rattle.std.proofs.lemmas.Bool.{false≢true}
 use Rattle.std.proofs.lemmas.Bool.Decides.{nat_tests}
@@ -9,11 +9,11 @@ use Rattle.std.specs.Int.{FitsUnsignedBits}
 use Rattle.std.proofs.lemmas.Str.{IsUtf8-from_ascii, IsAscii-append}
 use Rattle.std.proofs.lemmas.Str.Ascii.{IsAscii-cons}
 use Rattle.grid_geometry.specs.Position.{Position, InRange}
-use Rattle.ring_machine.specs.Command.{Command, Move, Insert, Remove, Thin, Area, Rings, Count}
+use Rattle.ring_machine.specs.Command.{Command, Move, Insert, Remove, Thin, Area, At, Neighbours, Rings, Count, Show}
 use Rattle.script_runner.specs.Lines.{spaced, spaced_position, most_bound, Asks, Says}
 use Rattle.script_runner.specs.Words.{is_letter, EndsWord, IsSpaced, IsPlace}
-use Rattle.script_runner.specs.Commands.{command_of, IsMoveTail, IsInsertTail, IsRemoveTail, IsThinTail, IsFeatureTail, IsAreaTail, IsRingsTail, IsCountTail}
-use Rattle.script_runner.specs.declared.lines.Command.{Command as CommandLine}
+use Rattle.script_runner.specs.Commands.{says_of, IsPositionTail, IsFeatureTail, IsMoveTail, IsInsertTail, IsRemoveTail, IsThinTail, IsAreaTail, IsAtTail, IsNeighboursTail, IsRingsTail, IsCountTail, IsDocumentTail}
+use Rattle.script_runner.specs.declared.lines.Line.{Line}
 use Rattle.script_runner.proofs.WordLemmas.{IsWord, rest_of, word-taken, word-rest, taken-rest, spaced_once, place_once, same_behind, number_ascii, fits_in_range, wide_once, wide_ascii}
 
 -- what the test says of a list that is not empty
@@ -46,6 +46,10 @@ pub area_none : (tail : List ℕ) (c : Command) → ((n : ℕ) → ¬ IsFeatureT
 area_none tail (Area n) never h = never n h
 area_none tail _ never h = h
 
+pub neighbours_none : (tail : List ℕ) (c : Command) → ((n : ℕ) → ¬ IsFeatureTail tail n) → IsNeighboursTail tail c → ⊥
+neighbours_none tail (Neighbours n) never h = never n h
+neighbours_none tail _ never h = h
+
 pub rings_none : (tail : List ℕ) (c : Command) → ((n : ℕ) → ¬ IsFeatureTail tail n) → IsRingsTail tail c → ⊥
 rings_none tail (Rings n) never h = never n h
 rings_none tail _ never h = h
@@ -53,6 +57,10 @@ rings_none tail _ never h = h
 pub count_long : (tail : List ℕ) (c : Command) → (tail ≡ [] → ⊥) → IsCountTail tail c → ⊥
 count_long tail Count more h = more h
 count_long tail _ more h = h
+
+pub document_long : (tail : List ℕ) (c : Command) → (tail ≡ [] → ⊥) → IsDocumentTail tail c → ⊥
+document_long tail Show more h = more h
+document_long tail _ more h = h
 
 pub fits_along : (n : ℕ) (y z : ℤ) → y ≡ z → z ≡ pos n → n < 2 ^ 32 → FitsUnsignedBits 32 y
 fits_along n y z e f h = subst (FitsUnsignedBits 32) (sym (e ∙ f)) h
@@ -130,21 +138,24 @@ insert_found tail rest more end a b q s k u e = (
   (s.range, k.range, u.range),
 )
 
--- ---- a removal
+-- ---- a position, and the lines that have one
 
-remove_place : (tail : List ℕ) (p : Position) → IsRemoveTail tail (Remove p) → IsPlace tail p []
-remove_place tail p h = record { whole = h.0 ∙ sym (append-nil (spaced_position p)); ends = tt; range = h.1 }
+position_place : (tail : List ℕ) (p : Position) → IsPositionTail tail p → IsPlace tail p []
+position_place tail p h = record { whole = h.0 ∙ sym (append-nil (spaced_position p)); ends = tt; range = h.1 }
 
-pub remove_none : (tail : List ℕ) (c : Command) → ((p : Position) (rest : List ℕ) → ¬ IsPlace tail p rest) → IsRemoveTail tail c → ⊥
-remove_none tail (Remove p) never h = never p [] (remove_place tail p h)
+pub position_none : (tail : List ℕ) (p : Position) → ((q : Position) (rest : List ℕ) → ¬ IsPlace tail q rest) → IsPositionTail tail p → ⊥
+position_none tail p never h = never p [] (position_place tail p h)
+
+pub position_long : (tail end : List ℕ) (x p : Position) → IsPlace tail x end → (end ≡ [] → ⊥) → IsPositionTail tail p → ⊥
+position_long tail end x p s more h = more (place_once tail end [] x p s (position_place tail p h)).1
+
+pub remove_none : (tail : List ℕ) (c : Command) → ((p : Position) → ¬ IsPositionTail tail p) → IsRemoveTail tail c → ⊥
+remove_none tail (Remove p) never h = never p h
 remove_none tail _ never h = h
 
-pub remove_long : (tail end : List ℕ) (x : Position) (c : Command) → IsPlace tail x end → (end ≡ [] → ⊥) → IsRemoveTail tail c → ⊥
-remove_long tail end x (Remove p) s more h = more (place_once tail end [] x p s (remove_place tail p h)).1
-remove_long tail end x _ s more h = h
-
-pub remove_found : (tail end : List ℕ) (p : Position) → IsPlace tail p end → end ≡ [] → IsRemoveTail tail (Remove p)
-remove_found tail end p s e = (s.whole ∙ ap (λ r. spaced_position p ++ r) e ∙ append-nil (spaced_position p), s.range)
+pub at_none : (tail : List ℕ) (c : Command) → ((p : Position) → ¬ IsPositionTail tail p) → IsAtTail tail c → ⊥
+at_none tail (At p) never h = never p h
+at_none tail _ never h = h
 
 -- ---- a thinning
 
@@ -181,8 +192,11 @@ Behind word tail c =
     (MatchBool (bytes_eq word (codes "remove")) (IsRemoveTail tail c)
     (MatchBool (bytes_eq word (codes "thin")) (IsThinTail tail c)
     (MatchBool (bytes_eq word (codes "area")) (IsAreaTail tail c)
+    (MatchBool (bytes_eq word (codes "at")) (IsAtTail tail c)
+    (MatchBool (bytes_eq word (codes "neighbours")) (IsNeighboursTail tail c)
     (MatchBool (bytes_eq word (codes "rings")) (IsRingsTail tail c)
-    (MatchBool (bytes_eq word (codes "count")) (IsCountTail tail c) ⊥))))))
+    (MatchBool (bytes_eq word (codes "count")) (IsCountTail tail c)
+    (MatchBool (bytes_eq word (codes "document")) (IsDocumentTail tail c) ⊥)))))))))
 
 -- the word and the rest of a line that begins with a word
 front_word : (line word front args : List ℕ) → IsWord front → EndsWord args → line ≡ front ++ args → word ≡ take_while is_letter line → word ≡ front
@@ -211,6 +225,14 @@ tail_area : (line tail : List ℕ) (c : Command) → line ≡ codes "area" ++ ta
 tail_area line tail (Area n) e h = (e ∙ ap (λ t. codes "area" ++ t) h.0, h.1)
 tail_area line tail _ e h = absurd h
 
+tail_at : (line tail : List ℕ) (c : Command) → line ≡ codes "at" ++ tail → IsAtTail tail c → Asks line c
+tail_at line tail (At p) e h = (e ∙ ap (λ t. codes "at" ++ t) h.0, h.1)
+tail_at line tail _ e h = absurd h
+
+tail_neighbours : (line tail : List ℕ) (c : Command) → line ≡ codes "neighbours" ++ tail → IsNeighboursTail tail c → Asks line c
+tail_neighbours line tail (Neighbours n) e h = (e ∙ ap (λ t. codes "neighbours" ++ t) h.0, h.1)
+tail_neighbours line tail _ e h = absurd h
+
 tail_rings : (line tail : List ℕ) (c : Command) → line ≡ codes "rings" ++ tail → IsRingsTail tail c → Asks line c
 tail_rings line tail (Rings n) e h = (e ∙ ap (λ t. codes "rings" ++ t) h.0, h.1)
 tail_rings line tail _ e h = absurd h
@@ -218,6 +240,10 @@ tail_rings line tail _ e h = absurd h
 tail_count : (line tail : List ℕ) (c : Command) → line ≡ codes "count" ++ tail → IsCountTail tail c → Asks line c
 tail_count line tail Count e h = e ∙ ap (λ t. codes "count" ++ t) h
 tail_count line tail _ e h = absurd h
+
+tail_document : (line tail : List ℕ) (c : Command) → line ≡ codes "document" ++ tail → IsDocumentTail tail c → Asks line c
+tail_document line tail Show e h = e ∙ ap (λ t. codes "document" ++ t) h
+tail_document line tail _ e h = absurd h
 
 module _ (line word tail : List ℕ) (taken : word ≡ take_while is_letter line) (left : tail ≡ rest_of line) where
   by_front : (front args : List ℕ) (c : Command) → IsWord front → EndsWord args → line ≡ front ++ args → Behind front args c → Behind word tail c
@@ -230,8 +256,11 @@ module _ (line word tail : List ℕ) (taken : word ≡ take_while is_letter line
   asked_behind (Remove p) h = by_front (codes "remove") (spaced_position p) (Remove p) (search rules) refl h.0 (refl, h.1)
   asked_behind (Thin (pos t)) h = by_front (codes "thin") (spaced (pos t)) (Thin (pos t)) (search rules) refl h.0 (refl, h.1)
   asked_behind (Area n) h = by_front (codes "area") (spaced (pos n)) (Area n) (search rules) refl h.0 (refl, h.1)
+  asked_behind (At p) h = by_front (codes "at") (spaced_position p) (At p) (search rules) refl h.0 (refl, h.1)
+  asked_behind (Neighbours n) h = by_front (codes "neighbours") (spaced (pos n)) (Neighbours n) (search rules) refl h.0 (refl, h.1)
   asked_behind (Rings n) h = by_front (codes "rings") (spaced (pos n)) (Rings n) (search rules) refl h.0 (refl, h.1)
   asked_behind Count h = by_front (codes "count") [] Count (search rules) tt h refl
+  asked_behind Show h = by_front (codes "document") [] Show (search rules) tt h refl
   asked_behind _ h = absurd h
 
   whole : line ≡ word ++ tail
@@ -239,38 +268,54 @@ module _ (line word tail : List ℕ) (taken : word ≡ take_while is_letter line
 
   -- what is found behind the word is what the line asks for
   arm : (front : List ℕ) (Tail : Command → Type 0) → ((c : Command) → Behind front tail c → Tail c) → ((c : Command) → line ≡ front ++ tail → Tail c → Asks line c)
-      → (o : Option CommandLine) → word ≡ front → MatchOption o ((c : Command) → ¬ Tail c) (λ c. Tail (command_of c))
-      → MatchOption o ((c : Command) → ¬ Asks line c) (λ c. Asks line (command_of c))
+      → (o : Option Line) → word ≡ front → MatchOption o ((c : Command) → ¬ Tail c) (λ l. IsSomeAnd (says_of l) Tail)
+      → MatchOption o ((c : Command) → ¬ Asks line c) (λ l. IsSomeAnd (says_of l) (Asks line))
   arm front Tail there back None is h = λ c a. h c (there c (subst (λ w. Behind w tail c) is (asked_behind c a)))
-  arm front Tail there back (Some c) is h = back (command_of c) (whole ∙ ap (λ w. w ++ tail) is) h
+  arm front Tail there back (Some l) is h = by (says_of l) h
+    where
+      by : (o : Option Command) → IsSomeAnd o Tail → IsSomeAnd o (Asks line)
+      by None k = k
+      by (Some c) k = back c (whole ∙ ap (λ w. w ++ tail) is) k
 
-  pub arm_move : (o : Option CommandLine) → word ≡ codes "move" → MatchOption o ((c : Command) → ¬ IsMoveTail tail c) (λ c. IsMoveTail tail (command_of c))
-      → MatchOption o ((c : Command) → ¬ Asks line c) (λ c. Asks line (command_of c))
+  pub arm_move : (o : Option Line) → word ≡ codes "move" → MatchOption o ((c : Command) → ¬ IsMoveTail tail c) (λ l. IsSomeAnd (says_of l) (IsMoveTail tail))
+      → MatchOption o ((c : Command) → ¬ Asks line c) (λ l. IsSomeAnd (says_of l) (Asks line))
   arm_move = arm (codes "move") (IsMoveTail tail) (λ c h. h) (tail_move line tail)
 
-  pub arm_insert : (o : Option CommandLine) → word ≡ codes "insert" → MatchOption o ((c : Command) → ¬ IsInsertTail tail c) (λ c. IsInsertTail tail (command_of c))
-      → MatchOption o ((c : Command) → ¬ Asks line c) (λ c. Asks line (command_of c))
+  pub arm_insert : (o : Option Line) → word ≡ codes "insert" → MatchOption o ((c : Command) → ¬ IsInsertTail tail c) (λ l. IsSomeAnd (says_of l) (IsInsertTail tail))
+      → MatchOption o ((c : Command) → ¬ Asks line c) (λ l. IsSomeAnd (says_of l) (Asks line))
   arm_insert = arm (codes "insert") (IsInsertTail tail) (λ c h. h) (tail_insert line tail)
 
-  pub arm_remove : (o : Option CommandLine) → word ≡ codes "remove" → MatchOption o ((c : Command) → ¬ IsRemoveTail tail c) (λ c. IsRemoveTail tail (command_of c))
-      → MatchOption o ((c : Command) → ¬ Asks line c) (λ c. Asks line (command_of c))
+  pub arm_remove : (o : Option Line) → word ≡ codes "remove" → MatchOption o ((c : Command) → ¬ IsRemoveTail tail c) (λ l. IsSomeAnd (says_of l) (IsRemoveTail tail))
+      → MatchOption o ((c : Command) → ¬ Asks line c) (λ l. IsSomeAnd (says_of l) (Asks line))
   arm_remove = arm (codes "remove") (IsRemoveTail tail) (λ c h. h) (tail_remove line tail)
 
-  pub arm_thin : (o : Option CommandLine) → word ≡ codes "thin" → MatchOption o ((c : Command) → ¬ IsThinTail tail c) (λ c. IsThinTail tail (command_of c))
-      → MatchOption o ((c : Command) → ¬ Asks line c) (λ c. Asks line (command_of c))
+  pub arm_thin : (o : Option Line) → word ≡ codes "thin" → MatchOption o ((c : Command) → ¬ IsThinTail tail c) (λ l. IsSomeAnd (says_of l) (IsThinTail tail))
+      → MatchOption o ((c : Command) → ¬ Asks line c) (λ l. IsSomeAnd (says_of l) (Asks line))
   arm_thin = arm (codes "thin") (IsThinTail tail) (λ c h. h) (tail_thin line tail)
 
-  pub arm_area : (o : Option CommandLine) → word ≡ codes "area" → MatchOption o ((c : Command) → ¬ IsAreaTail tail c) (λ c. IsAreaTail tail (command_of c))
-      → MatchOption o ((c : Command) → ¬ Asks line c) (λ c. Asks line (command_of c))
+  pub arm_area : (o : Option Line) → word ≡ codes "area" → MatchOption o ((c : Command) → ¬ IsAreaTail tail c) (λ l. IsSomeAnd (says_of l) (IsAreaTail tail))
+      → MatchOption o ((c : Command) → ¬ Asks line c) (λ l. IsSomeAnd (says_of l) (Asks line))
   arm_area = arm (codes "area") (IsAreaTail tail) (λ c h. h) (tail_area line tail)
 
-  pub arm_rings : (o : Option CommandLine) → word ≡ codes "rings" → MatchOption o ((c : Command) → ¬ IsRingsTail tail c) (λ c. IsRingsTail tail (command_of c))
-      → MatchOption o ((c : Command) → ¬ Asks line c) (λ c. Asks line (command_of c))
+  pub arm_at : (o : Option Line) → word ≡ codes "at" → MatchOption o ((c : Command) → ¬ IsAtTail tail c) (λ l. IsSomeAnd (says_of l) (IsAtTail tail))
+      → MatchOption o ((c : Command) → ¬ Asks line c) (λ l. IsSomeAnd (says_of l) (Asks line))
+  arm_at = arm (codes "at") (IsAtTail tail) (λ c h. h) (tail_at line tail)
+
+  pub arm_neighbours : (o : Option Line) → word ≡ codes "neighbours" → MatchOption o ((c : Command) → ¬ IsNeighboursTail tail c) (λ l. IsSomeAnd (says_of l) (IsNeighboursTail tail))
+      → MatchOption o ((c : Command) → ¬ Asks line c) (λ l. IsSomeAnd (says_of l) (Asks line))
+  arm_neighbours = arm (codes "neighbours") (IsNeighboursTail tail) (λ c h. h) (tail_neighbours line tail)
+
+  pub arm_rings : (o : Option Line) → word ≡ codes "rings" → MatchOption o ((c : Command) → ¬ IsRingsTail tail c) (λ l. IsSomeAnd (says_of l) (IsRingsTail tail))
+      → MatchOption o ((c : Command) → ¬ Asks line c) (λ l. IsSomeAnd (says_of l) (Asks line))
   arm_rings = arm (codes "rings") (IsRingsTail tail) (λ c h. h) (tail_rings line tail)
 
-  pub arm_count : (o : Option CommandLine) → word ≡ codes "count" → MatchOption o ((c : Command) → ¬ IsCountTail tail c) (λ c. IsCountTail tail (command_of c))
-      → MatchOption o ((c : Command) → ¬ Asks line c) (λ c. Asks line (command_of c))
+  pub arm_count : (o : Option Line) → word ≡ codes "count" → MatchOption o ((c : Command) → ¬ IsCountTail tail c) (λ l. IsSomeAnd (says_of l) (IsCountTail tail))
+      → MatchOption o ((c : Command) → ¬ Asks line c) (λ l. IsSomeAnd (says_of l) (Asks line))
   arm_count = arm (codes "count") (IsCountTail tail) (λ c h. h) (tail_count line tail)
+
+  pub arm_document : (o : Option Line) → word ≡ codes "document" → MatchOption o ((c : Command) → ¬ IsDocumentTail tail c) (λ l. IsSomeAnd (says_of l) (IsDocumentTail tail))
+      → MatchOption o ((c : Command) → ¬ Asks line c) (λ l. IsSomeAnd (says_of l) (Asks line))
+  arm_document = arm (codes "document") (IsDocumentTail tail) (λ c h. h) (tail_document line tail)
 
 -- ---- every line that says something is UTF-8
 
@@ -290,10 +335,18 @@ asked_ascii line (Insert a b q) h =
 asked_ascii line (Remove p) h = subst IsAscii (sym h.0) (IsAscii-append (codes "remove") (spaced_position p) (search rules) (place_ascii p h.1))
 asked_ascii line (Thin (pos t)) h = subst IsAscii (sym h.0) (IsAscii-append (codes "thin") (spaced (pos t)) (search rules) (IsAscii-cons 32 (decimal t) (omega arith) (wide_ascii t (in_bound t h.1))))
 asked_ascii line (Area n) h = subst IsAscii (sym h.0) (IsAscii-append (codes "area") (spaced (pos n)) (search rules) (spaced_ascii (pos n) (record { sfits = omega (arith, h.1) })))
+asked_ascii line (At p) h = subst IsAscii (sym h.0) (IsAscii-append (codes "at") (spaced_position p) (search rules) (place_ascii p h.1))
+asked_ascii line (Neighbours n) h = subst IsAscii (sym h.0) (IsAscii-append (codes "neighbours") (spaced (pos n)) (search rules) (spaced_ascii (pos n) (record { sfits = omega (arith, h.1) })))
 asked_ascii line (Rings n) h = subst IsAscii (sym h.0) (IsAscii-append (codes "rings") (spaced (pos n)) (search rules) (spaced_ascii (pos n) (record { sfits = omega (arith, h.1) })))
 asked_ascii line Count h = subst IsAscii (sym h) (search rules)
+asked_ascii line Show h = subst IsAscii (sym h) (search rules)
 asked_ascii line _ h = absurd h
 
 pub said_utf8 : (line : List ℕ) (asked : Option Command) → Says line asked → IsUtf8 line
 said_utf8 line None h = h.0
 said_utf8 line (Some c) h = IsUtf8-from_ascii line (asked_ascii line c h)
+
+-- what a line asks for it says
+pub said_asked : (line : List ℕ) (o : Option Command) → IsSomeAnd o (Asks line) → Says line o
+said_asked line None h = absurd h
+said_asked line (Some c) h = h

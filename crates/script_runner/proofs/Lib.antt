@@ -3,6 +3,7 @@ pub mod CommandLemmas
 pub mod ReplyLemmas
 pub mod ListLemmas
 pub mod LineLemmas
+pub mod SendLemmas
 pub mod StepLemmas
 pub mod RunLemmas
 pub mod OpenLemmas

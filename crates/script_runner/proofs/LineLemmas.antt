@@ -145,7 +145,7 @@ module _ (d : Document) (seen out : List ℕ) (p q : Progress) (m : Mid d seen o
   pub replied : (said : Meaning) (text : List ℕ) → text ≡ reply_text (opened_state p.doc) said → out ++ text ≡ replies (opened_state d) (m.meanings ++ said ∷ [])
   replied said text t = ap₂ (λ x y. x ++ y) m.told (t ∙ ap (λ s. reply_text s said) m.state) ∙ sym (replies-more (opened_state d) m.meanings said)
 
-  stated : (said : Meaning) → opened_state q.doc ≡ state_after (opened_state p.doc) said → opened_state q.doc ≡ state_after_all (opened_state d) (m.meanings ++ said ∷ [])
+  pub stated : (said : Meaning) → opened_state q.doc ≡ state_after (opened_state p.doc) said → opened_state q.doc ≡ state_after_all (opened_state d) (m.meanings ++ said ∷ [])
   stated said h = h ∙ ap (λ s. state_after s said) m.state ∙ sym (state-more (opened_state d) m.meanings said)
 
   pub counted : (said : Meaning) → q.answered ≡ p.answered + answered_by said → q.answered ≡ answered (m.meanings ++ said ∷ [])

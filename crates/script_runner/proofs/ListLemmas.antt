@@ -75,3 +75,12 @@ ring_shown d n polygon ring positions e old end f = f ∙ ap (λ ps. old ++ ring
 pub no_ring_shown : (d : Document) (n polygon ring : ℕ) → None ≡ ring_at d n polygon ring → (old end : List ℕ) → end ≡ old ++ codes "[]"
     → end ≡ old ++ ring_text (get_or (get_or (feature_at d n).polygons polygon []) ring [])
 no_ring_shown d n polygon ring e old end f = f ∙ ap (λ ps. old ++ ring_text ps) (no_ring_read d n polygon ring e)
+
+-- a list of numbers behind its name, and another behind that
+pub two_lists : (front between first second old a b c end : List ℕ) → a ≡ old ++ front → b ≡ a ++ first → c ≡ b ++ between → end ≡ c ++ second
+    → end ≡ old ++ (front ++ (first ++ (between ++ second)))
+two_lists front between first second old a b c end e f g h =
+    h ∙ ap (λ z. z ++ second) (g ∙ ap (λ z. z ++ between) (f ∙ ap (λ z. z ++ first) e))
+    ∙ append_assoc ((old ++ front) ++ first) between second
+    ∙ append_assoc (old ++ front) first (between ++ second)
+    ∙ append_assoc old front (first ++ (between ++ second))

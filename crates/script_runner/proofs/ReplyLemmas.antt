@@ -9,13 +9,13 @@ use Rattle.ring_machine.specs.Document.{Document}
 use Rattle.ring_machine.specs.Parts.{features, has_feature, in_feature, in_rings}
 use Rattle.ring_machine.specs.Vertices.{put, put_ring, ins, ins_ring, del, del_ring, is_junction}
 use Rattle.ring_machine.specs.Thin.{Thinning, is_flat, without, thin_at, thinned}
-use Rattle.ring_machine.specs.Query.{area_of, vertices, distinct_segments, counts_of}
+use Rattle.ring_machine.specs.Query.{area_of, inside_at, border_at, neighbours_of, vertices, distinct_segments, counts_of}
 use Rattle.ring_machine.specs.Refusals.{first_of, move_refusals, insert_refusals, remove_refusals, feature_refusals, feature_at}
-use Rattle.ring_machine.specs.Command.{Command, Move, Insert, Remove, Thin, Area, Rings, Count, Refusal, Answer, Done, Thinned, AreaIs, RingsAre, CountsAre, Refused}
+use Rattle.ring_machine.specs.Command.{Command, Move, Insert, Remove, Thin, Area, At, Neighbours, Rings, Count, Show, Refusal, Answer, Done, Thinned, AreaIs, AtIs, NeighboursAre, RingsAre, CountsAre, DocumentIs, Refused}
 use Rattle.ring_machine.specs.Machine.{State, step, edit, changed, query}
 use Rattle.ring_machine.proofs.Steps.{step-move, step-insert, step-remove, step-thin}
 use Rattle.ring_machine.proofs.RingsOf.{features-in_rings}
-use Rattle.script_runner.specs.Answers.{answer_text, refusal_text, polygons_text, numbers_text}
+use Rattle.script_runner.specs.Answers.{answer_text, refusal_text, at_text, neighbours_text, polygons_text, numbers_text}
 use Rattle.script_runner.specs.Runs.{opened_state, refusals}
 use Rattle.script_runner.specs.Replies.{Replied, Tells, TellsFault}
 use Rattle.ring_machine.specs.Command as machine
@@ -27,6 +27,14 @@ step-area : (st : State) (n : ℕ) → step 0 st (Area n) ≡ query st (feature_
 unfolding step
 step-area st n = refl
 
+step-at : (st : State) (p : Position) → step 0 st (At p) ≡ (AtIs (inside_at st.doc p) (border_at st.doc p), st)
+unfolding step
+step-at st p = refl
+
+step-neighbours : (st : State) (n : ℕ) → step 0 st (Neighbours n) ≡ query st (feature_refusals st.doc n) (NeighboursAre (neighbours_of st.doc (feature_at st.doc n)))
+unfolding step
+step-neighbours st n = refl
+
 step-rings : (st : State) (n : ℕ) → step 0 st (Rings n) ≡ query st (feature_refusals st.doc n) (RingsAre (feature_at st.doc n).polygons)
 unfolding step
 step-rings st n = refl
@@ -34,6 +42,10 @@ step-rings st n = refl
 step-count : (st : State) → step 0 st Count ≡ (CountsAre (counts_of st.doc), st)
 unfolding step
 step-count st = refl
+
+pub step-show : (st : State) → step 0 st Show ≡ (DocumentIs st.doc, st)
+unfolding step
+step-show st = refl
 
 -- no refusal, and the first refusal
 edit-none : (st after : State) (rs : List (Option Refusal)) (a : Answer) → first_of rs ≡ None → edit st rs a after ≡ (a, after)
@@ -185,11 +197,25 @@ measured_as d n x z old new e f h t =
 pub not_measured : (d : Document) (n : ℕ) (old new : List ℕ) → (IsTrue (has_feature d n) → ⊥) → new ≡ old ++ codes "refused no feature" → Replied d d (Area n) old new true
 not_measured d n old new = not_found d n (Area n) (AreaIs (area_of (feature_at d n))) (step-area (opened_state d) n) old new
 
+pub beside : (d : Document) (n : ℕ) (ns old new : List ℕ) → ns ≡ neighbours_of d (feature_at d n) → IsTrue (has_feature d n) → new ≡ old ++ neighbours_text ns → Replied d d (Neighbours n) old new false
+beside d n ns old new e h t =
+    found d n (Neighbours n) (NeighboursAre (neighbours_of d (feature_at d n))) (step-neighbours (opened_state d) n) old new refl h (t ∙ ap (λ ms. old ++ neighbours_text ms) e)
+
+pub not_beside : (d : Document) (n : ℕ) (old new : List ℕ) → (IsTrue (has_feature d n) → ⊥) → new ≡ old ++ codes "refused no feature" → Replied d d (Neighbours n) old new true
+not_beside d n old new = not_found d n (Neighbours n) (NeighboursAre (neighbours_of d (feature_at d n))) (step-neighbours (opened_state d) n) old new
+
 pub listed : (d : Document) (n : ℕ) (old new : List ℕ) → IsTrue (has_feature d n) → new ≡ old ++ polygons_text (feature_at d n).polygons → Replied d d (Rings n) old new false
 listed d n old new = found d n (Rings n) (RingsAre (feature_at d n).polygons) (step-rings (opened_state d) n) old new refl
 
 pub not_listed : (d : Document) (n : ℕ) (old new : List ℕ) → (IsTrue (has_feature d n) → ⊥) → new ≡ old ++ codes "refused no feature" → Replied d d (Rings n) old new true
 not_listed d n old new = not_found d n (Rings n) (RingsAre (feature_at d n).polygons) (step-rings (opened_state d) n) old new
+
+-- ---- the question for a position
+
+pub placed : (d : Document) (p : Position) (inside border old new : List ℕ) → inside ≡ inside_at d p → border ≡ border_at d p → new ≡ old ++ at_text inside border → Replied d d (At p) old new false
+placed d p inside border old new e f t =
+    by_step d d (At p) old new false (AtIs (inside_at d p) (border_at d p)) (opened_state d) (step-at (opened_state d) p) refl
+    (t ∙ ap (λ ns. old ++ at_text ns border) e ∙ ap (λ ns. old ++ at_text (inside_at d p) ns) f) refl
 
 -- ---- the question for the counts
 

@@ -12,7 +12,7 @@ use Rattle.script_runner.specs.Outcome.{Runs, AnswersAll, AnswersLines, AnswersP
 use Rattle.script_runner.specs.declared.runner.Summary.{Summary}
 use Rattle.script_runner.proofs.CommandLemmas.{not_empty}
 use Rattle.script_runner.proofs.StepLemmas.{Feeds-append}
-use Rattle.script_runner.proofs.LineLemmas.{Mid, Mid-feeds, Mid-start, kept_means, AllMean-more, replied, counted, refusing}
+use Rattle.script_runner.proofs.LineLemmas.{Mid, Mid-feeds, Mid-start, kept_means, AllMean-more, replied, stated, counted, refusing}
 
 stands : (d : Document) (read text : List ℕ) (p : Progress) → Feeds (start d) read text p → Mid d read text p
 stands d read text p fed = Mid-feeds read d [] [] (start d) p text (Mid-start d) fed
@@ -89,8 +89,8 @@ with_last ended [] h = absurd (h refl)
 with_last ended (b ∷ bs) h = refl
 
 -- the whole script
-pub script_run : (d : Document) (read text last : List ℕ) (p : Progress) (s : Summary) → Feeds (start d) read text p → Finishes p last s → Runs d read (text ++ last) s
-script_run d read text last p s fed done = by (length p.line == 0) refl done.1
+pub script_run : (d e : Document) (read text last : List ℕ) (p : Progress) (s : Summary) → Feeds (start d) read text p → Finishes p last s e → Runs d e read (text ++ last) s
+script_run d e read text last p s fed done = by (length p.line == 0) refl done.1
   where
     m : Mid d read text p
     m = stands d read text p fed
@@ -98,8 +98,8 @@ script_run d read text last p s fed done = by (length p.line == 0) refl done.1
     q : Progress
     q = done.0
 
-    by : (t : Bool) → (length p.line == 0) ≡ t → MatchBool t ((last ≡ []) × (q ≡ p)) (LineStep false p last q) → Runs d read (text ++ last) s
-    by true e h =
+    by : (t : Bool) → (length p.line == 0) ≡ t → MatchBool t ((last ≡ []) × (q ≡ p)) (LineStep false p last q) → Runs d e read (text ++ last) s
+    by true b h =
         let empty : length p.line ≡ 0 = grind (arith, nat_tests) in
         let none : m.pending ≡ [] = length_zero m.pending (no_pending (length m.pending) (sym m.kept.len ∙ empty)) in
         record {
@@ -109,12 +109,13 @@ script_run d read text last p s fed done = by (length p.line == 0) refl done.1
           cut = m.cut;
           mean = rw none m.mean;
           told = rw (h.0, append-nil) m.told;
+          after = done.3 ∙ ap (λ x. x.doc) h.1 ∙ ap (λ st. st.doc) m.state;
           answered = done.2.answered ∙ ap (λ x. x.answered) h.1 ∙ m.answered;
           refused = done.2.refused ∙ ap (λ x. x.refused) h.1 ∙ m.refused;
         }
-    by false e h =
+    by false b h =
         let (said, means, is) = h in
-        let some : m.pending ≡ [] → ⊥ = λ k. not_empty p.line e (m.kept.same (subst (λ l. length l ≤ 8192) (sym k) (omega arith)) ∙ k) in
+        let some : m.pending ≡ [] → ⊥ = λ k. not_empty p.line b (m.kept.same (subst (λ l. length l ≤ 8192) (sym k) (omega arith)) ∙ k) in
         record {
           ended = m.ended;
           last = m.pending;
@@ -122,20 +123,21 @@ script_run d read text last p s fed done = by (length p.line == 0) refl done.1
           cut = m.cut;
           mean = rw (with_last m.ended m.pending some) (AllMean-more (map ended_line m.ended) m.meanings (open_line m.pending) said m.mean (kept_means false p.over p.line m.pending said m.kept.over m.kept.same means));
           told = replied d read text p q m said last is.told;
+          after = done.3 ∙ ap (λ st. st.doc) (stated d read text p q m said is.after);
           answered = done.2.answered ∙ counted d read text p q m said is.answered;
           refused = done.2.refused ∙ refusing d read text p q m said is.refused;
         }
 
-pub all_answered : (d : Document) (read text : List ℕ) (p : Progress) (s : Summary) (coming left taken mid given : Option (List ℕ)) → Feeds (start d) read text p
-    → Consumes coming left read → Appends taken mid text → Told mid given (λ last. Finishes p last s) → AnswersAll d coming left taken given s
-all_answered d read text p s coming left taken mid given fed came put h =
+pub all_answered : (d e : Document) (read text : List ℕ) (p : Progress) (s : Summary) (coming left taken mid given : Option (List ℕ)) → Feeds (start d) read text p
+    → Consumes coming left read → Appends taken mid text → Told mid given (λ last. Finishes p last s e) → AnswersAll d e coming left taken given s
+all_answered d e read text p s coming left taken mid given fed came put h =
     let (last, put_last, done) = h in
     record {
       script = read;
       text = text ++ last;
       read = came;
       wrote = Appends-more taken mid given text last put put_last;
-      runs = script_run d read text last p s fed done;
+      runs = script_run d e read text last p s fed done;
     }
 
 -- ---- bytes of a reader

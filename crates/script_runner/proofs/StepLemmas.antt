@@ -9,19 +9,20 @@ use Rattle.script_runner.specs.Runs.{Meaning, reply_text, opened_state}
 use Rattle.script_runner.specs.Progress.{Progress, KeptMeans, LineStep, ByteStep, Feeds, PutsPart, FeedsPart, Told}
 use Rattle.script_runner.specs.Finish.{Finishes, PutsLast, Counts}
 use Rattle.script_runner.specs.declared.runner.Summary.{Summary}
+use Rattle.script_runner.proofs.SendLemmas.{put_kept}
 
 pub OnErr-by : {A E : Type 0} (r : Result A E) {P : Type 0} → P → OnErr r P
 OnErr-by (Ok x) h = tt
 OnErr-by (Err e) h = h
 
 -- the front of a reply
-pub put_part : (ended : Bool) (p : Progress) (old new : Option (List ℕ)) (d : Document) (over : Bool) (line : List ℕ) (m : Meaning) (text piece : List ℕ)
-    → p.doc ≡ d → p.over ≡ over → p.line ≡ line → KeptMeans over ended line m → text ≡ reply_text (opened_state d) m → piece ≡ text → AppendsPrefix old new piece
+pub put_part : (ended : Bool) (p : Progress) (old new : Option (List ℕ)) (d : Document) (over : Bool) (line : List ℕ) (m : Meaning)
+    → p.doc ≡ d → p.over ≡ over → p.line ≡ line → KeptMeans over ended line m → AppendsPrefix old new (reply_text (opened_state d) m)
     → PutsPart ended p old new
-put_part ended p old new d over line m text piece ed eo el k t e h =
+put_part ended p old new d over line m ed eo el k h =
     let (n, within, put) = h in
     let kept : KeptMeans p.over ended p.line m = rw (eo, el) k in
-    (take n piece, put, inr (m, n, kept, ap (take n) (e ∙ t ∙ ap (λ x. reply_text (opened_state x) m) (sym ed))))
+    (take n (reply_text (opened_state d) m), put, inr (m, n, kept, ap (λ x. take n (reply_text (opened_state x) m)) (sym ed)))
 
 -- a line feed ends the kept line
 pub fed_line : (p q : Progress) (b : ℕ) (text : List ℕ) → b ≡ 10 → LineStep true (record p { bytes = p.bytes + 1 }) text q → q.bytes ≡ p.bytes + 1 → ByteStep p b text q
@@ -51,9 +52,6 @@ Feeds-append (x ∷ bs) cs p q r s t h k =
 pub put_none : (p : Progress) (a b : Option (List ℕ)) → Keeps a b → PutsLast p a b
 put_none p a b k = ([], Appends-none a b k, inl refl)
 
-put_kept : (a b c : Option (List ℕ)) (text : List ℕ) → Appends a b text → Keeps b c → Appends a c text
-put_kept a b c text h k = subst (Appends a c) (append-nil text) (Appends-more a b c text [] h (Appends-none b c k))
-
 pub put_last : (p q : Progress) (a b c : Option (List ℕ)) → Told a b (λ text. LineStep false p text q) → Keeps b c → PutsLast p a c
 put_last p q a b c h k =
     let (text, put, step) = h in
@@ -64,14 +62,14 @@ put_last p q a b c h k =
 last_none : (p : Progress) (t : Bool) → t ≡ true → MatchBool t ((let none : List ℕ = [] in none ≡ []) × (p ≡ p)) (LineStep false p [] p)
 last_none p t e = subst (λ b. MatchBool b ((let none : List ℕ = [] in none ≡ []) × (p ≡ p)) (LineStep false p [] p)) (sym e) (refl, refl)
 
-pub finished_none : (p : Progress) (a b : Option (List ℕ)) (s : Summary) → (length p.line == 0) ≡ true → Keeps a b → Counts p s → Told a b (λ text. Finishes p text s)
-finished_none p a b s e k n = ([], Appends-none a b k, (p, last_none p (length p.line == 0) e, n))
+pub finished_none : (p : Progress) (a b : Option (List ℕ)) (s : Summary) (d : Document) → (length p.line == 0) ≡ true → Keeps a b → Counts p s → d ≡ p.doc → Told a b (λ text. Finishes p text s d)
+finished_none p a b s d e k n l = ([], Appends-none a b k, (p, last_none p (length p.line == 0) e, n, l))
 
-pub finished_line : (p q : Progress) (a b c : Option (List ℕ)) (s : Summary) → (length p.line == 0) ≡ false → Told a b (λ text. LineStep false p text q) → Keeps b c
-    → Counts q s → Told a c (λ text. Finishes p text s)
-finished_line p q a b c s e h k n =
+pub finished_line : (p q : Progress) (a b c : Option (List ℕ)) (s : Summary) (d : Document) → (length p.line == 0) ≡ false → Told a b (λ text. LineStep false p text q) → Keeps b c
+    → Counts q s → d ≡ q.doc → Told a c (λ text. Finishes p text s d)
+finished_line p q a b c s d e h k n l =
     let (text, put, step) = h in
-    (text, put_kept a b c text put k, (q, subst (λ t. MatchBool t ((text ≡ []) × (q ≡ p)) (LineStep false p text q)) (sym e) step, n))
+    (text, put_kept a b c text put k, (q, subst (λ t. MatchBool t ((text ≡ []) × (q ≡ p)) (LineStep false p text q)) (sym e) step, n, l))
 
 -- ---- after a fault
 

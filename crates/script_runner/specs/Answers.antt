@@ -1,11 +1,12 @@
 -- The text of an answer.
 use Rattle.std.specs.Prelude.{ℕ, List, [], ◌++◌, map, codes, decimal}
+use Rattle.std.specs.List.{flat_map}
 use Rattle.std.specs.Fmt.{signed_decimal}
 use Rattle.grid_geometry.specs.Position.{Position}
 use Rattle.grid_geometry.specs.Segment.{Segment}
-use Rattle.ring_machine.specs.Command.{Refusal, NoFeature, NoVertex, NoSegment, Occupied, Junction, RingShort, SegmentExists, NoCollection, NotOnOuterRing, RepeatedPoint, WrongSide, TooLarge, SameFeature, NotOnePolygon, NotNeighbours, SameSide, NothingToUndo, Sweeps, Conflict, Runs, CommonElse, Answer, Done, Thinned, AreaIs, RingsAre, CountsAre, Refused}
+use Rattle.ring_machine.specs.Command.{Refusal, NoFeature, NoVertex, NoSegment, Occupied, Junction, RingShort, SegmentExists, NoCollection, NotOnOuterRing, RepeatedPoint, WrongSide, TooLarge, SameFeature, NotOnePolygon, NotNeighbours, SameSide, NothingToUndo, Sweeps, Conflict, Runs, CommonElse, Answer, Done, Thinned, AreaIs, AtIs, NeighboursAre, RingsAre, CountsAre, DocumentIs, Refused}
 use Rattle.ring_machine.specs.Query.{Counts}
-use Rattle.map_text.specs.Text.{list_text, pair_text}
+use Rattle.map_text.specs.Text.{list_text, pair_text, text_of}
 
 -- both numbers, a space between them
 abbrev pub position_text : Position → List ℕ
@@ -51,6 +52,18 @@ polygon_text rings = list_text (map ring_text rings)
 abbrev pub polygons_text : List (List (List Position)) → List ℕ
 polygons_text polygons = list_text (map polygon_text polygons)
 
+-- each number after a space
+abbrev pub spaced_numbers : List ℕ → List ℕ
+spaced_numbers ns = flat_map (λ n. codes " " ++ decimal n) ns
+
+-- the features that hold a position, and those that have it on a border
+abbrev pub at_text : List ℕ → List ℕ → List ℕ
+at_text inside border =
+    codes "inside:" ++ (spaced_numbers inside ++ (codes " border:" ++ spaced_numbers border))
+
+abbrev pub neighbours_text : List ℕ → List ℕ
+neighbours_text ns = codes "neighbours:" ++ spaced_numbers ns
+
 -- three numbers with what they count before them
 abbrev pub numbers_text : ℕ → ℕ → ℕ → List ℕ
 numbers_text features vertices segments =
@@ -65,7 +78,10 @@ abbrev pub answer_text : Answer → List ℕ
 answer_text Done = codes "ok"
 answer_text (Thinned n) = codes "ok " ++ decimal n
 answer_text (AreaIs z) = signed_decimal z
+answer_text (AtIs inside border) = at_text inside border
+answer_text (NeighboursAre ns) = neighbours_text ns
 answer_text (RingsAre polygons) = polygons_text polygons
 answer_text (CountsAre counts) = counts_text counts
+answer_text (DocumentIs d) = text_of d
 answer_text (Refused r) = codes "refused " ++ refusal_text r
 answer_text _ = []

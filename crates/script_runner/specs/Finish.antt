@@ -1,5 +1,6 @@
 -- The end of a script.
 use Rattle.std.specs.Prelude.{◌≡◌, ℕ, List, [], length, ◌==◌, MatchBool, false, Option}
+use Rattle.ring_machine.specs.Document.{Document}
 use Rattle.script_runner.specs.Progress.{Progress, LineStep, Told, IsPartReply}
 use Rattle.script_runner.specs.declared.runner.Summary.{Summary}
 
@@ -12,8 +13,9 @@ pub record Counts (p : Progress) (s : Summary) : Type 0 where
   pub answered : s.answered ≡ p.answered
   pub refused : s.refused ≡ p.refused
 
-abbrev pub Finishes : Progress → List ℕ → Summary → Type 0
-Finishes p text s = (q : Progress) × LastStep p text q × Counts q s
+-- the last line is answered, and these are the counts and the document after it
+abbrev pub Finishes : Progress → List ℕ → Summary → Document → Type 0
+Finishes p text s last = (q : Progress) × LastStep p text q × Counts q s × (last ≡ q.doc)
 
 -- some of the reply to the last line was put
 abbrev pub PutsLast : Progress → Option (List ℕ) → Option (List ℕ) → Type 0

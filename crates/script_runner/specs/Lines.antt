@@ -2,7 +2,7 @@
 use Rattle.std.specs.Prelude.{◌≡◌, ℕ, ℤ, pos, ◌<◌, ◌≤◌, ◌^◌, ◌==◌, List, [], ◌∷◌, ◌++◌, Bool, true, codes, Option, None, Some, IsTrue, IsUtf8}
 use Rattle.std.specs.Fmt.{signed_decimal}
 use Rattle.grid_geometry.specs.Position.{Position, InRange}
-use Rattle.ring_machine.specs.Command.{Command, Move, Insert, Remove, Thin, Area, Rings, Count}
+use Rattle.ring_machine.specs.Command.{Command, Move, Insert, Remove, Thin, Area, At, Neighbours, Rings, Count, Show}
 
 -- a number behind its space: 0, or digits of which the first is not 0, perhaps behind a minus
 abbrev pub spaced : ℤ → List ℕ
@@ -25,8 +25,11 @@ Asks line (Insert a b q) =
 Asks line (Remove p) = (line ≡ codes "remove" ++ spaced_position p) × InRange p
 Asks line (Thin (pos t)) = (line ≡ codes "thin" ++ spaced (pos t)) × (t ≤ most_bound)
 Asks line (Area n) = (line ≡ codes "area" ++ spaced (pos n)) × (n < 2 ^ 32)
+Asks line (At p) = (line ≡ codes "at" ++ spaced_position p) × InRange p
+Asks line (Neighbours n) = (line ≡ codes "neighbours" ++ spaced (pos n)) × (n < 2 ^ 32)
 Asks line (Rings n) = (line ≡ codes "rings" ++ spaced (pos n)) × (n < 2 ^ 32)
 Asks line Count = line ≡ codes "count"
+Asks line Show = line ≡ codes "document"
 Asks line _ = ⊥
 
 -- an empty line, or a comment

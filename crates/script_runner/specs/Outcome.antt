@@ -1,12 +1,15 @@
--- What a run answers, and what stands after it.
+-- What a run answers and saves, and what stands after it.
 use Rattle.std.specs.Prelude.{◌≡◌, ◌≢◌, ℕ, ◌<◌, List, [], ◌++◌, length, take, map, Bool, Option, ◌⊎◌}
 use Rattle.std.specs.Io.KnownBytes.{Appends, Consumes}
+use Rattle.device_io.specs.Devices.{AppendsPrefix}
 use Rattle.ring_machine.specs.Document.{Document}
 use Rattle.ring_machine.specs.Planar.{Proper}
 use Rattle.topo_reader.specs.Opening.{IsFault}
 use Rattle.topo_reader.specs.Reads.{Reads, Fits}
 use Rattle.topo_outline.specs.declared.fault.OpenFault.TheVariants as opening
-use Rattle.script_runner.specs.Runs.{AreLines, ended_line, lines_of, Meaning, Means, AllMean, reply_text, replies, state_after_all, answered, refused, opened_state}
+use Rattle.map_text.specs.Text.{text_of}
+use Rattle.map_text.specs.Saved.{Saved}
+use Rattle.script_runner.specs.Runs.{AreLines, ended_line, lines_of, Meaning, Means, AllMean, reply_text, replies, state_after_all, answered, refused, opened_state, document_after}
 use Rattle.script_runner.specs.Progress.{line_at}
 use Rattle.script_runner.specs.declared.runner.Summary.{Summary}
 use Rattle.script_runner.specs.declared.fault.RunFault.{RunFault}
@@ -16,8 +19,9 @@ use Rattle.arc_store.specs.declared.fault.BuildFault.TheVariants as build
 use Rattle.script_runner.specs.declared.stop.Halt.{Halt}
 use Rattle.script_runner.specs.declared.stop.Halt.TheVariants as halt
 
--- the bytes of a device, where it tells them: those still to come of a reader before and after a
--- run (coming, left), those that a writer has taken before and after it (taken, given)
+-- the bytes of a device, where it tells them: those still to come of the script before and after a
+-- run (coming, left), those that the writer of the answers has taken before and after it (taken,
+-- given), and those that the writer of the saved text has (held, holds)
 abbrev pub Known : Type 0
 Known = Option (List ℕ)
 
@@ -31,24 +35,27 @@ pub record OpensAs (bytes : List ℕ) (d : Document) : Type 0 where
 abbrev pub IsUnopened : List ℕ → Type 0
 IsUnopened bytes = (d : Document) → ¬ OpensAs bytes d
 
--- a script's lines were answered by the text, one after another, on the document
-pub record Runs (d : Document) (script text : List ℕ) (summary : Summary) : Type 0 where
+-- a script's lines were answered by the text, one after another, on the document d, and e is the last
+-- document
+pub record Runs (d e : Document) (script text : List ℕ) (summary : Summary) : Type 0 where
   pub ended : List (List ℕ)
   pub last : List ℕ
   pub meanings : List Meaning
   pub cut : AreLines script ended last
   pub mean : AllMean (lines_of ended last) meanings
   pub told : text ≡ replies (opened_state d) meanings
+  pub after : e ≡ document_after d meanings
   pub answered : summary.answered ≡ answered meanings
   pub refused : summary.refused ≡ refused (opened_state d) meanings
 
--- the script was read to its end, and the answers to it were written
-pub record AnswersAll (d : Document) (coming left taken given : Known) (summary : Summary) : Type 0 where
+-- the script was read to its end, and the answers to it were written; e is the last document
+pub record AnswersAll (d e : Document) (coming left taken given : Known) (summary : Summary)
+    : Type 0 where
   pub script : List ℕ
   pub text : List ℕ
   pub read : Consumes coming left script
   pub wrote : Appends taken given text
-  pub runs : Runs d script text summary
+  pub runs : Runs d e script text summary
 
 -- these bytes came, the lines that ended among them were answered, and no more was written;
 -- only past the limit of a script did further bytes come
@@ -85,30 +92,57 @@ pub record AnswersPart (d : Document) (coming left taken given : Known) : Type 0
   pub front : IsFront d meanings pending part
   pub wrote : Appends taken given (replies (opened_state d) meanings ++ part)
 
--- the map opened, and its script was answered
-pub record Completes (bytes : List ℕ) (coming left taken given : Known) (summary : Summary)
-    : Type 0 where
+-- the map opened, its script was answered, and the text of the last document was saved: it means
+-- that document, and each border stands in it once
+pub record Completes (bytes : List ℕ) (coming left taken given held holds : Known)
+    (summary : Summary) : Type 0 where
   pub document : Document
+  pub last : Document
   pub opens : OpensAs bytes document
-  pub answers : AnswersAll document coming left taken given summary
+  pub answers : AnswersAll document last coming left taken given summary
+  pub wrote : Appends held holds (text_of last)
+  pub saved : Saved (text_of last) last
+
+-- the script was answered, and a front of the text of the last document was saved
+pub record SavesPart (d : Document) (coming left taken given held holds : Known) : Type 0 where
+  pub last : Document
+  pub summary : Summary
+  pub answers : AnswersAll d last coming left taken given summary
+  pub wrote : AppendsPrefix held holds (text_of last)
+  pub saved : Saved (text_of last) last
 
 -- nothing was read of the script, and nothing written
 pub record IsUntouched (coming left taken given : Known) : Type 0 where
   pub unread : left ≡ coming
   pub unwritten : given ≡ taken
 
--- what stands after a fault: the map's first fault, or how far the answers came
-abbrev pub Ends : RunFault → List ℕ → Known → Known → Known → Known → Type 0
-Ends (fault.Open f) bytes coming left taken given =
+-- nothing was saved
+abbrev pub IsUnsaved : Known → Known → Type 0
+IsUnsaved held holds = holds ≡ held
+
+-- memory was refused after the map was opened: in an answer, and then nothing was saved, or in
+-- saving, and then all lines were answered
+abbrev pub LacksMemory : Document → Known → Known → Known → Known → Known → Known → Type 0
+LacksMemory d coming left taken given held holds =
+    (AnswersPart d coming left taken given × IsUnsaved held holds)
+    ⊎ SavesPart d coming left taken given held holds
+
+-- what stands after a fault: the map's first fault, or how far the answers or the saving came
+abbrev pub Ends : RunFault → List ℕ → Known → Known → Known → Known → Known → Known → Type 0
+Ends (fault.Open f) bytes coming left taken given held holds =
     IsFault bytes f × (f ≢ opening.OutOfMemory) × IsUnopened bytes
-    × IsUntouched coming left taken given
-Ends fault.Read bytes coming left taken given =
+    × IsUntouched coming left taken given × IsUnsaved held holds
+Ends fault.Read bytes coming left taken given held holds =
     (d : Document) × OpensAs bytes d × AnswersLines d coming left taken given
-Ends fault.Write bytes coming left taken given =
+    × IsUnsaved held holds
+Ends fault.Write bytes coming left taken given held holds =
     (d : Document) × OpensAs bytes d × AnswersPart d coming left taken given
-Ends fault.OutOfMemory bytes coming left taken given =
-    IsUntouched coming left taken given
-    ⊎ ((d : Document) × OpensAs bytes d × AnswersPart d coming left taken given)
+    × IsUnsaved held holds
+Ends fault.Save bytes coming left taken given held holds =
+    (d : Document) × OpensAs bytes d × SavesPart d coming left taken given held holds
+Ends fault.OutOfMemory bytes coming left taken given held holds =
+    (IsUntouched coming left taken given × IsUnsaved held holds)
+    ⊎ ((d : Document) × OpensAs bytes d × LacksMemory d coming left taken given held holds)
 
 -- the same of the script alone, for the document
 abbrev pub Halts : Halt → Document → Known → Known → Known → Known → Type 0
@@ -121,6 +155,7 @@ abbrev pub IsOpenEnd : RunFault → List ℕ → Type 0
 IsOpenEnd (fault.Open f) bytes = IsFault bytes f × (f ≢ opening.OutOfMemory) × IsUnopened bytes
 IsOpenEnd fault.Read bytes = ⊥
 IsOpenEnd fault.Write bytes = ⊥
+IsOpenEnd fault.Save bytes = ⊥
 IsOpenEnd fault.OutOfMemory bytes = Unit {0}
 
 -- the end of a run whose map was not built

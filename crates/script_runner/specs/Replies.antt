@@ -10,6 +10,10 @@ use Rattle.ring_machine.specs.Command as machine
 use Rattle.arc_store.specs.declared.fault.EditFault.{EditFault}
 use Rattle.arc_store.specs.declared.fault.EditFault.TheVariants.{NoFeature, NoVertex, NoSegment, Occupied, Junction, RingShort, SegmentExists, TooLarge, Conflict, Sweeps, OutOfMemory}
 use Rattle.script_runner.specs.declared.lines.Line.{Line}
+use Rattle.topo_writer.specs.declared.sending.WriteFault.{WriteFault}
+use Rattle.topo_writer.specs.declared.sending.WriteFault.TheVariants as write
+use Rattle.script_runner.specs.declared.stop.Stop.{Stop}
+use Rattle.script_runner.specs.declared.stop.Stop.TheVariants as stop
 
 -- the command is answered: its answer's text was appended, the document is the machine's, and it refuses or not
 pub record Replied (d e : Document) (c : Command) (old new : List ℕ) (refuses : Bool)
@@ -43,6 +47,11 @@ refusal_of TooLarge = Some machine.TooLarge
 refusal_of (Conflict s t) = Some (machine.Conflict s t)
 refusal_of Sweeps = Some machine.Sweeps
 refusal_of OutOfMemory = None
+
+-- what stops a runner where the text of a map was not written whole
+abbrev pub stop_of : WriteFault → Stop
+stop_of write.Device = stop.Write
+stop_of write.OutOfMemory = stop.OutOfMemory
 
 -- the refusal's text was appended
 abbrev pub TellsFault : EditFault → List ℕ → List ℕ → Type 0

@@ -121,3 +121,7 @@ refused st (m ∷ ms) = refused_by st m + refused (state_after st m) ms
 -- opened: the next number is that of the features
 abbrev pub opened_state : Document → State
 opened_state d = record { doc = d; next = length (features d); past = [] }
+
+-- the document after lines of these meanings, of the one that was opened
+abbrev pub document_after : Document → List Meaning → Document
+document_after d meanings = (state_after_all (opened_state d) meanings).doc

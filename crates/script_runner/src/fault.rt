@@ -10,6 +10,8 @@ pub enum RunFault<'a> {
     Read,
     /// The writer of the answers failed: `write fault`.
     Write,
+    /// The writer of the saved text failed, after all lines were answered: `save fault`.
+    Save,
     /// A growth was refused, in opening too: `out of memory`.
     OutOfMemory,
 }
@@ -20,6 +22,7 @@ impl<'a> Display for RunFault<'a> {
             RunFault::Open(fault) => write!(f, "open: {fault}"),
             RunFault::Read => write!(f, "script fault"),
             RunFault::Write => write!(f, "write fault"),
+            RunFault::Save => write!(f, "save fault"),
             RunFault::OutOfMemory => write!(f, "out of memory"),
         }
     }

@@ -1,14 +1,17 @@
-//! Lines in, answers out: a script is run on a map.
+//! Lines in, answers out: a script is run on a map, and what it makes of the map is saved.
 #![tactic(auto)]
 
 mod fault;
 mod lines;
 mod parsing;
+mod questions;
 mod replies;
 mod ring_lists;
 mod runner;
 mod running;
+mod sending;
 mod stop;
+mod texts;
 mod words;
 
 pub use fault::RunFault;

@@ -1,6 +1,6 @@
 use grid_geometry::Pos;
 
-/// An edit or a query.
+/// An edit or a query of a map.
 #[derive(Clone, Copy, Debug, PartialEq, Eq)]
 pub enum Command {
     /// `move x y x y`: the second position takes the place of the first in every ring.
@@ -15,10 +15,10 @@ pub enum Command {
     Thin(i128),
     /// `area f`: twice the area of a feature.
     Area(u32),
-    /// `rings f`: the positions of a feature's rings, by polygon and ring.
-    Rings(u32),
-    /// `count`: how many features, vertices and segments there are.
-    Count,
+    /// `at x y`: the features that hold a position, and those on whose borders it lies.
+    At(Pos),
+    /// `neighbours f`: the other features that have a segment in common with a feature.
+    Neighbours(u32),
 }
 
 /// What a line of a script asks.
@@ -26,8 +26,14 @@ pub enum Command {
 pub enum Line {
     /// An empty line, or a comment that begins with `#`.
     Skip,
-    /// An edit or a query.
+    /// `rings f`: the positions of a feature's rings, by polygon and ring.
+    Rings(u32),
+    /// `count`: how many features, vertices and segments there are.
+    Count,
+    /// Any other edit or query.
     Edit(Command),
+    /// `document`: the text of the map.
+    Document,
 }
 
 /// Why a line is not taken.

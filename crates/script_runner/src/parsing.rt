@@ -1,12 +1,15 @@
-ghost use Rattle.std.specs.Prelude.{◌≡◌, ◌++◌, List, ℕ, codes, MatchOption, MatchResult, pos, ◌<◌, ◌^◌, IsUtf8, IsTrue, ◌↔◌, Option, Some, None};
+ghost use Rattle.std.specs.Prelude.{◌≡◌, ◌++◌, List, ℕ, codes, MatchOption, MatchResult, IsSomeAnd, pos, ◌<◌, ◌^◌, IsUtf8, IsTrue, ◌↔◌, Option, Some, None};
+ghost use Rattle.grid_geometry.specs.Position.{Position};
 ghost use Rattle.ring_machine.specs.Command.{Command as Asked};
 ghost use Rattle.script_runner.specs.Lines.{Says, Asks, is_comment};
-ghost use Rattle.script_runner.specs.Commands.{command_of, says_of, IsMoveTail, IsInsertTail};
-ghost use Rattle.script_runner.specs.Commands.{IsRemoveTail, IsThinTail, IsFeatureTail};
-ghost use Rattle.script_runner.specs.Commands.{IsAreaTail, IsRingsTail, IsCountTail};
+ghost use Rattle.script_runner.specs.Commands.{says_of, IsPositionTail, IsFeatureTail};
+ghost use Rattle.script_runner.specs.Commands.{IsMoveTail, IsInsertTail, IsRemoveTail, IsThinTail};
+ghost use Rattle.script_runner.specs.Commands.{IsAreaTail, IsAtTail, IsNeighboursTail};
+ghost use Rattle.script_runner.specs.Commands.{IsRingsTail, IsCountTail, IsDocumentTail};
 
 use crate::lines::{Command, Line, LineFault};
 use crate::words::{behind, spaced_number, spaced_position, split_word, wide_number};
+use grid_geometry::Pos;
 use std::str;
 
 /// The most that the bound of a thinning may be: twice the area of the whole grid, which no
@@ -14,10 +17,10 @@ use std::str;
 const MAX_BOUND: u128 = 8_000_000_000_000_000_000_000_000;
 
 /// The move that stands behind the word `move`.
-fn move_behind(tail: &[u8]) -> Option<Command>
+fn move_behind(tail: &[u8]) -> Option<Line>
     ensures { MatchOption result
         ((c : Asked) → ¬ IsMoveTail tail.now c)
-        (λ c. IsMoveTail tail.now (command_of c)) }
+        (λ line. IsSomeAnd (says_of line) (IsMoveTail tail.now)) }
 {
     let Some(from) = spaced_position(tail) else {
         return None;
@@ -26,17 +29,17 @@ fn move_behind(tail: &[u8]) -> Option<Command>
         return None;
     };
     if to.1.is_empty() {
-        Some(Command::Move(from.0, to.0))
+        Some(Line::Edit(Command::Move(from.0, to.0)))
     } else {
         None
     }
 }
 
 /// The new vertex that stands behind the word `insert`.
-fn insert_behind(tail: &[u8]) -> Option<Command>
+fn insert_behind(tail: &[u8]) -> Option<Line>
     ensures { MatchOption result
         ((c : Asked) → ¬ IsInsertTail tail.now c)
-        (λ c. IsInsertTail tail.now (command_of c)) }
+        (λ line. IsSomeAnd (says_of line) (IsInsertTail tail.now)) }
 {
     let Some(a) = spaced_position(tail) else {
         return None;
@@ -48,33 +51,45 @@ fn insert_behind(tail: &[u8]) -> Option<Command>
         return None;
     };
     if new.1.is_empty() {
-        Some(Command::Insert(a.0, b.0, new.0))
+        Some(Line::Edit(Command::Insert(a.0, b.0, new.0)))
+    } else {
+        None
+    }
+}
+
+/// The position that stands behind a word, with nothing behind it.
+fn position_behind(tail: &[u8]) -> Option<Pos>
+    ensures { MatchOption result
+        ((p : Position) → ¬ IsPositionTail tail.now p)
+        (λ p. IsPositionTail tail.now p) }
+{
+    let Some(position) = spaced_position(tail) else {
+        return None;
+    };
+    if position.1.is_empty() {
+        Some(position.0)
     } else {
         None
     }
 }
 
 /// The removal that stands behind the word `remove`.
-fn remove_behind(tail: &[u8]) -> Option<Command>
+fn remove_behind(tail: &[u8]) -> Option<Line>
     ensures { MatchOption result
         ((c : Asked) → ¬ IsRemoveTail tail.now c)
-        (λ c. IsRemoveTail tail.now (command_of c)) }
+        (λ line. IsSomeAnd (says_of line) (IsRemoveTail tail.now)) }
 {
-    let Some(vertex) = spaced_position(tail) else {
-        return None;
-    };
-    if vertex.1.is_empty() {
-        Some(Command::Remove(vertex.0))
-    } else {
-        None
+    match position_behind(tail) {
+        Some(vertex) => Some(Line::Edit(Command::Remove(vertex))),
+        None => None,
     }
 }
 
 /// The thinning that stands behind the word `thin`.
-fn thin_behind(tail: &[u8]) -> Option<Command>
+fn thin_behind(tail: &[u8]) -> Option<Line>
     ensures { MatchOption result
         ((c : Asked) → ¬ IsThinTail tail.now c)
-        (λ c. IsThinTail tail.now (command_of c)) }
+        (λ line. IsSomeAnd (says_of line) (IsThinTail tail.now)) }
 {
     let Some(word) = behind(b" ", tail) else {
         return None;
@@ -83,7 +98,7 @@ fn thin_behind(tail: &[u8]) -> Option<Command>
         return None;
     };
     if bound <= MAX_BOUND {
-        Some(Command::Thin(bound as i128))
+        Some(Line::Edit(Command::Thin(bound as i128)))
     } else {
         None
     }
@@ -108,47 +123,84 @@ fn feature_behind(tail: &[u8]) -> Option<u32>
 }
 
 /// The question for an area that stands behind the word `area`.
-fn area_behind(tail: &[u8]) -> Option<Command>
+fn area_behind(tail: &[u8]) -> Option<Line>
     ensures { MatchOption result
         ((c : Asked) → ¬ IsAreaTail tail.now c)
-        (λ c. IsAreaTail tail.now (command_of c)) }
+        (λ line. IsSomeAnd (says_of line) (IsAreaTail tail.now)) }
 {
     match feature_behind(tail) {
-        Some(feature) => Some(Command::Area(feature)),
+        Some(feature) => Some(Line::Edit(Command::Area(feature))),
+        None => None,
+    }
+}
+
+/// The question for a position that stands behind the word `at`.
+fn at_behind(tail: &[u8]) -> Option<Line>
+    ensures { MatchOption result
+        ((c : Asked) → ¬ IsAtTail tail.now c)
+        (λ line. IsSomeAnd (says_of line) (IsAtTail tail.now)) }
+{
+    match position_behind(tail) {
+        Some(position) => Some(Line::Edit(Command::At(position))),
+        None => None,
+    }
+}
+
+/// The question for neighbours that stands behind the word `neighbours`.
+fn neighbours_behind(tail: &[u8]) -> Option<Line>
+    ensures { MatchOption result
+        ((c : Asked) → ¬ IsNeighboursTail tail.now c)
+        (λ line. IsSomeAnd (says_of line) (IsNeighboursTail tail.now)) }
+{
+    match feature_behind(tail) {
+        Some(feature) => Some(Line::Edit(Command::Neighbours(feature))),
         None => None,
     }
 }
 
 /// The question for rings that stands behind the word `rings`.
-fn rings_behind(tail: &[u8]) -> Option<Command>
+fn rings_behind(tail: &[u8]) -> Option<Line>
     ensures { MatchOption result
         ((c : Asked) → ¬ IsRingsTail tail.now c)
-        (λ c. IsRingsTail tail.now (command_of c)) }
+        (λ line. IsSomeAnd (says_of line) (IsRingsTail tail.now)) }
 {
     match feature_behind(tail) {
-        Some(feature) => Some(Command::Rings(feature)),
+        Some(feature) => Some(Line::Rings(feature)),
         None => None,
     }
 }
 
 /// The question for the counts, where nothing stands behind the word `count`.
-fn count_behind(tail: &[u8]) -> Option<Command>
+fn count_behind(tail: &[u8]) -> Option<Line>
     ensures { MatchOption result
         ((c : Asked) → ¬ IsCountTail tail.now c)
-        (λ c. IsCountTail tail.now (command_of c)) }
+        (λ line. IsSomeAnd (says_of line) (IsCountTail tail.now)) }
 {
     if tail.is_empty() {
-        Some(Command::Count)
+        Some(Line::Count)
     } else {
         None
     }
 }
 
-/// The command that a line asks for.
-fn command(line: &[u8]) -> Option<Command>
+/// The question for the text of the map, where nothing stands behind the word `document`.
+fn document_behind(tail: &[u8]) -> Option<Line>
+    ensures { MatchOption result
+        ((c : Asked) → ¬ IsDocumentTail tail.now c)
+        (λ line. IsSomeAnd (says_of line) (IsDocumentTail tail.now)) }
+{
+    if tail.is_empty() {
+        Some(Line::Document)
+    } else {
+        None
+    }
+}
+
+/// What a line asks for by its word.
+fn by_word(line: &[u8]) -> Option<Line>
     ensures { MatchOption result
         ((c : Asked) → ¬ Asks line.now c)
-        (λ c. Asks line.now (command_of c)) }
+        (λ said. IsSomeAnd (says_of said) (Asks line.now)) }
 {
     let (word, tail) = split_word(line);
     if word == b"move".as_slice() {
@@ -161,10 +213,16 @@ fn command(line: &[u8]) -> Option<Command>
         thin_behind(tail)
     } else if word == b"area".as_slice() {
         area_behind(tail)
+    } else if word == b"at".as_slice() {
+        at_behind(tail)
+    } else if word == b"neighbours".as_slice() {
+        neighbours_behind(tail)
     } else if word == b"rings".as_slice() {
         rings_behind(tail)
     } else if word == b"count".as_slice() {
         count_behind(tail)
+    } else if word == b"document".as_slice() {
+        document_behind(tail)
     } else {
         None
     }
@@ -194,8 +252,8 @@ pub fn parse_line(line: &[u8]) -> Result<Line, LineFault>
     if is_comment(line) {
         return Ok(Line::Skip);
     }
-    match command(line) {
-        Some(command) => Ok(Line::Edit(command)),
+    match by_word(line) {
+        Some(said) => Ok(said),
         None => Err(LineFault::BadLine),
     }
 }

@@ -7,10 +7,10 @@ ghost use Rattle.script_runner.specs.Progress.{KeptMeans, LineStep, ByteStep, Fe
 
 use crate::lines::Line;
 use crate::parsing::parse_line;
-use crate::replies::reply;
+use crate::sending::send_reply;
 use crate::stop::Stop;
 use arc_store::Map;
-use device_io::{Sink, put_all};
+use device_io::Sink;
 use segment_index::GridIndex;
 use std::alloc::Allocator;
 use std::marker::Model;
@@ -124,9 +124,7 @@ impl<'a, A: Allocator + Copy> Runner<'a, A> {
         let over = self.over;
         let said = said(self.line.as_slice(), over, ended);
         let counts = is_answered(&said);
-        let mut text = Vec::new(*self.line.allocator());
-        let refuses = reply(&mut self.map, said, &mut text)?;
-        put_all(out, text.as_slice())?;
+        let refuses = send_reply(*self.line.allocator(), &mut self.map, said, out)?;
         self.answered += one_if(counts);
         self.refused += one_if(refuses);
         self.line.clear();
@@ -176,27 +174,37 @@ impl<'a, A: Allocator + Copy> Runner<'a, A> {
 
     ghost use Rattle.script_runner.specs.Finish.{Finishes, PutsLast, Counts};
 
-    /// Sends the answers on, and answers the counts.
-    fn flush<W: Sink>(&self, out: &mut W) -> Result<Summary, Stop>
+    /// Sends the answers on, and answers the counts and the map.
+    fn flush<W: Sink>(self, out: &mut W) -> Result<(Summary, Map<'a, GridIndex<A>, A>), Stop>
         requires { W.has_failed out.old ≡ false }
         ensures kept { Keeps (W.taken out.old) (W.taken out.new) }
-        ensures counts { IfOk result (λ summary. Counts self.now summary) }
+        ensures ends { IfOk result
+            (λ done. Counts self.entry done.0 × (done.1.doc ≡ self.entry.doc)) }
         ensures works { OnOk result (W.has_failed out.new ≡ false) }
         ensures failed { result ≡ Err Stop.Write → W.has_failed out.new ≡ true }
     {
         out.flush()?;
-        Ok(Summary {
-            answered: self.answered,
-            refused: self.refused,
-        })
+        let Runner {
+            map,
+            line: _,
+            over: _,
+            answered,
+            refused,
+            bytes: _,
+        } = self;
+        Ok((Summary { answered, refused }, map))
     }
 
-    /// Answers a last line that no line feed ends, and sends the answers on.
-    pub(crate) fn finish<W: Sink>(mut self, out: &mut W) -> Result<Summary, Stop>
+    /// Answers a last line that no line feed ends, and sends the answers on. Answers the counts and
+    /// the map.
+    pub(crate) fn finish<W: Sink>(
+        mut self,
+        out: &mut W,
+    ) -> Result<(Summary, Map<'a, GridIndex<A>, A>), Stop>
         requires works { W.has_failed out.old ≡ false }
         requires bytes { self.bytes < 2 ^ 63 }
-        ensures ok { IfOk result (λ summary. Told (W.taken out.old) (W.taken out.new)
-            (λ text. Finishes self.entry text summary)) }
+        ensures ok { IfOk result (λ done. Told (W.taken out.old) (W.taken out.new)
+            (λ text. Finishes self.entry text done.0 done.1.doc)) }
         ensures cut { OnErr result (PutsLast self.entry (W.taken out.old) (W.taken out.new)) }
         ensures works { OnOk result (W.has_failed out.new ≡ false) }
         ensures failed { result ≡ Err Stop.Write → W.has_failed out.new ≡ true }

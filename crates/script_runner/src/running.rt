@@ -1,5 +1,9 @@
-ghost use Rattle.std.specs.Prelude.{◌≡◌, false, true, OnOk, IfOk, IfErr, Err};
-ghost use Rattle.std.specs.Io.KnownBytes.{IsAtEnd};
+ghost use Rattle.std.specs.Prelude.{◌≡◌, false, true, OnOk, OnErr, IfOk, IfErr, Err};
+ghost use Rattle.std.specs.Io.KnownBytes.{Appends, IsAtEnd};
+ghost use Rattle.device_io.specs.Devices.{AppendsPrefix};
+ghost use Rattle.map_text.specs.Text.{text_of};
+ghost use Rattle.map_text.specs.Saved.{Saved};
+ghost use Rattle.topo_writer.specs.declared.sending.WriteFault.TheVariants.{Device};
 ghost use Rattle.script_runner.specs.Outcome.{AnswersAll, Completes, Ends, Halts, OpensAs, IsOpenEnd, IsBuildEnd};
 
 use crate::fault::RunFault;
@@ -11,6 +15,7 @@ use segment_index::GridIndex;
 use std::alloc::{Allocator, Global};
 use topo_outline::OpenFault;
 use topo_reader::read;
+use topo_writer::{WriteFault, write};
 
 /// The most bytes of a script.
 const MAX_SCRIPT: usize = 1_073_741_824;
@@ -51,17 +56,17 @@ fn open<'a, A: Allocator + Copy>(
     }
 }
 
-/// Answers each line of a script, piece by piece as it comes.
+/// Answers each line of a script, piece by piece as it comes. Answers the counts and the map.
 fn answer_script<'a, A: Allocator + Copy, R: Source, W: Sink>(
     alloc: A,
     map: Map<'a, GridIndex<A>, A>,
     script: &mut R,
     out: &mut W,
-) -> Result<Summary, Halt>
+) -> Result<(Summary, Map<'a, GridIndex<A>, A>), Halt>
     requires reader { R.has_failed script.old ≡ false }
     requires writer { W.has_failed out.old ≡ false }
-    ensures done { IfOk result (λ summary. AnswersAll map.entry.doc (R.coming script.old)
-        (R.coming script.new) (W.taken out.old) (W.taken out.new) summary) }
+    ensures done { IfOk result (λ done. AnswersAll map.entry.doc done.1.doc (R.coming script.old)
+        (R.coming script.new) (W.taken out.old) (W.taken out.new) done.0) }
     ensures end { OnOk result (IsAtEnd (R.coming script.new)) }
     ensures halted { IfErr result (λ halt. Halts halt map.entry.doc (R.coming script.old)
         (R.coming script.new) (W.taken out.old) (W.taken out.new)) }
@@ -77,7 +82,7 @@ fn answer_script<'a, A: Allocator + Copy, R: Source, W: Sink>(
         };
         if n == 0 {
             return match runner.finish(out) {
-                Ok(summary) => Ok(summary),
+                Ok(done) => Ok(done),
                 Err(Stop::Write) => Err(Halt::Write),
                 Err(Stop::OutOfMemory) => Err(Halt::OutOfMemory),
             };
@@ -95,37 +100,67 @@ fn answer_script<'a, A: Allocator + Copy, R: Source, W: Sink>(
     }
 }
 
-/// Answers each line of a script on a map, piece by piece as the script comes.
+/// Writes the text of a map, and sends it on.
+fn save<A: Allocator + Copy, V: Sink>(
+    alloc: A,
+    map: &Map<'_, GridIndex<A>, A>,
+    saved: &mut V,
+) -> Result<(), WriteFault>
+    requires { V.has_failed saved.old ≡ false }
+    ensures ok { OnOk result
+        (Appends (V.taken saved.old) (V.taken saved.new) (text_of map.now.doc)) }
+    ensures err { OnErr result
+        (AppendsPrefix (V.taken saved.old) (V.taken saved.new) (text_of map.now.doc)) }
+    ensures device { result ≡ Err Device → V.has_failed saved.new ≡ true }
+    ensures saved { Saved (text_of map.now.doc) map.now.doc }
+{
+    write(alloc, map, saved)?;
+    saved.flush()?;
+    Ok(())
+}
+
+/// Answers each line of a script on a map, piece by piece as the script comes, and saves the map.
 ///
 /// The map is TopoJSON 1.0 of the editor's profile. Opening comes first; then each line is
 /// answered in order, with a line feed, before the next piece is read; after the last line `out`
-/// is flushed. A line ends with a line feed, before which one carriage return is dropped, and a
-/// last line without a line feed counts where it is not empty. A line of more than 8,192 bytes is
-/// a bad line. `heap` holds decoded texts while the map is opened, `alloc` all else.
-pub fn run<'a, A: Allocator + Copy, R: Source, W: Sink>(
+/// is flushed, and then the text of the map goes to `saved`, which is flushed too. A line ends with
+/// a line feed, before which one carriage return is dropped, and a last line without a line feed
+/// counts where it is not empty. A line of more than 8,192 bytes is a bad line. `heap` holds
+/// decoded texts while the map is opened, `alloc` all else.
+pub fn run<'a, A: Allocator + Copy, R: Source, W: Sink, V: Sink>(
     alloc: A,
     heap: Global,
     map: &'a [u8],
     script: &mut R,
     out: &mut W,
+    saved: &mut V,
 ) -> Result<Summary, RunFault<'a>>
     requires reader { R.has_failed script.old ≡ false }
     requires writer { W.has_failed out.old ≡ false }
+    requires saver { V.has_failed saved.old ≡ false }
     ensures done { IfOk result (λ summary. Completes map.now (R.coming script.old)
-        (R.coming script.new) (W.taken out.old) (W.taken out.new) summary) }
+        (R.coming script.new) (W.taken out.old) (W.taken out.new) (V.taken saved.old)
+        (V.taken saved.new) summary) }
     ensures end { OnOk result (IsAtEnd (R.coming script.new)) }
     ensures fault { IfErr result (λ fault. Ends fault map.now (R.coming script.old)
-        (R.coming script.new) (W.taken out.old) (W.taken out.new)) }
+        (R.coming script.new) (W.taken out.old) (W.taken out.new) (V.taken saved.old)
+        (V.taken saved.new)) }
     ensures write { result ≡ Err RunFault.Write → W.has_failed out.new ≡ true }
+    ensures save { result ≡ Err RunFault.Save → V.has_failed saved.new ≡ true }
 {
     let opened = match open(alloc, heap, map) {
         Ok(opened) => opened,
         Err(fault) => return Err(fault),
     };
-    match answer_script(alloc, opened, script, out) {
-        Ok(summary) => Ok(summary),
-        Err(Halt::Read) => Err(RunFault::Read),
-        Err(Halt::Write) => Err(RunFault::Write),
-        Err(Halt::OutOfMemory) => Err(RunFault::OutOfMemory),
+    let (summary, last) = match answer_script(alloc, opened, script, out) {
+        Ok(done) => done,
+        Err(Halt::Read) => return Err(RunFault::Read),
+        Err(Halt::Write) => return Err(RunFault::Write),
+        Err(Halt::OutOfMemory) => return Err(RunFault::OutOfMemory),
+    };
+    match save(alloc, &last, saved) {
+        Ok(()) => Ok(summary),
+        Err(WriteFault::Device) => Err(RunFault::Save),
+        Err(WriteFault::OutOfMemory) => Err(RunFault::OutOfMemory),
     }
 }

@@ -2,6 +2,7 @@ ghost use Rattle.std.specs.Prelude.{◌≡◌};
 
 use device_io::Failed;
 use std::alloc::{AllocError, AllocFailed};
+use topo_writer::WriteFault;
 
 /// A growth was refused.
 #[derive(Clone, Copy, Debug, PartialEq, Eq)]
@@ -45,6 +46,19 @@ impl From<OutOfMemory> for Stop {
 
     fn from(_e: OutOfMemory) -> Stop {
         Stop::OutOfMemory
+    }
+}
+
+impl From<WriteFault> for Stop {
+    ghost use Rattle.script_runner.specs.Replies.{stop_of};
+
+    ghost from_gives = { λ fault e. e ≡ stop_of fault };
+
+    fn from(fault: WriteFault) -> Stop {
+        match fault {
+            WriteFault::Device => Stop::Write,
+            WriteFault::OutOfMemory => Stop::OutOfMemory,
+        }
     }
 }
 

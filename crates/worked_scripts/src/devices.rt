@@ -15,12 +15,14 @@ fn a_reader_that_fails(rt: HostRuntime) -> Result<(), Fail> {
     for calls in 0..4u64 {
         let mut source = FailAt::new(FromReader::new(SCRIPT.as_slice()), calls);
         let mut sink = ToWriter::new(Vec::new(rt.alloc()));
+        let mut saved = ToWriter::new(Vec::new(rt.alloc()));
         let outcome = run(
             rt.alloc(),
             rt.alloc(),
             TWO_SQUARES.as_bytes(),
             &mut source,
             &mut sink,
+            &mut saved,
         );
         let out = sink.writer.as_slice();
         if calls == 0 {
@@ -33,6 +35,7 @@ fn a_reader_that_fails(rt: HostRuntime) -> Result<(), Fail> {
             assert!(rt; outcome.is_ok());
             assert_eq!(rt; out, b"200\nok\nbad line\n240\n".as_slice());
         }
+        assert_eq!(rt; saved.writer.is_empty(), outcome.is_err());
     }
     Ok(())
 }
@@ -44,16 +47,19 @@ fn a_writer_that_fails(rt: HostRuntime) -> Result<(), Fail> {
     for calls in 0..5u64 {
         let mut source = FromReader::new(SCRIPT.as_slice());
         let mut sink = FailAt::new(ToWriter::new(Vec::new(rt.alloc())), calls);
+        let mut saved = ToWriter::new(Vec::new(rt.alloc()));
         let outcome = run(
             rt.alloc(),
             rt.alloc(),
             TWO_SQUARES.as_bytes(),
             &mut source,
             &mut sink,
+            &mut saved,
         );
         assert!(rt; matches!(outcome, Err(RunFault::Write)));
         assert_eq!(rt; sink.device.writer.len(), lengths[calls as usize]);
         assert!(rt; ANSWERS.starts_with(sink.device.writer.as_slice()));
+        assert!(rt; saved.writer.is_empty());
     }
     Ok(())
 }
@@ -98,6 +104,7 @@ fn texts_of_failures(rt: HostRuntime) -> Result<(), Fail> {
     let rows = [
         (RunFault::Read, "script fault"),
         (RunFault::Write, "write fault"),
+        (RunFault::Save, "save fault"),
         (RunFault::OutOfMemory, "out of memory"),
     ];
     for (fault, text) in &rows[..] {

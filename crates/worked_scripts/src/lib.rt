@@ -12,6 +12,12 @@ mod maps;
 #[cfg(test)]
 mod memory;
 #[cfg(test)]
+mod mistakes;
+#[cfg(test)]
+mod questions;
+#[cfg(test)]
+mod saving;
+#[cfg(test)]
 mod scripts;
 #[cfg(test)]
 mod told;

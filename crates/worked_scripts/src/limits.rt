@@ -130,14 +130,17 @@ impl Source for Endless {
 fn a_script_without_an_end(rt: HostRuntime) -> Result<(), Fail> {
     let mut source = Endless;
     let mut sink = ToWriter::new(Vec::new(rt.alloc()));
+    let mut saved = ToWriter::new(Vec::new(rt.alloc()));
     let outcome = run(
         rt.alloc(),
         rt.alloc(),
         TWO_SQUARES.as_bytes(),
         &mut source,
         &mut sink,
+        &mut saved,
     );
     assert!(rt; matches!(outcome, Err(RunFault::Read)));
     assert!(rt; sink.writer.is_empty());
+    assert!(rt; saved.writer.is_empty());
     Ok(())
 }

@@ -2,7 +2,7 @@
 use crate::maps::{
     DELTAS, DENTED, HOLES, ISLANDS, OTHER_NAMES, TRIANGLE_INSIDE, TWO_SQUARES, UNION_ABOVE,
 };
-use crate::told::{are_answered, told};
+use crate::told::are_answered;
 use std::test::Fail;
 
 /// Vertices that move, and moves that are refused.
@@ -217,75 +217,6 @@ fn lines_that_ask_for_nothing(rt: HostRuntime) -> Result<(), Fail> {
         ),
     ];
     are_answered(&rt, rt.alloc(), &rows[..])
-}
-
-/// Each line that there is, with a mistake in it.
-#[test]
-fn lines_with_a_mistake(rt: HostRuntime) -> Result<(), Fail> {
-    let rows = [
-        "move 0 0 1",
-        "move 0 0 1 1 1",
-        "move 0 0 1 1 ",
-        "move 0 0 +1 1",
-        "move 0 0 1000000000001 1",
-        "move",
-        "insert 0 0 10 0 5",
-        "insert 0 0 10 0 5 0 0",
-        "insert 0 0 10 0 5 0 ",
-        "insert 0 0 10 0 +5 0",
-        "insert  0 0 10 0 5 0",
-        "insert 0 0 10 0 05 0",
-        "insert 0 0 10 0 5 -1000000000001",
-        "insert",
-        "inserts 0 0 10 0 5 0",
-        "remove 0",
-        "remove 0 0 0",
-        "remove 0 0 ",
-        "remove +0 0",
-        "remove -0 0",
-        "remove 0  0",
-        "remove",
-        "Remove 0 0",
-        "thin",
-        "thin ",
-        "thin 1 1",
-        "thin 1 ",
-        "thin +1",
-        "thin 1.5",
-        "thin  1",
-        "thin 01",
-        "thin -0",
-        "thin -1",
-        "thin1",
-        "thin 340282366920938463463374607431768211456",
-        "area",
-        "area 0 0",
-        "area 0 ",
-        "area +0",
-        "area -1",
-        "rings",
-        "rings ",
-        "rings 01",
-        "rings 0 0",
-        "rings 0 ",
-        "rings -1",
-        "rings 4294967296",
-        "ring 0",
-        "count ",
-        "count 0",
-        "counts",
-        "Count",
-        " count",
-        "undo",
-    ];
-    for row in &rows[..] {
-        assert_eq!(rt;
-            told(rt.alloc(), TWO_SQUARES.as_bytes(), row.as_bytes())?.as_str(),
-            "bad line\nanswered 1, refused 1",
-            "{row}"
-        );
-    }
-    Ok(())
 }
 
 /// Areas of features in layers and collections.

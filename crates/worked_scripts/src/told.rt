@@ -10,7 +10,8 @@ use std::test::Fail;
 pub(crate) fn told(alloc: Global, map: &[u8], script: &[u8]) -> Result<String, Fail> {
     let mut source = FromReader::new(script);
     let mut sink = ToWriter::new(Vec::new(alloc));
-    let outcome = run(alloc, alloc, map, &mut source, &mut sink);
+    let mut saved = ToWriter::new(Vec::new(alloc));
+    let outcome = run(alloc, alloc, map, &mut source, &mut sink, &mut saved);
     let out = str::from_utf8(sink.writer.as_slice())?;
     let text = match outcome {
         Ok(summary) => format!(in alloc;
@@ -20,6 +21,33 @@ pub(crate) fn told(alloc: Global, map: &[u8], script: &[u8]) -> Result<String, F
         Err(fault) => format!(in alloc; "{out}{fault}")?,
     };
     Ok(text)
+}
+
+/// What a run on a map gives to its two writers.
+#[derive(Drop)]
+pub(crate) struct Texts {
+    /// The answers.
+    pub(crate) answers: String,
+    /// The saved map.
+    pub(crate) saved: String,
+}
+
+/// The answers to the script on the map, and the map that is saved after it. Nothing stands in them
+/// of a run that ended in a fault.
+pub(crate) fn texts_of(alloc: Global, map: &[u8], script: &[u8]) -> Result<Texts, Fail> {
+    let mut source = FromReader::new(script);
+    let mut sink = ToWriter::new(Vec::new(alloc));
+    let mut saved = ToWriter::new(Vec::new(alloc));
+    if run(alloc, alloc, map, &mut source, &mut sink, &mut saved).is_err() {
+        return Ok(Texts {
+            answers: String::new(alloc),
+            saved: String::new(alloc),
+        });
+    }
+    Ok(Texts {
+        answers: String::from_str(alloc, str::from_utf8(sink.writer.as_slice())?)?,
+        saved: String::from_str(alloc, str::from_utf8(saved.writer.as_slice())?)?,
+    })
 }
 
 /// Each script has these answers on its map, and then these counts.

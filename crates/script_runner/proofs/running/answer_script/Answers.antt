@@ -15,7 +15,7 @@ returns-in-Err-clause-halted g c =
 pub returns-in-Ok-finish-clause-done : goal.returns-in-Ok-finish-clause-done
 returns-in-Ok-finish-clause-done g c =
     let (read, text, came, put, fed, counted) = c.loop-n.invariant.so_far in
-    all_answered c.args.map.doc read text c.loop-n.runner _ _ _ _ _ _ fed (end_read _ _ _ read c.get.new.room c.in-Ok.n c.if-n-eq0.true came c.in-Ok.ensures.ok) put c.in-Ok-finish.ensures.ok
+    all_answered c.args.map.doc c.in-Ok-finish.done.1.doc read text c.loop-n.runner c.in-Ok-finish.done.0 _ _ _ _ _ fed (end_read _ _ _ read c.get.new.room c.in-Ok.n c.if-n-eq0.true came c.in-Ok.ensures.ok) put c.in-Ok-finish.ensures.ok
 
 pub returns-in-Err-Write-clause-halted : goal.returns-in-Err-Write-clause-halted
 returns-in-Err-Write-clause-halted g c =

@@ -1,5 +1,5 @@
 use Rattle.script_runner.proofs.ReplyLemmas.{counted}
-use Rattle.script_runner.proofs.replies.reply_to_count.Goals as goal
+use Rattle.script_runner.proofs.questions.reply_to_count.Goals as goal
 
 pub returns : goal.returns
 returns g c =

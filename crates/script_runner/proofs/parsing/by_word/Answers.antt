@@ -1,6 +1,6 @@
 use Rattle.std.proofs.Common.{◌≡◌, codes, rules}
-use Rattle.script_runner.proofs.CommandLemmas.{arm_move, arm_insert, arm_remove, arm_thin, arm_area, arm_rings, arm_count}
-use Rattle.script_runner.proofs.parsing.command.Goals as goal
+use Rattle.script_runner.proofs.CommandLemmas.{arm_move, arm_insert, arm_remove, arm_thin, arm_area, arm_at, arm_neighbours, arm_rings, arm_count, arm_document}
+use Rattle.script_runner.proofs.parsing.by_word.Goals as goal
 
 pub returns-then-eq : goal.returns-then-eq
 returns-then-eq c =
@@ -29,10 +29,25 @@ returns-then-eq-5 c =
 
 pub returns-then-eq-6 : goal.returns-then-eq-6
 returns-then-eq-6 c =
-    let is : c.split_word.result.0.now ≡ codes "rings" = search rules in
-    arm_rings c.args.line.now c.split_word.result.0.now c.split_word.result.1.now c.split_word.ensures.word c.split_word.ensures.rest c.rings_behind.result is c.rings_behind.ensures
+    let is : c.split_word.result.0.now ≡ codes "at" = search rules in
+    arm_at c.args.line.now c.split_word.result.0.now c.split_word.result.1.now c.split_word.ensures.word c.split_word.ensures.rest c.at_behind.result is c.at_behind.ensures
 
 pub returns-then-eq-7 : goal.returns-then-eq-7
 returns-then-eq-7 c =
+    let is : c.split_word.result.0.now ≡ codes "neighbours" = search rules in
+    arm_neighbours c.args.line.now c.split_word.result.0.now c.split_word.result.1.now c.split_word.ensures.word c.split_word.ensures.rest c.neighbours_behind.result is c.neighbours_behind.ensures
+
+pub returns-then-eq-8 : goal.returns-then-eq-8
+returns-then-eq-8 c =
+    let is : c.split_word.result.0.now ≡ codes "rings" = search rules in
+    arm_rings c.args.line.now c.split_word.result.0.now c.split_word.result.1.now c.split_word.ensures.word c.split_word.ensures.rest c.rings_behind.result is c.rings_behind.ensures
+
+pub returns-then-eq-9 : goal.returns-then-eq-9
+returns-then-eq-9 c =
     let is : c.split_word.result.0.now ≡ codes "count" = search rules in
     arm_count c.args.line.now c.split_word.result.0.now c.split_word.result.1.now c.split_word.ensures.word c.split_word.ensures.rest c.count_behind.result is c.count_behind.ensures
+
+pub returns-then-eq-10 : goal.returns-then-eq-10
+returns-then-eq-10 c =
+    let is : c.split_word.result.0.now ≡ codes "document" = search rules in
+    arm_document c.args.line.now c.split_word.result.0.now c.split_word.result.1.now c.split_word.ensures.word c.split_word.ensures.rest c.document_behind.result is c.document_behind.ensures

@@ -2,7 +2,7 @@ use Rattle.std.proofs.Common.{refl, rules}
 use Rattle.std.proofs.lemmas.Int.{to_z-of_z}
 use Rattle.std.proofs.lemmas.Bool.{false≢true}
 use Rattle.script_runner.proofs.ReplyLemmas.{measured_as, not_measured}
-use Rattle.script_runner.proofs.replies.reply_to_area.Goals as goal
+use Rattle.script_runner.proofs.questions.reply_to_area.Goals as goal
 
 pub returns-in_ok-push_number-in-Ok : goal.returns-in_ok-push_number-in-Ok
 returns-in_ok-push_number-in-Ok g c =

@@ -1,0 +1,137 @@
+// Answers to lines, sent to a writer.
+ghost use Rattle.std.specs.Prelude.{◌≡◌, ◌++◌, codes, false, true, Err, OnOk, OnErr, IfOk};
+ghost use Rattle.std.specs.Io.KnownBytes.{Appends};
+ghost use Rattle.device_io.specs.Devices.{AppendsPrefix};
+ghost use Rattle.ring_machine.specs.Command.{Rings, Count};
+ghost use Rattle.map_text.specs.Text.{text_of};
+ghost use Rattle.script_runner.specs.Runs.{Asked, reply_text, opened_state};
+ghost use Rattle.script_runner.specs.Progress.{Told};
+ghost use Rattle.script_runner.specs.Replies.{RepliedLine, meaning_of_said};
+ghost use Rattle.script_runner.specs.Commands.{command_of};
+
+use crate::lines::{Command, Line};
+use crate::questions::reply_to_count;
+use crate::replies::reply_to;
+use crate::ring_lists::reply_to_rings;
+use crate::stop::Stop;
+use arc_store::Map;
+use device_io::{Sink, put_all};
+use segment_index::GridIndex;
+use std::alloc::Allocator;
+use topo_writer::write;
+
+/// Sends the answer to a command, with a line feed. Answers whether it was refused.
+fn send_answer<A: Allocator + Copy, W: Sink>(
+    alloc: A,
+    map: &mut Map<'_, GridIndex<A>, A>,
+    command: Command,
+    out: &mut W,
+) -> Result<bool, Stop>
+    requires { W.has_failed out.old ≡ false }
+    ensures ok { IfOk result (λ refuses. Told (W.taken out.old) (W.taken out.new)
+        (λ text. RepliedLine map.old.doc map.new.doc (Asked (command_of command)) text refuses)) }
+    ensures cut { OnErr result (AppendsPrefix (W.taken out.old) (W.taken out.new)
+        (reply_text (opened_state map.old.doc) (Asked (command_of command)))) }
+    ensures works { OnOk result (W.has_failed out.new ≡ false) }
+    ensures failed { result ≡ Err Stop.Write → W.has_failed out.new ≡ true }
+{
+    let mut text = Vec::new(alloc);
+    let refuses = reply_to(map, command, &mut text)?;
+    text.push(b'\n')?;
+    put_all(out, text.as_slice())?;
+    Ok(refuses)
+}
+
+/// Sends the rings of a feature, with a line feed. Answers whether it was refused.
+fn send_rings<A: Allocator + Copy, W: Sink>(
+    alloc: A,
+    map: &Map<'_, GridIndex<A>, A>,
+    feature: u32,
+    out: &mut W,
+) -> Result<bool, Stop>
+    requires { W.has_failed out.old ≡ false }
+    ensures ok { IfOk result (λ refuses. Told (W.taken out.old) (W.taken out.new)
+        (λ text. RepliedLine map.now.doc map.now.doc (Asked (Rings feature)) text refuses)) }
+    ensures cut { OnErr result (AppendsPrefix (W.taken out.old) (W.taken out.new)
+        (reply_text (opened_state map.now.doc) (Asked (Rings feature)))) }
+    ensures works { OnOk result (W.has_failed out.new ≡ false) }
+    ensures failed { result ≡ Err Stop.Write → W.has_failed out.new ≡ true }
+{
+    let mut text = Vec::new(alloc);
+    let refuses = reply_to_rings(map, feature, &mut text)?;
+    text.push(b'\n')?;
+    put_all(out, text.as_slice())?;
+    Ok(refuses)
+}
+
+/// Sends the counts of the map, with a line feed. Answers that it was not refused.
+fn send_counts<A: Allocator + Copy, W: Sink>(
+    alloc: A,
+    map: &Map<'_, GridIndex<A>, A>,
+    out: &mut W,
+) -> Result<bool, Stop>
+    requires { W.has_failed out.old ≡ false }
+    ensures ok { IfOk result (λ refuses. Told (W.taken out.old) (W.taken out.new)
+        (λ text. RepliedLine map.now.doc map.now.doc (Asked Count) text refuses)) }
+    ensures cut { OnErr result (AppendsPrefix (W.taken out.old) (W.taken out.new)
+        (reply_text (opened_state map.now.doc) (Asked Count))) }
+    ensures works { OnOk result (W.has_failed out.new ≡ false) }
+    ensures failed { result ≡ Err Stop.Write → W.has_failed out.new ≡ true }
+{
+    let mut text = Vec::new(alloc);
+    let refuses = reply_to_count(map, &mut text)?;
+    text.push(b'\n')?;
+    put_all(out, text.as_slice())?;
+    Ok(refuses)
+}
+
+/// Sends the text of the map, with a line feed.
+fn send_document<A: Allocator + Copy, W: Sink>(
+    alloc: A,
+    map: &Map<'_, GridIndex<A>, A>,
+    out: &mut W,
+) -> Result<(), Stop>
+    requires { W.has_failed out.old ≡ false }
+    ensures ok { OnOk result
+        (Appends (W.taken out.old) (W.taken out.new) (text_of map.now.doc ++ codes "\n")) }
+    ensures cut { OnErr result
+        (AppendsPrefix (W.taken out.old) (W.taken out.new) (text_of map.now.doc ++ codes "\n")) }
+    ensures works { OnOk result (W.has_failed out.new ≡ false) }
+    ensures failed { result ≡ Err Stop.Write → W.has_failed out.new ≡ true }
+{
+    write(alloc, map, out)?;
+    put_all(out, b"\n")?;
+    Ok(())
+}
+
+/// Sends the answer to what a line says, with a line feed: nothing where it is skipped, `bad line`
+/// where it says nothing that is taken. Answers whether it was refused.
+pub(crate) fn send_reply<A: Allocator + Copy, W: Sink>(
+    alloc: A,
+    map: &mut Map<'_, GridIndex<A>, A>,
+    said: Option<Line>,
+    out: &mut W,
+) -> Result<bool, Stop>
+    requires { W.has_failed out.old ≡ false }
+    ensures ok { IfOk result (λ refuses. Told (W.taken out.old) (W.taken out.new)
+        (λ text. RepliedLine map.old.doc map.new.doc (meaning_of_said said) text refuses)) }
+    ensures cut { OnErr result (AppendsPrefix (W.taken out.old) (W.taken out.new)
+        (reply_text (opened_state map.old.doc) (meaning_of_said said))) }
+    ensures works { OnOk result (W.has_failed out.new ≡ false) }
+    ensures failed { result ≡ Err Stop.Write → W.has_failed out.new ≡ true }
+{
+    match said {
+        Some(Line::Skip) => Ok(false),
+        Some(Line::Rings(feature)) => send_rings(alloc, map, feature, out),
+        Some(Line::Count) => send_counts(alloc, map, out),
+        Some(Line::Edit(command)) => send_answer(alloc, map, command, out),
+        Some(Line::Document) => {
+            send_document(alloc, map, out)?;
+            Ok(false)
+        }
+        None => {
+            put_all(out, b"bad line\n")?;
+            Ok(true)
+        }
+    }
+}
