@@ -6,8 +6,8 @@ use Rattle.std.specs.Ordering.{int_eq}
 use Rattle.grid_geometry.specs.Position.{Position, position, position_lt}
 use Rattle.grid_geometry.specs.Ring.{signed_area, is_inside}
 use Rattle.ring_machine.specs.Ring.{has, canonical, stretch}
-use Rattle.ring_machine.specs.Document.{Document, Item, Open, Close, Leaf, Kept, Feature, Polygon}
-use Rattle.ring_machine.specs.Document.{Text}
+use Rattle.ring_machine.specs.Document.{DocumentOf, Document, ItemOf, Open, Close, Leaf, Kept}
+use Rattle.ring_machine.specs.Document.{FeatureOf, Feature, Polygon, Text}
 use Rattle.ring_machine.specs.Parts.{in_items}
 
 -- ---- the path
@@ -103,14 +103,16 @@ first_that test [] = []
 first_that test (x ∷ xs) = if test x then (x ∷ []) else first_that test xs
 
 -- feature n becomes these features, and every other item stays
-abbrev pub becomes : ℕ → (Feature → List Feature) → Item → List Item
+abbrev pub becomes : {R : Type 0}
+    → ℕ → (FeatureOf R → List (FeatureOf R)) → ItemOf R → List (ItemOf R)
 becomes n g (Leaf f) = if f.number == n then map Leaf (g f) else (Leaf f ∷ [])
 becomes n g (Open h) = Open h ∷ []
 becomes n g Close = Close ∷ []
 becomes n g (Kept t) = Kept t ∷ []
 
 -- the document with these features in the place of feature n
-abbrev pub instead : ℕ → (Feature → List Feature) → Document → Document
+abbrev pub instead : {R : Type 0}
+    → ℕ → (FeatureOf R → List (FeatureOf R)) → DocumentOf R → DocumentOf R
 instead n g d = in_items (flat_map (becomes n g)) d
 
 -- what stays with the feature: the first part in the place of the first polygon that is cut

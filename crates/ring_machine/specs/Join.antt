@@ -6,28 +6,29 @@ use Rattle.grid_geometry.specs.Position.{Position, position_lt}
 use Rattle.grid_geometry.specs.Segment.{segment_eq, is_end}
 use Rattle.grid_geometry.specs.Ring.{Edge, edges, signed_area}
 use Rattle.ring_machine.specs.Ring.{edge_eq, segment_of, segments, has, canonical}
-use Rattle.ring_machine.specs.Document.{Document, Item, Open, Close, Leaf, Kept, Feature}
+use Rattle.ring_machine.specs.Document.{DocumentOf, Document, ItemOf, Open, Close, Leaf, Kept}
+use Rattle.ring_machine.specs.Document.{Feature}
 use Rattle.ring_machine.specs.Parts.{in_items}
 use Rattle.ring_machine.specs.Cut.{instead}
 
 -- ---- taken out
 
 -- the item is feature n
-abbrev pub is_leaf : ℕ → Item → Bool
+abbrev pub is_leaf : {R : Type 0} → ℕ → ItemOf R → Bool
 is_leaf n (Leaf f) = f.number == n
 is_leaf n (Open h) = false
 is_leaf n Close = false
 is_leaf n (Kept t) = false
 
 -- a geometry collection of no geometries, without other members (TopoJSON 1.0, 2.2.7)
-abbrev pub empty_collection : List Item
+abbrev pub empty_collection : {R : Type 0} → List (ItemOf R)
 empty_collection = Open (record { id = None; properties = None; members = [] }) ∷ Close ∷ []
 
 -- feature n leaves its collection; one that is the layer's own geometry becomes an empty collection
-unfoldable pub take_out : Document → ℕ → Document
-take_out d n = in_items out d
+unfoldable pub take_out : {R : Type 0} → DocumentOf R → ℕ → DocumentOf R
+take_out {R} d n = in_items out d
   where
-    out : List Item → List Item
+    out : List (ItemOf R) → List (ItemOf R)
     out (Leaf f ∷ []) = if f.number == n then empty_collection else (Leaf f ∷ [])
     out items = filter (λ i. not (is_leaf n i)) items
 

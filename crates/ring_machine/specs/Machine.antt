@@ -2,7 +2,7 @@
 use Rattle.std.specs.Prelude.{ℕ, ◌+◌, ℤ, ◌==◌, if◌then◌else◌, List, [], ◌∷◌, take, Option, None}
 use Rattle.std.specs.Prelude.{Some}
 use Rattle.grid_geometry.specs.Position.{Position}
-use Rattle.ring_machine.specs.Document.{Document, Text}
+use Rattle.ring_machine.specs.Document.{DocumentOf, Document, Text}
 use Rattle.ring_machine.specs.Parts.{in_features}
 use Rattle.ring_machine.specs.Vertices.{put, ins, del}
 use Rattle.ring_machine.specs.Cut.{path_of, cut}
@@ -41,7 +41,7 @@ abbrev pub query : State → List (Option Refusal) → Answer → Answer × Stat
 query st refusals answer = edit st refusals answer st
 
 -- the document with this JSON string as the id of feature n (RFC 8259, 7)
-abbrev pub renamed : Document → ℕ → Text → Document
+abbrev pub renamed : {R : Type 0} → DocumentOf R → ℕ → Text → DocumentOf R
 renamed d n id = in_features (λ f. if f.number == n then record f { id = Some id } else f) d
 
 -- a split is a change, and raises the next number by one

@@ -6,7 +6,7 @@ use Rattle.grid_geometry.specs.Position.{Position}
 use Rattle.grid_geometry.specs.Segment.{Segment, segment}
 use Rattle.grid_geometry.specs.Ring.{links, edges}
 use Rattle.ring_machine.specs.Ring.{has, is_distinct, segment_of}
-use Rattle.ring_machine.specs.Document.{Document, Item, Leaf, Feature, Text, Null}
+use Rattle.ring_machine.specs.Document.{DocumentOf, Document, ItemOf, Leaf, Feature, Text, Null}
 use Rattle.ring_machine.specs.Parts.{rings, size, is_vertex, is_segment, feature, has_feature}
 use Rattle.ring_machine.specs.Vertices.{put, ins, del, around, is_junction}
 use Rattle.ring_machine.specs.Planar.{first_pair}
@@ -99,10 +99,10 @@ abbrev pub feature_at : Document → ℕ → Feature
 feature_at d n = or_else no_feature (feature d n)
 
 -- feature n is itself the geometry of a layer (TopoJSON 1.0, 2.1.5)
-abbrev pub is_layer : Document → ℕ → Bool
-is_layer d n = list_any (λ l. is_alone l.items) d.layers
+abbrev pub is_layer : {R : Type 0} → DocumentOf R → ℕ → Bool
+is_layer {R} d n = list_any (λ l. is_alone l.items) d.layers
   where
-    is_alone : List Item → Bool
+    is_alone : List (ItemOf R) → Bool
     is_alone (Leaf f ∷ []) = f.number == n
     is_alone _ = false
 
