@@ -67,17 +67,7 @@ module _ {R : Type 0} where
 -- ---- changed rings
 
 module _ {R S : Type 0} (g : R → S) where
-  any_number : (m : ℕ) (fs : List (FeatureOf R))
-      → list_any (λ f. f.number == m) (map (in_feature g) fs) ≡ list_any (λ f. f.number == m) fs
-  any_number m [] = refl
-  any_number m (f ∷ fs) = ap (λ z. (f.number == m) || z) (any_number m fs)
-
-  -- changed rings leave which numbers there are
-  pub has_feature-in_rings : (d : DocumentOf R) (m : ℕ)
-      → has_feature (in_rings g d) m ≡ has_feature d m
-  has_feature-in_rings d m = ap (list_any (λ f. f.number == m)) (features-in_rings g d) ∙ any_number m (features d)
-
-  -- and how many they are
+  -- changed rings leave how many features there are
   pub feature_count-in_rings : (d : DocumentOf R)
       → length (features (in_rings g d)) ≡ length (features d)
   feature_count-in_rings d = ap length (features-in_rings g d) ∙ length-map (features d) (in_feature g)
@@ -91,16 +81,6 @@ module _ {A : Type 0} (f : Frame A) where
   -- a frame has as many features as lists of polygons
   pub frame_count : IsCounted f → length (features (frame_of f)) ≡ length f.polygons.items
   frame_count h = layers_length 0 (map feature_numbers f.polygons.items) (map view_layer f.layers.items) ∙ sym h
-
-  -- and each number less than that
-  pub frame_has : IsCounted f → (m : ℕ)
-      → has_feature (frame_of f) m ≡ nat_lt m (length f.polygons.items)
-  frame_has h m =
-      numbered_has 0 m (features (frame_of f)) frame_numbered
-      ∙ within (length (features (frame_of f))) (length f.polygons.items) (frame_count h)
-    where
-      within : (j k : ℕ) → j ≡ k → (nat_le 0 m && nat_lt m (0 + j)) ≡ nat_lt m k
-      within j k e = grind (arith, nat_tests)
 
   -- the rings of a frame, one after the other
   pub frame_rings : IsCounted f → rings (frame_of f) ≡ all_rings (map feature_numbers f.polygons.items)

@@ -1,5 +1,5 @@
 ghost use Rattle.std.specs.Prelude.{◌≡◌, length};
-ghost use Rattle.ring_machine.specs.Parts.{features, size, is_vertex, has_feature};
+ghost use Rattle.ring_machine.specs.Parts.{features, size, is_vertex};
 ghost use Rattle.ring_machine.specs.Query.{vertices, distinct_segments};
 
 use crate::map::Map;
@@ -48,13 +48,6 @@ impl<'a, I: SegIndex, A: Allocator + Copy> Map<'a, I, A> {
         ensures { result ≡ self.now.tests }
     {
         self.tests.count()
-    }
-
-    /// Whether some feature has this number.
-    pub fn has_feature(&self, n: u32) -> bool
-        ensures { result ≡ has_feature self.now.doc n }
-    {
-        (n as usize) < self.frame.polygons.as_slice().len()
     }
 
     /// Whether some ring has this position.

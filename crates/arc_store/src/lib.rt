@@ -24,9 +24,7 @@ mod raw_insert;
 mod raw_move;
 mod raw_remove;
 mod ring_iter;
-mod rings;
 mod spot;
-mod users;
 
 pub use fault::{BuildFault, EditFault};
 pub use features::FeatureView;

@@ -4,9 +4,10 @@ ghost use Rattle.grid_geometry.specs.Segment.{segment};
 ghost use Rattle.map_opening.specs.Laying.{polygon_numbers, feature_numbers};
 ghost use Rattle.arc_store.specs.Named.{Gain, AreNamed, ListsRings, name_of};
 ghost use Rattle.arc_store.specs.Readers.{element};
+ghost use Rattle.arc_store.specs.Spots.{users};
 
 use crate::map::Map;
-use grid_geometry::Pos;
+use grid_geometry::{Pos, Seg};
 use segment_index::SegIndex;
 use std::alloc::{AllocError, Allocator};
 
@@ -114,6 +115,16 @@ fn push_names<B: Allocator>(
 }
 
 impl<'a, I: SegIndex, A: Allocator + Copy> Map<'a, I, A> {
+    /// How many rings have this segment.
+    pub fn uses(&self, s: Seg) -> usize
+        ensures { result ≡ length (users self.now.doc s) }
+    {
+        match (self.vertices.key_of(s.lo), self.vertices.key_of(s.hi)) {
+            (Some(a), Some(b)) => self.borders.uses(a, b),
+            _ => 0,
+        }
+    }
+
     /// Appends the rings that have the segment of these two positions, each once. Fails for want of
     /// memory alone; some of them may then have been appended.
     pub fn push_users<B: Allocator>(

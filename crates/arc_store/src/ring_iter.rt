@@ -4,8 +4,11 @@ ghost use Rattle.std.specs.FinMap as table;
 ghost use Rattle.std.specs.Iterator.{YieldsFirst, item_count};
 ghost use Rattle.ring_machine.specs.Ring.{before, least, canonical};
 ghost use Rattle.vertex_index.specs.Placement.{place};
+ghost use Rattle.arc_store.specs.Readers.{ring_at};
 
+use crate::map::Map;
 use grid_geometry::Pos;
+use segment_index::SegIndex;
 use shared_arcs::RingKeys;
 use std::alloc::{Allocator, Global};
 use std::marker::Model;
@@ -124,5 +127,19 @@ impl<'m, A: Allocator + Copy> Iterator for RingIter<'m, A> {
         let k = next_key(&mut self.rest, &self.all)?;
         self.left -= 1;
         Some(self.vertices.pos(k))
+    }
+}
+
+impl<'a, I: SegIndex, A: Allocator + Copy> Map<'a, I, A> {
+    /// The positions of a ring, from the least one on: of the feature with this number the polygon
+    /// and the ring of these numbers, where the outer ring is the first one. `None` where there is
+    /// no such ring. Takes no memory.
+    pub fn ring(&self, n: u32, polygon: usize, ring: usize) -> Option<RingIter<'_, A>>
+        ensures { result ≡ ring_at self.now.doc n polygon ring }
+    {
+        let polygons = self.frame.polygons.get(n as usize)?;
+        let rings = polygons.get(polygon)?;
+        let number = rings.get(ring)?;
+        RingIter::begin(self.borders.keys(*number)?, &self.vertices)
     }
 }
