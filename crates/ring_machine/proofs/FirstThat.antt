@@ -41,7 +41,7 @@ module _ {A : Type 0} (test : A → Bool) where
       let h' = none_parts (test u) (list_any test us) h in
       ap (λ b. cond b (u ∷ []) (first_that test (us ++ x ∷ vs))) h'.0 ∙ found us x vs h'.1 k
 
-  find_it : (us : List A) (x : A) (vs : List A) → list_any test us ≡ false → test x ≡ true
+  pub find_it : (us : List A) (x : A) (vs : List A) → list_any test us ≡ false → test x ≡ true
       → find test (us ++ x ∷ vs) ≡ Some x
   find_it [] x vs h k = ap (λ b. cond b (Some x) (find test vs)) k
   find_it (u ∷ us) x vs h k =
