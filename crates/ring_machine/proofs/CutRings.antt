@@ -1,6 +1,6 @@
 -- A ring that a path cuts: begun at the path's first position it is p, xs, q, ys.
-use Rattle.std.proofs.Common.{◌≡◌, Bool, true, false, refl, sym, ap, ◌∙◌, List, [], ◌∷◌, ◌++◌, length}
-use Rattle.std.proofs.Common.{reverse, ◌||◌, ◌&&◌, inl, inr}
+use Rattle.std.proofs.Common.{◌≡◌, true, false, refl, sym, ap, ◌∙◌, List, [], ◌∷◌, ◌++◌, length}
+use Rattle.std.proofs.Common.{reverse, ◌&&◌, inl, inr}
 use Rattle.std.specs.Prelude.{not, nat_le}
 use Rattle.std.proofs.lemmas.Bool.{false≢true}
 use Rattle.std.proofs.lemmas.List.{append-nil}
@@ -9,12 +9,12 @@ use Rattle.grid_geometry.specs.Position.{Position, position_eq}
 use Rattle.grid_geometry.specs.Ring.{Edge, edges}
 use Rattle.ring_machine.specs.Ring.{canonical, has, is_distinct, is_ring, begins_least}
 use Rattle.ring_machine.specs.Cut.{Path, first_part, second_part}
-use Rattle.ring_machine.proofs.Order.{and_both, position_eq-true, position_eq-refl}
+use Rattle.ring_machine.proofs.Order.{and_both, position_eq-refl}
 use Rattle.ring_machine.proofs.Canonical.{canonical_at, canonical_swap, canonical_parts, pivot_of}
 use Rattle.ring_machine.proofs.Edges.{edges_is, edges_to, edges_to-append}
 use Rattle.ring_machine.proofs.First.{In}
 use Rattle.ring_machine.proofs.Members.{in_swap}
-use Rattle.ring_machine.proofs.Neighbours.{has-in, in-has}
+use Rattle.ring_machine.proofs.Neighbours.{has-in}
 use Rattle.ring_machine.proofs.Removal.{none_parts, not_true}
 use Rattle.ring_machine.proofs.Splitting as splitting
 use Rattle.ring_machine.proofs.Spots.{Rotated}

@@ -1,12 +1,12 @@
 -- The areas of the two parts of a ring, of a polygon and of a feature add up.
 use Rattle.std.proofs.Common.{◌≡◌, ℤ, ◌+ℤ◌, ◌-ℤ◌, Bool, true, false, refl, sym, ap, ap₂, ◌∙◌, List, []}
-use Rattle.std.proofs.Common.{◌∷◌, ◌++◌, cond, arith, ◌&&◌}
+use Rattle.std.proofs.Common.{◌∷◌, ◌++◌, cond, arith}
 use Rattle.std.specs.Prelude.{pos, not, unsigned_abs}
 use Rattle.std.specs.List.{filter, fold}
 use Rattle.std.proofs.lemmas.Int.{ints}
 use Rattle.std.proofs.lemmas.List.Sums.{fold-append}
 use Rattle.grid_geometry.specs.Position.{Position, position_eq}
-use Rattle.grid_geometry.specs.Ring.{Edge, total_area, signed_area}
+use Rattle.grid_geometry.specs.Ring.{total_area, signed_area}
 use Rattle.ring_machine.specs.Ring.{canonical, has, is_ring}
 use Rattle.ring_machine.specs.Cut.{Path, first_part, second_part, same_sign, goes_first}
 use Rattle.ring_machine.specs.Cut.{is_wrong_side, first_polygon, second_polygon}

@@ -1,17 +1,15 @@
 -- A document whose feature n is cut: its features, and the accepted conditions.
 use Rattle.std.proofs.Common.{◌≡◌, ℕ, Bool, true, false, refl, sym, ap, ap₂, ◌∙◌, List, [], ◌∷◌, ◌++◌}
-use Rattle.std.proofs.Common.{cond, map, append_assoc, ◌&&◌, ◌||◌, Option, None, Some, arith}
+use Rattle.std.proofs.Common.{cond, map, ◌||◌, Option, None, Some}
 use Rattle.std.specs.Prelude.{not, ◌==◌, nat_lt}
-use Rattle.std.specs.List.{list_any, list_all, flat_map, filter_map, find, AllByRecursion}
-use Rattle.std.proofs.lemmas.Bool.{false≢true}
-use Rattle.std.proofs.lemmas.Bool.Decides.{Decides-eqb, nat_tests}
+use Rattle.std.specs.List.{list_any, flat_map, filter_map, AllByRecursion}
+use Rattle.std.proofs.lemmas.Bool.Decides.{Decides-eqb}
 use Rattle.std.proofs.lemmas.List.Concat.{flat_map-append}
 use Rattle.std.proofs.lemmas.List.Elements.{filter_map-append}
-use Rattle.std.proofs.lemmas.List.Folds.{list_any-append, list_all-append}
 use Rattle.ring_machine.specs.Ring.{is_distinct}
 use Rattle.ring_machine.specs.Document.{FeatureOf, ItemOf, LayerOf, DocumentOf, Open, Close, Leaf}
 use Rattle.ring_machine.specs.Document.{Kept, Document, Feature, Text}
-use Rattle.ring_machine.specs.Parts.{feature_of, features, feature, has_feature, is_vertex, in_layer}
+use Rattle.ring_machine.specs.Parts.{feature_of, features, has_feature, is_vertex, in_layer}
 use Rattle.ring_machine.specs.WellFormed.{WellFormed, are_distinct}
 use Rattle.ring_machine.specs.Planar.{first_pair}
 use Rattle.ring_machine.specs.Cut.{Path, becomes, instead, cut, stays, parted, is_cut_by}

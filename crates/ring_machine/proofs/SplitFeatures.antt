@@ -1,5 +1,5 @@
 -- A feature that a path cuts: which of its polygons is cut, what stays and what becomes new.
-use Rattle.std.proofs.Common.{◌≡◌, ℕ, ℤ, ◌+ℤ◌, Bool, true, false, refl, sym, ap, ap₂, ◌∙◌, subst, List}
+use Rattle.std.proofs.Common.{◌≡◌, ℕ, ℤ, ◌+ℤ◌, true, false, refl, sym, ap, ap₂, ◌∙◌, subst, List}
 use Rattle.std.proofs.Common.{[], ◌∷◌, ◌++◌, map, inl, ◌&&◌, ◌||◌, Some, arith}
 use Rattle.std.specs.Prelude.{pos, not}
 use Rattle.std.specs.List.{list_any, list_all, fold}

@@ -1,13 +1,13 @@
 -- What an accepted split gives: areas that add up.
 use Rattle.std.proofs.Common.{◌≡◌, ℕ, ◌+ℤ◌, Bool, true, false, refl, sym, ap, ap₂, ◌∙◌, List, [], ◌∷◌}
-use Rattle.std.proofs.Common.{◌++◌, append_assoc, ◌&&◌, ◌||◌, None, Some, arith}
+use Rattle.std.proofs.Common.{◌++◌, append_assoc, ◌||◌, None, arith}
 use Rattle.std.specs.Prelude.{◌==◌, nat_lt}
 use Rattle.std.specs.List.{list_any, list_all, flat_map, find}
 use Rattle.std.proofs.lemmas.Bool.Decides.{Decides-eqb, nat_tests}
 use Rattle.std.proofs.lemmas.List.Folds.{list_any-append, list_all-append}
 use Rattle.ring_machine.specs.Ring.{is_ring}
 use Rattle.ring_machine.specs.Document.{Document, Feature, Text}
-use Rattle.ring_machine.specs.Parts.{features, feature, rings_of}
+use Rattle.ring_machine.specs.Parts.{features, rings_of}
 use Rattle.ring_machine.specs.WellFormed.{WellFormed}
 use Rattle.ring_machine.specs.Planar.{Proper}
 use Rattle.ring_machine.specs.Cut.{Path, cut, stays, is_wrong_side, is_cut_by, first_that}
@@ -16,7 +16,7 @@ use Rattle.ring_machine.specs.Refusals.{first_of, feature_at, or_else, no_featur
 use Rattle.ring_machine.proofs.FirstThat.{find_it}
 use Rattle.ring_machine.proofs.Order.{and_both}
 use Rattle.ring_machine.proofs.SplitFeatures.{new_feature, features_area}
-use Rattle.ring_machine.proofs.SplitDocuments.{SplitAccepted, split-accepted, SplitDocument}
+use Rattle.ring_machine.proofs.SplitDocuments.{split-accepted, SplitDocument}
 use Rattle.ring_machine.proofs.SplitDocuments.{split_document}
 use Rattle.ring_machine.proofs.SplitRings.{ends_differ}
 
@@ -27,7 +27,7 @@ are_below next fs = list_all (λ f. nat_lt f.number next) fs
 below_differs : (m next : ℕ) → nat_lt m next ≡ true → (m == next) ≡ false
 below_differs m next h = grind (arith, nat_tests)
 
-none_has : (next : ℕ) (fs : List Feature) → are_below next fs ≡ true
+pub none_has : (next : ℕ) (fs : List Feature) → are_below next fs ≡ true
     → list_any (λ f. f.number == next) fs ≡ false
 none_has next [] h = refl
 none_has next (f ∷ fs) h =

@@ -2,7 +2,7 @@
 use Rattle.std.proofs.Common.{◌≡◌, ℕ, Bool, true, false, refl, sym, ap, ap₂, ◌∙◌, subst, List, []}
 use Rattle.std.proofs.Common.{◌∷◌, ◌++◌, ◌||◌, ◌&&◌, ◌⊎◌, inl, inr, None}
 use Rattle.std.specs.Prelude.{not}
-use Rattle.std.specs.List.{list_any, list_all, flat_map, filter}
+use Rattle.std.specs.List.{list_any, list_all}
 use Rattle.std.proofs.lemmas.Bool.{false≢true}
 use Rattle.grid_geometry.specs.Position.{Position}
 use Rattle.grid_geometry.specs.Segment.{Segment, segment_eq}
@@ -14,9 +14,9 @@ use Rattle.ring_machine.specs.WellFormed.{WellFormed}
 use Rattle.ring_machine.specs.Planar.{Proper}
 use Rattle.ring_machine.specs.Cut.{Path, cut, stays, first_part, second_part, first_polygon}
 use Rattle.ring_machine.specs.Cut.{second_polygon, goes_first}
-use Rattle.ring_machine.specs.Refusals.{first_of, positions_of, is_path_segment, split_refusals}
+use Rattle.ring_machine.specs.Refusals.{first_of, positions_of, split_refusals}
 use Rattle.ring_machine.proofs.First.{In, in-append, in_left, in_right}
-use Rattle.ring_machine.proofs.Members.{in_flat, in_filter, any_in, in_any}
+use Rattle.ring_machine.proofs.Members.{in_flat, in_filter, any_in}
 use Rattle.ring_machine.proofs.Neighbours.{in-flat_map, none_in, all_in}
 use Rattle.ring_machine.proofs.Removal.{none_parts}
 use Rattle.ring_machine.proofs.SplitFeatures.{new_feature, SplitFeature}

@@ -4,11 +4,11 @@ use Rattle.std.proofs.Common.{◌++◌, map, length, reverse, ◌||◌, arith}
 use Rattle.std.specs.List.{list_any}
 use Rattle.std.proofs.lemmas.List.{length-append, length-reverse, map-append, reverse-append}
 use Rattle.std.proofs.lemmas.List.Folds.{list_any-append}
-use Rattle.grid_geometry.specs.Position.{Position, position_eq}
+use Rattle.grid_geometry.specs.Position.{Position}
 use Rattle.grid_geometry.specs.Segment.{Segment}
 use Rattle.grid_geometry.specs.Ring.{Edge, edges, links}
 use Rattle.grid_geometry.proofs.Conflicts.{segment-comm}
-use Rattle.ring_machine.specs.Ring.{canonical, has, segments, segment_of}
+use Rattle.ring_machine.specs.Ring.{canonical, segments, segment_of}
 use Rattle.ring_machine.specs.Cut.{Path, first_part, second_part}
 use Rattle.ring_machine.specs.Refusals.{positions_of}
 use Rattle.ring_machine.proofs.Arcs.{flip, flipped, links-reverse}
