@@ -1,0 +1,240 @@
+-- The segments, the vertices and the size of a document that is split.
+use Rattle.std.proofs.Common.{◌≡◌, ℕ, ◌+◌, ◌*◌, Bool, true, false, refl, sym, ap, ◌∙◌, subst}
+use Rattle.std.proofs.Common.{List, [], ◌∷◌, ◌++◌, length, ◌||◌, ◌⊎◌, inl, inr, None, arith}
+use Rattle.std.specs.Prelude.{not}
+use Rattle.std.specs.List.{list_any, flat_map, filter, sum_by}
+use Rattle.std.proofs.lemmas.List.Concat.{flat_map-append}
+use Rattle.std.proofs.lemmas.List.Filters.{sum_by-filter_both}
+use Rattle.std.proofs.lemmas.List.Folds.{list_any-append}
+use Rattle.std.proofs.lemmas.List.Sums.{sum_by-append, sum_by-cons}
+use Rattle.grid_geometry.specs.Position.{Position, position_eq}
+use Rattle.grid_geometry.specs.Segment.{Segment, segment_eq}
+use Rattle.ring_machine.specs.Ring.{canonical, has, segments}
+use Rattle.ring_machine.specs.Document.{Document, Feature, Text}
+use Rattle.ring_machine.specs.Parts.{features, rings_of, rings, is_vertex, is_segment, size}
+use Rattle.ring_machine.specs.WellFormed.{WellFormed}
+use Rattle.ring_machine.specs.Planar.{Proper}
+use Rattle.ring_machine.specs.Cut.{Path, cut, stays, first_part, second_part, first_polygon}
+use Rattle.ring_machine.specs.Cut.{second_polygon, goes_first}
+use Rattle.ring_machine.specs.Refusals.{first_of, split_refusals}
+use Rattle.ring_machine.proofs.CutRings.{CutRing}
+use Rattle.ring_machine.proofs.First.{In, in-append, in_left, in_right, filter-in}
+use Rattle.ring_machine.proofs.Members.{in_flat, any_in, in_any, same_answer}
+use Rattle.ring_machine.proofs.Neighbours.{in-flat_map}
+use Rattle.ring_machine.proofs.Order.{or_true, or_right}
+use Rattle.ring_machine.proofs.SplitFeatures.{new_feature, SplitFeature}
+use Rattle.ring_machine.proofs.SplitDocuments.{split-accepted, SplitDocument, split_document}
+use Rattle.ring_machine.proofs.SplitProper.{target_there, rings_after, cuts_target}
+use Rattle.ring_machine.proofs.SplitRings.{cut_of}
+use Rattle.ring_machine.proofs.SplitSegments.{path_segments, canonical_parts_segments}
+use Rattle.ring_machine.proofs.SplitSegments.{parts_positions, parts_length}
+
+-- ---- rings of the two features
+
+module _ (path : Path) (number : ℕ) (id : Text) (f : Feature) (s : SplitFeature path number id f) where
+  abbrev polygon : List (List Position)
+  polygon = s.outer ∷ s.holes
+
+  abbrev new : Feature
+  new = new_feature path number id f polygon
+
+  of_stays : (p : List (List Position)) (r : List Position)
+      → In p (s.before ++ first_polygon path polygon ∷ s.after) → In r p
+      → In r (rings_of (stays path f))
+  of_stays p r i j = in-flat_map (λ polygon. polygon) p r (stays path f).polygons (subst (In p) (sym s.kept) i) j
+
+  first_one : In (first_polygon path polygon) (s.before ++ first_polygon path polygon ∷ s.after)
+  first_one = in_right (first_polygon path polygon) s.before (first_polygon path polygon ∷ s.after) (inl refl)
+
+  first_stays : In (canonical (first_part s.outer path)) (rings_of (stays path f))
+  first_stays = of_stays (first_polygon path polygon) _ first_one (inl refl)
+
+  second_goes : In (canonical (second_part s.outer path)) (rings_of new)
+  second_goes = in_left _ (second_polygon path polygon) [] (inl refl)
+
+  -- each hole goes with one of the parts
+  hole_kept : (h : List Position) → In h s.holes
+      → In h (rings_of (stays path f)) ⊎ In h (rings_of new)
+  hole_kept h i = by (goes_first (first_part s.outer path) h) refl
+    where
+      by : (b : Bool) → goes_first (first_part s.outer path) h ≡ b
+          → In h (rings_of (stays path f)) ⊎ In h (rings_of new)
+      by true e = inl (of_stays (first_polygon path polygon) h first_one (inr (filter-in (goes_first (first_part s.outer path)) h s.holes i e)))
+      by false e = inr (in_left h (second_polygon path polygon) [] (inr (filter-in (λ h. not (goes_first (first_part s.outer path) h)) h s.holes i (ap not e))))
+
+  -- a ring of the feature is one of the two features, but for the one that is cut
+  rings_kept : (r : List Position) → In r (rings_of f)
+      → (In r (rings_of (stays path f)) ⊎ In r (rings_of new)) ⊎ (s.outer ≡ r)
+  rings_kept r h =
+      let k = in_flat (λ polygon. polygon) r f.polygons h in
+      elim (in-append k.0 s.before (polygon ∷ s.after) (subst (In k.0) s.is k.1)) [
+        | inl i ↦ inl (inl (of_stays k.0 r (in_left k.0 s.before (first_polygon path polygon ∷ s.after) i) k.2))
+        | inr i ↦ elim i [
+          | inl e ↦ elim (subst (In r) (sym e) k.2) [
+            | inl same ↦ inr same
+            | inr j ↦ inl (hole_kept r j)
+          ]
+          | inr j ↦ inl (inl (of_stays k.0 r (in_right k.0 s.before (first_polygon path polygon ∷ s.after) (inr j)) k.2))
+        ]
+      ]
+
+-- ---- rings of the document
+
+module _ (d : Document) (next n : ℕ) (id : Text) (path : Path) (s : SplitDocument d next n id path) where
+  abbrev ring : List Position
+  ring = s.split.outer
+
+  abbrev new_one : Feature
+  new_one = new_feature path next id s.old (ring ∷ s.split.holes)
+
+  of_result : (f : Feature) (r : List Position)
+      → In f (s.before ++ stays path s.old ∷ new_one ∷ s.after) → In r (rings_of f)
+      → In r (rings (cut d n id path next))
+  of_result f r i j = in-flat_map rings_of f r (features (cut d n id path next)) (subst (In f) (sym s.result) i) j
+
+  of_old : (r : List Position) → In r (rings_of (stays path s.old)) → In r (rings (cut d n id path next))
+  of_old r j = of_result (stays path s.old) r (in_right _ s.before (stays path s.old ∷ new_one ∷ s.after) (inl refl)) j
+
+  of_new : (r : List Position) → In r (rings_of new_one) → In r (rings (cut d n id path next))
+  of_new r j = of_result new_one r (in_right _ s.before (stays path s.old ∷ new_one ∷ s.after) (inr (inl refl))) j
+
+  pub first_there : In (canonical (first_part ring path)) (rings (cut d n id path next))
+  first_there = of_old _ (first_stays path next id s.old s.split)
+
+  pub second_there : In (canonical (second_part ring path)) (rings (cut d n id path next))
+  second_there = of_new _ (second_goes path next id s.old s.split)
+
+  -- a ring from before is there after the cut, but for the one that is cut
+  pub rings_before : (r : List Position) → In r (rings d)
+      → In r (rings (cut d n id path next)) ⊎ (ring ≡ r)
+  rings_before r h =
+      let k = in_flat rings_of r (features d) h in
+      elim (in-append k.0 s.before (s.old ∷ s.after) (subst (In k.0) s.is k.1)) [
+        | inl i ↦ inl (of_result k.0 r (in_left k.0 s.before (stays path s.old ∷ new_one ∷ s.after) i) k.2)
+        | inr i ↦ elim i [
+          | inl e ↦ elim (rings_kept path next id s.old s.split r (subst (λ f. In r (rings_of f)) (sym e) k.2)) [
+            | inl j ↦ elim j [ inl l ↦ inl (of_old r l) | inr l ↦ inl (of_new r l) ]
+            | inr same ↦ inr same
+          ]
+          | inr j ↦ inl (of_result k.0 r (in_right k.0 s.before (stays path s.old ∷ new_one ∷ s.after) (inr (inr j))) k.2)
+        ]
+      ]
+
+  -- a test that the two parts pass where the ring or the path does
+  pub any_ring_after : (test : List Position → Bool) (along : Bool)
+      → (test (canonical (first_part ring path)) || test (canonical (second_part ring path))) ≡ (test ring || along)
+      → list_any test (rings (cut d n id path next)) ≡ (list_any test (rings d) || along)
+  any_ring_after test along e = same_answer _ _ onward back
+    where
+      both : test ring ≡ true ⊎ along ≡ true → list_any test (rings (cut d n id path next)) ≡ true
+      both h = elim (or_true (test (canonical (first_part ring path))) (test (canonical (second_part ring path))) (e ∙ whole h)) [
+        | inl t ↦ in_any test _ (rings (cut d n id path next)) first_there t
+        | inr t ↦ in_any test _ (rings (cut d n id path next)) second_there t
+      ]
+        where
+          whole : test ring ≡ true ⊎ along ≡ true → (test ring || along) ≡ true
+          whole (inl t) = ap (λ z. z || along) t
+          whole (inr t) = or_right (test ring) along t
+
+      apart : (test (canonical (first_part ring path)) || test (canonical (second_part ring path))) ≡ true
+          → (list_any test (rings d) || along) ≡ true
+      apart h = elim (or_true (test ring) along (sym e ∙ h)) [
+        | inl t ↦ ap (λ z. z || along) (in_any test ring (rings d) (target_there d next n id path s) t)
+        | inr t ↦ or_right (list_any test (rings d)) along t
+      ]
+
+      onward : list_any test (rings (cut d n id path next)) ≡ true
+          → (list_any test (rings d) || along) ≡ true
+      onward h =
+          let k = any_in test (rings (cut d n id path next)) h in
+          elim (rings_after d next n id path s k.0 k.1) [
+            | inl i ↦ ap (λ z. z || along) (in_any test k.0 (rings d) i k.2)
+            | inr i ↦ elim i [
+              | inl same ↦ apart (ap (λ z. z || test (canonical (second_part ring path))) (ap test same ∙ k.2))
+              | inr same ↦ apart (or_right (test (canonical (first_part ring path))) (test (canonical (second_part ring path))) (ap test same ∙ k.2))
+            ]
+          ]
+
+      back : (list_any test (rings d) || along) ≡ true
+          → list_any test (rings (cut d n id path next)) ≡ true
+      back h = elim (or_true (list_any test (rings d)) along h) [
+        | inl t ↦ let k = any_in test (rings d) t in elim (rings_before k.0 k.1) [
+          | inl i ↦ in_any test k.0 (rings (cut d n id path next)) i k.2
+          | inr same ↦ both (inl (ap test same ∙ k.2))
+        ]
+        | inr t ↦ both (inr t)
+      ]
+
+-- ---- segments and vertices
+
+any_flat : {A B : Type 0} (test : B → Bool) (g : A → List B) (xs : List A)
+    → list_any test (flat_map g xs) ≡ list_any (λ x. list_any test (g x)) xs
+any_flat test g [] = refl
+any_flat test g (x ∷ xs) = list_any-append test (g x) (flat_map g xs) ∙ ap (λ z. list_any test (g x) || z) (any_flat test g xs)
+
+module _ (d : Document) (next n : ℕ) (id : Text) (path : Path) (formed : WellFormed d) (proper : Proper d) (h : first_of (split_refusals d next n id path) ≡ None) where
+  the_split : SplitDocument d next n id path
+  the_split = let a = split-accepted d next n id path h in split_document d next n id path formed a.there a.cuts
+
+  the_cut : CutRing the_split.split.outer path.first path.last
+  the_cut = cut_of the_split.split.outer path (cuts_target d next n id path the_split proper (split-accepted d next n id path h))
+
+  -- the segments after the split are those before and those of the path
+  pub split_segments : (s : Segment)
+      → is_segment (cut d n id path next) s ≡ (is_segment d s || list_any (segment_eq s) (path_segments path))
+  split_segments s =
+      any_flat (segment_eq s) segments (rings (cut d n id path next))
+      ∙ any_ring_after d next n id path the_split (λ r. list_any (segment_eq s) (segments r)) (list_any (segment_eq s) (path_segments path)) (canonical_parts_segments (segment_eq s) the_split.split.outer path the_cut)
+      ∙ ap (λ z. z || list_any (segment_eq s) (path_segments path)) (sym (any_flat (segment_eq s) segments (rings d)))
+
+  -- the vertices after the split are those before and the inner positions of the path
+  pub split_vertices : (p : Position)
+      → is_vertex (cut d n id path next) p ≡ (is_vertex d p || has path.inner p)
+  split_vertices p = any_ring_after d next n id path the_split (λ r. has r p) (has path.inner p) (parts_positions (position_eq p) the_split.split.outer path the_cut)
+
+-- ---- size
+
+sum_flat : {A B : Type 0} (f : B → ℕ) (g : A → List B) (us : List A) (x : A) (vs : List A)
+    → sum_by f (flat_map g (us ++ x ∷ vs))
+    ≡ sum_by f (flat_map g us) + (sum_by f (g x) + sum_by f (flat_map g vs))
+sum_flat f g us x vs =
+    ap (sum_by f) (flat_map-append g us (x ∷ vs)) ∙ sum_by-append f (flat_map g us) (g x ++ flat_map g vs)
+    ∙ ap (λ z. sum_by f (flat_map g us) + z) (sum_by-append f (g x) (flat_map g vs))
+
+-- the positions of the feature's rings, each ring counted for itself
+abbrev pub feature_size : Feature → ℕ
+feature_size f = sum_by length (rings_of f)
+
+features_size : (path : Path) (number : ℕ) (id : Text) (f : Feature) (s : SplitFeature path number id f)
+    → CutRing s.outer path.first path.last →
+    feature_size (stays path f) + feature_size (new_feature path number id f (s.outer ∷ s.holes))
+    ≡ feature_size f + 2 + 2 * length path.inner
+features_size path number id f s c =
+    let p : List (List Position) = s.outer ∷ s.holes in
+    let test = goes_first (first_part s.outer path) in
+    omega (
+      arith,
+      ap (λ z. sum_by length (flat_map (λ q. q) z)) s.is ∙ sum_flat length (λ q. q) s.before p s.after,
+      ap (λ z. sum_by length (flat_map (λ q. q) z)) s.kept ∙ sum_flat length (λ q. q) s.before (first_polygon path p) s.after,
+      sum_by-append length (second_polygon path p) [],
+      sum_by-cons length s.outer s.holes,
+      sum_by-cons length (canonical (first_part s.outer path)) (filter test s.holes),
+      sum_by-cons length (canonical (second_part s.outer path)) (filter (λ h. not (test h)) s.holes),
+      sum_by-filter_both test (λ h. not (test h)) (λ h. refl) length s.holes,
+      parts_length s.outer path c,
+    )
+
+-- both ends of the path and its inner positions are counted once more
+pub split_size : (d : Document) (next n : ℕ) (id : Text) (path : Path) → WellFormed d → Proper d
+    → first_of (split_refusals d next n id path) ≡ None
+    → size (cut d n id path next) ≡ size d + 2 + 2 * length path.inner
+split_size d next n id path formed proper h =
+    let s = the_split d next n id path formed proper h in
+    let new = new_feature path next id s.old (s.split.outer ∷ s.split.holes) in
+    omega (
+      arith,
+      ap (λ z. sum_by length (flat_map rings_of z)) s.is ∙ sum_flat length rings_of s.before s.old s.after,
+      ap (λ z. sum_by length (flat_map rings_of z)) s.result ∙ sum_flat length rings_of s.before (stays path s.old) (new ∷ s.after),
+      sum_by-append length (rings_of new) (flat_map rings_of s.after),
+      features_size path next id s.old s.split (the_cut d next n id path formed proper h),
+    )
