@@ -1,10 +1,11 @@
 -- The edges round a ring: a closed chain, begun elsewhere or gone round in reverse.
 use Rattle.std.proofs.Common.{◌≡◌, ◌≤◌, ◌+◌, ℕ, Bool, true, false, refl, sym, ap, ap₂, ◌∙◌, subst}
-use Rattle.std.proofs.Common.{List, [], ◌∷◌, ◌++◌, map, reverse, ◌||◌, ◌&&◌, ◌⊎◌, inl, inr, arith}
+use Rattle.std.proofs.Common.{List, [], ◌∷◌, ◌++◌, length, map, reverse, ◌||◌, ◌&&◌, ◌⊎◌, inl, inr, arith}
 use Rattle.std.specs.Prelude.{not}
 use Rattle.std.specs.List.{list_any}
 use Rattle.std.proofs.lemmas.Bool.{false≢true}
-use Rattle.std.proofs.lemmas.List.{append-nil, map-append, reverse-append}
+use Rattle.std.proofs.lemmas.List.{append-nil, map-append, reverse-append, length-append}
+use Rattle.std.proofs.lemmas.List.{length-map, length-reverse}
 use Rattle.std.proofs.lemmas.List.Folds.{list_any-append}
 use Rattle.grid_geometry.specs.Position.{Position, position_eq}
 use Rattle.grid_geometry.specs.Segment.{Segment, segment_eq}
@@ -18,7 +19,7 @@ use Rattle.ring_machine.proofs.Edges.{edges_to, edges_is, edges_to-append, start
 use Rattle.ring_machine.proofs.Arcs.{flip, flipped, links-reverse, is_of}
 use Rattle.ring_machine.proofs.Removal.{none_parts, not_true}
 use Rattle.ring_machine.proofs.StaysRing.{AtMostOne, distinct_swap}
-use Rattle.ring_machine.proofs.StaysProper.{edges_start, ring_distinct}
+use Rattle.ring_machine.proofs.StaysProper.{edges_start, ring_distinct, ring_long}
 use Rattle.ring_machine.proofs.RingSegments.{ring_once}
 use Rattle.ring_machine.proofs.Once.{one, times, times-append}
 use Rattle.ring_machine.proofs.Spots.{Rotated, rotated_distinct}
@@ -62,7 +63,7 @@ pub flipped-append : (es fs : List Edge) → flipped (es ++ fs) ≡ flipped fs +
 flipped-append es fs =
     ap reverse (map-append flip es fs) ∙ reverse-append (map flip es) (map flip fs)
 
-starts-flipped : (es : List Edge) → starts (flipped es) ≡ reverse (ends es)
+pub starts-flipped : (es : List Edge) → starts (flipped es) ≡ reverse (ends es)
 starts-flipped [] = refl
 starts-flipped (e ∷ es) =
     ap starts (flipped-append (e ∷ []) es)
@@ -102,7 +103,7 @@ chain-flipped p (e ∷ es) q h =
     subst (λ z. Chain q z p) (sym (flipped-append (e ∷ []) es))
     (chain_append q (flipped es) e.1 (flip e ∷ []) p (chain-flipped e.1 es q h.1) (refl, h.0))
 
-times-flipped : (s : Segment) (es : List Edge) → times s (flipped es) ≡ times s es
+pub times-flipped : (s : Segment) (es : List Edge) → times s (flipped es) ≡ times s es
 times-flipped s [] = refl
 times-flipped s (e ∷ es) =
     ap (times s) (flipped-append (e ∷ []) es)
@@ -170,6 +171,7 @@ pub record Cycle (es : List Edge) : Type 0 where
   pub starts_once : is_distinct (starts es) ≡ true
   pub ends_once : is_distinct (ends es) ≡ true
   pub once : (t : Segment) → times t es ≤ 1
+  pub long : 3 ≤ length es
 
 at_most : (s : Segment) (q : Position) (es : List Edge) → AtMostOne (is_of s) q es → times s es ≤ 1
 at_most s q [] h = omega arith
@@ -185,6 +187,11 @@ at_most s q (e ∷ es) h = by (is_of s e) refl (at_most s q es h.1)
     by true k l = omega (arith, none es (h.0 k))
     by false k l = omega (arith, l)
 
+-- a ring has as many edges as positions
+pub length_edges : (ring : List Position) → length (edges ring) ≡ length ring
+length_edges [] = refl
+length_edges (p ∷ ps) = sym (length-map (edges (p ∷ ps)) (λ e. e.0)) ∙ ap length (edges_start p ps)
+
 pub cycle_of : (ring : List Position) → is_ring ring ≡ true → Cycle (edges ring)
 cycle_of [] h = absurd (false≢true h)
 cycle_of (x ∷ []) h = absurd (false≢true h)
@@ -199,6 +206,7 @@ cycle_of (x ∷ y ∷ z ∷ ps) h =
       starts_once = once;
       ends_once = closed_ends x (edges (x ∷ y ∷ z ∷ ps)) c once;
       once = λ t. at_most t x (edges (x ∷ y ∷ z ∷ ps)) (ring_once t x y z ps d);
+      long = omega (arith, ring_long (x ∷ y ∷ z ∷ ps) h, length_edges (x ∷ y ∷ z ∷ ps));
     }
 
 cycle_swap : (us vs : List Edge) → Cycle (us ++ vs) → Cycle (vs ++ us)
@@ -210,6 +218,7 @@ cycle_swap us vs c =
       starts_once = turned (λ e. e.0) c.starts_once;
       ends_once = turned (λ e. e.1) c.ends_once;
       once = λ t. omega (arith, times-append t us vs, times-append t vs us, c.once t);
+      long = omega (arith, length-append us vs, length-append vs us, c.long);
     }
   where
     turned : (f : Edge → Position) → is_distinct (map f (us ++ vs)) ≡ true
@@ -227,6 +236,7 @@ cycle_flipped es c = record {
   starts_once = ap is_distinct (starts-flipped es) ∙ distinct-reverse (ends es) c.ends_once;
   ends_once = ap is_distinct (ends-flipped es) ∙ distinct-reverse (starts es) c.starts_once;
   once = λ t. omega (arith, times-flipped t es, c.once t);
+  long = omega (arith, length-reverse (map flip es), length-map es flip, c.long);
 }
 
 pub cycle_reversed : (ring : List Position) → is_ring ring ≡ true → Cycle (edges (reverse ring))

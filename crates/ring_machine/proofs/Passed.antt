@@ -22,6 +22,7 @@ use Rattle.ring_machine.proofs.Once.{one, times}
 use Rattle.ring_machine.proofs.Spots.{Rotated}
 use Rattle.ring_machine.proofs.First.{In, in_right}
 use Rattle.ring_machine.proofs.Members.{in_mapped, any_in, in_any}
+use Rattle.ring_machine.proofs.Distinct.{in_has}
 use Rattle.ring_machine.proofs.Cycles.{Cycle, cycle_rotated, in_rotated}
 
 -- ---- tests of each element
@@ -52,9 +53,6 @@ pub in_map : {A B : Type 0} (f : A → B) (a : A) (xs : List A) → In a xs → 
 in_map f a [] h = absurd h
 in_map f a (x ∷ xs) (inl e) = inl (ap f e)
 in_map f a (x ∷ xs) (inr i) = inr (in_map f a xs i)
-
-pub in_has : (ps : List Position) (p : Position) → In p ps → has ps p ≡ true
-in_has ps p h = in_any (position_eq p) p ps h (position_eq-refl p)
 
 -- ---- an edge by where it begins or ends
 
