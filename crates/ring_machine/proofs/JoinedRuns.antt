@@ -69,7 +69,7 @@ pub in_alike : (r s : List Position) (e : Edge) → In e (edges r) → In e (edg
     → passed_alike r s ≡ true
 in_alike r s e h k = in_any (λ x. list_any (edge_eq x) (edges s)) e (edges r) h (in_any (edge_eq e) e (edges s) k (edge_eq-refl e))
 
-in_reverse : (s : List Position) (e : Edge) → In e (edges s) → In (flip e) (edges (reverse s))
+pub in_reverse : (s : List Position) (e : Edge) → In e (edges s) → In (flip e) (edges (reverse s))
 in_reverse s e h = in_rotated (flipped (edges s)) (edges (reverse s)) (flip e) (edges_reversed s) (in_flipped e (edges s) h)
 
 reverse_in : (s : List Position) (e : Edge) → In e (edges (reverse s)) → In (flip e) (edges s)
