@@ -6,36 +6,20 @@ use Rattle.std.proofs.lemmas.Bool.{false≢true}
 use Rattle.std.proofs.lemmas.List.Folds.{list_any-append}
 use Rattle.grid_geometry.specs.Position.{Position, position_eq}
 use Rattle.ring_machine.specs.Ring.{has, is_distinct}
-use Rattle.ring_machine.proofs.Order.{and_both, position_eq-true, position_eq-refl}
+use Rattle.ring_machine.proofs.Order.{and_both}
 use Rattle.ring_machine.proofs.Removal.{none_parts, not_true}
 use Rattle.ring_machine.proofs.First.{In, in_right}
-use Rattle.ring_machine.proofs.Members.{any_in, in_any}
-
-pub in_has : (ps : List Position) (p : Position) → In p ps → has ps p ≡ true
-in_has ps p h = in_any (position_eq p) p ps h (position_eq-refl p)
-
-pub has_in : (ps : List Position) (p : Position) → has ps p ≡ true → In p ps
-has_in [] p h = absurd (false≢true h)
-has_in (q ∷ ps) p h = let a = any_in (position_eq p) (q ∷ ps) h in on a.0 a.1 (position_eq-true p a.0 a.2)
-  where
-    on : (a : Position) → In a (q ∷ ps) → p ≡ a → In p (q ∷ ps)
-    on a (inl i) e = inl (i ∙ sym e)
-    on a (inr i) e = inr (over ps i)
-      where
-        over : (qs : List Position) → In a qs → In p qs
-        over [] j = j
-        over (x ∷ qs) (inl j) = inl (j ∙ sym e)
-        over (x ∷ qs) (inr j) = inr (over qs j)
+use Rattle.ring_machine.proofs.Neighbours.{has-in, in-has}
 
 pub lacks : (ps : List Position) (p : Position) → (In p ps → ⊥) → has ps p ≡ false
 lacks ps p h = by (has ps p) refl
   where
     by : (b : Bool) → has ps p ≡ b → has ps p ≡ false
-    by true e = absurd (h (has_in ps p e))
+    by true e = absurd (h (has-in p ps e))
     by false e = e
 
 pub lacking : (ps : List Position) (p : Position) → has ps p ≡ false → In p ps → ⊥
-lacking ps p h i = false≢true (sym h ∙ in_has ps p i)
+lacking ps p h i = false≢true (sym h ∙ in-has p ps i)
 
 -- the first is not among the others
 pub first_once : (p : Position) (ps : List Position) → is_distinct (p ∷ ps) ≡ true → In p ps → ⊥

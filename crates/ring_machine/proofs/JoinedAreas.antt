@@ -55,6 +55,12 @@ joined_signed r s ring second k =
     (sym (total_area-rotated (edges (other_of r s)) (flipped run ++ k.others) k.there) ∙ total_area-append (flipped run) k.others)
     (total_area-flipped run)
 
+-- with the run given by the conditions
+pub joined_signed_area : (r s : List Position) → is_ring r ≡ true → is_ring s ≡ true
+    → list_any (is_common s) (edges r) ≡ true → runs (is_common s) (edges r) ≤ 1
+    → signed_area (joined r s) ≡ signed_area r +ℤ signed_area (other_of r s)
+joined_signed_area r s ring second some one = joined_signed r s ring second (shared r s ring second some one)
+
 -- ---- both on their sides of the run
 
 abbrev below : List Position → Bool

@@ -8,7 +8,7 @@ use Rattle.grid_geometry.specs.Position.{Position}
 use Rattle.grid_geometry.specs.Ring.{Edge, edges}
 use Rattle.ring_machine.specs.Ring.{is_ring, canonical}
 use Rattle.ring_machine.specs.Arcs.{Chain}
-use Rattle.ring_machine.specs.Join.{is_common, passed_alike, same_segments, joined}
+use Rattle.ring_machine.specs.Join.{is_common, passed_alike, same_segments, joined, runs}
 use Rattle.ring_machine.proofs.Edges.{starts, chain_append, closed}
 use Rattle.ring_machine.proofs.Arcs.{flip, flipped}
 use Rattle.ring_machine.proofs.Spots.{Rotated}
@@ -18,8 +18,9 @@ use Rattle.ring_machine.proofs.Distinct.{first_once}
 use Rattle.ring_machine.proofs.Cycles.{Cycle, cycle_of, cycle_rotated, in_rotated, rotated-sym}
 use Rattle.ring_machine.proofs.Cycles.{chain_parts, chain-flipped, in_flipped, flipped_in}
 use Rattle.ring_machine.proofs.Cycles.{edges_canonical}
-use Rattle.ring_machine.proofs.Passed.{all_pass, pass_all, in_common, flip_common, in_map}
-use Rattle.ring_machine.proofs.JoinedRuns.{Shared, other_of, in_other, cycle_other}
+use Rattle.ring_machine.proofs.Passed.{pass_all, in_common, flip_common}
+use Rattle.ring_machine.proofs.Neighbours.{all_in, in-map}
+use Rattle.ring_machine.proofs.JoinedRuns.{Shared, shared, other_of, in_other, cycle_other}
 
 -- where a way begins and ends
 same_way : (e : Edge) (es : List Edge) (p q p' q' : Position) → Chain p (e ∷ es) q
@@ -38,7 +39,7 @@ nothing_more e es (f ∷ rest) p h c =
     let k = chain_parts c.at (e ∷ es) (f ∷ rest) c.at c.chain in
     let s = same_way e es p p c.at k.0 h k.1 in
     let again : f.0 ≡ e.0 = k.2.0 ∙ sym s.1 ∙ sym h.0 in
-    absurd (first_once e.0 (starts (es ++ f ∷ rest)) c.starts_once (subst (λ p. In p (starts (es ++ f ∷ rest))) again (in_map (λ (x : Edge). x.0) f (es ++ f ∷ rest) (in_right f es (f ∷ rest) (inl refl)))))
+    absurd (first_once e.0 (starts (es ++ f ∷ rest)) c.starts_once (subst (λ p. In p (starts (es ++ f ∷ rest))) again (in-map (λ (x : Edge). x.0) f (es ++ f ∷ rest) (in_right f es (f ∷ rest) (inl refl)))))
 
 module _ (r s : List Position) (ring : is_ring r ≡ true) (second : is_ring s ≡ true) (k : Shared r s) where
   abbrev run : List Edge
@@ -143,7 +144,7 @@ module _ (r s : List Position) (ring : is_ring r ≡ true) (second : is_ring s �
   all_shared e f = ap₂ (λ y z. y && z) (pass_all (is_common s) (edges r) in_run) (pass_all (is_common r) (edges s) in_back)
     where
       in_run : (x : Edge) → In x (edges r) → is_common s x ≡ true
-      in_run x i = all_pass (is_common s) run k.are_common x (subst (In x) (ap (λ z. run ++ z) e ∙ append-nil run) (in_rotated (edges r) (run ++ k.own) x k.here i))
+      in_run x i = all_in (is_common s) run x k.are_common (subst (In x) (ap (λ z. run ++ z) e ∙ append-nil run) (in_rotated (edges r) (run ++ k.own) x k.here i))
 
       round : (x : Edge) → In x (edges (other_of r s)) → In (flip x) (edges r)
       round x i = run_in (flip x) (flipped_in x run (subst (In x) (ap (λ z. flipped run ++ z) f ∙ append-nil (flipped run)) (in_rotated (edges (other_of r s)) (flipped run ++ k.others) x k.there i)))
@@ -159,3 +160,23 @@ module _ (r s : List Position) (ring : is_ring r ≡ true) (second : is_ring s �
 
   pub some_others : same_segments r s ≡ false → k.others ≡ [] → ⊥
   some_others h e = false≢true (sym h ∙ all_shared (none_of_own e) e)
+
+-- what the definition of the joined ring asks of two rings with a common segment and one run of these
+pub record BothParted (r s : List Position) : Type 0 where
+  pub own : List Edge
+  pub others : List Edge
+  pub first : Parted (is_common s) r own
+  pub second : Parted (is_common r) (other_of r s) others
+  pub is : joined r s ≡ canonical (starts (own ++ others))
+
+pub both_parted : (r s : List Position) → is_ring r ≡ true → is_ring s ≡ true
+    → list_any (is_common s) (edges r) ≡ true → runs (is_common s) (edges r) ≤ 1 → BothParted r s
+both_parted r s ring second some one =
+    let k = shared r s ring second some one in
+    record {
+      own = k.own;
+      others = k.others;
+      first = first_parted r s ring second k;
+      second = second_parted r s ring second k;
+      is = joined_rests r s ring second k;
+    }

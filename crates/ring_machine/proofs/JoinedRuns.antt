@@ -25,9 +25,10 @@ use Rattle.ring_machine.proofs.Cycles.{Cycle, cycle_of, cycle_reversed, cycle_ro
 use Rattle.ring_machine.proofs.Cycles.{rotated-sym, chain_parts, chain-flipped, times-flipped}
 use Rattle.ring_machine.proofs.Cycles.{edges_reversed, in_flipped, flipped_in, starts-flipped, ends}
 use Rattle.ring_machine.proofs.Cycles.{distinct-reverse}
-use Rattle.ring_machine.proofs.Distinct.{in_has, distinct_left}
+use Rattle.ring_machine.proofs.Distinct.{first_once, distinct_left}
 use Rattle.ring_machine.proofs.OneRun.{Run, run_of}
-use Rattle.ring_machine.proofs.Passed.{all_pass, pass_all, none_pass, pass_none}
+use Rattle.ring_machine.proofs.Passed.{pass_none}
+use Rattle.ring_machine.proofs.Neighbours.{all_in, none_in}
 use Rattle.ring_machine.proofs.Passed.{common_in, in_common, flip_common, common-flip, times_in}
 use Rattle.ring_machine.proofs.Passed.{alike_along, reverse_along, in_split, way_of}
 
@@ -108,8 +109,7 @@ both_ways os c e h k =
   where
     loop : (rest : List Edge) → Cycle (e ∷ rest) → e.0 ≡ e.1 → ⊥
     loop [] c' l = omega (arith, c'.long)
-    loop (f ∷ rest) c' l = false≢true (sym (not_true (has (starts (f ∷ rest)) e.0) (and_both (not (has (starts (f ∷ rest)) e.0)) (is_distinct (starts (f ∷ rest))) c'.starts_once).0)
-        ∙ in_has (starts (f ∷ rest)) e.0 (inl (c'.chain.1.0 ∙ sym l)))
+    loop (f ∷ rest) c' l = first_once e.0 (starts (f ∷ rest)) c'.starts_once (inl (c'.chain.1.0 ∙ sym l))
 
     by : (rest : List Edge) → Cycle (e ∷ rest) → In (flip e) (e ∷ rest) → ⊥
     by rest c' (inl i) = loop rest c' (ap (λ (z : Edge). z.0) i)
@@ -131,7 +131,7 @@ module _ (r s : List Position) (ring : is_ring r ≡ true) (second : is_ring s �
   run_once t = omega (arith, here_cycle.once t, times-append t (run.first ∷ run.more) run.rest)
 
   either_way : (x : Edge) → In x (run.first ∷ run.more) → In x (edges s) ⊎ In (flip x) (edges s)
-  either_way x i = common_in s x (all_pass (is_common s) (run.first ∷ run.more) run.common x i)
+  either_way x i = common_in s x (all_in (is_common s) (run.first ∷ run.more) x run.common i)
 
   in_r : (x : Edge) → In x (run.first ∷ run.more) → In x (edges r)
   in_r x i = in_rotated ((run.first ∷ run.more) ++ run.rest) (edges r) x (rotated-sym (edges r) ((run.first ∷ run.more) ++ run.rest) here_is) (in_left x (run.first ∷ run.more) run.rest i)
@@ -140,7 +140,7 @@ module _ (r s : List Position) (ring : is_ring r ≡ true) (second : is_ring s �
   in_run : (x : Edge) → In x (edges r) → is_common s x ≡ true → In x (run.first ∷ run.more)
   in_run x i c = elim (in-append x (run.first ∷ run.more) run.rest (in_rotated (edges r) ((run.first ∷ run.more) ++ run.rest) x here_is i)) [
     | inl j ↦ j
-    | inr j ↦ absurd (false≢true (sym (none_pass (is_common s) run.rest run.own x j) ∙ c))
+    | inr j ↦ absurd (false≢true (sym (none_in (is_common s) run.rest x run.own j) ∙ c))
   ]
 
   opposite : (x : Edge) → In x (run.first ∷ run.more) → In (flip x) (edges (other_of r s))

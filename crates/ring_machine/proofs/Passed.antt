@@ -22,37 +22,21 @@ use Rattle.ring_machine.proofs.Once.{one, times}
 use Rattle.ring_machine.proofs.Spots.{Rotated}
 use Rattle.ring_machine.proofs.First.{In, in_right}
 use Rattle.ring_machine.proofs.Members.{in_mapped, any_in, in_any}
-use Rattle.ring_machine.proofs.Distinct.{in_has}
+use Rattle.ring_machine.proofs.Neighbours.{in-map}
+use Rattle.ring_machine.proofs.Distinct.{first_once, distinct_rest}
 use Rattle.ring_machine.proofs.Cycles.{Cycle, cycle_rotated, in_rotated}
 
 -- ---- tests of each element
-
-pub all_pass : {A : Type 0} (c : A → Bool) (xs : List A) → list_all c xs ≡ true → (x : A) → In x xs
-    → c x ≡ true
-all_pass c [] h x i = absurd i
-all_pass c (y ∷ xs) h x (inl e) = ap c (sym e) ∙ (and_both (c y) (list_all c xs) h).0
-all_pass c (y ∷ xs) h x (inr i) = all_pass c xs (and_both (c y) (list_all c xs) h).1 x i
 
 pub pass_all : {A : Type 0} (c : A → Bool) (xs : List A) → ((x : A) → In x xs → c x ≡ true)
     → list_all c xs ≡ true
 pass_all c [] h = refl
 pass_all c (x ∷ xs) h = ap₂ (λ y z. y && z) (h x (inl refl)) (pass_all c xs (λ y i. h y (inr i)))
 
-pub none_pass : {A : Type 0} (c : A → Bool) (xs : List A) → list_any c xs ≡ false → (x : A)
-    → In x xs → c x ≡ false
-none_pass c [] h x i = absurd i
-none_pass c (y ∷ xs) h x (inl e) = ap c (sym e) ∙ (none_parts (c y) (list_any c xs) h).0
-none_pass c (y ∷ xs) h x (inr i) = none_pass c xs (none_parts (c y) (list_any c xs) h).1 x i
-
 pub pass_none : {A : Type 0} (c : A → Bool) (xs : List A) → ((x : A) → In x xs → c x ≡ false)
     → list_any c xs ≡ false
 pass_none c [] h = refl
 pass_none c (x ∷ xs) h = ap₂ (λ y z. y || z) (h x (inl refl)) (pass_none c xs (λ y i. h y (inr i)))
-
-pub in_map : {A B : Type 0} (f : A → B) (a : A) (xs : List A) → In a xs → In (f a) (map f xs)
-in_map f a [] h = absurd h
-in_map f a (x ∷ xs) (inl e) = inl (ap f e)
-in_map f a (x ∷ xs) (inr i) = inr (in_map f a xs i)
 
 -- ---- an edge by where it begins or ends
 
@@ -61,15 +45,15 @@ module _ (k : Edge → Position) where
       → k e ≡ k f → e ≡ f
   same_key [] e f d h l s = absurd h
   same_key (x ∷ es) e f d (inl a) (inl b) s = sym a ∙ b
-  same_key (x ∷ es) e f d (inr a) (inr b) s = same_key es e f (and_both (not (has (map k es) (k x))) (is_distinct (map k es)) d).1 a b s
-  same_key (x ∷ es) e f d (inl a) (inr b) s = absurd (false≢true (sym (not_true (has (map k es) (k x)) (and_both (not (has (map k es) (k x))) (is_distinct (map k es)) d).0) ∙ in_has (map k es) (k x) (subst (λ p. In p (map k es)) (sym s ∙ ap k (sym a)) (in_map k f es b))))
-  same_key (x ∷ es) e f d (inr a) (inl b) s = absurd (false≢true (sym (not_true (has (map k es) (k x)) (and_both (not (has (map k es) (k x))) (is_distinct (map k es)) d).0) ∙ in_has (map k es) (k x) (subst (λ p. In p (map k es)) (s ∙ ap k (sym b)) (in_map k e es a))))
+  same_key (x ∷ es) e f d (inr a) (inr b) s = same_key es e f (distinct_rest (k x) (map k es) d) a b s
+  same_key (x ∷ es) e f d (inl a) (inr b) s = absurd (first_once (k x) (map k es) d (subst (λ p. In p (map k es)) (sym s ∙ ap k (sym a)) (in-map k f es b)))
+  same_key (x ∷ es) e f d (inr a) (inl b) s = absurd (first_once (k x) (map k es) d (subst (λ p. In p (map k es)) (s ∙ ap k (sym b)) (in-map k e es a)))
 
   pub not_again : (es : List Edge) (e : Edge) (fs : List Edge) → is_distinct (map k (es ++ e ∷ fs)) ≡ true
       → In e es → ⊥
   not_again [] e fs d h = h
-  not_again (x ∷ es) e fs d (inl a) = false≢true (sym (not_true (has (map k (es ++ e ∷ fs)) (k x)) (and_both (not (has (map k (es ++ e ∷ fs)) (k x))) (is_distinct (map k (es ++ e ∷ fs))) d).0) ∙ in_has (map k (es ++ e ∷ fs)) (k x) (in_map k x (es ++ e ∷ fs) (in_right x es (e ∷ fs) (inl (sym a)))))
-  not_again (x ∷ es) e fs d (inr a) = not_again es e fs (and_both (not (has (map k (es ++ e ∷ fs)) (k x))) (is_distinct (map k (es ++ e ∷ fs))) d).1 a
+  not_again (x ∷ es) e fs d (inl a) = first_once (k x) (map k (es ++ e ∷ fs)) d (in-map k x (es ++ e ∷ fs) (in_right x es (e ∷ fs) (inl (sym a))))
+  not_again (x ∷ es) e fs d (inr a) = not_again es e fs (distinct_rest (k x) (map k (es ++ e ∷ fs)) d) a
 
 -- ---- common edges
 
@@ -85,7 +69,7 @@ common_in ring e h =
     ]
 
 pub in_common : (ring : List Position) (e : Edge) → In e (edges ring) → is_common ring e ≡ true
-in_common ring e h = in_any (segment_eq (segment_of e)) (segment_of e) (segments ring) (in_map segment_of e (edges ring) h) (segment_ordered.eq-refl (segment_of e))
+in_common ring e h = in_any (segment_eq (segment_of e)) (segment_of e) (segments ring) (in-map segment_of e (edges ring) h) (segment_ordered.eq-refl (segment_of e))
 
 pub common-flip : (ring : List Position) (e : Edge) → is_common ring (flip e) ≡ is_common ring e
 common-flip ring e = ap (λ s. list_any (segment_eq s) (segments ring)) (segment-comm e.1 e.0)
