@@ -1,6 +1,6 @@
 -- The edges round a ring: a closed chain, begun elsewhere or gone round in reverse.
 use Rattle.std.proofs.Common.{◌≡◌, ◌≤◌, ◌+◌, ℕ, Bool, true, false, refl, sym, ap, ap₂, ◌∙◌, subst}
-use Rattle.std.proofs.Common.{List, [], ◌∷◌, ◌++◌, length, map, reverse, ◌||◌, ◌&&◌, ◌⊎◌, inl, inr, arith}
+use Rattle.std.proofs.Common.{List, [], ◌∷◌, ◌++◌, length, map, reverse, ◌||◌, ◌&&◌, inl, inr, arith}
 use Rattle.std.specs.Prelude.{not}
 use Rattle.std.specs.List.{list_any}
 use Rattle.std.proofs.lemmas.Bool.{false≢true}
@@ -11,9 +11,9 @@ use Rattle.grid_geometry.specs.Position.{Position, position_eq}
 use Rattle.grid_geometry.specs.Segment.{Segment, segment_eq}
 use Rattle.grid_geometry.specs.Ring.{Edge, links, edges}
 use Rattle.grid_geometry.proofs.Conflicts.{segment-comm}
-use Rattle.ring_machine.specs.Ring.{has, is_distinct, is_ring, canonical, segment_of}
+use Rattle.ring_machine.specs.Ring.{has, is_distinct, is_ring, canonical}
 use Rattle.ring_machine.specs.Arcs.{Chain}
-use Rattle.ring_machine.proofs.Order.{and_both, position_eq-refl}
+use Rattle.ring_machine.proofs.Order.{and_both}
 use Rattle.ring_machine.proofs.Canonical.{canonical_parts}
 use Rattle.ring_machine.proofs.Edges.{edges_to, edges_is, edges_to-append, starts, chain_append}
 use Rattle.ring_machine.proofs.Arcs.{flip, flipped, links-reverse, is_of}
@@ -22,7 +22,7 @@ use Rattle.ring_machine.proofs.StaysRing.{AtMostOne, distinct_swap}
 use Rattle.ring_machine.proofs.StaysProper.{edges_start, ring_distinct, ring_long}
 use Rattle.ring_machine.proofs.RingSegments.{ring_once}
 use Rattle.ring_machine.proofs.Once.{one, times, times-append}
-use Rattle.ring_machine.proofs.Spots.{Rotated, rotated_distinct}
+use Rattle.ring_machine.proofs.Spots.{Rotated}
 use Rattle.ring_machine.proofs.First.{In, in_left, in_right, in-append}
 use Rattle.ring_machine.proofs.Members.{in_swap}
 

@@ -1,6 +1,6 @@
 -- The area of the ring that joins two rings is the sum of their areas.
-use Rattle.std.proofs.Common.{◌≡◌, ◌≤◌, ℤ, pos, ◌+ℤ◌, ◌-ℤ◌, neg_ℤ, Bool, true, false, refl, sym, ap, ap₂}
-use Rattle.std.proofs.Common.{◌∙◌, subst, cond, List, ◌∷◌, ◌++◌, reverse, ◌||◌, inl, arith, int_lt}
+use Rattle.std.proofs.Common.{◌≡◌, ◌≤◌, ℤ, pos, ◌+ℤ◌, neg_ℤ, Bool, true, false, refl, sym, ap}
+use Rattle.std.proofs.Common.{◌∙◌, subst, cond, List, ◌∷◌, ◌++◌, reverse, inl, arith, int_lt}
 use Rattle.std.specs.Prelude.{unsigned_abs}
 use Rattle.std.specs.List.{list_any}
 use Rattle.std.proofs.lemmas.Bool.{false≢true}

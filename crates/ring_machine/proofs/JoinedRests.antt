@@ -1,6 +1,6 @@
 -- Two rings with one common run: the edges of the joined ring are those that only one of them has.
-use Rattle.std.proofs.Common.{◌≡◌, ◌≤◌, Bool, true, false, refl, sym, ap, ap₂, ◌∙◌, subst, cond}
-use Rattle.std.proofs.Common.{List, [], ◌∷◌, ◌++◌, ◌||◌, ◌&&◌, ◌⊎◌, inl, inr}
+use Rattle.std.proofs.Common.{◌≡◌, ◌≤◌, true, false, refl, sym, ap, ap₂, ◌∙◌, subst}
+use Rattle.std.proofs.Common.{List, [], ◌∷◌, ◌++◌, ◌&&◌, inl, inr}
 use Rattle.std.specs.List.{list_any, list_all}
 use Rattle.std.proofs.lemmas.Bool.{false≢true}
 use Rattle.std.proofs.lemmas.List.{append-nil}
@@ -8,11 +8,11 @@ use Rattle.grid_geometry.specs.Position.{Position}
 use Rattle.grid_geometry.specs.Ring.{Edge, edges}
 use Rattle.ring_machine.specs.Ring.{is_ring, canonical}
 use Rattle.ring_machine.specs.Arcs.{Chain}
-use Rattle.ring_machine.specs.Join.{is_common, passed_alike, same_segments, joined, runs}
+use Rattle.ring_machine.specs.Join.{is_common, same_segments, joined, runs}
 use Rattle.ring_machine.proofs.Edges.{starts, chain_append, closed}
 use Rattle.ring_machine.proofs.Arcs.{flip, flipped}
 use Rattle.ring_machine.proofs.Spots.{Rotated}
-use Rattle.ring_machine.proofs.First.{In, in-append, in_left, in_right}
+use Rattle.ring_machine.proofs.First.{In, in_left, in_right}
 use Rattle.ring_machine.proofs.Joining.{Parted, joined_is}
 use Rattle.ring_machine.proofs.Distinct.{first_once}
 use Rattle.ring_machine.proofs.Cycles.{Cycle, cycle_of, cycle_rotated, in_rotated, rotated-sym}

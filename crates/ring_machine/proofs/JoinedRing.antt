@@ -1,7 +1,7 @@
 -- The ring that joins two rings is a ring, with the segments that only one of them has.
 use Rattle.std.proofs.Common.{◌≡◌, ◌≤◌, Bool, true, false, refl, sym, ap, ap₂, ◌∙◌, subst, cond, List}
-use Rattle.std.proofs.Common.{[], ◌∷◌, ◌++◌, map, reverse, length, ◌||◌, ◌&&◌, ◌⊎◌, inl, inr, Option}
-use Rattle.std.proofs.Common.{None, Some, arith}
+use Rattle.std.proofs.Common.{[], ◌∷◌, ◌++◌, reverse, length, ◌&&◌, ◌⊎◌, inl, inr}
+use Rattle.std.proofs.Common.{None, arith}
 use Rattle.std.specs.Prelude.{not}
 use Rattle.std.specs.Ordering.{is_gt}
 use Rattle.std.specs.List.{list_any, filter, reduce}
@@ -10,13 +10,11 @@ use Rattle.std.proofs.lemmas.List.{map-append, length-append, length-map, revers
 use Rattle.grid_geometry.specs.Position.{Position, position_eq, position_cmp, position_lt}
 use Rattle.grid_geometry.specs.Segment.{Segment, segment_eq, is_end}
 use Rattle.grid_geometry.specs.Ring.{Edge, edges, xor}
-use Rattle.grid_geometry.proofs.Conflicts.{segment-comm}
 use Rattle.ring_machine.specs.Ring.{has, is_distinct, is_ring, segment_of, segments}
 use Rattle.ring_machine.specs.Arcs.{Chain}
 use Rattle.ring_machine.specs.Join.{is_common, passed_alike, same_segments, same_side, common_else}
 use Rattle.ring_machine.specs.Join.{joined, positive}
 use Rattle.ring_machine.proofs.Order.{and_both, or_true, position_eq-true}
-use Rattle.ring_machine.proofs.Orders.{segment_ordered}
 use Rattle.ring_machine.proofs.Edges.{starts}
 use Rattle.ring_machine.proofs.Arcs.{flip, flipped}
 use Rattle.ring_machine.proofs.Removal.{none_parts}
@@ -24,13 +22,13 @@ use Rattle.ring_machine.proofs.RingSegments.{segment_eq-true}
 use Rattle.ring_machine.proofs.StaysRing.{canonical_is_ring}
 use Rattle.ring_machine.proofs.StaysProper.{edges_start}
 use Rattle.ring_machine.proofs.First.{In, in-append, in_left, in_right, filter-in}
-use Rattle.ring_machine.proofs.Members.{in_mapped, any_in, in_any, same_answer}
-use Rattle.ring_machine.proofs.Neighbours.{in-map, has-in, in-has, all_in, none_in}
+use Rattle.ring_machine.proofs.Members.{in_mapped, any_in, same_answer}
+use Rattle.ring_machine.proofs.Neighbours.{in-map, in-has, all_in, none_in}
 use Rattle.ring_machine.proofs.Distinct.{distinct_right, distinct_apart, distinct_both}
 use Rattle.ring_machine.proofs.Cycles.{in_rotated, rotated-sym, in_flipped, flipped_in}
 use Rattle.ring_machine.proofs.Passed.{in_common, flip_common, common-flip}
 use Rattle.ring_machine.proofs.JoinedRuns.{Shared, shared, other_of, other_common, in_other}
-use Rattle.ring_machine.proofs.JoinedRests.{Between, between, here_cycle, there_cycle, run_in}
+use Rattle.ring_machine.proofs.JoinedRests.{between, here_cycle, there_cycle, run_in}
 use Rattle.ring_machine.proofs.JoinedRests.{joined_rests, joined_edges, some_own, some_others}
 use Rattle.ring_machine.proofs.MergeAccepted.{Joinable}
 
@@ -75,10 +73,10 @@ start_in : (ring : List Position) (e : Edge) → In e (edges ring) → In e.0 ri
 start_in [] e i = absurd i
 start_in (a ∷ rest) e i = subst (In e.0) (edges_start a rest) (in-map (λ (x : Edge). x.0) e (edges (a ∷ rest)) i)
 
-in_reverse_is : (ps : List Position) (p : Position) → In p (reverse ps) → In p ps
-in_reverse_is [] p i = i
-in_reverse_is (q ∷ ps) p i = elim (in-append p (reverse ps) (q ∷ []) (subst (In p) (reverse-append (q ∷ []) ps) i)) [
-  | inl j ↦ inr (in_reverse_is ps p j)
+of_reverse : (ps : List Position) (p : Position) → In p (reverse ps) → In p ps
+of_reverse [] p i = i
+of_reverse (q ∷ ps) p i = elim (in-append p (reverse ps) (q ∷ []) (subst (In p) (reverse-append (q ∷ []) ps) i)) [
+  | inl j ↦ inr (of_reverse ps p j)
   | inr j ↦ elim j [ inl e ↦ inl e | inr l ↦ absurd l ]
 ]
 
@@ -110,7 +108,7 @@ module _ (r s : List Position) (ring : is_ring r ≡ true) (second : is_ring s �
   of_other p i = by (passed_alike r s) i
     where
       by : (b : Bool) → In p (cond b (reverse s) s) → In p s
-      by true j = in_reverse_is s p j
+      by true j = of_reverse s p j
       by false j = j
 
   rests_apart : common_else r s ≡ None → (p : Position) → In p (starts k.own) → In p (starts k.others) → ⊥

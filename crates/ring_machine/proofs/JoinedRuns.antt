@@ -1,26 +1,23 @@
 -- Two rings with one common run: the one passes it, and the other passes it in reverse.
-use Rattle.std.proofs.Common.{◌≡◌, ◌≤◌, ◌+◌, Bool, true, false, refl, sym, ap, ap₂, ◌∙◌, subst, cond}
-use Rattle.std.proofs.Common.{List, [], ◌∷◌, ◌++◌, map, reverse, length, ◌||◌, ◌&&◌, ◌⊎◌, inl, inr, arith}
-use Rattle.std.specs.Prelude.{not}
+use Rattle.std.proofs.Common.{◌≡◌, ◌≤◌, Bool, true, false, refl, sym, ap, ap₂, ◌∙◌, subst, cond}
+use Rattle.std.proofs.Common.{List, [], ◌∷◌, ◌++◌, reverse, ◌&&◌, ◌⊎◌, inl, inr, arith}
 use Rattle.std.specs.List.{list_any, list_all}
 use Rattle.std.proofs.lemmas.Bool.{false≢true}
-use Rattle.std.proofs.lemmas.List.{append-nil, map-append}
+use Rattle.std.proofs.lemmas.List.{map-append}
 use Rattle.grid_geometry.specs.Position.{Position, position_eq}
 use Rattle.grid_geometry.specs.Segment.{Segment}
 use Rattle.grid_geometry.specs.Ring.{Edge, edges}
 use Rattle.grid_geometry.proofs.Conflicts.{segment-comm}
-use Rattle.ring_machine.specs.Ring.{edge_eq, has, is_distinct, is_ring, segment_of, canonical}
+use Rattle.ring_machine.specs.Ring.{edge_eq, is_distinct, is_ring, segment_of}
 use Rattle.ring_machine.specs.Arcs.{Chain}
-use Rattle.ring_machine.specs.Join.{is_common, passed_alike, runs, same_segments, joined}
+use Rattle.ring_machine.specs.Join.{is_common, passed_alike, runs}
 use Rattle.ring_machine.proofs.Order.{and_both, position_eq-true, position_eq-refl}
 use Rattle.ring_machine.proofs.Edges.{starts}
 use Rattle.ring_machine.proofs.Arcs.{flip, flipped}
-use Rattle.ring_machine.proofs.Removal.{not_true}
 use Rattle.ring_machine.proofs.Once.{times, times-append}
 use Rattle.ring_machine.proofs.Spots.{Rotated}
 use Rattle.ring_machine.proofs.First.{In, in-append, in_left, in_right}
 use Rattle.ring_machine.proofs.Members.{any_in, in_any}
-use Rattle.ring_machine.proofs.Joining.{Parted, joined_is}
 use Rattle.ring_machine.proofs.Cycles.{Cycle, cycle_of, cycle_reversed, cycle_rotated, in_rotated}
 use Rattle.ring_machine.proofs.Cycles.{rotated-sym, chain_parts, chain-flipped, times-flipped}
 use Rattle.ring_machine.proofs.Cycles.{edges_reversed, in_flipped, flipped_in, starts-flipped, ends}

@@ -1,10 +1,9 @@
 -- What a merge without a refusal gives: two features of one polygon each, whose outer rings can be joined.
-use Rattle.std.proofs.Common.{◌≡◌, ◌≤◌, ℕ, Bool, true, false, refl, sym, ap, ap₂, ◌∙◌, cond, List, [], ◌∷◌}
+use Rattle.std.proofs.Common.{◌≡◌, ◌≤◌, ℕ, Bool, true, false, refl, sym, ap₂, ◌∙◌, cond, List, [], ◌∷◌}
 use Rattle.std.proofs.Common.{◌&&◌, ◌||◌, Option, None, Some, inl, inr, eqb-true, arith}
 use Rattle.std.specs.Prelude.{◌==◌, not, nat_le}
 use Rattle.std.specs.List.{list_any, find}
 use Rattle.std.proofs.lemmas.Bool.{false≢true}
-use Rattle.std.proofs.lemmas.Bool.Decides.{nat_tests}
 use Rattle.grid_geometry.specs.Position.{Position}
 use Rattle.grid_geometry.specs.Ring.{edges}
 use Rattle.ring_machine.specs.Document.{Document, Feature}

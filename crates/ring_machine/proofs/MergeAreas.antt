@@ -1,8 +1,8 @@
 -- The area of a feature that two are merged to is the sum of their areas.
 use Rattle.std.proofs.Common.{◌≡◌, ℕ, ℤ, pos, ◌+ℤ◌, ◌-ℤ◌, true, refl, sym, ap, ap₂, ◌∙◌, subst, List, []}
-use Rattle.std.proofs.Common.{◌∷◌, ◌++◌, Option, None, inl, inr, arith}
+use Rattle.std.proofs.Common.{◌∷◌, ◌++◌, None, inl, arith}
 use Rattle.std.specs.Prelude.{◌==◌}
-use Rattle.std.specs.List.{fold, flat_map, list_all}
+use Rattle.std.specs.List.{fold, flat_map}
 use Rattle.std.proofs.lemmas.Int.{ints}
 use Rattle.grid_geometry.specs.Position.{Position}
 use Rattle.ring_machine.specs.Ring.{is_ring}
@@ -15,7 +15,7 @@ use Rattle.ring_machine.specs.Refusals.{first_of, merge_refusals, feature_at, or
 use Rattle.ring_machine.proofs.First.{In, in_left}
 use Rattle.ring_machine.proofs.Neighbours.{in-flat_map, all_in}
 use Rattle.ring_machine.proofs.JoinedAreas.{joined_area}
-use Rattle.ring_machine.proofs.MergeAccepted.{Pair, MergeAccepted, merge-accepted}
+use Rattle.ring_machine.proofs.MergeAccepted.{Pair, merge-accepted}
 use Rattle.ring_machine.proofs.MergedFeatures.{merged, feature_at-join}
 
 -- ---- polygons

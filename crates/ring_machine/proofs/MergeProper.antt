@@ -1,8 +1,8 @@
 -- A document in which two features are merged stays proper.
 use Rattle.std.proofs.Common.{◌≡◌, ℕ, Bool, true, false, refl, sym, ap, ap₂, ◌∙◌, subst, cond, List, []}
-use Rattle.std.proofs.Common.{◌∷◌, ◌++◌, map, ◌&&◌, ◌||◌, ◌⊎◌, inl, inr, Option, None, eqb-true}
+use Rattle.std.proofs.Common.{◌∷◌, ◌++◌, map, ◌⊎◌, inl, inr, None, eqb-true}
 use Rattle.std.specs.Prelude.{◌==◌, not}
-use Rattle.std.specs.List.{list_any, list_all, filter, flat_map}
+use Rattle.std.specs.List.{list_any, flat_map}
 use Rattle.std.proofs.lemmas.Bool.{false≢true}
 use Rattle.std.proofs.lemmas.Bool.Decides.{Decides-eqb}
 use Rattle.grid_geometry.specs.Position.{Position}
@@ -12,7 +12,7 @@ use Rattle.ring_machine.specs.Ring.{is_ring, segment_of, segments}
 use Rattle.ring_machine.specs.Document.{Document, Feature}
 use Rattle.ring_machine.specs.Parts.{features, rings_of, rings, all_segments}
 use Rattle.ring_machine.specs.WellFormed.{WellFormed, are_distinct}
-use Rattle.ring_machine.specs.Planar.{Proper, first_pair, least_conflict}
+use Rattle.ring_machine.specs.Planar.{Proper}
 use Rattle.ring_machine.specs.Join.{is_common, joined, joined_polygons, join}
 use Rattle.ring_machine.specs.Refusals.{first_of, merge_refusals, feature_at, or_else, no_feature}
 use Rattle.ring_machine.proofs.Order.{and_both}

@@ -1,9 +1,8 @@
 -- The features of a document with two features joined.
 use Rattle.std.proofs.Common.{◌≡◌, ℕ, Bool, true, false, refl, sym, ap, ap₂, ◌∙◌, cond, List, [], ◌∷◌}
-use Rattle.std.proofs.Common.{◌++◌, map, Option, None, Some, inl, inr, eqb-true}
+use Rattle.std.proofs.Common.{◌++◌, map, Some, eqb-true}
 use Rattle.std.specs.Prelude.{◌==◌, not, option_map}
 use Rattle.std.specs.List.{filter, filter_map, flat_map, find}
-use Rattle.std.proofs.lemmas.Bool.{false≢true}
 use Rattle.std.proofs.lemmas.List.{map-append}
 use Rattle.std.proofs.lemmas.List.Elements.{filter-append, filter_map-append}
 use Rattle.ring_machine.specs.Document.{Document, Feature, Item, Layer, Open, Close, Leaf, Kept}
@@ -12,7 +11,6 @@ use Rattle.ring_machine.specs.Cut.{becomes, instead}
 use Rattle.ring_machine.specs.Join.{is_leaf, empty_collection, take_out, joined_polygons}
 use Rattle.ring_machine.specs.Join.{joined_feature, join}
 use Rattle.ring_machine.specs.Refusals.{feature_at, or_else, no_feature}
-use Rattle.ring_machine.proofs.MergeAccepted.{MergeAccepted}
 
 -- f with its polygon joined with that of g
 abbrev pub merged : Feature → Feature → Feature

@@ -10,7 +10,6 @@ use Rattle.std.proofs.lemmas.List.Folds.{list_any-append}
 use Rattle.grid_geometry.specs.Ring.{Edge}
 use Rattle.ring_machine.specs.Join.{runs, neighbour_edges}
 use Rattle.ring_machine.proofs.Order.{and_both}
-use Rattle.ring_machine.proofs.Removal.{none_parts}
 
 -- the list, begun elsewhere, is a run of elements that pass the test, and others that do not
 pub record Run {A : Type 0} (c : A → Bool) (es : List A) : Type 0 where

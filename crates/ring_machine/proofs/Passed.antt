@@ -1,22 +1,18 @@
 -- Edges that two rings both pass, and the way in which each passes them.
-use Rattle.std.proofs.Common.{◌≡◌, ◌≤◌, ◌+◌, Bool, true, false, refl, sym, ap, ap₂, ◌∙◌, subst}
+use Rattle.std.proofs.Common.{◌≡◌, ◌≤◌, Bool, true, false, refl, sym, ap, ap₂, ◌∙◌, subst}
 use Rattle.std.proofs.Common.{List, [], ◌∷◌, ◌++◌, map, append_assoc, ◌||◌, ◌&&◌, ◌⊎◌, inl, inr, arith}
-use Rattle.std.specs.Prelude.{not}
 use Rattle.std.specs.List.{list_any, list_all}
-use Rattle.std.proofs.lemmas.Bool.{false≢true}
 use Rattle.std.proofs.lemmas.List.{append-nil}
-use Rattle.grid_geometry.specs.Position.{Position, position_eq}
+use Rattle.grid_geometry.specs.Position.{Position}
 use Rattle.grid_geometry.specs.Segment.{Segment, segment_eq}
 use Rattle.grid_geometry.specs.Ring.{Edge, edges}
 use Rattle.grid_geometry.proofs.Conflicts.{segment-comm}
-use Rattle.ring_machine.specs.Ring.{has, is_distinct, segment_of, segments}
+use Rattle.ring_machine.specs.Ring.{is_distinct, segment_of, segments}
 use Rattle.ring_machine.specs.Arcs.{Chain}
 use Rattle.ring_machine.specs.Join.{is_common}
-use Rattle.ring_machine.proofs.Order.{and_both, position_eq-refl}
 use Rattle.ring_machine.proofs.Orders.{segment_ordered}
 use Rattle.ring_machine.proofs.Edges.{starts}
-use Rattle.ring_machine.proofs.Arcs.{flip, flipped, is_of}
-use Rattle.ring_machine.proofs.Removal.{none_parts, not_true}
+use Rattle.ring_machine.proofs.Arcs.{flip, is_of}
 use Rattle.ring_machine.proofs.RingSegments.{same_ends, segment_eq-true}
 use Rattle.ring_machine.proofs.Once.{one, times}
 use Rattle.ring_machine.proofs.Spots.{Rotated}
@@ -133,9 +129,9 @@ way_on done (f ∷ fs) (x ∷ xs) p q z h k d e all =
     let same : x ≡ f = same_key (λ y. y.0) (done ++ f ∷ fs) x f d (all x (inl refl)) (in_right f done (f ∷ fs) (inl refl)) (k.0 ∙ sym h.0) in
     let left = append_assoc done (f ∷ []) fs in
     let r = way_on (done ++ f ∷ []) fs xs f.1 q z h.1 (subst (λ y. Chain y xs z) (ap (λ (y : Edge). y.1) same) k.1)
-      (ap (λ y. is_distinct (starts y)) left ∙ d)
-      (ap (λ y. is_distinct (starts y)) (append_assoc done (f ∷ []) xs ∙ ap (λ y. done ++ y ∷ xs) (sym same)) ∙ e)
-      (λ y i. subst (In y) (sym left) (all y (inr i))) in
+    (ap (λ y. is_distinct (starts y)) left ∙ d)
+    (ap (λ y. is_distinct (starts y)) (append_assoc done (f ∷ []) xs ∙ ap (λ y. done ++ y ∷ xs) (sym same)) ∙ e)
+    (λ y i. subst (In y) (sym left) (all y (inr i))) in
     (r.0, ap₂ (λ y w. y ∷ w) (sym same) r.1)
 
 pub in_split : {A : Type 0} (x : A) (xs : List A) → In x xs
@@ -152,5 +148,5 @@ way_of os c x xs z h d all =
     let turned : Rotated os ((x ∷ s.1) ++ s.0) = record { us = s.0; vs = x ∷ s.1; from = s.2; to = refl } in
     let c' = cycle_rotated os ((x ∷ s.1) ++ s.0) turned c in
     let w = way_on [] ((x ∷ s.1) ++ s.0) (x ∷ xs) x.0 c'.at z (refl, c'.chain.1) (refl, h) c'.starts_once d
-      (λ y i. in_rotated os ((x ∷ s.1) ++ s.0) y turned (all y i)) in
-    (w.0, subst (Rotated os) w.1 turned)
+    (λ y i. in_rotated os ((x ∷ s.1) ++ s.0) y turned (all y i)) in
+    (w.0, subst (Rotated os) {y = (x ∷ xs) ++ w.0} w.1 turned)
