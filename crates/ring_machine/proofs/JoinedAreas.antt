@@ -33,14 +33,16 @@ signed_area-canonical ring = total_area-rotated (edges ring) (edges (canonical r
 opposite_of : (a b : ℤ) → a +ℤ b ≡ pos 0 → b ≡ neg_ℤ a
 opposite_of a b h = omega (arith, ints, h)
 
-pub signed_area-reverse : (ring : List Position) → signed_area (reverse ring) ≡ neg_ℤ (signed_area ring)
+pub signed_area-reverse : (ring : List Position) → signed_area (reverse ring)
+    ≡ neg_ℤ (signed_area ring)
 signed_area-reverse ring =
     total_area-rotated (flipped (edges ring)) (edges (reverse ring)) (edges_reversed ring)
     ∙ opposite_of (signed_area ring) (total_area (flipped (edges ring))) (total_area-flipped (edges ring))
 
 -- ---- signed areas
 
-cancelled : (j r o run back own others : ℤ) → j ≡ own +ℤ others → r ≡ run +ℤ own → o ≡ back +ℤ others
+cancelled : (j r o run back own others : ℤ) → j ≡ own +ℤ others → r ≡ run +ℤ own → o
+    ≡ back +ℤ others
     → run +ℤ back ≡ pos 0 → j ≡ r +ℤ o
 cancelled j r o run back own others a b c d = omega (arith, ints, a, b, c, d)
 
@@ -102,7 +104,8 @@ sums r s ring second k sides = by (below r) (below s) (passed_alike r s) refl re
 
     by : (a b t : Bool) → below r ≡ a → below s ≡ b → passed_alike r s ≡ t
         → passed_alike (cond a (reverse r) r) (cond b (reverse s) s) ≡ false
-        → pos (unsigned_abs (signed_area r +ℤ signed_area (cond t (reverse s) s))) ≡ absolute_area r +ℤ absolute_area s
+        → pos (unsigned_abs (signed_area r +ℤ signed_area (cond t (reverse s) s)))
+        ≡ absolute_area r +ℤ absolute_area s
     by true true false h l e n = both_down (signed_area r) (signed_area s) h l
     by false false false h l e n = both_up (signed_area r) (signed_area s) h l
     by true false true h l e n = ap (λ z. pos (unsigned_abs (signed_area r +ℤ z))) (signed_area-reverse s) ∙ one_down (signed_area r) (signed_area s) h l

@@ -111,7 +111,8 @@ module _ (r s : List Position) (ring : is_ring r ≡ true) (second : is_ring s �
       by true j = of_reverse s p j
       by false j = j
 
-  rests_apart : common_else r s ≡ None → (p : Position) → In p (starts k.own) → In p (starts k.others) → ⊥
+  rests_apart : common_else r s ≡ None → (p : Position) → In p (starts k.own)
+      → In p (starts k.others) → ⊥
   rests_apart h p i j =
       let x = in_mapped (λ (e : Edge). e.0) p k.own i in
       let y = in_mapped (λ (e : Edge). e.0) p k.others j in
@@ -182,7 +183,8 @@ module _ (r s : List Position) (ring : is_ring r ≡ true) (second : is_ring s �
       ≡ xor (list_any (segment_eq t) (segments r)) (list_any (segment_eq t) (segments s))
   joined_segments t = same_answer (among t (joined r s)) (xor (among t r) (among t s)) forth (λ h. back (among t r) (among t s) refl refl h)
     where
-      edge_of : (ps : List Position) → among t ps ≡ true → (x : Edge) × In x (edges ps) × (segment_of x ≡ t)
+      edge_of : (ps : List Position) → among t ps ≡ true
+          → (x : Edge) × In x (edges ps) × (segment_of x ≡ t)
       edge_of ps h =
           let a = any_in (segment_eq t) (segments ps) h in
           let b = in_mapped segment_of a.0 (edges ps) a.1 in
@@ -199,7 +201,8 @@ module _ (r s : List Position) (ring : is_ring r ≡ true) (second : is_ring s �
             | inr j ↦ ap₂ xor (same_at r x.0 x.2 ∙ j.1) (same_at s x.0 x.2 ∙ other_common r s x.0 j.0)
           ]
 
-      back : (a b : Bool) → among t r ≡ a → among t s ≡ b → xor a b ≡ true → among t (joined r s) ≡ true
+      back : (a b : Bool) → among t r ≡ a → among t s ≡ b → xor a b ≡ true → among t (joined r s)
+          ≡ true
       back true true f g h = absurd (false≢true h)
       back false false f g h = absurd (false≢true h)
       back true false f g h =

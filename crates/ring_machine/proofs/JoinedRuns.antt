@@ -86,7 +86,8 @@ pub in_other : (r s : List Position) (e : Edge) → In e (edges s)
     → In e (edges (other_of r s)) ⊎ In (flip e) (edges (other_of r s))
 in_other r s e h = by (passed_alike r s)
   where
-    by : (b : Bool) → In e (edges (cond b (reverse s) s)) ⊎ In (flip e) (edges (cond b (reverse s) s))
+    by : (b : Bool)
+        → In e (edges (cond b (reverse s) s)) ⊎ In (flip e) (edges (cond b (reverse s) s))
     by true = inr (in_reverse s e h)
     by false = inl h
 
@@ -163,7 +164,8 @@ module _ (r s : List Position) (ring : is_ring r ≡ true) (second : is_ring s �
   there_is = by (flipped (run.first ∷ run.more)) back_once (chain-flipped here_cycle.at (run.first ∷ run.more) run_chain.0 run_chain.1)
       (in_flipped run.first (run.first ∷ run.more) (inl refl)) (λ y i. opposite (flip y) (flipped_in y (run.first ∷ run.more) i))
     where
-      by : (back : List Edge) → is_distinct (starts back) ≡ true → Chain run_chain.0 back here_cycle.at
+      by : (back : List Edge) → is_distinct (starts back) ≡ true
+          → Chain run_chain.0 back here_cycle.at
           → In (flip run.first) back → ((y : Edge) → In y back → In y (edges (other_of r s)))
           → (g : List Edge) × Rotated (edges (other_of r s)) (back ++ g)
       by [] d h i all = absurd i

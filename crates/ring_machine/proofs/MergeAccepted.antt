@@ -39,7 +39,8 @@ nothing_else : (o : Option Position) (rest : List (Option Refusal))
 nothing_else None rest h = (refl, h)
 nothing_else (Some p) rest h = absurd cc
 
-pub joinable : (r s : List Position) → first_of (ring_refusals (Some r) (Some s)) ≡ None → Joinable r s
+pub joinable : (r s : List Position) → first_of (ring_refusals (Some r) (Some s)) ≡ None
+    → Joinable r s
 joinable r s h =
     let a = passes _ (list_any (is_common s) (edges r)) _ h in
     let b = passes _ (nat_le (runs (is_common s) (edges r)) 1) _ a.1 in

@@ -59,7 +59,8 @@ module _ (d : Document) (n m : ℕ) (formed : WellFormed d) (a : MergeAccepted d
   abbrev pair : Pair a.first a.second
   pair = a.pair_is
 
-  ring_in : (f : Feature) (polygon : List (List Position)) (ring : List Position) → In f (features d)
+  ring_in : (f : Feature) (polygon : List (List Position)) (ring : List Position)
+      → In f (features d)
       → f.polygons ≡ polygon ∷ [] → In ring polygon → In ring (rings d)
   ring_in f polygon ring i e j = in-flat_map rings_of f ring (features d) i (subst (λ ps. In ring (flat_map (λ p. p) ps)) (sym e) (in_left ring polygon [] j))
 

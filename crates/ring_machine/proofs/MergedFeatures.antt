@@ -62,7 +62,8 @@ unfolding take_out
 take_out_is d m = refl
 
 items-filtered : (m : ℕ) (is : List Item)
-    → filter_map feature_of (filter (λ i. not (is_leaf m i)) is) ≡ others m (filter_map feature_of is)
+    → filter_map feature_of (filter (λ i. not (is_leaf m i)) is)
+    ≡ others m (filter_map feature_of is)
 items-filtered m [] = refl
 items-filtered m (Open h ∷ is) = items-filtered m is
 items-filtered m (Close ∷ is) = items-filtered m is
@@ -70,7 +71,8 @@ items-filtered m (Kept t ∷ is) = items-filtered m is
 items-filtered m (Leaf f ∷ is) = by (f.number == m) (items-filtered m is)
   where
     by : (b : Bool)
-        → filter_map feature_of (filter (λ i. not (is_leaf m i)) is) ≡ others m (filter_map feature_of is)
+        → filter_map feature_of (filter (λ i. not (is_leaf m i)) is)
+        ≡ others m (filter_map feature_of is)
         → filter_map feature_of (cond (not b) (Leaf f ∷ filter (λ i. not (is_leaf m i)) is) (filter (λ i. not (is_leaf m i)) is))
         ≡ cond (not b) (f ∷ others m (filter_map feature_of is)) (others m (filter_map feature_of is))
     by true e = e
@@ -121,14 +123,16 @@ find-joined n m g o [] = refl
 find-joined n m g o (f ∷ fs) = by (f.number == n) refl (find-joined n m g o fs)
   where
     kept : (t : Bool) → (f.number == n) ≡ false
-        → find (λ k. k.number == n) (rest_of n m g fs) ≡ option_map (merged g) (find (λ k. k.number == n) fs)
+        → find (λ k. k.number == n) (rest_of n m g fs)
+        ≡ option_map (merged g) (find (λ k. k.number == n) fs)
         → find (λ k. k.number == n) (cond (not t) (f ∷ rest_of n m g fs) (rest_of n m g fs))
         ≡ option_map (merged g) (find (λ k. k.number == n) fs)
     kept true e ih = ih
     kept false e ih = ap (λ t. cond t (Some f) (find (λ k. k.number == n) (rest_of n m g fs))) e ∙ ih
 
     by : (b : Bool) → (f.number == n) ≡ b
-        → find (λ k. k.number == n) (rest_of n m g fs) ≡ option_map (merged g) (find (λ k. k.number == n) fs)
+        → find (λ k. k.number == n) (rest_of n m g fs)
+        ≡ option_map (merged g) (find (λ k. k.number == n) fs)
         → find (λ k. k.number == n) (cond (not ((cond b (merged g f) f).number == m)) (cond b (merged g f) f ∷ rest_of n m g fs) (rest_of n m g fs))
         ≡ option_map (merged g) (cond b (Some f) (find (λ k. k.number == n) fs))
     by true e ih =

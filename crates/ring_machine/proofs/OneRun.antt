@@ -55,7 +55,8 @@ module _ {A : Type 0} (c : A → Bool) where
   all_off x [] z h n = refl
   all_off x (y ∷ ys) z h n = by (c y) refl (λ l. all_off y ys z l (omega (arith, n)))
     where
-      by : (b : Bool) → c y ≡ b → (c y ≡ false → list_any c ys ≡ false) → (c y || list_any c ys) ≡ false
+      by : (b : Bool) → c y ≡ b → (c y ≡ false → list_any c ys ≡ false) → (c y || list_any c ys)
+          ≡ false
       by true e f = absurd (omega (arith, n, begins x y h e))
       by false e f = ap₂ (λ a b. a || b) e (f e)
 
@@ -64,7 +65,8 @@ module _ {A : Type 0} (c : A → Bool) where
   all_on x [] z h k n = refl
   all_on x (y ∷ ys) z h k n = by (c y) refl (λ l. all_on y ys z l k (omega (arith, n)))
     where
-      by : (b : Bool) → c y ≡ b → (c y ≡ true → list_all c ys ≡ true) → (c y && list_all c ys) ≡ true
+      by : (b : Bool) → c y ≡ b → (c y ≡ true → list_all c ys ≡ true) → (c y && list_all c ys)
+          ≡ true
       by true e f = ap₂ (λ a b. a && b) e (f e)
       by false e f = absurd (omega (arith, n, one_up y ys z e k))
 
@@ -115,7 +117,8 @@ module _ {A : Type 0} (c : A → Bool) where
   on_off_on x [] z h k n a = absurd (false≢true (sym a))
   on_off_on x (y ∷ ys) z h k n a = by (c y) refl (λ l. on_off_on y ys z l k (omega (arith, n)))
     where
-      by : (b : Bool) → c y ≡ b → (c y ≡ true → list_all c ys ≡ false → OnOffOn ys) → OnOffOn (y ∷ ys)
+      by : (b : Bool) → c y ≡ b → (c y ≡ true → list_all c ys ≡ false → OnOffOn ys)
+          → OnOffOn (y ∷ ys)
       by true e f =
           let s = f e (ap (λ t. t && list_all c ys) (sym e) ∙ a) in
           record { fore = y ∷ s.fore; off = s.off; aft = s.aft; is = ap (λ t. y ∷ t) s.is; pass = ap₂ (λ p q. p && q) e s.pass; fail = s.fail; more = s.more }
@@ -139,7 +142,8 @@ module _ {A : Type 0} (c : A → Bool) where
   off_on_off x [] z h n a = absurd (false≢true a)
   off_on_off x (y ∷ ys) z h n a = by (c y) refl (λ l. off_on_off y ys z l (omega (arith, n)))
     where
-      by : (b : Bool) → c y ≡ b → (c y ≡ false → list_any c ys ≡ true → OffOnOff ys) → OffOnOff (y ∷ ys)
+      by : (b : Bool) → c y ≡ b → (c y ≡ false → list_any c ys ≡ true → OffOnOff ys)
+          → OffOnOff (y ∷ ys)
       by true e f =
           let s = on_off y ys z (omega (arith, n, begins x y h e)) in
           record { fore = []; first = y; on = s.on; aft = s.off; is = ap (λ t. y ∷ t) s.is; fail = refl; pass = ap₂ (λ p q. p && q) e s.pass; more = s.fail }
@@ -209,6 +213,7 @@ run_of c [] some n = absurd (false≢true some)
 run_of c (e ∷ es) some n = by (list_all c (e ∷ es)) refl n
   where
     by : (b : Bool) → list_all c (e ∷ es) ≡ b
-        → cond b 1 (count_by (λ u. not (c u.0) && c u.1) (neighbour_edges (e ∷ es))) ≤ 1 → Run c (e ∷ es)
+        → cond b 1 (count_by (λ u. not (c u.0) && c u.1) (neighbour_edges (e ∷ es))) ≤ 1
+        → Run c (e ∷ es)
     by true a k = run_all c e es a
     by false a k = run_in c e es some a (omega (arith, k, ups_are c e es e))

@@ -45,7 +45,8 @@ module _ (k : Edge → Position) where
   same_key (x ∷ es) e f d (inl a) (inr b) s = absurd (first_once (k x) (map k es) d (subst (λ p. In p (map k es)) (sym s ∙ ap k (sym a)) (in-map k f es b)))
   same_key (x ∷ es) e f d (inr a) (inl b) s = absurd (first_once (k x) (map k es) d (subst (λ p. In p (map k es)) (s ∙ ap k (sym b)) (in-map k e es a)))
 
-  pub not_again : (es : List Edge) (e : Edge) (fs : List Edge) → is_distinct (map k (es ++ e ∷ fs)) ≡ true
+  pub not_again : (es : List Edge) (e : Edge) (fs : List Edge) → is_distinct (map k (es ++ e ∷ fs))
+      ≡ true
       → In e es → ⊥
   not_again [] e fs d h = h
   not_again (x ∷ es) e fs d (inl a) = first_once (k x) (map k (es ++ e ∷ fs)) d (in-map k x (es ++ e ∷ fs) (in_right x es (e ∷ fs) (inl (sym a))))
@@ -140,7 +141,8 @@ in_split x [] h = absurd h
 in_split x (y ∷ xs) (inl e) = ([], xs, ap (λ z. z ∷ xs) e)
 in_split x (y ∷ xs) (inr i) = let r = in_split x xs i in (y ∷ r.0, r.1, ap (λ z. y ∷ z) r.2)
 
-pub way_of : (os : List Edge) → Cycle os → (x : Edge) (xs : List Edge) (z : Position) → Chain x.1 xs z
+pub way_of : (os : List Edge) → Cycle os → (x : Edge) (xs : List Edge) (z : Position)
+    → Chain x.1 xs z
     → is_distinct (starts (x ∷ xs)) ≡ true → ((y : Edge) → In y (x ∷ xs) → In y os)
     → (g : List Edge) × Rotated os ((x ∷ xs) ++ g)
 way_of os c x xs z h d all =
