@@ -1,7 +1,7 @@
 -- A feature cut in two, and two features joined: which features there are, and that the document
 -- stays well formed.
 use Rattle.std.proofs.Common.{◌≡◌, ℕ, suc, ◌≤◌, Bool, true, false, refl, sym, ap, ap₂, ◌∙◌, subst, cond}
-use Rattle.std.proofs.Common.{List, [], ◌∷◌, ◌++◌, map, length, ◌||◌, ◌⊎◌, inl, inr, Option, Some, None, arith}
+use Rattle.std.proofs.Common.{List, [], ◌∷◌, map, length, ◌||◌, inl, inr, Some, None, arith}
 use Rattle.std.specs.Prelude.{◌==◌}
 use Rattle.std.specs.List.{find, list_any}
 use Rattle.std.proofs.lemmas.Bool.{false≢true, eqb-true, eq-eqb}
@@ -10,11 +10,10 @@ use Rattle.ring_machine.specs.Document.{Form, Polygon, MultiPolygon, Null, Featu
 use Rattle.ring_machine.specs.Document.{Text}
 use Rattle.ring_machine.specs.Parts.{features, feature, has_feature}
 use Rattle.ring_machine.specs.Cut.{Path, is_cut_by, first_polygon, second_polygon, change_first}
-use Rattle.ring_machine.specs.Cut.{first_that, instead, stays, parted, cut}
-use Rattle.ring_machine.specs.Join.{take_out, joined, joined_polygons, joined_feature, join}
+use Rattle.ring_machine.specs.Cut.{first_that, instead, stays, cut}
+use Rattle.ring_machine.specs.Join.{take_out, joined_polygons, joined_feature, join}
 use Rattle.ring_machine.specs.Refusals.{is_layer}
 use Rattle.ring_machine.specs.WellFormed.{fits_form, WellFormed}
-use Rattle.ring_machine.proofs.First.{In}
 use Rattle.ring_machine.proofs.Neighbours.{all_in}
 use Rattle.ring_machine.proofs.Found.{Stands, feature_in, feature_stands}
 use Rattle.ring_machine.proofs.TakenOut.{without, features-take_out}

@@ -1,6 +1,6 @@
 -- Features by their numbers: which one is found, and where it stands among the others.
 use Rattle.std.proofs.Common.{◌≡◌, ℕ, Bool, true, false, refl, sym, ap, ap₂, ◌∙◌, subst, cond, List, []}
-use Rattle.std.proofs.Common.{◌∷◌, ◌++◌, map, ◌||◌, ◌&&◌, ◌⊎◌, inl, inr, Option, Some, None, option_map, is_some}
+use Rattle.std.proofs.Common.{◌∷◌, ◌++◌, map, ◌||◌, ◌&&◌, inl, inr, Some, None, option_map, is_some}
 use Rattle.std.proofs.Common.{eqb-true, eq-eqb}
 use Rattle.std.specs.Prelude.{◌==◌, not}
 use Rattle.std.specs.List.{list_any, find, filter_map}
@@ -12,8 +12,8 @@ use Rattle.ring_machine.specs.WellFormed.{are_distinct, WellFormed}
 use Rattle.ring_machine.proofs.Order.{and_both}
 use Rattle.ring_machine.proofs.Removal.{none_parts, not_true}
 use Rattle.ring_machine.proofs.First.{In, in-append, in_left, in_right}
-use Rattle.ring_machine.proofs.Neighbours.{in-map, none_in}
-use Rattle.ring_machine.proofs.Members.{in_mapped, in_any}
+use Rattle.ring_machine.proofs.Neighbours.{in-map}
+use Rattle.ring_machine.proofs.Members.{in_any}
 use Rattle.ring_machine.proofs.InItems.{features-in_items}
 use Rattle.std.proofs.lemmas.List.{map-append}
 

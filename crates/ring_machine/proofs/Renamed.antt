@@ -5,7 +5,6 @@ use Rattle.std.specs.Prelude.{◌==◌}
 use Rattle.std.specs.List.{flat_map, list_all, sum_by}
 use Rattle.std.proofs.lemmas.List.{length-map}
 use Rattle.std.proofs.lemmas.Bool.Decides.{nat_tests}
-use Rattle.grid_geometry.specs.Position.{Position}
 use Rattle.ring_machine.specs.Ring.{segments, is_ring}
 use Rattle.ring_machine.specs.Document.{FeatureOf, ItemOf, DocumentOf, Document, Open, Close, Leaf, Kept}
 use Rattle.ring_machine.specs.Document.{Text}
@@ -15,7 +14,7 @@ use Rattle.ring_machine.specs.Cut.{becomes, instead}
 use Rattle.ring_machine.specs.Machine.{renamed}
 use Rattle.ring_machine.specs.Planar.{Proper, first_pair, least_conflict}
 use Rattle.ring_machine.proofs.InItems.{in_items-agree, in_items-square}
-use Rattle.ring_machine.proofs.Found.{numbers_of, any_found, has_feature-found, feature_in, features-in_features, feature-in_features}
+use Rattle.ring_machine.proofs.Found.{numbers_of, has_feature-found, feature_in, features-in_features, feature-in_features}
 
 -- the feature with this id where it has the number n
 abbrev pub with_id : {R : Type 0} → ℕ → Text → FeatureOf R → FeatureOf R

@@ -22,7 +22,7 @@ use Rattle.ring_machine.proofs.Members.{in_mapped, in_any}
 use Rattle.ring_machine.proofs.Neighbours.{in-flat_map, all_in}
 use Rattle.ring_machine.proofs.InItems.{geometries-in_items}
 use Rattle.ring_machine.proofs.LeftOut.{part_map, part_all, part_distinct}
-use Rattle.ring_machine.proofs.Found.{AreApart, DistinctParts, distinct-append, distinct_parts, numbers_of, Stands}
+use Rattle.ring_machine.proofs.Found.{distinct-append, distinct_parts, numbers_of, Stands}
 use Rattle.ring_machine.proofs.Found.{has_feature-found, feature_in, feature_stands, feature_found}
 use Rattle.ring_machine.proofs.TakenOut.{taken, take_out_is, geometry_taken}
 use Rattle.ring_machine.proofs.Instead.{instead_none, features-instead_at}

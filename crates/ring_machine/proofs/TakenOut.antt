@@ -1,6 +1,6 @@
 -- What a document is without one of its features.
 use Rattle.std.proofs.Common.{◌≡◌, ℕ, zero, suc, Bool, true, false, refl, sym, ap, ap₂, ◌∙◌, cond, List}
-use Rattle.std.proofs.Common.{[], ◌∷◌, map, ◌||◌, Option}
+use Rattle.std.proofs.Common.{[], ◌∷◌, map, Option}
 use Rattle.std.specs.Prelude.{◌==◌, not}
 use Rattle.std.specs.List.{filter, filter_map, list_any}
 use Rattle.std.proofs.lemmas.List.Elements.{filter-append}

@@ -1,8 +1,8 @@
 -- What is found in a document without one of its features, and its rings.
-use Rattle.std.proofs.Common.{◌≡◌, ℕ, ◌≤◌, ◌+◌, Bool, true, false, refl, sym, ap, ap₂, ◌∙◌, subst, List, []}
-use Rattle.std.proofs.Common.{◌∷◌, ◌++◌, length, is_some, Option, None, arith}
+use Rattle.std.proofs.Common.{◌≡◌, ℕ, ◌≤◌, ◌+◌, true, false, refl, sym, ap, ◌∙◌, subst, List, []}
+use Rattle.std.proofs.Common.{◌∷◌, ◌++◌, length, is_some, None, arith}
 use Rattle.std.specs.Prelude.{◌==◌, not}
-use Rattle.std.specs.List.{find, flat_map, sum_by, list_any, list_all}
+use Rattle.std.specs.List.{find, flat_map, sum_by}
 use Rattle.std.proofs.lemmas.List.{length-append}
 use Rattle.std.proofs.lemmas.List.Concat.{flat_map-append}
 use Rattle.std.proofs.lemmas.List.Sums.{sum_by-append}
@@ -15,12 +15,11 @@ use Rattle.ring_machine.specs.Parts.{is_vertex, is_segment}
 use Rattle.ring_machine.specs.Planar.{Proper, first_pair}
 use Rattle.ring_machine.specs.Cut.{instead}
 use Rattle.ring_machine.specs.Join.{take_out}
-use Rattle.ring_machine.proofs.First.{In}
-use Rattle.ring_machine.proofs.LeftOut.{IsPart, part_filter, part_flat_map, part_in, part_all, part_any}
-use Rattle.ring_machine.proofs.LeftOut.{part_sum, part_length, part_apart}
+use Rattle.ring_machine.proofs.LeftOut.{IsPart, part_filter, part_flat_map, part_all, part_any}
+use Rattle.ring_machine.proofs.LeftOut.{part_sum, part_apart}
 use Rattle.ring_machine.proofs.Found.{Stands, has_feature-found}
-use Rattle.ring_machine.proofs.TakenOut.{without, features-take_out}
-use Rattle.ring_machine.proofs.Swapped.{swapped, swapped_alone, find_other, without_swapped, find_gone}
+use Rattle.ring_machine.proofs.TakenOut.{features-take_out}
+use Rattle.ring_machine.proofs.Swapped.{swapped_alone, find_other, without_swapped, find_gone}
 use Rattle.ring_machine.proofs.Instead.{rings_at, rings-instead_at}
 
 module _ {R : Type 0} (d : DocumentOf R) (n : ℕ) where
