@@ -3,6 +3,7 @@
 use Rattle.std.proofs.Common.{◌≡◌, ℕ, suc, ◌≤◌, Bool, true, false, refl, sym, ap, ap₂, ◌∙◌, subst, cond}
 use Rattle.std.proofs.Common.{List, [], ◌∷◌, map, length, ◌||◌, inl, inr, Some, None, arith}
 use Rattle.std.specs.Prelude.{◌==◌}
+use Rattle.std.specs.Option.{is_some}
 use Rattle.std.specs.List.{find, list_any}
 use Rattle.std.proofs.lemmas.Bool.{false≢true, eqb-true, eq-eqb}
 use Rattle.grid_geometry.specs.Position.{Position}
@@ -15,7 +16,7 @@ use Rattle.ring_machine.specs.Join.{take_out, joined_polygons, joined_feature, j
 use Rattle.ring_machine.specs.Refusals.{is_layer}
 use Rattle.ring_machine.specs.WellFormed.{fits_form, WellFormed}
 use Rattle.ring_machine.proofs.Neighbours.{all_in}
-use Rattle.ring_machine.proofs.Found.{Stands, feature_in, feature_stands}
+use Rattle.ring_machine.proofs.Found.{Stands, has_feature-found, feature_in, feature_stands}
 use Rattle.ring_machine.proofs.TakenOut.{without, features-take_out}
 use Rattle.ring_machine.proofs.Swapped.{swapped}
 use Rattle.ring_machine.proofs.Instead.{features-instead, feature-instead_other, feature-instead_at}
@@ -99,6 +100,12 @@ module _ (d : Document) (n : ℕ) (id : Text) (path : Path) (number : ℕ) where
         ∙ feature-instead_other d n parts m o (λ f i e.
           ap₂ (λ a b. a || b) (ap (λ j. j == m) e ∙ o) (new_in m f (first_that (is_cut_by path) f.polygons) k))
 
+    pub has_feature-cut_other : (m : ℕ) → (n == m) ≡ false → (number == m) ≡ false
+        → has_feature (cut d n id path number) m ≡ has_feature d m
+    has_feature-cut_other m o k =
+        has_feature-found (cut d n id path number) m ∙ ap is_some (feature-cut_other m o k)
+        ∙ sym (has_feature-found d m)
+
     module _ (formed : WellFormed d) (f : Feature) (at : feature d n ≡ Some f) where
       place : Stands n f (features d)
       place = feature_stands d formed n f at
@@ -179,6 +186,15 @@ module _ (d : Document) (n : ℕ) (g : Feature) where
       ap (λ e. feature e m) join_is
       ∙ feature-take_out_other (instead n (joined_feature g) d) g.number m k
       ∙ feature-instead_other d n (joined_feature g) m o (λ f i e. ap (λ j. (j == m) || false) e ∙ ap (λ b. b || false) o)
+
+  pub has_feature-join_gone : has_feature (join d n g) g.number ≡ false
+  has_feature-join_gone = has_feature-found (join d n g) g.number ∙ ap is_some feature-join_gone
+
+  pub has_feature-join_other : (m : ℕ) → (n == m) ≡ false → (g.number == m) ≡ false
+      → has_feature (join d n g) m ≡ has_feature d m
+  has_feature-join_other m o k =
+      has_feature-found (join d n g) m ∙ ap is_some (feature-join_other m o k)
+      ∙ sym (has_feature-found d m)
 
   -- the number n is that of the joined feature
   pub feature-join_at : WellFormed d → (f : Feature) → feature d n ≡ Some f → (g.number == n) ≡ false

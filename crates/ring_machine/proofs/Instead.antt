@@ -2,7 +2,7 @@
 use Rattle.std.proofs.Common.{◌≡◌, ℕ, ◌+◌, Bool, true, false, refl, sym, ap, ap₂, ◌∙◌, subst, cond}
 use Rattle.std.proofs.Common.{List, [], ◌∷◌, ◌++◌, map, length, ◌⊎◌, inl, inr, Option, Some, None, is_some, arith}
 use Rattle.std.specs.Prelude.{◌==◌}
-use Rattle.std.proofs.lemmas.Bool.{eqb-true}
+use Rattle.std.proofs.lemmas.Bool.{eqb-true, eqb-false}
 use Rattle.std.specs.List.{list_any, find, flat_map, filter_map}
 use Rattle.std.specs.Option.{option_or}
 use Rattle.std.proofs.lemmas.List.{length-append, map-append}
@@ -16,6 +16,7 @@ use Rattle.ring_machine.specs.Cut.{becomes, instead}
 use Rattle.ring_machine.specs.WellFormed.{WellFormed}
 use Rattle.ring_machine.proofs.Removal.{none_parts}
 use Rattle.ring_machine.proofs.First.{In, in_left, in_right}
+use Rattle.ring_machine.proofs.Members.{in_flat}
 use Rattle.ring_machine.proofs.InItems.{of_layers, features-in_items, in_items-left}
 use Rattle.ring_machine.proofs.Found.{Stands, any_found, none_found, has_feature-found, feature_found}
 use Rattle.ring_machine.proofs.Swapped.{for_one, swapped, swapped_alone, find_other}
@@ -63,6 +64,24 @@ module _ {R : Type 0} (n : ℕ) (g : FeatureOf R → List (FeatureOf R)) where
   -- nothing changes
   pub instead_none : (d : DocumentOf R) → has_feature d n ≡ false → instead n g d ≡ d
   instead_none d h = in_items-left (flat_map (becomes n g)) (λ f. f.number == n) becomes_none d h
+
+-- ---- where a feature comes from
+
+module _ {R : Type 0} (n : ℕ) (g : FeatureOf R → List (FeatureOf R)) (d : DocumentOf R) where
+  -- a feature of the changed document is an old one of another number, or a new one
+  pub in-instead : (k : FeatureOf R) → In k (features (instead n g d))
+      → (In k (features d) × (k.number ≡ n → ⊥)) ⊎ ((f : FeatureOf R) × In f (features d) × (f.number ≡ n) × In k (g f))
+  in-instead k i =
+      let from = in_flat (for_one n g) k (features d) (subst (In k) (features-instead n g d) i) in
+      by from.0 (from.0.number == n) refl from.1 from.2
+    where
+      by : (f : FeatureOf R) (b : Bool) → (f.number == n) ≡ b → In f (features d) → In k (cond b (g f) (f ∷ []))
+          → (In k (features d) × (k.number ≡ n → ⊥)) ⊎ ((f : FeatureOf R) × In f (features d) × (f.number ≡ n) × In k (g f))
+      by f true e there j = inr (f, there, eqb-true f.number n e, j)
+      by f false e there (inl s) =
+          inl (subst (λ z. In z (features d)) s there,
+               λ m. eqb-false f.number n e (ap (λ (z : FeatureOf R). z.number) s ∙ m))
+      by f false e there (inr j) = absurd j
 
 -- ---- what is found
 
@@ -143,56 +162,3 @@ module _ {R : Type 0} (d : DocumentOf R) (n : ℕ) (g : FeatureOf R → List (Fe
         ap (flat_map rings_of) features-instead_at
         ∙ flat_map-append rings_of place.us (g f ++ place.vs)
         ∙ ap (λ z. flat_map rings_of place.us ++ z) (flat_map-append rings_of (g f) place.vs)
-
--- ---- changed rings
-
-module _ {R S : Type 0} (h : R → S) where
-  abbrev within : List (ItemOf R) → List (ItemOf S)
-  within is = map (in_item (in_feature h)) is
-
-  within_leaves : (fs : List (FeatureOf R)) → within (map Leaf fs) ≡ map Leaf (map (in_feature h) fs)
-  within_leaves [] = refl
-  within_leaves (f ∷ fs) = ap (λ z. Leaf (in_feature h f) ∷ z) (within_leaves fs)
-
-module _ {R S : Type 0} (h : R → S) (n : ℕ) (g : FeatureOf R → List (FeatureOf R))
-    (g' : FeatureOf S → List (FeatureOf S)) where
-  -- the new features of f with changed rings are those of f with changed rings
-  abbrev pub Agrees : List (FeatureOf R) → Type 0
-  Agrees fs = (f : FeatureOf R) → In f fs → f.number ≡ n → map (in_feature h) (g f) ≡ g' (in_feature h f)
-
-  within_becomes : (is : List (ItemOf R)) → Agrees (filter_map feature_of is)
-      → within h (flat_map (becomes n g) is) ≡ flat_map (becomes n g') (within h is)
-  within_becomes [] a = refl
-  within_becomes (Open b ∷ is) a = ap (λ z. Open b ∷ z) (within_becomes is a)
-  within_becomes (Close ∷ is) a = ap (λ z. Close ∷ z) (within_becomes is a)
-  within_becomes (Kept t ∷ is) a = ap (λ z. Kept t ∷ z) (within_becomes is a)
-  within_becomes (Leaf f ∷ is) a =
-      map-append (in_item (in_feature h)) (becomes n g (Leaf f)) (flat_map (becomes n g) is)
-      ∙ ap₂ (λ y z. y ++ z) (by (f.number == n) refl) (within_becomes is (λ k i. a k (inr i)))
-    where
-      by : (b : Bool) → (f.number == n) ≡ b → within h (cond b (map Leaf (g f)) (Leaf f ∷ []))
-          ≡ cond b (map Leaf (g' (in_feature h f))) (Leaf (in_feature h f) ∷ [])
-      by true e = within_leaves h (g f) ∙ ap (map Leaf) (a f (inl refl) (eqb-true f.number n e))
-      by false e = refl
-
-  within_layers : (ls : List (LayerOf R)) → Agrees (of_layers ls)
-      → map (in_layer (within h)) (map (in_layer (flat_map (becomes n g))) ls)
-      ≡ map (in_layer (flat_map (becomes n g'))) (map (in_layer (within h)) ls)
-  within_layers [] a = refl
-  within_layers (l ∷ ls) a =
-      ap₂ (λ y z. record { name = l.name; items = y } ∷ z)
-      (within_becomes l.items (λ f i. a f (in_left f (filter_map feature_of l.items) (of_layers ls) i)))
-      (within_layers ls (λ f i. a f (in_right f (filter_map feature_of l.items) (of_layers ls) i)))
-
-  -- rings changed before or after
-  pub in_rings-instead : (d : DocumentOf R) → Agrees (features d)
-      → in_rings h (instead n g d) ≡ instead n g' (in_rings h d)
-  in_rings-instead d a =
-      ap (λ z. record { transform = d.transform; layers = z; members = d.members }) (within_layers d.layers a)
-
-  -- of a well-formed document, only the feature that is found has to agree
-  pub in_rings-instead_found : (d : DocumentOf R) → WellFormed d
-      → ((f : FeatureOf R) → feature d n ≡ Some f → map (in_feature h) (g f) ≡ g' (in_feature h f))
-      → in_rings h (instead n g d) ≡ instead n g' (in_rings h d)
-  in_rings-instead_found d formed a =
-      in_rings-instead d (λ f i e. a f (feature_found d formed f n i e))

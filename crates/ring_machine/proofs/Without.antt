@@ -11,10 +11,13 @@ use Rattle.grid_geometry.specs.Segment.{Segment, segment_eq}
 use Rattle.ring_machine.specs.Ring.{segments, has, is_ring}
 use Rattle.ring_machine.specs.Document.{FeatureOf, Feature, DocumentOf, Document}
 use Rattle.ring_machine.specs.Parts.{features, feature, has_feature, rings_of, rings, all_segments, size}
-use Rattle.ring_machine.specs.Parts.{is_vertex, is_segment}
+use Rattle.ring_machine.specs.Parts.{is_vertex, is_segment, positions}
 use Rattle.ring_machine.specs.Planar.{Proper, first_pair}
 use Rattle.ring_machine.specs.Cut.{instead}
 use Rattle.ring_machine.specs.Join.{take_out}
+use Rattle.ring_machine.proofs.First.{In}
+use Rattle.ring_machine.proofs.Members.{in_filter}
+use Rattle.std.proofs.lemmas.Bool.{eq-eqb, false≢true}
 use Rattle.ring_machine.proofs.LeftOut.{IsPart, part_filter, part_flat_map, part_all, part_any}
 use Rattle.ring_machine.proofs.LeftOut.{part_sum, part_apart}
 use Rattle.ring_machine.proofs.Found.{Stands, has_feature-found}
@@ -45,6 +48,13 @@ module _ {R : Type 0} (d : DocumentOf R) (n : ℕ) where
   has_feature-take_out_gone = has_feature-found (take_out d n) n ∙ ap is_some feature-take_out_gone
 
   -- ---- what is left
+
+  -- a feature that is left was there, and has another number
+  pub in-take_out : (f : FeatureOf R) → In f (features (take_out d n))
+      → In f (features d) × (f.number ≡ n → ⊥)
+  in-take_out f i =
+      let k = in_filter (λ (j : FeatureOf R). not (j.number == n)) f (features d) (subst (In f) (features-take_out n d) i) in
+      (k.0, λ e. false≢true (sym (ap not (eq-eqb f.number n e)) ∙ k.1))
 
   pub part-features : IsPart (features (take_out d n)) (features d)
   part-features =
@@ -82,6 +92,9 @@ module _ (d : Document) (n : ℕ) where
 
   pub part-segments : IsPart (all_segments (take_out d n)) (all_segments d)
   part-segments = part_flat_map segments (part-rings d n)
+
+  pub part-positions : IsPart (positions (take_out d n)) (positions d)
+  part-positions = part_flat_map (λ ring. ring) (part-rings d n)
 
   pub is_segment-take_out : (s : Segment) → is_segment (take_out d n) s ≡ true → is_segment d s ≡ true
   is_segment-take_out s h =

@@ -1,6 +1,6 @@
 -- A document in which others stand in the place of a feature, or none, keeps its texts.
 use Rattle.std.specs.Prelude.{◌≡◌, ℕ, Bool, true, false, not, ◌==◌, List, [], ◌∷◌, ◌++◌, map, Option, Some, None}
-use Rattle.std.proofs.Common.{refl, sym, ap, ◌∙◌, subst, cond, inl, inr, arith, eqb-true, false≢true}
+use Rattle.std.proofs.Common.{suc, length, refl, sym, ap, ◌∙◌, subst, cond, inl, inr, arith, eqb-true}
 use Rattle.grid_geometry.specs.Position.{Position}
 use Rattle.std.specs.List.{AllByRecursion, AllZip, filter, flat_map, filter_map}
 use Rattle.ring_machine.specs.Document.{FeatureOf, ItemOf, LayerOf, DocumentOf, Open, Close, Leaf, Kept}
@@ -61,10 +61,11 @@ module _ {R S : Type 0} (k : List (ItemOf R) → List (ItemOf S)) where
 no_members : (o : _) → AreKeptMembers o []
 no_members o = record { names = []; each = tt; differ = λ i j e l m. absurd (omega arith) }
 
-module _ {R : Type 0} (n : ℕ) where
-  empty_keeps : AllByRecursion KeepsItem (empty_collection {R = R})
-  empty_keeps = (record { id = tt; properties = tt; members = no_members owner.Collection }, (tt, tt))
+empty_keeps : (R : Type 0) → AllByRecursion KeepsItem (empty_collection {R = R})
+empty_keeps R =
+    (record { id = tt; properties = tt; members = no_members owner.Collection }, (tt, tt))
 
+module _ {R : Type 0} (n : ℕ) where
   filtered_keeps : (is : List (ItemOf R)) → AllByRecursion KeepsItem is
       → AllByRecursion KeepsItem (filter (λ i. not (is_leaf n i)) is)
   filtered_keeps [] h = tt
@@ -88,7 +89,7 @@ module _ {R : Type 0} (n : ℕ) where
   taken_keeps (Leaf f ∷ []) h = by (f.number == n)
     where
       by : (b : Bool) → AllByRecursion KeepsItem (cond b (empty_collection {R = R}) (Leaf f ∷ []))
-      by true = empty_keeps
+      by true = empty_keeps R
       by false = h
 
   layers_taken_keep : (ls : List (LayerOf R)) → KeepsLayers ls → KeepsLayers (map (in_layer (taken n)) ls)
@@ -161,7 +162,7 @@ rings_owner f p ps e h = by f.form (ap (λ z. fits_form (record f { polygons = z
         → owner_of kind ≡ owner.Rings
     by form.Polygon k = refl
     by form.MultiPolygon k = refl
-    by form.Null k = absurd (false≢true k)
+    by form.Null k = absurd (omega (arith, eqb-true (suc (length ps)) 0 k))
 
 pub keeps-cut : (d : Document) (n : ℕ) (id : Text) (path : Path) (number : ℕ) → WellFormed d
     → IsJson id → KeepsTexts d → KeepsTexts (cut d n id path number)
