@@ -8,6 +8,7 @@ pub mod Typing
 pub mod Levels
 pub mod Keeping
 pub mod KeptRings
+pub mod KeptShapes
 pub mod Nesting
 pub mod Shaped
 pub mod Promised

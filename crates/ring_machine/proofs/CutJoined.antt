@@ -1,0 +1,218 @@
+-- A feature cut in two, and two features joined: which features there are, and that the document
+-- stays well formed.
+use Rattle.std.proofs.Common.{◌≡◌, ℕ, suc, ◌≤◌, Bool, true, false, refl, sym, ap, ap₂, ◌∙◌, subst, cond}
+use Rattle.std.proofs.Common.{List, [], ◌∷◌, map, length, ◌||◌, inl, inr, Some, None, arith}
+use Rattle.std.specs.Prelude.{◌==◌}
+use Rattle.std.specs.Option.{is_some}
+use Rattle.std.specs.List.{find, list_any}
+use Rattle.std.proofs.lemmas.Bool.{false≢true, eqb-true, eq-eqb}
+use Rattle.grid_geometry.specs.Position.{Position}
+use Rattle.ring_machine.specs.Document.{Form, Polygon, MultiPolygon, Null, FeatureOf, Feature, Document}
+use Rattle.ring_machine.specs.Document.{Text}
+use Rattle.ring_machine.specs.Parts.{features, feature, has_feature}
+use Rattle.ring_machine.specs.Cut.{Path, is_cut_by, first_polygon, second_polygon, change_first}
+use Rattle.ring_machine.specs.Cut.{first_that, instead, stays, cut}
+use Rattle.ring_machine.specs.Join.{take_out, joined_polygons, joined_feature, join}
+use Rattle.ring_machine.specs.Refusals.{is_layer}
+use Rattle.ring_machine.specs.WellFormed.{fits_form, WellFormed}
+use Rattle.ring_machine.proofs.Neighbours.{all_in}
+use Rattle.ring_machine.proofs.Found.{Stands, has_feature-found, feature_in, feature_stands}
+use Rattle.ring_machine.proofs.TakenOut.{without, features-take_out}
+use Rattle.ring_machine.proofs.Swapped.{swapped}
+use Rattle.ring_machine.proofs.Instead.{features-instead, feature-instead_other, feature-instead_at}
+use Rattle.ring_machine.proofs.Without.{feature-take_out_other, feature-take_out_gone}
+use Rattle.ring_machine.proofs.StaysFormed.{Replaces, replaces_one, replaces_two, formed-instead, formed-take_out}
+
+-- ---- lists
+
+-- at most one element is the first
+pub first_that_short : {A : Type 0} (test : A → Bool) (xs : List A) → length (first_that test xs) ≤ 1
+first_that_short test [] = omega arith
+first_that_short test (x ∷ xs) = by (test x) (first_that_short test xs)
+  where
+    by : (b : Bool) → length (first_that test xs) ≤ 1 → length (cond b (x ∷ []) (first_that test xs)) ≤ 1
+    by true h = omega arith
+    by false h = h
+
+pub length-change_first : {A : Type 0} (test : A → Bool) (g : A → A) (xs : List A)
+    → length (change_first test g xs) ≡ length xs
+length-change_first test g [] = refl
+length-change_first test g (x ∷ xs) = by (test x) (length-change_first test g xs)
+  where
+    by : (b : Bool) → length (change_first test g xs) ≡ length xs
+        → length (cond b (g x ∷ xs) (x ∷ change_first test g xs)) ≡ suc (length xs)
+    by true h = refl
+    by false h = ap suc h
+
+-- as many polygons fit a form alike
+pub fits-count : {R : Type 0} (f : FeatureOf R) (ps : List (List R)) → length ps ≡ length f.polygons
+    → fits_form (record f { polygons = ps }) ≡ fits_form f
+fits-count f ps e = by f.form
+  where
+    by : (form : Form) → fits_form (record f { form = form; polygons = ps }) ≡ fits_form (record f { form = form })
+    by Polygon = ap (λ n. n == 1) e
+    by MultiPolygon = refl
+    by Null = ap (λ n. n == 0) e
+
+-- ---- cut
+
+-- the second part of a polygon as a new feature
+abbrev pub new_part : Path → ℕ → Text → Feature → List (List Position) → Feature
+new_part path number id f polygon = record {
+  number = number;
+  id = Some id;
+  form = Polygon;
+  properties = f.properties;
+  members = f.members;
+  polygons = second_polygon path polygon ∷ [];
+}
+
+module _ (d : Document) (n : ℕ) (id : Text) (path : Path) (number : ℕ) where
+  -- the two parts of a feature
+  abbrev pub parts : Feature → List Feature
+  parts f = stays path f ∷ map (new_part path number id f) (first_that (is_cut_by path) f.polygons)
+
+  pub cut_is : cut d n id path number ≡ instead n parts d
+  unfolding cut
+  cut_is = refl
+
+  pub features-cut : features (cut d n id path number) ≡ swapped n parts (features d)
+  features-cut = ap features cut_is ∙ features-instead n parts d
+
+  module _ (there : has_feature d n ≡ true) (new : has_feature d number ≡ false) where
+    number_new : (m : ℕ) → (m ≡ n) → (number == m) ≡ false
+    number_new m e = by (number == m) refl
+      where
+        by : (b : Bool) → (number == m) ≡ b → (number == m) ≡ false
+        by true k = absurd (false≢true (sym new ∙ ap (has_feature d) (eqb-true number m k ∙ e) ∙ there))
+        by false k = k
+
+    new_in : (m : ℕ) (f : Feature) (ps : List (List (List Position))) → (number == m) ≡ false
+        → list_any (λ (k : Feature). k.number == m) (map (new_part path number id f) ps) ≡ false
+    new_in m f [] h = refl
+    new_in m f (p ∷ ps) h = ap₂ (λ a b. a || b) h (new_in m f ps h)
+
+    -- every other number is found as before
+    pub feature-cut_other : (m : ℕ) → (n == m) ≡ false → (number == m) ≡ false
+        → feature (cut d n id path number) m ≡ feature d m
+    feature-cut_other m o k =
+        ap (λ e. feature e m) cut_is
+        ∙ feature-instead_other d n parts m o (λ f i e.
+          ap₂ (λ a b. a || b) (ap (λ j. j == m) e ∙ o) (new_in m f (first_that (is_cut_by path) f.polygons) k))
+
+    pub has_feature-cut_other : (m : ℕ) → (n == m) ≡ false → (number == m) ≡ false
+        → has_feature (cut d n id path number) m ≡ has_feature d m
+    has_feature-cut_other m o k =
+        has_feature-found (cut d n id path number) m ∙ ap is_some (feature-cut_other m o k)
+        ∙ sym (has_feature-found d m)
+
+    module _ (formed : WellFormed d) (f : Feature) (at : feature d n ≡ Some f) where
+      place : Stands n f (features d)
+      place = feature_stands d formed n f at
+
+      -- what stays has its number
+      pub feature-cut_at : feature (cut d n id path number) n ≡ Some (stays path f)
+      feature-cut_at =
+          ap (λ e. feature e n) cut_is
+          ∙ feature-instead_at d n parts f place n (inl refl)
+          ∙ ap (λ b. cond b (Some (stays path f)) (find (λ (k : Feature). k.number == n) (map (new_part path number id f) (first_that (is_cut_by path) f.polygons)))) (eq-eqb f.number n place.number)
+
+      -- the new part has the new number
+      pub feature-cut_new : (p : List (List Position)) → first_that (is_cut_by path) f.polygons ≡ p ∷ []
+          → feature (cut d n id path number) number ≡ Some (new_part path number id f p)
+      feature-cut_new p e =
+          ap (λ e. feature e number) cut_is
+          ∙ feature-instead_at d n parts f place number (inr new)
+          ∙ ap (λ ps. find (λ (k : Feature). k.number == number) (stays path f ∷ map (new_part path number id f) ps)) e
+          ∙ ap₂ (λ b c. cond b (Some (stays path f)) (cond c (Some (new_part path number id f p)) None)) (other f.number place.number) (eq-eqb number number refl)
+        where
+          other : (m : ℕ) → m ≡ n → (m == number) ≡ false
+          other m e = by (m == number) refl
+            where
+              by : (b : Bool) → (m == number) ≡ b → (m == number) ≡ false
+              by true k = absurd (false≢true (sym new ∙ ap (has_feature d) (sym (eqb-true m number k) ∙ e) ∙ there))
+              by false k = k
+
+  -- a feature of a collection that is cut leaves the document well formed
+  pub formed-cut : WellFormed d → has_feature d n ≡ true → is_layer d n ≡ false
+      → has_feature d number ≡ false → WellFormed (cut d n id path number)
+  formed-cut formed there collected new =
+      subst WellFormed (sym cut_is) (formed-instead n parts d formed (λ f e.
+          let k = feature_in d n f e in
+          let fits : fits_form (stays path f) ≡ true =
+              fits-count f (change_first (is_cut_by path) (first_polygon path) f.polygons) (length-change_first (is_cut_by path) (first_polygon path) f.polygons)
+              ∙ all_in fits_form (features d) f formed.forms k.0 in
+          of f k.1 fits (first_that (is_cut_by path) f.polygons) (first_that_short (is_cut_by path) f.polygons)))
+    where
+      of : (f : Feature) → f.number ≡ n → fits_form (stays path f) ≡ true
+          → (ps : List (List (List Position))) → length ps ≤ 1
+          → Replaces d n (stays path f ∷ map (new_part path number id f) ps)
+      of f e k [] l = replaces_one d n (stays path f) e k
+      of f e k (p ∷ []) l = replaces_two d n (stays path f) (new_part path number id f p) there collected e new k refl
+      of f e k (p ∷ q ∷ ps) l = absurd (omega arith)
+
+-- ---- joined
+
+-- one polygon of two
+pub length-joined_polygons : (ps qs : List (List (List Position)))
+    → length (joined_polygons ps qs) ≡ length ps
+length-joined_polygons [] qs = refl
+length-joined_polygons ([] ∷ ps) qs = refl
+length-joined_polygons ((r ∷ holes) ∷ p ∷ ps) qs = refl
+length-joined_polygons ((r ∷ holes) ∷ []) [] = refl
+length-joined_polygons ((r ∷ holes) ∷ []) ([] ∷ qs) = refl
+length-joined_polygons ((r ∷ holes) ∷ []) ((s ∷ more) ∷ []) = refl
+length-joined_polygons ((r ∷ holes) ∷ []) ((s ∷ more) ∷ q ∷ qs) = refl
+
+module _ (d : Document) (n : ℕ) (g : Feature) where
+  pub join_is : join d n g ≡ take_out (instead n (joined_feature g) d) g.number
+  unfolding join
+  join_is = refl
+
+  pub features-join : features (join d n g) ≡ without g.number (swapped n (joined_feature g) (features d))
+  features-join =
+      ap features join_is ∙ features-take_out g.number (instead n (joined_feature g) d)
+      ∙ ap (without g.number) (features-instead n (joined_feature g) d)
+
+  -- the feature that is joined with n is gone
+  pub feature-join_gone : feature (join d n g) g.number ≡ None
+  feature-join_gone =
+      ap (λ e. feature e g.number) join_is ∙ feature-take_out_gone (instead n (joined_feature g) d) g.number
+
+  -- every other number is found as before
+  pub feature-join_other : (m : ℕ) → (n == m) ≡ false → (g.number == m) ≡ false
+      → feature (join d n g) m ≡ feature d m
+  feature-join_other m o k =
+      ap (λ e. feature e m) join_is
+      ∙ feature-take_out_other (instead n (joined_feature g) d) g.number m k
+      ∙ feature-instead_other d n (joined_feature g) m o (λ f i e. ap (λ j. (j == m) || false) e ∙ ap (λ b. b || false) o)
+
+  pub has_feature-join_gone : has_feature (join d n g) g.number ≡ false
+  has_feature-join_gone = has_feature-found (join d n g) g.number ∙ ap is_some feature-join_gone
+
+  pub has_feature-join_other : (m : ℕ) → (n == m) ≡ false → (g.number == m) ≡ false
+      → has_feature (join d n g) m ≡ has_feature d m
+  has_feature-join_other m o k =
+      has_feature-found (join d n g) m ∙ ap is_some (feature-join_other m o k)
+      ∙ sym (has_feature-found d m)
+
+  -- the number n is that of the joined feature
+  pub feature-join_at : WellFormed d → (f : Feature) → feature d n ≡ Some f → (g.number == n) ≡ false
+      → feature (join d n g) n ≡ Some (record f { polygons = joined_polygons f.polygons g.polygons })
+  feature-join_at formed f at o =
+      let place = feature_stands d formed n f at in
+      ap (λ e. feature e n) join_is
+      ∙ feature-take_out_other (instead n (joined_feature g) d) g.number n o
+      ∙ feature-instead_at d n (joined_feature g) f place n (inl refl)
+      ∙ ap (λ b. cond b (Some (record f { polygons = joined_polygons f.polygons g.polygons })) None) (eq-eqb f.number n place.number)
+
+  -- the document stays well formed
+  pub formed-join : WellFormed d → WellFormed (join d n g)
+  formed-join formed =
+      subst WellFormed (sym join_is)
+      (formed-take_out (instead n (joined_feature g) d) g.number
+      (formed-instead n (joined_feature g) d formed (λ f e.
+          let k = feature_in d n f e in
+          replaces_one d n (record f { polygons = joined_polygons f.polygons g.polygons }) k.1
+          (fits-count f (joined_polygons f.polygons g.polygons) (length-joined_polygons f.polygons g.polygons)
+          ∙ all_in fits_form (features d) f formed.forms k.0))))

@@ -1,0 +1,164 @@
+-- A document with other features in the place of one.
+use Rattle.std.proofs.Common.{◌≡◌, ℕ, ◌+◌, Bool, true, false, refl, sym, ap, ap₂, ◌∙◌, subst, cond}
+use Rattle.std.proofs.Common.{List, [], ◌∷◌, ◌++◌, map, length, ◌⊎◌, inl, inr, Option, Some, None, is_some, arith}
+use Rattle.std.specs.Prelude.{◌==◌}
+use Rattle.std.proofs.lemmas.Bool.{eqb-true, eqb-false}
+use Rattle.std.specs.List.{list_any, find, flat_map, filter_map}
+use Rattle.std.specs.Option.{option_or}
+use Rattle.std.proofs.lemmas.List.{length-append, map-append}
+use Rattle.std.proofs.lemmas.List.Concat.{flat_map-append}
+use Rattle.std.proofs.lemmas.List.Elements.{filter_map-append}
+use Rattle.std.proofs.lemmas.List.Folds.{find-append, list_any-append}
+use Rattle.ring_machine.specs.Document.{FeatureOf, ItemOf, LayerOf, DocumentOf, Open, Close, Leaf, Kept}
+use Rattle.ring_machine.specs.Parts.{feature_of, features, feature, has_feature, rings_of, rings}
+use Rattle.ring_machine.specs.Parts.{in_feature, in_item, in_layer, in_rings}
+use Rattle.ring_machine.specs.Cut.{becomes, instead}
+use Rattle.ring_machine.specs.WellFormed.{WellFormed}
+use Rattle.ring_machine.proofs.Removal.{none_parts}
+use Rattle.ring_machine.proofs.First.{In, in_left, in_right}
+use Rattle.ring_machine.proofs.Members.{in_flat}
+use Rattle.ring_machine.proofs.InItems.{of_layers, features-in_items, in_items-left}
+use Rattle.ring_machine.proofs.Found.{Stands, any_found, none_found, has_feature-found, feature_found}
+use Rattle.ring_machine.proofs.Swapped.{for_one, swapped, swapped_alone, find_other}
+
+features_leaves : {R : Type 0} (fs : List (FeatureOf R)) → filter_map feature_of (map Leaf fs) ≡ fs
+features_leaves [] = refl
+features_leaves (f ∷ fs) = ap (λ z. f ∷ z) (features_leaves fs)
+
+module _ {R : Type 0} (n : ℕ) (g : FeatureOf R → List (FeatureOf R)) where
+  -- ---- features
+
+  features_becomes : (is : List (ItemOf R))
+      → filter_map feature_of (flat_map (becomes n g) is) ≡ swapped n g (filter_map feature_of is)
+  features_becomes [] = refl
+  features_becomes (Open h ∷ is) = features_becomes is
+  features_becomes (Close ∷ is) = features_becomes is
+  features_becomes (Kept t ∷ is) = features_becomes is
+  features_becomes (Leaf f ∷ is) =
+      filter_map-append feature_of (becomes n g (Leaf f)) (flat_map (becomes n g) is)
+      ∙ ap₂ (λ y z. y ++ z) (by (f.number == n)) (features_becomes is)
+    where
+      by : (b : Bool) → filter_map feature_of (cond b (map Leaf (g f)) (Leaf f ∷ []))
+          ≡ cond b (g f) (f ∷ [])
+      by true = features_leaves (g f)
+      by false = refl
+
+  -- the others stand in the place of the features of this number
+  pub features-instead : (d : DocumentOf R) → features (instead n g d) ≡ swapped n g (features d)
+  features-instead d =
+      features-in_items (flat_map (becomes n g)) (swapped n g) refl (flat_map-append (for_one n g)) features_becomes d
+
+  -- ---- where no feature has the number
+
+  becomes_none : (is : List (ItemOf R))
+      → list_any (λ f. f.number == n) (filter_map feature_of is) ≡ false
+      → flat_map (becomes n g) is ≡ is
+  becomes_none [] h = refl
+  becomes_none (Open a ∷ is) h = ap (λ z. Open a ∷ z) (becomes_none is h)
+  becomes_none (Close ∷ is) h = ap (λ z. Close ∷ z) (becomes_none is h)
+  becomes_none (Kept t ∷ is) h = ap (λ z. Kept t ∷ z) (becomes_none is h)
+  becomes_none (Leaf f ∷ is) h =
+      let h' = none_parts (f.number == n) (list_any (λ k. k.number == n) (filter_map feature_of is)) h in
+      ap₂ (λ b z. cond b (map Leaf (g f)) (Leaf f ∷ []) ++ z) h'.0 (becomes_none is h'.1)
+
+  -- nothing changes
+  pub instead_none : (d : DocumentOf R) → has_feature d n ≡ false → instead n g d ≡ d
+  instead_none d h = in_items-left (flat_map (becomes n g)) (λ f. f.number == n) becomes_none d h
+
+-- ---- where a feature comes from
+
+module _ {R : Type 0} (n : ℕ) (g : FeatureOf R → List (FeatureOf R)) (d : DocumentOf R) where
+  -- a feature of the changed document is an old one of another number, or a new one
+  pub in-instead : (k : FeatureOf R) → In k (features (instead n g d))
+      → (In k (features d) × (k.number ≡ n → ⊥)) ⊎ ((f : FeatureOf R) × In f (features d) × (f.number ≡ n) × In k (g f))
+  in-instead k i =
+      let from = in_flat (for_one n g) k (features d) (subst (In k) (features-instead n g d) i) in
+      by from.0 (from.0.number == n) refl from.1 from.2
+    where
+      by : (f : FeatureOf R) (b : Bool) → (f.number == n) ≡ b → In f (features d) → In k (cond b (g f) (f ∷ []))
+          → (In k (features d) × (k.number ≡ n → ⊥)) ⊎ ((f : FeatureOf R) × In f (features d) × (f.number ≡ n) × In k (g f))
+      by f true e there j = inr (f, there, eqb-true f.number n e, j)
+      by f false e there (inl s) =
+          inl (subst (λ z. In z (features d)) s there,
+               λ m. eqb-false f.number n e (ap (λ (z : FeatureOf R). z.number) s ∙ m))
+      by f false e there (inr j) = absurd j
+
+-- ---- what is found
+
+or_none : {A : Type 0} (o : Option A) → option_or o None ≡ o
+or_none None = refl
+or_none (Some a) = refl
+
+module _ {R : Type 0} (d : DocumentOf R) (n : ℕ) (g : FeatureOf R → List (FeatureOf R)) where
+  -- another number is found as before, where the new features do not have it
+  pub feature-instead_other : (m : ℕ) → (n == m) ≡ false
+      → ((f : FeatureOf R) → In f (features d) → f.number ≡ n → list_any (λ k. k.number == m) (g f) ≡ false)
+      → feature (instead n g d) m ≡ feature d m
+  feature-instead_other m o h =
+      ap (find (λ k. k.number == m)) (features-instead n g d)
+      ∙ find_other n g m o (features d) (λ f i e. none_found (λ k. k.number == m) (g f) (h f i e))
+
+  pub has_feature-instead_other : (m : ℕ) → (n == m) ≡ false
+      → ((f : FeatureOf R) → In f (features d) → f.number ≡ n → list_any (λ k. k.number == m) (g f) ≡ false)
+      → has_feature (instead n g d) m ≡ has_feature d m
+  has_feature-instead_other m o h =
+      has_feature-found (instead n g d) m ∙ ap is_some (feature-instead_other m o h)
+      ∙ sym (has_feature-found d m)
+
+  module _ (f : FeatureOf R) (place : Stands n f (features d)) where
+    -- the features before it, the new ones, and those after it
+    pub features-instead_at : features (instead n g d) ≡ place.us ++ (g f ++ place.vs)
+    features-instead_at = features-instead n g d ∙ swapped_alone n g f (features d) place
+
+    others_lack : (m : ℕ) → (m ≡ n) ⊎ (has_feature d m ≡ false)
+        → (list_any (λ k. k.number == m) place.us ≡ false) × (list_any (λ k. k.number == m) place.vs ≡ false)
+    others_lack m (inl e) =
+        (subst (λ z. list_any (λ k. k.number == z) place.us ≡ false) (sym e) place.none_before,
+         subst (λ z. list_any (λ k. k.number == z) place.vs ≡ false) (sym e) place.none_after)
+    others_lack m (inr h) =
+        let test : FeatureOf R → Bool = λ k. k.number == m in
+        let all = none_parts (list_any test place.us) (list_any test (f ∷ place.vs))
+            (sym (list_any-append test place.us (f ∷ place.vs)) ∙ ap (list_any test) (sym place.is) ∙ h) in
+        (all.0, (none_parts (test f) (list_any test place.vs) all.1).1)
+
+    -- its own number, and one that no feature had, are those of the new features
+    pub feature-instead_at : (m : ℕ) → (m ≡ n) ⊎ (has_feature d m ≡ false)
+        → feature (instead n g d) m ≡ find (λ k. k.number == m) (g f)
+    feature-instead_at m h =
+        let test : FeatureOf R → Bool = λ k. k.number == m in
+        let lack = others_lack m h in
+        ap (find test) features-instead_at
+        ∙ find-append test place.us (g f ++ place.vs)
+        ∙ ap₂ (λ y z. option_or y z) (none_found test place.us lack.0) (find-append test (g f) place.vs)
+        ∙ ap (option_or (find test (g f))) (none_found test place.vs lack.1)
+        ∙ or_none (find test (g f))
+
+    pub has_feature-instead_at : (m : ℕ) → (m ≡ n) ⊎ (has_feature d m ≡ false)
+        → has_feature (instead n g d) m ≡ list_any (λ k. k.number == m) (g f)
+    has_feature-instead_at m h =
+        has_feature-found (instead n g d) m ∙ ap is_some (feature-instead_at m h)
+        ∙ sym (any_found (λ k. k.number == m) (g f))
+
+    -- one feature less, and as many more as there are new ones
+    pub count-instead : length (features (instead n g d)) + 1 ≡ length (features d) + length (g f)
+    count-instead = omega (
+      arith,
+      ap length features-instead_at,
+      ap length place.is,
+      length-append place.us (g f ++ place.vs),
+      length-append (g f) place.vs,
+      length-append place.us (f ∷ place.vs),
+    )
+
+    -- ---- rings
+
+    -- the rings before it, its own, and those after it
+    pub rings_at : rings d ≡ flat_map rings_of place.us ++ (rings_of f ++ flat_map rings_of place.vs)
+    rings_at = ap (flat_map rings_of) place.is ∙ flat_map-append rings_of place.us (f ∷ place.vs)
+
+    pub rings-instead_at : rings (instead n g d)
+        ≡ flat_map rings_of place.us ++ (flat_map rings_of (g f) ++ flat_map rings_of place.vs)
+    rings-instead_at =
+        ap (flat_map rings_of) features-instead_at
+        ∙ flat_map-append rings_of place.us (g f ++ place.vs)
+        ∙ ap (λ z. flat_map rings_of place.us ++ z) (flat_map-append rings_of (g f) place.vs)

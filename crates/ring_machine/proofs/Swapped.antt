@@ -1,0 +1,87 @@
+-- Lists of features in which those of one number become others, or none.
+use Rattle.std.proofs.Common.{◌≡◌, ℕ, Bool, true, false, refl, sym, ap, ap₂, ◌∙◌, cond, List, []}
+use Rattle.std.proofs.Common.{◌∷◌, ◌++◌, inl, inr, Some, None}
+use Rattle.std.proofs.Common.{eqb-true, eq-eqb}
+use Rattle.std.specs.Prelude.{◌==◌, not}
+use Rattle.std.specs.List.{list_any, find, flat_map}
+use Rattle.std.specs.Option.{option_or}
+use Rattle.std.proofs.lemmas.List.Concat.{flat_map-append}
+use Rattle.std.proofs.lemmas.List.Folds.{find-append}
+use Rattle.ring_machine.specs.Document.{FeatureOf}
+use Rattle.ring_machine.proofs.Removal.{none_parts}
+use Rattle.ring_machine.proofs.First.{In}
+use Rattle.ring_machine.proofs.Found.{Stands}
+use Rattle.ring_machine.proofs.TakenOut.{without}
+
+module _ {R : Type 0} (n : ℕ) (g : FeatureOf R → List (FeatureOf R)) where
+  -- what stands for a feature
+  abbrev pub for_one : FeatureOf R → List (FeatureOf R)
+  for_one f = cond (f.number == n) (g f) (f ∷ [])
+
+  -- the features, with others in the places of those of the number n
+  abbrev pub swapped : List (FeatureOf R) → List (FeatureOf R)
+  swapped fs = flat_map for_one fs
+
+  -- where none has the number, nothing changes
+  pub swapped_none : (fs : List (FeatureOf R)) → list_any (λ f. f.number == n) fs ≡ false
+      → swapped fs ≡ fs
+  swapped_none [] h = refl
+  swapped_none (f ∷ fs) h =
+      let h' = none_parts (f.number == n) (list_any (λ k. k.number == n) fs) h in
+      ap₂ (λ b z. cond b (g f) (f ∷ []) ++ z) h'.0 (swapped_none fs h'.1)
+
+  -- where one stands alone, others stand in its place
+  pub swapped_alone : (f : FeatureOf R) (fs : List (FeatureOf R)) (s : Stands n f fs)
+      → swapped fs ≡ s.us ++ (g f ++ s.vs)
+  swapped_alone f fs s =
+      ap swapped s.is ∙ flat_map-append for_one s.us (f ∷ s.vs)
+      ∙ ap₂ (λ y z. y ++ z) (swapped_none s.us s.none_before)
+      (ap₂ (λ b z. cond b (g f) (f ∷ []) ++ z) (eq-eqb f.number n s.number) (swapped_none s.vs s.none_after))
+
+  -- another number is found as before, where the others do not have it
+  pub find_other : (m : ℕ) → (n == m) ≡ false → (fs : List (FeatureOf R))
+      → ((f : FeatureOf R) → In f fs → f.number ≡ n → find (λ k. k.number == m) (g f) ≡ None)
+      → find (λ k. k.number == m) (swapped fs) ≡ find (λ k. k.number == m) fs
+  find_other m o [] h = refl
+  find_other m o (f ∷ fs) h =
+      find-append (λ k. k.number == m) (for_one f) (swapped fs)
+      ∙ by (f.number == n) refl (find_other m o fs (λ k i e. h k (inr i) e))
+    where
+      by : (b : Bool) → (f.number == n) ≡ b
+          → find (λ k. k.number == m) (swapped fs) ≡ find (λ k. k.number == m) fs
+          → option_or (find (λ k. k.number == m) (cond b (g f) (f ∷ []))) (find (λ k. k.number == m) (swapped fs))
+          ≡ cond (f.number == m) (Some f) (find (λ k. k.number == m) fs)
+      by true e ih =
+          let at : f.number ≡ n = eqb-true f.number n e in
+          ap₂ (λ y z. option_or y z) (h f (inl refl) at) ih
+          ∙ ap (λ b. cond b (Some f) (find (λ k. k.number == m) fs)) (sym (ap (λ k. k == m) at ∙ o))
+      by false e ih = or (f.number == m) ih
+        where
+          or : (b : Bool) → find (λ k. k.number == m) (swapped fs) ≡ find (λ k. k.number == m) fs
+              → option_or (cond b (Some f) None) (find (λ k. k.number == m) (swapped fs))
+              ≡ cond b (Some f) (find (λ k. k.number == m) fs)
+          or true ih = refl
+          or false ih = ih
+
+-- ---- without one
+
+module _ {R : Type 0} (n : ℕ) where
+  -- without a feature is with none in its place
+  pub without_swapped : (fs : List (FeatureOf R)) → without n fs ≡ swapped n (λ f. []) fs
+  without_swapped [] = refl
+  without_swapped (f ∷ fs) = by (f.number == n) (without_swapped fs)
+    where
+      by : (b : Bool) → without n fs ≡ swapped n (λ f. []) fs
+          → cond (not b) (f ∷ without n fs) (without n fs) ≡ cond b [] (f ∷ []) ++ swapped n (λ f. []) fs
+      by true e = e
+      by false e = ap (λ z. f ∷ z) e
+
+  -- the number is found no more
+  pub find_gone : (fs : List (FeatureOf R)) → find (λ k. k.number == n) (without n fs) ≡ None
+  find_gone [] = refl
+  find_gone (f ∷ fs) = by (f.number == n) refl (find_gone fs)
+    where
+      by : (b : Bool) → (f.number == n) ≡ b → find (λ k. k.number == n) (without n fs) ≡ None
+          → find (λ k. k.number == n) (cond (not b) (f ∷ without n fs) (without n fs)) ≡ None
+      by true e ih = ih
+      by false e ih = ap (λ b. cond b (Some f) (find (λ k. k.number == n) (without n fs))) e ∙ ih

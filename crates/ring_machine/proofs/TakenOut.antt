@@ -1,0 +1,138 @@
+-- What a document is without one of its features.
+use Rattle.std.proofs.Common.{◌≡◌, ℕ, zero, suc, Bool, true, false, refl, sym, ap, ap₂, ◌∙◌, cond, List}
+use Rattle.std.proofs.Common.{[], ◌∷◌, map, Option}
+use Rattle.std.specs.Prelude.{◌==◌, not}
+use Rattle.std.specs.List.{filter, filter_map, list_any}
+use Rattle.std.proofs.lemmas.List.Elements.{filter-append}
+use Rattle.std.proofs.lemmas.Bool.{false≢true}
+use Rattle.ring_machine.specs.Document.{FeatureOf, ItemOf, LayerOf, DocumentOf, Open, Close, Leaf, Kept}
+use Rattle.ring_machine.specs.Document.{Text, Member}
+use Rattle.ring_machine.specs.Parts.{feature_of, features, in_feature, in_item, in_layer, in_items}
+use Rattle.ring_machine.specs.Parts.{in_rings, has_feature}
+use Rattle.ring_machine.specs.Join.{is_leaf, empty_collection, take_out}
+use Rattle.ring_machine.specs.WellFormed.{is_inner, is_geometry}
+use Rattle.ring_machine.proofs.Removal.{none_parts}
+use Rattle.ring_machine.proofs.InItems.{features-in_items, in_items-square, in_items-left}
+
+-- a layer's items without feature n
+abbrev pub taken : {R : Type 0} → ℕ → List (ItemOf R) → List (ItemOf R)
+taken n (Leaf f ∷ []) = cond (f.number == n) empty_collection (Leaf f ∷ [])
+taken n items = filter (λ i. not (is_leaf n i)) items
+
+-- the features without feature n
+abbrev pub without : {R : Type 0} → ℕ → List (FeatureOf R) → List (FeatureOf R)
+without n fs = filter (λ f. not (f.number == n)) fs
+
+module _ {R : Type 0} (n : ℕ) where
+  -- ---- items
+
+  abbrev with_layers : Option Text → List Member → List (LayerOf R) → DocumentOf R
+  with_layers t m ls = record { transform = t; layers = ls; members = m }
+
+  layers_taken : (t : Option Text) (m : List Member) (ls : List (LayerOf R))
+      → (take_out (with_layers t m ls) n).layers ≡ map (in_layer (taken n)) ls
+  unfolding take_out
+  layers_taken t m [] = refl
+  layers_taken t m (l ∷ ls) = by l.items (layers_taken t m ls)
+    where
+      by : (is : List (ItemOf R)) → (take_out (with_layers t m ls) n).layers ≡ map (in_layer (taken n)) ls
+          → (take_out (with_layers t m (record { name = l.name; items = is } ∷ ls)) n).layers
+          ≡ record { name = l.name; items = taken n is } ∷ map (in_layer (taken n)) ls
+      by (Leaf f ∷ []) e = ap (λ z. record { name = l.name; items = taken n (Leaf f ∷ []) } ∷ z) e
+      by is e = ap (λ z. record { name = l.name; items = taken n is } ∷ z) e
+
+  pub take_out_is : (d : DocumentOf R) → take_out d n ≡ in_items (taken n) d
+  unfolding take_out
+  take_out_is d =
+      ap (λ z. record { transform = d.transform; layers = z; members = d.members }) (layers_taken d.transform d.members d.layers)
+
+  features_filtered : (is : List (ItemOf R))
+      → filter_map feature_of (filter (λ i. not (is_leaf n i)) is) ≡ without n (filter_map feature_of is)
+  features_filtered [] = refl
+  features_filtered (Open h ∷ is) = features_filtered is
+  features_filtered (Close ∷ is) = features_filtered is
+  features_filtered (Kept t ∷ is) = features_filtered is
+  features_filtered (Leaf f ∷ is) = by (f.number == n) (features_filtered is)
+    where
+      by : (b : Bool)
+          → filter_map feature_of (filter (λ i. not (is_leaf n i)) is) ≡ without n (filter_map feature_of is)
+          → filter_map feature_of (cond (not b) (Leaf f ∷ filter (λ i. not (is_leaf n i)) is) (filter (λ i. not (is_leaf n i)) is))
+          ≡ cond (not b) (f ∷ without n (filter_map feature_of is)) (without n (filter_map feature_of is))
+      by true e = e
+      by false e = ap (λ z. f ∷ z) e
+
+  features_taken : (is : List (ItemOf R))
+      → filter_map feature_of (taken n is) ≡ without n (filter_map feature_of is)
+  features_taken [] = refl
+  features_taken (Open h ∷ is) = features_filtered is
+  features_taken (Close ∷ is) = features_filtered is
+  features_taken (Kept t ∷ is) = features_filtered is
+  features_taken (Leaf f ∷ i ∷ is) = features_filtered (Leaf f ∷ i ∷ is)
+  features_taken (Leaf f ∷ []) = by (f.number == n)
+    where
+      by : (b : Bool)
+          → filter_map feature_of (cond b empty_collection (Leaf f ∷ [])) ≡ cond (not b) (f ∷ []) []
+      by true = refl
+      by false = refl
+
+  -- the features are the others, in their order
+  pub features-take_out : (d : DocumentOf R) → features (take_out d n) ≡ without n (features d)
+  features-take_out d =
+      ap features (take_out_is d)
+      ∙ features-in_items (taken n) (without n) refl (filter-append (λ f. not (f.number == n))) features_taken d
+
+  -- ---- brackets
+
+  inner_filtered : (k : ℕ) (is : List (ItemOf R)) → is_inner k is ≡ true
+      → is_inner k (filter (λ i. not (is_leaf n i)) is) ≡ true
+  inner_filtered zero [] h = refl
+  inner_filtered zero (i ∷ is) h = absurd (false≢true h)
+  inner_filtered (suc k) [] h = h
+  inner_filtered (suc k) (Open a ∷ is) h = inner_filtered (suc (suc k)) is h
+  inner_filtered (suc k) (Close ∷ is) h = inner_filtered k is h
+  inner_filtered (suc k) (Kept t ∷ is) h = inner_filtered (suc k) is h
+  inner_filtered (suc k) (Leaf f ∷ is) h = by (f.number == n) (inner_filtered (suc k) is h)
+    where
+      by : (b : Bool) → is_inner (suc k) (filter (λ i. not (is_leaf n i)) is) ≡ true
+          → is_inner (suc k) (cond (not b) (Leaf f ∷ filter (λ i. not (is_leaf n i)) is) (filter (λ i. not (is_leaf n i)) is)) ≡ true
+      by true e = e
+      by false e = e
+
+  pub geometry_taken : (is : List (ItemOf R)) → is_geometry is ≡ true → is_geometry (taken n is) ≡ true
+  geometry_taken [] h = h
+  geometry_taken (Open a ∷ is) h = inner_filtered 1 is h
+  geometry_taken (Close ∷ is) h = absurd (false≢true h)
+  geometry_taken (Kept t ∷ is) h = inner_filtered 0 is h
+  geometry_taken (Leaf f ∷ i ∷ is) h = absurd (false≢true h)
+  geometry_taken (Leaf f ∷ []) h = by (f.number == n)
+    where
+      by : (b : Bool) → is_geometry (cond b empty_collection (Leaf f ∷ [])) ≡ true
+      by true = refl
+      by false = refl
+
+  -- ---- where no feature has the number
+
+  filtered_none : (is : List (ItemOf R))
+      → list_any (λ f. f.number == n) (filter_map feature_of is) ≡ false
+      → filter (λ i. not (is_leaf n i)) is ≡ is
+  filtered_none [] h = refl
+  filtered_none (Open a ∷ is) h = ap (λ z. Open a ∷ z) (filtered_none is h)
+  filtered_none (Close ∷ is) h = ap (λ z. Close ∷ z) (filtered_none is h)
+  filtered_none (Kept t ∷ is) h = ap (λ z. Kept t ∷ z) (filtered_none is h)
+  filtered_none (Leaf f ∷ is) h =
+      let h' = none_parts (f.number == n) (list_any (λ k. k.number == n) (filter_map feature_of is)) h in
+      ap₂ (λ b z. cond (not b) (Leaf f ∷ z) z) h'.0 (filtered_none is h'.1)
+
+  taken_none : (is : List (ItemOf R))
+      → list_any (λ f. f.number == n) (filter_map feature_of is) ≡ false → taken n is ≡ is
+  taken_none [] h = refl
+  taken_none (Open a ∷ is) h = filtered_none (Open a ∷ is) h
+  taken_none (Close ∷ is) h = filtered_none (Close ∷ is) h
+  taken_none (Kept t ∷ is) h = filtered_none (Kept t ∷ is) h
+  taken_none (Leaf f ∷ i ∷ is) h = filtered_none (Leaf f ∷ i ∷ is) h
+  taken_none (Leaf f ∷ []) h =
+      ap (λ b. cond b empty_collection (Leaf f ∷ [])) (none_parts (f.number == n) false h).0
+
+  -- nothing changes
+  pub take_out_none : (d : DocumentOf R) → has_feature d n ≡ false → take_out d n ≡ d
+  take_out_none d h = take_out_is d ∙ in_items-left (taken n) (λ f. f.number == n) taken_none d h
