@@ -7,3 +7,4 @@ pub mod Lengths
 pub mod Ways
 pub mod Counted
 pub mod Rests
+pub mod RunEnds

@@ -9,6 +9,7 @@ use Rattle.grid_geometry.specs.Ring.{Edge, edges}
 use Rattle.ring_machine.specs.Join.{off_run, is_common}
 use Rattle.ring_machine.proofs.Edges.{edges_to, edges_is, starts}
 use Rattle.ring_parts.specs.Borders.{off_ones}
+use Rattle.ring_parts.proofs.Lists.{map-take}
 
 -- ---- the first that passes
 
@@ -40,11 +41,6 @@ pub all_off : (rest : List Position) (ps : List Position) (bs : List Bool) (i : 
 all_off rest ps bs i l = ap (λ qs. rest ++ off_ones qs (drop i bs)) (drop_of_length-le ps l)
 
 -- ---- the whole rest
-
-map-take : {A B : Type 0} (of : A → B) (k : ℕ) (xs : List A) → map of (take k xs) ≡ take k (map of xs)
-map-take of zero xs = refl
-map-take of (suc k) [] = refl
-map-take of (suc k) (x ∷ xs) = ap (λ ys. of x ∷ ys) (map-take of k xs)
 
 map-drop : {A B : Type 0} (of : A → B) (k : ℕ) (xs : List A) → map of (drop k xs) ≡ drop k (map of xs)
 map-drop of zero xs = refl

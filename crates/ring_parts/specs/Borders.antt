@@ -27,3 +27,12 @@ begins bs = count_by (λ u. not u.0 && u.1) (neighbours bs)
 -- the positions whose tests fail
 abbrev pub off_ones : List Position → List Bool → List Position
 off_ones ps bs = map (λ u. u.0) (filter (λ u. not u.1) (zip ps bs))
+
+-- both ends of each edge
+abbrev pub both_ends : List Edge → List Position
+both_ends [] = []
+both_ends (e ∷ es) = e.0 ∷ e.1 ∷ both_ends es
+
+-- both ends of each edge that is common
+abbrev pub run_ends : (Edge → Bool) → List Edge → List Position
+run_ends common es = both_ends (filter common es)

@@ -1,5 +1,6 @@
 -- What the code holds, seen as the machine's paths and polygons.
 use Rattle.std.specs.Prelude.{ℕ, Bool, true, false, not, List, [], ◌∷◌, Vec, map, length, if◌then◌else◌, Option, None, Some}
+use Rattle.std.specs.List.{filter, reduce}
 use Rattle.grid_geometry.specs.Position.{Position, position_lt}
 use Rattle.ring_machine.specs.Cut as machine
 use Rattle.ring_machine.specs.Cut.{goes_first}
@@ -32,3 +33,7 @@ goes_to false part hole = not (goes_first part hole)
 abbrev pub lesser : Option Position → Position → Position
 lesser None p = p
 lesser (Some q) p = if position_lt p q then p else q
+
+-- the least of the positions that pass the test
+abbrev pub least_that : (Position → Bool) → List Position → Option Position
+least_that test ps = reduce (λ q p. if position_lt p q then p else q) (filter test ps)

@@ -5,6 +5,7 @@
 mod common;
 mod cut;
 mod edges;
+mod elsewhere;
 mod joining;
 mod membership;
 mod paths;
@@ -17,6 +18,7 @@ mod stretch;
 
 pub use common::{has_common, runs};
 pub use cut::{first_cut, is_cut_by, is_wrong_side};
+pub use elsewhere::common_else;
 pub use joining::joined;
 pub use membership::Members;
 pub use paths::{Path, has_twice};

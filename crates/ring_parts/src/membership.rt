@@ -19,7 +19,7 @@ pub(crate) fn has(ring: &[Pos], p: Pos) -> bool
 }
 
 /// The lesser of both, or p where there is no other.
-fn lesser(least: Option<Pos>, p: Pos) -> Pos
+pub(crate) fn lesser(least: Option<Pos>, p: Pos) -> Pos
     ensures { result ≡ lesser least p }
 {
     match least {

@@ -1,7 +1,8 @@
 //! Polygons cut by a path, and rings joined.
 use crate::{
-    Border, Members, Path, canonical, first_cut, first_part, first_polygon, has_common, has_twice,
-    is_cut_by, joined, runs, second_part, second_polygon,
+    Border, Members, Path, canonical, common_else, first_cut, first_part, first_polygon,
+    has_common, has_twice, is_cut_by, is_wrong_side, joined, passed_alike, runs, same_side,
+    second_part, second_polygon,
 };
 use grid_geometry::Pos;
 use std::alloc::{AllocError, Global};
@@ -131,20 +132,109 @@ fn paths(rt: HostRuntime) -> Result<(), Fail> {
     Ok(())
 }
 
-// two squares side by side, given in their canonical rotation
+// ---- two rings
+
+// the squares of both, each in either direction
+const LEFT: [(i64, i64); 4] = [(0, 0), (10, 0), (10, 10), (0, 10)];
+
+const LEFT_BACK: [(i64, i64); 4] = [(0, 0), (0, 10), (10, 10), (10, 0)];
+
+const RIGHT: [(i64, i64); 4] = [(10, 0), (20, 0), (20, 10), (10, 10)];
+
+const RIGHT_BACK: [(i64, i64); 4] = [(10, 0), (10, 10), (20, 10), (20, 0)];
+
+/// What the calls say of two rings.
+#[derive(Debug, PartialEq, Clone, Copy)]
+struct Comparison {
+    has_common: bool,
+    runs: usize,
+    passed_alike: bool,
+    same_side: bool,
+    common_else: Option<Pos>,
+}
+
+/// One run between areas on different sides, passed in different directions.
+const BESIDE: Comparison = Comparison {
+    has_common: true,
+    runs: 1,
+    passed_alike: false,
+    same_side: false,
+    common_else: None,
+};
+
+/// What the calls say of the rings of these positions.
+fn compared<R: Abort>(
+    rt: &R,
+    alloc: Global,
+    first: &[(i64, i64)],
+    second: &[(i64, i64)],
+) -> Result<Comparison, AllocError> {
+    let ones = ring(rt, alloc, first)?;
+    let others = ring(rt, alloc, second)?;
+    assert!(rt; ones.len() < 100 && others.len() < 100);
+    let first = Border::new(alloc, ones.as_slice())?;
+    let second = Border::new(alloc, others.as_slice())?;
+    Ok(Comparison {
+        has_common: has_common(alloc, &first, &second)?,
+        runs: runs(alloc, &first, &second)?,
+        passed_alike: passed_alike(alloc, ones.as_slice(), others.as_slice())?,
+        same_side: same_side(alloc, &first, &second)?,
+        common_else: common_else(alloc, &first, &second)?,
+    })
+}
+
+/// The ring of two that are joined.
+fn join<R: Abort>(
+    rt: &R,
+    alloc: Global,
+    first: &[(i64, i64)],
+    second: &[(i64, i64)],
+) -> Result<Vec<Pos>, AllocError> {
+    let ones = ring(rt, alloc, first)?;
+    let others = ring(rt, alloc, second)?;
+    let first = Border::new(alloc, ones.as_slice())?;
+    let second = Border::new(alloc, others.as_slice())?;
+    joined(alloc, &first, &second)
+}
+
 #[test]
-fn squares_joined(rt: HostRuntime) -> Result<(), Fail> {
+fn squares_side_by_side(rt: HostRuntime) -> Result<(), Fail> {
     let alloc = rt.alloc();
-    let left = ring(&rt, alloc, &[(0, 0), (10, 0), (10, 10), (0, 10)])?;
-    let right = ring(&rt, alloc, &[(10, 0), (20, 0), (20, 10), (10, 10)])?;
-    let first = Border::new(alloc, left.as_slice())?;
-    let second = Border::new(alloc, right.as_slice())?;
-    assert!(rt; has_common(alloc, &first, &second)?);
-    assert_eq!(rt; runs(alloc, &first, &second)?, 1);
-    assert_eq!(rt;
-        joined(alloc, &first, &second)?,
-        ring(&rt, alloc, &BOTH_SQUARES)?
-    );
+    for (first, second, passed_alike) in [
+        (&LEFT, &RIGHT, false),
+        (&LEFT, &RIGHT_BACK, true),
+        (&LEFT_BACK, &RIGHT, true),
+        (&LEFT_BACK, &RIGHT_BACK, false),
+    ] {
+        let want = Comparison {
+            passed_alike,
+            ..BESIDE
+        };
+        assert_eq!(rt; compared(&rt, alloc, first, second)?, want);
+    }
+    Ok(())
+}
+
+// a square in a ring of twice its length, and the same square twice
+#[test]
+fn areas_on_the_same_side(rt: HostRuntime) -> Result<(), Fail> {
+    let alloc = rt.alloc();
+    let whole: &[(i64, i64)] = &BOTH_SQUARES;
+    let left: &[(i64, i64)] = &LEFT;
+    let back: &[(i64, i64)] = &LEFT_BACK;
+    for (first, second, passed_alike) in [
+        (whole, left, true),
+        (whole, back, false),
+        (left, left, true),
+        (left, back, false),
+    ] {
+        let want = Comparison {
+            passed_alike,
+            same_side: true,
+            ..BESIDE
+        };
+        assert_eq!(rt; compared(&rt, alloc, first, second)?, want);
+    }
     Ok(())
 }
 
@@ -152,20 +242,109 @@ fn squares_joined(rt: HostRuntime) -> Result<(), Fail> {
 #[test]
 fn two_runs(rt: HostRuntime) -> Result<(), Fail> {
     let alloc = rt.alloc();
-    let dented_right = [(0, 0), (10, 0), (10, 3), (8, 5), (10, 7), (10, 10), (0, 10)];
-    let dented_left = [
+    let first = [(0, 0), (10, 0), (10, 3), (3, 5), (10, 7), (10, 10), (0, 10)];
+    let second = [(10, 0), (20, 0), (20, 10), (10, 10), (10, 7), (10, 3)];
+    let want = Comparison { runs: 2, ..BESIDE };
+    assert_eq!(rt; compared(&rt, alloc, &first, &second)?, want);
+    assert_eq!(rt; compared(&rt, alloc, &second, &first)?, want);
+    Ok(())
+}
+
+// neighbours that touch in two further positions, and squares that touch in a corner alone
+#[test]
+fn touching_beside_the_run(rt: HostRuntime) -> Result<(), Fail> {
+    let alloc = rt.alloc();
+    let teeth = [
+        (0, 0),
+        (10, 0),
+        (10, 4),
+        (8, 5),
+        (10, 6),
+        (8, 8),
+        (10, 10),
+        (0, 10),
+    ];
+    let facing = [
         (10, 0),
         (20, 0),
         (20, 10),
         (10, 10),
-        (10, 7),
+        (12, 8),
+        (10, 6),
         (12, 5),
-        (10, 3),
+        (10, 4),
     ];
-    let left = ring(&rt, alloc, &dented_right)?;
-    let right = ring(&rt, alloc, &dented_left)?;
-    let first = Border::new(alloc, left.as_slice())?;
-    let second = Border::new(alloc, right.as_slice())?;
-    assert_eq!(rt; runs(alloc, &first, &second)?, 2);
+    let want = Comparison {
+        common_else: Some(at(&rt, (10, 6))),
+        ..BESIDE
+    };
+    assert_eq!(rt; compared(&rt, alloc, &teeth, &facing)?, want);
+    let above = [(10, 10), (20, 10), (20, 20), (10, 20)];
+    let want = Comparison {
+        has_common: false,
+        runs: 0,
+        common_else: Some(at(&rt, (10, 10))),
+        ..BESIDE
+    };
+    assert_eq!(rt; compared(&rt, alloc, &LEFT, &above)?, want);
+    Ok(())
+}
+
+// the ring keeps the direction of the first one
+#[test]
+fn squares_joined(rt: HostRuntime) -> Result<(), Fail> {
+    let alloc = rt.alloc();
+    let back = [(0, 0), (0, 10), (10, 10), (20, 10), (20, 0), (10, 0)];
+    for (first, second, want) in [
+        (&LEFT, &RIGHT, &BOTH_SQUARES),
+        (&LEFT, &RIGHT_BACK, &BOTH_SQUARES),
+        (&LEFT_BACK, &RIGHT, &back),
+        (&LEFT_BACK, &RIGHT_BACK, &back),
+    ] {
+        assert_eq!(rt; join(&rt, alloc, first, second)?, ring(&rt, alloc, want)?);
+    }
+    Ok(())
+}
+
+// what lies between the ends of the run is gone
+#[test]
+fn joined_along_two_segments(rt: HostRuntime) -> Result<(), Fail> {
+    let alloc = rt.alloc();
+    let first = [(0, 0), (10, 0), (8, 5), (10, 10), (0, 10)];
+    let second = [(8, 5), (10, 0), (20, 0), (20, 10), (10, 10)];
+    let want = ring(&rt, alloc, &BOTH_SQUARES)?;
+    assert_eq!(rt; join(&rt, alloc, &first, &second)?, want);
+    Ok(())
+}
+
+// ---- the sides of a cut
+
+/// Whether the parts of a ring do not keep their side when it is cut along these positions.
+fn cut_wrongly<R: Abort>(
+    rt: &R,
+    alloc: Global,
+    outer: &[(i64, i64)],
+    positions: &[(i64, i64)],
+) -> Result<bool, AllocError> {
+    let whole = polygon(rt, alloc, &[outer])?;
+    let positions = ring(rt, alloc, positions)?;
+    let (Some(path), Some(outer)) = (Path::new(positions.as_slice()), whole.first()) else {
+        panic!(rt; "two positions");
+    };
+    assert!(rt; outer.len() < 100 && path.inner.len() < 100);
+    is_wrong_side(alloc, &path, whole.as_slice())
+}
+
+// a path inside the square, one outside it, and one along its side
+#[test]
+fn sides_of_the_parts(rt: HostRuntime) -> Result<(), Fail> {
+    let alloc = rt.alloc();
+    let inside: &[(i64, i64)] = &[(10, 0), (5, 5), (10, 10)];
+    let outside: &[(i64, i64)] = &[(10, 0), (20, 5), (10, 10)];
+    let along: &[(i64, i64)] = &[(10, 0), (10, 10)];
+    for (positions, wrong) in [(inside, false), (outside, true), (along, true)] {
+        assert_eq!(rt; cut_wrongly(&rt, alloc, &LEFT, positions)?, wrong);
+        assert_eq!(rt; cut_wrongly(&rt, alloc, &LEFT_BACK, positions)?, wrong);
+    }
     Ok(())
 }

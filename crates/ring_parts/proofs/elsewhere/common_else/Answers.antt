@@ -1,0 +1,21 @@
+use Rattle.std.proofs.Common.{◌∙◌, ◌≡◌, ap, ◌&&◌}
+use Rattle.std.specs.Prelude.{not}
+use Rattle.grid_geometry.specs.Ring.{edges}
+use Rattle.ring_machine.specs.Ring.{has}
+use Rattle.ring_machine.specs.Join.{is_common}
+use Rattle.ring_parts.specs.Borders.{run_ends}
+use Rattle.ring_parts.specs.Seen.{least_that}
+use Rattle.ring_parts.proofs.RunEnds.{common_else_is}
+use Rattle.ring_parts.proofs.elsewhere.common_else.Goals as goal
+
+pub returns : goal.returns
+returns g c =
+    let r = c.args.first.now.ring.now in
+    let s = c.args.second.now.ring.now in
+    let other : c.in_ok-other.other.ring.now ≡ s = c.in_ok-other.ensures ∙ c.ring-2.ensures in
+    let run : c.in_ok-run.run'.ring.now ≡ run_ends (is_common s) (edges r) =
+    c.in_ok-run.ensures ∙ c.as_slice-2.ensures.value ∙ c.in_ok-ends.ensures
+    ∙ ap (run_ends (is_common s)) (c.as_slice.ensures.value ∙ c.in_ok-edges.ensures ∙ ap edges c.ring.ensures) in
+    c.least_touching.ensures
+    ∙ (λ i. least_that (λ p. has (other i) p && not (has (run i) p)) (c.ring-3.ensures i))
+    ∙ common_else_is r s
