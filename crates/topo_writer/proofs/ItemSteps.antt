@@ -1,8 +1,11 @@
 -- One item more of a layer.
-use Rattle.std.proofs.Common.{◌≡◌, Bool, true, false, refl, sym, ap, ap₂, ◌∙◌, List, [], ◌∷◌, ◌++◌, map, append_assoc}
+use Rattle.std.proofs.Common.{◌≡◌, ℕ, Bool, Option, true, false, refl, sym, ap, ap₂, ◌∙◌, subst, List, [], ◌∷◌, ◌++◌, map, append_assoc}
+use Rattle.std.specs.Io.KnownBytes.{Appends}
 use Rattle.std.specs.List.{flat_map}
 use Rattle.std.proofs.lemmas.List.{append-nil, map-append}
 use Rattle.std.proofs.lemmas.List.Concat.{flat_map-append}
+use Rattle.device_io.specs.Devices.{AppendsPrefix}
+use Rattle.device_io.proofs.DeviceLemmas.{Appends-more}
 use Rattle.grid_geometry.specs.Position.{Position}
 use Rattle.ring_machine.specs.Document.{Document, Head, Close, Text}
 use Rattle.ring_machine.specs.Vertices.{is_junction}
@@ -15,6 +18,7 @@ use Rattle.topo_writer.proofs.ItemLemmas.{open_both, more_both}
 use Rattle.topo_writer.proofs.Later.{with_pieces-append}
 use Rattle.topo_writer.proofs.Leading.{item_rings-append}
 use Rattle.topo_writer.proofs.OpenedLemmas.{items_both, begin_left}
+use Rattle.topo_writer.proofs.Sent.{prefix_after}
 
 -- ---- the text of one item
 
@@ -56,19 +60,42 @@ module _ (d : Document) (xs : List ShownItem) (s : ShownItem) where
       q ∙ ap (λ z. more_after z (written_at d s ∷ [])) p ∙ sym (more_both false (map (written_at d) xs) (written_at d s ∷ []))
       ∙ ap (more_after false) (sym written_more)
 
-  pub text_step : (rest : List ShownItem) → is_begin [] (map (written_at d) (xs ++ s ∷ rest)) ≡ true
-      → (o now next : Text) (heads : List Head) (more : Bool) → heads ≡ open_after [] (map (written_at d) xs)
-      → more ≡ more_after false (map (written_at d) xs) → now ≡ o ++ items_text [] false (map (written_at d) xs)
-      → next ≡ now ++ items_text heads more (written_at d s ∷ []) → next ≡ o ++ items_text [] false (map (written_at d) one_more)
-  text_step rest b o now next heads more h m p q =
-      let ws = map (written_at d) xs in
-      let w = written_at d s ∷ [] in
-      let begins : is_begin [] ws ≡ true = begin_left [] ws (map (written_at d) (s ∷ rest)) (ap (is_begin []) (sym (map-append (written_at d) xs (s ∷ rest))) ∙ b) in
-      q ∙ ap₂ (λ y z. now ++ items_text y z w) h m
-      ∙ ap (λ z. z ++ items_text (open_after [] ws) (more_after false ws) w) p
-      ∙ append_assoc o (items_text [] false ws) (items_text (open_after [] ws) (more_after false ws) w)
-      ∙ ap (λ z. o ++ z) (sym (items_both [] false ws w begins))
-      ∙ ap (λ z. o ++ items_text [] false z) (sym written_more)
+  module _ (rest : List ShownItem) (begins : is_begin [] (map (written_at d) (xs ++ s ∷ rest)) ≡ true) (heads : List Head) (more : Bool)
+      (h : heads ≡ open_after [] (map (written_at d) xs)) (m : more ≡ more_after false (map (written_at d) xs)) where
+    abbrev before : Text
+    before = items_text [] false (map (written_at d) xs)
+
+    abbrev mine : Text
+    mine = items_text heads more (written_at d s ∷ [])
+
+    text_more : items_text [] false (map (written_at d) one_more) ≡ before ++ mine
+    text_more =
+        let ws = map (written_at d) xs in
+        let w = written_at d s ∷ [] in
+        let first : is_begin [] ws ≡ true = begin_left [] ws (map (written_at d) (s ∷ rest)) (ap (is_begin []) (sym (map-append (written_at d) xs (s ∷ rest))) ∙ begins) in
+        ap (items_text [] false) written_more ∙ items_both [] false ws w first ∙ ap₂ (λ y z. before ++ items_text y z w) (sym h) (sym m)
+
+    -- what is written of the items is that of these, and then that of the rest
+    text_rest : (later : Text) × (items_text [] false (map (written_at d) (xs ++ s ∷ rest)) ≡ before ++ (mine ++ later))
+    text_rest =
+        let ws = map (written_at d) one_more in
+        let rs = map (written_at d) rest in
+        let whole : map (written_at d) (xs ++ s ∷ rest) ≡ ws ++ rs =
+        ap (map (written_at d)) (sym (append_assoc xs (s ∷ []) rest)) ∙ map-append (written_at d) one_more rest in
+        let later = items_text (open_after [] ws) (more_after false ws) rs in (
+          later,
+          ap (items_text [] false) whole
+              ∙ items_both [] false ws rs (begin_left [] ws rs (ap (is_begin []) (sym whole) ∙ begins))
+              ∙ ap (λ z. z ++ later) text_more ∙ append_assoc before mine later,
+        )
+
+    -- a device after one more item, and after a part of it
+    pub sent_step : (a b c : Option (List ℕ)) → Appends a b before → Appends b c mine → Appends a c (items_text [] false (map (written_at d) one_more))
+    sent_step a b c p q = subst (Appends a c) (sym text_more) (Appends-more a b c before mine p q)
+
+    pub sent_part : (a b c : Option (List ℕ)) → Appends a b before → AppendsPrefix b c mine
+        → AppendsPrefix a c (items_text [] false (map (written_at d) (xs ++ s ∷ rest)))
+    sent_part a b c p q = subst (AppendsPrefix a c) (sym text_rest.1) (prefix_after a b c before mine text_rest.0 p q)
 
   pub arcs_step : (start now next : List (List Position))
       → now ≡ with_pieces start (flat_map (pieces (is_junction d)) (item_rings (map (item_at d) xs)))

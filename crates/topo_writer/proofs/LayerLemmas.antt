@@ -1,5 +1,5 @@
 -- The layers of a document, one after another: how they are shown, and the arcs after them.
-use Rattle.std.proofs.Common.{◌≡◌, ℕ, ◌+◌, ◌≤◌, ◌<◌, refl, sym, ap, ◌∙◌, subst, List, [], ◌∷◌, ◌++◌, map, length, take, drop, get_or, Some}
+use Rattle.std.proofs.Common.{◌≡◌, ℕ, ◌+◌, ◌≤◌, ◌<◌, refl, sym, ap, ap₂, ◌∙◌, subst, append_assoc, List, [], ◌∷◌, ◌++◌, map, length, take, drop, get_or, Some}
 use Rattle.std.specs.Prelude.{option_map, slice_get, Contains, codes, false}
 use Rattle.std.specs.List.{flat_map, filter_map}
 use Rattle.std.proofs.lemmas.List.{drop_more, length-map, take-append-drop}
@@ -17,7 +17,6 @@ use Rattle.map_text.specs.Arcs.{arcs_of, pieces, with_pieces}
 use Rattle.map_text.specs.Text.{items_text}
 use Rattle.topo_writer.specs.Items.{items_at, item_rings, items_written, written_item, LeadsOn, ShowsLayer}
 use Rattle.topo_writer.specs.Sections.{arcs_after, layer_at, layer_rings, layer_text, IsMapFrame}
-use Rattle.topo_writer.proofs.FeatureTexts.{then}
 use Rattle.topo_writer.proofs.ItemLemmas.{items_back, written_layer}
 use Rattle.topo_writer.proofs.LaterParts.{in_place, part_arcs}
 use Rattle.topo_writer.proofs.Leading.{item_rings-append, leads_begin, leads_first, leads_off}
@@ -115,12 +114,11 @@ layer_leads d i now items small l p e =
 
 -- ---- the text of a layer
 
--- a comma where something stands before, a name, a colon, and the items
-pub layer_out : (d : Document) (i : ℕ) (more : Text) (o a b n e : Text) (name items : Text) → name ≡ (layer_at d i).name
+-- the name of a layer and a colon, after a comma where something stands before, and then the items
+pub layer_parts : (d : Document) (i : ℕ) (more name items : Text) → name ≡ (layer_at d i).name
     → items ≡ items_text [] false (map (written_item d) (layer_at d i).items)
-    → a ≡ o ++ more → b ≡ a ++ name → n ≡ b ++ codes ":" → e ≡ n ++ items
-    → e ≡ o ++ (more ++ layer_text d (layer_at d i))
-layer_out d i more o a b n e name items hn hi ha hb hc he =
-    then o more (name ++ (codes ":" ++ items)) a e ha (then a name (codes ":" ++ items) b e hb (then b (codes ":") items n e hc he))
-    ∙ ap (λ z. o ++ (more ++ (z ++ (codes ":" ++ items)))) hn
-    ∙ ap (λ z. o ++ (more ++ ((layer_at d i).name ++ (codes ":" ++ z)))) hi
+    → (more ++ (name ++ codes ":")) ++ items ≡ more ++ layer_text d (layer_at d i)
+layer_parts d i more name items n e =
+    append_assoc more (name ++ codes ":") items
+    ∙ ap (λ z. more ++ z) (append_assoc name (codes ":") items)
+    ∙ ap₂ (λ y z. more ++ (y ++ (codes ":" ++ z))) n e

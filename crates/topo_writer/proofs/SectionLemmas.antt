@@ -10,17 +10,18 @@ use Rattle.std.proofs.Math.Seq.{take-append-add}
 use Rattle.device_io.specs.Devices.{AppendsPrefix}
 use Rattle.device_io.proofs.DeviceLemmas.{Appends-more}
 use Rattle.grid_geometry.specs.Position.{Position, InRange}
-use Rattle.ring_machine.specs.Document.{Text, Layer, Document}
+use Rattle.ring_machine.specs.Document.{Text, Member, Layer, Document}
 use Rattle.ring_machine.specs.Parts.{in_layer, rings, size}
 use Rattle.ring_machine.specs.Planar.{Proper}
 use Rattle.ring_machine.specs.WellFormed.{WellFormed}
 use Rattle.topo_outline.specs.Kept.{KeepsTexts}
+use Rattle.arc_store.specs.Readers.{ShownFrame}
 use Rattle.map_text.specs.Saved.{Saved}
 use Rattle.map_text.proofs.ReadingBack.{text_saves}
 use Rattle.map_text.specs.Arcs.{arcs_of}
 use Rattle.map_text.specs.Text.{commas, further, member, member_if, member_text, layer_member, object_text, arcs_text, arc_text, text_of}
 use Rattle.topo_writer.specs.Items.{written_item}
-use Rattle.topo_writer.specs.Sections.{begin_text, layer_text, layers_text, middle_text, end_text}
+use Rattle.topo_writer.specs.Sections.{begin_text, layer_text, layers_text, middle_text, end_text, IsMapFrame}
 use Rattle.topo_writer.proofs.MemberLemmas.{further_both}
 use Rattle.topo_writer.proofs.Sent.{prefix_after}
 
@@ -32,18 +33,18 @@ layers_are d [] = refl
 layers_are d (l ∷ ls) = ap (λ z. layer_text d l ∷ z) (layers_are d ls)
 
 -- the arcs, with commas between them
-abbrev pub list_of_arcs : Document → Text
+abbrev list_of_arcs : Document → Text
 list_of_arcs d = commas (map (arc_text (is_some d.transform)) (arcs_of d))
 
 -- the sections, one after another
-abbrev pub sections : Document → Text
+abbrev sections : Document → Text
 sections d = begin_text d.transform ++ (layers_text d ++ (middle_text ++ (list_of_arcs d ++ end_text d.members)))
 
 regrouped : (x l a m o c r s e : Text)
     → (x ++ ((o ++ (l ++ c)) ++ ((r ++ (a ++ s)) ++ m))) ++ e ≡ (x ++ o) ++ (l ++ ((c ++ r) ++ (a ++ (s ++ (m ++ e)))))
 regrouped x l a m o c r s e = simp append_assoc
 
-pub sections_are : (d : Document) → text_of d ≡ sections d
+sections_are : (d : Document) → text_of d ≡ sections d
 sections_are d =
     let transform = member_if (codes "\"transform\"") d.transform in
     let layers = map layer_member (map (in_layer (map (written_item d))) d.layers) in
@@ -57,7 +58,7 @@ sections_are d =
     ∙ ap (λ z. begin_text d.transform ++ (commas z ++ (middle_text ++ (list_of_arcs d ++ end_text d.members)))) (layers_are d d.layers)
 
 -- a transform is there where its text is
-pub there_shown : {X : Type 0} (f : X → Text) (o : Option X) (t : Option Text) → option_map f o ≡ t → is_some o ≡ is_some t
+there_shown : {X : Type 0} (f : X → Text) (o : Option X) (t : Option Text) → option_map f o ≡ t → is_some o ≡ is_some t
 there_shown f None t e = ap is_some e
 there_shown f (Some x) t e = ap is_some e
 
@@ -87,8 +88,65 @@ pub saved_text : (d : Document) → WellFormed d → KeepsTexts d → Proper d �
 saved_text d formed keeps proper range small =
     text_saves d (record { formed = formed; keeps = keeps; are_rings = proper.are_rings; in_range = range; small = omega arith })
 
--- the arcs that are sent are those of the document
-pub arcs_out : (d : Document) (delta : Bool) (arcs : List (List Position)) → delta ≡ is_some d.transform → arcs ≡ arcs_of d
-    → commas (map (arc_text delta) arcs) ≡ list_of_arcs d
-arcs_out d delta arcs e h =
-    ap (λ z. commas (map (arc_text z) arcs)) e ∙ ap (λ z. commas (map (arc_text (is_some d.transform)) z)) h
+-- ---- the sections of a map, sent one after another
+
+-- the begin, where there is a transform like that of the frame
+module _ (d : Document) (frame : ShownFrame) (is : IsMapFrame d frame) (o a : Option (List ℕ)) (t : Option Text) (shown : t ≡ frame.transform) where
+  begin_is : begin_text t ≡ begin_text d.transform
+  begin_is = ap begin_text (shown ∙ ap (λ (f : ShownFrame). f.transform) is.shown)
+
+  abbrev from_layers : Text
+  from_layers = layers_text d ++ (middle_text ++ (list_of_arcs d ++ end_text d.members))
+
+  pub at_begin : AppendsPrefix o a (begin_text t) → AppendsPrefix o a (text_of d)
+  at_begin p =
+      subst (AppendsPrefix o a) (sym (sections_are d))
+      (front_first o a (begin_text d.transform) from_layers (subst (AppendsPrefix o a) begin_is p))
+
+  module _ (begun : Appends o a (begin_text t)) where
+    after_begin : (z : Option (List ℕ)) → AppendsPrefix a z from_layers → AppendsPrefix o z (text_of d)
+    after_begin z p =
+        subst (AppendsPrefix o z) (sym (sections_are d))
+        (front_second o a z (begin_text d.transform) from_layers (subst (Appends o a) begin_is begun) p)
+
+    pub at_layers : (b : Option (List ℕ)) → AppendsPrefix a b (layers_text d) → AppendsPrefix o b (text_of d)
+    at_layers b p = after_begin b (front_first a b (layers_text d) (middle_text ++ (list_of_arcs d ++ end_text d.members)) p)
+
+    module _ (b : Option (List ℕ)) (laid : Appends a b (layers_text d)) where
+      after_layers : (z : Option (List ℕ)) → AppendsPrefix b z (middle_text ++ (list_of_arcs d ++ end_text d.members)) → AppendsPrefix o z (text_of d)
+      after_layers z p = after_begin z (front_second a b z (layers_text d) (middle_text ++ (list_of_arcs d ++ end_text d.members)) laid p)
+
+      pub at_middle : (e : Option (List ℕ)) → AppendsPrefix b e middle_text → AppendsPrefix o e (text_of d)
+      at_middle e p = after_layers e (front_first b e middle_text (list_of_arcs d ++ end_text d.members) p)
+
+      -- the arcs of the document, as differences where there is a transform
+      module _ (e : Option (List ℕ)) (between : Appends b e middle_text) (arcs : List (List Position)) (whole : arcs ≡ arcs_of d)
+          {X : Type 0} (text : X → Text) (r : Option X) (again : option_map text r ≡ frame.transform) (delta : Bool) (there : delta ≡ is_some r) where
+        arcs_are : commas (map (arc_text delta) arcs) ≡ list_of_arcs d
+        arcs_are =
+            ap (λ z. commas (map (arc_text z) arcs)) (there ∙ there_shown text r d.transform (again ∙ ap (λ (f : ShownFrame). f.transform) is.shown))
+            ∙ ap (λ z. commas (map (arc_text (is_some d.transform)) z)) whole
+
+        after_middle : (z : Option (List ℕ)) → AppendsPrefix e z (list_of_arcs d ++ end_text d.members) → AppendsPrefix o z (text_of d)
+        after_middle z p = after_layers z (front_second b e z middle_text (list_of_arcs d ++ end_text d.members) between p)
+
+        pub at_arcs : (f : Option (List ℕ)) → AppendsPrefix e f (commas (map (arc_text delta) arcs)) → AppendsPrefix o f (text_of d)
+        at_arcs f p = after_middle f (front_first e f (list_of_arcs d) (end_text d.members) (subst (AppendsPrefix e f) arcs_are p))
+
+        module _ (f : Option (List ℕ)) (sent : Appends e f (commas (map (arc_text delta) arcs))) (members : List Member) (kept : members ≡ frame.members) where
+          end_is : end_text members ≡ end_text d.members
+          end_is = ap end_text (kept ∙ ap (λ (z : ShownFrame). z.members) is.shown)
+
+          sent_arcs : Appends e f (list_of_arcs d)
+          sent_arcs = subst (Appends e f) arcs_are sent
+
+          pub at_end : (z : Option (List ℕ)) → AppendsPrefix f z (end_text members) → AppendsPrefix o z (text_of d)
+          at_end z p = after_middle z (front_second e f z (list_of_arcs d) (end_text d.members) sent_arcs (subst (AppendsPrefix f z) end_is p))
+
+          pub all_sent : (z : Option (List ℕ)) → Appends f z (end_text members) → Appends o z (text_of d)
+          all_sent z p =
+              subst (Appends o z) (sym (sections_are d))
+              (Appends-more o a z (begin_text d.transform) from_layers (subst (Appends o a) begin_is begun)
+              (Appends-more a b z (layers_text d) (middle_text ++ (list_of_arcs d ++ end_text d.members)) laid
+              (Appends-more b e z middle_text (list_of_arcs d ++ end_text d.members) between
+              (Appends-more e f z (list_of_arcs d) (end_text d.members) sent_arcs (subst (Appends f z) end_is p)))))

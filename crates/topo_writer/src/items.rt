@@ -1,5 +1,7 @@
-//! The items of a layer, in the text.
-ghost use Rattle.std.specs.Prelude.{◌≡◌, ℤ, List, ◌++◌, [], ◌∷◌, Some, true, false, OnOk, IfOk};
+//! The items of a layer, sent to a device one after another.
+ghost use Rattle.std.specs.Prelude.{◌≡◌, ℤ, List, ◌++◌, [], ◌∷◌, Some, Err, true, false, OnOk, OnErr, IfOk};
+ghost use Rattle.std.specs.Io.KnownBytes.{Appends};
+ghost use Rattle.device_io.specs.Devices.{AppendsPrefix};
 ghost use Rattle.std.specs.List.{flat_map};
 ghost use Rattle.indexmap.specs.IndexMap.{get};
 ghost use Rattle.ring_machine.specs.Ring.{edge_eq};
@@ -17,12 +19,15 @@ ghost use Rattle.topo_writer.specs.Items.{feature_at, item_at, item_rings, items
 ghost use Rattle.topo_writer.specs.Items.{IsThere, LeadsOn, ShowsLayer};
 ghost use Rattle.topo_writer.specs.Opened.{more_after, open_after};
 ghost use Rattle.topo_writer.specs.Ways.{ArePieces};
+ghost use Rattle.topo_writer.specs.declared.sending.WriteFault.TheVariants.{Device, OutOfMemory};
 
 use crate::arcs::Arcs;
 use crate::members::{push_closing, push_opening};
+use crate::sending::{WriteFault, flush};
 use crate::shapes::push_feature;
 use crate::texts::push_comma;
 use arc_store::{ItemIter, ItemView, Map};
+use device_io::Sink;
 use segment_index::SegIndex;
 use std::alloc::{AllocError, Allocator};
 use topo_outline::Head;
@@ -150,15 +155,59 @@ fn push_item<'m, 'a, I: SegIndex, A: Allocator + Copy>(
     }
 }
 
-/// Appends the items of a layer of the map, by the indexes of their rings' arcs in the text of the
-/// whole map. A piece that is no arc yet becomes the next one.
-pub(crate) fn push_items<'m, 'a, I: SegIndex, A: Allocator + Copy>(
+/// Sends an item in the innermost of these collections, after a comma where something stands there
+/// already. Whether something stands before what follows.
+fn send_item<'m, 'a, I: SegIndex, A: Allocator + Copy, W: Sink>(
     alloc: A,
     map: &Map<'a, I, A>,
     arcs: &mut Arcs<A>,
+    heads: &mut Vec<&'m Head<'a, A>, A>,
+    more: bool,
+    item: ItemView<'m, 'a, A>,
     text: &mut Vec<u8, A>,
+    out: &mut W,
+) -> Result<bool, WriteFault>
+    requires working { W.has_failed out.old ≡ false }
+    requires empty { text.old.items ≡ [] }
+    requires proper { Proper map.now.doc }
+    requires formed { WellFormed map.now.doc }
+    requires there { IsThere map.now.doc (view_item_view item) }
+    requires mirrors { Mirrors (get edge_eq arcs.old.starts) arcs.old.list.items }
+    requires pieces { ArePieces map.now.doc arcs.old.list.items }
+    requires leads { LeadsOn map.now.doc arcs.old.list.items (item_at map.now.doc (view_item_view item) ∷ []) }
+    ensures mirrors { OnOk result (Mirrors (get edge_eq arcs.new.starts) arcs.new.list.items) }
+    ensures pieces { OnOk result (ArePieces map.now.doc arcs.new.list.items) }
+    ensures arcs { OnOk result (arcs.new.list.items ≡ with_pieces arcs.old.list.items
+        (flat_map (pieces (is_junction map.now.doc)) (item_rings (item_at map.now.doc (view_item_view item.entry) ∷ [])))) }
+    ensures heads { OnOk result (open_heads heads.new.items
+        ≡ open_after (open_heads heads.old.items) (written_at map.now.doc (view_item_view item.entry) ∷ [])) }
+    ensures more { IfOk result (λ after. after ≡ more_after more (written_at map.now.doc (view_item_view item.entry) ∷ [])) }
+    ensures empty { OnOk result (text.new.items ≡ []) }
+    ensures ok { OnOk result (Appends (W.taken out.old) (W.taken out.new)
+        (items_text (open_heads heads.old.items) more (written_at map.now.doc (view_item_view item.entry) ∷ []))) }
+    ensures works { OnOk result (W.has_failed out.new ≡ false) }
+    ensures err { OnErr result (AppendsPrefix (W.taken out.old) (W.taken out.new)
+        (items_text (open_heads heads.old.items) more (written_at map.now.doc (view_item_view item.entry) ∷ []))) }
+    ensures device { result ≡ Err Device → W.has_failed out.new ≡ true }
+    ensures memory { result ≡ Err OutOfMemory → W.has_failed out.new ≡ false }
+{
+    let after = push_item(alloc, map, arcs, text, heads, more, item)?;
+    flush(text, out)?;
+    Ok(after)
+}
+
+/// Sends the items of a layer of the map, by the indexes of their rings' arcs in the text of the
+/// whole map, one after another. A piece that is no arc yet becomes the next one.
+pub(crate) fn send_items<'m, 'a, I: SegIndex, A: Allocator + Copy, W: Sink>(
+    alloc: A,
+    map: &Map<'a, I, A>,
+    arcs: &mut Arcs<A>,
     items: ItemIter<'m, 'a, A>,
-) -> Result<(), AllocError>
+    text: &mut Vec<u8, A>,
+    out: &mut W,
+) -> Result<(), WriteFault>
+    requires working { W.has_failed out.old ≡ false }
+    requires empty { text.old.items ≡ [] }
     requires proper { Proper map.now.doc }
     requires formed { WellFormed map.now.doc }
     requires shows { ShowsLayer map.now.doc items }
@@ -169,13 +218,17 @@ pub(crate) fn push_items<'m, 'a, I: SegIndex, A: Allocator + Copy>(
     ensures pieces { OnOk result (ArePieces map.now.doc arcs.new.list.items) }
     ensures arcs { OnOk result (arcs.new.list.items ≡ with_pieces arcs.old.list.items
         (flat_map (pieces (is_junction map.now.doc)) (item_rings (items_at map.now.doc items.entry)))) }
-    ensures text { OnOk result (text.new.items
-        ≡ text.old.items ++ items_text [] false (items_written map.now.doc items.entry)) }
+    ensures empty { OnOk result (text.new.items ≡ []) }
+    ensures ok { OnOk result (Appends (W.taken out.old) (W.taken out.new) (items_text [] false (items_written map.now.doc items.entry))) }
+    ensures works { OnOk result (W.has_failed out.new ≡ false) }
+    ensures err { OnErr result (AppendsPrefix (W.taken out.old) (W.taken out.new) (items_text [] false (items_written map.now.doc items.entry))) }
+    ensures device { result ≡ Err Device → W.has_failed out.new ≡ true }
+    ensures memory { result ≡ Err OutOfMemory → W.has_failed out.new ≡ false }
 {
     let mut heads = Vec::new(alloc);
     let mut more = false;
     for item in items {
-        more = push_item(alloc, map, arcs, text, &mut heads, more, item)?;
+        more = send_item(alloc, map, arcs, &mut heads, more, item, text, out)?;
     }
     Ok(())
 }

@@ -1,5 +1,5 @@
 //! The layers of a map, sent to a device one after another.
-ghost use Rattle.std.specs.Prelude.{◌≡◌, ◌+◌, ◌<◌, ◌++◌, [], length, nat_lt, false, true, Err, OnOk, OnErr};
+ghost use Rattle.std.specs.Prelude.{◌≡◌, ◌+◌, ◌<◌, ◌++◌, [], codes, length, nat_lt, false, true, Err, OnOk, OnErr};
 ghost use Rattle.std.specs.Io.KnownBytes.{Appends};
 ghost use Rattle.indexmap.specs.IndexMap.{get};
 ghost use Rattle.device_io.specs.Devices.{AppendsPrefix};
@@ -12,58 +12,41 @@ ghost use Rattle.topo_writer.specs.Ways.{ArePieces};
 ghost use Rattle.topo_writer.specs.declared.sending.WriteFault.TheVariants.{Device, OutOfMemory};
 
 use crate::arcs::Arcs;
-use crate::items::push_items;
-use crate::sending::WriteFault;
+use crate::items::send_items;
+use crate::sending::{WriteFault, flush};
 use crate::texts::push_comma;
 use arc_store::{FrameView, Map};
-use device_io::{Sink, put_all};
+use device_io::Sink;
 use segment_index::SegIndex;
 use std::alloc::{AllocError, Allocator};
 
-/// Appends the layer with this number, and a comma where something stands before. A piece that is no
-/// arc yet becomes the next one.
-fn push_layer<'m, 'a, I: SegIndex, A: Allocator + Copy>(
-    alloc: A,
-    map: &Map<'a, I, A>,
-    frame: &FrameView<'m, 'a, A>,
-    i: usize,
-    arcs: &mut Arcs<A>,
+/// Appends the name of a layer and a colon, after a comma where something stands before.
+fn push_name<A: Allocator + Copy>(
     text: &mut Vec<u8, A>,
+    more: bool,
+    name: &[u8],
 ) -> Result<(), AllocError>
-    requires frame { IsMapFrame map.now.doc frame.now }
-    requires there { i < length map.now.doc.layers }
-    requires mirrors { Mirrors (get edge_eq arcs.old.starts) arcs.old.list.items }
-    requires pieces { ArePieces map.now.doc arcs.old.list.items }
-    requires arcs { arcs.old.list.items ≡ arcs_after map.now.doc i }
-    ensures mirrors { OnOk result (Mirrors (get edge_eq arcs.new.starts) arcs.new.list.items) }
-    ensures pieces { OnOk result (ArePieces map.now.doc arcs.new.list.items) }
-    ensures arcs { OnOk result (arcs.new.list.items ≡ arcs_after map.now.doc (i + 1)) }
-    ensures text { OnOk result (text.new.items
-        ≡ text.old.items ++ (comma_if (nat_lt 0 i) ++ layer_text map.now.doc (layer_at map.now.doc i))) }
+    ensures { OnOk result (text.new.items
+        ≡ text.old.items ++ (comma_if more ++ (name.now ++ codes ":"))) }
 {
-    let Some(name) = frame.layer_name(i) else {
-        return Ok(());
-    };
-    let Some(items) = frame.items(i) else {
-        return Ok(());
-    };
-    push_comma(text, i > 0)?;
+    push_comma(text, more)?;
     text.extend_from_slice(name)?;
-    text.extend_from_slice(b":")?;
-    push_items(alloc, map, arcs, text, items)?;
-    Ok(())
+    text.extend_from_slice(b":")
 }
 
-/// Sends the layer with this number, and a comma where something stands before.
+/// Sends the layer with this number, and a comma where something stands before. A piece that is no arc
+/// yet becomes the next one.
 fn send_layer<'m, 'a, I: SegIndex, A: Allocator + Copy, W: Sink>(
     alloc: A,
     map: &Map<'a, I, A>,
     frame: &FrameView<'m, 'a, A>,
     i: usize,
     arcs: &mut Arcs<A>,
+    text: &mut Vec<u8, A>,
     out: &mut W,
 ) -> Result<(), WriteFault>
     requires working { W.has_failed out.old ≡ false }
+    requires empty { text.old.items ≡ [] }
     requires frame { IsMapFrame map.now.doc frame.now }
     requires there { i < length map.now.doc.layers }
     requires mirrors { Mirrors (get edge_eq arcs.old.starts) arcs.old.list.items }
@@ -72,6 +55,7 @@ fn send_layer<'m, 'a, I: SegIndex, A: Allocator + Copy, W: Sink>(
     ensures mirrors { OnOk result (Mirrors (get edge_eq arcs.new.starts) arcs.new.list.items) }
     ensures pieces { OnOk result (ArePieces map.now.doc arcs.new.list.items) }
     ensures arcs { OnOk result (arcs.new.list.items ≡ arcs_after map.now.doc (i + 1)) }
+    ensures empty { OnOk result (text.new.items ≡ []) }
     ensures ok { OnOk result (Appends (W.taken out.old) (W.taken out.new)
         (comma_if (nat_lt 0 i) ++ layer_text map.now.doc (layer_at map.now.doc i))) }
     ensures works { OnOk result (W.has_failed out.new ≡ false) }
@@ -80,9 +64,15 @@ fn send_layer<'m, 'a, I: SegIndex, A: Allocator + Copy, W: Sink>(
     ensures device { result ≡ Err Device → W.has_failed out.new ≡ true }
     ensures memory { result ≡ Err OutOfMemory → W.has_failed out.new ≡ false }
 {
-    let mut text = Vec::new(alloc);
-    push_layer(alloc, map, frame, i, arcs, &mut text)?;
-    put_all(out, text.as_slice())?;
+    let Some(name) = frame.layer_name(i) else {
+        return Ok(());
+    };
+    let Some(items) = frame.items(i) else {
+        return Ok(());
+    };
+    push_name(text, i > 0, name)?;
+    flush(text, out)?;
+    send_items(alloc, map, arcs, items, text, out)?;
     Ok(())
 }
 
@@ -92,13 +82,16 @@ pub(crate) fn send_layers<'m, 'a, I: SegIndex, A: Allocator + Copy, W: Sink>(
     map: &Map<'a, I, A>,
     frame: &FrameView<'m, 'a, A>,
     arcs: &mut Arcs<A>,
+    text: &mut Vec<u8, A>,
     out: &mut W,
 ) -> Result<(), WriteFault>
     requires working { W.has_failed out.old ≡ false }
+    requires empty { text.old.items ≡ [] }
     requires frame { IsMapFrame map.now.doc frame.now }
     requires mirrors { Mirrors (get edge_eq arcs.old.starts) [] }
     requires none { arcs.old.list.items ≡ [] }
     ensures arcs { OnOk result (arcs.new.list.items ≡ arcs_of map.now.doc) }
+    ensures empty { OnOk result (text.new.items ≡ []) }
     ensures ok { OnOk result (Appends (W.taken out.old) (W.taken out.new) (layers_text map.now.doc)) }
     ensures works { OnOk result (W.has_failed out.new ≡ false) }
     ensures err { OnErr result (AppendsPrefix (W.taken out.old) (W.taken out.new) (layers_text map.now.doc)) }
@@ -106,7 +99,7 @@ pub(crate) fn send_layers<'m, 'a, I: SegIndex, A: Allocator + Copy, W: Sink>(
     ensures memory { result ≡ Err OutOfMemory → W.has_failed out.new ≡ false }
 {
     for i in 0..frame.layer_count() {
-        send_layer(alloc, map, frame, i, arcs, out)?;
+        send_layer(alloc, map, frame, i, arcs, text, out)?;
     }
     Ok(())
 }

@@ -1,5 +1,5 @@
 //! What is sent to a device.
-ghost use Rattle.std.specs.Prelude.{◌≡◌, ◌++◌, map, false, true, Err, OnOk, OnErr};
+ghost use Rattle.std.specs.Prelude.{◌≡◌, ◌++◌, [], map, false, true, Err, OnOk, OnErr};
 ghost use Rattle.std.specs.Io.KnownBytes.{Appends};
 ghost use Rattle.device_io.specs.Devices.{AppendsPrefix};
 ghost use Rattle.map_text.specs.Text.{commas, comma_if, arc_text};
@@ -59,35 +59,55 @@ fn push_next<A: Allocator + Copy>(
     Ok(())
 }
 
+/// Sends what stands in the buffer, and empties it.
+pub(crate) fn flush<A: Allocator + Copy, W: Sink>(
+    text: &mut Vec<u8, A>,
+    out: &mut W,
+) -> Result<(), Failed>
+    requires { W.has_failed out.old ≡ false }
+    ensures empty { OnOk result (text.new.items ≡ []) }
+    ensures ok { OnOk result (Appends (W.taken out.old) (W.taken out.new) text.old.items) }
+    ensures works { OnOk result (W.has_failed out.new ≡ false) }
+    ensures err { OnErr result (AppendsPrefix (W.taken out.old) (W.taken out.new) text.old.items) }
+    ensures failed { OnErr result (W.has_failed out.new ≡ true) }
+{
+    put_all(out, text.as_slice())?;
+    text.clear();
+    Ok(())
+}
+
 /// Sends an arc, and a comma where something stands before.
 fn send_arc<A: Allocator + Copy, W: Sink>(
-    alloc: A,
+    text: &mut Vec<u8, A>,
     out: &mut W,
     delta: bool,
     arc: &[Pos],
     more: bool,
 ) -> Result<(), WriteFault>
-    requires { W.has_failed out.old ≡ false }
+    requires working { W.has_failed out.old ≡ false }
+    requires empty { text.old.items ≡ [] }
+    ensures empty { OnOk result (text.new.items ≡ []) }
     ensures ok { OnOk result (Appends (W.taken out.old) (W.taken out.new) (comma_if more ++ arc_text delta arc.now)) }
     ensures works { OnOk result (W.has_failed out.new ≡ false) }
     ensures err { OnErr result (AppendsPrefix (W.taken out.old) (W.taken out.new) (comma_if more ++ arc_text delta arc.now)) }
     ensures device { result ≡ Err Device → W.has_failed out.new ≡ true }
     ensures memory { result ≡ Err OutOfMemory → W.has_failed out.new ≡ false }
 {
-    let mut text = Vec::new(alloc);
-    push_next(&mut text, delta, arc, more)?;
-    put_all(out, text.as_slice())?;
+    push_next(text, delta, arc, more)?;
+    flush(text, out)?;
     Ok(())
 }
 
 /// Sends the arcs, with commas between them.
 pub(crate) fn send_arcs<A: Allocator + Copy, W: Sink>(
-    alloc: A,
+    text: &mut Vec<u8, A>,
     out: &mut W,
     delta: bool,
     arcs: &[Arc<A>],
 ) -> Result<(), WriteFault>
-    requires { W.has_failed out.old ≡ false }
+    requires working { W.has_failed out.old ≡ false }
+    requires empty { text.old.items ≡ [] }
+    ensures empty { OnOk result (text.new.items ≡ []) }
     ensures ok { OnOk result (Appends (W.taken out.old) (W.taken out.new) (commas (map (arc_text delta) arcs.now))) }
     ensures works { OnOk result (W.has_failed out.new ≡ false) }
     ensures err { OnErr result (AppendsPrefix (W.taken out.old) (W.taken out.new) (commas (map (arc_text delta) arcs.now))) }
@@ -95,7 +115,7 @@ pub(crate) fn send_arcs<A: Allocator + Copy, W: Sink>(
     ensures memory { result ≡ Err OutOfMemory → W.has_failed out.new ≡ false }
 {
     for i in 0..arcs.len() {
-        send_arc(alloc, out, delta, arcs[i].positions(), i > 0)?;
+        send_arc(text, out, delta, arcs[i].positions(), i > 0)?;
     }
     Ok(())
 }

@@ -11,7 +11,7 @@ ghost use Rattle.topo_writer.specs.declared.sending.WriteFault.TheVariants.{Devi
 use crate::arcs::Arcs;
 use crate::layers::send_layers;
 use crate::members::{push_kept, push_member_if};
-use crate::sending::{WriteFault, send_arcs};
+use crate::sending::{WriteFault, flush, send_arcs};
 use arc_store::{FrameView, Map};
 use device_io::{Sink, put_all};
 use segment_index::SegIndex;
@@ -46,39 +46,41 @@ fn push_end<A: Allocator + Copy>(
 
 /// Sends the begin of the text, up to the first layer.
 fn send_begin<A: Allocator + Copy, W: Sink>(
-    alloc: A,
+    text: &mut Vec<u8, A>,
     out: &mut W,
     transform: Option<&[u8]>,
 ) -> Result<(), WriteFault>
-    requires { W.has_failed out.old ≡ false }
+    requires working { W.has_failed out.old ≡ false }
+    requires empty { text.old.items ≡ [] }
+    ensures empty { OnOk result (text.new.items ≡ []) }
     ensures ok { OnOk result (Appends (W.taken out.old) (W.taken out.new) (begin_text (option_map (λ t. t.now) transform.entry))) }
     ensures works { OnOk result (W.has_failed out.new ≡ false) }
     ensures err { OnErr result (AppendsPrefix (W.taken out.old) (W.taken out.new) (begin_text (option_map (λ t. t.now) transform.entry))) }
     ensures device { result ≡ Err Device → W.has_failed out.new ≡ true }
     ensures memory { result ≡ Err OutOfMemory → W.has_failed out.new ≡ false }
 {
-    let mut text = Vec::new(alloc);
-    push_begin(&mut text, transform)?;
-    put_all(out, text.as_slice())?;
+    push_begin(text, transform)?;
+    flush(text, out)?;
     Ok(())
 }
 
 /// Sends the end of the text, from the last arc on.
 fn send_end<A: Allocator + Copy, W: Sink>(
-    alloc: A,
+    text: &mut Vec<u8, A>,
     out: &mut W,
     members: &[KeptMember<'_>],
 ) -> Result<(), WriteFault>
-    requires { W.has_failed out.old ≡ false }
+    requires working { W.has_failed out.old ≡ false }
+    requires empty { text.old.items ≡ [] }
+    ensures empty { OnOk result (text.new.items ≡ []) }
     ensures ok { OnOk result (Appends (W.taken out.old) (W.taken out.new) (end_text (map view_kept members.now))) }
     ensures works { OnOk result (W.has_failed out.new ≡ false) }
     ensures err { OnErr result (AppendsPrefix (W.taken out.old) (W.taken out.new) (end_text (map view_kept members.now))) }
     ensures device { result ≡ Err Device → W.has_failed out.new ≡ true }
     ensures memory { result ≡ Err OutOfMemory → W.has_failed out.new ≡ false }
 {
-    let mut text = Vec::new(alloc);
-    push_end(&mut text, members)?;
-    put_all(out, text.as_slice())?;
+    push_end(text, members)?;
+    flush(text, out)?;
     Ok(())
 }
 
@@ -97,13 +99,14 @@ fn send_map<'m, 'a, I: SegIndex, A: Allocator + Copy, W: Sink>(
     ensures device { result ≡ Err Device → W.has_failed out.new ≡ true }
     ensures memory { result ≡ Err OutOfMemory → W.has_failed out.new ≡ false }
 {
+    let mut text = Vec::new(alloc);
     let mut arcs = Arcs::new(alloc);
-    send_begin(alloc, out, frame.transform())?;
-    send_layers(alloc, map, frame, &mut arcs, out)?;
+    send_begin(&mut text, out, frame.transform())?;
+    send_layers(alloc, map, frame, &mut arcs, &mut text, out)?;
     put_all(out, b"},\"arcs\":[")?;
     let delta = frame.transform().is_some();
-    send_arcs(alloc, out, delta, arcs.list.as_slice())?;
-    send_end(alloc, out, frame.members())?;
+    send_arcs(&mut text, out, delta, arcs.list.as_slice())?;
+    send_end(&mut text, out, frame.members())?;
     Ok(())
 }
 

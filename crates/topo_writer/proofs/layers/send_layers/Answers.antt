@@ -21,6 +21,7 @@ loop-i-preserved g c =
     record {
       sent =
           sent_step (layer_text d) d.layers i (layer_at d i) within (layer_there d i within) _ _ _ c.loop-i.invariant.sent c.in_ok-send_layer.ensures.ok;
+      empty = c.in_ok-send_layer.ensures.empty;
       works = c.in_ok-send_layer.ensures.works;
       mirrors = c.in_ok-send_layer.ensures.mirrors;
       pieces = c.in_ok-send_layer.ensures.pieces;

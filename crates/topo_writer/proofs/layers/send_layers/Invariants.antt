@@ -1,4 +1,4 @@
-use Rattle.std.proofs.Common.{◌≡◌, map, take, false}
+use Rattle.std.proofs.Common.{◌≡◌, [], map, take, false}
 use Rattle.std.specs.Io.KnownBytes.{Appends}
 use Rattle.indexmap.specs.IndexMap.{get}
 use Rattle.ring_machine.specs.Ring.{edge_eq}
@@ -11,6 +11,7 @@ use Rattle.topo_writer.proofs.layers.send_layers.Given as goal
 abbrev pub invariant-loop-i : goal.invariant-loop-i
 invariant-loop-i g l = record {
   sent : Appends (g.W.Sink.taken l.fn.out) (g.W.Sink.taken l.out) (commas (map (layer_text l.map.doc) (take l.i l.map.doc.layers)));
+  empty : l.text.items ≡ [];
   works : g.W.Sink.has_failed l.out ≡ false;
   mirrors : Mirrors (get edge_eq l.arcs.starts) l.arcs.list.items;
   pieces : ArePieces l.map.doc l.arcs.list.items;

@@ -11,6 +11,7 @@ pub loop-i-preserved : goal.loop-i-preserved
 loop-i-preserved g c = record {
   sent = sent_step (arc_text c.args.delta) c.args.arcs.now c.loop-i.i c.index-arcs-i.result (omega arith) c.index-arcs-i.is _ _ _ c.loop-i.invariant.sent
       (subst (λ (ps : List Position). Appends (g.W.Sink.taken c.loop-i.out) (g.W.Sink.taken c.send_arc.new.out) (comma_if (nat_lt 0 c.loop-i.i) ++ arc_text c.args.delta ps)) c.positions.ensures c.in_ok-send_arc.ensures.ok);
+  empty = c.in_ok-send_arc.ensures.empty;
   works = c.in_ok-send_arc.ensures.works;
 }
 

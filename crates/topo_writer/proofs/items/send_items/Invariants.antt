@@ -1,4 +1,5 @@
 use Rattle.std.proofs.Common.{◌≡◌, ◌++◌, [], map, false}
+use Rattle.std.specs.Io.KnownBytes.{Appends}
 use Rattle.std.specs.List.{flat_map}
 use Rattle.indexmap.specs.IndexMap.{get}
 use Rattle.ring_machine.specs.Ring.{edge_eq}
@@ -10,7 +11,7 @@ use Rattle.topo_writer.specs.Found.{Mirrors}
 use Rattle.topo_writer.specs.Items.{item_at, item_rings, open_heads, written_at, LeadsOn}
 use Rattle.topo_writer.specs.Opened.{more_after, open_after}
 use Rattle.topo_writer.specs.Ways.{ArePieces}
-use Rattle.topo_writer.proofs.items.push_items.Given as goal
+use Rattle.topo_writer.proofs.items.send_items.Given as goal
 
 abbrev pub invariant-loop-item : goal.invariant-loop-item
 invariant-loop-item g l = record {
@@ -19,7 +20,9 @@ invariant-loop-item g l = record {
   of_document : ArePieces l.map.doc l.arcs.list.items;
   leads : LeadsOn l.map.doc l.arcs.list.items (map (item_at l.map.doc) l.item-iterator);
   arcs : l.arcs.list.items ≡ with_pieces l.fn.arcs.list.items (flat_map (pieces (is_junction l.map.doc)) (item_rings (map (item_at l.map.doc) (map view_item_view l.yielded))));
-  text : l.text.items ≡ l.fn.text.items ++ items_text [] false (map (written_at l.map.doc) (map view_item_view l.yielded));
   heads : open_heads l.heads.items ≡ open_after [] (map (written_at l.map.doc) (map view_item_view l.yielded));
+  empty : l.text.items ≡ [];
+  sent : Appends (g.W.Sink.taken l.fn.out) (g.W.Sink.taken l.out) (items_text [] false (map (written_at l.map.doc) (map view_item_view l.yielded)));
+  works : g.W.Sink.has_failed l.out ≡ false;
   more : l.more ≡ more_after false (map (written_at l.map.doc) (map view_item_view l.yielded));
 }

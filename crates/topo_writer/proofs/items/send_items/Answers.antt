@@ -1,6 +1,8 @@
 use Rattle.std.proofs.Common.{◌≡◌, sym, ap, ◌∙◌, subst, inl, refl, [], ◌∷◌, ◌++◌, map, append_assoc, true, false}
+use Rattle.std.specs.Io.KnownBytes.{Appends}
 use Rattle.std.specs.List.{flat_map}
 use Rattle.std.proofs.lemmas.List.{map-append}
+use Rattle.device_io.specs.Devices.{AppendsPrefix}
 use Rattle.ring_machine.specs.Vertices.{is_junction}
 use Rattle.ring_machine.proofs.First.{In, in_right}
 use Rattle.arc_store.specs.Items.{view_item_view}
@@ -9,20 +11,21 @@ use Rattle.map_text.specs.Text.{items_text}
 use Rattle.topo_writer.specs.Items.{item_at, item_rings, items_at, items_written, open_heads, LeadsOn}
 use Rattle.topo_writer.specs.Opened.{is_begin, more_after, open_after}
 use Rattle.topo_writer.proofs.ItemLemmas.{shown_there, written_begins}
-use Rattle.topo_writer.proofs.ItemSteps.{heads_step, more_step, text_step, arcs_step}
+use Rattle.topo_writer.proofs.ItemSteps.{heads_step, more_step, sent_step, sent_part, arcs_step}
+use Rattle.topo_writer.proofs.SectionLemmas.{on_err}
 use Rattle.topo_writer.proofs.Leading.{leads_first, leads_off}
-use Rattle.topo_writer.proofs.items.push_items.Goals as goal
+use Rattle.topo_writer.proofs.items.send_items.Goals as goal
 
-pub push_item-requires-clause-there : goal.push_item-requires-clause-there
-push_item-requires-clause-there g c =
+pub send_item-requires-clause-there : goal.send_item-requires-clause-there
+send_item-requires-clause-there g c =
     let done = map view_item_view c.loop-item.yielded in
     let s = view_item_view c.in-Some.item in
     let whole : c.args.items ≡ done ++ s ∷ c.next.new.self = c.loop-item.invariant.all ∙ ap (λ z. done ++ z) c.in-Some.ensures.steps in
     shown_there c.args.map.now.doc c.requires.formed c.args.items c.requires.shows s
     (subst (In s) (sym whole) (in_right s done (s ∷ c.next.new.self) (inl refl)))
 
-pub push_item-requires-clause-leads : goal.push_item-requires-clause-leads
-push_item-requires-clause-leads g c =
+pub send_item-requires-clause-leads : goal.send_item-requires-clause-leads
+send_item-requires-clause-leads g c =
     let d = c.args.map.now.doc in
     let arcs = c.loop-item.arcs.list.items in
     leads_first d arcs (item_at d (view_item_view c.in-Some.item) ∷ []) (items_at d c.next.new.self)
@@ -38,7 +41,7 @@ loop-item-preserved g c =
     let rest = c.next.new.self in
     let start = c.args.arcs.now.list.items in
     let arcs = l.arcs.list.items in
-    let next = c.push_item.new.arcs.list.items in
+    let next = c.send_item.new.arcs.list.items in
     let seen : map view_item_view (l.yielded ++ c.in-Some.item ∷ []) ≡ done ++ s ∷ [] = map-append view_item_view l.yielded (c.in-Some.item ∷ []) in
     let whole : c.args.items ≡ done ++ s ∷ rest = l.invariant.all ∙ ap (λ z. done ++ z) c.in-Some.ensures.steps in
     let begins : is_begin [] (items_written d (done ++ s ∷ rest)) ≡ true =
@@ -51,13 +54,31 @@ loop-item-preserved g c =
       arcs =
           arcs_step d done s start arcs next l.invariant.arcs c.in_ok-more.ensures.arcs
           ∙ ap (λ z. with_pieces start (flat_map (pieces j) (item_rings (items_at d z)))) (sym seen);
-      text =
-          text_step d done s rest begins c.args.text.now.items l.text.items c.push_item.new.text.items (open_heads l.heads.items) l.more l.invariant.heads l.invariant.more l.invariant.text c.in_ok-more.ensures.text
-          ∙ ap (λ z. c.args.text.now.items ++ items_text [] false (items_written d z)) (sym seen);
+      empty = c.in_ok-more.ensures.empty;
+      works = c.in_ok-more.ensures.works;
+      sent =
+          subst (λ z. Appends (g.W.Sink.taken c.args.out.now) (g.W.Sink.taken c.send_item.new.out) (items_text [] false (items_written d z))) (sym seen)
+          (sent_step d done s rest begins (open_heads l.heads.items) l.more l.invariant.heads l.invariant.more _ _ _ l.invariant.sent c.in_ok-more.ensures.ok);
       heads =
-          heads_step d done s (open_heads l.heads.items) (open_heads c.push_item.new.heads.items) l.invariant.heads c.in_ok-more.ensures.heads
+          heads_step d done s (open_heads l.heads.items) (open_heads c.send_item.new.heads.items) l.invariant.heads c.in_ok-more.ensures.heads
           ∙ ap (λ z. open_after [] (items_written d z)) (sym seen);
       more =
           more_step d done s l.more c.in_ok-more.more l.invariant.more c.in_ok-more.ensures.more
           ∙ ap (λ z. more_after false (items_written d z)) (sym seen);
     }
+
+pub returns-in_err-more-clause-err : goal.returns-in_err-more-clause-err
+returns-in_err-more-clause-err g c =
+    let d = c.args.map.now.doc in
+    let l = c.loop-item in
+    let done = map view_item_view l.yielded in
+    let s = view_item_view c.in-Some.item in
+    let rest = c.next.new.self in
+    let o = g.W.Sink.taken c.args.out.now in
+    let e = g.W.Sink.taken c.send_item.new.out in
+    let whole : c.args.items ≡ done ++ s ∷ rest = l.invariant.all ∙ ap (λ z. done ++ z) c.in-Some.ensures.steps in
+    let begins : is_begin [] (items_written d (done ++ s ∷ rest)) ≡ true =
+    ap (λ z. is_begin [] (items_written d z)) (sym whole) ∙ written_begins d c.requires.formed c.args.items c.requires.shows in
+    on_err c.from_residual.result _
+    (subst (λ z. AppendsPrefix o e (items_text [] false (items_written d z))) (sym whole)
+    (sent_part d done s rest begins (open_heads l.heads.items) l.more l.invariant.heads l.invariant.more _ _ _ l.invariant.sent c.in_err-more.ensures.err))
