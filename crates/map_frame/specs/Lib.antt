@@ -1,7 +1,9 @@
+pub mod Building
 pub mod Edits
 pub mod Framed
 pub mod Kept
 pub mod Named
+pub mod Naming
 pub mod Opened
 pub mod Readers
 pub mod Seen

@@ -7,10 +7,12 @@
 //! of one that was opened.
 #![tactic(auto)]
 
+mod building;
 mod feature;
 mod frame;
 mod layers;
 mod names;
+mod naming;
 mod tables;
 
 pub use frame::Frame;
