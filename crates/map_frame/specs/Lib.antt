@@ -1,4 +1,5 @@
 pub mod Building
+pub mod Copied
 pub mod Edits
 pub mod Framed
 pub mod Kept

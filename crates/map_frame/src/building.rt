@@ -1,16 +1,24 @@
 // A frame of what was read.
-ghost use Rattle.std.specs.Prelude.{◌≡◌, ◌+◌, ◌<◌, ◌≤◌, [], ◌∷◌, length, map, IfOk};
+ghost use Rattle.std.specs.Prelude.{◌≡◌, ◌+◌, ◌<◌, ◌≤◌, List, Option, [], ◌∷◌, length, map, option_map, IfOk};
+ghost use Rattle.std.specs.List.{flat_map};
 ghost use Rattle.std.specs.Vec.Iter.{into_iter_items};
 ghost use Rattle.map_opening.specs.Laying.{feature_numbers};
 ghost use Rattle.topo_outline.specs.Outline.{leaves_in, leaves};
-ghost use Rattle.topo_outline.specs.Views.{view_item, view_layer};
+ghost use Rattle.topo_outline.specs.Views.{view_item, view_kept, view_layer};
+ghost use Rattle.ring_machine.specs.Join.{empty_collection};
+ghost use Rattle.map_frame.specs.declared.feature.Feature.{Feature};
+ghost use Rattle.map_frame.specs.Opened.{opened, CanStand};
+ghost use Rattle.map_frame.specs.Seen.{items_at};
 ghost use Rattle.map_frame.specs.Building.{progress, IsRead, IsNext, IsSlot, AreSlots, first_of, lone, IsGeometry, AreLayers};
 
 use crate::feature::{Feature, Id};
+use crate::frame::Frame;
 use crate::layers::{Geometry, Layer, Slot};
+use crate::naming::name_all;
+use crate::tables::Tables;
 use std::alloc::{AllocError, Allocator};
 use std::vec::IntoIter;
-use topo_outline::{Item, RawFeature, RawLayer};
+use topo_outline::{Head, Item, KeptMember, RawFeature, RawLayer};
 
 /// The feature that was read, with its polygons, in this slot of this layer.
 fn build_feature<'a, A: Allocator + Copy>(
@@ -173,4 +181,56 @@ fn build_layers<'a, A: Allocator + Copy>(
         })?;
     }
     Ok(layers)
+}
+
+/// The items of a collection with no geometries (TopoJSON 1.0, 2.2.7).
+fn empty_items<'a, A: Allocator + Copy>(alloc: A) -> Result<Vec<Slot<'a, A>, A>, AllocError>
+    ensures { IfOk result (λ slots. (features : List (Option (Feature A)))
+        → flat_map (items_at features) slots.items ≡ empty_collection) }
+{
+    let mut items = Vec::new(alloc);
+    items.push(Slot::Open(Head {
+        id: None,
+        properties: None,
+        members: Vec::new(alloc),
+    }))?;
+    items.push(Slot::Close)?;
+    Ok(items)
+}
+
+impl<'a, A: Allocator + Copy> Frame<'a, A> {
+    /// The frame of what was read, where each feature has its polygons, each by the numbers of its
+    /// rings: features are numbered from 0 in the order of the text. Fails for want of memory alone.
+    pub fn build(
+        alloc: A,
+        transform: Option<&'a [u8]>,
+        layers: Vec<RawLayer<'a, A>, A>,
+        members: Vec<KeptMember<'a>, A>,
+        polygons: Vec<Vec<Vec<usize, A>, A>, A>,
+    ) -> Result<Frame<'a, A>, AllocError>
+        requires stands { CanStand (option_map (λ t. t.now) transform) layers.items
+            (map view_kept members.items) polygons.items }
+        ensures doc { IfOk result (λ frame. frame.doc ≡ opened (option_map (λ t. t.now) transform.entry)
+            layers.entry.items (map view_kept members.entry.items) polygons.items) }
+        ensures next { IfOk result (λ frame. frame.next ≡ length polygons.items) }
+    {
+        let names = name_all(alloc, polygons.as_slice())?;
+        let mut features = Vec::new(alloc);
+        let mut waiting = polygons.into_iter();
+        let layers = build_layers(alloc, layers, &mut features, &mut waiting)?;
+        let empty = empty_items(alloc)?;
+        let count = features.len();
+        Ok(Frame {
+            tables: Tables {
+                alloc,
+                transform,
+                layers,
+                members,
+                features,
+                count,
+                names,
+                empty,
+            },
+        })
+    }
 }

@@ -8,6 +8,7 @@
 #![tactic(auto)]
 
 mod building;
+mod copying;
 mod feature;
 mod frame;
 mod layers;
