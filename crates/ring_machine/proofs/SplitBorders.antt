@@ -23,7 +23,8 @@ use Rattle.ring_machine.proofs.Members.{in_flat, any_in, in_any, same_answer}
 use Rattle.ring_machine.proofs.Neighbours.{in-flat_map}
 use Rattle.ring_machine.proofs.Order.{or_true, or_right}
 use Rattle.ring_machine.proofs.SplitFeatures.{new_feature, SplitFeature}
-use Rattle.ring_machine.proofs.SplitDocuments.{split-accepted, SplitDocument, split_document}
+use Rattle.ring_machine.proofs.SplitDocuments.{SplitDocument, split-accepted, accepted_split}
+use Rattle.ring_machine.proofs.SplitDocuments.{new_one}
 use Rattle.ring_machine.proofs.SplitProper.{target_there, rings_after, cuts_target}
 use Rattle.ring_machine.proofs.SplitRings.{cut_of}
 use Rattle.ring_machine.proofs.SplitSegments.{path_segments, canonical_parts_segments}
@@ -84,19 +85,19 @@ module _ (d : Document) (next n : ℕ) (id : Text) (path : Path) (s : SplitDocum
   abbrev ring : List Position
   ring = s.split.outer
 
-  abbrev new_one : Feature
-  new_one = new_feature path next id s.old (ring ∷ s.split.holes)
+  abbrev added : Feature
+  added = new_one d next n id path s
 
   of_result : (f : Feature) (r : List Position)
-      → In f (s.before ++ stays path s.old ∷ new_one ∷ s.after) → In r (rings_of f)
+      → In f (s.before ++ stays path s.old ∷ added ∷ s.after) → In r (rings_of f)
       → In r (rings (cut d n id path next))
   of_result f r i j = in-flat_map rings_of f r (features (cut d n id path next)) (subst (In f) (sym s.result) i) j
 
   of_old : (r : List Position) → In r (rings_of (stays path s.old)) → In r (rings (cut d n id path next))
-  of_old r j = of_result (stays path s.old) r (in_right _ s.before (stays path s.old ∷ new_one ∷ s.after) (inl refl)) j
+  of_old r j = of_result (stays path s.old) r (in_right _ s.before (stays path s.old ∷ added ∷ s.after) (inl refl)) j
 
-  of_new : (r : List Position) → In r (rings_of new_one) → In r (rings (cut d n id path next))
-  of_new r j = of_result new_one r (in_right _ s.before (stays path s.old ∷ new_one ∷ s.after) (inr (inl refl))) j
+  of_new : (r : List Position) → In r (rings_of added) → In r (rings (cut d n id path next))
+  of_new r j = of_result added r (in_right _ s.before (stays path s.old ∷ added ∷ s.after) (inr (inl refl))) j
 
   pub first_there : In (canonical (first_part ring path)) (rings (cut d n id path next))
   first_there = of_old _ (first_stays path next id s.old s.split)
@@ -110,13 +111,13 @@ module _ (d : Document) (next n : ℕ) (id : Text) (path : Path) (s : SplitDocum
   rings_before r h =
       let k = in_flat rings_of r (features d) h in
       elim (in-append k.0 s.before (s.old ∷ s.after) (subst (In k.0) s.is k.1)) [
-        | inl i ↦ inl (of_result k.0 r (in_left k.0 s.before (stays path s.old ∷ new_one ∷ s.after) i) k.2)
+        | inl i ↦ inl (of_result k.0 r (in_left k.0 s.before (stays path s.old ∷ added ∷ s.after) i) k.2)
         | inr i ↦ elim i [
           | inl e ↦ elim (rings_kept path next id s.old s.split r (subst (λ f. In r (rings_of f)) (sym e) k.2)) [
             | inl j ↦ elim j [ inl l ↦ inl (of_old r l) | inr l ↦ inl (of_new r l) ]
             | inr same ↦ inr same
           ]
-          | inr j ↦ inl (of_result k.0 r (in_right k.0 s.before (stays path s.old ∷ new_one ∷ s.after) (inr (inr j))) k.2)
+          | inr j ↦ inl (of_result k.0 r (in_right k.0 s.before (stays path s.old ∷ added ∷ s.after) (inr (inr j))) k.2)
         ]
       ]
 
@@ -174,7 +175,7 @@ any_flat test g (x ∷ xs) = list_any-append test (g x) (flat_map g xs) ∙ ap (
 
 module _ (d : Document) (next n : ℕ) (id : Text) (path : Path) (formed : WellFormed d) (proper : Proper d) (h : first_of (split_refusals d next n id path) ≡ None) where
   the_split : SplitDocument d next n id path
-  the_split = let a = split-accepted d next n id path h in split_document d next n id path formed a.there a.cuts
+  the_split = accepted_split d next n id path formed h
 
   the_cut : CutRing the_split.split.outer path.first path.last
   the_cut = cut_of the_split.split.outer path (cuts_target d next n id path the_split proper (split-accepted d next n id path h))
@@ -230,7 +231,7 @@ pub split_size : (d : Document) (next n : ℕ) (id : Text) (path : Path) → Wel
     → size (cut d n id path next) ≡ size d + 2 + 2 * length path.inner
 split_size d next n id path formed proper h =
     let s = the_split d next n id path formed proper h in
-    let new = new_feature path next id s.old (s.split.outer ∷ s.split.holes) in
+    let new = new_one d next n id path s in
     omega (
       arith,
       ap (λ z. sum_by length (flat_map rings_of z)) s.is ∙ sum_flat length rings_of s.before s.old s.after,

@@ -182,3 +182,15 @@ split_document d next n id path formed there cuts = by (first_passing (λ f. f.n
               ∙ features-one n (λ f. stays path f ∷ parted path next id f) t.before t.it t.after t.others number rest
               ∙ ap (λ z. t.before ++ (stays path t.it ∷ (z ++ t.after))) split.parted_is;
         }
+
+-- an accepted split cuts a feature
+pub accepted_split : (d : Document) (next n : ℕ) (id : Text) (path : Path) → WellFormed d
+    → first_of (split_refusals d next n id path) ≡ None → SplitDocument d next n id path
+accepted_split d next n id path formed h =
+    let a = split-accepted d next n id path h in
+    split_document d next n id path formed a.there a.cuts
+
+-- the new feature
+abbrev pub new_one : (d : Document) (next n : ℕ) (id : Text) (path : Path)
+    → SplitDocument d next n id path → Feature
+new_one d next n id path s = new_feature path next id s.old (s.split.outer ∷ s.split.holes)

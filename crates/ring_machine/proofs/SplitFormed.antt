@@ -18,8 +18,9 @@ use Rattle.ring_machine.specs.Refusals.{first_of, is_layer, split_refusals}
 use Rattle.ring_machine.proofs.Order.{and_both}
 use Rattle.ring_machine.proofs.Removal.{none_parts, not_true}
 use Rattle.ring_machine.proofs.Steps.{cut-is}
-use Rattle.ring_machine.proofs.SplitDocuments.{split-accepted, SplitDocument, split_document}
-use Rattle.ring_machine.proofs.SplitFeatures.{new_feature, SplitFeature}
+use Rattle.ring_machine.proofs.SplitDocuments.{SplitDocument, split-accepted, accepted_split}
+use Rattle.ring_machine.proofs.SplitDocuments.{new_one}
+use Rattle.ring_machine.proofs.SplitFeatures.{SplitFeature}
 use Rattle.ring_machine.proofs.SplitLaws.{are_below, none_has}
 
 -- ---- geometries
@@ -148,10 +149,10 @@ below_next next (f ∷ fs) h =
 
 module _ (d : Document) (next n : ℕ) (id : Text) (path : Path) (formed : WellFormed d) (below : are_below next (features d) ≡ true) (h : first_of (split_refusals d next n id path) ≡ None) where
   the_split : SplitDocument d next n id path
-  the_split = let a = split-accepted d next n id path h in split_document d next n id path formed a.there a.cuts
+  the_split = accepted_split d next n id path formed h
 
-  abbrev new_one : Feature
-  new_one = new_feature path next id the_split.old (the_split.split.outer ∷ the_split.split.holes)
+  abbrev new : Feature
+  new = new_one d next n id path the_split
 
   all_below : are_below next (the_split.before ++ the_split.old ∷ the_split.after) ≡ true
   all_below = ap (are_below next) (sym the_split.is) ∙ below
@@ -165,10 +166,10 @@ module _ (d : Document) (next n : ℕ) (id : Text) (path : Path) (formed : WellF
       record {
         geometries = ap (λ z. list_all (λ l. is_geometry l.items) z.layers) (cut-is d n id path next)
             ∙ layers_stay n (λ f. stays path f ∷ parted path next id f) d.transform d.members d.layers formed.geometries (split-accepted d next n id path h).collected;
-        forms = ap (list_all fits_form) s.result ∙ list_all-append fits_form s.before (stays path s.old ∷ new_one ∷ s.after)
+        forms = ap (list_all fits_form) s.result ∙ list_all-append fits_form s.before (stays path s.old ∷ new ∷ s.after)
             ∙ ap₂ (λ a b. a && b) fits.0 (ap₂ (λ a b. a && b) (stays_fits path next id s.old s.split ∙ here.0) here.1);
         numbers = ap (λ z. are_distinct (numbers_of z)) s.result
-            ∙ numbers_with s.before s.old (stays path s.old) new_one s.after refl (ap (λ z. are_distinct (numbers_of z)) (sym s.is) ∙ formed.numbers) (none_has next (s.before ++ s.old ∷ s.after) all_below);
+            ∙ numbers_with s.before s.old (stays path s.old) new s.after refl (ap (λ z. are_distinct (numbers_of z)) (sym s.is) ∙ formed.numbers) (none_has next (s.before ++ s.old ∷ s.after) all_below);
       }
 
   -- and the numbers are below the next but one
@@ -178,7 +179,7 @@ module _ (d : Document) (next n : ℕ) (id : Text) (path : Path) (formed : WellF
       let more = below_next next (s.before ++ s.old ∷ s.after) all_below in
       let parts = and_both (are_below (next + 1) s.before) (are_below (next + 1) (s.old ∷ s.after)) (sym (list_all-append (λ f. nat_lt f.number (next + 1)) s.before (s.old ∷ s.after)) ∙ more) in
       let here = and_both (nat_lt s.old.number (next + 1)) (are_below (next + 1) s.after) parts.1 in
-      ap (are_below (next + 1)) s.result ∙ list_all-append (λ f. nat_lt f.number (next + 1)) s.before (stays path s.old ∷ new_one ∷ s.after)
+      ap (are_below (next + 1)) s.result ∙ list_all-append (λ f. nat_lt f.number (next + 1)) s.before (stays path s.old ∷ new ∷ s.after)
       ∙ ap₂ (λ a b. a && b) parts.0 (ap₂ (λ a b. a && b) here.0 (ap₂ (λ a b. a && b) (first_below next) here.1))
     where
       first_below : (m : ℕ) → nat_lt m (m + 1) ≡ true

@@ -15,9 +15,9 @@ use Rattle.ring_machine.specs.Query.{area_of}
 use Rattle.ring_machine.specs.Refusals.{first_of, feature_at, or_else, no_feature, split_refusals}
 use Rattle.ring_machine.proofs.FirstThat.{find_it}
 use Rattle.ring_machine.proofs.Order.{and_both}
-use Rattle.ring_machine.proofs.SplitFeatures.{new_feature, features_area}
-use Rattle.ring_machine.proofs.SplitDocuments.{split-accepted, SplitDocument}
-use Rattle.ring_machine.proofs.SplitDocuments.{split_document}
+use Rattle.ring_machine.proofs.SplitFeatures.{features_area}
+use Rattle.ring_machine.proofs.SplitDocuments.{SplitDocument, accepted_split, new_one}
+use Rattle.ring_machine.proofs.SplitDocuments.{split-accepted}
 use Rattle.ring_machine.proofs.SplitRings.{ends_differ}
 
 -- every feature's number is below next
@@ -42,25 +42,25 @@ rings_pass [] f after h = (and_both _ _ (sym (list_all-append is_ring (rings_of 
 rings_pass (e ∷ before) f after h = rings_pass before f after (and_both _ _ (sym (list_all-append is_ring (rings_of e) (flat_map rings_of (before ++ f ∷ after))) ∙ h)).1
 
 module _ (d : Document) (next n : ℕ) (id : Text) (path : Path) (s : SplitDocument d next n id path) where
-  abbrev pub new_one : Feature
-  new_one = new_feature path next id s.old (s.split.outer ∷ s.split.holes)
+  abbrev new : Feature
+  new = new_one d next n id path s
 
   -- what stays is found under the old number
   pub found_old : feature_at (cut d n id path next) n ≡ stays path s.old
   found_old =
       ap (λ z. or_else no_feature (find (λ f. f.number == n) z)) s.result
-      ∙ ap (or_else no_feature) (find_it (λ f. f.number == n) s.before (stays path s.old) (new_one ∷ s.after) s.others ((Decides-eqb s.old.number n).1 s.number))
+      ∙ ap (or_else no_feature) (find_it (λ f. f.number == n) s.before (stays path s.old) (new ∷ s.after) s.others ((Decides-eqb s.old.number n).1 s.number))
 
   -- and the new feature under the new one
-  pub found_new : are_below next (features d) ≡ true → feature_at (cut d n id path next) next ≡ new_one
+  pub found_new : are_below next (features d) ≡ true → feature_at (cut d n id path next) next ≡ new
   found_new below =
       let parts = and_both (are_below next s.before) (are_below next (s.old ∷ s.after)) (sym (list_all-append (λ f. nat_lt f.number next) s.before (s.old ∷ s.after)) ∙ ap (are_below next) (sym s.is) ∙ below) in
       let here = and_both (nat_lt s.old.number next) (are_below next s.after) parts.1 in
       let lacking : list_any (λ f. f.number == next) (s.before ++ stays path s.old ∷ []) ≡ false =
       list_any-append (λ f. f.number == next) s.before (stays path s.old ∷ [])
       ∙ ap₂ (λ a b. a || b) (none_has next s.before parts.0) (ap (λ b. b || false) (below_differs s.old.number next here.0)) in
-      ap (λ z. or_else no_feature (find (λ f. f.number == next) z)) (s.result ∙ sym (append_assoc s.before (stays path s.old ∷ []) (new_one ∷ s.after)))
-      ∙ ap (or_else no_feature) (find_it (λ f. f.number == next) (s.before ++ stays path s.old ∷ []) new_one s.after lacking ((Decides-eqb next next).1 refl))
+      ap (λ z. or_else no_feature (find (λ f. f.number == next) z)) (s.result ∙ sym (append_assoc s.before (stays path s.old ∷ []) (new ∷ s.after)))
+      ∙ ap (or_else no_feature) (find_it (λ f. f.number == next) (s.before ++ stays path s.old ∷ []) new s.after lacking ((Decides-eqb next next).1 refl))
 
 -- the areas of the two features add up to that of the feature that is cut
 pub split_areas : (d : Document) (next n : ℕ) (id : Text) (path : Path) → WellFormed d → Proper d
@@ -69,7 +69,7 @@ pub split_areas : (d : Document) (next n : ℕ) (id : Text) (path : Path) → We
     ≡ area_of (feature_at d n)
 split_areas d next n id path formed proper below h =
     let a = split-accepted d next n id path h in
-    let s = split_document d next n id path formed a.there a.cuts in
+    let s = accepted_split d next n id path formed h in
     ap₂ (λ f g. area_of f +ℤ area_of g) (found_old d next n id path s) (found_new d next n id path s below)
     ∙ features_area path next id s.old s.split
     (rings_pass s.before s.old s.after (ap (λ z. list_all is_ring (flat_map rings_of z)) (sym s.is) ∙ proper.are_rings))

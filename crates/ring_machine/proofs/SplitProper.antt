@@ -21,7 +21,7 @@ use Rattle.ring_machine.proofs.Neighbours.{in-flat_map, none_in, all_in}
 use Rattle.ring_machine.proofs.Removal.{none_parts}
 use Rattle.ring_machine.proofs.SplitFeatures.{new_feature, SplitFeature}
 use Rattle.ring_machine.proofs.SplitDocuments.{SplitAccepted, split-accepted, SplitDocument}
-use Rattle.ring_machine.proofs.SplitDocuments.{split_document}
+use Rattle.ring_machine.proofs.SplitDocuments.{accepted_split, new_one}
 use Rattle.ring_machine.proofs.SplitRings.{CutsRing, is_edge_of, first_part_is_ring}
 use Rattle.ring_machine.proofs.SplitRings.{second_part_is_ring}
 
@@ -101,7 +101,7 @@ module _ (d : Document) (next n : ℕ) (id : Text) (path : Path) (s : SplitDocum
   pub rings_after : (r : List Position) → In r (rings (cut d n id path next)) →
       In r (rings d) ⊎ ((canonical (first_part target path) ≡ r) ⊎ (canonical (second_part target path) ≡ r))
   rings_after r h =
-      let new = new_feature path next id s.old (target ∷ s.split.holes) in
+      let new = new_one d next n id path s in
       let k = in_flat rings_of r (features (cut d n id path next)) h in
       elim (in-append k.0 s.before (stays path s.old ∷ new ∷ s.after) (subst (In k.0) s.result k.1)) [
         | inl i ↦ inl (of_feature k.0 r (in_left k.0 s.before (s.old ∷ s.after) i) k.2)
@@ -142,7 +142,7 @@ pub split_is_proper : (d : Document) (next n : ℕ) (id : Text) (path : Path) �
     → first_of (split_refusals d next n id path) ≡ None → Proper (cut d n id path next)
 split_is_proper d next n id path formed proper h =
     let a = split-accepted d next n id path h in
-    let s = split_document d next n id path formed a.there a.cuts in
+    let s = accepted_split d next n id path formed h in
     let c = cuts_target d next n id path s proper a in
     record {
       are_rings = pass_all is_ring (rings (cut d n id path next)) (λ r i. elim (rings_after d next n id path s r i) [
