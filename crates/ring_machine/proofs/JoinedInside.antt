@@ -1,6 +1,6 @@
 -- A position is inside a joined ring exactly where it is inside one of the two rings and not the other.
 use Rattle.std.proofs.Common.{◌≡◌, ◌≤◌, ℕ, Bool, true, false, refl, sym, ap, ap₂, ◌∙◌, cond, List, []}
-use Rattle.std.proofs.Common.{◌∷◌, ◌++◌, reverse, ◌||◌, Option, None}
+use Rattle.std.proofs.Common.{◌∷◌, ◌++◌, reverse, ◌||◌, None}
 use Rattle.std.specs.Prelude.{◌==◌}
 use Rattle.std.specs.List.{list_any, fold}
 use Rattle.grid_geometry.specs.Position.{Position}
@@ -19,7 +19,7 @@ use Rattle.ring_machine.proofs.Neighbours.{all_in}
 use Rattle.ring_machine.proofs.Cycles.{flipped-append, edges_reversed}
 use Rattle.ring_machine.proofs.JoinedRuns.{Shared, shared, other_of}
 use Rattle.ring_machine.proofs.JoinedRests.{joined_edges}
-use Rattle.ring_machine.proofs.MergeAccepted.{Pair, MergeAccepted, merge-accepted}
+use Rattle.ring_machine.proofs.MergeAccepted.{Pair, merge-accepted}
 use Rattle.ring_machine.proofs.MergedFeatures.{merged, feature_at-join}
 use Rattle.ring_machine.proofs.MergeAreas.{outer_in}
 
