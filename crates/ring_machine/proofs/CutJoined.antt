@@ -16,7 +16,7 @@ use Rattle.ring_machine.specs.Join.{take_out, joined_polygons, joined_feature, j
 use Rattle.ring_machine.specs.Refusals.{is_layer}
 use Rattle.ring_machine.specs.WellFormed.{fits_form, WellFormed}
 use Rattle.ring_machine.proofs.Neighbours.{all_in}
-use Rattle.ring_machine.proofs.Found.{Stands, has_feature-found, feature_in, feature_stands}
+use Rattle.ring_machine.proofs.Found.{Stands, find_first, find_second, has_feature-found, feature_in, feature_stands}
 use Rattle.ring_machine.proofs.TakenOut.{without, features-take_out}
 use Rattle.ring_machine.proofs.Swapped.{swapped}
 use Rattle.ring_machine.proofs.Instead.{features-instead, feature-instead_other, feature-instead_at}
@@ -79,77 +79,70 @@ module _ (d : Document) (n : ℕ) (id : Text) (path : Path) (number : ℕ) where
   pub features-cut : features (cut d n id path number) ≡ swapped n parts (features d)
   features-cut = ap features cut_is ∙ features-instead n parts d
 
-  module _ (there : has_feature d n ≡ true) (new : has_feature d number ≡ false) where
-    number_new : (m : ℕ) → (m ≡ n) → (number == m) ≡ false
-    number_new m e = by (number == m) refl
+  new_in : (m : ℕ) (f : Feature) (ps : List (List (List Position))) → (number == m) ≡ false
+      → list_any (λ (k : Feature). k.number == m) (map (new_part path number id f) ps) ≡ false
+  new_in m f [] h = refl
+  new_in m f (p ∷ ps) h = ap₂ (λ a b. a || b) h (new_in m f ps h)
+
+  -- every other number is found as before
+  pub feature-cut_other : (m : ℕ) → (n == m) ≡ false → (number == m) ≡ false
+      → feature (cut d n id path number) m ≡ feature d m
+  feature-cut_other m o k =
+      ap (λ e. feature e m) cut_is
+      ∙ feature-instead_other d n parts m o (λ f i e.
+        ap₂ (λ a b. a || b) (ap (λ j. j == m) e ∙ o) (new_in m f (first_that (is_cut_by path) f.polygons) k))
+
+  pub has_feature-cut_other : (m : ℕ) → (n == m) ≡ false → (number == m) ≡ false
+      → has_feature (cut d n id path number) m ≡ has_feature d m
+  has_feature-cut_other m o k =
+      has_feature-found (cut d n id path number) m ∙ ap is_some (feature-cut_other m o k)
+      ∙ sym (has_feature-found d m)
+
+  module _ (formed : WellFormed d) (f : Feature) (at : feature d n ≡ Some f) where
+    place : Stands n f (features d)
+    place = feature_stands d formed n f at
+
+    -- what stays has its number
+    pub feature-cut_at : feature (cut d n id path number) n ≡ Some (stays path f)
+    feature-cut_at =
+        ap (λ e. feature e n) cut_is
+        ∙ feature-instead_at d n parts f place n (inl refl)
+        ∙ find_first n (stays path f) (map (new_part path number id f) (first_that (is_cut_by path) f.polygons)) place.number
+
+    -- the new part has the new number
+    pub feature-cut_new : has_feature d number ≡ false → (p : List (List Position))
+        → first_that (is_cut_by path) f.polygons ≡ p ∷ []
+        → feature (cut d n id path number) number ≡ Some (new_part path number id f p)
+    feature-cut_new new p e =
+        ap (λ e. feature e number) cut_is
+        ∙ feature-instead_at d n parts f place number (inr new)
+        ∙ ap (λ ps. find (λ (k : Feature). k.number == number) (stays path f ∷ map (new_part path number id f) ps)) e
+        ∙ find_second number (stays path f) (new_part path number id f p) [] (by (f.number == number) refl) refl
       where
-        by : (b : Bool) → (number == m) ≡ b → (number == m) ≡ false
-        by true k = absurd (false≢true (sym new ∙ ap (has_feature d) (eqb-true number m k ∙ e) ∙ there))
+        by : (b : Bool) → (f.number == number) ≡ b → (f.number == number) ≡ false
+        by true k =
+            let same : number ≡ n = sym (eqb-true f.number number k) ∙ place.number in
+            absurd (false≢true (sym new ∙ ap (has_feature d) same ∙ has_feature-found d n ∙ ap is_some at))
         by false k = k
 
-    new_in : (m : ℕ) (f : Feature) (ps : List (List (List Position))) → (number == m) ≡ false
-        → list_any (λ (k : Feature). k.number == m) (map (new_part path number id f) ps) ≡ false
-    new_in m f [] h = refl
-    new_in m f (p ∷ ps) h = ap₂ (λ a b. a || b) h (new_in m f ps h)
-
-    -- every other number is found as before
-    pub feature-cut_other : (m : ℕ) → (n == m) ≡ false → (number == m) ≡ false
-        → feature (cut d n id path number) m ≡ feature d m
-    feature-cut_other m o k =
-        ap (λ e. feature e m) cut_is
-        ∙ feature-instead_other d n parts m o (λ f i e.
-          ap₂ (λ a b. a || b) (ap (λ j. j == m) e ∙ o) (new_in m f (first_that (is_cut_by path) f.polygons) k))
-
-    pub has_feature-cut_other : (m : ℕ) → (n == m) ≡ false → (number == m) ≡ false
-        → has_feature (cut d n id path number) m ≡ has_feature d m
-    has_feature-cut_other m o k =
-        has_feature-found (cut d n id path number) m ∙ ap is_some (feature-cut_other m o k)
-        ∙ sym (has_feature-found d m)
-
-    module _ (formed : WellFormed d) (f : Feature) (at : feature d n ≡ Some f) where
-      place : Stands n f (features d)
-      place = feature_stands d formed n f at
-
-      -- what stays has its number
-      pub feature-cut_at : feature (cut d n id path number) n ≡ Some (stays path f)
-      feature-cut_at =
-          ap (λ e. feature e n) cut_is
-          ∙ feature-instead_at d n parts f place n (inl refl)
-          ∙ ap (λ b. cond b (Some (stays path f)) (find (λ (k : Feature). k.number == n) (map (new_part path number id f) (first_that (is_cut_by path) f.polygons)))) (eq-eqb f.number n place.number)
-
-      -- the new part has the new number
-      pub feature-cut_new : (p : List (List Position)) → first_that (is_cut_by path) f.polygons ≡ p ∷ []
-          → feature (cut d n id path number) number ≡ Some (new_part path number id f p)
-      feature-cut_new p e =
-          ap (λ e. feature e number) cut_is
-          ∙ feature-instead_at d n parts f place number (inr new)
-          ∙ ap (λ ps. find (λ (k : Feature). k.number == number) (stays path f ∷ map (new_part path number id f) ps)) e
-          ∙ ap₂ (λ b c. cond b (Some (stays path f)) (cond c (Some (new_part path number id f p)) None)) (other f.number place.number) (eq-eqb number number refl)
-        where
-          other : (m : ℕ) → m ≡ n → (m == number) ≡ false
-          other m e = by (m == number) refl
-            where
-              by : (b : Bool) → (m == number) ≡ b → (m == number) ≡ false
-              by true k = absurd (false≢true (sym new ∙ ap (has_feature d) (sym (eqb-true m number k) ∙ e) ∙ there))
-              by false k = k
-
   -- a feature of a collection that is cut leaves the document well formed
-  pub formed-cut : WellFormed d → has_feature d n ≡ true → is_layer d n ≡ false
-      → has_feature d number ≡ false → WellFormed (cut d n id path number)
-  formed-cut formed there collected new =
+  pub formed-cut : WellFormed d → is_layer d n ≡ false → has_feature d number ≡ false
+      → WellFormed (cut d n id path number)
+  formed-cut formed collected new =
       subst WellFormed (sym cut_is) (formed-instead n parts d formed (λ f e.
           let k = feature_in d n f e in
           let fits : fits_form (stays path f) ≡ true =
               fits-count f (change_first (is_cut_by path) (first_polygon path) f.polygons) (length-change_first (is_cut_by path) (first_polygon path) f.polygons)
               ∙ all_in fits_form (features d) f formed.forms k.0 in
-          of f k.1 fits (first_that (is_cut_by path) f.polygons) (first_that_short (is_cut_by path) f.polygons)))
+          of f k.1 fits (has_feature-found d n ∙ ap is_some e)
+          (first_that (is_cut_by path) f.polygons) (first_that_short (is_cut_by path) f.polygons)))
     where
-      of : (f : Feature) → f.number ≡ n → fits_form (stays path f) ≡ true
+      of : (f : Feature) → f.number ≡ n → fits_form (stays path f) ≡ true → has_feature d n ≡ true
           → (ps : List (List (List Position))) → length ps ≤ 1
           → Replaces d n (stays path f ∷ map (new_part path number id f) ps)
-      of f e k [] l = replaces_one d n (stays path f) e k
-      of f e k (p ∷ []) l = replaces_two d n (stays path f) (new_part path number id f p) there collected e new k refl
-      of f e k (p ∷ q ∷ ps) l = absurd (omega arith)
+      of f e k there [] l = replaces_one d n (stays path f) e k
+      of f e k there (p ∷ []) l = replaces_two d n (stays path f) (new_part path number id f p) there collected e new k refl
+      of f e k there (p ∷ q ∷ ps) l = absurd (omega arith)
 
 -- ---- joined
 
@@ -204,7 +197,7 @@ module _ (d : Document) (n : ℕ) (g : Feature) where
       ap (λ e. feature e n) join_is
       ∙ feature-take_out_other (instead n (joined_feature g) d) g.number n o
       ∙ feature-instead_at d n (joined_feature g) f place n (inl refl)
-      ∙ ap (λ b. cond b (Some (record f { polygons = joined_polygons f.polygons g.polygons })) None) (eq-eqb f.number n place.number)
+      ∙ find_first n (record f { polygons = joined_polygons f.polygons g.polygons }) [] place.number
 
   -- the document stays well formed
   pub formed-join : WellFormed d → WellFormed (join d n g)
@@ -212,7 +205,7 @@ module _ (d : Document) (n : ℕ) (g : Feature) where
       subst WellFormed (sym join_is)
       (formed-take_out (instead n (joined_feature g) d) g.number
       (formed-instead n (joined_feature g) d formed (λ f e.
-          let k = feature_in d n f e in
-          replaces_one d n (record f { polygons = joined_polygons f.polygons g.polygons }) k.1
-          (fits-count f (joined_polygons f.polygons g.polygons) (length-joined_polygons f.polygons g.polygons)
-          ∙ all_in fits_form (features d) f formed.forms k.0))))
+      let k = feature_in d n f e in
+      replaces_one d n (record f { polygons = joined_polygons f.polygons g.polygons }) k.1
+      (fits-count f (joined_polygons f.polygons g.polygons) (length-joined_polygons f.polygons g.polygons)
+      ∙ all_in fits_form (features d) f formed.forms k.0))))

@@ -5,20 +5,18 @@ use Rattle.std.specs.Prelude.{◌==◌}
 use Rattle.std.proofs.lemmas.Bool.{eqb-true, eqb-false}
 use Rattle.std.specs.List.{list_any, find, flat_map, filter_map}
 use Rattle.std.specs.Option.{option_or}
-use Rattle.std.proofs.lemmas.List.{length-append, map-append}
+use Rattle.std.proofs.lemmas.List.{length-append}
 use Rattle.std.proofs.lemmas.List.Concat.{flat_map-append}
 use Rattle.std.proofs.lemmas.List.Elements.{filter_map-append}
 use Rattle.std.proofs.lemmas.List.Folds.{find-append, list_any-append}
-use Rattle.ring_machine.specs.Document.{FeatureOf, ItemOf, LayerOf, DocumentOf, Open, Close, Leaf, Kept}
+use Rattle.ring_machine.specs.Document.{FeatureOf, ItemOf, DocumentOf, Open, Close, Leaf, Kept}
 use Rattle.ring_machine.specs.Parts.{feature_of, features, feature, has_feature, rings_of, rings}
-use Rattle.ring_machine.specs.Parts.{in_feature, in_item, in_layer, in_rings}
 use Rattle.ring_machine.specs.Cut.{becomes, instead}
-use Rattle.ring_machine.specs.WellFormed.{WellFormed}
 use Rattle.ring_machine.proofs.Removal.{none_parts}
-use Rattle.ring_machine.proofs.First.{In, in_left, in_right}
+use Rattle.ring_machine.proofs.First.{In}
 use Rattle.ring_machine.proofs.Members.{in_flat}
-use Rattle.ring_machine.proofs.InItems.{of_layers, features-in_items, in_items-left}
-use Rattle.ring_machine.proofs.Found.{Stands, any_found, none_found, has_feature-found, feature_found}
+use Rattle.ring_machine.proofs.InItems.{features-in_items, in_items-left}
+use Rattle.ring_machine.proofs.Found.{Stands, any_found, none_found, has_feature-found}
 use Rattle.ring_machine.proofs.Swapped.{for_one, swapped, swapped_alone, find_other}
 
 features_leaves : {R : Type 0} (fs : List (FeatureOf R)) → filter_map feature_of (map Leaf fs) ≡ fs
@@ -79,8 +77,10 @@ module _ {R : Type 0} (n : ℕ) (g : FeatureOf R → List (FeatureOf R)) (d : Do
           → (In k (features d) × (k.number ≡ n → ⊥)) ⊎ ((f : FeatureOf R) × In f (features d) × (f.number ≡ n) × In k (g f))
       by f true e there j = inr (f, there, eqb-true f.number n e, j)
       by f false e there (inl s) =
-          inl (subst (λ z. In z (features d)) s there,
-               λ m. eqb-false f.number n e (ap (λ (z : FeatureOf R). z.number) s ∙ m))
+          inl (
+            subst (λ z. In z (features d)) s there,
+            λ m. eqb-false f.number n e (ap (λ (z : FeatureOf R). z.number) s ∙ m),
+          )
       by f false e there (inr j) = absurd j
 
 -- ---- what is found
@@ -112,13 +112,14 @@ module _ {R : Type 0} (d : DocumentOf R) (n : ℕ) (g : FeatureOf R → List (Fe
 
     others_lack : (m : ℕ) → (m ≡ n) ⊎ (has_feature d m ≡ false)
         → (list_any (λ k. k.number == m) place.us ≡ false) × (list_any (λ k. k.number == m) place.vs ≡ false)
-    others_lack m (inl e) =
-        (subst (λ z. list_any (λ k. k.number == z) place.us ≡ false) (sym e) place.none_before,
-         subst (λ z. list_any (λ k. k.number == z) place.vs ≡ false) (sym e) place.none_after)
+    others_lack m (inl e) = (
+      subst (λ z. list_any (λ k. k.number == z) place.us ≡ false) (sym e) place.none_before,
+      subst (λ z. list_any (λ k. k.number == z) place.vs ≡ false) (sym e) place.none_after,
+    )
     others_lack m (inr h) =
         let test : FeatureOf R → Bool = λ k. k.number == m in
         let all = none_parts (list_any test place.us) (list_any test (f ∷ place.vs))
-            (sym (list_any-append test place.us (f ∷ place.vs)) ∙ ap (list_any test) (sym place.is) ∙ h) in
+        (sym (list_any-append test place.us (f ∷ place.vs)) ∙ ap (list_any test) (sym place.is) ∙ h) in
         (all.0, (none_parts (test f) (list_any test place.vs) all.1).1)
 
     -- its own number, and one that no feature had, are those of the new features

@@ -1,17 +1,16 @@
 -- A feature replaced or taken out while the rings of the document are read anew: only the rings of
 -- the other features have to be what they were.
 use Rattle.std.proofs.Common.{◌≡◌, ℕ, Bool, true, false, refl, sym, ap, ap₂, ◌∙◌, subst, cond, List}
-use Rattle.std.proofs.Common.{[], ◌∷◌, ◌++◌, map, ◌||◌, inl, inr, Option, Some}
+use Rattle.std.proofs.Common.{[], ◌∷◌, ◌++◌, map, ◌||◌, inl, inr, Some}
 use Rattle.std.specs.Prelude.{◌==◌, not}
 use Rattle.std.specs.List.{filter, filter_map, flat_map, list_any, list_all}
-use Rattle.std.proofs.lemmas.Bool.{eqb-true, eqb-false, eq-eqb, false≢true}
+use Rattle.std.proofs.lemmas.Bool.{eqb-true, eqb-false, false≢true}
 use Rattle.std.proofs.lemmas.List.{map-append}
-use Rattle.std.proofs.lemmas.List.Concat.{flat_map-append}
 use Rattle.std.proofs.lemmas.List.Elements.{filter-append}
 use Rattle.ring_machine.specs.Document.{FeatureOf, ItemOf, LayerOf, DocumentOf, Document, Feature}
 use Rattle.ring_machine.specs.Document.{Open, Close, Leaf, Kept}
 use Rattle.ring_machine.specs.Parts.{feature_of, features, feature, rings_of, in_feature, in_item}
-use Rattle.ring_machine.specs.Parts.{in_layer, in_items, in_rings}
+use Rattle.ring_machine.specs.Parts.{in_layer, in_rings}
 use Rattle.ring_machine.specs.Cut.{becomes, instead}
 use Rattle.ring_machine.specs.Join.{is_leaf, empty_collection, take_out, joined_feature, join}
 use Rattle.ring_machine.specs.WellFormed.{is_geometry, WellFormed}

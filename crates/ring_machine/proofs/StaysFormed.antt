@@ -185,18 +185,18 @@ module _ {R : Type 0} (n : ℕ) (g : FeatureOf R → List (FeatureOf R)) where
     geometries_kept : list_all (λ l. is_geometry l.items) (instead n g d).layers ≡ true
     geometries_kept = geometries_become d.layers formed.geometries (λ l f i e k.
         let in_layer_l : In f (filter_map feature_of l.items) =
-            subst (λ is. In f (filter_map feature_of is)) (sym e) (inl refl) in
+        subst (λ is. In f (filter_map feature_of is)) (sym e) (inl refl) in
         let there : In f (features d) =
-            in-flat_map (λ (m : LayerOf R). filter_map feature_of m.items) l f d.layers i in_layer_l in
+        in-flat_map (λ (m : LayerOf R). filter_map feature_of m.items) l f d.layers i in_layer_l in
         (fits f (feature_found d formed f n there k)).alone (layer_is n d l f i e k))
 
     module _ (f : FeatureOf R) (at : feature d n ≡ Some f) (place : Stands n f (features d)) where
       forms_kept : list_all fits_form (features (instead n g d)) ≡ true
       forms_kept =
           let before : list_all fits_form (place.us ++ f ∷ place.vs) ≡ true =
-              ap (list_all fits_form) (sym place.is) ∙ formed.forms in
+          ap (list_all fits_form) (sym place.is) ∙ formed.forms in
           let parts = and_both (list_all fits_form place.us) (list_all fits_form (f ∷ place.vs))
-              (sym (list_all-append fits_form place.us (f ∷ place.vs)) ∙ before) in
+          (sym (list_all-append fits_form place.us (f ∷ place.vs)) ∙ before) in
           let behind = and_both (fits_form f) (list_all fits_form place.vs) parts.1 in
           ap (list_all fits_form) (features-instead_at d n g f place)
           ∙ list_all-append fits_form place.us (g f ++ place.vs)
@@ -293,5 +293,5 @@ pub formed-renamed : {R : Type 0} (d : DocumentOf R) (n : ℕ) (id : Text) → W
 formed-renamed {R} d n id h =
     subst WellFormed (sym (renamed_is n id d))
     (formed-instead n (λ f. record f { id = Some id } ∷ []) d h (λ f e.
-        let there = feature_in d n f e in
-        replaces_one d n (record f { id = Some id }) there.1 (all_in fits_form (features d) f h.forms there.0)))
+    let there = feature_in d n f e in
+    replaces_one d n (record f { id = Some id }) there.1 (all_in fits_form (features d) f h.forms there.0)))

@@ -1,5 +1,5 @@
 -- What a document is without one of its features.
-use Rattle.std.proofs.Common.{◌≡◌, ℕ, zero, suc, Bool, true, false, refl, sym, ap, ap₂, ◌∙◌, cond, List}
+use Rattle.std.proofs.Common.{◌≡◌, ℕ, zero, suc, Bool, true, false, refl, ap, ap₂, ◌∙◌, cond, List}
 use Rattle.std.proofs.Common.{[], ◌∷◌, map, Option}
 use Rattle.std.specs.Prelude.{◌==◌, not}
 use Rattle.std.specs.List.{filter, filter_map, list_any}
@@ -7,12 +7,12 @@ use Rattle.std.proofs.lemmas.List.Elements.{filter-append}
 use Rattle.std.proofs.lemmas.Bool.{false≢true}
 use Rattle.ring_machine.specs.Document.{FeatureOf, ItemOf, LayerOf, DocumentOf, Open, Close, Leaf, Kept}
 use Rattle.ring_machine.specs.Document.{Text, Member}
-use Rattle.ring_machine.specs.Parts.{feature_of, features, in_feature, in_item, in_layer, in_items}
-use Rattle.ring_machine.specs.Parts.{in_rings, has_feature}
+use Rattle.ring_machine.specs.Parts.{feature_of, features, in_layer, in_items}
+use Rattle.ring_machine.specs.Parts.{has_feature}
 use Rattle.ring_machine.specs.Join.{is_leaf, empty_collection, take_out}
 use Rattle.ring_machine.specs.WellFormed.{is_inner, is_geometry}
 use Rattle.ring_machine.proofs.Removal.{none_parts}
-use Rattle.ring_machine.proofs.InItems.{features-in_items, in_items-square, in_items-left}
+use Rattle.ring_machine.proofs.InItems.{features-in_items, in_items-left}
 
 -- a layer's items without feature n
 abbrev pub taken : {R : Type 0} → ℕ → List (ItemOf R) → List (ItemOf R)

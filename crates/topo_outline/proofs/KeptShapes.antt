@@ -1,5 +1,5 @@
 -- A document in which others stand in the place of a feature, or none, keeps its texts.
-use Rattle.std.specs.Prelude.{◌≡◌, ℕ, Bool, true, false, not, ◌==◌, List, [], ◌∷◌, ◌++◌, map, Option, Some, None}
+use Rattle.std.specs.Prelude.{◌≡◌, ℕ, Bool, true, false, not, ◌==◌, List, [], ◌∷◌, ◌++◌, map, Some}
 use Rattle.std.proofs.Common.{suc, length, refl, sym, ap, ◌∙◌, subst, cond, inl, inr, arith, eqb-true}
 use Rattle.grid_geometry.specs.Position.{Position}
 use Rattle.std.specs.List.{AllByRecursion, AllZip, filter, flat_map, filter_map}
@@ -7,7 +7,7 @@ use Rattle.ring_machine.specs.Document.{FeatureOf, ItemOf, LayerOf, DocumentOf, 
 use Rattle.ring_machine.specs.Document.{Feature, Document, Form, Text}
 use Rattle.ring_machine.specs.Document as form
 use Rattle.ring_machine.specs.Parts.{feature_of, features, feature, in_layer, in_items}
-use Rattle.ring_machine.specs.Cut.{Path, is_cut_by, first_that, becomes, instead, stays, cut}
+use Rattle.ring_machine.specs.Cut.{Path, is_cut_by, first_that, becomes, instead, cut}
 use Rattle.ring_machine.specs.Join.{is_leaf, empty_collection, take_out, joined_feature, join}
 use Rattle.ring_machine.specs.Machine.{renamed}
 use Rattle.ring_machine.specs.WellFormed.{fits_form, WellFormed}
@@ -19,7 +19,7 @@ use Rattle.ring_machine.proofs.TakenOut.{taken, take_out_is}
 use Rattle.ring_machine.proofs.Renamed.{renamed_is}
 use Rattle.ring_machine.proofs.CutJoined.{new_part, parts, cut_is, join_is}
 use Rattle.topo_outline.specs.declared.members.Owner.TheVariants as owner
-use Rattle.topo_outline.specs.Kept.{IsJson, IsName, IsKeptHead, AreKeptMembers, owner_of, head_of, KeepsItem}
+use Rattle.topo_outline.specs.Kept.{IsJson, IsName, AreKeptMembers, owner_of, KeepsItem}
 use Rattle.topo_outline.specs.Kept.{KeepsTexts}
 
 -- the items of each layer are ones that opening would keep
@@ -128,9 +128,10 @@ module _ {R : Type 0} (n : ℕ) (g : FeatureOf R → List (FeatureOf R)) where
   layers_become : (ls : List (LayerOf R)) → StandsKept (of_layers ls) → KeepsLayers ls
       → KeepsLayers (map (in_layer (flat_map (becomes n g))) ls)
   layers_become [] a h = tt
-  layers_become (l ∷ ls) a h =
-      (items_become l.items (λ f i. a f (in_left f (filter_map feature_of l.items) (of_layers ls) i)) h.0,
-       layers_become ls (λ f i. a f (in_right f (filter_map feature_of l.items) (of_layers ls) i)) h.1)
+  layers_become (l ∷ ls) a h = (
+    items_become l.items (λ f i. a f (in_left f (filter_map feature_of l.items) (of_layers ls) i)) h.0,
+    layers_become ls (λ f i. a f (in_right f (filter_map feature_of l.items) (of_layers ls) i)) h.1,
+  )
 
   pub keeps-instead : (d : DocumentOf R) → KeepsTexts d → StandsKept (features d)
       → KeepsTexts (instead n g d)
@@ -169,14 +170,15 @@ pub keeps-cut : (d : Document) (n : ℕ) (id : Text) (path : Path) (number : ℕ
 keeps-cut d n id path number formed j h =
     subst KeepsTexts (sym (cut_is d n id path number))
     (keeps-instead n (parts d n id path number) d h (λ f i e k.
-        (k, of f k (all_in fits_form (features d) f formed.forms i) f.polygons refl)))
+    (k, of f k (all_in fits_form (features d) f formed.forms i) f.polygons refl)))
   where
     new_keeps : (f : Feature) → KeepsItem (Leaf f) → owner_of f.form ≡ owner.Rings
         → (ps : List (List (List Position))) → KeepsFeatures (map (new_part path number id f) ps)
     new_keeps f k o [] = tt
-    new_keeps f k o (p ∷ ps) =
-        (record { id = j; properties = k.properties; members = subst (λ w. AreKeptMembers w f.members) o k.members },
-         new_keeps f k o ps)
+    new_keeps f k o (p ∷ ps) = (
+      record { id = j; properties = k.properties; members = subst (λ w. AreKeptMembers w f.members) o k.members },
+      new_keeps f k o ps,
+    )
 
     of : (f : Feature) → KeepsItem (Leaf f) → fits_form f ≡ true → (ps : List (List (List Position)))
         → f.polygons ≡ ps → KeepsFeatures (map (new_part path number id f) (first_that (is_cut_by path) ps))
