@@ -30,7 +30,7 @@ not_same m n h = by (m == n) refl
     by false e = e
 
 -- a number that was not there comes last
-distinct_more : (ns : List ℕ) (r : ℕ) → ((n : ℕ) → In n ns → n ≢ r) → are_distinct ns ≡ true
+pub distinct_more : (ns : List ℕ) (r : ℕ) → ((n : ℕ) → In n ns → n ≢ r) → are_distinct ns ≡ true
     → are_distinct (ns ++ r ∷ []) ≡ true
 distinct_more [] r h d = refl
 distinct_more (n ∷ ns) r h d =
@@ -45,13 +45,13 @@ distinct_more (n ∷ ns) r h d =
 
 -- ---- a ring more
 
-ring_other : (rings : Rings) (r : ℕ) (es : List Edge) (q : ℕ) → q ≢ r
+pub ring_other : (rings : Rings) (r : ℕ) (es : List Edge) (q : ℕ) → q ≢ r
     → table.get (table.insert rings r es) q ≡ table.get rings q
 ring_other rings r es q f =
     let e : eq_by_cmp nat_cmp q r ≡ false = grind (arith, nat_tests) in
     table.get-insert nat_cmp_total rings r es q ∙ ap (λ b. cond b (Some es) (table.get rings q)) e
 
-ring_here : (rings : Rings) (r : ℕ) (es : List Edge)
+pub ring_here : (rings : Rings) (r : ℕ) (es : List Edge)
     → table.get (table.insert rings r es) r ≡ Some es
 ring_here rings r es =
     let e : eq_by_cmp nat_cmp r r ≡ true = grind (arith, nat_tests) in
@@ -65,7 +65,7 @@ other_number rings numbers keyed r vacant laid n i e =
     let ring = in_mapped (λ keys. Some (edges keys)) (table.get rings n) keyed there in
     false≢true (ap is_some (sym (ap (table.get rings) e ∙ vacant) ∙ sym ring.2))
 
-same_map : {A B : Type 0} (f g : A → B) (xs : List A) → ((x : A) → In x xs → f x ≡ g x)
+pub same_map : {A B : Type 0} (f g : A → B) (xs : List A) → ((x : A) → In x xs → f x ≡ g x)
     → map f xs ≡ map g xs
 same_map f g [] h = refl
 same_map f g (x ∷ xs) h = ap₂ (λ y z. y ∷ z) (h x (inl refl)) (same_map f g xs (λ y i. h y (inr i)))

@@ -120,7 +120,7 @@ begins_links : (j : ℕ) (ks : List ℕ) (l : ℕ) → begins (links (j ∷ ks +
 begins_links j [] l = refl
 begins_links j (k ∷ ks) l = ap (λ z. j ∷ z) (begins_links k ks l)
 
-begins_edges : (ks : List ℕ) → begins (edges ks) ≡ ks
+pub begins_edges : (ks : List ℕ) → begins (edges ks) ≡ ks
 begins_edges [] = refl
 begins_edges (k ∷ ks) = begins_links k ks k
 

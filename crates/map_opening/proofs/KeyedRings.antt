@@ -23,7 +23,7 @@ use Rattle.ring_machine.proofs.Members.{contains_in, in_contains}
 use Rattle.map_opening.proofs.NestedLists.{all_rings-mapped}
 
 -- different positions have different keys
-keys_distinct : (at : ℕ → Position) (ks : List ℕ) → is_distinct (map at ks) ≡ true
+pub keys_distinct : (at : ℕ → Position) (ks : List ℕ) → is_distinct (map at ks) ≡ true
     → are_distinct ks ≡ true
 keys_distinct at [] d = refl
 keys_distinct at (k ∷ ks) d =

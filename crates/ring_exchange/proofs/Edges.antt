@@ -21,7 +21,7 @@ use Rattle.vertex_index.specs.Placement.{Placement, AreDistinct, place}
 use Rattle.arc_tables.specs.Ways.{Edge, links}
 use Rattle.arc_tables.specs.Rings.{edges, begins}
 use Rattle.map_opening.specs.Laying.{GoesRound, IsRound}
-use Rattle.map_opening.proofs.KeyRings.{begins_round, edges_round, edge_apart, edge_ends, laid}
+use Rattle.map_opening.proofs.KeyRings.{begins_edges, begins_round, edges_round, edge_apart, edge_ends, laid}
 use Rattle.map_opening.proofs.LaidSegments.{goes_round}
 use Rattle.map_opening.proofs.Places.{IsKept, distinct_places}
 use Rattle.ring_exchange.specs.Steps.{sides}
@@ -76,14 +76,6 @@ length-edges [] l = absurd (omega (arith, l))
 length-edges (k ∷ ks) l = omega (arith, length-links k (ks ++ k ∷ []), length-append ks (k ∷ []))
 
 -- ---- the keys at which edges begin
-
-begins_links : (j : ℕ) (ks : List ℕ) (l : ℕ) → begins (links (j ∷ ks ++ l ∷ [])) ≡ j ∷ ks
-begins_links j [] l = refl
-begins_links j (k ∷ ks) l = ap (λ z. j ∷ z) (begins_links k ks l)
-
-pub begins_edges : (ks : List ℕ) → begins (edges ks) ≡ ks
-begins_edges [] = refl
-begins_edges (k ∷ ks) = begins_links k ks k
 
 -- a ring's edges are those of its keys
 pub edges_again : (es : List Edge) → GoesRound es → edges (begins es) ≡ es

@@ -20,13 +20,15 @@ use Rattle.arc_tables.specs.Ways.{Edge}
 use Rattle.arc_tables.specs.Rings.{Rings, begins, edges}
 use Rattle.map_opening.specs.Keyed.{ArePut}
 use Rattle.map_opening.specs.Laying.{IsRound, GoesRound}
+use Rattle.map_opening.proofs.AddedRings.{ring_here}
+use Rattle.map_opening.proofs.KeyRings.{begins_edges}
 use Rattle.map_opening.proofs.LaidSegments.{goes_round}
 use Rattle.map_opening.proofs.Places.{IsKept, kept_place}
 use Rattle.ring_exchange.specs.Standing.{IsVisited, IsSide, Stands}
 use Rattle.ring_exchange.specs.Steps.{AllRound, AreKeyed, HoldsWith, LeavesVisited, sides}
-use Rattle.ring_exchange.proofs.Edges.{begins_edges, length-edges, round_keys}
+use Rattle.ring_exchange.proofs.Edges.{length-edges, round_keys}
 use Rattle.ring_exchange.proofs.Visited.{visited_at, side_moved, left_there, left_visited, visited_or, side_or}
-use Rattle.ring_exchange.proofs.Visited.{ring_new, ring_kept, ring_either}
+use Rattle.ring_exchange.proofs.Visited.{ring_kept, ring_either}
 
 -- ---- sides
 
@@ -212,7 +214,7 @@ module _ (p : Placement) (m : Rings) (h : SegmentSet) (s : Stands p m h) (ks : L
             let v = s.passed k old in
             record { ring = v.ring; edges = v.edges; held = ring_kept m n (edges ks) free v.ring v.edges v.held; visited = v.visited }
         passed k (inr c) =
-            visited_at (table.insert m n (edges ks)) n (edges ks) (ring_new m n (edges ks)) k (subst (In k) (sym (begins_edges ks)) (contains_in ks k c))
+            visited_at (table.insert m n (edges ks)) n (edges ks) (ring_here m n (edges ks)) k (subst (In k) (sym (begins_edges ks)) (contains_in ks k c))
 
 -- the segments that were put in for a ring are its own once it is there
 pub holds_added : (p : Placement) (m : Rings) (n : ℕ) (ks : List ℕ) → table.get m n ≡ None → (m' : Rings)
@@ -221,7 +223,7 @@ holds_added p m n ks free m' added h held = subst (λ z. HoldsWith p z h []) (sy
   λ i. inl (elim ((held t).0 i) [
     | inl a ↦ record { ring = a.ring; edges = a.edges; held = ring_kept m n (edges ks) free a.ring a.edges a.held; edge = a.edge; among = a.among; is = a.is }
     | inr c ↦ let e = side_in p (edges ks) t c in
-        record { ring = n; edges = edges ks; held = ring_new m n (edges ks); edge = e.0; among = e.1; is = e.2 }
+        record { ring = n; edges = edges ks; held = ring_here m n (edges ks); edge = e.0; among = e.1; is = e.2 }
   ]),
   λ o. elim o [
     | inl a ↦ (held t).1 (elim (ring_either m n (edges ks) a.ring a.edges a.held) [

@@ -18,6 +18,7 @@ use Rattle.vertex_index.specs.Placement.{Placement, AreDistinct, place}
 use Rattle.vertex_index.proofs.PlacementLemmas.{get-inserted}
 use Rattle.map_opening.specs.Keyed.{ArePut}
 use Rattle.map_opening.specs.Laying.{IsRound}
+use Rattle.map_opening.proofs.KeyedRings.{keys_distinct}
 use Rattle.map_opening.proofs.KeyedLists.{AreRead, singles}
 use Rattle.map_opening.proofs.Places.{insert_other}
 
@@ -41,24 +42,6 @@ distinct_more m n p d new m' e = subst AreDistinct (sym e) (λ j k q a b. by j k
     by j k q a b (no f) (no g) = d j k q (sym (insert_other m n p j f) ∙ a) (sym (insert_other m n p k g) ∙ b)
 
 -- ---- different positions
-
-keys_distinct : (at : ℕ → Position) (ks : List ℕ) → is_distinct (map at ks) ≡ true → are_distinct ks ≡ true
-keys_distinct at [] d = refl
-keys_distinct at (k ∷ ks) d =
-    let d' = and_both (not (has (map at ks) (at k))) (is_distinct (map at ks)) d in
-    ap₂ (λ a b. not a && b) (absent ks (not_true _ d'.0)) (keys_distinct at ks d'.1)
-  where
-    absent : (js : List ℕ) → has (map at js) (at k) ≡ false → list_any (λ m. m == k) js ≡ false
-    absent [] n = refl
-    absent (j ∷ js) n =
-        let n' = none_parts (position_eq (at k) (at j)) (has (map at js) (at k)) n in
-        ap₂ (λ a b. a || b) (apart (j == k) refl n'.0) (absent js n'.1)
-      where
-        apart : (t : Bool) → (j == k) ≡ t → position_eq (at k) (at j) ≡ false → (j == k) ≡ false
-        apart false e m = e
-        apart true e m =
-            let same : j ≡ k = (Decides-eqb j k).0 e in
-            absurd (false≢true (sym m ∙ ap (λ i. position_eq (at k) (at i)) same ∙ position_eq-refl (at k)))
 
 absent_take : (p : Position) (i : ℕ) (ps : List Position) → has ps p ≡ false → has (take i ps) p ≡ false
 absent_take p zero ps h = refl

@@ -9,3 +9,4 @@ pub mod Exchanged
 pub mod Numbered
 pub mod Keys
 pub mod Series
+pub mod NothingLaid

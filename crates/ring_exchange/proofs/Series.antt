@@ -16,21 +16,17 @@ use Rattle.vertex_index.specs.Placement.{Placement, place}
 use Rattle.segment_index.specs.Candidates.{SegmentSet}
 use Rattle.arc_tables.specs.Ways.{Edge}
 use Rattle.arc_tables.specs.Rings.{Rings, edges, begins}
-use Rattle.map_opening.proofs.KeyRings.{has_key}
+use Rattle.map_opening.proofs.AddedRings.{distinct_more, same_map, ring_here, ring_other}
+use Rattle.map_opening.proofs.KeyRings.{begins_edges}
 use Rattle.map_opening.proofs.Places.{place_is, kept_place, IsKept}
 use Rattle.ring_exchange.specs.Laid.{numbers_of, AreThere, AreAdded, AreGone, AreAppended, KeepsPlaces, ring_at}
 use Rattle.ring_exchange.specs.Standing.{Stands}
 use Rattle.ring_exchange.specs.declared.laid.LaidRing.{LaidRing}
-use Rattle.ring_exchange.proofs.Edges.{begins_edges}
 use Rattle.ring_exchange.proofs.Exchanged.{same_places, same_segments}
 use Rattle.ring_exchange.proofs.Numbered.{contained_or, came_and_went}
-use Rattle.ring_exchange.proofs.Visited.{visited_at, none_some, ring_new, ring_old, ring_kept}
+use Rattle.ring_exchange.proofs.Visited.{visited_at, none_some, ring_kept}
 
 -- ---- lists
-
-map_by : {X Y : Type 0} (f g : X → Y) (xs : List X) → ((x : X) → In x xs → f x ≡ g x) → map f xs ≡ map g xs
-map_by f g [] h = refl
-map_by f g (x ∷ xs) h = ap₂ (λ y z. y ∷ z) (h x (inl refl)) (map_by f g xs (λ y i. h y (inr i)))
 
 head_same : {Y : Type 0} (y z : Y) (ys zs : List Y) → y ∷ ys ≡ z ∷ zs → y ≡ z
 head_same y z ys zs e = ap (λ w. get_or w 0 y) e
@@ -42,24 +38,6 @@ agree_in : {X Y : Type 0} (f g : X → Y) (xs : List X) → map f xs ≡ map g x
 agree_in f g [] e x i = absurd i
 agree_in f g (y ∷ ys) e x (inl s) = ap f (sym s) ∙ head_same (f y) (g y) (map f ys) (map g ys) e ∙ ap g s
 agree_in f g (y ∷ ys) e x (inr i) = agree_in f g ys (tail_same (f y) (g y) (map f ys) (map g ys) e) x i
-
--- a number that was not there comes last
-distinct_more : (ns : List ℕ) (r : ℕ) → ((n : ℕ) → In n ns → n ≢ r) → are_distinct ns ≡ true
-    → are_distinct (ns ++ r ∷ []) ≡ true
-distinct_more [] r h d = refl
-distinct_more (n ∷ ns) r h d =
-    let d' = and_both (not (has_key n ns)) (are_distinct ns) d in
-    ap₂ (λ a b. not a && b) (absent ns (not_true _ d'.0)) (distinct_more ns r (λ m i. h m (inr i)) d'.1)
-  where
-    other : (b : Bool) → (r == n) ≡ b → (r == n) ≡ false
-    other false e = e
-    other true e = absurd (h n (inl refl) (sym ((Decides-eqb r n).0 e)))
-
-    absent : (ms : List ℕ) → has_key n ms ≡ false → has_key n (ms ++ r ∷ []) ≡ false
-    absent [] e = ap (λ t. t || false) (other (r == n) refl)
-    absent (m ∷ ms) e =
-        let e' = none_parts (m == n) (has_key n ms) e in
-        ap₂ (λ a b. a || b) e'.0 (absent ms e'.1)
 
 module _ {A : Type 0} where
   abbrev under : Rings → LaidRing A → Option (List Edge)
@@ -95,7 +73,7 @@ module _ {A : Type 0} where
         (ap (table.get m) (sym s ∙ sym y.2) ∙ agree_in (under m) along laid t.along y.0 y.1)
 
     new_there : table.get m' x.number ≡ Some (edges x.keys.items)
-    new_there = ap (λ z. table.get z x.number) put ∙ ring_new m x.number (edges x.keys.items)
+    new_there = ap (λ z. table.get z x.number) put ∙ ring_here m x.number (edges x.keys.items)
 
     different_more : are_distinct (numbers_of laid') ≡ true
     different_more = ap are_distinct numbers_more ∙ distinct_more (numbers_of laid) x.number other t.different
@@ -104,7 +82,7 @@ module _ {A : Type 0} where
     there_more = record {
       along =
           ap (map (under m')) pushed ∙ map_push (under m') laid x
-          ∙ ap₂ (λ y z. y ++ z ∷ []) (map_by (under m') along laid (λ y i. ap (λ z. table.get z y.number) put ∙ ring_kept m x.number (edges x.keys.items) free y.number (edges y.keys.items) (agree_in (under m) along laid t.along y i))) new_there
+          ∙ ap₂ (λ y z. y ++ z ∷ []) (same_map (under m') along laid (λ y i. ap (λ z. table.get z y.number) put ∙ ring_kept m x.number (edges x.keys.items) free y.number (edges y.keys.items) (agree_in (under m) along laid t.along y i))) new_there
           ∙ sym (ap (map along) pushed ∙ map_push along laid x);
       different = different_more;
     }
@@ -119,7 +97,7 @@ module _ {A : Type 0} where
       kept = λ r es e. ap (λ z. table.get z r) put ∙ ring_kept m x.number (edges x.keys.items) free r es (a.kept r es e);
       others = λ r f.
           ap (λ z. table.get z r) put
-          ∙ ring_old m x.number (edges x.keys.items) r (λ s. f (subst (Contains (numbers_of laid ++ x.number ∷ [])) (sym s) (Contains-push (numbers_of laid) x.number)))
+          ∙ ring_other m x.number (edges x.keys.items) r (λ s. f (subst (Contains (numbers_of laid ++ x.number ∷ [])) (sym s) (Contains-push (numbers_of laid) x.number)))
           ∙ a.others r (λ c. f (Contains-append_left (numbers_of laid) (x.number ∷ []) r c));
     })
       where
@@ -138,10 +116,10 @@ module _ {A : Type 0} where
       → positions p' x ≡ q → map (positions p') laid' ≡ ps'
   at_more p p' m h s kept laid laid' x pushed t ps ps' q more at here =
       ap (map (positions p')) pushed ∙ map_push (positions p') laid x
-      ∙ ap₂ (λ y z. y ++ z ∷ []) (map_by (positions p') (positions p) laid same ∙ at) here ∙ sym more
+      ∙ ap₂ (λ y z. y ++ z ∷ []) (same_map (positions p') (positions p) laid same ∙ at) here ∙ sym more
     where
       same : (y : LaidRing A) → In y laid → positions p' y ≡ positions p y
-      same y i = map_by (place p') (place p) y.keys.items (λ k j.
+      same y i = same_map (place p') (place p) y.keys.items (λ k j.
           let there = agree_in (under m) along laid t.along y i in
           let in_p : IsKept p k = s.placed k (visited_at m y.number (edges y.keys.items) there k (subst (In k) (sym (begins_edges y.keys.items)) j)) in
           place_is p' k (place p k) (kept k (place p k) (kept_place p k in_p)))

@@ -17,6 +17,7 @@ use Rattle.arc_tables.specs.Rings.{Rings, begins}
 use Rattle.shared_arcs.specs.Joined.{Joined, AreNeighbours}
 use Rattle.shared_arcs.specs.declared.around.Neighbours.{Neighbours}
 use Rattle.shared_arcs.specs.declared.around.Neighbours.TheVariants as neighbours
+use Rattle.map_opening.proofs.AddedRings.{ring_other, ring_here}
 use Rattle.map_opening.proofs.KeyRings.{times_edge, edge_times, edge_ends}
 use Rattle.map_opening.proofs.Places.{place_alike}
 use Rattle.ring_exchange.specs.Standing.{IsVisited, IsSide}
@@ -124,22 +125,11 @@ side_or p m n es there t s = by (ℕ_discrete s.ring n)
 
 -- ---- a ring that comes
 
-pub ring_new : (m : Rings) (n : ℕ) (es : List Edge) → table.get (table.insert m n es) n ≡ Some es
-ring_new m n es =
-    let e : eq_by_cmp nat_cmp n n ≡ true = grind (arith, nat_tests) in
-    table.get-insert nat_cmp_total m n es n ∙ ap (λ b. cond b (Some es) (table.get m n)) e
-
-pub ring_old : (m : Rings) (n : ℕ) (es : List Edge) (r : ℕ) → r ≢ n
-    → table.get (table.insert m n es) r ≡ table.get m r
-ring_old m n es r f =
-    let e : eq_by_cmp nat_cmp r n ≡ false = grind (arith, nat_tests) in
-    table.get-insert nat_cmp_total m n es r ∙ ap (λ b. cond b (Some es) (table.get m r)) e
-
 -- what was there is there still
 pub ring_kept : (m : Rings) (n : ℕ) (es : List Edge) → table.get m n ≡ None → (r : ℕ) (fs : List Edge)
     → table.get m r ≡ Some fs → table.get (table.insert m n es) r ≡ Some fs
 ring_kept m n es free r fs e =
-    ring_old m n es r (λ s. none_some (table.get m n) fs free (ap (table.get m) (sym s) ∙ e)) ∙ e
+    ring_other m n es r (λ s. none_some (table.get m n) fs free (ap (table.get m) (sym s) ∙ e)) ∙ e
 
 -- what is there was there, or came
 pub ring_either : (m : Rings) (n : ℕ) (es : List Edge) (r : ℕ) (fs : List Edge)
@@ -147,5 +137,5 @@ pub ring_either : (m : Rings) (n : ℕ) (es : List Edge) (r : ℕ) (fs : List Ed
 ring_either m n es r fs e = by (ℕ_discrete r n)
   where
     by : Dec (r ≡ n) → (table.get m r ≡ Some fs) ⊎ (fs ≡ es)
-    by (yes s) = inr (same_edges (table.insert m n es) n fs es (ap (table.get (table.insert m n es)) (sym s) ∙ e) (ring_new m n es))
-    by (no f) = inl (sym (ring_old m n es r f) ∙ e)
+    by (yes s) = inr (same_edges (table.insert m n es) n fs es (ap (table.get (table.insert m n es)) (sym s) ∙ e) (ring_here m n es))
+    by (no f) = inl (sym (ring_other m n es r f) ∙ e)

@@ -1,12 +1,12 @@
 -- How often common edges begin, a step at a time.
-use Rattle.std.proofs.Common.{◌≡◌, ℕ, zero, suc, ◌+◌, ◌<◌, ◌≤◌, Bool, true, false, refl, sym, ap, ap₂, ◌∙◌, cond, List, [], ◌∷◌, ◌++◌, map, length, drop, get_or, drop_of_length-le, ◌&&◌, ◌||◌, arith}
+use Rattle.std.proofs.Common.{◌≡◌, ℕ, ◌+◌, ◌<◌, ◌≤◌, Bool, true, false, refl, sym, ap, ◌∙◌, cond, List, [], ◌∷◌, ◌++◌, map, length, drop, get_or, drop_of_length-le, ◌&&◌, ◌||◌, arith}
 use Rattle.std.specs.Prelude.{not}
 use Rattle.std.specs.List.{zip, count_by, list_all, list_any}
 use Rattle.std.proofs.lemmas.List.{at_drop_more, map-append}
 use Rattle.std.proofs.lemmas.List.Sums.{sum_by-cons}
 use Rattle.grid_geometry.specs.Ring.{Edge}
 use Rattle.ring_machine.specs.Join.{neighbour_edges, runs}
-use Rattle.ring_parts.specs.Borders.{begins, neighbours}
+use Rattle.ring_parts.specs.Borders.{begins}
 
 -- how often one begins, from a test over those that are left to the first
 abbrev pub left_begins : Bool → List Bool → Bool → ℕ

@@ -1,5 +1,5 @@
 -- The least of a hole's positions that are not of a part, a position at a time.
-use Rattle.std.proofs.Common.{◌≡◌, ℕ, ◌+◌, ◌<◌, ◌≤◌, Bool, true, false, refl, sym, ap, ◌∙◌, cond, List, [], ◌∷◌, length, drop, get_or, drop_of_length-le, Option, None, Some}
+use Rattle.std.proofs.Common.{◌≡◌, ℕ, ◌+◌, ◌<◌, ◌≤◌, Bool, true, false, sym, ap, ◌∙◌, cond, List, ◌∷◌, length, drop, get_or, drop_of_length-le, Option, None, Some}
 use Rattle.std.specs.Prelude.{if◌then◌else◌}
 use Rattle.std.specs.List.{filter, reduce, fold}
 use Rattle.std.proofs.lemmas.List.{at_drop_more}

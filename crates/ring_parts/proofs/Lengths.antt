@@ -1,5 +1,5 @@
 -- How long the parts of a ring are.
-use Rattle.std.proofs.Common.{◌≡◌, ℕ, suc, ◌+◌, ◌≤◌, ◌-◌, Bool, true, false, cond, List, [], ◌∷◌, ◌++◌, length, get_or, take, drop, map, reverse, refl, sym, ap, arith, length-append, ◌&&◌}
+use Rattle.std.proofs.Common.{◌≡◌, suc, ◌+◌, ◌≤◌, Bool, true, false, cond, List, [], ◌∷◌, length, get_or, map, reverse, refl, sym, ap, arith, length-append, ◌&&◌}
 use Rattle.std.specs.Prelude.{not}
 use Rattle.grid_geometry.specs.Ring.{signed_area}
 use Rattle.std.proofs.lemmas.List.{length-reverse}

@@ -1,11 +1,10 @@
 -- A list of positions as a path, and positions that stand in it twice.
-use Rattle.std.proofs.Common.{◌≡◌, ℕ, zero, suc, ◌+◌, ◌-◌, ◌<◌, ◌≤◌, Bool, true, false, refl, sym, ap, ap₂, ◌∙◌, List, [], ◌∷◌, ◌++◌, length, take, drop, get_or, ◌&&◌, arith, drop_of_length-le}
+use Rattle.std.proofs.Common.{◌≡◌, ℕ, suc, ◌+◌, ◌-◌, ◌<◌, ◌≤◌, true, false, refl, sym, ap, ap₂, ◌∙◌, List, [], ◌∷◌, ◌++◌, length, take, drop, get_or, ◌&&◌, arith, drop_of_length-le}
 use Rattle.std.specs.Prelude.{not}
-use Rattle.std.proofs.lemmas.List.{at_drop_more, take_all}
+use Rattle.std.proofs.lemmas.List.{at_drop_more}
 use Rattle.grid_geometry.specs.Position.{Position}
 use Rattle.ring_machine.specs.Ring.{has, is_distinct}
 use Rattle.ring_machine.specs.Cut.{Path, path_of}
-use Rattle.ring_machine.specs.Refusals.{positions_of}
 
 abbrev path_over : Position → List Position → Position → Path
 path_over p inner q = record { first = p; inner = inner; last = q }

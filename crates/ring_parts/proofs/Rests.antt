@@ -1,12 +1,11 @@
 -- The edges of a ring off its run, by the positions where they begin.
-use Rattle.std.proofs.Common.{◌≡◌, ℕ, zero, suc, ◌+◌, ◌<◌, ◌≤◌, Bool, true, false, refl, sym, ap, ap₂, ◌∙◌, cond, List, [], ◌∷◌, ◌++◌, map, length, take, drop, get_or, drop_of_length-le, arith, append_assoc}
+use Rattle.std.proofs.Common.{◌≡◌, ℕ, zero, suc, ◌+◌, ◌<◌, ◌≤◌, Bool, true, false, refl, sym, ap, ap₂, ◌∙◌, cond, List, [], ◌∷◌, ◌++◌, map, length, take, drop, get_or, drop_of_length-le, append_assoc}
 use Rattle.std.specs.Prelude.{not}
 use Rattle.std.specs.List.{zip, filter, prefix_len}
 use Rattle.std.proofs.lemmas.List.{at_drop_more, drop_more, map-append, length-map}
-use Rattle.std.proofs.lemmas.List.Elements.{filter-append}
 use Rattle.grid_geometry.specs.Position.{Position}
 use Rattle.grid_geometry.specs.Ring.{Edge, edges}
-use Rattle.ring_machine.specs.Join.{off_run, is_common}
+use Rattle.ring_machine.specs.Join.{off_run}
 use Rattle.ring_machine.proofs.Edges.{edges_to, edges_is, starts}
 use Rattle.ring_parts.specs.Borders.{off_ones}
 use Rattle.ring_parts.proofs.Lists.{map-take}
