@@ -2,11 +2,12 @@
 use Rattle.std.proofs.Common.{◌≡◌, ℕ, zero, suc, ◌+◌, Bool, true, false, refl, sym, ap, ap₂, ◌∙◌, cond}
 use Rattle.std.proofs.Common.{List, [], ◌∷◌, ◌++◌, arith, length, ◌<◌, get_or, Option, Some, None, ℤ}
 use Rattle.std.proofs.Common.{pos, negsuc}
+use Rattle.std.specs.Prelude.{is_some}
 use Rattle.grid_geometry.specs.Position.{Position, position, position_eq}
 use Rattle.grid_geometry.specs.Ring.{Edge}
 use Rattle.ring_machine.specs.Ring.{edge_eq}
 use Rattle.ring_machine.proofs.Order.{and_both, position_eq-true, position_eq-refl}
-use Rattle.topo_writer.specs.Found.{first_edge, last_edge, found_from, found, at_place}
+use Rattle.topo_writer.specs.Found.{first_edge, last_edge, found_from, found, with_found, at_place}
 
 pub edge_eq-true : (e f : Edge) → edge_eq e f ≡ true → e ≡ f
 edge_eq-true e f h =
@@ -50,6 +51,42 @@ found_first arcs ps h =
     found_new arcs ps (first_edge ps)
     ∙ ap (λ o. or_else o (named (length arcs) ps (first_edge ps))) h
     ∙ ap (λ b. cond b (Some (pos (length arcs))) (cond (edge_eq (last_edge ps) (first_edge ps)) (Some (negsuc (length arcs))) None)) (edge_eq-refl (first_edge ps))
+
+-- a piece whose first edge is found is no new arc
+pub found_known : (arcs : List (List Position)) (piece : List Position) (e : Edge) (i : ℤ) (kept : Edge → Option ℤ) → ((f : Edge) → kept f ≡ found arcs f)
+    → e ≡ first_edge piece → Some i ≡ kept e → (with_found arcs piece ≡ arcs) × (found arcs (first_edge piece) ≡ Some i)
+found_known arcs piece e i kept m f h =
+    let known : found arcs (first_edge piece) ≡ Some i = ap (found arcs) (sym f) ∙ sym (m e) ∙ sym h in
+    (ap (λ o. cond (is_some o) arcs (arcs ++ piece ∷ [])) known, known)
+
+-- what is found stays when arcs come after
+found_on : (n : ℕ) (arcs new : List (List Position)) (e : Edge) (i : ℤ) → found_from n arcs e ≡ Some i → found_from n (arcs ++ new) e ≡ Some i
+found_on n [] new e i h = absurd cc
+found_on n (a ∷ arcs) new e i h = by (edge_eq (first_edge a) e) (edge_eq (last_edge a) e) h (found_on (n + 1) arcs new e i)
+  where
+    by : (b c : Bool) → cond b (Some (pos n)) (cond c (Some (negsuc n)) (found_from (n + 1) arcs e)) ≡ Some i
+        → (found_from (n + 1) arcs e ≡ Some i → found_from (n + 1) (arcs ++ new) e ≡ Some i)
+        → cond b (Some (pos n)) (cond c (Some (negsuc n)) (found_from (n + 1) (arcs ++ new) e)) ≡ Some i
+    by true c t f = t
+    by false true t f = t
+    by false false t f = f t
+
+pub found_kept : (arcs new : List (List Position)) (e : Edge) (i : ℤ) → found arcs e ≡ Some i → found (arcs ++ new) e ≡ Some i
+found_kept arcs new e i h = found_on 0 arcs new e i h
+
+-- an index in an arc's direction is that of one of the arcs
+found_before : (n : ℕ) (arcs : List (List Position)) (e : Edge) (k : ℕ) → found_from n arcs e ≡ Some (pos k) → k < length arcs + n
+found_before n [] e k h = absurd cc
+found_before n (a ∷ arcs) e k h = by (edge_eq (first_edge a) e) (edge_eq (last_edge a) e) h (found_before (n + 1) arcs e k)
+  where
+    by : (b c : Bool) → cond b (Some (pos n)) (cond c (Some (negsuc n)) (found_from (n + 1) arcs e)) ≡ Some (pos k)
+        → (found_from (n + 1) arcs e ≡ Some (pos k) → k < length arcs + (n + 1)) → k < length (a ∷ arcs) + n
+    by true c t f = let same : n ≡ k = cc in omega (arith, same)
+    by false true t f = absurd cc
+    by false false t f = omega (arith, f t)
+
+pub found_below : (arcs : List (List Position)) (e : Edge) (k : ℕ) → found arcs e ≡ Some (pos k) → k < length arcs
+found_below arcs e k h = omega (arith, found_before 0 arcs e k h)
 
 -- two entries for one more arc, under edges that are its first and its last
 module _ (arcs : List (List Position)) (ps : List Position) (g0 g1 g2 : Edge → Option ℤ) (f l : Edge) (i k : ℤ)

@@ -119,7 +119,7 @@ cut_few j p (q ∷ r ∷ rs) = by (j q) (cut_few j q (r ∷ rs))
     by true h = omega (arith, h)
     by false h = omega (arith, h, led_few p (cut_way j q (r ∷ rs)))
 
-pieces_few : (j : Position → Bool) (ring : List Position) → length (pieces j ring) ≤ length ring
+pub pieces_few : (j : Position → Bool) (ring : List Position) → length (pieces j ring) ≤ length ring
 pieces_few j ring =
     let t = begun_rotated j ring in
     go (begun j ring) (omega (arith, ap length t.from, ap length t.to, length-append t.us t.vs, length-append t.vs t.us))

@@ -38,6 +38,26 @@ items_step f xs i x h e o now mid end p q r =
     ∙ append_assoc o (commas (map f (take i xs))) (comma_if (nat_lt 0 i) ++ f x)
     ∙ ap (λ z. o ++ z) (sym (commas_step f xs i x h e))
 
+-- one more item after all of them
+pub commas_push : {A : Type 0} (f : A → Text) (xs : List A) (x : A)
+    → commas (map f (xs ++ x ∷ [])) ≡ commas (map f xs) ++ (comma_if (nat_lt 0 (length xs)) ++ f x)
+commas_push f [] x = append-nil (f x)
+commas_push f (y ∷ ys) x =
+    ap (λ z. f y ++ further z) (map-append f ys (x ∷ []))
+    ∙ ap (λ z. f y ++ z) (further_push (map f ys) (f x))
+    ∙ sym (append_assoc (f y) (further (map f ys)) (codes "," ++ f x))
+    ∙ ap (λ b. (f y ++ further (map f ys)) ++ (comma_if b ++ f x)) (sym (positive (length ys)))
+
+-- the first items are written first
+pub commas_more : {A : Type 0} (f : A → Text) (xs ys : List A) → (later : Text) × (commas (map f (xs ++ ys)) ≡ commas (map f xs) ++ later)
+commas_more f [] ys = (commas (map f ys), refl)
+commas_more f (x ∷ xs) ys = (
+  further (map f ys),
+  ap (λ z. f x ++ further z) (map-append f xs ys)
+      ∙ ap (λ z. f x ++ z) (flat_map-append (λ u. codes "," ++ u) (map f xs) (map f ys))
+      ∙ sym (append_assoc (f x) (further (map f xs)) (further (map f ys))),
+)
+
 -- a polygon is the list of its written rings
 pub polygon_is : (j : Position → Bool) (arcs polygon : List (List Position))
     → codes "[" ++ (written_rings j arcs polygon ++ codes "]") ≡ written_polygon j arcs polygon

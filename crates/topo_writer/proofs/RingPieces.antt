@@ -31,6 +31,12 @@ apart_eq p q n = by (position_eq p q) refl
     by false e = e
     by true e = absurd (n (position_eq-true p q e))
 
+-- a piece of a ring has two positions or more
+pub ring_long : (j : Position → Bool) (ring : List Position) → AllByRecursion (λ piece. 2 ≤ length piece) (pieces j ring)
+ring_long j ring =
+    all_of (λ piece. 2 ≤ length piece) (pieces j ring)
+    (λ piece i. long_cut j piece (each_in (IsCut j) (pieces j ring) piece (ring_cut j ring) i))
+
 module _ (d : Document) (proper : Proper d) where
   are : (ring : List Position) → In ring (rings d) → is_ring ring ≡ true
   are ring i = all_in is_ring (rings d) ring proper.are_rings i
@@ -47,9 +53,7 @@ module _ (d : Document) (proper : Proper d) where
   whole (p ∷ q ∷ ps) s l a = record { long = l; piece = s.piece; one_way = one_way p q ps (apart_eq p q a.0) s.once }
 
   long : AllByRecursion (λ piece. 2 ≤ length piece) (all_pieces d)
-  long = each-flat_map (λ piece. 2 ≤ length piece) (pieces (is_junction d)) (rings d) (λ ring i.
-      all_of (λ piece. 2 ≤ length piece) (pieces (is_junction d) ring) (λ piece k.
-      long_cut (is_junction d) piece (each_in (IsCut (is_junction d)) (pieces (is_junction d) ring) piece (ring_cut (is_junction d) ring) k)))
+  long = each-flat_map (λ piece. 2 ≤ length piece) (pieces (is_junction d)) (rings d) (λ ring i. ring_long (is_junction d) ring)
 
   apart : AllByRecursion Apart (all_pieces d)
   apart = each-flat_map Apart (pieces (is_junction d)) (rings d) (λ ring i. pieces_apart (is_junction d) ring (are ring i))

@@ -19,8 +19,9 @@ use Rattle.arc_store.specs.Readers.{ShownFrame}
 use Rattle.map_text.specs.Saved.{Saved}
 use Rattle.map_text.proofs.ReadingBack.{text_saves}
 use Rattle.map_text.specs.Arcs.{arcs_of}
-use Rattle.map_text.specs.Text.{commas, further, member, member_if, member_text, layer_member, object_text, arcs_text, arc_text, text_of}
+use Rattle.map_text.specs.Text.{commas, further, member, member_if, member_text, layer_member, object_text, arcs_text, text_of}
 use Rattle.topo_writer.specs.Items.{written_item}
+use Rattle.topo_writer.specs.Named.{listed_arcs}
 use Rattle.topo_writer.specs.Sections.{begin_text, layer_text, layers_text, middle_text, end_text, IsMapFrame}
 use Rattle.topo_writer.proofs.MemberLemmas.{further_both}
 use Rattle.topo_writer.proofs.Sent.{prefix_after}
@@ -34,7 +35,7 @@ layers_are d (l ∷ ls) = ap (λ z. layer_text d l ∷ z) (layers_are d ls)
 
 -- the arcs, with commas between them
 abbrev list_of_arcs : Document → Text
-list_of_arcs d = commas (map (arc_text (is_some d.transform)) (arcs_of d))
+list_of_arcs d = listed_arcs (is_some d.transform) (arcs_of d)
 
 -- the sections, one after another
 abbrev sections : Document → Text
@@ -122,18 +123,18 @@ module _ (d : Document) (frame : ShownFrame) (is : IsMapFrame d frame) (o a : Op
       -- the arcs of the document, as differences where there is a transform
       module _ (e : Option (List ℕ)) (between : Appends b e middle_text) (arcs : List (List Position)) (whole : arcs ≡ arcs_of d)
           {X : Type 0} (text : X → Text) (r : Option X) (again : option_map text r ≡ frame.transform) (delta : Bool) (there : delta ≡ is_some r) where
-        arcs_are : commas (map (arc_text delta) arcs) ≡ list_of_arcs d
+        arcs_are : listed_arcs delta arcs ≡ list_of_arcs d
         arcs_are =
-            ap (λ z. commas (map (arc_text z) arcs)) (there ∙ there_shown text r d.transform (again ∙ ap (λ (f : ShownFrame). f.transform) is.shown))
-            ∙ ap (λ z. commas (map (arc_text (is_some d.transform)) z)) whole
+            ap (λ z. listed_arcs z arcs) (there ∙ there_shown text r d.transform (again ∙ ap (λ (f : ShownFrame). f.transform) is.shown))
+            ∙ ap (listed_arcs (is_some d.transform)) whole
 
         after_middle : (z : Option (List ℕ)) → AppendsPrefix e z (list_of_arcs d ++ end_text d.members) → AppendsPrefix o z (text_of d)
         after_middle z p = after_layers z (front_second b e z middle_text (list_of_arcs d ++ end_text d.members) between p)
 
-        pub at_arcs : (f : Option (List ℕ)) → AppendsPrefix e f (commas (map (arc_text delta) arcs)) → AppendsPrefix o f (text_of d)
+        pub at_arcs : (f : Option (List ℕ)) → AppendsPrefix e f (listed_arcs delta arcs) → AppendsPrefix o f (text_of d)
         at_arcs f p = after_middle f (front_first e f (list_of_arcs d) (end_text d.members) (subst (AppendsPrefix e f) arcs_are p))
 
-        module _ (f : Option (List ℕ)) (sent : Appends e f (commas (map (arc_text delta) arcs))) (members : List Member) (kept : members ≡ frame.members) where
+        module _ (f : Option (List ℕ)) (sent : Appends e f (listed_arcs delta arcs)) (members : List Member) (kept : members ≡ frame.members) where
           end_is : end_text members ≡ end_text d.members
           end_is = ap end_text (kept ∙ ap (λ (z : ShownFrame). z.members) is.shown)
 

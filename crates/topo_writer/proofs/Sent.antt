@@ -4,7 +4,7 @@ use Rattle.std.proofs.Common.{Option, sym, ap, subst, ◌∙◌, arith, append_a
 use Rattle.std.specs.Prelude.{codes, nat_lt}
 use Rattle.std.specs.Io.KnownBytes.{Appends}
 use Rattle.std.proofs.lemmas.List.{length-append, take-append-le}
-use Rattle.std.proofs.Math.Seq.{take-append-add}
+use Rattle.std.proofs.Math.Seq.{take-append_seam, take-append-add}
 use Rattle.device_io.specs.Devices.{AppendsPrefix}
 use Rattle.device_io.proofs.DeviceLemmas.{Appends-more}
 use Rattle.map_text.specs.Text.{further, commas, comma_if}
@@ -22,6 +22,10 @@ prefix_after a b c xs ys zs p q =
 -- a text in an empty buffer is all that stands there
 pub filled : (o now xs : List ℕ) → o ≡ [] → now ≡ o ++ xs → now ≡ xs
 filled o now xs e h = h ∙ ap (λ z. z ++ xs) e
+
+-- what went in whole is a prefix of more
+pub prefix_whole : (a b : Option (List ℕ)) (xs zs : List ℕ) → Appends a b xs → AppendsPrefix a b (xs ++ zs)
+prefix_whole a b xs zs p = (length xs, omega (arith, length-append xs zs), subst (Appends a b) (sym (take-append_seam xs zs)) p)
 
 -- the whole after its first items
 pub commas_split : {A : Type 0} (f : A → List ℕ) (xs : List A) (i : ℕ) (x : A) → i < length xs → x ≡ get_or xs i x → (rest : List ℕ) × (commas (map f xs) ≡ commas (map f (take i xs)) ++ ((comma_if (nat_lt 0 i) ++ f x) ++ rest))

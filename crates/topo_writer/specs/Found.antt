@@ -38,6 +38,11 @@ with_found arcs piece = if is_some (found arcs (first_edge piece)) then arcs els
 abbrev pub Mirrors : (Edge → Option ℤ) → List (List Position) → Type 0
 Mirrors kept arcs = (e : Edge) → kept e ≡ found arcs e
 
+-- a table that keeps so many arcs by edges has these
+pub record HasArcs (kept : Edge → Option ℤ) (count : ℕ) (arcs : List (List Position)) : Type 0 where
+  pub mirrors : Mirrors kept arcs
+  pub counts : count ≡ length arcs
+
 -- the piece may stand beside the arcs: an edge then still names one of them
 pub record Fits (arcs : List (List Position)) (piece : List Position) : Type 0 where
   pub long : 2 ≤ length piece

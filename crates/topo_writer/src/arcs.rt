@@ -1,65 +1,45 @@
-//! The arcs of a text, each border once, and found by the edges that they begin and end with.
-ghost use Rattle.std.specs.Prelude.{◌≡◌, ◌<◌, length, pos, negsuc, [], Some, OnOk, IfOk};
+//! The arcs of a text, each border once, found by the edges that they begin and end with. Of their
+//! positions nothing is kept but which rings of the map they are cut of.
+ghost use Rattle.std.specs.Prelude.{◌≡◌, ◌+◌, ◌<◌, ◌≤◌, ◌++◌, List, get_or, length, pos, negsuc, [], ◌∷◌, true, false, Some, OnOk, IfOk};
+ghost use Rattle.std.specs.List.{AllByRecursion};
 ghost use Rattle.indexmap.specs.IndexMap.{get, Updates};
+ghost use Rattle.grid_geometry.specs.Position.{Position};
 ghost use Rattle.ring_machine.specs.Ring.{edge_eq};
-ghost use Rattle.topo_writer.specs.Found.{found, first_edge, with_found, Fits, Mirrors};
+ghost use Rattle.topo_writer.specs.Found.{found, first_edge, with_found, Fits, HasArcs};
+ghost use Rattle.topo_writer.specs.Ways.{all_found, indexes_found, FitAll};
 
+use crate::cutting::Piece;
 use grid_geometry::Pos;
 use indexmap::IndexMap;
 use std::alloc::{AllocError, Allocator, Global};
 use std::hash::{BuildHasherDefault, FoldHasher};
-use std::marker::Model;
 
-/// The positions of an arc.
-#[derive(Drop)]
-pub(crate) struct Arc<A: Allocator + Copy = Global> {
-    positions: Vec<Pos, A>,
-}
-
-impl<A: Allocator + Copy> Model for Arc<A> {
-    ghost use Rattle.std.specs.Prelude.{List};
-    ghost use Rattle.std.specs.Coded.{coded_list};
-    ghost use Rattle.grid_geometry.specs.Position.{Position};
-    ghost use Rattle.vertex_index.specs.Placement.{position_code};
-
-    ghost Value = { List Position };
-
-    ghost coded = { coded_list position_code };
-
-    ghost view = { λ a. a.positions.items };
-}
-
-impl<A: Allocator + Copy> Arc<A> {
-    /// The arc of these positions.
-    fn new(alloc: A, positions: &[Pos]) -> Result<Self, AllocError>
-        ensures { IfOk result (λ a. a ≡ positions.now) }
-    {
-        let positions = Vec::from_slice(alloc, positions)?;
-        Ok(Arc { positions })
-    }
-
-    /// Its positions.
-    pub(crate) fn positions(&self) -> &[Pos]
-        ensures { result.now ≡ self.now }
-    {
-        self.positions.as_slice()
-    }
+/// Names a ring of a map.
+#[derive(Clone, Copy)]
+pub(crate) struct RingName {
+    /// The number of its feature.
+    pub(crate) feature: u32,
+    /// The number of its polygon in that feature.
+    pub(crate) polygon: usize,
+    /// Its number in that polygon, in which the outer ring is the first.
+    pub(crate) ring: usize,
 }
 
 /// The index of each arc under its first edge, and under its last one reversed that of the arc in
 /// reverse.
 type Starts<A> = IndexMap<(Pos, Pos), i64, BuildHasherDefault<FoldHasher>, A>;
 
-/// Arcs in their order, and how they are found.
+/// The rings of which arcs were cut, one after another, and how the arcs are found.
 #[derive(Drop)]
 pub struct Arcs<A: Allocator + Copy = Global> {
-    pub(crate) list: Vec<Arc<A>, A>,
+    pub(crate) rings: Vec<RingName, A>,
+    pub(crate) count: usize,
     starts: Starts<A>,
 }
 
 /// The index of an arc.
 fn forward(n: usize) -> i64
-    requires { n < 4000000 }
+    requires { n ≤ 4000000 }
     ensures { result ≡ pos n }
 {
     n as i64
@@ -67,7 +47,7 @@ fn forward(n: usize) -> i64
 
 /// The index of an arc in reverse (TopoJSON 1.0, 2.1.4).
 fn backward(n: usize) -> i64
-    requires { n < 4000000 }
+    requires { n ≤ 4000000 }
     ensures { result ≡ negsuc n }
 {
     -1 - n as i64
@@ -76,11 +56,12 @@ fn backward(n: usize) -> i64
 impl<A: Allocator + Copy> Arcs<A> {
     /// No arc. Takes no memory.
     pub fn new(alloc: A) -> Self
-        ensures list { result.list.items ≡ [] }
-        ensures starts { Mirrors (get edge_eq result.starts) [] }
+        ensures rings { result.rings.items ≡ [] }
+        ensures arcs { HasArcs (get edge_eq result.starts) result.count [] }
     {
         Arcs {
-            list: Vec::new(alloc),
+            rings: Vec::new(alloc),
+            count: 0,
             starts: IndexMap::new(alloc),
         }
     }
@@ -94,7 +75,8 @@ impl<A: Allocator + Copy> Arcs<A> {
 
     /// Notes the index of the arc that begins with an edge.
     fn note(&mut self, from: Pos, to: Pos, index: i64) -> Result<(), AllocError>
-        ensures list { self.new.list ≡ self.old.list }
+        ensures rings { self.new.rings ≡ self.old.rings }
+        ensures count { self.new.count ≡ self.old.count }
         ensures updates { OnOk result (Updates edge_eq self.old.starts self.new.starts (from, to) (Some index)) }
     {
         self.starts.insert((from, to), index)?;
@@ -102,23 +84,83 @@ impl<A: Allocator + Copy> Arcs<A> {
     }
 
     /// The index of a piece: that of the arc that it is, or of the next one, which it then becomes.
-    pub(crate) fn index(&mut self, alloc: A, piece: &[Pos]) -> Result<i64, AllocError>
-        requires mirrors { Mirrors (get edge_eq self.old.starts) self.old.list.items }
-        requires fits { Fits self.old.list.items piece.now }
-        requires few { length self.old.list.items < 4000000 }
-        ensures mirrors { OnOk result (Mirrors (get edge_eq self.new.starts) self.new.list.items) }
-        ensures list { OnOk result (self.new.list.items ≡ with_found self.old.list.items piece.now) }
-        ensures index { IfOk result (λ i. found self.new.list.items (first_edge piece.now) ≡ Some i) }
+    fn index(&mut self, piece: &[Pos]) -> Result<i64, AllocError>
+        requires long { 2 ≤ length piece.now }
+        requires few { self.old.count < 4000000 }
+        ensures rings { OnOk result (self.new.rings ≡ self.old.rings) }
+        ensures few { OnOk result (self.new.count ≤ self.old.count + 1) }
+        ensures arcs { OnOk result ((arcs : List (List Position))
+            → HasArcs (get edge_eq self.old.starts) self.old.count arcs → Fits arcs piece.now
+            → HasArcs (get edge_eq self.new.starts) self.new.count (with_found arcs piece.now)) }
+        ensures index { IfOk result (λ i. (arcs : List (List Position))
+            → HasArcs (get edge_eq self.old.starts) self.old.count arcs → Fits arcs piece.now
+            → found (with_found arcs piece.now) (first_edge piece.now) ≡ Some i) }
     {
         if let Some(index) = self.look(piece[0], piece[1]) {
             return Ok(index);
         }
-        let index = forward(self.list.len());
-        let reversed = backward(self.list.len());
-        self.list.push(Arc::new(alloc, piece)?)?;
+        let index = forward(self.count);
+        let reversed = backward(self.count);
         let n = piece.len();
         self.note(piece[0], piece[1], index)?;
         self.note(piece[n - 1], piece[n - 2], reversed)?;
+        self.count += 1;
         Ok(index)
+    }
+
+    /// The indexes of the pieces of a ring, which is named so. A piece that is no arc yet becomes the
+    /// next one.
+    pub(crate) fn index_all(
+        &mut self,
+        alloc: A,
+        pieces: &[Piece<A>],
+    ) -> Result<Vec<i64, A>, AllocError>
+        requires long { AllByRecursion (λ piece. 2 ≤ length piece) pieces.now }
+        requires few { self.old.count + length pieces.now ≤ 4000000 }
+        ensures rings { OnOk result (self.new.rings ≡ self.old.rings) }
+        ensures arcs { OnOk result ((arcs : List (List Position))
+            → HasArcs (get edge_eq self.old.starts) self.old.count arcs → FitAll arcs pieces.now
+            → HasArcs (get edge_eq self.new.starts) self.new.count (all_found arcs pieces.now)) }
+        ensures indexes { IfOk result (λ indexes. (arcs : List (List Position))
+            → HasArcs (get edge_eq self.old.starts) self.old.count arcs → FitAll arcs pieces.now
+            → indexes.items ≡ indexes_found arcs pieces.now) }
+    {
+        let mut indexes = Vec::new(alloc);
+        for i in 0..pieces.len() {
+            let index = self.index(pieces[i].positions())?;
+            indexes.push(index)?;
+        }
+        Ok(indexes)
+    }
+
+    /// Names the ring whose pieces were the last.
+    pub(crate) fn name_ring(&mut self, name: RingName) -> Result<(), AllocError>
+        ensures rings { OnOk result (self.new.rings.items ≡ self.old.rings.items ++ name ∷ []) }
+        ensures count { OnOk result (self.new.count ≡ self.old.count) }
+        ensures starts { OnOk result (self.new.starts ≡ self.old.starts) }
+    {
+        self.rings.push(name)?;
+        Ok(())
+    }
+
+    /// The ring with this place among those named.
+    pub(crate) fn ring_name(&self, i: usize) -> RingName
+        requires { i < length self.now.rings.items }
+        ensures { result ≡ get_or self.now.rings.items i result }
+    {
+        self.rings[i]
+    }
+
+    /// Whether a piece is the arc with this number, in its direction.
+    pub(crate) fn is_arc(&self, piece: &[Pos], number: usize) -> bool
+        requires long { 2 ≤ length piece.now }
+        requires few { number ≤ 4000000 }
+        ensures yes { result ≡ true → get edge_eq self.now.starts (first_edge piece.now) ≡ Some (pos number) }
+        ensures no { result ≡ false → get edge_eq self.now.starts (first_edge piece.now) ≡ Some (pos number) → ⊥ }
+    {
+        match self.look(piece[0], piece[1]) {
+            Some(index) => index == forward(number),
+            None => false,
+        }
     }
 }

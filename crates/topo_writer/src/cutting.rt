@@ -1,21 +1,52 @@
 //! Ways and rings, cut at junctions (TopoJSON 1.0, 2.1.3).
-ghost use Rattle.std.specs.Prelude.{◌≡◌, ◌+◌, ◌-◌, ◌<◌, ◌≤◌, ◌||◌, ◌++◌, [], ◌∷◌, true, drop, take, length};
-ghost use Rattle.std.specs.Prelude.{if◌then◌else◌, OnOk, IfOk, Contains};
-ghost use Rattle.indexmap.specs.IndexMap.{get};
-ghost use Rattle.ring_machine.specs.Ring.{edge_eq};
-ghost use Rattle.ring_machine.specs.Parts.{rings};
-ghost use Rattle.ring_machine.specs.Planar.{Proper};
+ghost use Rattle.std.specs.Prelude.{◌≡◌, ◌+◌, ◌<◌, ◌≤◌, ◌||◌, ◌++◌, ◌∷◌, [], true, drop, take, length};
+ghost use Rattle.std.specs.Prelude.{if◌then◌else◌, OnOk, IfOk};
 ghost use Rattle.ring_machine.specs.Vertices.{is_junction};
-ghost use Rattle.map_text.specs.Arcs.{begun, pieces, with_pieces};
-ghost use Rattle.map_text.specs.Arcs as written;
-ghost use Rattle.topo_writer.specs.Found.{at_place, with_found, Fits, Mirrors};
-ghost use Rattle.topo_writer.specs.Ways.{is_end, cut_after, all_found, index_found, indexes_found, FitAll, ArePieces};
+ghost use Rattle.map_text.specs.Arcs.{begun, pieces};
+ghost use Rattle.topo_writer.specs.Found.{at_place};
+ghost use Rattle.topo_writer.specs.Ways.{is_end, cut_after};
 
-use crate::arcs::Arcs;
 use arc_store::Map;
 use grid_geometry::Pos;
 use segment_index::SegIndex;
-use std::alloc::{AllocError, Allocator};
+use std::alloc::{AllocError, Allocator, Global};
+use std::marker::Model;
+
+/// The positions of a piece of a ring.
+#[derive(Drop)]
+pub(crate) struct Piece<A: Allocator + Copy = Global> {
+    positions: Vec<Pos, A>,
+}
+
+impl<A: Allocator + Copy> Model for Piece<A> {
+    ghost use Rattle.std.specs.Prelude.{List};
+    ghost use Rattle.std.specs.Coded.{coded_list};
+    ghost use Rattle.grid_geometry.specs.Position.{Position};
+    ghost use Rattle.vertex_index.specs.Placement.{position_code};
+
+    ghost Value = { List Position };
+
+    ghost coded = { coded_list position_code };
+
+    ghost view = { λ a. a.positions.items };
+}
+
+impl<A: Allocator + Copy> Piece<A> {
+    /// The piece with these positions.
+    fn new(alloc: A, positions: &[Pos]) -> Result<Self, AllocError>
+        ensures { IfOk result (λ a. a ≡ positions.now) }
+    {
+        let positions = Vec::from_slice(alloc, positions)?;
+        Ok(Piece { positions })
+    }
+
+    /// Its positions.
+    pub(crate) fn positions(&self) -> &[Pos]
+        ensures { result.now ≡ self.now }
+    {
+        self.positions.as_slice()
+    }
+}
 
 /// Whether a piece of the way ends at a place.
 fn ends_at<'a, I: SegIndex, A: Allocator + Copy>(map: &Map<'a, I, A>, way: &[Pos], i: usize) -> bool
@@ -25,23 +56,17 @@ fn ends_at<'a, I: SegIndex, A: Allocator + Copy>(map: &Map<'a, I, A>, way: &[Pos
     i + 1 == way.len() || map.is_junction(way[i])
 }
 
-/// Takes one more position into the piece, which may end there; the next one then begins there.
+/// Takes one more position into the piece that is open. It may end there; the next one then begins
+/// there.
 fn go_on<A: Allocator + Copy>(
     alloc: A,
-    arcs: &mut Arcs<A>,
-    indexes: &mut Vec<i64, A>,
+    done: &mut Vec<Piece<A>, A>,
     piece: &mut Vec<Pos, A>,
     p: Pos,
     ends: bool,
 ) -> Result<(), AllocError>
-    requires mirrors { Mirrors (get edge_eq arcs.old.starts) arcs.old.list.items }
-    requires few { length arcs.old.list.items < 4000000 }
-    requires fits { ends ≡ true → Fits arcs.old.list.items (piece.old.items ++ p ∷ []) }
-    ensures mirrors { OnOk result (Mirrors (get edge_eq arcs.new.starts) arcs.new.list.items) }
-    ensures arcs { OnOk result (arcs.new.list.items
-        ≡ (if ends then with_found arcs.old.list.items (piece.old.items ++ p ∷ []) else arcs.old.list.items)) }
-    ensures indexes { OnOk result (indexes.new.items
-        ≡ indexes.old.items ++ (if ends then (index_found arcs.old.list.items (piece.old.items ++ p ∷ []) ∷ []) else [])) }
+    ensures done { OnOk result (done.new.items
+        ≡ done.old.items ++ (if ends then ((piece.old.items ++ p ∷ []) ∷ []) else [])) }
     ensures piece { OnOk result (piece.new.items
         ≡ (if ends then (p ∷ []) else (piece.old.items ++ p ∷ []))) }
 {
@@ -49,37 +74,29 @@ fn go_on<A: Allocator + Copy>(
     if !ends {
         return Ok(());
     }
-    let index = arcs.index(alloc, piece.as_slice())?;
-    indexes.push(index)?;
+    done.push(Piece::new(alloc, piece.as_slice())?)?;
     piece.clear();
     piece.push(p)?;
     Ok(())
 }
 
-/// Appends the indexes of the pieces of a way, the new arcs among them noted.
-pub(crate) fn cut_way<'a, I: SegIndex, A: Allocator + Copy>(
+/// The pieces of a way.
+fn cut_way<'a, I: SegIndex, A: Allocator + Copy>(
     alloc: A,
     map: &Map<'a, I, A>,
-    arcs: &mut Arcs<A>,
-    indexes: &mut Vec<i64, A>,
     way: &[Pos],
-) -> Result<(), AllocError>
-    requires mirrors { Mirrors (get edge_eq arcs.old.starts) arcs.old.list.items }
-    requires long { 2 ≤ length way.now }
-    requires few { length arcs.old.list.items + length way.now ≤ 4000001 }
-    requires fit { FitAll arcs.old.list.items (cut_after (is_junction map.now.doc) (take 1 way.now) (drop 1 way.now)) }
-    ensures mirrors { OnOk result (Mirrors (get edge_eq arcs.new.starts) arcs.new.list.items) }
-    ensures arcs { OnOk result (arcs.new.list.items
-        ≡ all_found arcs.old.list.items (cut_after (is_junction map.now.doc) (take 1 way.now) (drop 1 way.now))) }
-    ensures indexes { OnOk result (indexes.new.items
-        ≡ indexes.old.items ++ indexes_found arcs.old.list.items (cut_after (is_junction map.now.doc) (take 1 way.now) (drop 1 way.now))) }
+) -> Result<Vec<Piece<A>, A>, AllocError>
+    requires { 2 ≤ length way.now }
+    ensures { IfOk result (λ done. done.items
+        ≡ cut_after (is_junction map.now.doc) (take 1 way.now) (drop 1 way.now)) }
 {
+    let mut done = Vec::new(alloc);
     let mut piece = Vec::from_slice(alloc, &way[..1])?;
     for i in 1..way.len() {
         let ends = ends_at(map, way, i);
-        go_on(alloc, arcs, indexes, &mut piece, way[i], ends)?;
+        go_on(alloc, &mut done, &mut piece, way[i], ends)?;
     }
-    Ok(())
+    Ok(done)
 }
 
 /// The place of the first junction of a ring; its first place where it has none.
@@ -112,29 +129,19 @@ fn way_round<A: Allocator + Copy>(
     Ok(way)
 }
 
-/// Appends the indexes of a ring's pieces, from its first junction on. A piece that is no arc yet
-/// becomes the next one.
+/// The pieces of a ring, from its first junction on.
 pub(crate) fn cut_ring<'a, I: SegIndex, A: Allocator + Copy>(
     alloc: A,
     map: &Map<'a, I, A>,
-    arcs: &mut Arcs<A>,
-    indexes: &mut Vec<i64, A>,
     ring: &[Pos],
-) -> Result<(), AllocError>
-    requires proper { Proper map.now.doc }
-    requires there { Contains (rings map.now.doc) ring.now }
-    requires mirrors { Mirrors (get edge_eq arcs.old.starts) arcs.old.list.items }
-    requires pieces { ArePieces map.now.doc arcs.old.list.items }
-    requires few { length arcs.old.list.items + length ring.now ≤ 4000000 }
-    ensures mirrors { OnOk result (Mirrors (get edge_eq arcs.new.starts) arcs.new.list.items) }
-    ensures pieces { OnOk result (ArePieces map.now.doc arcs.new.list.items) }
-    ensures arcs { OnOk result (arcs.new.list.items
-        ≡ with_pieces arcs.old.list.items (pieces (is_junction map.now.doc) ring.now)) }
-    ensures indexes { OnOk result (indexes.new.items
-        ≡ indexes.old.items ++ written.indexes (is_junction map.now.doc) arcs.new.list.items ring.now) }
+) -> Result<Vec<Piece<A>, A>, AllocError>
+    ensures { IfOk result (λ done. done.items ≡ pieces (is_junction map.now.doc) ring.now) }
 {
+    if ring.is_empty() {
+        return Ok(Vec::new(alloc));
+    }
     let start = first_junction(map, ring);
     let way = way_round(alloc, ring, start)?;
-    cut_way(alloc, map, arcs, indexes, way.as_slice())?;
-    Ok(())
+    let done = cut_way(alloc, map, way.as_slice())?;
+    Ok(done)
 }

@@ -14,11 +14,11 @@ ghost use Rattle.topo_outline.specs.Views.{view_head};
 ghost use Rattle.arc_store.specs.Items.{view_item_view};
 ghost use Rattle.map_text.specs.Arcs.{arcs_of, indexes, pieces, with_pieces};
 ghost use Rattle.map_text.specs.Text.{comma_if, feature_text, items_text, opening_text};
-ghost use Rattle.topo_writer.specs.Found.{Mirrors};
+ghost use Rattle.topo_writer.specs.Found.{HasArcs};
+ghost use Rattle.topo_writer.specs.Named.{arcs_along};
 ghost use Rattle.topo_writer.specs.Items.{feature_at, item_at, item_rings, items_at, items_written, open_heads, written_at};
 ghost use Rattle.topo_writer.specs.Items.{IsThere, LeadsOn, ShowsLayer};
 ghost use Rattle.topo_writer.specs.Opened.{more_after, open_after};
-ghost use Rattle.topo_writer.specs.Ways.{ArePieces};
 ghost use Rattle.topo_writer.specs.declared.sending.WriteFault.TheVariants.{Device, OutOfMemory};
 
 use crate::arcs::Arcs;
@@ -78,12 +78,10 @@ fn push_leaf<'a, I: SegIndex, A: Allocator + Copy>(
     requires proper { Proper map.now.doc }
     requires formed { WellFormed map.now.doc }
     requires there { feature map.now.doc n ≡ Some (feature_at map.now.doc n) }
-    requires mirrors { Mirrors (get edge_eq arcs.old.starts) arcs.old.list.items }
-    requires pieces { ArePieces map.now.doc arcs.old.list.items }
-    requires leads { LeadsOn map.now.doc arcs.old.list.items (Leaf (feature_at map.now.doc n) ∷ []) }
-    ensures mirrors { OnOk result (Mirrors (get edge_eq arcs.new.starts) arcs.new.list.items) }
-    ensures pieces { OnOk result (ArePieces map.now.doc arcs.new.list.items) }
-    ensures arcs { OnOk result (arcs.new.list.items ≡ with_pieces arcs.old.list.items
+    requires table { HasArcs (get edge_eq arcs.old.starts) arcs.old.count (arcs_along map.now.doc arcs.old.rings.items) }
+    requires leads { LeadsOn map.now.doc (arcs_along map.now.doc arcs.old.rings.items) (Leaf (feature_at map.now.doc n) ∷ []) }
+    ensures table { OnOk result (HasArcs (get edge_eq arcs.new.starts) arcs.new.count (arcs_along map.now.doc arcs.new.rings.items)) }
+    ensures arcs { OnOk result (arcs_along map.now.doc arcs.new.rings.items ≡ with_pieces (arcs_along map.now.doc arcs.old.rings.items)
         (flat_map (pieces (is_junction map.now.doc)) (rings_of (feature_at map.now.doc n)))) }
     ensures text { OnOk result (text.new.items ≡ text.old.items ++ (comma_if more ++ feature_text
         (in_feature (indexes (is_junction map.now.doc) (arcs_of map.now.doc)) (feature_at map.now.doc n)))) }
@@ -122,12 +120,10 @@ fn push_item<'m, 'a, I: SegIndex, A: Allocator + Copy>(
     requires proper { Proper map.now.doc }
     requires formed { WellFormed map.now.doc }
     requires there { IsThere map.now.doc (view_item_view item) }
-    requires mirrors { Mirrors (get edge_eq arcs.old.starts) arcs.old.list.items }
-    requires pieces { ArePieces map.now.doc arcs.old.list.items }
-    requires leads { LeadsOn map.now.doc arcs.old.list.items (item_at map.now.doc (view_item_view item) ∷ []) }
-    ensures mirrors { OnOk result (Mirrors (get edge_eq arcs.new.starts) arcs.new.list.items) }
-    ensures pieces { OnOk result (ArePieces map.now.doc arcs.new.list.items) }
-    ensures arcs { OnOk result (arcs.new.list.items ≡ with_pieces arcs.old.list.items
+    requires table { HasArcs (get edge_eq arcs.old.starts) arcs.old.count (arcs_along map.now.doc arcs.old.rings.items) }
+    requires leads { LeadsOn map.now.doc (arcs_along map.now.doc arcs.old.rings.items) (item_at map.now.doc (view_item_view item) ∷ []) }
+    ensures table { OnOk result (HasArcs (get edge_eq arcs.new.starts) arcs.new.count (arcs_along map.now.doc arcs.new.rings.items)) }
+    ensures arcs { OnOk result (arcs_along map.now.doc arcs.new.rings.items ≡ with_pieces (arcs_along map.now.doc arcs.old.rings.items)
         (flat_map (pieces (is_junction map.now.doc)) (item_rings (item_at map.now.doc (view_item_view item.entry) ∷ [])))) }
     ensures text { OnOk result (text.new.items ≡ text.old.items
         ++ items_text (open_heads heads.old.items) more (written_at map.now.doc (view_item_view item.entry) ∷ [])) }
@@ -172,12 +168,10 @@ fn send_item<'m, 'a, I: SegIndex, A: Allocator + Copy, W: Sink>(
     requires proper { Proper map.now.doc }
     requires formed { WellFormed map.now.doc }
     requires there { IsThere map.now.doc (view_item_view item) }
-    requires mirrors { Mirrors (get edge_eq arcs.old.starts) arcs.old.list.items }
-    requires pieces { ArePieces map.now.doc arcs.old.list.items }
-    requires leads { LeadsOn map.now.doc arcs.old.list.items (item_at map.now.doc (view_item_view item) ∷ []) }
-    ensures mirrors { OnOk result (Mirrors (get edge_eq arcs.new.starts) arcs.new.list.items) }
-    ensures pieces { OnOk result (ArePieces map.now.doc arcs.new.list.items) }
-    ensures arcs { OnOk result (arcs.new.list.items ≡ with_pieces arcs.old.list.items
+    requires table { HasArcs (get edge_eq arcs.old.starts) arcs.old.count (arcs_along map.now.doc arcs.old.rings.items) }
+    requires leads { LeadsOn map.now.doc (arcs_along map.now.doc arcs.old.rings.items) (item_at map.now.doc (view_item_view item) ∷ []) }
+    ensures table { OnOk result (HasArcs (get edge_eq arcs.new.starts) arcs.new.count (arcs_along map.now.doc arcs.new.rings.items)) }
+    ensures arcs { OnOk result (arcs_along map.now.doc arcs.new.rings.items ≡ with_pieces (arcs_along map.now.doc arcs.old.rings.items)
         (flat_map (pieces (is_junction map.now.doc)) (item_rings (item_at map.now.doc (view_item_view item.entry) ∷ [])))) }
     ensures heads { OnOk result (open_heads heads.new.items
         ≡ open_after (open_heads heads.old.items) (written_at map.now.doc (view_item_view item.entry) ∷ [])) }
@@ -211,12 +205,10 @@ pub(crate) fn send_items<'m, 'a, I: SegIndex, A: Allocator + Copy, W: Sink>(
     requires proper { Proper map.now.doc }
     requires formed { WellFormed map.now.doc }
     requires shows { ShowsLayer map.now.doc items }
-    requires mirrors { Mirrors (get edge_eq arcs.old.starts) arcs.old.list.items }
-    requires pieces { ArePieces map.now.doc arcs.old.list.items }
-    requires leads { LeadsOn map.now.doc arcs.old.list.items (items_at map.now.doc items) }
-    ensures mirrors { OnOk result (Mirrors (get edge_eq arcs.new.starts) arcs.new.list.items) }
-    ensures pieces { OnOk result (ArePieces map.now.doc arcs.new.list.items) }
-    ensures arcs { OnOk result (arcs.new.list.items ≡ with_pieces arcs.old.list.items
+    requires table { HasArcs (get edge_eq arcs.old.starts) arcs.old.count (arcs_along map.now.doc arcs.old.rings.items) }
+    requires leads { LeadsOn map.now.doc (arcs_along map.now.doc arcs.old.rings.items) (items_at map.now.doc items) }
+    ensures table { OnOk result (HasArcs (get edge_eq arcs.new.starts) arcs.new.count (arcs_along map.now.doc arcs.new.rings.items)) }
+    ensures arcs { OnOk result (arcs_along map.now.doc arcs.new.rings.items ≡ with_pieces (arcs_along map.now.doc arcs.old.rings.items)
         (flat_map (pieces (is_junction map.now.doc)) (item_rings (items_at map.now.doc items.entry)))) }
     ensures empty { OnOk result (text.new.items ≡ []) }
     ensures ok { OnOk result (Appends (W.taken out.old) (W.taken out.new) (items_text [] false (items_written map.now.doc items.entry))) }

@@ -6,9 +6,9 @@ ghost use Rattle.device_io.specs.Devices.{AppendsPrefix};
 ghost use Rattle.ring_machine.specs.Ring.{edge_eq};
 ghost use Rattle.map_text.specs.Arcs.{arcs_of};
 ghost use Rattle.map_text.specs.Text.{comma_if};
-ghost use Rattle.topo_writer.specs.Found.{Mirrors};
+ghost use Rattle.topo_writer.specs.Found.{HasArcs};
+ghost use Rattle.topo_writer.specs.Named.{arcs_along};
 ghost use Rattle.topo_writer.specs.Sections.{arcs_after, layer_at, layer_text, layers_text, IsMapFrame};
-ghost use Rattle.topo_writer.specs.Ways.{ArePieces};
 ghost use Rattle.topo_writer.specs.declared.sending.WriteFault.TheVariants.{Device, OutOfMemory};
 
 use crate::arcs::Arcs;
@@ -49,12 +49,10 @@ fn send_layer<'m, 'a, I: SegIndex, A: Allocator + Copy, W: Sink>(
     requires empty { text.old.items ≡ [] }
     requires frame { IsMapFrame map.now.doc frame.now }
     requires there { i < length map.now.doc.layers }
-    requires mirrors { Mirrors (get edge_eq arcs.old.starts) arcs.old.list.items }
-    requires pieces { ArePieces map.now.doc arcs.old.list.items }
-    requires arcs { arcs.old.list.items ≡ arcs_after map.now.doc i }
-    ensures mirrors { OnOk result (Mirrors (get edge_eq arcs.new.starts) arcs.new.list.items) }
-    ensures pieces { OnOk result (ArePieces map.now.doc arcs.new.list.items) }
-    ensures arcs { OnOk result (arcs.new.list.items ≡ arcs_after map.now.doc (i + 1)) }
+    requires table { HasArcs (get edge_eq arcs.old.starts) arcs.old.count (arcs_along map.now.doc arcs.old.rings.items) }
+    requires arcs { arcs_along map.now.doc arcs.old.rings.items ≡ arcs_after map.now.doc i }
+    ensures table { OnOk result (HasArcs (get edge_eq arcs.new.starts) arcs.new.count (arcs_along map.now.doc arcs.new.rings.items)) }
+    ensures arcs { OnOk result (arcs_along map.now.doc arcs.new.rings.items ≡ arcs_after map.now.doc (i + 1)) }
     ensures empty { OnOk result (text.new.items ≡ []) }
     ensures ok { OnOk result (Appends (W.taken out.old) (W.taken out.new)
         (comma_if (nat_lt 0 i) ++ layer_text map.now.doc (layer_at map.now.doc i))) }
@@ -76,7 +74,7 @@ fn send_layer<'m, 'a, I: SegIndex, A: Allocator + Copy, W: Sink>(
     Ok(())
 }
 
-/// Sends the layers, with commas between them, and takes their arcs into the list.
+/// Sends the layers, with commas between them, and takes their arcs into the table.
 pub(crate) fn send_layers<'m, 'a, I: SegIndex, A: Allocator + Copy, W: Sink>(
     alloc: A,
     map: &Map<'a, I, A>,
@@ -88,9 +86,10 @@ pub(crate) fn send_layers<'m, 'a, I: SegIndex, A: Allocator + Copy, W: Sink>(
     requires working { W.has_failed out.old ≡ false }
     requires empty { text.old.items ≡ [] }
     requires frame { IsMapFrame map.now.doc frame.now }
-    requires mirrors { Mirrors (get edge_eq arcs.old.starts) [] }
-    requires none { arcs.old.list.items ≡ [] }
-    ensures arcs { OnOk result (arcs.new.list.items ≡ arcs_of map.now.doc) }
+    requires table { HasArcs (get edge_eq arcs.old.starts) arcs.old.count [] }
+    requires none { arcs.old.rings.items ≡ [] }
+    ensures table { OnOk result (HasArcs (get edge_eq arcs.new.starts) arcs.new.count (arcs_along map.now.doc arcs.new.rings.items)) }
+    ensures arcs { OnOk result (arcs_along map.now.doc arcs.new.rings.items ≡ arcs_of map.now.doc) }
     ensures empty { OnOk result (text.new.items ≡ []) }
     ensures ok { OnOk result (Appends (W.taken out.old) (W.taken out.new) (layers_text map.now.doc)) }
     ensures works { OnOk result (W.has_failed out.new ≡ false) }

@@ -2,6 +2,7 @@
 //! stood.
 #![tactic(auto)]
 
+mod arc_section;
 mod arcs;
 mod cutting;
 mod items;

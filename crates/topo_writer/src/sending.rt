@@ -1,11 +1,10 @@
 //! What is sent to a device.
-ghost use Rattle.std.specs.Prelude.{◌≡◌, ◌++◌, [], map, false, true, Err, OnOk, OnErr};
+ghost use Rattle.std.specs.Prelude.{◌≡◌, ◌++◌, [], false, true, Err, OnOk, OnErr};
 ghost use Rattle.std.specs.Io.KnownBytes.{Appends};
 ghost use Rattle.device_io.specs.Devices.{AppendsPrefix};
-ghost use Rattle.map_text.specs.Text.{commas, comma_if, arc_text};
+ghost use Rattle.map_text.specs.Text.{comma_if, arc_text};
 ghost use Rattle.topo_writer.specs.declared.sending.WriteFault.TheVariants.{Device, OutOfMemory};
 
-use crate::arcs::Arc;
 use crate::texts::{push_arc, push_comma};
 use device_io::{Failed, Sink, put_all};
 use grid_geometry::Pos;
@@ -77,7 +76,7 @@ pub(crate) fn flush<A: Allocator + Copy, W: Sink>(
 }
 
 /// Sends an arc, and a comma where something stands before.
-fn send_arc<A: Allocator + Copy, W: Sink>(
+pub(crate) fn send_arc<A: Allocator + Copy, W: Sink>(
     text: &mut Vec<u8, A>,
     out: &mut W,
     delta: bool,
@@ -95,27 +94,5 @@ fn send_arc<A: Allocator + Copy, W: Sink>(
 {
     push_next(text, delta, arc, more)?;
     flush(text, out)?;
-    Ok(())
-}
-
-/// Sends the arcs, with commas between them.
-pub(crate) fn send_arcs<A: Allocator + Copy, W: Sink>(
-    text: &mut Vec<u8, A>,
-    out: &mut W,
-    delta: bool,
-    arcs: &[Arc<A>],
-) -> Result<(), WriteFault>
-    requires working { W.has_failed out.old ≡ false }
-    requires empty { text.old.items ≡ [] }
-    ensures empty { OnOk result (text.new.items ≡ []) }
-    ensures ok { OnOk result (Appends (W.taken out.old) (W.taken out.new) (commas (map (arc_text delta) arcs.now))) }
-    ensures works { OnOk result (W.has_failed out.new ≡ false) }
-    ensures err { OnErr result (AppendsPrefix (W.taken out.old) (W.taken out.new) (commas (map (arc_text delta) arcs.now))) }
-    ensures device { result ≡ Err Device → W.has_failed out.new ≡ true }
-    ensures memory { result ≡ Err OutOfMemory → W.has_failed out.new ≡ false }
-{
-    for i in 0..arcs.len() {
-        send_arc(text, out, delta, arcs[i].positions(), i > 0)?;
-    }
     Ok(())
 }

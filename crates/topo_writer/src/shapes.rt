@@ -8,14 +8,15 @@ ghost use Rattle.ring_machine.specs.Planar.{Proper};
 ghost use Rattle.ring_machine.specs.Vertices.{is_junction};
 ghost use Rattle.arc_store.specs.Readers.{shown};
 ghost use Rattle.map_text.specs.Arcs.{pieces, with_pieces};
-ghost use Rattle.topo_writer.specs.Found.{Mirrors};
+ghost use Rattle.topo_writer.specs.Found.{HasArcs};
+ghost use Rattle.topo_writer.specs.Named.{arcs_along};
 ghost use Rattle.topo_writer.specs.Reading.{all_rings_at, polygons_at};
 ghost use Rattle.topo_outline.specs.Views.{form_of};
 ghost use Rattle.ring_machine.specs.Document.{Feature};
 ghost use Rattle.ring_machine.specs.WellFormed.{fits_form};
 ghost use Rattle.map_text.specs.Text.{type_text};
 ghost use Rattle.std.specs.Prelude.{true};
-ghost use Rattle.topo_writer.specs.Ways.{ArePieces, written_feature, written_polygons, written_shape};
+ghost use Rattle.topo_writer.specs.Ways.{written_feature, written_polygons, written_shape};
 
 use crate::arcs::Arcs;
 use crate::members::{push_kept, push_member_if};
@@ -38,15 +39,13 @@ pub(crate) fn push_polygons_of<'a, I: SegIndex, A: Allocator + Copy>(
     requires proper { Proper map.now.doc }
     requires seen { Some view.now ≡ option_map shown (feature map.now.doc n) }
     requires there { AllByRecursion (Contains (rings map.now.doc)) (all_rings_at map.now.doc n) }
-    requires mirrors { Mirrors (get edge_eq arcs.old.starts) arcs.old.list.items }
-    requires pieces { ArePieces map.now.doc arcs.old.list.items }
-    requires few { length arcs.old.list.items + sum_by length (all_rings_at map.now.doc n) ≤ 4000000 }
-    ensures mirrors { OnOk result (Mirrors (get edge_eq arcs.new.starts) arcs.new.list.items) }
-    ensures pieces { OnOk result (ArePieces map.now.doc arcs.new.list.items) }
-    ensures arcs { OnOk result (arcs.new.list.items
-        ≡ with_pieces arcs.old.list.items (flat_map (pieces (is_junction map.now.doc)) (all_rings_at map.now.doc n))) }
+    requires table { HasArcs (get edge_eq arcs.old.starts) arcs.old.count (arcs_along map.now.doc arcs.old.rings.items) }
+    requires few { length (arcs_along map.now.doc arcs.old.rings.items) + sum_by length (all_rings_at map.now.doc n) ≤ 4000000 }
+    ensures table { OnOk result (HasArcs (get edge_eq arcs.new.starts) arcs.new.count (arcs_along map.now.doc arcs.new.rings.items)) }
+    ensures arcs { OnOk result (arcs_along map.now.doc arcs.new.rings.items
+        ≡ with_pieces (arcs_along map.now.doc arcs.old.rings.items) (flat_map (pieces (is_junction map.now.doc)) (all_rings_at map.now.doc n))) }
     ensures text { OnOk result (text.new.items
-        ≡ text.old.items ++ written_polygons (is_junction map.now.doc) arcs.new.list.items (polygons_at map.now.doc n)) }
+        ≡ text.old.items ++ written_polygons (is_junction map.now.doc) (arcs_along map.now.doc arcs.new.rings.items) (polygons_at map.now.doc n)) }
 {
     for polygon in 0..view.polygon_count() {
         push_comma(text, polygon > 0)?;
@@ -69,15 +68,13 @@ fn push_shape<'a, I: SegIndex, A: Allocator + Copy>(
     requires seen { Some view.now ≡ option_map shown (feature map.now.doc n) }
     requires fits { (f : Feature) → feature map.now.doc n ≡ Some f → fits_form f ≡ true }
     requires there { AllByRecursion (Contains (rings map.now.doc)) (all_rings_at map.now.doc n) }
-    requires mirrors { Mirrors (get edge_eq arcs.old.starts) arcs.old.list.items }
-    requires pieces { ArePieces map.now.doc arcs.old.list.items }
-    requires few { length arcs.old.list.items + sum_by length (all_rings_at map.now.doc n) ≤ 4000000 }
-    ensures mirrors { OnOk result (Mirrors (get edge_eq arcs.new.starts) arcs.new.list.items) }
-    ensures pieces { OnOk result (ArePieces map.now.doc arcs.new.list.items) }
-    ensures arcs { OnOk result (arcs.new.list.items
-        ≡ with_pieces arcs.old.list.items (flat_map (pieces (is_junction map.now.doc)) (all_rings_at map.now.doc n))) }
+    requires table { HasArcs (get edge_eq arcs.old.starts) arcs.old.count (arcs_along map.now.doc arcs.old.rings.items) }
+    requires few { length (arcs_along map.now.doc arcs.old.rings.items) + sum_by length (all_rings_at map.now.doc n) ≤ 4000000 }
+    ensures table { OnOk result (HasArcs (get edge_eq arcs.new.starts) arcs.new.count (arcs_along map.now.doc arcs.new.rings.items)) }
+    ensures arcs { OnOk result (arcs_along map.now.doc arcs.new.rings.items
+        ≡ with_pieces (arcs_along map.now.doc arcs.old.rings.items) (flat_map (pieces (is_junction map.now.doc)) (all_rings_at map.now.doc n))) }
     ensures text { OnOk result (text.new.items
-        ≡ text.old.items ++ written_shape (is_junction map.now.doc) arcs.new.list.items view.now.form (polygons_at map.now.doc n)) }
+        ≡ text.old.items ++ written_shape (is_junction map.now.doc) (arcs_along map.now.doc arcs.new.rings.items) view.now.form (polygons_at map.now.doc n)) }
 {
     match view.form() {
         Form::Polygon => {
@@ -119,15 +116,13 @@ pub(crate) fn push_feature<'a, I: SegIndex, A: Allocator + Copy>(
     requires seen { Some view.now ≡ option_map shown (feature map.now.doc n) }
     requires fits { (f : Feature) → feature map.now.doc n ≡ Some f → fits_form f ≡ true }
     requires there { AllByRecursion (Contains (rings map.now.doc)) (all_rings_at map.now.doc n) }
-    requires mirrors { Mirrors (get edge_eq arcs.old.starts) arcs.old.list.items }
-    requires pieces { ArePieces map.now.doc arcs.old.list.items }
-    requires few { length arcs.old.list.items + sum_by length (all_rings_at map.now.doc n) ≤ 4000000 }
-    ensures mirrors { OnOk result (Mirrors (get edge_eq arcs.new.starts) arcs.new.list.items) }
-    ensures pieces { OnOk result (ArePieces map.now.doc arcs.new.list.items) }
-    ensures arcs { OnOk result (arcs.new.list.items
-        ≡ with_pieces arcs.old.list.items (flat_map (pieces (is_junction map.now.doc)) (all_rings_at map.now.doc n))) }
+    requires table { HasArcs (get edge_eq arcs.old.starts) arcs.old.count (arcs_along map.now.doc arcs.old.rings.items) }
+    requires few { length (arcs_along map.now.doc arcs.old.rings.items) + sum_by length (all_rings_at map.now.doc n) ≤ 4000000 }
+    ensures table { OnOk result (HasArcs (get edge_eq arcs.new.starts) arcs.new.count (arcs_along map.now.doc arcs.new.rings.items)) }
+    ensures arcs { OnOk result (arcs_along map.now.doc arcs.new.rings.items
+        ≡ with_pieces (arcs_along map.now.doc arcs.old.rings.items) (flat_map (pieces (is_junction map.now.doc)) (all_rings_at map.now.doc n))) }
     ensures text { OnOk result ((f : Feature) → feature map.now.doc n ≡ Some f
-        → text.new.items ≡ text.old.items ++ written_feature (is_junction map.now.doc) arcs.new.list.items f) }
+        → text.new.items ≡ text.old.items ++ written_feature (is_junction map.now.doc) (arcs_along map.now.doc arcs.new.rings.items) f) }
 {
     text.extend_from_slice(b"{\"type\":")?;
     text.extend_from_slice(type_token(view.form()))?;

@@ -8,10 +8,11 @@ ghost use Rattle.topo_outline.specs.Views.{view_kept};
 ghost use Rattle.topo_writer.specs.Sections.{begin_text, end_text, IsMapFrame};
 ghost use Rattle.topo_writer.specs.declared.sending.WriteFault.TheVariants.{Device, OutOfMemory};
 
+use crate::arc_section::send_arcs;
 use crate::arcs::Arcs;
 use crate::layers::send_layers;
 use crate::members::{push_kept, push_member_if};
-use crate::sending::{WriteFault, flush, send_arcs};
+use crate::sending::{WriteFault, flush};
 use arc_store::{FrameView, Map};
 use device_io::{Sink, put_all};
 use segment_index::SegIndex;
@@ -105,7 +106,7 @@ fn send_map<'m, 'a, I: SegIndex, A: Allocator + Copy, W: Sink>(
     send_layers(alloc, map, frame, &mut arcs, &mut text, out)?;
     put_all(out, b"},\"arcs\":[")?;
     let delta = frame.transform().is_some();
-    send_arcs(&mut text, out, delta, arcs.list.as_slice())?;
+    send_arcs(alloc, map, &arcs, delta, &mut text, out)?;
     send_end(&mut text, out, frame.members())?;
     Ok(())
 }

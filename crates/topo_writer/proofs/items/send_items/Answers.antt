@@ -8,6 +8,7 @@ use Rattle.ring_machine.proofs.First.{In, in_right}
 use Rattle.arc_store.specs.Items.{view_item_view}
 use Rattle.map_text.specs.Arcs.{pieces, with_pieces}
 use Rattle.map_text.specs.Text.{items_text}
+use Rattle.topo_writer.specs.Named.{arcs_along}
 use Rattle.topo_writer.specs.Items.{item_at, item_rings, items_at, items_written, open_heads, LeadsOn}
 use Rattle.topo_writer.specs.Opened.{is_begin, more_after, open_after}
 use Rattle.topo_writer.proofs.ItemLemmas.{shown_there, written_begins}
@@ -27,7 +28,7 @@ send_item-requires-clause-there g c =
 pub send_item-requires-clause-leads : goal.send_item-requires-clause-leads
 send_item-requires-clause-leads g c =
     let d = c.args.map.now.doc in
-    let arcs = c.loop-item.arcs.list.items in
+    let arcs = (arcs_along c.args.map.now.doc c.loop-item.arcs.rings.items) in
     leads_first d arcs (item_at d (view_item_view c.in-Some.item) ∷ []) (items_at d c.next.new.self)
     (subst (λ z. LeadsOn d arcs (items_at d z)) c.in-Some.ensures.steps c.loop-item.invariant.leads)
 
@@ -39,17 +40,16 @@ loop-item-preserved g c =
     let done = map view_item_view l.yielded in
     let s = view_item_view c.in-Some.item in
     let rest = c.next.new.self in
-    let start = c.args.arcs.now.list.items in
-    let arcs = l.arcs.list.items in
-    let next = c.send_item.new.arcs.list.items in
+    let start = (arcs_along c.args.map.now.doc c.args.arcs.now.rings.items) in
+    let arcs = arcs_along d l.arcs.rings.items in
+    let next = (arcs_along c.args.map.now.doc c.send_item.new.arcs.rings.items) in
     let seen : map view_item_view (l.yielded ++ c.in-Some.item ∷ []) ≡ done ++ s ∷ [] = map-append view_item_view l.yielded (c.in-Some.item ∷ []) in
     let whole : c.args.items ≡ done ++ s ∷ rest = l.invariant.all ∙ ap (λ z. done ++ z) c.in-Some.ensures.steps in
     let begins : is_begin [] (items_written d (done ++ s ∷ rest)) ≡ true =
     ap (λ z. is_begin [] (items_written d z)) (sym whole) ∙ written_begins d c.requires.formed c.args.items c.requires.shows in
     record {
       all = whole ∙ sym (append_assoc done (s ∷ []) rest) ∙ ap (λ z. z ++ rest) (sym seen);
-      mirrors = c.in_ok-more.ensures.mirrors;
-      of_document = c.in_ok-more.ensures.pieces;
+      table = c.in_ok-more.ensures.table;
       leads = leads_off d arcs next (item_at d s ∷ []) (items_at d rest) (subst (λ z. LeadsOn d arcs (items_at d z)) c.in-Some.ensures.steps l.invariant.leads) c.in_ok-more.ensures.arcs;
       arcs =
           arcs_step d done s start arcs next l.invariant.arcs c.in_ok-more.ensures.arcs

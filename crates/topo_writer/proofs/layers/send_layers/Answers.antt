@@ -1,4 +1,9 @@
-use Rattle.std.proofs.Common.{◌≡◌, ◌<◌, ap, ◌∙◌, arith, length}
+use Rattle.std.proofs.Common.{◌≡◌, ◌<◌, sym, ap, subst, ◌∙◌, arith, length}
+use Rattle.std.proofs.KnownBytes.{Appends-nil}
+use Rattle.indexmap.specs.IndexMap.{get}
+use Rattle.ring_machine.specs.Ring.{edge_eq}
+use Rattle.topo_writer.specs.Found.{HasArcs}
+use Rattle.topo_writer.specs.Named.{arcs_along}
 use Rattle.topo_writer.specs.Sections.{arcs_after, layer_at, layer_text}
 use Rattle.topo_writer.proofs.LayerLemmas.{arcs_whole, layer_count, layer_there}
 use Rattle.topo_writer.proofs.SectionLemmas.{on_err}
@@ -23,8 +28,7 @@ loop-i-preserved g c =
           sent_step (layer_text d) d.layers i (layer_at d i) within (layer_there d i within) _ _ _ c.loop-i.invariant.sent c.in_ok-send_layer.ensures.ok;
       empty = c.in_ok-send_layer.ensures.empty;
       works = c.in_ok-send_layer.ensures.works;
-      mirrors = c.in_ok-send_layer.ensures.mirrors;
-      pieces = c.in_ok-send_layer.ensures.pieces;
+      table = c.in_ok-send_layer.ensures.table;
       arcs = c.in_ok-send_layer.ensures.arcs;
     }
 
@@ -33,3 +37,14 @@ returns-clause-arcs g c =
     let d = c.args.map.now.doc in
     let all : c.loop-i.i ≡ length d.layers = omega (arith, layer_count d c.args.frame.now c.requires.frame) in
     c.loop-i.invariant.arcs ∙ ap (arcs_after d) all ∙ arcs_whole d
+
+pub loop-i-init : goal.loop-i-init
+loop-i-init g c = record {
+  sent = Appends-nil (g.W.Sink.taken c.args.out.now);
+  empty = c.requires.empty;
+  works = c.requires.working;
+  table =
+      subst (λ r. HasArcs (get edge_eq c.args.arcs.now.starts) c.args.arcs.now.count (arcs_along c.args.map.now.doc r)) (sym c.requires.none)
+      c.requires.table;
+  arcs = ap (arcs_along c.args.map.now.doc) c.requires.none;
+}

@@ -4,6 +4,7 @@ use Rattle.std.proofs.lemmas.List.{append-nil}
 use Rattle.std.proofs.lemmas.List.Sums.{sum_by-drop_more}
 use Rattle.ring_machine.specs.Parts.{rings}
 use Rattle.ring_machine.specs.Vertices.{is_junction}
+use Rattle.topo_writer.specs.Named.{arcs_along}
 use Rattle.topo_writer.specs.Reading.{positions_at, rings_at}
 use Rattle.topo_writer.proofs.Later.{arcs_step, text_step, ring_few}
 use Rattle.topo_writer.proofs.ReadRings.{ring_is, each_place, same_place}
@@ -16,11 +17,8 @@ push_ring_of-requires-clause-there g c =
     subst (Contains (rings c.args.map.now.doc)) (sym (ring_is c.args.map.now.doc c.args.n c.args.polygon c.loop-ring.ring))
     (each_place (Contains (rings c.args.map.now.doc)) rs c.loop-ring.ring [] c.requires.there h)
 
-pub push_ring_of-requires-clause-mirrors : goal.push_ring_of-requires-clause-mirrors
-push_ring_of-requires-clause-mirrors g c = c.loop-ring.invariant.mirrors
-
-pub push_ring_of-requires-clause-pieces : goal.push_ring_of-requires-clause-pieces
-push_ring_of-requires-clause-pieces g c = c.loop-ring.invariant.of_document
+pub push_ring_of-requires-clause-table : goal.push_ring_of-requires-clause-table
+push_ring_of-requires-clause-table g c = c.loop-ring.invariant.table
 
 pub push_ring_of-requires-clause-few : goal.push_ring_of-requires-clause-few
 push_ring_of-requires-clause-few g c =
@@ -30,8 +28,7 @@ push_ring_of-requires-clause-few g c =
 
 pub loop-ring-init : goal.loop-ring-init
 loop-ring-init g c = record {
-  mirrors = c.requires.mirrors;
-  of_document = c.requires.pieces;
+  table = c.requires.table;
   few = c.requires.few;
   arcs = refl;
   text = sym (append-nil c.args.text.now.items);
@@ -48,10 +45,9 @@ loop-ring-preserved g c =
     let e : r ≡ get_or rs i r = is ∙ same_place rs i [] r h in
     let arcs = c.in_ok-push_ring_of.ensures.arcs in
     record {
-      mirrors = c.in_ok-push_ring_of.ensures.mirrors;
-      of_document = c.in_ok-push_ring_of.ensures.pieces;
-      few = omega (arith, c.loop-ring.invariant.few, sum_by-drop_more length rs i [] h, ap length is, ap length arcs, ring_few (is_junction d) c.loop-ring.arcs.list.items r);
-      arcs = arcs_step (is_junction d) c.args.arcs.now.list.items rs i r h e c.loop-ring.arcs.list.items c.push_ring_of.new.arcs.list.items c.loop-ring.invariant.arcs arcs;
-      text = text_step (is_junction d) c.args.arcs.now.list.items rs i r h e c.loop-ring.arcs.list.items c.push_ring_of.new.arcs.list.items c.loop-ring.invariant.arcs arcs
+      table = c.in_ok-push_ring_of.ensures.table;
+      few = omega (arith, c.loop-ring.invariant.few, sum_by-drop_more length rs i [] h, ap length is, ap length arcs, ring_few (is_junction d) (arcs_along c.args.map.now.doc c.loop-ring.arcs.rings.items) r);
+      arcs = arcs_step (is_junction d) (arcs_along c.args.map.now.doc c.args.arcs.now.rings.items) rs i r h e (arcs_along c.args.map.now.doc c.loop-ring.arcs.rings.items) (arcs_along c.args.map.now.doc c.push_ring_of.new.arcs.rings.items) c.loop-ring.invariant.arcs arcs;
+      text = text_step (is_junction d) (arcs_along c.args.map.now.doc c.args.arcs.now.rings.items) rs i r h e (arcs_along c.args.map.now.doc c.loop-ring.arcs.rings.items) (arcs_along c.args.map.now.doc c.push_ring_of.new.arcs.rings.items) c.loop-ring.invariant.arcs arcs
           c.args.text.now.items c.loop-ring.text.items c.push_comma.new.text.items c.push_ring_of.new.text.items c.loop-ring.invariant.text c.in_ok-push_comma.ensures c.in_ok-push_ring_of.ensures.text;
     }

@@ -4,16 +4,16 @@ use Rattle.indexmap.specs.IndexMap.{get}
 use Rattle.ring_machine.specs.Ring.{edge_eq}
 use Rattle.ring_machine.specs.Vertices.{is_junction}
 use Rattle.map_text.specs.Arcs.{pieces, with_pieces}
-use Rattle.topo_writer.specs.Found.{Mirrors}
+use Rattle.topo_writer.specs.Found.{HasArcs}
+use Rattle.topo_writer.specs.Named.{arcs_along}
 use Rattle.topo_writer.specs.Reading.{rings_at}
-use Rattle.topo_writer.specs.Ways.{ArePieces, written_rings}
+use Rattle.topo_writer.specs.Ways.{written_rings}
 use Rattle.topo_writer.proofs.rings.push_rings_of.Given as goal
 
 abbrev pub invariant-loop-ring : goal.invariant-loop-ring
 invariant-loop-ring g l = record {
-  mirrors : Mirrors (get edge_eq l.arcs.starts) l.arcs.list.items;
-  of_document : ArePieces l.map.doc l.arcs.list.items;
-  few : length l.arcs.list.items + sum_by length (drop l.ring (rings_at l.map.doc l.n l.polygon)) ≤ 4000000;
-  arcs : l.arcs.list.items ≡ with_pieces l.fn.arcs.list.items (flat_map (pieces (is_junction l.map.doc)) (take l.ring (rings_at l.map.doc l.n l.polygon)));
-  text : l.text.items ≡ l.fn.text.items ++ written_rings (is_junction l.map.doc) l.arcs.list.items (take l.ring (rings_at l.map.doc l.n l.polygon));
+  table : HasArcs (get edge_eq l.arcs.starts) l.arcs.count (arcs_along l.map.doc l.arcs.rings.items);
+  few : length (arcs_along l.map.doc l.arcs.rings.items) + sum_by length (drop l.ring (rings_at l.map.doc l.n l.polygon)) ≤ 4000000;
+  arcs : arcs_along l.map.doc l.arcs.rings.items ≡ with_pieces (arcs_along l.map.doc l.fn.arcs.rings.items) (flat_map (pieces (is_junction l.map.doc)) (take l.ring (rings_at l.map.doc l.n l.polygon)));
+  text : l.text.items ≡ l.fn.text.items ++ written_rings (is_junction l.map.doc) (arcs_along l.map.doc l.arcs.rings.items) (take l.ring (rings_at l.map.doc l.n l.polygon));
 }

@@ -4,6 +4,7 @@ use Rattle.std.specs.List.{AllByRecursion}
 use Rattle.std.proofs.lemmas.List.{append-nil}
 use Rattle.ring_machine.specs.Parts.{rings}
 use Rattle.ring_machine.specs.Vertices.{is_junction}
+use Rattle.topo_writer.specs.Named.{arcs_along}
 use Rattle.topo_writer.specs.Reading.{rings_at, polygons_at}
 use Rattle.topo_writer.specs.Ways.{written_polygon}
 use Rattle.topo_writer.proofs.LaterParts.{each_part, in_place, polygon_same, rings_few, left_step, part_arcs, part_text}
@@ -23,11 +24,8 @@ push_polygon_of-requires-clause-there g c =
     subst (AllByRecursion (Contains (rings d))) (sym (polygon_is_at d c.args.n c.loop-polygon.polygon))
     (each_part (Contains (rings d)) (λ polygon. polygon) ps (get_or ps c.loop-polygon.polygon []) (in_place ps c.loop-polygon.polygon [] h) c.requires.there)
 
-pub push_polygon_of-requires-clause-mirrors : goal.push_polygon_of-requires-clause-mirrors
-push_polygon_of-requires-clause-mirrors g c = c.loop-polygon.invariant.mirrors
-
-pub push_polygon_of-requires-clause-pieces : goal.push_polygon_of-requires-clause-pieces
-push_polygon_of-requires-clause-pieces g c = c.loop-polygon.invariant.of_document
+pub push_polygon_of-requires-clause-table : goal.push_polygon_of-requires-clause-table
+push_polygon_of-requires-clause-table g c = c.loop-polygon.invariant.table
 
 pub push_polygon_of-requires-clause-few : goal.push_polygon_of-requires-clause-few
 push_polygon_of-requires-clause-few g c =
@@ -40,8 +38,7 @@ push_polygon_of-requires-clause-few g c =
 
 pub loop-polygon-init : goal.loop-polygon-init
 loop-polygon-init g c = record {
-  mirrors = c.requires.mirrors;
-  of_document = c.requires.pieces;
+  table = c.requires.table;
   few = c.requires.few;
   arcs = refl;
   text = sym (append-nil c.args.text.now.items);
@@ -58,10 +55,9 @@ loop-polygon-preserved g c =
     let e : p ≡ get_or ps i p = polygon_is_at d c.args.n i ∙ same_place ps i [] p h in
     let arcs = c.in_ok-push_polygon_of.ensures.arcs in
     record {
-      mirrors = c.in_ok-push_polygon_of.ensures.mirrors;
-      of_document = c.in_ok-push_polygon_of.ensures.pieces;
-      few = omega (arith, c.loop-polygon.invariant.few, left_step (λ polygon. polygon) ps i p h e, ap length arcs, rings_few j c.loop-polygon.arcs.list.items p);
-      arcs = part_arcs j c.args.arcs.now.list.items (λ polygon. polygon) ps i p h e c.loop-polygon.arcs.list.items c.push_polygon_of.new.arcs.list.items c.loop-polygon.invariant.arcs arcs;
-      text = part_text j c.args.arcs.now.list.items (λ polygon. polygon) (written_polygon j) (polygon_same j) ps i p h e c.loop-polygon.arcs.list.items c.push_polygon_of.new.arcs.list.items c.loop-polygon.invariant.arcs arcs
+      table = c.in_ok-push_polygon_of.ensures.table;
+      few = omega (arith, c.loop-polygon.invariant.few, left_step (λ polygon. polygon) ps i p h e, ap length arcs, rings_few j (arcs_along c.args.map.now.doc c.loop-polygon.arcs.rings.items) p);
+      arcs = part_arcs j (arcs_along c.args.map.now.doc c.args.arcs.now.rings.items) (λ polygon. polygon) ps i p h e (arcs_along c.args.map.now.doc c.loop-polygon.arcs.rings.items) (arcs_along c.args.map.now.doc c.push_polygon_of.new.arcs.rings.items) c.loop-polygon.invariant.arcs arcs;
+      text = part_text j (arcs_along c.args.map.now.doc c.args.arcs.now.rings.items) (λ polygon. polygon) (written_polygon j) (polygon_same j) ps i p h e (arcs_along c.args.map.now.doc c.loop-polygon.arcs.rings.items) (arcs_along c.args.map.now.doc c.push_polygon_of.new.arcs.rings.items) c.loop-polygon.invariant.arcs arcs
           c.args.text.now.items c.loop-polygon.text.items c.push_comma.new.text.items c.push_polygon_of.new.text.items c.loop-polygon.invariant.text c.in_ok-push_comma.ensures c.in_ok-push_polygon_of.ensures.text;
     }

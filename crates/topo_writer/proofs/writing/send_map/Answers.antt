@@ -1,6 +1,21 @@
-use Rattle.std.proofs.Common.{◌∙◌}
+use Rattle.std.proofs.Common.{arith, ap, [], length}
+use Rattle.ring_machine.specs.Parts.{rings}
+use Rattle.ring_machine.specs.Vertices.{is_junction}
+use Rattle.topo_writer.specs.Named.{arcs_along}
+use Rattle.topo_writer.proofs.LaterParts.{rings_few}
 use Rattle.topo_writer.proofs.SectionLemmas.{all_sent, at_arcs, at_begin, at_end, at_layers, at_middle, on_err}
 use Rattle.topo_writer.proofs.writing.send_map.Goals as goal
+
+pub send_arcs-requires-clause-few : goal.send_arcs-requires-clause-few
+send_arcs-requires-clause-few g c =
+    let d = c.args.map.now.doc in
+    omega (
+      arith,
+      c.requires.frame.small,
+      rings_few (is_junction d) [] (rings d),
+      c.in_ok-send_layers.ensures.table.counts,
+      ap length c.in_ok-send_layers.ensures.arcs,
+    )
 
 pub returns-in_err-send_begin-clause-err : goal.returns-in_err-send_begin-clause-err
 returns-in_err-send_begin-clause-err g c =
@@ -24,7 +39,7 @@ returns-in_err-send_arcs-clause-err g c =
     on_err c.from_residual-in_err-send_arcs.result _
     (at_arcs c.args.map.now.doc c.args.frame.now c.requires.frame _ _ _ c.transform.ensures c.in_ok-send_begin.ensures.ok
     _ c.in_ok-send_layers.ensures.ok _ c.in_ok-put_all.ensures.ok
-    c.as_slice.result.now (c.as_slice.ensures.value ∙ c.in_ok-send_layers.ensures.arcs) (λ t. t.now) c.transform-2.result c.transform-2.ensures _ c.is_some-delta.ensures
+    (arcs_along c.args.map.now.doc c.send_layers.new.arcs.rings.items) c.in_ok-send_layers.ensures.arcs (λ t. t.now) c.transform-2.result c.transform-2.ensures _ c.is_some-delta.ensures
     _ c.in_err-send_arcs.ensures.err)
 
 pub returns-in_err-send_end-clause-err : goal.returns-in_err-send_end-clause-err
@@ -32,12 +47,12 @@ returns-in_err-send_end-clause-err g c =
     on_err c.from_residual-in_err-send_end.result _
     (at_end c.args.map.now.doc c.args.frame.now c.requires.frame _ _ _ c.transform.ensures c.in_ok-send_begin.ensures.ok
     _ c.in_ok-send_layers.ensures.ok _ c.in_ok-put_all.ensures.ok
-    c.as_slice.result.now (c.as_slice.ensures.value ∙ c.in_ok-send_layers.ensures.arcs) (λ t. t.now) c.transform-2.result c.transform-2.ensures _ c.is_some-delta.ensures
+    (arcs_along c.args.map.now.doc c.send_layers.new.arcs.rings.items) c.in_ok-send_layers.ensures.arcs (λ t. t.now) c.transform-2.result c.transform-2.ensures _ c.is_some-delta.ensures
     _ c.in_ok-send_arcs.ensures.ok _ c.members.ensures _ c.in_err-send_end.ensures.err)
 
 pub returns-clause-ok : goal.returns-clause-ok
 returns-clause-ok g c =
     all_sent c.args.map.now.doc c.args.frame.now c.requires.frame _ _ _ c.transform.ensures c.in_ok-send_begin.ensures.ok
     _ c.in_ok-send_layers.ensures.ok _ c.in_ok-put_all.ensures.ok
-    c.as_slice.result.now (c.as_slice.ensures.value ∙ c.in_ok-send_layers.ensures.arcs) (λ t. t.now) c.transform-2.result c.transform-2.ensures _ c.is_some-delta.ensures
+    (arcs_along c.args.map.now.doc c.send_layers.new.arcs.rings.items) c.in_ok-send_layers.ensures.arcs (λ t. t.now) c.transform-2.result c.transform-2.ensures _ c.is_some-delta.ensures
     _ c.in_ok-send_arcs.ensures.ok _ c.members.ensures _ c.in_ok-send_end.ensures.ok

@@ -1,50 +1,76 @@
-use Rattle.std.proofs.Common.{rules, arith, ◌≡◌, pos, negsuc, None, Some, sym, ap, ap₂, ◌∙◌, length, ◌++◌}
+use Rattle.std.proofs.Common.{rules, arith, ◌≡◌, ℤ, pos, negsuc, None, Some, sym, ap, ap₂, subst, ◌∙◌, length, ◌+◌, ◌++◌, cond, List}
 use Rattle.std.proofs.Common.{[], ◌∷◌, ◌-◌, to_z, of_z, w64}
+use Rattle.std.specs.Prelude.{is_some}
 use Rattle.std.proofs.Math.Facts.{to_z-of_z}
+use Rattle.std.proofs.lemmas.List.{length-append}
+use Rattle.grid_geometry.specs.Position.{Position}
 use Rattle.indexmap.specs.IndexMap.{get}
 use Rattle.ring_machine.specs.Ring.{edge_eq}
-use Rattle.topo_writer.specs.Found.{found, first_edge, last_edge}
-use Rattle.topo_writer.proofs.FoundLaws.{found_first, found_both, at_place_is}
+use Rattle.topo_writer.specs.Found.{found, first_edge, last_edge, with_found, Fits, HasArcs}
+use Rattle.topo_writer.proofs.FoundLaws.{found_first, found_both, found_known, at_place_is}
 use Rattle.topo_writer.proofs.arcs.Arcs.index.Given.{Over}
 use Rattle.topo_writer.proofs.arcs.Arcs.index.Goals as goal
 
-begin : (g : Over) (c : goal.In_ok-note-2 g) → (c.index-piece-0.result, c.index-piece-1.result) ≡ first_edge c.args.piece.now
-begin g c = ap₂ (λ x y. (x, y)) (at_place_is c.args.piece.now 0 _ (omega (arith, c.requires.fits.long)) c.index-piece-0.is) (at_place_is c.args.piece.now 1 _ (omega (arith, c.requires.fits.long)) c.index-piece-1.is)
+-- ---- where the piece is found
 
-begin-2 : (g : Over) (c : goal.In_ok-note-2 g) → (c.index-piece-0-2.result, c.index-piece-1-2.result) ≡ first_edge c.args.piece.now
-begin-2 g c = ap₂ (λ x y. (x, y)) (at_place_is c.args.piece.now 0 _ (omega (arith, c.requires.fits.long)) c.index-piece-0-2.is) (at_place_is c.args.piece.now 1 _ (omega (arith, c.requires.fits.long)) c.index-piece-1-2.is)
+pub returns-in-Some-clause-arcs : goal.returns-in-Some-clause-arcs
+returns-in-Some-clause-arcs g c arcs h f =
+    let first : (c.index-piece-0.result, c.index-piece-1.result) ≡ first_edge c.args.piece.now =
+    ap₂ (λ x y. (x, y)) (at_place_is c.args.piece.now 0 _ (omega (arith, c.requires.long)) c.index-piece-0.is) (at_place_is c.args.piece.now 1 _ (omega (arith, c.requires.long)) c.index-piece-1.is) in
+    subst (HasArcs (get edge_eq c.args.self.now.starts) c.args.self.now.count)
+    (sym (found_known arcs c.args.piece.now _ _ (get edge_eq c.args.self.now.starts) h.mirrors first c.in-Some.ensures).0) h
 
-end : (g : Over) (c : goal.In_ok-note-2 g) → (c.index-piece-n.result, c.index-piece-n-2.result) ≡ last_edge c.args.piece.now
-end g c = ap₂ (λ x y. (x, y)) (at_place_is c.args.piece.now (length c.args.piece.now - 1) _ (omega (arith, c.requires.fits.long)) c.index-piece-n.is) (at_place_is c.args.piece.now (length c.args.piece.now - 2) _ (omega (arith, c.requires.fits.long)) c.index-piece-n-2.is)
+pub returns-in-Some-clause-index : goal.returns-in-Some-clause-index
+returns-in-Some-clause-index g c arcs h f =
+    let first : (c.index-piece-0.result, c.index-piece-1.result) ≡ first_edge c.args.piece.now =
+    ap₂ (λ x y. (x, y)) (at_place_is c.args.piece.now 0 _ (omega (arith, c.requires.long)) c.index-piece-0.is) (at_place_is c.args.piece.now 1 _ (omega (arith, c.requires.long)) c.index-piece-1.is) in
+    let known = found_known arcs c.args.piece.now _ _ (get edge_eq c.args.self.now.starts) h.mirrors first c.in-Some.ensures in
+    let e : to_z w64 (of_z w64 c.in-Some.index) ≡ c.in-Some.index = search (rules, to_z-of_z) in
+    ap (λ z. found z (first_edge c.args.piece.now)) known.0 ∙ known.1 ∙ ap (λ z. Some z) (sym e)
 
-none_first : (g : Over) (c : goal.In_ok-note-2 g) → found c.args.self.now.list.items (first_edge c.args.piece.now) ≡ None
-none_first g c = ap (found c.args.self.now.list.items) (sym (begin g c)) ∙ sym (c.requires.mirrors (c.index-piece-0.result, c.index-piece-1.result)) ∙ sym c.in_default.ensures
+-- ---- where it becomes an arc
 
-items : (g : Over) (c : goal.In_ok-note-2 g) → c.note-2.new.self.list.items ≡ c.args.self.now.list.items ++ c.args.piece.now ∷ []
-items g c =
-    ap (λ l. l.items) (c.in_ok-note-2.ensures.list ∙ c.in_ok-note.ensures.list) ∙ c.in_ok-push.ensures.items
-    ∙ ap (λ a. c.args.self.now.list.items ++ a ∷ []) c.in_ok-new.ensures
+begin : (g : Over) (c : goal.After-self-1 g) → (c.index-piece-0.result, c.index-piece-1.result) ≡ first_edge c.args.piece.now
+begin g c = ap₂ (λ x y. (x, y)) (at_place_is c.args.piece.now 0 _ (omega (arith, c.requires.long)) c.index-piece-0.is) (at_place_is c.args.piece.now 1 _ (omega (arith, c.requires.long)) c.index-piece-1.is)
 
-forward_is : (g : Over) (c : goal.In_ok-note-2 g) → to_z w64 (of_z w64 c.forward-index.result) ≡ pos (length c.args.self.now.list.items)
-forward_is g c =
-    let h : to_z w64 (of_z w64 c.forward-index.result) ≡ c.forward-index.result = search (rules, to_z-of_z) in
-    h ∙ c.forward-index.ensures ∙ ap pos (c.len.ensures ∙ search rules)
+begin-2 : (g : Over) (c : goal.After-self-1 g) → (c.index-piece-0-2.result, c.index-piece-1-2.result) ≡ first_edge c.args.piece.now
+begin-2 g c = ap₂ (λ x y. (x, y)) (at_place_is c.args.piece.now 0 _ (omega (arith, c.requires.long)) c.index-piece-0-2.is) (at_place_is c.args.piece.now 1 _ (omega (arith, c.requires.long)) c.index-piece-1-2.is)
 
-backward_is : (g : Over) (c : goal.In_ok-note-2 g) → to_z w64 (of_z w64 c.backward-reversed.result) ≡ negsuc (length c.args.self.now.list.items)
-backward_is g c =
-    let h : to_z w64 (of_z w64 c.backward-reversed.result) ≡ c.backward-reversed.result = search (rules, to_z-of_z) in
-    h ∙ c.backward-reversed.ensures ∙ ap negsuc (c.len-2.ensures ∙ search rules)
+end : (g : Over) (c : goal.After-self-1 g) → (c.index-piece-n.result, c.index-piece-n-2.result) ≡ last_edge c.args.piece.now
+end g c = ap₂ (λ x y. (x, y)) (at_place_is c.args.piece.now (length c.args.piece.now - 1) _ (omega (arith, c.requires.long)) c.index-piece-n.is) (at_place_is c.args.piece.now (length c.args.piece.now - 2) _ (omega (arith, c.requires.long)) c.index-piece-n-2.is)
+
+module _ (g : Over) (c : goal.After-self-1 g) (arcs : List (List Position)) (h : HasArcs (get edge_eq c.args.self.now.starts) c.args.self.now.count arcs) where
+  none_first : found arcs (first_edge c.args.piece.now) ≡ None
+  none_first = ap (found arcs) (sym (begin g c)) ∙ sym (h.mirrors (c.index-piece-0.result, c.index-piece-1.result)) ∙ sym c.in_default.ensures
+
+  grown : with_found arcs c.args.piece.now ≡ arcs ++ c.args.piece.now ∷ []
+  grown = ap (λ o. cond (is_some o) arcs (arcs ++ c.args.piece.now ∷ [])) none_first
+
+  forward_is : to_z w64 (of_z w64 c.forward-index.result) ≡ pos (length arcs)
+  forward_is =
+      let e : to_z w64 (of_z w64 c.forward-index.result) ≡ c.forward-index.result = search (rules, to_z-of_z) in
+      e ∙ c.forward-index.ensures ∙ ap pos h.counts
+
+  backward_is : to_z w64 (of_z w64 c.backward-reversed.result) ≡ negsuc (length arcs)
+  backward_is =
+      let e : to_z w64 (of_z w64 c.backward-reversed.result) ≡ c.backward-reversed.result = search (rules, to_z-of_z) in
+      e ∙ c.backward-reversed.ensures ∙ ap negsuc h.counts
 
 pub returns-clause-index : goal.returns-clause-index
-returns-clause-index g c =
-    ap (λ arcs. found arcs (first_edge c.args.piece.now)) (items g c)
-    ∙ found_first c.args.self.now.list.items c.args.piece.now (none_first g c) ∙ ap (λ z. Some z) (sym (forward_is g c))
+returns-clause-index g c arcs h f =
+    ap (λ z. found z (first_edge c.args.piece.now)) (grown g c arcs h)
+    ∙ found_first arcs c.args.piece.now (none_first g c arcs h) ∙ ap (λ z. Some z) (sym (forward_is g c arcs h))
 
-pub returns-clause-mirrors : goal.returns-clause-mirrors
-returns-clause-mirrors g c = λ e.
-    found_both c.args.self.now.list.items c.args.piece.now (get edge_eq c.args.self.now.starts) (get edge_eq c.note.new.self.starts) (get edge_eq c.note-2.new.self.starts)
-    (c.index-piece-0-2.result, c.index-piece-1-2.result) (c.index-piece-n.result, c.index-piece-n-2.result)
-    (to_z w64 (of_z w64 c.forward-index.result)) (to_z w64 (of_z w64 c.backward-reversed.result)) (begin-2 g c) (end g c) (forward_is g c) (backward_is g c)
-    c.requires.mirrors (none_first g c) (c.requires.fits.both (none_first g c)) c.requires.fits.apart
-    c.in_ok-note.ensures.updates.0 c.in_ok-note-2.ensures.updates.0 e
-    ∙ ap (λ arcs. found arcs e) (sym (items g c))
+pub returns-clause-arcs : goal.returns-clause-arcs
+returns-clause-arcs g c arcs h f =
+    let none = none_first g c arcs h in
+    record {
+      mirrors = λ e.
+          found_both arcs c.args.piece.now (get edge_eq c.args.self.now.starts) (get edge_eq c.note.new.self.starts) (get edge_eq c.note-2.new.self.starts)
+          (c.index-piece-0-2.result, c.index-piece-1-2.result) (c.index-piece-n.result, c.index-piece-n-2.result)
+          (to_z w64 (of_z w64 c.forward-index.result)) (to_z w64 (of_z w64 c.backward-reversed.result)) (begin-2 g c) (end g c) (forward_is g c arcs h) (backward_is g c arcs h)
+          h.mirrors none (f.both none) f.apart
+          c.in_ok-note.ensures.updates.0 c.in_ok-note-2.ensures.updates.0 e
+          ∙ ap (λ z. found z e) (sym (grown g c arcs h));
+      counts = omega (arith, h.counts, c.in_ok-note.ensures.count, c.in_ok-note-2.ensures.count, ap length (grown g c arcs h), length-append arcs (c.args.piece.now ∷ []));
+    }
