@@ -90,7 +90,7 @@ module _ (d : Document) (n : ℕ) (id : Text) (path : Path) (number : ℕ) where
   feature-cut_other m o k =
       ap (λ e. feature e m) cut_is
       ∙ feature-instead_other d n parts m o (λ f i e.
-        ap₂ (λ a b. a || b) (ap (λ j. j == m) e ∙ o) (new_in m f (first_that (is_cut_by path) f.polygons) k))
+      ap₂ (λ a b. a || b) (ap (λ j. j == m) e ∙ o) (new_in m f (first_that (is_cut_by path) f.polygons) k))
 
   pub has_feature-cut_other : (m : ℕ) → (n == m) ≡ false → (number == m) ≡ false
       → has_feature (cut d n id path number) m ≡ has_feature d m
@@ -130,12 +130,12 @@ module _ (d : Document) (n : ℕ) (id : Text) (path : Path) (number : ℕ) where
       → WellFormed (cut d n id path number)
   formed-cut formed collected new =
       subst WellFormed (sym cut_is) (formed-instead n parts d formed (λ f e.
-          let k = feature_in d n f e in
-          let fits : fits_form (stays path f) ≡ true =
-              fits-count f (change_first (is_cut_by path) (first_polygon path) f.polygons) (length-change_first (is_cut_by path) (first_polygon path) f.polygons)
-              ∙ all_in fits_form (features d) f formed.forms k.0 in
-          of f k.1 fits (has_feature-found d n ∙ ap is_some e)
-          (first_that (is_cut_by path) f.polygons) (first_that_short (is_cut_by path) f.polygons)))
+      let k = feature_in d n f e in
+      let fits : fits_form (stays path f) ≡ true =
+      fits-count f (change_first (is_cut_by path) (first_polygon path) f.polygons) (length-change_first (is_cut_by path) (first_polygon path) f.polygons)
+      ∙ all_in fits_form (features d) f formed.forms k.0 in
+      of f k.1 fits (has_feature-found d n ∙ ap is_some e)
+      (first_that (is_cut_by path) f.polygons) (first_that_short (is_cut_by path) f.polygons)))
     where
       of : (f : Feature) → f.number ≡ n → fits_form (stays path f) ≡ true → has_feature d n ≡ true
           → (ps : List (List (List Position))) → length ps ≤ 1

@@ -108,7 +108,7 @@ impl<A: Allocator + Copy> Arcs<A> {
         Ok(index)
     }
 
-    /// The indexes of the pieces of a ring, which is named so. A piece that is no arc yet becomes the
+    /// The indexes of the pieces of a ring. A piece that is no arc yet becomes the
     /// next one.
     pub(crate) fn index_all(
         &mut self,
