@@ -1,0 +1,131 @@
+-- What was read can stand as a frame: the document is well formed whatever its rings are.
+use Rattle.std.proofs.Common.{◌≡◌, ◌∙◌, ℕ, zero, suc, ◌+◌, ◌<◌, ◌≤◌, refl, sym, ap, ap₂, subst, arith}
+use Rattle.std.proofs.Common.{List, [], ◌∷◌, ◌++◌, length, map, Option, option_map, get_or, take, drop, ◌&&◌}
+use Rattle.std.specs.Prelude.{◌==◌, Vec, unwrap_or, slice_get, IsTrue}
+use Rattle.std.specs.List.{flat_map, filter_map, list_all}
+use Rattle.std.proofs.lemmas.List.{length-map}
+use Rattle.std.proofs.lemmas.List.Folds.{list_all-append}
+use Rattle.std.proofs.lemmas.List.{map-append, take_more}
+use Rattle.ring_machine.specs.Document.{FeatureOf, LayerOf, DocumentOf, Polygon, MultiPolygon, Null}
+use Rattle.ring_machine.specs.Parts.{feature_of, features}
+use Rattle.ring_machine.specs.WellFormed.{WellFormed, is_inner, is_geometry, fits_form, are_distinct}
+use Rattle.map_opening.specs.Laying.{polygon_numbers, feature_numbers}
+use Rattle.topo_outline.specs.Outline.{leaves_in, leaves}
+use Rattle.topo_outline.specs.Shape.{LayerText, Piece, starts, ends, leaf, text}
+use Rattle.topo_outline.specs.Views.{view_kept, view_layer}
+use Rattle.topo_reader.specs.declared.document.RawDoc.{RawDoc}
+use Rattle.topo_reader.specs.Document.{polygons_at, items_from, layers_from, IsOfRings}
+use Rattle.topo_reader.specs.DocumentView.{view_raw}
+use Rattle.topo_reader.specs.Uses.{polygon_positions, feature_positions}
+use Rattle.map_frame.specs.Opened.{opened, CanStand}
+
+-- one more element with a number of elements that is known
+pub lengths_more : {X Y : Type 0} (f : X → ℕ) (g : Y → ℕ) (ys : List Y) (i : ℕ) (y : Y) (ns new : List X) (n : X) → i < length ys
+    → y ≡ get_or ys i y → map f ns ≡ map g (take i ys) → f n ≡ g y → new ≡ ns ++ n ∷ []
+    → map f new ≡ map g (take (i + 1) ys)
+lengths_more f g ys i y ns new n l here k e come =
+    ap (map f) come ∙ map-append f ns (n ∷ []) ∙ ap₂ (λ (as' : List ℕ) (b : ℕ). as' ++ b ∷ []) k e
+    ∙ sym (ap (map g) (take_more ys i y l ∙ ap (λ z. take i ys ++ z ∷ []) (sym here)) ∙ map-append g (take i ys) (y ∷ []))
+
+module _ {R S : Type 0} where
+  at_length : (all : List (List (List R))) (other : List (List (List S))) → map length all ≡ map length other → (n : ℕ)
+      → length (polygons_at all n) ≡ length (polygons_at other n)
+  at_length [] [] e n = refl
+  at_length [] (y ∷ ys) e n = absurd cc
+  at_length (x ∷ xs) [] e n = absurd cc
+  at_length (x ∷ xs) (y ∷ ys) e zero = ap (λ (l : List ℕ). get_or l 0 0) e
+  at_length (x ∷ xs) (y ∷ ys) e (suc n) = at_length xs ys (ap (λ (l : List ℕ). drop 1 l) e) n
+
+  module _ (all : List (List (List R))) (other : List (List (List S))) (e : map length all ≡ map length other) where
+    inner_same : (k n : ℕ) (ps : List Piece) → is_inner k (items_from n all ps) ≡ is_inner k (items_from n other ps)
+    inner_same zero n [] = refl
+    inner_same zero n (starts h ∷ ps) = refl
+    inner_same zero n (ends ∷ ps) = refl
+    inner_same zero n (leaf form h arcs ∷ ps) = refl
+    inner_same zero n (text t ∷ ps) = refl
+    inner_same (suc k) n [] = refl
+    inner_same (suc k) n (starts h ∷ ps) = inner_same (suc (suc k)) n ps
+    inner_same (suc k) n (ends ∷ ps) = inner_same k n ps
+    inner_same (suc k) n (leaf form h arcs ∷ ps) = inner_same (suc k) (n + 1) ps
+    inner_same (suc k) n (text t ∷ ps) = inner_same (suc k) n ps
+
+    geometry_same : (n : ℕ) (ps : List Piece) → is_geometry (items_from n all ps) ≡ is_geometry (items_from n other ps)
+    geometry_same n [] = refl
+    geometry_same n (starts h ∷ ps) = inner_same 1 n ps
+    geometry_same n (ends ∷ ps) = refl
+    geometry_same n (leaf form h arcs ∷ ps) = inner_same 0 (n + 1) ps
+    geometry_same n (text t ∷ ps) = inner_same 0 n ps
+
+    forms_same : (n : ℕ) (ps : List Piece)
+        → list_all fits_form (filter_map feature_of (items_from n all ps)) ≡ list_all fits_form (filter_map feature_of (items_from n other ps))
+    forms_same n [] = refl
+    forms_same n (starts h ∷ ps) = forms_same n ps
+    forms_same n (ends ∷ ps) = forms_same n ps
+    forms_same n (text t ∷ ps) = forms_same n ps
+    forms_same n (leaf Polygon h arcs ∷ ps) = ap₂ (λ k b. (k == 1) && b) (at_length all other e n) (forms_same (n + 1) ps)
+    forms_same n (leaf MultiPolygon h arcs ∷ ps) = forms_same (n + 1) ps
+    forms_same n (leaf Null h arcs ∷ ps) = ap₂ (λ k b. (k == 0) && b) (at_length all other e n) (forms_same (n + 1) ps)
+
+    numbers_same : (n : ℕ) (ps : List Piece)
+        → map (λ f. f.number) (filter_map feature_of (items_from n all ps)) ≡ map (λ f. f.number) (filter_map feature_of (items_from n other ps))
+    numbers_same n [] = refl
+    numbers_same n (starts h ∷ ps) = numbers_same n ps
+    numbers_same n (ends ∷ ps) = numbers_same n ps
+    numbers_same n (text t ∷ ps) = numbers_same n ps
+    numbers_same n (leaf form h arcs ∷ ps) = ap (λ ns. n ∷ ns) (numbers_same (n + 1) ps)
+
+    layers_geometries : (n : ℕ) (ls : List LayerText)
+        → list_all (λ l. is_geometry l.items) (layers_from n all ls) ≡ list_all (λ l. is_geometry l.items) (layers_from n other ls)
+    layers_geometries n [] = refl
+    layers_geometries n (l ∷ ls) = ap₂ (λ y z. y && z) (geometry_same n l.pieces) (layers_geometries (n + length (leaves_in l.pieces)) ls)
+
+    layers_forms : (n : ℕ) (ls : List LayerText)
+        → list_all fits_form (flat_map (λ l. filter_map feature_of l.items) (layers_from n all ls))
+        ≡ list_all fits_form (flat_map (λ l. filter_map feature_of l.items) (layers_from n other ls))
+    layers_forms n [] = refl
+    layers_forms n (l ∷ ls) =
+        let m = n + length (leaves_in l.pieces) in
+        list_all-append fits_form (filter_map feature_of (items_from n all l.pieces)) (flat_map (λ l. filter_map feature_of l.items) (layers_from m all ls))
+        ∙ ap₂ (λ y z. y && z) (forms_same n l.pieces) (layers_forms m ls)
+        ∙ sym (list_all-append fits_form (filter_map feature_of (items_from n other l.pieces)) (flat_map (λ l. filter_map feature_of l.items) (layers_from m other ls)))
+
+    layers_same_numbers : (n : ℕ) (ls : List LayerText)
+        → map (λ f. f.number) (flat_map (λ l. filter_map feature_of l.items) (layers_from n all ls))
+        ≡ map (λ f. f.number) (flat_map (λ l. filter_map feature_of l.items) (layers_from n other ls))
+    layers_same_numbers n [] = refl
+    layers_same_numbers n (l ∷ ls) =
+        let m = n + length (leaves_in l.pieces) in
+        map-append (λ f. f.number) (filter_map feature_of (items_from n all l.pieces)) (flat_map (λ l. filter_map feature_of l.items) (layers_from m all ls))
+        ∙ ap₂ (λ y z. y ++ z) (numbers_same n l.pieces) (layers_same_numbers m ls)
+        ∙ sym (map-append (λ f. f.number) (filter_map feature_of (items_from n other l.pieces)) (flat_map (λ l. filter_map feature_of l.items) (layers_from m other ls)))
+
+-- how many elements each list has
+pub lengths_of : {X Y : Type 0} (h : X → List Y) (g : X → ℕ) → ((x : X) → length (h x) ≡ g x) → (xs : List X)
+    → map length (map h xs) ≡ map g xs
+lengths_of h g same [] = refl
+lengths_of h g same (x ∷ xs) = ap₂ (λ (y : ℕ) (ys : List ℕ). y ∷ ys) (same x) (lengths_of h g same xs)
+
+module _ {A : Type 0} where
+  -- what was read can stand with as many polygons of ring numbers for each feature
+  pub can_stand : (raw : RawDoc A) (ns : List (Vec (Vec ℕ A) A)) → IsOfRings (view_raw raw)
+      → map (λ n. length n.items) ns ≡ map (λ f. length f.items) raw.polygons.items
+      → CanStand (option_map (λ t. t.now) raw.transform) raw.layers.items (map view_kept raw.members.items) ns
+  can_stand raw ns h e =
+      let all = map feature_positions raw.polygons.items in
+      let numbers = map feature_numbers ns in
+      let ls = map view_layer raw.layers.items in
+      let alike : map length numbers ≡ map length all =
+      lengths_of feature_numbers (λ n. length n.items) (λ n. length-map n.items polygon_numbers) ns ∙ e
+      ∙ sym (lengths_of feature_positions (λ f. length f.items) (λ f. length-map f.items polygon_positions) raw.polygons.items) in
+      let long : length ns ≡ length all =
+      sym (length-map ns (λ n. length n.items)) ∙ ap length e ∙ length-map raw.polygons.items (λ f. length f.items)
+      ∙ sym (length-map raw.polygons.items feature_positions) in
+      record {
+        counted = long ∙ h.counted;
+        few = omega (arith, long, h.counted, h.few);
+        formed = record {
+          geometries = layers_geometries numbers all alike 0 ls ∙ h.formed.geometries;
+          forms = layers_forms numbers all alike 0 ls ∙ h.formed.forms;
+          numbers = ap are_distinct (layers_same_numbers numbers all alike 0 ls) ∙ h.formed.numbers;
+        };
+      }

@@ -1,0 +1,360 @@
+-- What the layers that were built mean, and where their features stand.
+use Rattle.std.proofs.Common.{◌≡◌, ◌≢◌, ◌∙◌, ℕ, zero, suc, ◌+◌, ◌<◌, ◌≤◌, refl, sym, ap, ap₂, subst, arith, append_assoc}
+use Rattle.std.proofs.Common.{List, [], ◌∷◌, ◌++◌, length, map, drop, Option, Some, None, option_map, true, ◌&&◌, inl, inr, Contains}
+use Rattle.std.specs.Prelude.{Vec, not, IsTrue, slice_get, unwrap_or}
+use Rattle.std.specs.List.{flat_map, list_all}
+use Rattle.std.proofs.lemmas.Option.{slice_get-map}
+use native.Mathlib.Decide.{ℕ_discrete, dec_lt}
+use Rattle.ring_machine.specs.Document.{Text, ItemOf, LayerOf, Open, Close, Leaf, Kept}
+use Rattle.ring_machine.specs.WellFormed.{is_geometry}
+use Rattle.ring_machine.proofs.First.{In}
+use Rattle.ring_machine.proofs.Members.{in_contains}
+use Rattle.ring_machine.proofs.Order.{and_both}
+use Rattle.map_opening.specs.Laying.{feature_numbers}
+use Rattle.topo_outline.specs.Shape.{Piece}
+use Rattle.topo_outline.specs.Views.{form_of, view_head, view_item}
+use Rattle.topo_outline.specs.Views as read
+use Rattle.topo_outline.specs.declared.document.Item.{Item}
+use Rattle.topo_outline.specs.declared.document.Item.TheVariants as item
+use Rattle.topo_outline.specs.declared.document.RawFeature.{RawFeature}
+use Rattle.topo_outline.specs.declared.document.RawLayer.{RawLayer}
+use Rattle.topo_reader.specs.Document.{numbered, polygons_at, items_from, layers_from}
+use Rattle.map_frame.specs.declared.feature.Feature.{Feature}
+use Rattle.map_frame.specs.declared.layers.Slot.{Slot}
+use Rattle.map_frame.specs.declared.layers.Slot.TheVariants as slot
+use Rattle.map_frame.specs.declared.layers.Geometry.{Geometry}
+use Rattle.map_frame.specs.declared.layers.Geometry.TheVariants as geometry
+use Rattle.map_frame.specs.declared.layers.Layer.{Layer}
+use Rattle.map_frame.specs.Building.{Progress, IsNext, IsLeaf, IsSlot, AreSlots, is_lone, IsGeometry, AreLayers}
+use Rattle.map_frame.specs.Kept.{numbers_at, numbers_under, is_enclosed}
+use Rattle.map_frame.specs.Seen.{or_empty, view_feature, leaf_of, items_at, items_of, view_layer}
+use Rattle.map_frame.proofs.Built.{leaves_of, came_next, came_geometry}
+
+-- ---- lists
+
+drop_more : {X : Type 0} (xs : List X) (n : ℕ) (x : X) (ys : List X) → drop n xs ≡ x ∷ ys → drop (suc n) xs ≡ ys
+drop_more [] zero x ys e = absurd cc
+drop_more [] (suc n) x ys e = absurd cc
+drop_more (z ∷ xs) zero x ys e = ap (drop 1) e
+drop_more (z ∷ xs) (suc n) x ys e = drop_more xs n x ys e
+
+got_first : {X : Type 0} (xs : List X) (n : ℕ) (x : X) (ys : List X) → drop n xs ≡ x ∷ ys → slice_get xs n ≡ Some x
+got_first [] zero x ys e = absurd cc
+got_first [] (suc n) x ys e = absurd cc
+got_first (z ∷ xs) zero x ys e = ap (λ zs. slice_get zs 0) e
+got_first (z ∷ xs) (suc n) x ys e = got_first xs n x ys e
+
+got_behind : {X : Type 0} (xs : List X) (x : X) (ys : List X) → slice_get (xs ++ x ∷ ys) (length xs) ≡ Some x
+got_behind [] x ys = refl
+got_behind (z ∷ xs) x ys = got_behind xs x ys
+
+same_feature : {X : Type 0} (x y : X) (o : Option (Option X)) → o ≡ Some (Some x) → o ≡ Some (Some y) → x ≡ y
+same_feature x y o e f = ap (λ z. unwrap_or (unwrap_or z None) x) (sym e ∙ f)
+
+module _ {A : Type 0} where
+  -- these are all features, some of which came so far
+  pub record Whole (fs : List (Option (Feature A))) (p : Progress A) : Type 0 where
+    pub more : List (Option (Feature A))
+    pub whole : fs ≡ p.features ++ more
+
+  -- these are the polygons of all features, some of which wait still
+  pub record Waits (all : List (Vec (Vec ℕ A) A)) (p : Progress A) : Type 0 where
+    pub waits : drop (length p.features) all ≡ p.waiting
+
+  -- ---- the next feature
+
+  module _ (fs : List (Option (Feature A))) (all : List (Vec (Vec ℕ A) A)) (raw : RawFeature A) (layer at : ℕ) (old new : Progress A)
+      (h : IsNext raw layer at old new) where
+    next_whole : (w : Whole fs new) → fs ≡ old.features ++ Some h.feature ∷ w.more
+    next_whole w = w.whole ∙ ap (λ z. z ++ w.more) h.appended ∙ append_assoc old.features (Some h.feature ∷ []) w.more
+
+    whole_next : Whole fs new → Whole fs old
+    whole_next w = record { more = Some h.feature ∷ w.more; whole = next_whole w }
+
+    waits_next : Waits all old → Waits all new
+    waits_next v =
+        let long : length new.features ≡ suc (length old.features) = omega (arith, (came_next layer at old new h).more) in
+        record { waits = ap (λ n. drop n all) long ∙ drop_more all (length old.features) h.polygons new.waiting (v.waits ∙ h.taken) }
+
+    feature_there : Whole fs new → slice_get fs (length old.features) ≡ Some (Some h.feature)
+    feature_there w = ap (λ z. slice_get z (length old.features)) (next_whole w) ∙ got_behind old.features (Some h.feature) w.more
+
+    polygons_there : Waits all old → polygons_at (map feature_numbers all) (length old.features) ≡ feature_numbers h.polygons
+    polygons_there v =
+        ap (λ o. unwrap_or o [])
+        (slice_get-map feature_numbers all (length old.features)
+        ∙ ap (option_map feature_numbers) (got_first all (length old.features) h.polygons new.waiting (v.waits ∙ h.taken)))
+
+  leaf_at : (fs : List (Option (Feature A))) (n : ℕ) (f : Feature A) → slice_get fs n ≡ Some (Some f)
+      → leaf_of fs n ≡ Leaf (view_feature n f) ∷ []
+  leaf_at fs n f e = rw e refl
+
+  leaf_seen : (fs : List (Option (Feature A))) (all : List (Vec (Vec ℕ A) A)) (raw : RawFeature A) (layer at : ℕ) (old new : Progress A)
+      → IsNext raw layer at old new → Whole fs new → Waits all old
+      → leaf_of fs (length old.features)
+      ≡ Leaf (numbered (length old.features) (form_of raw.form) (view_head raw.head) (polygons_at (map feature_numbers all) (length old.features))) ∷ []
+  leaf_seen fs all raw layer at old new h w v =
+      let n = length old.features in
+      leaf_at fs n h.feature (feature_there fs all raw layer at old new h w)
+      ∙ ap (λ z. Leaf z ∷ [])
+      (h.read.seen n ∙ ap (λ z. numbered n (form_of raw.form) (view_head raw.head) z) (sym (polygons_there fs all raw layer at old new h v)))
+
+  -- ---- what is meant
+
+  module _ (fs : List (Option (Feature A))) (all : List (Vec (Vec ℕ A) A)) where
+    abbrev rings : List (List (List ℕ))
+    rings = map feature_numbers all
+
+    slot_seen : (layer at : ℕ) (i : Item A) (s : Slot A) (old now : Progress A) → IsSlot layer at i s old now
+        → Whole fs now → Waits all old → (ps : List Piece)
+        → items_at fs s ++ items_from (length now.features) rings ps ≡ items_from (length old.features) rings (view_item i ∷ ps)
+    slot_seen layer at (item.Open h) s old now k w v ps =
+        ap₂ (λ y n. y ++ items_from n rings ps) (ap (items_at fs) k.0) (ap (λ p. length p.features) k.1)
+    slot_seen layer at item.Close s old now k w v ps =
+        ap₂ (λ y n. y ++ items_from n rings ps) (ap (items_at fs) k.0) (ap (λ p. length p.features) k.1)
+    slot_seen layer at (item.Kept t) s old now k w v ps =
+        ap₂ (λ y n. y ++ items_from n rings ps) (ap (items_at fs) k.0) (ap (λ p. length p.features) k.1)
+    slot_seen layer at (item.Leaf raw) s old now k w v ps =
+        ap₂ (λ y n. y ++ items_from n rings ps)
+        (ap (items_at fs) k.0.1 ∙ ap (λ ns. flat_map (leaf_of fs) ns) k.0.2 ∙ ap (λ z. z ++ []) (leaf_seen fs all raw layer at old now k.1 w v))
+        (came_next layer at old now k.1).more
+
+    whole_slot : (layer at : ℕ) (i : Item A) (s : Slot A) (old now : Progress A) → IsSlot layer at i s old now
+        → Whole fs now → Whole fs old
+    whole_slot layer at (item.Open h) s old now k w = subst (λ p. Whole fs p) k.1 w
+    whole_slot layer at item.Close s old now k w = subst (λ p. Whole fs p) k.1 w
+    whole_slot layer at (item.Kept t) s old now k w = subst (λ p. Whole fs p) k.1 w
+    whole_slot layer at (item.Leaf raw) s old now k w = whole_next fs all raw layer at old now k.1 w
+
+    waits_slot : (layer at : ℕ) (i : Item A) (s : Slot A) (old now : Progress A) → IsSlot layer at i s old now
+        → Waits all old → Waits all now
+    waits_slot layer at (item.Open h) s old now k v = subst (λ p. Waits all p) (sym k.1) v
+    waits_slot layer at item.Close s old now k v = subst (λ p. Waits all p) (sym k.1) v
+    waits_slot layer at (item.Kept t) s old now k v = subst (λ p. Waits all p) (sym k.1) v
+    waits_slot layer at (item.Leaf raw) s old now k v = waits_next fs all raw layer at old now k.1 v
+
+    whole_slots : (layer at : ℕ) (items : List (Item A)) (slots : List (Slot A)) (old new : Progress A)
+        → AreSlots layer at items slots old new → Whole fs new → Whole fs old
+    whole_slots layer at [] [] old new h w = subst (λ p. Whole fs p) h w
+    whole_slots layer at [] (s ∷ slots) old new h w = absurd h
+    whole_slots layer at (i ∷ items) [] old new h w = absurd h
+    whole_slots layer at (i ∷ items) (s ∷ slots) old new h w =
+        whole_slot layer at i s old h.0 h.1 (whole_slots layer (at + 1) items slots h.0 new h.2 w)
+
+    waits_slots : (layer at : ℕ) (items : List (Item A)) (slots : List (Slot A)) (old new : Progress A)
+        → AreSlots layer at items slots old new → Waits all old → Waits all new
+    waits_slots layer at [] [] old new h v = subst (λ p. Waits all p) (sym h) v
+    waits_slots layer at [] (s ∷ slots) old new h v = absurd h
+    waits_slots layer at (i ∷ items) [] old new h v = absurd h
+    waits_slots layer at (i ∷ items) (s ∷ slots) old new h v =
+        waits_slots layer (at + 1) items slots h.0 new h.2 (waits_slot layer at i s old h.0 h.1 v)
+
+    slots_seen : (layer at : ℕ) (items : List (Item A)) (slots : List (Slot A)) (old new : Progress A)
+        → AreSlots layer at items slots old new → Whole fs new → Waits all old
+        → flat_map (items_at fs) slots ≡ items_from (length old.features) rings (map view_item items)
+    slots_seen layer at [] [] old new h w v = refl
+    slots_seen layer at [] (s ∷ slots) old new h w v = absurd h
+    slots_seen layer at (i ∷ items) [] old new h w v = absurd h
+    slots_seen layer at (i ∷ items) (s ∷ slots) old new h w v =
+        ap (λ z. items_at fs s ++ z)
+        (slots_seen layer (at + 1) items slots h.0 new h.2 w (waits_slot layer at i s old h.0 h.1 v))
+        ∙ slot_seen layer at i s old h.0 h.1 (whole_slots layer (at + 1) items slots h.0 new h.2 w) v (map view_item items)
+
+    geometry_seen : (at : ℕ) (items : List (Item A)) (g : Geometry A) (old new : Progress A) → IsGeometry at items g old new
+        → Whole fs new → Waits all old
+        → items_of fs g ≡ items_from (length old.features) rings (map view_item items)
+    geometry_seen at items (geometry.Alone n) old new h w v =
+        ap (λ z. or_empty (leaf_of fs z)) h.2 ∙ ap or_empty (leaf_seen fs all h.0 at 0 old new h.3 w v)
+        ∙ ap (λ z. items_from (length old.features) rings (map view_item z)) (sym h.1)
+    geometry_seen at items (geometry.Items slots) old new h w v = slots_seen at 0 items slots.items old new h.1 w v
+
+    whole_geometry : (at : ℕ) (items : List (Item A)) (g : Geometry A) (old new : Progress A) → IsGeometry at items g old new
+        → Whole fs new → Whole fs old
+    whole_geometry at items (geometry.Alone n) old new h w = whole_next fs all h.0 at 0 old new h.3 w
+    whole_geometry at items (geometry.Items slots) old new h w = whole_slots at 0 items slots.items old new h.1 w
+
+    waits_geometry : (at : ℕ) (items : List (Item A)) (g : Geometry A) (old new : Progress A) → IsGeometry at items g old new
+        → Waits all old → Waits all new
+    waits_geometry at items (geometry.Alone n) old new h v = waits_next fs all h.0 at 0 old new h.3 v
+    waits_geometry at items (geometry.Items slots) old new h v = waits_slots at 0 items slots.items old new h.1 v
+
+    whole_layers : (at : ℕ) (raws : List (RawLayer A)) (layers : List (Layer A)) (old new : Progress A) → AreLayers at raws layers old new
+        → Whole fs new → Whole fs old
+    whole_layers at [] [] old new h w = subst (λ p. Whole fs p) h w
+    whole_layers at [] (l ∷ layers) old new h w = absurd h
+    whole_layers at (r ∷ raws) [] old new h w = absurd h
+    whole_layers at (r ∷ raws) (l ∷ layers) old new h w =
+        whole_geometry at r.items.items l.geometry old h.0 h.2 (whole_layers (at + 1) raws layers h.0 new h.3 w)
+
+    abbrev named_items : Text → List (ItemOf ℕ) → LayerOf ℕ
+    named_items name items = record { name = name; items = items }
+
+    -- the layers mean what was read
+    pub layers_seen : (at : ℕ) (raws : List (RawLayer A)) (layers : List (Layer A)) (old new : Progress A) → AreLayers at raws layers old new
+        → Whole fs new → Waits all old
+        → map (view_layer fs) layers ≡ layers_from (length old.features) rings (map read.view_layer raws)
+    layers_seen at [] [] old new h w v = refl
+    layers_seen at [] (l ∷ layers) old new h w v = absurd h
+    layers_seen at (r ∷ raws) [] old new h w v = absurd h
+    layers_seen at (r ∷ raws) (l ∷ layers) old new h w v =
+        ap₂ (λ (y : LayerOf ℕ) (ys : List (LayerOf ℕ)). y ∷ ys)
+        (ap₂ named_items (ap (λ t. t.now) h.1) (geometry_seen at r.items.items l.geometry old h.0 h.2 (whole_layers (at + 1) raws layers h.0 new h.3 w) v))
+        (layers_seen (at + 1) raws layers h.0 new h.3 w (waits_geometry at r.items.items l.geometry old h.0 h.2 v)
+        ∙ ap (λ n. layers_from n rings (map read.view_layer raws)) (came_geometry at r.items.items l.geometry old h.0 h.2).more)
+
+  -- ---- where features stand
+
+  -- the feature with this number stands in one of the slots from this one on
+  record SlotStands (layer at : ℕ) (slots : List (Slot A)) (n : ℕ) (x : Feature A) : Type 0 where
+    pub of_layer : x.layer ≡ layer
+    pub place : ℕ
+    pub of_slot : x.slot ≡ at + place
+    pub found : Slot A
+    pub there : slice_get slots place ≡ Some found
+    pub has : In n (numbers_at found)
+
+  later : (layer at : ℕ) (s : Slot A) (slots : List (Slot A)) (n : ℕ) (x : Feature A) → SlotStands layer (at + 1) slots n x
+      → SlotStands layer at (s ∷ slots) n x
+  later layer at s slots n x k = record {
+    of_layer = k.of_layer;
+    place = suc k.place;
+    of_slot = omega (arith, k.of_slot);
+    found = k.found;
+    there = k.there;
+    has = k.has;
+  }
+
+  module _ (fs : List (Option (Feature A))) (all : List (Vec (Vec ℕ A) A)) (n : ℕ) (x : Feature A) (got : slice_get fs n ≡ Some (Some x)) where
+    next_is : (raw : RawFeature A) (layer at : ℕ) (old new : Progress A) (h : IsNext raw layer at old new) → Whole fs new
+        → n ≡ length old.features → x ≡ h.feature
+    next_is raw layer at old new h w e =
+        same_feature x h.feature (slice_get fs n) got (ap (slice_get fs) e ∙ feature_there fs all raw layer at old new h w)
+
+    leaf_here : (raw : RawFeature A) (layer at : ℕ) (s : Slot A) (slots : List (Slot A)) (old new : Progress A)
+        → IsLeaf (length old.features) s → IsNext raw layer at old new → Whole fs new → n ≡ length old.features
+        → SlotStands layer at (s ∷ slots) n x
+    leaf_here raw layer at s slots old new k h w e =
+        let same = next_is raw layer at old new h w e in
+        record {
+          of_layer = ap (λ z. z.layer) same ∙ h.read.of_layer;
+          place = 0;
+          of_slot = omega (arith, ap (λ z. z.slot) same, h.read.of_slot);
+          found = s;
+          there = refl;
+          has = subst (λ z. In n z) (sym (ap numbers_at k.1 ∙ k.2)) (inl (sym e));
+        }
+
+    slots_standing : (layer at : ℕ) (items : List (Item A)) (slots : List (Slot A)) (old new : Progress A)
+        → AreSlots layer at items slots old new → Whole fs new → length old.features ≤ n → n < length new.features
+        → SlotStands layer at slots n x
+    slots_standing layer at [] [] old new h w lo hi = absurd (omega (arith, ap (λ p. length p.features) h))
+    slots_standing layer at [] (s ∷ slots) old new h w lo hi = absurd h
+    slots_standing layer at (i ∷ items) [] old new h w lo hi = absurd h
+    slots_standing layer at (item.Open hd ∷ items) (s ∷ slots) old new h w lo hi =
+        later layer at s slots n x (slots_standing layer (at + 1) items slots h.0 new h.2 w (omega (arith, ap (λ p. length p.features) h.1.1)) hi)
+    slots_standing layer at (item.Close ∷ items) (s ∷ slots) old new h w lo hi =
+        later layer at s slots n x (slots_standing layer (at + 1) items slots h.0 new h.2 w (omega (arith, ap (λ p. length p.features) h.1.1)) hi)
+    slots_standing layer at (item.Kept t ∷ items) (s ∷ slots) old new h w lo hi =
+        later layer at s slots n x (slots_standing layer (at + 1) items slots h.0 new h.2 w (omega (arith, ap (λ p. length p.features) h.1.1)) hi)
+    slots_standing layer at (item.Leaf raw ∷ items) (s ∷ slots) old new h w lo hi =
+        by (ℕ_discrete n (length old.features)) (slots_standing layer (at + 1) items slots h.0 new h.2 w)
+      where
+        by : Dec (n ≡ length old.features)
+            → (length h.0.features ≤ n → n < length new.features → SlotStands layer (at + 1) slots n x)
+            → SlotStands layer at (s ∷ slots) n x
+        by (yes e) rest =
+            leaf_here raw layer at s slots old h.0 h.1.0 h.1.1 (whole_slots fs all layer (at + 1) items slots h.0 new h.2 w) e
+        by (no f) rest =
+            later layer at s slots n x
+            (rest (above (length old.features) (length h.0.features) lo f (came_next layer at old h.0 h.1.1).more) hi)
+          where
+            above : (a b : ℕ) → a ≤ n → n ≢ a → b ≡ a + 1 → b ≤ n
+            above a b l f e = omega arith
+
+    under_items : (l : Layer A) (slots : Vec (Slot A) A) (j k : ℕ) (s : Slot A) → l.geometry ≡ geometry.Items slots → j ≡ 0 + k
+        → slice_get slots.items k ≡ Some s → In n (numbers_at s) → Contains (numbers_under (Some l) j) n
+    under_items l slots j k s g e there i =
+        let at : slice_get slots.items j ≡ Some s = ap (slice_get slots.items) (let same : j ≡ k = omega (arith, e) in same) ∙ there in
+        rw (g, at) (in_contains (numbers_at s) n i)
+
+    under_alone : (l : Layer A) (j m : ℕ) → l.geometry ≡ geometry.Alone m → m ≡ n → Contains (numbers_under (Some l) j) n
+    under_alone l j m g e = rw g (in_contains (m ∷ []) n (inl e))
+
+    layer_standing : (at : ℕ) (items : List (Item A)) (l : Layer A) (g : Geometry A) (old new : Progress A) → l.geometry ≡ g
+        → IsGeometry at items g old new → Whole fs new → length old.features ≤ n → n < length new.features
+        → (x.layer ≡ at) × Contains (numbers_under (Some l) x.slot) n
+    layer_standing at items l (geometry.Alone m) old new e h w lo hi =
+        let here : n ≡ length old.features = omega (arith, lo, hi, (came_next at 0 old new h.3).more) in (
+          ap (λ z. z.layer) (next_is h.0 at 0 old new h.3 w here) ∙ h.3.read.of_layer,
+          under_alone l x.slot m e (h.2 ∙ sym here),
+        )
+    layer_standing at items l (geometry.Items slots) old new e h w lo hi =
+        let k = slots_standing at 0 items slots.items old new h.1 w lo hi in
+        (k.of_layer, under_items l slots x.slot k.place k.found e k.of_slot k.there k.has)
+
+    pub layers_standing : (at : ℕ) (raws : List (RawLayer A)) (layers : List (Layer A)) (old new : Progress A) → AreLayers at raws layers old new
+        → Whole fs new → length old.features ≤ n → n < length new.features
+        → (k : ℕ) × (x.layer ≡ at + k) × Contains (numbers_under (slice_get layers k) x.slot) n
+    layers_standing at [] [] old new h w lo hi = absurd (omega (arith, ap (λ p. length p.features) h))
+    layers_standing at [] (l ∷ layers) old new h w lo hi = absurd h
+    layers_standing at (r ∷ raws) [] old new h w lo hi = absurd h
+    layers_standing at (r ∷ raws) (l ∷ layers) old new h w lo hi =
+        by (dec_lt n (length h.0.features)) (layers_standing (at + 1) raws layers h.0 new h.3 w)
+      where
+        by : Dec (n < length h.0.features)
+            → (length h.0.features ≤ n → n < length new.features
+            → (k : ℕ) × (x.layer ≡ at + 1 + k) × Contains (numbers_under (slice_get layers k) x.slot) n)
+            → (k : ℕ) × (x.layer ≡ at + k) × Contains (numbers_under (slice_get (l ∷ layers) k) x.slot) n
+        by (yes below) rest =
+            let k = layer_standing at r.items.items l l.geometry old h.0 refl h.2 (whole_layers fs all (at + 1) raws layers h.0 new h.3 w) lo below in
+            (0, omega (arith, k.0), k.1)
+        by (no f) rest =
+            let k = rest (above (length h.0.features) f) hi in
+            (suc k.0, omega (arith, k.1), k.2)
+          where
+            above : (b : ℕ) → (n < b → ⊥) → b ≤ n
+            above b f = omega arith
+
+  -- ---- lone features stand as such
+
+  begins_open : (layer at : ℕ) (i : Item A) (s : Slot A) (items : List (Item A)) (xs : List (Slot A)) (old new : Progress A)
+      → AreSlots layer at (i ∷ items) xs old new → ((now : Progress A) (t : Slot A) → IsSlot layer at i t old now → t ≡ s)
+      → (ss : List (Slot A)) × (xs ≡ s ∷ ss)
+  begins_open layer at i s items [] old new h is = absurd h
+  begins_open layer at i s items (t ∷ ss) old new h is = (ss, ap (λ z. z ∷ ss) (is h.0 t h.1))
+
+  items_enclosed : (at n : ℕ) (all : List (List (List ℕ))) (items : List (Item A)) (slots : Vec (Slot A) A) (old new : Progress A)
+      → IsTrue (not (is_lone items)) → AreSlots at 0 items slots.items old new
+      → is_geometry (items_from n all (map view_item items)) ≡ true → is_enclosed (geometry.Items slots) ≡ true
+  items_enclosed at n all [] slots old new lone h e = absurd cc
+  items_enclosed at n all (item.Open hd ∷ items) slots old new lone h e =
+      let k = begins_open at 0 (item.Open hd) (slot.Open hd) items slots.items old new h (λ now t i. i.0) in
+      rw k.1 refl
+  items_enclosed at n all (item.Close ∷ items) slots old new lone h e = absurd cc
+  items_enclosed at n all (item.Kept t ∷ items) slots old new lone h e =
+      let k = begins_open at 0 (item.Kept t) (slot.Kept t) items slots.items old new h (λ now t i. i.0) in
+      rw k.1 refl
+  items_enclosed at n all (item.Leaf raw ∷ []) slots old new lone h e = absurd cc
+  items_enclosed at n all (item.Leaf raw ∷ item.Open hd ∷ items) slots old new lone h e = absurd cc
+  items_enclosed at n all (item.Leaf raw ∷ item.Close ∷ items) slots old new lone h e = absurd cc
+  items_enclosed at n all (item.Leaf raw ∷ item.Kept t ∷ items) slots old new lone h e = absurd cc
+  items_enclosed at n all (item.Leaf raw ∷ item.Leaf other ∷ items) slots old new lone h e = absurd cc
+
+  geometry_enclosed : (at n : ℕ) (all : List (List (List ℕ))) (items : List (Item A)) (g : Geometry A) (old new : Progress A)
+      → IsGeometry at items g old new → is_geometry (items_from n all (map view_item items)) ≡ true → is_enclosed g ≡ true
+  geometry_enclosed at n all items (geometry.Alone m) old new h e = refl
+  geometry_enclosed at n all items (geometry.Items slots) old new h e = items_enclosed at n all items slots old new h.0 h.1 e
+
+  pub layers_enclosed : (at n : ℕ) (all : List (List (List ℕ))) (raws : List (RawLayer A)) (layers : List (Layer A)) (old new : Progress A)
+      → AreLayers at raws layers old new
+      → list_all (λ l. is_geometry l.items) (layers_from n all (map read.view_layer raws)) ≡ true
+      → list_all (λ l. is_enclosed l.geometry) layers ≡ true
+  layers_enclosed at n all [] [] old new h e = refl
+  layers_enclosed at n all [] (l ∷ layers) old new h e = absurd h
+  layers_enclosed at n all (r ∷ raws) [] old new h e = absurd h
+  layers_enclosed at n all (r ∷ raws) (l ∷ layers) old new h e =
+      let m = n + leaves_of r.items.items in
+      let both = and_both (is_geometry (items_from n all (map view_item r.items.items)))
+      (list_all (λ l. is_geometry l.items) (layers_from m all (map read.view_layer raws))) e in
+      ap₂ (λ y z. y && z) (geometry_enclosed at n all r.items.items l.geometry old h.0 h.2 both.0)
+      (layers_enclosed (at + 1) m all raws layers h.0 new h.3 both.1)

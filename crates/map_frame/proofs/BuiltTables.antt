@@ -1,0 +1,100 @@
+-- The tables that were built belong together.
+use Rattle.std.proofs.Common.{◌≡◌, ◌∙◌, ℕ, ◌+◌, ◌≤◌, refl, sym, ap, subst, arith, append-nil}
+use Rattle.std.proofs.Common.{List, [], ◌∷◌, length, map, Option, Some, option_map, Contains}
+use Rattle.std.specs.Prelude.{Vec, slice_get}
+use Rattle.std.specs.List.{flat_map}
+use Rattle.std.proofs.lemmas.List.{length-map}
+use Rattle.std.proofs.lemmas.Option.{slice_get_within}
+use Rattle.ring_machine.specs.Document.{Text, Member, DocumentOf, LayerOf}
+use Rattle.ring_machine.specs.Join.{empty_collection}
+use Rattle.ring_machine.specs.Parts.{features}
+use Rattle.ring_machine.specs.WellFormed.{WellFormed}
+use Rattle.map_opening.specs.Laying.{feature_numbers}
+use Rattle.topo_outline.specs.Outline.{leaves}
+use Rattle.topo_outline.specs.Views.{view_kept}
+use Rattle.topo_outline.specs.Views as read
+use Rattle.topo_outline.specs.declared.document.RawLayer.{RawLayer}
+use Rattle.map_frame.specs.declared.feature.Feature.{Feature}
+use Rattle.map_frame.specs.declared.names.RingName.{RingName}
+use Rattle.map_frame.specs.declared.tables.Tables.{Tables}
+use Rattle.map_frame.specs.Building.{Progress, progress, AreLayers}
+use Rattle.map_frame.specs.Kept.{numbers_under, all_numbers, StandsAt, IsFramed}
+use Rattle.map_frame.specs.Named.{number_at, IsNamed, AreNamed}
+use Rattle.map_frame.specs.Naming.{number_among, AllNamed}
+use Rattle.map_frame.specs.Opened.{opened, CanStand}
+use Rattle.map_frame.specs.Readers.{element}
+use Rattle.map_frame.specs.Seen.{items_at, doc_of}
+use Rattle.map_frame.proofs.Built.{came_layers}
+use Rattle.map_frame.proofs.BuiltFrames.{Whole, Waits, layers_seen, layers_standing, layers_enclosed}
+use Rattle.map_frame.proofs.BuiltNumbers.{layers_numbers, from_distinct, from_below, layers_length, polygons_found}
+
+module _ {A : Type 0} (t : Tables A) (raws : List (RawLayer A)) (polygons left : List (Vec (Vec ℕ A) A))
+    (built : AreLayers 0 raws t.layers.items (progress [] polygons) (progress t.features.items left)) where
+  abbrev all : List (List (List ℕ))
+  all = map feature_numbers polygons
+
+  abbrev what_was_read : DocumentOf ℕ
+  what_was_read = opened (option_map (λ x. x.now) t.transform) raws (map view_kept t.members.items) polygons
+
+  whole : Whole t.features.items (progress t.features.items left)
+  whole = record { more = []; whole = sym (append-nil t.features.items) }
+
+  waits : Waits polygons (progress [] polygons)
+  waits = record { waits = refl }
+
+  abbrev with_layers : List (LayerOf ℕ) → DocumentOf ℕ
+  with_layers layers = record {
+    transform = option_map (λ x. x.now) t.transform;
+    layers = layers;
+    members = map view_kept t.members.items;
+  }
+
+  -- they mean what was read
+  pub tables_seen : doc_of t ≡ what_was_read
+  tables_seen =
+      ap with_layers (layers_seen t.features.items polygons 0 raws t.layers.items (progress [] polygons) (progress t.features.items left) built whole waits)
+
+  module _ (stand : CanStand (option_map (λ x. x.now) t.transform) raws (map view_kept t.members.items) polygons) where
+    -- there are as many features as lists of polygons
+    pub as_many : length t.features.items ≡ length polygons
+    as_many =
+        omega (arith, (came_layers 0 raws t.layers.items (progress [] polygons) (progress t.features.items left) built).more, stand.counted)
+
+    features_counted : length (features (doc_of t)) ≡ length t.features.items
+    features_counted =
+        ap (λ d. length (features d)) tables_seen ∙ layers_length 0 all (map read.view_layer raws) ∙ sym stand.counted ∙ sym as_many
+
+    stands : (n : ℕ) (x : Feature A) → slice_get t.features.items n ≡ Some (Some x) → StandsAt t.layers.items n x
+    stands n x got =
+        let k = layers_standing t.features.items polygons n x got 0 raws t.layers.items (progress [] polygons) (progress t.features.items left) built whole (omega arith) (slice_get_within t.features.items n (Some x) got) in
+        let place : k.0 ≡ x.layer = omega (arith, k.1) in
+        subst (λ j. Contains (numbers_under (slice_get t.layers.items j) x.slot) n) place k.2
+
+    same_number : (name : RingName) → number_at (doc_of t) name ≡ number_among all name
+    same_number name =
+        ap (λ d. number_at d name) tables_seen
+        ∙ ap (λ o. element (element o name.polygon) name.ring)
+        (polygons_found all (map read.view_layer raws) (length-map polygons feature_numbers ∙ stand.counted) name.feature)
+
+    all_named : AllNamed t.names.items all → AreNamed t.names.items (doc_of t)
+    all_named h = record {
+      each = λ r name e. h.each r name (sym (same_number name) ∙ e);
+      right = λ r name e. same_number name ∙ h.right r name e;
+    }
+
+    pub tables_framed : AllNamed t.names.items all → t.count ≡ length t.features.items
+        → ((features : List (Option (Feature A))) → flat_map (items_at features) t.empty.items ≡ empty_collection)
+        → IsFramed t
+    tables_framed named counted empty =
+        let numbers = layers_numbers 0 raws t.layers.items (progress [] polygons) (progress t.features.items left) built in
+        record {
+          formed = subst (λ d. WellFormed d) (sym tables_seen) stand.formed;
+          enclosed = layers_enclosed 0 0 all raws t.layers.items (progress [] polygons) (progress t.features.items left) built stand.formed.geometries;
+          once = from_distinct 0 (length t.features.items) (all_numbers t.layers.items) numbers;
+          below = from_below 0 (length t.features.items) (all_numbers t.layers.items) numbers;
+          standing = stands;
+          counted = counted ∙ sym features_counted;
+          few = omega (arith, as_many, stand.few);
+          named = all_named named;
+          empty = empty;
+        }

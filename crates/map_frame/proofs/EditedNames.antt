@@ -1,0 +1,84 @@
+-- The table of names after an edit.
+use Rattle.std.proofs.Common.{◌≡◌, ℕ, true, sym, ap, ◌∙◌, subst, List, ◌⊎◌, inl, inr, Option, Some}
+use Rattle.ring_machine.specs.Document.{DocumentOf}
+use Rattle.ring_machine.specs.Parts.{feature, rings}
+use Rattle.ring_machine.specs.WellFormed.{are_distinct}
+use Rattle.map_frame.specs.declared.names.RingName.{RingName}
+use Rattle.map_frame.specs.Named.{number_at, AreNamed}
+use Rattle.map_frame.specs.Naming.{Gain, Loss, SameNames}
+use Rattle.map_frame.proofs.NamedOnce.{ring_of, ring_in, one_owner}
+
+-- names are kept for the same rings
+pub named_alike : (names : List (Option RingName)) (d e : DocumentOf ℕ)
+    → ((o : RingName) → number_at e o ≡ number_at d o) → AreNamed names d → AreNamed names e
+named_alike names d e same named = record {
+  each = λ r o i. named.each r o (sym (same o) ∙ i);
+  right = λ r o i. same o ∙ named.right r o i;
+}
+
+pub named_same : (old new : List (Option RingName)) (d : DocumentOf ℕ) → SameNames old new → AreNamed old d → AreNamed new d
+named_same old new d same named = record {
+  each = λ r o i. let m = named.each r o i in (m.0, same.to r m.0 m.1);
+  right = λ r o i. named.right r o (same.from r o i);
+}
+
+pub gain_none : (names : List (Option RingName)) → Gain names names (λ o k. ⊥)
+gain_none names = record {
+  right = λ r o e. inl e;
+  kept = λ r o e. (o, e);
+  each = λ r o i. absurd i;
+}
+
+-- some rings lost their names, and then some got names
+named_edited : (d e : DocumentOf ℕ) (old now new : List (Option RingName)) (Gone : ℕ → Type 0)
+    (Is : RingName → ℕ → Type 0) → AreNamed old d → Loss old now Gone → Gain now new Is
+    → ((o : RingName) (k : ℕ) → number_at d o ≡ Some k → (Gone k → ⊥) → number_at e o ≡ Some k)
+    → ((o : RingName) (k : ℕ) → Is o k → number_at e o ≡ Some k)
+    → ((o : RingName) (k : ℕ) → number_at e o ≡ Some k → Is o k ⊎ ((number_at d o ≡ Some k) × (Gone k → ⊥)))
+    → AreNamed new e
+named_edited d e old now new Gone Is named loss gain stay is each = record {
+  right = λ r o i. elim (gain.right r o i) [
+    | inl m ↦ let l = loss.right r o m in stay o r (named.right r o l.0) l.1
+    | inr m ↦ is o r m
+  ];
+  each = λ r o i. elim (each o r i) [
+    | inl m ↦ gain.each r o m
+    | inr m ↦ let k = named.each r o m.0 in gain.kept r k.0 (loss.kept r k.0 k.1 m.1)
+  ];
+}
+
+-- the names after features were changed: those of some features, which lost theirs, were given anew
+pub named_anew : (d e : DocumentOf ℕ) (old now new : List (Option RingName)) (Touched : ℕ → Type 0)
+    → ((m : ℕ) → Dec (Touched m)) → are_distinct (rings d) ≡ true → AreNamed old d
+    → Loss old now (λ k. (o : RingName) × Touched o.feature × (number_at d o ≡ Some k))
+    → Gain now new (λ o k. Touched o.feature × (number_at e o ≡ Some k))
+    → ((m : ℕ) → (Touched m → ⊥) → feature e m ≡ feature d m)
+    → AreNamed new e
+named_anew d e old now new Touched decided once named loss gain same =
+    named_edited d e old now new (λ k. (o : RingName) × Touched o.feature × (number_at d o ≡ Some k))
+    (λ o k. Touched o.feature × (number_at e o ≡ Some k)) named loss gain
+    (λ o k i not. stay o k i not (decided o.feature))
+    (λ o k i. i.1)
+    (λ o k i. each o k i (decided o.feature))
+  where
+    other : (o : RingName) → (Touched o.feature → ⊥) → number_at e o ≡ number_at d o
+    other o f = ap (λ z. ring_of z o) (same o.feature f)
+
+    stay : (o : RingName) (k : ℕ) → number_at d o ≡ Some k
+        → (((p : RingName) × Touched p.feature × (number_at d p ≡ Some k)) → ⊥)
+        → Dec (Touched o.feature) → number_at e o ≡ Some k
+    stay o k i not (yes t) = absurd (not (o, t, i))
+    stay o k i not (no f) = other o f ∙ i
+
+    each : (o : RingName) (k : ℕ) → number_at e o ≡ Some k → Dec (Touched o.feature)
+        → (Touched o.feature × (number_at e o ≡ Some k))
+        ⊎ ((number_at d o ≡ Some k) × (((p : RingName) × Touched p.feature × (number_at d p ≡ Some k)) → ⊥))
+    each o k i (yes t) = inl (t, i)
+    each o k i (no f) =
+        let was = sym (other o f) ∙ i in
+        inr (
+          was,
+          λ q. let a = ring_in (feature d o.feature) o k was in
+              let b = ring_in (feature d q.0.feature) q.0 k q.2 in
+              f (subst Touched (one_owner d once q.0.feature o.feature b.0 a.0 k b.1 a.1 b.2 a.2) q.1),
+        )

@@ -1,0 +1,26 @@
+-- A list's element by its number, as the code reads it.
+use Rattle.std.proofs.Common.{◌≡◌, ℕ, ◌<◌, ◌≤◌, refl, sym, ap, ◌∙◌, List, length, map, get_or}
+use Rattle.std.proofs.Common.{Option, Some, None, option_map}
+use Rattle.std.specs.Prelude.{Vec}
+use Rattle.std.specs.List.{slice_get}
+use Rattle.std.proofs.lemmas.Option.{slice_get-map, slice_get_past, slice_get_read}
+use Rattle.map_opening.specs.Laying.{polygon_numbers}
+use Rattle.map_frame.specs.Readers.{element}
+
+module _ {X : Type 0} (xs s : List X) (i : ℕ) (same : s ≡ xs) where
+  -- an element that a slice of the list gave
+  pub got : (x : X) → i < length s → x ≡ get_or s i x → slice_get xs i ≡ Some x
+  got x l e = ap (λ z. slice_get z i) (sym same) ∙ slice_get_read s (length s) i x refl l e
+
+  -- and past its end
+  pub got_none : length s ≤ i → slice_get xs i ≡ None
+  got_none l = ap (λ z. slice_get z i) (sym same) ∙ slice_get_past s i l
+
+-- the ring of a feature of these polygons
+module _ {A : Type 0} (o : Option (List (List ℕ))) (ps : List (Vec ℕ A)) (polygon ring : ℕ)
+    (e : Some (map polygon_numbers ps) ≡ o) where
+  pub in_polygons : element (element o polygon) ring
+      ≡ element (option_map polygon_numbers (slice_get ps polygon)) ring
+  in_polygons =
+      ap (λ z. element (element z polygon) ring) (sym e)
+      ∙ ap (λ z. element z ring) (slice_get-map polygon_numbers ps polygon)

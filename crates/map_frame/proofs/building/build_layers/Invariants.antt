@@ -1,0 +1,10 @@
+use Rattle.std.specs.Vec.Iter.{into_iter_items}
+use Rattle.map_frame.specs.Building.{progress}
+use Rattle.map_frame.proofs.Built.{LayersSoFar}
+use Rattle.map_frame.proofs.building.build_layers.Given as goal
+
+-- with those that are left they are all layers
+abbrev pub invariant-loop-raw : goal.invariant-loop-raw
+invariant-loop-raw g l =
+    LayersSoFar (into_iter_items l.initial.raw-iterator) (progress l.fn.features.items (into_iter_items l.fn.waiting))
+    (into_iter_items l.raw-iterator) l.layers.items (progress l.features.items (into_iter_items l.waiting))

@@ -1,0 +1,29 @@
+use Rattle.std.proofs.Common.{◌≡◌, ◌∙◌, ◌+◌, ◌≤◌, refl, sym, ap, subst, arith, length, [], ◌∷◌, ◌++◌}
+use Rattle.std.specs.Vec.Iter.{into_iter_items}
+use Rattle.map_frame.specs.Building.{progress, IsSlot}
+use Rattle.map_frame.specs.declared.layers.Slot.TheVariants as slot
+use Rattle.map_frame.proofs.Built.{leaves_of, one_leaf}
+use Rattle.map_frame.proofs.building.build_slot.Goals as goal
+
+pub push_feature-requires-clause-few : goal.push_feature-requires-clause-few
+push_feature-requires-clause-few g c =
+    omega (arith, c.requires.few, ap (λ i. leaves_of (i ∷ [])) c.in-Leaf.is, one_leaf c.in-Leaf.raw)
+
+pub push_feature-requires-clause-there : goal.push_feature-requires-clause-there
+push_feature-requires-clause-there g c =
+    omega (arith, c.requires.there, ap (λ i. leaves_of (i ∷ [])) c.in-Leaf.is, one_leaf c.in-Leaf.raw)
+
+pub returns-in_ok-push-in-Leaf : goal.returns-in_ok-push-in-Leaf
+returns-in_ok-push-in-Leaf g c =
+    subst (λ i. IsSlot c.args.layer c.args.slot i (slot.Leaves c.push.new.self)
+    (progress c.args.features.now.items (into_iter_items c.args.waiting.now))
+    (progress c.push_feature.new.features.items (into_iter_items c.push_feature.new.waiting)))
+    (sym c.in-Leaf.is) (
+      (
+        c.push.new.self,
+        refl,
+        c.in_ok-push-in-Leaf.ensures.items ∙ ap (λ z. z ++ c.in_ok-number-in-Leaf.number ∷ []) c.new-numbers.ensures.items
+            ∙ ap (λ z. z ∷ []) c.in_ok-number-in-Leaf.ensures.number,
+      ),
+      c.in_ok-number-in-Leaf.ensures.next,
+    )

@@ -1,0 +1,42 @@
+use Rattle.std.proofs.Common.{sym, ap, ◌∙◌}
+use Rattle.ring_machine.specs.Refusals.{is_layer}
+use Rattle.map_frame.specs.Live.{live}
+use Rattle.map_frame.proofs.ReadAlone.{none_alone, is_alone, not_alone, in_some_layer}
+use Rattle.map_frame.proofs.ReadLists.{got, got_none}
+use Rattle.map_frame.proofs.frame.Frame.is_alone.Goals as goal
+
+pub returns-in_default : goal.returns-in_default
+returns-in_default g c =
+    let n = c.args.n in
+    none_alone c.self.inside.tables c.self.invariant n (sym (c.in_default.ensures ∙ ap (λ fs. live fs n) c.as_slice.ensures.value))
+    ∙ ap (λ f. is_layer f.doc n) c.self.view_is
+
+pub returns-in-Alone : goal.returns-in-Alone
+returns-in-Alone g c =
+    let t = c.self.inside.tables in
+    let n = c.args.n in
+    let f = c.in-Some.feature.now in
+    let l = c.in-Some-get.layer.now in
+    is_alone t c.self.invariant n f (sym (c.in-Some.ensures ∙ ap (λ fs. live fs n) c.as_slice.ensures.value)) l c.in-Alone.field-0
+    (got t.layers.items c.deref.result.now f.layer c.deref.ensures.value l c.in-Some-get.ensures.lookup.3.0 c.in-Some-get.ensures.lookup.1)
+    c.in-Alone.is
+    ∙ ap (λ f. is_layer f.doc n) c.self.view_is
+
+pub returns-in_default-matches : goal.returns-in_default-matches
+returns-in_default-matches g c =
+    let t = c.self.inside.tables in
+    let n = c.args.n in
+    let f = c.in-Some.feature.now in
+    let l = c.in-Some-get.layer.now in
+    not_alone t c.self.invariant n f (sym (c.in-Some.ensures ∙ ap (λ fs. live fs n) c.as_slice.ensures.value)) l c.in_default-matches.field-0
+    (got t.layers.items c.deref.result.now f.layer c.deref.ensures.value l c.in-Some-get.ensures.lookup.3.0 c.in-Some-get.ensures.lookup.1)
+    c.in_default-matches.is
+    ∙ ap (λ f. is_layer f.doc n) c.self.view_is
+
+pub returns-in-None : goal.returns-in-None
+returns-in-None g c =
+    let t = c.self.inside.tables in
+    let n = c.args.n in
+    let f = c.in-Some.feature.now in
+    absurd (in_some_layer t c.self.invariant n f (sym (c.in-Some.ensures ∙ ap (λ fs. live fs n) c.as_slice.ensures.value))
+    (got_none t.layers.items c.deref.result.now f.layer c.deref.ensures.value c.in-None.ensures.lookup.3))

@@ -1,0 +1,12 @@
+use Rattle.std.proofs.Common.{◌≡◌, ℕ, ◌<◌, ◌≤◌, length, Some}
+use Rattle.std.specs.Prelude.{slice_get}
+use Rattle.map_frame.specs.Naming.{SameNames}
+use Rattle.map_frame.proofs.names.make_room.Given as goal
+
+-- there is room for the rings so far
+abbrev pub invariant-loop-r : goal.invariant-loop-r
+invariant-loop-r g l = record {
+  same : SameNames l.fn.names.items l.names.items;
+  longer : length l.fn.names.items ≤ length l.names.items;
+  room : (r i : ℕ) → slice_get l.rings i ≡ Some r → i < l.r-index → r < length l.names.items;
+}

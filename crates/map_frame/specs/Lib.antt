@@ -1,0 +1,12 @@
+pub mod Building
+pub mod Copied
+pub mod Edits
+pub mod Framed
+pub mod Kept
+pub mod Live
+pub mod Named
+pub mod Naming
+pub mod Opened
+pub mod Readers
+pub mod Seen
+pub mod Shown

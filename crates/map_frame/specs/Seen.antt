@@ -1,0 +1,75 @@
+-- What the code of a frame means.
+use Rattle.std.specs.Prelude.{ℕ, List, [], ◌∷◌, map, length, Option, None, Some, option_map, slice_get}
+use Rattle.std.specs.List.{flat_map}
+use Rattle.ring_machine.specs.Document.{Text, FeatureOf, ItemOf, Open, Close, Leaf, Kept, LayerOf, DocumentOf}
+use Rattle.ring_machine.specs.Join.{empty_collection}
+use Rattle.topo_outline.specs.Views.{form_of, view_head, view_kept}
+use Rattle.map_opening.specs.Laying.{feature_numbers}
+use Rattle.map_frame.specs.declared.feature.Id.{Id}
+use Rattle.map_frame.specs.declared.feature.Id.TheVariants as id
+use Rattle.map_frame.specs.declared.feature.Feature.{Feature}
+use Rattle.map_frame.specs.declared.layers.Slot.{Slot}
+use Rattle.map_frame.specs.declared.layers.Slot.TheVariants as slot
+use Rattle.map_frame.specs.declared.layers.Geometry.{Geometry}
+use Rattle.map_frame.specs.declared.layers.Geometry.TheVariants as geometry
+use Rattle.map_frame.specs.declared.layers.Layer.{Layer}
+use Rattle.map_frame.specs.declared.tables.Tables.{Tables}
+use Rattle.map_frame.specs.Framed.{Framed}
+
+-- the items, and those of an empty collection where there are none
+abbrev pub or_empty : List (ItemOf ℕ) → List (ItemOf ℕ)
+or_empty [] = empty_collection
+or_empty (i ∷ items) = i ∷ items
+
+module _ {A : Type 0} where
+  -- the text of an id
+  abbrev pub view_id : Id A → Option Text
+  view_id id.Absent = None
+  view_id (id.Read t) = Some t.now
+  view_id (id.Given t) = Some t.items
+
+  -- the feature with this number
+  abbrev pub view_feature : ℕ → Feature A → FeatureOf ℕ
+  view_feature n f = record {
+    number = n;
+    id = view_id f.id;
+    form = form_of f.form;
+    properties = option_map (λ t. t.now) f.properties;
+    members = map view_kept f.members.items;
+    polygons = feature_numbers f.polygons;
+  }
+
+  -- the leaf of the feature with this number, and nothing where it was taken out
+  abbrev pub leaf_of : List (Option (Feature A)) → ℕ → List (ItemOf ℕ)
+  leaf_of features n = there (slice_get features n)
+    where
+      there : Option (Option (Feature A)) → List (ItemOf ℕ)
+      there (Some (Some f)) = Leaf (view_feature n f) ∷ []
+      there (Some None) = []
+      there None = []
+
+  -- the items of a slot
+  abbrev pub items_at : List (Option (Feature A)) → Slot A → List (ItemOf ℕ)
+  items_at features (slot.Open h) = Open (view_head h) ∷ []
+  items_at features slot.Close = Close ∷ []
+  items_at features (slot.Kept t) = Kept t.now ∷ []
+  items_at features (slot.Leaves numbers) = flat_map (leaf_of features) numbers.items
+
+  -- the items of a layer
+  abbrev pub items_of : List (Option (Feature A)) → Geometry A → List (ItemOf ℕ)
+  items_of features (geometry.Alone n) = or_empty (leaf_of features n)
+  items_of features (geometry.Items slots) = flat_map (items_at features) slots.items
+
+  abbrev pub view_layer : List (Option (Feature A)) → Layer A → LayerOf ℕ
+  view_layer features l = record { name = l.name.now; items = items_of features l.geometry }
+
+  -- the document with a number in the place of each ring
+  abbrev pub doc_of : Tables A → DocumentOf ℕ
+  doc_of f = record {
+    transform = option_map (λ t. t.now) f.transform;
+    layers = map (view_layer f.features.items) f.layers.items;
+    members = map view_kept f.members.items;
+  }
+
+  abbrev pub framed : Tables A → Framed
+  framed f = record { doc = doc_of f; next = length f.features.items }

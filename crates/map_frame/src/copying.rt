@@ -1,0 +1,121 @@
+// Copies of a frame, in memory of the same allocator. Texts that were read are slices, and are
+// shared.
+ghost use Rattle.std.specs.Prelude.{◌≡◌, IfOk};
+ghost use Rattle.map_frame.specs.Copied.{AreCopied};
+
+use crate::feature::{Feature, Id};
+use crate::frame::Frame;
+use crate::layers::{Geometry, Layer, Slot};
+use crate::tables::Tables;
+use std::alloc::{AllocError, Allocator};
+
+impl<'a, A: Allocator + Copy> Clone for Id<'a, A> {
+    ghost use Rattle.std.specs.Prelude.{◌≡◌};
+    ghost use Rattle.map_frame.specs.Seen.{view_id};
+
+    ghost is_clone = { λ id copy. view_id copy ≡ view_id id };
+
+    fn clone(&self) -> Result<Id<'a, A>, AllocError> {
+        match self {
+            Id::Absent => Ok(Id::Absent),
+            Id::Read(text) => Ok(Id::Read(*text)),
+            Id::Given(text) => Ok(Id::Given(text.clone()?)),
+        }
+    }
+}
+
+impl<'a, A: Allocator + Copy> Clone for Feature<'a, A> {
+    ghost use Rattle.std.specs.Prelude.{◌≡◌};
+    ghost use Rattle.map_frame.specs.Copied.{placed};
+
+    ghost is_clone = { λ feature copy. placed copy ≡ placed feature };
+
+    fn clone(&self) -> Result<Feature<'a, A>, AllocError> {
+        Ok(Feature {
+            layer: self.layer,
+            slot: self.slot,
+            id: self.id.clone()?,
+            form: self.form,
+            properties: self.properties,
+            members: self.members.clone()?,
+            polygons: self.polygons.clone()?,
+        })
+    }
+}
+
+impl<'a, A: Allocator + Copy> Clone for Slot<'a, A> {
+    ghost use Rattle.std.specs.Prelude.{◌≡◌};
+    ghost use Rattle.map_frame.specs.Copied.{slot_text};
+
+    ghost is_clone = { λ slot copy. slot_text copy ≡ slot_text slot };
+
+    fn clone(&self) -> Result<Slot<'a, A>, AllocError> {
+        match self {
+            Slot::Open(head) => Ok(Slot::Open(head.clone()?)),
+            Slot::Close => Ok(Slot::Close),
+            Slot::Kept(text) => Ok(Slot::Kept(*text)),
+            Slot::Leaves(numbers) => Ok(Slot::Leaves(numbers.clone()?)),
+        }
+    }
+}
+
+impl<'a, A: Allocator + Copy> Clone for Geometry<'a, A> {
+    ghost use Rattle.std.specs.Prelude.{◌≡◌};
+    ghost use Rattle.map_frame.specs.Copied.{geometry_text};
+
+    ghost is_clone = { λ geometry copy. geometry_text copy ≡ geometry_text geometry };
+
+    fn clone(&self) -> Result<Geometry<'a, A>, AllocError> {
+        match self {
+            Geometry::Alone(number) => Ok(Geometry::Alone(*number)),
+            Geometry::Items(slots) => Ok(Geometry::Items(slots.clone()?)),
+        }
+    }
+}
+
+impl<'a, A: Allocator + Copy> Clone for Layer<'a, A> {
+    ghost use Rattle.std.specs.Prelude.{◌≡◌};
+    ghost use Rattle.map_frame.specs.Copied.{layer_text};
+
+    ghost is_clone = { λ layer copy. layer_text copy ≡ layer_text layer };
+
+    fn clone(&self) -> Result<Layer<'a, A>, AllocError> {
+        Ok(Layer {
+            name: self.name,
+            geometry: self.geometry.clone()?,
+        })
+    }
+}
+
+impl<'a, A: Allocator + Copy> Tables<'a, A> {
+    /// The same texts and numbers. Fails for want of memory alone.
+    fn copy(&self) -> Result<Tables<'a, A>, AllocError>
+        ensures { IfOk result (λ copy. AreCopied self.now copy) }
+    {
+        let layers = self.layers.clone()?;
+        let members = self.members.clone()?;
+        let features = self.features.clone()?;
+        let names = Vec::from_slice(self.alloc, self.names.as_slice())?;
+        let empty = self.empty.clone()?;
+        Ok(Tables {
+            alloc: self.alloc,
+            transform: self.transform,
+            layers,
+            members,
+            features,
+            count: self.count,
+            names,
+            empty,
+        })
+    }
+}
+
+impl<'a, A: Allocator + Copy> Frame<'a, A> {
+    /// The same document with the same next number. Fails for want of memory alone.
+    pub fn copy(&self) -> Result<Frame<'a, A>, AllocError>
+        ensures { IfOk result (λ copy. copy ≡ self.now) }
+    {
+        let tables = self.tables.copy()?;
+        Ok(Frame { tables })
+    }
+}
