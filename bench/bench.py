@@ -23,6 +23,8 @@ For each map there is one line a measure:
     queries   `area` lines answered a second
     at        `at` lines answered a second, at positions drawn between the coordinates of the vertices
     sharing   `neighbours` lines answered a second
+    splits    accepted splits and merges a second: features cut from one vertex to another, and joined again
+    deletes   features deleted a second
     memory    the most memory that opening the map and a few edits took
 
 The time of opening and saving is taken off before edits and questions are counted. Their number is adapted, so
@@ -59,15 +61,18 @@ PIECES = 8
 # The greatest coordinate of a map, and that of one whose far polygon makes all else small.
 REACH = 1_000_000_000
 SMALL_REACH = 1_000_000
-# How many vertices are drawn of one map, and how many lines a script has, at most.
+# How many vertices are drawn of one map, how many lines a script has, and the next number of a feature, at most.
 MOST_DRAWN = 100_000
+MOST_NUMBERS = 200_000
 MOST_LINES = 2_000_000
 # More comment lines than a pipe and a reader's room hold: once they are written, what stood before has been answered.
 HELD_BACK = "# held back\n" * 40_000
 
 Map = collections.namedtuple("Map", "name path")
 Run = collections.namedtuple("Run", "seconds status out err peak")
-Drawn = collections.namedtuple("Drawn", "vertices features")
+Drawn = collections.namedtuple("Drawn", "vertices features cuts")
+# A feature's number, and the ends of a path that may cut it.
+Cut = collections.namedtuple("Cut", "feature start end")
 
 
 # ---- making maps
@@ -186,15 +191,35 @@ def polygons_of(geometry, features):
         features.append([])
 
 
+def ring_of(indexes, arcs):
+    """The positions of a ring, the last one not repeated."""
+    ring = []
+    for i in indexes:
+        ring += (arcs[i] if i >= 0 else arcs[~i][::-1])[:-1]
+    return ring
+
+
+def cuts_of(features, arcs):
+    """Of each feature with one ring, the way from its first position to the one in the middle of the ring."""
+    for number, polygons in enumerate(features):
+        if len(polygons) == 1 and len(polygons[0]) == 1:
+            ring = ring_of(polygons[0][0], arcs)
+            yield Cut(number, ring[0], ring[len(ring) // 2])
+
+
 def draw(path, seed):
-    """Vertices of the rings, and how many features there are."""
+    """Vertices of the rings, how many features there are, and paths that may cut some."""
     topology = json.loads(pathlib.Path(path).read_bytes())
     features = []
     for layer in topology["objects"].values():
         polygons_of(layer, features)
+    arcs = list(positions_of(topology))
     used = {i if i >= 0 else ~i for polygons in features for rings in polygons for ring in rings for i in ring}
-    vertices = sorted({place for n, arc in enumerate(positions_of(topology)) if n in used for place in arc})
-    return Drawn(random.Random(seed).sample(vertices, min(len(vertices), MOST_DRAWN)), len(features))
+    vertices = sorted({place for n, arc in enumerate(arcs) if n in used for place in arc})
+    rand = random.Random(seed)
+    drawn = rand.sample(vertices, min(len(vertices), MOST_DRAWN))
+    cuts = list(cuts_of(features, arcs))
+    return Drawn(drawn, len(features), rand.sample(cuts, min(len(cuts), MOST_DRAWN)))
 
 
 def apart(function, *given):
@@ -350,6 +375,42 @@ class Moves:
         return done
 
 
+class Splits:
+    """Features cut in two and joined again, of which the refused ones are left out as they are found."""
+
+    def __init__(self, runner, path, drawn):
+        self.runner, self.path, self.next = runner, path, drawn.features
+        self.good, self.untried = [], list(reversed(drawn.cuts))
+
+    def split(self, cut):
+        """The line that cuts a feature."""
+        (a, b), (c, d) = cut.start, cut.end
+        return f'split {cut.feature} "part" {a} {b} {c} {d}'
+
+    def lines(self, cuts):
+        """Each feature is joined again with the one that was cut off, which has the next number."""
+        return [line for n, cut in enumerate(cuts) for line in (self.split(cut), f"merge {cut.feature} {self.next + n}")]
+
+    def run(self, lines):
+        """Runs so many splits and merges, all of them accepted; where a map has too few for that, they come again."""
+        wanted = min(lines // 2, MOST_NUMBERS - self.next)
+        while self.untried and len(self.good) < wanted:
+            fresh = [self.untried.pop() for _ in range(min(wanted - len(self.good), len(self.untried)))]
+            self.good += self.accepted(fresh)
+        if not self.good:
+            raise Failed("no split is accepted")
+        cuts = (self.good * (wanted // len(self.good) + 1))[:wanted]
+        return self.runner.accepted(self.path, self.lines(cuts)), 2 * len(cuts)
+
+    def accepted(self, tried):
+        """Those of these paths that cut their features, where the parts can be joined again."""
+        done = self.runner.run(self.path, [self.split(cut) for cut in tried])
+        answers = done.out.splitlines()
+        if done.status not in (0, 1) or len(answers) != len(tried):
+            raise Failed(why(done))
+        return [cut for cut, answer in zip(tried, answers) if answer.startswith("ok ")]
+
+
 def least(take):
     """The least of the seconds that `take` gives; what is slow is done once or twice."""
     best, spent = float("inf"), 0.0
@@ -431,6 +492,20 @@ def of_positions(drawn, rand):
     return lambda: f"at {rand.randint(west, east)} {rand.randint(south, north)}"
 
 
+def measure_splits(runner, map_, opening, drawn, seconds):
+    each, count, spent = rate(Splits(runner, map_.path, drawn).run, opening, seconds)
+    return f"{each:9.1f} /s     {count} splits and merges in {spent:.2f} s"
+
+
+def measure_deletes(runner, map_, opening, drawn, rand):
+    """All features but one are deleted, in any order."""
+    numbers = rand.sample(range(drawn.features), max(drawn.features - 1, 0))
+    spent = runner.accepted(map_.path, [f"delete {n}" for n in numbers]).seconds - opening
+    if not numbers or spent <= 0:
+        raise Failed(f"{len(numbers)} lines take no time beside opening")
+    return f"{len(numbers) / spent:9.1f} /s     {len(numbers)} features in {spent:.2f} s"
+
+
 def measure_memory(runner, map_, drawn):
     done = runner.watched(map_.path, Moves(runner, map_.path, []).lines(drawn.vertices[:8]))
     if done.status not in (0, 1) or not done.peak:
@@ -467,6 +542,8 @@ def measure(options, runner, map_):
     line("queries", lambda: questions(of_features("area", drawn, rand), "-?[0-9]+"))
     line("at", lambda: questions(of_positions(drawn, rand), "inside:( [0-9]+)* border:( [0-9]+)*"))
     line("sharing", lambda: questions(of_features("neighbours", drawn, rand), "neighbours:( [0-9]+)*"))
+    line("splits", lambda: measure_splits(runner, map_, whole, drawn, options.seconds))
+    line("deletes", lambda: measure_deletes(runner, map_, whole, drawn, rand))
     line("memory", lambda: measure_memory(runner, map_, drawn))
 
 

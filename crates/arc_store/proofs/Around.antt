@@ -28,14 +28,14 @@ use Rattle.shared_arcs.specs.Joined.{Joined, Three, Passes, AreNeighbours}
 use Rattle.arc_tables.specs.Ways.{Edge, times}
 use Rattle.arc_tables.specs.Rings.{begins}
 use Rattle.vertex_index.specs.Placement.{place}
-use Rattle.arc_store.specs.Stored.{Stored, positions_along, document_of}
-use Rattle.arc_store.specs.Holds.{IsWhole}
+use Rattle.feature_exchange.specs.Stored.{Stored, positions_along, document_of}
+use Rattle.feature_exchange.specs.Holds.{IsWhole}
 use Rattle.map_opening.proofs.Places.{IsKept, place_is, place_kept, one_key}
-use Rattle.arc_store.proofs.Base.{joined_apart, Laid, ring_laid, begin_kept}
-use Rattle.arc_store.proofs.Base.{segment_between, joined_back}
-use Rattle.arc_store.proofs.Base.{key_vertex, document_ring, laid_ring, joined_at, joined_kept}
-use Rattle.arc_store.proofs.Base.{joined_around, joined_segment, joined_differ}
-use Rattle.arc_store.proofs.Ends.{two_positions, end_is, end_of_two}
+use Rattle.feature_exchange.proofs.Base.{joined_apart, Laid, ring_laid, begin_kept}
+use Rattle.feature_exchange.proofs.Base.{segment_between, joined_back}
+use Rattle.feature_exchange.proofs.Base.{key_vertex, document_ring, laid_ring, joined_at, joined_kept}
+use Rattle.feature_exchange.proofs.Base.{joined_around, joined_segment, joined_differ}
+use Rattle.feature_exchange.proofs.Ends.{two_positions, end_is, end_of_two}
 use Rattle.arc_store.proofs.Insertions.{AreRings, Comes, segments_come}
 use Rattle.ring_machine.proofs.Members.{any_in, in_mapped}
 use Rattle.map_opening.proofs.KeyRings.{length-canonical, times_edge, edge_times, edge_ends}

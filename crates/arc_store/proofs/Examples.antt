@@ -9,7 +9,7 @@ use Rattle.ring_machine.specs.Document.{DocumentOf, FeatureOf, Polygon, Leaf}
 use Rattle.vertex_index.specs.Placement.{Placement, place}
 use Rattle.arc_tables.specs.Ways.{Edge}
 use Rattle.arc_tables.specs.Rings.{Rings, edges, begins}
-use Rattle.arc_store.specs.Stored.{Stored, positions_along, ring_under, document_of}
+use Rattle.feature_exchange.specs.Stored.{Stored, positions_along, ring_under, document_of}
 
 abbrev nowhere : Position
 nowhere = position (pos 0) (pos 0)

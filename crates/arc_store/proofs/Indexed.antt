@@ -20,10 +20,10 @@ use Rattle.ring_machine.proofs.Neighbours.{vertex_in}
 use Rattle.ring_machine.proofs.RingSegments.{segment_eq-true}
 use Rattle.ring_machine.proofs.StaysProper.{edges_start}
 use Rattle.segment_index.specs.Candidates.{SegmentSet, has}
-use Rattle.arc_store.specs.Holds.{IsIndexed}
+use Rattle.feature_exchange.specs.Holds.{IsIndexed}
 use Rattle.map_opening.proofs.SegmentLists.{has-eq}
 use Rattle.ring_machine.proofs.Members.{in_mapped, in_flat, any_in, in_any, same_answer}
-use Rattle.arc_store.proofs.Ends.{end_is, end_of_two}
+use Rattle.feature_exchange.proofs.Ends.{end_is, end_of_two}
 
 -- ---- segments and vertices of a document
 

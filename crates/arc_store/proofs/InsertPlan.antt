@@ -22,16 +22,16 @@ use Rattle.segment_index.specs.Candidates.{SegmentSet, AreAmong, AreSingle, segm
 use Rattle.segment_index.proofs.Singles.{same_segment}
 use Rattle.shared_arcs.specs.Joined.{Joined}
 use Rattle.arc_tables.specs.Rings.{Rings, users_of}
-use Rattle.arc_store.specs.declared.frame.Frame.{Frame}
+use Rattle.map_frame.specs.Framed.{Framed}
 use Rattle.arc_store.specs.Edits.{IsInsertable, PutBetween}
-use Rattle.arc_store.specs.Holds.{IsIndexed, Holds}
-use Rattle.arc_store.specs.Kept.{IsKept, stored}
+use Rattle.feature_exchange.specs.Holds.{IsIndexed, Holds}
+use Rattle.arc_store.specs.Kept.{IsKept}
+use Rattle.feature_exchange.specs.Stored.{stored, Stored, document_of}
 use Rattle.arc_store.specs.Planned.{AreNew, Exchanges, spokes}
-use Rattle.arc_store.specs.Stored.{Stored, document_of}
 use Rattle.arc_store.proofs.Around.{come_over, none_joined}
-use Rattle.arc_store.proofs.Base.{vertex_key}
+use Rattle.feature_exchange.proofs.Base.{vertex_key}
 use Rattle.arc_store.proofs.SegmentCounts.{as_many}
-use Rattle.arc_store.proofs.Ends.{two_ends}
+use Rattle.feature_exchange.proofs.Ends.{two_ends}
 use Rattle.arc_store.proofs.Indexed.{end_vertex}
 use Rattle.arc_store.proofs.Inserted.{Insertion, document_inserted, reindexed_inserted}
 use Rattle.arc_store.proofs.Inserted.{holds_inserted, size_inserted}
@@ -134,7 +134,7 @@ module _ (s : Stored) (held : SegmentSet) (h : Holds s held) (a b q : Position) 
 -- ---- the map
 
 -- an accepted insertion keeps what is true of the tables
-module _ {A : Type 0} (frame : Frame A) (rings rings' : Rings) (places places' : Placement) (held held' : SegmentSet) (next positions segments : ℕ) (h : IsKept frame rings places held next positions segments) (j k : ℕ) (a b q : Position) (first : table.get places j ≡ Some a) (second : table.get places k ≡ Some b)
+module _ (frame : Framed) (rings rings' : Rings) (places places' : Placement) (held held' : SegmentSet) (positions segments : ℕ) (h : IsKept frame rings places held positions segments) (j k : ℕ) (a b q : Position) (first : table.get places j ≡ Some a) (second : table.get places k ≡ Some b)
     (border : is_segment (document_of (stored frame rings places)) (segment a b) ≡ true) (free : is_vertex (document_of (stored frame rings places)) q ≡ false) (accepted : first_of (insert_refusals (document_of (stored frame rings places)) a b q) ≡ None) (put : PutBetween places places' rings rings' j k q) where
   abbrev was : Stored
   was = stored frame rings places
@@ -155,19 +155,13 @@ module _ {A : Type 0} (frame : Frame A) (rings rings' : Rings) (places places' :
 
     pub kept_inserted : (before : Segment) (after : List Segment) → before ≡ segment a b
         → after ≡ spokes q (a ∷ b ∷ []) → Exchanges held after (before ∷ []) held'
-        → IsKept frame rings' places' held' next (positions + count) (segments + 1)
+        → IsKept frame rings' places' held' (positions + count) (segments + 1)
     kept_inserted before after goes comes e =
         let e' : Exchanges held (spokes q (a ∷ b ∷ [])) (segment a b ∷ []) held' = λ t.
         e t ∙ ap₂ (λ x y. (set.contains held t || has_segment x t) && not (has_segment (y ∷ []) t)) comes goes in
         let x = insert_indexed was held h.holds a b q border free j k first second rings' put.key held' insertion e' in
-        subst (λ z. IsKept frame rings' z held' next (positions + count) (segments + 1)) (sym put.placed) (record {
+        subst (λ z. IsKept frame rings' z held' (positions + count) (segments + 1)) (sym put.placed) (record {
           holds = holds_inserted was held held' rings' j k put.key a b q h.holds insertion x;
-          counted = h.counted;
-          listed = h.listed;
-          firsts = h.firsts;
-          named = h.named;
-          next = h.next;
-          few = h.few;
           sized = sym size_grows ∙ sym (ap size (document_inserted was rings' j k put.key a b q h.holds.whole h.holds.proper insertion));
           single = ap (λ z. z + 1) h.single ∙ sym (insert_count was held h.holds a b q border free j k first second rings' put.key held' insertion e')
               ∙ sym (ap (λ d. length (distinct_segments d)) (document_inserted was rings' j k put.key a b q h.holds.whole h.holds.proper insertion));

@@ -31,16 +31,16 @@ use Rattle.arc_tables.specs.Rings.{Rings, begins}
 use Rattle.shared_arcs.specs.Joined.{Joined}
 use Rattle.arc_tables.specs.Edited.{over, through}
 use Rattle.vertex_index.specs.Placement.{place}
-use Rattle.arc_store.specs.Stored.{Stored, positions_along, ring_under, document_of}
+use Rattle.feature_exchange.specs.Stored.{Stored, positions_along, ring_under, document_of}
 use Rattle.map_opening.specs.Laying.{GoesRound}
-use Rattle.arc_store.specs.Holds.{Visits, IsWhole, IsIndexed, Holds}
+use Rattle.feature_exchange.specs.Holds.{Visits, IsWhole, IsIndexed, Holds}
 use Rattle.map_opening.proofs.SegmentLists.{has-eq}
 use Rattle.ring_machine.proofs.Members.{contains_in, in_contains, in_mapped, in_flat}
 use Rattle.arc_store.proofs.Around.{segment_joined, come_over}
 use Rattle.arc_store.proofs.Insertions.{Comes, segments_ins}
 use Rattle.arc_store.proofs.Numbers.{users_of, size_over}
 use Rattle.map_opening.proofs.Places.{IsKept, place_is, place_kept, one_key}
-use Rattle.arc_store.proofs.Base.{ring_under_is, begin_kept, framed, key_vertex}
+use Rattle.feature_exchange.proofs.Base.{ring_under_is, begin_kept, framed, key_vertex}
 use Rattle.map_opening.proofs.KeyRings.{laid, edge_ends, ends_is_seg, times_edge}
 use Rattle.arc_store.proofs.KeyWays.{edited_along, edited_way, over_keeps, round_way, round_of_way}
 use Rattle.arc_store.proofs.KeyWays.{seg_same}

@@ -1,7 +1,7 @@
 -- The keys along the rings of features, one list after the other.
 use Rattle.std.proofs.Common.{◌≡◌, ◌+◌, ◌<◌, ℕ, true, refl, sym, ap, ap₂, ◌∙◌, subst, List, [], ◌∷◌, ◌++◌}
 use Rattle.std.proofs.Common.{map, length, take, get_or, append_assoc, Contains}
-use Rattle.std.specs.Prelude.{IfSome, Vec, unwrap_or}
+use Rattle.std.specs.Prelude.{IfSome, unwrap_or}
 use Rattle.std.specs.List.{flat_map}
 use Rattle.std.specs.FinMap as table
 use Rattle.std.proofs.lemmas.List.{append-nil, take_more}
@@ -9,9 +9,7 @@ use Rattle.std.proofs.lemmas.List.Concat.{flat_map-append}
 use Rattle.ring_machine.proofs.First.{In}
 use Rattle.ring_machine.proofs.Neighbours.{in-flat_map}
 use Rattle.arc_tables.specs.Rings.{Rings, begins}
-use Rattle.map_opening.specs.Laying.{polygon_numbers, feature_numbers}
-use Rattle.map_opening.specs.Keyed.{all_rings}
-use Rattle.arc_store.specs.Stored.{edges_under}
+use Rattle.feature_exchange.specs.Stored.{edges_under}
 use Rattle.ring_machine.proofs.Members.{contains_in, in_contains, there}
 use Rattle.ring_machine.proofs.SortedOnce.{in_at}
 
@@ -22,20 +20,10 @@ flat_more f xs i d h =
     ap (flat_map f) (take_more xs i d h) ∙ flat_map-append f (take i xs) (get_or xs i d ∷ [])
     ∙ ap (λ z. flat_map f (take i xs) ++ z) (append-nil (f (get_or xs i d)))
 
--- the numbers of the rings of a feature's polygons, one list
-abbrev pub ring_numbers : {A : Type 0} → Vec (Vec ℕ A) A → List ℕ
-ring_numbers f = flat_map polygon_numbers f.items
-
-joined_map : {A B : Type 0} (f : A → List B) (xs : List A)
+pub joined_map : {A B : Type 0} (f : A → List B) (xs : List A)
     → flat_map (λ ys. ys) (map f xs) ≡ flat_map f xs
 joined_map f [] = refl
 joined_map f (x ∷ xs) = ap (λ z. f x ++ z) (joined_map f xs)
-
--- all rings of these features
-pub rings_listed : {A : Type 0} (fs : List (Vec (Vec ℕ A) A))
-    → all_rings (map feature_numbers fs) ≡ flat_map ring_numbers fs
-rings_listed [] = refl
-rings_listed (f ∷ fs) = ap₂ (λ y z. y ++ z) (joined_map polygon_numbers f.items) (rings_listed fs)
 
 module _ (m : Rings) where
   -- the keys of a ring

@@ -36,16 +36,16 @@ use Rattle.local_planarity.specs.Edits.{AreApart, IsAfter, IsEnds, IsHeld}
 use Rattle.local_planarity.proofs.Least.{apart_if_none}
 use Rattle.arc_store.specs.declared.fault.EditFault.{EditFault}
 use Rattle.arc_store.specs.declared.fault.EditFault.TheVariants as edit
-use Rattle.arc_store.specs.declared.frame.Frame.{Frame}
+use Rattle.map_frame.specs.Framed.{Framed}
 use Rattle.arc_store.specs.Faults.{Refuses}
-use Rattle.arc_store.specs.Stored.{Stored, document_of}
-use Rattle.arc_store.specs.Holds.{IsWhole, IsIndexed, Holds}
-use Rattle.arc_store.specs.Kept.{IsKept, stored}
+use Rattle.feature_exchange.specs.Stored.{Stored, document_of, stored}
+use Rattle.feature_exchange.specs.Holds.{IsWhole, IsIndexed, Holds}
+use Rattle.arc_store.specs.Kept.{IsKept}
 use Rattle.arc_store.specs.Planned.{ArePlaced, AreAround, AreNew, Exchanges, spokes}
 use Rattle.ring_machine.proofs.Members.{any_in, in_mapped, in_contains}
 use Rattle.map_opening.proofs.Places.{place_is}
-use Rattle.arc_store.proofs.Base.{joined_kept, joined_apart, segments_to, segments_at}
-use Rattle.arc_store.proofs.Base.{sweeps_by_joined}
+use Rattle.feature_exchange.proofs.Base.{joined_kept, joined_apart, segments_to, segments_at}
+use Rattle.feature_exchange.proofs.Base.{sweeps_by_joined}
 use Rattle.map_opening.proofs.SegmentLists.{has-eq}
 use Rattle.arc_store.proofs.Indexed.{indexed_ends, indexed_only, indexed_has}
 use Rattle.arc_store.proofs.Planned.{any_at}
@@ -137,24 +137,18 @@ module _ (s : Stored) (held : SegmentSet) (h : Holds s held) (k : ℕ) (p q : Po
 -- ---- the map
 
 -- an accepted move keeps what is true of the tables
-kept_moved : {A : Type 0} (frame : Frame A) (rings : Rings) (places : Placement) (held held' : SegmentSet)
-    (number size_kept single : ℕ) → IsKept frame rings places held number size_kept single
+kept_moved : (frame : Framed) (rings : Rings) (places : Placement) (held held' : SegmentSet)
+    (size_kept single : ℕ) → IsKept frame rings places held size_kept single
     → (k : ℕ) (p q : Position) → table.get places k ≡ Some p
     → is_vertex (document_of (stored frame rings places)) q ≡ false
     → first_of (move_refusals (document_of (stored frame rings places)) p q) ≡ None
     → (around : List Position) → AreAround places rings k around
     → Exchanges held (spokes q around) (spokes p around) held'
-    → IsKept frame rings (table.insert places k q) held' number size_kept single
-kept_moved frame rings places held held' number size_kept single h k p q at free none around r e =
+    → IsKept frame rings (table.insert places k q) held' size_kept single
+kept_moved frame rings places held held' size_kept single h k p q at free none around r e =
     let s = stored frame rings places in
     record {
       holds = holds_moved s held held' k p q h.holds at none (plan_indexed s held h.holds k p q at free around r held' e);
-      counted = h.counted;
-      listed = h.listed;
-      firsts = h.firsts;
-      named = h.named;
-      next = h.next;
-      few = h.few;
       sized = h.sized ∙ sym (size_moved s h.holds.whole k p q at free);
       single = h.single ∙ sym (ap (λ d. length (distinct_segments d)) (document_moved s h.holds.whole k p q at free) ∙ plan_count s held h.holds k p q at free around r held' e);
     }
@@ -173,17 +167,8 @@ move_first d p q v f =
 pub refuses_first : (fault : EditFault) (o : Option Refusal) (os : List (Option Refusal))
     → Refuses fault o → Refuses fault (first_of (o ∷ os))
 refuses_first fault (Some x) os h = h
-refuses_first edit.NoFeature None os h = absurd cc
-refuses_first edit.NoVertex None os h = absurd cc
-refuses_first edit.NoSegment None os h = absurd cc
-refuses_first edit.Occupied None os h = absurd cc
-refuses_first edit.Junction None os h = absurd cc
-refuses_first edit.RingShort None os h = absurd cc
-refuses_first edit.SegmentExists None os h = absurd cc
-refuses_first edit.TooLarge None os h = absurd cc
-refuses_first (edit.Conflict s t) None os h = absurd cc
-refuses_first edit.Sweeps None os h = absurd cc
 refuses_first edit.OutOfMemory None os h = tt
+refuses_first fault None os h = absurd cc
 
 move_refuses : (d : Document) (p q : Position) → is_vertex d p ≡ true → is_vertex d q ≡ false
     → (fault : EditFault) → Refuses fault (conflict_of (least_conflict (all_segments (put d p q))))
@@ -261,7 +246,7 @@ module _ (s : Stored) (held : SegmentSet) (h : Holds s held) (d : Document) (is 
 -- ---- the map after the last call of a move
 
 -- the document is the moved one
-pub document_after : {A X E : Type 0} (result : Result X E) (frame : Frame A) (rings : Rings)
+pub document_after : {X E : Type 0} (result : Result X E) (frame : Framed) (rings : Rings)
     (places places' : Placement) → IsWhole (stored frame rings places) → (d : Document)
     → document_of (stored frame rings places) ≡ d → (k : ℕ) (p q : Position)
     → table.get places k ≡ Some p → is_vertex d q ≡ false
@@ -271,9 +256,9 @@ document_after result frame rings places places' w d is k p q at free moved =
     on_ok_weaker result (λ m. ap (λ z. document_of (stored frame rings z)) m ∙ document_moved (stored frame rings places) w k p q at (ap (λ z. is_vertex z q) is ∙ free) ∙ ap (λ z. put z p q) is) moved
 
 -- what is true of the tables stays, whether the call fails or not
-pub kept_after : {A X E : Type 0} (result : Result X E) (frame : Frame A) (rings : Rings)
-    (places places' : Placement) (held held' : SegmentSet) (number size_kept single : ℕ)
-    → IsKept frame rings places held number size_kept single → (d : Document)
+pub kept_after : {X E : Type 0} (result : Result X E) (frame : Framed) (rings : Rings)
+    (places places' : Placement) (held held' : SegmentSet) (size_kept single : ℕ)
+    → IsKept frame rings places held size_kept single → (d : Document)
     → document_of (stored frame rings places) ≡ d → (k : ℕ) (p q : Position)
     → table.get places k ≡ Some p → is_vertex d q ≡ false
     → first_of (move_refusals d p q) ≡ None
@@ -281,9 +266,9 @@ pub kept_after : {A X E : Type 0} (result : Result X E) (frame : Frame A) (rings
     → (added gone : List Segment) → added ≡ spokes q around → gone ≡ spokes p around
     → OnOk result (places' ≡ table.insert places k q) → OnOk result (Exchanges held added gone held')
     → OnErr result (places' ≡ places) → OnErr result (held' ≡ held)
-    → IsKept frame rings places' held' number size_kept single
-kept_after (Ok x) frame rings places places' held held' number size_kept single h d is k p q at free none around r added gone comes goes moved exchanged same unchanged =
-    subst (λ z. IsKept frame rings z held' number size_kept single) (sym moved) (kept_moved frame rings places held held' number size_kept single h k p q at (ap (λ z. is_vertex z q) is ∙ free) (ap (λ z. first_of (move_refusals z p q)) is ∙ none) around r
+    → IsKept frame rings places' held' size_kept single
+kept_after (Ok x) frame rings places places' held held' size_kept single h d is k p q at free none around r added gone comes goes moved exchanged same unchanged =
+    subst (λ z. IsKept frame rings z held' size_kept single) (sym moved) (kept_moved frame rings places held held' size_kept single h k p q at (ap (λ z. is_vertex z q) is ∙ free) (ap (λ z. first_of (move_refusals z p q)) is ∙ none) around r
     (λ t. exchanged t ∙ ap₂ (λ y z. (set.contains held t || has_segment y t) && not (has_segment z t)) comes goes))
-kept_after (Err e) frame rings places places' held held' number size_kept single h d is k p q at free none around r added gone comes goes moved exchanged same unchanged =
-    subst (λ z. IsKept frame rings z held' number size_kept single) (sym same) (subst (λ z. IsKept frame rings places z number size_kept single) (sym unchanged) h)
+kept_after (Err e) frame rings places places' held held' size_kept single h d is k p q at free none around r added gone comes goes moved exchanged same unchanged =
+    subst (λ z. IsKept frame rings z held' size_kept single) (sym same) (subst (λ z. IsKept frame rings places z size_kept single) (sym unchanged) h)

@@ -39,17 +39,17 @@ use Rattle.segment_index.proofs.Singles.{same_segment}
 use Rattle.arc_tables.specs.Ways.{Edge}
 use Rattle.arc_tables.specs.Rings.{begins}
 use Rattle.shared_arcs.specs.Joined.{Joined}
-use Rattle.arc_store.specs.Stored.{Stored, positions_along, ring_under, document_of}
-use Rattle.arc_store.specs.Holds.{Visits, IsWhole, IsIndexed, Holds}
+use Rattle.feature_exchange.specs.Stored.{Stored, positions_along, ring_under, document_of}
+use Rattle.feature_exchange.specs.Holds.{Visits, IsWhole, IsIndexed, Holds}
 use Rattle.ring_machine.proofs.Members.{contains_in, in_contains, in_mapped, any_in, in_any, same_answer}
-use Rattle.arc_store.proofs.Ends.{two_positions, end_of_two, two_ends}
+use Rattle.feature_exchange.proofs.Ends.{two_positions, end_of_two, two_ends}
 use Rattle.map_opening.proofs.KeyRings.{in_canonical, length-canonical, has_key}
 use Rattle.map_opening.proofs.Places.{insert_other}
 use Rattle.map_opening.proofs.Places.{IsKept, place_is, kept_place, place_kept, one_key}
-use Rattle.arc_store.proofs.Base.{joined_back, framed, ring_laid, key_vertex}
-use Rattle.arc_store.proofs.Base.{begin_kept, positions_distinct, positions_long, ring_under_is}
-use Rattle.arc_store.proofs.Base.{segment_between, joined_segment, joined_kept, joined_differ}
-use Rattle.arc_store.proofs.Base.{AreJoined, segments_to, segments_at, one_to}
+use Rattle.feature_exchange.proofs.Base.{joined_back, framed, ring_laid, key_vertex}
+use Rattle.feature_exchange.proofs.Base.{begin_kept, positions_distinct, positions_long, ring_under_is}
+use Rattle.feature_exchange.proofs.Base.{segment_between, joined_segment, joined_kept, joined_differ}
+use Rattle.feature_exchange.proofs.Base.{AreJoined, segments_to, segments_at, one_to}
 use Rattle.map_opening.proofs.SegmentLists.{has-eq}
 use Rattle.arc_store.proofs.Indexed.{end_vertex}
 

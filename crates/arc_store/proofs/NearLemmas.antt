@@ -5,7 +5,7 @@ use Rattle.ring_machine.specs.Document.{Document}
 use Rattle.ring_machine.proofs.Orders.{segment_ordered}
 use Rattle.ring_machine.proofs.RingSegments.{segment_eq-true}
 use Rattle.segment_index.specs.Candidates.{SegmentSet, Gives}
-use Rattle.arc_store.specs.Holds.{IsIndexed}
+use Rattle.feature_exchange.specs.Holds.{IsIndexed}
 use Rattle.arc_store.specs.Near.{ListsNear}
 use Rattle.map_opening.proofs.SegmentLists.{has-eq}
 use Rattle.ring_machine.proofs.Members.{any_in, in_any, contains_in, in_contains}

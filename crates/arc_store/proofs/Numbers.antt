@@ -14,10 +14,10 @@ use Rattle.ring_machine.proofs.Arcs.{is_of}
 use Rattle.ring_machine.proofs.First.{In}
 use Rattle.arc_tables.specs.Ways.{Edge, is_seg, times}
 use Rattle.vertex_index.specs.Placement.{place}
-use Rattle.arc_store.specs.Stored.{Stored, positions_along, edges_under, ring_under, document_of}
-use Rattle.arc_store.specs.Holds.{IsWhole}
+use Rattle.feature_exchange.specs.Stored.{Stored, positions_along, edges_under, ring_under, document_of}
+use Rattle.feature_exchange.specs.Holds.{IsWhole}
 use Rattle.map_opening.proofs.Places.{place_is, place_kept, IsKept, one_key}
-use Rattle.arc_store.proofs.Base.{document_ring, begin_kept, framed, ring_under_is, rings_are}
+use Rattle.feature_exchange.proofs.Base.{document_ring, begin_kept, framed, ring_under_is, rings_are}
 use Rattle.map_opening.proofs.Counted.{filter-mapped}
 use Rattle.arc_store.proofs.Insertions.{size_ins, has_segment, has_segment_by, any_mapped}
 use Rattle.map_opening.proofs.KeyRings.{laid, edges_round, edge_ends, times_edge, edge_times}

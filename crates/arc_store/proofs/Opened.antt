@@ -1,6 +1,6 @@
 -- A map that was opened: its tables belong together, and mean what was read.
 use Rattle.std.proofs.Common.{◌≡◌, ◌≤◌, ℕ, true, refl, sym, ap, ap₂, ◌∙◌, subst, map, List, [], ◌∷◌}
-use Rattle.std.proofs.Common.{length, get_or, drop, arith, inl, inr, Option, Some, None, Contains, is_some}
+use Rattle.std.proofs.Common.{length, get_or, drop, arith, inl, inr, Option, Some, None, Contains, is_some, option_map}
 use Rattle.std.specs.Prelude.{unwrap_or, Vec}
 use Rattle.std.specs.List.{list_all, list_any, flat_map, fold, sum_by}
 use Rattle.std.specs.FinMap as table
@@ -10,13 +10,15 @@ use Rattle.grid_geometry.specs.Segment.{Segment, segment_eq}
 use Rattle.ring_machine.specs.Ring.{canonical, is_ring, segments}
 use Rattle.ring_machine.specs.Parts.{rings, size, features, all_segments}
 use Rattle.ring_machine.specs.Planar.{Proper, first_pair, least_conflict}
-use Rattle.ring_machine.specs.Query.{add_segment}
+use Rattle.ring_machine.specs.Query.{add_segment, distinct_segments}
+use Rattle.ring_machine.specs.Document.{DocumentOf}
 use Rattle.ring_machine.specs.WellFormed.{are_distinct, WellFormed}
 use Rattle.ring_machine.proofs.First.{In}
 use Rattle.ring_machine.proofs.FormedRings.{formed-before_rings}
 use Rattle.ring_machine.proofs.Neighbours.{in-map}
 use Rattle.topo_outline.specs.Kept.{KeepsTexts}
 use Rattle.topo_outline.specs.Outline.{leaves}
+use Rattle.topo_outline.specs.Views.{view_kept}
 use Rattle.topo_outline.proofs.KeptRings.{keeps-before_rings}
 use Rattle.topo_reader.specs.Document.{IsOfRings}
 use Rattle.topo_reader.specs.Document as read
@@ -27,21 +29,20 @@ use Rattle.arc_tables.specs.Ways.{Edge}
 use Rattle.arc_tables.specs.Rings.{Rings, begins, edges}
 use Rattle.topo_reader.specs.declared.document.RawDoc.{RawDoc}
 use Rattle.topo_reader.specs.DocumentView.{view_raw}
-use Rattle.topo_reader.specs.Uses.{feature_positions}
+use Rattle.topo_reader.specs.Uses.{polygon_positions, feature_positions}
 use Rattle.map_opening.specs.Keyed.{all_rings, all_keys}
 use Rattle.map_opening.specs.LaidOut.{IsLaidOut}
-use Rattle.map_opening.specs.Laying.{GoesRound, IsRound, IsLaid, feature_numbers, segments_along}
-use Rattle.arc_store.specs.declared.frame.Frame.{Frame}
-use Rattle.arc_store.specs.declared.leaf.Leaf.{Leaf}
-use Rattle.arc_store.specs.declared.names.RingName.{RingName}
-use Rattle.arc_store.specs.Frames.{frame_of, IsCounted}
-use Rattle.arc_store.specs.Holds.{IsWhole, IsIndexed, Holds}
-use Rattle.arc_store.specs.Kept.{stored, IsKept}
-use Rattle.arc_store.specs.Leaves.{IsListed, AreFirst}
-use Rattle.arc_store.specs.Named.{AreNamed}
-use Rattle.arc_store.specs.Stored.{Stored, positions_along, ring_under, document_of}
+use Rattle.map_opening.specs.Laying.{GoesRound, IsRound, IsLaid, polygon_numbers, feature_numbers, segments_along}
+use Rattle.map_frame.specs.Framed.{Framed}
+use Rattle.map_frame.specs.Opened as frame
+use Rattle.map_frame.specs.Opened.{CanStand}
+use Rattle.map_frame.proofs.BuiltAlike.{can_stand, lengths_of}
+use Rattle.map_frame.proofs.BuiltNumbers.{layers_length}
+use Rattle.feature_exchange.specs.Holds.{IsWhole, IsIndexed, Holds}
+use Rattle.arc_store.specs.Kept.{IsKept}
+use Rattle.feature_exchange.specs.Stored.{stored, Stored, positions_along, ring_under, document_of}
 use Rattle.arc_store.proofs.FramedDocument.{read_framed}
-use Rattle.arc_store.proofs.FrameLemmas.{feature_count-in_rings, frame_count, frame_rings}
+use Rattle.arc_store.proofs.FrameReads.{feature_count-in_rings}
 use Rattle.map_opening.proofs.SegmentLists.{has-eq}
 use Rattle.map_opening.proofs.KeyedRings.{ring_keyed, round_keyed, size_keyed, segments_keyed}
 use Rattle.map_opening.proofs.KeyRings.{begins_round}
@@ -85,6 +86,11 @@ rings_under s (n ∷ numbers) (ks ∷ keyed) e round ring =
     ∙ canonical_ring (map (place s.places) ks) (ring ks (inl refl)))
     (rings_under s numbers keyed (ap (drop 1) e) (λ js i. round js (inr i)) (λ js i. ring js (inr i)))
 
+-- how many elements each list has, whatever they are
+counts : {X Y : Type 0} (f : X → Y) (xss : List (List X)) → map length (map (map f) xss) ≡ map length xss
+counts f [] = refl
+counts f (xs ∷ xss) = ap₂ (λ (y : ℕ) (z : List ℕ). y ∷ z) (length-map xs f) (counts f xss)
+
 -- ---- what was read
 
 module _ (o : read.Opened) (h : IsOfRings o) where
@@ -115,150 +121,158 @@ module _ {A : Type 0} (raw : RawDoc A) (h : IsOfRings (view_raw raw))
         ∙ ap length l.shape ∙ length-map l.keyed (map length)
         ∙ sym (length-map l.keyed (map (map (map (place places))))) ∙ ap length l.keys.at ∙ h.counted
 
-    pub opened_few : length polygons.items ≤ 200000
-    opened_few = omega (arith, laid_counted, h.few)
+    -- each feature has as many polygons of numbers as were read
+    laid_alike : map (λ n. length n.items) polygons.items ≡ map (λ f. length f.items) raw.polygons.items
+    laid_alike =
+        let l = read_laid in
+        sym (lengths_of feature_numbers (λ n. length n.items) (λ n. length-map n.items polygon_numbers) polygons.items)
+        ∙ sym (counts length (map feature_numbers polygons.items)) ∙ ap (map length) l.shape ∙ counts length l.keyed
+        ∙ sym (counts (map (map (place places))) l.keyed) ∙ ap (map length) l.keys.at
+        ∙ lengths_of feature_positions (λ f. length f.items) (λ f. length-map f.items polygon_positions) raw.polygons.items
+
+    pub laid_stands : CanStand (option_map (λ t. t.now) raw.transform) raw.layers.items (map view_kept raw.members.items) polygons.items
+    laid_stands = can_stand raw polygons.items h laid_alike
 
 module _ {A : Type 0} (raw : RawDoc A) (h : IsOfRings (view_raw raw))
     {given : List (Vec (Vec (Vec Position A) A) A)} (same : given ≡ raw.polygons.items)
     (polygons : Vec (Vec (Vec ℕ A) A) A) {places : Placement} {m : Rings} {held : SegmentSet}
     {first : Option (Segment × Segment)} {positions count : ℕ}
     (was : IsLaidOut (map feature_positions given) (map feature_numbers polygons.items) places m held first positions count)
-    (leaves : Vec Leaf A) (firsts : Vec ℕ A) (names : Vec (Option RingName) A) where
-  abbrev o : read.Opened
-  o = view_raw raw
+  where
+    abbrev o : read.Opened
+    o = view_raw raw
 
-  abbrev numbers : List (List (List ℕ))
-  numbers = map feature_numbers polygons.items
+    abbrev numbers : List (List (List ℕ))
+    numbers = map feature_numbers polygons.items
 
-  -- the rings that were read were laid
-  w : IsLaidOut o.polygons numbers places m held first positions count
-  w = read_laid raw h same polygons was
+    -- the rings that were read were laid
+    w : IsLaidOut o.polygons numbers places m held first positions count
+    w = read_laid raw h same polygons was
 
-  abbrev keyed : List (List (List (List ℕ)))
-  keyed = w.keyed
+    abbrev keyed : List (List (List (List ℕ)))
+    keyed = w.keyed
 
-  -- the frame of what was read, with numbers in the place of rings
-  abbrev raw_frame : Frame A
-  raw_frame = record {
-    transform = raw.transform;
-    layers = raw.layers;
-    members = raw.members;
-    polygons = polygons;
-    leaves = leaves;
-    firsts = firsts;
-    names = names;
-  }
+    -- the frame of what was read, with numbers in the place of rings
+    abbrev read_frame : DocumentOf ℕ
+    read_frame = frame.opened (option_map (λ t. t.now) raw.transform) raw.layers.items (map view_kept raw.members.items) polygons.items
 
-  abbrev opened : Stored
-  opened = stored raw_frame m places
+    abbrev opened : Stored
+    opened = record { frame = read_frame; rings = m; places = places }
 
-  round_key : (ks : List ℕ) → In ks (all_rings keyed) → IsRound places ks
-  round_key = round_keyed places o.polygons keyed w.keys (read_are_rings o h)
+    round_key : (ks : List ℕ) → In ks (all_rings keyed) → IsRound places ks
+    round_key = round_keyed places o.polygons keyed w.keys (read_are_rings o h)
 
-  -- the map means what was read
-  pub opened_document : document_of opened ≡ read.document_of o
-  opened_document =
-      read_framed (ring_under opened) o numbers
-      (same_features (ring_under opened) (map (place places)) numbers keyed w.shape
-      (rings_under opened (all_rings numbers) (all_rings keyed) w.laid.along round_key (ring_keyed places o.polygons keyed w.keys (read_are_rings o h)))
-      ∙ w.keys.at)
+    -- the map means what was read
+    opened_document : document_of opened ≡ read.document_of o
+    opened_document =
+        read_framed (ring_under opened) o numbers
+        (same_features (ring_under opened) (map (place places)) numbers keyed w.shape
+        (rings_under opened (all_rings numbers) (all_rings keyed) w.laid.along round_key (ring_keyed places o.polygons keyed w.keys (read_are_rings o h)))
+        ∙ w.keys.at)
 
-  opened_counted : IsCounted raw_frame
-  opened_counted = laid_counted raw h same polygons was
+    opened_counted : length polygons.items ≡ length (leaves o.layers)
+    opened_counted = laid_counted raw h same polygons was
 
-  opened_rings : rings (frame_of raw_frame) ≡ all_rings numbers
-  opened_rings = frame_rings raw_frame opened_counted
+    opened_rings : rings read_frame ≡ all_rings numbers
+    opened_rings =
+        rings_document numbers o.layers
+        ∙ ap (λ (ps : List (List (List ℕ))). all_rings ps) (take_all (length (leaves o.layers)) numbers (omega (arith, opened_counted, length-map polygons.items (feature_numbers {A = A}))))
 
-  -- a ring that is kept goes along keys that were read
-  opened_along : (r : ℕ) (es : List Edge) → table.get m r ≡ Some es
-      → (ks : List ℕ) × In ks (all_rings keyed) × (es ≡ edges ks)
-  opened_along r es e =
-      let f = laid_along m (all_rings numbers) (all_rings keyed) w.laid r
-      (contains_in (all_rings numbers) r (w.laid.only r (ap is_some e))) in
-      (f.0, f.1, ap (λ z. unwrap_or z []) (sym e ∙ f.2))
+    -- a ring that is kept goes along keys that were read
+    opened_along : (r : ℕ) (es : List Edge) → table.get m r ≡ Some es
+        → (ks : List ℕ) × In ks (all_rings keyed) × (es ≡ edges ks)
+    opened_along r es e =
+        let f = laid_along m (all_rings numbers) (all_rings keyed) w.laid r
+        (contains_in (all_rings numbers) r (w.laid.only r (ap is_some e))) in
+        (f.0, f.1, ap (λ z. unwrap_or z []) (sym e ∙ f.2))
 
-  opened_whole : IsWhole opened
-  opened_whole = record {
-    named = λ r. (
-      λ c. let f = laid_along m (all_rings numbers) (all_rings keyed) w.laid r (subst (In r) opened_rings (contains_in (rings (frame_of raw_frame)) r c)) in ap is_some f.2,
-      λ t. subst (λ z. Contains z r) (sym opened_rings) (w.laid.only r t),
-    );
-    once = ap are_distinct opened_rings ∙ w.laid.once;
-    round = λ r es e. let f = opened_along r es e in
-        subst GoesRound (sym f.2) (goes_round places f.0 (round_key f.0 f.1));
-    placed = λ r x v. let f = opened_along r v.0 v.1 in
-        (round_key f.0 f.1).placed x
-        (subst (λ z. Contains z x) (ap begins f.2 ∙ begins_along places f.0 (round_key f.0 f.1)) v.2);
-    passed = λ x c. let f = in_flat (λ ks. ks) x (all_rings keyed) (contains_in (all_keys keyed) x (w.keys.passed x c)) in
-        let r = along_laid m (all_rings numbers) (all_rings keyed) w.laid f.0 f.1 in
-        (r.0, (edges f.0, r.2, subst (λ z. Contains z x) (sym (begins_along places f.0 (round_key f.0 f.1))) (in_contains f.0 x f.2)));
-    distinct = w.distinct;
-  }
+    opened_whole : IsWhole opened
+    opened_whole = record {
+      named = λ r. (
+        λ c. let f = laid_along m (all_rings numbers) (all_rings keyed) w.laid r (subst (In r) opened_rings (contains_in (rings read_frame) r c)) in ap is_some f.2,
+        λ t. subst (λ z. Contains z r) (sym opened_rings) (w.laid.only r t),
+      );
+      once = ap are_distinct opened_rings ∙ w.laid.once;
+      round = λ r es e. let f = opened_along r es e in
+          subst GoesRound (sym f.2) (goes_round places f.0 (round_key f.0 f.1));
+      placed = λ r x v. let f = opened_along r v.0 v.1 in
+          (round_key f.0 f.1).placed x
+          (subst (λ z. Contains z x) (ap begins f.2 ∙ begins_along places f.0 (round_key f.0 f.1)) v.2);
+      passed = λ x c. let f = in_flat (λ ks. ks) x (all_rings keyed) (contains_in (all_keys keyed) x (w.keys.passed x c)) in
+          let r = along_laid m (all_rings numbers) (all_rings keyed) w.laid f.0 f.1 in
+          (r.0, (edges f.0, r.2, subst (λ z. Contains z x) (sym (begins_along places f.0 (round_key f.0 f.1))) (in_contains f.0 x f.2)));
+      distinct = w.distinct;
+    }
 
-  -- ---- its segments
+    -- ---- its segments
 
-  opened_segments : all_segments (document_of opened) ≡ segments_along places (all_rings keyed)
-  opened_segments =
-      ap all_segments opened_document ∙ ap (flat_map segments) (read_rings o h)
-      ∙ segments_keyed places o.polygons keyed w.keys
+    opened_segments : all_segments (document_of opened) ≡ segments_along places (all_rings keyed)
+    opened_segments =
+        ap all_segments opened_document ∙ ap (flat_map segments) (read_rings o h)
+        ∙ segments_keyed places o.polygons keyed w.keys
 
-  opened_indexed : IsIndexed (document_of opened) held
-  opened_indexed t =
-      sym (w.filled.held t) ∙ has-eq (segments_along places (all_rings keyed)) t
-      ∙ ap (list_any (segment_eq t)) (sym opened_segments)
+    opened_indexed : IsIndexed (document_of opened) held
+    opened_indexed t =
+        sym (w.filled.held t) ∙ has-eq (segments_along places (all_rings keyed)) t
+        ∙ ap (list_any (segment_eq t)) (sym opened_segments)
 
-  -- the first pair of what was read
-  pub opened_pair : first_pair (read.document_of o) ≡ first
-  unfolding first_pair
-  opened_pair =
-      ap (λ d. least_conflict (all_segments d)) (sym opened_document)
-      ∙ ap least_conflict opened_segments ∙ w.filled.first
+    -- the first pair of what was read
+    pub opened_pair : first_pair (read.document_of o) ≡ first
+    unfolding first_pair
+    opened_pair =
+        ap (λ d. least_conflict (all_segments d)) (sym opened_document)
+        ∙ ap least_conflict opened_segments ∙ w.filled.first
 
-  pub opened_proper : first ≡ None → Proper (document_of opened)
-  opened_proper none =
-      subst Proper (sym opened_document) (record { are_rings = h.are_rings; apart = opened_pair ∙ none })
+    opened_proper : first ≡ None → Proper (document_of opened)
+    opened_proper none =
+        subst Proper (sym opened_document) (record { are_rings = h.are_rings; apart = opened_pair ∙ none })
 
-  -- the frame is as well formed as what was read
-  opened_formed : WellFormed (frame_of raw_frame)
-  opened_formed =
-      formed-before_rings (ring_under opened) (frame_of raw_frame) (subst WellFormed (sym opened_document) h.formed)
+    -- the frame is as well formed as what was read
+    opened_formed : WellFormed read_frame
+    opened_formed =
+        formed-before_rings (ring_under opened) read_frame (subst WellFormed (sym opened_document) h.formed)
 
-  -- and has the same texts
-  opened_keeps : KeepsTexts (frame_of raw_frame)
-  opened_keeps =
-      keeps-before_rings (ring_under opened) (frame_of raw_frame) (subst KeepsTexts (sym opened_document) h.keeps)
+    -- and has the same texts
+    opened_keeps : KeepsTexts read_frame
+    opened_keeps =
+        keeps-before_rings (ring_under opened) read_frame (subst KeepsTexts (sym opened_document) h.keeps)
 
-  opened_holds : first ≡ None → Holds opened held
-  opened_holds none = record {
-    whole = opened_whole;
-    formed = opened_formed;
-    keeps = opened_keeps;
-    proper = opened_proper none;
-    small = subst (λ d. size d ≤ 4000000) (sym opened_document) h.small;
-    indexed = opened_indexed;
-  }
+    opened_holds : first ≡ None → Holds opened held
+    opened_holds none = record {
+      whole = opened_whole;
+      formed = opened_formed;
+      keeps = opened_keeps;
+      proper = opened_proper none;
+      small = subst (λ d. size d ≤ 4000000) (sym opened_document) h.small;
+      indexed = opened_indexed;
+    }
 
-  opened_size : size (document_of opened) ≡ sum_by length (all_rings keyed)
-  opened_size =
-      ap size opened_document ∙ ap (sum_by length) (read_rings o h)
-      ∙ size_keyed places o.polygons keyed w.keys
+    opened_size : size (document_of opened) ≡ sum_by length (all_rings keyed)
+    opened_size =
+        ap size opened_document ∙ ap (sum_by length) (read_rings o h)
+        ∙ size_keyed places o.polygons keyed w.keys
 
-  -- features are numbered from 0
-  pub opened_features : length (features (document_of opened)) ≡ length polygons.items
-  opened_features =
-      feature_count-in_rings (ring_under opened) (frame_of raw_frame) ∙ frame_count raw_frame opened_counted
+    -- ---- the map
 
-  pub opened_kept : first ≡ None → (number : ℕ) → number ≡ length polygons.items → IsListed raw_frame
-      → AreFirst raw.layers.items firsts.items
-      → AreNamed names.items numbers → IsKept raw_frame m places held number positions count
-  opened_kept none number n listed first named = record {
-    holds = opened_holds none;
-    counted = opened_counted;
-    listed = listed;
-    firsts = first;
-    named = named;
-    next = n ∙ sym (frame_count raw_frame opened_counted);
-    few = omega (arith, n, opened_few raw h same polygons was);
-    sized = w.size ∙ sym opened_size;
-    single = w.filled.different ∙ ap (λ ss. length (fold add_segment [] ss)) (sym opened_segments);
-  }
+    module _ (framed : Framed) (is : framed.doc ≡ read_frame) where
+      -- the map means what was read
+      pub map_document : document_of (stored framed m places) ≡ read.document_of o
+      map_document = ap (λ d. document_of (record { frame = d; rings = m; places = places })) is ∙ opened_document
+
+      pub map_proper : first ≡ None → Proper (document_of (stored framed m places))
+      map_proper none =
+          subst (λ d. Proper (document_of (record { frame = d; rings = m; places = places }))) (sym is) (opened_proper none)
+
+      -- it has as many features as lists of polygons
+      pub map_features : length (features (document_of (stored framed m places))) ≡ length polygons.items
+      map_features =
+          feature_count-in_rings (ring_under (stored framed m places)) framed.doc
+          ∙ ap (λ d. length (features d)) is ∙ layers_length 0 numbers o.layers ∙ sym opened_counted
+
+      pub map_kept : first ≡ None → IsKept framed m places held positions count
+      map_kept none = record {
+        holds = subst (λ d. Holds (record { frame = d; rings = m; places = places }) held) (sym is) (opened_holds none);
+        sized = w.size ∙ sym opened_size ∙ ap (λ d. size (document_of (record { frame = d; rings = m; places = places }))) (sym is);
+        single = w.filled.different ∙ ap (λ ss. length (fold add_segment [] ss)) (sym opened_segments)
+            ∙ ap (λ d. length (distinct_segments (document_of (record { frame = d; rings = m; places = places })))) (sym is);
+      }

@@ -10,7 +10,7 @@ use Rattle.ring_machine.proofs.Canonical.{canonical_parts}
 use Rattle.ring_machine.proofs.RingsOf.{rings-in_rings}
 use Rattle.vertex_index.specs.Placement.{Placement, place, AreInRange}
 use Rattle.arc_tables.specs.Rings.{begins}
-use Rattle.arc_store.specs.Stored.{Stored, edges_under, ring_under, document_of}
+use Rattle.feature_exchange.specs.Stored.{Stored, edges_under, ring_under, document_of}
 
 each_joined : {A : Type 0} (P : A → Type 0) (xs ys : List A) → AllByRecursion P xs → AllByRecursion P ys → AllByRecursion P (xs ++ ys)
 each_joined P [] ys h k = k

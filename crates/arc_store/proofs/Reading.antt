@@ -13,12 +13,12 @@ use Rattle.ring_machine.specs.Parts.{rings, is_vertex}
 use Rattle.ring_machine.proofs.First.{In}
 use Rattle.arc_tables.specs.Rings as shared
 use Rattle.vertex_index.specs.Placement.{place}
-use Rattle.arc_store.specs.Stored.{Stored, document_of}
-use Rattle.arc_store.specs.Holds.{IsWhole}
+use Rattle.feature_exchange.specs.Stored.{Stored, document_of}
+use Rattle.feature_exchange.specs.Holds.{IsWhole}
 use Rattle.arc_store.specs.Spots.{users}
 use Rattle.map_opening.proofs.Places.{place_is, place_kept, kept_place}
-use Rattle.arc_store.proofs.Base.{key_vertex, vertex_key, segment_between, joined_kept}
-use Rattle.arc_store.proofs.Ends.{segment_ends}
+use Rattle.feature_exchange.proofs.Base.{key_vertex, vertex_key, segment_between, joined_kept}
+use Rattle.feature_exchange.proofs.Ends.{segment_ends}
 use Rattle.arc_store.proofs.Insertions.{has_segment, is_segment_by}
 use Rattle.ring_machine.proofs.Members.{in_any}
 use Rattle.arc_store.proofs.Numbers.{users_count}

@@ -33,7 +33,7 @@ use Rattle.ring_machine.proofs.Spots.{Rotated}
 use Rattle.ring_machine.proofs.StaysProper.{ring_distinct, ring_long}
 use Rattle.arc_tables.specs.Ways.{one}
 use Rattle.map_opening.proofs.Counted.{sum_by-map, sum_more}
-use Rattle.arc_store.proofs.Ends.{two_ends, end_of_two}
+use Rattle.feature_exchange.proofs.Ends.{two_ends, end_of_two}
 use Rattle.arc_store.proofs.Insertions.{AreRings, has_segment, has_segment_by, is_segment_by}
 use Rattle.arc_store.proofs.Insertions.{any_mapped, any_parts}
 use Rattle.map_opening.proofs.KeyRings.{length-canonical, beside_edges}

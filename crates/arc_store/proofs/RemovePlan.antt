@@ -24,17 +24,17 @@ use Rattle.shared_arcs.specs.declared.around.Neighbours.TheVariants.{One, Two, M
 use Rattle.arc_tables.specs.Edited.{AreApart}
 use Rattle.shared_arcs.specs.Joined.{Joined, AreNeighbours}
 use Rattle.arc_tables.specs.Rings.{Rings, users_of}
-use Rattle.arc_store.specs.declared.frame.Frame.{Frame}
+use Rattle.map_frame.specs.Framed.{Framed}
 use Rattle.arc_store.specs.Edits.{IsRemovable, TakenOut}
-use Rattle.arc_store.specs.Holds.{IsWhole, IsIndexed, Holds}
-use Rattle.arc_store.specs.Kept.{IsKept, stored}
+use Rattle.feature_exchange.specs.Holds.{IsWhole, IsIndexed, Holds}
+use Rattle.arc_store.specs.Kept.{IsKept}
+use Rattle.feature_exchange.specs.Stored.{stored, Stored, document_of}
 use Rattle.arc_store.specs.Planned.{AreNew, Exchanges, spokes}
-use Rattle.arc_store.specs.Stored.{Stored, document_of}
 use Rattle.arc_store.proofs.Around.{AreTwo, bridged_two, segments_two, sweeps_two, unbridged_two}
 use Rattle.arc_store.proofs.Around.{two_apart, neighbours_none, neighbours_one, neighbours_more}
 use Rattle.map_opening.proofs.Places.{IsKept as IsPlaced, place_is}
-use Rattle.arc_store.proofs.Base.{joined_kept, joined_apart, joined_back}
-use Rattle.arc_store.proofs.Base.{joined_segment, one_to, key_vertex}
+use Rattle.feature_exchange.proofs.Base.{joined_kept, joined_apart, joined_back}
+use Rattle.feature_exchange.proofs.Base.{joined_segment, one_to, key_vertex}
 use Rattle.arc_store.proofs.SegmentCounts.{as_many}
 use Rattle.arc_store.proofs.InsertPlan.{one_single, two_single}
 use Rattle.ring_machine.proofs.Members.{any_in}
@@ -190,9 +190,9 @@ module _ (s : Stored) (held : SegmentSet) (h : Holds s held) (m j k : ℕ) (p : 
 -- ---- the map
 
 -- p is the position of m, which has two neighbours and may go, in a map that is kept
-pub record IsFound {A : Type 0} (frame : Frame A) (rings : Rings) (places : Placement) (held : SegmentSet)
-    (number positions segments : ℕ) (p : Position) (m j k : ℕ) : Type 0 where
-  pub kept : IsKept frame rings places held number positions segments
+pub record IsFound (frame : Framed) (rings : Rings) (places : Placement) (held : SegmentSet)
+    (positions segments : ℕ) (p : Position) (m j k : ℕ) : Type 0 where
+  pub kept : IsKept frame rings places held positions segments
   pub here : table.get places m ≡ Some p
   pub two : AreTwo (stored frame rings places) m j k
   pub inner : is_junction (document_of (stored frame rings places)) p ≡ false
@@ -200,13 +200,13 @@ pub record IsFound {A : Type 0} (frame : Frame A) (rings : Rings) (places : Plac
   pub unjoined : is_bridged (document_of (stored frame rings places)) p ≡ false
 
 -- as the map's callers see it
-pub found : {A : Type 0} {frame : Frame A} {rings : Rings} {places : Placement} {held : SegmentSet}
-    {number positions segments : ℕ} {p : Position} {m j k : ℕ} {doc : Document}
-    → IsKept frame rings places held number positions segments
+pub found : {frame : Framed} {rings : Rings} {places : Placement} {held : SegmentSet}
+    {positions segments : ℕ} {p : Position} {m j k : ℕ} {doc : Document}
+    → IsKept frame rings places held positions segments
     → document_of (stored frame rings places) ≡ doc → table.get places m ≡ Some p
     → AreTwo (stored frame rings places) m j k → is_junction doc p ≡ false → are_long doc p ≡ true
     → is_bridged doc p ≡ false
-    → IsFound frame rings places held number positions segments p m j k
+    → IsFound frame rings places held positions segments p m j k
 found {p = p} kept is here two inner long unjoined = record {
   kept = kept;
   here = here;
@@ -216,7 +216,7 @@ found {p = p} kept is here two inner long unjoined = record {
   unjoined = ap (λ d. is_bridged d p) is ∙ unjoined;
 }
 
-module _ {A : Type 0} {frame : Frame A} {rings : Rings} {places : Placement} {held : SegmentSet} {number positions segments : ℕ} {p : Position} {m j k : ℕ} (f : IsFound frame rings places held number positions segments p m j k) where
+module _ {frame : Framed} {rings : Rings} {places : Placement} {held : SegmentSet} {positions segments : ℕ} {p : Position} {m j k : ℕ} (f : IsFound frame rings places held positions segments p m j k) where
   -- both neighbours have positions
   pub first_there : IsPlaced places j
   first_there =
@@ -251,17 +251,17 @@ module _ {A : Type 0} {frame : Frame A} {rings : Rings} {places : Placement} {he
       exchanged (stored frame rings places) held f.kept.holds m j k p f.here f.two f.unjoined
 
 -- what an accepted removal leaves
-pub record IsTaken {A : Type 0} (frame : Frame A) (rings rings' : Rings) (places places' : Placement)
-    (held' : SegmentSet) (number positions segments : ℕ) (p : Position) (m k : ℕ) : Type 0 where
+pub record IsTaken (frame : Framed) (rings rings' : Rings) (places places' : Placement)
+    (held' : SegmentSet) (positions segments : ℕ) (p : Position) (m k : ℕ) : Type 0 where
   -- the document is the one without p
   pub doc : document_of (stored frame rings' places') ≡ del (document_of (stored frame rings places)) p
   -- there were positions and a segment to go
   pub positions_there : users_of rings m k ≤ positions
   pub segment_there : 1 ≤ segments
   -- what is true of the tables stayed true
-  pub kept : IsKept frame rings' places' held' number (positions - users_of rings m k) (segments - 1)
+  pub kept : IsKept frame rings' places' held' (positions - users_of rings m k) (segments - 1)
 
-module _ {A : Type 0} {frame : Frame A} {rings rings' : Rings} {places places' : Placement} {held : SegmentSet} {number positions segments : ℕ} {p : Position} {m j k : ℕ} (f : IsFound frame rings places held number positions segments p m j k) (out : TakenOut places places' rings rings' m k) (accepted : first_of (remove_refusals (document_of (stored frame rings places)) p) ≡ None) where
+module _ {frame : Framed} {rings rings' : Rings} {places places' : Placement} {held : SegmentSet} {positions segments : ℕ} {p : Position} {m j k : ℕ} (f : IsFound frame rings places held positions segments p m j k) (out : TakenOut places places' rings rings' m k) (accepted : first_of (remove_refusals (document_of (stored frame rings places)) p) ≡ None) where
   removing : Removing (stored frame rings places) rings' m j k p
   removing = record { here = f.here; two = f.two; edited = out.edited; accepted = accepted }
 
@@ -287,24 +287,18 @@ module _ {A : Type 0} {frame : Frame A} {rings rings' : Rings} {places places' :
           remove_count (stored frame rings places) held f.kept.holds m j k p f.here f.two f.unjoined rings' held' removing e,
         )
 
-    kept_removed : IsKept frame rings' places' held' number (positions - users_of rings m k) (segments - 1)
+    kept_removed : IsKept frame rings' places' held' (positions - users_of rings m k) (segments - 1)
     kept_removed =
         let shrunk : positions - users_of rings m k ≡ size (del (document_of (stored frame rings places)) p) = omega (arith, size_shrinks) in
         let fewer : segments - 1 ≡ length (distinct_segments (del (document_of (stored frame rings places)) p)) = omega (arith, segments_shrink) in
-        subst (λ z. IsKept frame rings' z held' number (positions - users_of rings m k) (segments - 1)) (sym out.placed) (record {
+        subst (λ z. IsKept frame rings' z held' (positions - users_of rings m k) (segments - 1)) (sym out.placed) (record {
           holds = holds_removed (stored frame rings places) held held' rings' m j k p f.kept.holds removing
               (remove_indexed (stored frame rings places) held f.kept.holds m j k p f.here f.two f.unjoined rings' held' removing e);
-          counted = f.kept.counted;
-          listed = f.kept.listed;
-          firsts = f.kept.firsts;
-          named = f.kept.named;
-          next = f.kept.next;
-          few = f.kept.few;
           sized = shrunk ∙ sym (ap size is_removed);
           single = fewer ∙ sym (ap (λ d. length (distinct_segments d)) is_removed);
         })
 
-    is_taken : IsTaken frame rings rings' places places' held' number positions segments p m k
+    is_taken : IsTaken frame rings rings' places places' held' positions segments p m k
     is_taken = record {
       doc = ap (λ z. document_of (stored frame rings' z)) out.placed ∙ is_removed;
       positions_there = omega (arith, size_shrinks);
@@ -313,15 +307,15 @@ module _ {A : Type 0} {frame : Frame A} {rings rings' : Rings} {places places' :
     }
 
 -- the tests accepted the removal, and the tables and the index changed
-pub taken : {A : Type 0} {frame : Frame A} {rings rings' : Rings} {places places' : Placement}
-    {held : SegmentSet} {number positions segments : ℕ} {p : Position} {m j k : ℕ} {x y : Position}
+pub taken : {frame : Framed} {rings rings' : Rings} {places places' : Placement}
+    {held : SegmentSet} {positions segments : ℕ} {p : Position} {m j k : ℕ} {x y : Position}
     {after : Segment} {before : List Segment}
-    → IsFound frame rings places held number positions segments p m j k
+    → IsFound frame rings places held positions segments p m j k
     → table.get places j ≡ Some x → table.get places k ≡ Some y → after ≡ segment x y
     → before ≡ spokes p (x ∷ y ∷ [])
     → ((d : Document) → IsRemovable d held p after → first_of (remove_refusals d p) ≡ None)
     → TakenOut places places' rings rings' m k
     → (held' : SegmentSet) → Exchanges held (after ∷ []) before held'
-    → IsTaken frame rings rings' places places' held' number positions segments p m k
+    → IsTaken frame rings rings' places places' held' positions segments p m k
 taken {frame = frame} {rings = rings} {places = places} {x = x} {y = y} {after = after} {before = before} f first second comes goes accepted out held' e =
     is_taken f out (accepted (document_of (stored frame rings places)) (found_planned f x y first second after before comes goes).removable) held' (found_exchange f x y first second after before comes goes held' e)

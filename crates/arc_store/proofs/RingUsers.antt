@@ -20,8 +20,8 @@ use Rattle.ring_machine.proofs.Order.{and_both}
 use Rattle.ring_machine.proofs.Removal.{not_true}
 use Rattle.arc_tables.specs.Ways.{one}
 use Rattle.arc_tables.specs.Rings as shared
-use Rattle.arc_store.specs.Holds.{IsWhole}
-use Rattle.arc_store.specs.Stored.{Stored}
+use Rattle.feature_exchange.specs.Holds.{IsWhole}
+use Rattle.feature_exchange.specs.Stored.{Stored}
 use Rattle.map_opening.proofs.KeyRings.{has_key}
 use Rattle.ring_machine.proofs.Members.{contains_in, in_contains, in_filter, in_any}
 use Rattle.arc_store.proofs.Numbers.{users_of}

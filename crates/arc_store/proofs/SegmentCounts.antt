@@ -10,7 +10,7 @@ use Rattle.ring_machine.specs.Parts.{all_segments}
 use Rattle.ring_machine.specs.Query.{distinct_segments}
 use Rattle.segment_index.specs.Candidates.{SegmentSet, AreAmong, AreSingle, segment_is, has, times_in}
 use Rattle.segment_index.proofs.Singles.{segment_total, same_sets, is-itself, has-is}
-use Rattle.arc_store.specs.Holds.{IsIndexed}
+use Rattle.feature_exchange.specs.Holds.{IsIndexed}
 use Rattle.arc_store.specs.Planned.{AreNew, Gains, Exchanges}
 use Rattle.map_opening.proofs.SegmentLists.{has-eq, or_nothing, has_all, single_all}
 

@@ -1,7 +1,7 @@
 -- The vertices of a kept map: the positions of its keys, and of the keys along its rings.
 use Rattle.std.proofs.Common.{◌≡◌, ℕ, Bool, true, false, refl, sym, ap, ap₂, ◌∙◌, subst, List, []}
 use Rattle.std.proofs.Common.{◌∷◌, map, length, ◌||◌, ◌&&◌, inl, inr, arith, Contains, Some}
-use Rattle.std.specs.Prelude.{◌==◌, not, T, Vec, unwrap_or}
+use Rattle.std.specs.Prelude.{◌==◌, not, T, unwrap_or}
 use Rattle.std.specs.FinMap as table
 use Rattle.std.specs.List.{list_any, flat_map, fold, AllByRecursion, IsDistinct}
 use Rattle.std.specs.Ordering.{nat_cmp, is_lt, is_eq, eq_by_cmp}
@@ -24,19 +24,14 @@ use Rattle.ring_machine.proofs.Order.{and_both}
 use Rattle.ring_machine.proofs.Removal.{none_parts, not_true}
 use Rattle.ring_machine.proofs.RingsOf.{rings-in_rings}
 use Rattle.vertex_index.specs.Placement.{Placement, place}
-use Rattle.arc_tables.specs.Rings.{Rings, begins}
-use Rattle.arc_store.specs.declared.frame.Frame.{Frame}
-use Rattle.map_opening.specs.Laying.{feature_numbers}
-use Rattle.arc_store.specs.Frames.{frame_of, IsCounted}
-use Rattle.arc_store.specs.Holds.{IsWhole}
-use Rattle.arc_store.specs.Kept.{stored}
-use Rattle.map_opening.specs.Keyed.{all_rings}
-use Rattle.arc_store.specs.Stored.{Stored, edges_under, positions_along, ring_under, document_of}
+use Rattle.arc_tables.specs.Rings.{begins}
+use Rattle.feature_exchange.specs.Holds.{IsWhole}
+use Rattle.arc_store.specs.RingPlaces.{AreAlong}
+use Rattle.feature_exchange.specs.Stored.{Stored, edges_under, positions_along, ring_under, document_of}
 use Rattle.map_opening.proofs.Places.{kept_place, place_is, place_kept, distinct_places, IsKept}
-use Rattle.arc_store.proofs.Base.{key_vertex, vertex_key, framed, begin_kept}
+use Rattle.feature_exchange.proofs.Base.{key_vertex, vertex_key, framed, begin_kept}
 use Rattle.map_opening.proofs.KeyRings.{has_key, in_canonical, of_canonical}
-use Rattle.arc_store.proofs.FrameLemmas.{frame_rings}
-use Rattle.ring_machine.proofs.Members.{any_in, in_any, in_mapped, in_flat, same_answer, contains_in}
+use Rattle.ring_machine.proofs.Members.{any_in, in_any, in_mapped, in_flat, same_answer, contains_in, in_contains}
 use Rattle.ring_machine.proofs.SortedOnce.{Rising, same_rising, all_rise, in_all, all_in, position_total, ties}
 
 -- ---- positions, each once
@@ -209,29 +204,45 @@ module _ (s : Stored) (w : IsWhole s) where
 
 -- ---- the list of all vertices
 
-module _ {A : Type 0} (f : Frame A) (m : Rings) (places : Placement) (w : IsWhole (stored f m places)) (counted : IsCounted f) (fs : List (Vec (Vec ℕ A) A)) (is : fs ≡ f.polygons.items) where
-  framed_rings : all_rings (map feature_numbers fs) ≡ rings (frame_of f)
-  framed_rings = ap (λ (z : List (Vec (Vec ℕ A) A)). all_rings (map feature_numbers z)) is ∙ sym (frame_rings f counted)
+-- the same positions make the same vertices
+same_vertices : (ps qs : List Position) → ((p : Position) → In p ps → In p qs) → ((p : Position) → In p qs → In p ps)
+    → fold add_position [] ps ≡ fold add_position [] qs
+same_vertices ps qs f g =
+    same_rising (fold add_position [] ps) (fold add_position [] qs) (vertices_rise ps) (vertices_rise qs)
+    (λ p i. in_vertices qs p (f p (of_vertices ps p i)))
+    (λ p i. in_vertices ps p (g p (of_vertices qs p i)))
 
-  -- the rings of all features are held
-  pub rings_held : (r : ℕ) → Contains (all_rings (map feature_numbers fs)) r → table.contains_key m r ≡ true
-  rings_held r h = (w.named r).0 (subst (λ z. Contains z r) framed_rings h)
+-- the same keys have the same positions
+same_places : (places : Placement) (ks js : List ℕ) → ((k : ℕ) → In k ks → In k js) → (p : Position)
+    → In p (map (place places) ks) → In p (map (place places) js)
+same_places places ks js f p i =
+    let k = in_mapped (place places) p ks i in
+    subst (λ z. In z (map (place places) js)) k.2 (in-map (place places) k.0 js (f k.0 k.1))
 
-  -- and their keys have positions
-  pub keys_placed : (ks : List ℕ)
-      → ks ≡ flat_map (λ r. begins (edges_under m r)) (all_rings (map feature_numbers fs))
-      → (k : ℕ) → Contains ks k → table.contains_key places k ≡ true
-  keys_placed ks e k h =
-      let r = in_flat (λ r. begins (edges_under m r)) k (rings (frame_of f)) (subst (In k) (e ∙ ap (flat_map (λ r. begins (edges_under m r))) framed_rings) (contains_in ks k h)) in
-      let es = framed (stored f m places) w r.0 r.1 in
-      begin_kept (stored f m places) w r.0 es.0 es.1 k (subst (λ o. In k (begins (unwrap_or o []))) es.1 r.2)
+module _ (s : Stored) (w : IsWhole s) (ks : List ℕ) (along : AreAlong s.rings s.frame ks) where
+  -- each key has a position
+  pub keys_placed : (k : ℕ) → Contains ks k → table.contains_key s.places k ≡ true
+  keys_placed k c =
+      let v = (along k).0 c in
+      let es = framed s w v.0 (contains_in (rings s.frame) v.0 v.1) in
+      begin_kept s w v.0 es.0 es.1 k (subst (λ o. In k (begins (unwrap_or o []))) es.1 (contains_in (keys_under s v.0) k v.2))
+
+  along_in : (k : ℕ) → In k ks → In k (flat_map (keys_under s) (rings s.frame))
+  along_in k i =
+      let v = (along k).0 (in_contains ks k i) in
+      in-flat_map (keys_under s) v.0 k (rings s.frame) (contains_in (rings s.frame) v.0 v.1) (contains_in (keys_under s v.0) k v.2)
+
+  in_along : (k : ℕ) → In k (flat_map (keys_under s) (rings s.frame)) → In k ks
+  in_along k i =
+      let r = in_flat (keys_under s) k (rings s.frame) i in
+      contains_in ks k ((along k).1 (r.0, in_contains (rings s.frame) r.0 r.1, in_contains (keys_under s r.0) k r.2))
 
   -- their positions, ascending and each once, are the vertices
-  pub vertices_found : (ks : List ℕ)
-      → ks ≡ flat_map (λ r. begins (edges_under m r)) (all_rings (map feature_numbers fs))
-      → (found sorted : List Position) → found ≡ map (place places) ks
-      → sorted ≡ fold add_position [] found → sorted ≡ vertices (document_of (stored f m places))
-  vertices_found ks e found sorted g h =
-      h
-      ∙ ap (fold add_position []) (g ∙ ap (map (place places)) (e ∙ ap (flat_map (λ r. begins (edges_under m r))) framed_rings))
-      ∙ vertices_along (stored f m places)
+  pub vertices_found : (found sorted : List Position) → found ≡ map (place s.places) ks
+      → sorted ≡ fold add_position [] found → sorted ≡ vertices (document_of s)
+  vertices_found found sorted g h =
+      h ∙ ap (fold add_position []) g
+      ∙ same_vertices (map (place s.places) ks) (map (place s.places) (flat_map (keys_under s) (rings s.frame)))
+      (same_places s.places ks (flat_map (keys_under s) (rings s.frame)) along_in)
+      (same_places s.places (flat_map (keys_under s) (rings s.frame)) ks in_along)
+      ∙ vertices_along s

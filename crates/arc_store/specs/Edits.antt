@@ -12,7 +12,7 @@ use Rattle.vertex_index.specs.Placement.{Placement}
 use Rattle.segment_index.specs.Candidates.{SegmentSet}
 use Rattle.arc_tables.specs.Edited.{through, collapsed}
 use Rattle.arc_tables.specs.Rings.{Rings}
-use Rattle.arc_store.specs.Holds.{IsIndexed}
+use Rattle.feature_exchange.specs.Holds.{IsIndexed}
 
 -- q, which is no vertex, may come between the ends of a segment: an index holds the segments, and
 -- the size stays within the limit

@@ -11,6 +11,9 @@ use Rattle.arc_store.specs.declared.fault.EditFault.TheVariants as edit
 -- the fault names the refusal; want of memory says nothing
 abbrev pub Refuses : EditFault → Option Refusal → Type 0
 Refuses edit.NoFeature refusal = refusal ≡ Some machine.NoFeature
+Refuses edit.NoCollection refusal = refusal ≡ Some machine.NoCollection
+Refuses edit.NotOnOuterRing refusal = refusal ≡ Some machine.NotOnOuterRing
+Refuses edit.RepeatedPoint refusal = refusal ≡ Some machine.RepeatedPoint
 Refuses edit.NoVertex refusal = refusal ≡ Some machine.NoVertex
 Refuses edit.NoSegment refusal = refusal ≡ Some machine.NoSegment
 Refuses edit.Occupied refusal = refusal ≡ Some machine.Occupied
@@ -19,6 +22,13 @@ Refuses edit.RingShort refusal = refusal ≡ Some machine.RingShort
 Refuses edit.SegmentExists refusal = refusal ≡ Some machine.SegmentExists
 Refuses edit.TooLarge refusal = refusal ≡ Some machine.TooLarge
 Refuses (edit.Conflict s t) refusal = refusal ≡ Some (machine.Conflict s t)
+Refuses edit.WrongSide refusal = refusal ≡ Some machine.WrongSide
+Refuses edit.SameFeature refusal = refusal ≡ Some machine.SameFeature
+Refuses edit.NotOnePolygon refusal = refusal ≡ Some machine.NotOnePolygon
+Refuses edit.NotNeighbours refusal = refusal ≡ Some machine.NotNeighbours
+Refuses (edit.Runs n) refusal = refusal ≡ Some (machine.Runs n)
+Refuses (edit.CommonElse p) refusal = refusal ≡ Some (machine.CommonElse p)
+Refuses edit.SameSide refusal = refusal ≡ Some machine.SameSide
 Refuses edit.Sweeps refusal = refusal ≡ Some machine.Sweeps
 Refuses edit.OutOfMemory refusal = Unit {0}
 

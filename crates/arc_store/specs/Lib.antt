@@ -1,15 +1,11 @@
 pub mod Edits
 pub mod Faults
-pub mod Frames
-pub mod Holds
-pub mod Items
 pub mod Kept
-pub mod Leaves
+pub mod Merges
 pub mod Named
 pub mod Near
 pub mod Planned
-pub mod Readers
 pub mod RingPlaces
+pub mod Splits
 pub mod Spots
 pub mod State
-pub mod Stored

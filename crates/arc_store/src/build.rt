@@ -7,11 +7,9 @@ ghost use Rattle.topo_reader.specs.DocumentView.{view_raw};
 ghost use Rattle.arc_store.specs.Faults.{Names};
 
 use crate::fault::BuildFault;
-use crate::frame::Frame;
-use crate::leaf::{first_numbers, list_leaves};
 use crate::map::Map;
-use crate::names::name_all;
 use local_planarity::TestCount;
+use map_frame::Frame;
 use map_opening::lay;
 use segment_index::SegIndex;
 use std::alloc::Allocator;
@@ -37,30 +35,18 @@ impl<'a, I: SegIndex, A: Allocator + Copy> Map<'a, I, A> {
             members,
             polygons,
         } = raw;
-        let leaves = list_leaves(alloc, layers.as_slice())?;
-        let firsts = first_numbers(alloc, layers.as_slice())?;
         let laid = lay(alloc, index, polygons.as_slice())?;
-        let names = name_all(alloc, laid.numbers.as_slice())?;
         if let Some((s, t)) = laid.first {
             return Err(BuildFault::Conflict { s, t });
         }
-        let next = laid.numbers.len() as u32;
+        let frame = Frame::build(alloc, transform, layers, members, laid.numbers)?;
         Ok(Map {
             alloc,
-            frame: Frame {
-                transform,
-                layers,
-                members,
-                polygons: laid.numbers,
-                leaves,
-                firsts,
-                names,
-            },
+            frame,
             vertices: laid.vertices,
             borders: laid.borders,
             index: laid.index,
             tests: TestCount::new(),
-            next,
             positions: laid.positions,
             segments: laid.segments,
         })

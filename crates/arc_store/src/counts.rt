@@ -12,7 +12,7 @@ impl<'a, I: SegIndex, A: Allocator + Copy> Map<'a, I, A> {
     pub fn feature_count(&self) -> usize
         ensures { result ≡ length (features self.now.doc) }
     {
-        self.frame.polygons.as_slice().len()
+        self.frame.feature_count()
     }
 
     /// How many vertices there are.
@@ -40,7 +40,7 @@ impl<'a, I: SegIndex, A: Allocator + Copy> Map<'a, I, A> {
     pub fn next_number(&self) -> u32
         ensures { result ≡ self.now.next }
     {
-        self.next
+        self.frame.next()
     }
 
     /// How many times two segments were tested for a conflict since the last edit began.

@@ -1,4 +1,4 @@
-use grid_geometry::Seg;
+use grid_geometry::{Pos, Seg};
 use std::alloc::AllocError;
 
 /// Why no map was built.
@@ -26,6 +26,12 @@ impl From<AllocError> for BuildFault {
 pub enum EditFault {
     /// No feature has the number.
     NoFeature,
+    /// The feature is itself the geometry of a layer, so that no other one can stand beside it.
+    NoCollection,
+    /// No polygon of the feature has both ends of the path on its outer ring and neither on a hole.
+    NotOnOuterRing,
+    /// The path has a position twice.
+    RepeatedPoint,
     /// No ring has the position.
     NoVertex,
     /// The two positions are not the ends of a segment.
@@ -42,6 +48,21 @@ pub enum EditFault {
     TooLarge,
     /// Two segments would be in conflict: the least such pair, s the lesser one.
     Conflict { s: Seg, t: Seg },
+    /// A part of the polygon would lie outside of it: the signed areas of both parts do not have the
+    /// sign of its own.
+    WrongSide,
+    /// A feature cannot be merged with itself.
+    SameFeature,
+    /// One of the two features does not have exactly one polygon.
+    NotOnePolygon,
+    /// The outer rings of the two features have no segment in common.
+    NotNeighbours,
+    /// The segments that the outer rings have in common form so many runs, more than one.
+    Runs { n: usize },
+    /// The outer rings have this position in common beside their run, the least such position.
+    CommonElse { pos: Pos },
+    /// The areas of both features lie on the same side of their run.
+    SameSide,
     /// An edge would sweep over a position, or the vertex over a segment.
     Sweeps,
     /// There was no memory. Nothing was changed but the count of tests.

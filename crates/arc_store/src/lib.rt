@@ -2,35 +2,39 @@
 //! under a key of its own, and the segments in an index that finds those near a place.
 //!
 //! An edit of a vertex costs what stands around it: the arcs and the rings at it, and the segments
-//! near it. No edit walks the map.
+//! near it. An edit of features costs what their rings are long, and what is near a path that comes.
+//! No edit walks the map.
 #![tactic(auto)]
 
 mod begin;
 mod build;
 mod copying;
+mod counting;
 mod counts;
 mod fault;
 mod features;
-mod frame;
-mod frame_view;
-mod items;
-mod leaf;
+mod ids;
 mod map;
 mod names;
 mod near;
+mod path;
 mod plan;
+mod polygons;
 mod positions;
+mod raw_delete;
 mod raw_insert;
+mod raw_merge;
 mod raw_move;
 mod raw_remove;
+mod raw_rename;
+mod raw_split;
 mod ring_iter;
 mod spot;
 
 pub use fault::{BuildFault, EditFault};
-pub use features::FeatureView;
-pub use frame_view::FrameView;
-pub use items::{ItemIter, ItemView};
+pub use ids::IdText;
 pub use map::Map;
-pub use names::RingName;
+pub use map_frame::{FeatureView, FrameView, ItemIter, ItemView, RingName};
+pub use path::Path;
 pub use ring_iter::RingIter;
 pub use spot::Spot;

@@ -1,5 +1,5 @@
-use crate::frame::Frame;
 use local_planarity::TestCount;
+use map_frame::Frame;
 use segment_index::SegIndex;
 use shared_arcs::Borders;
 use std::alloc::{Allocator, Global};
@@ -17,7 +17,6 @@ pub struct Map<'a, I: SegIndex, A: Allocator + Copy = Global> {
     pub(crate) borders: Borders<A>,
     pub(crate) index: I,
     pub(crate) tests: TestCount,
-    pub(crate) next: u32,
     /// How many positions the rings have, each ring counted for itself.
     pub(crate) positions: usize,
     /// How many segments there are, each counted once.
@@ -31,7 +30,7 @@ impl<'a, I: SegIndex, A: Allocator + Copy> Model for Map<'a, I, A> {
 
     ghost use Rattle.arc_store.specs.Kept.{state_of, IsKept};
 
-    ghost view = { λ m. state_of m.frame m.borders m.vertices m.next m.tests (I.cells m.index) };
+    ghost view = { λ m. state_of m.frame m.borders m.vertices m.tests (I.cells m.index) };
 
-    ghost invariant = { λ m. IsKept m.frame m.borders m.vertices (I.held m.index) m.next m.positions m.segments };
+    ghost invariant = { λ m. IsKept m.frame m.borders m.vertices (I.held m.index) m.positions m.segments };
 }

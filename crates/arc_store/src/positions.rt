@@ -1,15 +1,18 @@
-ghost use Rattle.std.specs.Prelude.{◌≡◌, ◌++◌, ℕ, true, [], map, Contains, IfOk, OnOk};
+ghost use Rattle.std.specs.Prelude.{◌≡◌, ◌++◌, ℕ, true, [], map, Contains, IfOk, IsTrue, OnOk};
 ghost use Rattle.std.specs.FinMap as table;
 ghost use Rattle.std.specs.List.{flat_map, fold};
+ghost use Rattle.ring_machine.specs.Parts.{features, rings};
 ghost use Rattle.ring_machine.specs.Query.{add_position, vertices};
+ghost use Rattle.ring_machine.specs.WellFormed.{are_distinct};
 ghost use Rattle.arc_tables.specs.Rings.{begins};
-ghost use Rattle.map_opening.specs.Laying.{polygon_numbers, feature_numbers};
-ghost use Rattle.map_opening.specs.Keyed.{all_rings};
+ghost use Rattle.map_opening.specs.Laying.{polygon_numbers};
 ghost use Rattle.vertex_index.specs.Placement.{place};
-ghost use Rattle.arc_store.specs.Stored.{edges_under};
+ghost use Rattle.arc_store.specs.RingPlaces.{AreAlong};
+ghost use Rattle.feature_exchange.specs.Stored.{edges_under};
 
 use crate::map::Map;
 use grid_geometry::Pos;
+use map_frame::Frame;
 use segment_index::SegIndex;
 use shared_arcs::Borders;
 use std::alloc::{AllocError, Allocator};
@@ -50,25 +53,27 @@ fn push_feature<A: Allocator + Copy>(
 }
 
 /// The keys of all rings. Fails for want of memory alone.
-fn all_keys<A: Allocator + Copy>(
+fn all_keys<'a, A: Allocator + Copy>(
     alloc: A,
     borders: &Borders<A>,
-    features: &[Vec<Vec<usize, A>, A>],
+    frame: &Frame<'a, A>,
 ) -> Result<Vec<VertexKey, A>, AllocError>
-    requires { (r : ℕ) → Contains (all_rings (map feature_numbers features.now)) r
+    requires held { (r : ℕ) → Contains (rings frame.now.doc) r
         → table.contains_key borders.now r ≡ true }
-    ensures { IfOk result (λ keys. keys.items
-        ≡ flat_map (λ r. begins (edges_under borders.now r)) (all_rings (map feature_numbers features.now))) }
+    requires distinct { IsTrue (are_distinct (map (λ f. f.number) (features frame.now.doc))) }
+    ensures { IfOk result (λ keys. AreAlong borders.now frame.now.doc keys.items) }
 {
     let mut keys = Vec::new(alloc);
-    for polygons in features {
-        push_feature(borders, polygons.as_slice(), &mut keys)?;
+    for n in 0..frame.next() {
+        if let Some(polygons) = frame.polygons(n) {
+            push_feature(borders, polygons, &mut keys)?;
+        }
     }
     Ok(keys)
 }
 
 /// The positions under these keys. Fails for want of memory alone.
-fn positions_under<A: Allocator + Copy>(
+pub(crate) fn positions_under<A: Allocator + Copy>(
     alloc: A,
     vertices: &Vertices<A>,
     keys: &[VertexKey],
@@ -96,7 +101,7 @@ impl<'a, I: SegIndex, A: Allocator + Copy> Map<'a, I, A> {
     pub fn vertices(&self) -> Result<Vec<Pos, A>, AllocError>
         ensures { IfOk result (λ found. found.items ≡ vertices self.now.doc) }
     {
-        let keys = all_keys(self.alloc, &self.borders, self.frame.polygons.as_slice())?;
+        let keys = all_keys(self.alloc, &self.borders, &self.frame)?;
         let mut found = positions_under(self.alloc, &self.vertices, keys.as_slice())?;
         sort_once(&mut found);
         Ok(found)

@@ -13,7 +13,7 @@ ghost use Rattle.segment_index.specs.Times.{times_by};
 ghost use Rattle.local_planarity.specs.Edits.{IsHeld};
 ghost use Rattle.local_planarity.specs.Tests.{most_for_move, most_given};
 ghost use Rattle.arc_store.specs.Faults.{Refuses};
-ghost use Rattle.arc_store.specs.Holds.{IsIndexed};
+ghost use Rattle.feature_exchange.specs.Holds.{IsIndexed};
 ghost use Rattle.arc_store.specs.Planned.{AreNew, Exchanges};
 ghost use Rattle.arc_store.specs.declared.fault.EditFault.TheVariants.{OutOfMemory};
 

@@ -4,7 +4,7 @@ ghost use Rattle.std.specs.FinMap as table;
 ghost use Rattle.std.specs.Iterator.{YieldsFirst, item_count};
 ghost use Rattle.ring_machine.specs.Ring.{before, least, canonical};
 ghost use Rattle.vertex_index.specs.Placement.{place};
-ghost use Rattle.arc_store.specs.Readers.{ring_at};
+ghost use Rattle.map_frame.specs.Readers.{ring_at};
 
 use crate::map::Map;
 use grid_geometry::Pos;
@@ -137,9 +137,7 @@ impl<'a, I: SegIndex, A: Allocator + Copy> Map<'a, I, A> {
     pub fn ring(&self, n: u32, polygon: usize, ring: usize) -> Option<RingIter<'_, A>>
         ensures { result ≡ ring_at self.now.doc n polygon ring }
     {
-        let polygons = self.frame.polygons.get(n as usize)?;
-        let rings = polygons.get(polygon)?;
-        let number = rings.get(ring)?;
-        RingIter::begin(self.borders.keys(*number)?, &self.vertices)
+        let number = self.frame.ring(n, polygon, ring)?;
+        RingIter::begin(self.borders.keys(number)?, &self.vertices)
     }
 }

@@ -24,17 +24,10 @@ late_end (Some pair) still = refl
 
 pub late_fault : (fault : EditFault) (refusal : Option Refusal) → is_late refusal ≡ true
     → Refuses fault refusal → is_early fault ≡ false
-late_fault edit.NoFeature refusal l h = absurd (false≢true (sym (ap is_late h) ∙ l))
-late_fault edit.NoVertex refusal l h = absurd (false≢true (sym (ap is_late h) ∙ l))
-late_fault edit.NoSegment refusal l h = absurd (false≢true (sym (ap is_late h) ∙ l))
-late_fault edit.Occupied refusal l h = absurd (false≢true (sym (ap is_late h) ∙ l))
-late_fault edit.Junction refusal l h = absurd (false≢true (sym (ap is_late h) ∙ l))
-late_fault edit.RingShort refusal l h = absurd (false≢true (sym (ap is_late h) ∙ l))
-late_fault edit.SegmentExists refusal l h = absurd (false≢true (sym (ap is_late h) ∙ l))
-late_fault edit.TooLarge refusal l h = absurd (false≢true (sym (ap is_late h) ∙ l))
 late_fault (edit.Conflict s t) refusal l h = refl
 late_fault edit.Sweeps refusal l h = refl
 late_fault edit.OutOfMemory refusal l h = refl
+late_fault fault refusal l h = absurd (false≢true (sym (ap is_late h) ∙ l))
 
 -- what is not early is not asked for
 pub not_early : {P : Type 0} (fault : EditFault) → is_early fault ≡ false → is_early fault ≡ true → P

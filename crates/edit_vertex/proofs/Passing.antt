@@ -81,17 +81,8 @@ module _ (t : ℤ) (d : Document) (p : Position) (n : ℕ) where
 
   refused : (fault : EditFault) → Refuses fault (first_of (remove_refusals d p))
       → (fault ≡ OutOfMemory → ⊥) → (r : Refusal) × (first_of (remove_refusals d p) ≡ Some r)
-  refused edit.NoFeature h k = (_, h)
-  refused edit.NoVertex h k = (_, h)
-  refused edit.NoSegment h k = (_, h)
-  refused edit.Occupied h k = (_, h)
-  refused edit.Junction h k = (_, h)
-  refused edit.RingShort h k = (_, h)
-  refused edit.SegmentExists h k = (_, h)
-  refused edit.TooLarge h k = (_, h)
-  refused (edit.Conflict u v) h k = (_, h)
-  refused edit.Sweeps h k = (_, h)
   refused edit.OutOfMemory h k = absurd (k refl)
+  refused fault h k = (_, h)
 
   pub thin_refused : is_thin t d p ≡ true → (fault : EditFault)
       → Refuses fault (first_of (remove_refusals d p)) → (fault ≡ OutOfMemory → ⊥)

@@ -1,4 +1,5 @@
-//! Tests of reading: no text does harm, and a fault names the first place that is no JSON.
+//! Tests of reading: what small texts give, that no text does harm, and that a fault names the first
+//! place that is no JSON.
 #![tactic(auto)]
 
 #[cfg(test)]
@@ -20,10 +21,16 @@ mod names;
 #[cfg(test)]
 mod names_of_one_hash;
 #[cfg(test)]
+mod outlines;
+#[cfg(test)]
 mod pieces;
 #[cfg(test)]
 mod places;
 #[cfg(test)]
+mod spans;
+#[cfg(test)]
 mod told;
+#[cfg(test)]
+mod topologies;
 #[cfg(test)]
 mod verdicts;

@@ -1,6 +1,6 @@
 -- The features by the numbers in the layers: their forms, their numbers, and how many there are.
 use Rattle.std.proofs.Common.{◌≡◌, ℕ, suc, Bool, true, false, refl, sym, ap, ap₂, ◌∙◌, subst, List, [], ◌∷◌}
-use Rattle.std.proofs.Common.{map, length, ◌⊎◌, inl, inr, Option, Some, None, is_some, ◌&&◌, ◌||◌}
+use Rattle.std.proofs.Common.{map, length, ◌+◌, ◌⊎◌, inl, inr, Option, Some, None, is_some, ◌&&◌, ◌||◌, arith}
 use Rattle.std.specs.Prelude.{◌==◌, not}
 use Rattle.std.specs.List.{filter_map, list_any, list_all, cons_option}
 use Rattle.std.proofs.lemmas.Bool.{false≢true}
@@ -43,17 +43,26 @@ module _ {X Y : Type 0} (p : Y → Bool) (h : X → Option Y) where
 
 -- ---- how many
 
+module _ {Y Z : Type 0} where
+  pub cons_length : (o : Option Y) (u : Option Z) (xs : List Y) (ys : List Z) → is_some o ≡ is_some u → length xs ≡ length ys
+      → length (cons_option o xs) ≡ length (cons_option u ys)
+  cons_length None None xs ys e f = f
+  cons_length (Some x) (Some y) xs ys e f = ap suc f
+  cons_length None (Some y) xs ys e f = absurd (false≢true e)
+  cons_length (Some x) None xs ys e f = absurd (false≢true (sym e))
+
+  pub cons_less : (o : Option Y) (u : Option Z) (xs : List Y) (ys : List Z) → is_some o ≡ is_some u → length xs ≡ length ys + 1
+      → length (cons_option o xs) ≡ length (cons_option u ys) + 1
+  cons_less None None xs ys e f = f
+  cons_less (Some x) (Some y) xs ys e f = let k : suc (length xs) ≡ suc (length ys) + 1 = omega (arith, f) in k
+  cons_less None (Some y) xs ys e f = absurd (false≢true e)
+  cons_less (Some x) None xs ys e f = absurd (false≢true (sym e))
+
 pub length_alike : {X Y Z : Type 0} (h : X → Option Y) (k : X → Option Z) → ((n : X) → is_some (h n) ≡ is_some (k n))
     → (ns : List X) → length (filter_map h ns) ≡ length (filter_map k ns)
 length_alike h k same [] = refl
-length_alike {X} {Y} {Z} h k same (n ∷ ns) = by (h n) (k n) (same n) (length_alike h k same ns)
-  where
-    by : (o : Option Y) (u : Option Z) → is_some o ≡ is_some u → length (filter_map h ns) ≡ length (filter_map k ns)
-        → length (cons_option o (filter_map h ns)) ≡ length (cons_option u (filter_map k ns))
-    by None None e rest = rest
-    by (Some x) (Some y) e rest = ap suc rest
-    by None (Some y) e rest = absurd (false≢true e)
-    by (Some x) None e rest = absurd (false≢true (sym e))
+length_alike h k same (n ∷ ns) =
+    cons_length (h n) (k n) (filter_map h ns) (filter_map k ns) (same n) (length_alike h k same ns)
 
 -- ---- numbers that are distinct
 

@@ -30,7 +30,7 @@ gain_none names = record {
 }
 
 -- some rings lost their names, and then some got names
-named_edited : (d e : DocumentOf ℕ) (old now new : List (Option RingName)) (Gone : ℕ → Type 0)
+pub named_edited : (d e : DocumentOf ℕ) (old now new : List (Option RingName)) (Gone : ℕ → Type 0)
     (Is : RingName → ℕ → Type 0) → AreNamed old d → Loss old now Gone → Gain now new Is
     → ((o : RingName) (k : ℕ) → number_at d o ≡ Some k → (Gone k → ⊥) → number_at e o ≡ Some k)
     → ((o : RingName) (k : ℕ) → Is o k → number_at e o ≡ Some k)

@@ -22,7 +22,7 @@ use Rattle.map_frame.specs.declared.layers.Layer.{Layer}
 use Rattle.map_frame.specs.declared.tables.Tables.{Tables}
 use Rattle.map_frame.specs.Seen.{view_layer, leaf_of, items_at, items_of, or_empty, doc_of}
 use Rattle.map_frame.specs.Kept.{StandsAt, all_numbers, is_enclosed}
-use Rattle.map_frame.proofs.EditedFeatures.{forms_at, forms_all, distinct_numbers, head_apart, tail_distinct}
+use Rattle.map_frame.proofs.EditedFeatures.{cons_length, cons_less, forms_at, forms_all, distinct_numbers, head_apart, tail_distinct}
 use Rattle.map_frame.proofs.EditedStands.{Stands}
 use Rattle.map_frame.proofs.SlotsEntries.{entry, entry_number, leaf_is, features_of}
 use Rattle.map_frame.proofs.SlotsSpread.{Spreads, slots_spread, geometries_spread}
@@ -31,20 +31,6 @@ use Rattle.map_frame.proofs.SlotsSpread.{Spreads, slots_spread, geometries_sprea
 
 module _ {Y : Type 0} (h k : ℕ → Option Y) (n : ℕ) (there : is_some (h n) ≡ true) (gone : is_some (k n) ≡ false)
     (others : (m : ℕ) → m ≢ n → is_some (k m) ≡ is_some (h m)) where
-  cons_length : (o u : Option Y) (xs ys : List Y) → is_some o ≡ is_some u → length xs ≡ length ys
-      → length (cons_option o xs) ≡ length (cons_option u ys)
-  cons_length None None xs ys e f = f
-  cons_length (Some x) (Some y) xs ys e f = ap suc f
-  cons_length None (Some y) xs ys e f = absurd (false≢true e)
-  cons_length (Some x) None xs ys e f = absurd (false≢true (sym e))
-
-  cons_less : (o u : Option Y) (xs ys : List Y) → is_some o ≡ is_some u → length xs ≡ length ys + 1
-      → length (cons_option o xs) ≡ length (cons_option u ys) + 1
-  cons_less None None xs ys e f = f
-  cons_less (Some x) (Some y) xs ys e f = let k : suc (length xs) ≡ suc (length ys) + 1 = omega (arith, f) in k
-  cons_less None (Some y) xs ys e f = absurd (false≢true e)
-  cons_less (Some x) None xs ys e f = absurd (false≢true (sym e))
-
   cons_gone : (o u : Option Y) (xs ys : List Y) → is_some o ≡ true → is_some u ≡ false → length xs ≡ length ys
       → length (cons_option o xs) ≡ length (cons_option u ys) + 1
   cons_gone (Some x) None xs ys e g f = let k : suc (length xs) ≡ length ys + 1 = omega (arith, f) in k

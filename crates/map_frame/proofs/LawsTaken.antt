@@ -77,7 +77,7 @@ module _ (n : ℕ) where
 
 -- ---- distinct rings
 
-joined_distinct : (us vs : List ℕ) → are_distinct us ≡ true → are_distinct vs ≡ true
+pub joined_distinct : (us vs : List ℕ) → are_distinct us ≡ true → are_distinct vs ≡ true
     → ((r : ℕ) → In r us → In r vs → ⊥) → are_distinct (us ++ vs) ≡ true
 joined_distinct [] vs d e apart = e
 joined_distinct (u ∷ us) vs d e apart =
@@ -95,7 +95,7 @@ pub second_distinct : (us vs : List ℕ) → are_distinct (us ++ vs) ≡ true �
 second_distinct [] vs d = d
 second_distinct (u ∷ us) vs d = second_distinct us vs (tail_distinct u (us ++ vs) d)
 
-both_apart : (us vs : List ℕ) → are_distinct (us ++ vs) ≡ true → (r : ℕ) → In r us → In r vs → ⊥
+pub both_apart : (us vs : List ℕ) → are_distinct (us ++ vs) ≡ true → (r : ℕ) → In r us → In r vs → ⊥
 both_apart [] vs d r i j = absurd i
 both_apart (u ∷ us) vs d r (inl e) j = head_apart u (us ++ vs) d (in_right u us vs (subst (λ z. In z vs) (sym e) j))
 both_apart (u ∷ us) vs d r (inr i) j = both_apart us vs (tail_distinct u (us ++ vs) d) r i j

@@ -17,7 +17,11 @@ pub mod NamedAs
 pub mod NamedForgotten
 pub mod NamedLists
 pub mod NamedOnce
+pub mod PartedCounted
 pub mod PartedDocument
+pub mod PartedFrames
+pub mod PartedNames
+pub mod PartedPlaced
 pub mod PartedTables
 pub mod ReadAlone
 pub mod ReadFeatures
@@ -32,3 +36,4 @@ pub mod SlotsGrown
 pub mod SlotsSet
 pub mod SlotsSpread
 pub mod TakenTables
+pub mod TestedFrames

@@ -6,7 +6,7 @@ use Rattle.std.proofs.lemmas.Option.{slice_get_within}
 use native.Mathlib.Decide.{ℕ_discrete}
 use Rattle.map_frame.specs.declared.names.RingName.{RingName}
 use Rattle.map_frame.specs.Named.{IsNamed}
-use Rattle.map_frame.specs.Naming.{Gain, SameNames}
+use Rattle.map_frame.specs.Naming.{Gain, HasRoom, SameNames}
 use Rattle.map_frame.proofs.NamedOnce.{same_some}
 use Rattle.map_frame.proofs.SlotsSet.{set_here, set_other}
 
@@ -32,6 +32,10 @@ same_padded old now s = record {
   from = λ r o e. s.from r o (padded now r o e);
   to = λ r o e. still_padded now r o (s.to r o e);
 }
+
+-- there is still room in a longer table
+pub room_longer : (rings : List ℕ) (a b : List (Option RingName)) → length a ≤ length b → HasRoom rings a → HasRoom rings b
+room_longer rings a b l h r i = let m : r < length a = h r i in omega (arith, l, m)
 
 -- one name is put over what stood at a ring's number
 pub put_name : (old names : List (Option RingName)) (r : ℕ) (name : RingName)

@@ -8,8 +8,7 @@ use Rattle.std.proofs.lemmas.Bool.Decides.{Decides-eqb}
 use Rattle.std.proofs.lemmas.List.{append-nil}
 use Rattle.std.proofs.lemmas.List.Concat.{flat_map-append}
 use native.Mathlib.Decide.{ℕ_discrete}
-use Rattle.ring_machine.specs.Document.{FeatureOf, ItemOf, LayerOf, Open, Close, Leaf, Kept}
-use Rattle.ring_machine.specs.Parts.{in_layer}
+use Rattle.ring_machine.specs.Document.{FeatureOf, ItemOf, Leaf}
 use Rattle.ring_machine.specs.Cut.{becomes}
 use Rattle.ring_machine.proofs.First.{In, in_left, in_right}
 use Rattle.map_frame.specs.declared.feature.Feature.{Feature}
@@ -17,12 +16,12 @@ use Rattle.map_frame.specs.declared.layers.Slot.{Slot}
 use Rattle.map_frame.specs.declared.layers.Slot.TheVariants as slot
 use Rattle.map_frame.specs.declared.layers.Geometry.{Geometry}
 use Rattle.map_frame.specs.declared.layers.Geometry.TheVariants as geometry
-use Rattle.map_frame.specs.declared.layers.Layer.{Layer}
-use Rattle.map_frame.specs.Seen.{view_layer, leaf_of, items_at, items_of, or_empty}
-use Rattle.map_frame.specs.Kept.{numbers_at, numbers_in, all_numbers}
+use Rattle.map_frame.specs.Seen.{leaf_of, items_at, items_of, or_empty}
+use Rattle.map_frame.specs.Kept.{numbers_at, numbers_in}
+use Rattle.map_frame.specs.Parting.{grown, with_new}
 use Rattle.map_frame.proofs.NamedOnce.{same_some}
 use Rattle.map_frame.proofs.SlotsEntries.{entry, entry_number, leaf_is}
-use Rattle.map_frame.proofs.SlotsGrown.{part_set, parts_alike, grown, with_new, with_new_here, with_new_other, grown_off}
+use Rattle.map_frame.proofs.SlotsGrown.{parts_alike, with_new_here, with_new_other, grown_off}
 use Rattle.map_frame.proofs.SlotsSpread.{Spreads}
 
 -- ---- features in the place of one

@@ -1,17 +1,18 @@
 -- Tables in which a feature was parted: the new feature stands directly after it.
-use Rattle.std.proofs.Common.{◌≡◌, ◌≢◌, ◌+◌, ◌<◌, ◌≤◌, ℕ, zero, suc, true, refl, sym, ap, ap₂, ◌∙◌, subst, List, [], ◌∷◌, ◌++◌, map}
-use Rattle.std.proofs.Common.{length, slice_set, inl, inr, Option, Some, None, option_map, arith, Contains}
+use Rattle.std.proofs.Common.{◌≡◌, ◌≢◌, ◌+◌, ◌<◌, ℕ, zero, suc, true, refl, sym, ap, ◌∙◌, subst, List, [], ◌∷◌, ◌++◌, map}
+use Rattle.std.proofs.Common.{length, slice_set, ◌⊎◌, inl, inr, Option, Some, is_some, option_map, arith, Contains}
 use Rattle.std.specs.Prelude.{slice_get, Vec}
-use Rattle.std.specs.List.{flat_map, AllByRecursion}
+use Rattle.std.specs.List.{flat_map, filter_map, list_all, AllByRecursion}
 use Rattle.std.proofs.lemmas.List.{length-set, length-append}
-use Rattle.std.proofs.lemmas.Option.{slice_get_within}
+use Rattle.std.proofs.lemmas.Option.{slice_get_within, slice_get-map}
 use Rattle.std.proofs.lemmas.List.Concat.{flat_map-append}
+use Rattle.std.proofs.lemmas.List.Folds.{list_all-map}
 use native.Mathlib.Decide.{ℕ_discrete}
-use Rattle.ring_machine.specs.Document.{FeatureOf, ItemOf, LayerOf}
-use Rattle.ring_machine.specs.Parts.{in_layer}
+use Rattle.ring_machine.specs.Document.{FeatureOf}
+use Rattle.ring_machine.specs.Parts.{features as feature_list, in_layer}
 use Rattle.ring_machine.specs.Cut.{instead, becomes}
-use Rattle.ring_machine.specs.WellFormed.{are_distinct}
-use Rattle.ring_machine.proofs.First.{In, in_left, in_right}
+use Rattle.ring_machine.specs.WellFormed.{are_distinct, fits_form, is_geometry}
+use Rattle.ring_machine.proofs.First.{In}
 use Rattle.ring_machine.proofs.Members.{contains_in, in_contains}
 use Rattle.map_frame.specs.declared.feature.Feature.{Feature}
 use Rattle.map_frame.specs.declared.names.RingName.{RingName}
@@ -21,15 +22,21 @@ use Rattle.map_frame.specs.declared.layers.Geometry.{Geometry}
 use Rattle.map_frame.specs.declared.layers.Geometry.TheVariants as geometry
 use Rattle.map_frame.specs.declared.layers.Layer.{Layer}
 use Rattle.map_frame.specs.declared.tables.Tables.{Tables}
-use Rattle.map_frame.specs.Kept.{IsFramed, StandsAt, numbers_at, numbers_in, numbers_under, all_numbers}
+use Rattle.map_frame.specs.Kept.{IsFramed, StandsAt, is_enclosed, numbers_at, numbers_in, numbers_under, all_numbers}
 use Rattle.map_frame.specs.Seen.{doc_of, view_feature, view_layer, items_at, items_of}
+use Rattle.map_frame.specs.Parting.{grown, with_new}
+use Rattle.map_frame.proofs.EditedFeatures.{distinct_numbers, forms_all, forms_at}
+use Rattle.map_frame.proofs.EditedStands.{Stands}
 use Rattle.map_frame.proofs.NamedOnce.{in_part, one_part, same_some}
 use Rattle.map_frame.proofs.LawsTaken.{first_distinct, second_distinct}
-use Rattle.map_frame.proofs.PartedDocument.{mapped_set, slot_apart, slot_parted, geometry_apart}
-use Rattle.map_frame.proofs.SlotsEntries.{entry, inner}
-use Rattle.map_frame.proofs.SlotsFresh.{grown_distinct, grown_below, grown_keeps, grown_has}
-use Rattle.map_frame.proofs.SlotsGrown.{part_set, grown, grown_off, with_new}
+use Rattle.map_frame.proofs.PartedCounted.{all_recursion_at, all_set, enclosed_set, length_grown}
+use Rattle.map_frame.proofs.PartedDocument.{becomes_spreads, mapped_set, slot_apart, slot_parted, geometry_apart}
+use Rattle.map_frame.proofs.ReadFeatures.{in_get}
+use Rattle.map_frame.proofs.SlotsEntries.{entry, entry_number, features_of, inner}
+use Rattle.map_frame.proofs.SlotsFresh.{grown_distinct, grown_below, grown_keeps, grown_has, in_grown}
+use Rattle.map_frame.proofs.SlotsGrown.{part_set, grown_off}
 use Rattle.map_frame.proofs.SlotsSet.{set_here, set_other}
+use Rattle.map_frame.proofs.SlotsSpread.{all_at, alone_geometry, spread_geometry}
 
 -- ---- lists
 
@@ -43,11 +50,6 @@ module _ {X : Type 0} where
   get_end [] y = refl
   get_end (x ∷ xs) y = get_end xs y
 
-  all_recursion_at : (P : X → Type 0) (xs : List X) (x : X) → AllByRecursion P xs → In x xs → P x
-  all_recursion_at P [] x h i = absurd i
-  all_recursion_at P (y ∷ xs) x h (inl e) = subst P e h.0
-  all_recursion_at P (y ∷ xs) x h (inr i) = all_recursion_at P xs x h.1 i
-
 length_push : {X : Type 0} (xs : List X) (y : X) → length (xs ++ y ∷ []) ≡ length xs + 1
 length_push xs y = length-append xs (y ∷ [])
 
@@ -55,7 +57,8 @@ map_twice : {X Y Z : Type 0} (f : X → Y) (g : Y → Z) (xs : List X) → map g
 map_twice f g [] = refl
 map_twice f g (x ∷ xs) = ap (λ z. g (f x) ∷ z) (map_twice f g xs)
 
-part_distinct : {X : Type 0} (g : X → List ℕ) (xs : List X) (i : ℕ) (x : X) → are_distinct (flat_map g xs) ≡ true
+-- a part of distinct numbers
+pub part_distinct : {X : Type 0} (g : X → List ℕ) (xs : List X) (i : ℕ) (x : X) → are_distinct (flat_map g xs) ≡ true
     → slice_get xs i ≡ Some x → are_distinct (g x) ≡ true
 part_distinct g [] i x d e = absurd cc
 part_distinct g (y ∷ xs) zero x d e =
@@ -278,3 +281,116 @@ module _ {A : Type 0} (t : Tables A) (k : IsFramed t) (n : ℕ) (f f1 f2 : Featu
         (layer_off j z off e)
         (λ m i. below m (in_part (λ z. numbers_in z.geometry) t.layers.items j z m e i))))
         ∙ sym (map_twice (view_layer t.features.items) (in_layer (flat_map (becomes n g))) t.layers.items))
+
+    -- ---- what is kept
+
+    layer_enclosed : (j : ℕ) (z : Layer A) → slice_get t.layers.items j ≡ Some z → is_enclosed z.geometry ≡ true
+    layer_enclosed j z e = all_at (λ y. is_enclosed y.geometry) t.layers.items z k.enclosed (in_get t.layers.items j z e)
+
+    layer_formed : (j : ℕ) (z : Layer A) → slice_get t.layers.items j ≡ Some z
+        → is_geometry (items_of t.features.items z.geometry) ≡ true
+    layer_formed j z e =
+        all_at (λ y. is_geometry y.items) (map (view_layer t.features.items) t.layers.items) (view_layer t.features.items z)
+        k.formed.geometries
+        (in_get (map (view_layer t.features.items) t.layers.items) j (view_layer t.features.items z)
+        (slice_get-map (view_layer t.features.items) t.layers.items j ∙ ap (option_map (view_layer t.features.items)) e))
+
+    -- another layer stays one geometry
+    other_formed : (j : ℕ) (z : Layer A) → j ≢ f.layer → slice_get t.layers.items j ≡ Some z
+        → (y : Geometry A) → z.geometry ≡ y → is_geometry (items_of fs'.items z.geometry) ≡ true
+    other_formed j z off e (geometry.Alone m) is =
+        ap (λ y. is_geometry (items_of fs'.items y)) is ∙ alone_geometry fs'.items m
+    other_formed j z off e (geometry.Items ys) is =
+        ap is_geometry (geometry_apart t.features.items fs'.items n g (view_feature n f) (view_feature n f1)
+        (view_feature (length t.features.items) f2) was parts parted_first parted_second parted_other z.geometry
+        (layer_off j z off e) (λ m i. below m (in_part (λ y. numbers_in y.geometry) t.layers.items j z m e i)))
+        ∙ ap (λ y. is_geometry (flat_map (becomes n g) (items_of t.features.items y))) is
+        ∙ spread_geometry t.features.items (flat_map (becomes n g)) (becomes_spreads n g) ys
+        (ap is_enclosed (sym is) ∙ layer_enclosed j z e)
+        (ap (λ y. is_geometry (items_of t.features.items y)) (sym is) ∙ layer_formed j z e)
+
+    begun : is_enclosed (geometry.Items ss) ≡ true
+    begun = ap is_enclosed (sym in_items) ∙ layer_enclosed f.layer l layer
+
+    own_formed : is_geometry (flat_map (items_at fs'.items) ss'.items) ≡ true
+    own_formed =
+        ap is_geometry slots_parted
+        ∙ spread_geometry t.features.items (flat_map (becomes n g)) (becomes_spreads n g) ss begun
+        (ap (λ y. is_geometry (items_of t.features.items y)) (sym in_items) ∙ layer_formed f.layer l layer)
+
+    geometries : list_all (λ y. is_geometry y.items) (map (view_layer fs'.items) ls'.items) ≡ true
+    geometries =
+        list_all-map (λ y. is_geometry y.items) (view_layer fs'.items) ls'.items
+        ∙ ap (list_all (λ z. is_geometry (items_of fs'.items z.geometry))) layers
+        ∙ all_set (λ z. is_geometry (items_of fs'.items z.geometry)) t.layers.items f.layer
+        (record l { geometry = geometry.Items ss' }) own_formed (λ j z off e. other_formed j z off e z.geometry refl)
+
+    pub enclosed_parted : list_all (λ z. is_enclosed z.geometry) ls'.items ≡ true
+    enclosed_parted =
+        ap (list_all (λ z. is_enclosed z.geometry)) layers
+        ∙ all_set (λ z. is_enclosed z.geometry) t.layers.items f.layer (record l { geometry = geometry.Items ss' })
+        (enclosed_set ss ss' f.slot ns (slot.Leaves ns') place slots begun)
+        (λ j z off e. layer_enclosed j z e)
+
+    abbrev parted_tables : Tables A
+    parted_tables = record t { features = fs'; layers = ls'; count = count; names = names }
+
+    still_some : (m : ℕ) → In m (all_numbers t.layers.items)
+        → is_some (entry fs'.items m) ≡ is_some (entry t.features.items m)
+    still_some m i = by (ℕ_discrete m n)
+      where
+        by : Dec (m ≡ n) → is_some (entry fs'.items m) ≡ is_some (entry t.features.items m)
+        by (yes s) =
+            ap (λ z. is_some (entry fs'.items z)) s ∙ ap is_some parted_first
+            ∙ sym (ap (λ z. is_some (entry t.features.items z)) s ∙ ap is_some was)
+        by (no off) = ap is_some (parted_other m off (below m i))
+
+    pub counted_parted : count ≡ t.count + 1 → count ≡ length (feature_list (doc_of parted_tables))
+    counted_parted more =
+        more ∙ ap (λ z. z + 1) (k.counted ∙ ap length (features_of t))
+        ∙ sym (ap length (features_of parted_tables) ∙ ap (λ z. length (filter_map (entry fs'.items) z)) numbers_parted
+        ∙ length_grown (entry t.features.items) (entry fs'.items) n (length t.features.items)
+        (ap is_some parted_second) (all_numbers t.layers.items) k.once
+        (in_ours n ours) still_some)
+
+    module _ (first_fits : fits_form (view_feature n f) ≡ true → fits_form (view_feature n f1) ≡ true)
+        (second_fits : fits_form (view_feature (length t.features.items) f2) ≡ true) where
+      was_fits : (m : ℕ) (y : FeatureOf ℕ) → In m (all_numbers t.layers.items) → entry t.features.items m ≡ Some y
+          → fits_form y ≡ true
+      was_fits m y i e =
+          forms_at fits_form (entry t.features.items) (all_numbers t.layers.items) m y
+          (ap (list_all fits_form) (sym (features_of t)) ∙ k.formed.forms) i e
+
+      fitting : (m : ℕ) (y : FeatureOf ℕ) → In m (all_numbers ls'.items) → entry fs'.items m ≡ Some y → fits_form y ≡ true
+      fitting m y i e =
+          by (ℕ_discrete m n)
+          (in_grown n (length t.features.items) m (all_numbers t.layers.items) (subst (In m) numbers_parted i))
+        where
+          by : Dec (m ≡ n) → In m (all_numbers t.layers.items) ⊎ (length t.features.items ≡ m) → fits_form y ≡ true
+          by (yes s) u =
+              let same : view_feature n f1 ≡ y = same_some _ _ (sym parted_first ∙ ap (entry fs'.items) (sym s) ∙ e) in
+              ap fits_form (sym same) ∙ first_fits (was_fits n (view_feature n f) (in_ours n ours) was)
+          by (no off) (inl j) = was_fits m y j (sym (parted_other m off (below m j)) ∙ e)
+          by (no off) (inr s) =
+              let same : view_feature (length t.features.items) f2 ≡ y =
+              same_some _ _ (sym parted_second ∙ ap (entry fs'.items) s ∙ e) in
+              ap fits_form (sym same) ∙ second_fits
+
+      pub stands_parted : f1.layer ≡ f.layer → f1.slot ≡ f.slot → f2.layer ≡ f.layer → f2.slot ≡ f.slot
+          → count ≡ t.count + 1 → length t.features.items < 200000 → Stands parted_tables
+      stands_parted a1 b1 a2 b2 more few = record {
+        formed = record {
+          geometries = geometries;
+          forms = ap (list_all fits_form) (features_of parted_tables)
+              ∙ forms_all fits_form (entry fs'.items) (all_numbers ls'.items) fitting;
+          numbers = ap (λ (xs : List (FeatureOf ℕ)). are_distinct (map (λ y. y.number) xs)) (features_of parted_tables)
+              ∙ distinct_numbers (entry fs'.items) (λ y. y.number) (entry_number fs'.items) (all_numbers ls'.items) once_parted;
+        };
+        enclosed = enclosed_parted;
+        once = once_parted;
+        below = below_parted;
+        standing = standing_parted a1 b1 a2 b2;
+        counted = counted_parted more;
+        few = let len = length_parted in omega (arith, len, few);
+        empty = k.empty;
+      }

@@ -36,6 +36,16 @@ pub pushed_one : {X Z : Type 0} (v w : Vec X Z) (x : X) (b : Bool)
 pushed_one v w x b e t none =
     e ∙ ap (λ c. if c then v.items ++ x ∷ [] else v.items) t ∙ ap (λ z. z ++ x ∷ []) none
 
+-- the rings of the only polygon
+pub one_ring : (rings : List ℕ) (p i r : ℕ) → p ≡ 0 → slice_get rings i ≡ Some r
+    → element (slice_get (rings ∷ []) p) i ≡ Some r
+one_ring rings p i r z e = ap (λ q. element (slice_get (rings ∷ []) q) i) z ∙ e
+
+pub ring_one : (rings : List ℕ) (p i r : ℕ) → element (slice_get (rings ∷ []) p) i ≡ Some r
+    → (p ≡ 0) × (slice_get rings i ≡ Some r)
+ring_one rings zero i r e = (refl, e)
+ring_one rings (suc p) i r e = absurd cc
+
 -- ---- one feature in the place of one
 
 module _ {R : Type 0} (n : ℕ) (h : FeatureOf R → FeatureOf R) where
@@ -185,8 +195,8 @@ module _ {A : Type 0} where
           (named_anew d e t.names.items now names.items (λ m. m ≡ n) (λ m. ℕ_discrete m n) once k.named
           (loss_as _ _ t.names.items now (rings_to d n f was_at) (rings_from d n f was_at) loss)
           (gain_as _ _ now names.items
-          (λ o r i. (i.0, ap (λ z. ring_of z o) (ap (feature e) i.0 ∙ now_at) ∙ one_ring o r i.1 i.2))
-          (λ o r i. let q = ring_one o r (sym (ap (λ z. ring_of z o) (ap (feature e) i.0 ∙ now_at)) ∙ i.1) in (i.0, q.0, q.1))
+          (λ o r i. (i.0, ap (λ z. ring_of z o) (ap (feature e) i.0 ∙ now_at) ∙ one_ring rings.items o.polygon o.ring r i.1 i.2))
+          (λ o r i. let q = ring_one rings.items o.polygon o.ring r (sym (ap (λ z. ring_of z o) (ap (feature e) i.0 ∙ now_at)) ∙ i.1) in (i.0, q.0, q.1))
           gain)
           (λ m off. entry_is t' placed m ∙ ap (λ z. entry z m) items ∙ entry_other t.features.items n place m off
           ∙ sym (entry_is t k.standing m)))
@@ -202,16 +212,3 @@ module _ {A : Type 0} where
             few = s.few;
             empty = s.empty;
           }
-
-          one_ring : (o : RingName) (r : ℕ) → o.polygon ≡ 0 → slice_get rings.items o.ring ≡ Some r
-              → element (slice_get (rings.items ∷ []) o.polygon) o.ring ≡ Some r
-          one_ring o r z i = ap (λ p. element (slice_get (rings.items ∷ []) p) o.ring) z ∙ i
-
-          ring_one : (o : RingName) (r : ℕ) → element (slice_get (rings.items ∷ []) o.polygon) o.ring ≡ Some r
-              → (o.polygon ≡ 0) × (slice_get rings.items o.ring ≡ Some r)
-          ring_one o r i = by o.polygon refl i
-            where
-              by : (p : ℕ) → o.polygon ≡ p → element (slice_get (rings.items ∷ []) p) o.ring ≡ Some r
-                  → (o.polygon ≡ 0) × (slice_get rings.items o.ring ≡ Some r)
-              by zero s j = (s, j)
-              by (suc p) s j = absurd cc

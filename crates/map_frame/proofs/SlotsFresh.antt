@@ -1,11 +1,12 @@
 -- Numbers stay distinct where a fresh one stands directly after one of them.
-use Rattle.std.proofs.Common.{◌≡◌, ◌≢◌, ◌<◌, ◌+◌, ℕ, refl, sym, ap, ap₂, ◌∙◌, subst, true, List, [], ◌∷◌, ◌++◌, ◌⊎◌, inl, inr, arith}
+use Rattle.std.proofs.Common.{◌≡◌, ◌<◌, ◌+◌, ℕ, refl, sym, ap, ap₂, ◌∙◌, subst, true, List, [], ◌∷◌, ◌++◌, ◌⊎◌, inl, inr, arith}
 use Rattle.std.specs.List.{AllByRecursion}
 use native.Mathlib.Decide.{ℕ_discrete}
 use Rattle.ring_machine.specs.WellFormed.{are_distinct}
 use Rattle.ring_machine.proofs.First.{In, in_left, in_right, in-append}
+use Rattle.map_frame.specs.Parting.{grown, with_new}
 use Rattle.map_frame.proofs.EditedFeatures.{head_apart, tail_distinct, cons_distinct}
-use Rattle.map_frame.proofs.SlotsGrown.{grown, with_new, with_new_here, with_new_other, grown_off}
+use Rattle.map_frame.proofs.SlotsGrown.{with_new_here, with_new_other, grown_off}
 
 module _ (n new : ℕ) where
   in_with : (k m : ℕ) → In k (with_new n new m) → (m ≡ k) ⊎ (new ≡ k)

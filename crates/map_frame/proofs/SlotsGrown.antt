@@ -1,14 +1,12 @@
 -- Numbers in which a new one stands directly after another.
-use Rattle.std.proofs.Common.{◌≡◌, ◌≢◌, ◌+◌, ◌<◌, ℕ, zero, suc, Bool, true, false, refl, sym, ap, ap₂, ◌∙◌, subst, List, [], ◌∷◌, ◌++◌}
-use Rattle.std.proofs.Common.{length, slice_set, ◌⊎◌, inl, inr, Option, Some, None, arith}
+use Rattle.std.proofs.Common.{◌≡◌, ◌≢◌, ◌+◌, ℕ, zero, suc, Bool, true, false, refl, sym, ap, ap₂, ◌∙◌, List, [], ◌∷◌, ◌++◌}
+use Rattle.std.proofs.Common.{slice_set, inl, inr, Some, arith}
 use Rattle.std.specs.Prelude.{◌==◌, if◌then◌else◌, slice_get}
 use Rattle.std.specs.List.{flat_map}
 use Rattle.std.proofs.lemmas.Bool.{false≢true}
 use Rattle.std.proofs.lemmas.Bool.Decides.{Decides-eqb}
-use Rattle.std.proofs.lemmas.List.Concat.{flat_map-append}
-use Rattle.ring_machine.specs.WellFormed.{are_distinct}
-use Rattle.ring_machine.proofs.First.{In, in_left, in_right, in-append}
-use Rattle.map_frame.proofs.EditedFeatures.{head_apart, tail_distinct, cons_distinct}
+use Rattle.ring_machine.proofs.First.{In}
+use Rattle.map_frame.specs.Parting.{grown, with_new}
 use Rattle.map_frame.proofs.NamedOnce.{same_some}
 
 -- ---- one part of a list of parts is changed
@@ -48,21 +46,14 @@ module _ {X Y : Type 0} (g g' : X → List Y) (H : List Y → List Y) (none : H 
 -- ---- the numbers
 
 module _ (n new : ℕ) where
-  -- the number, and the new one after n
-  abbrev pub with_new : ℕ → List ℕ
-  with_new m = if m == n then n ∷ new ∷ [] else (m ∷ [])
-
-  abbrev pub grown : List ℕ → List ℕ
-  grown ns = flat_map with_new ns
-
-  pub with_new_here : with_new n ≡ n ∷ new ∷ []
+  pub with_new_here : with_new n new n ≡ n ∷ new ∷ []
   with_new_here = by (n == n) ((Decides-eqb n n).1 refl)
     where
       by : (b : Bool) → b ≡ true → (if b then n ∷ new ∷ [] else (n ∷ [])) ≡ n ∷ new ∷ []
       by true e = refl
       by false e = absurd (false≢true e)
 
-  pub with_new_other : (m : ℕ) → m ≢ n → with_new m ≡ m ∷ []
+  pub with_new_other : (m : ℕ) → m ≢ n → with_new n new m ≡ m ∷ []
   with_new_other m f = by (m == n) refl
     where
       by : (b : Bool) → (m == n) ≡ b → (if b then n ∷ new ∷ [] else (m ∷ [])) ≡ m ∷ []
@@ -70,7 +61,7 @@ module _ (n new : ℕ) where
       by false e = refl
 
   -- numbers without n stay
-  pub grown_off : (ns : List ℕ) → (In n ns → ⊥) → grown ns ≡ ns
+  pub grown_off : (ns : List ℕ) → (In n ns → ⊥) → grown n new ns ≡ ns
   grown_off [] off = refl
   grown_off (m ∷ ns) off =
       ap₂ (λ a b. a ++ b) (with_new_other m (λ e. off (inl e))) (grown_off ns (λ i. off (inr i)))

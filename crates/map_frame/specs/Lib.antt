@@ -6,7 +6,9 @@ pub mod Kept
 pub mod Live
 pub mod Named
 pub mod Naming
+pub mod Numbered
 pub mod Opened
+pub mod Parting
 pub mod Readers
 pub mod Seen
 pub mod Shown

@@ -91,7 +91,6 @@ impl<'a, A: Allocator + Copy> Frame<'a, A> {
         requires two { n ≢ g }
         requires there { length (polygons_of self.old.doc n) ≡ 1 }
         requires once { IsTrue (are_distinct (rings_in self.old.doc)) }
-        requires apart { IsTrue (are_distinct (rings_in (joined self.old.doc n g rings.items))) }
         ensures ok { OnOk result (self.new ≡ record self.old {
           doc = joined self.old.doc n g rings.items;
         }) }

@@ -16,6 +16,7 @@ mod items;
 mod joining;
 mod layers;
 mod names;
+mod parting;
 mod reading;
 mod renaming;
 mod tables;

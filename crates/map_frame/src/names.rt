@@ -110,7 +110,10 @@ pub(crate) fn name_all<A: Allocator + Copy>(
 }
 
 /// Takes out the names of the rings with these numbers.
-fn forget_polygon<A: Allocator + Copy>(names: &mut Vec<Option<RingName>, A>, rings: &[usize])
+pub(crate) fn forget_polygon<A: Allocator + Copy>(
+    names: &mut Vec<Option<RingName>, A>,
+    rings: &[usize],
+)
     ensures lost { Loss names.old.items names.new.items (IsOf rings.now) }
     ensures len { length names.new.items ≡ length names.old.items }
 {

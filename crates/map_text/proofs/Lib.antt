@@ -1,3 +1,4 @@
+pub mod StringTexts
 pub mod Examples
 pub mod GrammarDeeper
 pub mod GrammarLists

@@ -14,8 +14,6 @@ mod remove;
 mod rings;
 mod segments;
 mod sweeps;
-#[cfg(test)]
-mod tests;
 mod thin;
 
 pub use fault::{BuildFault, EditFault, NoFeature};

@@ -1,37 +1,39 @@
 -- The features that hold a position, by the rings that have an odd number of the segments that count.
 use Rattle.std.proofs.Common.{◌≡◌, ℕ, zero, suc, Bool, true, false, refl, sym, ap, ap₂, ◌∙◌, subst, ◌&&◌, arith}
-use Rattle.std.proofs.Common.{List, [], ◌∷◌, map, Option, Some, None, is_some, unwrap_or, inl, inr}
+use Rattle.std.proofs.Common.{List, [], ◌∷◌, map, Option, Some, unwrap_or, inl, inr}
 use Rattle.std.specs.Prelude.{not, ◌==◌, slice_get, option_map}
-use Rattle.std.specs.List.{list_any, list_all, filter, fold, flat_map, find}
+use Rattle.std.specs.List.{list_any, list_all, filter, fold, find}
 use Rattle.std.specs.BTreeSet.{BTreeSet, contains}
 use Rattle.std.proofs.lemmas.Bool.{false≢true}
 use Rattle.std.proofs.lemmas.Bool.Decides.{Decides-eqb}
 use Rattle.grid_geometry.specs.Position.{Position}
 use Rattle.grid_geometry.specs.Ring.{xor, is_inside}
-use Rattle.grid_geometry.specs.Segment.{Segment, segment_eq, segment}
+use Rattle.grid_geometry.specs.Segment.{Segment, segment_eq}
 use Rattle.ring_machine.specs.Document.{Document, Feature}
 use Rattle.ring_machine.specs.Parts.{features, feature, rings, rings_of}
 use Rattle.ring_machine.specs.Query.{is_on_border, is_in_polygon, is_in_feature, border_at, inside_at}
 use Rattle.ring_machine.specs.Ring.{segments, is_ring}
 use Rattle.ring_machine.specs.WellFormed.{are_distinct}
 use Rattle.ring_machine.proofs.First.{In, filter-in}
+use Rattle.ring_machine.proofs.Found.{found}
 use Rattle.ring_machine.proofs.Members.{contains_in, in_contains, in_filter, in_mapped, any_in, in_any, there, mapped_there}
 use Rattle.ring_machine.proofs.Neighbours.{in-map, in-flat_map}
 use Rattle.ring_machine.proofs.Order.{and_both}
 use Rattle.ring_machine.proofs.Removal.{not_true}
-use Rattle.arc_store.specs.declared.names.RingName.{RingName}
-use Rattle.arc_store.specs.Readers.{element, ring_at}
+use Rattle.map_frame.specs.declared.names.RingName.{RingName}
+use Rattle.map_frame.specs.Readers.{element, ring_at}
+use Rattle.arc_store.proofs.FrameNames.{place_of}
 use Rattle.arc_store.proofs.Indexed.{in_segments, segment_in}
-use Rattle.arc_store.proofs.NameLists.{element_is}
-use Rattle.arc_store.proofs.RingReads.{in_get}
+use Rattle.map_frame.proofs.NamedForgotten.{element_is}
+use Rattle.map_frame.proofs.ReadFeatures.{in_get}
 use Rattle.point_queries.specs.declared.odd.PolygonName.{PolygonName}
-use Rattle.point_queries.specs.Odd.{odd, ArePassed, AreOdd, ListsOdd, is_name, is_polygon, is_held, is_passed, polygon_of, polygon_cmp, ring_of, ring_has}
+use Rattle.point_queries.specs.Odd.{odd, ArePassed, AreOdd, ListsOdd, is_name, is_polygon, is_held, polygon_of, polygon_cmp, ring_of, ring_has}
 use Rattle.point_queries.specs.Users.{IsSorted}
 use Rattle.point_queries.proofs.Ascending.{numbers_are, in_numbers, numbers_have}
 use Rattle.point_queries.proofs.Odds.{odd-alike, odd-exchange, odd-some, xor-assoc, xor-false}
 use Rattle.point_queries.proofs.OnBorders.{of_ends}
 use Rattle.point_queries.proofs.PassedRings.{odd_ring}
-use Rattle.point_queries.proofs.SharedBorders.{found_in, in_found, place_of}
+use Rattle.point_queries.proofs.SharedBorders.{found_in}
 
 refuted : (b : Bool) → (b ≡ true → ⊥) → b ≡ false
 refuted false h = refl
@@ -89,7 +91,7 @@ module _ (d : Document) (distinct : are_distinct (map (λ f. f.number) (features
 
     ring_here : (r : ℕ) → ring_of d (name_of r) ≡ slice_get polygon r
     ring_here r =
-        ap (λ o. element (element (option_map (λ f. f.polygons) o) k) r) (in_found (features d) distinct g i)
+        ap (λ o. element (element (option_map (λ f. f.polygons) o) k) r) (found g (features d) distinct i)
         ∙ ap (λ o. element o r) e
 
     odd_here : (r : ℕ) (ring : List Position) → slice_get polygon r ≡ Some ring → odd (is_name (name_of r)) names ≡ is_inside p ring
@@ -147,7 +149,7 @@ module _ (d : Document) (distinct : are_distinct (map (λ f. f.number) (features
   -- features with one number are one
   same_feature : (f g : Feature) → In f (features d) → In g (features d) → f.number ≡ g.number → f ≡ g
   same_feature f g i j e =
-      ap (λ o. unwrap_or o f) (sym (in_found (features d) distinct f i) ∙ ap (λ n. find (λ h. h.number == n) (features d)) e ∙ in_found (features d) distinct g j)
+      ap (λ o. unwrap_or o f) (sym (found f (features d) distinct i) ∙ ap (λ n. find (λ h. h.number == n) (features d)) e ∙ found g (features d) distinct j)
 
   module _ (border : List ℕ) (on : border ≡ border_at d p) where
     abbrev is_there : ℕ → Bool

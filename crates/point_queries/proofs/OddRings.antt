@@ -1,6 +1,6 @@
 -- The rings that have some segments, a segment at a time.
 use Rattle.std.proofs.Common.{◌≡◌, ℕ, suc, ◌+◌, ◌<◌, Bool, true, false, refl, sym, ap, ap₂, ◌∙◌, subst, ◌&&◌, arith}
-use Rattle.std.proofs.Common.{List, [], ◌∷◌, ◌++◌, take, length, get_or, append_assoc, inl, inr, Option, Some, None, is_some, Contains}
+use Rattle.std.proofs.Common.{List, [], ◌∷◌, ◌++◌, take, length, get_or, append_assoc, inl, inr, Option, Some, None, is_some}
 use Rattle.std.specs.Prelude.{◌==◌, unwrap_or}
 use Rattle.std.specs.List.{list_any}
 use Rattle.std.proofs.lemmas.Bool.{false≢true}
@@ -11,14 +11,14 @@ use Rattle.grid_geometry.specs.Ring.{xor}
 use Rattle.grid_geometry.specs.Segment.{Segment, segment, segment_eq}
 use Rattle.ring_machine.specs.Document.{Document}
 use Rattle.ring_machine.specs.Ring.{segments}
-use Rattle.ring_machine.proofs.First.{In, in-append}
+use Rattle.ring_machine.proofs.First.{in-append}
 use Rattle.ring_machine.proofs.Members.{contains_in, in_contains, any_in, in_any, same_answer}
 use Rattle.ring_machine.proofs.Order.{and_both}
-use Rattle.arc_store.specs.declared.names.RingName.{RingName}
+use Rattle.map_frame.specs.declared.names.RingName.{RingName}
 use Rattle.arc_store.specs.Named.{RingHas, AreOnce, ListsRings}
-use Rattle.point_queries.specs.Odd.{odd, AreApart, ListsOdd, ring_of, ring_has, is_name}
+use Rattle.arc_store.proofs.FrameNames.{place_of}
+use Rattle.point_queries.specs.Odd.{AreApart, ListsOdd, ring_of, ring_has, is_name}
 use Rattle.point_queries.proofs.Odds.{odd-append, odd_apart, xor-false}
-use Rattle.point_queries.proofs.SharedBorders.{place_of}
 
 -- ---- names of rings
 

@@ -1,6 +1,6 @@
 -- Odd numbers: of lists one after another, of lists in another order, and of pairs of two lists.
-use Rattle.std.proofs.Common.{◌≡◌, ◌≢◌, ℕ, zero, suc, ◌+◌, Bool, true, false, refl, sym, ap, ap₂, ◌∙◌, subst, cond, not}
-use Rattle.std.proofs.Common.{List, [], ◌∷◌, ◌++◌, map, take, get_or, length, ◌<◌, ◌||◌, ◌&&◌, inl, inr, arith}
+use Rattle.std.proofs.Common.{◌≡◌, ℕ, zero, suc, ◌+◌, Bool, true, false, refl, sym, ap, ap₂, ◌∙◌, cond, not}
+use Rattle.std.proofs.Common.{List, [], ◌∷◌, ◌++◌, map, take, get_or, length, ◌<◌, ◌||◌, inl, inr, arith}
 use Rattle.std.specs.Prelude.{sum_by}
 use Rattle.std.specs.List.{list_any, filter}
 use Rattle.std.specs.List.Sorted.{IsPermutation}

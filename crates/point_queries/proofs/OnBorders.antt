@@ -20,14 +20,15 @@ use Rattle.ring_machine.proofs.Neighbours.{in-map, in-flat_map}
 use Rattle.ring_machine.proofs.Order.{and_both}
 use Rattle.ring_machine.proofs.Orders.{segment_ordered}
 use Rattle.ring_machine.proofs.RingSegments.{segment_eq-true}
-use Rattle.arc_store.specs.declared.names.RingName.{RingName}
+use Rattle.map_frame.specs.declared.names.RingName.{RingName}
 use Rattle.arc_store.specs.Near.{ListsNear}
-use Rattle.arc_store.proofs.Ends.{segment_ends}
+use Rattle.feature_exchange.proofs.Ends.{segment_ends}
 use Rattle.arc_store.proofs.Indexed.{in_segments, segment_in}
 use Rattle.ring_machine.proofs.Members.{contains_in, in_contains, in_mapped, in_flat, any_in, in_any}
 use Rattle.point_queries.specs.Users.{HasOne, ListsUsers, IsSorted, on_edge}
 use Rattle.point_queries.proofs.Ascending.{numbers_are}
-use Rattle.point_queries.proofs.SharedBorders.{named_ring, ring_named}
+use Rattle.arc_store.proofs.FrameNames.{ring_named}
+use Rattle.point_queries.proofs.SharedBorders.{named_ring}
 
 -- ---- a segment on which the position lies
 

@@ -6,7 +6,6 @@ use Rattle.std.specs.List.Retain.{IsFiltered, DiffersFromLast}
 use Rattle.std.specs.Ordering.{eq_by_cmp, is_lt}
 use Rattle.std.specs.Cmp.{tied_then}
 use Rattle.std.specs.declared.cmp.Ordering.TheVariants.{Less}
-use Rattle.std.proofs.lemmas.Bool.{false≢true}
 use Rattle.std.proofs.lemmas.List.Filters.{dedup_is}
 use Rattle.std.proofs.lemmas.List.Kept.{IsStrictlySortedBy-dedup}
 use Rattle.std.proofs.lemmas.List.Sorted.{IsPermutation-sym}
@@ -23,7 +22,7 @@ use Rattle.ring_machine.proofs.RingSegments.{segment_eq-true}
 use Rattle.ring_machine.proofs.SortedOnce.{in_permuted, in_recursion, none_new, none_lost, ties}
 use Rattle.segment_index.proofs.Singles.{segment_total}
 use Rattle.arc_store.specs.Near.{ListsNear}
-use Rattle.arc_store.proofs.Ends.{end_is}
+use Rattle.feature_exchange.proofs.Ends.{end_is}
 use Rattle.arc_store.proofs.Indexed.{end_vertex}
 use Rattle.point_queries.specs.Odd.{AreApart, ArePassed, is_passed, ray}
 use Rattle.point_queries.proofs.Passing.{passed_meets}

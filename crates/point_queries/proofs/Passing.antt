@@ -1,5 +1,5 @@
 -- An edge that counts for a position: in either direction, and near the ray.
-use Rattle.std.proofs.Common.{◌≡◌, ℤ, pos, neg_ℤ, ◌-ℤ◌, ◌*ℤ◌, ◌≤ℤ◌, ◌<ℤ◌, ◌≤◌, Bool, true, false, refl, sym, ap, ◌∙◌, cond}
+use Rattle.std.proofs.Common.{◌≡◌, ℤ, pos, neg_ℤ, ◌-ℤ◌, ◌*ℤ◌, ◌≤ℤ◌, ◌<ℤ◌, ◌≤◌, Bool, true, false, refl, ap, ◌∙◌, cond}
 use Rattle.std.proofs.Common.{ap₂, int_le, int_lt, unsigned_abs, ◌&&◌, arith}
 use Rattle.std.specs.Int.{int_min, int_max}
 use Rattle.std.specs.Ordering.{is_gt}
@@ -7,7 +7,7 @@ use Rattle.std.proofs.lemmas.Bool.{false≢true}
 use Rattle.std.proofs.lemmas.Int.{ints, clamps}
 use Rattle.grid_geometry.specs.Position.{Position, InRange, position_cmp}
 use Rattle.grid_geometry.specs.Orientation.{orientation}
-use Rattle.grid_geometry.specs.Ring.{Edge, is_counted}
+use Rattle.grid_geometry.specs.Ring.{is_counted}
 use Rattle.grid_geometry.specs.Segment.{Segment, box_of, boxes_meet, segment}
 use Rattle.grid_geometry.proofs.Algebra.{down_down, below_above, weak}
 use Rattle.grid_geometry.proofs.Turns.{orientation-reverse, orientation-round}

@@ -1,7 +1,7 @@
 -- Two features have a segment in common where a ring of one has the segment of an edge of the other.
-use Rattle.std.proofs.Common.{◌≡◌, ℕ, suc, Bool, true, false, refl, sym, ap, ap₂, ◌∙◌, subst, cond}
+use Rattle.std.proofs.Common.{◌≡◌, ℕ, Bool, true, false, refl, sym, ap, ap₂, ◌∙◌, subst, cond}
 use Rattle.std.proofs.Common.{List, [], ◌∷◌, map, inl, inr, Option, Some, None, option_map, ◌&&◌}
-use Rattle.std.specs.Prelude.{not, ◌==◌, unwrap_or, slice_get}
+use Rattle.std.specs.Prelude.{not, ◌==◌, unwrap_or}
 use Rattle.std.specs.List.{find, filter, flat_map, list_any}
 use Rattle.std.proofs.lemmas.Bool.{false≢true}
 use Rattle.std.proofs.lemmas.Bool.Decides.{Decides-eqb}
@@ -17,12 +17,12 @@ use Rattle.ring_machine.specs.WellFormed.{are_distinct}
 use Rattle.ring_machine.proofs.First.{In, filter-in}
 use Rattle.ring_machine.proofs.Neighbours.{in-map, in-flat_map}
 use Rattle.ring_machine.proofs.Order.{and_both}
-use Rattle.ring_machine.proofs.Removal.{not_true}
-use Rattle.arc_store.specs.declared.names.RingName.{RingName}
-use Rattle.arc_store.specs.Readers.{Shown, shown, element, ring_at}
+use Rattle.map_frame.specs.declared.names.RingName.{RingName}
+use Rattle.map_frame.specs.Readers.{Shown, shown, element, ring_at}
 use Rattle.ring_machine.proofs.Members.{contains_in, in_contains, in_filter, in_mapped, in_flat, any_in, in_any}
-use Rattle.arc_store.proofs.NameLists.{element_is}
-use Rattle.arc_store.proofs.RingReads.{in_get}
+use Rattle.map_frame.proofs.NamedForgotten.{element_is}
+use Rattle.map_frame.proofs.ReadFeatures.{in_get}
+use Rattle.arc_store.proofs.FrameNames.{ring_named}
 use Rattle.point_queries.specs.Users.{HasOne, ListsUsers, IsSorted}
 use Rattle.point_queries.proofs.Ascending.{numbers_are}
 
@@ -40,35 +40,12 @@ found_in n (f ∷ fs) g e = by (f.number == n) refl e (found_in n fs g)
         (inl same, ap (λ (z : Feature). z.number) (sym same) ∙ (Decides-eqb f.number n).0 t)
     by false t h rest = let k = rest h in (inr k.0, k.1)
 
-pub in_found : (fs : List Feature) → are_distinct (map (λ f. f.number) fs) ≡ true → (g : Feature) → In g fs
-    → find (λ f. f.number == g.number) fs ≡ Some g
-in_found [] d g i = absurd i
-in_found (f ∷ fs) d g (inl e) =
-    ap (λ b. cond b (Some f) (find (λ f. f.number == g.number) fs)) ((Decides-eqb f.number g.number).1 (ap (λ (z : Feature). z.number) e))
-    ∙ ap Some e
-in_found (f ∷ fs) d g (inr i) =
-    by (f.number == g.number) refl (and_both (not (list_any (λ m. m == f.number) (map (λ f. f.number) fs))) (are_distinct (map (λ f. f.number) fs)) d)
-    (λ k. in_found fs k g i)
-  where
-    by : (b : Bool) → (f.number == g.number) ≡ b
-        → (not (list_any (λ m. m == f.number) (map (λ f. f.number) fs)) ≡ true) × (are_distinct (map (λ f. f.number) fs) ≡ true)
-        → (are_distinct (map (λ f. f.number) fs) ≡ true → find (λ f. f.number == g.number) fs ≡ Some g)
-        → cond b (Some f) (find (λ f. f.number == g.number) fs) ≡ Some g
-    by true t k rest =
-        absurd (false≢true (sym (not_true _ k.0) ∙ in_any (λ m. m == f.number) g.number (map (λ f. f.number) fs) (in-map (λ f. f.number) g fs i) ((Decides-eqb g.number f.number).1 (sym ((Decides-eqb f.number g.number).0 t)))))
-    by false t k rest = rest k.1
-
 -- ---- rings by their names
 
 mapped_some : {X Y : Type 0} (f : X → Y) (o : Option X) (y : Y) → option_map f o ≡ Some y
     → (x : X) × (o ≡ Some x) × (f x ≡ y)
 mapped_some f None y e = absurd cc
 mapped_some f (Some x) y e = (x, refl, ap (λ o. unwrap_or o y) e)
-
-pub place_of : {X : Type 0} (xs : List X) (x : X) → In x xs → (i : ℕ) × (slice_get xs i ≡ Some x)
-place_of [] x i = absurd i
-place_of (y ∷ xs) x (inl e) = (0, ap Some e)
-place_of (y ∷ xs) x (inr i) = let k = place_of xs x i in (suc k.0, k.1)
 
 -- a ring with a name is a ring of the feature that the name has
 pub named_ring : (d : Document) (name : RingName) (ps : List Position)
@@ -81,20 +58,6 @@ named_ring d name ps e =
     let at = found_in name.feature (features d) g.0 g.1 in
     let polygon : In a.0 (g.0).polygons = subst (In a.0) (sym g.2) (in_get b.0 name.polygon a.0 b.2) in
     (g.0, at.0, at.1, in-flat_map (λ (polygon : List (List Position)). polygon) a.0 ps (g.0).polygons polygon (in_get a.0 name.ring ps a.2))
-
--- each ring of a feature has a name
-pub ring_named : (d : Document) → are_distinct (map (λ f. f.number) (features d)) ≡ true
-    → (g : Feature) → In g (features d) → (ps : List Position) → In ps (rings_of g)
-    → (name : RingName) × (name.feature ≡ g.number) × (ring_at d name.feature name.polygon name.ring ≡ Some ps)
-ring_named d distinct g i ps h =
-    let a = in_flat (λ (polygon : List (List Position)). polygon) ps g.polygons h in
-    let polygon = place_of g.polygons a.0 a.1 in
-    let ring = place_of a.0 ps a.2 in (
-      record { feature = g.number; polygon = polygon.0; ring = ring.0 },
-      refl,
-      ap (λ o. element (element (option_map (λ f. f.polygons) o) polygon.0) ring.0) (in_found (features d) distinct g i)
-          ∙ ap (λ o. element o ring.0) polygon.1 ∙ ring.1,
-    )
 
 -- ---- edges and segments of a feature
 

@@ -10,7 +10,7 @@ use Rattle.grid_geometry.specs.Orientation.{is_on}
 use Rattle.grid_geometry.specs.Segment.{Segment, segment}
 use Rattle.ring_machine.specs.Document.{Document}
 use Rattle.ring_machine.proofs.First.{in-append, in_left, in_right}
-use Rattle.arc_store.specs.declared.names.RingName.{RingName}
+use Rattle.map_frame.specs.declared.names.RingName.{RingName}
 use Rattle.arc_store.specs.Named.{RingHas, ListsRings}
 use Rattle.ring_machine.proofs.Members.{contains_in, in_contains}
 use Rattle.point_queries.specs.Users.{ListsUsers, on_edge}

@@ -8,7 +8,7 @@ use Rattle.grid_geometry.specs.Position.{Position}
 use Rattle.ring_machine.specs.Document.{Document, Feature}
 use Rattle.ring_machine.specs.Parts.{features, feature, has_feature, rings_of, size}
 use Rattle.ring_machine.specs.Refusals.{feature_at, or_else, no_feature}
-use Rattle.arc_store.specs.Readers.{Shown, shown, element, ring_at}
+use Rattle.map_frame.specs.Readers.{Shown, shown, element, ring_at}
 
 -- the ring with these numbers, and none where there is no such ring
 ring_is : (d : Document) (n polygon ring : ℕ) → unwrap_or (ring_at d n polygon ring) [] ≡ get_or (get_or (feature_at d n).polygons polygon []) ring []

@@ -1,5 +1,5 @@
 -- What stands an odd number of times, and the segments that count for a position.
-use Rattle.std.specs.Prelude.{◌≡◌, ◌++◌, ◌==◌, ◌&&◌, not, ℕ, Bool, false, true, pos, is_some, unwrap_or}
+use Rattle.std.specs.Prelude.{◌≡◌, ◌++◌, ◌==◌, ◌&&◌, not, ℕ, Bool, false, pos, is_some, unwrap_or}
 use Rattle.std.specs.Prelude.{List, [], ◌∷◌, Contains, IsTrue, Option}
 use Rattle.std.specs.List.{list_any}
 use Rattle.std.specs.BTreeSet.{BTreeSet, contains}
@@ -7,12 +7,12 @@ use Rattle.std.specs.Ordering.{nat_cmp, ordering_then}
 use Rattle.std.specs.declared.cmp.Ordering.{Ordering}
 use Rattle.grid_geometry.specs.Position.{Position}
 use Rattle.grid_geometry.specs.Ring.{is_counted, xor}
-use Rattle.grid_geometry.specs.Segment.{Segment, Box, box_of, boxes_meet, segment, segment_eq}
+use Rattle.grid_geometry.specs.Segment.{Segment, Box, segment, segment_eq}
 use Rattle.ring_machine.specs.Document.{Document}
 use Rattle.ring_machine.specs.Parts.{is_segment}
 use Rattle.ring_machine.specs.Ring.{segments}
-use Rattle.arc_store.specs.declared.names.RingName.{RingName}
-use Rattle.arc_store.specs.Readers.{ring_at}
+use Rattle.map_frame.specs.declared.names.RingName.{RingName}
+use Rattle.map_frame.specs.Readers.{ring_at}
 use Rattle.point_queries.specs.declared.odd.PolygonName.{PolygonName}
 
 -- an odd number of the elements pass the test

@@ -6,7 +6,7 @@ use Rattle.grid_geometry.specs.Position.{Position}
 use Rattle.grid_geometry.specs.Ring.{Edge}
 use Rattle.grid_geometry.specs.Segment.{Segment, segment}
 use Rattle.ring_machine.specs.Document.{Document}
-use Rattle.arc_store.specs.declared.names.RingName.{RingName}
+use Rattle.map_frame.specs.declared.names.RingName.{RingName}
 use Rattle.arc_store.specs.Named.{RingHas}
 
 -- the edge of a segment on which p lies

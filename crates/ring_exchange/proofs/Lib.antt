@@ -9,4 +9,5 @@ pub mod Exchanged
 pub mod Numbered
 pub mod Keys
 pub mod Series
+pub mod Staying
 pub mod NothingLaid

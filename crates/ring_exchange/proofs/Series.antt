@@ -1,7 +1,7 @@
 -- Rings that are laid one after the other.
 use Rattle.std.proofs.Common.{◌≡◌, ◌≢◌, ℕ, Bool, true, false, refl, sym, ap, ap₂, ◌∙◌, subst}
-use Rattle.std.proofs.Common.{List, [], ◌∷◌, ◌++◌, map, ◌⊎◌, inl, inr, Some, None, drop, get_or, ◌||◌, ◌&&◌, arith}
-use Rattle.std.specs.Prelude.{Contains, Option, ◌==◌, not, unwrap_or}
+use Rattle.std.proofs.Common.{List, [], ◌∷◌, ◌++◌, map, ◌⊎◌, inl, inr, Some, None, is_some, drop, get_or, ◌||◌, ◌&&◌, arith}
+use Rattle.std.specs.Prelude.{Contains, IsTrue, Option, ◌==◌, not, unwrap_or}
 use Rattle.std.specs.FinMap as table
 use Rattle.std.proofs.lemmas.Bool.Decides.{Decides-eqb}
 use Rattle.std.proofs.lemmas.List.{map_push}
@@ -19,7 +19,7 @@ use Rattle.arc_tables.specs.Rings.{Rings, edges, begins}
 use Rattle.map_opening.proofs.AddedRings.{distinct_more, same_map, ring_here, ring_other}
 use Rattle.map_opening.proofs.KeyRings.{begins_edges}
 use Rattle.map_opening.proofs.Places.{place_is, kept_place, IsKept}
-use Rattle.ring_exchange.specs.Laid.{numbers_of, AreThere, AreAdded, AreGone, AreAppended, KeepsPlaces, ring_at}
+use Rattle.ring_exchange.specs.Laid.{numbers_of, AreThere, AreAdded, AreGone, KeepsPlaces, ring_at}
 use Rattle.ring_exchange.specs.Standing.{Stands}
 use Rattle.ring_exchange.specs.declared.laid.LaidRing.{LaidRing}
 use Rattle.ring_exchange.proofs.Exchanged.{same_places, same_segments}
@@ -105,6 +105,21 @@ module _ {A : Type 0} where
         new_free (inl c) = a.free x.number c
         new_free (inr f) = sym (a.others x.number f) ∙ free
 
+  -- each number has a ring
+  pub number_there : (m : Rings) (laid : List (LaidRing A)) → AreThere m laid → (r : ℕ) → In r (numbers_of laid)
+      → IsTrue (table.contains_key m r)
+  number_there m laid t r i =
+      let y = number_in laid r i in
+      ap is_some (ap (table.get m) (sym y.2) ∙ agree_in (under m) along laid t.along y.0 y.1)
+
+  -- they are there still when more come
+  pub there_still : (m m' : Rings) (laid : List (LaidRing A)) → AreThere m laid
+      → ((r : ℕ) (es : List Edge) → table.get m r ≡ Some es → table.get m' r ≡ Some es) → AreThere m' laid
+  there_still m m' laid t kept = record {
+    along = same_map (under m') along laid (λ y i. kept y.number (edges y.keys.items) (agree_in (under m) along laid t.along y i));
+    different = t.different;
+  }
+
   -- ---- positions
 
   abbrev positions : Placement → LaidRing A → List Position
@@ -136,16 +151,6 @@ module _ {A : Type 0} where
           ap₂ (λ z w. z ∷ w)
           (ap (λ o. map (place p) (begins (unwrap_or o []))) (h y (inl refl)) ∙ ap (map (place p)) (begins_edges y.keys.items))
           (by ls (λ z i. h z (inr i)))
-
-  pub appended : (p : Placement) (old m : Rings) (laid : List (LaidRing A)) → AreThere m laid → AreAdded old m (numbers_of laid)
-      → (ps : List (List Position)) → map (positions p) laid ≡ ps → (before after : List ℕ)
-      → after ≡ before ++ numbers_of laid → AreAppended p old m ps before after
-  appended p old m laid t a ps at before after e = record {
-    found = numbers_of laid;
-    appended = e;
-    added = a;
-    at = rings_at p m laid t ∙ at;
-  }
 
 -- rings that came and went: the tables are as they were
 pub back_again : (p q r : Placement) (m now m' : Rings) (h i : SegmentSet) (numbers numbers' : List ℕ) → Stands p m h

@@ -1,5 +1,5 @@
 -- Rings that were laid, or are to be taken out.
-use Rattle.std.specs.Prelude.{ℕ, ◌≡◌, List, [], ◌++◌, map, Some, None, Contains, unwrap_or, IsTrue}
+use Rattle.std.specs.Prelude.{ℕ, ◌≡◌, List, [], map, Some, None, Contains, unwrap_or, IsTrue}
 use Rattle.std.specs.FinMap as table
 use Rattle.grid_geometry.specs.Position.{Position}
 use Rattle.ring_machine.specs.WellFormed.{are_distinct}
@@ -23,14 +23,6 @@ pub record AreAdded (old new : Rings) (numbers : List ℕ) : Type 0 where
 pub record AreGone (old new : Rings) (numbers : List ℕ) : Type 0 where
   pub gone : (r : ℕ) → Contains numbers r → table.get new r ≡ None
   pub others : (r : ℕ) → ¬ (Contains numbers r) → table.get new r ≡ table.get old r
-
--- what was appended are the numbers of these rings, which came, in order
-pub record AreAppended (places : Placement) (old new : Rings) (rings : List (List Position))
-    (before after : List ℕ) : Type 0 where
-  pub found : List ℕ
-  pub appended : after ≡ before ++ found
-  pub added : AreAdded old new found
-  pub at : map (ring_at places new) found ≡ rings
 
 -- each vertex of the old map is where it was
 abbrev pub KeepsPlaces : Placement → Placement → Type 0

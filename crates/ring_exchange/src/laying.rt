@@ -1,5 +1,5 @@
 //! Rings laid into the tables.
-ghost use Rattle.std.specs.Prelude.{◌≡◌, ◌≤◌, ◌+◌, ◌++◌, [], None, IsTrue, length, map};
+ghost use Rattle.std.specs.Prelude.{◌≡◌, ◌≤◌, ◌+◌, [], None, IsTrue, length, map};
 ghost use Rattle.std.specs.Prelude.{IfOk, OnOk, OnErr};
 ghost use Rattle.std.specs.List.{list_all, sum_by};
 ghost use Rattle.std.specs.FinMap as table;
@@ -11,7 +11,7 @@ ghost use Rattle.vertex_index.specs.Placement.{AreDistinct, place};
 ghost use Rattle.arc_tables.specs.Rings.{edges};
 ghost use Rattle.map_opening.specs.Keyed.{ArePut};
 ghost use Rattle.map_opening.specs.Laying.{IsRound};
-ghost use Rattle.ring_exchange.specs.Laid.{numbers_of, AreThere, AreAdded, AreAppended, KeepsPlaces};
+ghost use Rattle.ring_exchange.specs.Laid.{numbers_of, ring_at, AreThere, AreAdded, KeepsPlaces};
 ghost use Rattle.ring_exchange.specs.Standing.{Stands};
 ghost use Rattle.ring_exchange.specs.Steps.{AreKeyed, HoldsWith};
 
@@ -153,6 +153,8 @@ fn lay_each<I: SegIndex, A: Allocator + Copy>(
         ≡ map (λ ring. ring.items) rings.now) }
     ensures kept { KeepsPlaces vertices.old vertices.new }
     ensures counted { segments.new ≡ set.len (I.held index.new) }
+    ensures few { OnOk result (segments.new
+        ≤ segments.old + sum_by length (map (λ ring. ring.items) rings.now)) }
     ensures cells { I.cells index.new ≡ I.cells index.old }
 {
     for ring in rings {
@@ -162,18 +164,8 @@ fn lay_each<I: SegIndex, A: Allocator + Copy>(
     Ok(())
 }
 
-/// Appends the numbers of rings, for which there is room.
-fn push_numbers<A: Allocator + Copy>(laid: &[LaidRing<A>], numbers: &mut Vec<usize, A>)
-    requires { vec_len numbers.old + length laid.now ≤ vec_capacity numbers.old }
-    ensures { numbers.new.items ≡ numbers.old.items ++ numbers_of laid.now }
-{
-    for ring in laid {
-        numbers.push_reserved(ring.number);
-    }
-}
-
-/// Lays these rings, and appends their numbers, in order. Fails for want of memory alone, and then
-/// nothing has changed.
+/// Lays these rings, and answers them in order, so that they can be taken out again in no memory.
+/// Fails for want of memory alone, and then nothing has changed.
 pub fn lay_rings<I: SegIndex, A: Allocator + Copy>(
     alloc: A,
     vertices: &mut Vertices<A>,
@@ -181,31 +173,29 @@ pub fn lay_rings<I: SegIndex, A: Allocator + Copy>(
     index: &mut I,
     segments: &mut usize,
     rings: &[Vec<Pos, A>],
-    numbers: &mut Vec<usize, A>,
-) -> Result<(), AllocError>
+) -> Result<Vec<LaidRing<A>, A>, AllocError>
     requires stands { Stands vertices.old borders.old (I.held index.old) }
     requires rings { IsTrue (list_all is_ring (map (λ ring. ring.items) rings.now)) }
     requires counted { segments.old ≡ set.len (I.held index.old) }
     requires small { segments.old
         + sum_by length (map (λ ring. ring.items) rings.now) ≤ 8000000 }
     ensures stands { Stands vertices.new borders.new (I.held index.new) }
-    ensures laid { OnOk result (AreAppended vertices.new borders.old borders.new
-        (map (λ ring. ring.items) rings.now) numbers.old.items numbers.new.items) }
+    ensures there { IfOk result (λ laid. AreThere borders.new laid.items) }
+    ensures added { IfOk result (λ laid. AreAdded borders.old borders.new (numbers_of laid.items)) }
+    ensures at { IfOk result (λ laid. map (ring_at vertices.new borders.new) (numbers_of laid.items)
+        ≡ map (λ ring. ring.items) rings.now) }
     ensures kept { KeepsPlaces vertices.old vertices.new }
     ensures borders { OnErr result (borders.new ≡ borders.old) }
     ensures places { OnErr result (vertices.new ≡ vertices.old) }
     ensures held { OnErr result (I.held index.new ≡ I.held index.old) }
-    ensures numbers { OnErr result (numbers.new.items ≡ numbers.old.items) }
     ensures counted { segments.new ≡ set.len (I.held index.new) }
+    ensures few { OnOk result (segments.new
+        ≤ segments.old + sum_by length (map (λ ring. ring.items) rings.now)) }
     ensures cells { I.cells index.new ≡ I.cells index.old }
 {
-    numbers.reserve(rings.len())?;
     let mut laid = Vec::with_capacity(alloc, rings.len())?;
     match lay_each(alloc, vertices, borders, index, segments, rings, &mut laid) {
-        Ok(()) => {
-            push_numbers(laid.as_slice(), numbers);
-            Ok(())
-        }
+        Ok(()) => Ok(laid),
         Err(e) => {
             let some = laid.as_slice();
             take_out_rings(vertices, borders, index, segments, some);

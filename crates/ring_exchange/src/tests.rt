@@ -47,14 +47,14 @@ fn two_squares<R: Abort, A: Allocator + Copy>(
     Ok(rings)
 }
 
-/// The tables of a map, and the numbers of the rings that were laid.
+/// The tables of a map, and the rings that were laid.
 #[derive(Drop)]
 struct Tables<A: Allocator + Copy = Global> {
     vertices: Vertices<A>,
     borders: Borders<A>,
     index: ListIndex<A>,
     segments: usize,
-    numbers: Vec<usize, A>,
+    rings: Vec<LaidRing<A>, A>,
 }
 
 impl<A: Allocator + Copy> Tables<A> {
@@ -68,7 +68,7 @@ impl<A: Allocator + Copy> Tables<A> {
             borders: Borders::new(alloc),
             index: ListIndex::new(alloc),
             segments: 0,
-            numbers: Vec::new(alloc),
+            rings: Vec::new(alloc),
         }
     }
 
@@ -82,15 +82,15 @@ impl<A: Allocator + Copy> Tables<A> {
         ensures counted { self.new.segments ≡ set.len self.new.index }
     {
         assert!(rt; self.segments < 100);
-        lay_rings(
+        self.rings = lay_rings(
             alloc,
             &mut self.vertices,
             &mut self.borders,
             &mut self.index,
             &mut self.segments,
             rings,
-            &mut self.numbers,
-        )
+        )?;
+        Ok(())
     }
 
     /// The ring with a number, which stands.
@@ -134,7 +134,7 @@ impl<A: Allocator + Copy> Tables<A> {
 
     /// How many rings, vertices and segments there are.
     fn counts(&self) -> (usize, usize, usize) {
-        (self.numbers.len(), self.vertices.len(), self.segments)
+        (self.rings.len(), self.vertices.len(), self.segments)
     }
 }
 
@@ -159,10 +159,10 @@ fn rings_are_gathered_by_number(rt: HostRuntime) -> Result<(), Fail> {
     let rings = two_squares(&rt, alloc)?;
     let mut tables = Tables::new(alloc);
     tables.lay(&rt, alloc, rings.as_slice())?;
-    let [_, number] = tables.numbers.as_slice() else {
+    let [_, right] = tables.rings.as_slice() else {
         panic!(rt; "two rings");
     };
-    let laid = tables.gather(&rt, alloc, *number)?;
+    let laid = tables.gather(&rt, alloc, right.number)?;
     let [ring] = laid.as_slice() else {
         panic!(rt; "one ring");
     };
@@ -172,7 +172,7 @@ fn rings_are_gathered_by_number(rt: HostRuntime) -> Result<(), Fail> {
         tables.key(&rt, 20, 10),
         tables.key(&rt, 10, 10),
     ];
-    assert_eq!(rt; ring.number, *number);
+    assert_eq!(rt; ring.number, right.number);
     assert_eq!(rt; ring.keys.as_slice(), want.as_slice());
     Ok(())
 }
@@ -184,10 +184,10 @@ fn squares_taken_out(rt: HostRuntime) -> Result<(), Fail> {
     let rings = two_squares(&rt, alloc)?;
     let mut tables = Tables::new(alloc);
     tables.lay(&rt, alloc, rings.as_slice())?;
-    let [left, right] = tables.numbers.as_slice() else {
+    let [left, right] = tables.rings.as_slice() else {
         panic!(rt; "two rings");
     };
-    let (left, right) = (*left, *right);
+    let (left, right) = (left.number, right.number);
     tables.take_out(&rt, alloc, left)?;
     assert_eq!(rt; (tables.vertices.len(), tables.segments), (4, 4));
     assert_eq!(rt; tables.vertices.key_of(at(&rt, 0, 0)), None);

@@ -27,6 +27,3 @@ pub use rotation::canonical;
 pub use same_sides::{passed_alike, same_side};
 pub use sides::Border;
 pub use stretch::{first_part, second_part};
-
-#[cfg(test)]
-mod tests;

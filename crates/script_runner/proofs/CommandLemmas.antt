@@ -4,43 +4,44 @@ use Rattle.std.specs.Str.{IsUtf8, IsAscii, bytes_eq}
 use Rattle.std.proofs.lemmas.Bool.{false≢true}
 use Rattle.std.proofs.lemmas.Bool.Decides.{nat_tests}
 use Rattle.std.specs.Fmt.{decimal, signed_decimal}
-use Rattle.std.specs.List.{take_while}
-use Rattle.std.specs.Int.{FitsUnsignedBits}
-use Rattle.std.proofs.lemmas.Str.{IsUtf8-from_ascii, IsAscii-append}
+use Rattle.std.specs.List.{take_while, AllByRecursion}
+use Rattle.std.specs.Prelude.{Result, Ok, Err, IfOk}
+use Rattle.std.proofs.lemmas.Str.{IsUtf8-from_ascii, IsUtf8-append, IsAscii-append}
 use Rattle.std.proofs.lemmas.Str.Ascii.{IsAscii-cons}
 use Rattle.grid_geometry.specs.Position.{Position, InRange}
-use Rattle.ring_machine.specs.Command.{Command, Move, Insert, Remove, Thin, Area, At, Neighbours, Rings, Count, Show}
-use Rattle.script_runner.specs.Lines.{spaced, spaced_position, most_bound, Asks, Says}
-use Rattle.script_runner.specs.Words.{is_letter, EndsWord, IsSpaced, IsPlace}
-use Rattle.script_runner.specs.Commands.{says_of, IsPositionTail, IsFeatureTail, IsMoveTail, IsInsertTail, IsRemoveTail, IsThinTail, IsAreaTail, IsAtTail, IsNeighboursTail, IsRingsTail, IsCountTail, IsDocumentTail}
+use Rattle.ring_machine.specs.Document.{Text}
+use Rattle.ring_machine.specs.Command.{Command, Move, Insert, Remove, Thin, Split, Merge, Rename, Delete, Area, At, Neighbours, Rings, Count, Show}
+use Rattle.topo_outline.specs.Kept.{IsName}
+use Rattle.map_text.specs.Strings.{string_text}
+use Rattle.script_runner.specs.Lines.{spaced, spaced_position, spaced_token, spaced_path, most_bound, Gives, IsPath, AreNaming, AreCutting, Asks, Says}
+use Rattle.script_runner.specs.Words.{is_letter, EndsWord, IsFeature, IsPlace, IsToken, IsPathTail}
+use Rattle.script_runner.specs.Commands.{says_of, IsRefused, IsPositionTail, IsFeatureTail, IsMoveTail, IsInsertTail, IsRemoveTail, IsThinTail, IsSplitTail, IsMergeTail, IsRenameTail, IsDeleteTail, IsAreaTail, IsAtTail, IsNeighboursTail, IsRingsTail, IsCountTail, IsDocumentTail}
 use Rattle.script_runner.specs.declared.lines.Line.{Line}
-use Rattle.script_runner.proofs.WordLemmas.{IsWord, rest_of, word-taken, word-rest, taken-rest, spaced_once, place_once, same_behind, number_ascii, fits_in_range, wide_once, wide_ascii}
+use Rattle.script_runner.specs.declared.lines.LineFault.{LineFault}
+use Rattle.script_runner.specs.declared.lines.LineFault.TheVariants as fault
+use Rattle.script_runner.proofs.WordLemmas.{IsWord, rest_of, word-taken, word-rest, taken-rest, feature_once, place_once, same_behind, number_ascii, fits_in_range, wide_once, wide_ascii}
+use Rattle.script_runner.proofs.TokenLemmas.{path_unmarked, token_once}
+use Rattle.script_runner.proofs.PathLemmas.{path_ends}
+use Rattle.script_runner.proofs.IdLemmas.{gives, gives_marked, gives_utf8}
 
 -- what the test says of a list that is not empty
 pub not_empty : (xs : List ℕ) → (length xs == 0) ≡ false → xs ≡ [] → ⊥
 not_empty [] h e = false≢true (sym h)
 not_empty (x ∷ xs) h e = cc
 
-pub is_nil : (xs : List ℕ) → (length xs == 0) ≡ true → xs ≡ []
-is_nil [] h = refl
-is_nil (x ∷ xs) h = let k : length xs + 1 ≡ 0 = grind (arith, nat_tests) in absurd (omega arith)
-
 -- ---- the number of a feature, and the questions that have one
 
-feature_spaced : (tail : List ℕ) (n : ℕ) → IsFeatureTail tail n → IsSpaced tail (pos n) []
-feature_spaced tail n h = record { whole = h.0 ∙ sym (append-nil (spaced (pos n))); ends = tt; fits = record { sfits = omega (arith, h.1) } }
+feature_tail : (tail : List ℕ) (n : ℕ) → IsFeatureTail tail n → IsFeature tail n []
+feature_tail tail n h = record { whole = h.0 ∙ sym (append-nil (spaced (pos n))); ends = tt; range = h.1 }
 
-pub feature_none : (tail : List ℕ) (n : ℕ) → ((z : ℤ) (rest : List ℕ) → ¬ IsSpaced tail z rest) → IsFeatureTail tail n → ⊥
-feature_none tail n never h = never (pos n) [] (feature_spaced tail n h)
+pub feature_none : (tail : List ℕ) (n : ℕ) → ((m : ℕ) (rest : List ℕ) → ¬ IsFeature tail m rest) → IsFeatureTail tail n → ⊥
+feature_none tail n never h = never n [] (feature_tail tail n h)
 
-feature_once : (tail rest : List ℕ) (z : ℤ) (n : ℕ) → IsSpaced tail z rest → IsFeatureTail tail n → (z ≡ pos n) × (rest ≡ [])
-feature_once tail rest z n s h = spaced_once tail rest [] z (pos n) s (feature_spaced tail n h)
+pub feature_long : (tail rest : List ℕ) (m n : ℕ) → IsFeature tail m rest → (rest ≡ [] → ⊥) → IsFeatureTail tail n → ⊥
+feature_long tail rest m n s more h = more (feature_once tail rest [] m n s (feature_tail tail n h)).1
 
-pub feature_long : (tail rest : List ℕ) (z : ℤ) (n : ℕ) → IsSpaced tail z rest → (rest ≡ [] → ⊥) → IsFeatureTail tail n → ⊥
-feature_long tail rest z n s more h = more (feature_once tail rest z n s h).1
-
-pub feature_huge : (tail rest : List ℕ) (z : ℤ) (n : ℕ) → IsSpaced tail z rest → ((m : ℕ) → z ≡ pos m → m < 2 ^ 32 → ⊥) → IsFeatureTail tail n → ⊥
-feature_huge tail rest z n s out h = out n (feature_once tail rest z n s h).0 h.1
+pub feature_alone : (tail rest : List ℕ) (n : ℕ) → IsFeature tail n rest → rest ≡ [] → IsFeatureTail tail n
+feature_alone tail rest n s e = (s.whole ∙ ap (λ r. spaced (pos n) ++ r) e ∙ append-nil (spaced (pos n)), s.range)
 
 pub area_none : (tail : List ℕ) (c : Command) → ((n : ℕ) → ¬ IsFeatureTail tail n) → IsAreaTail tail c → ⊥
 area_none tail (Area n) never h = never n h
@@ -62,8 +63,108 @@ pub document_long : (tail : List ℕ) (c : Command) → (tail ≡ [] → ⊥) �
 document_long tail Show more h = more h
 document_long tail _ more h = h
 
-pub fits_along : (n : ℕ) (y z : ℤ) → y ≡ z → z ≡ pos n → n < 2 ^ 32 → FitsUnsignedBits 32 y
-fits_along n y z e f h = subst (FitsUnsignedBits 32) (sym (e ∙ f)) h
+pub delete_none : (tail : List ℕ) (c : Command) → ((n : ℕ) → ¬ IsFeatureTail tail n) → IsDeleteTail tail c → ⊥
+delete_none tail (Delete n) never h = never n h
+delete_none tail _ never h = h
+
+-- ---- a merging
+
+merge_first : (tail : List ℕ) (n m : ℕ) → IsMergeTail tail (Merge n m) → IsFeature tail n (spaced (pos m))
+merge_first tail n m h = record { whole = h.0; ends = refl; range = h.1.0 }
+
+pub merge_none : (tail : List ℕ) (c : Command) → ((n : ℕ) (rest : List ℕ) → ¬ IsFeature tail n rest) → IsMergeTail tail c → ⊥
+merge_none tail (Merge n m) never h = never n (spaced (pos m)) (merge_first tail n m h)
+merge_none tail _ never h = h
+
+pub merge_half : (tail rest : List ℕ) (k : ℕ) (c : Command) → IsFeature tail k rest → ((n : ℕ) → ¬ IsFeatureTail rest n) → IsMergeTail tail c → ⊥
+merge_half tail rest k (Merge n m) s never h = never m ((feature_once tail rest (spaced (pos m)) k n s (merge_first tail n m h)).1, h.1.1)
+merge_half tail rest k _ s never h = h
+
+pub merge_found : (tail rest : List ℕ) (n m : ℕ) → IsFeature tail n rest → IsFeatureTail rest m → IsMergeTail tail (Merge n m)
+merge_found tail rest n m s k = (s.whole ∙ ap (λ r. spaced (pos n) ++ r) k.0, (s.range, k.1))
+
+-- ---- a new id
+
+naming_first : (tail : List ℕ) (n : ℕ) (id : Text) → (w : AreNaming tail n id) → IsFeature tail n (spaced_token w.token)
+naming_first tail n id w = record { whole = w.whole; ends = refl; range = w.number }
+
+-- the token of a naming, and its end
+naming_token : (tail rest token end : List ℕ) (k n : ℕ) (id : Text) → IsFeature tail k rest → IsToken rest token end → (w : AreNaming tail n id) → (token ≡ w.token) × (end ≡ [])
+naming_token tail rest token end k n id s t w =
+    let same = (feature_once tail rest (spaced_token w.token) k n s (naming_first tail n id w)).1 in
+    let there : IsToken rest w.token [] = record { whole = same ∙ sym (append-nil (spaced_token w.token)); marked = gives_marked w.token id w.gives; last = tt } in
+    token_once rest token w.token end [] t there
+
+pub rename_none : (tail : List ℕ) (c : Command) → ((n : ℕ) (rest : List ℕ) → ¬ IsFeature tail n rest) → IsRenameTail tail c → ⊥
+rename_none tail (Rename n id) never w = never n (spaced_token w.token) (naming_first tail n id w)
+rename_none tail _ never h = h
+
+pub rename_half : (tail rest : List ℕ) (k : ℕ) (c : Command) → IsFeature tail k rest → ((token end : List ℕ) → ¬ IsToken rest token end) → IsRenameTail tail c → ⊥
+rename_half tail rest k (Rename n id) s never w =
+    let same = (feature_once tail rest (spaced_token w.token) k n s (naming_first tail n id w)).1 in
+    never w.token [] (record { whole = same ∙ sym (append-nil (spaced_token w.token)); marked = gives_marked w.token id w.gives; last = tt })
+rename_half tail rest k _ s never h = h
+
+pub rename_long : (tail rest token end : List ℕ) (k : ℕ) (c : Command) → IsFeature tail k rest → IsToken rest token end → (end ≡ [] → ⊥) → IsRenameTail tail c → ⊥
+rename_long tail rest token end k (Rename n id) s t more w = more (naming_token tail rest token end k n id s t w).1
+rename_long tail rest token end k _ s t more h = h
+
+pub rename_odd : (tail rest token end : List ℕ) (k : ℕ) (c : Command) → IsFeature tail k rest → IsToken rest token end → ((name : List ℕ) → ¬ IsName token name) → IsRenameTail tail c → ⊥
+rename_odd tail rest token end k (Rename n id) s t never w =
+    never w.gives.name (subst (λ x. IsName x w.gives.name) (sym (naming_token tail rest token end k n id s t w).0) w.gives.stands)
+rename_odd tail rest token end k _ s t never h = h
+
+pub rename_found : (tail rest token end : List ℕ) (n : ℕ) (name : List ℕ) → IsFeature tail n rest → IsToken rest token end → end ≡ [] → IsName token name → IsRenameTail tail (Rename n (string_text name))
+rename_found tail rest token end n name s t e h = record {
+  token = token;
+  whole = s.whole ∙ ap (λ r. spaced (pos n) ++ r) (t.whole ∙ ap (λ r. spaced_token token ++ r) e ∙ append-nil (spaced_token token));
+  number = s.range;
+  gives = gives token name h;
+}
+
+-- ---- a cut
+
+cutting_first : (tail : List ℕ) (n : ℕ) (id : Text) (path : List Position) → (w : AreCutting tail n id path) → IsFeature tail n (spaced_token w.token ++ spaced_path path)
+cutting_first tail n id path w = record { whole = w.whole; ends = refl; range = w.number }
+
+cutting_second : (tail : List ℕ) (n : ℕ) (id : Text) (path : List Position) → (w : AreCutting tail n id path) → IsToken (spaced_token w.token ++ spaced_path path) w.token (spaced_path path)
+cutting_second tail n id path w = record { whole = refl; marked = gives_marked w.token id w.gives; last = path_unmarked path w.along.in_range }
+
+cutting_rest : (tail rest : List ℕ) (k n : ℕ) (id : Text) (path : List Position) → IsFeature tail k rest → (w : AreCutting tail n id path) → IsToken rest w.token (spaced_path path)
+cutting_rest tail rest k n id path s w =
+    subst (λ t. IsToken t w.token (spaced_path path)) (sym (feature_once tail rest (spaced_token w.token ++ spaced_path path) k n s (cutting_first tail n id path w)).1) (cutting_second tail n id path w)
+
+-- the token of a cutting, and its positions
+cutting_token : (tail rest token positions : List ℕ) (k n : ℕ) (id : Text) (path : List Position) → IsFeature tail k rest → IsToken rest token positions → (w : AreCutting tail n id path)
+    → (token ≡ w.token) × (positions ≡ spaced_path path)
+cutting_token tail rest token positions k n id path s t w = token_once rest token w.token positions (spaced_path path) t (cutting_rest tail rest k n id path s w)
+
+pub split_none : (tail : List ℕ) (c : Command) → ((n : ℕ) (rest : List ℕ) → ¬ IsFeature tail n rest) → IsSplitTail tail c → ⊥
+split_none tail (Split n id path) never w = never n (spaced_token w.token ++ spaced_path path) (cutting_first tail n id path w)
+split_none tail _ never h = h
+
+pub split_half : (tail rest : List ℕ) (k : ℕ) (c : Command) → IsFeature tail k rest → ((token end : List ℕ) → ¬ IsToken rest token end) → IsSplitTail tail c → ⊥
+split_half tail rest k (Split n id path) s never w = never w.token (spaced_path path) (cutting_rest tail rest k n id path s w)
+split_half tail rest k _ s never h = h
+
+pub split_off : (tail rest token positions : List ℕ) (k : ℕ) (c : Command) → IsFeature tail k rest → IsToken rest token positions → ((path : List Position) × IsPathTail positions path → ⊥) → IsSplitTail tail c → ⊥
+split_off tail rest token positions k (Split n id path) s t never w = never (path, record { whole = (cutting_token tail rest token positions k n id path s t w).1; along = w.along })
+split_off tail rest token positions k _ s t never h = h
+
+pub split_odd : (tail rest token positions : List ℕ) (k : ℕ) (c : Command) → IsFeature tail k rest → IsToken rest token positions → ((name : List ℕ) → ¬ IsName token name) → IsSplitTail tail c → ⊥
+split_odd tail rest token positions k (Split n id path) s t never w =
+    never w.gives.name (subst (λ x. IsName x w.gives.name) (sym (cutting_token tail rest token positions k n id path s t w).0) w.gives.stands)
+split_odd tail rest token positions k _ s t never h = h
+
+pub split_found : (tail rest token positions : List ℕ) (n : ℕ) (name : List ℕ) (path : List Position) → IsFeature tail n rest → IsToken rest token positions → IsName token name → IsPathTail positions path
+    → IsSplitTail tail (Split n (string_text name) path)
+split_found tail rest token positions n name path s t h along = record {
+  token = token;
+  whole = s.whole ∙ ap (λ r. spaced (pos n) ++ r) (t.whole ∙ ap (λ r. spaced_token token ++ r) along.whole);
+  number = s.range;
+  gives = gives token name h;
+  along = along.along;
+}
 
 -- ---- a move
 
@@ -191,12 +292,16 @@ Behind word tail c =
     (MatchBool (bytes_eq word (codes "insert")) (IsInsertTail tail c)
     (MatchBool (bytes_eq word (codes "remove")) (IsRemoveTail tail c)
     (MatchBool (bytes_eq word (codes "thin")) (IsThinTail tail c)
+    (MatchBool (bytes_eq word (codes "split")) (IsSplitTail tail c)
+    (MatchBool (bytes_eq word (codes "merge")) (IsMergeTail tail c)
+    (MatchBool (bytes_eq word (codes "rename")) (IsRenameTail tail c)
+    (MatchBool (bytes_eq word (codes "delete")) (IsDeleteTail tail c)
     (MatchBool (bytes_eq word (codes "area")) (IsAreaTail tail c)
     (MatchBool (bytes_eq word (codes "at")) (IsAtTail tail c)
     (MatchBool (bytes_eq word (codes "neighbours")) (IsNeighboursTail tail c)
     (MatchBool (bytes_eq word (codes "rings")) (IsRingsTail tail c)
     (MatchBool (bytes_eq word (codes "count")) (IsCountTail tail c)
-    (MatchBool (bytes_eq word (codes "document")) (IsDocumentTail tail c) ⊥)))))))))
+    (MatchBool (bytes_eq word (codes "document")) (IsDocumentTail tail c) ⊥)))))))))))))
 
 -- the word and the rest of a line that begins with a word
 front_word : (line word front args : List ℕ) → IsWord front → EndsWord args → line ≡ front ++ args → word ≡ take_while is_letter line → word ≡ front
@@ -220,6 +325,22 @@ tail_remove line tail _ e h = absurd h
 tail_thin : (line tail : List ℕ) (c : Command) → line ≡ codes "thin" ++ tail → IsThinTail tail c → Asks line c
 tail_thin line tail (Thin (pos t)) e h = (e ∙ ap (λ u. codes "thin" ++ u) h.0, h.1)
 tail_thin line tail _ e h = absurd h
+
+tail_split : (line tail : List ℕ) (c : Command) → line ≡ codes "split" ++ tail → IsSplitTail tail c → Asks line c
+tail_split line tail (Split n id path) e h = (tail, e, h)
+tail_split line tail _ e h = absurd h
+
+tail_merge : (line tail : List ℕ) (c : Command) → line ≡ codes "merge" ++ tail → IsMergeTail tail c → Asks line c
+tail_merge line tail (Merge n m) e h = (e ∙ ap (λ t. codes "merge" ++ t) h.0, h.1)
+tail_merge line tail _ e h = absurd h
+
+tail_rename : (line tail : List ℕ) (c : Command) → line ≡ codes "rename" ++ tail → IsRenameTail tail c → Asks line c
+tail_rename line tail (Rename n id) e h = (tail, e, h)
+tail_rename line tail _ e h = absurd h
+
+tail_delete : (line tail : List ℕ) (c : Command) → line ≡ codes "delete" ++ tail → IsDeleteTail tail c → Asks line c
+tail_delete line tail (Delete n) e h = (e ∙ ap (λ t. codes "delete" ++ t) h.0, h.1)
+tail_delete line tail _ e h = absurd h
 
 tail_area : (line tail : List ℕ) (c : Command) → line ≡ codes "area" ++ tail → IsAreaTail tail c → Asks line c
 tail_area line tail (Area n) e h = (e ∙ ap (λ t. codes "area" ++ t) h.0, h.1)
@@ -255,6 +376,14 @@ module _ (line word tail : List ℕ) (taken : word ≡ take_while is_letter line
   asked_behind (Insert a b q) h = by_front (codes "insert") (spaced_position a ++ (spaced_position b ++ spaced_position q)) (Insert a b q) (search rules) refl h.0 (refl, h.1)
   asked_behind (Remove p) h = by_front (codes "remove") (spaced_position p) (Remove p) (search rules) refl h.0 (refl, h.1)
   asked_behind (Thin (pos t)) h = by_front (codes "thin") (spaced (pos t)) (Thin (pos t)) (search rules) refl h.0 (refl, h.1)
+  asked_behind (Split n id path) h =
+      let (words, e, w) = h in
+      by_front (codes "split") words (Split n id path) (search rules) (subst EndsWord (sym w.whole) refl) e w
+  asked_behind (Merge n m) h = by_front (codes "merge") (spaced (pos n) ++ spaced (pos m)) (Merge n m) (search rules) refl h.0 (refl, h.1)
+  asked_behind (Rename n id) h =
+      let (words, e, w) = h in
+      by_front (codes "rename") words (Rename n id) (search rules) (subst EndsWord (sym w.whole) refl) e w
+  asked_behind (Delete n) h = by_front (codes "delete") (spaced (pos n)) (Delete n) (search rules) refl h.0 (refl, h.1)
   asked_behind (Area n) h = by_front (codes "area") (spaced (pos n)) (Area n) (search rules) refl h.0 (refl, h.1)
   asked_behind (At p) h = by_front (codes "at") (spaced_position p) (At p) (search rules) refl h.0 (refl, h.1)
   asked_behind (Neighbours n) h = by_front (codes "neighbours") (spaced (pos n)) (Neighbours n) (search rules) refl h.0 (refl, h.1)
@@ -264,7 +393,7 @@ module _ (line word tail : List ℕ) (taken : word ≡ take_while is_letter line
   asked_behind _ h = absurd h
 
   whole : line ≡ word ++ tail
-  whole = sym (taken-rest line) ∙ sym (ap₂ (λ w t. w ++ t) taken left)
+  whole = sym (taken-rest is_letter line) ∙ sym (ap₂ (λ w t. w ++ t) taken left)
 
   -- what is found behind the word is what the line asks for
   arm : (front : List ℕ) (Tail : Command → Type 0) → ((c : Command) → Behind front tail c → Tail c) → ((c : Command) → line ≡ front ++ tail → Tail c → Asks line c)
@@ -292,6 +421,24 @@ module _ (line word tail : List ℕ) (taken : word ≡ take_while is_letter line
   pub arm_thin : (o : Option Line) → word ≡ codes "thin" → MatchOption o ((c : Command) → ¬ IsThinTail tail c) (λ l. IsSomeAnd (says_of l) (IsThinTail tail))
       → MatchOption o ((c : Command) → ¬ Asks line c) (λ l. IsSomeAnd (says_of l) (Asks line))
   arm_thin = arm (codes "thin") (IsThinTail tail) (λ c h. h) (tail_thin line tail)
+
+  pub arm_split : {E : Type 0} (r : Result (Option Line) E) → word ≡ codes "split" → IfOk r (λ o. MatchOption o ((c : Command) → ¬ IsSplitTail tail c) (λ l. IsSomeAnd (says_of l) (IsSplitTail tail)))
+      → IfOk r (λ o. MatchOption o ((c : Command) → ¬ Asks line c) (λ l. IsSomeAnd (says_of l) (Asks line)))
+  arm_split (Ok o) is h = arm (codes "split") (IsSplitTail tail) (λ c k. k) (tail_split line tail) o is h
+  arm_split (Err e) is h = h
+
+  pub arm_merge : (o : Option Line) → word ≡ codes "merge" → MatchOption o ((c : Command) → ¬ IsMergeTail tail c) (λ l. IsSomeAnd (says_of l) (IsMergeTail tail))
+      → MatchOption o ((c : Command) → ¬ Asks line c) (λ l. IsSomeAnd (says_of l) (Asks line))
+  arm_merge = arm (codes "merge") (IsMergeTail tail) (λ c h. h) (tail_merge line tail)
+
+  pub arm_rename : {E : Type 0} (r : Result (Option Line) E) → word ≡ codes "rename" → IfOk r (λ o. MatchOption o ((c : Command) → ¬ IsRenameTail tail c) (λ l. IsSomeAnd (says_of l) (IsRenameTail tail)))
+      → IfOk r (λ o. MatchOption o ((c : Command) → ¬ Asks line c) (λ l. IsSomeAnd (says_of l) (Asks line)))
+  arm_rename (Ok o) is h = arm (codes "rename") (IsRenameTail tail) (λ c k. k) (tail_rename line tail) o is h
+  arm_rename (Err e) is h = h
+
+  pub arm_delete : (o : Option Line) → word ≡ codes "delete" → MatchOption o ((c : Command) → ¬ IsDeleteTail tail c) (λ l. IsSomeAnd (says_of l) (IsDeleteTail tail))
+      → MatchOption o ((c : Command) → ¬ Asks line c) (λ l. IsSomeAnd (says_of l) (Asks line))
+  arm_delete = arm (codes "delete") (IsDeleteTail tail) (λ c h. h) (tail_delete line tail)
 
   pub arm_area : (o : Option Line) → word ≡ codes "area" → MatchOption o ((c : Command) → ¬ IsAreaTail tail c) (λ l. IsSomeAnd (says_of l) (IsAreaTail tail))
       → MatchOption o ((c : Command) → ¬ Asks line c) (λ l. IsSomeAnd (says_of l) (Asks line))
@@ -328,25 +475,55 @@ place_ascii p h = IsAscii-append (spaced p.x) (spaced p.y) (spaced_ascii p.x (fi
 two_ascii : (p q : Position) → InRange p → InRange q → IsAscii (spaced_position p ++ spaced_position q)
 two_ascii p q h k = IsAscii-append (spaced_position p) (spaced_position q) (place_ascii p h) (place_ascii q k)
 
-asked_ascii : (line : List ℕ) (c : Command) → Asks line c → IsAscii line
-asked_ascii line (Move p q) h = subst IsAscii (sym h.0) (IsAscii-append (codes "move") (spaced_position p ++ spaced_position q) (search rules) (two_ascii p q h.1.0 h.1.1))
-asked_ascii line (Insert a b q) h =
-    subst IsAscii (sym h.0) (IsAscii-append (codes "insert") (spaced_position a ++ (spaced_position b ++ spaced_position q)) (search rules) (IsAscii-append (spaced_position a) (spaced_position b ++ spaced_position q) (place_ascii a h.1.0) (two_ascii b q h.1.1 h.1.2)))
-asked_ascii line (Remove p) h = subst IsAscii (sym h.0) (IsAscii-append (codes "remove") (spaced_position p) (search rules) (place_ascii p h.1))
-asked_ascii line (Thin (pos t)) h = subst IsAscii (sym h.0) (IsAscii-append (codes "thin") (spaced (pos t)) (search rules) (IsAscii-cons 32 (decimal t) (omega arith) (wide_ascii t (in_bound t h.1))))
-asked_ascii line (Area n) h = subst IsAscii (sym h.0) (IsAscii-append (codes "area") (spaced (pos n)) (search rules) (spaced_ascii (pos n) (record { sfits = omega (arith, h.1) })))
-asked_ascii line (At p) h = subst IsAscii (sym h.0) (IsAscii-append (codes "at") (spaced_position p) (search rules) (place_ascii p h.1))
-asked_ascii line (Neighbours n) h = subst IsAscii (sym h.0) (IsAscii-append (codes "neighbours") (spaced (pos n)) (search rules) (spaced_ascii (pos n) (record { sfits = omega (arith, h.1) })))
-asked_ascii line (Rings n) h = subst IsAscii (sym h.0) (IsAscii-append (codes "rings") (spaced (pos n)) (search rules) (spaced_ascii (pos n) (record { sfits = omega (arith, h.1) })))
-asked_ascii line Count h = subst IsAscii (sym h) (search rules)
-asked_ascii line Show h = subst IsAscii (sym h) (search rules)
-asked_ascii line _ h = absurd h
+feature_ascii : (n : ℕ) → n < 2 ^ 32 → IsAscii (spaced (pos n))
+feature_ascii n h = spaced_ascii (pos n) (record { sfits = omega (arith, h) })
+
+path_ascii : (path : List Position) → AllByRecursion InRange path → IsAscii (spaced_path path)
+path_ascii [] h = search rules
+path_ascii (p ∷ ps) h = IsAscii-append (spaced_position p) (spaced_path ps) (place_ascii p h.0) (path_ascii ps h.1)
+
+token_utf8 : (token id : Text) → Gives token id → IsUtf8 (spaced_token token)
+token_utf8 token id g = IsUtf8-append (codes " ") token (IsUtf8-from_ascii (codes " ") (search rules)) (gives_utf8 token id g)
+
+behind_number : (n : ℕ) (rest : List ℕ) → n < 2 ^ 32 → IsUtf8 rest → IsUtf8 (spaced (pos n) ++ rest)
+behind_number n rest h u = IsUtf8-append (spaced (pos n)) rest (IsUtf8-from_ascii (spaced (pos n)) (feature_ascii n h)) u
+
+behind_word : (word rest : List ℕ) → IsAscii word → IsUtf8 rest → IsUtf8 (word ++ rest)
+behind_word word rest a u = IsUtf8-append word rest (IsUtf8-from_ascii word a) u
+
+asked_utf8 : (line : List ℕ) (c : Command) → Asks line c → IsUtf8 line
+asked_utf8 line (Move p q) h = IsUtf8-from_ascii line (subst IsAscii (sym h.0) (IsAscii-append (codes "move") (spaced_position p ++ spaced_position q) (search rules) (two_ascii p q h.1.0 h.1.1)))
+asked_utf8 line (Insert a b q) h =
+    IsUtf8-from_ascii line (subst IsAscii (sym h.0) (IsAscii-append (codes "insert") (spaced_position a ++ (spaced_position b ++ spaced_position q)) (search rules) (IsAscii-append (spaced_position a) (spaced_position b ++ spaced_position q) (place_ascii a h.1.0) (two_ascii b q h.1.1 h.1.2))))
+asked_utf8 line (Remove p) h = IsUtf8-from_ascii line (subst IsAscii (sym h.0) (IsAscii-append (codes "remove") (spaced_position p) (search rules) (place_ascii p h.1)))
+asked_utf8 line (Thin (pos t)) h = IsUtf8-from_ascii line (subst IsAscii (sym h.0) (IsAscii-append (codes "thin") (spaced (pos t)) (search rules) (IsAscii-cons 32 (decimal t) (omega arith) (wide_ascii t (in_bound t h.1)))))
+asked_utf8 line (Split n id path) h =
+    let (words, e, w) = h in
+    let all = IsUtf8-append (spaced_token w.token) (spaced_path path) (token_utf8 w.token id w.gives) (IsUtf8-from_ascii (spaced_path path) (path_ascii path w.along.in_range)) in
+    subst IsUtf8 (sym e) (behind_word (codes "split") words (search rules) (subst IsUtf8 (sym w.whole) (behind_number n (spaced_token w.token ++ spaced_path path) w.number all)))
+asked_utf8 line (Merge n m) h =
+    IsUtf8-from_ascii line (subst IsAscii (sym h.0) (IsAscii-append (codes "merge") (spaced (pos n) ++ spaced (pos m)) (search rules) (IsAscii-append (spaced (pos n)) (spaced (pos m)) (feature_ascii n h.1.0) (feature_ascii m h.1.1))))
+asked_utf8 line (Rename n id) h =
+    let (words, e, w) = h in
+    subst IsUtf8 (sym e) (behind_word (codes "rename") words (search rules) (subst IsUtf8 (sym w.whole) (behind_number n (spaced_token w.token) w.number (token_utf8 w.token id w.gives))))
+asked_utf8 line (Delete n) h = IsUtf8-from_ascii line (subst IsAscii (sym h.0) (IsAscii-append (codes "delete") (spaced (pos n)) (search rules) (feature_ascii n h.1)))
+asked_utf8 line (Area n) h = IsUtf8-from_ascii line (subst IsAscii (sym h.0) (IsAscii-append (codes "area") (spaced (pos n)) (search rules) (feature_ascii n h.1)))
+asked_utf8 line (At p) h = IsUtf8-from_ascii line (subst IsAscii (sym h.0) (IsAscii-append (codes "at") (spaced_position p) (search rules) (place_ascii p h.1)))
+asked_utf8 line (Neighbours n) h = IsUtf8-from_ascii line (subst IsAscii (sym h.0) (IsAscii-append (codes "neighbours") (spaced (pos n)) (search rules) (feature_ascii n h.1)))
+asked_utf8 line (Rings n) h = IsUtf8-from_ascii line (subst IsAscii (sym h.0) (IsAscii-append (codes "rings") (spaced (pos n)) (search rules) (feature_ascii n h.1)))
+asked_utf8 line Count h = IsUtf8-from_ascii line (subst IsAscii (sym h) (search rules))
+asked_utf8 line Show h = IsUtf8-from_ascii line (subst IsAscii (sym h) (search rules))
+asked_utf8 line _ h = absurd h
 
 pub said_utf8 : (line : List ℕ) (asked : Option Command) → Says line asked → IsUtf8 line
 said_utf8 line None h = h.0
-said_utf8 line (Some c) h = IsUtf8-from_ascii line (asked_ascii line c h)
+said_utf8 line (Some c) h = asked_utf8 line c h
 
 -- what a line asks for it says
 pub said_asked : (line : List ℕ) (o : Option Command) → IsSomeAnd o (Asks line) → Says line o
 said_asked line None h = absurd h
 said_asked line (Some c) h = h
+
+-- nothing is said of a line for which there was no memory
+pub no_memory : (f : LineFault) (line : List ℕ) → f ≡ fault.OutOfMemory → IsRefused f line
+no_memory f line e = subst (λ z. IsRefused z line) (sym e) tt

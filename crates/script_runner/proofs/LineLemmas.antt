@@ -89,7 +89,7 @@ pub record Mid (d : Document) (seen out : List ℕ) (p : Progress) : Type 0 wher
   pub cut : AreLines seen ended pending
   pub mean : AllMean (map ended_line ended) meanings
   pub told : out ≡ replies (opened_state d) meanings
-  pub state : opened_state p.doc ≡ state_after_all (opened_state d) meanings
+  pub state : p.state ≡ state_after_all (opened_state d) meanings
   pub answered : p.answered ≡ answered meanings
   pub refused : p.refused ≡ refused (opened_state d) meanings
   pub kept : Kept p pending
@@ -142,16 +142,16 @@ Kept-more p pending b k = by (nat_lt (length p.line) 8192) refl
 
 module _ (d : Document) (seen out : List ℕ) (p q : Progress) (m : Mid d seen out p) where
   -- the replies with one more
-  pub replied : (said : Meaning) (text : List ℕ) → text ≡ reply_text (opened_state p.doc) said → out ++ text ≡ replies (opened_state d) (m.meanings ++ said ∷ [])
+  pub replied : (said : Meaning) (text : List ℕ) → text ≡ reply_text p.state said → out ++ text ≡ replies (opened_state d) (m.meanings ++ said ∷ [])
   replied said text t = ap₂ (λ x y. x ++ y) m.told (t ∙ ap (λ s. reply_text s said) m.state) ∙ sym (replies-more (opened_state d) m.meanings said)
 
-  pub stated : (said : Meaning) → opened_state q.doc ≡ state_after (opened_state p.doc) said → opened_state q.doc ≡ state_after_all (opened_state d) (m.meanings ++ said ∷ [])
+  pub stated : (said : Meaning) → q.state ≡ state_after p.state said → q.state ≡ state_after_all (opened_state d) (m.meanings ++ said ∷ [])
   stated said h = h ∙ ap (λ s. state_after s said) m.state ∙ sym (state-more (opened_state d) m.meanings said)
 
   pub counted : (said : Meaning) → q.answered ≡ p.answered + answered_by said → q.answered ≡ answered (m.meanings ++ said ∷ [])
   counted said h = h ∙ ap (λ n. n + answered_by said) m.answered ∙ sym (answered-more m.meanings said)
 
-  pub refusing : (said : Meaning) → q.refused ≡ p.refused + refused_by (opened_state p.doc) said → q.refused ≡ refused (opened_state d) (m.meanings ++ said ∷ [])
+  pub refusing : (said : Meaning) → q.refused ≡ p.refused + refused_by p.state said → q.refused ≡ refused (opened_state d) (m.meanings ++ said ∷ [])
   refusing said h = h ∙ ap₂ (λ n s. n + refused_by s said) m.refused m.state ∙ sym (refused-more (opened_state d) m.meanings said)
 
 pub Mid-line : (d : Document) (seen out : List ℕ) (p q : Progress) (text : List ℕ) → Mid d seen out p → LineStep true p text q → Mid d (seen ++ 10 ∷ []) (out ++ text) q

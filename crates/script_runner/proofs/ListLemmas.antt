@@ -6,7 +6,7 @@ use Rattle.std.proofs.lemmas.List.{drop_more, drop_all}
 use Rattle.grid_geometry.specs.Position.{Position, position}
 use Rattle.ring_machine.specs.Document.{Document}
 use Rattle.ring_machine.specs.Refusals.{feature_at}
-use Rattle.arc_store.specs.Readers.{ring_at}
+use Rattle.map_frame.specs.Readers.{ring_at}
 use Rattle.map_text.specs.Text.{further, commas, comma_if, list_text, pair_text}
 use Rattle.point_queries.proofs.Shows.{ring_read, no_ring_read}
 use Rattle.script_runner.specs.Answers.{ring_text}

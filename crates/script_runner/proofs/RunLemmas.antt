@@ -109,7 +109,7 @@ script_run d e read text last p s fed done = by (length p.line == 0) refl done.1
           cut = m.cut;
           mean = rw none m.mean;
           told = rw (h.0, append-nil) m.told;
-          after = done.3 ∙ ap (λ x. x.doc) h.1 ∙ ap (λ st. st.doc) m.state;
+          after = done.3 ∙ ap (λ x. x.state.doc) h.1 ∙ ap (λ st. st.doc) m.state;
           answered = done.2.answered ∙ ap (λ x. x.answered) h.1 ∙ m.answered;
           refused = done.2.refused ∙ ap (λ x. x.refused) h.1 ∙ m.refused;
         }

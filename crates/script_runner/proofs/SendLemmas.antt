@@ -1,28 +1,28 @@
 -- What a writer has of the answer to a line.
-use Rattle.std.proofs.Common.{◌≡◌, ℕ, ◌+◌, List, [], ◌++◌, length, take, Bool, false, Option, refl, sym, ap, subst, ◌∙◌, arith, codes, append-nil, length-append}
+use Rattle.std.proofs.Common.{◌≡◌, ℕ, ◌+◌, List, [], ◌++◌, length, take, false, Option, sym, ap, subst, arith, codes, append-nil, length-append}
 use Rattle.std.proofs.lemmas.List.{take-append-le, take_all}
 use Rattle.std.proofs.Math.Seq.{take-append-add}
 use Rattle.device_io.proofs.DeviceLemmas.{Appends-more, Appends-none}
 use Rattle.std.specs.Io.KnownBytes.{Appends, Keeps}
 use Rattle.device_io.specs.Devices.{AppendsPrefix}
-use Rattle.ring_machine.specs.Document.{Document}
+use Rattle.ring_machine.specs.Machine.{State}
 use Rattle.ring_machine.specs.Command.{Show}
 use Rattle.map_text.specs.Text.{text_of}
 use Rattle.script_runner.specs.Answers.{answer_text}
-use Rattle.script_runner.specs.Runs.{Asked, reply_text, refusals, opened_state}
+use Rattle.script_runner.specs.Runs.{Asked, reply_text, refusals}
 use Rattle.script_runner.specs.Progress.{Told}
 use Rattle.script_runner.specs.Replies.{RepliedLine}
 use Rattle.script_runner.proofs.ReplyLemmas.{step-show}
 
 -- the answer that shows the document
-pub show_text : (d : Document) → reply_text (opened_state d) (Asked Show) ≡ text_of d ++ codes "\n"
-show_text d = ap (λ r. answer_text r.0 ++ codes "\n") (step-show (opened_state d))
+pub show_text : (st : State) → reply_text st (Asked Show) ≡ text_of st.doc ++ codes "\n"
+show_text st = ap (λ r. answer_text r.0 ++ codes "\n") (step-show st)
 
-pub shown : (d : Document) → RepliedLine d d (Asked Show) (text_of d ++ codes "\n") false
-shown d = record {
-  told = sym (show_text d);
-  after = ap (λ r. r.1) (sym (step-show (opened_state d)));
-  counts = ap (λ r. refusals r.0) (sym (step-show (opened_state d)));
+pub shown : (st : State) → RepliedLine st st (Asked Show) (text_of st.doc ++ codes "\n") false
+shown st = record {
+  told = sym (show_text st);
+  stands = ap (λ r. r.1) (sym (step-show st));
+  counts = ap (λ r. refusals r.0) (sym (step-show st));
 }
 
 -- ---- parts of a text that were put one after another
@@ -48,9 +48,9 @@ prefix_kept a b c xs h k = (length xs, omega arith, subst (Appends a c) (sym (ta
 
 -- ---- the document, as the answer to a line
 
-module _ (d : Document) (a b : Option (List ℕ)) where
-  pub document_shown : Appends a b (text_of d ++ codes "\n") → Told a b (λ text. RepliedLine d d (Asked Show) text false)
-  document_shown h = (text_of d ++ codes "\n", h, shown d)
+module _ (st : State) (a b : Option (List ℕ)) where
+  pub document_shown : Appends a b (text_of st.doc ++ codes "\n") → Told a b (λ text. RepliedLine st st (Asked Show) text false)
+  document_shown h = (text_of st.doc ++ codes "\n", h, shown st)
 
-  pub document_begun : AppendsPrefix a b (text_of d ++ codes "\n") → AppendsPrefix a b (reply_text (opened_state d) (Asked Show))
-  document_begun h = subst (AppendsPrefix a b) (sym (show_text d)) h
+  pub document_begun : AppendsPrefix a b (text_of st.doc ++ codes "\n") → AppendsPrefix a b (reply_text st (Asked Show))
+  document_begun h = subst (AppendsPrefix a b) (sym (show_text st)) h

@@ -1,11 +1,13 @@
 -- Steps that follow one another, and what stands where one of them failed.
 use Rattle.std.proofs.Common.{Result, Ok, Err, OnErr, ◌≡◌, ℕ, ◌+◌, take, length, List, [], ◌∷◌, ◌++◌, Option, refl, sym, ap, subst, ◌∙◌, arith, append_assoc, append-nil, inl, inr, MatchBool, Bool, true, false, ◌==◌}
 use Rattle.std.proofs.lemmas.List.{take_all}
-use Rattle.std.specs.Io.KnownBytes.{Appends, Keeps}
+use Rattle.std.specs.Io.KnownBytes.{Keeps}
+use Rattle.std.proofs.KnownBytes.{Appends-nil}
 use Rattle.ring_machine.specs.Document.{Document}
+use Rattle.ring_machine.specs.Machine.{State}
 use Rattle.device_io.specs.Devices.{AppendsPrefix}
-use Rattle.device_io.proofs.DeviceLemmas.{Appends-more, Appends-none}
-use Rattle.script_runner.specs.Runs.{Meaning, reply_text, opened_state}
+use Rattle.device_io.proofs.DeviceLemmas.{Appends-none}
+use Rattle.script_runner.specs.Runs.{Meaning, reply_text}
 use Rattle.script_runner.specs.Progress.{Progress, KeptMeans, LineStep, ByteStep, Feeds, PutsPart, FeedsPart, Told}
 use Rattle.script_runner.specs.Finish.{Finishes, PutsLast, Counts}
 use Rattle.script_runner.specs.declared.runner.Summary.{Summary}
@@ -16,13 +18,17 @@ OnErr-by (Ok x) h = tt
 OnErr-by (Err e) h = h
 
 -- the front of a reply
-pub put_part : (ended : Bool) (p : Progress) (old new : Option (List ℕ)) (d : Document) (over : Bool) (line : List ℕ) (m : Meaning)
-    → p.doc ≡ d → p.over ≡ over → p.line ≡ line → KeptMeans over ended line m → AppendsPrefix old new (reply_text (opened_state d) m)
+pub put_part : (ended : Bool) (p : Progress) (old new : Option (List ℕ)) (st : State) (over : Bool) (line : List ℕ) (m : Meaning)
+    → p.state ≡ st → p.over ≡ over → p.line ≡ line → KeptMeans over ended line m → AppendsPrefix old new (reply_text st m)
     → PutsPart ended p old new
-put_part ended p old new d over line m ed eo el k h =
+put_part ended p old new st over line m es eo el k h =
     let (n, within, put) = h in
     let kept : KeptMeans p.over ended p.line m = rw (eo, el) k in
-    (take n (reply_text (opened_state d) m), put, inr (m, n, kept, ap (λ x. take n (reply_text (opened_state x) m)) (sym ed)))
+    (take n (reply_text st m), put, inr (m, n, kept, ap (λ x. take n (reply_text x m)) (sym es)))
+
+-- nothing was put
+pub put_nothing : (ended : Bool) (p : Progress) (a : Option (List ℕ)) → PutsPart ended p a a
+put_nothing ended p a = ([], Appends-nil a, inl refl)
 
 -- a line feed ends the kept line
 pub fed_line : (p q : Progress) (b : ℕ) (text : List ℕ) → b ≡ 10 → LineStep true (record p { bytes = p.bytes + 1 }) text q → q.bytes ≡ p.bytes + 1 → ByteStep p b text q
@@ -56,17 +62,17 @@ pub put_last : (p q : Progress) (a b c : Option (List ℕ)) → Told a b (λ tex
 put_last p q a b c h k =
     let (text, put, step) = h in
     let (m, means, done) = step in
-    let whole : take (length text) (reply_text (opened_state p.doc) m) ≡ text = ap (take (length text)) (sym done.told) ∙ take_all (length text) text (omega arith) in
+    let whole : take (length text) (reply_text p.state m) ≡ text = ap (take (length text)) (sym done.told) ∙ take_all (length text) text (omega arith) in
     (text, put_kept a b c text put k, inr (m, length text, means, sym whole))
 
 last_none : (p : Progress) (t : Bool) → t ≡ true → MatchBool t ((let none : List ℕ = [] in none ≡ []) × (p ≡ p)) (LineStep false p [] p)
 last_none p t e = subst (λ b. MatchBool b ((let none : List ℕ = [] in none ≡ []) × (p ≡ p)) (LineStep false p [] p)) (sym e) (refl, refl)
 
-pub finished_none : (p : Progress) (a b : Option (List ℕ)) (s : Summary) (d : Document) → (length p.line == 0) ≡ true → Keeps a b → Counts p s → d ≡ p.doc → Told a b (λ text. Finishes p text s d)
+pub finished_none : (p : Progress) (a b : Option (List ℕ)) (s : Summary) (d : Document) → (length p.line == 0) ≡ true → Keeps a b → Counts p s → d ≡ p.state.doc → Told a b (λ text. Finishes p text s d)
 finished_none p a b s d e k n l = ([], Appends-none a b k, (p, last_none p (length p.line == 0) e, n, l))
 
 pub finished_line : (p q : Progress) (a b c : Option (List ℕ)) (s : Summary) (d : Document) → (length p.line == 0) ≡ false → Told a b (λ text. LineStep false p text q) → Keeps b c
-    → Counts q s → d ≡ q.doc → Told a c (λ text. Finishes p text s d)
+    → Counts q s → d ≡ q.state.doc → Told a c (λ text. Finishes p text s d)
 finished_line p q a b c s d e h k n l =
     let (text, put, step) = h in
     (text, put_kept a b c text put k, (q, subst (λ t. MatchBool t ((text ≡ []) × (q ≡ p)) (LineStep false p text q)) (sym e) step, n, l))

@@ -1,7 +1,8 @@
 -- A line is cut into words in one way.
-use Rattle.std.proofs.Common.{◌≡◌, ℕ, ◌+◌, ◌%◌, ◌<◌, ◌≤◌, ◌^◌, Bool, true, false, cond, refl, sym, ap, ap₂, ◌∙◌, subst, List, [], ◌∷◌, ◌++◌, length, take, drop, ℤ, pos, negsuc, arith, FitsSigned, w64, Result, Ok, Err, unsigned_abs, suc, append_assoc}
+use Rattle.std.proofs.Common.{◌≡◌, ℕ, ◌+◌, ◌%◌, ◌<◌, ◌≤◌, ◌^◌, ◌==◌, Bool, true, false, cond, refl, sym, ap, ap₂, ◌∙◌, subst, List, [], ◌∷◌, ◌++◌, length, take, drop, ℤ, pos, negsuc, arith, FitsSigned, w64, Result, Ok, Err, unsigned_abs, suc, append_assoc}
 use Rattle.std.specs.List.{take_while}
 use Rattle.std.specs.Fmt.{decimal, signed_decimal}
+use Rattle.std.specs.Int.{FitsUnsignedBits}
 use Rattle.std.specs.Int.Signed.{mag}
 use Rattle.std.specs.Str.Parse.{ParsesSigned, ParsesUnsigned, digits_value}
 use Rattle.std.proofs.lemmas.Bool.Decides.{nat_tests}
@@ -14,7 +15,13 @@ use Rattle.std.proofs.lemmas.List.{take-append-drop}
 use Rattle.std.proofs.lemmas.List.Sums.{take_while-cons}
 use Rattle.grid_geometry.specs.Position.{Position, position, InRange}
 use Rattle.script_runner.specs.Lines.{spaced}
-use Rattle.script_runner.specs.Words.{is_letter, EndsWord, IsSpaced, IsPlace}
+use Rattle.script_runner.specs.Words.{is_letter, EndsWord, IsSpaced, IsFeature, IsPlace}
+
+-- ---- a list that is empty
+
+pub is_nil : (xs : List ℕ) → (length xs == 0) ≡ true → xs ≡ []
+is_nil [] h = refl
+is_nil (x ∷ xs) h = let k : length xs + 1 ≡ 0 = grind (arith, nat_tests) in absurd (omega arith)
 
 -- ---- words
 
@@ -48,7 +55,7 @@ word-taken [] [] h e = refl
 word-taken [] (b ∷ bs) h e = rw (take_while-cons is_letter b bs) (ap (λ x. cond (is_letter x) (x ∷ take_while is_letter bs) []) e)
 word-taken (b ∷ bs) r h e = rw (take_while-cons is_letter b (bs ++ r), h.0) (ap (λ t. b ∷ t) (word-taken bs r h.1 e))
 
-drop_length : (w r : List ℕ) → drop (length w) (w ++ r) ≡ r
+pub drop_length : (w r : List ℕ) → drop (length w) (w ++ r) ≡ r
 drop_length [] r = refl
 drop_length (b ∷ w) r = drop_length w r
 
@@ -56,13 +63,13 @@ pub word-rest : (w r : List ℕ) → IsWord w → EndsWord r → rest_of (w ++ r
 word-rest w r h e = rw (word-taken w r h e) (drop_length w r)
 
 -- what is taken, and what it leaves
-pub taken-rest : (bs : List ℕ) → take_while is_letter bs ++ rest_of bs ≡ bs
-taken-rest [] = refl
-taken-rest (b ∷ bs) = by (is_letter b) refl (taken-rest bs)
+pub taken-rest : (p : ℕ → Bool) (bs : List ℕ) → take_while p bs ++ drop (length (take_while p bs)) bs ≡ bs
+taken-rest p [] = refl
+taken-rest p (b ∷ bs) = by (p b) refl (taken-rest p bs)
   where
-    by : (t : Bool) → is_letter b ≡ t → take_while is_letter bs ++ rest_of bs ≡ bs → take_while is_letter (b ∷ bs) ++ rest_of (b ∷ bs) ≡ b ∷ bs
-    by true e k = rw (take_while-cons is_letter b bs, e) (ap (λ t. b ∷ t) k)
-    by false e k = rw (take_while-cons is_letter b bs, e) refl
+    by : (t : Bool) → p b ≡ t → take_while p bs ++ drop (length (take_while p bs)) bs ≡ bs → take_while p (b ∷ bs) ++ drop (length (take_while p (b ∷ bs))) (b ∷ bs) ≡ b ∷ bs
+    by true e k = rw (take_while-cons p b bs, e) (ap (λ t. b ∷ t) k)
+    by false e k = rw (take_while-cons p b bs, e) refl
 
 no_letter : (b : ℕ) → is_letter b ≡ false → b ≡ 32
 no_letter b e = grind (arith, nat_tests)
@@ -77,7 +84,7 @@ rest-ends (b ∷ bs) = by (is_letter b) refl (rest-ends bs)
 
 -- ---- numbers
 
-mag_small : (z : ℤ) → FitsSigned w64 z → mag z < 2 ^ 63
+pub mag_small : (z : ℤ) → FitsSigned w64 z → mag z < 2 ^ 63
 mag_small z f = f.sfits
 
 -- the text of a number parses as it
@@ -88,7 +95,7 @@ parsed z y bs r f e p k = let h = sym (parse-signed_decimal w64 z bs r f (mag_sm
 
 pub spaced_found : (tail : List ℕ) (z : ℤ) → FitsSigned w64 z → take_while is_letter tail ≡ signed_decimal z → IsSpaced (32 ∷ tail) z (rest_of tail)
 spaced_found tail z f e = record {
-  whole = ap (λ t. 32 ∷ t) (sym (taken-rest tail) ∙ ap (λ w. w ++ rest_of tail) e);
+  whole = ap (λ t. 32 ∷ t) (sym (taken-rest is_letter tail) ∙ ap (λ w. w ++ rest_of tail) e);
   ends = rest-ends tail;
   fits = f;
 }
@@ -125,6 +132,29 @@ never_spaced r z s = nothing s.whole
   where
     nothing : [] ≡ spaced z ++ r → ⊥
     nothing h = cc
+
+-- ---- the number of a feature
+
+pub feature_spaced : (bs r : List ℕ) (n : ℕ) → IsFeature bs n r → IsSpaced bs (pos n) r
+feature_spaced bs r n f = record { whole = f.whole; ends = f.ends; fits = record { sfits = omega (arith, f.range) } }
+
+pub feature_found : (bs r : List ℕ) (z : ℤ) (n : ℕ) → IsSpaced bs z r → z ≡ pos n → n < 2 ^ 32 → IsFeature bs n r
+feature_found bs r z n s e h = record { whole = subst (λ y. bs ≡ spaced y ++ r) e s.whole; ends = s.ends; range = h }
+
+pub feature_huge : (bs r t : List ℕ) (z : ℤ) (n : ℕ) → IsSpaced bs z r → ((m : ℕ) → z ≡ pos m → m < 2 ^ 32 → ⊥) → IsFeature bs n t → ⊥
+feature_huge bs r t z n s out f = out n (spaced_once bs r t z (pos n) s (feature_spaced bs t n f)).0 f.range
+
+pub fits_along : (n : ℕ) (y z : ℤ) → y ≡ z → z ≡ pos n → n < 2 ^ 32 → FitsUnsignedBits 32 y
+fits_along n y z e f h = subst (FitsUnsignedBits 32) (sym (e ∙ f)) h
+
+pos_once : (m n : ℕ) → pos m ≡ pos n → m ≡ n
+pos_once m n e = cc
+
+-- the number of a feature stands behind a space in one way alone
+pub feature_once : (bs r t : List ℕ) (m n : ℕ) → IsFeature bs m r → IsFeature bs n t → (m ≡ n) × (r ≡ t)
+feature_once bs r t m n s k =
+    let same = spaced_once bs r t (pos m) (pos n) (feature_spaced bs r m s) (feature_spaced bs t n k) in
+    (pos_once m n same.0, same.1)
 
 -- ---- positions
 
@@ -200,7 +230,7 @@ wide_once m n h k e =
 
 -- ---- what stands behind a word
 
-take_length : (w r : List ℕ) → take (length w) (w ++ r) ≡ w
+pub take_length : (w r : List ℕ) → take (length w) (w ++ r) ≡ w
 take_length [] r = refl
 take_length (b ∷ w) r = ap (λ t. b ∷ t) (take_length w r)
 

@@ -4,7 +4,7 @@ use Rattle.std.specs.List.{flat_map}
 use Rattle.std.specs.Fmt.{signed_decimal}
 use Rattle.grid_geometry.specs.Position.{Position}
 use Rattle.grid_geometry.specs.Segment.{Segment}
-use Rattle.ring_machine.specs.Command.{Refusal, NoFeature, NoVertex, NoSegment, Occupied, Junction, RingShort, SegmentExists, NoCollection, NotOnOuterRing, RepeatedPoint, WrongSide, TooLarge, SameFeature, NotOnePolygon, NotNeighbours, SameSide, NothingToUndo, Sweeps, Conflict, Runs, CommonElse, Answer, Done, Thinned, AreaIs, AtIs, NeighboursAre, RingsAre, CountsAre, DocumentIs, Refused}
+use Rattle.ring_machine.specs.Command.{Refusal, NoFeature, NoVertex, NoSegment, Occupied, Junction, RingShort, SegmentExists, NoCollection, NotOnOuterRing, RepeatedPoint, WrongSide, TooLarge, SameFeature, NotOnePolygon, NotNeighbours, SameSide, NothingToUndo, Sweeps, Conflict, Runs, CommonElse, Answer, Done, Thinned, Made, AreaIs, AtIs, NeighboursAre, RingsAre, CountsAre, DocumentIs, Refused}
 use Rattle.ring_machine.specs.Query.{Counts}
 use Rattle.map_text.specs.Text.{list_text, pair_text, text_of}
 
@@ -77,6 +77,7 @@ counts_text c = numbers_text c.feature_count c.vertex_count c.segment_count
 abbrev pub answer_text : Answer → List ℕ
 answer_text Done = codes "ok"
 answer_text (Thinned n) = codes "ok " ++ decimal n
+answer_text (Made n) = codes "ok " ++ decimal n
 answer_text (AreaIs z) = signed_decimal z
 answer_text (AtIs inside border) = at_text inside border
 answer_text (NeighboursAre ns) = neighbours_text ns
@@ -84,4 +85,3 @@ answer_text (RingsAre polygons) = polygons_text polygons
 answer_text (CountsAre counts) = counts_text counts
 answer_text (DocumentIs d) = text_of d
 answer_text (Refused r) = codes "refused " ++ refusal_text r
-answer_text _ = []

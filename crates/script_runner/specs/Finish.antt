@@ -15,7 +15,7 @@ pub record Counts (p : Progress) (s : Summary) : Type 0 where
 
 -- the last line is answered, and these are the counts and the document after it
 abbrev pub Finishes : Progress → List ℕ → Summary → Document → Type 0
-Finishes p text s last = (q : Progress) × LastStep p text q × Counts q s × (last ≡ q.doc)
+Finishes p text s last = (q : Progress) × LastStep p text q × Counts q s × (last ≡ q.state.doc)
 
 -- some of the reply to the last line was put
 abbrev pub PutsLast : Progress → Option (List ℕ) → Option (List ℕ) → Type 0

@@ -6,6 +6,7 @@ use Rattle.ring_machine.specs.Parts.{features}
 use Rattle.ring_machine.specs.Command.{Command, Answer, Refused}
 use Rattle.ring_machine.specs.Machine.{State, step}
 use Rattle.script_runner.specs.Lines.{Says}
+use Rattle.arc_store.specs.State.{State as MapState}
 use Rattle.script_runner.specs.Answers.{answer_text}
 
 -- ---- lines
@@ -117,6 +118,10 @@ answered (m ∷ ms) = answered_by m + answered ms
 abbrev pub refused : State → List Meaning → ℕ
 refused st [] = 0
 refused st (m ∷ ms) = refused_by st m + refused (state_after st m) ms
+
+-- a map as a state of the machine
+abbrev pub state_of : MapState → State
+state_of m = record { doc = m.doc; next = m.next; past = [] }
 
 -- opened: the next number is that of the features
 abbrev pub opened_state : Document → State

@@ -1,9 +1,12 @@
 //! Lines in, answers out: a script is run on a map, and what it makes of the map is saved.
 #![tactic(auto)]
 
+mod copies;
 mod fault;
+mod ids;
 mod lines;
 mod parsing;
+mod paths;
 mod questions;
 mod replies;
 mod ring_lists;

@@ -1,7 +1,9 @@
+use crate::stop::OutOfMemory;
+use arc_store::{IdText, Path};
 use grid_geometry::Pos;
 
 /// An edit or a query of a map.
-#[derive(Clone, Copy, Debug, PartialEq, Eq)]
+#[derive(Debug, Drop)]
 pub enum Command {
     /// `move x y x y`: the second position takes the place of the first in every ring.
     Move(Pos, Pos),
@@ -13,6 +15,15 @@ pub enum Command {
     /// `thin t`: one pass over the vertices leaves out those that are flat, where twice the area of
     /// the triangle with their neighbours is at most t.
     Thin(i128),
+    /// `split f id x y x y ..`: a polygon of a feature is cut along a path; the part from the last
+    /// position of the path on along the outer ring becomes a new feature, which has this id.
+    Split(u32, IdText, Path),
+    /// `merge f g`: the second feature becomes a part of the first.
+    Merge(u32, u32),
+    /// `rename f id`: a feature has this id from then on.
+    Rename(u32, IdText),
+    /// `delete f`: a feature is taken out.
+    Delete(u32),
     /// `area f`: twice the area of a feature.
     Area(u32),
     /// `at x y`: the features that hold a position, and those on whose borders it lies.
@@ -22,7 +33,7 @@ pub enum Command {
 }
 
 /// What a line of a script asks.
-#[derive(Clone, Copy, Debug, PartialEq, Eq)]
+#[derive(Debug, Drop)]
 pub enum Line {
     /// An empty line, or a comment that begins with `#`.
     Skip,
@@ -41,4 +52,17 @@ pub enum Line {
 pub enum LineFault {
     /// The line is no command, or it is over a limit or not UTF-8.
     BadLine,
+    /// There was no memory for an id or a path.
+    OutOfMemory,
+}
+
+impl From<OutOfMemory> for LineFault {
+    ghost use Rattle.std.specs.Prelude.{◌≡◌};
+    ghost use Rattle.script_runner.specs.declared.lines.LineFault.TheVariants as fault;
+
+    ghost from_gives = { λ _ e. e ≡ fault.OutOfMemory };
+
+    fn from(_e: OutOfMemory) -> LineFault {
+        LineFault::OutOfMemory
+    }
 }

@@ -1,15 +1,22 @@
-ghost use Rattle.std.specs.Prelude.{◌≡◌, ◌++◌, List, ℕ, codes, MatchOption, MatchResult, IsSomeAnd, pos, ◌<◌, ◌^◌, IsUtf8, IsTrue, ◌↔◌, Option, Some, None};
+ghost use Rattle.std.specs.Prelude.{◌≡◌, ◌++◌, List, ℕ, codes, MatchOption, MatchResult, IfOk, IsSomeAnd, pos, ◌<◌, ◌^◌, IsUtf8, IsTrue, ◌↔◌, Option, Some, None};
 ghost use Rattle.grid_geometry.specs.Position.{Position};
 ghost use Rattle.ring_machine.specs.Command.{Command as Asked};
 ghost use Rattle.script_runner.specs.Lines.{Says, Asks, is_comment};
-ghost use Rattle.script_runner.specs.Commands.{says_of, IsPositionTail, IsFeatureTail};
+ghost use Rattle.script_runner.specs.Commands.{says_of, IsRefused, IsPositionTail, IsFeatureTail};
 ghost use Rattle.script_runner.specs.Commands.{IsMoveTail, IsInsertTail, IsRemoveTail, IsThinTail};
+ghost use Rattle.script_runner.specs.Commands.{IsSplitTail, IsMergeTail, IsRenameTail, IsDeleteTail};
 ghost use Rattle.script_runner.specs.Commands.{IsAreaTail, IsAtTail, IsNeighboursTail};
 ghost use Rattle.script_runner.specs.Commands.{IsRingsTail, IsCountTail, IsDocumentTail};
 
+use crate::ids::id_of;
 use crate::lines::{Command, Line, LineFault};
-use crate::words::{behind, spaced_number, spaced_position, split_word, wide_number};
+use crate::paths::{is_path, read_path};
+use crate::stop::OutOfMemory;
+use crate::words::{
+    behind, spaced_feature, spaced_position, spaced_token, split_word, wide_number,
+};
 use grid_geometry::Pos;
+use std::alloc::Global;
 use std::str;
 
 /// The most that the bound of a thinning may be: twice the area of the whole grid, which no
@@ -110,15 +117,83 @@ fn feature_behind(tail: &[u8]) -> Option<u32>
         ((n : ℕ) → ¬ IsFeatureTail tail.now n)
         (λ n. IsFeatureTail tail.now n) }
 {
-    let Some((number, end)) = spaced_number(tail) else {
+    let Some((feature, end)) = spaced_feature(tail) else {
         return None;
     };
-    if !end.is_empty() {
+    if end.is_empty() { Some(feature) } else { None }
+}
+
+/// The merging that stands behind the word `merge`.
+fn merge_behind(tail: &[u8]) -> Option<Line>
+    ensures { MatchOption result
+        ((c : Asked) → ¬ IsMergeTail tail.now c)
+        (λ line. IsSomeAnd (says_of line) (IsMergeTail tail.now)) }
+{
+    let Some((stays, rest)) = spaced_feature(tail) else {
         return None;
+    };
+    match feature_behind(rest) {
+        Some(goes) => Some(Line::Edit(Command::Merge(stays, goes))),
+        None => None,
     }
-    match u32::try_from(number) {
-        Ok(feature) => Some(feature),
-        Err(_) => None,
+}
+
+/// The deletion that stands behind the word `delete`.
+fn delete_behind(tail: &[u8]) -> Option<Line>
+    ensures { MatchOption result
+        ((c : Asked) → ¬ IsDeleteTail tail.now c)
+        (λ line. IsSomeAnd (says_of line) (IsDeleteTail tail.now)) }
+{
+    match feature_behind(tail) {
+        Some(feature) => Some(Line::Edit(Command::Delete(feature))),
+        None => None,
+    }
+}
+
+/// The new id that stands behind the word `rename`.
+#[tactic(auto, using(crate::proofs::CommandLemmas::rename_found))]
+fn rename_behind(heap: Global, tail: &[u8]) -> Result<Option<Line>, OutOfMemory>
+    ensures { IfOk result (λ found. MatchOption found
+        ((c : Asked) → ¬ IsRenameTail tail.now c)
+        (λ line. IsSomeAnd (says_of line) (IsRenameTail tail.now))) }
+{
+    let Some((feature, words)) = spaced_feature(tail) else {
+        return Ok(None);
+    };
+    let Some((token, end)) = spaced_token(words) else {
+        return Ok(None);
+    };
+    if !end.is_empty() {
+        return Ok(None);
+    }
+    match id_of(heap, token)? {
+        Some(id) => Ok(Some(Line::Edit(Command::Rename(feature, id)))),
+        None => Ok(None),
+    }
+}
+
+/// The cut that stands behind the word `split`.
+#[tactic(auto, using(crate::proofs::CommandLemmas::split_found))]
+fn split_behind(heap: Global, tail: &[u8]) -> Result<Option<Line>, OutOfMemory>
+    ensures { IfOk result (λ found. MatchOption found
+        ((c : Asked) → ¬ IsSplitTail tail.now c)
+        (λ line. IsSomeAnd (says_of line) (IsSplitTail tail.now))) }
+{
+    let Some((feature, words)) = spaced_feature(tail) else {
+        return Ok(None);
+    };
+    let Some((token, positions)) = spaced_token(words) else {
+        return Ok(None);
+    };
+    if !is_path(positions) {
+        return Ok(None);
+    }
+    match id_of(heap, token)? {
+        Some(id) => {
+            let path = read_path(heap, positions)?;
+            Ok(Some(Line::Edit(Command::Split(feature, id, path))))
+        }
+        None => Ok(None),
     }
 }
 
@@ -197,34 +272,42 @@ fn document_behind(tail: &[u8]) -> Option<Line>
 }
 
 /// What a line asks for by its word.
-fn by_word(line: &[u8]) -> Option<Line>
-    ensures { MatchOption result
+fn by_word(heap: Global, line: &[u8]) -> Result<Option<Line>, OutOfMemory>
+    ensures { IfOk result (λ found. MatchOption found
         ((c : Asked) → ¬ Asks line.now c)
-        (λ said. IsSomeAnd (says_of said) (Asks line.now)) }
+        (λ said. IsSomeAnd (says_of said) (Asks line.now))) }
 {
     let (word, tail) = split_word(line);
     if word == b"move".as_slice() {
-        move_behind(tail)
+        Ok(move_behind(tail))
     } else if word == b"insert".as_slice() {
-        insert_behind(tail)
+        Ok(insert_behind(tail))
     } else if word == b"remove".as_slice() {
-        remove_behind(tail)
+        Ok(remove_behind(tail))
     } else if word == b"thin".as_slice() {
-        thin_behind(tail)
+        Ok(thin_behind(tail))
+    } else if word == b"split".as_slice() {
+        split_behind(heap, tail)
+    } else if word == b"merge".as_slice() {
+        Ok(merge_behind(tail))
+    } else if word == b"rename".as_slice() {
+        rename_behind(heap, tail)
+    } else if word == b"delete".as_slice() {
+        Ok(delete_behind(tail))
     } else if word == b"area".as_slice() {
-        area_behind(tail)
+        Ok(area_behind(tail))
     } else if word == b"at".as_slice() {
-        at_behind(tail)
+        Ok(at_behind(tail))
     } else if word == b"neighbours".as_slice() {
-        neighbours_behind(tail)
+        Ok(neighbours_behind(tail))
     } else if word == b"rings".as_slice() {
-        rings_behind(tail)
+        Ok(rings_behind(tail))
     } else if word == b"count".as_slice() {
-        count_behind(tail)
+        Ok(count_behind(tail))
     } else if word == b"document".as_slice() {
-        document_behind(tail)
+        Ok(document_behind(tail))
     } else {
-        None
+        Ok(None)
     }
 }
 
@@ -239,12 +322,16 @@ fn is_comment(line: &[u8]) -> bool
 }
 
 /// What a line of a script says, without its line feed and without the carriage return that is
-/// dropped before it. A line is a command's word and its numbers, with exactly one space between
-/// two of them; a number is `0`, or digits of which the first is not `0`, perhaps behind a minus.
-pub fn parse_line(line: &[u8]) -> Result<Line, LineFault>
+/// dropped before it. A line is a command's word and what it is asked with, with exactly one space
+/// between two of them, and none before or behind; a number is `0`, or digits of which the first is
+/// not `0`, perhaps behind a minus, and an id is a JSON string (RFC 8259, section 7). `heap` holds
+/// an id and a path. `BadLine` comes where the line says nothing, `OutOfMemory` where `heap` has no
+/// room for what it says.
+#[tactic(auto, using(crate::proofs::CommandLemmas::no_memory))]
+pub fn parse_line(heap: Global, line: &[u8]) -> Result<Line, LineFault>
     ensures { MatchResult result
         (λ said. Says line.now (says_of said))
-        (λ _. (asked : Option Asked) → ¬ Says line.now asked) }
+        (λ fault. IsRefused fault line.now) }
 {
     let Ok(_) = str::from_utf8(line) else {
         return Err(LineFault::BadLine);
@@ -252,7 +339,7 @@ pub fn parse_line(line: &[u8]) -> Result<Line, LineFault>
     if is_comment(line) {
         return Ok(Line::Skip);
     }
-    match by_word(line) {
+    match by_word(heap, line)? {
         Some(said) => Ok(said),
         None => Err(LineFault::BadLine),
     }

@@ -2,6 +2,7 @@
 ghost use Rattle.std.specs.Prelude.{◌≡◌, ◌++◌, OnOk, IfOk};
 ghost use Rattle.ring_machine.specs.Command.{Area, At, Neighbours, Count};
 ghost use Rattle.script_runner.specs.Answers.{numbers_text};
+ghost use Rattle.script_runner.specs.Runs.{state_of};
 ghost use Rattle.script_runner.specs.Replies.{Replied};
 
 use crate::stop::OutOfMemory;
@@ -19,7 +20,7 @@ pub(crate) fn reply_to_area<A: Allocator + Copy>(
     text: &mut Vec<u8, A>,
 ) -> Result<bool, OutOfMemory>
     ensures { IfOk result (λ refuses.
-        Replied map.now.doc map.now.doc (Area feature) text.old.items text.new.items refuses) }
+        Replied (state_of map.now) (state_of map.now) (Area feature) text.old.items text.new.items refuses) }
 {
     match area2_of(map, feature) {
         Ok(area) => {
@@ -41,7 +42,7 @@ pub(crate) fn reply_to_at<A: Allocator + Copy>(
     text: &mut Vec<u8, A>,
 ) -> Result<bool, OutOfMemory>
     ensures { IfOk result (λ refuses.
-        Replied map.now.doc map.now.doc (At position) text.old.items text.new.items refuses) }
+        Replied (state_of map.now) (state_of map.now) (At position) text.old.items text.new.items refuses) }
 {
     let found = at(*text.allocator(), map, position)?;
     text.extend_from_slice(b"inside:")?;
@@ -58,7 +59,7 @@ pub(crate) fn reply_to_neighbours<A: Allocator + Copy>(
     text: &mut Vec<u8, A>,
 ) -> Result<bool, OutOfMemory>
     ensures { IfOk result (λ refuses.
-        Replied map.now.doc map.now.doc (Neighbours feature)
+        Replied (state_of map.now) (state_of map.now) (Neighbours feature)
         text.old.items text.new.items refuses) }
 {
     let found = match neighbours(*text.allocator(), map, feature) {
@@ -99,7 +100,7 @@ pub(crate) fn reply_to_count<A: Allocator + Copy>(
     text: &mut Vec<u8, A>,
 ) -> Result<bool, OutOfMemory>
     ensures { IfOk result (λ refuses.
-        Replied map.now.doc map.now.doc Count text.old.items text.new.items refuses) }
+        Replied (state_of map.now) (state_of map.now) Count text.old.items text.new.items refuses) }
 {
     push_counts(
         text,

@@ -3,16 +3,18 @@ ghost use Rattle.std.specs.Prelude.{◌≡◌, ◌≤◌, ◌<◌, ◌+◌, ◌^
 ghost use Rattle.std.specs.Io.KnownBytes.{Keeps};
 ghost use Rattle.script_runner.specs.Runs.{without_return, answered_by};
 ghost use Rattle.script_runner.specs.Replies.{meaning_of_said};
+ghost use Rattle.script_runner.specs.Commands.{SaysSound};
+ghost use Rattle.ring_machine.specs.Parts.{features};
 ghost use Rattle.script_runner.specs.Progress.{KeptMeans, LineStep, ByteStep, Feeds, FeedsPart, PutsPart, Told, start};
 
-use crate::lines::Line;
+use crate::lines::{Line, LineFault};
 use crate::parsing::parse_line;
 use crate::sending::send_reply;
-use crate::stop::Stop;
+use crate::stop::{OutOfMemory, Stop};
 use arc_store::Map;
 use device_io::Sink;
 use segment_index::GridIndex;
-use std::alloc::Allocator;
+use std::alloc::{Allocator, Global};
 use std::marker::Model;
 
 /// The most bytes of a line that are kept.
@@ -28,18 +30,21 @@ fn without_return(line: &[u8]) -> &[u8]
     }
 }
 
-/// What the kept line says; nothing for a bad line.
-fn said(line: &[u8], over: bool, ended: bool) -> Option<Line>
+/// What the kept line says; nothing for a bad line. Fails where there is no memory for an id or a
+/// path.
+fn said(heap: Global, line: &[u8], over: bool, ended: bool) -> Result<Option<Line>, OutOfMemory>
     requires { length line.now ≤ 8192 }
-    ensures { KeptMeans over ended line.now (meaning_of_said result) }
+    ensures means { IfOk result (λ said. KeptMeans over ended line.now (meaning_of_said said)) }
+    ensures sound { IfOk result (λ said. SaysSound said) }
 {
     if over {
-        return None;
+        return Ok(None);
     }
     let text = if ended { without_return(line) } else { line };
-    match parse_line(text) {
-        Ok(said) => Some(said),
-        Err(_) => None,
+    match parse_line(heap, text) {
+        Ok(said) => Ok(Some(said)),
+        Err(LineFault::BadLine) => Ok(None),
+        Err(LineFault::OutOfMemory) => Err(OutOfMemory),
     }
 }
 
@@ -68,6 +73,8 @@ pub struct Summary {
 /// The map, the line so far, and the counts.
 #[derive(Drop)]
 pub(crate) struct Runner<'a, A: Allocator + Copy> {
+    /// Holds the id and the path of a line while it is answered.
+    heap: Global,
     map: Map<'a, GridIndex<A>, A>,
     line: Vec<u8, A>,
     over: bool,
@@ -79,11 +86,12 @@ pub(crate) struct Runner<'a, A: Allocator + Copy> {
 impl<'a, A: Allocator + Copy> Model for Runner<'a, A> {
     ghost use Rattle.std.specs.Prelude.{◌≤◌, ◌+◌, length};
     ghost use Rattle.script_runner.specs.Progress.{Progress, InBounds};
+    ghost use Rattle.script_runner.specs.Runs.{state_of};
 
     ghost Value = { Progress };
 
     ghost view = { λ r. record {
-      doc = r.map.doc;
+      state = state_of r.map;
       line = r.line.items;
       over = r.over;
       answered = r.answered;
@@ -96,10 +104,12 @@ impl<'a, A: Allocator + Copy> Model for Runner<'a, A> {
 
 impl<'a, A: Allocator + Copy> Runner<'a, A> {
     /// Nothing was fed.
-    pub(crate) fn new(alloc: A, map: Map<'a, GridIndex<A>, A>) -> Self
+    pub(crate) fn new(alloc: A, heap: Global, map: Map<'a, GridIndex<A>, A>) -> Self
+        requires { map.next ≡ length (features map.doc) }
         ensures { result ≡ start map.entry.doc }
     {
         Runner {
+            heap,
             map,
             line: Vec::new(alloc),
             over: false,
@@ -122,7 +132,7 @@ impl<'a, A: Allocator + Copy> Runner<'a, A> {
         ensures failed { result ≡ Err Stop.Write → W.has_failed out.new ≡ true }
     {
         let over = self.over;
-        let said = said(self.line.as_slice(), over, ended);
+        let said = said(self.heap, self.line.as_slice(), over, ended)?;
         let counts = is_answered(&said);
         let refuses = send_reply(*self.line.allocator(), &mut self.map, said, out)?;
         self.answered += one_if(counts);
@@ -179,12 +189,13 @@ impl<'a, A: Allocator + Copy> Runner<'a, A> {
         requires { W.has_failed out.old ≡ false }
         ensures kept { Keeps (W.taken out.old) (W.taken out.new) }
         ensures ends { IfOk result
-            (λ done. Counts self.entry done.0 × (done.1.doc ≡ self.entry.doc)) }
+            (λ done. Counts self.entry done.0 × (done.1.doc ≡ self.entry.state.doc)) }
         ensures works { OnOk result (W.has_failed out.new ≡ false) }
         ensures failed { result ≡ Err Stop.Write → W.has_failed out.new ≡ true }
     {
         out.flush()?;
         let Runner {
+            heap: _,
             map,
             line: _,
             over: _,

@@ -1,4 +1,5 @@
-ghost use Rattle.std.specs.Prelude.{◌≡◌, false, true, OnOk, OnErr, IfOk, IfErr, Err};
+ghost use Rattle.std.specs.Prelude.{◌≡◌, length, false, true, OnOk, OnErr, IfOk, IfErr, Err};
+ghost use Rattle.ring_machine.specs.Parts.{features};
 ghost use Rattle.std.specs.Io.KnownBytes.{Appends, IsAtEnd};
 ghost use Rattle.device_io.specs.Devices.{AppendsPrefix};
 ghost use Rattle.map_text.specs.Text.{text_of};
@@ -40,6 +41,7 @@ fn open<'a, A: Allocator + Copy>(
     bytes: &'a [u8],
 ) -> Result<Map<'a, GridIndex<A>, A>, RunFault<'a>>
     ensures opened { IfOk result (λ map. OpensAs bytes.now map.doc) }
+    ensures numbered { IfOk result (λ map. map.next ≡ length (features map.doc)) }
     ensures refused { IfErr result (λ fault. IsOpenEnd fault bytes.now) }
 {
     let raw = match read(alloc, heap, bytes) {
@@ -59,10 +61,12 @@ fn open<'a, A: Allocator + Copy>(
 /// Answers each line of a script, piece by piece as it comes. Answers the counts and the map.
 fn answer_script<'a, A: Allocator + Copy, R: Source, W: Sink>(
     alloc: A,
+    heap: Global,
     map: Map<'a, GridIndex<A>, A>,
     script: &mut R,
     out: &mut W,
 ) -> Result<(Summary, Map<'a, GridIndex<A>, A>), Halt>
+    requires numbered { map.next ≡ length (features map.doc) }
     requires reader { R.has_failed script.old ≡ false }
     requires writer { W.has_failed out.old ≡ false }
     ensures done { IfOk result (λ done. AnswersAll map.entry.doc done.1.doc (R.coming script.old)
@@ -72,7 +76,7 @@ fn answer_script<'a, A: Allocator + Copy, R: Source, W: Sink>(
         (R.coming script.new) (W.taken out.old) (W.taken out.new)) }
     ensures write { result ≡ Err Halt.Write → W.has_failed out.new ≡ true }
 {
-    let mut runner = Runner::new(alloc, map);
+    let mut runner = Runner::new(alloc, heap, map);
     let mut room = [0u8; PIECE];
     let mut left = MAX_SCRIPT;
     loop {
@@ -126,7 +130,7 @@ fn save<A: Allocator + Copy, V: Sink>(
 /// is flushed, and then the text of the map goes to `saved`, which is flushed too. A line ends with
 /// a line feed, before which one carriage return is dropped, and a last line without a line feed
 /// counts where it is not empty. A line of more than 8,192 bytes is a bad line. `heap` holds
-/// decoded texts while the map is opened, `alloc` all else.
+/// decoded texts while the map is opened, and the id and the path of a line; `alloc` all else.
 pub fn run<'a, A: Allocator + Copy, R: Source, W: Sink, V: Sink>(
     alloc: A,
     heap: Global,
@@ -152,7 +156,7 @@ pub fn run<'a, A: Allocator + Copy, R: Source, W: Sink, V: Sink>(
         Ok(opened) => opened,
         Err(fault) => return Err(fault),
     };
-    let (summary, last) = match answer_script(alloc, opened, script, out) {
+    let (summary, last) = match answer_script(alloc, heap, opened, script, out) {
         Ok(done) => done,
         Err(Halt::Read) => return Err(RunFault::Read),
         Err(Halt::Write) => return Err(RunFault::Write),

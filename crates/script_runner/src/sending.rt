@@ -4,10 +4,10 @@ ghost use Rattle.std.specs.Io.KnownBytes.{Appends};
 ghost use Rattle.device_io.specs.Devices.{AppendsPrefix};
 ghost use Rattle.ring_machine.specs.Command.{Rings, Count};
 ghost use Rattle.map_text.specs.Text.{text_of};
-ghost use Rattle.script_runner.specs.Runs.{Asked, reply_text, opened_state};
+ghost use Rattle.script_runner.specs.Runs.{Asked, reply_text, state_of};
 ghost use Rattle.script_runner.specs.Progress.{Told};
 ghost use Rattle.script_runner.specs.Replies.{RepliedLine, meaning_of_said};
-ghost use Rattle.script_runner.specs.Commands.{command_of};
+ghost use Rattle.script_runner.specs.Commands.{command_of, IsSound, SaysSound};
 
 use crate::lines::{Command, Line};
 use crate::questions::reply_to_count;
@@ -27,11 +27,12 @@ fn send_answer<A: Allocator + Copy, W: Sink>(
     command: Command,
     out: &mut W,
 ) -> Result<bool, Stop>
-    requires { W.has_failed out.old ≡ false }
+    requires sound { IsSound command }
+    requires works { W.has_failed out.old ≡ false }
     ensures ok { IfOk result (λ refuses. Told (W.taken out.old) (W.taken out.new)
-        (λ text. RepliedLine map.old.doc map.new.doc (Asked (command_of command)) text refuses)) }
+        (λ text. RepliedLine (state_of map.old) (state_of map.new) (Asked (command_of command)) text refuses)) }
     ensures cut { OnErr result (AppendsPrefix (W.taken out.old) (W.taken out.new)
-        (reply_text (opened_state map.old.doc) (Asked (command_of command)))) }
+        (reply_text (state_of map.old) (Asked (command_of command)))) }
     ensures works { OnOk result (W.has_failed out.new ≡ false) }
     ensures failed { result ≡ Err Stop.Write → W.has_failed out.new ≡ true }
 {
@@ -51,9 +52,9 @@ fn send_rings<A: Allocator + Copy, W: Sink>(
 ) -> Result<bool, Stop>
     requires { W.has_failed out.old ≡ false }
     ensures ok { IfOk result (λ refuses. Told (W.taken out.old) (W.taken out.new)
-        (λ text. RepliedLine map.now.doc map.now.doc (Asked (Rings feature)) text refuses)) }
+        (λ text. RepliedLine (state_of map.now) (state_of map.now) (Asked (Rings feature)) text refuses)) }
     ensures cut { OnErr result (AppendsPrefix (W.taken out.old) (W.taken out.new)
-        (reply_text (opened_state map.now.doc) (Asked (Rings feature)))) }
+        (reply_text (state_of map.now) (Asked (Rings feature)))) }
     ensures works { OnOk result (W.has_failed out.new ≡ false) }
     ensures failed { result ≡ Err Stop.Write → W.has_failed out.new ≡ true }
 {
@@ -72,9 +73,9 @@ fn send_counts<A: Allocator + Copy, W: Sink>(
 ) -> Result<bool, Stop>
     requires { W.has_failed out.old ≡ false }
     ensures ok { IfOk result (λ refuses. Told (W.taken out.old) (W.taken out.new)
-        (λ text. RepliedLine map.now.doc map.now.doc (Asked Count) text refuses)) }
+        (λ text. RepliedLine (state_of map.now) (state_of map.now) (Asked Count) text refuses)) }
     ensures cut { OnErr result (AppendsPrefix (W.taken out.old) (W.taken out.new)
-        (reply_text (opened_state map.now.doc) (Asked Count))) }
+        (reply_text (state_of map.now) (Asked Count))) }
     ensures works { OnOk result (W.has_failed out.new ≡ false) }
     ensures failed { result ≡ Err Stop.Write → W.has_failed out.new ≡ true }
 {
@@ -112,11 +113,12 @@ pub(crate) fn send_reply<A: Allocator + Copy, W: Sink>(
     said: Option<Line>,
     out: &mut W,
 ) -> Result<bool, Stop>
-    requires { W.has_failed out.old ≡ false }
+    requires sound { SaysSound said }
+    requires works { W.has_failed out.old ≡ false }
     ensures ok { IfOk result (λ refuses. Told (W.taken out.old) (W.taken out.new)
-        (λ text. RepliedLine map.old.doc map.new.doc (meaning_of_said said) text refuses)) }
+        (λ text. RepliedLine (state_of map.old) (state_of map.new) (meaning_of_said said) text refuses)) }
     ensures cut { OnErr result (AppendsPrefix (W.taken out.old) (W.taken out.new)
-        (reply_text (opened_state map.old.doc) (meaning_of_said said))) }
+        (reply_text (state_of map.old) (meaning_of_said said))) }
     ensures works { OnOk result (W.has_failed out.new ≡ false) }
     ensures failed { result ≡ Err Stop.Write → W.has_failed out.new ≡ true }
 {

@@ -21,7 +21,7 @@ pub(crate) fn push_number<A: Allocator + Copy, I: Integer>(
 }
 
 /// Appends both numbers with a space between them.
-fn push_position<A: Allocator + Copy>(
+pub(crate) fn push_position<A: Allocator + Copy>(
     text: &mut Vec<u8, A>,
     position: Pos,
 ) -> Result<(), OutOfMemory>

@@ -1,10 +1,10 @@
-// Numbers and positions at the front of a line.
-ghost use Rattle.std.specs.Prelude.{◌≡◌, ◌≢◌, ◌≤◌, ◌++◌, ◌<◌, ◌^◌, ℤ, List, ℕ, length, take_while, drop, MatchOption, FitsSigned};
+// Numbers, positions and tokens at the front of a line.
+ghost use Rattle.std.specs.Prelude.{◌≡◌, ◌≢◌, ◌≤◌, ◌++◌, ◌<◌, ◌^◌, ◌∷◌, ℤ, List, ℕ, length, take_while, drop, reverse, MatchOption, FitsSigned};
 ghost use Rattle.std.specs.Int.{w64};
 ghost use Rattle.std.specs.Fmt.{decimal, signed_decimal};
 ghost use Rattle.std.specs.Str.{bytes_eq};
 ghost use Rattle.grid_geometry.specs.Position.{Position};
-ghost use Rattle.script_runner.specs.Words.{is_letter, IsSpaced, IsPlace};
+ghost use Rattle.script_runner.specs.Words.{is_letter, is_unmarked, IsSpaced, IsFeature, IsPlace, IsToken};
 
 use grid_geometry::Pos;
 use itoa::{Buffer, Integer};
@@ -98,6 +98,21 @@ pub(crate) fn spaced_number(bytes: &[u8]) -> Option<(i64, &[u8])>
     }
 }
 
+/// The number of a feature behind a space, and what follows it.
+pub(crate) fn spaced_feature(bytes: &[u8]) -> Option<(u32, &[u8])>
+    ensures { MatchOption result
+        ((n : ℕ) (rest : List ℕ) → ¬ IsFeature bytes.now n rest)
+        (λ found. IsFeature bytes.now found.0 found.1.now) }
+{
+    let Some((number, rest)) = spaced_number(bytes) else {
+        return None;
+    };
+    match u32::try_from(number) {
+        Ok(feature) => Some((feature, rest)),
+        Err(_) => None,
+    }
+}
+
 /// The position in front, each of its numbers behind a space, and what follows it.
 pub(crate) fn spaced_position(bytes: &[u8]) -> Option<(Pos, &[u8])>
     ensures { MatchOption result
@@ -112,6 +127,29 @@ pub(crate) fn spaced_position(bytes: &[u8]) -> Option<(Pos, &[u8])>
     };
     match Pos::new(x, y) {
         Some(pos) => Some((pos, rest)),
+        None => None,
+    }
+}
+
+/// How many bytes stand behind the last quotation mark.
+fn unmarked_len(bytes: &[u8]) -> usize
+    ensures value { result ≡ length (take_while is_unmarked (reverse bytes.now)) }
+    ensures bound { result ≤ length bytes.now }
+{
+    bytes.iter().rev().take_while(|b| **b != b'"').count()
+}
+
+/// The token behind a space, from a quotation mark to the last one, and what follows it.
+pub(crate) fn spaced_token(bytes: &[u8]) -> Option<(&[u8], &[u8])>
+    ensures { MatchOption result
+        ((token rest : List ℕ) → ¬ IsToken bytes.now token rest)
+        (λ found. IsToken bytes.now found.0.now found.1.now) }
+{
+    let Some(tail) = behind(b" ", bytes) else {
+        return None;
+    };
+    match behind(b"\"", tail) {
+        Some(_) => Some(tail.split_at(tail.len() - unmarked_len(tail))),
         None => None,
     }
 }

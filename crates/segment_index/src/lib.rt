@@ -9,8 +9,6 @@ mod frame;
 mod grid_index;
 mod index;
 mod list_index;
-#[cfg(test)]
-mod tests;
 
 pub use grid_index::GridIndex;
 pub use index::SegIndex;

@@ -23,8 +23,6 @@ mod geometries;
 mod members;
 mod places;
 mod shape;
-#[cfg(test)]
-mod tests;
 mod token;
 mod words;
 

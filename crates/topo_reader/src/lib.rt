@@ -9,8 +9,6 @@ mod indexes;
 mod limits;
 mod reading;
 mod rings;
-#[cfg(test)]
-mod tests;
 
 pub use canonical::begin_at_least;
 pub use document::RawDoc;

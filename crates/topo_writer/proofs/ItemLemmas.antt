@@ -11,7 +11,7 @@ use Rattle.ring_machine.proofs.First.{In}
 use Rattle.ring_machine.proofs.Order.{and_both}
 use Rattle.ring_machine.proofs.Neighbours.{all_in, in-flat_map}
 use Rattle.ring_machine.proofs.Members.{contains_in}
-use Rattle.arc_store.specs.Items.{ShownItem, Opens, Closes, Stands, Keeps, shown_item}
+use Rattle.map_frame.specs.Readers.{ShownItem, Opens, Closes, Stands, Keeps, shown_item}
 use Rattle.topo_writer.specs.Items.{bare, item_at, written_item, written_at, feature_at, IsThere, ShowsLayer}
 use Rattle.topo_writer.specs.Opened.{is_begin, open_after, more_after}
 use Rattle.topo_writer.proofs.Later.{map_alike}

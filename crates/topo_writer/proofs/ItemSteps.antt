@@ -11,7 +11,7 @@ use Rattle.ring_machine.specs.Document.{Document, Head, Close, Text}
 use Rattle.ring_machine.specs.Vertices.{is_junction}
 use Rattle.map_text.specs.Arcs.{pieces, with_pieces}
 use Rattle.map_text.specs.Text.{comma_if, closing_text, items_text}
-use Rattle.arc_store.specs.Items.{ShownItem}
+use Rattle.map_frame.specs.Readers.{ShownItem}
 use Rattle.topo_writer.specs.Items.{item_at, item_rings, written_at}
 use Rattle.topo_writer.specs.Opened.{is_begin, open_after, more_after}
 use Rattle.topo_writer.proofs.ItemLemmas.{open_both, more_both}

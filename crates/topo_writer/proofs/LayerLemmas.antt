@@ -11,8 +11,7 @@ use Rattle.ring_machine.specs.Document.{Document, Layer, Item, Text}
 use Rattle.ring_machine.specs.Parts.{feature_of, rings_of, size}
 use Rattle.ring_machine.specs.Vertices.{is_junction}
 use Rattle.ring_machine.proofs.Members.{in_contains}
-use Rattle.arc_store.specs.Items.{ShownItem, shown_item}
-use Rattle.arc_store.specs.Readers.{ShownFrame, shown_layer}
+use Rattle.map_frame.specs.Readers.{ShownItem, shown_item, ShownFrame, shown_layer}
 use Rattle.map_text.specs.Arcs.{arcs_of, pieces, with_pieces}
 use Rattle.map_text.specs.Text.{items_text}
 use Rattle.topo_writer.specs.Items.{items_at, item_rings, items_written, written_item, LeadsOn, ShowsLayer}

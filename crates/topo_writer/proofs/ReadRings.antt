@@ -6,7 +6,7 @@ use Rattle.std.proofs.lemmas.Option.{unwrap_or-slice_get}
 use Rattle.grid_geometry.specs.Position.{Position}
 use Rattle.ring_machine.specs.Document.{Document}
 use Rattle.ring_machine.specs.Parts.{feature}
-use Rattle.arc_store.specs.Readers.{element}
+use Rattle.map_frame.specs.Readers.{element}
 use Rattle.topo_writer.specs.Reading.{positions_at, rings_at}
 
 -- a ring of a polygon is the ring with its number

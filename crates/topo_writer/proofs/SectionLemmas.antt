@@ -15,7 +15,7 @@ use Rattle.ring_machine.specs.Parts.{in_layer, rings, size}
 use Rattle.ring_machine.specs.Planar.{Proper}
 use Rattle.ring_machine.specs.WellFormed.{WellFormed}
 use Rattle.topo_outline.specs.Kept.{KeepsTexts}
-use Rattle.arc_store.specs.Readers.{ShownFrame}
+use Rattle.map_frame.specs.Readers.{ShownFrame}
 use Rattle.map_text.specs.Saved.{Saved}
 use Rattle.map_text.proofs.ReadingBack.{text_saves}
 use Rattle.map_text.specs.Arcs.{arcs_of}

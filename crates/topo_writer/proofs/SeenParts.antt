@@ -9,7 +9,7 @@ use Rattle.grid_geometry.specs.Position.{Position}
 use Rattle.ring_machine.specs.Document.{Document, Feature, Form, Polygon, Null}
 use Rattle.ring_machine.specs.WellFormed.{fits_form}
 use Rattle.ring_machine.specs.Parts.{feature}
-use Rattle.arc_store.specs.Readers.{element, shown, Shown}
+use Rattle.map_frame.specs.Readers.{element, shown, Shown}
 use Rattle.topo_writer.specs.Reading.{all_rings_at, rings_at, polygons_at}
 
 -- a polygon of a feature is the polygon with its number

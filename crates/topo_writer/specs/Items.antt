@@ -8,7 +8,7 @@ use Rattle.ring_machine.specs.Parts.{feature, feature_of, rings_of, in_item, in_
 use Rattle.ring_machine.specs.Vertices.{is_junction}
 use Rattle.topo_outline.specs.declared.document.Head.{Head as CodeHead}
 use Rattle.topo_outline.specs.Views.{view_head}
-use Rattle.arc_store.specs.Items.{ShownItem, Opens, Closes, Stands, Keeps, shown_item}
+use Rattle.map_frame.specs.Readers.{ShownItem, Opens, Closes, Stands, Keeps, shown_item}
 use Rattle.map_text.specs.Arcs.{arcs_of, indexes, pieces, with_pieces}
 
 -- ---- items as they are shown

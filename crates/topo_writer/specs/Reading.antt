@@ -4,7 +4,7 @@ use Rattle.std.specs.List.{flat_map}
 use Rattle.grid_geometry.specs.Position.{Position}
 use Rattle.ring_machine.specs.Document.{Document}
 use Rattle.ring_machine.specs.Parts.{feature}
-use Rattle.arc_store.specs.Readers.{element, ring_at}
+use Rattle.map_frame.specs.Readers.{element, ring_at}
 
 -- the positions of the ring with this number of the polygon with this number of a feature; none
 -- where there is no such ring

@@ -7,7 +7,7 @@ use Rattle.ring_machine.specs.Parts.{in_layer, size}
 use Rattle.ring_machine.specs.Planar.{Proper}
 use Rattle.ring_machine.specs.Vertices.{is_junction}
 use Rattle.ring_machine.specs.WellFormed.{WellFormed}
-use Rattle.arc_store.specs.Readers.{ShownFrame, shown_frame}
+use Rattle.map_frame.specs.Readers.{ShownFrame, shown_frame}
 use Rattle.map_text.specs.Arcs.{pieces, with_pieces}
 use Rattle.map_text.specs.Text.{commas, further, layer_member, member_if, member_text}
 use Rattle.topo_writer.specs.Items.{item_rings, written_item}

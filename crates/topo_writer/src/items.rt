@@ -11,7 +11,7 @@ ghost use Rattle.ring_machine.specs.Planar.{Proper};
 ghost use Rattle.ring_machine.specs.Vertices.{is_junction};
 ghost use Rattle.ring_machine.specs.WellFormed.{WellFormed};
 ghost use Rattle.topo_outline.specs.Views.{view_head};
-ghost use Rattle.arc_store.specs.Items.{view_item_view};
+ghost use Rattle.map_frame.specs.Shown.{view_item_view};
 ghost use Rattle.map_text.specs.Arcs.{arcs_of, indexes, pieces, with_pieces};
 ghost use Rattle.map_text.specs.Text.{comma_if, feature_text, items_text, opening_text};
 ghost use Rattle.topo_writer.specs.Found.{HasArcs};

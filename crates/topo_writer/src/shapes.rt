@@ -6,7 +6,7 @@ ghost use Rattle.ring_machine.specs.Ring.{edge_eq};
 ghost use Rattle.ring_machine.specs.Parts.{feature, rings};
 ghost use Rattle.ring_machine.specs.Planar.{Proper};
 ghost use Rattle.ring_machine.specs.Vertices.{is_junction};
-ghost use Rattle.arc_store.specs.Readers.{shown};
+ghost use Rattle.map_frame.specs.Readers.{shown};
 ghost use Rattle.map_text.specs.Arcs.{pieces, with_pieces};
 ghost use Rattle.topo_writer.specs.Found.{HasArcs};
 ghost use Rattle.topo_writer.specs.Named.{arcs_along};

@@ -6,6 +6,8 @@ mod devices;
 #[cfg(test)]
 mod faults;
 #[cfg(test)]
+mod features;
+#[cfg(test)]
 mod limits;
 #[cfg(test)]
 mod maps;

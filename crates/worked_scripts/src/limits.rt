@@ -144,3 +144,20 @@ fn a_script_without_an_end(rt: HostRuntime) -> Result<(), Fail> {
     assert!(rt; saved.writer.is_empty());
     Ok(())
 }
+
+/// A path of 256 positions is one, a path of 257 none.
+#[test]
+fn long_paths(rt: HostRuntime) -> Result<(), Fail> {
+    let front = b"split 0 \"C\" 0 0";
+    let line = long_text(&rt, front, b" 1 1", 254, b" 10 10")?;
+    assert_eq!(rt;
+        told(rt.alloc(), TWO_SQUARES.as_bytes(), line.as_slice())?.as_str(),
+        "refused repeated point\nanswered 1, refused 1"
+    );
+    let line = long_text(&rt, front, b" 1 1", 255, b" 10 10")?;
+    assert_eq!(rt;
+        told(rt.alloc(), TWO_SQUARES.as_bytes(), line.as_slice())?.as_str(),
+        "bad line\nanswered 1, refused 1"
+    );
+    Ok(())
+}

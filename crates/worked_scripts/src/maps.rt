@@ -35,3 +35,7 @@ pub(crate) const OTHER_NAMES: &str =
 /// Two islands of one feature, the first with a hole.
 pub(crate) const ISLANDS: &str =
     "{\"type\":\"Topology\",\"objects\":{\"i\":{\"type\":\"MultiPolygon\",\"arcs\":[[[0],[1]],[[2]]]}},\"arcs\":[[[0,9],[0,0],[9,0],[0,9]],[[3,1],[1,1],[1,3],[3,1]],[[20,0],[30,0],[20,8],[20,0]]]}";
+
+/// Two neighbours with one common side, and a common corner beside it.
+pub(crate) const TOUCHING: &str =
+    "{\"type\":\"Topology\",\"objects\":{\"l\":{\"type\":\"GeometryCollection\",\"geometries\":[{\"type\":\"Polygon\",\"arcs\":[[0,1,2]]},{\"type\":\"Polygon\",\"arcs\":[[-1,3,4]]}]}},\"arcs\":[[[10,0],[10,4]],[[10,4],[10,10]],[[10,10],[0,10],[0,0],[10,0]],[[10,0],[20,0],[20,10],[10,10]],[[10,10],[12,7],[10,4]]]}";

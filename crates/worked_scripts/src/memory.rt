@@ -7,7 +7,7 @@ use script_runner::{RunFault, run};
 use std::test::Fail;
 
 /// Scripts and their answers.
-const ROWS: [(&[u8], &[u8]); 3] = [
+const ROWS: [(&[u8], &[u8]); 4] = [
     (
         b"move 0 0 1 1\narea 0\nmove 1 1 9 20",
         b"ok\n1740\nrefused sweeps\n",
@@ -19,6 +19,10 @@ const ROWS: [(&[u8], &[u8]); 3] = [
     (
         b"at 4 9\nneighbours 0\nneighbours 2",
         b"inside: 0 border: 1\nneighbours:\nrefused no feature\n",
+    ),
+    (
+        b"split 0 \"c d\" 0 0 20 15 30 30\nmerge 0 2\nrename 1 \"\\u0074\"\ndelete 1\ncount",
+        b"ok 2\nok\nok\nok\nfeatures 1 vertices 4 segments 4\n",
     ),
 ];
 

@@ -95,6 +95,114 @@ fn questions_about_a_feature(rt: HostRuntime) -> Result<(), Fail> {
 }
 
 #[test]
+fn splits(rt: HostRuntime) -> Result<(), Fail> {
+    let lines = [
+        "split",
+        "split 0",
+        "split 0 \"C\"",
+        "split 0 \"C\" ",
+        "split 0 \"C\" 0 0",
+        "split 0 \"C\" 0 0 10",
+        "split 0 \"C\" 0 0 10 10 ",
+        "split 0 \"C\" 0 0 10 10 5",
+        "split  0 \"C\" 0 0 10 10",
+        "split 0  \"C\" 0 0 10 10",
+        "split 0 \"C\"  0 0 10 10",
+        "split 0 \"C\" 0 0  10 10",
+        "split 0 \"C\"0 0 10 10",
+        "split 0\"C\" 0 0 10 10",
+        "split 00 \"C\" 0 0 10 10",
+        "split -1 \"C\" 0 0 10 10",
+        "split 4294967296 \"C\" 0 0 10 10",
+        "split 0 C 0 0 10 10",
+        "split 0 'C' 0 0 10 10",
+        "split 0 \"C 0 0 10 10",
+        "split 0 C\" 0 0 10 10",
+        "split 0 \"C\" \"D\" 0 0 10 10",
+        "split 0 \"C\" 0 0 10 10 \"\"",
+        "split 0 null 0 0 10 10",
+        "split 0 [\"C\"] 0 0 10 10",
+        "split 0 \"\\x\" 0 0 10 10",
+        "split 0 \"\\\" 0 0 10 10",
+        "split 0 \"\\u004\" 0 0 10 10",
+        "split 0 \"\\ud800\" 0 0 10 10",
+        "split 0 \"\t\" 0 0 10 10",
+        "split 0 \"C\" 0 0 +10 10",
+        "split 0 \"C\" 0 0 010 10",
+        "split 0 \"C\" 0 0 1000000000001 10",
+        "split 0 \"C\" 0,0 10,10",
+        "Split 0 \"C\" 0 0 10 10",
+    ];
+    are_bad(&rt, rt.alloc(), &lines[..])
+}
+
+#[test]
+fn merges_and_deletions(rt: HostRuntime) -> Result<(), Fail> {
+    let lines = [
+        "merge",
+        "merge ",
+        "merge 0",
+        "merge 0 ",
+        "merge 0 1 ",
+        "merge 0 1 2",
+        "merge 0  1",
+        "merge  0 1",
+        "merge 00 1",
+        "merge 0 01",
+        "merge 0 -1",
+        "merge 0 4294967296",
+        "merge 4294967296 0",
+        "merges 0 1",
+        "delete",
+        "delete ",
+        "delete 0 ",
+        "delete 0 0",
+        "delete  0",
+        "delete 00",
+        "delete -1",
+        "delete +0",
+        "delete 4294967296",
+        "deletes 0",
+    ];
+    are_bad(&rt, rt.alloc(), &lines[..])
+}
+
+#[test]
+fn new_ids(rt: HostRuntime) -> Result<(), Fail> {
+    let lines = [
+        "rename",
+        "rename 0",
+        "rename 0 ",
+        "rename 0 A",
+        "rename 0 \"",
+        "rename 0 \"A",
+        "rename 0 A\"",
+        "rename 0 \"A\" ",
+        "rename 0 \"A\"\"",
+        "rename 0 \"A\" \"B\"",
+        "rename 0  \"A\"",
+        "rename  0 \"A\"",
+        "rename 0\"A\"",
+        "rename \"A\"",
+        "rename \"A\" 0",
+        "rename 00 \"A\"",
+        "rename -1 \"A\"",
+        "rename 4294967296 \"A\"",
+        "rename 0 1",
+        "rename 0 null",
+        "rename 0 'A'",
+        "rename 0 \"\\ud83d\"",
+        "rename 0 \"\\ude00\\ud83d\"",
+        "rename 0 \"\\U0041\"",
+        "rename 0 \"\\u{41}\"",
+        "rename 0 \"\\\"",
+        "rename 0 \"\u{1f}\"",
+        "Rename 0 \"A\"",
+    ];
+    are_bad(&rt, rt.alloc(), &lines[..])
+}
+
+#[test]
 fn other_lines(rt: HostRuntime) -> Result<(), Fail> {
     let lines = [
         "at",

@@ -1,9 +1,6 @@
-use Rattle.std.proofs.Common.{◌≡◌, ◌++◌, take}
-use Rattle.std.specs.List.{filter_map}
-use Rattle.arc_store.specs.Named.{name_of}
+use Rattle.arc_store.proofs.NamedRings.{NamesSoFar}
 use Rattle.arc_store.proofs.names.push_names.Given as goal
 
 -- the names of the rings so far
 abbrev pub invariant-loop-r : goal.invariant-loop-r
-invariant-loop-r g l =
-    l.out.items ≡ l.fn.out.items ++ filter_map (name_of l.names) (take l.r-index l.numbers)
+invariant-loop-r g l = NamesSoFar l.frame.doc l.numbers l.r-index l.fn.out.items l.out.items

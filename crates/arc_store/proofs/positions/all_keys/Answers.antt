@@ -1,22 +1,36 @@
-use Rattle.std.proofs.Common.{sym, ap, ◌∙◌, subst, []}
-use Rattle.std.specs.List.{flat_map}
-use Rattle.std.proofs.lemmas.List.{take_all}
+use Rattle.std.proofs.Common.{sym, ap, ◌∙◌, arith, map, option_map}
 use Rattle.map_opening.specs.Laying.{polygon_numbers}
-use Rattle.arc_store.proofs.KeyLists.{keys_of, ring_numbers, AreHeld, part_held, part_more, rings_listed}
+use Rattle.arc_store.proofs.KeysByNumber.{rings_found, feature_more, no_feature_more, at_held, all_along}
 use Rattle.arc_store.proofs.positions.all_keys.Goals as goal
+use Rattle.arc_store.proofs.positions.all_keys.Goals.{in-Some+in_ok-push_feature, in_default}
 
 pub push_feature-requires : goal.push_feature-requires
 push_feature-requires g c =
-    part_held c.args.borders.now ring_numbers c.args.features.now c.loop-polygons.polygons-index c.polygons-item.result (flat_map polygon_numbers c.as_slice.result.now) c.loop-polygons-test.true c.polygons-item.is (ap (flat_map polygon_numbers) c.as_slice.ensures.value)
-    (subst (AreHeld c.args.borders.now) (rings_listed c.args.features.now) c.requires)
+    let d = c.args.frame.now.doc in
+    let n = c.loop-n.n in
+    at_held d c.args.borders.now c.requires.held n _
+    (rings_found d n c.in-Some.polygons.now (ap (option_map (λ ps. map polygon_numbers ps.now)) (sym c.in-Some.is) ∙ c.polygons.ensures))
 
-pub loop-polygons-preserved : goal.loop-polygons-preserved
-loop-polygons-preserved g c =
-    part_more c.args.borders.now ring_numbers c.args.features.now c.loop-polygons.polygons-index c.polygons-item.result (flat_map polygon_numbers c.as_slice.result.now) c.loop-polygons-test.true c.polygons-item.is (ap (flat_map polygon_numbers) c.as_slice.ensures.value)
-    [] c.loop-polygons.keys.items c.push_feature.new.keys.items c.loop-polygons.invariant c.in_ok-push_feature.ensures
+pub loop-n-preserved : goal.loop-n-preserved
+loop-n-preserved g c =
+    let d = c.args.frame.now.doc in
+    let m = c.args.borders.now in
+    let n = c.loop-n.n in
+    let before = c.loop-n.keys.items in
+    elim c.match-polygons.branch [
+      | in-Some+in_ok-push_feature w ↦
+          feature_more d m n before c.match-polygons.keys.items _ c.loop-n.invariant
+          (rings_found d n w.in-Some.polygons.now (ap (option_map (λ ps. map polygon_numbers ps.now)) (sym w.in-Some.is) ∙ c.polygons.ensures))
+          (ap (λ z. z.items) w.keys-is ∙ w.in_ok-push_feature.ensures)
+      | in_default w ↦
+          ap (λ z. z.items) w.keys-is
+          ∙ no_feature_more d m n before c.loop-n.invariant
+          (ap (option_map (λ ps. map polygon_numbers ps.now)) (sym w.in_default.is) ∙ c.polygons.ensures)
+    ]
 
 pub returns : goal.returns
 returns g c =
-    c.loop-polygons.invariant
-    ∙ ap (λ fs. flat_map (keys_of c.args.borders.now) (flat_map ring_numbers fs)) (take_all c.loop-polygons.polygons-index c.args.features.now c.loop-polygons-test.false)
-    ∙ ap (flat_map (keys_of c.args.borders.now)) (sym (rings_listed c.args.features.now))
+    let n = c.loop-n.n in
+    all_along c.args.frame.now.doc n
+    (λ k past. c.next-n-end.ensures.below k (omega (arith, past, c.loop-n-test.false, c.next-n-end.ensures.next)))
+    c.requires.distinct c.args.borders.now c.loop-n.keys.items c.loop-n.invariant

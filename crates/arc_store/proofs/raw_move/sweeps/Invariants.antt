@@ -2,7 +2,7 @@ use Rattle.std.proofs.Common.{◌≡◌, take, false}
 use Rattle.std.specs.List.{list_any}
 use Rattle.ring_machine.specs.Document.{Document}
 use Rattle.ring_machine.specs.Sweep.{edge_sweeps}
-use Rattle.arc_store.specs.Holds.{IsIndexed}
+use Rattle.feature_exchange.specs.Holds.{IsIndexed}
 use Rattle.arc_store.proofs.raw_move.sweeps.Given as goal
 
 -- no edge so far sweeps over a position

@@ -1,4 +1,4 @@
-use Rattle.std.proofs.Common.{◌≡◌, ◌∙◌, ap, map, length}
+use Rattle.std.proofs.Common.{◌∙◌, ap, map, length}
 use Rattle.map_frame.proofs.BuiltAlike.{can_stand}
 use Rattle.map_frame.proofs.tests.frame_of.Goals as goal
 

@@ -1,5 +1,5 @@
-use Rattle.std.proofs.Common.{◌≡◌, ◌<◌, ◌∙◌, sym, ap, [], ◌∷◌, ◌++◌, length, get_or, arith}
-use Rattle.arc_store.specs.declared.names.RingName.{RingName}
+use Rattle.std.proofs.Common.{◌<◌, ◌∙◌, sym, ap, [], ◌∷◌, ◌++◌, length, get_or, arith}
+use Rattle.map_frame.specs.declared.names.RingName.{RingName}
 use Rattle.point_queries.specs.Odd.{is_held}
 use Rattle.point_queries.proofs.Odds.{filter_yes, filter_no}
 use Rattle.point_queries.proofs.inside.held.Goals as goal

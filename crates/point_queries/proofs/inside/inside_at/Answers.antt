@@ -1,8 +1,8 @@
-use Rattle.std.proofs.Common.{◌≡◌, ◌∙◌, sym, ap, subst, [], map}
+use Rattle.std.proofs.Common.{◌∙◌, sym, ap, subst, [], map}
 use Rattle.std.specs.List.{filter}
 use Rattle.ring_machine.specs.Parts.{features}
 use Rattle.ring_machine.specs.Query.{is_on_border}
-use Rattle.point_queries.specs.Odd.{ArePassed, AreOdd, ListsOdd, is_held}
+use Rattle.point_queries.specs.Odd.{AreOdd, ListsOdd, is_held}
 use Rattle.point_queries.specs.Users.{Rises}
 use Rattle.point_queries.proofs.Ascending.{numbers_rise}
 use Rattle.point_queries.proofs.HeldFeatures.{inside_are}

@@ -1,4 +1,4 @@
-use Rattle.std.proofs.Common.{◌≡◌, ◌∙◌, ap, subst, []}
+use Rattle.std.proofs.Common.{◌∙◌, ap, subst, []}
 use Rattle.std.specs.List.{filter}
 use Rattle.arc_store.specs.Near.{ListsNear}
 use Rattle.point_queries.specs.Odd.{is_passed, ray}

@@ -1,5 +1,6 @@
 use Rattle.std.proofs.Common.{◌+◌, ◌∙◌, refl, ap, take, map, length, arith}
 use Rattle.std.proofs.lemmas.List.{take_all}
+use Rattle.std.specs.List.{sum_by}
 use Rattle.std.proofs.lemmas.List.Sums.{sum_by_more}
 use Rattle.vertex_index.specs.Placement.{place}
 use Rattle.ring_machine.specs.Ring.{is_ring}
@@ -73,3 +74,11 @@ loop-ring-preserved g c = record {
 pub returns-clause-at : goal.returns-clause-at
 returns-clause-at g c =
     c.loop-ring.invariant.at ∙ ap (map (λ ring. ring.items)) (take_all c.loop-ring.ring-index c.args.rings.now c.loop-ring-test.false)
+
+pub returns-clause-few : goal.returns-clause-few
+returns-clause-few g c =
+    omega (
+      arith,
+      c.loop-ring.invariant.few,
+      ap (λ z. sum_by length (map (λ ring. ring.items) z)) (take_all c.loop-ring.ring-index c.args.rings.now c.loop-ring-test.false),
+    )

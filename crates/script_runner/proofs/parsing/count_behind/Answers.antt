@@ -1,5 +1,6 @@
 use Rattle.std.proofs.Common.{sym, ◌∙◌}
-use Rattle.script_runner.proofs.CommandLemmas.{not_empty, is_nil, count_long}
+use Rattle.script_runner.proofs.WordLemmas.{is_nil}
+use Rattle.script_runner.proofs.CommandLemmas.{not_empty, count_long}
 use Rattle.script_runner.proofs.parsing.count_behind.Goals as goal
 
 pub returns-then-is_empty : goal.returns-then-is_empty

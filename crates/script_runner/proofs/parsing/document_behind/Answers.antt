@@ -1,5 +1,6 @@
 use Rattle.std.proofs.Common.{sym, ◌∙◌}
-use Rattle.script_runner.proofs.CommandLemmas.{not_empty, is_nil, document_long}
+use Rattle.script_runner.proofs.WordLemmas.{is_nil}
+use Rattle.script_runner.proofs.CommandLemmas.{not_empty, document_long}
 use Rattle.script_runner.proofs.parsing.document_behind.Goals as goal
 
 pub returns-then-is_empty : goal.returns-then-is_empty

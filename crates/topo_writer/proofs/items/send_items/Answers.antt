@@ -1,11 +1,12 @@
-use Rattle.std.proofs.Common.{◌≡◌, sym, ap, ◌∙◌, subst, inl, refl, [], ◌∷◌, ◌++◌, map, append_assoc, true, false}
+use Rattle.std.proofs.Common.{◌≡◌, ℕ, sym, ap, ◌∙◌, subst, inl, refl, List, [], ◌∷◌, ◌++◌, map, append_assoc, append-nil}
+use Rattle.std.proofs.Common.{true, false, Option, Some, None}
 use Rattle.std.specs.Io.KnownBytes.{Appends}
 use Rattle.std.specs.List.{flat_map}
 use Rattle.std.proofs.lemmas.List.{map-append}
 use Rattle.device_io.specs.Devices.{AppendsPrefix}
 use Rattle.ring_machine.specs.Vertices.{is_junction}
 use Rattle.ring_machine.proofs.First.{In, in_right}
-use Rattle.arc_store.specs.Items.{view_item_view}
+use Rattle.map_frame.specs.Shown.{view_item_view}
 use Rattle.map_text.specs.Arcs.{pieces, with_pieces}
 use Rattle.map_text.specs.Text.{items_text}
 use Rattle.topo_writer.specs.Named.{arcs_along}
@@ -16,6 +17,26 @@ use Rattle.topo_writer.proofs.ItemSteps.{heads_step, more_step, sent_step, sent_
 use Rattle.topo_writer.proofs.SectionLemmas.{on_err}
 use Rattle.topo_writer.proofs.Leading.{leads_first, leads_off}
 use Rattle.topo_writer.proofs.items.send_items.Goals as goal
+
+nothing_sent : (o : Option (List ℕ)) → Appends o o []
+nothing_sent None = tt
+nothing_sent (Some xs) = sym (append-nil xs)
+
+pub loop-item-init : goal.loop-item-init
+loop-item-init g c =
+    let d = c.args.map.now.doc in
+    let begun = c.into_iter-item-iterator.ensures.into_iter_gives in
+    record {
+      all = sym begun;
+      table = c.requires.table;
+      leads = subst (λ z. LeadsOn d (arcs_along d c.args.arcs.now.rings.items) (items_at d z)) (sym begun) c.requires.leads;
+      arcs = refl;
+      heads = ap open_heads c.new-heads.ensures.items;
+      empty = c.requires.empty;
+      sent = nothing_sent (g.W.Sink.taken c.args.out.now);
+      works = c.requires.working;
+      more = refl;
+    }
 
 pub send_item-requires-clause-there : goal.send_item-requires-clause-there
 send_item-requires-clause-there g c =

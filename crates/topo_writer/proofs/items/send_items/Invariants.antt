@@ -4,7 +4,7 @@ use Rattle.std.specs.List.{flat_map}
 use Rattle.indexmap.specs.IndexMap.{get}
 use Rattle.ring_machine.specs.Ring.{edge_eq}
 use Rattle.ring_machine.specs.Vertices.{is_junction}
-use Rattle.arc_store.specs.Items.{view_item_view}
+use Rattle.map_frame.specs.Shown.{view_item_view}
 use Rattle.map_text.specs.Arcs.{pieces, with_pieces}
 use Rattle.map_text.specs.Text.{items_text}
 use Rattle.topo_writer.specs.Found.{HasArcs}

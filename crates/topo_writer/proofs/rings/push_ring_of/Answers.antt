@@ -1,4 +1,4 @@
-use Rattle.std.proofs.Common.{arith, ◌≡◌, ◌∷◌, [], ◌++◌, sym, ap, ◌∙◌, length}
+use Rattle.std.proofs.Common.{arith, ◌≡◌, ◌∷◌, [], ◌++◌, ap, ◌∙◌, length}
 use Rattle.indexmap.specs.IndexMap.{get}
 use Rattle.ring_machine.specs.Ring.{edge_eq}
 use Rattle.ring_machine.specs.Vertices.{is_junction}

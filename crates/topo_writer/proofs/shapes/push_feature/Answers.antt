@@ -1,7 +1,7 @@
 use Rattle.std.proofs.Common.{◌≡◌, ap, ◌∙◌, ◌++◌, map}
 use Rattle.std.specs.Prelude.{codes}
 use Rattle.ring_machine.specs.Vertices.{is_junction}
-use Rattle.arc_store.specs.Readers.{shown, Shown}
+use Rattle.map_frame.specs.Readers.{shown, Shown}
 use Rattle.map_text.specs.Text.{further, member_if, member_text, type_text}
 use Rattle.topo_writer.specs.Named.{arcs_along}
 use Rattle.topo_writer.specs.Ways.{written_shape}

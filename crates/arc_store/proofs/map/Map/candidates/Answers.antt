@@ -1,9 +1,8 @@
 use Rattle.std.proofs.Common.{◌≡◌, true, map, ap, is_ok, subst}
 use Rattle.ring_machine.specs.Parts.{features}
 use Rattle.ring_machine.specs.WellFormed.{are_distinct}
-use Rattle.arc_store.specs.Kept.{stored}
+use Rattle.feature_exchange.specs.Stored.{stored, ring_under}
 use Rattle.arc_store.specs.Near.{ListsNear}
-use Rattle.arc_store.specs.Stored.{ring_under}
 use Rattle.segment_index.specs.Times.{times_by}
 use Rattle.ring_machine.proofs.FormedRings.{formed-in_rings}
 use Rattle.arc_store.proofs.NearLemmas.{near_listed}

@@ -1,13 +1,12 @@
 use Rattle.std.proofs.Common.{sym, subst, ap, ◌∙◌, arith}
 use Rattle.ring_machine.specs.Vertices.{ins}
 use Rattle.segment_index.specs.Candidates.{AreSingle}
-use Rattle.arc_store.specs.Kept.{stored}
+use Rattle.feature_exchange.specs.Stored.{stored, document_of}
 use Rattle.arc_store.specs.Planned.{AreNew}
-use Rattle.arc_store.specs.Stored.{document_of}
 use Rattle.arc_store.proofs.Indexed.{indexed_apart}
 use Rattle.arc_store.proofs.InsertPlan.{first_key, second_key, insert_off, insert_new, insert_single}
 use Rattle.arc_store.proofs.InsertPlan.{insert_unjoined, insertable, doc_inserted, size_grows, kept_inserted}
-use Rattle.arc_store.proofs.SegmentBound.{segments_bound}
+use Rattle.feature_exchange.proofs.SegmentBound.{segments_bound}
 use Rattle.arc_store.proofs.Tested.{inserted_few}
 use Rattle.arc_store.proofs.map.Map.raw_insert.Goals as goal
 
@@ -62,7 +61,7 @@ overflow_add-self g c =
     omega (
       arith,
       small,
-      size_grows m.frame m.borders c.put_in.new.borders m.vertices c.put_in.new.vertices held (g.I.SegIndex.held c.put_in.new.index) m.next m.positions m.segments c.self.invariant c.in-Some.i c.in-Some-key_of.j c.args.a c.args.b c.args.q c.in-Some.ensures.found c.in-Some-key_of.ensures.found border free accepted c.in_ok-put_in.ensures.put c.uses-rings.result c.uses-rings.ensures,
+      size_grows m.frame m.borders c.put_in.new.borders m.vertices c.put_in.new.vertices held (g.I.SegIndex.held c.put_in.new.index) m.positions m.segments c.self.invariant c.in-Some.i c.in-Some-key_of.j c.args.a c.args.b c.args.q c.in-Some.ensures.found c.in-Some-key_of.ensures.found border free accepted c.in_ok-put_in.ensures.put c.uses-rings.result c.uses-rings.ensures,
     )
 
 pub overflow_add-self-2 : goal.overflow_add-self-2
@@ -79,7 +78,7 @@ invariant_of-self-2 g c =
     let free = rw (← c.self.view_is) at c.requires.free in
     let small = rw (← c.self.view_is) at c.requires.small in
     let accepted = c.in_ok-test_insert.ensures.accepted (document_of s) (insertable s held c.self.invariant.holds c.args.a c.args.b c.args.q border free small) in
-    kept_inserted m.frame m.borders c.put_in.new.borders m.vertices c.put_in.new.vertices held (g.I.SegIndex.held c.put_in.new.index) m.next m.positions m.segments c.self.invariant c.in-Some.i c.in-Some-key_of.j c.args.a c.args.b c.args.q c.in-Some.ensures.found c.in-Some-key_of.ensures.found border free accepted c.in_ok-put_in.ensures.put c.uses-rings.result c.uses-rings.ensures
+    kept_inserted m.frame m.borders c.put_in.new.borders m.vertices c.put_in.new.vertices held (g.I.SegIndex.held c.put_in.new.index) m.positions m.segments c.self.invariant c.in-Some.i c.in-Some-key_of.j c.args.a c.args.b c.args.q c.in-Some.ensures.found c.in-Some-key_of.ensures.found border free accepted c.in_ok-put_in.ensures.put c.uses-rings.result c.uses-rings.ensures
     c.in-Some-new.before c.as_slice-after.result.now c.in-Some-new.ensures.some (c.as_slice-after.ensures.value ∙ c.in_ok-after.ensures) c.in_ok-put_in.ensures.exchanged
 
 pub returns-clause-inserted : goal.returns-clause-inserted
@@ -91,7 +90,7 @@ returns-clause-inserted g c =
     let free = rw (← c.self.view_is) at c.requires.free in
     let small = rw (← c.self.view_is) at c.requires.small in
     let accepted = c.in_ok-test_insert.ensures.accepted (document_of s) (insertable s held c.self.invariant.holds c.args.a c.args.b c.args.q border free small) in
-    doc_inserted m.frame m.borders c.put_in.new.borders m.vertices c.put_in.new.vertices held (g.I.SegIndex.held c.put_in.new.index) m.next m.positions m.segments c.self.invariant c.in-Some.i c.in-Some-key_of.j c.args.a c.args.b c.args.q c.in-Some.ensures.found c.in-Some-key_of.ensures.found border free accepted c.in_ok-put_in.ensures.put
+    doc_inserted m.frame m.borders c.put_in.new.borders m.vertices c.put_in.new.vertices held (g.I.SegIndex.held c.put_in.new.index) m.positions m.segments c.self.invariant c.in-Some.i c.in-Some-key_of.j c.args.a c.args.b c.args.q c.in-Some.ensures.found c.in-Some-key_of.ensures.found border free accepted c.in_ok-put_in.ensures.put
     ∙ ap (λ z. ins z.doc c.args.a c.args.b c.args.q) c.self.view_is
 
 -- ---- the tests

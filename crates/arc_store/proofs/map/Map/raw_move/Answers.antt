@@ -6,9 +6,9 @@ use Rattle.ring_machine.specs.Ring.{has}
 use Rattle.ring_machine.specs.Command.{Sweeps}
 use Rattle.ring_machine.specs.Refusals.{first_of, ◌unless◌}
 use Rattle.segment_index.specs.Candidates.{AreAmong, AreSingle}
-use Rattle.arc_store.specs.Kept.{stored}
+use Rattle.feature_exchange.specs.Stored.{stored}
 use Rattle.arc_store.specs.Planned.{AreNew, spokes}
-use Rattle.arc_store.proofs.Base.{vertex_key}
+use Rattle.feature_exchange.proofs.Base.{vertex_key}
 use Rattle.arc_store.proofs.MovePlan.{all_placed, off_before, off_after, held_apart, move_conflicts, move_decided}
 use Rattle.arc_store.proofs.MovePlan.{plan_new, plan_single, plan_held, plan_once, document_after, kept_after}
 use Rattle.arc_store.proofs.Tested.{conflicts_few, sweeps_few}
@@ -80,7 +80,7 @@ shift-requires-clause-before_once g c =
 
 pub invariant_of-self-2 : goal.invariant_of-self-2
 invariant_of-self-2 g c =
-    kept_after c.shift.result c.self.inside.frame c.self.inside.borders c.self.inside.vertices c.shift.new.vertices (g.I.SegIndex.held c.self.inside.index) (g.I.SegIndex.held c.shift.new.index) c.self.inside.next c.self.inside.positions c.self.inside.segments c.self.invariant c.args.self.now.doc (ap (λ z. z.doc) c.self.view_is) c.in-Some.k c.args.p c.args.q c.in-Some.ensures.found c.requires.free
+    kept_after c.shift.result c.self.inside.frame c.self.inside.borders c.self.inside.vertices c.shift.new.vertices (g.I.SegIndex.held c.self.inside.index) (g.I.SegIndex.held c.shift.new.index) c.self.inside.positions c.self.inside.segments c.self.invariant c.args.self.now.doc (ap (λ z. z.doc) c.self.view_is) c.in-Some.k c.args.p c.args.q c.in-Some.ensures.found c.requires.free
     (move_decided (stored c.self.inside.frame c.self.inside.borders c.self.inside.vertices) (g.I.SegIndex.held c.self.inside.index) c.self.invariant.holds c.args.self.now.doc (ap (λ z. z.doc) c.self.view_is) c.in-Some.k c.args.p c.args.q c.in-Some.ensures.found c.requires.vertex c.requires.free c.in_ok-around.around.items c.in_ok-around.ensures c.as_slice-3.result.now
     (c.as_slice-3.ensures.value ∙ c.in_ok-after.ensures ∙ ap (spokes c.args.q) c.as_slice-2.ensures.value)
     c.as_slice-4.result.now c.as_slice-4.ensures.value c.in_ok-sweeps.field-0 c.in_ok-test_planar.ensures.apart c.in_ok-sweeps.ensures.sweeps

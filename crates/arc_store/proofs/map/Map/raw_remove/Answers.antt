@@ -2,9 +2,8 @@ use Rattle.std.proofs.Common.{◌∙◌, ap, arith}
 use Rattle.std.proofs.lemmas.Result.{err_from_is_err_and}
 use Rattle.ring_machine.specs.Parts.{is_vertex}
 use Rattle.ring_machine.specs.Vertices.{is_junction}
-use Rattle.arc_store.specs.Kept.{stored}
-use Rattle.arc_store.specs.Stored.{document_of}
-use Rattle.arc_store.proofs.Base.{vertex_key}
+use Rattle.feature_exchange.specs.Stored.{stored, document_of}
+use Rattle.feature_exchange.proofs.Base.{vertex_key}
 use Rattle.arc_store.proofs.Indexed.{indexed_apart}
 use Rattle.arc_store.proofs.RemovePlan.{two_neighbours, found, first_there, second_there}
 use Rattle.arc_store.proofs.RemovePlan.{found_off, found_planned, not_joined, three_apart, taken}

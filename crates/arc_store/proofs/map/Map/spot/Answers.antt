@@ -2,7 +2,7 @@ use Rattle.std.proofs.Common.{sym, ap, ◌∙◌, subst, Some, arith}
 use Rattle.ring_machine.specs.Parts.{is_vertex}
 use Rattle.ring_machine.specs.Vertices.{is_junction}
 use Rattle.grid_geometry.specs.Segment.{segment}
-use Rattle.arc_store.specs.Kept.{stored}
+use Rattle.feature_exchange.specs.Stored.{stored}
 use Rattle.arc_store.specs.Spots.{IsSpot, IsBetween, IsShortest}
 use Rattle.vertex_index.specs.Placement.{place}
 use Rattle.arc_store.proofs.Reading.{no_vertex}

@@ -1,6 +1,6 @@
 use Rattle.std.proofs.Common.{refl, ap₂, ◌∙◌, length, inl, inr}
 use Rattle.grid_geometry.specs.Segment.{Segment}
-use Rattle.arc_store.specs.Kept.{stored}
+use Rattle.feature_exchange.specs.Stored.{stored}
 use Rattle.arc_store.specs.Spots.{users}
 use Rattle.arc_store.proofs.Reading.{users_read, unused_read}
 use Rattle.arc_store.proofs.map.Map.uses.Goals as goal

@@ -1,4 +1,4 @@
-use Rattle.std.proofs.Common.{rules, arith, ◌≡◌, ℤ, pos, negsuc, None, Some, sym, ap, ap₂, subst, ◌∙◌, length, ◌+◌, ◌++◌, cond, List}
+use Rattle.std.proofs.Common.{rules, arith, ◌≡◌, pos, negsuc, None, Some, sym, ap, ap₂, subst, ◌∙◌, length, ◌++◌, cond, List}
 use Rattle.std.proofs.Common.{[], ◌∷◌, ◌-◌, to_z, of_z, w64}
 use Rattle.std.specs.Prelude.{is_some}
 use Rattle.std.proofs.Math.Facts.{to_z-of_z}
@@ -6,7 +6,7 @@ use Rattle.std.proofs.lemmas.List.{length-append}
 use Rattle.grid_geometry.specs.Position.{Position}
 use Rattle.indexmap.specs.IndexMap.{get}
 use Rattle.ring_machine.specs.Ring.{edge_eq}
-use Rattle.topo_writer.specs.Found.{found, first_edge, last_edge, with_found, Fits, HasArcs}
+use Rattle.topo_writer.specs.Found.{found, first_edge, last_edge, with_found, HasArcs}
 use Rattle.topo_writer.proofs.FoundLaws.{found_first, found_both, found_known, at_place_is}
 use Rattle.topo_writer.proofs.arcs.Arcs.index.Given.{Over}
 use Rattle.topo_writer.proofs.arcs.Arcs.index.Goals as goal

@@ -1,4 +1,4 @@
-use Rattle.std.proofs.Common.{rules, arith, ◌≡◌, ◌+◌, ◌<◌, ◌++◌, [], ◌∷◌, sym, ap, ◌∙◌, subst, drop, length, to_z, of_z, w64}
+use Rattle.std.proofs.Common.{rules, arith, ◌≡◌, ◌+◌, ◌<◌, ◌++◌, [], ◌∷◌, sym, ap, ◌∙◌, subst, drop, length}
 use Rattle.std.proofs.Math.Facts.{to_z-of_z}
 use Rattle.std.proofs.lemmas.List.{drop_more}
 use Rattle.indexmap.specs.IndexMap.{get}

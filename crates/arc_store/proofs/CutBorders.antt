@@ -1,0 +1,184 @@
+-- What a path that may cut a feature makes of the document: its segments come, its ends and inner
+-- positions are counted once more, and each ring is one.
+use Rattle.std.proofs.Common.{◌≡◌, ℕ, ◌+◌, ◌*◌, Bool, true, false, refl, sym, ap, ap₂, ◌∙◌, subst}
+use Rattle.std.proofs.Common.{List, [], ◌∷◌, ◌++◌, map, length, ◌||◌, inl, inr, Some, arith}
+use Rattle.std.specs.Prelude.{not}
+use Rattle.std.specs.List.{list_any, list_all, flat_map, filter, sum_by}
+use Rattle.std.proofs.lemmas.List.{append-nil}
+use Rattle.std.proofs.lemmas.List.Concat.{flat_map-append}
+use Rattle.std.proofs.lemmas.List.Filters.{sum_by-filter_both}
+use Rattle.std.proofs.lemmas.List.Sums.{sum_by-append, sum_by-cons}
+use Rattle.grid_geometry.specs.Position.{Position}
+use Rattle.grid_geometry.specs.Segment.{Segment, segment_eq}
+use Rattle.grid_geometry.specs.Ring.{Edge, links}
+use Rattle.ring_machine.specs.Ring.{canonical, has, is_ring, segments, segment_of}
+use Rattle.ring_machine.specs.Document.{Document, Feature, Text}
+use Rattle.ring_machine.specs.Parts.{features, feature, rings_of, rings, size, is_vertex, is_segment}
+use Rattle.ring_machine.specs.Planar.{Proper}
+use Rattle.ring_machine.specs.Cut.{Path, cut, instead, stays, is_cut_by, first_that, first_part}
+use Rattle.ring_machine.specs.Cut.{second_part, first_polygon, second_polygon, goes_first}
+use Rattle.ring_machine.specs.Refusals.{feature_at, or_else, no_feature, positions_of}
+use Rattle.ring_machine.proofs.CutJoined.{new_part, parts, cut_is}
+use Rattle.ring_machine.proofs.CutRings.{CutRing}
+use Rattle.ring_machine.proofs.First.{In, in_right}
+use Rattle.ring_machine.proofs.Found.{has_feature-found, feature_stands}
+use Rattle.ring_machine.proofs.Members.{there}
+use Rattle.ring_machine.proofs.Neighbours.{in-flat_map, none_in, all_in}
+use Rattle.ring_machine.proofs.Passed.{pass_all}
+use Rattle.ring_machine.proofs.Removal.{none_parts}
+use Rattle.ring_machine.proofs.SplitBorders.{any_ring_after}
+use Rattle.ring_machine.proofs.SplitDocuments.{SplitDocument, split_document, new_one}
+use Rattle.ring_machine.proofs.SplitFeatures.{SplitFeature}
+use Rattle.ring_machine.proofs.SplitProper.{target_there}
+use Rattle.ring_machine.proofs.SplitRings.{CutsRing, is_edge_of, cut_of}
+use Rattle.ring_machine.proofs.SplitSegments.{path_segments, canonical_parts_segments, parts_length}
+use Rattle.ring_machine.proofs.Without.{size-instead_at}
+use Rattle.arc_store.specs.Splits.{IsCuttable}
+use Rattle.arc_store.proofs.Insertions.{has_segment, is_segment_by}
+
+-- what is weaker than a test that none passes
+none_weaker : {A : Type 0} (strong weak : A → Bool) → ((x : A) → strong x ≡ false → weak x ≡ false)
+    → (xs : List A) → list_any strong xs ≡ false → list_any weak xs ≡ false
+none_weaker strong weak h [] k = refl
+none_weaker strong weak h (x ∷ xs) k =
+    let k' = none_parts (strong x) (list_any strong xs) k in
+    ap₂ (λ a b. a || b) (h x k'.0) (none_weaker strong weak h xs k'.1)
+
+same_one : {A : Type 0} (x y : A) → x ∷ [] ≡ y ∷ [] → x ≡ y
+same_one x y e = cc
+
+-- ---- positions counted
+
+sum_flat : {A : Type 0} (f : A → ℕ) (us : List (List A)) (x : List A) (vs : List (List A))
+    → sum_by f (flat_map (λ q. q) (us ++ x ∷ vs))
+    ≡ sum_by f (flat_map (λ q. q) us) + (sum_by f x + sum_by f (flat_map (λ q. q) vs))
+sum_flat f us x vs =
+    ap (sum_by f) (flat_map-append (λ q. q) us (x ∷ vs))
+    ∙ sum_by-append f (flat_map (λ q. q) us) (x ++ flat_map (λ q. q) vs)
+    ∙ ap (λ z. sum_by f (flat_map (λ q. q) us) + z) (sum_by-append f x (flat_map (λ q. q) vs))
+
+parts_size : (path : Path) (number : ℕ) (id : Text) (f : Feature) (s : SplitFeature path number id f)
+    → CutRing s.outer path.first path.last →
+    sum_by length (rings_of (stays path f)) + sum_by length (second_polygon path (s.outer ∷ s.holes))
+    ≡ sum_by length (rings_of f) + 2 + 2 * length path.inner
+parts_size path number id f s c =
+    let p : List (List Position) = s.outer ∷ s.holes in
+    let test = goes_first (first_part s.outer path) in
+    omega (
+      arith,
+      ap (λ z. sum_by length (flat_map (λ q. q) z)) s.is ∙ sum_flat length s.before p s.after,
+      ap (λ z. sum_by length (flat_map (λ q. q) z)) s.kept ∙ sum_flat length s.before (first_polygon path p) s.after,
+      sum_by-cons length s.outer s.holes,
+      sum_by-cons length (canonical (first_part s.outer path)) (filter test s.holes),
+      sum_by-cons length (canonical (second_part s.outer path)) (filter (λ h. not (test h)) s.holes),
+      sum_by-filter_both test (λ h. not (test h)) (λ h. refl) length s.holes,
+      parts_length s.outer path c,
+    )
+
+module _ (d : Document) (next n : ℕ) (id : Text) (path : Path) (a : IsCuttable d n path) where
+  split : SplitDocument d next n id path
+  split = split_document d next n id path a.formed a.there a.cut
+
+  abbrev outer : List Position
+  outer = split.split.outer
+
+  abbrev polygon : List (List Position)
+  polygon = split.split.outer ∷ split.split.holes
+
+  outer_there : In outer (rings d)
+  outer_there = target_there d next n id path split
+
+  -- ---- segments
+
+  not_edge : (e : Edge) → is_segment d (segment_of e) ≡ false → is_edge_of outer e ≡ false
+  not_edge e k =
+      none_in (has_segment (segment_of e)) (rings d) outer (sym (is_segment_by d (segment_of e)) ∙ k) outer_there
+
+  cuts : CutsRing outer path
+  cuts = record {
+    formed = all_in is_ring (rings d) outer a.proper.are_rings outer_there;
+    first = split.split.first;
+    last = split.split.last;
+    distinct = a.different;
+    free = none_weaker (is_vertex d) (has outer) (λ p k. none_in (λ ring. has ring p) (rings d) outer k outer_there) path.inner a.free;
+    new = none_weaker (λ e. is_segment d (segment_of e)) (is_edge_of outer) not_edge (links (positions_of path)) a.new;
+  }
+
+  the_cut : CutRing outer path.first path.last
+  the_cut = cut_of outer path cuts
+
+  -- the segments after the cut are those before and those of the path
+  pub cut_segments : (s : Segment) → is_segment (cut d n id path next) s
+      ≡ (is_segment d s || list_any (segment_eq s) (path_segments path))
+  cut_segments s =
+      is_segment_by (cut d n id path next) s
+      ∙ any_ring_after d next n id path split (has_segment s) (list_any (segment_eq s) (path_segments path)) (canonical_parts_segments (segment_eq s) outer path the_cut)
+      ∙ ap (λ z. z || list_any (segment_eq s) (path_segments path)) (sym (is_segment_by d s))
+
+  -- ---- size
+
+  feature_is : feature d n ≡ Some split.old
+  feature_is =
+      let f = there (feature d n) (sym (has_feature-found d n) ∙ a.there) in
+      f.1 ∙ ap (λ k. Some k) (sym (ap (or_else no_feature) f.1) ∙ split.found)
+
+  -- both ends of the path and its inner positions are counted once more
+  pub cut_size : size (cut d n id path next) ≡ size d + 2 + 2 * length path.inner
+  cut_size =
+      let f : Feature = split.old in
+      let both : sum_by length (flat_map rings_of (parts d n id path next f)) ≡ sum_by length (rings_of (stays path f)) + sum_by length (second_polygon path polygon) =
+      ap (λ ps. sum_by length (rings_of (stays path f) ++ flat_map rings_of (map (new_part path next id f) ps))) split.split.target
+      ∙ sum_by-append length (rings_of (stays path f)) ((second_polygon path polygon ++ []) ++ [])
+      ∙ ap (λ z. sum_by length (rings_of (stays path f)) + sum_by length z) (append-nil (second_polygon path polygon ++ []) ∙ append-nil (second_polygon path polygon)) in
+      let is : size (cut d n id path next) ≡ size (instead n (parts d n id path next) d) = ap size (cut_is d n id path next) in
+      omega (
+        arith,
+        is,
+        both,
+        size-instead_at d n f (feature_stands d a.formed n f feature_is) (parts d n id path next),
+        parts_size path next id f split.split the_cut,
+      )
+
+  -- ---- rings
+
+  -- the polygon that is found is that one
+  polygon_is : (p : List (List Position))
+      → first_that (is_cut_by path) (feature_at d n).polygons ≡ p ∷ [] → p ≡ polygon
+  polygon_is p e =
+      same_one p polygon (sym e ∙ ap (λ (k : Feature). first_that (is_cut_by path) k.polygons) split.found ∙ split.split.target)
+
+  of_feature : (f : Feature) (r : List Position)
+      → In f (split.before ++ stays path split.old ∷ new_one d next n id path split ∷ split.after)
+      → In r (rings_of f) → In r (rings (cut d n id path next))
+  of_feature f r i j =
+      in-flat_map rings_of f r (features (cut d n id path next)) (subst (In f) (sym split.result) i) j
+
+  module _ (proper : Proper (cut d n id path next)) (p : List (List Position))
+      (e : first_that (is_cut_by path) (feature_at d n).polygons ≡ p ∷ []) where
+    first_there : (r : List Position) → In r (first_polygon path polygon)
+        → In r (rings (cut d n id path next))
+    first_there r i =
+        let new = new_one d next n id path split in
+        of_feature (stays path split.old) r (in_right (stays path split.old) split.before (stays path split.old ∷ new ∷ split.after) (inl refl))
+        (in-flat_map (λ q. q) (first_polygon path polygon) r (stays path split.old).polygons
+        (subst (In (first_polygon path polygon)) (sym split.split.kept) (in_right (first_polygon path polygon) split.split.before (first_polygon path polygon ∷ split.split.after) (inl refl))) i)
+
+    second_there : (r : List Position) → In r (second_polygon path polygon)
+        → In r (rings (cut d n id path next))
+    second_there r i =
+        let new = new_one d next n id path split in
+        of_feature new r (in_right new split.before (stays path split.old ∷ new ∷ split.after) (inr (inl refl)))
+        (in-flat_map (λ q. q) (second_polygon path polygon) r (second_polygon path polygon ∷ []) (inl refl) i)
+
+    is_ring_there : (r : List Position) → In r (rings (cut d n id path next)) → is_ring r ≡ true
+    is_ring_there r i = all_in is_ring (rings (cut d n id path next)) r proper.are_rings i
+
+    pub first_rings : list_all is_ring (first_polygon path p) ≡ true
+    first_rings =
+        ap (λ q. list_all is_ring (first_polygon path q)) (polygon_is p e)
+        ∙ pass_all is_ring (first_polygon path polygon) (λ r i. is_ring_there r (first_there r i))
+
+    pub second_rings : list_all is_ring (second_polygon path p) ≡ true
+    second_rings =
+        ap (λ q. list_all is_ring (second_polygon path q)) (polygon_is p e)
+        ∙ pass_all is_ring (second_polygon path polygon) (λ r i. is_ring_there r (second_there r i))

@@ -1,0 +1,119 @@
+-- What is kept when features were exchanged.
+use Rattle.std.proofs.Common.{◌≡◌, ◌≤◌, ℕ, ◌+◌, ◌-◌, true, refl, sym, ap, ◌∙◌, subst, Option, None, Some, is_some}
+use Rattle.std.proofs.Common.{List, [], length, arith}
+use Rattle.std.specs.FinSet as set
+use Rattle.std.specs.List.{sum_by, flat_map}
+use Rattle.grid_geometry.specs.Position.{Position}
+use Rattle.ring_machine.specs.Document.{Document, Feature, Text}
+use Rattle.ring_machine.specs.Machine.{renamed}
+use Rattle.ring_machine.specs.Parts.{feature, has_feature, rings_of, size}
+use Rattle.ring_machine.specs.Planar.{Proper}
+use Rattle.ring_machine.specs.WellFormed.{WellFormed}
+use Rattle.ring_machine.specs.Join.{take_out}
+use Rattle.ring_machine.specs.Refusals.{feature_at, or_else, no_feature}
+use Rattle.ring_machine.proofs.FormedRings.{formed-in_rings}
+use Rattle.ring_machine.proofs.Found.{has_feature-found, feature_stands}
+use Rattle.ring_machine.proofs.Renamed.{size-renamed}
+use Rattle.ring_machine.proofs.TakenOut.{take_out_none}
+use Rattle.ring_machine.proofs.Without.{size-take_out_at}
+use Rattle.topo_outline.specs.Kept.{IsJson}
+use Rattle.vertex_index.specs.Placement.{Placement}
+use Rattle.segment_index.specs.Candidates.{SegmentSet}
+use Rattle.segment_index.specs.Frames.{Frame as GridFrame}
+use Rattle.arc_tables.specs.Rings.{Rings}
+use Rattle.map_frame.specs.Framed.{Framed}
+use Rattle.feature_exchange.specs.Holds.{Holds, IsIndexed}
+use Rattle.feature_exchange.specs.Stored.{stored, document_of, ring_under}
+use Rattle.feature_exchange.proofs.Renaming.{renamed_document, renamed_holds}
+use Rattle.arc_store.specs.Kept.{IsKept, state_of}
+use Rattle.arc_store.specs.State.{State}
+use Rattle.arc_store.proofs.Counted.{counted_flat}
+use Rattle.arc_store.proofs.SegmentCounts.{indexed_len}
+
+module _ {frame : Framed} {rings : Rings} {places : Placement} {held : SegmentSet} {positions segments : ℕ} where
+  pub kept_so : Holds (stored frame rings places) held → positions ≡ size (document_of (stored frame rings places))
+      → segments ≡ set.len held → IsKept frame rings places held positions segments
+  kept_so h sized counted = record {
+    holds = h;
+    sized = sized;
+    single = counted ∙ sym (indexed_len (document_of (stored frame rings places)) held h.indexed);
+  }
+
+  -- where the document is another one, of so many positions
+  pub kept_as : (d : Document) → Holds (stored frame rings places) held
+      → document_of (stored frame rings places) ≡ d → positions ≡ size d
+      → segments ≡ set.len held → IsKept frame rings places held positions segments
+  kept_as d h is sized counted = kept_so h (sized ∙ ap size (sym is)) counted
+
+  -- as many segments as the index holds
+  pub counted_by : IsKept frame rings places held positions segments → segments ≡ set.len held
+  counted_by k = k.single ∙ indexed_len (document_of (stored frame rings places)) held k.holds.indexed
+
+  module _ (kept : IsKept frame rings places held positions segments) {l : ℕ} {cells : Option GridFrame} {now : State} (is : state_of frame rings places l cells ≡ now) where
+    -- the document is the one that is seen
+    pub seen_doc : document_of (stored frame rings places) ≡ now.doc
+    seen_doc = ap (λ (z : State). z.doc) is
+
+    pub seen_next : frame.next ≡ now.next
+    seen_next = ap (λ (z : State). z.next) is
+
+    pub seen_formed : WellFormed now.doc
+    seen_formed = subst WellFormed seen_doc (formed-in_rings (ring_under (stored frame rings places)) frame.doc kept.holds.formed)
+
+    pub seen_proper : Proper now.doc
+    seen_proper = subst Proper seen_doc kept.holds.proper
+
+    pub seen_indexed : IsIndexed now.doc held
+    seen_indexed = subst (λ d. IsIndexed d held) seen_doc kept.holds.indexed
+
+    pub seen_size : positions ≡ size now.doc
+    seen_size = kept.sized ∙ ap size seen_doc
+
+    pub seen_small : positions ≤ 4000000
+    seen_small = omega (arith, kept.sized, kept.holds.small)
+
+-- ---- a feature that is taken out
+
+-- as many positions less as its rings have
+pub gone_size : (d : Document) → WellFormed d → (n : ℕ)
+    → size (take_out d n) + sum_by (sum_by length) (feature_at d n).polygons ≡ size d
+gone_size d formed n = by (feature d n) refl
+  where
+    by : (o : Option Feature) → feature d n ≡ o
+        → size (take_out d n) + sum_by (sum_by length) (or_else no_feature o).polygons ≡ size d
+    by None e = omega (arith, ap size (take_out_none n d (has_feature-found d n ∙ ap is_some e)))
+    by (Some f) e =
+        omega (arith, counted_flat length f.polygons, size-take_out_at d n f (feature_stands d formed n f e))
+
+module _ {frame : Framed} {rings : Rings} {places : Placement} {held : SegmentSet} {positions segments : ℕ}
+    (kept : IsKept frame rings places held positions segments) (n : ℕ) (polygons : List (List (List Position)))
+    (read : polygons ≡ (feature_at (document_of (stored frame rings places)) n).polygons) where
+  gone_law : size (take_out (document_of (stored frame rings places)) n) + sum_by (sum_by length) polygons ≡ positions
+  gone_law = omega (
+    arith,
+    ap (sum_by (sum_by length)) read,
+    gone_size (document_of (stored frame rings places)) (formed-in_rings (ring_under (stored frame rings places)) frame.doc kept.holds.formed) n,
+    kept.sized,
+  )
+
+  pub gone_few : sum_by (sum_by length) polygons ≤ positions
+  gone_few = omega (arith, gone_law)
+
+  pub gone_bounded : sum_by (sum_by length) polygons ≤ 4000000
+  gone_bounded = omega (arith, gone_law, kept.sized, kept.holds.small)
+
+  pub gone_sized : (gone : ℕ) → gone ≡ sum_by (sum_by length) polygons
+      → positions - gone ≡ size (take_out (document_of (stored frame rings places)) n)
+  gone_sized gone e = omega (arith, gone_law, e)
+
+-- ---- a feature that gets another id
+
+module _ {frame : Framed} {rings : Rings} {places : Placement} {held : SegmentSet} {positions segments : ℕ}
+    (kept : IsKept frame rings places held positions segments) (n : ℕ) (id : Text) (json : IsJson id) where
+  pub kept_renamed : IsKept (record frame { doc = renamed frame.doc n id }) rings places held positions segments
+  kept_renamed =
+      kept_as (renamed (document_of (stored frame rings places)) n id)
+      (renamed_holds (stored frame rings places) n id held json kept.holds)
+      (renamed_document (stored frame rings places) n id)
+      (kept.sized ∙ sym (size-renamed (document_of (stored frame rings places)) n id))
+      (counted_by kept)

@@ -1,0 +1,105 @@
+-- The rings of a frame by their names: each ring has a name, and no two have one.
+use Rattle.std.proofs.Common.{◌≡◌, ℕ, zero, suc, true, refl, sym, ap, ◌∙◌, subst, List, [], ◌∷◌, map}
+use Rattle.std.proofs.Common.{inl, inr, Some, option_map}
+use Rattle.std.specs.Prelude.{◌==◌, slice_get}
+use Rattle.std.specs.List.{flat_map}
+use Rattle.ring_machine.specs.Document.{FeatureOf, DocumentOf}
+use Rattle.ring_machine.specs.Parts.{features, feature, rings, rings_of}
+use Rattle.ring_machine.specs.WellFormed.{are_distinct}
+use Rattle.ring_machine.proofs.First.{In}
+use Rattle.ring_machine.proofs.Found.{found}
+use Rattle.ring_machine.proofs.Members.{in_flat}
+use Rattle.map_frame.specs.declared.names.RingName.{RingName}
+use Rattle.map_frame.specs.Named.{number_at}
+use Rattle.map_frame.specs.Readers.{element, ring_at}
+use Rattle.map_frame.proofs.EditedFeatures.{head_apart, tail_distinct}
+use Rattle.map_frame.proofs.LawsTaken.{first_distinct, second_distinct}
+use Rattle.map_frame.proofs.NamedForgotten.{element_is}
+use Rattle.map_frame.proofs.NamedOnce.{same_some, in_part, one_part, found_at, ring_in, one_owner}
+use Rattle.map_frame.proofs.ReadFeatures.{in_get}
+
+-- a ring's number is one of the frame
+pub number_there : (d : DocumentOf ℕ) (name : RingName) (r : ℕ) → number_at d name ≡ Some r → In r (rings d)
+number_there d name r e =
+    let f = ring_in (feature d name.feature) name r e in
+    let at = found_at (λ x. x.number == name.feature) (features d) f.0 f.1 in
+    in_part rings_of (features d) at.0 f.0 r at.1 f.2
+
+-- ---- each ring has a name
+
+pub place_of : {X : Type 0} (xs : List X) (x : X) → In x xs → (i : ℕ) × (slice_get xs i ≡ Some x)
+place_of [] x i = absurd i
+place_of (y ∷ xs) x (inl e) = (0, ap (λ z. Some z) e)
+place_of (y ∷ xs) x (inr i) = let k = place_of xs x i in (suc k.0, k.1)
+
+-- each ring of a feature
+pub ring_named : {R : Type 0} (d : DocumentOf R) → are_distinct (map (λ f. f.number) (features d)) ≡ true
+    → (f : FeatureOf R) → In f (features d) → (r : R) → In r (rings_of f)
+    → (name : RingName) × (name.feature ≡ f.number) × (ring_at d name.feature name.polygon name.ring ≡ Some r)
+ring_named {R} d distinct f i r h =
+    let p = in_flat (λ (polygon : List R). polygon) r f.polygons h in
+    let at = place_of f.polygons p.0 p.1 in
+    let ring = place_of p.0 r p.2 in (
+      record { feature = f.number; polygon = at.0; ring = ring.0 },
+      refl,
+      ap (λ o. element (element (option_map (λ x. x.polygons) o) at.0) ring.0) (found f (features d) distinct i)
+          ∙ ap (λ o. element o ring.0) at.1 ∙ ring.1,
+    )
+
+-- and so each of a frame
+pub name_there : (d : DocumentOf ℕ) → are_distinct (map (λ f. f.number) (features d)) ≡ true → (r : ℕ) → In r (rings d)
+    → (name : RingName) × (number_at d name ≡ Some r)
+name_there d distinct r h =
+    let f = in_flat rings_of r (features d) h in
+    let name = ring_named d distinct f.0 f.1 r f.2 in (name.0, name.2)
+
+-- ---- no two rings have one
+
+part_distinct : {X : Type 0} (g : X → List ℕ) (xs : List X) (i : ℕ) (x : X) → are_distinct (flat_map g xs) ≡ true
+    → slice_get xs i ≡ Some x → are_distinct (g x) ≡ true
+part_distinct g [] i x d e = absurd cc
+part_distinct g (y ∷ xs) zero x d e =
+    ap (λ z. are_distinct (g z)) (sym (same_some y x e)) ∙ first_distinct (g y) (flat_map g xs) d
+part_distinct g (y ∷ xs) (suc i) x d e =
+    part_distinct g xs i x (second_distinct (g y) (flat_map g xs) d) e
+
+one_place : (rs : List ℕ) → are_distinct rs ≡ true → (i j r : ℕ) → slice_get rs i ≡ Some r
+    → slice_get rs j ≡ Some r → i ≡ j
+one_place [] d i j r e f = absurd cc
+one_place (x ∷ rs) d zero zero r e f = refl
+one_place (x ∷ rs) d zero (suc j) r e f =
+    absurd (head_apart x rs d (subst (λ z. In z rs) (sym (same_some x r e)) (in_get rs j r f)))
+one_place (x ∷ rs) d (suc i) zero r e f =
+    absurd (head_apart x rs d (subst (λ z. In z rs) (sym (same_some x r f)) (in_get rs i r e)))
+one_place (x ∷ rs) d (suc i) (suc j) r e f = ap suc (one_place rs (tail_distinct x rs d) i j r e f)
+
+name_same : (a b : RingName) → a.feature ≡ b.feature → a.polygon ≡ b.polygon → a.ring ≡ b.ring → a ≡ b
+name_same a b e f h =
+    ap (λ x. at x a.polygon a.ring) e ∙ ap (λ x. at b.feature x a.ring) f ∙ ap (λ x. at b.feature b.polygon x) h
+  where
+    at : ℕ → ℕ → ℕ → RingName
+    at x y z = record { feature = x; polygon = y; ring = z }
+
+-- of one feature two names of a ring are the same
+same_within : (f : FeatureOf ℕ) → are_distinct (rings_of f) ≡ true → (a b : RingName) (r : ℕ) → a.feature ≡ b.feature
+    → element (slice_get f.polygons a.polygon) a.ring ≡ Some r → element (slice_get f.polygons b.polygon) b.ring ≡ Some r
+    → a ≡ b
+same_within f distinct a b r features e h =
+    let v = element_is (slice_get f.polygons a.polygon) a.ring r e in
+    let w = element_is (slice_get f.polygons b.polygon) b.ring r h in
+    let polygons : a.polygon ≡ b.polygon = one_part (λ (polygon : List ℕ). polygon) f.polygons distinct a.polygon b.polygon v.0 w.0 r v.1 w.1 (in_get v.0 a.ring r v.2) (in_get w.0 b.ring r w.2) in
+    let same : w.0 ≡ v.0 = same_some w.0 v.0 (sym w.1 ∙ ap (slice_get f.polygons) (sym polygons) ∙ v.1) in
+    let rings : a.ring ≡ b.ring = one_place v.0 (part_distinct (λ (polygon : List ℕ). polygon) f.polygons a.polygon v.0 distinct v.1) a.ring b.ring r v.2 (ap (λ z. slice_get z b.ring) (sym same) ∙ w.2) in
+    name_same a b features polygons rings
+
+pub one_name : (d : DocumentOf ℕ) → are_distinct (rings d) ≡ true → (a b : RingName) (r : ℕ)
+    → number_at d a ≡ Some r → number_at d b ≡ Some r → a ≡ b
+one_name d once a b r e h =
+    let v = ring_in (feature d a.feature) a r e in
+    let w = ring_in (feature d b.feature) b r h in
+    let same : a.feature ≡ b.feature = one_owner d once a.feature b.feature v.0 w.0 r v.1 w.1 v.2 w.2 in
+    let at = found_at (λ x. x.number == a.feature) (features d) v.0 v.1 in
+    let here : feature d b.feature ≡ Some v.0 = ap (feature d) (sym same) ∙ v.1 in
+    same_within v.0 (part_distinct rings_of (features d) at.0 v.0 once at.1) a b r same
+    (ap (λ o. element (element (option_map (λ x. x.polygons) o) a.polygon) a.ring) (sym v.1) ∙ e)
+    (ap (λ o. element (element (option_map (λ x. x.polygons) o) b.polygon) b.ring) (sym here) ∙ h)

@@ -1,0 +1,179 @@
+-- Two features joined, as rings that come in the place of the first one's polygon: the document, its
+-- rings and its size.
+use Rattle.std.proofs.Common.{◌≡◌, ◌≤◌, ℕ, ◌+◌, Bool, true, false, refl, sym, ap, ap₂, ◌∙◌, subst, cond}
+use Rattle.std.proofs.Common.{List, [], ◌∷◌, ◌++◌, map, length, reverse, take, drop, Some, None, arith}
+use Rattle.std.specs.Prelude.{◌==◌, not}
+use Rattle.std.specs.List.{list_all, flat_map, filter, sum_by, prefix_len}
+use Rattle.std.proofs.lemmas.Bool.{eqb-true, eqb-false}
+use Rattle.std.proofs.lemmas.List.{append-nil, length-append, length-map, length-reverse, take-append-drop}
+use Rattle.std.proofs.lemmas.List.Sums.{sum_by-append, sum_by-cons}
+use Rattle.grid_geometry.specs.Position.{Position}
+use Rattle.grid_geometry.specs.Ring.{Edge, edges}
+use Rattle.ring_machine.specs.Ring.{canonical, is_ring}
+use Rattle.ring_machine.specs.Document.{Document, Feature}
+use Rattle.ring_machine.specs.Parts.{features, feature, rings_of, rings, size}
+use Rattle.ring_machine.specs.Planar.{Proper}
+use Rattle.ring_machine.specs.WellFormed.{WellFormed}
+use Rattle.ring_machine.specs.Cut.{instead}
+use Rattle.ring_machine.specs.Join.{take_out, join, joined, joined_polygons, joined_feature, is_common}
+use Rattle.ring_machine.specs.Join.{passed_alike, off_run}
+use Rattle.ring_machine.specs.Refusals.{first_of, merge_refusals, feature_at, or_else, no_feature}
+use Rattle.ring_machine.proofs.CutJoined.{join_is, feature-join_at}
+use Rattle.ring_machine.proofs.Found.{feature_in, feature_stands}
+use Rattle.ring_machine.proofs.MergeAccepted.{MergeAccepted}
+use Rattle.ring_machine.proofs.Neighbours.{all_in, in-flat_map}
+use Rattle.ring_machine.proofs.OtherRings.{join_order}
+use Rattle.ring_machine.proofs.Passed.{pass_all}
+use Rattle.ring_machine.proofs.StaysFormed.{formed-take_out}
+use Rattle.ring_machine.proofs.StaysProper.{edges_start}
+use Rattle.ring_machine.proofs.Without.{feature-take_out_other, size-take_out_at, size-instead_at}
+use Rattle.map_opening.proofs.KeyRings.{length-canonical}
+use Rattle.map_frame.specs.Edits as frame
+use Rattle.arc_store.specs.Merges.{joined_rings}
+use Rattle.arc_store.proofs.InsteadAlike.{instead_found}
+
+-- ---- how long a joined ring is
+
+fewer : {A : Type 0} (test : A → Bool) (xs : List A) → length (filter test xs) ≤ length xs
+fewer test [] = omega arith
+fewer test (x ∷ xs) = by (test x) (fewer test xs)
+  where
+    by : (b : Bool) → length (filter test xs) ≤ length xs
+        → length (cond b (x ∷ filter test xs) (filter test xs)) ≤ length (x ∷ xs)
+    by true h = omega (arith, h)
+    by false h = omega (arith, h)
+
+length-edges : (ring : List Position) → length (edges ring) ≡ length ring
+length-edges [] = refl
+length-edges (p ∷ ps) = sym (length-map (edges (p ∷ ps)) (λ e. e.0)) ∙ ap length (edges_start p ps)
+
+rest_short : (common : Edge → Bool) (ring : List Position)
+    → length (off_run common (edges ring)) ≤ length ring
+rest_short common ring =
+    let off : Edge → Bool = λ e. not (common e) in
+    let k = prefix_len off (edges ring) in
+    omega (
+      arith,
+      fewer off (drop k (edges ring) ++ take k (edges ring)),
+      length-append (drop k (edges ring)) (take k (edges ring)),
+      length-append (take k (edges ring)) (drop k (edges ring)),
+      ap length (take-append-drop k (edges ring)),
+      length-edges ring,
+    )
+
+-- what is left of both rings, the second one turned or not
+abbrev rests : List Position → List Position → List Position → List Edge
+rests r s other = off_run (is_common s) (edges r) ++ off_run (is_common r) (edges other)
+
+rests_short : (r s other : List Position) → length other ≡ length s
+    → length (canonical (map (λ e. e.0) (rests r s other))) ≤ length r + length s
+rests_short r s other e = omega (
+  arith,
+  e,
+  length-canonical (map (λ e. e.0) (rests r s other)),
+  length-map (rests r s other) (λ e. e.0),
+  length-append (off_run (is_common s) (edges r)) (off_run (is_common r) (edges other)),
+  rest_short (is_common s) r,
+  rest_short (is_common r) other,
+)
+
+-- no longer than both rings
+joined_short : (r s : List Position) → length (joined r s) ≤ length r + length s
+joined_short r s = by (passed_alike r s)
+  where
+    by : (b : Bool) → length (canonical (map (λ e. e.0) (rests r s (cond b (reverse s) s)))) ≤ length r + length s
+    by true = rests_short r s (reverse s) (length-reverse s)
+    by false = rests_short r s s refl
+
+-- ---- the rings of a feature that is found
+
+found_rings : (d : Document) (n : ℕ) (f : Feature) → Proper d → feature d n ≡ Some f
+    → list_all is_ring (rings_of f) ≡ true
+found_rings d n f proper e = pass_all is_ring (rings_of f) (λ r i.
+    all_in is_ring (rings d) r proper.are_rings (in-flat_map rings_of f r (features d) (feature_in d n f e).0 i))
+
+-- ---- the document
+
+differ : (a b : ℕ) → (a == b) ≡ false → (b == a) ≡ false
+differ a b h = by (b == a) refl
+  where
+    by : (c : Bool) → (b == a) ≡ c → (b == a) ≡ false
+    by false e = e
+    by true e = absurd (eqb-false a b h (sym (eqb-true b a e)))
+
+module _ (d : Document) (n m : ℕ) (formed : WellFormed d) (a : MergeAccepted d n m) where
+  abbrev pub merged : List (List Position)
+  merged = joined a.pair_is.r a.pair_is.s ∷ (a.pair_is.holes ++ a.pair_is.more)
+
+  second_is : feature_at d m ≡ a.second
+  second_is = ap (or_else no_feature) a.second_is
+
+  apart : (n == a.second.number) ≡ false
+  apart = ap (λ k. n == k) a.second_number ∙ a.differ
+
+  polygons_are : joined_polygons a.first.polygons a.second.polygons ≡ merged ∷ []
+  polygons_are = ap₂ joined_polygons a.pair_is.first a.pair_is.second
+
+  -- the joined rings come in the place of the first feature's polygon
+  pub join_parted : join d n (feature_at d m) ≡ frame.joined d n m merged
+  join_parted =
+      ap (join d n) second_is
+      ∙ join_is d n a.second
+      ∙ ap₂ (λ y z. take_out y z) (instead_found n (joined_feature a.second) (λ (f : Feature). record f { polygons = merged ∷ [] } ∷ []) d formed agree) a.second_number
+    where
+      agree : (f : Feature) → feature d n ≡ Some f
+          → joined_feature a.second f ≡ record f { polygons = merged ∷ [] } ∷ []
+      agree f e =
+          let same : f ≡ a.first = ap (or_else no_feature) (sym e ∙ a.first_is) in
+          ap (λ ps. record f { polygons = ps } ∷ []) (ap (λ (k : Feature). joined_polygons k.polygons a.second.polygons) same ∙ polygons_are)
+
+  pub merged_rings : Proper (join d n (feature_at d m)) → list_all is_ring merged ≡ true
+  merged_rings proper =
+      let f : Feature = record a.first { polygons = joined_polygons a.first.polygons a.second.polygons } in
+      let rings : rings_of f ≡ merged = ap (flat_map (λ q. q)) polygons_are ∙ append-nil merged in
+      ap (list_all is_ring) (sym rings)
+      ∙ found_rings (join d n a.second) n f (subst (λ g. Proper (join d n g)) second_is proper)
+      (feature-join_at d n a.second formed a.first a.first_is (differ n a.second.number apart))
+
+  -- ---- size
+
+  first_size : sum_by length (rings_of a.first) ≡ sum_by length (a.pair_is.r ∷ a.pair_is.holes)
+  first_size =
+      ap (λ ps. sum_by length (flat_map (λ q. q) ps)) a.pair_is.first ∙ ap (sum_by length) (append-nil (a.pair_is.r ∷ a.pair_is.holes))
+
+  second_size : sum_by length (rings_of a.second) ≡ sum_by length (a.pair_is.s ∷ a.pair_is.more)
+  second_size =
+      ap (λ ps. sum_by length (flat_map (λ q. q) ps)) a.pair_is.second ∙ ap (sum_by length) (append-nil (a.pair_is.s ∷ a.pair_is.more))
+
+  merged_size : sum_by length (flat_map rings_of (joined_feature a.second a.first)) ≡ sum_by length merged
+  merged_size =
+      ap (λ ps. sum_by length (flat_map (λ q. q) ps ++ [])) polygons_are
+      ∙ ap (sum_by length) (append-nil (merged ++ []) ∙ append-nil merged)
+
+  -- the rings of both go, and the joined ones come
+  pub join_size : size (join d n (feature_at d m)) + (sum_by length (a.pair_is.r ∷ a.pair_is.holes) + sum_by length (a.pair_is.s ∷ a.pair_is.more))
+      ≡ size d + sum_by length merged
+  join_size =
+      let k = a.second.number in
+      let here : feature d k ≡ Some a.second = ap (feature d) a.second_number ∙ a.second_is in
+      let left : feature (take_out d k) n ≡ Some a.first = feature-take_out_other d k n (differ n k apart) ∙ a.first_is in
+      omega (
+        arith,
+        first_size,
+        second_size,
+        merged_size,
+        ap size (ap (join d n) second_is ∙ join_order d n a.second formed apart),
+        size-take_out_at d k a.second (feature_stands d formed k a.second here),
+        size-instead_at (take_out d k) n a.first (feature_stands (take_out d k) (formed-take_out d k formed) n a.first left) (joined_feature a.second),
+      )
+
+  -- no more than before
+  pub merged_short : sum_by length merged ≤ sum_by length (a.pair_is.r ∷ a.pair_is.holes) + sum_by length (a.pair_is.s ∷ a.pair_is.more)
+  merged_short = omega (
+    arith,
+    sum_by-cons length (joined a.pair_is.r a.pair_is.s) (a.pair_is.holes ++ a.pair_is.more),
+    sum_by-append length a.pair_is.holes a.pair_is.more,
+    sum_by-cons length a.pair_is.r a.pair_is.holes,
+    sum_by-cons length a.pair_is.s a.pair_is.more,
+    joined_short a.pair_is.r a.pair_is.s,
+  )

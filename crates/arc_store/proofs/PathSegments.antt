@@ -1,0 +1,110 @@
+-- The segments of a path that has no position twice: each of them once.
+use Rattle.std.proofs.Common.{◌≡◌, ◌≤◌, ◌<◌, ◌+◌, ℕ, Bool, true, false, refl, sym, ap, ◌∙◌, subst, cond}
+use Rattle.std.proofs.Common.{List, [], ◌∷◌, ◌++◌, map, length, drop, get_or, append_assoc, inl, inr, arith}
+use Rattle.std.specs.Prelude.{not}
+use Rattle.std.specs.FinSet as set
+use Rattle.std.proofs.lemmas.Bool.{false≢true}
+use Rattle.std.proofs.lemmas.List.{drop_more}
+use Rattle.grid_geometry.specs.Position.{Position}
+use Rattle.grid_geometry.specs.Segment.{Segment}
+use Rattle.grid_geometry.specs.Ring.{Edge, links}
+use Rattle.ring_machine.specs.Cut.{Path}
+use Rattle.ring_machine.specs.Document.{Document}
+use Rattle.ring_machine.specs.Parts.{is_segment}
+use Rattle.ring_machine.specs.Refusals.{positions_of, is_path_segment}
+use Rattle.ring_machine.specs.Ring.{has, is_distinct, segment_of}
+use Rattle.ring_machine.proofs.First.{In}
+use Rattle.ring_machine.proofs.Members.{in_mapped, any_in}
+use Rattle.ring_machine.proofs.Neighbours.{in-has, none_in}
+use Rattle.ring_machine.proofs.Order.{and_both}
+use Rattle.ring_machine.proofs.Removal.{not_true}
+use Rattle.ring_machine.proofs.RingSegments.{same_ends}
+use Rattle.ring_machine.proofs.SplitSegments.{path_segments}
+use Rattle.segment_index.specs.Candidates.{SegmentSet, AreSingle, segment_is, has as has_segment, times_in}
+use Rattle.segment_index.proofs.Singles.{same_segment, times-none}
+use Rattle.feature_exchange.specs.Holds.{IsIndexed}
+use Rattle.arc_store.specs.Planned.{AreNew}
+
+-- the segments of a way, each from a position to the next one
+abbrev pub segments_along : List Position → List Segment
+segments_along ps = map segment_of (links ps)
+
+link_ends : (ps : List Position) (e : Edge) → In e (links ps) → In e.0 ps × In e.1 ps
+link_ends [] e h = absurd h
+link_ends (p ∷ []) e h = absurd h
+link_ends (p ∷ q ∷ ps) e (inl h) = (inl (ap (λ (z : Edge). z.0) h), inr (inl (ap (λ (z : Edge). z.1) h)))
+link_ends (p ∷ q ∷ ps) e (inr h) = let k = link_ends (q ∷ ps) e h in (inr k.0, inr k.1)
+
+refuted : (b : Bool) → (b ≡ true → ⊥) → b ≡ false
+refuted false h = refl
+refuted true h = absurd (h refl)
+
+-- a way that does not come back to p has no other segment with the end p
+once : (p q : Position) (ps : List Position) → has (q ∷ ps) p ≡ false → (t : Segment)
+    → segment_is t (segment_of (p, q)) ≡ true → has_segment (segments_along (q ∷ ps)) t ≡ false
+once p q ps h t e = refuted (has_segment (segments_along (q ∷ ps)) t) (λ k.
+    let u = any_in (segment_is t) (segments_along (q ∷ ps)) k in
+    let x = in_mapped segment_of u.0 (links (q ∷ ps)) u.1 in
+    let ends = link_ends (q ∷ ps) x.0 x.1 in
+    let same : segment_of x.0 ≡ segment_of (p, q) = x.2 ∙ sym (same_segment t u.0 u.2) ∙ same_segment t (segment_of (p, q)) e in
+    elim (same_ends x.0 (p, q) same) [
+      | inl m ↦ away (subst (λ z. In z (q ∷ ps)) (sym m.0) ends.0)
+      | inr m ↦ away (subst (λ z. In z (q ∷ ps)) (sym m.0) ends.1)
+    ])
+  where
+    away : In p (q ∷ ps) → ⊥
+    away i = false≢true (sym h ∙ in-has p (q ∷ ps) i)
+
+pub way_single : (ps : List Position) → is_distinct ps ≡ true → AreSingle (segments_along ps)
+way_single [] d t = omega arith
+way_single (p ∷ []) d t = omega arith
+way_single (p ∷ q ∷ ps) d t =
+    let d' = and_both (not (has (q ∷ ps) p)) (is_distinct (q ∷ ps)) d in
+    by (not_true _ d'.0) (segment_is t (segment_of (p, q))) refl (way_single (q ∷ ps) d'.1 t)
+  where
+    by : has (q ∷ ps) p ≡ false → (b : Bool) → segment_is t (segment_of (p, q)) ≡ b
+        → times_in (segments_along (q ∷ ps)) t ≤ 1
+        → cond b 1 0 + times_in (segments_along (q ∷ ps)) t ≤ 1
+    by h true e l = omega (arith, times-none (segments_along (q ∷ ps)) t (once p q ps h t e))
+    by h false e l = omega (arith, l)
+
+-- ---- a way that is gone along, position by position
+
+next_drop : (rest : List Position) (i : ℕ) (to : Position) → i < length rest → to ≡ get_or rest i to
+    → drop i rest ≡ to ∷ drop (i + 1) rest
+next_drop rest i to l e = drop_more rest i to l ∙ ap (λ z. z ∷ drop (i + 1) rest) (sym e)
+
+-- one segment more
+pub way_more : (done new all : List Segment) (from to : Position) (rest : List Position) (i : ℕ)
+    → i < length rest → to ≡ get_or rest i to → done ++ segments_along (from ∷ drop i rest) ≡ all
+    → new ≡ done ++ segment_of (from, to) ∷ [] → new ++ segments_along (to ∷ drop (i + 1) rest) ≡ all
+way_more done new all from to rest i l e h k =
+    ap (λ z. z ++ segments_along (to ∷ drop (i + 1) rest)) k
+    ∙ append_assoc done (segment_of (from, to) ∷ []) (segments_along (to ∷ drop (i + 1) rest))
+    ∙ ap (λ z. done ++ segments_along (from ∷ z)) (sym (next_drop rest i to l e)) ∙ h
+
+-- what is left has no position twice
+pub way_on : (from to : Position) (rest : List Position) (i : ℕ) → i < length rest
+    → to ≡ get_or rest i to → is_distinct (from ∷ drop i rest) ≡ true
+    → is_distinct (to ∷ drop (i + 1) rest) ≡ true
+way_on from to rest i l e d =
+    ap is_distinct (sym (next_drop rest i to l e))
+    ∙ (and_both (not (has (drop i rest) from)) (is_distinct (drop i rest)) d).1
+
+-- the next position is another
+pub way_apart : (from to : Position) (rest : List Position) (i : ℕ) → i < length rest
+    → to ≡ get_or rest i to → is_distinct (from ∷ drop i rest) ≡ true → from ≡ to → ⊥
+way_apart from to rest i l e d same =
+    let none = not_true _ (and_both (not (has (drop i rest) from)) (is_distinct (drop i rest)) d).0 in
+    false≢true (sym none ∙ in-has from (drop i rest) (subst (In from) (sym (next_drop rest i to l e)) (inl (sym same))))
+
+-- ---- in a map
+
+-- none of them is held, where none is a segment of the map
+pub path_new : (d : Document) (held : SegmentSet) (path : Path) → IsIndexed d held
+    → is_path_segment d path ≡ false → AreNew held (path_segments path)
+path_new d held path indexed new t h =
+    let u = any_in (segment_is t) (path_segments path) h in
+    let x = in_mapped segment_of u.0 (links (positions_of path)) u.1 in
+    indexed t ∙ ap (is_segment d) (same_segment t u.0 u.2 ∙ sym x.2)
+    ∙ none_in (λ e. is_segment d (segment_of e)) (links (positions_of path)) x.0 new x.1

@@ -1,0 +1,12 @@
+use Rattle.std.proofs.Common.{sym, ap, ◌∙◌}
+use Rattle.ring_machine.specs.Refusals.{is_layer}
+use Rattle.ring_machine.proofs.StaysFormed.{is_layer-in_rings}
+use Rattle.feature_exchange.specs.Stored.{stored, ring_under}
+use Rattle.arc_store.proofs.map.Map.is_alone.Goals as goal
+
+pub returns : goal.returns
+returns g c =
+    let m = c.self.inside in
+    c.is_alone.ensures
+    ∙ sym (is_layer-in_rings (ring_under (stored m.frame m.borders m.vertices)) m.frame.doc c.args.n)
+    ∙ ap (λ s. is_layer s.doc c.args.n) c.self.view_is

@@ -1,9 +1,0 @@
-use Rattle.std.proofs.Common.{◌<◌}
-use Rattle.arc_store.specs.Named.{Gain}
-use Rattle.arc_store.proofs.NameLists.{OfPolygon}
-use Rattle.arc_store.proofs.names.name_polygon.Given as goal
-
--- the rings so far have names
-abbrev pub invariant-loop-ring : goal.invariant-loop-ring
-invariant-loop-ring g l =
-    Gain l.fn.names.items l.names.items (λ o k. OfPolygon l.feature l.polygon l.rings o k × (o.ring < l.ring))

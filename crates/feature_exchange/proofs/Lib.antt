@@ -1,0 +1,13 @@
+pub mod Ends
+pub mod Base
+pub mod SegmentBound
+pub mod Under
+pub mod Changes
+pub mod Whole
+pub mod Exchanges
+pub mod Taken
+pub mod Joined
+pub mod Parted
+pub mod Halves
+pub mod Gathering
+pub mod Renaming

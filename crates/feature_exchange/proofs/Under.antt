@@ -1,0 +1,85 @@
+-- The numbers of the rings of a feature, among those of the document.
+use Rattle.std.proofs.Common.{◌≡◌, ◌≤◌, ℕ, true, refl, sym, ap, ◌∙◌, subst, [], ◌++◌}
+use Rattle.std.proofs.Common.{map, length, Option, Some, None, option_map, arith}
+use Rattle.std.specs.Prelude.{unwrap_or}
+use Rattle.std.specs.List.{flat_map}
+use Rattle.ring_machine.specs.Document.{FeatureOf, DocumentOf}
+use Rattle.ring_machine.specs.Parts.{features, feature, rings, rings_of, in_feature, in_rings}
+use Rattle.ring_machine.specs.WellFormed.{are_distinct, WellFormed}
+use Rattle.ring_machine.proofs.First.{In}
+use Rattle.ring_machine.proofs.Found.{distinct_parts, feature_in, feature_stands}
+use Rattle.ring_machine.proofs.Found.{feature_found, feature-in_rings}
+use Rattle.ring_machine.proofs.Instead.{rings_at}
+use Rattle.ring_machine.proofs.Neighbours.{in-flat_map}
+use Rattle.map_frame.specs.Edits.{polygons_of}
+use Rattle.map_frame.proofs.NamedOnce.{one_owner}
+use Rattle.feature_exchange.specs.Under.{rings_under}
+
+module _ {R : Type 0} (d : DocumentOf R) (n : ℕ) where
+  pub polygons_found : (f : FeatureOf R) → feature d n ≡ Some f → polygons_of d n ≡ f.polygons
+  polygons_found f e = ap (λ o. unwrap_or (option_map (λ (x : FeatureOf R). x.polygons) o) []) e
+
+  pub polygons_none : feature d n ≡ None → polygons_of d n ≡ []
+  polygons_none e = ap (λ o. unwrap_or (option_map (λ (x : FeatureOf R). x.polygons) o) []) e
+
+  pub under_found : (f : FeatureOf R) → feature d n ≡ Some f → rings_under d n ≡ rings_of f
+  under_found f e = ap (flat_map (λ polygon. polygon)) (polygons_found f e)
+
+  pub under_none : feature d n ≡ None → rings_under d n ≡ []
+  under_none e = ap (flat_map (λ polygon. polygon)) (polygons_none e)
+
+  -- a ring of the feature is one of the document
+  pub under_in : (r : R) → In r (rings_under d n) → In r (rings d)
+  under_in r i = by (feature d n) refl
+    where
+      by : (o : Option (FeatureOf R)) → feature d n ≡ o → In r (rings d)
+      by None e = absurd (subst (In r) (under_none e) i)
+      by (Some f) e =
+          in-flat_map rings_of f r (features d) (feature_in d n f e).0 (subst (In r) (under_found f e) i)
+
+  -- a feature with polygons is there
+  pub polygon_found : 1 ≤ length (polygons_of d n) → (f : FeatureOf R) × (feature d n ≡ Some f)
+  polygon_found l = by (feature d n) refl
+    where
+      by : (o : Option (FeatureOf R)) → feature d n ≡ o → (f : FeatureOf R) × (feature d n ≡ Some f)
+      by None e = absurd (omega (arith, l, ap length (polygons_none e)))
+      by (Some f) e = (f, e)
+
+-- as many polygons as before the rings were changed
+pub polygons-in_rings : {R S : Type 0} (g : R → S) (d : DocumentOf R) (n : ℕ)
+    → polygons_of (in_rings g d) n ≡ map (map g) (polygons_of d n)
+polygons-in_rings {R} {S} g d n =
+    ap (λ o. unwrap_or (option_map (λ (x : FeatureOf S). x.polygons) o) []) (feature-in_rings g d n) ∙ by (feature d n)
+  where
+    by : (o : Option (FeatureOf R))
+        → unwrap_or (option_map (λ (x : FeatureOf S). x.polygons) (option_map (in_feature g) o)) []
+        ≡ map (map g) (unwrap_or (option_map (λ (x : FeatureOf R). x.polygons) o) [])
+    by None = refl
+    by (Some f) = refl
+
+-- ---- numbers that do not stand twice
+
+module _ (d : DocumentOf ℕ) (formed : WellFormed d) (once : are_distinct (rings d) ≡ true) (n : ℕ) where
+  pub under_distinct : are_distinct (rings_under d n) ≡ true
+  under_distinct = by (feature d n) refl
+    where
+      by : (o : Option (FeatureOf ℕ)) → feature d n ≡ o → are_distinct (rings_under d n) ≡ true
+      by None e = ap are_distinct (under_none d n e)
+      by (Some f) e =
+          let place = feature_stands d formed n f e in
+          let us = flat_map rings_of place.us in
+          let vs = flat_map rings_of place.vs in
+          let all : are_distinct (us ++ (rings_of f ++ vs)) ≡ true =
+          ap are_distinct (sym (rings_at d n (λ k. []) f place)) ∙ once in
+          ap are_distinct (under_found d n f e)
+          ∙ (distinct_parts (rings_of f) vs (distinct_parts us (rings_of f ++ vs) all).right).left
+
+  -- another feature has none of them
+  pub under_apart : (f : FeatureOf ℕ) → In f (features d) → (f.number ≡ n → ⊥) → (r : ℕ) → In r (rings_of f)
+      → In r (rings_under d n) → ⊥
+  under_apart f i other r j k = by (feature d n) refl
+    where
+      by : (o : Option (FeatureOf ℕ)) → feature d n ≡ o → ⊥
+      by None e = subst (In r) (under_none d n e) k
+      by (Some h) e =
+          other (one_owner d once f.number n f h r (feature_found d formed f f.number i refl) e j (subst (In r) (under_found d n h e) k))

@@ -1,0 +1,147 @@
+-- A map that is kept: its tables stand, and tables that stand make it whole.
+use Rattle.std.proofs.Common.{◌≡◌, ◌≤◌, ◌↔◌, ℕ, Bool, true, false, refl, sym, ap, ap₂, ◌∙◌, subst, List, [], ◌∷◌}
+use Rattle.std.proofs.Common.{length, inl, inr, is_some, cond, ◌-◌, ◌&&◌, ◌||◌, Contains, arith}
+use Rattle.std.specs.Prelude.{IsTrue, not}
+use Rattle.std.specs.FinMap as table
+use Rattle.std.specs.FinSet as set
+use Rattle.std.proofs.lemmas.Bool.{false≢true}
+use Rattle.grid_geometry.specs.Segment.{Segment, segment, segment_cmp}
+use Rattle.grid_geometry.proofs.Conflicts.{segment-comm}
+use Rattle.ring_machine.specs.Parts.{rings, size, is_segment, all_segments}
+use Rattle.ring_machine.specs.Planar.{Proper}
+use Rattle.ring_machine.specs.WellFormed.{are_distinct, WellFormed}
+use Rattle.ring_machine.proofs.Members.{contains_in, in_contains, same_answer}
+use Rattle.topo_outline.specs.Kept.{KeepsTexts}
+use Rattle.vertex_index.specs.Placement.{place}
+use Rattle.segment_index.specs.Candidates.{SegmentSet, segment_is, has}
+use Rattle.segment_index.proofs.Singles.{segment_total, same_sets}
+use Rattle.map_opening.proofs.KeyRings.{times_edge, edge_times}
+use Rattle.map_opening.proofs.SegmentLists.{has-eq}
+use Rattle.ring_exchange.specs.Standing.{IsSide, Stands}
+use Rattle.feature_exchange.specs.Holds.{IsWhole, Holds}
+use Rattle.feature_exchange.specs.Stored.{Stored, document_of}
+use Rattle.feature_exchange.proofs.Base.{segment_between, segment_iff}
+use Rattle.feature_exchange.proofs.SegmentBound.{length_all}
+
+-- ---- segments of the document are sides of the rings
+
+module _ (s : Stored) (whole : IsWhole s) (t : Segment) where
+  segment_side : is_segment (document_of s) t ≡ true → IsSide s.places s.rings t
+  segment_side h =
+      let b = segment_between s whole t h in
+      let e = times_edge b.a b.b b.joined.edges b.joined.has in
+      record {
+        ring = b.joined.ring;
+        edges = b.joined.edges;
+        held = b.joined.held;
+        edge = e.0;
+        among = in_contains b.joined.edges e.0 e.1;
+        is = b.is ∙ elim e.2 [
+          | inl m ↦ sym (ap₂ (λ x y. segment (place s.places x) (place s.places y)) m.0 m.1)
+          | inr m ↦
+              segment-comm (place s.places b.a) (place s.places b.b)
+              ∙ sym (ap₂ (λ x y. segment (place s.places x) (place s.places y)) m.0 m.1)
+        ];
+      }
+
+  side_segment : IsSide s.places s.rings t → is_segment (document_of s) t ≡ true
+  side_segment a =
+      let i = contains_in a.edges a.edge a.among in
+      (segment_iff s whole t).1 (record {
+        a = a.edge.0;
+        b = a.edge.1;
+        joined = record { ring = a.ring; edges = a.edges; held = a.held; has = edge_times a.edge.0 a.edge.1 a.edges a.edge i (inl (refl, refl)) };
+        is = a.is;
+      })
+
+-- ---- the tables of a map stand
+
+pub tables_stand : (s : Stored) (held : SegmentSet) → Holds s held → Stands s.places s.rings held
+tables_stand s held h = record {
+  round = h.whole.round;
+  placed = λ k v. h.whole.placed v.ring k (v.edges, v.held, v.visited);
+  passed = λ k c.
+      let v = h.whole.passed k c in
+      record { ring = v.0; edges = v.1.0; held = v.1.1; visited = v.1.2 };
+  distinct = h.whole.distinct;
+  indexed = λ t. (
+    λ i. segment_side s h.whole t (sym (h.indexed t) ∙ i),
+    λ a. h.indexed t ∙ side_segment s h.whole t a,
+  );
+}
+
+-- ---- and where they stand, with a frame that names each ring once, the map is kept
+
+module _ (s : Stored) (held : SegmentSet) (stands : Stands s.places s.rings held)
+    (named : (r : ℕ) → Contains (rings s.frame) r ↔ IsTrue (is_some (table.get s.rings r)))
+    (once : are_distinct (rings s.frame) ≡ true) where
+  whole_of : IsWhole s
+  whole_of = record {
+    named = named;
+    once = once;
+    round = stands.round;
+    placed = λ r k v. stands.placed k (record { ring = r; edges = v.0; held = v.1; visited = v.2 });
+    passed = λ k c. let v = stands.passed k c in (v.ring, (v.edges, v.held, v.visited));
+    distinct = stands.distinct;
+  }
+
+  pub map_holds : WellFormed s.frame → KeepsTexts s.frame → Proper (document_of s)
+      → size (document_of s) ≤ 4000000 → Holds s held
+  map_holds formed keeps proper small = record {
+    whole = whole_of;
+    formed = formed;
+    keeps = keeps;
+    proper = proper;
+    small = small;
+    indexed = λ t. same_answer (set.contains held t) (is_segment (document_of s) t)
+        (λ i. side_segment s whole_of t ((stands.indexed t).0 i))
+        (λ i. (stands.indexed t).1 (segment_side s whole_of t i));
+  }
+
+-- ---- how many segments an index holds
+
+-- a set whose segments are all in a list has no more than the list
+held_bound : (held : SegmentSet) (xs : List Segment)
+    → ((t : Segment) → set.contains held t ≡ true → has xs t ≡ true) → set.len held ≤ length xs
+held_bound held [] h = omega (
+  arith,
+  ap set.len (same_sets held set.empty (λ t. same_answer (set.contains held t) (set.contains set.empty t)
+      (λ i. absurd (false≢true (h t i)))
+      (λ i. absurd (false≢true (sym (set.contains-empty segment_cmp t) ∙ i))))),
+  set.len-empty segment_cmp,
+)
+held_bound held (x ∷ xs) h =
+    by (set.contains held x) (set.len-remove segment_total held x) (held_bound (set.remove held x) xs rest)
+  where
+    rest : (t : Segment) → set.contains (set.remove held x) t ≡ true → has xs t ≡ true
+    rest t i = left (segment_is t x) (set.contains held t) refl (sym (set.contains-remove segment_total held x t) ∙ i) (h t)
+      where
+        left : (b c : Bool) → segment_is t x ≡ b → (not b && c) ≡ true → (c ≡ true → (segment_is t x || has xs t) ≡ true)
+            → has xs t ≡ true
+        left true c e j k = absurd (false≢true j)
+        left false c e j k = sym (ap (λ b. b || has xs t) e) ∙ k j
+
+    by : (b : Bool) → set.len (set.remove held x) ≡ cond b (set.len held - 1) (set.len held)
+        → set.len (set.remove held x) ≤ length xs → set.len held ≤ length (x ∷ xs)
+    by true e k = omega (arith, e, k)
+    by false e k = omega (arith, e, k)
+
+-- an index of a map has no more segments than the map has positions
+pub segments_few : (s : Stored) (held : SegmentSet) → Holds s held → set.len held ≤ 4000000
+segments_few s held h =
+    let d = document_of s in
+    omega (
+      arith,
+      held_bound held (all_segments d) (λ t i. has-eq (all_segments d) t ∙ sym (h.indexed t) ∙ i),
+      length_all (rings d),
+      h.small,
+    )
+
+-- ---- nothing changed
+
+pub map_unchanged : (old new : Stored) (h j : SegmentSet) → Holds old h → new.frame ≡ old.frame
+    → new.rings ≡ old.rings → new.places ≡ old.places → j ≡ h
+    → (document_of new ≡ document_of old) × Holds new j
+map_unchanged old new h j holds frame rings places held =
+    let same : new ≡ old = λ i. record { frame = frame i; rings = rings i; places = places i } in
+    (ap document_of same, subst (λ z. Holds z j) (sym same) (subst (Holds old) (sym held) holds))

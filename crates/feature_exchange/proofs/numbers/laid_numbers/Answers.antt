@@ -1,0 +1,15 @@
+use Rattle.std.proofs.Common.{[], ◌∷◌, ◌++◌, ◌∙◌, sym, ap}
+use Rattle.std.proofs.lemmas.List.{take_all}
+use Rattle.map_opening.proofs.Pushed.{map_more}
+use Rattle.ring_exchange.specs.Laid.{numbers_of}
+use Rattle.feature_exchange.proofs.numbers.laid_numbers.Goals as goal
+
+pub loop-ring-preserved : goal.loop-ring-preserved
+loop-ring-preserved g c =
+    c.in_ok-push.ensures.items
+    ∙ ap (λ z. z ++ c.ring-item.result.number ∷ []) c.loop-ring.invariant
+    ∙ sym (map_more (λ ring. ring.number) c.args.laid.now c.loop-ring.ring-index c.ring-item.result c.loop-ring-test.true c.ring-item.is)
+
+pub returns : goal.returns
+returns g c =
+    c.loop-ring.invariant ∙ ap numbers_of (take_all c.loop-ring.ring-index c.args.laid.now c.loop-ring-test.false)

@@ -1,0 +1,9 @@
+use Rattle.std.proofs.Common.{◌≡◌, ◌++◌, take}
+use Rattle.std.specs.List.{flat_map}
+use Rattle.map_opening.specs.Laying.{polygon_numbers}
+use Rattle.feature_exchange.proofs.numbers.push_polygons.Given as goal
+
+-- the numbers of the polygons so far
+abbrev pub invariant-loop-rings : goal.invariant-loop-rings
+invariant-loop-rings g l =
+    l.numbers.items ≡ l.fn.numbers.items ++ flat_map polygon_numbers (take l.rings-index l.polygons)

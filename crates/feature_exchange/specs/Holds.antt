@@ -1,0 +1,45 @@
+-- What is true of every map that is kept.
+use Rattle.std.specs.Prelude.{ℕ, ◌≡◌, ◌≤◌, ◌↔◌, List, Some, is_some, IsTrue, Contains}
+use Rattle.std.specs.FinMap as table
+use Rattle.std.specs.FinSet as set
+use Rattle.grid_geometry.specs.Segment.{Segment}
+use Rattle.ring_machine.specs.Document.{Document}
+use Rattle.ring_machine.specs.Parts.{rings, size, is_segment}
+use Rattle.ring_machine.specs.Planar.{Proper}
+use Rattle.ring_machine.specs.WellFormed.{are_distinct, WellFormed}
+use Rattle.topo_outline.specs.Kept.{KeepsTexts}
+use Rattle.vertex_index.specs.Placement.{AreDistinct}
+use Rattle.segment_index.specs.Candidates.{SegmentSet}
+use Rattle.arc_tables.specs.Ways.{Edge}
+use Rattle.arc_tables.specs.Rings.{begins}
+use Rattle.map_opening.specs.Laying.{GoesRound}
+use Rattle.feature_exchange.specs.Stored.{Stored, document_of}
+
+-- an edge of ring r begins at the vertex with key k
+abbrev pub Visits : Stored → ℕ → ℕ → Type 0
+Visits s r k = (es : List Edge) × (table.get s.rings r ≡ Some es) × Contains (begins es) k
+
+-- the three tables belong together
+pub record IsWhole (s : Stored) : Type 0 where
+  -- the frame names each ring that is kept, and once
+  pub named : (r : ℕ) → Contains (rings s.frame) r ↔ IsTrue (is_some (table.get s.rings r))
+  pub once : IsTrue (are_distinct (rings s.frame))
+  pub round : (r : ℕ) (es : List Edge) → table.get s.rings r ≡ Some es → GoesRound es
+  -- vertices are those that rings pass, each at a position of its own
+  pub placed : (r k : ℕ) → Visits s r k → IsTrue (table.contains_key s.places k)
+  pub passed : (k : ℕ) → IsTrue (table.contains_key s.places k) → (r : ℕ) × Visits s r k
+  pub distinct : AreDistinct s.places
+
+-- an index holds the segments of the document
+abbrev pub IsIndexed : Document → SegmentSet → Type 0
+IsIndexed d held = (t : Segment) → set.contains held t ≡ is_segment d t
+
+-- the map: its tables belong together, its frame is well formed and has texts that opening would
+-- keep, its document is proper and within the limit, and the index holds the document's segments
+pub record Holds (s : Stored) (held : SegmentSet) : Type 0 where
+  pub whole : IsWhole s
+  pub formed : WellFormed s.frame
+  pub keeps : KeepsTexts s.frame
+  pub proper : Proper (document_of s)
+  pub small : size (document_of s) ≤ 4000000
+  pub indexed : IsIndexed (document_of s) held

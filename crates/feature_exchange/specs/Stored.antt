@@ -1,0 +1,38 @@
+-- A map as the store keeps it, and the document that it means: a frame with numbers in place of
+-- rings, the edges of each ring by its number, and the position of each vertex by its key.
+use Rattle.std.specs.Prelude.{ℕ, List, [], map, unwrap_or}
+use Rattle.std.specs.FinMap as table
+use Rattle.grid_geometry.specs.Position.{Position}
+use Rattle.ring_machine.specs.Ring.{canonical}
+use Rattle.ring_machine.specs.Document.{DocumentOf, Document}
+use Rattle.ring_machine.specs.Parts.{in_rings}
+use Rattle.vertex_index.specs.Placement.{Placement, place}
+use Rattle.arc_tables.specs.Ways.{Edge}
+use Rattle.arc_tables.specs.Rings.{Rings, begins}
+use Rattle.map_frame.specs.Framed.{Framed}
+
+-- what is kept
+pub record Stored : Type 0 where
+  pub frame : DocumentOf ℕ
+  pub rings : Rings
+  pub places : Placement
+
+-- what is kept with this frame
+abbrev pub stored : Framed → Rings → Placement → Stored
+stored frame rings places = record { frame = frame.doc; rings = rings; places = places }
+
+-- the positions of a ring with these edges, in order
+abbrev pub positions_along : Placement → List Edge → List Position
+positions_along places es = map (place places) (begins es)
+
+-- the edges of the ring with this number
+abbrev pub edges_under : Rings → ℕ → List Edge
+edges_under rings r = unwrap_or (table.get rings r) []
+
+-- the ring with this number, from its least position on
+abbrev pub ring_under : Stored → ℕ → List Position
+ring_under s r = canonical (positions_along s.places (edges_under s.rings r))
+
+-- the document: the frame with each ring in its place
+abbrev pub document_of : Stored → Document
+document_of s = in_rings (ring_under s) s.frame

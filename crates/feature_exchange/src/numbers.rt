@@ -1,0 +1,73 @@
+// The numbers of rings: of those that a feature has, and of those that were laid.
+ghost use Rattle.std.specs.Prelude.{◌≡◌, ◌++◌, IfOk, OnOk};
+ghost use Rattle.std.specs.List.{flat_map};
+ghost use Rattle.map_opening.specs.Laying.{polygon_numbers};
+ghost use Rattle.ring_exchange.specs.Laid.{numbers_of};
+ghost use Rattle.feature_exchange.specs.Under.{rings_under, polygon_under};
+
+use map_frame::Frame;
+use ring_exchange::LaidRing;
+use std::alloc::{AllocError, Allocator};
+
+/// Appends the numbers of the rings of these polygons.
+fn push_polygons<A: Allocator + Copy>(
+    polygons: &[Vec<usize, A>],
+    numbers: &mut Vec<usize, A>,
+) -> Result<(), AllocError>
+    ensures { OnOk result
+        (numbers.new.items ≡ numbers.old.items ++ flat_map polygon_numbers polygons.now) }
+{
+    for rings in polygons {
+        numbers.extend_from_slice(rings.as_slice())?;
+    }
+    Ok(())
+}
+
+/// Appends the numbers of the rings of feature `n`, polygon after polygon; none where no feature has
+/// the number. Fails for want of memory alone.
+pub(crate) fn push_feature<'a, A: Allocator + Copy>(
+    frame: &Frame<'a, A>,
+    n: u32,
+    numbers: &mut Vec<usize, A>,
+) -> Result<(), AllocError>
+    ensures { OnOk result (numbers.new.items ≡ numbers.old.items ++ rings_under frame.now.doc n) }
+{
+    match frame.polygons(n) {
+        Some(polygons) => push_polygons(polygons, numbers),
+        None => Ok(()),
+    }
+}
+
+/// Appends the numbers of the rings of a polygon of feature `n`; none where there is no such
+/// polygon. Fails for want of memory alone.
+pub(crate) fn push_polygon<'a, A: Allocator + Copy>(
+    frame: &Frame<'a, A>,
+    n: u32,
+    polygon: usize,
+    numbers: &mut Vec<usize, A>,
+) -> Result<(), AllocError>
+    ensures { OnOk result
+        (numbers.new.items ≡ numbers.old.items ++ polygon_under frame.now.doc n polygon) }
+{
+    let Some(polygons) = frame.polygons(n) else {
+        return Ok(());
+    };
+    match polygons.get(polygon) {
+        Some(rings) => numbers.extend_from_slice(rings.as_slice()),
+        None => Ok(()),
+    }
+}
+
+/// The numbers of these rings. Fails for want of memory alone.
+pub(crate) fn laid_numbers<A: Allocator + Copy>(
+    alloc: A,
+    laid: &[LaidRing<A>],
+) -> Result<Vec<usize, A>, AllocError>
+    ensures { IfOk result (λ numbers. numbers.items ≡ numbers_of laid.now) }
+{
+    let mut numbers = Vec::new(alloc);
+    for ring in laid {
+        numbers.push(ring.number)?;
+    }
+    Ok(numbers)
+}

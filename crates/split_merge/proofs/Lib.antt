@@ -1,0 +1,6 @@
+pub mod JsonStrings
+pub mod FirstRefusal
+pub mod SplitConditions
+pub mod RingConditions
+pub mod MergeConditions
+pub mod PathSegments

@@ -1,0 +1,68 @@
+-- The segments along a path, and those of the map.
+use Rattle.std.proofs.Common.{◌≡◌, ℕ, zero, suc, ◌+◌, ◌<◌, ◌≤◌, Bool, true, false, refl, sym, ap, ap₂, ◌∙◌, cond, List, [], ◌∷◌, ◌||◌, length, drop, get_or, drop_of_length-le, inl, arith}
+use Rattle.std.specs.Prelude.{nat_lt}
+use Rattle.std.specs.List.{list_any, filter}
+use Rattle.std.proofs.lemmas.Bool.Decides.{nat_tests}
+use Rattle.std.proofs.lemmas.List.{at_drop_more}
+use Rattle.grid_geometry.specs.Position.{Position}
+use Rattle.grid_geometry.specs.Segment.{Segment}
+use Rattle.grid_geometry.specs.Ring.{Edge, links}
+use Rattle.ring_machine.specs.Ring.{is_distinct}
+use Rattle.ring_machine.specs.Document.{Document}
+use Rattle.ring_machine.specs.Parts.{rings, is_segment}
+use Rattle.ring_machine.proofs.Distinct.{first_once, distinct_rest}
+use Rattle.arc_store.specs.Spots.{users}
+use Rattle.arc_store.proofs.Insertions.{has_segment, is_segment_by}
+
+-- ---- a segment
+
+one_kept : (n : ℕ) → nat_lt 0 (suc n) ≡ true
+one_kept n = grind (arith, nat_tests)
+
+-- a filter keeps none where no element passes, and else one or more
+kept_any : {A : Type 0} (test : A → Bool) (xs : List A)
+    → nat_lt 0 (length (filter test xs)) ≡ list_any test xs
+kept_any test [] = refl
+kept_any test (x ∷ xs) = by (test x) (kept_any test xs)
+  where
+    by : (t : Bool) → nat_lt 0 (length (filter test xs)) ≡ list_any test xs
+        → nat_lt 0 (length (cond t (x ∷ filter test xs) (filter test xs))) ≡ (t || list_any test xs)
+    by true h = one_kept (length (filter test xs))
+    by false h = h
+
+-- a segment is one of the document where some ring has it
+pub segment_used : (d : Document) (s : Segment) → nat_lt 0 (length (users d s)) ≡ is_segment d s
+segment_used d s = kept_any (has_segment s) (rings d) ∙ sym (is_segment_by d s)
+
+-- ---- along a path
+
+module _ (from to : Position) (rest : List Position) (i : ℕ) (l : i < length rest) (e : to ≡ get_or rest i to) where
+  -- what is left begins with the next position
+  next_of : {X : Type 0} (of : List Position → X) → of (drop i rest) ≡ of (to ∷ drop (i + 1) rest)
+  next_of of = at_drop_more of rest i to l ∙ ap (λ t. of (t ∷ drop (i + 1) rest)) (sym e)
+
+  -- two that follow each other differ
+  pub next_differs : is_distinct (from ∷ drop i rest) ≡ true → from ≡ to → ⊥
+  next_differs h same =
+      first_once from (to ∷ drop (i + 1) rest) (sym (next_of (λ ps. is_distinct (from ∷ ps))) ∙ h) (inl (sym same))
+
+  pub rest_distinct : is_distinct (from ∷ drop i rest) ≡ true
+      → is_distinct (to ∷ drop (i + 1) rest) ≡ true
+  rest_distinct h =
+      distinct_rest from (to ∷ drop (i + 1) rest) (sym (next_of (λ ps. is_distinct (from ∷ ps))) ∙ h)
+
+  module _ (test : Edge → Bool) where
+    along : list_any test (links (from ∷ drop i rest))
+        ≡ (test (from, to) || list_any test (links (to ∷ drop (i + 1) rest)))
+    along = next_of (λ ps. list_any test (links (from ∷ ps)))
+
+    pub none_here : test (from, to) ≡ false
+        → list_any test (links (to ∷ drop (i + 1) rest)) ≡ list_any test (links (from ∷ drop i rest))
+    none_here h = sym (along ∙ ap (λ b. b || list_any test (links (to ∷ drop (i + 1) rest))) h)
+
+    pub one_here : test (from, to) ≡ true → list_any test (links (from ∷ drop i rest)) ≡ true
+    one_here h = along ∙ ap (λ b. b || list_any test (links (to ∷ drop (i + 1) rest))) h
+
+pub none_left : (test : Edge → Bool) (from : Position) (rest : List Position) (i : ℕ)
+    → length rest ≤ i → list_any test (links (from ∷ drop i rest)) ≡ false
+none_left test from rest i l = ap (λ ps. list_any test (links (from ∷ ps))) (drop_of_length-le rest l)

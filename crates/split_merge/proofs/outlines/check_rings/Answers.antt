@@ -1,0 +1,38 @@
+use Rattle.std.proofs.Common.{sym, ap, ap₂, ◌∙◌, subst, ◌≤◌, false, arith}
+use Rattle.std.specs.List.{list_any}
+use Rattle.grid_geometry.specs.Ring.{edges}
+use Rattle.ring_machine.specs.Join.{is_common, runs, common_else, same_side}
+use Rattle.split_merge.proofs.RingConditions.{refusal, some_runs, common_beside, on_one_side, joinable}
+use Rattle.split_merge.proofs.outlines.check_rings.Goals as goal
+
+-- a border has the ring that it was made of
+pub returns-then-n-gt1-clause-refused : goal.returns-then-n-gt1-clause-refused
+returns-then-n-gt1-clause-refused g c =
+    let r = c.in_ok-one.one.ring.now in
+    let s = c.in_ok-other.other.ring.now in
+    sym (ap₂ refusal c.in_ok-one.ensures c.in_ok-other.ensures)
+    ∙ some_runs r s (sym c.in_ok-has_common.ensures ∙ c.if-not-branch.false) c.in_ok-n.n c.in_ok-n.ensures c.if-n-gt1.true
+
+pub returns-in-Some-clause-refused : goal.returns-in-Some-clause-refused
+returns-in-Some-clause-refused g c =
+    let r = c.in_ok-one.one.ring.now in
+    let s = c.in_ok-other.other.ring.now in
+    let one : runs (is_common s) (edges r) ≤ 1 = omega (arith, c.in_ok-n.ensures, c.if-n-gt1.false) in
+    sym (ap₂ refusal c.in_ok-one.ensures c.in_ok-other.ensures)
+    ∙ common_beside r s (sym c.in_ok-has_common.ensures ∙ c.if-not-branch.false) one c.in-Some.pos (sym c.in_ok-pos.ensures ∙ c.in-Some.is)
+
+pub returns-then-branch-clause-refused : goal.returns-then-branch-clause-refused
+returns-then-branch-clause-refused g c =
+    let r = c.in_ok-one.one.ring.now in
+    let s = c.in_ok-other.other.ring.now in
+    let one : runs (is_common s) (edges r) ≤ 1 = omega (arith, c.in_ok-n.ensures, c.if-n-gt1.false) in
+    sym (ap₂ refusal c.in_ok-one.ensures c.in_ok-other.ensures)
+    ∙ on_one_side r s (sym c.in_ok-has_common.ensures ∙ c.if-not-branch.false) one (sym c.in_ok-pos.ensures ∙ c.in_default.is) (sym c.in_ok-same_side.ensures ∙ c.if-branch.true)
+
+pub returns-clause-accepted : goal.returns-clause-accepted
+returns-clause-accepted g c =
+    let r = c.in_ok-one.one.ring.now in
+    let s = c.in_ok-other.other.ring.now in
+    let one : runs (is_common s) (edges r) ≤ 1 = omega (arith, c.in_ok-n.ensures, c.if-n-gt1.false) in
+    sym (ap₂ refusal c.in_ok-one.ensures c.in_ok-other.ensures)
+    ∙ joinable r s (sym c.in_ok-has_common.ensures ∙ c.if-not-branch.false) one (sym c.in_ok-pos.ensures ∙ c.in_default.is) (sym c.in_ok-same_side.ensures ∙ c.if-branch.false)

@@ -1,0 +1,15 @@
+use Rattle.std.proofs.Common.{◌-◌, sym, ◌∙◌, length, take, drop}
+use Rattle.ring_machine.specs.Ring.{segment_of}
+use Rattle.ring_machine.specs.Parts.{is_segment}
+use Rattle.split_merge.proofs.PathSegments.{none_here, rest_distinct}
+use Rattle.split_merge.proofs.path_way.has_segment_along.Goals as goal
+
+pub loop-to-preserved : goal.loop-to-preserved
+loop-to-preserved g c =
+    let rest = take (length c.args.positions.now - 1) (drop 1 c.args.positions.now) in
+    record {
+      left =
+          none_here c.loop-to.from c.to-item.result rest c.loop-to.to-index c.loop-to-test.true c.to-item.is (λ e. is_segment c.args.map.now.doc (segment_of e)) (sym c.is_joined.ensures ∙ c.if-is_joined.false)
+          ∙ c.loop-to.invariant.left;
+      distinct = rest_distinct c.loop-to.from c.to-item.result rest c.loop-to.to-index c.loop-to-test.true c.to-item.is c.loop-to.invariant.distinct;
+    }

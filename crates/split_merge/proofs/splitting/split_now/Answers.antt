@@ -1,0 +1,65 @@
+use Rattle.std.proofs.Common.{◌≡◌, ◌≤◌, ◌+◌, None, sym, subst}
+use Rattle.std.specs.Prelude.{OnOk, IfErr}
+use Rattle.ring_machine.specs.Cut.{path_of, cut}
+use Rattle.ring_machine.specs.Refusals.{first_of, split_refusals}
+use Rattle.segment_index.specs.Times.{times_by}
+use Rattle.local_planarity.specs.Tests.{most_for}
+use Rattle.arc_store.specs.Faults.{Refuses}
+use Rattle.split_merge.specs.Conditions.{early_refusals}
+use Rattle.split_merge.specs.Ids.{id_json}
+use Rattle.split_merge.proofs.FirstRefusal.{refuses_first}
+use Rattle.split_merge.proofs.SplitConditions.{late_refusals, split_groups, passed}
+use Rattle.split_merge.proofs.splitting.split_now.Goals as goal
+
+pub returns-in-Err-clause-refused : goal.returns-in-Err-clause-refused
+returns-in-Err-clause-refused g c =
+    let s = c.args.map.now in
+    let id = id_json c.args.id.now in
+    let path = path_of c.args.positions.now in
+    subst (λ rs. Refuses c.in-Err.fault (first_of rs)) (sym (split_groups s.doc s.next c.args.f id path))
+    (refuses_first c.in-Err.fault (early_refusals s.doc c.args.f path) (late_refusals s.doc s.next c.args.f id path) c.in-Err.ensures.refused)
+
+pub raw_split-requires-clause-there : goal.raw_split-requires-clause-there
+raw_split-requires-clause-there g c =
+    (passed c.args.map.now.doc c.args.f (path_of c.args.positions.now) c.in_default.ensures.accepted).there
+
+pub raw_split-requires-clause-inside : goal.raw_split-requires-clause-inside
+raw_split-requires-clause-inside g c =
+    (passed c.args.map.now.doc c.args.f (path_of c.args.positions.now) c.in_default.ensures.accepted).collected
+
+pub raw_split-requires-clause-cut : goal.raw_split-requires-clause-cut
+raw_split-requires-clause-cut g c =
+    (passed c.args.map.now.doc c.args.f (path_of c.args.positions.now) c.in_default.ensures.accepted).cuts
+
+pub raw_split-requires-clause-different : goal.raw_split-requires-clause-different
+raw_split-requires-clause-different g c =
+    (passed c.args.map.now.doc c.args.f (path_of c.args.positions.now) c.in_default.ensures.accepted).distinct
+
+pub raw_split-requires-clause-free : goal.raw_split-requires-clause-free
+raw_split-requires-clause-free g c =
+    (passed c.args.map.now.doc c.args.f (path_of c.args.positions.now) c.in_default.ensures.accepted).free
+
+pub raw_split-requires-clause-new : goal.raw_split-requires-clause-new
+raw_split-requires-clause-new g c =
+    (passed c.args.map.now.doc c.args.f (path_of c.args.positions.now) c.in_default.ensures.accepted).new
+
+-- the text is the JSON string of the id
+pub returns-clause-accepted : goal.returns-clause-accepted
+returns-clause-accepted g c =
+    let s = c.args.map.now in
+    subst (λ t. OnOk c.raw_split.result (first_of (split_refusals s.doc s.next c.args.f t (path_of c.args.positions.now)) ≡ None)) c.in_ok-text.ensures.text c.raw_split.ensures.accepted
+
+pub returns-clause-split : goal.returns-clause-split
+returns-clause-split g c =
+    let s = c.args.map.now in
+    subst (λ t. OnOk c.raw_split.result (c.raw_split.new.self.doc ≡ cut s.doc c.args.f t (path_of c.args.positions.now) s.next)) c.in_ok-text.ensures.text c.raw_split.ensures.split
+
+pub returns-clause-refused : goal.returns-clause-refused
+returns-clause-refused g c =
+    let s = c.args.map.now in
+    subst (λ t. IfErr c.raw_split.result (λ fault. Refuses fault (first_of (split_refusals s.doc s.next c.args.f t (path_of c.args.positions.now))))) c.in_ok-text.ensures.text c.raw_split.ensures.refused
+
+pub returns-clause-few : goal.returns-clause-few
+returns-clause-few g c =
+    let s = c.args.map.now in
+    subst (λ t. c.raw_split.new.self.tests ≤ s.tests + most_for (times_by s.cells) s.doc (cut s.doc c.args.f t (path_of c.args.positions.now) s.next)) c.in_ok-text.ensures.text c.raw_split.ensures.few

@@ -1,0 +1,391 @@
+//! Edits of features on small maps: each refusal once, and each growth refused in turn.
+use crate::{delete, merge, rename, split};
+use arc_store::{EditFault, IdText, ItemView, Map, Path};
+use grid_geometry::{Pos, Rect, Seg};
+use refusing_allocator::Refusing;
+use segment_index::{GridIndex, ListIndex, SegIndex};
+use std::alloc::{AllocError, Allocator, Global};
+use std::process::Abort;
+use std::test::Fail;
+use topo_reader::read;
+
+/// More than the growths of any run below.
+const MANY: u64 = 2000;
+
+// two squares with a common side
+const SQUARES: &str =
+    "{\"type\":\"Topology\",\"objects\":{\"l\":{\"type\":\"GeometryCollection\",\"geometries\":[{\"type\":\"Polygon\",\"id\":\"A\",\"arcs\":[[0]]},{\"type\":\"Polygon\",\"id\":\"B\",\"arcs\":[[1]]}]}},\"arcs\":[[[0,0],[10,0],[10,10],[0,10],[0,0]],[[10,0],[20,0],[20,10],[10,10],[10,0]]]}";
+
+// a square, and below it a polygon with a dent, each the geometry of its layer
+const ALONE: &str =
+    "{\"type\":\"Topology\",\"objects\":{\"a\":{\"type\":\"Polygon\",\"arcs\":[[0]]},\"b\":{\"type\":\"Polygon\",\"arcs\":[[1]]}},\"arcs\":[[[0,0],[10,0],[10,10],[0,10],[0,0]],[[0,-10],[10,-10],[10,0],[5,-2],[0,0],[0,-10]]]}";
+
+// two squares, and a layer that is their union
+const UNION: &str =
+    "{\"type\":\"Topology\",\"objects\":{\"l\":{\"type\":\"GeometryCollection\",\"geometries\":[{\"type\":\"Polygon\",\"arcs\":[[0]]},{\"type\":\"Polygon\",\"arcs\":[[1]]}]},\"s\":{\"type\":\"Polygon\",\"arcs\":[[2]]}},\"arcs\":[[[0,0],[10,0],[10,10],[0,10],[0,0]],[[10,0],[20,0],[20,10],[10,10],[10,0]],[[0,0],[10,0],[20,0],[20,10],[10,10],[0,10],[0,0]]]}";
+
+// neighbours with a gap between them
+const GAP: &str =
+    "{\"type\":\"Topology\",\"objects\":{\"l\":{\"type\":\"GeometryCollection\",\"geometries\":[{\"type\":\"Polygon\",\"arcs\":[[0]]},{\"type\":\"Polygon\",\"arcs\":[[1]]}]}},\"arcs\":[[[0,0],[10,0],[10,3],[8,5],[10,7],[10,10],[0,10],[0,0]],[[10,0],[20,0],[20,10],[10,10],[10,7],[12,5],[10,3],[10,0]]]}";
+
+// neighbours that also touch at a position
+const TOUCHING: &str =
+    "{\"type\":\"Topology\",\"objects\":{\"l\":{\"type\":\"GeometryCollection\",\"geometries\":[{\"type\":\"Polygon\",\"arcs\":[[0]]},{\"type\":\"Polygon\",\"arcs\":[[1]]}]}},\"arcs\":[[[0,0],[4,0],[4,4],[0,4],[0,0]],[[0,4],[2,6],[4,4],[4,0],[8,0],[8,8],[0,8],[0,4]]]}";
+
+// a triangle, and an object whose type is null
+const NULL: &str =
+    "{\"type\":\"Topology\",\"objects\":{\"l\":{\"type\":\"GeometryCollection\",\"geometries\":[{\"type\":\"Polygon\",\"arcs\":[[0]]},{\"type\":null}]}},\"arcs\":[[[0,0],[5,0],[5,5],[0,0]]]}";
+
+// a polygon with a hole at a corner, and one that turns right
+const HOLES: &str =
+    "{\"type\":\"Topology\",\"objects\":{\"l\":{\"type\":\"GeometryCollection\",\"geometries\":[{\"type\":\"Polygon\",\"arcs\":[[0],[1],[2]]}]}},\"arcs\":[[[0,0],[10,0],[20,0],[20,10],[10,10],[0,10],[0,0]],[[0,0],[2,4],[4,2],[0,0]],[[14,4],[14,6],[16,6],[16,4],[14,4]]]}";
+
+/// The map of the text, which opens and is planar.
+fn map_of<R: Abort>(rt: &R, alloc: Global, text: &'static str) -> Map<'static, ListIndex> {
+    let Ok(raw) = read(alloc, alloc, text.as_bytes()) else {
+        panic!(rt; "the text opens");
+    };
+    let Ok(map) = Map::build(alloc, raw, ListIndex::new(alloc)) else {
+        panic!(rt; "it is planar");
+    };
+    map
+}
+
+/// The position, which is in range.
+fn at<R: Abort>(rt: &R, p: (i64, i64)) -> Pos {
+    Pos::new(p.0, p.1).expect(rt, "in range")
+}
+
+/// The segment of two positions, which differ.
+fn side<R: Abort>(rt: &R, p: (i64, i64), q: (i64, i64)) -> Seg {
+    Seg::new(at(rt, p), at(rt, q)).expect(rt, "two positions")
+}
+
+/// The positions with these coordinates.
+fn ring<R: Abort, A: Allocator + Copy>(
+    rt: &R,
+    alloc: A,
+    positions: &[(i64, i64)],
+) -> Result<Vec<Pos, A>, AllocError> {
+    let mut ring = Vec::new(alloc);
+    for p in positions {
+        ring.push(at(rt, *p))?;
+    }
+    Ok(ring)
+}
+
+/// Whether the feature has one polygon, of these rings.
+fn has_rings<R: Abort, I: SegIndex, A: Allocator + Copy>(
+    rt: &R,
+    alloc: A,
+    map: &Map<'_, I, A>,
+    f: u32,
+    rings: &[&[(i64, i64)]],
+) -> Result<bool, AllocError> {
+    let mut polygon = Vec::new(alloc);
+    for positions in rings {
+        polygon.push(ring(rt, alloc, *positions)?)?;
+    }
+    let polygons = map.polygons(f)?;
+    match polygons.as_slice() {
+        [one] => Ok(*one == polygon),
+        _ => Ok(false),
+    }
+}
+
+/// The split along these positions, of which there are 2 to 256.
+fn cut<R: Abort, I: SegIndex, A: Allocator + Copy>(
+    rt: &R,
+    alloc: A,
+    map: &mut Map<'_, I, A>,
+    f: u32,
+    positions: &[(i64, i64)],
+) -> Result<u32, EditFault> {
+    let id = IdText(String::from_str(alloc, "new")?);
+    let path = Path(ring(rt, alloc, positions)?);
+    let count = path.0.len();
+    assert!(rt; 2 <= count && count <= 256);
+    split(map, f, id, path)
+}
+
+// ---- refusals
+
+#[test]
+fn splits_are_refused(rt: HostRuntime) {
+    let alloc = rt.alloc();
+    let mut map = map_of(&rt, alloc, SQUARES);
+    let (s, t) = (side(&rt, (0, 0), (15, 5)), side(&rt, (10, 0), (10, 10)));
+    let across: &[(i64, i64)] = &[(0, 0), (10, 10)];
+    let off: &[(i64, i64)] = &[(0, 0), (20, 0)];
+    let twice: &[(i64, i64)] = &[(0, 0), (5, 5), (5, 5), (10, 10)];
+    let over_a_vertex: &[(i64, i64)] = &[(0, 0), (20, 0), (10, 10)];
+    let along: &[(i64, i64)] = &[(0, 0), (10, 0)];
+    let over_a_side: &[(i64, i64)] = &[(0, 0), (15, 5), (10, 10)];
+    let outside: &[(i64, i64)] = &[(0, 0), (5, -5), (10, 0)];
+    for (f, positions, fault) in [
+        (9, across, EditFault::NoFeature),
+        (0, off, EditFault::NotOnOuterRing),
+        (0, twice, EditFault::RepeatedPoint),
+        (0, over_a_vertex, EditFault::Occupied),
+        (0, along, EditFault::SegmentExists),
+        (0, over_a_side, EditFault::Conflict { s, t }),
+        (0, outside, EditFault::WrongSide),
+    ] {
+        assert_eq!(rt; cut(&rt, alloc, &mut map, f, positions), Err(fault));
+    }
+    let mut alone = map_of(&rt, alloc, ALONE);
+    assert_eq!(rt;
+        cut(&rt, alloc, &mut alone, 0, across),
+        Err(EditFault::NoCollection)
+    );
+}
+
+#[test]
+fn merges_are_refused(rt: HostRuntime) {
+    let alloc = rt.alloc();
+    let pos = at(&rt, (0, 4));
+    for (text, f, g, fault) in [
+        (SQUARES, 0, 9, EditFault::NoFeature),
+        (SQUARES, 9, 9, EditFault::NoFeature),
+        (SQUARES, 1, 1, EditFault::SameFeature),
+        (NULL, 0, 1, EditFault::NotOnePolygon),
+        (ALONE, 0, 1, EditFault::NotNeighbours),
+        (GAP, 0, 1, EditFault::Runs { n: 2 }),
+        (TOUCHING, 0, 1, EditFault::CommonElse { pos }),
+        (UNION, 0, 2, EditFault::SameSide),
+    ] {
+        let mut map = map_of(&rt, alloc, text);
+        assert_eq!(rt; merge(&mut map, f, g), Err(fault));
+    }
+}
+
+#[test]
+fn no_such_feature(rt: HostRuntime) -> Result<(), Fail> {
+    let alloc = rt.alloc();
+    let mut map = map_of(&rt, alloc, SQUARES);
+    let id = IdText(String::from_str(alloc, "x")?);
+    assert_eq!(rt; rename(&mut map, 2, id), Err(EditFault::NoFeature));
+    assert_eq!(rt; delete(&mut map, 2), Err(EditFault::NoFeature));
+    Ok(())
+}
+
+// ---- edits
+
+#[test]
+fn split_and_merged(rt: HostRuntime) -> Result<(), Fail> {
+    let alloc = rt.alloc();
+    let mut map = map_of(&rt, alloc, SQUARES);
+    let made = cut(&rt, alloc, &mut map, 0, &[(0, 0), (5, 2), (10, 10)]);
+    assert_eq!(rt; made, Ok(2));
+    assert!(rt; has_rings(&rt, alloc, &map, 0, &[&[(0, 0), (10, 0), (10, 10), (5, 2)]])?);
+    assert!(rt; has_rings(&rt, alloc, &map, 2, &[&[(0, 0), (5, 2), (10, 10), (0, 10)]])?);
+    assert_eq!(rt; map.feature_count(), 3);
+    assert_eq!(rt; map.vertex_count(), 7);
+    assert_eq!(rt; map.segment_count(), 9);
+    assert_eq!(rt; map.next_number(), 3);
+    assert_eq!(rt; merge(&mut map, 0, 2), Ok(()));
+    assert!(rt;
+        has_rings(
+            &rt,
+            alloc,
+            &map,
+            0,
+            &[&[(0, 0), (10, 0), (10, 10), (0, 10)]]
+        )?
+    );
+    assert_eq!(rt; map.feature_count(), 2);
+    assert_eq!(rt; map.vertex_count(), 6);
+    assert_eq!(rt; map.segment_count(), 7);
+    assert_eq!(rt; map.next_number(), 3);
+    Ok(())
+}
+
+// the hole at the corner stays, the other one goes
+#[test]
+fn holes_go_with_their_part(rt: HostRuntime) -> Result<(), Fail> {
+    let alloc = rt.alloc();
+    let mut map = map_of(&rt, alloc, HOLES);
+    let made = cut(&rt, alloc, &mut map, 0, &[(10, 10), (10, 0)]);
+    assert_eq!(rt; made, Ok(1));
+    let left: &[(i64, i64)] = &[(0, 0), (10, 0), (10, 10), (0, 10)];
+    let right: &[(i64, i64)] = &[(10, 0), (20, 0), (20, 10), (10, 10)];
+    assert!(rt; has_rings(&rt, alloc, &map, 0, &[left, &[(0, 0), (2, 4), (4, 2)]])?);
+    assert!(rt;
+        has_rings(
+            &rt,
+            alloc,
+            &map,
+            1,
+            &[right, &[(14, 4), (14, 6), (16, 6), (16, 4)]]
+        )?
+    );
+    Ok(())
+}
+
+// the text that serde_json 1.0 writes
+#[test]
+fn an_id_is_escaped(rt: HostRuntime) -> Result<(), Fail> {
+    let alloc = rt.alloc();
+    let mut map = map_of(&rt, alloc, SQUARES);
+    let id = IdText(String::from_str(
+        alloc,
+        "a\"/\\\n\t\u{8}\u{c}\r\u{1}\u{1f}\u{7f}\u{e9}\u{20ac}\u{1f5fa}",
+    )?);
+    assert_eq!(rt; rename(&mut map, 1, id), Ok(()));
+    let want = "\"a\\\"/\\\\\\n\\t\\b\\f\\r\\u0001\\u001f\u{7f}\u{e9}\u{20ac}\u{1f5fa}\"";
+    let Some(feature) = map.feature(1) else {
+        panic!(rt; "it is there");
+    };
+    assert!(rt; feature.id() == Some(want.as_bytes()));
+    Ok(())
+}
+
+/// Whether the layer is one collection of as many features.
+fn has_features<I: SegIndex>(map: &Map<'_, I>, layer: usize, count: usize) -> bool {
+    let Some(items) = map.frame().items(layer) else {
+        return false;
+    };
+    let (mut opened, mut closed, mut leaves) = (0usize, 0usize, 0usize);
+    for item in items {
+        match item {
+            ItemView::Open(_) => opened = opened.wrapping_add(1),
+            ItemView::Close => closed = closed.wrapping_add(1),
+            ItemView::Leaf(_) => leaves = leaves.wrapping_add(1),
+            ItemView::Kept(_) => return false,
+        }
+    }
+    opened == 1 && closed == 1 && leaves == count
+}
+
+// one leaves its collection, and a layer's own geometry leaves an empty one
+#[test]
+fn features_are_deleted(rt: HostRuntime) {
+    let alloc = rt.alloc();
+    let mut map = map_of(&rt, alloc, SQUARES);
+    assert_eq!(rt; delete(&mut map, 1), Ok(()));
+    assert!(rt; has_features(&map, 0, 1));
+    assert_eq!(rt; map.vertex_count(), 4);
+    assert_eq!(rt; map.segment_count(), 4);
+    let mut alone = map_of(&rt, alloc, ALONE);
+    assert!(rt; !has_features(&alone, 1, 0));
+    assert_eq!(rt; delete(&mut alone, 1), Ok(()));
+    assert!(rt; has_features(&alone, 1, 0));
+    assert_eq!(rt; alone.feature_count(), 1);
+    assert_eq!(rt; alone.vertex_count(), 4);
+}
+
+// ---- growths
+
+/// An edit of the two squares.
+#[derive(Clone, Copy, Debug, PartialEq, Eq)]
+enum Edit {
+    Split,
+    Merge,
+    Rename,
+    Delete,
+}
+
+/// Makes the edit. What it is given is made in the same heap.
+fn make<R: Abort, I: SegIndex, A: Allocator + Copy>(
+    rt: &R,
+    heap: A,
+    map: &mut Map<'_, I, A>,
+    edit: Edit,
+) -> Result<(), EditFault> {
+    match edit {
+        Edit::Split => match cut(rt, heap, map, 0, &[(0, 0), (5, 2), (10, 10)]) {
+            Ok(_) => Ok(()),
+            Err(fault) => Err(fault),
+        },
+        Edit::Merge => merge(map, 0, 1),
+        Edit::Rename => rename(map, 0, IdText(String::from_str(heap, "C")?)),
+        Edit::Delete => delete(map, 0),
+    }
+}
+
+/// The map of the two squares, in a heap that may refuse a growth; `None` where it did.
+fn squares_in<A: Allocator + Copy>(
+    heap: A,
+    alloc: Global,
+) -> Option<Map<'static, GridIndex<A>, A>> {
+    let Ok(raw) = read(heap, alloc, SQUARES.as_bytes()) else {
+        return None;
+    };
+    let Ok(index) = GridIndex::new(heap, Rect::new(0, -10, 20, 10)) else {
+        return None;
+    };
+    Map::build(heap, raw, index).ok()
+}
+
+/// Whether the map is that of the two squares.
+fn is_unchanged<R: Abort, I: SegIndex, A: Allocator + Copy>(
+    rt: &R,
+    heap: A,
+    map: &Map<'_, I, A>,
+) -> Result<bool, AllocError> {
+    let left: &[(i64, i64)] = &[(0, 0), (10, 0), (10, 10), (0, 10)];
+    let right: &[(i64, i64)] = &[(10, 0), (20, 0), (20, 10), (10, 10)];
+    let named = match map.feature(0) {
+        Some(feature) => feature.id() == Some("\"A\"".as_bytes()),
+        None => false,
+    };
+    Ok(
+        named
+            && has_rings(rt, heap, map, 0, &[left])?
+            && has_rings(rt, heap, map, 1, &[right])?
+            && (map.feature_count(), map.vertex_count(), map.segment_count()) == (2, 6, 7)
+            && (map.position_count(), map.next_number()) == (8, 2),
+    )
+}
+
+/// Whether the growth of this number was one of the edit, and was refused: nothing had changed then,
+/// and the edit was accepted when it was made again. `None` where no growth was refused.
+fn refuse<R: Abort>(rt: &R, alloc: Global, edit: Edit, nth: u64) -> Result<Option<bool>, Fail> {
+    let heap = Refusing::new(alloc, nth);
+    let Some(mut map) = squares_in(&heap, alloc) else {
+        return Ok(Some(false));
+    };
+    if heap.was_refused() {
+        return Ok(Some(false));
+    }
+    match make(rt, &heap, &mut map, edit) {
+        Ok(()) => Ok(None),
+        Err(fault) => {
+            assert_eq!(rt; fault, EditFault::OutOfMemory);
+            assert!(rt;
+                is_unchanged(rt, &heap, &map)?,
+                "{edit:?} without growth {nth}"
+            );
+            assert_eq!(rt; make(rt, &heap, &mut map, edit), Ok(()));
+            Ok(Some(true))
+        }
+    }
+}
+
+/// How many growths of the edit were refused in turn.
+fn refuse_each<R: Abort>(rt: &R, alloc: Global, edit: Edit) -> Result<u64, Fail> {
+    let mut refused = 0u64;
+    for nth in 1..MANY {
+        match refuse(rt, alloc, edit, nth)? {
+            Some(true) => refused = refused.wrapping_add(1),
+            Some(false) => {}
+            None => return Ok(refused),
+        }
+    }
+    panic!(rt; "the edit ends");
+}
+
+#[test]
+fn a_refused_growth_changes_nothing(rt: HostRuntime) -> Result<(), Fail> {
+    let alloc = rt.alloc();
+    for (edit, least) in [
+        (Edit::Split, 10),
+        (Edit::Merge, 10),
+        (Edit::Rename, 2),
+        (Edit::Delete, 1),
+    ] {
+        let refused = refuse_each(&rt, alloc, edit)?;
+        assert!(rt; least <= refused, "{edit:?}: {refused}");
+    }
+    Ok(())
+}
