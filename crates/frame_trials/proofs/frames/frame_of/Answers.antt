@@ -1,6 +1,6 @@
 use Rattle.std.proofs.Common.{◌∙◌, ap, map, length}
 use Rattle.map_frame.proofs.BuiltAlike.{can_stand}
-use Rattle.map_frame.proofs.tests.frame_of.Goals as goal
+use Rattle.frame_trials.proofs.frames.frame_of.Goals as goal
 
 pub build-requires : goal.build-requires
 build-requires c = record {

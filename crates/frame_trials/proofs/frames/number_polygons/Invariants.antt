@@ -1,5 +1,5 @@
 use Rattle.std.proofs.Common.{◌≡◌, vec_len}
-use Rattle.map_frame.proofs.tests.number_polygons.Given as goal
+use Rattle.frame_trials.proofs.frames.number_polygons.Given as goal
 
 -- a list for each polygon so far
 abbrev pub invariant-loop-polygon : goal.invariant-loop-polygon

@@ -1,5 +1,5 @@
 use Rattle.std.proofs.Common.{◌≡◌, map, take, length}
-use Rattle.map_frame.proofs.tests.number_rings.Given as goal
+use Rattle.frame_trials.proofs.frames.number_rings.Given as goal
 
 -- as many polygons for each feature so far
 abbrev pub invariant-loop-feature : goal.invariant-loop-feature

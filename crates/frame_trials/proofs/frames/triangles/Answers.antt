@@ -1,8 +1,8 @@
 use Rattle.std.proofs.Common.{◌≡◌, ◌∙◌, true, ap, length, map, subst, sym}
 use Rattle.map_frame.specs.Numbered.{IsNumbered}
 use Rattle.map_frame.proofs.BuiltAlike.{can_stand}
-use Rattle.map_frame.proofs.TestedFrames.{two_lengths, two_numbered}
-use Rattle.map_frame.proofs.tests.triangles.Goals as goal
+use Rattle.frame_trials.proofs.TestedFrames.{two_lengths, two_numbered}
+use Rattle.frame_trials.proofs.frames.triangles.Goals as goal
 
 pub build-requires : goal.build-requires
 build-requires g c =

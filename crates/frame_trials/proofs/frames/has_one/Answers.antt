@@ -1,7 +1,7 @@
 use Rattle.std.proofs.Common.{length}
 use Rattle.std.proofs.lemmas.Bool.Decides.{Decides-eqb}
-use Rattle.map_frame.proofs.TestedFrames.{one_of}
-use Rattle.map_frame.proofs.tests.has_one.Goals as goal
+use Rattle.frame_trials.proofs.TestedFrames.{one_of}
+use Rattle.frame_trials.proofs.frames.has_one.Goals as goal
 
 pub returns-in-Some : goal.returns-in-Some
 returns-in-Some g c h =

@@ -1,10 +1,10 @@
+//! Frames of small texts, and a feature that is parted.
 ghost use Rattle.std.specs.Prelude.{◌≡◌, ◌+◌, ◌<◌, ◌∷◌, [], map, length, IfOk, IsTrue, OnErr, OnOk, vec_len};
 ghost use Rattle.map_opening.specs.Laying.{feature_numbers};
 ghost use Rattle.map_frame.specs.Edits.{polygons_of};
 ghost use Rattle.map_frame.specs.Numbered.{IsNumbered};
 
-use crate::layers::{Geometry, Slot};
-use crate::{Frame, ItemView};
+use map_frame::{Frame, ItemView};
 use refusing_allocator::Refusing;
 use std::alloc::{AllocError, Allocator, Global};
 use std::process::Abort;
@@ -70,42 +70,36 @@ const COLLECTION: &[u8] = b"{\"type\":\"Topology\",\"objects\":{\"a\":\
 {\"type\":\"Point\",\"coordinates\":[0,0]},{\"type\":\"Polygon\",\"arcs\":[[1]]}]}},\
 \"arcs\":[[[0,0],[4,0],[0,4],[0,0]],[[9,0],[12,0],[9,4],[9,0]]]}";
 
-/// The first layer is the feature with this number.
-fn is_alone(frame: &Frame<'_>, number: u32) -> bool {
-    match frame.tables.layers.first() {
-        Some(layer) => match &layer.geometry {
-            Geometry::Alone(n) => *n == number,
-            Geometry::Items(_) => false,
-        },
-        None => false,
-    }
-}
-
-/// The number of the feature in this slot of the first layer.
-fn number_in(frame: &Frame<'_>, slot: usize) -> Option<u32> {
-    let layer = frame.tables.layers.first()?;
-    match &layer.geometry {
-        Geometry::Items(slots) => match slots.get(slot)? {
-            Slot::Leaves(numbers) => numbers.first().copied(),
-            _ => None,
-        },
-        Geometry::Alone(_) => None,
-    }
-}
-
 /// The feature of the ring with this number.
 fn feature_of<A: Allocator + Copy>(frame: &Frame<'_, A>, ring: usize) -> Option<u32> {
-    match frame.tables.names.get(ring)? {
+    match frame.name_of(ring) {
         Some(name) => Some(name.feature),
         None => None,
     }
 }
 
+/// The numbers of the features of the first layer, in order.
+fn leaves<A: Allocator + Copy>(
+    alloc: Global,
+    frame: &Frame<'_, A>,
+) -> Result<Vec<u32>, AllocError> {
+    let mut numbers = Vec::new(alloc);
+    let Some(items) = frame.view().items(0) else {
+        return Ok(numbers);
+    };
+    for item in items {
+        if let ItemView::Leaf(number) = item {
+            numbers.push(number)?;
+        }
+    }
+    Ok(numbers)
+}
+
 #[test]
 fn a_feature_alone(rt: HostRuntime) -> Result<(), Fail> {
     let frame = frame_of(rt.alloc(), ALONE)?;
-    assert!(rt; is_alone(&frame, 0));
-    assert_eq!(rt; frame.tables.count, 1);
+    assert!(rt; frame.is_alone(0));
+    assert_eq!(rt; frame.feature_count(), 1);
     assert_eq!(rt; feature_of(&frame, 0), Some(0));
     assert_eq!(rt; feature_of(&frame, 1), None);
     Ok(())
@@ -113,20 +107,28 @@ fn a_feature_alone(rt: HostRuntime) -> Result<(), Fail> {
 
 #[test]
 fn a_collection(rt: HostRuntime) -> Result<(), Fail> {
-    let frame = frame_of(rt.alloc(), COLLECTION)?;
-    assert_eq!(rt; frame.tables.count, 2);
-    assert_eq!(rt; number_in(&frame, 0), None);
-    assert_eq!(rt; number_in(&frame, 1), Some(0));
-    assert_eq!(rt; number_in(&frame, 2), None);
-    assert_eq!(rt; number_in(&frame, 3), Some(1));
+    let alloc = rt.alloc();
+    let frame = frame_of(alloc, COLLECTION)?;
+    assert_eq!(rt; frame.feature_count(), 2);
+    assert!(rt; !frame.is_alone(0) && !frame.is_alone(1));
+    let order = leaves(alloc, &frame)?;
+    assert_eq!(rt; order.as_slice(), [0, 1].as_slice());
+    let items = frame.view().items(0).ok_or("a layer")?;
+    assert_eq!(rt;
+        items.count(),
+        5,
+        "the collection, its end, and a point between the features"
+    );
     Ok(())
 }
 
 #[test]
 fn a_copy(rt: HostRuntime) -> Result<(), Fail> {
-    let copy = frame_of(rt.alloc(), COLLECTION)?.copy()?;
-    assert_eq!(rt; copy.tables.count, 2);
-    assert_eq!(rt; number_in(&copy, 3), Some(1));
+    let alloc = rt.alloc();
+    let copy = frame_of(alloc, COLLECTION)?.copy()?;
+    assert_eq!(rt; copy.feature_count(), 2);
+    let order = leaves(alloc, &copy)?;
+    assert_eq!(rt; order.as_slice(), [0, 1].as_slice());
     assert_eq!(rt; feature_of(&copy, 1), Some(1));
     Ok(())
 }
@@ -224,23 +226,6 @@ fn part_feature<R: Abort, A: Allocator + Copy>(
     let number = frame.part(n, 0, first, second, id)?;
     assert!(rt; frame.has_feature(number));
     Ok(number)
-}
-
-/// The numbers of the features of the first layer, in order.
-fn leaves<A: Allocator + Copy>(
-    alloc: Global,
-    frame: &Frame<'_, A>,
-) -> Result<Vec<u32>, AllocError> {
-    let mut numbers = Vec::new(alloc);
-    let Some(items) = frame.view().items(0) else {
-        return Ok(numbers);
-    };
-    for item in items {
-        if let ItemView::Leaf(number) = item {
-            numbers.push(number)?;
-        }
-    }
-    Ok(numbers)
 }
 
 #[test]

@@ -2,8 +2,8 @@ use Rattle.std.proofs.Common.{◌≡◌, ◌+◌, true, arith, subst, sym, [], �
 use Rattle.map_frame.specs.Edits.{parted}
 use Rattle.map_frame.specs.Framed.{Framed}
 use Rattle.map_frame.specs.Numbered.{IsNumbered}
-use Rattle.map_frame.proofs.TestedFrames.{parted_numbered}
-use Rattle.map_frame.proofs.tests.part_feature.Goals as goal
+use Rattle.frame_trials.proofs.TestedFrames.{parted_numbered}
+use Rattle.frame_trials.proofs.frames.part_feature.Goals as goal
 
 pub returns-clause-numbered : goal.returns-clause-numbered
 returns-clause-numbered g c =

@@ -7,9 +7,9 @@ ghost use Rattle.ring_machine.specs.Ring.{is_ring};
 ghost use Rattle.ring_exchange.specs.Laid.{AreThere};
 ghost use Rattle.ring_exchange.specs.Standing.{Stands};
 
-use crate::{LaidRing, gather_rings, lay_rings, take_out_rings};
 use grid_geometry::Pos;
 use refusing_allocator::Refusing;
+use ring_exchange::{LaidRing, gather_rings, lay_rings, take_out_rings};
 use segment_index::ListIndex;
 use shared_arcs::Borders;
 use std::alloc::{AllocError, Allocator, Global};
