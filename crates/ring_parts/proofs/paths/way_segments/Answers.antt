@@ -1,9 +1,9 @@
 use Rattle.std.proofs.Common.{refl, ap, ap₂, ◌∙◌, ◌++◌, ◌∷◌, []}
 use Rattle.ring_machine.specs.Ring.{is_distinct}
 use Rattle.ring_parts.proofs.Lists.{list_is}
-use Rattle.arc_store.proofs.PathSegments.{segments_along, way_more, way_on, way_apart}
-use Rattle.arc_store.proofs.raw_split.way_segments.Goals as goal
-use Rattle.arc_store.proofs.raw_split.way_segments.Goals.{in-Some+in_ok-push, in_default-new}
+use Rattle.ring_parts.proofs.WaySegments.{segments_along, way_more, way_on, way_apart}
+use Rattle.ring_parts.proofs.paths.way_segments.Goals as goal
+use Rattle.ring_parts.proofs.paths.way_segments.Goals.{in-Some+in_ok-push, in_default-new}
 
 pub loop-to-init : goal.loop-to-init
 loop-to-init g c =

@@ -1,7 +1,7 @@
 use Rattle.std.proofs.Common.{◌≡◌, ◌∷◌, ◌++◌, true, drop}
 use Rattle.ring_machine.specs.Ring.{is_distinct}
-use Rattle.arc_store.proofs.PathSegments.{segments_along}
-use Rattle.arc_store.proofs.raw_split.way_segments.Given as goal
+use Rattle.ring_parts.proofs.WaySegments.{segments_along}
+use Rattle.ring_parts.proofs.paths.way_segments.Given as goal
 
 -- the segments so far and those of the way that is left are all
 abbrev pub invariant-loop-to : goal.invariant-loop-to

@@ -1,7 +1,7 @@
 use Rattle.std.proofs.Common.{◌≡◌, length, take}
 use Rattle.std.specs.List.{sum_by}
 use Rattle.ring_parts.specs.Seen.{rings_seen}
-use Rattle.arc_store.proofs.counting.count_positions.Given as goal
+use Rattle.ring_parts.proofs.counting.count_positions.Given as goal
 
 -- those of the rings so far
 abbrev pub invariant-loop-ring : goal.invariant-loop-ring

@@ -1,6 +1,6 @@
 use Rattle.std.proofs.Common.{◌≡◌, ◌++◌, take}
 use Rattle.ring_parts.specs.Seen.{rings_seen}
-use Rattle.arc_store.proofs.raw_merge.push_rings.Given as goal
+use Rattle.ring_parts.proofs.joining.push_rings.Given as goal
 
 -- the rings so far
 abbrev pub invariant-loop-ring : goal.invariant-loop-ring

@@ -1,7 +1,7 @@
 use Rattle.std.proofs.Common.{◌≡◌, length, take}
 use Rattle.std.specs.List.{sum_by}
 use Rattle.ring_parts.specs.Seen.{polygons_seen}
-use Rattle.arc_store.proofs.counting.count_all.Given as goal
+use Rattle.ring_parts.proofs.counting.count_all.Given as goal
 
 -- those of the polygons so far
 abbrev pub invariant-loop-rings : goal.invariant-loop-rings

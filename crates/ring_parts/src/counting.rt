@@ -7,7 +7,7 @@ use grid_geometry::Pos;
 use std::alloc::Allocator;
 
 /// How many positions the rings have, each ring counted for itself.
-pub(crate) fn count_positions<A: Allocator + Copy>(rings: &[Vec<Pos, A>]) -> usize
+pub fn count_positions<A: Allocator + Copy>(rings: &[Vec<Pos, A>]) -> usize
     requires { sum_by length (rings_seen rings.now) < 2 ^ 64 }
     ensures { result ≡ sum_by length (rings_seen rings.now) }
 {
@@ -19,7 +19,7 @@ pub(crate) fn count_positions<A: Allocator + Copy>(rings: &[Vec<Pos, A>]) -> usi
 }
 
 /// How many positions the rings of these polygons have, each ring counted for itself.
-pub(crate) fn count_all<A: Allocator + Copy>(polygons: &[Vec<Vec<Pos, A>, A>]) -> usize
+pub fn count_all<A: Allocator + Copy>(polygons: &[Vec<Vec<Pos, A>, A>]) -> usize
     requires { sum_by (sum_by length) (polygons_seen polygons.now) < 2 ^ 64 }
     ensures { result ≡ sum_by (sum_by length) (polygons_seen polygons.now) }
 {

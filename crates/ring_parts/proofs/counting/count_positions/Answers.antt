@@ -1,8 +1,8 @@
 use Rattle.std.proofs.Common.{length, arith}
 use Rattle.std.specs.Prelude.{Vec}
 use Rattle.grid_geometry.specs.Position.{Position}
-use Rattle.arc_store.proofs.Counted.{counted_few}
-use Rattle.arc_store.proofs.counting.count_positions.Goals as goal
+use Rattle.ring_parts.proofs.CountedFew.{counted_few}
+use Rattle.ring_parts.proofs.counting.count_positions.Goals as goal
 
 pub overflow_add-count : goal.overflow_add-count
 overflow_add-count g c =

@@ -3,8 +3,8 @@ use Rattle.std.specs.List.{sum_by}
 use Rattle.std.specs.Prelude.{Vec}
 use Rattle.grid_geometry.specs.Position.{Position}
 use Rattle.ring_parts.specs.Seen.{rings_seen}
-use Rattle.arc_store.proofs.Counted.{counted_few}
-use Rattle.arc_store.proofs.counting.count_all.Goals as goal
+use Rattle.ring_parts.proofs.CountedFew.{counted_few}
+use Rattle.ring_parts.proofs.counting.count_all.Goals as goal
 
 pub count_positions-count-requires : goal.count_positions-count-requires
 count_positions-count-requires g c =
