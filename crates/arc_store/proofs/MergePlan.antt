@@ -1,6 +1,6 @@
 -- The plan of a merge: the rings of both features, what is asked of the exchange, and what is kept.
-use Rattle.std.proofs.Common.{◌≡◌, ◌≢◌, ◌≤◌, ◌<◌, ℕ, ◌+◌, ◌-◌, true, false, refl, sym, ap, ap₂, ◌∙◌, subst, List}
-use Rattle.std.proofs.Common.{[], ◌∷◌, map, length, get_or, Option, None, Some, option_map, arith}
+use Rattle.std.proofs.Common.{◌≡◌, ◌≢◌, ◌≤◌, ◌<◌, ℕ, ◌+◌, ◌-◌, true, sym, ap, ap₂, ◌∙◌, subst, List}
+use Rattle.std.proofs.Common.{[], ◌∷◌, map, length, get_or, Option, None, option_map, arith}
 use Rattle.std.specs.Prelude.{unwrap_or, Vec}
 use Rattle.std.specs.List.{list_all, sum_by}
 use Rattle.std.proofs.lemmas.Bool.{eqb-false}
@@ -8,7 +8,7 @@ use Rattle.std.proofs.lemmas.List.{length-map}
 use Rattle.std.proofs.lemmas.List.Sums.{sum_by-cons}
 use Rattle.grid_geometry.specs.Position.{Position}
 use Rattle.ring_machine.specs.Document.{Document}
-use Rattle.ring_machine.specs.Parts.{feature, size}
+use Rattle.ring_machine.specs.Parts.{size}
 use Rattle.ring_machine.specs.Planar.{Proper}
 use Rattle.ring_machine.specs.Join.{join}
 use Rattle.ring_machine.specs.Refusals.{first_of, merge_refusals, feature_at, or_else, no_feature}

@@ -1,5 +1,5 @@
 -- The rings of a feature, read from the tables, are those that it has in the document.
-use Rattle.std.proofs.Common.{◌≡◌, ◌≤◌, ◌<◌, ℕ, true, refl, sym, ap, ◌∙◌, subst, List, [], ◌++◌, map, length, get_or}
+use Rattle.std.proofs.Common.{◌≡◌, ◌<◌, ℕ, true, refl, sym, ap, ◌∙◌, subst, List, [], ◌++◌, map, length, get_or}
 use Rattle.std.proofs.Common.{Option, None, Some, option_map, Contains, zero, suc, ◌∷◌, take, false, arith}
 use Rattle.std.specs.Prelude.{Vec, unwrap_or, IfSome}
 use Rattle.std.specs.FinMap as table

@@ -1,5 +1,4 @@
-use Rattle.std.proofs.Common.{ap, ◌∙◌, sym, length, arith}
-use Rattle.std.specs.List.{sum_by}
+use Rattle.std.proofs.Common.{ap, ◌∙◌, arith}
 use Rattle.ring_machine.specs.Join.{join}
 use Rattle.ring_machine.specs.Refusals.{feature_at}
 use Rattle.ring_parts.specs.Seen.{rings_seen, polygons_seen}
