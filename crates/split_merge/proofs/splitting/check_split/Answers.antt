@@ -1,4 +1,4 @@
-use Rattle.std.proofs.Common.{◌≡◌, sym, ap, ◌∙◌, subst, None}
+use Rattle.std.proofs.Common.{◌≡◌, sym, subst, None}
 use Rattle.std.specs.Prelude.{OnOk, IfErr}
 use Rattle.ring_machine.specs.Refusals.{first_of}
 use Rattle.ring_parts.specs.Seen.{path_seen}
