@@ -164,10 +164,3 @@ front_of delta first all later start now e h =
     let more = commas_more (arc_text delta) first later in
     subst (AppendsPrefix start now) (sym (ap (listed_arcs delta) e ∙ more.1))
     (prefix_whole start now (listed_arcs delta first) more.0 h)
-
--- nothing is left after the last one
-pub drop_end : {A : Type 0} (xs : List A) (n : ℕ) → length xs ≤ n → drop n xs ≡ []
-drop_end [] zero h = refl
-drop_end [] (suc n) h = refl
-drop_end (x ∷ xs) zero h = absurd (omega (arith, h))
-drop_end (x ∷ xs) (suc n) h = drop_end xs n (omega (arith, h))
