@@ -1,5 +1,5 @@
 //! Tests of the store: the same edits beside those of plain rings, growths that are refused, how arcs
-//! are cut, and how few pairs of segments an edit tests.
+//! are cut, how few pairs of segments an edit tests, and what is asked of a map.
 #![tactic(auto)]
 
 #[cfg(test)]
@@ -20,6 +20,8 @@ mod indexes;
 mod made;
 #[cfg(test)]
 mod opened;
+#[cfg(test)]
+mod queries;
 #[cfg(test)]
 mod refusals;
 #[cfg(test)]
