@@ -27,7 +27,7 @@ use Rattle.feature_exchange.specs.Stored.{stored, document_of, ring_under}
 use Rattle.feature_exchange.proofs.Renaming.{renamed_document, renamed_holds}
 use Rattle.arc_store.specs.Kept.{IsKept, state_of}
 use Rattle.arc_store.specs.State.{State}
-use Rattle.arc_store.proofs.Counted.{counted_flat}
+use Rattle.ring_parts.proofs.CountedFew.{counted_flat}
 use Rattle.arc_store.proofs.SegmentCounts.{indexed_len}
 
 module _ {frame : Framed} {rings : Rings} {places : Placement} {held : SegmentSet} {positions segments : ℕ} where

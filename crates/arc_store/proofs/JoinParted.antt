@@ -29,7 +29,7 @@ use Rattle.ring_machine.proofs.StaysProper.{edges_start}
 use Rattle.ring_machine.proofs.Without.{feature-take_out_other, size-take_out_at, size-instead_at}
 use Rattle.map_opening.proofs.KeyRings.{length-canonical}
 use Rattle.map_frame.specs.Edits as frame
-use Rattle.arc_store.specs.Merges.{joined_rings}
+use Rattle.ring_parts.specs.Merges.{joined_rings}
 use Rattle.arc_store.proofs.InsteadAlike.{instead_found}
 
 -- ---- how long a joined ring is

@@ -41,7 +41,6 @@ pub mod PathSegments
 pub mod AllCanonical
 pub mod JoinParted
 pub mod PolygonsRead
-pub mod Counted
 pub mod FeaturesKept
 pub mod SplitPlan
 pub mod MergePlan

@@ -22,7 +22,7 @@ use Rattle.map_frame.specs.Edits.{polygons_of, joined}
 use Rattle.map_frame.specs.Framed.{Framed}
 use Rattle.feature_exchange.specs.Stored.{stored, document_of}
 use Rattle.arc_store.specs.Kept.{IsKept, state_of}
-use Rattle.arc_store.specs.Merges.{joined_rings}
+use Rattle.ring_parts.specs.Merges.{joined_rings}
 use Rattle.arc_store.specs.State.{State}
 use Rattle.arc_store.proofs.AllCanonical.{all_canonical}
 use Rattle.arc_store.proofs.FeaturesKept.{seen_doc, seen_formed, seen_proper, seen_size, seen_small, gone_size}

@@ -22,12 +22,9 @@ use Rattle.ring_machine.proofs.RingSegments.{same_ends}
 use Rattle.ring_machine.proofs.SplitSegments.{path_segments}
 use Rattle.segment_index.specs.Candidates.{SegmentSet, AreSingle, segment_is, has as has_segment, times_in}
 use Rattle.segment_index.proofs.Singles.{same_segment, times-none}
+use Rattle.ring_parts.proofs.WaySegments.{segments_along}
 use Rattle.feature_exchange.specs.Holds.{IsIndexed}
 use Rattle.arc_store.specs.Planned.{AreNew}
-
--- the segments of a way, each from a position to the next one
-abbrev pub segments_along : List Position → List Segment
-segments_along ps = map segment_of (links ps)
 
 link_ends : (ps : List Position) (e : Edge) → In e (links ps) → In e.0 ps × In e.1 ps
 link_ends [] e h = absurd h
@@ -67,36 +64,6 @@ way_single (p ∷ q ∷ ps) d t =
         → cond b 1 0 + times_in (segments_along (q ∷ ps)) t ≤ 1
     by h true e l = omega (arith, times-none (segments_along (q ∷ ps)) t (once p q ps h t e))
     by h false e l = omega (arith, l)
-
--- ---- a way that is gone along, position by position
-
-next_drop : (rest : List Position) (i : ℕ) (to : Position) → i < length rest → to ≡ get_or rest i to
-    → drop i rest ≡ to ∷ drop (i + 1) rest
-next_drop rest i to l e = drop_more rest i to l ∙ ap (λ z. z ∷ drop (i + 1) rest) (sym e)
-
--- one segment more
-pub way_more : (done new all : List Segment) (from to : Position) (rest : List Position) (i : ℕ)
-    → i < length rest → to ≡ get_or rest i to → done ++ segments_along (from ∷ drop i rest) ≡ all
-    → new ≡ done ++ segment_of (from, to) ∷ [] → new ++ segments_along (to ∷ drop (i + 1) rest) ≡ all
-way_more done new all from to rest i l e h k =
-    ap (λ z. z ++ segments_along (to ∷ drop (i + 1) rest)) k
-    ∙ append_assoc done (segment_of (from, to) ∷ []) (segments_along (to ∷ drop (i + 1) rest))
-    ∙ ap (λ z. done ++ segments_along (from ∷ z)) (sym (next_drop rest i to l e)) ∙ h
-
--- what is left has no position twice
-pub way_on : (from to : Position) (rest : List Position) (i : ℕ) → i < length rest
-    → to ≡ get_or rest i to → is_distinct (from ∷ drop i rest) ≡ true
-    → is_distinct (to ∷ drop (i + 1) rest) ≡ true
-way_on from to rest i l e d =
-    ap is_distinct (sym (next_drop rest i to l e))
-    ∙ (and_both (not (has (drop i rest) from)) (is_distinct (drop i rest)) d).1
-
--- the next position is another
-pub way_apart : (from to : Position) (rest : List Position) (i : ℕ) → i < length rest
-    → to ≡ get_or rest i to → is_distinct (from ∷ drop i rest) ≡ true → from ≡ to → ⊥
-way_apart from to rest i l e d same =
-    let none = not_true _ (and_both (not (has (drop i rest) from)) (is_distinct (drop i rest)) d).0 in
-    false≢true (sym none ∙ in-has from (drop i rest) (subst (In from) (sym (next_drop rest i to l e)) (inl (sym same))))
 
 -- ---- in a map
 

@@ -1,7 +1,6 @@
 pub mod Edits
 pub mod Faults
 pub mod Kept
-pub mod Merges
 pub mod Named
 pub mod Near
 pub mod Planned

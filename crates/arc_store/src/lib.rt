@@ -9,7 +9,6 @@
 mod begin;
 mod build;
 mod copying;
-mod counting;
 mod counts;
 mod fault;
 mod features;

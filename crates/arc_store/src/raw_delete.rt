@@ -2,7 +2,6 @@ ghost use Rattle.std.specs.Prelude.{◌≡◌, OnOk, OnErr, IfErr};
 ghost use Rattle.ring_machine.specs.Join.{take_out};
 ghost use Rattle.arc_store.specs.declared.fault.EditFault.TheVariants.{OutOfMemory};
 
-use crate::counting::count_all;
 use crate::fault::EditFault;
 use crate::map::Map;
 use crate::polygons::read_polygons;

@@ -1,60 +1,18 @@
-ghost use Rattle.std.specs.Prelude.{◌≡◌, ◌≤◌, ◌+◌, ◌++◌, None, length, IfOk, OnOk, OnErr, IfErr};
+ghost use Rattle.std.specs.Prelude.{◌≡◌, ◌≤◌, ◌+◌, None, length, OnOk, OnErr, IfErr};
 ghost use Rattle.std.specs.List.{sum_by};
 ghost use Rattle.ring_machine.specs.Join.{join};
 ghost use Rattle.ring_machine.specs.Refusals.{first_of, merge_refusals, feature_at};
 ghost use Rattle.ring_parts.specs.Seen.{rings_seen};
-ghost use Rattle.arc_store.specs.Merges.{joined_rings};
 ghost use Rattle.arc_store.specs.declared.fault.EditFault.TheVariants.{OutOfMemory};
 
-use crate::counting::count_positions;
 use crate::fault::EditFault;
 use crate::map::Map;
 use crate::polygons::read_polygons;
 use feature_exchange::join_features;
 use grid_geometry::Pos;
-use ring_parts::{Border, joined};
+use ring_parts::{count_positions, join_polygons};
 use segment_index::SegIndex;
-use std::alloc::{AllocError, Allocator};
-
-/// Appends these rings, in order. Fails for want of memory alone.
-fn push_rings<A: Allocator + Copy>(
-    found: &mut Vec<Vec<Pos, A>, A>,
-    alloc: A,
-    rings: &[Vec<Pos, A>],
-) -> Result<(), AllocError>
-    ensures { OnOk result
-        (rings_seen found.new.items ≡ rings_seen found.old.items ++ rings_seen rings.now) }
-{
-    for ring in rings {
-        found.push(Vec::from_slice(alloc, ring.as_slice())?)?;
-    }
-    Ok(())
-}
-
-/// The rings of two polygons that are joined along the common run of their outer rings: the joined
-/// outer ring, then the holes of both. Fails for want of memory alone.
-fn join_polygons<A: Allocator + Copy>(
-    alloc: A,
-    one: &[Vec<Pos, A>],
-    other: &[Vec<Pos, A>],
-) -> Result<Vec<Vec<Pos, A>, A>, AllocError>
-    ensures { IfOk result
-        (λ rings. rings_seen rings.items ≡ joined_rings (rings_seen one.now) (rings_seen other.now)) }
-{
-    let mut rings = Vec::new(alloc);
-    let [outer, holes @ ..] = one else {
-        return Ok(rings);
-    };
-    let [outer_of_other, more @ ..] = other else {
-        return Ok(rings);
-    };
-    let first = Border::new(alloc, outer.as_slice())?;
-    let second = Border::new(alloc, outer_of_other.as_slice())?;
-    rings.push(joined(alloc, &first, &second)?)?;
-    push_rings(&mut rings, alloc, holes)?;
-    push_rings(&mut rings, alloc, more)?;
-    Ok(rings)
-}
+use std::alloc::Allocator;
 
 /// How many positions fewer the joined rings have than those of the two polygons.
 fn count_left_out<A: Allocator + Copy>(

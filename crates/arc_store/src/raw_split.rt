@@ -3,7 +3,6 @@ ghost use Rattle.std.specs.Prelude.{IfOk, OnOk, OnErr, IfErr, IsTrue};
 ghost use Rattle.std.specs.List.{list_any};
 ghost use Rattle.grid_geometry.specs.Ring.{links};
 ghost use Rattle.grid_geometry.specs.Segment.{Segment};
-ghost use Rattle.ring_machine.specs.Cut as machine;
 ghost use Rattle.ring_machine.specs.Cut.{cut, path_of, is_cut_by};
 ghost use Rattle.ring_machine.specs.Document.{Document, Text};
 ghost use Rattle.ring_machine.specs.Parts.{has_feature, is_vertex};
@@ -26,29 +25,9 @@ use crate::polygons::read_polygons;
 use feature_exchange::{Parts, part_feature};
 use grid_geometry::{Pos, Seg};
 use local_planarity::{Leaving, TestCount};
-use ring_parts::{Path, first_cut, first_polygon, is_wrong_side, second_polygon};
+use ring_parts::{Path, both_parts, first_cut, is_wrong_side, way_segments};
 use segment_index::SegIndex;
-use std::alloc::{AllocError, Allocator};
-
-/// The segments of a way that has no position twice, from each position to the next one. Fails for
-/// want of memory alone.
-fn way_segments<A: Allocator + Copy>(alloc: A, positions: &[Pos]) -> Result<Vec<Seg, A>, AllocError>
-    requires { IsTrue (is_distinct positions.now) }
-    ensures { IfOk result (λ found. found.items ≡ map segment_of (links positions.now)) }
-{
-    let mut segments = Vec::new(alloc);
-    let [first, rest @ ..] = positions else {
-        return Ok(segments);
-    };
-    let mut from = *first;
-    for to in rest {
-        if let Some(s) = Seg::new(from, *to) {
-            segments.push(s)?;
-        }
-        from = *to;
-    }
-    Ok(segments)
-}
+use std::alloc::Allocator;
 
 /// Whether a number is left for a feature, and there is room for a path with so many inner positions
 /// in a map of so many positions.
@@ -117,22 +96,6 @@ fn test_split<I: SegIndex, A: Allocator + Copy>(
         },
         Err(fault) => Err(fault),
     }
-}
-
-/// Both parts of a polygon that a path cuts, each with its holes. Fails for want of memory alone.
-fn both_parts<A: Allocator + Copy>(
-    alloc: A,
-    path: &Path<'_>,
-    polygon: &[Vec<Pos, A>],
-) -> Result<(Vec<Vec<Pos, A>, A>, Vec<Vec<Pos, A>, A>), AllocError>
-    ensures first { IfOk result (λ parts. rings_seen parts.0.items
-        ≡ machine.first_polygon (path_seen path.now) (rings_seen polygon.now)) }
-    ensures second { IfOk result (λ parts. rings_seen parts.1.items
-        ≡ machine.second_polygon (path_seen path.now) (rings_seen polygon.now)) }
-{
-    let first = first_polygon(alloc, path, polygon)?;
-    let second = second_polygon(alloc, path, polygon)?;
-    Ok((first, second))
 }
 
 impl<'a, I: SegIndex, A: Allocator + Copy> Map<'a, I, A> {

@@ -1,8 +1,8 @@
 -- Building layer by layer and item by item: what is done so far, and what is left.
 use Rattle.std.proofs.Common.{◌≡◌, ◌∙◌, ℕ, zero, suc, ◌+◌, ◌≤◌, refl, sym, ap, subst, arith, append_assoc, append-nil}
-use Rattle.std.proofs.Common.{List, [], ◌∷◌, ◌++◌, length, map, Option, Some, None, Bool, true, false}
+use Rattle.std.proofs.Common.{List, [], ◌∷◌, ◌++◌, length, map, Some, None}
 use Rattle.std.proofs.lemmas.List.{length-append}
-use Rattle.std.specs.Prelude.{Vec, not, IsTrue, slice_get, unwrap_or}
+use Rattle.std.specs.Prelude.{not, IsTrue, slice_get, unwrap_or}
 use Rattle.topo_outline.specs.Outline.{leaf_of, at_most_one, leaves_in, leaves}
 use Rattle.topo_outline.specs.Views.{view_item, view_layer}
 use Rattle.topo_outline.specs.declared.document.Item.{Item}
@@ -14,7 +14,7 @@ use Rattle.map_frame.specs.declared.layers.Slot.TheVariants as slot
 use Rattle.map_frame.specs.declared.layers.Geometry.{Geometry}
 use Rattle.map_frame.specs.declared.layers.Geometry.TheVariants as geometry
 use Rattle.map_frame.specs.declared.layers.Layer.{Layer}
-use Rattle.map_frame.specs.Building.{Progress, IsNext, IsLeaf, IsSlot, AreSlots, first_of, lone, is_lone, IsGeometry, AreLayers}
+use Rattle.map_frame.specs.Building.{Progress, IsNext, IsSlot, AreSlots, first_of, lone, is_lone, IsGeometry, AreLayers}
 
 pub nothing_left : {X : Type 0} (xs : List X) (n : ℕ) → n ≡ length xs → n ≡ 0 → xs ≡ []
 nothing_left [] n e z = refl

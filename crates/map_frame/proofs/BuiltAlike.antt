@@ -1,23 +1,23 @@
 -- What was read can stand as a frame: the document is well formed whatever its rings are.
-use Rattle.std.proofs.Common.{◌≡◌, ◌∙◌, ℕ, zero, suc, ◌+◌, ◌<◌, ◌≤◌, refl, sym, ap, ap₂, subst, arith}
-use Rattle.std.proofs.Common.{List, [], ◌∷◌, ◌++◌, length, map, Option, option_map, get_or, take, drop, ◌&&◌}
-use Rattle.std.specs.Prelude.{◌==◌, Vec, unwrap_or, slice_get, IsTrue}
+use Rattle.std.proofs.Common.{◌≡◌, ◌∙◌, ℕ, zero, suc, ◌+◌, ◌<◌, refl, sym, ap, ap₂, arith}
+use Rattle.std.proofs.Common.{List, [], ◌∷◌, ◌++◌, length, map, option_map, get_or, take, drop, ◌&&◌}
+use Rattle.std.specs.Prelude.{◌==◌, Vec}
 use Rattle.std.specs.List.{flat_map, filter_map, list_all}
 use Rattle.std.proofs.lemmas.List.{length-map}
 use Rattle.std.proofs.lemmas.List.Folds.{list_all-append}
 use Rattle.std.proofs.lemmas.List.{map-append, take_more}
-use Rattle.ring_machine.specs.Document.{FeatureOf, LayerOf, DocumentOf, Polygon, MultiPolygon, Null}
-use Rattle.ring_machine.specs.Parts.{feature_of, features}
-use Rattle.ring_machine.specs.WellFormed.{WellFormed, is_inner, is_geometry, fits_form, are_distinct}
+use Rattle.ring_machine.specs.Document.{Polygon, MultiPolygon, Null}
+use Rattle.ring_machine.specs.Parts.{feature_of}
+use Rattle.ring_machine.specs.WellFormed.{is_inner, is_geometry, fits_form, are_distinct}
 use Rattle.map_opening.specs.Laying.{polygon_numbers, feature_numbers}
-use Rattle.topo_outline.specs.Outline.{leaves_in, leaves}
+use Rattle.topo_outline.specs.Outline.{leaves_in}
 use Rattle.topo_outline.specs.Shape.{LayerText, Piece, starts, ends, leaf, text}
 use Rattle.topo_outline.specs.Views.{view_kept, view_layer}
 use Rattle.topo_reader.specs.declared.document.RawDoc.{RawDoc}
 use Rattle.topo_reader.specs.Document.{polygons_at, items_from, layers_from, IsOfRings}
 use Rattle.topo_reader.specs.DocumentView.{view_raw}
 use Rattle.topo_reader.specs.Uses.{polygon_positions, feature_positions}
-use Rattle.map_frame.specs.Opened.{opened, CanStand}
+use Rattle.map_frame.specs.Opened.{CanStand}
 
 -- one more element with a number of elements that is known
 pub lengths_more : {X Y : Type 0} (f : X → ℕ) (g : Y → ℕ) (ys : List Y) (i : ℕ) (y : Y) (ns new : List X) (n : X) → i < length ys

@@ -1,25 +1,24 @@
 -- The tables that were built belong together.
-use Rattle.std.proofs.Common.{◌≡◌, ◌∙◌, ℕ, ◌+◌, ◌≤◌, refl, sym, ap, subst, arith, append-nil}
-use Rattle.std.proofs.Common.{List, [], ◌∷◌, length, map, Option, Some, option_map, Contains}
+use Rattle.std.proofs.Common.{◌≡◌, ◌∙◌, ℕ, refl, sym, ap, subst, arith, append-nil}
+use Rattle.std.proofs.Common.{List, [], length, map, Option, Some, option_map, Contains}
 use Rattle.std.specs.Prelude.{Vec, slice_get}
 use Rattle.std.specs.List.{flat_map}
 use Rattle.std.proofs.lemmas.List.{length-map}
 use Rattle.std.proofs.lemmas.Option.{slice_get_within}
-use Rattle.ring_machine.specs.Document.{Text, Member, DocumentOf, LayerOf}
+use Rattle.ring_machine.specs.Document.{DocumentOf, LayerOf}
 use Rattle.ring_machine.specs.Join.{empty_collection}
 use Rattle.ring_machine.specs.Parts.{features}
 use Rattle.ring_machine.specs.WellFormed.{WellFormed}
 use Rattle.map_opening.specs.Laying.{feature_numbers}
-use Rattle.topo_outline.specs.Outline.{leaves}
 use Rattle.topo_outline.specs.Views.{view_kept}
 use Rattle.topo_outline.specs.Views as read
 use Rattle.topo_outline.specs.declared.document.RawLayer.{RawLayer}
 use Rattle.map_frame.specs.declared.feature.Feature.{Feature}
 use Rattle.map_frame.specs.declared.names.RingName.{RingName}
 use Rattle.map_frame.specs.declared.tables.Tables.{Tables}
-use Rattle.map_frame.specs.Building.{Progress, progress, AreLayers}
+use Rattle.map_frame.specs.Building.{progress, AreLayers}
 use Rattle.map_frame.specs.Kept.{numbers_under, all_numbers, StandsAt, IsFramed}
-use Rattle.map_frame.specs.Named.{number_at, IsNamed, AreNamed}
+use Rattle.map_frame.specs.Named.{number_at, AreNamed}
 use Rattle.map_frame.specs.Naming.{number_among, AllNamed}
 use Rattle.map_frame.specs.Opened.{opened, CanStand}
 use Rattle.map_frame.specs.Readers.{element}

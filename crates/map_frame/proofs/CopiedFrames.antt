@@ -1,31 +1,29 @@
 -- A copy of a frame's tables means the same, and belongs together as they do.
-use Rattle.std.proofs.Common.{◌≡◌, ◌∙◌, ℕ, ◌<◌, ◌≤◌, refl, sym, ap, ap₂, subst, arith}
+use Rattle.std.proofs.Common.{◌≡◌, ◌∙◌, ℕ, ◌<◌, ◌≤◌, refl, sym, ap, ap₂, subst}
 use Rattle.std.proofs.Common.{List, [], ◌∷◌, ◌++◌, length, map, Option, Some, None, option_map, Bool, true, false, ◌&&◌, Contains}
-use Rattle.std.specs.Prelude.{Vec, slice_get, unwrap_or, IsTrue}
+use Rattle.std.specs.Prelude.{Vec, slice_get, unwrap_or}
 use Rattle.std.specs.List.{flat_map, list_all, AllZip, each_same, AllByRecursion}
 use Rattle.std.specs.Vec.{vec_len}
 use Rattle.std.proofs.lemmas.List.{length-map}
 use Rattle.std.proofs.lemmas.Option.{slice_get-map}
-use Rattle.ring_machine.specs.Document.{Text, Member, FeatureOf, ItemOf, Open, Close, Leaf, Kept, LayerOf, DocumentOf}
-use Rattle.ring_machine.specs.Join.{empty_collection}
+use Rattle.ring_machine.specs.Document.{Text, Member, ItemOf, Open, Close, Leaf, Kept, LayerOf, DocumentOf}
 use Rattle.ring_machine.specs.Parts.{features}
 use Rattle.ring_machine.specs.WellFormed.{WellFormed, are_distinct}
 use Rattle.topo_outline.proofs.Copied.{copied_map}
 use Rattle.topo_outline.specs.Views.{view_kept}
-use Rattle.map_opening.specs.Laying.{polygon_numbers, feature_numbers}
+use Rattle.map_opening.specs.Laying.{polygon_numbers}
 use Rattle.map_frame.specs.declared.feature.Feature.{Feature}
 use Rattle.map_frame.specs.declared.layers.Slot.{Slot}
 use Rattle.map_frame.specs.declared.layers.Slot.TheVariants as slot
 use Rattle.map_frame.specs.declared.layers.Geometry.{Geometry}
 use Rattle.map_frame.specs.declared.layers.Geometry.TheVariants as geometry
 use Rattle.map_frame.specs.declared.layers.Layer.{Layer}
-use Rattle.map_frame.specs.declared.names.RingName.{RingName}
 use Rattle.map_frame.specs.declared.tables.Tables.{Tables}
 use Rattle.map_frame.specs.Copied.{SlotText, opens, closes, keeps, stand, GeometryText, alone, holds, LayerText, Placed, slot_text, geometry_text, layer_text, placed, AreCopied}
 use Rattle.map_frame.specs.Framed.{Framed}
 use Rattle.map_frame.specs.Kept.{numbers_at, numbers_in, all_numbers, numbers_under, StandsAt, is_enclosed, IsFramed}
 use Rattle.map_frame.specs.Named.{AreNamed}
-use Rattle.map_frame.specs.Seen.{or_empty, view_id, view_feature, leaf_of, items_at, items_of, view_layer, doc_of, framed}
+use Rattle.map_frame.specs.Seen.{or_empty, view_id, leaf_of, items_at, items_of, view_layer, doc_of, framed}
 
 -- ---- lists of numbers
 

@@ -36,4 +36,3 @@ pub mod SlotsGrown
 pub mod SlotsSet
 pub mod SlotsSpread
 pub mod TakenTables
-pub mod TestedFrames

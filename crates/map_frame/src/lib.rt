@@ -21,8 +21,6 @@ mod reading;
 mod renaming;
 mod tables;
 mod taking;
-#[cfg(test)]
-mod tests;
 
 pub use frame::Frame;
 pub use frame_view::FrameView;

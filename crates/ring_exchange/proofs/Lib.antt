@@ -10,4 +10,3 @@ pub mod Numbered
 pub mod Keys
 pub mod Series
 pub mod Staying
-pub mod NothingLaid

@@ -14,6 +14,3 @@ mod taking;
 pub use laid::{LaidRing, gather_rings};
 pub use laying::lay_rings;
 pub use taking::take_out_rings;
-
-#[cfg(test)]
-mod tests;

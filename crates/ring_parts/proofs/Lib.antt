@@ -8,3 +8,5 @@ pub mod Ways
 pub mod Counted
 pub mod Rests
 pub mod RunEnds
+pub mod WaySegments
+pub mod CountedFew

@@ -1,9 +1,11 @@
-// Two rings joined along their only common run.
+// Two rings joined along their only common run, and two polygons.
 ghost use Rattle.std.specs.Prelude.{◌≡◌, ◌≤◌, ◌++◌, Bool, OnOk, IfOk, not, length, map};
 ghost use Rattle.std.specs.List.{prefix_len};
 ghost use Rattle.grid_geometry.specs.Ring.{edges};
 ghost use Rattle.ring_machine.specs.Join as spec;
 ghost use Rattle.ring_parts.specs.Borders.{off_ones};
+ghost use Rattle.ring_parts.specs.Merges.{joined_rings};
+ghost use Rattle.ring_parts.specs.Seen.{rings_seen};
 
 use crate::common::common_edges;
 use crate::rotation::begin_at_least;
@@ -83,4 +85,44 @@ pub fn joined<A: Allocator + Copy>(
     push_rest(&mut rest, alloc, other.as_slice(), first)?;
     begin_at_least(&mut rest);
     Ok(rest)
+}
+
+/// Appends these rings, in order. Fails for want of memory alone.
+fn push_rings<A: Allocator + Copy>(
+    found: &mut Vec<Vec<Pos, A>, A>,
+    alloc: A,
+    rings: &[Vec<Pos, A>],
+) -> Result<(), AllocError>
+    ensures { OnOk result
+        (rings_seen found.new.items ≡ rings_seen found.old.items ++ rings_seen rings.now) }
+{
+    for ring in rings {
+        found.push(Vec::from_slice(alloc, ring.as_slice())?)?;
+    }
+    Ok(())
+}
+
+/// The rings of two polygons that are joined along the common run of their outer rings: the joined
+/// outer ring, then the holes of both. Fails for want of memory alone.
+pub fn join_polygons<A: Allocator + Copy>(
+    alloc: A,
+    one: &[Vec<Pos, A>],
+    other: &[Vec<Pos, A>],
+) -> Result<Vec<Vec<Pos, A>, A>, AllocError>
+    ensures { IfOk result
+        (λ rings. rings_seen rings.items ≡ joined_rings (rings_seen one.now) (rings_seen other.now)) }
+{
+    let mut rings = Vec::new(alloc);
+    let [outer, holes @ ..] = one else {
+        return Ok(rings);
+    };
+    let [outer_of_other, more @ ..] = other else {
+        return Ok(rings);
+    };
+    let first = Border::new(alloc, outer.as_slice())?;
+    let second = Border::new(alloc, outer_of_other.as_slice())?;
+    rings.push(joined(alloc, &first, &second)?)?;
+    push_rings(&mut rings, alloc, holes)?;
+    push_rings(&mut rings, alloc, more)?;
+    Ok(rings)
 }

@@ -3,6 +3,7 @@
 #![tactic(auto)]
 
 mod common;
+mod counting;
 mod cut;
 mod edges;
 mod elsewhere;
@@ -17,12 +18,13 @@ mod sorted;
 mod stretch;
 
 pub use common::{has_common, runs};
+pub use counting::{count_all, count_positions};
 pub use cut::{first_cut, is_cut_by, is_wrong_side};
 pub use elsewhere::common_else;
-pub use joining::joined;
+pub use joining::{join_polygons, joined};
 pub use membership::Members;
-pub use paths::{Path, has_twice};
-pub use polygons::{first_polygon, second_polygon};
+pub use paths::{Path, has_twice, way_segments};
+pub use polygons::{both_parts, first_polygon, second_polygon};
 pub use rotation::canonical;
 pub use same_sides::{passed_alike, same_side};
 pub use sides::Border;

@@ -1,11 +1,13 @@
 // Paths that cut a polygon.
-ghost use Rattle.std.specs.Prelude.{◌≡◌, ◌↔◌, ◌≤◌, IsSome, IfSome, not, length};
-ghost use Rattle.ring_machine.specs.Ring.{is_distinct};
+ghost use Rattle.std.specs.Prelude.{◌≡◌, ◌↔◌, ◌≤◌, IsSome, IsTrue, IfSome, IfOk, not, length, map};
+ghost use Rattle.grid_geometry.specs.Ring.{links};
+ghost use Rattle.ring_machine.specs.Ring.{is_distinct, segment_of};
 ghost use Rattle.ring_machine.specs.Cut.{path_of};
 ghost use Rattle.ring_machine.specs.Refusals.{positions_of};
 
 use crate::membership::has;
-use grid_geometry::Pos;
+use grid_geometry::{Pos, Seg};
+use std::alloc::{AllocError, Allocator};
 
 /// A path from one position over others to a last one.
 #[derive(Clone, Copy)]
@@ -50,4 +52,27 @@ pub fn has_twice(positions: &[Pos]) -> bool
         }
     }
     false
+}
+
+/// The segments of a way that has no position twice, from each position to the next one. Fails for
+/// want of memory alone.
+pub fn way_segments<A: Allocator + Copy>(
+    alloc: A,
+    positions: &[Pos],
+) -> Result<Vec<Seg, A>, AllocError>
+    requires { IsTrue (is_distinct positions.now) }
+    ensures { IfOk result (λ found. found.items ≡ map segment_of (links positions.now)) }
+{
+    let mut segments = Vec::new(alloc);
+    let [first, rest @ ..] = positions else {
+        return Ok(segments);
+    };
+    let mut from = *first;
+    for to in rest {
+        if let Some(s) = Seg::new(from, *to) {
+            segments.push(s)?;
+        }
+        from = *to;
+    }
+    Ok(segments)
 }

@@ -85,3 +85,19 @@ pub fn second_polygon<A: Allocator + Copy>(
     push_holes(&mut part, alloc, &members, false, holes)?;
     Ok(part)
 }
+
+/// Both parts of a polygon that a path cuts, each with its holes. Fails for want of memory alone.
+pub fn both_parts<A: Allocator + Copy>(
+    alloc: A,
+    path: &Path<'_>,
+    polygon: &[Vec<Pos, A>],
+) -> Result<(Vec<Vec<Pos, A>, A>, Vec<Vec<Pos, A>, A>), AllocError>
+    ensures first { IfOk result (λ parts. rings_seen parts.0.items
+        ≡ spec.first_polygon (path_seen path.now) (rings_seen polygon.now)) }
+    ensures second { IfOk result (λ parts. rings_seen parts.1.items
+        ≡ spec.second_polygon (path_seen path.now) (rings_seen polygon.now)) }
+{
+    let first = first_polygon(alloc, path, polygon)?;
+    let second = second_polygon(alloc, path, polygon)?;
+    Ok((first, second))
+}

@@ -1,8 +1,0 @@
-use Rattle.std.proofs.Common.{◌≡◌, length, take}
-use Rattle.std.specs.List.{sum_by}
-use Rattle.ring_parts.specs.Seen.{polygons_seen}
-use Rattle.arc_store.proofs.counting.count_all.Given as goal
-
--- those of the polygons so far
-abbrev pub invariant-loop-rings : goal.invariant-loop-rings
-invariant-loop-rings g l = l.count ≡ sum_by (sum_by length) (polygons_seen (take l.rings-index l.polygons))

@@ -1,8 +1,0 @@
-use Rattle.std.proofs.Common.{◌≡◌, length, take}
-use Rattle.std.specs.List.{sum_by}
-use Rattle.ring_parts.specs.Seen.{rings_seen}
-use Rattle.arc_store.proofs.counting.count_positions.Given as goal
-
--- those of the rings so far
-abbrev pub invariant-loop-ring : goal.invariant-loop-ring
-invariant-loop-ring g l = l.count ≡ sum_by length (rings_seen (take l.ring-index l.rings))

@@ -1,0 +1,2 @@
+pub mod NothingLaid
+pub mod TestedFrames

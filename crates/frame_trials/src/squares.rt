@@ -1,0 +1,227 @@
+//! Two squares with a common side, laid and taken out, and laid where memory is refused.
+ghost use Rattle.std.specs.Prelude.{◌≡◌, ◌≤◌, IfOk, IsTrue, length, map};
+ghost use Rattle.std.specs.List.{list_all, sum_by};
+ghost use Rattle.std.specs.FinSet as set;
+ghost use Rattle.grid_geometry.specs.Position.{position};
+ghost use Rattle.ring_machine.specs.Ring.{is_ring};
+ghost use Rattle.ring_exchange.specs.Laid.{AreThere};
+ghost use Rattle.ring_exchange.specs.Standing.{Stands};
+
+use grid_geometry::Pos;
+use refusing_allocator::Refusing;
+use ring_exchange::{LaidRing, gather_rings, lay_rings, take_out_rings};
+use segment_index::ListIndex;
+use shared_arcs::Borders;
+use std::alloc::{AllocError, Allocator, Global};
+use std::process::Abort;
+use std::test::Fail;
+use vertex_index::{VertexKey, Vertices};
+
+/// More than the growths of any run below.
+const MANY: u64 = 200;
+
+/// The position, which is in range.
+fn at<R: Abort>(rt: &R, x: i64, y: i64) -> Pos
+    ensures { result ≡ position x y }
+{
+    Pos::new(x, y).expect(rt, "in range")
+}
+
+/// Two squares side by side, each of four positions.
+fn two_squares<R: Abort, A: Allocator + Copy>(
+    rt: &R,
+    alloc: A,
+) -> Result<Vec<Vec<Pos, A>, A>, AllocError>
+    ensures rings { IfOk result
+        (λ rings. IsTrue (list_all is_ring (map (λ ring. ring.items) rings.items))) }
+    ensures few { IfOk result
+        (λ rings. sum_by length (map (λ ring. ring.items) rings.items) ≤ 8) }
+{
+    let corner = at(rt, 10, 0);
+    let above = at(rt, 10, 10);
+    let left = vec![in alloc; at(rt, 0, 0), corner, above, at(rt, 0, 10)]?;
+    let right = vec![in alloc; corner, at(rt, 20, 0), at(rt, 20, 10), above]?;
+    let mut rings = Vec::new(alloc);
+    rings.push(left)?;
+    rings.push(right)?;
+    Ok(rings)
+}
+
+/// The tables of a map, and the rings that were laid.
+#[derive(Drop)]
+struct Tables<A: Allocator + Copy = Global> {
+    vertices: Vertices<A>,
+    borders: Borders<A>,
+    index: ListIndex<A>,
+    segments: usize,
+    rings: Vec<LaidRing<A>, A>,
+}
+
+impl<A: Allocator + Copy> Tables<A> {
+    /// No ring.
+    fn new(alloc: A) -> Self
+        ensures stands { Stands result.vertices result.borders result.index }
+        ensures counted { result.segments ≡ set.len result.index }
+    {
+        Tables {
+            vertices: Vertices::new(alloc),
+            borders: Borders::new(alloc),
+            index: ListIndex::new(alloc),
+            segments: 0,
+            rings: Vec::new(alloc),
+        }
+    }
+
+    /// Lays rings, of which there are few.
+    fn lay<R: Abort>(&mut self, rt: &R, alloc: A, rings: &[Vec<Pos, A>]) -> Result<(), AllocError>
+        requires stands { Stands self.old.vertices self.old.borders self.old.index }
+        requires counted { self.old.segments ≡ set.len self.old.index }
+        requires rings { IsTrue (list_all is_ring (map (λ ring. ring.items) rings.now)) }
+        requires few { sum_by length (map (λ ring. ring.items) rings.now) ≤ 8 }
+        ensures stands { Stands self.new.vertices self.new.borders self.new.index }
+        ensures counted { self.new.segments ≡ set.len self.new.index }
+    {
+        assert!(rt; self.segments < 100);
+        self.rings = lay_rings(
+            alloc,
+            &mut self.vertices,
+            &mut self.borders,
+            &mut self.index,
+            &mut self.segments,
+            rings,
+        )?;
+        Ok(())
+    }
+
+    /// The ring with a number, which stands.
+    fn gather<R: Abort>(
+        &self,
+        rt: &R,
+        alloc: A,
+        number: usize,
+    ) -> Result<Vec<LaidRing<A>, A>, AllocError>
+        requires { Stands self.now.vertices self.now.borders self.now.index }
+        ensures { IfOk result (λ laid. AreThere self.now.borders laid.items) }
+    {
+        assert!(rt; self.borders.holds(number));
+        gather_rings(alloc, &self.borders, &[number])
+    }
+
+    /// Takes out the ring with a number, which stands.
+    fn take_out<R: Abort>(&mut self, rt: &R, alloc: A, number: usize) -> Result<(), AllocError>
+        requires stands { Stands self.old.vertices self.old.borders self.old.index }
+        requires counted { self.old.segments ≡ set.len self.old.index }
+        ensures stands { Stands self.new.vertices self.new.borders self.new.index }
+        ensures counted { self.new.segments ≡ set.len self.new.index }
+    {
+        let rings = self.gather(rt, alloc, number)?;
+        take_out_rings(
+            &mut self.vertices,
+            &mut self.borders,
+            &mut self.index,
+            &mut self.segments,
+            rings.as_slice(),
+        );
+        Ok(())
+    }
+
+    /// The key of the vertex at a position, which stands.
+    fn key<R: Abort>(&self, rt: &R, x: i64, y: i64) -> VertexKey {
+        self.vertices
+            .key_of(at(rt, x, y))
+            .expect(rt, "a vertex stands there")
+    }
+
+    /// How many rings, vertices and segments there are.
+    fn counts(&self) -> (usize, usize, usize) {
+        (self.rings.len(), self.vertices.len(), self.segments)
+    }
+}
+
+#[test]
+fn squares_share_a_side(rt: HostRuntime) -> Result<(), Fail> {
+    let alloc = rt.alloc();
+    let rings = two_squares(&rt, alloc)?;
+    let mut tables = Tables::new(alloc);
+    tables.lay(&rt, alloc, rings.as_slice())?;
+    assert_eq!(rt; tables.counts(), (2, 6, 7));
+    let (corner, above) = (tables.key(&rt, 10, 0), tables.key(&rt, 10, 10));
+    assert_eq!(rt; tables.borders.uses(corner, above), 2);
+    assert_eq!(rt; tables.borders.uses(corner, tables.key(&rt, 0, 0)), 1);
+    assert_eq!(rt; tables.borders.uses(tables.key(&rt, 0, 0), above), 0);
+    Ok(())
+}
+
+// in the order in which they were given, each from its first position on
+#[test]
+fn rings_are_gathered_by_number(rt: HostRuntime) -> Result<(), Fail> {
+    let alloc = rt.alloc();
+    let rings = two_squares(&rt, alloc)?;
+    let mut tables = Tables::new(alloc);
+    tables.lay(&rt, alloc, rings.as_slice())?;
+    let [_, right] = tables.rings.as_slice() else {
+        panic!(rt; "two rings");
+    };
+    let laid = tables.gather(&rt, alloc, right.number)?;
+    let [ring] = laid.as_slice() else {
+        panic!(rt; "one ring");
+    };
+    let want = [
+        tables.key(&rt, 10, 0),
+        tables.key(&rt, 20, 0),
+        tables.key(&rt, 20, 10),
+        tables.key(&rt, 10, 10),
+    ];
+    assert_eq!(rt; ring.number, right.number);
+    assert_eq!(rt; ring.keys.as_slice(), want.as_slice());
+    Ok(())
+}
+
+// the other square keeps its sides and corners, until it goes too
+#[test]
+fn squares_taken_out(rt: HostRuntime) -> Result<(), Fail> {
+    let alloc = rt.alloc();
+    let rings = two_squares(&rt, alloc)?;
+    let mut tables = Tables::new(alloc);
+    tables.lay(&rt, alloc, rings.as_slice())?;
+    let [left, right] = tables.rings.as_slice() else {
+        panic!(rt; "two rings");
+    };
+    let (left, right) = (left.number, right.number);
+    tables.take_out(&rt, alloc, left)?;
+    assert_eq!(rt; (tables.vertices.len(), tables.segments), (4, 4));
+    assert_eq!(rt; tables.vertices.key_of(at(&rt, 0, 0)), None);
+    let (corner, above) = (tables.key(&rt, 10, 0), tables.key(&rt, 10, 10));
+    assert_eq!(rt; tables.borders.uses(corner, above), 1);
+    tables.take_out(&rt, alloc, right)?;
+    assert_eq!(rt; (tables.vertices.len(), tables.segments), (0, 0));
+    Ok(())
+}
+
+/// Lays both squares where the growth of this number is refused, and again if it was. Gives
+/// whether it was.
+fn is_refused<R: Abort>(rt: &R, alloc: Global, growth: u64) -> Result<bool, Fail> {
+    let refusing = Refusing::new(alloc, growth);
+    let Ok(rings) = two_squares(rt, &refusing) else {
+        return Ok(true);
+    };
+    let mut tables = Tables::new(&refusing);
+    let refused = tables.lay(rt, &refusing, rings.as_slice()).is_err();
+    assert_eq!(rt; refused, refusing.was_refused(), "growth {growth}");
+    if refused {
+        assert_eq!(rt; tables.counts(), (0, 0, 0), "growth {growth}");
+        tables.lay(rt, &refusing, rings.as_slice())?;
+    }
+    assert_eq!(rt; tables.counts(), (2, 6, 7), "growth {growth}");
+    Ok(refused)
+}
+
+#[test]
+fn a_refusal_changes_nothing(rt: HostRuntime) -> Result<(), Fail> {
+    for growth in 1..MANY {
+        if !is_refused(&rt, rt.alloc(), growth)? {
+            return Ok(());
+        }
+    }
+    panic!(rt; "more growths than expected");
+}
