@@ -13,6 +13,8 @@ mod counted;
 #[cfg(test)]
 mod cuts;
 #[cfg(test)]
+mod features;
+#[cfg(test)]
 mod indexes;
 #[cfg(test)]
 mod made;

@@ -1,9 +1,9 @@
 //! Edits of features on small maps: each refusal once, and each growth refused in turn.
-use crate::{delete, merge, rename, split};
 use arc_store::{EditFault, IdText, ItemView, Map, Path};
 use grid_geometry::{Pos, Rect, Seg};
 use refusing_allocator::Refusing;
 use segment_index::{GridIndex, ListIndex, SegIndex};
+use split_merge::{delete, merge, rename, split};
 use std::alloc::{AllocError, Allocator, Global};
 use std::process::Abort;
 use std::test::Fail;
