@@ -1,5 +1,5 @@
-ghost use Rattle.std.specs.Prelude.{◌≡◌, length};
-ghost use Rattle.ring_machine.specs.Parts.{features, size, is_vertex};
+ghost use Rattle.std.specs.Prelude.{◌≡◌, ◌≤◌, ℕ, None, length};
+ghost use Rattle.ring_machine.specs.Parts.{feature, features, size, is_vertex};
 ghost use Rattle.ring_machine.specs.Query.{vertices, distinct_segments};
 
 use crate::map::Map;
@@ -36,9 +36,10 @@ impl<'a, I: SegIndex, A: Allocator + Copy> Map<'a, I, A> {
         self.positions
     }
 
-    /// The number of the next new feature.
+    /// The number of the next new feature; no feature has it, or a greater one.
     pub fn next_number(&self) -> u32
-        ensures { result ≡ self.now.next }
+        ensures next { result ≡ self.now.next }
+        ensures below { (m : ℕ) → self.now.next ≤ m → feature self.now.doc m ≡ None }
     {
         self.frame.next()
     }

@@ -6,6 +6,7 @@ use crate::fault::EditFault;
 use crate::map::Map;
 use crate::polygons::read_polygons;
 use feature_exchange::take_out_feature;
+use ring_parts::count_all;
 use segment_index::SegIndex;
 use std::alloc::Allocator;
 

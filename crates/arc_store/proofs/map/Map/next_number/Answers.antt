@@ -1,0 +1,13 @@
+use Rattle.std.proofs.Common.{◌≤◌, ap, sym, subst, ◌∙◌, option_map}
+use Rattle.ring_machine.specs.Parts.{feature, in_feature}
+use Rattle.ring_machine.proofs.Found.{feature-in_rings}
+use Rattle.feature_exchange.specs.Stored.{stored, ring_under}
+use Rattle.arc_store.proofs.map.Map.next_number.Goals as goal
+
+pub returns-clause-below : goal.returns-clause-below
+returns-clause-below g c = λ k h.
+    let m = c.self.inside in
+    let of = ring_under (stored m.frame m.borders m.vertices) in
+    sym (ap (λ s. feature s.doc k) c.self.view_is)
+    ∙ feature-in_rings of m.frame.doc k
+    ∙ ap (option_map (in_feature of)) (c.next.ensures.below k (subst (λ n. n ≤ k) (sym (ap (λ s. s.next) c.self.view_is)) h))
