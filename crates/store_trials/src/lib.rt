@@ -1,5 +1,5 @@
-//! Tests of the store: the same edits beside those of plain rings, growths that are refused, how arcs
-//! are cut, how few pairs of segments an edit tests, and what is asked of a map.
+//! Tests of the store: the same edits beside those of plain rings, growths that are refused, edits of
+//! features, how few pairs of segments an edit tests, and what is asked of a map.
 #![tactic(auto)]
 
 #[cfg(test)]
@@ -11,11 +11,7 @@ mod copies;
 #[cfg(test)]
 mod counted;
 #[cfg(test)]
-mod cuts;
-#[cfg(test)]
 mod features;
-#[cfg(test)]
-mod indexes;
 #[cfg(test)]
 mod made;
 #[cfg(test)]
@@ -25,8 +21,4 @@ mod queries;
 #[cfg(test)]
 mod refusals;
 #[cfg(test)]
-mod refused_calls;
-#[cfg(test)]
-mod shared;
-#[cfg(test)]
-mod squares;
+mod refused_features;
