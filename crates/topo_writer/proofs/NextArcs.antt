@@ -1,5 +1,5 @@
 -- Pieces that are cut once more: an arc is sent where it comes first.
-use Rattle.std.proofs.Common.{◌≡◌, ℕ, ℤ, zero, suc, ◌+◌, ◌<◌, ◌≤◌, drop, Bool, true, false, refl, sym, ap, ◌∙◌, subst, cond, arith, length}
+use Rattle.std.proofs.Common.{◌≡◌, ℕ, ℤ, ◌+◌, ◌<◌, ◌≤◌, drop, Bool, true, false, refl, sym, ap, ◌∙◌, subst, cond, arith, length}
 use Rattle.std.proofs.Common.{List, [], ◌∷◌, ◌++◌, append_assoc, append-nil, get_or, Option, Some, None, pos}
 use Rattle.std.specs.Prelude.{is_some, nat_lt}
 use Rattle.std.specs.Io.KnownBytes.{Appends, Keeps}
