@@ -36,14 +36,8 @@ const NULL: &str =
 const HOLES: &str =
     "{\"type\":\"Topology\",\"objects\":{\"l\":{\"type\":\"GeometryCollection\",\"geometries\":[{\"type\":\"Polygon\",\"arcs\":[[0],[1],[2]]}]}},\"arcs\":[[[0,0],[10,0],[20,0],[20,10],[10,10],[0,10],[0,0]],[[0,0],[2,4],[4,2],[0,0]],[[14,4],[14,6],[16,6],[16,4],[14,4]]]}";
 
-// a square, and room for features without a geometry behind it
-const SQUARE_AND: &str =
-    "{\"type\":\"Topology\",\"objects\":{\"l\":{\"type\":\"GeometryCollection\",\"geometries\":[{\"type\":\"Polygon\",\"arcs\":[[0]]}";
-
-const AND_NO_MORE: &str = "]}},\"arcs\":[[[0,0],[10,0],[10,10],[0,10],[0,0]]]}";
-
 /// The map of the text, which opens and is planar.
-fn map_of<'a, R: Abort>(rt: &R, alloc: Global, text: &'a str) -> Map<'a, ListIndex> {
+fn map_of<R: Abort>(rt: &R, alloc: Global, text: &'static str) -> Map<'static, ListIndex> {
     let Ok(raw) = read(alloc, alloc, text.as_bytes()) else {
         panic!(rt; "the text opens");
     };
@@ -140,25 +134,6 @@ fn splits_are_refused(rt: HostRuntime) {
         cut(&rt, alloc, &mut alone, 0, across),
         Err(EditFault::NoCollection)
     );
-}
-
-// a number is below 200,000: the last one is given, and then none is left
-#[test]
-fn numbers_run_out(rt: HostRuntime) -> Result<(), Fail> {
-    let alloc = rt.alloc();
-    let mut text = String::from_str(alloc, SQUARE_AND)?;
-    for _ in 0..199_998 {
-        text.push_str(",{\"type\":null}")?;
-    }
-    text.push_str(AND_NO_MORE)?;
-    let mut map = map_of(&rt, alloc, text.as_str());
-    let last = cut(&rt, alloc, &mut map, 0, &[(0, 0), (10, 10)]);
-    assert_eq!(rt; last, Ok(199_999));
-    let none = cut(&rt, alloc, &mut map, 0, &[(0, 0), (5, 2), (10, 10)]);
-    assert_eq!(rt; none, Err(EditFault::TooLarge));
-    assert_eq!(rt; map.next_number(), 200_000);
-    assert!(rt; has_rings(&rt, alloc, &map, 0, &[&[(0, 0), (10, 0), (10, 10)]])?);
-    Ok(())
 }
 
 #[test]

@@ -1,5 +1,5 @@
 //! Tests of the store: the same edits beside those of plain rings, growths that are refused, edits of
-//! features, and how few pairs of segments an edit tests.
+//! features, how few pairs of segments an edit tests, and what is asked of a map.
 #![tactic(auto)]
 
 #[cfg(test)]
@@ -16,6 +16,8 @@ mod features;
 mod made;
 #[cfg(test)]
 mod opened;
+#[cfg(test)]
+mod queries;
 #[cfg(test)]
 mod refusals;
 #[cfg(test)]
