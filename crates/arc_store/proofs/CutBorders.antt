@@ -11,7 +11,7 @@ use Rattle.std.proofs.lemmas.List.Sums.{sum_by-append, sum_by-cons}
 use Rattle.grid_geometry.specs.Position.{Position}
 use Rattle.grid_geometry.specs.Segment.{Segment, segment_eq}
 use Rattle.grid_geometry.specs.Ring.{Edge, links}
-use Rattle.ring_machine.specs.Ring.{canonical, has, is_ring, segments, segment_of}
+use Rattle.ring_machine.specs.Ring.{canonical, has, is_ring, segment_of}
 use Rattle.ring_machine.specs.Document.{Document, Feature, Text}
 use Rattle.ring_machine.specs.Parts.{features, feature, rings_of, rings, size, is_vertex, is_segment}
 use Rattle.ring_machine.specs.Planar.{Proper}

@@ -1,17 +1,17 @@
 -- What the tests of a split say of its refusals.
-use Rattle.std.proofs.Common.{◌≡◌, ℕ, ◌+◌, Bool, true, false, refl, sym, ap, ap₂, ◌∙◌, subst, List, []}
+use Rattle.std.proofs.Common.{◌≡◌, ℕ, Bool, true, false, refl, sym, ap, ap₂, ◌∙◌, subst, List, []}
 use Rattle.std.proofs.Common.{◌∷◌, length, ◌||◌, ◌&&◌, Option, None}
 use Rattle.std.specs.Prelude.{not, nat_lt, nat_le}
 use Rattle.std.specs.List.{list_any}
 use Rattle.std.specs.FinSet as set
 use Rattle.grid_geometry.specs.Position.{Position}
-use Rattle.grid_geometry.specs.Segment.{Segment, segment_eq}
+use Rattle.grid_geometry.specs.Segment.{Segment}
 use Rattle.ring_machine.specs.Ring.{is_distinct}
 use Rattle.ring_machine.specs.Command.{Refusal, NoFeature, NoCollection, NotOnOuterRing}
 use Rattle.ring_machine.specs.Command.{RepeatedPoint, Occupied, SegmentExists, WrongSide, TooLarge}
 use Rattle.ring_machine.specs.Document.{Document, Text}
-use Rattle.ring_machine.specs.Parts.{size, has_feature, is_vertex, all_segments}
-use Rattle.ring_machine.specs.Planar.{first_pair, least_conflict}
+use Rattle.ring_machine.specs.Parts.{size, is_vertex, all_segments}
+use Rattle.ring_machine.specs.Planar.{least_conflict}
 use Rattle.ring_machine.specs.Cut.{Path, cut, is_cut_by, is_wrong_side, first_that}
 use Rattle.ring_machine.specs.Refusals.{first_of, conflict_of, planar, is_small, ◌unless◌}
 use Rattle.ring_machine.specs.Refusals.{feature_at, is_layer, positions_of, is_path_segment}

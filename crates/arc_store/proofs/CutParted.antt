@@ -1,6 +1,6 @@
 -- A cut, as rings that come in the place of one polygon, and a feature directly after.
 use Rattle.std.proofs.Common.{◌≡◌, ◌<◌, ℕ, zero, suc, Bool, true, false, refl, sym, ap, ap₂, ◌∙◌, subst, cond}
-use Rattle.std.proofs.Common.{List, [], ◌∷◌, map, length, take, get_or, set, ◌||◌, Some, arith}
+use Rattle.std.proofs.Common.{List, [], ◌∷◌, map, length, take, get_or, set, Some, arith}
 use Rattle.std.specs.List.{list_any}
 use Rattle.grid_geometry.specs.Position.{Position}
 use Rattle.ring_machine.specs.Document.{Document, Feature, Text}

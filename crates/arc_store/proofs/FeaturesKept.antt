@@ -1,12 +1,12 @@
 -- What is kept when features were exchanged.
-use Rattle.std.proofs.Common.{◌≡◌, ◌≤◌, ℕ, ◌+◌, ◌-◌, true, refl, sym, ap, ◌∙◌, subst, Option, None, Some, is_some}
-use Rattle.std.proofs.Common.{List, [], length, arith}
+use Rattle.std.proofs.Common.{◌≡◌, ◌≤◌, ℕ, ◌+◌, ◌-◌, refl, sym, ap, ◌∙◌, subst, Option, None, Some, is_some}
+use Rattle.std.proofs.Common.{List, length, arith}
 use Rattle.std.specs.FinSet as set
-use Rattle.std.specs.List.{sum_by, flat_map}
+use Rattle.std.specs.List.{sum_by}
 use Rattle.grid_geometry.specs.Position.{Position}
 use Rattle.ring_machine.specs.Document.{Document, Feature, Text}
 use Rattle.ring_machine.specs.Machine.{renamed}
-use Rattle.ring_machine.specs.Parts.{feature, has_feature, rings_of, size}
+use Rattle.ring_machine.specs.Parts.{feature, size}
 use Rattle.ring_machine.specs.Planar.{Proper}
 use Rattle.ring_machine.specs.WellFormed.{WellFormed}
 use Rattle.ring_machine.specs.Join.{take_out}

@@ -4,7 +4,7 @@ use Rattle.std.proofs.Common.{inl, inr, Some, eqb-true}
 use Rattle.std.specs.Prelude.{◌==◌}
 use Rattle.std.specs.List.{flat_map, filter_map}
 use Rattle.ring_machine.specs.Document.{FeatureOf, ItemOf, LayerOf, DocumentOf, Open, Close, Leaf, Kept}
-use Rattle.ring_machine.specs.Parts.{feature_of, features, feature, in_layer}
+use Rattle.ring_machine.specs.Parts.{feature_of, feature, in_layer}
 use Rattle.ring_machine.specs.Cut.{becomes, instead}
 use Rattle.ring_machine.specs.WellFormed.{WellFormed}
 use Rattle.ring_machine.proofs.First.{In, in_left, in_right}

@@ -1,7 +1,7 @@
 -- Two features joined, as rings that come in the place of the first one's polygon: the document, its
 -- rings and its size.
 use Rattle.std.proofs.Common.{◌≡◌, ◌≤◌, ℕ, ◌+◌, Bool, true, false, refl, sym, ap, ap₂, ◌∙◌, subst, cond}
-use Rattle.std.proofs.Common.{List, [], ◌∷◌, ◌++◌, map, length, reverse, take, drop, Some, None, arith}
+use Rattle.std.proofs.Common.{List, [], ◌∷◌, ◌++◌, map, length, reverse, take, drop, Some, arith}
 use Rattle.std.specs.Prelude.{◌==◌, not}
 use Rattle.std.specs.List.{list_all, flat_map, filter, sum_by, prefix_len}
 use Rattle.std.proofs.lemmas.Bool.{eqb-true, eqb-false}
@@ -14,10 +14,9 @@ use Rattle.ring_machine.specs.Document.{Document, Feature}
 use Rattle.ring_machine.specs.Parts.{features, feature, rings_of, rings, size}
 use Rattle.ring_machine.specs.Planar.{Proper}
 use Rattle.ring_machine.specs.WellFormed.{WellFormed}
-use Rattle.ring_machine.specs.Cut.{instead}
 use Rattle.ring_machine.specs.Join.{take_out, join, joined, joined_polygons, joined_feature, is_common}
 use Rattle.ring_machine.specs.Join.{passed_alike, off_run}
-use Rattle.ring_machine.specs.Refusals.{first_of, merge_refusals, feature_at, or_else, no_feature}
+use Rattle.ring_machine.specs.Refusals.{feature_at, or_else, no_feature}
 use Rattle.ring_machine.proofs.CutJoined.{join_is, feature-join_at}
 use Rattle.ring_machine.proofs.Found.{feature_in, feature_stands}
 use Rattle.ring_machine.proofs.MergeAccepted.{MergeAccepted}
@@ -29,7 +28,6 @@ use Rattle.ring_machine.proofs.StaysProper.{edges_start}
 use Rattle.ring_machine.proofs.Without.{feature-take_out_other, size-take_out_at, size-instead_at}
 use Rattle.map_opening.proofs.KeyRings.{length-canonical}
 use Rattle.map_frame.specs.Edits as frame
-use Rattle.ring_parts.specs.Merges.{joined_rings}
 use Rattle.arc_store.proofs.InsteadAlike.{instead_found}
 
 -- ---- how long a joined ring is

@@ -1,13 +1,14 @@
 -- The plan of a merge: the rings of both features, what is asked of the exchange, and what is kept.
-use Rattle.std.proofs.Common.{◌≡◌, ◌≢◌, ◌≤◌, ℕ, ◌+◌, ◌-◌, true, false, refl, sym, ap, ap₂, ◌∙◌, subst, List}
-use Rattle.std.proofs.Common.{[], ◌∷◌, map, length, get_or, Option, None, Some, option_map, arith}
-use Rattle.std.specs.Prelude.{unwrap_or}
+use Rattle.std.proofs.Common.{◌≡◌, ◌≢◌, ◌≤◌, ◌<◌, ℕ, ◌+◌, ◌-◌, true, sym, ap, ap₂, ◌∙◌, subst, List}
+use Rattle.std.proofs.Common.{[], ◌∷◌, map, length, get_or, Option, None, option_map, arith}
+use Rattle.std.specs.Prelude.{unwrap_or, Vec}
 use Rattle.std.specs.List.{list_all, sum_by}
 use Rattle.std.proofs.lemmas.Bool.{eqb-false}
+use Rattle.std.proofs.lemmas.List.{length-map}
 use Rattle.std.proofs.lemmas.List.Sums.{sum_by-cons}
 use Rattle.grid_geometry.specs.Position.{Position}
 use Rattle.ring_machine.specs.Document.{Document}
-use Rattle.ring_machine.specs.Parts.{feature, size}
+use Rattle.ring_machine.specs.Parts.{size}
 use Rattle.ring_machine.specs.Planar.{Proper}
 use Rattle.ring_machine.specs.Join.{join}
 use Rattle.ring_machine.specs.Refusals.{first_of, merge_refusals, feature_at, or_else, no_feature}
@@ -23,6 +24,7 @@ use Rattle.map_frame.specs.Framed.{Framed}
 use Rattle.feature_exchange.specs.Stored.{stored, document_of}
 use Rattle.arc_store.specs.Kept.{IsKept, state_of}
 use Rattle.ring_parts.specs.Merges.{joined_rings}
+use Rattle.ring_parts.specs.Seen.{rings_seen, polygons_seen}
 use Rattle.arc_store.specs.State.{State}
 use Rattle.arc_store.proofs.AllCanonical.{all_canonical}
 use Rattle.arc_store.proofs.FeaturesKept.{seen_doc, seen_formed, seen_proper, seen_size, seen_small, gone_size}
@@ -46,12 +48,22 @@ module _ {frame : Framed} {rings : Rings} {places : Placement} {held : SegmentSe
   second_is : (feature_at now.doc m).polygons ≡ (a.pair_is.s ∷ a.pair_is.more) ∷ []
   second_is = ap (λ o. (or_else no_feature o).polygons) a.second_is ∙ a.pair_is.second
 
-  -- each has one polygon
-  pub first_one : (ps : List (List (List Position))) → ps ≡ (feature_at now.doc n).polygons → length ps ≡ 1
-  first_one ps e = ap length (e ∙ first_is)
+  -- each has a polygon
+  pub first_there : {A : Type 0} (ps : List (Vec (Vec Position A) A))
+      → polygons_seen ps ≡ (feature_at now.doc n).polygons → 0 < length ps
+  first_there {A} ps e = omega (
+    arith,
+    ap length (e ∙ first_is),
+    length-map ps (λ (p : Vec (Vec Position A) A). rings_seen p.items),
+  )
 
-  pub second_one : (ps : List (List (List Position))) → ps ≡ (feature_at now.doc m).polygons → length ps ≡ 1
-  second_one ps e = ap length (e ∙ second_is)
+  pub second_there : {A : Type 0} (ps : List (Vec (Vec Position A) A))
+      → polygons_seen ps ≡ (feature_at now.doc m).polygons → 0 < length ps
+  second_there {A} ps e = omega (
+    arith,
+    ap length (e ∙ second_is),
+    length-map ps (λ (p : Vec (Vec Position A) A). rings_seen p.items),
+  )
 
   pub one_polygon : length (polygons_of doc n) ≡ 1
   one_polygon =

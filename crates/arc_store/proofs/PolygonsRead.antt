@@ -1,5 +1,5 @@
 -- The rings of a feature, read from the tables, are those that it has in the document.
-use Rattle.std.proofs.Common.{◌≡◌, ◌≤◌, ◌<◌, ℕ, true, refl, sym, ap, ◌∙◌, subst, List, [], ◌++◌, map, length, get_or}
+use Rattle.std.proofs.Common.{◌≡◌, ◌<◌, ℕ, true, refl, sym, ap, ◌∙◌, subst, List, [], ◌++◌, map, length, get_or}
 use Rattle.std.proofs.Common.{Option, None, Some, option_map, Contains, zero, suc, ◌∷◌, take, false, arith}
 use Rattle.std.specs.Prelude.{Vec, unwrap_or, IfSome}
 use Rattle.std.specs.FinMap as table
@@ -32,9 +32,9 @@ at_mapped of (y ∷ ys) (suc i) x d l e = at_mapped of ys i x d (omega (arith, l
 
 -- the rings of the first polygon
 pub first_seen : {A : Type 0} (polygons : List (Vec (Vec Position A) A)) (x : Vec (Vec Position A) A) → x ≡ get_or polygons 0 x
-    → 1 ≤ length polygons → (q : List (Vec Position A)) → q ≡ x.items → rings_seen q ≡ get_or (polygons_seen polygons) 0 []
+    → 0 < length polygons → (q : List (Vec Position A)) → q ≡ x.items → rings_seen q ≡ get_or (polygons_seen polygons) 0 []
 first_seen {A} polygons x is l q same =
-    ap rings_seen same ∙ at_mapped (λ (p : Vec (Vec Position A) A). rings_seen p.items) polygons 0 x [] (omega (arith, l)) is
+    ap rings_seen same ∙ at_mapped (λ (p : Vec (Vec Position A) A). rings_seen p.items) polygons 0 x [] l is
 
 -- the polygon at the place that was found is the first one that the path cuts
 pub found_cut : {A : Type 0} (polygons : List (Vec (Vec Position A) A)) (ps : List (List (List Position)))

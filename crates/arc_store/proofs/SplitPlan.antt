@@ -1,19 +1,18 @@
 -- The plan of a split: what the tests are asked of, what they decide, and what is kept.
 use Rattle.std.proofs.Common.{◌≡◌, ◌≤◌, ◌<◌, ℕ, ◌+◌, ◌*◌, Bool, true, false, refl, sym, ap, ap₂, ◌∙◌, subst}
-use Rattle.std.proofs.Common.{List, [], ◌∷◌, map, length, ◌&&◌, Option, None, Some, take, get_or, arith}
+use Rattle.std.proofs.Common.{List, [], ◌∷◌, map, length, Option, None, Some, arith}
 use Rattle.std.specs.Prelude.{nat_le, nat_lt, option_map, unwrap_or}
 use Rattle.std.specs.List.{list_any, list_all, sum_by}
 use Rattle.std.proofs.lemmas.Bool.Decides.{nat_tests}
 use Rattle.std.proofs.lemmas.List.{length-append}
 use Rattle.std.proofs.lemmas.List.Sums.{sum_by-cons, sum_by_more_le}
 use Rattle.grid_geometry.specs.Position.{Position}
-use Rattle.grid_geometry.specs.Ring.{links}
 use Rattle.grid_geometry.specs.Segment.{Segment}
-use Rattle.ring_machine.specs.Ring.{canonical, is_distinct, is_ring, segment_of}
+use Rattle.ring_machine.specs.Ring.{canonical, is_distinct, is_ring}
 use Rattle.ring_machine.specs.Document.{Document, Feature, Text}
 use Rattle.ring_machine.specs.Parts.{feature, has_feature, is_vertex, size, all_segments}
 use Rattle.ring_machine.specs.Planar.{Proper, least_conflict}
-use Rattle.ring_machine.specs.Cut.{Path, path_of, cut, is_cut_by, is_wrong_side, first_polygon}
+use Rattle.ring_machine.specs.Cut.{Path, cut, is_cut_by, is_wrong_side, first_polygon}
 use Rattle.ring_machine.specs.Cut.{second_polygon}
 use Rattle.ring_machine.specs.Refusals.{first_of, is_layer, positions_of, is_path_segment}
 use Rattle.ring_machine.specs.Refusals.{feature_at, or_else, no_feature, split_refusals}

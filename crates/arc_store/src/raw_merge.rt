@@ -46,13 +46,8 @@ impl<'a, I: SegIndex, A: Allocator + Copy> Map<'a, I, A> {
     {
         let ones = read_polygons(self.alloc, &self.frame, &self.vertices, &self.borders, n)?;
         let others = read_polygons(self.alloc, &self.frame, &self.vertices, &self.borders, g)?;
-        let [one] = ones.as_slice() else {
-            return Err(EditFault::NotOnePolygon);
-        };
-        let [other] = others.as_slice() else {
-            return Err(EditFault::NotOnePolygon);
-        };
-        let (one, other) = (one.as_slice(), other.as_slice());
+        let one = ones[0].as_slice();
+        let other = others[0].as_slice();
         let rings = join_polygons(self.alloc, one, other)?;
         let rings = rings.as_slice();
         let left_out = count_left_out(one, other, rings);

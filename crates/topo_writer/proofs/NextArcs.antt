@@ -1,9 +1,9 @@
 -- Pieces that are cut once more: an arc is sent where it comes first.
 use Rattle.std.proofs.Common.{◌≡◌, ℕ, ℤ, zero, suc, ◌+◌, ◌<◌, ◌≤◌, drop, Bool, true, false, refl, sym, ap, ◌∙◌, subst, cond, arith, length}
-use Rattle.std.proofs.Common.{List, [], ◌∷◌, ◌++◌, append_assoc, append-nil, Option, Some, None, pos}
+use Rattle.std.proofs.Common.{List, [], ◌∷◌, ◌++◌, append_assoc, append-nil, get_or, Option, Some, None, pos}
 use Rattle.std.specs.Prelude.{is_some, nat_lt}
 use Rattle.std.specs.Io.KnownBytes.{Appends, Keeps}
-use Rattle.std.proofs.lemmas.List.{length-append}
+use Rattle.std.proofs.lemmas.List.{drop_more, length-append}
 use Rattle.device_io.specs.Devices.{AppendsPrefix}
 use Rattle.device_io.proofs.DeviceLemmas.{Appends-more, Appends-none}
 use Rattle.grid_geometry.specs.Position.{Position}
@@ -165,9 +165,9 @@ front_of delta first all later start now e h =
     subst (AppendsPrefix start now) (sym (ap (listed_arcs delta) e ∙ more.1))
     (prefix_whole start now (listed_arcs delta first) more.0 h)
 
--- nothing is left after the last one
-pub drop_end : {A : Type 0} (xs : List A) (n : ℕ) → length xs ≤ n → drop n xs ≡ []
-drop_end [] zero h = refl
-drop_end [] (suc n) h = refl
-drop_end (x ∷ xs) zero h = absurd (omega (arith, h))
-drop_end (x ∷ xs) (suc n) h = drop_end xs n (omega (arith, h))
+-- the pieces that are left, the next one first
+pub on_left : (delta : Bool) (first whole ps : List (List Position)) (k : ℕ) (any piece : List Position) (sent : ℕ) (old now : Option (List ℕ))
+    → k < length ps → piece ≡ get_or ps k any → OnWay delta first whole (drop k ps) sent old now
+    → OnWay delta first whole (piece ∷ drop (k + 1) ps) sent old now
+on_left delta first whole ps k any piece sent old now l e w =
+    subst (λ z. OnWay delta first whole z sent old now) (drop_more ps k any l ∙ ap (λ z. z ∷ drop (k + 1) ps) (sym e)) w

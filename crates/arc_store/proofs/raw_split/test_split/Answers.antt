@@ -1,5 +1,4 @@
 use Rattle.std.proofs.Common.{sym, subst, ◌∙◌}
-use Rattle.ring_machine.specs.Refusals.{first_of}
 use Rattle.arc_store.specs.Faults.{Refuses}
 use Rattle.arc_store.proofs.CutDecided.{split_refused}
 use Rattle.arc_store.proofs.SplitPlan.{split_rest}

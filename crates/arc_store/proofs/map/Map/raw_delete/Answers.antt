@@ -1,4 +1,4 @@
-use Rattle.std.proofs.Common.{sym, ap, ◌∙◌, length, arith}
+use Rattle.std.proofs.Common.{ap, ◌∙◌, length, arith}
 use Rattle.std.specs.List.{sum_by}
 use Rattle.ring_machine.specs.Join.{take_out}
 use Rattle.ring_parts.specs.Seen.{polygons_seen}

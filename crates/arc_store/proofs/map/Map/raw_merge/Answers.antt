@@ -1,5 +1,4 @@
-use Rattle.std.proofs.Common.{ap, ◌∙◌, sym, length, arith}
-use Rattle.std.specs.List.{sum_by}
+use Rattle.std.proofs.Common.{ap, ◌∙◌, arith}
 use Rattle.ring_machine.specs.Join.{join}
 use Rattle.ring_machine.specs.Refusals.{feature_at}
 use Rattle.ring_parts.specs.Seen.{rings_seen, polygons_seen}
@@ -8,6 +7,18 @@ use Rattle.arc_store.proofs.FeaturesKept.{counted_by, kept_as}
 use Rattle.arc_store.proofs.MergePlan as plan
 use Rattle.arc_store.proofs.PolygonsRead.{first_seen}
 use Rattle.arc_store.proofs.map.Map.raw_merge.Goals as goal
+
+pub index-requires : goal.index-requires
+index-requires g c =
+    let there = plan.first_there c.self.invariant c.self.view_is c.args.n c.args.g c.requires c.in_ok-ones.ones.items
+    (c.in_ok-ones.ensures ∙ ap (λ s. (feature_at s.doc c.args.n).polygons) c.self.view_is) in
+    omega (arith, there, c.in_ok-ones.ones.ok)
+
+pub index-requires-2 : goal.index-requires-2
+index-requires-2 g c =
+    let there = plan.second_there c.self.invariant c.self.view_is c.args.n c.args.g c.requires c.in_ok-others.others.items
+    (c.in_ok-others.ensures ∙ ap (λ s. (feature_at s.doc c.args.g).polygons) c.self.view_is) in
+    omega (arith, there, c.in_ok-others.others.ok)
 
 pub join_features-requires-clause-counted : goal.join_features-requires-clause-counted
 join_features-requires-clause-counted g c = counted_by c.self.invariant
@@ -20,51 +31,51 @@ join_features-requires-clause-there g c = plan.one_polygon c.self.invariant c.se
 
 pub count_left_out-left_out-requires-clause-many : goal.count_left_out-left_out-requires-clause-many
 count_left_out-left_out-requires-clause-many g c =
-    plan.both_few c.self.invariant c.self.view_is c.args.n c.args.g c.requires (polygons_seen c.as_slice.result.now) (polygons_seen c.as_slice-2.result.now)
-    (ap polygons_seen c.as_slice.ensures.value ∙ c.in_ok-ones.ensures ∙ ap (λ s. (feature_at s.doc c.args.n).polygons) c.self.view_is)
-    (ap polygons_seen c.as_slice-2.ensures.value ∙ c.in_ok-others.ensures ∙ ap (λ s. (feature_at s.doc c.args.g).polygons) c.self.view_is)
+    plan.both_few c.self.invariant c.self.view_is c.args.n c.args.g c.requires (polygons_seen c.in_ok-ones.ones.items) (polygons_seen c.in_ok-others.others.items)
+    (c.in_ok-ones.ensures ∙ ap (λ s. (feature_at s.doc c.args.n).polygons) c.self.view_is)
+    (c.in_ok-others.ensures ∙ ap (λ s. (feature_at s.doc c.args.g).polygons) c.self.view_is)
     (rings_seen c.as_slice-one.result.now) (rings_seen c.as_slice-other.result.now)
-    (first_seen c.as_slice.result.now c.one-item.result c.one-item.is c.in-len1.len_at_least c.as_slice-one.result.now c.as_slice-one.ensures.value)
-    (first_seen c.as_slice-2.result.now c.other-item.result c.other-item.is c.in-len1-as_slice.len_at_least c.as_slice-other.result.now c.as_slice-other.ensures.value)
+    (first_seen c.in_ok-ones.ones.items c.index.result.now c.index.ensures (plan.first_there c.self.invariant c.self.view_is c.args.n c.args.g c.requires c.in_ok-ones.ones.items (c.in_ok-ones.ensures ∙ ap (λ s. (feature_at s.doc c.args.n).polygons) c.self.view_is)) c.as_slice-one.result.now c.as_slice-one.ensures.value)
+    (first_seen c.in_ok-others.others.items c.index-2.result.now c.index-2.ensures (plan.second_there c.self.invariant c.self.view_is c.args.n c.args.g c.requires c.in_ok-others.others.items (c.in_ok-others.ensures ∙ ap (λ s. (feature_at s.doc c.args.g).polygons) c.self.view_is)) c.as_slice-other.result.now c.as_slice-other.ensures.value)
 
 pub count_left_out-left_out-requires-clause-fewer : goal.count_left_out-left_out-requires-clause-fewer
 count_left_out-left_out-requires-clause-fewer g c =
-    plan.made_short c.self.invariant c.self.view_is c.args.n c.args.g c.requires (polygons_seen c.as_slice.result.now) (polygons_seen c.as_slice-2.result.now)
-    (ap polygons_seen c.as_slice.ensures.value ∙ c.in_ok-ones.ensures ∙ ap (λ s. (feature_at s.doc c.args.n).polygons) c.self.view_is)
-    (ap polygons_seen c.as_slice-2.ensures.value ∙ c.in_ok-others.ensures ∙ ap (λ s. (feature_at s.doc c.args.g).polygons) c.self.view_is)
+    plan.made_short c.self.invariant c.self.view_is c.args.n c.args.g c.requires (polygons_seen c.in_ok-ones.ones.items) (polygons_seen c.in_ok-others.others.items)
+    (c.in_ok-ones.ensures ∙ ap (λ s. (feature_at s.doc c.args.n).polygons) c.self.view_is)
+    (c.in_ok-others.ensures ∙ ap (λ s. (feature_at s.doc c.args.g).polygons) c.self.view_is)
     (rings_seen c.as_slice-one.result.now) (rings_seen c.as_slice-other.result.now)
-    (first_seen c.as_slice.result.now c.one-item.result c.one-item.is c.in-len1.len_at_least c.as_slice-one.result.now c.as_slice-one.ensures.value)
-    (first_seen c.as_slice-2.result.now c.other-item.result c.other-item.is c.in-len1-as_slice.len_at_least c.as_slice-other.result.now c.as_slice-other.ensures.value)
+    (first_seen c.in_ok-ones.ones.items c.index.result.now c.index.ensures (plan.first_there c.self.invariant c.self.view_is c.args.n c.args.g c.requires c.in_ok-ones.ones.items (c.in_ok-ones.ensures ∙ ap (λ s. (feature_at s.doc c.args.n).polygons) c.self.view_is)) c.as_slice-one.result.now c.as_slice-one.ensures.value)
+    (first_seen c.in_ok-others.others.items c.index-2.result.now c.index-2.ensures (plan.second_there c.self.invariant c.self.view_is c.args.n c.args.g c.requires c.in_ok-others.others.items (c.in_ok-others.ensures ∙ ap (λ s. (feature_at s.doc c.args.g).polygons) c.self.view_is)) c.as_slice-other.result.now c.as_slice-other.ensures.value)
     (rings_seen c.as_slice-rings.result.now) (ap rings_seen c.as_slice-rings.ensures.value ∙ c.in_ok-rings.ensures)
 
 pub join_features-requires-clause-rings : goal.join_features-requires-clause-rings
 join_features-requires-clause-rings g c =
-    plan.made_rings c.self.invariant c.self.view_is c.args.n c.args.g c.requires (polygons_seen c.as_slice.result.now) (polygons_seen c.as_slice-2.result.now)
-    (ap polygons_seen c.as_slice.ensures.value ∙ c.in_ok-ones.ensures ∙ ap (λ s. (feature_at s.doc c.args.n).polygons) c.self.view_is)
-    (ap polygons_seen c.as_slice-2.ensures.value ∙ c.in_ok-others.ensures ∙ ap (λ s. (feature_at s.doc c.args.g).polygons) c.self.view_is)
+    plan.made_rings c.self.invariant c.self.view_is c.args.n c.args.g c.requires (polygons_seen c.in_ok-ones.ones.items) (polygons_seen c.in_ok-others.others.items)
+    (c.in_ok-ones.ensures ∙ ap (λ s. (feature_at s.doc c.args.n).polygons) c.self.view_is)
+    (c.in_ok-others.ensures ∙ ap (λ s. (feature_at s.doc c.args.g).polygons) c.self.view_is)
     (rings_seen c.as_slice-one.result.now) (rings_seen c.as_slice-other.result.now)
-    (first_seen c.as_slice.result.now c.one-item.result c.one-item.is c.in-len1.len_at_least c.as_slice-one.result.now c.as_slice-one.ensures.value)
-    (first_seen c.as_slice-2.result.now c.other-item.result c.other-item.is c.in-len1-as_slice.len_at_least c.as_slice-other.result.now c.as_slice-other.ensures.value)
+    (first_seen c.in_ok-ones.ones.items c.index.result.now c.index.ensures (plan.first_there c.self.invariant c.self.view_is c.args.n c.args.g c.requires c.in_ok-ones.ones.items (c.in_ok-ones.ensures ∙ ap (λ s. (feature_at s.doc c.args.n).polygons) c.self.view_is)) c.as_slice-one.result.now c.as_slice-one.ensures.value)
+    (first_seen c.in_ok-others.others.items c.index-2.result.now c.index-2.ensures (plan.second_there c.self.invariant c.self.view_is c.args.n c.args.g c.requires c.in_ok-others.others.items (c.in_ok-others.ensures ∙ ap (λ s. (feature_at s.doc c.args.g).polygons) c.self.view_is)) c.as_slice-other.result.now c.as_slice-other.ensures.value)
     (rings_seen c.as_slice-rings.result.now) (ap rings_seen c.as_slice-rings.ensures.value ∙ c.in_ok-rings.ensures)
 
 pub join_features-requires-clause-proper : goal.join_features-requires-clause-proper
 join_features-requires-clause-proper g c =
-    plan.joined_proper c.self.invariant c.self.view_is c.args.n c.args.g c.requires (polygons_seen c.as_slice.result.now) (polygons_seen c.as_slice-2.result.now)
-    (ap polygons_seen c.as_slice.ensures.value ∙ c.in_ok-ones.ensures ∙ ap (λ s. (feature_at s.doc c.args.n).polygons) c.self.view_is)
-    (ap polygons_seen c.as_slice-2.ensures.value ∙ c.in_ok-others.ensures ∙ ap (λ s. (feature_at s.doc c.args.g).polygons) c.self.view_is)
+    plan.joined_proper c.self.invariant c.self.view_is c.args.n c.args.g c.requires (polygons_seen c.in_ok-ones.ones.items) (polygons_seen c.in_ok-others.others.items)
+    (c.in_ok-ones.ensures ∙ ap (λ s. (feature_at s.doc c.args.n).polygons) c.self.view_is)
+    (c.in_ok-others.ensures ∙ ap (λ s. (feature_at s.doc c.args.g).polygons) c.self.view_is)
     (rings_seen c.as_slice-one.result.now) (rings_seen c.as_slice-other.result.now)
-    (first_seen c.as_slice.result.now c.one-item.result c.one-item.is c.in-len1.len_at_least c.as_slice-one.result.now c.as_slice-one.ensures.value)
-    (first_seen c.as_slice-2.result.now c.other-item.result c.other-item.is c.in-len1-as_slice.len_at_least c.as_slice-other.result.now c.as_slice-other.ensures.value)
+    (first_seen c.in_ok-ones.ones.items c.index.result.now c.index.ensures (plan.first_there c.self.invariant c.self.view_is c.args.n c.args.g c.requires c.in_ok-ones.ones.items (c.in_ok-ones.ensures ∙ ap (λ s. (feature_at s.doc c.args.n).polygons) c.self.view_is)) c.as_slice-one.result.now c.as_slice-one.ensures.value)
+    (first_seen c.in_ok-others.others.items c.index-2.result.now c.index-2.ensures (plan.second_there c.self.invariant c.self.view_is c.args.n c.args.g c.requires c.in_ok-others.others.items (c.in_ok-others.ensures ∙ ap (λ s. (feature_at s.doc c.args.g).polygons) c.self.view_is)) c.as_slice-other.result.now c.as_slice-other.ensures.value)
     (rings_seen c.as_slice-rings.result.now) (ap rings_seen c.as_slice-rings.ensures.value ∙ c.in_ok-rings.ensures)
 
 pub join_features-requires-clause-small : goal.join_features-requires-clause-small
 join_features-requires-clause-small g c =
-    plan.joined_small c.self.invariant c.self.view_is c.args.n c.args.g c.requires (polygons_seen c.as_slice.result.now) (polygons_seen c.as_slice-2.result.now)
-    (ap polygons_seen c.as_slice.ensures.value ∙ c.in_ok-ones.ensures ∙ ap (λ s. (feature_at s.doc c.args.n).polygons) c.self.view_is)
-    (ap polygons_seen c.as_slice-2.ensures.value ∙ c.in_ok-others.ensures ∙ ap (λ s. (feature_at s.doc c.args.g).polygons) c.self.view_is)
+    plan.joined_small c.self.invariant c.self.view_is c.args.n c.args.g c.requires (polygons_seen c.in_ok-ones.ones.items) (polygons_seen c.in_ok-others.others.items)
+    (c.in_ok-ones.ensures ∙ ap (λ s. (feature_at s.doc c.args.n).polygons) c.self.view_is)
+    (c.in_ok-others.ensures ∙ ap (λ s. (feature_at s.doc c.args.g).polygons) c.self.view_is)
     (rings_seen c.as_slice-one.result.now) (rings_seen c.as_slice-other.result.now)
-    (first_seen c.as_slice.result.now c.one-item.result c.one-item.is c.in-len1.len_at_least c.as_slice-one.result.now c.as_slice-one.ensures.value)
-    (first_seen c.as_slice-2.result.now c.other-item.result c.other-item.is c.in-len1-as_slice.len_at_least c.as_slice-other.result.now c.as_slice-other.ensures.value)
+    (first_seen c.in_ok-ones.ones.items c.index.result.now c.index.ensures (plan.first_there c.self.invariant c.self.view_is c.args.n c.args.g c.requires c.in_ok-ones.ones.items (c.in_ok-ones.ensures ∙ ap (λ s. (feature_at s.doc c.args.n).polygons) c.self.view_is)) c.as_slice-one.result.now c.as_slice-one.ensures.value)
+    (first_seen c.in_ok-others.others.items c.index-2.result.now c.index-2.ensures (plan.second_there c.self.invariant c.self.view_is c.args.n c.args.g c.requires c.in_ok-others.others.items (c.in_ok-others.ensures ∙ ap (λ s. (feature_at s.doc c.args.g).polygons) c.self.view_is)) c.as_slice-other.result.now c.as_slice-other.ensures.value)
     (rings_seen c.as_slice-rings.result.now) (ap rings_seen c.as_slice-rings.ensures.value ∙ c.in_ok-rings.ensures)
 
 -- refused for want of memory: the document is as it was
@@ -75,39 +86,39 @@ invariant_of-self g c =
 
 pub overflow_sub-self : goal.overflow_sub-self
 overflow_sub-self g c =
-    plan.joined_left c.self.invariant c.self.view_is c.args.n c.args.g c.requires (polygons_seen c.as_slice.result.now) (polygons_seen c.as_slice-2.result.now)
-    (ap polygons_seen c.as_slice.ensures.value ∙ c.in_ok-ones.ensures ∙ ap (λ s. (feature_at s.doc c.args.n).polygons) c.self.view_is)
-    (ap polygons_seen c.as_slice-2.ensures.value ∙ c.in_ok-others.ensures ∙ ap (λ s. (feature_at s.doc c.args.g).polygons) c.self.view_is)
+    plan.joined_left c.self.invariant c.self.view_is c.args.n c.args.g c.requires (polygons_seen c.in_ok-ones.ones.items) (polygons_seen c.in_ok-others.others.items)
+    (c.in_ok-ones.ensures ∙ ap (λ s. (feature_at s.doc c.args.n).polygons) c.self.view_is)
+    (c.in_ok-others.ensures ∙ ap (λ s. (feature_at s.doc c.args.g).polygons) c.self.view_is)
     (rings_seen c.as_slice-one.result.now) (rings_seen c.as_slice-other.result.now)
-    (first_seen c.as_slice.result.now c.one-item.result c.one-item.is c.in-len1.len_at_least c.as_slice-one.result.now c.as_slice-one.ensures.value)
-    (first_seen c.as_slice-2.result.now c.other-item.result c.other-item.is c.in-len1-as_slice.len_at_least c.as_slice-other.result.now c.as_slice-other.ensures.value)
+    (first_seen c.in_ok-ones.ones.items c.index.result.now c.index.ensures (plan.first_there c.self.invariant c.self.view_is c.args.n c.args.g c.requires c.in_ok-ones.ones.items (c.in_ok-ones.ensures ∙ ap (λ s. (feature_at s.doc c.args.n).polygons) c.self.view_is)) c.as_slice-one.result.now c.as_slice-one.ensures.value)
+    (first_seen c.in_ok-others.others.items c.index-2.result.now c.index-2.ensures (plan.second_there c.self.invariant c.self.view_is c.args.n c.args.g c.requires c.in_ok-others.others.items (c.in_ok-others.ensures ∙ ap (λ s. (feature_at s.doc c.args.g).polygons) c.self.view_is)) c.as_slice-other.result.now c.as_slice-other.ensures.value)
     (rings_seen c.as_slice-rings.result.now) (ap rings_seen c.as_slice-rings.ensures.value ∙ c.in_ok-rings.ensures) c.count_left_out-left_out.result c.count_left_out-left_out.ensures
 
 pub invariant_of-self-2 : goal.invariant_of-self-2
 invariant_of-self-2 g c =
     kept_as (join c.args.self.now.doc c.args.n (feature_at c.args.self.now.doc c.args.g)) c.join_features.ensures.holds
-    (c.in_ok-join_features.ensures.joined ∙ plan.joined_is c.self.invariant c.self.view_is c.args.n c.args.g c.requires (polygons_seen c.as_slice.result.now) (polygons_seen c.as_slice-2.result.now)
-    (ap polygons_seen c.as_slice.ensures.value ∙ c.in_ok-ones.ensures ∙ ap (λ s. (feature_at s.doc c.args.n).polygons) c.self.view_is)
-    (ap polygons_seen c.as_slice-2.ensures.value ∙ c.in_ok-others.ensures ∙ ap (λ s. (feature_at s.doc c.args.g).polygons) c.self.view_is)
+    (c.in_ok-join_features.ensures.joined ∙ plan.joined_is c.self.invariant c.self.view_is c.args.n c.args.g c.requires (polygons_seen c.in_ok-ones.ones.items) (polygons_seen c.in_ok-others.others.items)
+    (c.in_ok-ones.ensures ∙ ap (λ s. (feature_at s.doc c.args.n).polygons) c.self.view_is)
+    (c.in_ok-others.ensures ∙ ap (λ s. (feature_at s.doc c.args.g).polygons) c.self.view_is)
     (rings_seen c.as_slice-one.result.now) (rings_seen c.as_slice-other.result.now)
-    (first_seen c.as_slice.result.now c.one-item.result c.one-item.is c.in-len1.len_at_least c.as_slice-one.result.now c.as_slice-one.ensures.value)
-    (first_seen c.as_slice-2.result.now c.other-item.result c.other-item.is c.in-len1-as_slice.len_at_least c.as_slice-other.result.now c.as_slice-other.ensures.value)
+    (first_seen c.in_ok-ones.ones.items c.index.result.now c.index.ensures (plan.first_there c.self.invariant c.self.view_is c.args.n c.args.g c.requires c.in_ok-ones.ones.items (c.in_ok-ones.ensures ∙ ap (λ s. (feature_at s.doc c.args.n).polygons) c.self.view_is)) c.as_slice-one.result.now c.as_slice-one.ensures.value)
+    (first_seen c.in_ok-others.others.items c.index-2.result.now c.index-2.ensures (plan.second_there c.self.invariant c.self.view_is c.args.n c.args.g c.requires c.in_ok-others.others.items (c.in_ok-others.ensures ∙ ap (λ s. (feature_at s.doc c.args.g).polygons) c.self.view_is)) c.as_slice-other.result.now c.as_slice-other.ensures.value)
     (rings_seen c.as_slice-rings.result.now) (ap rings_seen c.as_slice-rings.ensures.value ∙ c.in_ok-rings.ensures))
-    (plan.joined_sized c.self.invariant c.self.view_is c.args.n c.args.g c.requires (polygons_seen c.as_slice.result.now) (polygons_seen c.as_slice-2.result.now)
-    (ap polygons_seen c.as_slice.ensures.value ∙ c.in_ok-ones.ensures ∙ ap (λ s. (feature_at s.doc c.args.n).polygons) c.self.view_is)
-    (ap polygons_seen c.as_slice-2.ensures.value ∙ c.in_ok-others.ensures ∙ ap (λ s. (feature_at s.doc c.args.g).polygons) c.self.view_is)
+    (plan.joined_sized c.self.invariant c.self.view_is c.args.n c.args.g c.requires (polygons_seen c.in_ok-ones.ones.items) (polygons_seen c.in_ok-others.others.items)
+    (c.in_ok-ones.ensures ∙ ap (λ s. (feature_at s.doc c.args.n).polygons) c.self.view_is)
+    (c.in_ok-others.ensures ∙ ap (λ s. (feature_at s.doc c.args.g).polygons) c.self.view_is)
     (rings_seen c.as_slice-one.result.now) (rings_seen c.as_slice-other.result.now)
-    (first_seen c.as_slice.result.now c.one-item.result c.one-item.is c.in-len1.len_at_least c.as_slice-one.result.now c.as_slice-one.ensures.value)
-    (first_seen c.as_slice-2.result.now c.other-item.result c.other-item.is c.in-len1-as_slice.len_at_least c.as_slice-other.result.now c.as_slice-other.ensures.value)
+    (first_seen c.in_ok-ones.ones.items c.index.result.now c.index.ensures (plan.first_there c.self.invariant c.self.view_is c.args.n c.args.g c.requires c.in_ok-ones.ones.items (c.in_ok-ones.ensures ∙ ap (λ s. (feature_at s.doc c.args.n).polygons) c.self.view_is)) c.as_slice-one.result.now c.as_slice-one.ensures.value)
+    (first_seen c.in_ok-others.others.items c.index-2.result.now c.index-2.ensures (plan.second_there c.self.invariant c.self.view_is c.args.n c.args.g c.requires c.in_ok-others.others.items (c.in_ok-others.ensures ∙ ap (λ s. (feature_at s.doc c.args.g).polygons) c.self.view_is)) c.as_slice-other.result.now c.as_slice-other.ensures.value)
     (rings_seen c.as_slice-rings.result.now) (ap rings_seen c.as_slice-rings.ensures.value ∙ c.in_ok-rings.ensures) c.count_left_out-left_out.result c.count_left_out-left_out.ensures)
     c.join_features.ensures.counted
 
 pub returns-clause-merged : goal.returns-clause-merged
 returns-clause-merged g c =
-    c.in_ok-join_features.ensures.joined ∙ plan.joined_is c.self.invariant c.self.view_is c.args.n c.args.g c.requires (polygons_seen c.as_slice.result.now) (polygons_seen c.as_slice-2.result.now)
-    (ap polygons_seen c.as_slice.ensures.value ∙ c.in_ok-ones.ensures ∙ ap (λ s. (feature_at s.doc c.args.n).polygons) c.self.view_is)
-    (ap polygons_seen c.as_slice-2.ensures.value ∙ c.in_ok-others.ensures ∙ ap (λ s. (feature_at s.doc c.args.g).polygons) c.self.view_is)
+    c.in_ok-join_features.ensures.joined ∙ plan.joined_is c.self.invariant c.self.view_is c.args.n c.args.g c.requires (polygons_seen c.in_ok-ones.ones.items) (polygons_seen c.in_ok-others.others.items)
+    (c.in_ok-ones.ensures ∙ ap (λ s. (feature_at s.doc c.args.n).polygons) c.self.view_is)
+    (c.in_ok-others.ensures ∙ ap (λ s. (feature_at s.doc c.args.g).polygons) c.self.view_is)
     (rings_seen c.as_slice-one.result.now) (rings_seen c.as_slice-other.result.now)
-    (first_seen c.as_slice.result.now c.one-item.result c.one-item.is c.in-len1.len_at_least c.as_slice-one.result.now c.as_slice-one.ensures.value)
-    (first_seen c.as_slice-2.result.now c.other-item.result c.other-item.is c.in-len1-as_slice.len_at_least c.as_slice-other.result.now c.as_slice-other.ensures.value)
+    (first_seen c.in_ok-ones.ones.items c.index.result.now c.index.ensures (plan.first_there c.self.invariant c.self.view_is c.args.n c.args.g c.requires c.in_ok-ones.ones.items (c.in_ok-ones.ensures ∙ ap (λ s. (feature_at s.doc c.args.n).polygons) c.self.view_is)) c.as_slice-one.result.now c.as_slice-one.ensures.value)
+    (first_seen c.in_ok-others.others.items c.index-2.result.now c.index-2.ensures (plan.second_there c.self.invariant c.self.view_is c.args.n c.args.g c.requires c.in_ok-others.others.items (c.in_ok-others.ensures ∙ ap (λ s. (feature_at s.doc c.args.g).polygons) c.self.view_is)) c.as_slice-other.result.now c.as_slice-other.ensures.value)
     (rings_seen c.as_slice-rings.result.now) (ap rings_seen c.as_slice-rings.ensures.value ∙ c.in_ok-rings.ensures)

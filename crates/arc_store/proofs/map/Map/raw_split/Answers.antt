@@ -1,4 +1,4 @@
-use Rattle.std.proofs.Common.{ap₂, ◌≡◌, ◌≤◌, ◌+◌, sym, ap, ◌∙◌, subst, map, length, get_or, arith}
+use Rattle.std.proofs.Common.{ap₂, ◌≤◌, ◌+◌, sym, ap, ◌∙◌, subst, map, length, get_or, arith}
 use Rattle.std.specs.List.{list_any}
 use Rattle.std.proofs.lemmas.Bool.{false≢true}
 use Rattle.std.proofs.lemmas.Result.{err_from_is_err_and}
