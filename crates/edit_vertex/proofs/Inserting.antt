@@ -2,10 +2,9 @@
 use Rattle.std.proofs.Common.{◌≡◌, ◌+◌, ◌-◌, ◌<◌, ◌≤◌, Bool, true, false, refl, sym, ap, ap₂, ◌∙◌, subst}
 use Rattle.std.proofs.Common.{ℕ, List, [], ◌∷◌, length, Option, Some, inl, inr, arith}
 use Rattle.std.specs.Prelude.{not, nat_lt}
-use Rattle.std.specs.List.{list_any}
 use Rattle.std.proofs.lemmas.Bool.{false≢true}
 use Rattle.grid_geometry.specs.Position.{Position, position_eq}
-use Rattle.grid_geometry.specs.Segment.{Segment, segment, segment_eq}
+use Rattle.grid_geometry.specs.Segment.{Segment, segment}
 use Rattle.grid_geometry.specs.Ring.{Edge, edges}
 use Rattle.ring_machine.specs.Ring.{has, is_ring, is_distinct, segment_of}
 use Rattle.ring_machine.specs.Document.{Document}
@@ -16,7 +15,7 @@ use Rattle.ring_machine.specs.Sweep.{insert_sweeps}
 use Rattle.ring_machine.specs.Command.{Refusal, NoSegment, Occupied, TooLarge, Sweeps}
 use Rattle.ring_machine.specs.Refusals.{◌unless◌, first_of, planar, is_small, insert_refusals}
 use Rattle.ring_machine.proofs.Arcs.{is_of}
-use Rattle.ring_machine.proofs.Edges.{edges_to, edges_is, first_or}
+use Rattle.ring_machine.proofs.Edges.{edges_to, edges_is}
 use Rattle.ring_machine.proofs.First.{In}
 use Rattle.ring_machine.proofs.Neighbours.{all_in}
 use Rattle.ring_machine.proofs.Order.{and_both, position_eq-refl}

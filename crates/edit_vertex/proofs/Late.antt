@@ -1,5 +1,5 @@
 -- An edit that passes the conditions before planarity is refused by a later one.
-use Rattle.std.proofs.Common.{◌≡◌, Bool, true, false, refl, sym, ap, ◌∙◌, List, [], ◌∷◌, Option, None, Some}
+use Rattle.std.proofs.Common.{◌≡◌, Bool, true, false, refl, sym, ap, ◌∙◌, [], ◌∷◌, Option, None, Some}
 use Rattle.std.proofs.lemmas.Bool.{false≢true}
 use Rattle.grid_geometry.specs.Segment.{Segment}
 use Rattle.ring_machine.specs.Command.{Refusal, Sweeps, Conflict}

@@ -1,6 +1,6 @@
 -- What a removal is refused by, from what stands around the vertex.
 use Rattle.std.proofs.Common.{◌≡◌, ◌<◌, ◌≤◌, ℕ, Bool, true, false, refl, sym, ap, ap₂, ◌∙◌, subst, cond}
-use Rattle.std.proofs.Common.{List, [], ◌∷◌, length, ◌||◌, Option, Some, Contains, arith}
+use Rattle.std.proofs.Common.{List, [], ◌∷◌, length, ◌||◌, Option, Some, arith}
 use Rattle.std.specs.Prelude.{not, nat_lt}
 use Rattle.std.specs.Ordering.{is_lt, is_gt}
 use Rattle.std.specs.declared.cmp.Ordering.{Ordering}

@@ -13,6 +13,3 @@ pub use area::{NoFeature, area2_of};
 pub use inside::at;
 pub use numbers::{At, Numbers};
 pub use sharing::{QueryFault, neighbours};
-
-#[cfg(test)]
-mod tests;

@@ -1,5 +1,5 @@
 -- The first refusal of two groups of conditions, the one after the other.
-use Rattle.std.proofs.Common.{◌≡◌, ◌++◌, Bool, true, false, refl, sym, ap, ◌∙◌, subst, List, [], ◌∷◌, Option, None, Some}
+use Rattle.std.proofs.Common.{◌≡◌, ◌++◌, Bool, true, false, refl, sym, subst, List, [], ◌∷◌, Option, None, Some}
 use Rattle.std.specs.Prelude.{Result, IfErr}
 use Rattle.std.proofs.lemmas.Result.{IfErr-weaker}
 use Rattle.ring_machine.specs.Command.{Refusal}

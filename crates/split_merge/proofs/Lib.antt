@@ -1,4 +1,3 @@
-pub mod JsonStrings
 pub mod FirstRefusal
 pub mod SplitConditions
 pub mod RingConditions

@@ -1,5 +1,5 @@
 -- The segments along a path, and those of the map.
-use Rattle.std.proofs.Common.{◌≡◌, ℕ, zero, suc, ◌+◌, ◌<◌, ◌≤◌, Bool, true, false, refl, sym, ap, ap₂, ◌∙◌, cond, List, [], ◌∷◌, ◌||◌, length, drop, get_or, drop_of_length-le, inl, arith}
+use Rattle.std.proofs.Common.{◌≡◌, ℕ, suc, ◌+◌, ◌<◌, ◌≤◌, Bool, true, false, refl, sym, ap, ◌∙◌, cond, List, [], ◌∷◌, ◌||◌, length, drop, get_or, drop_of_length-le, arith}
 use Rattle.std.specs.Prelude.{nat_lt}
 use Rattle.std.specs.List.{list_any, filter}
 use Rattle.std.proofs.lemmas.Bool.Decides.{nat_tests}
@@ -7,10 +7,8 @@ use Rattle.std.proofs.lemmas.List.{at_drop_more}
 use Rattle.grid_geometry.specs.Position.{Position}
 use Rattle.grid_geometry.specs.Segment.{Segment}
 use Rattle.grid_geometry.specs.Ring.{Edge, links}
-use Rattle.ring_machine.specs.Ring.{is_distinct}
 use Rattle.ring_machine.specs.Document.{Document}
 use Rattle.ring_machine.specs.Parts.{rings, is_segment}
-use Rattle.ring_machine.proofs.Distinct.{first_once, distinct_rest}
 use Rattle.arc_store.specs.Spots.{users}
 use Rattle.arc_store.proofs.Insertions.{has_segment, is_segment_by}
 
@@ -36,32 +34,20 @@ segment_used d s = kept_any (has_segment s) (rings d) ∙ sym (is_segment_by d s
 
 -- ---- along a path
 
-module _ (from to : Position) (rest : List Position) (i : ℕ) (l : i < length rest) (e : to ≡ get_or rest i to) where
+module _ (from to : Position) (rest : List Position) (i : ℕ) (l : i < length rest) (e : to ≡ get_or rest i to) (test : Edge → Bool) where
   -- what is left begins with the next position
-  next_of : {X : Type 0} (of : List Position → X) → of (drop i rest) ≡ of (to ∷ drop (i + 1) rest)
-  next_of of = at_drop_more of rest i to l ∙ ap (λ t. of (t ∷ drop (i + 1) rest)) (sym e)
+  along : list_any test (links (from ∷ drop i rest))
+      ≡ (test (from, to) || list_any test (links (to ∷ drop (i + 1) rest)))
+  along =
+      at_drop_more (λ ps. list_any test (links (from ∷ ps))) rest i to l
+      ∙ ap (λ t. list_any test (links (from ∷ t ∷ drop (i + 1) rest))) (sym e)
 
-  -- two that follow each other differ
-  pub next_differs : is_distinct (from ∷ drop i rest) ≡ true → from ≡ to → ⊥
-  next_differs h same =
-      first_once from (to ∷ drop (i + 1) rest) (sym (next_of (λ ps. is_distinct (from ∷ ps))) ∙ h) (inl (sym same))
+  pub none_here : test (from, to) ≡ false
+      → list_any test (links (to ∷ drop (i + 1) rest)) ≡ list_any test (links (from ∷ drop i rest))
+  none_here h = sym (along ∙ ap (λ b. b || list_any test (links (to ∷ drop (i + 1) rest))) h)
 
-  pub rest_distinct : is_distinct (from ∷ drop i rest) ≡ true
-      → is_distinct (to ∷ drop (i + 1) rest) ≡ true
-  rest_distinct h =
-      distinct_rest from (to ∷ drop (i + 1) rest) (sym (next_of (λ ps. is_distinct (from ∷ ps))) ∙ h)
-
-  module _ (test : Edge → Bool) where
-    along : list_any test (links (from ∷ drop i rest))
-        ≡ (test (from, to) || list_any test (links (to ∷ drop (i + 1) rest)))
-    along = next_of (λ ps. list_any test (links (from ∷ ps)))
-
-    pub none_here : test (from, to) ≡ false
-        → list_any test (links (to ∷ drop (i + 1) rest)) ≡ list_any test (links (from ∷ drop i rest))
-    none_here h = sym (along ∙ ap (λ b. b || list_any test (links (to ∷ drop (i + 1) rest))) h)
-
-    pub one_here : test (from, to) ≡ true → list_any test (links (from ∷ drop i rest)) ≡ true
-    one_here h = along ∙ ap (λ b. b || list_any test (links (to ∷ drop (i + 1) rest))) h
+  pub one_here : test (from, to) ≡ true → list_any test (links (from ∷ drop i rest)) ≡ true
+  one_here h = along ∙ ap (λ b. b || list_any test (links (to ∷ drop (i + 1) rest))) h
 
 pub none_left : (test : Edge → Bool) (from : Position) (rest : List Position) (i : ℕ)
     → length rest ≤ i → list_any test (links (from ∷ drop i rest)) ≡ false

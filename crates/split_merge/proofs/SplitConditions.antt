@@ -19,7 +19,7 @@ use Rattle.ring_machine.proofs.Found.{has_feature-found}
 use Rattle.ring_machine.proofs.Members.{in_any}
 use Rattle.ring_machine.proofs.Removal.{not_true}
 use Rattle.ring_machine.proofs.SplitLaws.{are_below, split_areas}
-use Rattle.split_merge.specs.Conditions.{place_refusals, path_refusals, early_refusals}
+use Rattle.split_merge.specs.Conditions.{early_refusals}
 use Rattle.split_merge.proofs.FirstRefusal.{passes}
 
 -- what is asked of a split after that

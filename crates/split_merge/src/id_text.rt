@@ -2,7 +2,7 @@ ghost use Rattle.std.specs.Prelude.{◌≡◌, [], ◌∷◌, IfOk};
 ghost use Rattle.json.specs.Print.{print};
 ghost use Rattle.json.specs.Token.{string};
 ghost use Rattle.topo_outline.specs.Kept.{IsJson};
-ghost use Rattle.split_merge.specs.Ids.{id_json};
+ghost use Rattle.map_text.specs.Strings.{string_text};
 
 use arc_store::IdText;
 use json::Writer;
@@ -20,7 +20,7 @@ fn printed<A: Allocator + Copy>(alloc: A, text: &str) -> Result<Vec<u8, A>, Allo
 /// The JSON string of an id's text, as `serde_json` writes it (RFC 8259, 7): only quotation marks,
 /// backslashes and control characters are escaped, each as briefly as can be.
 pub(crate) fn json_string<A: Allocator + Copy>(id: &IdText<A>) -> Result<Vec<u8, A>, AllocError>
-    ensures text { IfOk result (λ json. json.items ≡ id_json id.now) }
+    ensures text { IfOk result (λ json. json.items ≡ string_text id.now) }
     ensures json { IfOk result (λ json. IsJson json.items) }
 {
     printed(*id.0.allocator(), id.0.as_str())

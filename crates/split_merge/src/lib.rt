@@ -15,6 +15,3 @@ pub use deleting::delete;
 pub use merging::merge;
 pub use renaming::rename;
 pub use splitting::split;
-
-#[cfg(test)]
-mod tests;

@@ -2,7 +2,7 @@ ghost use Rattle.std.specs.Prelude.{◌≡◌, None, OnOk, OnErr, IfErr};
 ghost use Rattle.ring_machine.specs.Machine.{renamed};
 ghost use Rattle.ring_machine.specs.Refusals.{first_of, feature_refusals};
 ghost use Rattle.arc_store.specs.Faults.{Refuses};
-ghost use Rattle.split_merge.specs.Ids.{id_json};
+ghost use Rattle.map_text.specs.Strings.{string_text};
 
 use crate::id_text::json_string;
 use arc_store::{EditFault, IdText, Map};
@@ -16,7 +16,7 @@ pub fn rename<'a, I: SegIndex, A: Allocator + Copy>(
     id: IdText<A>,
 ) -> Result<(), EditFault>
     ensures accepted { OnOk result (first_of (feature_refusals map.old.doc f) ≡ None) }
-    ensures renamed { OnOk result (map.new.doc ≡ renamed map.old.doc f (id_json id)) }
+    ensures renamed { OnOk result (map.new.doc ≡ renamed map.old.doc f (string_text id)) }
     ensures refused { IfErr result
         (λ fault. Refuses fault (first_of (feature_refusals map.old.doc f))) }
     ensures unchanged { OnErr result (map.new.doc ≡ map.old.doc) }

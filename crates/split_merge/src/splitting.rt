@@ -8,7 +8,7 @@ ghost use Rattle.segment_index.specs.Times.{times_by};
 ghost use Rattle.local_planarity.specs.Tests.{most_for};
 ghost use Rattle.arc_store.specs.Faults.{Refuses};
 ghost use Rattle.split_merge.specs.Conditions.{place_refusals, early_refusals};
-ghost use Rattle.split_merge.specs.Ids.{id_json};
+ghost use Rattle.map_text.specs.Strings.{string_text};
 
 use crate::id_text::json_string;
 use crate::path_way::check_path;
@@ -86,18 +86,18 @@ fn split_now<'a, I: SegIndex, A: Allocator + Copy>(
     requires long { 2 ≤ length positions.now }
     requires short { length positions.now ≤ 256 }
     ensures accepted { OnOk result
-        (first_of (split_refusals map.old.doc map.old.next f (id_json id.now) (path_of positions.now))
+        (first_of (split_refusals map.old.doc map.old.next f (string_text id.now) (path_of positions.now))
         ≡ None) }
     ensures made { IfOk result (λ made. made ≡ map.old.next) }
     ensures split { OnOk result
-        (map.new.doc ≡ cut map.old.doc f (id_json id.now) (path_of positions.now) map.old.next) }
+        (map.new.doc ≡ cut map.old.doc f (string_text id.now) (path_of positions.now) map.old.next) }
     ensures next { OnOk result (map.new.next ≡ map.old.next + 1) }
     ensures refused { IfErr result (λ fault. Refuses fault
-        (first_of (split_refusals map.old.doc map.old.next f (id_json id.now) (path_of positions.now)))) }
+        (first_of (split_refusals map.old.doc map.old.next f (string_text id.now) (path_of positions.now)))) }
     ensures unchanged { OnErr result (map.new.doc ≡ map.old.doc) }
     ensures still { OnErr result (map.new.next ≡ map.old.next) }
     ensures few { map.new.tests ≤ map.old.tests + most_for (times_by map.old.cells) map.old.doc
-        (cut map.old.doc f (id_json id.now) (path_of positions.now) map.old.next) }
+        (cut map.old.doc f (string_text id.now) (path_of positions.now) map.old.next) }
     ensures cells { map.new.cells ≡ map.old.cells }
 {
     if let Err(fault) = check_split(map, f, positions) {
@@ -121,20 +121,20 @@ pub fn split<'a, I: SegIndex, A: Allocator + Copy>(
     requires long { 2 ≤ length path }
     requires short { length path ≤ 256 }
     ensures accepted { OnOk result
-        (first_of (split_refusals map.old.doc map.old.next f (id_json id) (path_of path)) ≡ None) }
+        (first_of (split_refusals map.old.doc map.old.next f (string_text id) (path_of path)) ≡ None) }
     ensures made { IfOk result (λ made. made ≡ map.old.next) }
     ensures split { OnOk result
-        (map.new.doc ≡ cut map.old.doc f (id_json id) (path_of path) map.old.next) }
+        (map.new.doc ≡ cut map.old.doc f (string_text id) (path_of path) map.old.next) }
     ensures next { OnOk result (map.new.next ≡ map.old.next + 1) }
     ensures areas { IfOk result (λ made.
         area_of (feature_at map.new.doc f) +ℤ area_of (feature_at map.new.doc made)
         ≡ area_of (feature_at map.old.doc f)) }
     ensures refused { IfErr result (λ fault. Refuses fault
-        (first_of (split_refusals map.old.doc map.old.next f (id_json id) (path_of path)))) }
+        (first_of (split_refusals map.old.doc map.old.next f (string_text id) (path_of path)))) }
     ensures unchanged { OnErr result (map.new.doc ≡ map.old.doc) }
     ensures still { OnErr result (map.new.next ≡ map.old.next) }
     ensures few { map.new.tests ≤ most_for (times_by map.old.cells) map.old.doc
-        (cut map.old.doc f (id_json id) (path_of path) map.old.next) }
+        (cut map.old.doc f (string_text id) (path_of path) map.old.next) }
     ensures cells { map.new.cells ≡ map.old.cells }
 {
     map.begin_edit();

@@ -1,7 +1,7 @@
 //! Copies of a map: an edit of one leaves the map as it was, and so does a copy whose growth is
 //! refused.
 use crate::compared::{Edit, answer, at, has_rings, plain_map};
-use crate::refusals::{MANY, Outcome, THREE, counts_of, refused_map, stays};
+use crate::refusals::{MANY, THREE, counts_of, first_growth, refused_map, stays};
 use arc_store::Map;
 use plain_rings::PlainMap;
 use refusing_allocator::Refusing;
@@ -27,7 +27,19 @@ fn edit_a_copy<R: Abort, I: SegIndex, A: Allocator + Copy>(
     stays(rt, alloc, map, before, &counts)
 }
 
-/// A copy whose growth of this number is refused, and another one, for which there is memory.
+/// What came of a copy where a growth was refused.
+#[derive(Clone, Copy, Debug, PartialEq, Eq)]
+enum Outcome {
+    /// It was one of the edit that comes before.
+    NoEdit,
+    /// The copy was refused.
+    Refused,
+    /// No growth was refused.
+    Usual,
+}
+
+/// A copy whose growth of this number is refused, one after the opening, and another one, for which
+/// there is memory.
 fn refuse_a_copy<R: Abort>(
     rt: &R,
     alloc: Global,
@@ -37,11 +49,12 @@ fn refuse_a_copy<R: Abort>(
 ) -> Result<Outcome, Fail> {
     let heap = Refusing::new(alloc, nth);
     let Some(mut map) = refused_map(&heap, alloc, THREE) else {
-        return Ok(Outcome::NoMap);
+        panic!(rt; "it opens before that growth");
     };
     let moved = answer(&mut map, Edit::Move(at(rt, 10, 0), at(rt, 11, 1)));
-    if moved.is_err() || heap.was_refused() {
-        return Ok(Outcome::NoMap);
+    if moved.is_err() {
+        assert!(rt; heap.was_refused());
+        return Ok(Outcome::NoEdit);
     }
     let counts = counts_of(alloc, &map, before)?;
     if map.copy().is_ok() {
@@ -54,17 +67,19 @@ fn refuse_a_copy<R: Abort>(
     Ok(Outcome::Refused)
 }
 
-/// Copies of the map, with each growth refused in turn. Gives how many were.
+/// Copies of the map, with each growth after the opening refused in turn. Gives how many of a copy
+/// were.
 fn refuse_each_copy<R: Abort>(
     rt: &R,
     alloc: Global,
     before: &PlainMap<'_>,
     after: &PlainMap<'_>,
 ) -> Result<u64, Fail> {
+    let first = first_growth(rt, alloc, THREE);
     let mut refused = 0u64;
-    for nth in 1..MANY {
-        match refuse_a_copy(rt, alloc, before, after, nth)? {
-            Outcome::NoMap => (),
+    for count in 0..MANY {
+        match refuse_a_copy(rt, alloc, before, after, first.saturating_add(count))? {
+            Outcome::NoEdit => (),
             Outcome::Refused => refused = refused.wrapping_add(1),
             Outcome::Usual => return Ok(refused),
         }

@@ -1,5 +1,5 @@
-//! Tests of the store: the same edits beside those of plain rings, growths that are refused, how arcs
-//! are cut, and how few pairs of segments an edit tests.
+//! Tests of the store: the same edits beside those of plain rings, growths that are refused, edits of
+//! features, how few pairs of segments an edit tests, and what is asked of a map.
 #![tactic(auto)]
 
 #[cfg(test)]
@@ -11,18 +11,14 @@ mod copies;
 #[cfg(test)]
 mod counted;
 #[cfg(test)]
-mod cuts;
-#[cfg(test)]
-mod indexes;
+mod features;
 #[cfg(test)]
 mod made;
 #[cfg(test)]
 mod opened;
 #[cfg(test)]
+mod queries;
+#[cfg(test)]
 mod refusals;
 #[cfg(test)]
-mod refused_calls;
-#[cfg(test)]
-mod shared;
-#[cfg(test)]
-mod squares;
+mod refused_features;

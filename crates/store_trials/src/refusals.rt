@@ -75,15 +75,18 @@ pub(crate) fn refused_map<A: Allocator + Copy>(
     }
 }
 
-/// What an edit did whose growth of some number was refused.
-#[derive(Clone, Copy, Debug, PartialEq, Eq)]
-pub(crate) enum Outcome {
-    /// There was no map to edit.
-    NoMap,
-    /// The edit was refused for want of memory.
-    Refused,
-    /// No growth was refused.
-    Usual,
+/// The number of the first growth after the opening of the text. Each one before is refused in turn,
+/// and then there is no map.
+pub(crate) fn first_growth<R: Abort>(rt: &R, alloc: Global, text: &'static str) -> u64 {
+    for nth in 1..MANY {
+        let heap = Refusing::new(alloc, nth);
+        let opened = refused_map(&heap, alloc, text).is_some();
+        assert!(rt; opened != heap.was_refused());
+        if opened {
+            return nth;
+        }
+    }
+    panic!(rt; "the opening ends");
 }
 
 /// What a map has beside its rings.
@@ -124,7 +127,8 @@ pub(crate) fn stays<R: Abort, I: SegIndex, A: Allocator + Copy>(
     Ok(())
 }
 
-/// The edit of a map whose memory is refused once, and its usual answer when it is made again.
+/// The edit of a map whose memory is refused once, and its usual answer when it is made again. Gives
+/// whether it was refused.
 fn edit_twice<R: Abort, I: SegIndex, A: Allocator + Copy>(
     rt: &R,
     alloc: Global,
@@ -132,21 +136,22 @@ fn edit_twice<R: Abort, I: SegIndex, A: Allocator + Copy>(
     edit: &Edit,
     before: &PlainMap<'_>,
     usual: u64,
-) -> Result<Outcome, Fail> {
+) -> Result<bool, Fail> {
     let counts = counts_of(alloc, map, before)?;
     match answer(map, *edit) {
-        Ok(_) => Ok(Outcome::Usual),
+        Ok(_) => Ok(false),
         Err(EditFault::OutOfMemory) => {
             stays(rt, alloc, map, before, &counts)?;
             let again = answer(map, *edit);
             assert_eq!(rt; again, Ok(usual));
-            Ok(Outcome::Refused)
+            Ok(true)
         }
         Err(_) => panic!(rt; "no other refusal"),
     }
 }
 
-/// The edit, where the growth of this number is refused.
+/// The edit, where the growth of this number is refused, one after the opening. Gives whether there
+/// is such a growth.
 fn refuse<R: Abort>(
     rt: &R,
     alloc: Global,
@@ -155,24 +160,21 @@ fn refuse<R: Abort>(
     after: &PlainMap<'_>,
     usual: u64,
     nth: u64,
-) -> Result<Outcome, Fail> {
+) -> Result<bool, Fail> {
     let heap = Refusing::new(alloc, nth);
     let Some(mut map) = refused_map(&heap, alloc, THREE) else {
-        return Ok(Outcome::NoMap);
+        panic!(rt; "it opens before that growth");
     };
-    if heap.was_refused() {
-        return Ok(Outcome::NoMap);
-    }
-    let outcome = edit_twice(rt, alloc, &mut map, edit, before, usual)?;
-    assert!(rt; heap.was_refused() == (outcome == Outcome::Refused));
+    let refused = edit_twice(rt, alloc, &mut map, edit, before, usual)?;
+    assert!(rt; heap.was_refused() == refused);
     assert!(rt;
         has_rings(&map, after.polygons()),
         "{edit:?} with growth {nth} refused once"
     );
-    Ok(outcome)
+    Ok(refused)
 }
 
-/// The edit, with each growth refused in turn. Gives how many were.
+/// The edit, with each growth from this one on refused in turn. Gives how many were.
 fn refuse_each<R: Abort>(
     rt: &R,
     alloc: Global,
@@ -180,13 +182,12 @@ fn refuse_each<R: Abort>(
     before: &PlainMap<'_>,
     after: &PlainMap<'_>,
     usual: u64,
+    first: u64,
 ) -> Result<u64, Fail> {
-    let mut refused = 0u64;
-    for nth in 1..MANY {
-        match refuse(rt, alloc, edit, before, after, usual, nth)? {
-            Outcome::NoMap => (),
-            Outcome::Refused => refused = refused.wrapping_add(1),
-            Outcome::Usual => return Ok(refused),
+    for count in 0..MANY {
+        let nth = first.saturating_add(count);
+        if !refuse(rt, alloc, edit, before, after, usual, nth)? {
+            return Ok(count);
         }
     }
     panic!(rt; "the edit ends");
@@ -206,14 +207,15 @@ fn plain_answer(plain: &mut PlainMap<'_>, edit: &Edit) -> Option<u64> {
     }
 }
 
-/// The edit is accepted, and each growth of it refused in turn.
-fn refuse_edit<R: Abort>(rt: &R, alloc: Global, edit: &Edit) -> Result<(), Fail> {
+/// The edit is accepted, and each growth of it refused in turn, from the first one after the opening
+/// on.
+fn refuse_edit<R: Abort>(rt: &R, alloc: Global, edit: &Edit, first: u64) -> Result<(), Fail> {
     let before = plain_map(rt, alloc, THREE);
     let mut after = plain_map(rt, alloc, THREE);
     let Some(usual) = plain_answer(&mut after, edit) else {
         panic!(rt; "the edit is accepted");
     };
-    let refused = refuse_each(rt, alloc, edit, &before, &after, usual)?;
+    let refused = refuse_each(rt, alloc, edit, &before, &after, usual, first)?;
     assert!(rt; 3 < refused);
     Ok(())
 }
@@ -223,10 +225,11 @@ fn a_refused_growth_changes_nothing(rt: HostRuntime) -> Result<(), Fail> {
     let alloc = rt.alloc();
     let (corner, middle) = (at(&rt, 10, 0), at(&rt, 10, 5));
     let new = at(&rt, 12, 2);
-    refuse_edit(&rt, alloc, &Edit::Move(corner, new))?;
-    refuse_edit(&rt, alloc, &Edit::Insert(corner, middle, new))?;
-    refuse_edit(&rt, alloc, &Edit::Remove(middle))?;
-    refuse_edit(&rt, alloc, &Edit::Thin(0))
+    let first = first_growth(&rt, alloc, THREE);
+    refuse_edit(&rt, alloc, &Edit::Move(corner, new), first)?;
+    refuse_edit(&rt, alloc, &Edit::Insert(corner, middle, new), first)?;
+    refuse_edit(&rt, alloc, &Edit::Remove(middle), first)?;
+    refuse_edit(&rt, alloc, &Edit::Thin(0), first)
 }
 
 /// A thinning of a map whose memory may be refused once: how many vertices had gone when it was;
@@ -248,13 +251,12 @@ fn thin_twice<R: Abort, I: SegIndex, A: Allocator + Copy>(
     Some(gone)
 }
 
-/// A thinning whose growth of this number is refused; `None` too where there was no map.
+/// A thinning whose growth of this number is refused, one after the opening.
 fn cut_short<R: Abort>(rt: &R, alloc: Global, after: &PlainMap<'_>, nth: u64) -> Option<usize> {
     let heap = Refusing::new(alloc, nth);
-    let mut map = refused_map(&heap, alloc, TWO)?;
-    if heap.was_refused() {
-        return None;
-    }
+    let Some(mut map) = refused_map(&heap, alloc, TWO) else {
+        panic!(rt; "it opens before that growth");
+    };
     thin_twice(rt, &mut map, after)
 }
 
@@ -263,12 +265,14 @@ fn a_thinning_keeps_what_it_left_out(rt: HostRuntime) -> Result<(), Fail> {
     let alloc = rt.alloc();
     let mut after = plain_map(&rt, alloc, TWO);
     assert_eq!(rt; plain_answer(&mut after, &Edit::Thin(100)), Some(2));
+    let first = first_growth(&rt, alloc, TWO);
     let (mut none, mut one) = (false, false);
-    for nth in 1..400 {
-        match cut_short(&rt, alloc, &after, nth) {
+    for count in 0..MANY {
+        match cut_short(&rt, alloc, &after, first.saturating_add(count)) {
             Some(0) => none = true,
             Some(1) => one = true,
-            _ => (),
+            Some(_) => (),
+            None => break,
         }
     }
     assert!(rt; none && one);

@@ -3,9 +3,9 @@ use Rattle.std.proofs.Common.{◌≡◌, ℕ, ℤ, zero, suc, ◌<◌, ◌-◌, 
 use Rattle.std.proofs.Common.{◌∙◌, arith, get_or, Bool, false}
 use Rattle.std.proofs.lemmas.Bool.{false≢true}
 use Rattle.std.proofs.lemmas.Int.{ints}
+use Rattle.std.proofs.lemmas.List.{get_or_default}
 use Rattle.grid_geometry.specs.Position.{Position, position}
 use Rattle.map_text.specs.Text.{differences, pairs}
-use Rattle.topo_writer.proofs.FoundLaws.{at_same}
 
 pub differences-length : (before : Position) (ps : List Position) → length (differences before ps) ≡ length ps
 differences-length before [] = refl
@@ -40,7 +40,7 @@ pair_is false ps i p before l d n e f = absurd (false≢true d)
 pair_is true ps zero p before l d n e f = absurd (n refl)
 pair_is true ps (suc i) p before l d n e f =
     let origin : Position = position (pos 0) (pos 0) in
-    let here : p ≡ get_or ps (suc i) origin = e ∙ at_same ps (suc i) p origin l in
+    let here : p ≡ get_or ps (suc i) origin = e ∙ get_or_default ps (suc i) p origin l in
     let k : suc i - 1 ≡ i = omega arith in
-    let there : before ≡ get_or ps i origin = f ∙ ap (λ n. get_or ps n before) k ∙ at_same ps i before origin (omega (arith, l)) in
+    let there : before ≡ get_or ps i origin = f ∙ ap (λ n. get_or ps n before) k ∙ get_or_default ps i before origin (omega (arith, l)) in
     ap₂ (λ (q : Position) (r : Position). position (q.x -ℤ r.x) (q.y -ℤ r.y)) here there ∙ sym (later_pair origin ps i origin l)

@@ -1,8 +1,9 @@
 -- What is found after one more arc.
-use Rattle.std.proofs.Common.{◌≡◌, ℕ, zero, suc, ◌+◌, Bool, true, false, refl, sym, ap, ap₂, ◌∙◌, cond}
+use Rattle.std.proofs.Common.{◌≡◌, ℕ, ◌+◌, Bool, true, false, refl, sym, ap, ap₂, ◌∙◌, cond}
 use Rattle.std.proofs.Common.{List, [], ◌∷◌, ◌++◌, arith, length, ◌<◌, get_or, Option, Some, None, ℤ}
 use Rattle.std.proofs.Common.{pos, negsuc}
 use Rattle.std.specs.Prelude.{is_some}
+use Rattle.std.proofs.lemmas.List.{get_or_default}
 use Rattle.grid_geometry.specs.Position.{Position, position, position_eq}
 use Rattle.grid_geometry.specs.Ring.{Edge}
 use Rattle.ring_machine.specs.Ring.{edge_eq}
@@ -115,10 +116,5 @@ module _ (arcs : List (List Position)) (ps : List Position) (g0 g1 g2 : Edge →
       h2 e ∙ ap₂ (λ x y. cond (edge_eq x e) (Some y) (g1 e)) le ke ∙ ap (λ o. cond (edge_eq (last_edge ps) e) (Some (negsuc (length arcs))) o) (one e)
       ∙ cases e (edge_eq (last_edge ps) e) (edge_eq (first_edge ps) e) refl refl ∙ sym (found_new arcs ps e)
 
-pub at_same : (ps : List Position) (i : ℕ) (d e : Position) → i < length ps → get_or ps i d ≡ get_or ps i e
-at_same [] i d e h = absurd (omega arith)
-at_same (p ∷ ps) zero d e h = refl
-at_same (p ∷ ps) (suc i) d e h = at_same ps i d e (omega arith)
-
 pub at_place_is : (ps : List Position) (i : ℕ) (x : Position) → i < length ps → x ≡ get_or ps i x → x ≡ at_place ps i
-at_place_is ps i x h e = e ∙ at_same ps i x (position (pos 0) (pos 0)) h
+at_place_is ps i x h e = e ∙ get_or_default ps i x (position (pos 0) (pos 0)) h

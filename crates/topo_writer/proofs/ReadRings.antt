@@ -21,8 +21,3 @@ pub each_place : {A : Type 0} (P : A → Type 0) (xs : List A) (i : ℕ) (d : A)
 each_place P [] i d h l = absurd (omega (arith, l))
 each_place P (x ∷ xs) zero d h l = h.0
 each_place P (x ∷ xs) (suc i) d h l = each_place P xs i d h.1 (omega (arith, l))
-
-pub same_place : {A : Type 0} (xs : List A) (i : ℕ) (d e : A) → i < length xs → get_or xs i d ≡ get_or xs i e
-same_place [] i d e h = absurd (omega (arith, h))
-same_place (x ∷ xs) zero d e h = refl
-same_place (x ∷ xs) (suc i) d e h = same_place xs i d e (omega (arith, h))

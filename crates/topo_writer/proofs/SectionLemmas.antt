@@ -65,6 +65,10 @@ there_shown f (Some x) t e = ap is_some e
 
 -- ---- a device that takes texts one after another
 
+-- nothing is a front of any text
+pub nothing_yet : (a : Option (List ℕ)) (xs : List ℕ) → AppendsPrefix a a xs
+nothing_yet a xs = (0, omega arith, Appends-nil a)
+
 -- a front of the first text is a front of both
 pub front_first : (a b : Option (List ℕ)) (xs ys : List ℕ) → AppendsPrefix a b xs → AppendsPrefix a b (xs ++ ys)
 front_first a b xs ys q = prefix_after a a b [] xs ys (Appends-nil a) q

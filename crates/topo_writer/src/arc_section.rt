@@ -12,9 +12,9 @@ ghost use Rattle.topo_writer.specs.Named.{arcs_along, listed_arcs};
 ghost use Rattle.topo_writer.specs.declared.sending.WriteFault.TheVariants.{Device, OutOfMemory};
 
 use crate::arcs::Arcs;
-use crate::cutting::cut_ring;
-use crate::rings::positions_of;
-use crate::sending::{WriteFault, send_arc};
+use crate::rings::cut_named;
+use crate::sending::{WriteFault, flush};
+use crate::texts::push_next;
 use arc_store::Map;
 use device_io::Sink;
 use grid_geometry::Pos;
@@ -50,7 +50,8 @@ fn send_next<A: Allocator + Copy, W: Sink>(
     if !arcs.is_arc(piece, sent) {
         return Ok(sent);
     }
-    send_arc(text, out, delta, piece, sent > 0)?;
+    push_next(text, delta, piece, sent > 0)?;
+    flush(text, out)?;
     Ok(sent + 1)
 }
 
@@ -85,9 +86,7 @@ fn send_ring<'a, I: SegIndex, A: Allocator + Copy, W: Sink>(
     ensures device { result ≡ Err Device → W.has_failed out.new ≡ true }
     ensures memory { result ≡ Err OutOfMemory → W.has_failed out.new ≡ false }
 {
-    let name = arcs.ring_name(i);
-    let positions = positions_of(alloc, map, name.feature, name.polygon, name.ring)?;
-    let pieces = cut_ring(alloc, map, positions.as_slice())?;
+    let pieces = cut_named(alloc, map, arcs.ring_name(i))?;
     let cut = pieces.as_slice();
     let mut after = sent;
     for k in 0..cut.len() {

@@ -1,13 +1,9 @@
 //! What is sent to a device.
-ghost use Rattle.std.specs.Prelude.{◌≡◌, ◌++◌, [], false, true, Err, OnOk, OnErr};
+ghost use Rattle.std.specs.Prelude.{◌≡◌, [], false, true, OnOk, OnErr};
 ghost use Rattle.std.specs.Io.KnownBytes.{Appends};
 ghost use Rattle.device_io.specs.Devices.{AppendsPrefix};
-ghost use Rattle.map_text.specs.Text.{comma_if, arc_text};
-ghost use Rattle.topo_writer.specs.declared.sending.WriteFault.TheVariants.{Device, OutOfMemory};
 
-use crate::texts::{push_arc, push_comma};
 use device_io::{Failed, Sink, put_all};
-use grid_geometry::Pos;
 use std::alloc::{AllocError, Allocator};
 use thiserror::Error;
 
@@ -44,20 +40,6 @@ impl From<Failed> for WriteFault {
     }
 }
 
-/// Appends an arc, and a comma where something stands before.
-fn push_next<A: Allocator + Copy>(
-    text: &mut Vec<u8, A>,
-    delta: bool,
-    arc: &[Pos],
-    more: bool,
-) -> Result<(), AllocError>
-    ensures { OnOk result (text.new.items ≡ text.old.items ++ (comma_if more ++ arc_text delta arc.now)) }
-{
-    push_comma(text, more)?;
-    push_arc(text, delta, arc)?;
-    Ok(())
-}
-
 /// Sends what stands in the buffer, and empties it.
 pub(crate) fn flush<A: Allocator + Copy, W: Sink>(
     text: &mut Vec<u8, A>,
@@ -72,27 +54,5 @@ pub(crate) fn flush<A: Allocator + Copy, W: Sink>(
 {
     put_all(out, text.as_slice())?;
     text.clear();
-    Ok(())
-}
-
-/// Sends an arc, and a comma where something stands before.
-pub(crate) fn send_arc<A: Allocator + Copy, W: Sink>(
-    text: &mut Vec<u8, A>,
-    out: &mut W,
-    delta: bool,
-    arc: &[Pos],
-    more: bool,
-) -> Result<(), WriteFault>
-    requires working { W.has_failed out.old ≡ false }
-    requires empty { text.old.items ≡ [] }
-    ensures empty { OnOk result (text.new.items ≡ []) }
-    ensures ok { OnOk result (Appends (W.taken out.old) (W.taken out.new) (comma_if more ++ arc_text delta arc.now)) }
-    ensures works { OnOk result (W.has_failed out.new ≡ false) }
-    ensures err { OnErr result (AppendsPrefix (W.taken out.old) (W.taken out.new) (comma_if more ++ arc_text delta arc.now)) }
-    ensures device { result ≡ Err Device → W.has_failed out.new ≡ true }
-    ensures memory { result ≡ Err OutOfMemory → W.has_failed out.new ≡ false }
-{
-    push_next(text, delta, arc, more)?;
-    flush(text, out)?;
     Ok(())
 }

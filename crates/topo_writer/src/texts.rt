@@ -1,8 +1,8 @@
 //! The pieces of a text (RFC 8259).
-ghost use Rattle.std.specs.Prelude.{◌≡◌, ◌<◌, ◌++◌, ◌-ℤ◌, pos, map, length, get_or, OnOk};
+ghost use Rattle.std.specs.Prelude.{◌≡◌, ◌<◌, ◌++◌, ◌-ℤ◌, pos, length, get_or, OnOk};
 ghost use Rattle.std.specs.Fmt.{signed_decimal};
 ghost use Rattle.grid_geometry.specs.Position.{position};
-ghost use Rattle.map_text.specs.Text.{commas, comma_if, pair_text, pairs, arc_text, ring_text};
+ghost use Rattle.map_text.specs.Text.{comma_if, pair_text, pairs, arc_text, ring_text};
 
 use grid_geometry::Pos;
 use itoa::Buffer;
@@ -74,25 +74,8 @@ fn pair_at(delta: bool, arc: &[Pos], i: usize) -> (i64, i64)
     (across(p, before), upward(p, before))
 }
 
-/// Appends the pairs of an arc, with commas between them.
-fn push_pairs<A: Allocator + Copy>(
-    text: &mut Vec<u8, A>,
-    delta: bool,
-    arc: &[Pos],
-) -> Result<(), AllocError>
-    ensures { OnOk result (text.new.items
-        ≡ text.old.items ++ commas (map pair_text (pairs delta arc.now))) }
-{
-    for i in 0..arc.len() {
-        push_comma(text, i > 0)?;
-        let (x, y) = pair_at(delta, arc, i);
-        push_pair(text, x, y)?;
-    }
-    Ok(())
-}
-
 /// Appends an arc.
-pub(crate) fn push_arc<A: Allocator + Copy>(
+fn push_arc<A: Allocator + Copy>(
     text: &mut Vec<u8, A>,
     delta: bool,
     arc: &[Pos],
@@ -100,23 +83,26 @@ pub(crate) fn push_arc<A: Allocator + Copy>(
     ensures { OnOk result (text.new.items ≡ text.old.items ++ arc_text delta arc.now) }
 {
     text.extend_from_slice(b"[")?;
-    push_pairs(text, delta, arc)?;
+    for i in 0..arc.len() {
+        push_comma(text, i > 0)?;
+        let (x, y) = pair_at(delta, arc, i);
+        push_pair(text, x, y)?;
+    }
     text.extend_from_slice(b"]")?;
     Ok(())
 }
 
-/// Appends numbers, with commas between them.
-fn push_numbers<A: Allocator + Copy>(
+/// Appends an arc, and a comma where something stands before.
+pub(crate) fn push_next<A: Allocator + Copy>(
     text: &mut Vec<u8, A>,
-    numbers: &[i64],
+    delta: bool,
+    arc: &[Pos],
+    more: bool,
 ) -> Result<(), AllocError>
-    ensures { OnOk result (text.new.items
-        ≡ text.old.items ++ commas (map signed_decimal numbers.now)) }
+    ensures { OnOk result (text.new.items ≡ text.old.items ++ (comma_if more ++ arc_text delta arc.now)) }
 {
-    for i in 0..numbers.len() {
-        push_comma(text, i > 0)?;
-        push_number(text, numbers[i])?;
-    }
+    push_comma(text, more)?;
+    push_arc(text, delta, arc)?;
     Ok(())
 }
 
@@ -128,7 +114,10 @@ pub(crate) fn push_ring<A: Allocator + Copy>(
     ensures { OnOk result (text.new.items ≡ text.old.items ++ ring_text indexes.now) }
 {
     text.extend_from_slice(b"[")?;
-    push_numbers(text, indexes)?;
+    for i in 0..indexes.len() {
+        push_comma(text, i > 0)?;
+        push_number(text, indexes[i])?;
+    }
     text.extend_from_slice(b"]")?;
     Ok(())
 }

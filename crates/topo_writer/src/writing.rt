@@ -45,46 +45,6 @@ fn push_end<A: Allocator + Copy>(
     text.extend_from_slice(b"}")
 }
 
-/// Sends the begin of the text, up to the first layer.
-fn send_begin<A: Allocator + Copy, W: Sink>(
-    text: &mut Vec<u8, A>,
-    out: &mut W,
-    transform: Option<&[u8]>,
-) -> Result<(), WriteFault>
-    requires working { W.has_failed out.old ≡ false }
-    requires empty { text.old.items ≡ [] }
-    ensures empty { OnOk result (text.new.items ≡ []) }
-    ensures ok { OnOk result (Appends (W.taken out.old) (W.taken out.new) (begin_text (option_map (λ t. t.now) transform.entry))) }
-    ensures works { OnOk result (W.has_failed out.new ≡ false) }
-    ensures err { OnErr result (AppendsPrefix (W.taken out.old) (W.taken out.new) (begin_text (option_map (λ t. t.now) transform.entry))) }
-    ensures device { result ≡ Err Device → W.has_failed out.new ≡ true }
-    ensures memory { result ≡ Err OutOfMemory → W.has_failed out.new ≡ false }
-{
-    push_begin(text, transform)?;
-    flush(text, out)?;
-    Ok(())
-}
-
-/// Sends the end of the text, from the last arc on.
-fn send_end<A: Allocator + Copy, W: Sink>(
-    text: &mut Vec<u8, A>,
-    out: &mut W,
-    members: &[KeptMember<'_>],
-) -> Result<(), WriteFault>
-    requires working { W.has_failed out.old ≡ false }
-    requires empty { text.old.items ≡ [] }
-    ensures empty { OnOk result (text.new.items ≡ []) }
-    ensures ok { OnOk result (Appends (W.taken out.old) (W.taken out.new) (end_text (map view_kept members.now))) }
-    ensures works { OnOk result (W.has_failed out.new ≡ false) }
-    ensures err { OnErr result (AppendsPrefix (W.taken out.old) (W.taken out.new) (end_text (map view_kept members.now))) }
-    ensures device { result ≡ Err Device → W.has_failed out.new ≡ true }
-    ensures memory { result ≡ Err OutOfMemory → W.has_failed out.new ≡ false }
-{
-    push_end(text, members)?;
-    flush(text, out)?;
-    Ok(())
-}
-
 /// Sends the text of a map that has this frame.
 fn send_map<'m, 'a, I: SegIndex, A: Allocator + Copy, W: Sink>(
     alloc: A,
@@ -102,12 +62,14 @@ fn send_map<'m, 'a, I: SegIndex, A: Allocator + Copy, W: Sink>(
 {
     let mut text = Vec::new(alloc);
     let mut arcs = Arcs::new(alloc);
-    send_begin(&mut text, out, frame.transform())?;
+    push_begin(&mut text, frame.transform())?;
+    flush(&mut text, out)?;
     send_layers(alloc, map, frame, &mut arcs, &mut text, out)?;
     put_all(out, b"},\"arcs\":[")?;
     let delta = frame.transform().is_some();
     send_arcs(alloc, map, &arcs, delta, &mut text, out)?;
-    send_end(&mut text, out, frame.members())?;
+    push_end(&mut text, frame.members())?;
+    flush(&mut text, out)?;
     Ok(())
 }
 

@@ -1,6 +1,7 @@
 // Features that are cut, joined, named and taken out, the counts behind the answers.
 use crate::maps::{
-    DELTAS, DENTED, HOLES, ISLANDS, TOUCHING, TRIANGLE_INSIDE, TWO_RUNS, TWO_SQUARES, UNION_ABOVE,
+    DELTAS, DENTED, HOLES, HOOK, LOOSE, TOUCHING, TRIANGLE_INSIDE, TWO_RUNS, TWO_SQUARES,
+    UNION_ABOVE,
 };
 use crate::told::are_answered;
 use std::test::Fail;
@@ -20,6 +21,18 @@ fn splits(rt: HostRuntime) -> Result<(), Fail> {
             TWO_SQUARES,
             "split 0 \"C\" 0 0 5 4 10 10\narea 0\narea 2\nrings 0\nrings 2",
             "ok 2\n90\n110\n[[[[0,0],[10,0],[10,10],[5,4]]]]\n[[[[0,0],[5,4],[10,10],[0,10]]]]\nanswered 5, refused 0",
+        ),
+        // joined again, the position between is no vertex any more
+        (
+            TWO_SQUARES,
+            "split 0 \"C\" 0 0 5 2 10 10\narea 0\narea 2\ncount\nmerge 0 2\narea 0\nrings 0",
+            "ok 2\n70\n130\nfeatures 3 vertices 7 segments 9\nok\n200\n[[[[0,0],[10,0],[10,10],[0,10]]]]\nanswered 7, refused 0",
+        ),
+        // each hole goes with the part that it lies in
+        (
+            HOLES,
+            "split 0 \"R\" 10 10 10 0\narea 0\narea 1\nrings 0\nrings 1",
+            "ok 1\n188\n192\n[[[[0,0],[10,0],[10,10],[0,10]],[[0,0],[2,4],[4,2]]]]\n[[[[10,0],[20,0],[20,10],[10,10]],[[14,4],[14,6],[16,6],[16,4]]]]\nanswered 5, refused 0",
         ),
         // the other way the parts change places
         (
@@ -69,6 +82,12 @@ fn refused_splits(rt: HostRuntime) -> Result<(), Fail> {
             "split 0 \"C\" 0 0 20 10",
             "refused not on outer ring\nanswered 1, refused 1",
         ),
+        // one condition after another
+        (
+            TWO_SQUARES,
+            "split 9 \"C\" 0 0 10 10\nsplit 0 \"C\" 0 0 20 0\nsplit 0 \"C\" 0 0 5 5 5 5 10 10\nsplit 0 \"C\" 0 0 20 0 10 10\nsplit 0 \"C\" 0 0 10 0\nsplit 0 \"C\" 0 0 15 5 10 10",
+            "refused no feature\nrefused not on outer ring\nrefused repeated point\nrefused occupied\nrefused segment exists\nrefused conflict 0 0 15 5 / 10 0 10 10\nanswered 6, refused 6",
+        ),
         // a position twice, at the ends too
         (
             TWO_SQUARES,
@@ -99,6 +118,11 @@ fn refused_splits(rt: HostRuntime) -> Result<(), Fail> {
             "split 0 \"C\" 0 0 -5 5 0 10\narea 0\ncount",
             "refused wrong side\n200\nfeatures 2 vertices 6 segments 7\nanswered 3, refused 1",
         ),
+        (
+            TWO_SQUARES,
+            "split 0 \"C\" 0 0 10 10\narea 0\narea 2\nsplit 0 \"D\" 0 0 5 -5 10 0",
+            "ok 2\n100\n100\nrefused wrong side\nanswered 4, refused 1",
+        ),
     ];
     are_answered(&rt, rt.alloc(), &rows[..])
 }
@@ -125,6 +149,12 @@ fn merges(rt: HostRuntime) -> Result<(), Fail> {
             "split 0 \"C\" 0 0 10 10\nmerge 0 2\narea 0\nrings 0\nneighbours 0",
             "ok 2\nok\n200\n[[[[0,0],[10,0],[10,10],[0,10]]]]\nneighbours: 1\nanswered 5, refused 0",
         ),
+        // the holes of the first that is named come before those of the second
+        (
+            HOLES,
+            "split 0 \"R\" 10 10 10 0\nmerge 1 0\narea 0\narea 1\nrings 1",
+            "ok 1\nok\nrefused no feature\n380\n[[[[0,0],[10,0],[20,0],[20,10],[10,10],[0,10]],[[14,4],[14,6],[16,6],[16,4]],[[0,0],[2,4],[4,2]]]]\nanswered 5, refused 1",
+        ),
     ];
     are_answered(&rt, rt.alloc(), &rows[..])
 }
@@ -144,11 +174,11 @@ fn refused_merges(rt: HostRuntime) -> Result<(), Fail> {
             "merge 0 1\nmerge 1 0",
             "refused not one polygon\nrefused not one polygon\nanswered 2, refused 2",
         ),
-        // two polygons
+        // a polygon without rings, and two polygons
         (
-            ISLANDS,
-            "merge 0 0",
-            "refused same feature\nanswered 1, refused 1",
+            LOOSE,
+            "merge 0 1\nmerge 1 0\nmerge 1 2\nmerge 2 1\nmerge 2 2",
+            "refused not one polygon\nrefused not one polygon\nrefused not one polygon\nrefused not one polygon\nrefused same feature\nanswered 5, refused 5",
         ),
         // common corners, and nothing in common
         (
@@ -172,6 +202,11 @@ fn refused_merges(rt: HostRuntime) -> Result<(), Fail> {
             TOUCHING,
             "merge 0 1\nmerge 1 0",
             "refused common else 10 10\nrefused common else 10 10\nanswered 2, refused 2",
+        ),
+        (
+            HOOK,
+            "merge 0 1",
+            "refused common else 0 4\nanswered 1, refused 1",
         ),
         // one lies inside the other
         (
@@ -199,6 +234,12 @@ fn new_ids(rt: HostRuntime) -> Result<(), Fail> {
             "rename 1 \"\\u0041\\u00e9\\/ \\u0009\\u0000\\u0022\\ud83d\\ude00\"\ndocument",
             "ok\n{\"type\":\"Topology\",\"objects\":{\"land\":{\"type\":\"GeometryCollection\",\"geometries\":[{\"type\":\"Polygon\",\"id\":\"A\",\"arcs\":[[0,1]]},{\"type\":\"Polygon\",\"id\":\"A\u{e9}/ \\t\\u0000\\\"\u{1f600}\",\"arcs\":[[2,-1]]}]}},\"arcs\":[[[10,0],[10,10]],[[10,10],[0,10],[0,0],[10,0]],[[10,0],[20,0],[20,10],[10,10]]]}\nanswered 2, refused 0",
         ),
+        // with quotation marks, of a feature that goes then
+        (
+            TWO_SQUARES,
+            "rename 9 \"x\"\nrename 1 \"\\u00e9 \\\"x\\\"\"\ndocument\ndelete 1\ndelete 1\ncount",
+            "refused no feature\nok\n{\"type\":\"Topology\",\"objects\":{\"land\":{\"type\":\"GeometryCollection\",\"geometries\":[{\"type\":\"Polygon\",\"id\":\"A\",\"arcs\":[[0,1]]},{\"type\":\"Polygon\",\"id\":\"\u{e9} \\\"x\\\"\",\"arcs\":[[2,-1]]}]}},\"arcs\":[[[10,0],[10,10]],[[10,10],[0,10],[0,0],[10,0]],[[10,0],[20,0],[20,10],[10,10]]]}\nok\nrefused no feature\nfeatures 1 vertices 4 segments 4\nanswered 6, refused 2",
+        ),
         // none before, and one that is no string
         (
             DELTAS,
@@ -225,6 +266,12 @@ fn deletions(rt: HostRuntime) -> Result<(), Fail> {
             "delete 0\narea 0\ndelete 0\ncount\ndocument",
             "ok\nrefused no feature\nrefused no feature\nfeatures 1 vertices 4 segments 4\n{\"type\":\"Topology\",\"objects\":{\"land\":{\"type\":\"GeometryCollection\",\"geometries\":[{\"type\":\"Polygon\",\"id\":\"B\",\"arcs\":[[0]]}]}},\"arcs\":[[[10,0],[20,0],[20,10],[10,10],[10,0]]]}\nanswered 5, refused 2",
         ),
+        // former junctions are no cuts any more
+        (
+            TWO_SQUARES,
+            "delete 1\ndocument",
+            "ok\n{\"type\":\"Topology\",\"objects\":{\"land\":{\"type\":\"GeometryCollection\",\"geometries\":[{\"type\":\"Polygon\",\"id\":\"A\",\"arcs\":[[0]]}]}},\"arcs\":[[[0,0],[10,0],[10,10],[0,10],[0,0]]]}\nanswered 2, refused 0",
+        ),
         // all of them; the next number stays
         (
             TWO_SQUARES,
@@ -236,6 +283,11 @@ fn deletions(rt: HostRuntime) -> Result<(), Fail> {
             DENTED,
             "delete 0\ndocument",
             "ok\n{\"type\":\"Topology\",\"objects\":{\"a\":{\"type\":\"GeometryCollection\",\"geometries\":[]},\"b\":{\"type\":\"Polygon\",\"arcs\":[[0]]}},\"arcs\":[[[0,-10],[10,-10],[10,0],[5,-2],[0,0],[0,-10]]]}\nanswered 2, refused 0",
+        ),
+        (
+            DENTED,
+            "remove 5 -2\nsplit 0 \"N\" 0 0 10 10\nneighbours 0\nmerge 0 1\ndelete 1\ndocument",
+            "refused segment exists\nrefused no collection\nneighbours:\nrefused not neighbours\nok\n{\"type\":\"Topology\",\"objects\":{\"a\":{\"type\":\"Polygon\",\"arcs\":[[0]]},\"b\":{\"type\":\"GeometryCollection\",\"geometries\":[]}},\"arcs\":[[[0,0],[10,0],[10,10],[0,10],[0,0]]]}\nanswered 6, refused 3",
         ),
         // a feature without polygons, and none
         (

@@ -78,10 +78,10 @@ fn an_edit_of_too_many_positions(rt: HostRuntime) -> Result<(), Fail> {
         told(
             rt.alloc(),
             map.as_slice(),
-            b"insert 0 0 10 0 5 0\ninsert 5 0 10 0 7 0\narea 0"
+            b"insert 0 0 10 0 5 0\ninsert 5 0 10 0 7 0\nsplit 0 \"c\" 0 0 10 10\narea 0"
         )?
         .as_str(),
-        "ok\nrefused too large\n160000000\nanswered 3, refused 1"
+        "ok\nrefused too large\nrefused too large\n160000000\nanswered 4, refused 2"
     );
     Ok(())
 }
@@ -101,6 +101,46 @@ fn a_map_of_too_many_features(rt: HostRuntime) -> Result<(), Fail> {
     assert_eq!(rt;
         told(rt.alloc(), map.as_slice(), b"area 199999")?.as_str(),
         "0\nanswered 1, refused 0"
+    );
+    Ok(())
+}
+
+/// A square, and so many features without polygons.
+fn square_and_nulls(rt: &HostRuntime, times: usize) -> Result<Vec<u8>, AllocFailed<u8>> {
+    let front =
+        b"{\"type\":\"Topology\",\"objects\":{\"a\":{\"type\":\"GeometryCollection\",\"geometries\":[{\"type\":\"Polygon\",\"arcs\":[[0]]}";
+    let end = b"]}},\"arcs\":[[[0,0],[10,0],[10,10],[0,10],[0,0]]]}";
+    long_text(rt, front, b",{\"type\":null}", times, end)
+}
+
+/// The last number that there is, and one more, though a feature has gone.
+#[test]
+fn a_split_with_the_last_number(rt: HostRuntime) -> Result<(), Fail> {
+    let map = square_and_nulls(&rt, 199_998)?;
+    assert_eq!(rt;
+        told(
+            rt.alloc(),
+            map.as_slice(),
+            b"split 0 \"C\" 0 0 10 10\ndelete 1\nsplit 0 \"D\" 0 0 5 3 10 10\narea 0"
+        )?
+        .as_str(),
+        "ok 199999\nok\nrefused too large\n100\nanswered 4, refused 1"
+    );
+    Ok(())
+}
+
+/// All numbers are taken by what was read.
+#[test]
+fn a_split_past_the_last_number(rt: HostRuntime) -> Result<(), Fail> {
+    let map = square_and_nulls(&rt, 199_999)?;
+    assert_eq!(rt;
+        told(
+            rt.alloc(),
+            map.as_slice(),
+            b"split 0 \"C\" 0 0 10 10\narea 0\nrings 0"
+        )?
+        .as_str(),
+        "refused too large\n200\n[[[[0,0],[10,0],[10,10],[0,10]]]]\nanswered 3, refused 1"
     );
     Ok(())
 }

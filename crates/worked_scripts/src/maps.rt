@@ -39,3 +39,11 @@ pub(crate) const ISLANDS: &str =
 /// Two neighbours with one common side, and a common corner beside it.
 pub(crate) const TOUCHING: &str =
     "{\"type\":\"Topology\",\"objects\":{\"l\":{\"type\":\"GeometryCollection\",\"geometries\":[{\"type\":\"Polygon\",\"arcs\":[[0,1,2]]},{\"type\":\"Polygon\",\"arcs\":[[-1,3,4]]}]}},\"arcs\":[[[10,0],[10,4]],[[10,4],[10,10]],[[10,10],[0,10],[0,0],[10,0]],[[10,0],[20,0],[20,10],[10,10]],[[10,10],[12,7],[10,4]]]}";
+
+/// A square, and a neighbour at one side of it that goes round to another corner.
+pub(crate) const HOOK: &str =
+    "{\"type\":\"Topology\",\"objects\":{\"c\":{\"type\":\"GeometryCollection\",\"geometries\":[{\"type\":\"Polygon\",\"arcs\":[[0]]},{\"type\":\"Polygon\",\"arcs\":[[1]]}]}},\"arcs\":[[[0,0],[4,0],[4,4],[0,4],[0,0]],[[4,0],[8,0],[8,8],[0,8],[0,4],[2,6],[4,4],[4,0]]]}";
+
+/// A polygon without rings, a square, and two islands of one feature.
+pub(crate) const LOOSE: &str =
+    "{\"type\":\"Topology\",\"objects\":{\"l\":{\"type\":\"GeometryCollection\",\"geometries\":[{\"type\":\"Polygon\",\"arcs\":[]},{\"type\":\"Polygon\",\"arcs\":[[0]]},{\"type\":\"MultiPolygon\",\"arcs\":[[[1]],[[2]]]}]}},\"arcs\":[[[0,0],[10,0],[10,10],[0,10],[0,0]],[[10,0],[20,0],[10,10],[10,0]],[[30,0],[40,0],[30,10],[30,0]]]}";

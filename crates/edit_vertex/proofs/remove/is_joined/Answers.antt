@@ -1,4 +1,4 @@
-use Rattle.std.proofs.Common.{length, sym, ap, ◌∙◌}
+use Rattle.std.proofs.Common.{ap, ◌∙◌}
 use Rattle.std.specs.Prelude.{nat_lt}
 use Rattle.ring_machine.specs.Parts.{is_segment}
 use Rattle.edit_vertex.proofs.Inserting.{segment_used}

@@ -1,5 +1,4 @@
-use Rattle.std.proofs.Common.{ap, ◌∙◌, ◌≤◌, length, arith}
-use Rattle.ring_machine.specs.Parts.{size}
+use Rattle.std.proofs.Common.{ap, ◌∙◌, arith}
 use Rattle.ring_parts.specs.Seen.{polygons_seen}
 use Rattle.split_merge.specs.Conditions.{only_outer}
 use Rattle.split_merge.proofs.MergeConditions.{outer_small}

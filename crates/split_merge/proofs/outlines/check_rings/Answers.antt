@@ -1,7 +1,6 @@
-use Rattle.std.proofs.Common.{sym, ap, ap₂, ◌∙◌, subst, ◌≤◌, false, arith}
-use Rattle.std.specs.List.{list_any}
+use Rattle.std.proofs.Common.{sym, ap₂, ◌∙◌, ◌≤◌, arith}
 use Rattle.grid_geometry.specs.Ring.{edges}
-use Rattle.ring_machine.specs.Join.{is_common, runs, common_else, same_side}
+use Rattle.ring_machine.specs.Join.{is_common, runs}
 use Rattle.split_merge.proofs.RingConditions.{refusal, some_runs, common_beside, on_one_side, joinable}
 use Rattle.split_merge.proofs.outlines.check_rings.Goals as goal
 

@@ -1,7 +1,8 @@
 use Rattle.std.proofs.Common.{◌-◌, sym, ◌∙◌, length, take, drop}
 use Rattle.ring_machine.specs.Ring.{segment_of}
 use Rattle.ring_machine.specs.Parts.{is_segment}
-use Rattle.split_merge.proofs.PathSegments.{none_here, rest_distinct}
+use Rattle.ring_parts.proofs.WaySegments.{way_on}
+use Rattle.split_merge.proofs.PathSegments.{none_here}
 use Rattle.split_merge.proofs.path_way.has_segment_along.Goals as goal
 
 pub loop-to-preserved : goal.loop-to-preserved
@@ -11,5 +12,5 @@ loop-to-preserved g c =
       left =
           none_here c.loop-to.from c.to-item.result rest c.loop-to.to-index c.loop-to-test.true c.to-item.is (λ e. is_segment c.args.map.now.doc (segment_of e)) (sym c.is_joined.ensures ∙ c.if-is_joined.false)
           ∙ c.loop-to.invariant.left;
-      distinct = rest_distinct c.loop-to.from c.to-item.result rest c.loop-to.to-index c.loop-to-test.true c.to-item.is c.loop-to.invariant.distinct;
+      distinct = way_on c.loop-to.from c.to-item.result rest c.loop-to.to-index c.loop-to-test.true c.to-item.is c.loop-to.invariant.distinct;
     }

@@ -1,4 +1,4 @@
-use Rattle.std.proofs.Common.{◌≡◌, sym, ap, ◌∙◌, subst, None}
+use Rattle.std.proofs.Common.{◌≡◌, sym, subst, None}
 use Rattle.std.specs.Prelude.{OnOk, IfErr}
 use Rattle.ring_machine.specs.Refusals.{first_of}
 use Rattle.ring_parts.specs.Seen.{path_seen}
@@ -19,11 +19,11 @@ returns-clause-accepted g c =
     let d = c.args.map.now.doc in
     let path = path_seen c.in-Some.path in
     subst (λ p. OnOk c.check_path.result (first_of (early_refusals d c.args.f p) ≡ None)) c.in-Some.ensures.value
-    (subst (λ o. OnOk c.check_path.result (o ≡ None)) (sym (second_group (place_refusals d c.args.f path) (path_refusals d path) c.in_default.ensures.accepted)) c.check_path.ensures.accepted)
+    (subst (λ o. OnOk c.check_path.result (o ≡ None)) (sym (second_group (place_refusals d c.args.f path) (path_refusals d path) c.in_default-check_place.ensures.accepted)) c.check_path.ensures.accepted)
 
 pub returns-clause-refused : goal.returns-clause-refused
 returns-clause-refused g c =
     let d = c.args.map.now.doc in
     let path = path_seen c.in-Some.path in
     subst (λ p. IfErr c.check_path.result (λ fault. Refuses fault (first_of (early_refusals d c.args.f p)))) c.in-Some.ensures.value
-    (subst (λ o. IfErr c.check_path.result (λ fault. Refuses fault o)) (sym (second_group (place_refusals d c.args.f path) (path_refusals d path) c.in_default.ensures.accepted)) c.check_path.ensures.refused)
+    (subst (λ o. IfErr c.check_path.result (λ fault. Refuses fault o)) (sym (second_group (place_refusals d c.args.f path) (path_refusals d path) c.in_default-check_place.ensures.accepted)) c.check_path.ensures.refused)

@@ -6,7 +6,7 @@ use Rattle.segment_index.specs.Times.{times_by}
 use Rattle.local_planarity.specs.Tests.{most_for}
 use Rattle.arc_store.specs.Faults.{Refuses}
 use Rattle.split_merge.specs.Conditions.{early_refusals}
-use Rattle.split_merge.specs.Ids.{id_json}
+use Rattle.map_text.specs.Strings.{string_text}
 use Rattle.split_merge.proofs.FirstRefusal.{refuses_first}
 use Rattle.split_merge.proofs.SplitConditions.{late_refusals, split_groups, passed}
 use Rattle.split_merge.proofs.splitting.split_now.Goals as goal
@@ -14,7 +14,7 @@ use Rattle.split_merge.proofs.splitting.split_now.Goals as goal
 pub returns-in-Err-clause-refused : goal.returns-in-Err-clause-refused
 returns-in-Err-clause-refused g c =
     let s = c.args.map.now in
-    let id = id_json c.args.id.now in
+    let id = string_text c.args.id.now in
     let path = path_of c.args.positions.now in
     subst (λ rs. Refuses c.in-Err.fault (first_of rs)) (sym (split_groups s.doc s.next c.args.f id path))
     (refuses_first c.in-Err.fault (early_refusals s.doc c.args.f path) (late_refusals s.doc s.next c.args.f id path) c.in-Err.ensures.refused)

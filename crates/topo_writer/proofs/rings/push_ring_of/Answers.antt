@@ -5,31 +5,26 @@ use Rattle.ring_machine.specs.Vertices.{is_junction}
 use Rattle.map_text.specs.Arcs.{pieces}
 use Rattle.map_text.specs.Text.{ring_text}
 use Rattle.topo_writer.specs.Found.{found}
-use Rattle.topo_writer.specs.Named.{arcs_along}
-use Rattle.topo_writer.specs.Reading.{positions_at}
-use Rattle.topo_writer.specs.declared.arcs.RingName.{RingName}
+use Rattle.topo_writer.specs.Named.{arcs_along, named_ring}
 use Rattle.topo_writer.proofs.Later.{pieces_few}
 use Rattle.topo_writer.proofs.NamedRings.{named_fits, named_found, named_indexes, named_long}
 use Rattle.topo_writer.proofs.rings.push_ring_of.Goals as goal
 
 pub index_all-requires-clause-long : goal.index_all-requires-clause-long
 index_all-requires-clause-long g c =
-    let d = c.args.map.now.doc in
-    let name : RingName = record { feature = c.args.n; polygon = c.args.polygon; ring = c.args.ring } in
-    named_long d c.requires.proper c.args.arcs.now.rings.items name c.requires.there c.as_slice-2.result.now
-    (c.as_slice-2.ensures.value ∙ c.in_ok-pieces.ensures ∙ ap (pieces (is_junction d)) (c.as_slice.ensures.value ∙ c.in_ok-positions.ensures))
+    named_long c.args.map.now.doc c.requires.proper c.args.arcs.now.rings.items c.args.name c.requires.there c.as_slice.result.now
+    (c.as_slice.ensures.value ∙ c.in_ok-pieces.ensures)
 
 pub index_all-requires-clause-few : goal.index_all-requires-clause-few
 index_all-requires-clause-few g c =
     let d = c.args.map.now.doc in
-    let cut : c.as_slice-2.result.now ≡ pieces (is_junction d) (positions_at d c.args.n c.args.polygon c.args.ring) =
-    c.as_slice-2.ensures.value ∙ c.in_ok-pieces.ensures ∙ ap (pieces (is_junction d)) (c.as_slice.ensures.value ∙ c.in_ok-positions.ensures) in
+    let cut : c.as_slice.result.now ≡ pieces (is_junction d) (named_ring d c.args.name) = c.as_slice.ensures.value ∙ c.in_ok-pieces.ensures in
     omega (
       arith,
       c.requires.few,
       c.requires.table.counts,
       ap length cut,
-      pieces_few (is_junction d) (positions_at d c.args.n c.args.polygon c.args.ring),
+      pieces_few (is_junction d) (named_ring d c.args.name),
     )
 
 pub returns-clause-table : goal.returns-clause-table
@@ -37,13 +32,12 @@ returns-clause-table g c =
     let d = c.args.map.now.doc in
     let old = c.args.arcs.now.rings.items in
     let new = c.name_ring.new.self.rings.items in
-    let name : RingName = record { feature = c.args.n; polygon = c.args.polygon; ring = c.args.ring } in
-    let cut : c.as_slice-2.result.now ≡ pieces (is_junction d) (positions_at d c.args.n c.args.polygon c.args.ring) =
-    c.as_slice-2.ensures.value ∙ c.in_ok-pieces.ensures ∙ ap (pieces (is_junction d)) (c.as_slice.ensures.value ∙ c.in_ok-positions.ensures) in
+    let name = c.args.name in
+    let cut : c.as_slice.result.now ≡ pieces (is_junction d) (named_ring d name) = c.as_slice.ensures.value ∙ c.in_ok-pieces.ensures in
     let more : new ≡ old ++ name ∷ [] = c.in_ok-name_ring.ensures.rings ∙ ap (λ r. r.items ++ name ∷ []) c.in_ok-indexes.ensures.rings in
-    let all = named_found d c.requires.proper old name c.requires.there c.as_slice-2.result.now cut new more in
+    let all = named_found d c.requires.proper old name c.requires.there c.as_slice.result.now cut new more in
     let has =
-    c.in_ok-indexes.ensures.arcs (arcs_along d old) c.requires.table (named_fits d c.requires.proper old name c.requires.there c.as_slice-2.result.now cut) in
+    c.in_ok-indexes.ensures.arcs (arcs_along d old) c.requires.table (named_fits d c.requires.proper old name c.requires.there c.as_slice.result.now cut) in
     record {
       mirrors = λ e. ap (λ s. get edge_eq s e) c.in_ok-name_ring.ensures.starts ∙ has.mirrors e ∙ ap (λ z. found z e) all;
       counts = c.in_ok-name_ring.ensures.count ∙ has.counts ∙ ap length all;
@@ -54,12 +48,11 @@ returns-clause-text g c =
     let d = c.args.map.now.doc in
     let old = c.args.arcs.now.rings.items in
     let new = c.name_ring.new.self.rings.items in
-    let name : RingName = record { feature = c.args.n; polygon = c.args.polygon; ring = c.args.ring } in
-    let cut : c.as_slice-2.result.now ≡ pieces (is_junction d) (positions_at d c.args.n c.args.polygon c.args.ring) =
-    c.as_slice-2.ensures.value ∙ c.in_ok-pieces.ensures ∙ ap (pieces (is_junction d)) (c.as_slice.ensures.value ∙ c.in_ok-positions.ensures) in
+    let name = c.args.name in
+    let cut : c.as_slice.result.now ≡ pieces (is_junction d) (named_ring d name) = c.as_slice.ensures.value ∙ c.in_ok-pieces.ensures in
     let more : new ≡ old ++ name ∷ [] = c.in_ok-name_ring.ensures.rings ∙ ap (λ r. r.items ++ name ∷ []) c.in_ok-indexes.ensures.rings in
     c.in_ok-push_ring.ensures
     ∙ ap (λ z. c.args.text.now.items ++ ring_text z)
-    (c.as_slice-3.ensures.value
-    ∙ c.in_ok-indexes.ensures.indexes (arcs_along d old) c.requires.table (named_fits d c.requires.proper old name c.requires.there c.as_slice-2.result.now cut)
-    ∙ named_indexes d c.requires.proper old name c.requires.there c.as_slice-2.result.now cut new more)
+    (c.as_slice-2.ensures.value
+    ∙ c.in_ok-indexes.ensures.indexes (arcs_along d old) c.requires.table (named_fits d c.requires.proper old name c.requires.there c.as_slice.result.now cut)
+    ∙ named_indexes d c.requires.proper old name c.requires.there c.as_slice.result.now cut new more)

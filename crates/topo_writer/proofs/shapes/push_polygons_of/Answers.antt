@@ -1,14 +1,13 @@
 use Rattle.std.proofs.Common.{arith, refl, ◌≡◌, sym, ap, ◌∙◌, subst, ◌<◌, [], length, get_or}
 use Rattle.std.specs.Prelude.{Contains}
 use Rattle.std.specs.List.{AllByRecursion}
-use Rattle.std.proofs.lemmas.List.{append-nil}
+use Rattle.std.proofs.lemmas.List.{append-nil, get_or_default}
 use Rattle.ring_machine.specs.Parts.{rings}
 use Rattle.ring_machine.specs.Vertices.{is_junction}
 use Rattle.topo_writer.specs.Named.{arcs_along}
 use Rattle.topo_writer.specs.Reading.{rings_at, polygons_at}
 use Rattle.topo_writer.specs.Ways.{written_polygon}
 use Rattle.topo_writer.proofs.LaterParts.{each_part, in_place, polygon_same, rings_few, left_step, part_arcs, part_text}
-use Rattle.topo_writer.proofs.ReadRings.{same_place}
 use Rattle.topo_writer.proofs.SeenParts.{polygon_is_at, seen_count, seen_ring_count}
 use Rattle.topo_writer.proofs.shapes.push_polygons_of.Goals as goal
 
@@ -33,7 +32,7 @@ push_polygon_of-requires-clause-few g c =
     let ps = polygons_at d c.args.n in
     let i = c.loop-polygon.polygon in
     let h : i < length ps = omega (arith, seen_count d c.args.n c.args.view.now c.requires.seen) in
-    let e : rings_at d c.args.n i ≡ get_or ps i (rings_at d c.args.n i) = polygon_is_at d c.args.n i ∙ same_place ps i [] (rings_at d c.args.n i) h in
+    let e : rings_at d c.args.n i ≡ get_or ps i (rings_at d c.args.n i) = polygon_is_at d c.args.n i ∙ get_or_default ps i [] (rings_at d c.args.n i) h in
     omega (arith, c.loop-polygon.invariant.few, left_step (λ polygon. polygon) ps i (rings_at d c.args.n i) h e)
 
 pub loop-polygon-init : goal.loop-polygon-init
@@ -52,7 +51,7 @@ loop-polygon-preserved g c =
     let i = c.loop-polygon.polygon in
     let p = rings_at d c.args.n i in
     let h : i < length ps = omega (arith, seen_count d c.args.n c.args.view.now c.requires.seen) in
-    let e : p ≡ get_or ps i p = polygon_is_at d c.args.n i ∙ same_place ps i [] p h in
+    let e : p ≡ get_or ps i p = polygon_is_at d c.args.n i ∙ get_or_default ps i [] p h in
     let arcs = c.in_ok-push_polygon_of.ensures.arcs in
     record {
       table = c.in_ok-push_polygon_of.ensures.table;

@@ -1,9 +1,12 @@
-use Rattle.std.proofs.Common.{arith, ap, [], length}
+use Rattle.std.proofs.Common.{arith, ap, subst, [], length}
+use Rattle.std.specs.Io.KnownBytes.{Appends}
+use Rattle.device_io.specs.Devices.{AppendsPrefix}
 use Rattle.ring_machine.specs.Parts.{rings}
 use Rattle.ring_machine.specs.Vertices.{is_junction}
 use Rattle.topo_writer.specs.Named.{arcs_along}
 use Rattle.topo_writer.proofs.LaterParts.{rings_few}
-use Rattle.topo_writer.proofs.SectionLemmas.{all_sent, at_arcs, at_begin, at_end, at_layers, at_middle, on_err}
+use Rattle.topo_writer.proofs.SectionLemmas.{all_sent, at_arcs, at_begin, at_end, at_layers, at_middle, nothing_yet, on_err}
+use Rattle.topo_writer.proofs.Sent.{filled}
 use Rattle.topo_writer.proofs.writing.send_map.Goals as goal
 
 pub send_arcs-requires-clause-few : goal.send_arcs-requires-clause-few
@@ -17,42 +20,59 @@ send_arcs-requires-clause-few g c =
       ap length c.in_ok-send_layers.ensures.arcs,
     )
 
-pub returns-in_err-send_begin-clause-err : goal.returns-in_err-send_begin-clause-err
-returns-in_err-send_begin-clause-err g c =
-    on_err c.from_residual.result _
-    (at_begin c.args.map.now.doc c.args.frame.now c.requires.frame _ _ _ c.transform.ensures c.in_err-send_begin.ensures.err)
+pub returns-in_err-flush-clause-err : goal.returns-in_err-flush-clause-err
+returns-in_err-flush-clause-err g c =
+    let begin = filled _ _ _ c.new-text.ensures.items c.in_ok-push_begin.ensures in
+    on_err c.from_residual-in_err-flush.result _
+    (at_begin c.args.map.now.doc c.args.frame.now c.requires.frame _ _ _ c.transform.ensures (subst (AppendsPrefix _ _) begin c.in_err-flush.ensures.err))
 
 pub returns-in_err-send_layers-clause-err : goal.returns-in_err-send_layers-clause-err
 returns-in_err-send_layers-clause-err g c =
+    let begun = subst (Appends _ _) (filled _ _ _ c.new-text.ensures.items c.in_ok-push_begin.ensures) c.in_ok-flush.ensures.ok in
     on_err c.from_residual-in_err-send_layers.result _
-    (at_layers c.args.map.now.doc c.args.frame.now c.requires.frame _ _ _ c.transform.ensures c.in_ok-send_begin.ensures.ok
+    (at_layers c.args.map.now.doc c.args.frame.now c.requires.frame _ _ _ c.transform.ensures begun
     _ c.in_err-send_layers.ensures.err)
 
 pub returns-in_err-put_all-clause-err : goal.returns-in_err-put_all-clause-err
 returns-in_err-put_all-clause-err g c =
+    let begun = subst (Appends _ _) (filled _ _ _ c.new-text.ensures.items c.in_ok-push_begin.ensures) c.in_ok-flush.ensures.ok in
     on_err c.from_residual-in_err-put_all.result _
-    (at_middle c.args.map.now.doc c.args.frame.now c.requires.frame _ _ _ c.transform.ensures c.in_ok-send_begin.ensures.ok
+    (at_middle c.args.map.now.doc c.args.frame.now c.requires.frame _ _ _ c.transform.ensures begun
     _ c.in_ok-send_layers.ensures.ok _ c.in_err-put_all.ensures.err)
 
 pub returns-in_err-send_arcs-clause-err : goal.returns-in_err-send_arcs-clause-err
 returns-in_err-send_arcs-clause-err g c =
+    let begun = subst (Appends _ _) (filled _ _ _ c.new-text.ensures.items c.in_ok-push_begin.ensures) c.in_ok-flush.ensures.ok in
     on_err c.from_residual-in_err-send_arcs.result _
-    (at_arcs c.args.map.now.doc c.args.frame.now c.requires.frame _ _ _ c.transform.ensures c.in_ok-send_begin.ensures.ok
+    (at_arcs c.args.map.now.doc c.args.frame.now c.requires.frame _ _ _ c.transform.ensures begun
     _ c.in_ok-send_layers.ensures.ok _ c.in_ok-put_all.ensures.ok
     (arcs_along c.args.map.now.doc c.send_layers.new.arcs.rings.items) c.in_ok-send_layers.ensures.arcs (λ t. t.now) c.transform-2.result c.transform-2.ensures _ c.is_some-delta.ensures
     _ c.in_err-send_arcs.ensures.err)
 
-pub returns-in_err-send_end-clause-err : goal.returns-in_err-send_end-clause-err
-returns-in_err-send_end-clause-err g c =
-    on_err c.from_residual-in_err-send_end.result _
-    (at_end c.args.map.now.doc c.args.frame.now c.requires.frame _ _ _ c.transform.ensures c.in_ok-send_begin.ensures.ok
+pub returns-in_err-push_end-clause-err : goal.returns-in_err-push_end-clause-err
+returns-in_err-push_end-clause-err g c =
+    let begun = subst (Appends _ _) (filled _ _ _ c.new-text.ensures.items c.in_ok-push_begin.ensures) c.in_ok-flush.ensures.ok in
+    on_err c.from_residual-in_err-push_end.result _
+    (at_end c.args.map.now.doc c.args.frame.now c.requires.frame _ _ _ c.transform.ensures begun
     _ c.in_ok-send_layers.ensures.ok _ c.in_ok-put_all.ensures.ok
     (arcs_along c.args.map.now.doc c.send_layers.new.arcs.rings.items) c.in_ok-send_layers.ensures.arcs (λ t. t.now) c.transform-2.result c.transform-2.ensures _ c.is_some-delta.ensures
-    _ c.in_ok-send_arcs.ensures.ok _ c.members.ensures _ c.in_err-send_end.ensures.err)
+    _ c.in_ok-send_arcs.ensures.ok _ c.members.ensures _ (nothing_yet _ _))
+
+pub returns-in_err-flush-2-clause-err : goal.returns-in_err-flush-2-clause-err
+returns-in_err-flush-2-clause-err g c =
+    let begun = subst (Appends _ _) (filled _ _ _ c.new-text.ensures.items c.in_ok-push_begin.ensures) c.in_ok-flush.ensures.ok in
+    let end = filled _ _ _ c.in_ok-send_arcs.ensures.empty c.in_ok-push_end.ensures in
+    on_err c.from_residual-in_err-flush-2.result _
+    (at_end c.args.map.now.doc c.args.frame.now c.requires.frame _ _ _ c.transform.ensures begun
+    _ c.in_ok-send_layers.ensures.ok _ c.in_ok-put_all.ensures.ok
+    (arcs_along c.args.map.now.doc c.send_layers.new.arcs.rings.items) c.in_ok-send_layers.ensures.arcs (λ t. t.now) c.transform-2.result c.transform-2.ensures _ c.is_some-delta.ensures
+    _ c.in_ok-send_arcs.ensures.ok _ c.members.ensures _ (subst (AppendsPrefix _ _) end c.in_err-flush-2.ensures.err))
 
 pub returns-clause-ok : goal.returns-clause-ok
 returns-clause-ok g c =
-    all_sent c.args.map.now.doc c.args.frame.now c.requires.frame _ _ _ c.transform.ensures c.in_ok-send_begin.ensures.ok
+    let begun = subst (Appends _ _) (filled _ _ _ c.new-text.ensures.items c.in_ok-push_begin.ensures) c.in_ok-flush.ensures.ok in
+    let end = filled _ _ _ c.in_ok-send_arcs.ensures.empty c.in_ok-push_end.ensures in
+    all_sent c.args.map.now.doc c.args.frame.now c.requires.frame _ _ _ c.transform.ensures begun
     _ c.in_ok-send_layers.ensures.ok _ c.in_ok-put_all.ensures.ok
     (arcs_along c.args.map.now.doc c.send_layers.new.arcs.rings.items) c.in_ok-send_layers.ensures.arcs (λ t. t.now) c.transform-2.result c.transform-2.ensures _ c.is_some-delta.ensures
-    _ c.in_ok-send_arcs.ensures.ok _ c.members.ensures _ c.in_ok-send_end.ensures.ok
+    _ c.in_ok-send_arcs.ensures.ok _ c.members.ensures _ (subst (Appends _ _) end c.in_ok-flush-2.ensures.ok)

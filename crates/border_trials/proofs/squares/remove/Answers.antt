@@ -1,7 +1,7 @@
 use Rattle.std.proofs.Common.{sym, ◌∙◌, arith}
 use Rattle.std.proofs.lemmas.Bool.Decides.{nat_tests}
 use Rattle.shared_arcs.proofs.CallerLemmas.{unused_apart}
-use Rattle.store_trials.proofs.squares.remove.Goals as goal
+use Rattle.border_trials.proofs.squares.remove.Goals as goal
 
 pub remove-requires-clause-between : goal.remove-requires-clause-between
 remove-requires-clause-between g c = λ x j. (c.in-Two.ensures.1 x).0 j

@@ -1,12 +1,12 @@
 //! Neighbours of features, and the features at positions, on maps made by hand.
-use crate::{Numbers, QueryFault, at, neighbours};
+use crate::compared::{UNION_ABOVE, stored_map};
 use arc_store::Map;
 use grid_geometry::Pos;
+use point_queries::{Numbers, QueryFault, at, neighbours};
 use segment_index::ListIndex;
 use std::alloc::Global;
 use std::process::Abort;
 use std::test::Fail;
-use topo_reader::read;
 
 // two squares with a common side
 const SQUARES: &str =
@@ -21,21 +21,6 @@ const DONUT: &str =
 const TWO_POLYGONS: &str =
     "{\"type\":\"Topology\",\"objects\":{\"land\":{\"type\":\"MultiPolygon\",\"arcs\":[[[0]],[[1]]]}},\"arcs\":[[[0,0],[4,0],[0,4],[0,0]],[[20,0],[24,0],[20,4],[20,0]]]}";
 
-// two squares with a common side, and above them a layer that is their union
-const UNION_ABOVE: &str =
-    "{\"type\":\"Topology\",\"objects\":{\"land\":{\"type\":\"GeometryCollection\",\"geometries\":[{\"type\":\"Polygon\",\"id\":\"A\",\"arcs\":[[0,1]]},{\"arcs\":[[-1,2]],\"type\":\"Polygon\",\"id\":\"B\"}]},\"state\":{\"type\":\"Polygon\",\"arcs\":[[1,2]]}},\"arcs\":[[[10,0],[10,10]],[[10,10],[0,10],[0,0],[10,0]],[[10,0],[20,0],[20,10],[10,10]]]}";
-
-/// The map of the text.
-fn map_of<'a, R: Abort>(rt: &R, alloc: Global, text: &'a str) -> Map<'a, ListIndex> {
-    match read(alloc, alloc, text.as_bytes()) {
-        Ok(raw) => match Map::build(alloc, raw, ListIndex::new(alloc)) {
-            Ok(map) => map,
-            Err(_) => panic!(rt; "no two segments conflict"),
-        },
-        Err(_) => panic!(rt; "the text opens"),
-    }
-}
-
 /// The numbers of the neighbours, and none where there is no such feature.
 fn found<R: Abort>(rt: &R, alloc: Global, map: &Map<'_, ListIndex>, f: u32) -> Option<Numbers> {
     match neighbours(alloc, map, f) {
@@ -47,7 +32,7 @@ fn found<R: Abort>(rt: &R, alloc: Global, map: &Map<'_, ListIndex>, f: u32) -> O
 
 /// Whether feature n has the n-th of these lists as its neighbours, and no other feature is there.
 fn are_neighbours<R: Abort>(rt: &R, alloc: Global, text: &str, want: &[&[u32]]) -> bool {
-    let map = map_of(rt, alloc, text);
+    let map = stored_map(rt, alloc, text, ListIndex::new(alloc));
     let mut same = true;
     let mut f = 0u32;
     for numbers in want {
@@ -102,7 +87,7 @@ fn has_features<R: Abort>(
 /// Within a common side, at the end of one, on a side that one square has, inside, and outside.
 #[test]
 fn at_two_squares(rt: HostRuntime) -> Result<(), Fail> {
-    let map = map_of(&rt, rt.alloc(), SQUARES);
+    let map = stored_map(&rt, rt.alloc(), SQUARES, ListIndex::new(rt.alloc()));
     assert!(rt; has_features(&rt, rt.alloc(), &map, (10, 5), &[], &[0, 1]));
     assert!(rt; has_features(&rt, rt.alloc(), &map, (10, 10), &[], &[0, 1]));
     assert!(rt; has_features(&rt, rt.alloc(), &map, (0, 5), &[], &[0]));
@@ -116,7 +101,7 @@ fn at_two_squares(rt: HostRuntime) -> Result<(), Fail> {
 /// at a corner, and far away.
 #[test]
 fn at_a_donut(rt: HostRuntime) -> Result<(), Fail> {
-    let map = map_of(&rt, rt.alloc(), DONUT);
+    let map = stored_map(&rt, rt.alloc(), DONUT, ListIndex::new(rt.alloc()));
     assert!(rt; has_features(&rt, rt.alloc(), &map, (15, 15), &[1], &[]));
     assert!(rt; has_features(&rt, rt.alloc(), &map, (5, 15), &[0], &[]));
     assert!(rt; has_features(&rt, rt.alloc(), &map, (5, 10), &[0], &[]));
@@ -133,11 +118,11 @@ fn at_a_donut(rt: HostRuntime) -> Result<(), Fail> {
 /// common side.
 #[test]
 fn at_the_second_polygon_and_in_a_union(rt: HostRuntime) -> Result<(), Fail> {
-    let map = map_of(&rt, rt.alloc(), TWO_POLYGONS);
+    let map = stored_map(&rt, rt.alloc(), TWO_POLYGONS, ListIndex::new(rt.alloc()));
     assert!(rt; has_features(&rt, rt.alloc(), &map, (1, 2), &[0], &[]));
     assert!(rt; has_features(&rt, rt.alloc(), &map, (21, 2), &[0], &[]));
     assert!(rt; has_features(&rt, rt.alloc(), &map, (10, 2), &[], &[]));
-    let map = map_of(&rt, rt.alloc(), UNION_ABOVE);
+    let map = stored_map(&rt, rt.alloc(), UNION_ABOVE, ListIndex::new(rt.alloc()));
     assert!(rt; has_features(&rt, rt.alloc(), &map, (10, 5), &[2], &[0, 1]));
     assert!(rt; has_features(&rt, rt.alloc(), &map, (15, 5), &[1, 2], &[]));
     Ok(())

@@ -1,16 +1,12 @@
-//! Edits of features on small maps: each refusal once, and each growth refused in turn.
-use crate::{delete, merge, rename, split};
+//! Edits of features on small maps: each refusal once.
 use arc_store::{EditFault, IdText, ItemView, Map, Path};
-use grid_geometry::{Pos, Rect, Seg};
-use refusing_allocator::Refusing;
-use segment_index::{GridIndex, ListIndex, SegIndex};
+use grid_geometry::{Pos, Seg};
+use segment_index::{ListIndex, SegIndex};
+use split_merge::{delete, merge, rename, split};
 use std::alloc::{AllocError, Allocator, Global};
 use std::process::Abort;
 use std::test::Fail;
 use topo_reader::read;
-
-/// More than the growths of any run below.
-const MANY: u64 = 2000;
 
 // two squares with a common side
 const SQUARES: &str =
@@ -94,7 +90,7 @@ fn has_rings<R: Abort, I: SegIndex, A: Allocator + Copy>(
 }
 
 /// The split along these positions, of which there are 2 to 256.
-fn cut<R: Abort, I: SegIndex, A: Allocator + Copy>(
+pub(crate) fn cut<R: Abort, I: SegIndex, A: Allocator + Copy>(
     rt: &R,
     alloc: A,
     map: &mut Map<'_, I, A>,
@@ -272,120 +268,4 @@ fn features_are_deleted(rt: HostRuntime) {
     assert!(rt; has_features(&alone, 1, 0));
     assert_eq!(rt; alone.feature_count(), 1);
     assert_eq!(rt; alone.vertex_count(), 4);
-}
-
-// ---- growths
-
-/// An edit of the two squares.
-#[derive(Clone, Copy, Debug, PartialEq, Eq)]
-enum Edit {
-    Split,
-    Merge,
-    Rename,
-    Delete,
-}
-
-/// Makes the edit. What it is given is made in the same heap.
-fn make<R: Abort, I: SegIndex, A: Allocator + Copy>(
-    rt: &R,
-    heap: A,
-    map: &mut Map<'_, I, A>,
-    edit: Edit,
-) -> Result<(), EditFault> {
-    match edit {
-        Edit::Split => match cut(rt, heap, map, 0, &[(0, 0), (5, 2), (10, 10)]) {
-            Ok(_) => Ok(()),
-            Err(fault) => Err(fault),
-        },
-        Edit::Merge => merge(map, 0, 1),
-        Edit::Rename => rename(map, 0, IdText(String::from_str(heap, "C")?)),
-        Edit::Delete => delete(map, 0),
-    }
-}
-
-/// The map of the two squares, in a heap that may refuse a growth; `None` where it did.
-fn squares_in<A: Allocator + Copy>(
-    heap: A,
-    alloc: Global,
-) -> Option<Map<'static, GridIndex<A>, A>> {
-    let Ok(raw) = read(heap, alloc, SQUARES.as_bytes()) else {
-        return None;
-    };
-    let Ok(index) = GridIndex::new(heap, Rect::new(0, -10, 20, 10)) else {
-        return None;
-    };
-    Map::build(heap, raw, index).ok()
-}
-
-/// Whether the map is that of the two squares.
-fn is_unchanged<R: Abort, I: SegIndex, A: Allocator + Copy>(
-    rt: &R,
-    heap: A,
-    map: &Map<'_, I, A>,
-) -> Result<bool, AllocError> {
-    let left: &[(i64, i64)] = &[(0, 0), (10, 0), (10, 10), (0, 10)];
-    let right: &[(i64, i64)] = &[(10, 0), (20, 0), (20, 10), (10, 10)];
-    let named = match map.feature(0) {
-        Some(feature) => feature.id() == Some("\"A\"".as_bytes()),
-        None => false,
-    };
-    Ok(
-        named
-            && has_rings(rt, heap, map, 0, &[left])?
-            && has_rings(rt, heap, map, 1, &[right])?
-            && (map.feature_count(), map.vertex_count(), map.segment_count()) == (2, 6, 7)
-            && (map.position_count(), map.next_number()) == (8, 2),
-    )
-}
-
-/// Whether the growth of this number was one of the edit, and was refused: nothing had changed then,
-/// and the edit was accepted when it was made again. `None` where no growth was refused.
-fn refuse<R: Abort>(rt: &R, alloc: Global, edit: Edit, nth: u64) -> Result<Option<bool>, Fail> {
-    let heap = Refusing::new(alloc, nth);
-    let Some(mut map) = squares_in(&heap, alloc) else {
-        return Ok(Some(false));
-    };
-    if heap.was_refused() {
-        return Ok(Some(false));
-    }
-    match make(rt, &heap, &mut map, edit) {
-        Ok(()) => Ok(None),
-        Err(fault) => {
-            assert_eq!(rt; fault, EditFault::OutOfMemory);
-            assert!(rt;
-                is_unchanged(rt, &heap, &map)?,
-                "{edit:?} without growth {nth}"
-            );
-            assert_eq!(rt; make(rt, &heap, &mut map, edit), Ok(()));
-            Ok(Some(true))
-        }
-    }
-}
-
-/// How many growths of the edit were refused in turn.
-fn refuse_each<R: Abort>(rt: &R, alloc: Global, edit: Edit) -> Result<u64, Fail> {
-    let mut refused = 0u64;
-    for nth in 1..MANY {
-        match refuse(rt, alloc, edit, nth)? {
-            Some(true) => refused = refused.wrapping_add(1),
-            Some(false) => {}
-            None => return Ok(refused),
-        }
-    }
-    panic!(rt; "the edit ends");
-}
-
-#[test]
-fn a_refused_growth_changes_nothing(rt: HostRuntime) -> Result<(), Fail> {
-    let alloc = rt.alloc();
-    for (edit, least) in [
-        (Edit::Split, 10),
-        (Edit::Merge, 10),
-        (Edit::Rename, 2),
-        (Edit::Delete, 1),
-    ] {
-        let refused = refuse_each(&rt, alloc, edit)?;
-        assert!(rt; least <= refused, "{edit:?}: {refused}");
-    }
-    Ok(())
 }
