@@ -108,7 +108,14 @@ fn between<R: Abort>(rt: &R, a: Pos, b: Pos, c: Pos) -> Pos {
     Pos::new(x / 4, y / 4).expect(rt, "in range")
 }
 
-/// A split from a vertex of the outer ring to another, mostly over a position between.
+/// The position so many places on in the ring, round its end.
+fn place(ring: &[Pos], n: usize) -> Result<Pos, Fail> {
+    let at = if ring.is_empty() { 0 } else { n % ring.len() };
+    Ok(*ring.get(at).ok_or("a vertex")?)
+}
+
+/// A split from a vertex of the outer ring to another, mostly to the second one after it, and over a
+/// position on the side of the one between.
 fn drawn_split<R: Abort>(
     rt: &R,
     alloc: Global,
@@ -116,12 +123,17 @@ fn drawn_split<R: Abort>(
     f: u32,
     ring: &[Pos],
 ) -> Result<Edit, Fail> {
-    let a = drawn.one_of(ring).ok_or("a vertex")?;
-    let b = drawn.one_of(ring).ok_or("a vertex")?;
-    let c = drawn.one_of(ring).ok_or("a vertex")?;
+    let n = drawn.below(ring.len());
+    let ahead = if drawn.below(3) == 0 {
+        drawn.below(ring.len())
+    } else {
+        2
+    };
+    let (a, c) = (place(ring, n)?, place(ring, n.wrapping_add(1))?);
+    let b = place(ring, n.wrapping_add(ahead))?;
     let mut path = Vec::new(alloc);
     path.push(a)?;
-    if drawn.below(3) != 0 {
+    if drawn.below(4) != 0 {
         path.push(between(rt, a, b, c))?;
     }
     path.push(b)?;
@@ -137,11 +149,7 @@ fn drawn_merge(
     ring: &[Pos],
 ) -> Result<Edit, Fail> {
     let n = drawn.below(ring.len());
-    let a = *ring.get(n).ok_or("a vertex")?;
-    let b = match ring.get(n.wrapping_add(1)) {
-        Some(next) => *next,
-        None => *ring.get(0).ok_or("a vertex")?,
-    };
+    let (a, b) = (place(ring, n)?, place(ring, n.wrapping_add(1))?);
     let mut users = Vec::new(alloc);
     map.push_users(a, b, &mut users)?;
     let name = drawn.one_of(users.as_slice()).ok_or("a ring")?;
@@ -160,7 +168,7 @@ fn drawn_edit<R: Abort>(
     let ring = outer_ring(alloc, map, f)?;
     match drawn.below(32) {
         0 => Ok(Edit::Delete(f)),
-        1..=16 => drawn_merge(alloc, map, drawn, f, ring.as_slice()),
+        1..=14 => drawn_merge(alloc, map, drawn, f, ring.as_slice()),
         _ => drawn_split(rt, alloc, drawn, f, ring.as_slice()),
     }
 }
@@ -193,8 +201,10 @@ fn cut<R: Abort>(
     path: Vec<Pos>,
 ) -> Result<u32, EditFault> {
     let id = IdText(format!(in alloc; "n {f}")?);
-    assert!(rt; 2 <= path.len() && path.len() <= 256);
-    split(map, f, id, Path(path))
+    let path = Path(path);
+    let count = path.0.len();
+    assert!(rt; 2 <= count && count <= 256);
+    split(map, f, id, path)
 }
 
 /// Makes the edit, and appends its answer.

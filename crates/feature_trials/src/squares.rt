@@ -26,7 +26,8 @@ fn push_features(alloc: Global, text: &mut String) -> Result<(), AllocError> {
 fn push_arcs(alloc: Global, text: &mut String) -> Result<(), AllocError> {
     for n in 0..COLUMNS * COLUMNS {
         let comma = if n == 0 { "" } else { "," };
-        let (left, low) = (n % COLUMNS * SIDE, n / COLUMNS * SIDE);
+        let left = (n % COLUMNS).wrapping_mul(SIDE);
+        let low = (n / COLUMNS).wrapping_mul(SIDE);
         let (right, high) = (left.wrapping_add(SIDE), low.wrapping_add(SIDE));
         text.push_str(format!(in alloc;
             "{comma}[[{left},{low}],[{right},{low}],[{right},{high}],[{left},{high}],[{left},{low}]]"

@@ -198,7 +198,7 @@ struct Usual {
 }
 
 /// What comes of the edit where there is memory.
-fn usual<R: Abort>(
+fn usual_of<R: Abort>(
     rt: &R,
     alloc: Global,
     edit: Edit,
@@ -263,7 +263,7 @@ fn refuse_edit<R: Abort>(
     first: u64,
     least: u64,
 ) -> Result<(), Fail> {
-    let usual = usual(rt, alloc, edit, answer)?;
+    let usual = usual_of(rt, alloc, edit, answer)?;
     let growths = refuse_each(rt, alloc, &usual, first)?;
     assert!(rt; least <= growths, "{edit:?}: {growths}");
     Ok(())
