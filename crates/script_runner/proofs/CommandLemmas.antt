@@ -1,8 +1,7 @@
 -- Which command a line asks for, by its word.
-use Rattle.std.proofs.Common.{◌≡◌, ℕ, ℤ, pos, ◌<◌, ◌^◌, ◌++◌, ◌+◌, refl, sym, ap, ap₂, ◌∙◌, subst, MatchBool, rules, ◌≤◌, List, [], ◌∷◌, length, ◌==◌, false, true, arith, append-nil, FitsSigned, w64, Option, None, Some, MatchOption, IsSomeAnd, codes}
+use Rattle.std.proofs.Common.{◌≡◌, ℕ, ℤ, pos, ◌<◌, ◌^◌, ◌++◌, refl, sym, ap, ap₂, ◌∙◌, subst, MatchBool, rules, ◌≤◌, List, [], ◌∷◌, length, ◌==◌, false, arith, append-nil, FitsSigned, w64, Option, None, Some, MatchOption, IsSomeAnd, codes}
 use Rattle.std.specs.Str.{IsUtf8, IsAscii, bytes_eq}
 use Rattle.std.proofs.lemmas.Bool.{false≢true}
-use Rattle.std.proofs.lemmas.Bool.Decides.{nat_tests}
 use Rattle.std.specs.Fmt.{decimal, signed_decimal}
 use Rattle.std.specs.List.{take_while, AllByRecursion}
 use Rattle.std.specs.Prelude.{Result, Ok, Err, IfOk}
@@ -13,7 +12,7 @@ use Rattle.ring_machine.specs.Document.{Text}
 use Rattle.ring_machine.specs.Command.{Command, Move, Insert, Remove, Thin, Split, Merge, Rename, Delete, Area, At, Neighbours, Rings, Count, Show}
 use Rattle.topo_outline.specs.Kept.{IsName}
 use Rattle.map_text.specs.Strings.{string_text}
-use Rattle.script_runner.specs.Lines.{spaced, spaced_position, spaced_token, spaced_path, most_bound, Gives, IsPath, AreNaming, AreCutting, Asks, Says}
+use Rattle.script_runner.specs.Lines.{spaced, spaced_position, spaced_token, spaced_path, most_bound, Gives, AreNaming, AreCutting, Asks, Says}
 use Rattle.script_runner.specs.Words.{is_letter, EndsWord, IsFeature, IsPlace, IsToken, IsPathTail}
 use Rattle.script_runner.specs.Commands.{says_of, IsRefused, IsPositionTail, IsFeatureTail, IsMoveTail, IsInsertTail, IsRemoveTail, IsThinTail, IsSplitTail, IsMergeTail, IsRenameTail, IsDeleteTail, IsAreaTail, IsAtTail, IsNeighboursTail, IsRingsTail, IsCountTail, IsDocumentTail}
 use Rattle.script_runner.specs.declared.lines.Line.{Line}
@@ -21,7 +20,6 @@ use Rattle.script_runner.specs.declared.lines.LineFault.{LineFault}
 use Rattle.script_runner.specs.declared.lines.LineFault.TheVariants as fault
 use Rattle.script_runner.proofs.WordLemmas.{IsWord, rest_of, word-taken, word-rest, taken-rest, feature_once, place_once, same_behind, number_ascii, fits_in_range, wide_once, wide_ascii}
 use Rattle.script_runner.proofs.TokenLemmas.{path_unmarked, token_once}
-use Rattle.script_runner.proofs.PathLemmas.{path_ends}
 use Rattle.script_runner.proofs.IdLemmas.{gives, gives_marked, gives_utf8}
 
 -- what the test says of a list that is not empty

@@ -1,5 +1,5 @@
 -- The text that a JSON string stands for.
-use Rattle.std.proofs.Common.{◌≡◌, ℕ, ◌-◌, Bool, true, false, cond, refl, sym, ap, ◌∙◌, subst, List, [], ◌∷◌, ◌++◌, length, take, drop, arith}
+use Rattle.std.proofs.Common.{◌≡◌, ℕ, ◌-◌, Bool, true, false, cond, refl, ap, ◌∙◌, subst, List, [], ◌∷◌, ◌++◌, length, take, drop, arith}
 use Rattle.std.specs.Prelude.{reverse, IsUtf8, Option, Some, None}
 use Rattle.std.specs.Str.{is_utf8}
 use Rattle.std.specs.List.{take_while}

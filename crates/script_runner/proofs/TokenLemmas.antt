@@ -1,5 +1,5 @@
 -- A token ends in the last quotation mark of a line, and stands behind its space in one way.
-use Rattle.std.proofs.Common.{◌≡◌, ◌≢◌, ℕ, ◌+◌, ◌-◌, ◌%◌, ◌<◌, ◌≤◌, ◌^◌, Bool, true, false, refl, sym, ap, ap₂, ◌∙◌, subst, List, [], ◌∷◌, ◌++◌, length, take, drop, ℤ, pos, negsuc, suc, arith, FitsSigned, w64, append_assoc, append-nil, length-append}
+use Rattle.std.proofs.Common.{◌≡◌, ◌≢◌, ℕ, ◌+◌, ◌-◌, ◌%◌, ◌<◌, ◌≤◌, ◌^◌, Bool, true, false, refl, sym, ap, ap₂, ◌∙◌, subst, List, [], ◌∷◌, ◌++◌, length, take, drop, ℤ, pos, negsuc, suc, arith, FitsSigned, w64, length-append}
 use Rattle.std.specs.Prelude.{reverse}
 use Rattle.std.specs.List.{take_while, AllByRecursion}
 use Rattle.std.specs.Fmt.{decimal, signed_decimal}
@@ -8,8 +8,8 @@ use Rattle.std.proofs.lemmas.Fmt.{decimal_by_steps}
 use Rattle.std.proofs.lemmas.List.{reverse-append, reverse-reverse, length-reverse}
 use Rattle.std.proofs.lemmas.List.Sums.{take_while-cons}
 use Rattle.grid_geometry.specs.Position.{Position, InRange}
-use Rattle.script_runner.specs.Lines.{spaced, spaced_position, spaced_token, spaced_path}
-use Rattle.script_runner.specs.Words.{is_unmarked, NoMark, IsMarked, IsToken}
+use Rattle.script_runner.specs.Lines.{spaced, spaced_position, spaced_path}
+use Rattle.script_runner.specs.Words.{is_unmarked, NoMark, IsToken}
 use Rattle.script_runner.proofs.WordLemmas.{taken-rest, take_length, drop_length, fits_in_range}
 
 -- ---- bytes with no quotation mark

@@ -1,5 +1,5 @@
 -- The text of an answer.
-use Rattle.std.specs.Prelude.{ℕ, List, [], ◌++◌, map, codes, decimal}
+use Rattle.std.specs.Prelude.{ℕ, List, ◌++◌, map, codes, decimal}
 use Rattle.std.specs.List.{flat_map}
 use Rattle.std.specs.Fmt.{signed_decimal}
 use Rattle.grid_geometry.specs.Position.{Position}

@@ -1,6 +1,4 @@
-use Rattle.std.proofs.Common.{◌≡◌, subst, sym}
 use Rattle.std.proofs.lemmas.Result.{IfOk-weaker}
-use Rattle.map_text.specs.Strings.{string_text}
 use Rattle.script_runner.proofs.ReplyLemmas.{split_told_as}
 use Rattle.script_runner.proofs.replies.reply_to_split.Goals as goal
 
