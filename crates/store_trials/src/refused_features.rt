@@ -76,7 +76,8 @@ fn push_text(out: &mut Vec<u8>, text: Option<&[u8]>) -> Result<(), AllocError> {
         Some(text) => out.extend_from_slice(text)?,
         None => out.extend_from_slice(b"none")?,
     }
-    out.push(b'\n')
+    out.push(b'\n')?;
+    Ok(())
 }
 
 /// Appends the names and texts of members.
@@ -133,19 +134,16 @@ fn push_layer<I: SegIndex, A: Allocator + Copy>(
     Ok(())
 }
 
-/// Appends how many rings have the segment from the position to each one of those above.
+/// Appends how many rings have the segment from the position to each one of those above, as a byte.
 fn push_uses<R: Abort, I: SegIndex, A: Allocator + Copy>(
     rt: &R,
-    alloc: Global,
     out: &mut Vec<u8>,
     map: &Map<'_, I, A>,
     p: (i64, i64),
 ) -> Result<(), AllocError> {
     for q in POSITIONS {
         if let Some(s) = Seg::new(at(rt, p.0, p.1), at(rt, q.0, q.1)) {
-            let uses = map.uses(s);
-            let line = format!(in alloc; "{s} {uses}")?;
-            push_text(out, Some(line.as_str().as_bytes()))?;
+            out.push(u8::try_from(map.uses(s)).unwrap_or(u8::MAX))?;
         }
     }
     Ok(())
@@ -183,7 +181,7 @@ fn shown<R: Abort, I: SegIndex, A: Allocator + Copy>(
     )?;
     push_text(&mut out, Some(line.as_str().as_bytes()))?;
     for p in POSITIONS {
-        push_uses(rt, alloc, &mut out, map, p)?;
+        push_uses(rt, &mut out, map, p)?;
     }
     Ok(out)
 }
@@ -200,7 +198,7 @@ struct Usual {
 }
 
 /// What comes of the edit where there is memory.
-fn usual<R: Abort>(
+fn usual_of<R: Abort>(
     rt: &R,
     alloc: Global,
     edit: Edit,
@@ -230,20 +228,19 @@ fn refuse<R: Abort>(rt: &R, alloc: Global, usual: &Usual, nth: u64) -> Result<bo
     };
     let edit = usual.edit;
     let answer = make(rt, &heap, &mut map, edit);
-    let refused = heap.was_refused();
-    if refused {
-        let out_of_memory = answer == Err(EditFault::OutOfMemory);
-        assert!(rt; out_of_memory, "{edit:?} without growth {nth}: {answer:?}");
-        let left = shown(rt, alloc, &map)?;
-        assert!(rt; left == usual.before, "{edit:?} without growth {nth}");
-        let again = make(rt, &heap, &mut map, edit);
-        assert_eq!(rt; again, usual.answer, "{edit:?} after growth {nth}");
-    } else {
+    if !heap.was_refused() {
         assert_eq!(rt; answer, usual.answer);
+        return Ok(false);
     }
+    let out_of_memory = answer == Err(EditFault::OutOfMemory);
+    assert!(rt; out_of_memory, "{edit:?} without growth {nth}: {answer:?}");
+    let left = shown(rt, alloc, &map)?;
+    assert!(rt; left == usual.before, "{edit:?} without growth {nth}");
+    let again = make(rt, &heap, &mut map, edit);
+    assert_eq!(rt; again, usual.answer, "{edit:?} after growth {nth}");
     let ended = shown(rt, alloc, &map)?;
     assert!(rt; ended == usual.after, "{edit:?} after growth {nth}");
-    Ok(refused)
+    Ok(true)
 }
 
 /// The edit, with each of its growths refused in turn. Gives how many there are.
@@ -256,22 +253,23 @@ fn refuse_each<R: Abort>(rt: &R, alloc: Global, usual: &Usual, first: u64) -> Re
     panic!(rt; "the edit ends");
 }
 
-/// The edit has this answer, and at least so many growths, each refused in turn.
+/// The edit has this answer, and at least so many growths from the first one on, each refused in
+/// turn.
 fn refuse_edit<R: Abort>(
     rt: &R,
     alloc: Global,
     edit: Edit,
     answer: Result<u32, EditFault>,
+    first: u64,
     least: u64,
 ) -> Result<(), Fail> {
-    let first = first_growth(rt, alloc, SQUARES);
-    let usual = usual(rt, alloc, edit, answer)?;
+    let usual = usual_of(rt, alloc, edit, answer)?;
     let growths = refuse_each(rt, alloc, &usual, first)?;
     assert!(rt; least <= growths, "{edit:?}: {growths}");
     Ok(())
 }
 
-/// Past the hole on the left, from a corner, and from a vertex of the common side to it.
+/// Past the hole, from corner to corner.
 const PAST_THE_HOLE: &[(i64, i64)] = &[(0, 0), (3, 7), (10, 10)];
 
 const OUTSIDE: &[(i64, i64)] = &[(0, 0), (-5, 5), (0, 10)];
@@ -281,13 +279,14 @@ const FROM_THE_SIDE: &[(i64, i64)] = &[(10, 5), (15, 6), (20, 10)];
 #[test]
 fn splits(rt: HostRuntime) -> Result<(), Fail> {
     let alloc = rt.alloc();
+    let first = first_growth(&rt, alloc, SQUARES);
     for (f, path, answer, least) in [
         (0, PAST_THE_HOLE, Ok(5), 10),
         (1, FROM_THE_SIDE, Ok(5), 10),
         (0, OUTSIDE, Err(EditFault::WrongSide), 5),
         (4, PAST_THE_HOLE, Err(EditFault::NoCollection), 1),
     ] {
-        refuse_edit(&rt, alloc, Edit::Split(f, path), answer, least)?;
+        refuse_edit(&rt, alloc, Edit::Split(f, path), answer, first, least)?;
     }
     Ok(())
 }
@@ -295,6 +294,7 @@ fn splits(rt: HostRuntime) -> Result<(), Fail> {
 #[test]
 fn merges(rt: HostRuntime) -> Result<(), Fail> {
     let alloc = rt.alloc();
+    let first = first_growth(&rt, alloc, SQUARES);
     for (f, g, answer) in [
         (0, 1, Ok(0)),
         (1, 0, Ok(0)),
@@ -302,7 +302,7 @@ fn merges(rt: HostRuntime) -> Result<(), Fail> {
         (1, 2, Err(EditFault::NotOnePolygon)),
         (1, 4, Err(EditFault::NotNeighbours)),
     ] {
-        refuse_edit(&rt, alloc, Edit::Merge(f, g), answer, 3)?;
+        refuse_edit(&rt, alloc, Edit::Merge(f, g), answer, first, 3)?;
     }
     Ok(())
 }
@@ -310,10 +310,11 @@ fn merges(rt: HostRuntime) -> Result<(), Fail> {
 #[test]
 fn names_and_deletions(rt: HostRuntime) -> Result<(), Fail> {
     let alloc = rt.alloc();
-    refuse_edit(&rt, alloc, Edit::Rename(0, "C\n"), Ok(0), 2)?;
-    refuse_edit(&rt, alloc, Edit::Rename(2, "D"), Ok(0), 2)?;
+    let first = first_growth(&rt, alloc, SQUARES);
+    refuse_edit(&rt, alloc, Edit::Rename(0, "C\n"), Ok(0), first, 2)?;
+    refuse_edit(&rt, alloc, Edit::Rename(2, "D"), Ok(0), first, 2)?;
     for f in [0, 1, 3, 4] {
-        refuse_edit(&rt, alloc, Edit::Delete(f), Ok(0), 1)?;
+        refuse_edit(&rt, alloc, Edit::Delete(f), Ok(0), first, 1)?;
     }
     Ok(())
 }

@@ -1,5 +1,5 @@
 -- What is found after one more arc.
-use Rattle.std.proofs.Common.{◌≡◌, ℕ, zero, suc, ◌+◌, Bool, true, false, refl, sym, ap, ap₂, ◌∙◌, cond}
+use Rattle.std.proofs.Common.{◌≡◌, ℕ, ◌+◌, Bool, true, false, refl, sym, ap, ap₂, ◌∙◌, cond}
 use Rattle.std.proofs.Common.{List, [], ◌∷◌, ◌++◌, arith, length, ◌<◌, get_or, Option, Some, None, ℤ}
 use Rattle.std.proofs.Common.{pos, negsuc}
 use Rattle.std.specs.Prelude.{is_some}

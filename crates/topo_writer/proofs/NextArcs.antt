@@ -1,9 +1,9 @@
 -- Pieces that are cut once more: an arc is sent where it comes first.
-use Rattle.std.proofs.Common.{◌≡◌, ℕ, ℤ, zero, suc, ◌+◌, ◌<◌, ◌≤◌, drop, Bool, true, false, refl, sym, ap, ◌∙◌, subst, cond, arith, length}
+use Rattle.std.proofs.Common.{◌≡◌, ℕ, ℤ, ◌+◌, ◌<◌, ◌≤◌, drop, Bool, true, false, refl, sym, ap, ◌∙◌, subst, cond, arith, length}
 use Rattle.std.proofs.Common.{List, [], ◌∷◌, ◌++◌, append_assoc, append-nil, get_or, Option, Some, None, pos}
 use Rattle.std.specs.Prelude.{is_some, nat_lt}
 use Rattle.std.specs.Io.KnownBytes.{Appends, Keeps}
-use Rattle.std.proofs.lemmas.List.{drop_more, length-append}
+use Rattle.std.proofs.lemmas.List.{drop_all, drop_more, length-append}
 use Rattle.device_io.specs.Devices.{AppendsPrefix}
 use Rattle.device_io.proofs.DeviceLemmas.{Appends-more, Appends-none}
 use Rattle.grid_geometry.specs.Position.{Position}
@@ -149,13 +149,15 @@ on_begin delta first whole left sent old c l = record {
 }
 
 -- all of these pieces were looked at
-pub on_end : (delta : Bool) (first whole : List (List Position)) (sent : ℕ) (old now : Option (List ℕ)) → OnWay delta first whole [] sent old now
+pub on_end : (delta : Bool) (first whole ps : List (List Position)) (k sent : ℕ) (old now : Option (List ℕ)) → length ps ≤ k
+    → OnWay delta first whole (drop k ps) sent old now
     → (sent ≡ length whole) × ((start : Option (List ℕ)) → Appends start old (listed_arcs delta first)
     → Appends start now (listed_arcs delta whole))
-on_end delta first whole sent old now w = (
-  w.counts ∙ ap length w.leads,
-  λ start h. subst (λ z. Appends start now (listed_arcs delta z)) w.leads (w.sends start h),
-)
+on_end delta first whole ps k sent old now l w =
+    let all : w.arcs ≡ whole = sym (ap (all_found w.arcs) (drop_all k ps l)) ∙ w.leads in (
+      w.counts ∙ ap length all,
+      λ start h. subst (λ z. Appends start now (listed_arcs delta z)) all (w.sends start h),
+    )
 
 -- where nothing more is sent, the first arcs are a front of all
 pub front_of : (delta : Bool) (first all later : List (List Position)) (start now : Option (List ℕ)) → all ≡ first ++ later

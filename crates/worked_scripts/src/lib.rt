@@ -10,6 +10,8 @@ mod features;
 #[cfg(test)]
 mod limits;
 #[cfg(test)]
+mod lines;
+#[cfg(test)]
 mod maps;
 #[cfg(test)]
 mod memory;

@@ -105,13 +105,18 @@ fn a_map_of_too_many_features(rt: HostRuntime) -> Result<(), Fail> {
     Ok(())
 }
 
-/// The last number that there is, and one more, however many features have gone.
-#[test]
-fn a_split_past_the_last_number(rt: HostRuntime) -> Result<(), Fail> {
+/// A square, and so many features without polygons.
+fn square_and_nulls(rt: &HostRuntime, times: usize) -> Result<Vec<u8>, AllocFailed<u8>> {
     let front =
         b"{\"type\":\"Topology\",\"objects\":{\"a\":{\"type\":\"GeometryCollection\",\"geometries\":[{\"type\":\"Polygon\",\"arcs\":[[0]]}";
     let end = b"]}},\"arcs\":[[[0,0],[10,0],[10,10],[0,10],[0,0]]]}";
-    let map = long_text(&rt, front, b",{\"type\":null}", 199_998, end)?;
+    long_text(rt, front, b",{\"type\":null}", times, end)
+}
+
+/// The last number that there is, and one more, though a feature has gone.
+#[test]
+fn a_split_with_the_last_number(rt: HostRuntime) -> Result<(), Fail> {
+    let map = square_and_nulls(&rt, 199_998)?;
     assert_eq!(rt;
         told(
             rt.alloc(),
@@ -121,7 +126,13 @@ fn a_split_past_the_last_number(rt: HostRuntime) -> Result<(), Fail> {
         .as_str(),
         "ok 199999\nok\nrefused too large\n100\nanswered 4, refused 1"
     );
-    let map = long_text(&rt, front, b",{\"type\":null}", 199_999, end)?;
+    Ok(())
+}
+
+/// All numbers are taken by what was read.
+#[test]
+fn a_split_past_the_last_number(rt: HostRuntime) -> Result<(), Fail> {
+    let map = square_and_nulls(&rt, 199_999)?;
     assert_eq!(rt;
         told(
             rt.alloc(),

@@ -81,3 +81,6 @@ loop-n-init g c = record {
 
 pub returns-in-Err-Write-feed-clause-write : goal.returns-in-Err-Write-feed-clause-write
 returns-in-Err-Write-feed-clause-write g c = λ _. c.feed.ensures.failed (c.in-Err-Write-feed.is ∙ ap Err c.in-Err-Write-feed.field-0-is)
+
+pub returns-in-Ok-finish-clause-end : goal.returns-in-Ok-finish-clause-end
+returns-in-Ok-finish-clause-end g c = c.in-Ok.ensures.end c.if-n-eq0.true (omega (arith, c.get.auto.room))

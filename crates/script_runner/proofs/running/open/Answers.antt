@@ -8,6 +8,7 @@ returns-in-Err g c =
     let unlike : ¬ (c.in-Err.fault ≡ opening.OutOfMemory) = search rules in
     record {
       opened = tt;
+      numbered = tt;
       refused = (c.in-Err.ensures.refused, unlike, not_read c.args.bytes.now (c.in-Err.ensures.unread unlike));
     }
 

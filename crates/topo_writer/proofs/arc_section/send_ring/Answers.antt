@@ -1,6 +1,5 @@
 use Rattle.std.proofs.Common.{arith, ◌≡◌, ◌+◌, ◌<◌, ◌≤◌, sym, ap, ◌∙◌, subst, take, length}
 use Rattle.std.specs.List.{AllByRecursion}
-use Rattle.std.proofs.lemmas.List.{drop_all}
 use Rattle.indexmap.specs.IndexMap.{get}
 use Rattle.ring_machine.specs.Ring.{edge_eq}
 use Rattle.ring_machine.specs.Vertices.{is_junction}
@@ -8,7 +7,7 @@ use Rattle.map_text.specs.Arcs.{pieces}
 use Rattle.topo_writer.specs.Named.{arcs_along, named_ring}
 use Rattle.topo_writer.specs.Ways.{all_found}
 use Rattle.topo_writer.proofs.NamedRings.{along_found, along_next, along_pieces, along_rest}
-use Rattle.topo_writer.proofs.NextArcs.{front_of, on_begin, on_end, on_few, on_left, on_part, on_step, OnWay}
+use Rattle.topo_writer.proofs.NextArcs.{front_of, on_begin, on_end, on_few, on_left, on_part, on_step}
 use Rattle.topo_writer.proofs.ReadRings.{each_place}
 use Rattle.topo_writer.proofs.RingPieces.{ring_long}
 use Rattle.topo_writer.proofs.SectionLemmas.{on_err}
@@ -79,13 +78,7 @@ returns-in_err-pieces-clause-err g c =
     (λ start h. front_of c.args.delta (arcs_along d (take c.args.i names)) (arcs_along d names) rest.0 start (g.W.Sink.taken c.args.out.now) rest.1 h)
 
 pub returns-clause-sent : goal.returns-clause-sent
-returns-clause-sent g c =
-    let whole = arcs_along c.args.map.now.doc (take (c.args.i + 1) c.args.arcs.now.rings.items) in
-    let left = drop_all c.loop-k.k c.as_slice-cut.result.now (omega arith) in
-    (on_end _ _ whole _ _ _ (subst (λ z. OnWay _ _ whole z _ _ _) left c.loop-k.invariant.on_way)).0
+returns-clause-sent g c = (on_end _ _ _ c.as_slice-cut.result.now c.loop-k.k _ _ _ (omega arith) c.loop-k.invariant.on_way).0
 
 pub returns-clause-ok : goal.returns-clause-ok
-returns-clause-ok g c =
-    let whole = arcs_along c.args.map.now.doc (take (c.args.i + 1) c.args.arcs.now.rings.items) in
-    let left = drop_all c.loop-k.k c.as_slice-cut.result.now (omega arith) in
-    (on_end _ _ whole _ _ _ (subst (λ z. OnWay _ _ whole z _ _ _) left c.loop-k.invariant.on_way)).1
+returns-clause-ok g c = (on_end _ _ _ c.as_slice-cut.result.now c.loop-k.k _ _ _ (omega arith) c.loop-k.invariant.on_way).1
