@@ -95,6 +95,17 @@ fn leaves<A: Allocator + Copy>(
     Ok(numbers)
 }
 
+/// How many items the first layer has, the end of each collection counted too.
+fn item_count(frame: &Frame<'_>) -> usize {
+    let mut count: usize = 0;
+    if let Some(items) = frame.view().items(0) {
+        for _ in items {
+            count = count.wrapping_add(1);
+        }
+    }
+    count
+}
+
 #[test]
 fn a_feature_alone(rt: HostRuntime) -> Result<(), Fail> {
     let frame = frame_of(rt.alloc(), ALONE)?;
@@ -113,11 +124,10 @@ fn a_collection(rt: HostRuntime) -> Result<(), Fail> {
     assert!(rt; !frame.is_alone(0) && !frame.is_alone(1));
     let order = leaves(alloc, &frame)?;
     assert_eq!(rt; order.as_slice(), [0, 1].as_slice());
-    let items = frame.view().items(0).ok_or("a layer")?;
     assert_eq!(rt;
-        items.count(),
+        item_count(&frame),
         5,
-        "the collection, its end, and a point between the features"
+        "with its end, and a point between the features"
     );
     Ok(())
 }
