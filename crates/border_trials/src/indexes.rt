@@ -34,7 +34,7 @@ fn given<I: SegIndex>(alloc: Global, index: &I, rect: Rect) -> Result<Vec<Seg>, 
 }
 
 /// An empty index gives a segment once for a box, until it is taken out; a copy keeps it.
-#[tactic(auto, using(crate::proofs::Singles::contains_none, crate::proofs::Singles::contains_inserted))]
+#[tactic(auto, using(segment_index::proofs::Singles::contains_none, segment_index::proofs::Singles::contains_inserted))]
 fn gives_once<R: Abort, I: SegIndex>(
     rt: &R,
     alloc: Global,
@@ -82,7 +82,7 @@ fn segments_outside_the_extent_are_given(rt: HostRuntime) -> Result<(), Fail> {
 }
 
 /// How often a new grid for an extent gives a segment for a box.
-#[tactic(auto, using(crate::proofs::Singles::contains_none))]
+#[tactic(auto, using(segment_index::proofs::Singles::contains_none))]
 fn times_given<R: Abort>(
     rt: &R,
     alloc: Global,
@@ -149,7 +149,7 @@ fn fill<'a>(heap: &'a LocalHeap, room: usize) -> Result<Vec<u8, &'a LocalHeap>, 
 
 /// Adds a segment to an empty index whose heap has so many bytes left, and tells whether that was
 /// refused. Then it gives nothing, and takes the segment once there is room.
-#[tactic(auto, using(crate::proofs::Singles::contains_none))]
+#[tactic(auto, using(segment_index::proofs::Singles::contains_none))]
 fn add_is_refused<R: Abort, I: SegIndex>(
     rt: &R,
     alloc: Global,
@@ -215,7 +215,7 @@ fn copy_is_refused<R: Abort, I: SegIndex>(
 }
 
 #[test]
-#[tactic(auto, using(crate::proofs::Singles::contains_none))]
+#[tactic(auto, using(segment_index::proofs::Singles::contains_none))]
 fn a_copy_refused_leaves_the_index(rt: HostRuntime) -> Result<(), Fail> {
     let s = seg(&rt, (0, 0), (3, 3));
     let heap = LocalHeap::new(rt.alloc(), HEAP)?;
@@ -254,7 +254,7 @@ fn asking_is_refused<R: Abort, I: SegIndex>(
 
 // 4 by 4 common cells
 #[test]
-#[tactic(auto, using(crate::proofs::Singles::contains_none))]
+#[tactic(auto, using(segment_index::proofs::Singles::contains_none))]
 fn candidates_refused_leave_the_index(rt: HostRuntime) -> Result<(), Fail> {
     let s = seg(&rt, (0, 0), (3, 3));
     let mut list = ListIndex::new(rt.alloc());
