@@ -59,6 +59,12 @@ impl Drawn {
         if end == 0 { 0 } else { drawn as usize % end }
     }
 
+    /// Counts a refusal, and gives its answer.
+    fn refuse(&mut self, alloc: Global) -> Result<String, AllocError> {
+        self.tally.refused = self.tally.refused.wrapping_add(1);
+        String::from_str(alloc, "refused\n")
+    }
+
     /// One of these, where there is any.
     fn one_of<T: Copy>(&mut self, items: &[T]) -> Option<T> {
         match items.get(self.below(items.len())) {
@@ -215,27 +221,30 @@ fn make<R: Abort>(
     edit: Edit,
     drawn: &mut Drawn,
 ) -> Result<(), AllocError> {
-    let (answer, count) = match edit {
+    let answer = match edit {
         Edit::Split(f, path) => match cut(rt, alloc, map, f, path) {
-            Ok(made) => (format!(in alloc; "ok {made}\n")?, &mut drawn.tally.splits),
-            Err(_) => (refusal(alloc)?, &mut drawn.tally.refused),
+            Ok(made) => {
+                drawn.tally.splits = drawn.tally.splits.wrapping_add(1);
+                format!(in alloc; "ok {made}\n")?
+            }
+            Err(_) => drawn.refuse(alloc)?,
         },
         Edit::Merge(f, g) => match merge(map, f, g) {
-            Ok(()) => (String::from_str(alloc, "ok\n")?, &mut drawn.tally.merges),
-            Err(_) => (refusal(alloc)?, &mut drawn.tally.refused),
+            Ok(()) => {
+                drawn.tally.merges = drawn.tally.merges.wrapping_add(1);
+                String::from_str(alloc, "ok\n")?
+            }
+            Err(_) => drawn.refuse(alloc)?,
         },
         Edit::Delete(f) => match delete(map, f) {
-            Ok(()) => (String::from_str(alloc, "ok\n")?, &mut drawn.tally.deletions),
-            Err(_) => (refusal(alloc)?, &mut drawn.tally.refused),
+            Ok(()) => {
+                drawn.tally.deletions = drawn.tally.deletions.wrapping_add(1);
+                String::from_str(alloc, "ok\n")?
+            }
+            Err(_) => drawn.refuse(alloc)?,
         },
     };
-    *count = count.wrapping_add(1);
     drawn.answers.push_str(answer.as_str())
-}
-
-/// The answer to any refused edit.
-fn refusal(alloc: Global) -> Result<String, AllocError> {
-    String::from_str(alloc, "refused\n")
 }
 
 /// Draws so many edits, and makes them.
