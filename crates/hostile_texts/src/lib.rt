@@ -21,16 +21,10 @@ mod names;
 #[cfg(test)]
 mod names_of_one_hash;
 #[cfg(test)]
-mod outlines;
-#[cfg(test)]
 mod pieces;
 #[cfg(test)]
 mod places;
 #[cfg(test)]
-mod spans;
-#[cfg(test)]
 mod told;
-#[cfg(test)]
-mod topologies;
 #[cfg(test)]
 mod verdicts;

@@ -1,9 +1,3 @@
-pub mod WordLemmas
-pub mod TokenLemmas
-pub mod PathLemmas
-pub mod IdLemmas
-pub mod CommandLemmas
-pub mod SoundLemmas
 pub mod ReplyLemmas
 pub mod ListLemmas
 pub mod LineLemmas

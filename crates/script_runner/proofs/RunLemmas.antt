@@ -10,7 +10,7 @@ use Rattle.script_runner.specs.Progress.{Progress, start, LineStep, Feeds, Feeds
 use Rattle.script_runner.specs.Finish.{Finishes, PutsLast}
 use Rattle.script_runner.specs.Outcome.{Runs, AnswersAll, AnswersLines, AnswersPart, IsFront}
 use Rattle.script_runner.specs.declared.runner.Summary.{Summary}
-use Rattle.script_runner.proofs.CommandLemmas.{not_empty}
+use Rattle.script_lines.proofs.CommandLemmas.{not_empty}
 use Rattle.script_runner.proofs.StepLemmas.{Feeds-append}
 use Rattle.script_runner.proofs.LineLemmas.{Mid, Mid-feeds, Mid-start, kept_means, AllMean-more, replied, stated, counted, refusing}
 

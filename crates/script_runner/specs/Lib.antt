@@ -1,6 +1,3 @@
-pub mod Lines
-pub mod Words
-pub mod Commands
 pub mod Answers
 pub mod Runs
 pub mod Progress

@@ -4,11 +4,11 @@ use Rattle.ring_machine.specs.Command.{Command}
 use Rattle.ring_machine.specs.Machine.{State, step}
 use Rattle.script_runner.specs.Answers.{answer_text, refusal_text}
 use Rattle.script_runner.specs.Runs.{Meaning, Bad, meaning_of, reply_text, state_after, refused_by, refusals}
-use Rattle.script_runner.specs.Commands.{says_of}
+use Rattle.script_lines.specs.Commands.{says_of}
 use Rattle.ring_machine.specs.Command as machine
 use Rattle.arc_store.specs.declared.fault.EditFault.{EditFault}
 use Rattle.arc_store.specs.declared.fault.EditFault.TheVariants.{NoFeature, NoVertex, NoSegment, Occupied, Junction, RingShort, SegmentExists, NoCollection, NotOnOuterRing, RepeatedPoint, WrongSide, TooLarge, SameFeature, NotOnePolygon, NotNeighbours, Runs, CommonElse, SameSide, Conflict, Sweeps, OutOfMemory}
-use Rattle.script_runner.specs.declared.lines.Line.{Line}
+use Rattle.script_lines.specs.declared.lines.Line.{Line}
 use Rattle.topo_writer.specs.declared.sending.WriteFault.{WriteFault}
 use Rattle.topo_writer.specs.declared.sending.WriteFault.TheVariants as write
 use Rattle.script_runner.specs.declared.stop.Stop.{Stop}

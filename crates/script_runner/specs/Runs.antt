@@ -5,7 +5,7 @@ use Rattle.ring_machine.specs.Document.{Document}
 use Rattle.ring_machine.specs.Parts.{features}
 use Rattle.ring_machine.specs.Command.{Command, Answer, Refused}
 use Rattle.ring_machine.specs.Machine.{State, step}
-use Rattle.script_runner.specs.Lines.{Says}
+use Rattle.script_lines.specs.Lines.{Says}
 use Rattle.arc_store.specs.State.{State as MapState}
 use Rattle.script_runner.specs.Answers.{answer_text}
 

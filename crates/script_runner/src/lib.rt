@@ -3,10 +3,6 @@
 
 mod copies;
 mod fault;
-mod ids;
-mod lines;
-mod parsing;
-mod paths;
 mod questions;
 mod replies;
 mod ring_lists;
@@ -15,10 +11,8 @@ mod running;
 mod sending;
 mod stop;
 mod texts;
-mod words;
 
 pub use fault::RunFault;
-pub use lines::{Command, Line, LineFault};
-pub use parsing::parse_line;
 pub use runner::Summary;
 pub use running::run;
+pub use script_lines::{Command, Line, LineFault, parse_line};

@@ -5,16 +5,16 @@ ghost use Rattle.map_text.specs.Strings.{string_text};
 ghost use Rattle.script_runner.specs.Answers.{position_text, segment_text};
 ghost use Rattle.script_runner.specs.Runs.{state_of};
 ghost use Rattle.script_runner.specs.Replies.{Replied, Tells, TellsMade, TellsFault};
-ghost use Rattle.script_runner.specs.Commands.{command_of, IsSound};
+ghost use Rattle.script_lines.specs.Commands.{command_of, IsSound};
 
 use crate::copies::{id_in, path_in};
-use crate::lines::Command;
 use crate::questions::{reply_to_area, reply_to_at, reply_to_neighbours};
 use crate::stop::OutOfMemory;
 use crate::texts::{push_number, push_position, push_segment};
 use arc_store::{EditFault, IdText, Map, Path};
 use edit_vertex::{insert_vertex, move_vertex, remove_vertex, thin};
 use grid_geometry::{Pos, Seg};
+use script_lines::Command;
 use segment_index::GridIndex;
 use split_merge::{delete, merge, rename, split};
 use std::alloc::Allocator;

@@ -3,16 +3,15 @@ ghost use Rattle.std.specs.Prelude.{◌≡◌, ◌≤◌, ◌<◌, ◌+◌, ◌^
 ghost use Rattle.std.specs.Io.KnownBytes.{Keeps};
 ghost use Rattle.script_runner.specs.Runs.{without_return, answered_by};
 ghost use Rattle.script_runner.specs.Replies.{meaning_of_said};
-ghost use Rattle.script_runner.specs.Commands.{SaysSound};
+ghost use Rattle.script_lines.specs.Commands.{SaysSound};
 ghost use Rattle.ring_machine.specs.Parts.{features};
 ghost use Rattle.script_runner.specs.Progress.{KeptMeans, LineStep, ByteStep, Feeds, FeedsPart, PutsPart, Told, start};
 
-use crate::lines::{Line, LineFault};
-use crate::parsing::parse_line;
 use crate::sending::send_reply;
 use crate::stop::{OutOfMemory, Stop};
 use arc_store::Map;
 use device_io::Sink;
+use script_lines::{Line, LineFault, parse_line};
 use segment_index::GridIndex;
 use std::alloc::{Allocator, Global};
 use std::marker::Model;

@@ -7,15 +7,15 @@ ghost use Rattle.map_text.specs.Text.{text_of};
 ghost use Rattle.script_runner.specs.Runs.{Asked, reply_text, state_of};
 ghost use Rattle.script_runner.specs.Progress.{Told};
 ghost use Rattle.script_runner.specs.Replies.{RepliedLine, meaning_of_said};
-ghost use Rattle.script_runner.specs.Commands.{command_of, IsSound, SaysSound};
+ghost use Rattle.script_lines.specs.Commands.{command_of, IsSound, SaysSound};
 
-use crate::lines::{Command, Line};
 use crate::questions::reply_to_count;
 use crate::replies::reply_to;
 use crate::ring_lists::reply_to_rings;
 use crate::stop::Stop;
 use arc_store::Map;
 use device_io::{Sink, put_all};
+use script_lines::{Command, Line};
 use segment_index::GridIndex;
 use std::alloc::Allocator;
 use topo_writer::write;

@@ -16,7 +16,7 @@ use std::test::Fail;
 use topo_reader::read;
 
 // two squares with a common side, and above them a layer that is their union
-pub(crate) const UNION_ABOVE: &str =
+const UNION_ABOVE: &str =
     "{\"type\":\"Topology\",\"objects\":{\"land\":{\"type\":\"GeometryCollection\",\"geometries\":[{\"type\":\"Polygon\",\"id\":\"A\",\"arcs\":[[0,1]]},{\"arcs\":[[-1,2]],\"type\":\"Polygon\",\"id\":\"B\"}]},\"state\":{\"type\":\"Polygon\",\"arcs\":[[1,2]]}},\"arcs\":[[[10,0],[10,10]],[[10,10],[0,10],[0,0],[10,0]],[[10,0],[20,0],[20,10],[10,10]]]}";
 
 // a polygon with a hole at its corner, and another hole that turns right

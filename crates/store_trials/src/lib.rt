@@ -1,5 +1,5 @@
 //! Tests of the store: the same edits beside those of plain rings, growths that are refused, edits of
-//! features, how few pairs of segments an edit tests, and what is asked of a map.
+//! features, and how few pairs of segments an edit tests.
 #![tactic(auto)]
 
 #[cfg(test)]
@@ -16,8 +16,6 @@ mod features;
 mod made;
 #[cfg(test)]
 mod opened;
-#[cfg(test)]
-mod queries;
 #[cfg(test)]
 mod refusals;
 #[cfg(test)]

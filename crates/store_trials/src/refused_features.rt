@@ -51,6 +51,36 @@ enum Edit {
     Delete(u32),
 }
 
+/// Joins the second feature to the first.
+fn join<I: SegIndex, A: Allocator + Copy>(
+    map: &mut Map<'_, I, A>,
+    f: u32,
+    g: u32,
+) -> Result<u32, EditFault> {
+    merge(map, f, g)?;
+    Ok(0)
+}
+
+/// Gives the feature an id, which is made in the heap.
+fn name<I: SegIndex, A: Allocator + Copy>(
+    heap: A,
+    map: &mut Map<'_, I, A>,
+    f: u32,
+    id: &str,
+) -> Result<u32, EditFault> {
+    rename(map, f, IdText(String::from_str(heap, id)?))?;
+    Ok(0)
+}
+
+/// Takes the feature out.
+fn take_out<I: SegIndex, A: Allocator + Copy>(
+    map: &mut Map<'_, I, A>,
+    f: u32,
+) -> Result<u32, EditFault> {
+    delete(map, f)?;
+    Ok(0)
+}
+
 /// Makes the edit, and gives the number of the new feature, or 0. What it is given is made in the
 /// same heap.
 fn make<R: Abort, I: SegIndex, A: Allocator + Copy>(
@@ -60,12 +90,11 @@ fn make<R: Abort, I: SegIndex, A: Allocator + Copy>(
     edit: Edit,
 ) -> Result<u32, EditFault> {
     match edit {
-        Edit::Split(f, positions) => return cut(rt, heap, map, f, positions),
-        Edit::Merge(f, g) => merge(map, f, g)?,
-        Edit::Rename(f, id) => rename(map, f, IdText(String::from_str(heap, id)?))?,
-        Edit::Delete(f) => delete(map, f)?,
+        Edit::Split(f, positions) => cut(rt, heap, map, f, positions),
+        Edit::Merge(f, g) => join(map, f, g),
+        Edit::Rename(f, id) => name(heap, map, f, id),
+        Edit::Delete(f) => take_out(map, f),
     }
-    Ok(0)
 }
 
 // ---- all that a map shows

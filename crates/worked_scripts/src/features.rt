@@ -88,6 +88,14 @@ fn refused_splits(rt: HostRuntime) -> Result<(), Fail> {
             "split 9 \"C\" 0 0 10 10\nsplit 0 \"C\" 0 0 20 0\nsplit 0 \"C\" 0 0 5 5 5 5 10 10\nsplit 0 \"C\" 0 0 20 0 10 10\nsplit 0 \"C\" 0 0 10 0\nsplit 0 \"C\" 0 0 15 5 10 10",
             "refused no feature\nrefused not on outer ring\nrefused repeated point\nrefused occupied\nrefused segment exists\nrefused conflict 0 0 15 5 / 10 0 10 10\nanswered 6, refused 6",
         ),
+    ];
+    are_answered(&rt, rt.alloc(), &rows[..])
+}
+
+/// Cuts that are refused for the way of their path.
+#[test]
+fn refused_paths(rt: HostRuntime) -> Result<(), Fail> {
+    let rows = [
         // a position twice, at the ends too
         (
             TWO_SQUARES,

@@ -4,19 +4,13 @@
 #[cfg(test)]
 mod devices;
 #[cfg(test)]
-mod faults;
-#[cfg(test)]
 mod features;
-#[cfg(test)]
-mod limits;
 #[cfg(test)]
 mod lines;
 #[cfg(test)]
 mod maps;
 #[cfg(test)]
 mod memory;
-#[cfg(test)]
-mod mistakes;
 #[cfg(test)]
 mod questions;
 #[cfg(test)]

@@ -64,15 +64,3 @@ pub(crate) fn are_answered<R: Abort>(
     }
     Ok(())
 }
-
-/// A question for an area is told this of each map.
-pub(crate) fn are_opened<R: Abort>(
-    rt: &R,
-    alloc: Global,
-    rows: &[(&str, &str)],
-) -> Result<(), Fail> {
-    for row in rows {
-        assert_eq!(rt; told(alloc, row.0.as_bytes(), b"area 0")?.as_str(), row.1);
-    }
-    Ok(())
-}

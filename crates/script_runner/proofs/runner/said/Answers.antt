@@ -1,4 +1,4 @@
-use Rattle.script_runner.proofs.SoundLemmas.{said_sound}
+use Rattle.script_lines.proofs.SoundLemmas.{said_sound}
 use Rattle.script_runner.proofs.runner.said.Goals as goal
 
 pub returns-in-Ok-clause-sound : goal.returns-in-Ok-clause-sound

@@ -1,0 +1,11 @@
+//! Tests of whole runs that end in a fault, of lines that are bad, and of the limits.
+#![tactic(auto)]
+
+#[cfg(test)]
+mod faults;
+#[cfg(test)]
+mod limits;
+#[cfg(test)]
+mod mistakes;
+#[cfg(test)]
+mod told;

@@ -1,0 +1,30 @@
+-- What a line says is sound: the path of a split has as many positions as a path may have.
+use Rattle.std.proofs.Common.{List, ℕ, Some}
+use Rattle.script_lines.specs.Lines.{Asks, Says}
+use Rattle.script_lines.specs.Commands.{command_of, says_of, IsSound, SaysSound}
+use Rattle.script_lines.specs.declared.lines.Command.{Command as CommandLine}
+use Rattle.script_lines.specs.declared.lines.Command.TheVariants as line
+use Rattle.script_lines.specs.declared.lines.Line.{Line}
+use Rattle.script_lines.specs.declared.lines.Line.TheVariants as said
+
+asked_sound : (text : List ℕ) (c : CommandLine) → Asks text (command_of c) → IsSound c
+asked_sound text (line.Split n name path) h =
+    let (words, e, w) = h in
+    (w.along.least, w.along.most)
+asked_sound text (line.Move p q) h = tt
+asked_sound text (line.Insert a b q) h = tt
+asked_sound text (line.Remove p) h = tt
+asked_sound text (line.Thin t) h = tt
+asked_sound text (line.Merge n m) h = tt
+asked_sound text (line.Rename n name) h = tt
+asked_sound text (line.Delete n) h = tt
+asked_sound text (line.Area n) h = tt
+asked_sound text (line.At p) h = tt
+asked_sound text (line.Neighbours n) h = tt
+
+pub said_sound : (text : List ℕ) (l : Line) → Says text (says_of l) → SaysSound (Some l)
+said_sound text said.Skip h = tt
+said_sound text (said.Rings n) h = tt
+said_sound text said.Count h = tt
+said_sound text (said.Edit c) h = asked_sound text c h
+said_sound text said.Document h = tt

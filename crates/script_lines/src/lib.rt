@@ -1,0 +1,11 @@
+//! The lines of a script: what a line of bytes asks for.
+#![tactic(auto)]
+
+mod ids;
+mod lines;
+mod parsing;
+mod paths;
+mod words;
+
+pub use lines::{Command, Line, LineFault};
+pub use parsing::parse_line;
