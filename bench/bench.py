@@ -27,7 +27,8 @@ For each map there is one line a measure:
     deletes   features deleted a second
     memory    the most memory that opening the map and a few edits took
 
-The time of opening and saving is taken off before edits and questions are counted. Their number is adapted, so
+The time of opening and saving is taken off before edits and questions are counted, and that of opening alone before
+deletions, which leave little to save. Their number is adapted, so
 that a run takes some seconds. A measure that fails says `failed`, and why; a map or a program that
 is not there has a line that says so.
 
@@ -498,7 +499,7 @@ def measure_splits(runner, map_, opening, drawn, seconds):
 
 
 def measure_deletes(runner, map_, opening, drawn, rand):
-    """All features but one are deleted, in any order."""
+    """All features but one are deleted, in any order, so that saving what is left takes no time to speak of."""
     numbers = rand.sample(range(drawn.features), max(drawn.features - 1, 0))
     spent = runner.accepted(map_.path, [f"delete {n}" for n in numbers]).seconds - opening
     if not numbers or spent <= 0:
@@ -543,7 +544,7 @@ def measure(options, runner, map_):
     line("at", lambda: questions(of_positions(drawn, rand), "inside:( [0-9]+)* border:( [0-9]+)*"))
     line("sharing", lambda: questions(of_features("neighbours", drawn, rand), "neighbours:( [0-9]+)*"))
     line("splits", lambda: measure_splits(runner, map_, whole, drawn, options.seconds))
-    line("deletes", lambda: measure_deletes(runner, map_, whole, drawn, rand))
+    line("deletes", lambda: measure_deletes(runner, map_, opening, drawn, rand))
     line("memory", lambda: measure_memory(runner, map_, drawn))
 
 
