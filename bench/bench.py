@@ -24,6 +24,7 @@ For each map there is one line a measure:
     at        `at` lines answered a second, at positions drawn between the coordinates of the vertices
     sharing   `neighbours` lines answered a second
     splits    accepted splits and merges a second: features cut from one vertex to another, and joined again
+    near      the same of 60 features that follow each other in the map, over and over, which stay in the processor's cache
     deletes   features deleted a second
     memory    the most memory that opening the map and a few edits took
 
@@ -65,13 +66,15 @@ SMALL_REACH = 1_000_000
 # How many vertices are drawn of one map, how many lines a script has, and the next number of a feature, at most.
 MOST_DRAWN = 100_000
 MOST_NUMBERS = 200_000
+# How many features that follow each other are cut and joined over and over.
+NEAR = 60
 MOST_LINES = 2_000_000
 # More comment lines than a pipe and a reader's room hold: once they are written, what stood before has been answered.
 HELD_BACK = "# held back\n" * 40_000
 
 Map = collections.namedtuple("Map", "name path")
 Run = collections.namedtuple("Run", "seconds status out err peak")
-Drawn = collections.namedtuple("Drawn", "vertices features cuts")
+Drawn = collections.namedtuple("Drawn", "vertices features cuts near")
 # A feature's number, and the ends of a path that may cut it.
 Cut = collections.namedtuple("Cut", "feature start end")
 
@@ -209,7 +212,8 @@ def cuts_of(features, arcs):
 
 
 def draw(path, seed):
-    """Vertices of the rings, how many features there are, and paths that may cut some."""
+    """Vertices of the rings, how many features there are, and paths that may cut some, from all over the map and of
+    features that follow each other."""
     topology = json.loads(pathlib.Path(path).read_bytes())
     features = []
     for layer in topology["objects"].values():
@@ -220,7 +224,8 @@ def draw(path, seed):
     rand = random.Random(seed)
     drawn = rand.sample(vertices, min(len(vertices), MOST_DRAWN))
     cuts = list(cuts_of(features, arcs))
-    return Drawn(drawn, len(features), rand.sample(cuts, min(len(cuts), MOST_DRAWN)))
+    first = max(0, (len(cuts) - NEAR) // 2)
+    return Drawn(drawn, len(features), rand.sample(cuts, min(len(cuts), MOST_DRAWN)), cuts[first : first + NEAR])
 
 
 def apart(function, *given):
@@ -379,9 +384,9 @@ class Moves:
 class Splits:
     """Features cut in two and joined again, of which the refused ones are left out as they are found."""
 
-    def __init__(self, runner, path, drawn):
-        self.runner, self.path, self.next = runner, path, drawn.features
-        self.good, self.untried = [], list(reversed(drawn.cuts))
+    def __init__(self, runner, path, features, cuts):
+        self.runner, self.path, self.next = runner, path, features
+        self.good, self.untried = [], list(reversed(cuts))
 
     def split(self, cut):
         """The line that cuts a feature."""
@@ -493,8 +498,8 @@ def of_positions(drawn, rand):
     return lambda: f"at {rand.randint(west, east)} {rand.randint(south, north)}"
 
 
-def measure_splits(runner, map_, opening, drawn, seconds):
-    each, count, spent = rate(Splits(runner, map_.path, drawn).run, opening, seconds)
+def measure_splits(runner, map_, opening, features, cuts, seconds):
+    each, count, spent = rate(Splits(runner, map_.path, features, cuts).run, opening, seconds)
     return f"{each:9.1f} /s     {count} splits and merges in {spent:.2f} s"
 
 
@@ -543,7 +548,8 @@ def measure(options, runner, map_):
     line("queries", lambda: questions(of_features("area", drawn, rand), "-?[0-9]+"))
     line("at", lambda: questions(of_positions(drawn, rand), "inside:( [0-9]+)* border:( [0-9]+)*"))
     line("sharing", lambda: questions(of_features("neighbours", drawn, rand), "neighbours:( [0-9]+)*"))
-    line("splits", lambda: measure_splits(runner, map_, whole, drawn, options.seconds))
+    for name, cuts in (("splits", drawn.cuts), ("near", drawn.near)):
+        line(name, lambda: measure_splits(runner, map_, whole, drawn.features, cuts, options.seconds))
     line("deletes", lambda: measure_deletes(runner, map_, opening, drawn, rand))
     line("memory", lambda: measure_memory(runner, map_, drawn))
 
