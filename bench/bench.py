@@ -25,13 +25,12 @@ For each map there is one line a measure:
     sharing   `neighbours` lines answered a second
     splits    accepted splits and merges a second: features cut from one vertex to another, and joined again
     near      the same of 60 features that follow each other in the map, over and over, which stay in the processor's cache
-    deletes   features deleted a second
+    deletes   features deleted a second: all but one of the map's, in drawn order; the least of several runs
     memory    the most memory that opening the map and a few edits took
 
 The time of opening and saving is taken off before edits and questions are counted, and that of opening alone before
-deletions, which leave little to save. Their number is adapted, so
-that a run takes some seconds. A measure that fails says `failed`, and why; a map or a program that
-is not there has a line that says so.
+deletions, which leave little to save. How many edits or questions a run has is adapted, so that it takes some seconds.
+A measure that fails says `failed`, and why; a map or a program that is not there has a line that says so.
 
 The maps that this script makes are partitions of the plane in brick order, each border written
 once and met by its neighbours at junctions, with whole-number coordinates. They are the same for
@@ -506,7 +505,8 @@ def measure_splits(runner, map_, opening, features, cuts, seconds):
 def measure_deletes(runner, map_, opening, drawn, rand):
     """All features but one are deleted, in any order, so that saving what is left takes no time to speak of."""
     numbers = rand.sample(range(drawn.features), max(drawn.features - 1, 0))
-    spent = runner.accepted(map_.path, [f"delete {n}" for n in numbers]).seconds - opening
+    lines = [f"delete {n}" for n in numbers]
+    spent = least(lambda: runner.accepted(map_.path, lines).seconds) - opening
     if not numbers or spent <= 0:
         raise Failed(f"{len(numbers)} lines take no time beside opening")
     return f"{len(numbers) / spent:9.1f} /s     {len(numbers)} features in {spent:.2f} s"
