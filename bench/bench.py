@@ -46,6 +46,7 @@ import os
 import pathlib
 import random
 import re
+import shutil
 import subprocess
 import sys
 import tempfile
@@ -545,6 +546,8 @@ def measure_memory(runner, map_, drawn):
 
 
 def measure_work(counter, map_, drawn, rand):
+    if not shutil.which("valgrind"):
+        raise Failed("valgrind is not there")
     counter.opened(map_.path)
     opening = counter.last()
     counter.accepted(map_.path, [])
