@@ -25,13 +25,14 @@ For each map there is one line a measure:
     sharing   `neighbours` lines answered a second
     splits    accepted splits and merges a second: features cut from one vertex to another, and joined again
     near      the same of 60 features that follow each other in the map, over and over, which stay in the processor's cache
-    deletes   features deleted a second: all but one of the map's, in drawn order; the least of several runs
-    memory    the most memory that opening the map and a few edits took
+    deletes   features deleted a second: all but one of the map's, in drawn order
+    in turn   the same in the map's order
+    memory    the most memory that opening the map and a few questions took
     work      with --instructions alone: the processor's instructions for a split or a merge, and for a deletion, beside
               opening and saving, counted by valgrind, which has the same count whatever the cache holds
 
-The time of opening and saving is taken off before edits and questions are counted, and that of opening alone before
-deletions, which leave little to save. How many edits or questions a run has is adapted, so that it takes some seconds.
+Lines a second are timed inside one run, without opening and saving: the script comes through a pipe, and the clock runs
+from when the lines are written to when the program has read on past them. The rate is the middle one of several pieces.
 A measure that fails says `failed`, and why; a map or a program that is not there has a line that says so.
 
 The maps that this script makes are partitions of the plane in brick order, each border written
@@ -40,6 +41,7 @@ the same seed, and are kept in bench/out.
 """
 import argparse
 import collections
+import contextlib
 import json
 import multiprocessing
 import os
@@ -47,6 +49,7 @@ import pathlib
 import random
 import re
 import shutil
+import signal
 import subprocess
 import sys
 import tempfile
@@ -71,13 +74,19 @@ MOST_NUMBERS = 200_000
 # How many features that follow each other are cut and joined over and over.
 NEAR = 60
 MOST_LINES = 2_000_000
+# How many pieces of a script are timed, of which the middle one counts, and how long each takes at least, in seconds.
+PIECES_TIMED = 5
+LEAST_PIECE = 0.02
+# The seconds that maps are deleted for, and the most of them.
+DELETING, MOST_DELETED = 8, 100
 # How many splits and merges have their instructions counted.
 COUNTED = 800
-# More comment lines than a pipe and a reader's room hold: once they are written, what stood before has been answered.
-HELD_BACK = "# held back\n" * 40_000
+# More bytes of comment lines than a pipe and a reader's room hold: once they are written, what stood before has been
+# answered.
+HELD_BACK = ("#" * 8_000 + "\n") * 16
 
 Map = collections.namedtuple("Map", "name path")
-Run = collections.namedtuple("Run", "seconds status out err peak")
+Run = collections.namedtuple("Run", "seconds status out err")
 Drawn = collections.namedtuple("Drawn", "vertices features cuts near")
 # A feature's number, and the ends of a path that may cut it.
 Cut = collections.namedtuple("Cut", "feature start end")
@@ -253,24 +262,45 @@ def high_water(pid):
         return 0
 
 
-def feed(child, pipe, text):
-    """Writes a script into a pipe that the program reads, and gives the most memory that it has used by then."""
+def opened_for(child, pipe):
+    """The end of a pipe that a script is written into, once the program has opened the other one."""
     while child.poll() is None:
         try:
             to = os.open(pipe, os.O_WRONLY | os.O_NONBLOCK)
-            break
+            os.set_blocking(to, True)
+            return open(to, "wb", buffering=0)
         except OSError:  # the program has not opened it yet
             time.sleep(0.001)
-    else:
-        return 0
-    os.set_blocking(to, True)
-    try:
-        with open(to, "wb", buffering=0) as script:
+    raise Failed(f"status {child.returncode} before the script was opened")
+
+
+class Session:
+    """A run whose script is written piece by piece. What was written has been answered once a call has returned."""
+
+    def __init__(self, child, script):
+        self.child, self.script, self.lines, self.answers = child, script, 0, []
+        self.timed([])
+        self.nothing = min(self.timed([]) for _ in range(9))
+
+    def timed(self, lines):
+        """The seconds that these lines take, with the comments behind them."""
+        text = memoryview(("".join(line + "\n" for line in lines) + HELD_BACK).encode("ascii"))
+        self.lines += len(lines)
+        start = time.perf_counter()
+        try:
             while text:
-                text = text[script.write(text) :]
-            return high_water(child.pid)
-    except BrokenPipeError:  # the program has ended
-        return 0
+                text = text[self.script.write(text) :]
+        except BrokenPipeError:
+            raise Failed("the program ended before its script did") from None
+        return time.perf_counter() - start
+
+    def seconds(self, lines):
+        """The seconds that these lines take by themselves."""
+        return max(self.timed(lines) - self.nothing, 1e-9)
+
+    def peak(self):
+        """The most memory in use so far."""
+        return high_water(self.child.pid)
 
 
 class Runner:
@@ -283,39 +313,58 @@ class Runner:
         """Runs a script on a map."""
         script = self.folder / "script"
         script.write_text("".join(line + "\n" for line in lines), encoding="ascii")
-        return self.started(path, script, lambda child: 0)
+        return self.ran(path, script)
 
     def opened(self, path):
         """Runs a script that can't be read, so that nothing comes after opening."""
-        done = self.started(path, self.folder, lambda child: 0)
+        done = self.ran(path, self.folder)
         if done.status != 3 or done.err.strip() != "script fault":
             raise Failed(why(done))
         return done
 
-    def watched(self, path, lines):
-        """Runs a script whose end is held back until the memory in use has been read."""
-        script = self.folder / "pipe"
-        script.unlink(missing_ok=True)
-        os.mkfifo(script)
-        text = "".join(line + "\n" for line in lines) + HELD_BACK
-        return self.started(path, script, lambda child: feed(child, script, text.encode("ascii")))
+    def ran(self, path, script):
+        """Runs the program from its start to its end."""
+        start = time.perf_counter()
+        with tempfile.TemporaryDirectory(dir=self.folder) as own:
+            with self.started(path, script, own) as child:
+                child.wait()
+                seconds = time.perf_counter() - start
+            return self.told(child, own, seconds)
 
-    def started(self, path, script, beside):
-        """Runs the program, and calls `beside` for the most memory that it has used."""
-        out, err = self.folder / "out", self.folder / "err"
-        with open(out, "wb") as to, open(err, "wb") as errors:
-            start = time.perf_counter()
+    @contextlib.contextmanager
+    def started(self, path, script, own):
+        """A run of the program, with what it writes in a folder of its own; it is ended when it lasts too long."""
+        with open(f"{own}/out", "wb") as to, open(f"{own}/err", "wb") as errors:
             words = [*self.words, path, script, "--out", self.folder / "saved.json"]
             child = subprocess.Popen(words, stdin=subprocess.DEVNULL, stdout=to, stderr=errors)
             late = threading.Timer(self.limit, child.kill)
             late.start()
-            peak = beside(child)
-            child.wait()
-            seconds = time.perf_counter() - start
-        if late.finished.is_set():
-            raise Failed(f"it ran over {self.limit} seconds")
-        late.cancel()
-        return Run(seconds, child.returncode, out.read_text(), err.read_text(errors="replace"), peak)
+            try:
+                yield child
+            finally:
+                child.wait()
+                late.cancel()
+
+    def told(self, child, own, seconds):
+        """What a run that has ended wrote."""
+        if child.returncode == -signal.SIGKILL:
+            raise Failed(f"it was ended, perhaps since it ran over {self.limit} seconds")
+        out, err = (pathlib.Path(own, name).read_text(errors="replace") for name in ("out", "err"))
+        return Run(seconds, child.returncode, out, err)
+
+    @contextlib.contextmanager
+    def session(self, path):
+        """A run that is given its script piece by piece, and of which every line has to be accepted."""
+        with tempfile.TemporaryDirectory(dir=self.folder) as own:
+            pipe = f"{own}/pipe"
+            os.mkfifo(pipe)
+            with self.started(path, pipe, own) as child, opened_for(child, pipe) as script:
+                session = Session(child, script)
+                yield session
+            done = self.told(child, own, 0)
+        session.answers = done.out.splitlines()
+        if done.status != 0 or done.err or len(session.answers) != session.lines:
+            raise Failed(why(done))
 
     def accepted(self, path, lines):
         """Runs a script of which every line has to be accepted."""
@@ -351,27 +400,32 @@ def why(done):
 
 # ---- the measures
 
-def rate(run, opening, seconds):
-    """Lines a second of a script that `run` makes so long that it takes long enough to be told from opening."""
-    wanted, lines = min(seconds, max(1.0, 0.5 * opening)), 2
-    while True:
-        done, count = run(lines)
-        spent = done.seconds - opening
-        if spent >= wanted:
-            # a run that the machine held up is told by a second one
-            done, count = run(lines)
-            spent = min(spent, done.seconds - opening)
-        if spent >= wanted or lines >= MOST_LINES:
-            break
-        each = max(spent, 0.02) / count
-        lines = min(MOST_LINES, 2 * max(lines, int(0.65 * wanted / each)))
-    if spent <= 0:
-        raise Failed(f"{count} lines take no time beside opening")
-    return count / spent, count, spent
+def middle(rates):
+    """The one in the middle: a piece that the machine held up is far from it, and so is one that is told as too short."""
+    return sorted(rates)[len(rates) // 2]
+
+
+def rate(runner, path, lines_of, seconds, answer=".*"):
+    """Lines a second, all of them accepted and answered by a text of this form, of scripts that `lines_of` makes about
+    so long."""
+    with runner.session(path) as session:
+        wanted, lines = max(seconds / PIECES_TIMED, LEAST_PIECE), lines_of(2)
+        spent = session.seconds(lines)
+        while spent < LEAST_PIECE and len(lines) < MOST_LINES:
+            lines = lines_of(4 * len(lines))
+            spent = session.seconds(lines)
+        count = min(MOST_LINES, max(2, int(len(lines) * wanted / spent)))
+        each = []
+        for _ in range(PIECES_TIMED):
+            lines = lines_of(count)
+            each.append(len(lines) / session.seconds(lines))
+    if not all(re.fullmatch(answer, text) for text in session.answers):
+        raise Failed("an answer has another form")
+    return f"{middle(each):9.1f} /s     {PIECES_TIMED} times {len(lines)} lines, {min(each):.1f} to {max(each):.1f} /s"
 
 
 class Moves:
-    """Moves of vertices by one unit and back, of which the refused ones are left out as they are found."""
+    """Moves of vertices by one unit and back, of which those that are refused are left out."""
 
     def __init__(self, runner, path, vertices):
         self.runner, self.path = runner, path
@@ -380,21 +434,15 @@ class Moves:
     def lines(self, vertices):
         return [line for x, y in vertices for line in (f"move {x} {y} {x + 1} {y}", f"move {x + 1} {y} {x} {y}")]
 
-    def run(self, lines):
-        """Runs so many moves, all of them accepted; where a map has too few for that, they come again."""
-        if not self.good and not self.untried:
-            raise Failed("the map has no vertex to move")
-        while self.untried and len(self.good) < lines // 2:
-            fresh = [self.untried.pop() for _ in range(min(lines // 2 - len(self.good), len(self.untried)))]
-            done = self.keep_accepted(self.good + fresh)
-            if len(self.good) == lines // 2:
-                return done, lines
-            if self.good:
-                break
+    def script(self, count):
+        """So many moves, all of them accepted; where a map has too few for that, they come again."""
+        wanted = max(count // 2, 1)
+        while self.untried and len(self.good) < wanted:
+            fresh = [self.untried.pop() for _ in range(min(wanted - len(self.good), len(self.untried)))]
+            self.keep_accepted(self.good + fresh)
         if not self.good:
-            raise Failed(f"no move is accepted: {why(done)}")
-        moved = (self.good * (lines // (2 * len(self.good)) + 1))[: lines // 2]
-        return self.runner.accepted(self.path, self.lines(moved)), 2 * len(moved)
+            raise Failed("no vertex can be moved")
+        return self.lines((self.good * (wanted // len(self.good) + 1))[:wanted])
 
     def keep_accepted(self, tried):
         """Runs the moves of these vertices, and keeps those that are accepted."""
@@ -403,14 +451,13 @@ class Moves:
         if done.status not in (0, 1) or len(answers) != 2 * len(tried):
             raise Failed(why(done))
         self.good = [place for n, place in enumerate(tried) if answers[2 * n : 2 * n + 2] == ["ok", "ok"]]
-        return done
 
 
 class Splits:
     """Features cut in two and joined again, of which the refused ones are left out as they are found."""
 
     def __init__(self, runner, path, features, cuts):
-        self.runner, self.path, self.next = runner, path, features
+        self.runner, self.path, self.next, self.turn = runner, path, features, 0
         self.good, self.untried = [], list(reversed(cuts))
 
     def split(self, cut):
@@ -420,18 +467,25 @@ class Splits:
 
     def lines(self, cuts):
         """Each feature is joined again with the one that was cut off, which has the next number."""
-        return [line for n, cut in enumerate(cuts) for line in (self.split(cut), f"merge {cut.feature} {self.next + n}")]
+        first = self.next
+        self.next += len(cuts)
+        return [line for n, cut in enumerate(cuts) for line in (self.split(cut), f"merge {cut.feature} {first + n}")]
 
-    def run(self, lines):
-        """Runs so many splits and merges, all of them accepted; where a map has too few for that, they come again."""
-        wanted = min(lines // 2, MOST_NUMBERS - self.next)
+    def script(self, count):
+        """So many splits and merges, all of them accepted; where a map has too few for that, they come again."""
+        wanted = max(count // 2, 1)
         while self.untried and len(self.good) < wanted:
             fresh = [self.untried.pop() for _ in range(min(wanted - len(self.good), len(self.untried)))]
             self.good += self.accepted(fresh)
         if not self.good:
             raise Failed("no split is accepted")
-        cuts = (self.good * (wanted // len(self.good) + 1))[:wanted]
-        return self.runner.accepted(self.path, self.lines(cuts)), 2 * len(cuts)
+        # each goes on after those that were cut before, so that a large map is met all over
+        start = self.turn % len(self.good)
+        cuts = [self.good[(start + n) % len(self.good)] for n in range(min(wanted, MOST_NUMBERS - self.next))]
+        if not cuts:
+            raise Failed("no number of a feature is left")
+        self.turn = start + len(cuts)
+        return self.lines(cuts)
 
     def accepted(self, tried):
         """Those of these paths that cut their features, where the parts can be joined again."""
@@ -490,22 +544,13 @@ def measure_save(runner, map_, opening, whole):
     return f"{whole - opening:9.3f} s      {size:.2f} MB, {size / (whole - opening):.1f} MB/s"
 
 
-def measure_edits(runner, map_, opening, drawn, seconds):
-    moves = Moves(runner, map_.path, drawn.vertices)
-    each, count, spent = rate(moves.run, opening, seconds)
-    return f"{each:9.1f} /s     {count} moves in {spent:.2f} s"
+def measure_edits(runner, map_, drawn, seconds):
+    return rate(runner, map_.path, Moves(runner, map_.path, drawn.vertices).script, seconds)
 
 
-def measure_questions(runner, map_, opening, seconds, ask, answer):
+def measure_questions(runner, map_, seconds, ask, answer):
     """Lines a second that `ask` gives, each answered by a text of this form."""
-    def run(lines):
-        done = runner.accepted(map_.path, [ask() for _ in range(lines)])
-        if not all(re.fullmatch(answer, text) for text in done.out.splitlines()):
-            raise Failed(f"an answer has another form: {why(done)}")
-        return done, lines
-
-    each, count, spent = rate(run, opening, seconds)
-    return f"{each:9.1f} /s     {count} lines in {spent:.2f} s"
+    return rate(runner, map_.path, lambda count: [ask() for _ in range(count)], seconds, answer)
 
 
 def of_features(word, drawn, rand):
@@ -523,26 +568,27 @@ def of_positions(drawn, rand):
     return lambda: f"at {rand.randint(west, east)} {rand.randint(south, north)}"
 
 
-def measure_splits(runner, map_, opening, features, cuts, seconds):
-    each, count, spent = rate(Splits(runner, map_.path, features, cuts).run, opening, seconds)
-    return f"{each:9.1f} /s     {count} splits and merges in {spent:.2f} s"
+def measure_splits(runner, map_, features, cuts, seconds):
+    return rate(runner, map_.path, Splits(runner, map_.path, features, cuts).script, seconds)
 
 
-def measure_deletes(runner, map_, opening, drawn, rand):
-    """All features but one are deleted, in any order, so that saving what is left takes no time to speak of."""
-    numbers = rand.sample(range(drawn.features), max(drawn.features - 1, 0))
-    lines = [f"delete {n}" for n in numbers]
-    spent = least(lambda: runner.accepted(map_.path, lines).seconds) - opening
-    if not numbers or spent <= 0:
-        raise Failed(f"{len(numbers)} lines take no time beside opening")
-    return f"{len(numbers) / spent:9.1f} /s     {len(numbers)} features in {spent:.2f} s"
+def measure_deletes(runner, map_, numbers):
+    """These features are deleted, in this order, in each of several runs."""
+    if not numbers:
+        raise Failed("the map has no feature to delete")
+    lines, spent, start = [f"delete {n}" for n in numbers], [], time.perf_counter()
+    while len(spent) < PIECES_TIMED or time.perf_counter() - start < DELETING and len(spent) < MOST_DELETED:
+        with runner.session(map_.path) as session:
+            spent.append(session.seconds(lines))
+    each = [len(lines) / it for it in spent]
+    return f"{middle(each):9.1f} /s     {len(spent)} times {len(lines)} features, {min(each):.1f} to {max(each):.1f} /s"
 
 
 def measure_memory(runner, map_, drawn):
-    done = runner.watched(map_.path, Moves(runner, map_.path, []).lines(drawn.vertices[:8]))
-    if done.status not in (0, 1) or not done.peak:
-        raise Failed(why(done))
-    return f"{done.peak / 1e6:9.1f} MB     {done.peak / map_.path.stat().st_size:.1f} bytes a byte of the map"
+    with runner.session(map_.path) as session:
+        session.timed([f"at {x} {y}" for x, y in drawn.vertices[:8]])
+        peak = session.peak()
+    return f"{peak / 1e6:9.1f} MB     {peak / map_.path.stat().st_size:.1f} bytes a byte of the map"
 
 
 def measure_work(counter, map_, drawn, rand):
@@ -552,12 +598,13 @@ def measure_work(counter, map_, drawn, rand):
     opening = counter.last()
     counter.accepted(map_.path, [])
     whole = counter.last()
-    _, edits = Splits(counter, map_.path, drawn.features, drawn.cuts).run(COUNTED)
+    edits = Splits(counter, map_.path, drawn.features, drawn.cuts).script(COUNTED)
+    counter.accepted(map_.path, edits)
     edited = counter.last()
-    numbers = rand.sample(range(drawn.features), drawn.features - 1)
+    numbers = rand.sample(range(drawn.features), max(drawn.features - 1, 1))
     counter.accepted(map_.path, [f"delete {n}" for n in numbers])
     deleted = counter.last()
-    return f"{(edited - whole) / edits:9.0f} a split or merge, {(deleted - opening) / len(numbers):.0f} a deletion"
+    return f"{(edited - whole) / len(edits):9.0f} a split or merge, {(deleted - opening) / len(numbers):.0f} a deletion"
 
 
 def measure(options, runner, map_):
@@ -580,18 +627,20 @@ def measure(options, runner, map_):
     drawn = apart(draw, map_.path, options.seed)
     line("open", lambda: measure_open(runner, map_, opening))
     line("save", lambda: measure_save(runner, map_, opening, whole))
-    line("edits", lambda: measure_edits(runner, map_, whole, drawn, options.seconds))
+    line("edits", lambda: measure_edits(runner, map_, drawn, options.seconds))
     rand = random.Random(options.seed)
 
     def questions(ask, answer):
-        return measure_questions(runner, map_, whole, options.seconds, ask, answer)
+        return measure_questions(runner, map_, options.seconds, ask, answer)
 
     line("queries", lambda: questions(of_features("area", drawn, rand), "-?[0-9]+"))
     line("at", lambda: questions(of_positions(drawn, rand), "inside:( [0-9]+)* border:( [0-9]+)*"))
     line("sharing", lambda: questions(of_features("neighbours", drawn, rand), "neighbours:( [0-9]+)*"))
     for name, cuts in (("splits", drawn.cuts), ("near", drawn.near)):
-        line(name, lambda: measure_splits(runner, map_, whole, drawn.features, cuts, options.seconds))
-    line("deletes", lambda: measure_deletes(runner, map_, opening, drawn, rand))
+        line(name, lambda: measure_splits(runner, map_, drawn.features, cuts, options.seconds))
+    numbers = range(drawn.features - 1)
+    line("deletes", lambda: measure_deletes(runner, map_, rand.sample(numbers, len(numbers))))
+    line("in turn", lambda: measure_deletes(runner, map_, numbers))
     line("memory", lambda: measure_memory(runner, map_, drawn))
     if options.instructions:
         counter = Counter(options.program, options.limit, runner.folder)
