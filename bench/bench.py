@@ -29,7 +29,8 @@ For each map there is one line a measure:
     in turn   the same in the map's order
     memory    the most memory that opening the map and a few questions took
     work      with --instructions alone: the processor's instructions for a split or a merge, and for a deletion, beside
-              opening and saving, counted by valgrind, which has the same count whatever the cache holds
+              opening and saving, and how often each asks memory for what its last cache has not; counted by valgrind,
+              which has the same counts whatever else the machine does
 
 Lines a second are timed inside one run, without opening and saving: the script comes through a pipe, and the clock runs
 from when the lines are written to when the program has read on past them. The rate is the middle one of several pieces.
@@ -87,6 +88,7 @@ HELD_BACK = ("#" * 8_000 + "\n") * 16
 
 Map = collections.namedtuple("Map", "name path")
 Run = collections.namedtuple("Run", "seconds status out err")
+Count = collections.namedtuple("Count", "instructions misses")
 Drawn = collections.namedtuple("Drawn", "vertices features cuts near")
 # A feature's number, and the ends of a path that may cut it.
 Cut = collections.namedtuple("Cut", "feature start end")
@@ -375,20 +377,20 @@ class Runner:
 
 
 class Counter(Runner):
-    """Runs the program under valgrind, which counts its instructions."""
+    """Runs the program under valgrind, which counts its instructions, and what the processor's caches would miss."""
 
     def __init__(self, program, limit, folder):
         super().__init__(program, limit, folder)
         self.log = self.folder / "log"
-        told = ["--cache-sim=no", "--cachegrind-out-file=/dev/null", f"--log-file={self.log}"]
+        told = ["--cache-sim=yes", "--cachegrind-out-file=/dev/null", f"--log-file={self.log}"]
         self.words = ["valgrind", "--tool=cachegrind", *told, program]
 
     def last(self):
-        """The instructions of the last run."""
-        found = re.search(r"I +refs: +([0-9,]+)", self.log.read_text())
-        if not found:
+        """The instructions of the last run, and the misses of the last cache."""
+        found = [re.search(said + r": +([0-9,]+)", self.log.read_text()) for said in (r"I +refs", r"LL misses")]
+        if not all(found):
             raise Failed("valgrind counts no instructions")
-        return int(found[1].replace(",", ""))
+        return Count(*(int(it[1].replace(",", "")) for it in found))
 
 
 def why(done):
@@ -604,7 +606,9 @@ def measure_work(counter, map_, drawn, rand):
     numbers = rand.sample(range(drawn.features), max(drawn.features - 1, 1))
     counter.accepted(map_.path, [f"delete {n}" for n in numbers])
     deleted = counter.last()
-    return f"{(edited - whole) / len(edits):9.0f} a split or merge, {(deleted - opening) / len(numbers):.0f} a deletion"
+    of_edits = [(after - before) / len(edits) for after, before in zip(edited, whole)]
+    of_deletions = [(after - before) / len(numbers) for after, before in zip(deleted, opening)]
+    return "{:9.0f} a split or merge, {:.0f} misses; {:.0f} a deletion, {:.0f} misses".format(*of_edits, *of_deletions)
 
 
 def measure(options, runner, map_):
