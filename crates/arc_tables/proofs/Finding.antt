@@ -1,5 +1,5 @@
 -- Where a segment stands, or that it stands nowhere.
-use Rattle.std.proofs.Common.{◌≡◌, ℕ, ◌<◌, ◌≤◌, ◌+◌, ◌-◌, false, ◌||◌, ◌&&◌, sym, ap, ap₂, ◌∙◌, subst, List, [], ◌∷◌, ◌++◌, take, length, get_or, arith, append_assoc, ◌⊎◌, inl, inr, Contains, Option, Some, None, IfNone}
+use Rattle.std.proofs.Common.{◌≡◌, ℕ, zero, suc, ◌<◌, ◌≤◌, ◌+◌, ◌-◌, false, refl, ◌||◌, ◌&&◌, sym, ap, ap₂, ◌∙◌, subst, List, [], ◌∷◌, ◌++◌, take, length, get_or, arith, append_assoc, ◌⊎◌, inl, inr, Contains, Option, Some, None, IfNone}
 use Rattle.std.specs.Prelude.{◌==◌}
 use native.Mathlib.Decide.{ℕ_discrete}
 use Rattle.std.proofs.lemmas.List.{take_more}
@@ -24,6 +24,13 @@ none_unless a b ps h = elim (stands_or_not a ps) [ inl m ↦ h m | inr n ↦ non
 pub if_none_map : {X : Type 0} {P Q : Type 0} (o : Option X) → (P → Q) → IfNone o P → IfNone o Q
 if_none_map None f p = f p
 if_none_map (Some x) f p = tt
+
+-- one key has no edge
+pub none_begun : (a b : ℕ) (ps : List ℕ) (n : ℕ) → n ≤ 1 → times a b (links (take n ps)) ≡ 0
+none_begun a b ps zero l = refl
+none_begun a b [] (suc n) l = refl
+none_begun a b (p ∷ ps) (suc zero) l = refl
+none_begun a b (p ∷ ps) (suc (suc n)) l = absurd (omega (arith, l))
 
 -- one more edge, which is not of the segment
 pub times_more : (a b p q : ℕ) (ps : List ℕ) (at : ℕ) → 1 ≤ at → at < length ps → p ≡ get_or ps (at - 1) p → q ≡ get_or ps at q → times a b (links (take at ps)) ≡ 0 →

@@ -57,7 +57,7 @@ fn draw_in<A: Allocator + Copy>(path: &mut Vec<VertexKey, A>, p: VertexKey, b: V
     ensures edges { links (map (onto p b) path.new.items) ≡ collapsed p b (links path.old.items) }
     ensures keys { (k : ℕ) → Contains path.new.items k → Contains path.old.items k }
 {
-    match place_in(path.as_slice(), p, b) {
+    match place_in(path.as_slice(), 1..path.len(), p, b) {
         Some((at, false)) => {
             path.remove(at);
         }

@@ -18,6 +18,6 @@ mod tables;
 mod taking;
 
 pub use arc::{Arc, Ring, Stand, Use};
-pub use place::arcs_at;
+pub use place::{Place, arcs_at};
 pub use standing::mark_end;
 pub use tables::Tables;

@@ -11,11 +11,12 @@ use crate::arc::{Arc, Stand};
 use crate::tables::Tables;
 use slab::Slab;
 use std::alloc::{AllocError, Allocator};
+use std::ops::Range;
 use vertex_index::VertexKey;
 
 /// Where a segment stands: from the key at this place of an arc to the next, or the other way.
 #[derive(Clone, Copy, Debug, PartialEq, Eq)]
-pub(crate) struct Place {
+pub struct Place {
     pub(crate) arc: usize,
     pub(crate) at: usize,
     pub(crate) back: bool,
@@ -28,12 +29,19 @@ fn leads(here: VertexKey, next: VertexKey, a: VertexKey, b: VertexKey) -> bool
     here == a && next == b
 }
 
-/// The place of the segment in a path, and whether it goes the other way there.
-pub(crate) fn place_in(path: &[VertexKey], a: VertexKey, b: VertexKey) -> Option<(usize, bool)>
+/// The place of the segment in a path, and whether it goes the other way there. It is looked for
+/// where it ends in this range.
+pub(crate) fn place_in(
+    path: &[VertexKey],
+    ends: Range<usize>,
+    a: VertexKey,
+    b: VertexKey,
+) -> Option<(usize, bool)>
     ensures some { IfSome result (λ p. IsPlace path.now p.0 p.1 a b) }
-    ensures none { IfNone result (times a b (links path.now) ≡ 0) }
+    ensures none { IfNone result (ends.start ≤ 1 → length path.now ≤ ends.end
+        → times a b (links path.now) ≡ 0) }
 {
-    for at in 1..path.len() {
+    for at in ends.start.max(1)..ends.end.min(path.len()) {
         let (here, next) = (path[at - 1], path[at]);
         if leads(here, next, a, b) {
             return Some((at - 1, false));
@@ -59,7 +67,8 @@ fn find_among<A: Allocator + Copy>(
 {
     for arc in among {
         if let Some(border) = arcs.get(*arc) {
-            if let Some((at, back)) = place_in(border.keys.as_slice(), a, b) {
+            let path = border.keys.as_slice();
+            if let Some((at, back)) = place_in(path, 1..path.len(), a, b) {
                 return Some(Place {
                     arc: *arc,
                     at,
@@ -92,13 +101,48 @@ impl<A: Allocator + Copy> Tables<A> {
         find_among(&self.arcs, arcs_at(&self.stands, a), a, b)
     }
 
-    /// How many rings have the segment of a and b: those of the arc that has it.
-    pub fn uses(&self, a: VertexKey, b: VertexKey) -> usize
+    /// The place of the segment of a and b in the arc of the place, where it stands beside that.
+    fn find_near(&self, near: Place, a: VertexKey, b: VertexKey) -> Option<Place>
+        ensures some { IfSome result (λ p. IsPlace (path_of self.now p.arc) p.at p.back a b) }
+        ensures there { IfSome result (λ p. ContainsKey self.now.arcs p.arc) }
+    {
+        let arc = self.arcs.get(near.arc)?;
+        let ends = near.at..near.at.saturating_add(3);
+        let (at, back) = place_in(arc.keys.as_slice(), ends, a, b)?;
+        Some(Place {
+            arc: near.arc,
+            at,
+            back,
+        })
+    }
+
+    /// The place of the segment of a and b, which is looked for beside the place before it is in the
+    /// arcs of a.
+    fn find_from(&self, near: Option<Place>, a: VertexKey, b: VertexKey) -> Option<Place>
+        requires { Whole self.now }
+        ensures some { IfSome result (λ p. IsPlace (path_of self.now p.arc) p.at p.back a b) }
+        ensures there { IfSome result (λ p. ContainsKey self.now.arcs p.arc) }
+        ensures none { IfNone result ((j : ℕ) → times a b (links (path_of self.now j)) ≡ 0) }
+    {
+        if let Some(near) = near {
+            if let Some(place) = self.find_near(near, a, b) {
+                return Some(place);
+            }
+        }
+        self.find(a, b)
+    }
+
+    /// How many rings have the segment of a and b: those of the arc that has it. Where one has it,
+    /// `near` becomes its place; beside what `near` was it is found soonest.
+    pub fn uses(&self, near: &mut Option<Place>, a: VertexKey, b: VertexKey) -> usize
         requires { Sound self.now }
         ensures { result ≡ users_of (rings_of self.now) a b }
     {
-        match self.find(a, b) {
-            Some(place) => self.arcs.get(place.arc).unwrap().rings.len(),
+        match self.find_from(*near, a, b) {
+            Some(place) => {
+                *near = Some(place);
+                self.arcs.get(place.arc).unwrap().rings.len()
+            }
             None => 0,
         }
     }

@@ -81,7 +81,7 @@ in_a_list = refl
 
 -- cells of 10 by 10 from 0 0 on
 abbrev tens : Frame
-tens = record { x0 = pos 0; y0 = pos 0; width = 10; height = 10 }
+tens = record { x0 = pos 0; y0 = pos 0; width = 10; height = 10; side = 64 }
 
 -- in these cells sixteen candidates, three pairs, and three candidates for the way
 in_a_grid : most_for_move (times_by (Some tens)) M (at 10 10) (at 12 12) ≡ 22

@@ -1,10 +1,9 @@
 -- Rings that were laid in two steps, and rings that stay while others come and go.
 use Rattle.std.proofs.Common.{◌≡◌, ℕ, sym, ap, ◌∙◌, List, [], ◌++◌, map, inl, inr, Some, None, is_some}
-use Rattle.std.specs.Prelude.{Contains, IsTrue, unwrap_or}
+use Rattle.std.specs.Prelude.{IsTrue, unwrap_or}
 use Rattle.std.specs.FinMap as table
 use Rattle.std.proofs.lemmas.Bool.{false≢true}
 use Rattle.std.proofs.lemmas.List.Elements.{Contains-append_left, Contains-append_right}
-use Rattle.grid_geometry.specs.Position.{Position}
 use Rattle.ring_machine.proofs.First.{In, in-append}
 use Rattle.ring_machine.proofs.Found.{distinct-append}
 use Rattle.ring_machine.proofs.Members.{contains_in, in_contains, there}

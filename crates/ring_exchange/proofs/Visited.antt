@@ -10,18 +10,19 @@ use Rattle.std.proofs.lemmas.Cmp.{nat_cmp_total}
 use native.Mathlib.Decide.{ℕ_discrete}
 use Rattle.grid_geometry.specs.Segment.{Segment, segment}
 use Rattle.ring_machine.proofs.First.{In}
-use Rattle.ring_machine.proofs.Members.{contains_in, in_contains, in_mapped}
+use Rattle.ring_machine.proofs.Members.{contains_in, in_contains, in_mapped, any_in}
 use Rattle.vertex_index.specs.Placement.{Placement, place}
-use Rattle.arc_tables.specs.Ways.{Edge}
-use Rattle.arc_tables.specs.Rings.{Rings, begins}
+use Rattle.arc_tables.specs.Ways.{Edge, is_seg}
+use Rattle.arc_tables.specs.Rings.{Rings, begins, users_of}
 use Rattle.shared_arcs.specs.Joined.{Joined, AreNeighbours}
 use Rattle.shared_arcs.specs.declared.around.Neighbours.{Neighbours}
 use Rattle.shared_arcs.specs.declared.around.Neighbours.TheVariants as neighbours
 use Rattle.map_opening.proofs.AddedRings.{ring_other, ring_here}
-use Rattle.map_opening.proofs.KeyRings.{times_edge, edge_times, edge_ends}
+use Rattle.map_opening.proofs.KeyRings.{times_edge, edge_times, edge_ends, is_seg_ends}
 use Rattle.map_opening.proofs.Places.{place_alike}
 use Rattle.ring_exchange.specs.Standing.{IsVisited, IsSide}
 use Rattle.ring_exchange.specs.Steps.{AllRound}
+use Rattle.ring_exchange.proofs.Used.{some_user}
 
 -- ---- visited vertices are those that are joined to some other
 
@@ -54,6 +55,17 @@ some_visited m round k neighbours.None f h = absurd (f refl)
 some_visited m round k (neighbours.One a) f h = joined_visited m round k a ((h a).1 refl)
 some_visited m round k (neighbours.Two a b) f h = joined_visited m round k a ((h.1 a).1 (inl refl))
 some_visited m round k neighbours.More f h = joined_visited m round k h.a h.joined.0
+
+-- and so is an end of a segment that some ring has
+pub used_visited : (m : Rings) → AllRound m → (a b : ℕ) → users_of m a b ≢ 0 → IsVisited m a
+used_visited m round a b h =
+    let u = some_user m a b h in
+    let e = any_in (is_seg a b) u.1 u.3 in
+    let ends = edge_ends u.1 (round u.0 u.1 u.2) e.0 e.1 in
+    visited_at m u.0 u.1 u.2 a (elim (is_seg_ends a b e.0 e.2) [
+      | inl i ↦ subst (λ z. In z (begins u.1)) i.0 ends.0
+      | inr i ↦ subst (λ z. In z (begins u.1)) i.1 ends.1
+    ])
 
 -- ---- sides where the vertices that are visited stay
 

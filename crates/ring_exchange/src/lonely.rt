@@ -5,7 +5,8 @@ ghost use Rattle.ring_machine.specs.WellFormed.{are_distinct};
 ghost use Rattle.ring_exchange.specs.Standing.{IsVisited};
 ghost use Rattle.ring_exchange.specs.Steps.{AllRound, LeavesVisited};
 
-use shared_arcs::{Borders, Neighbours};
+use crate::sides::edge_at;
+use shared_arcs::{Borders, Neighbours, Place};
 use std::alloc::Allocator;
 use vertex_index::{VertexKey, Vertices};
 
@@ -26,6 +27,25 @@ fn remove_lonely<A: Allocator + Copy>(
     }
 }
 
+/// Takes out the vertex of a key, unless a ring visits it: one does where the segment to the next
+/// key still stands, which is looked for beside `near`.
+fn remove_unused<A: Allocator + Copy>(
+    vertices: &mut Vertices<A>,
+    borders: &Borders<A>,
+    near: &mut Option<Place>,
+    k: VertexKey,
+    next: VertexKey,
+)
+    requires round { AllRound borders.now }
+    requires placed { IsTrue (table.contains_key vertices.old k) }
+    ensures { (IsVisited borders.now k × (vertices.new ≡ vertices.old))
+        ⊎ (¬ (IsVisited borders.now k) × (vertices.new ≡ table.remove vertices.old k)) }
+{
+    if borders.uses_along(near, k, next) == 0 {
+        remove_lonely(vertices, borders, k);
+    }
+}
+
 /// Takes out the vertices of these keys that no ring visits.
 pub(crate) fn remove_all_lonely<A: Allocator + Copy>(
     vertices: &mut Vertices<A>,
@@ -38,7 +58,9 @@ pub(crate) fn remove_all_lonely<A: Allocator + Copy>(
     requires different { IsTrue (are_distinct keys.now) }
     ensures { LeavesVisited borders.now keys.now vertices.old vertices.new }
 {
-    for k in keys {
-        remove_lonely(vertices, borders, *k);
+    let mut near = None;
+    for at in 0..keys.len() {
+        let (_, next) = edge_at(keys, at);
+        remove_unused(vertices, borders, &mut near, keys[at], next);
     }
 }

@@ -11,12 +11,12 @@ ghost use Rattle.ring_exchange.specs.Steps.{AreKeyed, HoldsWith};
 
 use grid_geometry::Seg;
 use segment_index::SegIndex;
-use shared_arcs::Borders;
+use shared_arcs::{Borders, Place};
 use std::alloc::{AllocError, Allocator};
 use vertex_index::{VertexKey, Vertices};
 
 /// The edge that begins at one of a ring's keys.
-fn edge_at(keys: &[VertexKey], at: usize) -> (VertexKey, VertexKey)
+pub(crate) fn edge_at(keys: &[VertexKey], at: usize) -> (VertexKey, VertexKey)
     requires { at < length keys.now }
     ensures { result ≡ slice_index_or (edges keys.now) at result }
 {
@@ -45,6 +45,7 @@ fn add_side<I: SegIndex, A: Allocator + Copy>(
     borders: &Borders<A>,
     index: &mut I,
     segments: &mut usize,
+    near: &mut Option<Place>,
     keys: &[VertexKey],
     at: usize,
 ) -> Result<(), AllocError>
@@ -63,7 +64,7 @@ fn add_side<I: SegIndex, A: Allocator + Copy>(
     ensures cells { I.cells index.new ≡ I.cells index.old }
 {
     let (a, b) = edge_at(keys, at);
-    if borders.uses(a, b) == 0 {
+    if borders.uses_along(near, a, b) == 0 {
         index.add(side(vertices, a, b))?;
         *segments += 1;
     }
@@ -76,6 +77,7 @@ fn drop_side<I: SegIndex, A: Allocator + Copy>(
     borders: &Borders<A>,
     index: &mut I,
     segments: &mut usize,
+    near: &mut Option<Place>,
     keys: &[VertexKey],
     at: usize,
 )
@@ -91,7 +93,7 @@ fn drop_side<I: SegIndex, A: Allocator + Copy>(
     ensures cells { I.cells index.new ≡ I.cells index.old }
 {
     let (a, b) = edge_at(keys, at);
-    if borders.uses(a, b) == 0 {
+    if borders.uses_along(near, a, b) == 0 {
         index.discard(side(vertices, a, b));
         *segments -= 1;
     }
@@ -117,9 +119,10 @@ pub(crate) fn drop_sides<I: SegIndex, A: Allocator + Copy>(
     ensures cells { I.cells index.new ≡ I.cells index.old }
 {
     let mut left = count;
+    let mut near = None;
     while left > 0 {
         left -= 1;
-        drop_side(vertices, borders, index, segments, keys, left);
+        drop_side(vertices, borders, index, segments, &mut near, keys, left);
     }
 }
 
@@ -144,8 +147,9 @@ pub(crate) fn add_sides<I: SegIndex, A: Allocator + Copy>(
     ensures few { OnOk result (segments.new ≤ segments.old + length keys.now) }
     ensures cells { I.cells index.new ≡ I.cells index.old }
 {
+    let mut near = None;
     for at in 0..keys.len() {
-        match add_side(vertices, borders, index, segments, keys, at) {
+        match add_side(vertices, borders, index, segments, &mut near, keys, at) {
             Ok(()) => {}
             Err(e) => {
                 drop_sides(vertices, borders, index, segments, keys, at);

@@ -24,6 +24,10 @@ const MAX_SCRIPT: usize = 1_073_741_824;
 /// The most bytes that are read at once.
 const PIECE: usize = 4096;
 
+/// About how many bytes of a map stand for a segment. How many segments it has is not counted before
+/// it is built, and the cells of the index need no more than a guess.
+const BYTES_PER_SEGMENT: usize = 24;
+
 /// The end of a run whose map has segments in conflict, or no memory.
 fn not_built<'a>(fault: BuildFault) -> RunFault<'a>
     ensures { IsBuildEnd fault result }
@@ -49,7 +53,8 @@ fn open<'a, A: Allocator + Copy>(
         Err(OpenFault::OutOfMemory) => return Err(RunFault::OutOfMemory),
         Err(fault) => return Err(RunFault::Open(fault)),
     };
-    let Ok(index) = GridIndex::new(alloc, raw.extent()) else {
+    let segments = bytes.len() / BYTES_PER_SEGMENT;
+    let Ok(index) = GridIndex::for_count(alloc, raw.extent(), segments) else {
         return Err(RunFault::OutOfMemory);
     };
     match Map::build(alloc, raw, index) {

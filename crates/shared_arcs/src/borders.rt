@@ -5,7 +5,7 @@ ghost use Rattle.arc_tables.specs.Rings.{begins, edges, users_of};
 ghost use Rattle.arc_tables.specs.Users.{ListsUsers};
 
 use crate::reading::push_ring_keys;
-use arc_tables::{Tables, mark_end};
+use arc_tables::{Place, Tables, mark_end};
 use slab::Slab;
 use std::alloc::{AllocError, Allocator, Global};
 use std::marker::Model;
@@ -96,7 +96,16 @@ impl<A: Allocator + Copy> Borders<A> {
     pub fn uses(&self, a: VertexKey, b: VertexKey) -> usize
         ensures { result ≡ users_of self.now a b }
     {
-        self.tables.uses(a, b)
+        self.tables.uses(&mut None, a, b)
+    }
+
+    /// How many rings have the segment of these two vertices, in either direction, of segments that
+    /// follow each other along a ring: `near` begins with `None`, and is where the last one was found.
+    /// The answer does not depend on it. Takes no memory.
+    pub fn uses_along(&self, near: &mut Option<Place>, a: VertexKey, b: VertexKey) -> usize
+        ensures { result ≡ users_of self.now a b }
+    {
+        self.tables.uses(near, a, b)
     }
 
     /// Appends the numbers of the rings that have the segment of these two vertices, in either

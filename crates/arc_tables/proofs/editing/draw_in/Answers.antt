@@ -1,4 +1,4 @@
-use Rattle.std.proofs.Common.{◌+◌, subst, sym, ap, ◌∙◌, Contains, map, true, false}
+use Rattle.std.proofs.Common.{◌+◌, subst, sym, ap, ◌∙◌, Contains, map, length, true, false, arith}
 use Rattle.arc_tables.specs.Ways.{links, times}
 use Rattle.arc_tables.specs.Edited.{onto}
 use Rattle.arc_tables.specs.Stores.{IsPlace}
@@ -24,4 +24,4 @@ pub returns-in-Some-default-false-clause-keys : goal.returns-in-Some-default-fal
 returns-in-Some-default-false-clause-keys g c = λ k m. in_removed c.args.path.now.items c.in-Some-default-false.at k (subst (λ z. Contains z k) c.remove-in-Some-default-false.ensures.items m)
 
 pub returns-in-None-clause-edges : goal.returns-in-None-clause-edges
-returns-in-None-clause-edges g c = moved_links c.args.p c.args.b c.args.path.now.items (ap (λ z. times c.args.p c.args.b (links z)) (sym c.as_slice.ensures.value) ∙ c.in-None.ensures.none)
+returns-in-None-clause-edges g c = moved_links c.args.p c.args.b c.args.path.now.items (ap (λ z. times c.args.p c.args.b (links z)) (sym c.as_slice.ensures.value) ∙ c.in-None.ensures.none (omega arith) (omega (arith, ap length c.as_slice.ensures.value, c.len.ensures, c.args.path.now.ok)))

@@ -1,4 +1,4 @@
-use Rattle.std.proofs.Common.{◌≡◌, Contains, subst, sym, ap, ◌∙◌, inl, inr, refl, take_all}
+use Rattle.std.proofs.Common.{◌≡◌, Contains, subst, sym, ap, ◌∙◌, inl, inr, refl, take_all, arith}
 use Rattle.slab.specs.Slab.{get}
 use Rattle.arc_tables.specs.Ways.{times, links}
 use Rattle.arc_tables.specs.Stores.{path_in}
@@ -10,7 +10,7 @@ pub loop-arc-preserved : goal.loop-arc-preserved
 loop-arc-preserved g c = λ j m. elim (taken_cases c.args.among.now c.loop-arc.arc-index j c.loop-arc-test.true m) [
   | inl k ↦ c.loop-arc.invariant j k
   | inr k ↦ elim c.match-get.branch [
-    | in-Some+in_default-place_in w ↦ subst (λ o. times c.args.a c.args.b (links (path_in o)) ≡ 0) (w.in-Some.ensures ∙ ap (get c.args.arcs.now) k) (ap (λ z. times c.args.a c.args.b (links z)) (sym w.as_slice.ensures.value) ∙ w.in_default-place_in.ensures.none)
+    | in-Some+in_default-place_in w ↦ subst (λ o. times c.args.a c.args.b (links (path_in o)) ≡ 0) (w.in-Some.ensures ∙ ap (get c.args.arcs.now) k) (ap (λ z. times c.args.a c.args.b (links z)) (sym w.as_slice-path.ensures.value) ∙ w.in_default-place_in.ensures.none (omega arith) (omega (arith, w.as_slice-path.ensures.len)))
     | in_default w ↦ subst (λ o. times c.args.a c.args.b (links (path_in o)) ≡ 0) (w.in_default.ensures ∙ ap (get c.args.arcs.now) k) refl
   ]
 ]

@@ -3,5 +3,5 @@ use Rattle.ring_exchange.specs.Steps.{LeavesVisited}
 use Rattle.ring_exchange.proofs.lonely.remove_all_lonely.Given as goal
 
 -- of the keys so far those that a ring visits are left
-abbrev pub invariant-loop-k : goal.invariant-loop-k
-invariant-loop-k g l = LeavesVisited l.borders (take l.k-index l.keys) l.initial.vertices l.vertices
+abbrev pub invariant-loop-at : goal.invariant-loop-at
+invariant-loop-at g l = LeavesVisited l.borders (take l.at l.keys) l.initial.vertices l.vertices

@@ -18,14 +18,14 @@ side-requires-clause-apart g c =
 pub add-requires : goal.add-requires
 add-requires g c =
     side_new c.args.vertices.now c.args.borders.now c.requires.keyed c.args.keys.now c.requires.round c.args.at c.requires.within c.edge_at-a.result c.edge_at-a.ensures
-    c.uses.result c.uses.ensures (g.I.SegIndex.held c.args.index.now)
-    c.if-uses-eq0.true c.requires.holds c.side.result c.side.ensures
+    c.uses_along.result c.uses_along.ensures (g.I.SegIndex.held c.args.index.now)
+    c.if-uses_along-eq0.true c.requires.holds c.side.result c.side.ensures
 
 pub returns-in_ok-add-clause-holds : goal.returns-in_ok-add-clause-holds
 returns-in_ok-add-clause-holds g c =
     side_added c.args.vertices.now c.args.borders.now c.requires.keyed c.args.keys.now c.requires.round c.args.at c.requires.within c.edge_at-a.result c.edge_at-a.ensures
-    c.uses.result c.uses.ensures (g.I.SegIndex.held c.args.index.now)
-    c.if-uses-eq0.true c.requires.holds c.side.result c.side.ensures (g.I.SegIndex.held c.add.new.self) c.in_ok-add.ensures.added
+    c.uses_along.result c.uses_along.ensures (g.I.SegIndex.held c.args.index.now)
+    c.if-uses_along-eq0.true c.requires.holds c.side.result c.side.ensures (g.I.SegIndex.held c.add.new.self) c.in_ok-add.ensures.added
 
 pub returns-in_ok-add-clause-counted : goal.returns-in_ok-add-clause-counted
 returns-in_ok-add-clause-counted g c =
@@ -34,13 +34,13 @@ returns-in_ok-add-clause-counted g c =
       c.requires.counted,
       len_more (g.I.SegIndex.held c.args.index.now) (g.I.SegIndex.held c.add.new.self) c.side.result
           (side_new c.args.vertices.now c.args.borders.now c.requires.keyed c.args.keys.now c.requires.round c.args.at c.requires.within c.edge_at-a.result c.edge_at-a.ensures
-          c.uses.result c.uses.ensures (g.I.SegIndex.held c.args.index.now)
-          c.if-uses-eq0.true c.requires.holds c.side.result c.side.ensures)
+          c.uses_along.result c.uses_along.ensures (g.I.SegIndex.held c.args.index.now)
+          c.if-uses_along-eq0.true c.requires.holds c.side.result c.side.ensures)
           c.in_ok-add.ensures.added,
     )
 
-pub returns-else-uses-eq0-clause-holds : goal.returns-else-uses-eq0-clause-holds
-returns-else-uses-eq0-clause-holds g c =
+pub returns-else-uses_along-eq0-clause-holds : goal.returns-else-uses_along-eq0-clause-holds
+returns-else-uses_along-eq0-clause-holds g c =
     side_there c.args.vertices.now c.args.borders.now c.requires.keyed c.args.keys.now c.requires.round c.args.at c.requires.within c.edge_at-a.result c.edge_at-a.ensures
-    c.uses.result c.uses.ensures (g.I.SegIndex.held c.args.index.now)
-    c.if-uses-eq0.false c.requires.holds
+    c.uses_along.result c.uses_along.ensures (g.I.SegIndex.held c.args.index.now)
+    c.if-uses_along-eq0.false c.requires.holds

@@ -18,7 +18,7 @@ side-requires-clause-apart g c =
 pub discard-requires : goal.discard-requires
 discard-requires g c =
     side_held c.args.vertices.now c.args.borders.now c.requires.keyed c.args.keys.now c.requires.round c.args.at c.requires.within c.edge_at-a.result c.edge_at-a.ensures
-    c.uses.result c.uses.ensures (g.I.SegIndex.held c.args.index.now)
+    c.uses_along.result c.uses_along.ensures (g.I.SegIndex.held c.args.index.now)
     c.requires.holds c.side.result c.side.ensures
 
 pub overflow_sub-segments : goal.overflow_sub-segments
@@ -28,31 +28,31 @@ overflow_sub-segments g c =
       c.requires.counted,
       len_less (g.I.SegIndex.held c.args.index.now) (g.I.SegIndex.held c.discard.new.self) c.side.result
           (side_held c.args.vertices.now c.args.borders.now c.requires.keyed c.args.keys.now c.requires.round c.args.at c.requires.within c.edge_at-a.result c.edge_at-a.ensures
-          c.uses.result c.uses.ensures (g.I.SegIndex.held c.args.index.now)
+          c.uses_along.result c.uses_along.ensures (g.I.SegIndex.held c.args.index.now)
           c.requires.holds c.side.result c.side.ensures)
           c.discard.ensures.removed,
     )
 
-pub returns-then-uses-eq0-clause-holds : goal.returns-then-uses-eq0-clause-holds
-returns-then-uses-eq0-clause-holds g c =
+pub returns-then-uses_along-eq0-clause-holds : goal.returns-then-uses_along-eq0-clause-holds
+returns-then-uses_along-eq0-clause-holds g c =
     side_dropped c.args.vertices.now c.args.borders.now c.requires.keyed c.args.keys.now c.requires.round c.args.at c.requires.within c.edge_at-a.result c.edge_at-a.ensures
-    c.uses.result c.uses.ensures (g.I.SegIndex.held c.args.index.now)
-    c.if-uses-eq0.true c.requires.holds c.side.result c.side.ensures (g.I.SegIndex.held c.discard.new.self) c.discard.ensures.removed
+    c.uses_along.result c.uses_along.ensures (g.I.SegIndex.held c.args.index.now)
+    c.if-uses_along-eq0.true c.requires.holds c.side.result c.side.ensures (g.I.SegIndex.held c.discard.new.self) c.discard.ensures.removed
 
-pub returns-then-uses-eq0-clause-counted : goal.returns-then-uses-eq0-clause-counted
-returns-then-uses-eq0-clause-counted g c =
+pub returns-then-uses_along-eq0-clause-counted : goal.returns-then-uses_along-eq0-clause-counted
+returns-then-uses_along-eq0-clause-counted g c =
     omega (
       arith,
       c.requires.counted,
       len_less (g.I.SegIndex.held c.args.index.now) (g.I.SegIndex.held c.discard.new.self) c.side.result
           (side_held c.args.vertices.now c.args.borders.now c.requires.keyed c.args.keys.now c.requires.round c.args.at c.requires.within c.edge_at-a.result c.edge_at-a.ensures
-          c.uses.result c.uses.ensures (g.I.SegIndex.held c.args.index.now)
+          c.uses_along.result c.uses_along.ensures (g.I.SegIndex.held c.args.index.now)
           c.requires.holds c.side.result c.side.ensures)
           c.discard.ensures.removed,
     )
 
-pub returns-else-uses-eq0-clause-holds : goal.returns-else-uses-eq0-clause-holds
-returns-else-uses-eq0-clause-holds g c =
+pub returns-else-uses_along-eq0-clause-holds : goal.returns-else-uses_along-eq0-clause-holds
+returns-else-uses_along-eq0-clause-holds g c =
     side_left c.args.vertices.now c.args.borders.now c.requires.keyed c.args.keys.now c.requires.round c.args.at c.requires.within c.edge_at-a.result c.edge_at-a.ensures
-    c.uses.result c.uses.ensures (g.I.SegIndex.held c.args.index.now)
-    c.if-uses-eq0.false c.requires.holds
+    c.uses_along.result c.uses_along.ensures (g.I.SegIndex.held c.args.index.now)
+    c.if-uses_along-eq0.false c.requires.holds
