@@ -1,5 +1,5 @@
 // JSON texts that are drawn one after another, the same in each run.
-use crate::pieces::{CHARACTERS, FRACTIONS, LITERALS, POWERS, SIGNS, SPACES, WHOLES};
+use crate::pieces::{CHARACTERS, LITERALS, NUMBER_PARTS, SPACES};
 use std::alloc::{AllocError, Global};
 
 /// A source of numbers: a linear congruence modulo 2^64, of which the upper half is drawn.
@@ -31,10 +31,10 @@ impl Draws {
     }
 
     fn put_number(&mut self, out: &mut Vec<u8>) -> Result<(), AllocError> {
-        self.put_one(out, &SIGNS)?;
-        self.put_one(out, &WHOLES)?;
-        self.put_one(out, &FRACTIONS)?;
-        self.put_one(out, &POWERS)
+        for pieces in &NUMBER_PARTS[..] {
+            self.put_one(out, pieces)?;
+        }
+        Ok(())
     }
 
     fn put_string(&mut self, out: &mut Vec<u8>) -> Result<(), AllocError> {

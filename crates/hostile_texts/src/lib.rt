@@ -25,6 +25,8 @@ mod pieces;
 #[cfg(test)]
 mod places;
 #[cfg(test)]
+mod texts;
+#[cfg(test)]
 mod told;
 #[cfg(test)]
 mod verdicts;

@@ -8,6 +8,9 @@ pub(crate) const FRACTIONS: [&[u8]; 3] = [b"", b".0", b".25"];
 
 pub(crate) const POWERS: [&[u8]; 5] = [b"", b"e0", b"E7", b"e+12", b"E-3"];
 
+/// The parts of a number, in order.
+pub(crate) const NUMBER_PARTS: [&[&[u8]]; 4] = [&SIGNS, &WHOLES, &FRACTIONS, &POWERS];
+
 pub(crate) const LITERALS: [&[u8]; 3] = [b"true", b"false", b"null"];
 
 pub(crate) const SPACES: [&[u8]; 5] = [b"", b"", b" ", b"\n", b"\t\r "];

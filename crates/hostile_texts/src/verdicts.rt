@@ -43,9 +43,14 @@ pub(crate) fn scanned(alloc: Global, bytes: &[u8]) -> Verdict {
     }
 }
 
-/// Whether the scan says of the bytes what it is to say.
+/// That the scan says this of the bytes.
+pub(crate) fn says<R: Abort>(rt: &R, alloc: Global, bytes: &[u8], want: Verdict) {
+    assert_eq!(rt; scanned(alloc, bytes), want, "{bytes:?}");
+}
+
+/// That the scan says of the bytes what it is to say.
 pub(crate) fn agree<R: Abort>(rt: &R, alloc: Global, bytes: &[u8]) {
-    assert_eq!(rt; scanned(alloc, bytes), expected(bytes), "{bytes:?}");
+    says(rt, alloc, bytes, expected(bytes));
 }
 
 /// The same for the bytes cut after each of them.

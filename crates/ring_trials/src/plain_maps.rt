@@ -1,5 +1,5 @@
 //! The slow program on small maps.
-use grid_geometry::{Pos, Seg};
+use crate::given::{at, seg};
 use plain_rings::{BuildFault, EditFault, NoFeature, PlainMap};
 use std::alloc::Global;
 use std::process::Abort;
@@ -25,16 +25,6 @@ const CROSSED: &[u8] =
 const CORNERS: &[u8] =
     b"{\"type\":\"Topology\",\"objects\":{\"m\":{\"type\":\"GeometryCollection\",\"geometries\":[{\"type\":\"Polygon\",\"arcs\":[[0]]},{\"type\":\"Polygon\",\"arcs\":[[1]]}]}},\"arcs\":[[[0,0],[10,0],[10,10],[0,10],[0,0]],[[10,0],[0,10],[2,2],[10,0]]]}";
 
-/// The position, which is in range.
-fn at<R: Abort>(rt: &R, p: (i64, i64)) -> Pos {
-    Pos::new(p.0, p.1).expect(rt, "in range")
-}
-
-/// The segment between two positions, which differ.
-fn seg<R: Abort>(rt: &R, p: (i64, i64), q: (i64, i64)) -> Seg {
-    Seg::new(at(rt, p), at(rt, q)).expect(rt, "two positions")
-}
-
 /// What is built of a text that opens.
 fn built<R: Abort>(
     rt: &R,
@@ -55,147 +45,241 @@ fn map_of<R: Abort>(rt: &R, alloc: Global, text: &'static [u8]) -> PlainMap<'sta
     }
 }
 
-#[test]
-fn a_common_corner_moves_in_both_squares(rt: HostRuntime) {
-    let mut map = map_of(&rt, rt.alloc(), SQUARES);
+/// That the feature has this doubled area.
+fn has_area<R: Abort>(rt: &R, map: &PlainMap<'_>, feature: u32, want: i128) {
+    assert_eq!(rt; map.area2_of(feature), Ok(want));
+}
+
+/// That the move is answered so.
+fn moves<R: Abort>(
+    rt: &R,
+    map: &mut PlainMap<'_>,
+    p: (i64, i64),
+    q: (i64, i64),
+    want: Result<(), EditFault>,
+) {
+    let answer = map.move_vertex(at(rt, p), at(rt, q));
+    assert_eq!(rt; answer, want, "of {p:?} to {q:?}");
+}
+
+/// That the insertion of q between a and b is answered so.
+fn inserts<R: Abort>(
+    rt: &R,
+    map: &mut PlainMap<'_>,
+    ends: [(i64, i64); 2],
+    q: (i64, i64),
+    want: Result<(), EditFault>,
+) {
+    let answer = map.insert_vertex(at(rt, ends[0]), at(rt, ends[1]), at(rt, q));
+    assert_eq!(rt; answer, want, "of {q:?} between {ends:?}");
+}
+
+/// That the removal is answered so.
+fn removes<R: Abort>(rt: &R, map: &mut PlainMap<'_>, p: (i64, i64), want: Result<(), EditFault>) {
+    let answer = map.remove_vertex(at(rt, p));
+    assert_eq!(rt; answer, want, "of {p:?}");
+}
+
+/// Moves the common corner of the squares.
+fn move_corner<R: Abort>(rt: &R, map: &mut PlainMap<'_>) {
     assert_eq!(rt; map.feature_count(), 2);
-    assert_eq!(rt; map.area2_of(0), Ok(200));
-    assert_eq!(rt;
-        map.move_vertex(at(&rt, (10, 10)), at(&rt, (12, 12))),
-        Ok(())
-    );
-    assert_eq!(rt; map.area2_of(0), Ok(240));
-    assert_eq!(rt; map.area2_of(1), Ok(200));
+    has_area(rt, map, 0, 200);
+    moves(rt, map, (10, 10), (12, 12), Ok(()));
+    has_area(rt, map, 0, 240);
+    has_area(rt, map, 1, 200);
     assert_eq!(rt; map.area2_of(2), Err(NoFeature));
 }
 
 #[test]
+fn a_common_corner_moves_in_both_squares(rt: HostRuntime) {
+    let mut map = map_of(&rt, rt.alloc(), SQUARES);
+    move_corner(&rt, &mut map);
+    drop(map);
+}
+
+/// That the move is refused so in the map of this text.
+fn refuses_move<R: Abort>(
+    rt: &R,
+    alloc: Global,
+    text: &'static [u8],
+    p: (i64, i64),
+    q: (i64, i64),
+    want: EditFault,
+) {
+    let mut map = map_of(rt, alloc, text);
+    moves(rt, &mut map, p, q, Err(want));
+    drop(map);
+}
+
+#[test]
 fn each_refusal_of_a_move(rt: HostRuntime) {
-    for (text, p, q, want) in [
-        (SQUARES, (1, 1), (2, 2), EditFault::NoVertex),
-        (SQUARES, (0, 0), (10, 0), EditFault::Occupied),
-        (
-            SQUARES,
-            (10, 10),
-            (10, -5),
-            EditFault::Conflict {
-                s: seg(&rt, (0, 0), (10, 0)),
-                t: seg(&rt, (0, 10), (10, -5)),
-            },
-        ),
-        (TRIANGLE, (0, 0), (9, 20), EditFault::Sweeps),
-    ] {
-        let mut map = map_of(&rt, rt.alloc(), text);
-        let answer = map.move_vertex(at(&rt, p), at(&rt, q));
-        assert_eq!(rt; answer, Err(want), "of {p:?} to {q:?}");
-    }
+    let alloc = rt.alloc();
+    refuses_move(&rt, alloc, SQUARES, (1, 1), (2, 2), EditFault::NoVertex);
+    refuses_move(&rt, alloc, SQUARES, (0, 0), (10, 0), EditFault::Occupied);
+    let s = seg(&rt, (0, 0), (10, 0));
+    let t = seg(&rt, (0, 10), (10, -5));
+    refuses_move(
+        &rt,
+        alloc,
+        SQUARES,
+        (10, 10),
+        (10, -5),
+        EditFault::Conflict { s, t },
+    );
+    refuses_move(&rt, alloc, TRIANGLE, (0, 0), (9, 20), EditFault::Sweeps);
 }
 
 #[test]
 fn a_move_past_no_position(rt: HostRuntime) {
     let mut map = map_of(&rt, rt.alloc(), TRIANGLE);
-    assert_eq!(rt; map.move_vertex(at(&rt, (0, 0)), at(&rt, (1, 1))), Ok(()));
+    moves(&rt, &mut map, (0, 0), (1, 1), Ok(()));
+    drop(map);
+}
+
+/// The fault of a text that opens.
+fn fault_of<R: Abort>(rt: &R, alloc: Global, text: &'static [u8]) -> Option<BuildFault> {
+    match built(rt, alloc, text) {
+        Ok(map) => {
+            drop(map);
+            None
+        }
+        Err(fault) => Some(fault),
+    }
 }
 
 #[test]
 fn a_ring_that_crosses_itself(rt: HostRuntime) {
-    let Err(fault) = built(&rt, rt.alloc(), CROSSED) else {
-        panic!(rt; "its sides cross");
-    };
     let s = seg(&rt, (0, 0), (10, 10));
     let t = seg(&rt, (0, 10), (10, 0));
-    assert_eq!(rt; fault, BuildFault::Conflict { s, t });
+    let fault = fault_of(&rt, rt.alloc(), CROSSED);
+    assert_eq!(rt; fault, Some(BuildFault::Conflict { s, t }));
+}
+
+/// Puts a vertex into the common side of the squares.
+fn bend_side<R: Abort>(rt: &R, map: &mut PlainMap<'_>) {
+    inserts(rt, map, [(10, 0), (10, 10)], (8, 5), Ok(()));
+    has_area(rt, map, 0, 180);
+    has_area(rt, map, 1, 220);
 }
 
 #[test]
 fn a_vertex_comes_between_the_ends_of_a_common_side(rt: HostRuntime) {
     let mut map = map_of(&rt, rt.alloc(), SQUARES);
-    let answer = map.insert_vertex(at(&rt, (10, 0)), at(&rt, (10, 10)), at(&rt, (8, 5)));
-    assert_eq!(rt; answer, Ok(()));
-    assert_eq!(rt; map.area2_of(0), Ok(180));
-    assert_eq!(rt; map.area2_of(1), Ok(220));
+    bend_side(&rt, &mut map);
+    drop(map);
 }
+
+/// That the insertion of q between the ends is refused so in the map of this text.
+fn refuses_insertion<R: Abort>(
+    rt: &R,
+    alloc: Global,
+    text: &'static [u8],
+    ends: [(i64, i64); 2],
+    q: (i64, i64),
+    want: EditFault,
+) {
+    let mut map = map_of(rt, alloc, text);
+    inserts(rt, &mut map, ends, q, Err(want));
+    drop(map);
+}
+
+/// Segments that there are not, and a vertex that there is.
+const NOT_BETWEEN: [([(i64, i64); 2], (i64, i64), EditFault); 3] = [
+    ([(0, 0), (10, 10)], (5, 5), EditFault::NoSegment),
+    ([(0, 0), (0, 0)], (5, 5), EditFault::NoSegment),
+    ([(0, 0), (10, 0)], (20, 10), EditFault::Occupied),
+];
 
 #[test]
 fn each_refusal_of_an_insertion(rt: HostRuntime) {
-    for (text, a, b, q, want) in [
-        (SQUARES, (0, 0), (10, 10), (5, 5), EditFault::NoSegment),
-        (SQUARES, (0, 0), (0, 0), (5, 5), EditFault::NoSegment),
-        (SQUARES, (0, 0), (10, 0), (20, 10), EditFault::Occupied),
-        (
-            TRIANGLE,
-            (0, 30),
-            (0, 0),
-            (4, 9),
-            EditFault::Conflict {
-                s: seg(&rt, (0, 0), (4, 9)),
-                t: seg(&rt, (3, 8), (5, 8)),
-            },
-        ),
-        (TRIANGLE, (0, 0), (0, 30), (10, 12), EditFault::Sweeps),
-    ] {
-        let mut map = map_of(&rt, rt.alloc(), text);
-        let answer = map.insert_vertex(at(&rt, a), at(&rt, b), at(&rt, q));
-        assert_eq!(rt; answer, Err(want), "of {q:?} between {a:?} and {b:?}");
+    let alloc = rt.alloc();
+    for (ends, q, want) in &NOT_BETWEEN[..] {
+        refuses_insertion(&rt, alloc, SQUARES, *ends, *q, *want);
     }
+    let s = seg(&rt, (0, 0), (4, 9));
+    let t = seg(&rt, (3, 8), (5, 8));
+    let conflict = EditFault::Conflict { s, t };
+    refuses_insertion(&rt, alloc, TRIANGLE, [(0, 30), (0, 0)], (4, 9), conflict);
+    let sweeps = EditFault::Sweeps;
+    refuses_insertion(&rt, alloc, TRIANGLE, [(0, 0), (0, 30)], (10, 12), sweeps);
+}
+
+/// Leaves out a corner of the first square, which a second one is not.
+fn leave_out<R: Abort>(rt: &R, map: &mut PlainMap<'_>) {
+    removes(rt, map, (0, 0), Ok(()));
+    has_area(rt, map, 0, 100);
+    has_area(rt, map, 1, 200);
+    removes(rt, map, (0, 10), Err(EditFault::RingShort));
 }
 
 #[test]
 fn a_corner_is_left_out(rt: HostRuntime) {
     let mut map = map_of(&rt, rt.alloc(), SQUARES);
-    assert_eq!(rt; map.remove_vertex(at(&rt, (0, 0))), Ok(()));
-    assert_eq!(rt; map.area2_of(0), Ok(100));
-    assert_eq!(rt; map.area2_of(1), Ok(200));
-    assert_eq!(rt;
-        map.remove_vertex(at(&rt, (0, 10))),
-        Err(EditFault::RingShort)
-    );
+    leave_out(&rt, &mut map);
+    drop(map);
 }
+
+/// That the removal is refused so in the map of this text.
+fn refuses_removal<R: Abort>(
+    rt: &R,
+    alloc: Global,
+    text: &'static [u8],
+    p: (i64, i64),
+    want: EditFault,
+) {
+    let mut map = map_of(rt, alloc, text);
+    removes(rt, &mut map, p, Err(want));
+    drop(map);
+}
+
+/// Maps, and vertices that stay in them.
+const STAYING: [(&[u8], (i64, i64), EditFault); 5] = [
+    (SQUARES, (1, 1), EditFault::NoVertex),
+    (SQUARES, (10, 10), EditFault::Junction),
+    (TRIANGLE, (3, 8), EditFault::RingShort),
+    (CORNERS, (10, 10), EditFault::SegmentExists),
+    (TRIANGLE, (0, 0), EditFault::Sweeps),
+];
 
 #[test]
 fn each_refusal_of_a_removal(rt: HostRuntime) {
-    for (text, p, want) in [
-        (SQUARES, (1, 1), EditFault::NoVertex),
-        (SQUARES, (10, 10), EditFault::Junction),
-        (TRIANGLE, (3, 8), EditFault::RingShort),
-        (CORNERS, (10, 10), EditFault::SegmentExists),
-        (
-            CROSSING,
-            (0, 0),
-            EditFault::Conflict {
-                s: seg(&rt, (0, 30), (30, 0)),
-                t: seg(&rt, (10, 12), (20, 20)),
-            },
-        ),
-        (TRIANGLE, (0, 0), EditFault::Sweeps),
-    ] {
-        let mut map = map_of(&rt, rt.alloc(), text);
-        let answer = map.remove_vertex(at(&rt, p));
-        assert_eq!(rt; answer, Err(want), "of {p:?}");
+    for (text, p, want) in &STAYING[..] {
+        refuses_removal(&rt, rt.alloc(), text, *p, *want);
     }
+    let s = seg(&rt, (0, 30), (30, 0));
+    let t = seg(&rt, (10, 12), (20, 20));
+    let conflict = EditFault::Conflict { s, t };
+    refuses_removal(&rt, rt.alloc(), CROSSING, (0, 0), conflict);
+}
+
+/// Thins the squares, with a bound that is too low and with one that is not.
+fn thin_squares<R: Abort>(rt: &R, map: &mut PlainMap<'_>) {
+    assert_eq!(rt; map.thin(99), Ok(0));
+    assert_eq!(rt; map.thin(100), Ok(2));
+    has_area(rt, map, 0, 100);
+    has_area(rt, map, 1, 100);
 }
 
 #[test]
 fn a_pass_of_thinning(rt: HostRuntime) {
     let mut map = map_of(&rt, rt.alloc(), SQUARES);
-    assert_eq!(rt; map.thin(99), Ok(0));
-    assert_eq!(rt; map.thin(100), Ok(2));
-    assert_eq!(rt; map.area2_of(0), Ok(100));
-    assert_eq!(rt; map.area2_of(1), Ok(100));
+    thin_squares(&rt, &mut map);
+    drop(map);
+}
+
+/// Thins a side with two vertices, the first of which has the second beside it.
+fn thin_side<R: Abort>(rt: &R, map: &mut PlainMap<'_>) {
+    inserts(rt, map, [(0, 0), (10, 0)], (2, 0), Ok(()));
+    inserts(rt, map, [(2, 0), (10, 0)], (5, 1), Ok(()));
+    has_area(rt, map, 0, 192);
+    assert_eq!(rt; map.thin(8), Ok(1));
+    has_area(rt, map, 0, 190);
+    removes(rt, map, (2, 0), Err(EditFault::NoVertex));
 }
 
 #[test]
 fn a_second_vertex_is_judged_by_its_present_neighbours(rt: HostRuntime) {
     let mut map = map_of(&rt, rt.alloc(), SQUARES);
-    let first = map.insert_vertex(at(&rt, (0, 0)), at(&rt, (10, 0)), at(&rt, (2, 0)));
-    assert_eq!(rt; first, Ok(()));
-    let second = map.insert_vertex(at(&rt, (2, 0)), at(&rt, (10, 0)), at(&rt, (5, 1)));
-    assert_eq!(rt; second, Ok(()));
-    assert_eq!(rt; map.area2_of(0), Ok(192));
-    assert_eq!(rt; map.thin(8), Ok(1));
-    assert_eq!(rt; map.area2_of(0), Ok(190));
-    assert_eq!(rt;
-        map.remove_vertex(at(&rt, (2, 0))),
-        Err(EditFault::NoVertex)
-    );
+    thin_side(&rt, &mut map);
+    drop(map);
 }

@@ -10,7 +10,7 @@ use edit_vertex::{insert_vertex, move_vertex, remove_vertex, thin};
 use grid_geometry::{Pos, Rect};
 use plain_rings::{EditFault as PlainFault, PlainMap};
 use segment_index::{GridIndex, ListIndex, SegIndex};
-use std::alloc::{Allocator, Global};
+use std::alloc::{AllocError, Allocator, Global};
 use std::process::Abort;
 use std::test::Fail;
 use topo_reader::read;
@@ -248,6 +248,16 @@ pub(crate) fn has_rings<I: SegIndex, A: Allocator + Copy>(
     map.feature_count() == features.len()
 }
 
+/// How many vertices the map lists.
+pub(crate) fn vertex_total<I: SegIndex, A: Allocator + Copy>(
+    map: &Map<'_, I, A>,
+) -> Result<usize, AllocError> {
+    let vertices = map.vertices()?;
+    let total = vertices.len();
+    drop(vertices);
+    Ok(total)
+}
+
 /// How many of the edits were answered so.
 #[derive(Clone, Copy, Debug, PartialEq, Eq)]
 struct Tally {
@@ -257,6 +267,21 @@ struct Tally {
     sweeps: usize,
     /// How many vertices the thinnings left out.
     thinned: u64,
+}
+
+impl Tally {
+    /// Counts an edit that was answered so.
+    fn count(&mut self, answer: Result<u64, EditFault>) {
+        match answer {
+            Ok(gone) => {
+                self.accepted = self.accepted.wrapping_add(1);
+                self.thinned = self.thinned.wrapping_add(gone);
+            }
+            Err(EditFault::Conflict { .. }) => self.conflicts = self.conflicts.wrapping_add(1),
+            Err(EditFault::Sweeps) => self.sweeps = self.sweeps.wrapping_add(1),
+            Err(_) => self.refused = self.refused.wrapping_add(1),
+        }
+    }
 }
 
 /// Makes drawn edits of both maps, and compares answers and rings. Gives how they were answered.
@@ -285,16 +310,8 @@ fn compare<R: Abort, I: SegIndex>(
             has_rings(map, plain.polygons()),
             "after edit {n} from {start}: {edit:?}"
         );
-        assert_eq!(rt; map.vertices()?.len(), map.vertex_count());
-        match got {
-            Ok(gone) => {
-                tally.accepted = tally.accepted.wrapping_add(1);
-                tally.thinned = tally.thinned.wrapping_add(gone);
-            }
-            Err(EditFault::Conflict { .. }) => tally.conflicts = tally.conflicts.wrapping_add(1),
-            Err(EditFault::Sweeps) => tally.sweeps = tally.sweeps.wrapping_add(1),
-            Err(_) => tally.refused = tally.refused.wrapping_add(1),
-        }
+        assert_eq!(rt; vertex_total(map)?, map.vertex_count());
+        tally.count(got);
     }
     Ok(tally)
 }
@@ -343,31 +360,45 @@ fn compare_text<R: Abort, I: SegIndex>(
     let mut plain = plain_map(rt, alloc, text);
     let mut map = stored_map(rt, alloc, text, index);
     assert!(rt; has_rings(&map, plain.polygons()), "at the start");
-    compare(rt, &mut plain, &mut map, field, start, count)
+    let tally = compare(rt, &mut plain, &mut map, field, start, count);
+    drop(map);
+    drop(plain);
+    tally
+}
+
+/// Compares drawn edits of the map of this text over a list and over a grid.
+fn compare_both<R: Abort>(rt: &R, alloc: Global, text: &str, start: u64) -> Result<(), Fail> {
+    let list = ListIndex::new(alloc);
+    let tally = compare_text(rt, alloc, text, list, &SMALL, start, 300)?;
+    assert!(rt;
+        20 < tally.accepted && 20 < tally.refused,
+        "{start}: {tally:?}"
+    );
+    let grid = GridIndex::new(alloc, Rect::new(0, 0, 24, 16))?;
+    compare_text(rt, alloc, text, grid, &SMALL, start.wrapping_add(10), 300)?;
+    Ok(())
 }
 
 #[test]
 fn the_same_as_plain_rings(rt: HostRuntime) -> Result<(), Fail> {
     let alloc = rt.alloc();
+    compare_both(&rt, alloc, UNION_ABOVE, 0)?;
+    compare_both(&rt, alloc, HOLES, 1)?;
+    compare_both(&rt, alloc, TWO_RUNS, 2)
+}
+
+#[test]
+fn the_same_on_cells(rt: HostRuntime) -> Result<(), Fail> {
     let cells = Cells {
         columns: 3,
         rows: 2,
         parts: 2,
         step: 4,
     };
-    let made = cells_text(alloc, cells)?;
-    for (start, text) in [UNION_ABOVE, HOLES, TWO_RUNS, made.as_str()]
-        .iter()
-        .enumerate()
-    {
-        let list = ListIndex::new(alloc);
-        let tally = compare_text(&rt, alloc, *text, list, &SMALL, start as u64, 300)?;
-        println!(rt; "{start}: {tally:?}")?;
-        assert!(rt; 20 < tally.accepted && 20 < tally.refused);
-        let grid = GridIndex::new(alloc, Rect::new(0, 0, 24, 16))?;
-        compare_text(&rt, alloc, *text, grid, &SMALL, 10 + start as u64, 300)?;
-    }
-    Ok(())
+    let made = cells_text(rt.alloc(), cells)?;
+    let compared = compare_both(&rt, rt.alloc(), made.as_str(), 3);
+    drop(made);
+    compared
 }
 
 /// Edits of a part of a real map.
@@ -376,8 +407,7 @@ fn the_same_on_a_real_map(rt: HostRuntime) -> Result<(), Fail> {
     let alloc = rt.alloc();
     let grid = GridIndex::new(alloc, Rect::new(356_039, 290_608, 882_173, 730_496))?;
     let tally = compare_text(&rt, alloc, COLUMBUS, grid, &REAL, 20, 300)?;
-    println!(rt; "real: {tally:?}")?;
-    assert!(rt; 50 < tally.accepted && 20 < tally.refused);
-    assert!(rt; 0 < tally.conflicts && 0 < tally.thinned);
+    assert!(rt; 50 < tally.accepted && 20 < tally.refused, "{tally:?}");
+    assert!(rt; 0 < tally.conflicts && 0 < tally.thinned, "{tally:?}");
     Ok(())
 }

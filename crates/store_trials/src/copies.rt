@@ -1,7 +1,7 @@
 //! Copies of a map: an edit of one leaves the map as it was, and so does a copy whose growth is
 //! refused.
 use crate::compared::{Edit, answer, at, has_rings, plain_map};
-use crate::refusals::{MANY, THREE, counts_of, first_growth, refused_map, stays};
+use crate::refusals::{Counts, MANY, THREE, counts_of, first_growth, refused_map, stays};
 use arc_store::Map;
 use plain_rings::PlainMap;
 use refusing_allocator::Refusing;
@@ -10,6 +10,23 @@ use std::alloc::{Allocator, Global};
 use std::process::Abort;
 use std::test::Fail;
 
+/// Edits a copy of a map that was edited once: the map stays.
+fn edit_of_copy<R: Abort, I: SegIndex, A: Allocator + Copy>(
+    rt: &R,
+    alloc: Global,
+    map: &Map<'_, I, A>,
+    copy: &mut Map<'_, I, A>,
+    before: &PlainMap<'_>,
+    after: &PlainMap<'_>,
+    counts: &Counts,
+) -> Result<(), Fail> {
+    stays(rt, alloc, copy, before, counts)?;
+    assert_eq!(rt; copy.tests(), map.tests());
+    assert_eq!(rt; answer(copy, Edit::Remove(at(rt, 10, 5))), Ok(0));
+    assert!(rt; has_rings(copy, after.polygons()));
+    stays(rt, alloc, map, before, counts)
+}
+
 /// Copies a map that was edited once, and edits the copy.
 fn edit_a_copy<R: Abort, I: SegIndex, A: Allocator + Copy>(
     rt: &R,
@@ -17,14 +34,20 @@ fn edit_a_copy<R: Abort, I: SegIndex, A: Allocator + Copy>(
     map: &Map<'_, I, A>,
     before: &PlainMap<'_>,
     after: &PlainMap<'_>,
+    counts: &Counts,
 ) -> Result<(), Fail> {
-    let counts = counts_of(alloc, map, before)?;
     let mut copy = map.copy()?;
-    stays(rt, alloc, &copy, before, &counts)?;
-    assert_eq!(rt; copy.tests(), map.tests());
-    assert_eq!(rt; answer(&mut copy, Edit::Remove(at(rt, 10, 5))), Ok(0));
-    assert!(rt; has_rings(&copy, after.polygons()));
-    stays(rt, alloc, map, before, &counts)
+    let edited = edit_of_copy(rt, alloc, map, &mut copy, before, after, counts);
+    drop(copy);
+    edited
+}
+
+/// Whether there is memory for a copy.
+fn is_copied<I: SegIndex, A: Allocator + Copy>(map: &Map<'_, I, A>) -> bool {
+    let copy = map.copy();
+    let is_made = copy.is_ok();
+    drop(copy);
+    is_made
 }
 
 /// What came of a copy where a growth was refused.
@@ -38,8 +61,48 @@ enum Outcome {
     Usual,
 }
 
-/// A copy whose growth of this number is refused, one after the opening, and another one, for which
+/// A copy of a map that has these counts, whose growth may be refused, and another one, for which
 /// there is memory.
+fn copy_twice<R: Abort, I: SegIndex, A: Allocator + Copy>(
+    rt: &R,
+    alloc: Global,
+    heap: &Refusing<Global>,
+    map: &Map<'_, I, A>,
+    before: &PlainMap<'_>,
+    after: &PlainMap<'_>,
+    counts: &Counts,
+) -> Result<Outcome, Fail> {
+    if is_copied(map) {
+        assert!(rt; !heap.was_refused());
+        return Ok(Outcome::Usual);
+    }
+    assert!(rt; heap.was_refused());
+    stays(rt, alloc, map, before, counts)?;
+    edit_a_copy(rt, alloc, map, before, after, counts)?;
+    Ok(Outcome::Refused)
+}
+
+/// The map is edited once, and then copied.
+fn edit_and_copy<R: Abort, I: SegIndex, A: Allocator + Copy>(
+    rt: &R,
+    alloc: Global,
+    heap: &Refusing<Global>,
+    map: &mut Map<'_, I, A>,
+    before: &PlainMap<'_>,
+    after: &PlainMap<'_>,
+) -> Result<Outcome, Fail> {
+    let moved = answer(map, Edit::Move(at(rt, 10, 0), at(rt, 11, 1)));
+    if moved.is_err() {
+        assert!(rt; heap.was_refused());
+        return Ok(Outcome::NoEdit);
+    }
+    let counts = counts_of(alloc, map, before)?;
+    let outcome = copy_twice(rt, alloc, heap, map, before, after, &counts);
+    drop(counts);
+    outcome
+}
+
+/// An edit and a copy whose growth of this number is refused, one after the opening.
 fn refuse_a_copy<R: Abort>(
     rt: &R,
     alloc: Global,
@@ -51,20 +114,9 @@ fn refuse_a_copy<R: Abort>(
     let Some(mut map) = refused_map(&heap, alloc, THREE) else {
         panic!(rt; "it opens before that growth");
     };
-    let moved = answer(&mut map, Edit::Move(at(rt, 10, 0), at(rt, 11, 1)));
-    if moved.is_err() {
-        assert!(rt; heap.was_refused());
-        return Ok(Outcome::NoEdit);
-    }
-    let counts = counts_of(alloc, &map, before)?;
-    if map.copy().is_ok() {
-        assert!(rt; !heap.was_refused());
-        return Ok(Outcome::Usual);
-    }
-    assert!(rt; heap.was_refused());
-    stays(rt, alloc, &map, before, &counts)?;
-    edit_a_copy(rt, alloc, &map, before, after)?;
-    Ok(Outcome::Refused)
+    let outcome = edit_and_copy(rt, alloc, &heap, &mut map, before, after);
+    drop(map);
+    outcome
 }
 
 /// Copies of the map, with each growth after the opening refused in turn. Gives how many of a copy
@@ -87,16 +139,22 @@ fn refuse_each_copy<R: Abort>(
     panic!(rt; "the copy ends");
 }
 
-#[test]
-fn a_copy_stands_for_itself(rt: HostRuntime) -> Result<(), Fail> {
-    let alloc = rt.alloc();
-    let mut before = plain_map(&rt, alloc, THREE);
-    let mut after = plain_map(&rt, alloc, THREE);
-    let (corner, new) = (at(&rt, 10, 0), at(&rt, 11, 1));
+/// The first map with a vertex moved, and the second with another one left out too.
+fn prepare<R: Abort>(rt: &R, before: &mut PlainMap<'_>, after: &mut PlainMap<'_>) {
+    let (corner, new) = (at(rt, 10, 0), at(rt, 11, 1));
     assert!(rt; before.move_vertex(corner, new).is_ok());
     assert!(rt; after.move_vertex(corner, new).is_ok());
-    assert!(rt; after.remove_vertex(at(&rt, 10, 5)).is_ok());
-    let refused = refuse_each_copy(&rt, alloc, &before, &after)?;
-    assert!(rt; 10 < refused);
+    assert!(rt; after.remove_vertex(at(rt, 10, 5)).is_ok());
+}
+
+#[test]
+fn a_copy_stands_for_itself(rt: HostRuntime) -> Result<(), Fail> {
+    let mut before = plain_map(&rt, rt.alloc(), THREE);
+    let mut after = plain_map(&rt, rt.alloc(), THREE);
+    prepare(&rt, &mut before, &mut after);
+    let refused = refuse_each_copy(&rt, rt.alloc(), &before, &after);
+    drop(before);
+    drop(after);
+    assert!(rt; 10 < refused?);
     Ok(())
 }

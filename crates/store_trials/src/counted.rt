@@ -8,29 +8,41 @@ use std::process::Abort;
 use std::test::Fail;
 use topo_reader::read;
 
-/// The text of so many squares in a row, each of side 10, every 100.
-fn squares_text(alloc: Global, count: u32) -> Result<String, AllocError> {
-    let mut text = String::from_str(
-        alloc,
+/// Appends the polygon of this number, which has the arc of that number.
+fn push_polygon(alloc: Global, text: &mut String, n: u32) -> Result<(), AllocError> {
+    let comma = if n == 0 { "" } else { "," };
+    let polygon = format!(in alloc; "{comma}{{\"type\":\"Polygon\",\"arcs\":[[{n}]]}}")?;
+    let pushed = text.push_str(polygon.as_str());
+    drop(polygon);
+    pushed
+}
+
+/// Appends the arc of this number, round a square.
+fn push_arc(alloc: Global, text: &mut String, n: u32) -> Result<(), AllocError> {
+    let comma = if n == 0 { "" } else { "," };
+    let left = u64::from(n).wrapping_mul(100);
+    let right = left.wrapping_add(10);
+    let arc = format!(in alloc;
+        "{comma}[[{left},0],[{right},0],[{right},10],[{left},10],[{left},0]]"
+    )?;
+    let pushed = text.push_str(arc.as_str());
+    drop(arc);
+    pushed
+}
+
+/// Appends the text of so many squares in a row, each of side 10, every 100.
+fn push_squares(alloc: Global, text: &mut String, count: u32) -> Result<(), AllocError> {
+    text.push_str(
         "{\"type\":\"Topology\",\"objects\":{\"m\":{\"type\":\"GeometryCollection\",\"geometries\":[",
     )?;
     for n in 0..count {
-        let comma = if n == 0 { "" } else { "," };
-        text.push_str(format!(in alloc;
-            "{comma}{{\"type\":\"Polygon\",\"arcs\":[[{n}]]}}"
-        )?.as_str())?;
+        push_polygon(alloc, text, n)?;
     }
     text.push_str("]}},\"arcs\":[")?;
     for n in 0..count {
-        let comma = if n == 0 { "" } else { "," };
-        let left = u64::from(n).wrapping_mul(100);
-        let right = left.wrapping_add(10);
-        text.push_str(format!(in alloc;
-            "{comma}[[{left},0],[{right},0],[{right},10],[{left},10],[{left},0]]"
-        )?.as_str())?;
+        push_arc(alloc, text, n)?;
     }
-    text.push_str("]}")?;
-    Ok(text)
+    text.push_str("]}")
 }
 
 /// The map of these squares in a grid of their extent.
@@ -57,11 +69,18 @@ fn move_a_corner<R: Abort>(rt: &R, map: &mut Map<'_, GridIndex>) {
     assert_eq!(rt; map.tests(), 0);
 }
 
+/// A corner moves in the map of this text, which has 64 squares.
+fn move_among_squares<R: Abort>(rt: &R, alloc: Global, text: &str) {
+    let mut map = squares(rt, alloc, text);
+    assert_eq!(rt; map.segment_count(), 256);
+    move_a_corner(rt, &mut map);
+    drop(map);
+}
+
 #[test]
 fn few_pairs_are_tested(rt: HostRuntime) -> Result<(), Fail> {
-    let text = squares_text(rt.alloc(), 64)?;
-    let mut map = squares(&rt, rt.alloc(), text.as_str());
-    assert_eq!(rt; map.segment_count(), 256);
-    move_a_corner(&rt, &mut map);
+    let mut text = String::new(rt.alloc());
+    push_squares(rt.alloc(), &mut text, 64)?;
+    move_among_squares(&rt, rt.alloc(), text.as_str());
     Ok(())
 }

@@ -36,6 +36,8 @@ const NULL: &str =
 const HOLES: &str =
     "{\"type\":\"Topology\",\"objects\":{\"l\":{\"type\":\"GeometryCollection\",\"geometries\":[{\"type\":\"Polygon\",\"arcs\":[[0],[1],[2]]}]}},\"arcs\":[[[0,0],[10,0],[20,0],[20,10],[10,10],[0,10],[0,0]],[[0,0],[2,4],[4,2],[0,0]],[[14,4],[14,6],[16,6],[16,4],[14,4]]]}";
 
+const ACROSS: &[(i64, i64)] = &[(0, 0), (10, 10)];
+
 /// The map of the text, which opens and is planar.
 fn map_of<R: Abort>(rt: &R, alloc: Global, text: &'static str) -> Map<'static, ListIndex> {
     let Ok(raw) = read(alloc, alloc, text.as_bytes()) else {
@@ -70,23 +72,44 @@ fn ring<R: Abort, A: Allocator + Copy>(
     Ok(ring)
 }
 
+/// Whether the ring has these positions.
+fn is_ring<R: Abort>(rt: &R, ring: &[Pos], positions: &[(i64, i64)]) -> bool {
+    for (p, q) in ring.iter().zip(positions) {
+        if *p != at(rt, *q) {
+            return false;
+        }
+    }
+    ring.len() == positions.len()
+}
+
+/// Whether there is one polygon, of these rings.
+fn is_one_polygon<R: Abort, A: Allocator + Copy>(
+    rt: &R,
+    polygons: &[Vec<Vec<Pos, A>, A>],
+    rings: &[&[(i64, i64)]],
+) -> bool {
+    let [one] = polygons else {
+        return false;
+    };
+    for (ring, positions) in one.iter().zip(rings) {
+        if !is_ring(rt, ring.as_slice(), *positions) {
+            return false;
+        }
+    }
+    one.len() == rings.len()
+}
+
 /// Whether the feature has one polygon, of these rings.
 fn has_rings<R: Abort, I: SegIndex, A: Allocator + Copy>(
     rt: &R,
-    alloc: A,
     map: &Map<'_, I, A>,
     f: u32,
     rings: &[&[(i64, i64)]],
 ) -> Result<bool, AllocError> {
-    let mut polygon = Vec::new(alloc);
-    for positions in rings {
-        polygon.push(ring(rt, alloc, *positions)?)?;
-    }
     let polygons = map.polygons(f)?;
-    match polygons.as_slice() {
-        [one] => Ok(*one == polygon),
-        _ => Ok(false),
-    }
+    let same = is_one_polygon(rt, polygons.as_slice(), rings);
+    drop(polygons);
+    Ok(same)
 }
 
 /// The split along these positions, of which there are 2 to 256.
@@ -106,34 +129,53 @@ pub(crate) fn cut<R: Abort, I: SegIndex, A: Allocator + Copy>(
 
 // ---- refusals
 
-#[test]
-fn splits_are_refused(rt: HostRuntime) {
-    let alloc = rt.alloc();
-    let mut map = map_of(&rt, alloc, SQUARES);
-    let (s, t) = (side(&rt, (0, 0), (15, 5)), side(&rt, (10, 0), (10, 10)));
-    let across: &[(i64, i64)] = &[(0, 0), (10, 10)];
-    let off: &[(i64, i64)] = &[(0, 0), (20, 0)];
+/// Splits of two squares that are refused.
+fn refuse_splits<R: Abort>(rt: &R, alloc: Global, map: &mut Map<'_, ListIndex>) {
+    let (s, t) = (side(rt, (0, 0), (15, 5)), side(rt, (10, 0), (10, 10)));
     let twice: &[(i64, i64)] = &[(0, 0), (5, 5), (5, 5), (10, 10)];
     let over_a_vertex: &[(i64, i64)] = &[(0, 0), (20, 0), (10, 10)];
-    let along: &[(i64, i64)] = &[(0, 0), (10, 0)];
     let over_a_side: &[(i64, i64)] = &[(0, 0), (15, 5), (10, 10)];
     let outside: &[(i64, i64)] = &[(0, 0), (5, -5), (10, 0)];
     for (f, positions, fault) in [
-        (9, across, EditFault::NoFeature),
-        (0, off, EditFault::NotOnOuterRing),
+        (9, ACROSS, EditFault::NoFeature),
+        (0, &[(0, 0), (20, 0)], EditFault::NotOnOuterRing),
         (0, twice, EditFault::RepeatedPoint),
         (0, over_a_vertex, EditFault::Occupied),
-        (0, along, EditFault::SegmentExists),
+        (0, &[(0, 0), (10, 0)], EditFault::SegmentExists),
         (0, over_a_side, EditFault::Conflict { s, t }),
         (0, outside, EditFault::WrongSide),
     ] {
-        assert_eq!(rt; cut(&rt, alloc, &mut map, f, positions), Err(fault));
+        assert_eq!(rt; cut(rt, alloc, map, f, positions), Err(fault));
     }
-    let mut alone = map_of(&rt, alloc, ALONE);
-    assert_eq!(rt;
-        cut(&rt, alloc, &mut alone, 0, across),
-        Err(EditFault::NoCollection)
-    );
+}
+
+#[test]
+fn splits_are_refused(rt: HostRuntime) {
+    let mut map = map_of(&rt, rt.alloc(), SQUARES);
+    refuse_splits(&rt, rt.alloc(), &mut map);
+    drop(map);
+}
+
+#[test]
+fn a_layer_is_not_split(rt: HostRuntime) {
+    let mut map = map_of(&rt, rt.alloc(), ALONE);
+    let answer = cut(&rt, rt.alloc(), &mut map, 0, ACROSS);
+    drop(map);
+    assert_eq!(rt; answer, Err(EditFault::NoCollection));
+}
+
+/// What a merge of these features of the text is answered.
+fn merged<R: Abort>(
+    rt: &R,
+    alloc: Global,
+    text: &'static str,
+    f: u32,
+    g: u32,
+) -> Result<(), EditFault> {
+    let mut map = map_of(rt, alloc, text);
+    let answer = merge(&mut map, f, g);
+    drop(map);
+    answer
 }
 
 #[test]
@@ -150,89 +192,102 @@ fn merges_are_refused(rt: HostRuntime) {
         (TOUCHING, 0, 1, EditFault::CommonElse { pos }),
         (UNION, 0, 2, EditFault::SameSide),
     ] {
-        let mut map = map_of(&rt, alloc, text);
-        assert_eq!(rt; merge(&mut map, f, g), Err(fault));
+        assert_eq!(rt; merged(&rt, alloc, text, f, g), Err(fault));
     }
+}
+
+/// The feature with this id, by its number, and its deletion are refused.
+fn refuse_missing<R: Abort>(rt: &R, map: &mut Map<'_, ListIndex>, f: u32, id: IdText) {
+    assert_eq!(rt; rename(map, f, id), Err(EditFault::NoFeature));
+    assert_eq!(rt; delete(map, f), Err(EditFault::NoFeature));
 }
 
 #[test]
 fn no_such_feature(rt: HostRuntime) -> Result<(), Fail> {
-    let alloc = rt.alloc();
-    let mut map = map_of(&rt, alloc, SQUARES);
-    let id = IdText(String::from_str(alloc, "x")?);
-    assert_eq!(rt; rename(&mut map, 2, id), Err(EditFault::NoFeature));
-    assert_eq!(rt; delete(&mut map, 2), Err(EditFault::NoFeature));
+    let id = IdText(String::from_str(rt.alloc(), "x")?);
+    let mut map = map_of(&rt, rt.alloc(), SQUARES);
+    refuse_missing(&rt, &mut map, 2, id);
+    drop(map);
     Ok(())
 }
 
 // ---- edits
 
-#[test]
-fn split_and_merged(rt: HostRuntime) -> Result<(), Fail> {
-    let alloc = rt.alloc();
-    let mut map = map_of(&rt, alloc, SQUARES);
-    let made = cut(&rt, alloc, &mut map, 0, &[(0, 0), (5, 2), (10, 10)]);
+/// How many features, vertices and segments the map has, and its next number.
+fn counts(map: &Map<'_, ListIndex>) -> (usize, usize, usize, u32) {
+    (
+        map.feature_count(),
+        map.vertex_count(),
+        map.segment_count(),
+        map.next_number(),
+    )
+}
+
+/// A square is split, and joined again.
+fn split_and_merge<R: Abort>(
+    rt: &R,
+    alloc: Global,
+    map: &mut Map<'_, ListIndex>,
+) -> Result<(), Fail> {
+    let made = cut(rt, alloc, map, 0, &[(0, 0), (5, 2), (10, 10)]);
     assert_eq!(rt; made, Ok(2));
-    assert!(rt; has_rings(&rt, alloc, &map, 0, &[&[(0, 0), (10, 0), (10, 10), (5, 2)]])?);
-    assert!(rt; has_rings(&rt, alloc, &map, 2, &[&[(0, 0), (5, 2), (10, 10), (0, 10)]])?);
-    assert_eq!(rt; map.feature_count(), 3);
-    assert_eq!(rt; map.vertex_count(), 7);
-    assert_eq!(rt; map.segment_count(), 9);
-    assert_eq!(rt; map.next_number(), 3);
-    assert_eq!(rt; merge(&mut map, 0, 2), Ok(()));
-    assert!(rt;
-        has_rings(
-            &rt,
-            alloc,
-            &map,
-            0,
-            &[&[(0, 0), (10, 0), (10, 10), (0, 10)]]
-        )?
-    );
-    assert_eq!(rt; map.feature_count(), 2);
-    assert_eq!(rt; map.vertex_count(), 6);
-    assert_eq!(rt; map.segment_count(), 7);
-    assert_eq!(rt; map.next_number(), 3);
+    assert!(rt; has_rings(rt, map, 0, &[&[(0, 0), (10, 0), (10, 10), (5, 2)]])?);
+    assert!(rt; has_rings(rt, map, 2, &[&[(0, 0), (5, 2), (10, 10), (0, 10)]])?);
+    assert!(rt; counts(map) == (3, 7, 9, 3));
+    assert_eq!(rt; merge(map, 0, 2), Ok(()));
+    assert!(rt; has_rings(rt, map, 0, &[&[(0, 0), (10, 0), (10, 10), (0, 10)]])?);
+    assert!(rt; counts(map) == (2, 6, 7, 3));
     Ok(())
 }
 
-// the hole at the corner stays, the other one goes
 #[test]
-fn holes_go_with_their_part(rt: HostRuntime) -> Result<(), Fail> {
-    let alloc = rt.alloc();
-    let mut map = map_of(&rt, alloc, HOLES);
-    let made = cut(&rt, alloc, &mut map, 0, &[(10, 10), (10, 0)]);
+fn split_and_merged(rt: HostRuntime) -> Result<(), Fail> {
+    let mut map = map_of(&rt, rt.alloc(), SQUARES);
+    let done = split_and_merge(&rt, rt.alloc(), &mut map);
+    drop(map);
+    done
+}
+
+/// The hole at the corner stays, the other one goes.
+fn split_holes<R: Abort>(rt: &R, alloc: Global, map: &mut Map<'_, ListIndex>) -> Result<(), Fail> {
+    let made = cut(rt, alloc, map, 0, &[(10, 10), (10, 0)]);
     assert_eq!(rt; made, Ok(1));
     let left: &[(i64, i64)] = &[(0, 0), (10, 0), (10, 10), (0, 10)];
     let right: &[(i64, i64)] = &[(10, 0), (20, 0), (20, 10), (10, 10)];
-    assert!(rt; has_rings(&rt, alloc, &map, 0, &[left, &[(0, 0), (2, 4), (4, 2)]])?);
-    assert!(rt;
-        has_rings(
-            &rt,
-            alloc,
-            &map,
-            1,
-            &[right, &[(14, 4), (14, 6), (16, 6), (16, 4)]]
-        )?
-    );
+    let far: &[(i64, i64)] = &[(14, 4), (14, 6), (16, 6), (16, 4)];
+    assert!(rt; has_rings(rt, map, 0, &[left, &[(0, 0), (2, 4), (4, 2)]])?);
+    assert!(rt; has_rings(rt, map, 1, &[right, far])?);
     Ok(())
+}
+
+#[test]
+fn holes_go_with_their_part(rt: HostRuntime) -> Result<(), Fail> {
+    let mut map = map_of(&rt, rt.alloc(), HOLES);
+    let done = split_holes(&rt, rt.alloc(), &mut map);
+    drop(map);
+    done
+}
+
+/// The feature has this id after it was given the text.
+fn rename_to<R: Abort>(rt: &R, map: &mut Map<'_, ListIndex>, id: IdText, want: &str) {
+    assert_eq!(rt; rename(map, 1, id), Ok(()));
+    let Some(feature) = map.feature(1) else {
+        panic!(rt; "it is there");
+    };
+    assert!(rt; feature.id() == Some(want.as_bytes()));
 }
 
 // the text that serde_json 1.0 writes
 #[test]
 fn an_id_is_escaped(rt: HostRuntime) -> Result<(), Fail> {
-    let alloc = rt.alloc();
-    let mut map = map_of(&rt, alloc, SQUARES);
     let id = IdText(String::from_str(
-        alloc,
+        rt.alloc(),
         "a\"/\\\n\t\u{8}\u{c}\r\u{1}\u{1f}\u{7f}\u{e9}\u{20ac}\u{1f5fa}",
     )?);
-    assert_eq!(rt; rename(&mut map, 1, id), Ok(()));
     let want = "\"a\\\"/\\\\\\n\\t\\b\\f\\r\\u0001\\u001f\u{7f}\u{e9}\u{20ac}\u{1f5fa}\"";
-    let Some(feature) = map.feature(1) else {
-        panic!(rt; "it is there");
-    };
-    assert!(rt; feature.id() == Some(want.as_bytes()));
+    let mut map = map_of(&rt, rt.alloc(), SQUARES);
+    rename_to(&rt, &mut map, id, want);
+    drop(map);
     Ok(())
 }
 
@@ -253,19 +308,33 @@ fn has_features<I: SegIndex>(map: &Map<'_, I>, layer: usize, count: usize) -> bo
     opened == 1 && closed == 1 && leaves == count
 }
 
-// one leaves its collection, and a layer's own geometry leaves an empty one
-#[test]
-fn features_are_deleted(rt: HostRuntime) {
-    let alloc = rt.alloc();
-    let mut map = map_of(&rt, alloc, SQUARES);
-    assert_eq!(rt; delete(&mut map, 1), Ok(()));
-    assert!(rt; has_features(&map, 0, 1));
+/// A feature leaves its collection.
+fn delete_a_square<R: Abort>(rt: &R, map: &mut Map<'_, ListIndex>) {
+    assert_eq!(rt; delete(map, 1), Ok(()));
+    assert!(rt; has_features(map, 0, 1));
     assert_eq!(rt; map.vertex_count(), 4);
     assert_eq!(rt; map.segment_count(), 4);
-    let mut alone = map_of(&rt, alloc, ALONE);
-    assert!(rt; !has_features(&alone, 1, 0));
-    assert_eq!(rt; delete(&mut alone, 1), Ok(()));
-    assert!(rt; has_features(&alone, 1, 0));
-    assert_eq!(rt; alone.feature_count(), 1);
-    assert_eq!(rt; alone.vertex_count(), 4);
+}
+
+#[test]
+fn features_are_deleted(rt: HostRuntime) {
+    let mut map = map_of(&rt, rt.alloc(), SQUARES);
+    delete_a_square(&rt, &mut map);
+    drop(map);
+}
+
+/// A layer's own geometry leaves an empty collection.
+fn delete_a_layer<R: Abort>(rt: &R, map: &mut Map<'_, ListIndex>) {
+    assert!(rt; !has_features(map, 1, 0));
+    assert_eq!(rt; delete(map, 1), Ok(()));
+    assert!(rt; has_features(map, 1, 0));
+    assert_eq!(rt; map.feature_count(), 1);
+    assert_eq!(rt; map.vertex_count(), 4);
+}
+
+#[test]
+fn a_layer_is_deleted(rt: HostRuntime) {
+    let mut map = map_of(&rt, rt.alloc(), ALONE);
+    delete_a_layer(&rt, &mut map);
+    drop(map);
 }

@@ -18,6 +18,7 @@ fn two_squares(rt: HostRuntime) {
                 assert_eq!(rt; map.vertex_count(), 6);
                 assert_eq!(rt; map.segment_count(), 7);
                 assert_eq!(rt; map.position_count(), 8);
+                drop(map);
             }
             Err(_) => panic!(rt; "it is planar"),
         },

@@ -1,6 +1,9 @@
 //! Edits in which each growth is refused in turn: nothing has changed then, and the edit has its
 //! usual answer when it is made again.
-use crate::compared::{Edit, answer, at, has_rings, plain_map};
+ghost use Rattle.topo_reader.specs.Document.{IsOfRings};
+ghost use Rattle.topo_reader.specs.DocumentView.{view_raw};
+
+use crate::compared::{Edit, answer, at, has_rings, plain_map, vertex_total};
 use arc_store::{EditFault, Map};
 use edit_vertex::thin;
 use grid_geometry::{Pos, Rect, Seg};
@@ -10,7 +13,7 @@ use segment_index::{GridIndex, SegIndex};
 use std::alloc::{Allocator, Global};
 use std::process::Abort;
 use std::test::Fail;
-use topo_reader::read;
+use topo_reader::{RawDoc, read};
 
 /// More than the growths of any run below.
 pub(crate) const MANY: u64 = 2000;
@@ -55,24 +58,40 @@ fn all_uses<I: SegIndex, A: Allocator + Copy>(
     Ok(uses)
 }
 
+/// The map of what was read, in a grid; `None` where a growth was refused.
+fn built<A: Allocator + Copy>(
+    heap: A,
+    raw: RawDoc<'static, A>,
+) -> Option<Map<'static, GridIndex<A>, A>>
+    requires rings { IsOfRings (view_raw raw) }
+{
+    match GridIndex::new(heap, Rect::new(0, -10, 20, 10)) {
+        Ok(index) => Map::build(heap, raw, index).ok(),
+        Err(_) => {
+            drop(raw);
+            None
+        }
+    }
+}
+
 /// The map of the text, in a heap that may refuse a growth; `None` where it did.
 pub(crate) fn refused_map<A: Allocator + Copy>(
     heap: A,
     alloc: Global,
     text: &'static str,
 ) -> Option<Map<'static, GridIndex<A>, A>> {
-    let raw = match read(heap, alloc, text.as_bytes()) {
-        Ok(raw) => raw,
-        Err(_) => return None,
-    };
-    let index = match GridIndex::new(heap, Rect::new(0, -10, 20, 10)) {
-        Ok(index) => index,
-        Err(_) => return None,
-    };
-    match Map::build(heap, raw, index) {
-        Ok(map) => Some(map),
+    match read(heap, alloc, text.as_bytes()) {
+        Ok(raw) => built(heap, raw),
         Err(_) => None,
     }
+}
+
+/// Whether the text opens in this heap.
+fn opens<A: Allocator + Copy>(heap: A, alloc: Global, text: &'static str) -> bool {
+    let map = refused_map(heap, alloc, text);
+    let is_open = map.is_some();
+    drop(map);
+    is_open
 }
 
 /// The number of the first growth after the opening of the text. Each one before is refused in turn,
@@ -80,7 +99,7 @@ pub(crate) fn refused_map<A: Allocator + Copy>(
 pub(crate) fn first_growth<R: Abort>(rt: &R, alloc: Global, text: &'static str) -> u64 {
     for nth in 1..MANY {
         let heap = Refusing::new(alloc, nth);
-        let opened = refused_map(&heap, alloc, text).is_some();
+        let opened = opens(&heap, alloc, text);
         assert!(rt; opened != heap.was_refused());
         if opened {
             return nth;
@@ -110,6 +129,19 @@ pub(crate) fn counts_of<I: SegIndex, A: Allocator + Copy>(
     })
 }
 
+/// Whether the segments of the plain map's rings have as many rings in the map as before.
+fn same_uses<I: SegIndex, A: Allocator + Copy>(
+    alloc: Global,
+    map: &Map<'_, I, A>,
+    plain: &PlainMap<'_>,
+    before: &Counts,
+) -> Result<bool, Fail> {
+    let uses = all_uses(alloc, map, plain)?;
+    let same = uses == before.uses;
+    drop(uses);
+    Ok(same)
+}
+
 /// Nothing of the map has changed.
 pub(crate) fn stays<R: Abort, I: SegIndex, A: Allocator + Copy>(
     rt: &R,
@@ -119,16 +151,38 @@ pub(crate) fn stays<R: Abort, I: SegIndex, A: Allocator + Copy>(
     before: &Counts,
 ) -> Result<(), Fail> {
     assert!(rt; has_rings(map, plain.polygons()));
-    assert!(rt; all_uses(alloc, map, plain)? == before.uses);
+    assert!(rt; same_uses(alloc, map, plain, before)?);
     assert_eq!(rt; map.segment_count(), before.segments);
     assert_eq!(rt; map.position_count(), before.positions);
     assert_eq!(rt; map.next_number(), 3);
-    assert_eq!(rt; map.vertices()?.len(), map.vertex_count());
+    assert_eq!(rt; vertex_total(map)?, map.vertex_count());
     Ok(())
 }
 
-/// The edit of a map whose memory is refused once, and its usual answer when it is made again. Gives
-/// whether it was refused.
+/// The edit of a map that has these counts, whose memory may be refused once, and its usual answer
+/// when it is made again. Gives whether it was refused.
+fn edit_counted<R: Abort, I: SegIndex, A: Allocator + Copy>(
+    rt: &R,
+    alloc: Global,
+    map: &mut Map<'_, I, A>,
+    edit: &Edit,
+    before: &PlainMap<'_>,
+    counts: &Counts,
+    usual: u64,
+) -> Result<bool, Fail> {
+    match answer(map, *edit) {
+        Ok(_) => Ok(false),
+        Err(EditFault::OutOfMemory) => {
+            stays(rt, alloc, map, before, counts)?;
+            assert_eq!(rt; answer(map, *edit), Ok(usual));
+            Ok(true)
+        }
+        Err(_) => panic!(rt; "no other refusal"),
+    }
+}
+
+/// The edit of a map whose memory may be refused once, and its usual answer when it is made again.
+/// Gives whether it was refused.
 fn edit_twice<R: Abort, I: SegIndex, A: Allocator + Copy>(
     rt: &R,
     alloc: Global,
@@ -138,16 +192,9 @@ fn edit_twice<R: Abort, I: SegIndex, A: Allocator + Copy>(
     usual: u64,
 ) -> Result<bool, Fail> {
     let counts = counts_of(alloc, map, before)?;
-    match answer(map, *edit) {
-        Ok(_) => Ok(false),
-        Err(EditFault::OutOfMemory) => {
-            stays(rt, alloc, map, before, &counts)?;
-            let again = answer(map, *edit);
-            assert_eq!(rt; again, Ok(usual));
-            Ok(true)
-        }
-        Err(_) => panic!(rt; "no other refusal"),
-    }
+    let refused = edit_counted(rt, alloc, map, edit, before, &counts, usual);
+    drop(counts);
+    refused
 }
 
 /// The edit, where the growth of this number is refused, one after the opening. Gives whether there
@@ -165,12 +212,12 @@ fn refuse<R: Abort>(
     let Some(mut map) = refused_map(&heap, alloc, THREE) else {
         panic!(rt; "it opens before that growth");
     };
-    let refused = edit_twice(rt, alloc, &mut map, edit, before, usual)?;
+    let refused = edit_twice(rt, alloc, &mut map, edit, before, usual);
+    let ended = has_rings(&map, after.polygons());
+    drop(map);
+    let refused = refused?;
     assert!(rt; heap.was_refused() == refused);
-    assert!(rt;
-        has_rings(&map, after.polygons()),
-        "{edit:?} with growth {nth} refused once"
-    );
+    assert!(rt; ended, "{edit:?} with growth {nth} refused once");
     Ok(refused)
 }
 
@@ -215,8 +262,10 @@ fn refuse_edit<R: Abort>(rt: &R, alloc: Global, edit: &Edit, first: u64) -> Resu
     let Some(usual) = plain_answer(&mut after, edit) else {
         panic!(rt; "the edit is accepted");
     };
-    let refused = refuse_each(rt, alloc, edit, &before, &after, usual, first)?;
-    assert!(rt; 3 < refused);
+    let refused = refuse_each(rt, alloc, edit, &before, &after, usual, first);
+    drop(before);
+    drop(after);
+    assert!(rt; 3 < refused?);
     Ok(())
 }
 
@@ -257,18 +306,18 @@ fn cut_short<R: Abort>(rt: &R, alloc: Global, after: &PlainMap<'_>, nth: u64) ->
     let Some(mut map) = refused_map(&heap, alloc, TWO) else {
         panic!(rt; "it opens before that growth");
     };
-    thin_twice(rt, &mut map, after)
+    let gone = thin_twice(rt, &mut map, after);
+    drop(map);
+    gone
 }
 
-#[test]
-fn a_thinning_keeps_what_it_left_out(rt: HostRuntime) -> Result<(), Fail> {
-    let alloc = rt.alloc();
-    let mut after = plain_map(&rt, alloc, TWO);
-    assert_eq!(rt; plain_answer(&mut after, &Edit::Thin(100)), Some(2));
-    let first = first_growth(&rt, alloc, TWO);
+/// Thinnings with each growth after the opening refused in turn: some had left out no vertex by then,
+/// and some one of the two.
+fn cut_each_short<R: Abort>(rt: &R, alloc: Global, after: &PlainMap<'_>) {
+    let first = first_growth(rt, alloc, TWO);
     let (mut none, mut one) = (false, false);
     for count in 0..MANY {
-        match cut_short(&rt, alloc, &after, first.saturating_add(count)) {
+        match cut_short(rt, alloc, after, first.saturating_add(count)) {
             Some(0) => none = true,
             Some(1) => one = true,
             Some(_) => (),
@@ -276,5 +325,12 @@ fn a_thinning_keeps_what_it_left_out(rt: HostRuntime) -> Result<(), Fail> {
         }
     }
     assert!(rt; none && one);
-    Ok(())
+}
+
+#[test]
+fn a_thinning_keeps_what_it_left_out(rt: HostRuntime) {
+    let mut after = plain_map(&rt, rt.alloc(), TWO);
+    assert_eq!(rt; plain_answer(&mut after, &Edit::Thin(100)), Some(2));
+    cut_each_short(&rt, rt.alloc(), &after);
+    drop(after);
 }

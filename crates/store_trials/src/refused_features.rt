@@ -118,6 +118,26 @@ fn push_members(out: &mut Vec<u8>, members: &[KeptMember<'_>]) -> Result<(), All
     Ok(())
 }
 
+/// Appends a text, and where it ends; the text is given up.
+fn push_line(out: &mut Vec<u8>, line: String) -> Result<(), AllocError> {
+    let pushed = push_text(out, Some(line.as_str().as_bytes()));
+    drop(line);
+    pushed
+}
+
+/// Appends the polygons of a feature.
+fn push_polygons<I: SegIndex, A: Allocator + Copy>(
+    alloc: Global,
+    out: &mut Vec<u8>,
+    map: &Map<'_, I, A>,
+    n: u32,
+) -> Result<(), AllocError> {
+    let polygons = map.polygons(n)?;
+    let line = format!(in alloc; "{polygons:?}");
+    drop(polygons);
+    push_line(out, line?)
+}
+
 /// Appends a feature with its rings.
 fn push_feature<I: SegIndex, A: Allocator + Copy>(
     alloc: Global,
@@ -128,10 +148,9 @@ fn push_feature<I: SegIndex, A: Allocator + Copy>(
     let Some(feature) = map.feature(n) else {
         return push_text(out, None);
     };
-    let polygons = map.polygons(n)?;
     let (alone, form) = (map.is_alone(n), feature.form());
-    let line = format!(in alloc; "feature {n} {alone} {form:?} {polygons:?}")?;
-    push_text(out, Some(line.as_str().as_bytes()))?;
+    push_line(out, format!(in alloc; "feature {n} {alone} {form:?}")?)?;
+    push_polygons(alloc, out, map, n)?;
     push_text(out, feature.id())?;
     push_text(out, feature.properties())?;
     push_members(out, feature.members())
@@ -193,26 +212,72 @@ fn push_layers<I: SegIndex, A: Allocator + Copy>(
     push_members(out, frame.members())
 }
 
-/// All that the map shows: its layers with their features and rings, its counts, the next number,
-/// its vertices, and how many rings have each segment between two of the positions above.
+/// Appends the positions of the vertices.
+fn push_vertices<I: SegIndex, A: Allocator + Copy>(
+    alloc: Global,
+    out: &mut Vec<u8>,
+    map: &Map<'_, I, A>,
+) -> Result<(), AllocError> {
+    let vertices = map.vertices()?;
+    let line = format!(in alloc; "{vertices:?}");
+    drop(vertices);
+    push_line(out, line?)
+}
+
+/// Appends the counts and the next number.
+fn push_counts<I: SegIndex, A: Allocator + Copy>(
+    alloc: Global,
+    out: &mut Vec<u8>,
+    map: &Map<'_, I, A>,
+) -> Result<(), AllocError> {
+    let (features, vertices) = (map.feature_count(), map.vertex_count());
+    let (segments, positions) = (map.segment_count(), map.position_count());
+    let next = map.next_number();
+    push_line(
+        out,
+        format!(in alloc; "{features} {vertices} {segments} {positions} {next}")?,
+    )
+}
+
+/// Appends all that the map shows: its layers with their features and rings, its counts, the next
+/// number, its vertices, and how many rings have each segment between two of the positions above.
+fn push_all<R: Abort, I: SegIndex, A: Allocator + Copy>(
+    rt: &R,
+    alloc: Global,
+    out: &mut Vec<u8>,
+    map: &Map<'_, I, A>,
+) -> Result<(), AllocError> {
+    push_layers(alloc, out, map)?;
+    push_counts(alloc, out, map)?;
+    push_vertices(alloc, out, map)?;
+    for p in POSITIONS {
+        push_uses(rt, out, map, p)?;
+    }
+    Ok(())
+}
+
+/// All that the map shows.
 fn shown<R: Abort, I: SegIndex, A: Allocator + Copy>(
     rt: &R,
     alloc: Global,
     map: &Map<'_, I, A>,
 ) -> Result<Vec<u8>, AllocError> {
     let mut out = Vec::new(alloc);
-    push_layers(alloc, &mut out, map)?;
-    let (features, vertices) = (map.feature_count(), map.vertex_count());
-    let (segments, positions) = (map.segment_count(), map.position_count());
-    let (next, corners) = (map.next_number(), map.vertices()?);
-    let line = format!(in alloc;
-        "{features} {vertices} {segments} {positions} {next} {corners:?}"
-    )?;
-    push_text(&mut out, Some(line.as_str().as_bytes()))?;
-    for p in POSITIONS {
-        push_uses(rt, &mut out, map, p)?;
-    }
+    push_all(rt, alloc, &mut out, map)?;
     Ok(out)
+}
+
+/// Whether the map shows just this.
+fn shows<R: Abort, I: SegIndex, A: Allocator + Copy>(
+    rt: &R,
+    alloc: Global,
+    map: &Map<'_, I, A>,
+    wanted: &[u8],
+) -> Result<bool, AllocError> {
+    let found = shown(rt, alloc, map)?;
+    let same = found.as_slice() == wanted;
+    drop(found);
+    Ok(same)
 }
 
 // ---- growths
@@ -226,19 +291,18 @@ struct Usual {
     after: Vec<u8>,
 }
 
-/// What comes of the edit where there is memory.
-fn usual_of<R: Abort>(
+/// Makes the edit of this map, where there is memory, and tells what it showed before and after.
+fn make_usual<R: Abort, I: SegIndex, A: Allocator + Copy>(
     rt: &R,
     alloc: Global,
+    heap: A,
+    map: &mut Map<'_, I, A>,
     edit: Edit,
     answer: Result<u32, EditFault>,
 ) -> Result<Usual, Fail> {
-    let Some(mut map) = refused_map(alloc, alloc, SQUARES) else {
-        panic!(rt; "the text opens");
-    };
-    let before = shown(rt, alloc, &map)?;
-    assert_eq!(rt; make(rt, alloc, &mut map, edit), answer, "{edit:?}");
-    let after = shown(rt, alloc, &map)?;
+    let before = shown(rt, alloc, map)?;
+    assert_eq!(rt; make(rt, heap, map, edit), answer, "{edit:?}");
+    let after = shown(rt, alloc, map)?;
     let same = before.as_slice() == after.as_slice();
     assert!(rt; same == answer.is_err(), "{edit:?}");
     Ok(Usual {
@@ -249,27 +313,52 @@ fn usual_of<R: Abort>(
     })
 }
 
+/// What comes of the edit where there is memory.
+fn usual_of<R: Abort>(
+    rt: &R,
+    alloc: Global,
+    edit: Edit,
+    answer: Result<u32, EditFault>,
+) -> Result<Usual, Fail> {
+    let Some(mut map) = refused_map(alloc, alloc, SQUARES) else {
+        panic!(rt; "the text opens");
+    };
+    let usual = make_usual(rt, alloc, alloc, &mut map, edit, answer);
+    drop(map);
+    usual
+}
+
+/// Makes the edit of a map whose growth may be refused, and again where it was. Gives whether it was.
+fn make_twice<R: Abort, I: SegIndex, A: Allocator + Copy>(
+    rt: &R,
+    alloc: Global,
+    refusing: &Refusing<Global>,
+    heap: A,
+    map: &mut Map<'_, I, A>,
+    usual: &Usual,
+) -> Result<bool, Fail> {
+    let edit = usual.edit;
+    let answer = make(rt, heap, map, edit);
+    if !refusing.was_refused() {
+        assert_eq!(rt; answer, usual.answer);
+        return Ok(false);
+    }
+    assert_eq!(rt; answer, Err(EditFault::OutOfMemory), "{edit:?}");
+    assert!(rt; shows(rt, alloc, map, usual.before.as_slice())?, "{edit:?}");
+    assert_eq!(rt; make(rt, heap, map, edit), usual.answer, "{edit:?}");
+    assert!(rt; shows(rt, alloc, map, usual.after.as_slice())?, "{edit:?}");
+    Ok(true)
+}
+
 /// Whether the growth of this number was one of the edit, and was refused.
 fn refuse<R: Abort>(rt: &R, alloc: Global, usual: &Usual, nth: u64) -> Result<bool, Fail> {
     let heap = Refusing::new(alloc, nth);
     let Some(mut map) = refused_map(&heap, alloc, SQUARES) else {
         panic!(rt; "the growth comes after the opening");
     };
-    let edit = usual.edit;
-    let answer = make(rt, &heap, &mut map, edit);
-    if !heap.was_refused() {
-        assert_eq!(rt; answer, usual.answer);
-        return Ok(false);
-    }
-    let out_of_memory = answer == Err(EditFault::OutOfMemory);
-    assert!(rt; out_of_memory, "{edit:?} without growth {nth}: {answer:?}");
-    let left = shown(rt, alloc, &map)?;
-    assert!(rt; left == usual.before, "{edit:?} without growth {nth}");
-    let again = make(rt, &heap, &mut map, edit);
-    assert_eq!(rt; again, usual.answer, "{edit:?} after growth {nth}");
-    let ended = shown(rt, alloc, &map)?;
-    assert!(rt; ended == usual.after, "{edit:?} after growth {nth}");
-    Ok(true)
+    let refused = make_twice(rt, alloc, &heap, &heap, &mut map, usual);
+    drop(map);
+    refused
 }
 
 /// The edit, with each of its growths refused in turn. Gives how many there are.
@@ -293,8 +382,9 @@ fn refuse_edit<R: Abort>(
     least: u64,
 ) -> Result<(), Fail> {
     let usual = usual_of(rt, alloc, edit, answer)?;
-    let growths = refuse_each(rt, alloc, &usual, first)?;
-    assert!(rt; least <= growths, "{edit:?}: {growths}");
+    let growths = refuse_each(rt, alloc, &usual, first);
+    drop(usual);
+    assert!(rt; least <= growths?, "{edit:?}");
     Ok(())
 }
 
