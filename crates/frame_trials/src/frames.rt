@@ -70,29 +70,29 @@ const COLLECTION: &[u8] = b"{\"type\":\"Topology\",\"objects\":{\"a\":\
 {\"type\":\"Point\",\"coordinates\":[0,0]},{\"type\":\"Polygon\",\"arcs\":[[1]]}]}},\
 \"arcs\":[[[0,0],[4,0],[0,4],[0,0]],[[9,0],[12,0],[9,4],[9,0]]]}";
 
-/// The feature of the ring with this number.
-fn feature_of<A: Allocator + Copy>(frame: &Frame<'_, A>, ring: usize) -> Option<u32> {
+/// Whether the ring with this number is of this feature; `None`: of no one.
+fn is_of<A: Allocator + Copy>(frame: &Frame<'_, A>, ring: usize, feature: Option<u32>) -> bool {
     match frame.name_of(ring) {
-        Some(name) => Some(name.feature),
-        None => None,
+        Some(name) => feature == Some(name.feature),
+        None => feature.is_none(),
     }
 }
 
-/// The numbers of the features of the first layer, in order.
-fn leaves<A: Allocator + Copy>(
-    alloc: Global,
-    frame: &Frame<'_, A>,
-) -> Result<Vec<u32>, AllocError> {
-    let mut numbers = Vec::new(alloc);
+/// Whether the features of the first layer have these numbers, in this order.
+fn has_leaves<A: Allocator + Copy>(frame: &Frame<'_, A>, numbers: &[u32]) -> bool {
     let Some(items) = frame.view().items(0) else {
-        return Ok(numbers);
+        return numbers.is_empty();
     };
+    let mut count: usize = 0;
     for item in items {
         if let ItemView::Leaf(number) = item {
-            numbers.push(number)?;
+            match numbers.get(count) {
+                Some(wanted) if *wanted == number => count = count.wrapping_add(1),
+                _ => return false,
+            }
         }
     }
-    Ok(numbers)
+    count == numbers.len()
 }
 
 /// How many items the first layer has, the end of each collection counted too.
@@ -106,40 +106,59 @@ fn item_count(frame: &Frame<'_>) -> usize {
     count
 }
 
+/// The frame has one feature, which is a layer.
+fn see_alone<R: Abort>(rt: &R, frame: &Frame<'_>) {
+    assert!(rt; frame.is_alone(0));
+    assert!(rt; frame.feature_count() == 1);
+    assert!(rt; is_of(frame, 0, Some(0)));
+    assert!(rt; is_of(frame, 1, None));
+}
+
 #[test]
 fn a_feature_alone(rt: HostRuntime) -> Result<(), Fail> {
     let frame = frame_of(rt.alloc(), ALONE)?;
-    assert!(rt; frame.is_alone(0));
-    assert_eq!(rt; frame.feature_count(), 1);
-    assert_eq!(rt; feature_of(&frame, 0), Some(0));
-    assert_eq!(rt; feature_of(&frame, 1), None);
+    see_alone(&rt, &frame);
+    drop(frame);
     Ok(())
+}
+
+/// The frame has two features in a collection, with a point between them.
+fn see_collection<R: Abort>(rt: &R, frame: &Frame<'_>) {
+    assert!(rt; frame.feature_count() == 2);
+    assert!(rt; !frame.is_alone(0));
+    assert!(rt; !frame.is_alone(1));
+    assert!(rt; has_leaves(frame, &[0, 1]));
+    assert!(rt; item_count(frame) == 5, "with its end, and the point");
 }
 
 #[test]
 fn a_collection(rt: HostRuntime) -> Result<(), Fail> {
-    let alloc = rt.alloc();
-    let frame = frame_of(alloc, COLLECTION)?;
-    assert_eq!(rt; frame.feature_count(), 2);
-    assert!(rt; !frame.is_alone(0) && !frame.is_alone(1));
-    let order = leaves(alloc, &frame)?;
-    assert_eq!(rt; order.as_slice(), [0, 1].as_slice());
-    assert_eq!(rt;
-        item_count(&frame),
-        5,
-        "with its end, and a point between the features"
-    );
+    let frame = frame_of(rt.alloc(), COLLECTION)?;
+    see_collection(&rt, &frame);
+    drop(frame);
     Ok(())
+}
+
+/// A copy of the frame of the collection, which is gone then.
+fn copied(alloc: Global) -> Result<Frame<'static>, AllocError> {
+    let frame = frame_of(alloc, COLLECTION)?;
+    let copy = frame.copy();
+    drop(frame);
+    copy
+}
+
+/// The frame has the two features of the collection.
+fn see_two<R: Abort>(rt: &R, frame: &Frame<'_>) {
+    assert!(rt; frame.feature_count() == 2);
+    assert!(rt; has_leaves(frame, &[0, 1]));
+    assert!(rt; is_of(frame, 1, Some(1)));
 }
 
 #[test]
 fn a_copy(rt: HostRuntime) -> Result<(), Fail> {
-    let alloc = rt.alloc();
-    let copy = frame_of(alloc, COLLECTION)?.copy()?;
-    assert_eq!(rt; copy.feature_count(), 2);
-    let order = leaves(alloc, &copy)?;
-    assert_eq!(rt; order.as_slice(), [0, 1].as_slice());
-    assert_eq!(rt; feature_of(&copy, 1), Some(1));
+    let copy = copied(rt.alloc())?;
+    see_two(&rt, &copy);
+    drop(copy);
     Ok(())
 }
 
@@ -238,37 +257,90 @@ fn part_feature<R: Abort, A: Allocator + Copy>(
     Ok(number)
 }
 
+/// The rings from 0 on are of these features.
+fn see_owners<R: Abort>(rt: &R, frame: &Frame<'_>, owners: &[Option<u32>]) {
+    for (ring, owner) in owners.iter().enumerate() {
+        assert!(rt; is_of(frame, ring, *owner), "ring {ring}");
+    }
+}
+
+/// Parts a feature twice, and takes out one of its parts.
+fn part_twice<R: Abort>(rt: &R, alloc: Global, frame: &mut Frame<'_>) -> Result<(), AllocError>
+    requires { IsNumbered frame.old.doc 2 }
+{
+    assert!(rt; part_feature(rt, alloc, frame, 0, 2)? == 2);
+    assert!(rt; part_feature(rt, alloc, frame, 0, 4)? == 3);
+    assert!(rt; has_leaves(frame, &[0, 3, 2, 1]));
+    see_owners(rt, frame, &[None, Some(1), None, Some(2), Some(0), Some(3)]);
+    frame.take_out(2);
+    assert!(rt; has_leaves(frame, &[0, 3, 1]));
+    assert!(rt; frame.feature_count() == 3);
+    assert!(rt; frame.next() == 4);
+    assert!(rt; is_of(frame, 3, None));
+    Ok(())
+}
+
 #[test]
 fn parts_stand_after_their_feature(rt: HostRuntime) -> Result<(), Fail> {
-    let alloc = rt.alloc();
-    let mut frame = triangles(&rt, alloc, alloc)?;
-    assert_eq!(rt; part_feature(&rt, alloc, &mut frame, 0, 2)?, 2);
-    assert_eq!(rt; part_feature(&rt, alloc, &mut frame, 0, 4)?, 3);
-    let order = leaves(alloc, &frame)?;
-    assert_eq!(rt; order.as_slice(), [0, 3, 2, 1].as_slice());
-    let owners = [None, Some(1), None, Some(2), Some(0), Some(3)];
-    for (ring, owner) in owners.iter().enumerate() {
-        assert_eq!(rt; feature_of(&frame, ring), *owner, "ring {ring}");
-    }
-    frame.take_out(2);
-    let order = leaves(alloc, &frame)?;
-    assert_eq!(rt; order.as_slice(), [0, 3, 1].as_slice());
-    assert_eq!(rt; (frame.feature_count(), frame.next()), (3, 4));
-    assert_eq!(rt; feature_of(&frame, 3), None);
+    let mut frame = triangles(&rt, rt.alloc(), rt.alloc())?;
+    let parted = part_twice(&rt, rt.alloc(), &mut frame);
+    drop(frame);
+    Ok(parted?)
+}
+
+/// The feature of this number is a polygon with the id that it was given, and has the ring 3.
+fn see_part<R: Abort>(rt: &R, frame: &Frame<'_>, number: u32) {
+    let part = frame.feature(number).expect(rt, "the part is there");
+    assert!(rt; part.id() == Some(b"\"new\"".as_slice()));
+    assert!(rt; part.form() == Form::Polygon);
+    assert!(rt; frame.ring(number, 0, 0) == Some(3));
+}
+
+/// Parts the second feature.
+fn part_off<R: Abort>(rt: &R, alloc: Global, frame: &mut Frame<'_>) -> Result<(), AllocError>
+    requires { IsNumbered frame.old.doc 2 }
+{
+    let number = part_feature(rt, alloc, frame, 1, 2)?;
+    see_part(rt, frame, number);
+    assert!(rt; frame.ring(1, 0, 0) == Some(2));
     Ok(())
 }
 
 #[test]
 fn a_part_is_a_polygon_with_its_id(rt: HostRuntime) -> Result<(), Fail> {
-    let alloc = rt.alloc();
-    let mut frame = triangles(&rt, alloc, alloc)?;
-    let number = part_feature(&rt, alloc, &mut frame, 1, 2)?;
-    let part = frame.feature(number).expect(&rt, "the part is there");
-    assert_eq!(rt; part.id(), Some(b"\"new\"".as_slice()));
-    assert!(rt; part.form() == Form::Polygon);
-    assert_eq!(rt; frame.ring(number, 0, 0), Some(3));
-    assert_eq!(rt; frame.ring(1, 0, 0), Some(2));
-    Ok(())
+    let mut frame = triangles(&rt, rt.alloc(), rt.alloc())?;
+    let parted = part_off(&rt, rt.alloc(), &mut frame);
+    drop(frame);
+    Ok(parted?)
+}
+
+/// Whether nothing of the frame has changed.
+fn stays<A: Allocator + Copy>(frame: &Frame<'_, A>) -> bool {
+    has_leaves(frame, &[0, 1]) && is_of(frame, 0, Some(0)) && is_of(frame, 2, None)
+}
+
+/// Whether the first feature was parted.
+fn is_parted<A: Allocator + Copy>(frame: &Frame<'_, A>) -> bool {
+    has_leaves(frame, &[0, 2, 1]) && is_of(frame, 3, Some(2))
+}
+
+/// Parts a feature, and again if a growth was refused. Gives whether it was.
+fn part_again<R: Abort, A: Allocator + Copy>(
+    rt: &R,
+    alloc: A,
+    frame: &mut Frame<'_, A>,
+    growth: u64,
+) -> Result<bool, AllocError>
+    requires { IsNumbered frame.old.doc 2 }
+{
+    match part_feature(rt, alloc, frame, 0, 2) {
+        Ok(_) => Ok(false),
+        Err(_) => {
+            assert!(rt; stays(frame), "growth {growth}");
+            part_feature(rt, alloc, frame, 0, 2)?;
+            Ok(true)
+        }
+    }
 }
 
 /// Parts a feature where the growth of this number is refused, and again if it was. Gives whether
@@ -278,21 +350,12 @@ fn is_refused<R: Abort>(rt: &R, heap: Global, growth: u64) -> Result<bool, Fail>
     let Ok(mut frame) = triangles(rt, &refusing, heap) else {
         return Ok(true);
     };
-    let refused = match part_feature(rt, &refusing, &mut frame, 0, 2) {
-        Ok(_) => false,
-        Err(_) => {
-            let order = leaves(heap, &frame)?;
-            assert_eq!(rt; order.as_slice(), [0, 1].as_slice(), "growth {growth}");
-            assert_eq!(rt; feature_of(&frame, 0), Some(0), "growth {growth}");
-            assert_eq!(rt; feature_of(&frame, 2), None, "growth {growth}");
-            part_feature(rt, &refusing, &mut frame, 0, 2)?;
-            true
-        }
-    };
-    assert_eq!(rt; refused, refusing.was_refused(), "growth {growth}");
-    let order = leaves(heap, &frame)?;
-    assert_eq!(rt; order.as_slice(), [0, 2, 1].as_slice(), "growth {growth}");
-    assert_eq!(rt; feature_of(&frame, 3), Some(2), "growth {growth}");
+    let parted = part_again(rt, &refusing, &mut frame, growth);
+    let is_parted = is_parted(&frame);
+    drop(frame);
+    let refused = parted?;
+    assert!(rt; is_parted, "growth {growth}");
+    assert!(rt; refused == refusing.was_refused(), "growth {growth}");
     Ok(refused)
 }
 

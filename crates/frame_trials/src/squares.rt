@@ -93,6 +93,19 @@ impl<A: Allocator + Copy> Tables<A> {
         Ok(())
     }
 
+    /// Lays both squares.
+    fn lay_squares<R: Abort>(&mut self, rt: &R, alloc: A) -> Result<(), AllocError>
+        requires stands { Stands self.old.vertices self.old.borders self.old.index }
+        requires counted { self.old.segments ≡ set.len self.old.index }
+        ensures stands { Stands self.new.vertices self.new.borders self.new.index }
+        ensures counted { self.new.segments ≡ set.len self.new.index }
+    {
+        let rings = two_squares(rt, alloc)?;
+        let laid = self.lay(rt, alloc, rings.as_slice());
+        drop(rings);
+        laid
+    }
+
     /// The ring with a number, which stands.
     fn gather<R: Abort>(
         &self,
@@ -138,64 +151,141 @@ impl<A: Allocator + Copy> Tables<A> {
     }
 }
 
+/// Lays both squares, and counts how often their sides are used.
+fn share_a_side<R: Abort>(rt: &R, alloc: Global, tables: &mut Tables) -> Result<(), AllocError>
+    requires stands { Stands tables.old.vertices tables.old.borders tables.old.index }
+    requires counted { tables.old.segments ≡ set.len tables.old.index }
+{
+    tables.lay_squares(rt, alloc)?;
+    assert!(rt; tables.counts() == (2, 6, 7));
+    let (corner, above) = (tables.key(rt, 10, 0), tables.key(rt, 10, 10));
+    let origin = tables.key(rt, 0, 0);
+    assert!(rt; tables.borders.uses(corner, above) == 2);
+    assert!(rt; tables.borders.uses(corner, origin) == 1);
+    assert!(rt; tables.borders.uses(origin, above) == 0);
+    Ok(())
+}
+
 #[test]
 fn squares_share_a_side(rt: HostRuntime) -> Result<(), Fail> {
-    let alloc = rt.alloc();
-    let rings = two_squares(&rt, alloc)?;
-    let mut tables = Tables::new(alloc);
-    tables.lay(&rt, alloc, rings.as_slice())?;
-    assert_eq!(rt; tables.counts(), (2, 6, 7));
-    let (corner, above) = (tables.key(&rt, 10, 0), tables.key(&rt, 10, 10));
-    assert_eq!(rt; tables.borders.uses(corner, above), 2);
-    assert_eq!(rt; tables.borders.uses(corner, tables.key(&rt, 0, 0)), 1);
-    assert_eq!(rt; tables.borders.uses(tables.key(&rt, 0, 0), above), 0);
+    let mut tables = Tables::new(rt.alloc());
+    let shared = share_a_side(&rt, rt.alloc(), &mut tables);
+    drop(tables);
+    Ok(shared?)
+}
+
+/// The numbers of the two rings that were laid.
+fn numbers<R: Abort>(rt: &R, tables: &Tables) -> (usize, usize) {
+    let [left, right] = tables.rings.as_slice() else {
+        panic!(rt; "two rings");
+    };
+    (left.number, right.number)
+}
+
+/// There is one ring, the right square with this number.
+fn see_right<R: Abort>(rt: &R, tables: &Tables, laid: &[LaidRing], number: usize) {
+    let [ring] = laid else {
+        panic!(rt; "one ring");
+    };
+    let want = [
+        tables.key(rt, 10, 0),
+        tables.key(rt, 20, 0),
+        tables.key(rt, 20, 10),
+        tables.key(rt, 10, 10),
+    ];
+    assert!(rt; ring.number == number);
+    assert!(rt; ring.keys.as_slice() == want.as_slice());
+}
+
+/// Lays both squares, and gathers the right one.
+fn gather_right<R: Abort>(rt: &R, alloc: Global, tables: &mut Tables) -> Result<(), AllocError>
+    requires stands { Stands tables.old.vertices tables.old.borders tables.old.index }
+    requires counted { tables.old.segments ≡ set.len tables.old.index }
+{
+    tables.lay_squares(rt, alloc)?;
+    let (_, right) = numbers(rt, tables);
+    let laid = tables.gather(rt, alloc, right)?;
+    see_right(rt, tables, laid.as_slice(), right);
+    drop(laid);
     Ok(())
 }
 
 // in the order in which they were given, each from its first position on
 #[test]
 fn rings_are_gathered_by_number(rt: HostRuntime) -> Result<(), Fail> {
-    let alloc = rt.alloc();
-    let rings = two_squares(&rt, alloc)?;
-    let mut tables = Tables::new(alloc);
-    tables.lay(&rt, alloc, rings.as_slice())?;
-    let [_, right] = tables.rings.as_slice() else {
-        panic!(rt; "two rings");
-    };
-    let laid = tables.gather(&rt, alloc, right.number)?;
-    let [ring] = laid.as_slice() else {
-        panic!(rt; "one ring");
-    };
-    let want = [
-        tables.key(&rt, 10, 0),
-        tables.key(&rt, 20, 0),
-        tables.key(&rt, 20, 10),
-        tables.key(&rt, 10, 10),
-    ];
-    assert_eq!(rt; ring.number, right.number);
-    assert_eq!(rt; ring.keys.as_slice(), want.as_slice());
+    let mut tables = Tables::new(rt.alloc());
+    let gathered = gather_right(&rt, rt.alloc(), &mut tables);
+    drop(tables);
+    Ok(gathered?)
+}
+
+/// The right square stands alone.
+fn see_right_alone<R: Abort>(rt: &R, tables: &Tables) {
+    assert!(rt; (tables.vertices.len(), tables.segments) == (4, 4));
+    assert!(rt; tables.vertices.key_of(at(rt, 0, 0)).is_none());
+    let (corner, above) = (tables.key(rt, 10, 0), tables.key(rt, 10, 10));
+    assert!(rt; tables.borders.uses(corner, above) == 1);
+}
+
+/// Lays both squares, and takes out the left one and then the right one.
+fn take_both_out<R: Abort>(rt: &R, alloc: Global, tables: &mut Tables) -> Result<(), AllocError>
+    requires stands { Stands tables.old.vertices tables.old.borders tables.old.index }
+    requires counted { tables.old.segments ≡ set.len tables.old.index }
+{
+    tables.lay_squares(rt, alloc)?;
+    let (left, right) = numbers(rt, tables);
+    tables.take_out(rt, alloc, left)?;
+    see_right_alone(rt, tables);
+    tables.take_out(rt, alloc, right)?;
+    assert!(rt; (tables.vertices.len(), tables.segments) == (0, 0));
     Ok(())
 }
 
 // the other square keeps its sides and corners, until it goes too
 #[test]
 fn squares_taken_out(rt: HostRuntime) -> Result<(), Fail> {
-    let alloc = rt.alloc();
-    let rings = two_squares(&rt, alloc)?;
+    let mut tables = Tables::new(rt.alloc());
+    let taken = take_both_out(&rt, rt.alloc(), &mut tables);
+    drop(tables);
+    Ok(taken?)
+}
+
+/// Lays rings, and again if a growth was refused. Gives whether it was.
+fn lay_again<R: Abort, A: Allocator + Copy>(
+    rt: &R,
+    alloc: A,
+    tables: &mut Tables<A>,
+    rings: &[Vec<Pos, A>],
+    growth: u64,
+) -> Result<bool, AllocError>
+    requires stands { Stands tables.old.vertices tables.old.borders tables.old.index }
+    requires counted { tables.old.segments ≡ set.len tables.old.index }
+    requires rings { IsTrue (list_all is_ring (map (λ ring. ring.items) rings.now)) }
+    requires few { sum_by length (map (λ ring. ring.items) rings.now) ≤ 8 }
+{
+    let refused = tables.lay(rt, alloc, rings).is_err();
+    if refused {
+        assert!(rt; tables.counts() == (0, 0, 0), "growth {growth}");
+        tables.lay(rt, alloc, rings)?;
+    }
+    assert!(rt; tables.counts() == (2, 6, 7), "growth {growth}");
+    Ok(refused)
+}
+
+/// Lays rings into new tables, and again if a growth was refused. Gives whether it was.
+fn lay_in_new<R: Abort, A: Allocator + Copy>(
+    rt: &R,
+    alloc: A,
+    rings: &[Vec<Pos, A>],
+    growth: u64,
+) -> Result<bool, AllocError>
+    requires rings { IsTrue (list_all is_ring (map (λ ring. ring.items) rings.now)) }
+    requires few { sum_by length (map (λ ring. ring.items) rings.now) ≤ 8 }
+{
     let mut tables = Tables::new(alloc);
-    tables.lay(&rt, alloc, rings.as_slice())?;
-    let [left, right] = tables.rings.as_slice() else {
-        panic!(rt; "two rings");
-    };
-    let (left, right) = (left.number, right.number);
-    tables.take_out(&rt, alloc, left)?;
-    assert_eq!(rt; (tables.vertices.len(), tables.segments), (4, 4));
-    assert_eq!(rt; tables.vertices.key_of(at(&rt, 0, 0)), None);
-    let (corner, above) = (tables.key(&rt, 10, 0), tables.key(&rt, 10, 10));
-    assert_eq!(rt; tables.borders.uses(corner, above), 1);
-    tables.take_out(&rt, alloc, right)?;
-    assert_eq!(rt; (tables.vertices.len(), tables.segments), (0, 0));
-    Ok(())
+    let laid = lay_again(rt, alloc, &mut tables, rings, growth);
+    drop(tables);
+    laid
 }
 
 /// Lays both squares where the growth of this number is refused, and again if it was. Gives
@@ -205,14 +295,10 @@ fn is_refused<R: Abort>(rt: &R, alloc: Global, growth: u64) -> Result<bool, Fail
     let Ok(rings) = two_squares(rt, &refusing) else {
         return Ok(true);
     };
-    let mut tables = Tables::new(&refusing);
-    let refused = tables.lay(rt, &refusing, rings.as_slice()).is_err();
-    assert_eq!(rt; refused, refusing.was_refused(), "growth {growth}");
-    if refused {
-        assert_eq!(rt; tables.counts(), (0, 0, 0), "growth {growth}");
-        tables.lay(rt, &refusing, rings.as_slice())?;
-    }
-    assert_eq!(rt; tables.counts(), (2, 6, 7), "growth {growth}");
+    let laid = lay_in_new(rt, &refusing, rings.as_slice(), growth);
+    drop(rings);
+    let refused = laid?;
+    assert!(rt; refused == refusing.was_refused(), "growth {growth}");
     Ok(refused)
 }
 
