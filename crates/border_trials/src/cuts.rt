@@ -1,12 +1,12 @@
 //! Where arcs are cut, and what vertices list then.
 ghost use Rattle.arc_tables.specs.Stores.{Whole};
 
+use crate::checks::same;
 use crate::squares::{LEFT, RIGHT, RIGHT_TURNED, key, pick, vertex_keys};
 use arc_tables::{Tables, arcs_at, mark_end};
 use slab::Slab;
-use std::alloc::{AllocError, Global};
+use std::alloc::Global;
 use std::process::Abort;
-use std::test::Fail;
 use vertex_index::VertexKey;
 
 /// No arc and no ring.
@@ -22,114 +22,77 @@ fn no_tables(alloc: Global) -> Tables
 }
 
 /// Adds the ring along these vertices.
-fn lay<R: Abort>(
-    rt: &R,
-    tables: &mut Tables,
-    keys: &[VertexKey],
-    which: &[usize],
-) -> Result<usize, AllocError>
+fn lay<R: Abort>(rt: &R, tables: &mut Tables, keys: &[VertexKey], which: [usize; 4]) -> usize
     requires { Whole tables.old }
     ensures { Whole tables.new }
 {
-    let mut around = pick(rt, tables.alloc, keys, which)?;
-    let first = *around.first().expect(rt, "a vertex");
-    around.push(first)?;
-    tables.add_ring(around.as_slice())
+    let [a, b, c, d] = pick(rt, keys, which);
+    tables.add_ring(&[a, b, c, d, a]).expect(rt, "room")
 }
 
 /// New arcs end at a vertex.
-fn mark<R: Abort>(
-    rt: &R,
-    tables: &mut Tables,
-    keys: &[VertexKey],
-    n: usize,
-) -> Result<(), AllocError>
+fn mark<R: Abort>(rt: &R, tables: &mut Tables, keys: &[VertexKey], n: usize)
     requires { Whole tables.old }
     ensures { Whole tables.new }
 {
-    mark_end(tables.alloc, &mut tables.stands, key(rt, keys, n))
+    mark_end(tables.alloc, &mut tables.stands, key(rt, keys, n)).expect(rt, "room");
 }
 
-/// How many arcs are listed for each vertex.
-fn stands_of(alloc: Global, tables: &Tables, keys: &[VertexKey]) -> Result<Vec<usize>, AllocError> {
-    let mut counts = Vec::new(alloc);
-    for k in keys {
-        counts.push(arcs_at(&tables.stands, *k).len())?;
+/// How many arcs there are, and how many are listed for each vertex.
+fn counts_of(tables: &Tables, keys: [VertexKey; 6]) -> (usize, [usize; 6]) {
+    let mut listed = [0; 6];
+    for n in 0..6usize {
+        listed[n] = arcs_at(&tables.stands, keys[n]).len();
     }
-    Ok(counts)
+    (tables.arcs.len(), listed)
 }
 
 /// The first square, of one arc, is cut in three by the second, which adds one. Where it is taken
 /// out, no vertex lists its arcs.
-fn share_a_side<R: Abort>(
-    rt: &R,
-    alloc: Global,
-    tables: &mut Tables,
-    keys: &[VertexKey],
-    right: &[usize],
-) -> Result<(), Fail>
-    requires { Whole tables.old }
-{
-    let first = lay(rt, tables, keys, &LEFT)?;
-    assert_eq!(rt; tables.arcs.len(), 1);
-    let second = lay(rt, tables, keys, right)?;
-    assert_eq!(rt; tables.arcs.len(), 4);
-    let both = stands_of(alloc, tables, keys)?;
-    assert_eq!(rt; both.as_slice(), [2usize, 3, 3, 1, 1, 1].as_slice());
+fn share_a_side<R: Abort>(rt: &R, alloc: Global, right: [usize; 4]) {
+    let keys = vertex_keys(rt, alloc);
+    let mut tables = no_tables(alloc);
+    let first = lay(rt, &mut tables, &keys, LEFT);
+    same(rt, tables.arcs.len(), 1, "arcs of one square");
+    let second = lay(rt, &mut tables, &keys, right);
+    let both = counts_of(&tables, keys);
     tables.take_out(first);
-    assert_eq!(rt; tables.arcs.len(), 2);
-    let one = stands_of(alloc, tables, keys)?;
-    assert_eq!(rt; one.as_slice(), [0usize, 2, 2, 0, 1, 1].as_slice());
+    let one = counts_of(&tables, keys);
     tables.take_out(second);
-    assert!(rt; tables.arcs.is_empty());
-    let none = stands_of(alloc, tables, keys)?;
-    assert_eq!(rt; none.as_slice(), [0usize, 0, 0, 0, 0, 0].as_slice());
-    Ok(())
+    let none = counts_of(&tables, keys);
+    drop(tables);
+    same(rt, both, (4, [2, 3, 3, 1, 1, 1]), "both squares");
+    same(rt, one, (2, [0, 2, 2, 0, 1, 1]), "the second square");
+    same(rt, none, (0, [0, 0, 0, 0, 0, 0]), "no square");
 }
 
 #[test]
-fn two_squares_share_a_side(rt: HostRuntime) -> Result<(), Fail> {
-    let alloc = rt.alloc();
-    let keys = vertex_keys(&rt, alloc, 6)?;
-    for right in [RIGHT, RIGHT_TURNED] {
-        let mut tables = no_tables(alloc);
-        share_a_side(&rt, alloc, &mut tables, keys.as_slice(), &right)?;
-    }
-    Ok(())
+fn two_squares_share_a_side(rt: HostRuntime) {
+    share_a_side(&rt, rt.alloc(), RIGHT);
+    share_a_side(&rt, rt.alloc(), RIGHT_TURNED);
 }
 
 /// Where both junctions are marked first, the square has the three arcs from the start.
-fn end_at_junctions<R: Abort>(rt: &R, tables: &mut Tables, keys: &[VertexKey]) -> Result<(), Fail>
-    requires { Whole tables.old }
-{
-    mark(rt, tables, keys, 1)?;
-    mark(rt, tables, keys, 2)?;
-    lay(rt, tables, keys, &LEFT)?;
-    assert_eq!(rt; tables.arcs.len(), 3);
-    lay(rt, tables, keys, &RIGHT)?;
-    assert_eq!(rt; tables.arcs.len(), 4);
-    Ok(())
-}
-
 #[test]
-fn new_arcs_end_at_junctions(rt: HostRuntime) -> Result<(), Fail> {
-    let alloc = rt.alloc();
-    let keys = vertex_keys(&rt, alloc, 6)?;
-    let mut tables = no_tables(alloc);
-    end_at_junctions(&rt, &mut tables, keys.as_slice())
+fn new_arcs_end_at_junctions(rt: HostRuntime) {
+    let keys: [VertexKey; 6] = vertex_keys(&rt, rt.alloc());
+    let mut tables = no_tables(rt.alloc());
+    mark(&rt, &mut tables, &keys, 1);
+    mark(&rt, &mut tables, &keys, 2);
+    lay(&rt, &mut tables, &keys, LEFT);
+    same(&rt, tables.arcs.len(), 3, "arcs of one square");
+    lay(&rt, &mut tables, &keys, RIGHT);
+    same(&rt, tables.arcs.len(), 4, "arcs of both squares");
+    drop(tables);
 }
 
 /// An arc of 256 keys has 255 segments, so 600 segments make three arcs.
 #[test]
-fn a_long_ring_is_some_arcs(rt: HostRuntime) -> Result<(), Fail> {
-    let alloc = rt.alloc();
-    let keys = vertex_keys(&rt, alloc, 600)?;
-    let mut which = Vec::new(alloc);
-    for n in 0..600usize {
-        which.push(n)?;
-    }
-    let mut tables = no_tables(alloc);
-    lay(&rt, &mut tables, keys.as_slice(), which.as_slice())?;
-    assert_eq!(rt; tables.arcs.len(), 3);
-    Ok(())
+fn a_long_ring_is_some_arcs(rt: HostRuntime) {
+    let mut keys: [VertexKey; 601] = vertex_keys(&rt, rt.alloc());
+    keys[600] = keys[0];
+    let mut tables = no_tables(rt.alloc());
+    tables.add_ring(&keys).expect(&rt, "room");
+    same(&rt, tables.arcs.len(), 3, "arcs");
+    drop(tables);
 }

@@ -1,5 +1,6 @@
 //! Calls on borders that are refused memory: no ring has changed then, and the call that is made
 //! again has its answer.
+use crate::checks::{check, same};
 use crate::squares::{
     LEFT, RIGHT, add, goes_along, goes_round, insert, key, pick, remove, vertex_keys,
 };
@@ -8,7 +9,6 @@ use refusing_allocator::Refusing;
 use shared_arcs::Borders;
 use std::alloc::{AllocError, Allocator, Global};
 use std::process::Abort;
-use std::test::Fail;
 use vertex_index::VertexKey;
 
 /// More than the growths of any run below.
@@ -44,34 +44,37 @@ const CALLS: [Call; 7] = [
 ];
 
 /// Whether the rings 0 and 1 go round these vertices.
-fn are_rings<R: Abort, A: Allocator + Copy>(
+fn are_rings<R: Abort, A: Allocator + Copy, const M: usize, const N: usize>(
     rt: &R,
     alloc: Global,
     borders: &Borders<A>,
     keys: &[VertexKey],
-    first: &[usize],
-    second: &[usize],
-) -> Result<bool, AllocError> {
-    Ok(
-        goes_round(rt, alloc, borders, 0, keys, first)?
-            && goes_round(rt, alloc, borders, 1, keys, second)?,
-    )
+    first: [usize; M],
+    second: [usize; N],
+) -> bool {
+    goes_round(rt, alloc, borders, 0, keys, first)
+        && goes_round(rt, alloc, borders, 1, keys, second)
 }
 
 /// The list of a ring's keys.
 fn push_keys<R: Abort, A: Allocator + Copy>(
     rt: &R,
-    alloc: Global,
     heap: A,
     borders: &Borders<A>,
     keys: &[VertexKey],
 ) -> Result<(), AllocError> {
-    let want = pick(rt, alloc, keys, &LEFT)?;
+    check(rt, borders.holds(0), "the first square is held");
+    let left = pick(rt, keys, LEFT);
     let mut read = Vec::new(heap);
-    assert!(rt; borders.holds(0));
-    borders.push_keys(0, &mut read)?;
-    assert!(rt; read.as_slice() == want.as_slice());
-    Ok(())
+    let pushed = borders.push_keys(0, &mut read);
+    let is_left = read.as_slice() == left.as_slice();
+    drop(read);
+    check(
+        rt,
+        is_left || pushed.is_err(),
+        "the keys of the first square",
+    );
+    pushed
 }
 
 /// The list of the three neighbours of vertex 1, behind a key that is none of them.
@@ -81,14 +84,14 @@ fn push_neighbours<R: Abort, A: Allocator + Copy>(
     borders: &Borders<A>,
     keys: &[VertexKey],
 ) -> Result<(), AllocError> {
+    let [a, b, c, other] = pick(rt, keys, [0, 2, 4, 6]);
     let mut out = Vec::with_capacity(heap, 1)?;
-    out.push(key(rt, keys, 6))?;
-    borders.push_neighbours(key(rt, keys, 1), &mut out)?;
-    assert_eq!(rt; out.len(), 4);
-    for n in [0usize, 2, 4] {
-        assert!(rt; out.contains(&key(rt, keys, n)));
-    }
-    Ok(())
+    out.push(other).expect(rt, "room for one");
+    let pushed = borders.push_neighbours(key(rt, keys, 1), &mut out);
+    let are_these = out.len() == 4 && out.contains(&a) && out.contains(&b) && out.contains(&c);
+    drop(out);
+    check(rt, are_these || pushed.is_err(), "the neighbours");
+    pushed
 }
 
 /// A copy, which has the same rings.
@@ -99,7 +102,9 @@ fn copy<R: Abort, A: Allocator + Copy>(
     keys: &[VertexKey],
 ) -> Result<(), AllocError> {
     let copied = borders.copy()?;
-    assert!(rt; are_rings(rt, alloc, &copied, keys, &LEFT, &RIGHT)?);
+    let is_same = are_rings(rt, alloc, &copied, keys, LEFT, RIGHT);
+    drop(copied);
+    check(rt, is_same, "the rings of the copy");
     Ok(())
 }
 
@@ -112,22 +117,16 @@ fn make<R: Abort, A: Allocator + Copy>(
     keys: &[VertexKey],
     call: Call,
 ) -> Result<(), AllocError> {
+    let [a, b, c, d, q] = pick(rt, keys, [0, 1, 2, 3, 6]);
     match call {
         Call::AddRing => {
-            let third = pick(rt, alloc, keys, &[0, 3, 6])?;
-            add(rt, borders, third.as_slice())?;
+            add(rt, borders, &[a, d, q])?;
             Ok(())
         }
         Call::EndArcs => borders.end_arcs_at(key(rt, keys, FAR)),
-        Call::Insert => insert(
-            rt,
-            borders,
-            key(rt, keys, 1),
-            key(rt, keys, 2),
-            key(rt, keys, 6),
-        ),
-        Call::Remove => remove(rt, borders, key(rt, keys, 0)),
-        Call::PushKeys => push_keys(rt, alloc, heap, borders, keys),
+        Call::Insert => insert(rt, borders, b, c, q),
+        Call::Remove => remove(rt, borders, a),
+        Call::PushKeys => push_keys(rt, heap, borders, keys),
         Call::PushNeighbours => push_neighbours(rt, heap, borders, keys),
         Call::Copy => copy(rt, alloc, borders, keys),
     }
@@ -140,20 +139,20 @@ fn is_made<R: Abort, A: Allocator + Copy>(
     borders: &Borders<A>,
     keys: &[VertexKey],
     call: Call,
-) -> Result<bool, AllocError> {
+) -> bool {
     match call {
-        Call::AddRing => Ok(
-            are_rings(rt, alloc, borders, keys, &LEFT, &RIGHT)?
-                && goes_round(rt, alloc, borders, 2, keys, &[0, 3, 6])?,
-        ),
-        Call::Insert => are_rings(rt, alloc, borders, keys, &[0, 1, 6, 2, 3], &[1, 4, 5, 2, 6]),
-        Call::Remove => are_rings(rt, alloc, borders, keys, &[1, 2, 3], &RIGHT),
-        _ => are_rings(rt, alloc, borders, keys, &LEFT, &RIGHT),
+        Call::AddRing => {
+            are_rings(rt, alloc, borders, keys, LEFT, RIGHT)
+                && goes_round(rt, alloc, borders, 2, keys, [0, 3, 6])
+        }
+        Call::Insert => are_rings(rt, alloc, borders, keys, [0, 1, 6, 2, 3], [1, 4, 5, 2, 6]),
+        Call::Remove => are_rings(rt, alloc, borders, keys, [1, 2, 3], RIGHT),
+        _ => are_rings(rt, alloc, borders, keys, LEFT, RIGHT),
     }
 }
 
 /// What came of a call where one growth was refused.
-#[derive(Clone, Copy, Debug, PartialEq, Eq)]
+#[derive(Clone, Copy, PartialEq, Eq)]
 enum Outcome {
     /// There were no squares to begin with: the growth was one of theirs.
     NoSquares,
@@ -166,14 +165,11 @@ enum Outcome {
 /// Adds the two squares, under the numbers 0 and 1.
 fn add_squares<R: Abort, A: Allocator + Copy>(
     rt: &R,
-    alloc: Global,
     borders: &mut Borders<A>,
     keys: &[VertexKey],
 ) -> Result<(), AllocError> {
-    let left = pick(rt, alloc, keys, &LEFT)?;
-    let right = pick(rt, alloc, keys, &RIGHT)?;
-    add(rt, borders, left.as_slice())?;
-    add(rt, borders, right.as_slice())?;
+    add(rt, borders, &pick(rt, keys, LEFT))?;
+    add(rt, borders, &pick(rt, keys, RIGHT))?;
     Ok(())
 }
 
@@ -185,116 +181,122 @@ fn make_twice<R: Abort, A: Allocator + Copy>(
     borders: &mut Borders<A>,
     keys: &[VertexKey],
     call: Call,
-) -> Result<Outcome, Fail> {
-    if add_squares(rt, alloc, borders, keys).is_err() {
-        return Ok(Outcome::NoSquares);
+) -> Outcome {
+    if add_squares(rt, borders, keys).is_err() {
+        return Outcome::NoSquares;
     }
-    let mut outcome = Outcome::Usual;
-    if make(rt, alloc, heap, borders, keys, call).is_err() {
-        outcome = Outcome::Refused;
-        assert!(rt;
-            are_rings(rt, alloc, borders, keys, &LEFT, &RIGHT)?,
-            "{call:?}"
-        );
-        make(rt, alloc, heap, borders, keys, call)?;
+    let was_refused = make(rt, alloc, heap, borders, keys, call).is_err();
+    if was_refused {
+        let is_kept = are_rings(rt, alloc, borders, keys, LEFT, RIGHT);
+        same(rt, (call, is_kept), (call, true), "the rings are as before");
+        let again = make(rt, alloc, heap, borders, keys, call);
+        same(rt, (call, again), (call, Ok(())), "the call again");
     }
-    assert!(rt; is_made(rt, alloc, borders, keys, call)?, "{call:?}");
-    Ok(outcome)
+    let is_made = is_made(rt, alloc, borders, keys, call);
+    same(rt, (call, is_made), (call, true), "the rings are changed");
+    if was_refused {
+        Outcome::Refused
+    } else {
+        Outcome::Usual
+    }
 }
 
 /// The call, where the growth of this number is refused.
-fn refuse<R: Abort>(
-    rt: &R,
-    alloc: Global,
-    keys: &[VertexKey],
-    call: Call,
-    nth: u64,
-) -> Result<Outcome, Fail> {
+fn refuse<R: Abort>(rt: &R, alloc: Global, keys: &[VertexKey], call: Call, nth: u64) -> Outcome {
     let heap = Refusing::new(alloc, nth);
     let mut borders = Borders::new(&heap);
-    let outcome = make_twice(rt, alloc, &heap, &mut borders, keys, call)?;
-    assert!(rt; heap.was_refused() == (outcome != Outcome::Usual));
-    Ok(outcome)
+    let outcome = make_twice(rt, alloc, &heap, &mut borders, keys, call);
+    drop(borders);
+    same(
+        rt,
+        heap.was_refused(),
+        outcome != Outcome::Usual,
+        "it is told",
+    );
+    outcome
 }
 
 /// The call, with each growth refused in turn. Gives how many were.
-fn refuse_each<R: Abort>(
-    rt: &R,
-    alloc: Global,
-    keys: &[VertexKey],
-    call: Call,
-) -> Result<u64, Fail> {
+fn refuse_each<R: Abort>(rt: &R, alloc: Global, keys: &[VertexKey], call: Call) -> u64 {
     let mut refused = 0u64;
     for nth in 1..MANY {
-        match refuse(rt, alloc, keys, call, nth)? {
+        match refuse(rt, alloc, keys, call, nth) {
             Outcome::NoSquares => (),
             Outcome::Refused => refused = refused.saturating_add(1),
-            Outcome::Usual => return Ok(refused),
+            Outcome::Usual => return refused,
         }
     }
     panic!(rt; "the call ends");
 }
 
 #[test]
-fn a_refused_call_changes_no_ring(rt: HostRuntime) -> Result<(), Fail> {
-    let alloc = rt.alloc();
-    let keys = vertex_keys(&rt, alloc, 40)?;
+fn a_refused_call_changes_no_ring(rt: HostRuntime) {
+    let keys: [VertexKey; 40] = vertex_keys(&rt, rt.alloc());
     for call in CALLS {
-        let refused = refuse_each(&rt, alloc, keys.as_slice(), call)?;
-        assert!(rt; 0 < refused, "{call:?}");
+        let refused = refuse_each(&rt, rt.alloc(), &keys, call);
+        same(&rt, (call, 0 < refused), (call, true), "some are refused");
     }
-    Ok(())
 }
 
-/// Adds two rings where there is little room, and the second once there is more. Gives whether it
-/// was refused.
-fn add_in<R: Abort, A: Allocator + Copy>(
+/// Adds two squares, and gives which of them is refused. The first one stays.
+fn add_both<R: Abort, A: Allocator + Copy>(
     rt: &R,
     alloc: Global,
     borders: &mut Borders<A>,
-    taken: Vec<u8, A>,
-    left: &[VertexKey],
-    right: &[VertexKey],
-) -> Result<bool, Fail> {
-    let Ok(first) = add(rt, borders, left) else {
-        return Ok(true);
+    left: [VertexKey; 4],
+    right: [VertexKey; 4],
+) -> Outcome {
+    let Ok(first) = add(rt, borders, &left) else {
+        return Outcome::NoSquares;
     };
-    let refused = add(rt, borders, right).is_err();
-    assert!(rt; goes_along(alloc, borders, first, left)?);
-    drop(taken);
-    let again = add(rt, borders, right)?;
-    assert!(rt; goes_along(alloc, borders, again, right)?);
-    Ok(refused)
+    let was_refused = add(rt, borders, &right).is_err();
+    check(
+        rt,
+        goes_along(rt, alloc, borders, first, &left),
+        "the first square",
+    );
+    if was_refused {
+        Outcome::Refused
+    } else {
+        Outcome::Usual
+    }
 }
 
-/// Adds two squares in so much room. Gives whether the second was refused.
-fn is_refused<R: Abort>(
-    rt: &R,
-    alloc: Global,
-    left: &[VertexKey],
-    right: &[VertexKey],
-    room: usize,
-) -> Result<bool, Fail> {
-    let heap = LocalHeap::new(alloc, SIZE)?;
-    let taken: Vec<u8, &LocalHeap> = Vec::with_capacity(&heap, SIZE.saturating_sub(room))?;
+/// Adds two squares in so much room, and the second again once there is more. Gives whether one was
+/// refused.
+fn is_refused<R: Abort>(rt: &R, alloc: Global, keys: &[VertexKey], room: usize) -> bool {
+    let (left, right) = (pick(rt, keys, LEFT), pick(rt, keys, RIGHT));
+    let heap = LocalHeap::new(alloc, SIZE).expect(rt, "a heap");
+    let taken: Vec<u8, &LocalHeap> = Vec::with_capacity(&heap, SIZE.saturating_sub(room)).expect(
+        rt,
+        "what is taken",
+    );
     let mut borders = Borders::new(&heap);
-    add_in(rt, alloc, &mut borders, taken, left, right)
+    let outcome = add_both(rt, alloc, &mut borders, left, right);
+    drop(taken);
+    if outcome != Outcome::NoSquares {
+        let again = add(rt, &mut borders, &right).expect(rt, "room");
+        check(
+            rt,
+            goes_along(rt, alloc, &borders, again, &right),
+            "the second square",
+        );
+    }
+    drop(borders);
+    drop(heap);
+    outcome != Outcome::Usual
 }
 
 /// A ring is refused in each room that is too small for what it adds, and what was laid of it goes
 /// out in no room.
 #[test]
-fn a_refused_ring_changes_nothing(rt: HostRuntime) -> Result<(), Fail> {
-    let alloc = rt.alloc();
-    let keys = vertex_keys(&rt, alloc, 6)?;
-    let left = pick(&rt, alloc, keys.as_slice(), &LEFT)?;
-    let right = pick(&rt, alloc, keys.as_slice(), &RIGHT)?;
+fn a_refused_ring_changes_nothing(rt: HostRuntime) {
+    let keys: [VertexKey; 6] = vertex_keys(&rt, rt.alloc());
     let mut refused = 0usize;
     for room in 0..200usize {
-        if is_refused(&rt, alloc, left.as_slice(), right.as_slice(), 16 * room)? {
+        if is_refused(&rt, rt.alloc(), &keys, 16 * room) {
             refused = refused.saturating_add(1);
         }
     }
-    assert!(rt; 10 < refused && refused < 200);
-    Ok(())
+    check(&rt, 10 < refused && refused < 200, "some are refused");
 }

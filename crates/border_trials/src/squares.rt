@@ -1,9 +1,9 @@
 //! Squares that share a side, and calls on their borders.
-use grid_geometry::Pos;
+use crate::checks::check;
+use crate::places::pos;
 use shared_arcs::{Borders, Neighbours};
 use std::alloc::{AllocError, Allocator, Global};
 use std::process::Abort;
-use std::test::Fail;
 use vertex_index::{VertexKey, Vertices};
 
 /// Two squares, each counted by its four vertices: the side of vertices 1 and 2 is in both.
@@ -15,17 +15,16 @@ pub(crate) const RIGHT: [usize; 4] = [1, 4, 5, 2];
 pub(crate) const RIGHT_TURNED: [usize; 4] = [2, 5, 4, 1];
 
 /// The keys of so many vertices.
-pub(crate) fn vertex_keys<R: Abort>(
-    rt: &R,
-    alloc: Global,
-    count: i64,
-) -> Result<Vec<VertexKey>, Fail> {
+pub(crate) fn vertex_keys<R: Abort, const N: usize>(rt: &R, alloc: Global) -> [VertexKey; N] {
     let mut vertices = Vertices::new(alloc);
-    let mut keys = Vec::new(alloc);
-    for n in 0..count {
-        keys.push(vertices.add(Pos::new(n, 0).expect(rt, "in range"))?)?;
+    let mut x = 0i64;
+    let mut keys = [vertices.add(pos(rt, (x, 0))).expect(rt, "room"); N];
+    for n in 1..N {
+        x = x.saturating_add(1);
+        keys[n] = vertices.add(pos(rt, (x, 0))).expect(rt, "room");
     }
-    Ok(keys)
+    drop(vertices);
+    keys
 }
 
 /// The key of a vertex.
@@ -34,17 +33,16 @@ pub(crate) fn key<R: Abort>(rt: &R, keys: &[VertexKey], n: usize) -> VertexKey {
 }
 
 /// The keys of these vertices.
-pub(crate) fn pick<R: Abort>(
+pub(crate) fn pick<R: Abort, const N: usize>(
     rt: &R,
-    alloc: Global,
     keys: &[VertexKey],
-    which: &[usize],
-) -> Result<Vec<VertexKey>, AllocError> {
-    let mut ring = Vec::new(alloc);
-    for n in which {
-        ring.push(key(rt, keys, *n))?;
+    which: [usize; N],
+) -> [VertexKey; N] {
+    let mut picked = [key(rt, keys, 0); N];
+    for n in 0..N {
+        picked[n] = key(rt, keys, which[n]);
     }
-    Ok(ring)
+    picked
 }
 
 /// Adds the ring along these keys.
@@ -53,13 +51,13 @@ pub(crate) fn add<R: Abort, A: Allocator + Copy>(
     borders: &mut Borders<A>,
     keys: &[VertexKey],
 ) -> Result<usize, AllocError> {
-    assert!(rt; 0 < keys.len());
+    check(rt, 0 < keys.len(), "a ring has keys");
     borders.add_ring(keys)
 }
 
 /// Takes out a ring.
 pub(crate) fn take<R: Abort, A: Allocator + Copy>(rt: &R, borders: &mut Borders<A>, r: usize) {
-    assert!(rt; borders.holds(r));
+    check(rt, borders.holds(r), "the ring is held");
     borders.take_out(r);
 }
 
@@ -71,7 +69,7 @@ pub(crate) fn insert<R: Abort, A: Allocator + Copy>(
     b: VertexKey,
     q: VertexKey,
 ) -> Result<(), AllocError> {
-    assert!(rt; a != b && a != q && b != q);
+    check(rt, a != b && a != q && b != q, "three vertices");
     match borders.neighbours(q) {
         Neighbours::None => borders.insert(a, b, q),
         _ => panic!(rt; "some ring has the vertex"),
@@ -86,9 +84,9 @@ pub(crate) fn remove<R: Abort, A: Allocator + Copy>(
 ) -> Result<(), AllocError> {
     match borders.neighbours(p) {
         Neighbours::Two(a, b) => {
-            assert!(rt; a != p && b != p);
+            check(rt, a != p && b != p, "other vertices");
             let shared = borders.uses(a, b);
-            assert!(rt; shared == 0);
+            check(rt, shared == 0, "no ring joins them");
             borders.remove(p, a, b)
         }
         _ => panic!(rt; "not two neighbours"),
@@ -96,37 +94,38 @@ pub(crate) fn remove<R: Abort, A: Allocator + Copy>(
 }
 
 /// Whether the ring is held and goes along these keys.
-pub(crate) fn goes_along<A: Allocator + Copy>(
-    alloc: Global,
-    borders: &Borders<A>,
-    r: usize,
-    keys: &[VertexKey],
-) -> Result<bool, AllocError> {
-    if !borders.holds(r) {
-        return Ok(false);
-    }
-    let mut read = Vec::new(alloc);
-    borders.push_keys(r, &mut read)?;
-    Ok(read.as_slice() == keys)
-}
-
-/// Whether the ring goes along these vertices, but for where it begins.
-pub(crate) fn goes_round<R: Abort, A: Allocator + Copy>(
+pub(crate) fn goes_along<R: Abort, A: Allocator + Copy>(
     rt: &R,
     alloc: Global,
     borders: &Borders<A>,
     r: usize,
     keys: &[VertexKey],
-    which: &[usize],
-) -> Result<bool, AllocError> {
-    let mut turned = pick(rt, alloc, keys, which)?;
-    for _ in 0..which.len() {
-        if goes_along(alloc, borders, r, turned.as_slice())? {
-            return Ok(true);
-        }
-        if !turned.is_empty() {
-            turned.rotate_left(1);
-        }
+) -> bool {
+    if !borders.holds(r) {
+        return false;
     }
-    Ok(false)
+    let mut read = Vec::new(alloc);
+    borders.push_keys(r, &mut read).expect(rt, "room for keys");
+    let is_same = read.as_slice() == keys;
+    drop(read);
+    is_same
+}
+
+/// Whether the ring goes along these vertices, but for where it begins.
+pub(crate) fn goes_round<R: Abort, A: Allocator + Copy, const N: usize>(
+    rt: &R,
+    alloc: Global,
+    borders: &Borders<A>,
+    r: usize,
+    keys: &[VertexKey],
+    which: [usize; N],
+) -> bool {
+    let mut turned = pick(rt, keys, which);
+    for _ in 0..N {
+        if goes_along(rt, alloc, borders, r, &turned) {
+            return true;
+        }
+        turned.rotate_left(1);
+    }
+    false
 }

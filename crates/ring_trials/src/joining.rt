@@ -80,6 +80,19 @@ fn compared<R: Abort>(
     comparison
 }
 
+/// That the calls say so of the rings of these positions.
+fn compares<R: Abort>(
+    rt: &R,
+    alloc: Global,
+    first: &[(i64, i64)],
+    second: &[(i64, i64)],
+    want: &Comparison,
+) -> Result<(), AllocError> {
+    let found = compared(rt, alloc, first, second)?;
+    assert_eq!(rt; found, *want);
+    Ok(())
+}
+
 /// The ring of two that are joined.
 fn joined_rings(alloc: Global, ones: &[Pos], others: &[Pos]) -> Result<Vec<Pos>, AllocError> {
     let first = Border::new(alloc, ones)?;
@@ -120,7 +133,7 @@ fn squares_side_by_side(rt: HostRuntime) -> Result<(), Fail> {
             passed_alike: *passed_alike,
             ..BESIDE
         };
-        assert_eq!(rt; compared(&rt, rt.alloc(), first, second)?, want);
+        compares(&rt, rt.alloc(), first, second, &want)?;
     }
     Ok(())
 }
@@ -142,7 +155,7 @@ fn areas_on_the_same_side(rt: HostRuntime) -> Result<(), Fail> {
             same_side: true,
             ..BESIDE
         };
-        assert_eq!(rt; compared(&rt, rt.alloc(), first, second)?, want);
+        compares(&rt, rt.alloc(), first, second, &want)?;
     }
     Ok(())
 }
@@ -155,14 +168,8 @@ const BESIDE_A_DENT: [(i64, i64); 6] = [(10, 0), (20, 0), (20, 10), (10, 10), (1
 #[test]
 fn two_runs(rt: HostRuntime) -> Result<(), Fail> {
     let want = Comparison { runs: 2, ..BESIDE };
-    assert_eq!(rt;
-        compared(&rt, rt.alloc(), &WITH_A_DENT, &BESIDE_A_DENT)?,
-        want
-    );
-    assert_eq!(rt;
-        compared(&rt, rt.alloc(), &BESIDE_A_DENT, &WITH_A_DENT)?,
-        want
-    );
+    compares(&rt, rt.alloc(), &WITH_A_DENT, &BESIDE_A_DENT, &want)?;
+    compares(&rt, rt.alloc(), &BESIDE_A_DENT, &WITH_A_DENT, &want)?;
     Ok(())
 }
 
@@ -197,14 +204,14 @@ fn touching_beside_the_run(rt: HostRuntime) -> Result<(), Fail> {
         common_else: Some(at(&rt, (10, 6))),
         ..BESIDE
     };
-    assert_eq!(rt; compared(&rt, rt.alloc(), &TEETH, &FACING_TEETH)?, want);
+    compares(&rt, rt.alloc(), &TEETH, &FACING_TEETH, &want)?;
     let want = Comparison {
         has_common: false,
         runs: 0,
         common_else: Some(at(&rt, (10, 10))),
         ..BESIDE
     };
-    assert_eq!(rt; compared(&rt, rt.alloc(), &LEFT, &AT_THE_CORNER)?, want);
+    compares(&rt, rt.alloc(), &LEFT, &AT_THE_CORNER, &want)?;
     Ok(())
 }
 

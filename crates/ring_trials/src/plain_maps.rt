@@ -50,6 +50,16 @@ fn has_area<R: Abort>(rt: &R, map: &PlainMap<'_>, feature: u32, want: i128) {
     assert_eq!(rt; map.area2_of(feature), Ok(want));
 }
 
+/// That an edit at this position is answered so.
+fn is_answer<R: Abort>(
+    rt: &R,
+    q: (i64, i64),
+    answer: Result<(), EditFault>,
+    want: Result<(), EditFault>,
+) {
+    assert_eq!(rt; answer, want, "at {q:?}");
+}
+
 /// That the move is answered so.
 fn moves<R: Abort>(
     rt: &R,
@@ -59,7 +69,7 @@ fn moves<R: Abort>(
     want: Result<(), EditFault>,
 ) {
     let answer = map.move_vertex(at(rt, p), at(rt, q));
-    assert_eq!(rt; answer, want, "of {p:?} to {q:?}");
+    is_answer(rt, q, answer, want);
 }
 
 /// That the insertion of q between a and b is answered so.
@@ -71,13 +81,13 @@ fn inserts<R: Abort>(
     want: Result<(), EditFault>,
 ) {
     let answer = map.insert_vertex(at(rt, ends[0]), at(rt, ends[1]), at(rt, q));
-    assert_eq!(rt; answer, want, "of {q:?} between {ends:?}");
+    is_answer(rt, q, answer, want);
 }
 
 /// That the removal is answered so.
 fn removes<R: Abort>(rt: &R, map: &mut PlainMap<'_>, p: (i64, i64), want: Result<(), EditFault>) {
     let answer = map.remove_vertex(at(rt, p));
-    assert_eq!(rt; answer, want, "of {p:?}");
+    is_answer(rt, p, answer, want);
 }
 
 /// Moves the common corner of the squares.
