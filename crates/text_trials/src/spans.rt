@@ -1,28 +1,61 @@
 //! Spans of small texts.
 use json_spans::{
-    Kind, NotWhole, ScanFault, TextFault, at, bytes, items, kind, members, scan, text, whole,
+    Items, Kind, NotWhole, ScanFault, Span, TextFault, at, bytes, items, kind, members, scan, text,
+    whole,
 };
 use linked_list_allocator::LocalHeap;
-use std::alloc::Global;
+use std::alloc::{AllocError, Global};
+use std::process::Abort;
 use std::test::Fail;
+
+/// The next value, which there is.
+fn next_of<'a, R: Abort>(rt: &R, parts: &mut Items<'a>) -> Span<'a> {
+    match parts.next() {
+        Some(part) => part,
+        None => panic!(rt; "a value"),
+    }
+}
+
+/// That the value stands at 2, and is the number 1.
+fn is_one<R: Abort>(rt: &R, number: Span<'_>) {
+    assert_eq!(rt; at(number), 2);
+    assert_eq!(rt; whole(number), Ok(1));
+}
+
+/// That the value stands at 4, and is an object of 7 bytes.
+fn is_object<R: Abort>(rt: &R, object: Span<'_>) {
+    assert_eq!(rt; at(object), 4);
+    assert!(rt; kind(object) == Kind::Object && bytes(object).len() == 7);
+}
+
+/// That the string is this text.
+fn is_text<R: Abort>(rt: &R, alloc: Global, string: Span<'_>, want: &str) -> Result<(), Fail> {
+    let found = text(alloc, string)?;
+    assert_eq!(rt; found.as_str(), want);
+    drop(found);
+    Ok(())
+}
+
+/// That the only member of the object is the number 2 by the name `a`.
+fn has_two<R: Abort>(rt: &R, alloc: Global, object: Span<'_>) -> Result<(), Fail> {
+    let mut pairs = members(object);
+    let Some((name, value)) = pairs.next() else {
+        panic!(rt; "a member");
+    };
+    assert!(rt; pairs.next().is_none());
+    assert_eq!(rt; whole(value), Ok(2));
+    is_text(rt, alloc, name, "a")
+}
 
 #[test]
 fn a_list_of_a_number_and_an_object(rt: HostRuntime) -> Result<(), Fail> {
     let root = scan(rt.alloc(), b" [1,{\"a\":2}] ")?.span();
     let mut parts = items(root);
-    let one = parts.next().ok_or("an item")?;
-    assert_eq!(rt; at(one), 2);
-    assert_eq!(rt; whole(one), Ok(1));
-    let object = parts.next().ok_or("an item")?;
-    assert_eq!(rt; at(object), 4);
-    assert!(rt; kind(object) == Kind::Object && bytes(object).len() == 7);
+    is_one(&rt, next_of(&rt, &mut parts));
+    let object = next_of(&rt, &mut parts);
+    is_object(&rt, object);
     assert!(rt; parts.next().is_none());
-    let mut pairs = members(object);
-    let (name, value) = pairs.next().ok_or("a member")?;
-    assert_eq!(rt; text(rt.alloc(), name)?.as_str(), "a");
-    assert_eq!(rt; whole(value), Ok(2));
-    assert!(rt; pairs.next().is_none());
-    Ok(())
+    has_two(&rt, rt.alloc(), object)
 }
 
 #[test]
@@ -60,41 +93,83 @@ fn is_not_json(alloc: Global, bytes: &[u8], want: usize) -> bool {
     }
 }
 
+// The place of the bracket that opens one level too many.
+fn is_too_deep(alloc: Global, bytes: &[u8], want: usize) -> bool {
+    match scan(alloc, bytes) {
+        Err(ScanFault::TooDeep { place }) => place == want,
+        _ => false,
+    }
+}
+
+const BROKEN: [(&[u8], usize); 2] = [(b"[\"\xe2\x82", 4), (b"[\"\xe2\x82\"]", 4)];
+
+const WHOLE: &[u8] = b"[1,{\"a\":-1.5e+3},\"\\ud800\xe2\x82\xac\",true]";
+
+/// Whether the text is not JSON where it is cut, wherever that is.
+fn is_cut_short(alloc: Global, text: &[u8]) -> bool {
+    for cut in 0..text.len() {
+        if !is_not_json(alloc, &text[..cut], cut) {
+            return false;
+        }
+    }
+    true
+}
+
 #[test]
 fn depth_and_places(rt: HostRuntime) {
     let brackets = [b'['; 101];
-    match scan(rt.alloc(), &brackets) {
-        Err(ScanFault::TooDeep { place }) => assert_eq!(rt; place, 100),
-        _ => assert!(rt; false),
-    }
+    assert!(rt; is_too_deep(rt.alloc(), &brackets, 100));
     assert!(rt; is_not_json(rt.alloc(), &brackets[..100], 100));
-    assert!(rt; is_not_json(rt.alloc(), b"[\"\xe2\x82", 4));
-    assert!(rt; is_not_json(rt.alloc(), b"[\"\xe2\x82\"]", 4));
-    let map = b"[1,{\"a\":-1.5e+3},\"\\ud800\xe2\x82\xac\",true]";
-    for cut in 0..map.len() {
-        assert!(rt; is_not_json(rt.alloc(), &map[..cut], cut));
+    for (text, place) in &BROKEN[..] {
+        assert!(rt; is_not_json(rt.alloc(), text, *place));
     }
+    assert!(rt; is_cut_short(rt.alloc(), WHOLE));
 }
 
 // Lists that make the stack of open brackets grow four times.
 const DEEP: &[u8; 68] = b"[[[[[[[[[[[[[[[[[[[[[[[[[[[[[[[[[[]]]]]]]]]]]]]]]]]]]]]]]]]]]]]]]]]]";
+
+/// Whether the lists are scanned on this heap. Their only fault is want of memory.
+fn is_scanned<R: Abort>(rt: &R, heap: &LocalHeap) -> bool {
+    match scan(heap, DEEP) {
+        Ok(root) => {
+            assert_eq!(rt; bytes(root.span()).len(), 68);
+            true
+        }
+        Err(fault) => {
+            assert!(rt; matches!(fault, ScanFault::OutOfMemory));
+            false
+        }
+    }
+}
+
+/// The same with so many bytes of the heap taken.
+fn is_scanned_beside<R: Abort>(rt: &R, heap: &LocalHeap, taken: usize) -> Result<bool, AllocError> {
+    let taken: Vec<u8, &LocalHeap> = Vec::with_capacity(heap, taken)?;
+    let scanned = is_scanned(rt, heap);
+    drop(taken);
+    Ok(scanned)
+}
+
+/// The same on a new heap with so many pieces of 16 bytes left.
+fn is_scanned_in<R: Abort>(rt: &R, alloc: Global, room: usize) -> Result<bool, AllocError> {
+    let heap = LocalHeap::new(alloc, 256)?;
+    let scanned = is_scanned_beside(rt, &heap, 256usize.saturating_sub(room.saturating_mul(16)));
+    drop(heap);
+    scanned
+}
 
 #[test]
 fn each_growth_is_refused_in_turn(rt: HostRuntime) -> Result<(), Fail> {
     let mut refused = 0;
     let mut done = false;
     for room in 0..16usize {
-        let heap = LocalHeap::new(rt.alloc(), 256)?;
-        let taken: Vec<u8, &LocalHeap> = Vec::with_capacity(&heap, 256 - 16 * room)?;
-        match scan(&heap, DEEP) {
-            Ok(root) => {
-                assert_eq!(rt; bytes(root.span()).len(), 68);
-                done = true;
-            }
-            Err(ScanFault::OutOfMemory) if !done => refused = room,
-            Err(_) => assert!(rt; false),
+        let scanned = is_scanned_in(&rt, rt.alloc(), room)?;
+        assert!(rt; scanned || !done);
+        if !scanned {
+            refused = room;
         }
-        drop(taken);
+        done = scanned;
     }
     assert!(rt; done && refused >= 4);
     Ok(())
