@@ -161,7 +161,7 @@ pub joined_map : (old mid new : Stored) (h i j : SegmentSet) (n g : ℕ) (came g
     → new.frame ≡ joined old.frame n g came → Proper (joined (document_of old) n g (map canonical laid))
     → size (joined (document_of old) n g (map canonical laid)) ≤ 4000000
     → (document_of new ≡ joined (document_of old) n g (map canonical laid)) × Holds new j
-joined_map old mid new h i j n g came gone laid e was two one at is proper small =
+joined_map old mid new h i j n g came went laid e was two one at is proper small =
     let one' = frame_polygon old.frame (ring_under old) n one in
     let e' = subst (Exchanged old mid new h i j came) was e in (
       joined_document old mid new h i j n g two one' came is e' laid at,

@@ -294,7 +294,7 @@ pub parted_map : (old mid new : Stored) (h i j : SegmentSet) (n polygon : ℕ) (
     → Proper (parted (document_of old) n polygon (map canonical rs) (map canonical ss) id number)
     → size (parted (document_of old) n polygon (map canonical rs) (map canonical ss) id number) ≤ 4000000
     → (document_of new ≡ parted (document_of old) n polygon (map canonical rs) (map canonical ss) id number) × Holds new j
-parted_map old mid new h i j n polygon first second gone rs ss id number e was there inside fresh json at_first at_second is proper small =
+parted_map old mid new h i j n polygon first second went rs ss id number e was there inside fresh json at_first at_second is proper small =
     let inner = frame_polygons old.frame (ring_under old) n polygon there in
     let e' = subst (Exchanged old mid new h i j (first ++ second)) was e in (
       parted_document old mid new h i j n polygon inner first second id number is e' rs ss at_first at_second,

@@ -4,7 +4,7 @@ use Rattle.std.specs.Prelude.{ℕ, IsTrue}
 use Rattle.std.specs.FinMap as table
 use Rattle.ring_machine.specs.Document.{Text}
 use Rattle.ring_machine.specs.Machine.{renamed}
-use Rattle.ring_machine.specs.Parts.{rings, size}
+use Rattle.ring_machine.specs.Parts.{size}
 use Rattle.ring_machine.specs.Planar.{Proper}
 use Rattle.ring_machine.specs.WellFormed.{are_distinct}
 use Rattle.ring_machine.proofs.Renamed.{rings-renamed, in_rings-renamed, size-renamed, proper-renamed}

@@ -5,7 +5,7 @@ use Rattle.std.specs.Prelude.{Vec, not, IsTrue, slice_get, unwrap_or}
 use Rattle.std.specs.List.{flat_map, list_all}
 use Rattle.std.proofs.lemmas.Option.{slice_get-map}
 use native.Mathlib.Decide.{ℕ_discrete, dec_lt}
-use Rattle.ring_machine.specs.Document.{Text, ItemOf, LayerOf, Open, Close, Leaf, Kept}
+use Rattle.ring_machine.specs.Document.{Text, ItemOf, LayerOf, Leaf}
 use Rattle.ring_machine.specs.WellFormed.{is_geometry}
 use Rattle.ring_machine.proofs.First.{In}
 use Rattle.ring_machine.proofs.Members.{in_contains}

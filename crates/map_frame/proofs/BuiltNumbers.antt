@@ -1,5 +1,5 @@
 -- The numbers of features that were built: 0, 1, 2 and so on in the order of the text.
-use Rattle.std.proofs.Common.{◌≡◌, ◌≢◌, ◌∙◌, ℕ, zero, suc, ◌+◌, ◌<◌, ◌≤◌, refl, sym, ap, ap₂, subst, arith}
+use Rattle.std.proofs.Common.{◌≡◌, ◌≢◌, ◌∙◌, ℕ, ◌+◌, ◌<◌, ◌≤◌, refl, sym, ap, ap₂, subst, arith}
 use Rattle.std.proofs.Common.{List, [], ◌∷◌, ◌++◌, length, Some, option_map, Bool, true, false, cond, ◌&&◌, ◌||◌}
 use Rattle.std.specs.Prelude.{◌==◌, not, slice_get}
 use Rattle.std.specs.List.{flat_map, filter_map, list_any, find, AllByRecursion}

@@ -23,7 +23,8 @@ use Rattle.plain_rings.specs.Rings.{has_vertex, held_polygon, held_feature, held
 use Rattle.topo_reader.specs.declared.document.RawDoc.{RawDoc}
 use Rattle.topo_reader.specs.Document.{document_of, IsOfRings}
 use Rattle.topo_reader.specs.DocumentView.{view_raw}
-use Rattle.plain_rings.proofs.RingLists.{ring_at, some_here, at_place}
+use Rattle.ring_parts.proofs.Lists.{some_here}
+use Rattle.plain_rings.proofs.RingLists.{ring_at, at_place}
 use Rattle.plain_rings.proofs.Documents.{rings_are}
 use Rattle.plain_rings.proofs.StaysPlain.{moved}
 

@@ -9,6 +9,7 @@ use Rattle.std.proofs.lemmas.List.Folds.{list_all-map, list_all_at, list_any-app
 use Rattle.grid_geometry.specs.Position.{Position, position_eq}
 use Rattle.ring_machine.specs.Ring.{has, is_ring}
 use Rattle.ring_machine.proofs.Removal.{position_eq-sym}
+use Rattle.ring_parts.proofs.Lists.{one_more}
 
 -- what passes for all passes for one
 pub passes_at : {A : Type 0} (test : A → Bool) (xs : List A) (i : ℕ) (x : A) → i < length xs → x ≡ get_or xs i x → list_all test xs ≡ true → test x ≡ true
@@ -21,30 +22,6 @@ passes_at test xs i x l e h = by (test x) refl
 -- a ring of the list
 pub ring_at : {R : Type 0} (of : R → List Position) (rings : List R) (i : ℕ) (ring : R) → i < length rings → ring ≡ get_or rings i ring → list_all is_ring (map of rings) ≡ true → is_ring (of ring) ≡ true
 ring_at of rings i ring l e h = passes_at (λ r. is_ring (of r)) rings i ring l e (sym (list_all-map is_ring of rings) ∙ h)
-
--- ---- one more element
-
-pub one_more : {A B : Type 0} (of : A → B) (xs : List A) (i : ℕ) (x : A) → i < length xs → x ≡ get_or xs i x → map of (take (i + 1) xs) ≡ map of (take i xs) ++ of x ∷ []
-one_more of xs i x l e = ap (map of) (take_more xs i x l ∙ ap (λ z. take i xs ++ z ∷ []) (sym e)) ∙ map-append of (take i xs) (x ∷ [])
-
-module _ {A B : Type 0} (of : A → B) (test : B → Bool) where
-  -- none so far, and not this one
-  pub none_more : (xs : List A) (i : ℕ) (x : A) → i < length xs → x ≡ get_or xs i x → list_any test (map of (take i xs)) ≡ false → test (of x) ≡ false → list_any test (map of (take (i + 1) xs)) ≡ false
-  none_more xs i x l e h k = ap (list_any test) (one_more of xs i x l e) ∙ list_any-append test (map of (take i xs)) (of x ∷ []) ∙ ap₂ (λ a b. a || (b || false)) h k
-
-  -- this one
-  pub some_here : (xs : List A) (i : ℕ) (x : A) → i < length xs → x ≡ get_or xs i x → test (of x) ≡ true → list_any test (map of xs) ≡ true
-  some_here [] i x l e k = absurd (omega arith)
-  some_here (y ∷ ys) zero x l e k = ap (λ b. b || list_any test (map of ys)) (ap (λ z. test (of z)) (sym e) ∙ k)
-  some_here (y ∷ ys) (suc i) x l e k = right (test (of y)) (some_here ys i x (omega arith) e k)
-    where
-      right : (a : Bool) → list_any test (map of ys) ≡ true → (a || list_any test (map of ys)) ≡ true
-      right true h = refl
-      right false h = h
-
-  -- none of them all
-  pub none_at_all : (xs : List A) (i : ℕ) → length xs ≤ i → list_any test (map of (take i xs)) ≡ false → list_any test (map of xs) ≡ false
-  none_at_all xs i l h = ap (λ ys. list_any test (map of ys)) (sym (take_all i xs l)) ∙ h
 
 -- a position stands in a ring, whichever way it is compared
 pub has_turned : (ring : List Position) (p : Position) → list_any (λ r. position_eq r p) ring ≡ has ring p
@@ -62,11 +39,6 @@ pub sum_at : {A B : Type 0} (f : B → ℕ) (of : A → B) (xs : List A) (i : �
 sum_at f of [] i x l e = absurd (omega arith)
 sum_at f of (y ∷ ys) zero x l e = simp sum_by-cons (omega (arith, ap (λ z. f (of z)) e))
 sum_at f of (y ∷ ys) (suc i) x l e = simp sum_by-cons (omega (arith, sum_at f of ys i x (omega arith) e))
-
--- a list from its first element and the others
-pub list_is : {A : Type 0} (xs : List A) (first : A) → 1 ≤ length xs → first ≡ get_or xs 0 first → first ∷ take (length xs - 1) (drop 1 xs) ≡ xs
-list_is [] first l e = absurd (omega arith)
-list_is (x ∷ xs) first l e = ap₂ (λ y ys. y ∷ ys) e (take_all (length (x ∷ xs) - 1) xs (omega arith))
 
 -- a list from its first two elements and the others
 pub list_of_two : {A : Type 0} (xs : List A) (first second : A) → 2 ≤ length xs → first ≡ get_or xs 0 first → second ≡ get_or xs 1 second → first ∷ second ∷ take (length xs - 2) (drop 2 xs) ≡ xs

@@ -6,7 +6,7 @@ use Rattle.std.proofs.lemmas.List.Sums.{sum_by-cons, sum_by-append}
 use Rattle.ring_machine.specs.Parts.{size}
 use Rattle.topo_reader.specs.Document.{Opened, document_of, IsOfRings}
 use Rattle.plain_rings.specs.Areas.{positions_in}
-use Rattle.plain_rings.proofs.RingLists.{one_more}
+use Rattle.ring_parts.proofs.Lists.{one_more}
 use Rattle.plain_rings.proofs.Documents.{Polygons, rings_are}
 
 pub sum_more : {A B : Type 0} (f : B → ℕ) (of : A → B) (xs : List A) (i : ℕ) (x : A) → i < length xs → x ≡ get_or xs i x → sum_by f (map of (take (i + 1) xs)) ≡ sum_by f (map of (take i xs)) + f (of x)

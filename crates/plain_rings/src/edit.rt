@@ -10,8 +10,8 @@ ghost use Rattle.plain_rings.specs.Rings.{held_polygon, held_feature, held};
 
 use crate::segments::push_ring;
 use grid_geometry::{Pos, Seg};
+use ring_parts::begin_at_least;
 use std::alloc::{AllocError, AllocFailed, Allocator};
-use topo_reader::begin_at_least;
 
 /// The positions of all features, by polygon and ring.
 pub(crate) type Polygons<A> = Vec<Vec<Vec<Vec<Pos, A>, A>, A>, A>;

@@ -5,8 +5,8 @@ ghost use Rattle.ring_machine.specs.Vertices.{put_ring};
 ghost use Rattle.plain_rings.specs.Rings.{held_polygon, held_feature, held};
 
 use grid_geometry::Pos;
+use ring_parts::begin_at_least;
 use std::alloc::{AllocError, Allocator};
-use topo_reader::begin_at_least;
 
 /// q for p, and any other position as it is.
 fn moved(r: Pos, p: Pos, q: Pos) -> Pos

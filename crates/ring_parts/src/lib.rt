@@ -1,5 +1,5 @@
-//! The two parts of a polygon that a path cuts, and the ring of two that are joined along their
-//! common run, as lists of positions.
+//! Rings as lists of positions: begun at their least one, cut in two by a path, and joined along a
+//! common run.
 #![tactic(auto)]
 
 mod common;
@@ -25,7 +25,7 @@ pub use joining::{join_polygons, joined};
 pub use membership::Members;
 pub use paths::{Path, has_twice, way_segments};
 pub use polygons::{both_parts, first_polygon, second_polygon};
-pub use rotation::canonical;
+pub use rotation::{begin_at_least, canonical};
 pub use same_sides::{passed_alike, same_side};
 pub use sides::Border;
 pub use stretch::{first_part, second_part};

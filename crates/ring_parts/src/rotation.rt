@@ -21,7 +21,7 @@ fn least(first: Pos, others: &[Pos]) -> Pos
 }
 
 /// Turns a ring so that it begins at its least position, with its direction kept.
-pub(crate) fn begin_at_least(ring: &mut [Pos])
+pub fn begin_at_least(ring: &mut [Pos])
     ensures { ring.new ≡ canonical ring.old }
 {
     if let [first, ..] = ring {

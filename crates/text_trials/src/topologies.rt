@@ -1,12 +1,11 @@
 //! What is read of a topology, and its faults.
-use grid_geometry::Pos;
 use linked_list_allocator::LocalHeap;
 use std::alloc::{AllocError, Allocator, Global};
 use std::fmt::Write;
 use std::process::Abort;
 use std::test::Fail;
 use topo_outline::OpenFault;
-use topo_reader::{RawDoc, begin_at_least, read};
+use topo_reader::{RawDoc, read};
 
 /// The fault of the text, if it has one.
 fn fault_of(alloc: Global, text: &str) -> Option<OpenFault<'_>> {
@@ -71,11 +70,6 @@ fn polygon_answers<R: Abort>(
     let checked = topology_answers(rt, alloc, layer.as_str(), arcs, want);
     drop(layer);
     checked
-}
-
-/// The position, which is in range.
-fn at<R: Abort>(rt: &R, x: i64, y: i64) -> Pos {
-    Pos::new(x, y).expect(rt, "in range")
 }
 
 const COORDINATES: [(&str, &str); 11] = [
@@ -386,13 +380,6 @@ fn joined_arcs(rt: HostRuntime) -> Result<(), Fail> {
         "Some(Rect { x0: 0, y0: 0, x1: 20, y1: 10 })",
     )?;
     topology_opens(&rt, rt.alloc(), ("", "[[10,0],[10,10]]"), "[]", "None")
-}
-
-#[test]
-fn a_ring_begun_at_its_least(rt: HostRuntime) {
-    let mut ring = [at(&rt, 2, 0), at(&rt, 2, 2), at(&rt, 0, 5), at(&rt, 0, 1)];
-    begin_at_least(&mut ring);
-    assert!(rt; ring == [at(&rt, 0, 1), at(&rt, 2, 0), at(&rt, 2, 2), at(&rt, 0, 5)]);
 }
 
 /// Whether the text opens, with both its features. Its only fault is want of memory.

@@ -11,7 +11,6 @@ pub mod MeaningOfText
 pub mod ExamplesReads
 pub mod Named
 pub mod Summing
-pub mod Turning
 pub mod Numbering
 pub mod Bracketed
 pub mod Fitting

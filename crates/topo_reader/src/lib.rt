@@ -2,7 +2,6 @@
 #![tactic(auto)]
 
 mod arcs;
-mod canonical;
 mod document;
 mod extent;
 mod indexes;
@@ -10,6 +9,5 @@ mod limits;
 mod reading;
 mod rings;
 
-pub use canonical::begin_at_least;
 pub use document::RawDoc;
 pub use reading::read;

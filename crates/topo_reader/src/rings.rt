@@ -6,9 +6,9 @@ ghost use Rattle.topo_outline.specs.Gives.{Gives};
 ghost use Rattle.topo_reader.specs.Uses.{arc_of, ring_uses, polygon_uses, feature_uses, positions_of, polygon_positions, feature_positions};
 ghost use Rattle.topo_reader.specs.Rings.{first_of, last_of, meet_from, meet, ends, unless, is_at, starts_at, squeezed, last_after, all_of, joined, first_repeat, ring_of, polygon_of, feature_of, all_rings};
 
-use crate::canonical::begin_at_least;
 use crate::indexes::Use;
 use grid_geometry::Pos;
+use ring_parts::begin_at_least;
 use std::alloc::{AllocError, AllocFailed, Allocator};
 use std::collections::BTreeSet;
 use topo_outline::{OpenFault, RingAt};

@@ -1,4 +1,4 @@
-use Rattle.std.proofs.Common.{◌++◌, ◌∙◌, refl, sym, ap, subst, map, arith}
+use Rattle.std.proofs.Common.{◌++◌, ◌∙◌, refl, sym, ap, subst, map, arith, rules}
 use Rattle.ring_machine.proofs.StaysFormed.{is_layer-in_rings}
 use Rattle.map_frame.specs.Edits.{parted}
 use Rattle.map_frame.specs.Framed.{Framed}
@@ -12,15 +12,15 @@ use Rattle.feature_exchange.proofs.Parted.{frame_polygons, parted_few, parted_ma
 use Rattle.feature_exchange.proofs.Whole.{tables_stand, map_unchanged}
 use Rattle.feature_exchange.proofs.parting.part_feature.Goals as goal
 
-pub gather_rings-requires-clause-there : goal.gather_rings-requires-clause-there
-gather_rings-requires-clause-there g c =
-    polygon_there (stored c.args.frame.now c.args.borders.now c.args.vertices.now) (g.I.SegIndex.held c.args.index.now) c.requires.holds c.args.n c.args.parts.polygon c.as_slice.result.now
-    (c.as_slice.ensures.value ∙ c.in_ok-push_polygon.ensures ∙ ap (λ z. z ++ polygon_under c.args.frame.now.doc c.args.n c.args.parts.polygon) c.new-numbers.ensures.items)
-
-pub gather_rings-requires-clause-different : goal.gather_rings-requires-clause-different
-gather_rings-requires-clause-different g c =
-    polygon_different (stored c.args.frame.now c.args.borders.now c.args.vertices.now) (g.I.SegIndex.held c.args.index.now) c.requires.holds c.args.n c.args.parts.polygon c.as_slice.result.now
-    (c.as_slice.ensures.value ∙ c.in_ok-push_polygon.ensures ∙ ap (λ z. z ++ polygon_under c.args.frame.now.doc c.args.n c.args.parts.polygon) c.new-numbers.ensures.items)
+pub gather_rings-requires : goal.gather_rings-requires
+gather_rings-requires g c =
+    let m = stored c.args.frame.now c.args.borders.now c.args.vertices.now in
+    let listed = c.as_slice.ensures.value ∙ c.in_ok-push_polygon.ensures ∙ ap (λ z. z ++ polygon_under c.args.frame.now.doc c.args.n c.args.parts.polygon) c.new-numbers.ensures.items in
+    record {
+      round = search rules;
+      there = polygon_there m (g.I.SegIndex.held c.args.index.now) c.requires.holds c.args.n c.args.parts.polygon c.as_slice.result.now listed;
+      different = polygon_different m (g.I.SegIndex.held c.args.index.now) c.requires.holds c.args.n c.args.parts.polygon c.as_slice.result.now listed;
+    }
 
 pub lay_rings-requires-clause-stands : goal.lay_rings-requires-clause-stands
 lay_rings-requires-clause-stands g c =
@@ -57,9 +57,9 @@ take_out_rings-requires-in-Err-lay_second-clause-there g c =
     subst (λ z. AreThere z c.as_slice-came.result.now) (sym c.in-Err-lay_second.ensures.borders)
     (subst (AreThere c.lay_rings.new.borders) (sym c.as_slice-came.ensures.value) c.in-Ok.ensures.there)
 
-pub returns-in-Ok-lay_second-clause-parted : goal.returns-in-Ok-lay_second-clause-parted
-returns-in-Ok-lay_second-clause-parted g c =
-    (parted_map (stored c.args.frame.now c.args.borders.now c.args.vertices.now) (stored c.args.frame.now c.lay_second.new.borders c.lay_second.new.vertices) (stored c.lay_second.new.frame c.take_out_rings.new.borders c.take_out_rings.new.vertices) (g.I.SegIndex.held c.args.index.now) (g.I.SegIndex.held c.lay_second.new.index) (g.I.SegIndex.held c.take_out_rings.new.index) c.args.n c.args.parts.polygon (numbers_of c.in-Ok.laid.items) (numbers_of c.in-Ok-lay_second.field-0.items) (numbers_of c.as_slice-gone.result.now)
+pub returns-in-Ok-lay_second : goal.returns-in-Ok-lay_second
+returns-in-Ok-lay_second g c =
+    let both = parted_map (stored c.args.frame.now c.args.borders.now c.args.vertices.now) (stored c.args.frame.now c.lay_second.new.borders c.lay_second.new.vertices) (stored c.lay_second.new.frame c.take_out_rings.new.borders c.take_out_rings.new.vertices) (g.I.SegIndex.held c.args.index.now) (g.I.SegIndex.held c.lay_second.new.index) (g.I.SegIndex.held c.take_out_rings.new.index) c.args.n c.args.parts.polygon (numbers_of c.in-Ok.laid.items) (numbers_of c.in-Ok-lay_second.field-0.items) (numbers_of c.as_slice-gone.result.now)
     (map (λ ring. ring.items) c.args.parts.first.now) (map (λ ring. ring.items) c.args.parts.second.now) c.args.parts.id.items c.args.frame.now.next
     (both_exchanged c.lay_rings.new.vertices c.lay_second.new.vertices c.lay_rings.new.borders c.lay_second.new.borders (g.I.SegIndex.held c.lay_rings.new.index) (g.I.SegIndex.held c.lay_second.new.index) c.in-Ok.laid.items c.in-Ok-lay_second.field-0.items
     c.lay_rings.ensures.stands c.in-Ok.ensures.there c.lay_second.ensures.stands c.in-Ok-lay_second.ensures.there c.in-Ok-lay_second.ensures.added c.lay_second.ensures.kept
@@ -72,41 +72,34 @@ returns-in-Ok-lay_second-clause-parted g c =
     c.in-Ok-lay_second.ensures.at
     (ap (λ (f : Framed). f.doc) c.in-Ok-lay_second.ensures.parted
     ∙ ap (λ z. parted c.args.frame.now.doc c.args.n c.args.parts.polygon (numbers_of z) (numbers_of c.in-Ok-lay_second.field-0.items) c.args.parts.id.items c.args.frame.now.next) c.as_slice-came.ensures.value)
-    c.requires.proper c.requires.small).0
+    c.requires.proper c.requires.small in
+    record {
+      parted = both.0;
+      holds = both.1;
+      number = search rules;
+      unchanged = search rules;
+      still = search rules;
+      next = search rules;
+      counted = search rules;
+      cells = search rules;
+    }
 
-pub returns-in-Ok-lay_second-clause-holds : goal.returns-in-Ok-lay_second-clause-holds
-returns-in-Ok-lay_second-clause-holds g c =
-    (parted_map (stored c.args.frame.now c.args.borders.now c.args.vertices.now) (stored c.args.frame.now c.lay_second.new.borders c.lay_second.new.vertices) (stored c.lay_second.new.frame c.take_out_rings.new.borders c.take_out_rings.new.vertices) (g.I.SegIndex.held c.args.index.now) (g.I.SegIndex.held c.lay_second.new.index) (g.I.SegIndex.held c.take_out_rings.new.index) c.args.n c.args.parts.polygon (numbers_of c.in-Ok.laid.items) (numbers_of c.in-Ok-lay_second.field-0.items) (numbers_of c.as_slice-gone.result.now)
-    (map (λ ring. ring.items) c.args.parts.first.now) (map (λ ring. ring.items) c.args.parts.second.now) c.args.parts.id.items c.args.frame.now.next
-    (both_exchanged c.lay_rings.new.vertices c.lay_second.new.vertices c.lay_rings.new.borders c.lay_second.new.borders (g.I.SegIndex.held c.lay_rings.new.index) (g.I.SegIndex.held c.lay_second.new.index) c.in-Ok.laid.items c.in-Ok-lay_second.field-0.items
-    c.lay_rings.ensures.stands c.in-Ok.ensures.there c.lay_second.ensures.stands c.in-Ok-lay_second.ensures.there c.in-Ok-lay_second.ensures.added c.lay_second.ensures.kept
-    (stored c.args.frame.now c.args.borders.now c.args.vertices.now) (stored c.lay_second.new.frame c.take_out_rings.new.borders c.take_out_rings.new.vertices) (g.I.SegIndex.held c.args.index.now) (g.I.SegIndex.held c.take_out_rings.new.index) (numbers_of c.as_slice-gone.result.now) c.requires.holds c.in-Ok.ensures.added c.lay_rings.ensures.kept
-    c.take_out_rings.ensures.stands c.take_out_rings.ensures.gone c.take_out_rings.ensures.places)
-    (ap numbers_of c.as_slice-gone.ensures.value ∙ c.in_ok-gone.ensures.numbers ∙ (c.as_slice.ensures.value ∙ c.in_ok-push_polygon.ensures ∙ ap (λ z. z ++ polygon_under c.args.frame.now.doc c.args.n c.args.parts.polygon) c.new-numbers.ensures.items))
-    c.requires.there c.requires.inside (c.next-number.ensures.below c.args.frame.now.next (omega arith)) c.requires.text
-    (first_at c.lay_rings.new.vertices c.lay_second.new.vertices c.lay_rings.new.borders c.lay_second.new.borders (g.I.SegIndex.held c.lay_rings.new.index) (g.I.SegIndex.held c.lay_second.new.index) c.in-Ok.laid.items c.in-Ok-lay_second.field-0.items
-    c.lay_rings.ensures.stands c.in-Ok.ensures.there c.lay_second.ensures.stands c.in-Ok-lay_second.ensures.there c.in-Ok-lay_second.ensures.added c.lay_second.ensures.kept ∙ c.in-Ok.ensures.at)
-    c.in-Ok-lay_second.ensures.at
-    (ap (λ (f : Framed). f.doc) c.in-Ok-lay_second.ensures.parted
-    ∙ ap (λ z. parted c.args.frame.now.doc c.args.n c.args.parts.polygon (numbers_of z) (numbers_of c.in-Ok-lay_second.field-0.items) c.args.parts.id.items c.args.frame.now.next) c.as_slice-came.ensures.value)
-    c.requires.proper c.requires.small).1
-
-pub returns-clause-unchanged : goal.returns-clause-unchanged
-returns-clause-unchanged g c =
+pub returns : goal.returns
+returns g c =
     let back = back_again c.args.vertices.now c.lay_second.new.vertices c.take_out_rings-in-Err-lay_second.new.vertices c.args.borders.now c.lay_second.new.borders c.take_out_rings-in-Err-lay_second.new.borders
     (g.I.SegIndex.held c.args.index.now) (g.I.SegIndex.held c.take_out_rings-in-Err-lay_second.new.index) (numbers_of c.in-Ok.laid.items) (numbers_of c.as_slice-came.result.now)
     (tables_stand (stored c.args.frame.now c.args.borders.now c.args.vertices.now) (g.I.SegIndex.held c.args.index.now) c.requires.holds) c.take_out_rings-in-Err-lay_second.ensures.stands
     (subst (λ z. AreAdded c.args.borders.now z (numbers_of c.in-Ok.laid.items)) (sym c.in-Err-lay_second.ensures.borders) c.in-Ok.ensures.added)
     (ap numbers_of c.as_slice-came.ensures.value) c.take_out_rings-in-Err-lay_second.ensures.gone
     (λ k x e. c.lay_second.ensures.kept k x (c.lay_rings.ensures.kept k x e)) c.take_out_rings-in-Err-lay_second.ensures.places in
-    (map_unchanged (stored c.args.frame.now c.args.borders.now c.args.vertices.now) (stored c.lay_second.new.frame c.take_out_rings-in-Err-lay_second.new.borders c.take_out_rings-in-Err-lay_second.new.vertices) (g.I.SegIndex.held c.args.index.now) (g.I.SegIndex.held c.take_out_rings-in-Err-lay_second.new.index) c.requires.holds (ap (λ (f : Framed). f.doc) c.in-Err-lay_second.ensures.frame) back.0 back.1 back.2).0
-
-pub returns-clause-holds : goal.returns-clause-holds
-returns-clause-holds g c =
-    let back = back_again c.args.vertices.now c.lay_second.new.vertices c.take_out_rings-in-Err-lay_second.new.vertices c.args.borders.now c.lay_second.new.borders c.take_out_rings-in-Err-lay_second.new.borders
-    (g.I.SegIndex.held c.args.index.now) (g.I.SegIndex.held c.take_out_rings-in-Err-lay_second.new.index) (numbers_of c.in-Ok.laid.items) (numbers_of c.as_slice-came.result.now)
-    (tables_stand (stored c.args.frame.now c.args.borders.now c.args.vertices.now) (g.I.SegIndex.held c.args.index.now) c.requires.holds) c.take_out_rings-in-Err-lay_second.ensures.stands
-    (subst (λ z. AreAdded c.args.borders.now z (numbers_of c.in-Ok.laid.items)) (sym c.in-Err-lay_second.ensures.borders) c.in-Ok.ensures.added)
-    (ap numbers_of c.as_slice-came.ensures.value) c.take_out_rings-in-Err-lay_second.ensures.gone
-    (λ k x e. c.lay_second.ensures.kept k x (c.lay_rings.ensures.kept k x e)) c.take_out_rings-in-Err-lay_second.ensures.places in
-    (map_unchanged (stored c.args.frame.now c.args.borders.now c.args.vertices.now) (stored c.lay_second.new.frame c.take_out_rings-in-Err-lay_second.new.borders c.take_out_rings-in-Err-lay_second.new.vertices) (g.I.SegIndex.held c.args.index.now) (g.I.SegIndex.held c.take_out_rings-in-Err-lay_second.new.index) c.requires.holds (ap (λ (f : Framed). f.doc) c.in-Err-lay_second.ensures.frame) back.0 back.1 back.2).1
+    let same = map_unchanged (stored c.args.frame.now c.args.borders.now c.args.vertices.now) (stored c.lay_second.new.frame c.take_out_rings-in-Err-lay_second.new.borders c.take_out_rings-in-Err-lay_second.new.vertices) (g.I.SegIndex.held c.args.index.now) (g.I.SegIndex.held c.take_out_rings-in-Err-lay_second.new.index) c.requires.holds (ap (λ (f : Framed). f.doc) c.in-Err-lay_second.ensures.frame) back.0 back.1 back.2 in
+    record {
+      unchanged = same.0;
+      holds = same.1;
+      number = search rules;
+      parted = search rules;
+      still = search rules;
+      next = search rules;
+      counted = search rules;
+      cells = search rules;
+    }

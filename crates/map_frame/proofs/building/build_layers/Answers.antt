@@ -1,4 +1,4 @@
-use Rattle.std.proofs.Common.{◌≡◌, ◌∙◌, refl, sym, ap, subst, length}
+use Rattle.std.proofs.Common.{◌∙◌, refl, sym, subst}
 use Rattle.std.specs.Vec.Iter.{into_iter_items, into_iter_len}
 use Rattle.map_frame.specs.Building.{progress, IsGeometry, AreLayers}
 use Rattle.map_frame.proofs.Built.{HasRoom, LayersSoFar, nothing_left, layer_room, layers_begin, layers_more, layers_end, all_leaves}

@@ -1,4 +1,4 @@
-use Rattle.std.proofs.Common.{◌≡◌, ◌∙◌, ◌+◌, ◌≤◌, refl, sym, ap, subst, arith, length, [], ◌∷◌, ◌++◌}
+use Rattle.std.proofs.Common.{◌∙◌, refl, sym, ap, subst, arith, [], ◌∷◌, ◌++◌}
 use Rattle.std.specs.Vec.Iter.{into_iter_items}
 use Rattle.map_frame.specs.Building.{progress, IsSlot}
 use Rattle.map_frame.specs.declared.layers.Slot.TheVariants as slot

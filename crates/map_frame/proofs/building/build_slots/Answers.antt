@@ -1,4 +1,4 @@
-use Rattle.std.proofs.Common.{◌≡◌, ◌∙◌, refl, sym, ap, subst, length}
+use Rattle.std.proofs.Common.{◌∙◌, refl, sym, subst}
 use Rattle.std.specs.Vec.Iter.{into_iter_items, into_iter_len}
 use Rattle.map_frame.specs.Building.{progress, IsSlot, AreSlots}
 use Rattle.map_frame.proofs.Built.{HasRoom, SlotsSoFar, nothing_left, room_first, slots_begin, slots_more, slots_end, leaves_of}

@@ -6,7 +6,8 @@ use Rattle.std.proofs.lemmas.List.{take_all}
 use Rattle.std.proofs.lemmas.List.Sums.{sum_by-cons}
 use Rattle.ring_machine.specs.Query as query
 use Rattle.plain_rings.specs.Rings.{held_polygon}
-use Rattle.plain_rings.proofs.RingLists.{list_is, fold_more}
+use Rattle.ring_parts.proofs.Lists.{list_is}
+use Rattle.plain_rings.proofs.RingLists.{fold_more}
 use Rattle.plain_rings.proofs.Summing.{sum_more, sum_front}
 use Rattle.plain_rings.proofs.area.polygon_area.Goals as goal
 

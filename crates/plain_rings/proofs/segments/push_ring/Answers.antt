@@ -3,7 +3,7 @@ use Rattle.std.specs.List.{AllByRecursion}
 use Rattle.grid_geometry.specs.Ring.{edges}
 use Rattle.ring_machine.specs.Ring.{segments}
 use Rattle.plain_rings.proofs.RingSteps.{Differ, ring_differs}
-use Rattle.plain_rings.proofs.RingLists.{list_is}
+use Rattle.ring_parts.proofs.Lists.{list_is}
 use Rattle.plain_rings.proofs.segments.push_ring.Goals as goal
 
 pub loop-to-init : goal.loop-to-init

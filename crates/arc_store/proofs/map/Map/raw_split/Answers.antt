@@ -1,4 +1,4 @@
-use Rattle.std.proofs.Common.{ap₂, ◌≤◌, ◌+◌, sym, ap, ◌∙◌, subst, map, length, get_or, arith}
+use Rattle.std.proofs.Common.{ap₂, ◌≤◌, ◌+◌, sym, ap, ◌∙◌, subst, map, length, get_or, arith, rules}
 use Rattle.std.specs.List.{list_any}
 use Rattle.std.proofs.lemmas.Bool.{false≢true}
 use Rattle.std.proofs.lemmas.Result.{err_from_is_err_and}
@@ -31,217 +31,150 @@ pub has_room-room-requires-clause-short : goal.has_room-room-requires-clause-sho
 has_room-room-requires-clause-short g c =
     omega (arith, c.requires.short, inner_length (path_seen c.in-Some.path) c.args.positions.now c.in-Some.ensures.positions)
 
-pub test_split-requires-clause-apart : goal.test_split-requires-clause-apart
-test_split-requires-clause-apart g c =
+pub test_split-requires : goal.test_split-requires
+test_split-requires g c =
     let m = c.self.inside in
-    indexed_apart (document_of (stored m.frame m.borders m.vertices)) (g.I.SegIndex.held m.index) c.self.invariant.holds.indexed c.self.invariant.holds.proper
-
-pub test_split-requires-clause-short : goal.test_split-requires-clause-short
-test_split-requires-clause-short g c =
     let p = path_seen c.in-Some.path in
-    let a = cuttable c.self.invariant c.self.view_is c.args.n (path_seen c.in-Some.path) (path_of c.args.positions.now) c.in-Some.ensures.value c.requires.there c.requires.inside c.requires.cut c.requires.different c.requires.free c.requires.new in
+    let q = rings_seen c.as_slice-polygon.result.now in
+    let a = cuttable c.self.invariant c.self.view_is c.args.n p (path_of c.args.positions.now) c.in-Some.ensures.value c.requires.there c.requires.inside c.requires.cut c.requires.different c.requires.free c.requires.new in
     let f = found_cut c.as_slice.result.now (feature_at c.args.self.now.doc c.args.n).polygons
     (ap polygons_seen c.as_slice.ensures.value ∙ c.in_ok-polygons.ensures ∙ ap (λ s. (feature_at s.doc c.args.n).polygons) c.self.view_is)
-    (path_seen c.in-Some.path) c.in-Some-first_cut.place c.in-Some-first_cut.ensures.within c.in-Some-first_cut.ensures.first c.in-Some-first_cut.ensures.none_before
+    p c.in-Some-first_cut.place c.in-Some-first_cut.ensures.within c.in-Some-first_cut.ensures.first c.in-Some-first_cut.ensures.none_before
     c.index.result.now (c.index.ensures ∙ ap (λ z. get_or z c.in-Some-first_cut.place c.index.result.now) (sym c.as_slice.ensures.value))
     c.as_slice-polygon.result.now c.as_slice-polygon.ensures.value in
-    omega (
-      arith,
-      outer_few c.self.invariant c.self.view_is c.args.n c.args.id.items p a c.in-Some-first_cut.place (rings_seen c.as_slice-polygon.result.now) f,
-      seen_small c.self.invariant c.self.view_is,
-      c.requires.short,
-      inner_length p c.args.positions.now c.in-Some.ensures.positions,
-    )
+    record {
+      apart = indexed_apart (document_of (stored m.frame m.borders m.vertices)) (g.I.SegIndex.held m.index) c.self.invariant.holds.indexed c.self.invariant.holds.proper;
+      short = omega (
+        arith,
+        outer_few c.self.invariant c.self.view_is c.args.n c.args.id.items p a c.in-Some-first_cut.place q f,
+        seen_small c.self.invariant c.self.view_is,
+        c.requires.short,
+        inner_length p c.args.positions.now c.in-Some.ensures.positions,
+      );
+      added = c.as_slice-added.ensures.value ∙ c.in_ok-added.ensures ∙ ap (λ z. map segment_of (links z)) (sym c.in-Some.ensures.positions);
+    }
 
-pub test_split-requires-clause-added : goal.test_split-requires-clause-added
-test_split-requires-clause-added g c =
-    c.as_slice-added.ensures.value ∙ c.in_ok-added.ensures ∙ ap (λ z. map segment_of (links z)) (sym c.in-Some.ensures.positions)
-
-pub part_feature-requires-clause-counted : goal.part_feature-requires-clause-counted
-part_feature-requires-clause-counted g c = counted_by c.self.invariant
-
-pub part_feature-requires-clause-there : goal.part_feature-requires-clause-there
-part_feature-requires-clause-there g c =
+pub part_feature-requires : goal.part_feature-requires
+part_feature-requires g c =
     let p = path_seen c.in-Some.path in
-    let a = cuttable c.self.invariant c.self.view_is c.args.n (path_seen c.in-Some.path) (path_of c.args.positions.now) c.in-Some.ensures.value c.requires.there c.requires.inside c.requires.cut c.requires.different c.requires.free c.requires.new in
+    let q = rings_seen c.as_slice-polygon.result.now in
+    let a = cuttable c.self.invariant c.self.view_is c.args.n p (path_of c.args.positions.now) c.in-Some.ensures.value c.requires.there c.requires.inside c.requires.cut c.requires.different c.requires.free c.requires.new in
     let f = found_cut c.as_slice.result.now (feature_at c.args.self.now.doc c.args.n).polygons
     (ap polygons_seen c.as_slice.ensures.value ∙ c.in_ok-polygons.ensures ∙ ap (λ s. (feature_at s.doc c.args.n).polygons) c.self.view_is)
-    (path_seen c.in-Some.path) c.in-Some-first_cut.place c.in-Some-first_cut.ensures.within c.in-Some-first_cut.ensures.first c.in-Some-first_cut.ensures.none_before
+    p c.in-Some-first_cut.place c.in-Some-first_cut.ensures.within c.in-Some-first_cut.ensures.first c.in-Some-first_cut.ensures.none_before
     c.index.result.now (c.index.ensures ∙ ap (λ z. get_or z c.in-Some-first_cut.place c.index.result.now) (sym c.as_slice.ensures.value))
     c.as_slice-polygon.result.now c.as_slice-polygon.ensures.value in
-    polygon_there c.self.invariant c.self.view_is c.args.n c.args.id.items p a c.in-Some-first_cut.place (rings_seen c.as_slice-polygon.result.now) f
-
-pub part_feature-requires-clause-inside : goal.part_feature-requires-clause-inside
-part_feature-requires-clause-inside g c =
-    let p = path_seen c.in-Some.path in
-    let a = cuttable c.self.invariant c.self.view_is c.args.n (path_seen c.in-Some.path) (path_of c.args.positions.now) c.in-Some.ensures.value c.requires.there c.requires.inside c.requires.cut c.requires.different c.requires.free c.requires.new in
-    let f = found_cut c.as_slice.result.now (feature_at c.args.self.now.doc c.args.n).polygons
-    (ap polygons_seen c.as_slice.ensures.value ∙ c.in_ok-polygons.ensures ∙ ap (λ s. (feature_at s.doc c.args.n).polygons) c.self.view_is)
-    (path_seen c.in-Some.path) c.in-Some-first_cut.place c.in-Some-first_cut.ensures.within c.in-Some-first_cut.ensures.first c.in-Some-first_cut.ensures.none_before
-    c.index.result.now (c.index.ensures ∙ ap (λ z. get_or z c.in-Some-first_cut.place c.index.result.now) (sym c.as_slice.ensures.value))
-    c.as_slice-polygon.result.now c.as_slice-polygon.ensures.value in
-    feature_inside c.self.invariant c.self.view_is c.args.n c.args.id.items p a c.in-Some-first_cut.place (rings_seen c.as_slice-polygon.result.now) f
-
-pub part_feature-requires-clause-few : goal.part_feature-requires-clause-few
-part_feature-requires-clause-few g c =
-    let p = path_seen c.in-Some.path in
-    let a = cuttable c.self.invariant c.self.view_is c.args.n (path_seen c.in-Some.path) (path_of c.args.positions.now) c.in-Some.ensures.value c.requires.there c.requires.inside c.requires.cut c.requires.different c.requires.free c.requires.new in
-    let f = found_cut c.as_slice.result.now (feature_at c.args.self.now.doc c.args.n).polygons
-    (ap polygons_seen c.as_slice.ensures.value ∙ c.in_ok-polygons.ensures ∙ ap (λ s. (feature_at s.doc c.args.n).polygons) c.self.view_is)
-    (path_seen c.in-Some.path) c.in-Some-first_cut.place c.in-Some-first_cut.ensures.within c.in-Some-first_cut.ensures.first c.in-Some-first_cut.ensures.none_before
-    c.index.result.now (c.index.ensures ∙ ap (λ z. get_or z c.in-Some-first_cut.place c.index.result.now) (sym c.as_slice.ensures.value))
-    c.as_slice-polygon.result.now c.as_slice-polygon.ensures.value in
-    let h = c.in_ok-test_split.ensures.accepted c.args.self.now.doc c.args.self.now.next c.args.n c.args.id.items (tested c.self.invariant c.self.view_is c.args.n c.args.id.items p a c.in-Some-first_cut.place (rings_seen c.as_slice-polygon.result.now) f c.has_room-room.result (c.has_room-room.ensures ∙ ap (λ z. has_room z c.self.inside.positions (length p.inner)) c.next.ensures.next)) in
-    next_few c.self.invariant c.self.view_is c.args.n c.args.id.items p a c.in-Some-first_cut.place (rings_seen c.as_slice-polygon.result.now) f h
-
-pub part_feature-requires-clause-first_rings : goal.part_feature-requires-clause-first_rings
-part_feature-requires-clause-first_rings g c =
-    let p = path_seen c.in-Some.path in
-    let a = cuttable c.self.invariant c.self.view_is c.args.n (path_seen c.in-Some.path) (path_of c.args.positions.now) c.in-Some.ensures.value c.requires.there c.requires.inside c.requires.cut c.requires.different c.requires.free c.requires.new in
-    let f = found_cut c.as_slice.result.now (feature_at c.args.self.now.doc c.args.n).polygons
-    (ap polygons_seen c.as_slice.ensures.value ∙ c.in_ok-polygons.ensures ∙ ap (λ s. (feature_at s.doc c.args.n).polygons) c.self.view_is)
-    (path_seen c.in-Some.path) c.in-Some-first_cut.place c.in-Some-first_cut.ensures.within c.in-Some-first_cut.ensures.first c.in-Some-first_cut.ensures.none_before
-    c.index.result.now (c.index.ensures ∙ ap (λ z. get_or z c.in-Some-first_cut.place c.index.result.now) (sym c.as_slice.ensures.value))
-    c.as_slice-polygon.result.now c.as_slice-polygon.ensures.value in
-    let h = c.in_ok-test_split.ensures.accepted c.args.self.now.doc c.args.self.now.next c.args.n c.args.id.items (tested c.self.invariant c.self.view_is c.args.n c.args.id.items p a c.in-Some-first_cut.place (rings_seen c.as_slice-polygon.result.now) f c.has_room-room.result (c.has_room-room.ensures ∙ ap (λ z. has_room z c.self.inside.positions (length p.inner)) c.next.ensures.next)) in
-    rings_of_first c.self.invariant c.self.view_is c.args.n c.args.id.items p a c.in-Some-first_cut.place (rings_seen c.as_slice-polygon.result.now) f h (rings_seen c.as_slice-2.result.now) (rings_seen c.as_slice-3.result.now) (ap rings_seen c.as_slice-2.ensures.value ∙ c.in_ok-first.ensures.first) (ap rings_seen c.as_slice-3.ensures.value ∙ c.in_ok-first.ensures.second)
-
-pub part_feature-requires-clause-second_rings : goal.part_feature-requires-clause-second_rings
-part_feature-requires-clause-second_rings g c =
-    let p = path_seen c.in-Some.path in
-    let a = cuttable c.self.invariant c.self.view_is c.args.n (path_seen c.in-Some.path) (path_of c.args.positions.now) c.in-Some.ensures.value c.requires.there c.requires.inside c.requires.cut c.requires.different c.requires.free c.requires.new in
-    let f = found_cut c.as_slice.result.now (feature_at c.args.self.now.doc c.args.n).polygons
-    (ap polygons_seen c.as_slice.ensures.value ∙ c.in_ok-polygons.ensures ∙ ap (λ s. (feature_at s.doc c.args.n).polygons) c.self.view_is)
-    (path_seen c.in-Some.path) c.in-Some-first_cut.place c.in-Some-first_cut.ensures.within c.in-Some-first_cut.ensures.first c.in-Some-first_cut.ensures.none_before
-    c.index.result.now (c.index.ensures ∙ ap (λ z. get_or z c.in-Some-first_cut.place c.index.result.now) (sym c.as_slice.ensures.value))
-    c.as_slice-polygon.result.now c.as_slice-polygon.ensures.value in
-    let h = c.in_ok-test_split.ensures.accepted c.args.self.now.doc c.args.self.now.next c.args.n c.args.id.items (tested c.self.invariant c.self.view_is c.args.n c.args.id.items p a c.in-Some-first_cut.place (rings_seen c.as_slice-polygon.result.now) f c.has_room-room.result (c.has_room-room.ensures ∙ ap (λ z. has_room z c.self.inside.positions (length p.inner)) c.next.ensures.next)) in
-    rings_of_second c.self.invariant c.self.view_is c.args.n c.args.id.items p a c.in-Some-first_cut.place (rings_seen c.as_slice-polygon.result.now) f h (rings_seen c.as_slice-2.result.now) (rings_seen c.as_slice-3.result.now) (ap rings_seen c.as_slice-2.ensures.value ∙ c.in_ok-first.ensures.first) (ap rings_seen c.as_slice-3.ensures.value ∙ c.in_ok-first.ensures.second)
-
-pub part_feature-requires-clause-proper : goal.part_feature-requires-clause-proper
-part_feature-requires-clause-proper g c =
-    let p = path_seen c.in-Some.path in
-    let a = cuttable c.self.invariant c.self.view_is c.args.n (path_seen c.in-Some.path) (path_of c.args.positions.now) c.in-Some.ensures.value c.requires.there c.requires.inside c.requires.cut c.requires.different c.requires.free c.requires.new in
-    let f = found_cut c.as_slice.result.now (feature_at c.args.self.now.doc c.args.n).polygons
-    (ap polygons_seen c.as_slice.ensures.value ∙ c.in_ok-polygons.ensures ∙ ap (λ s. (feature_at s.doc c.args.n).polygons) c.self.view_is)
-    (path_seen c.in-Some.path) c.in-Some-first_cut.place c.in-Some-first_cut.ensures.within c.in-Some-first_cut.ensures.first c.in-Some-first_cut.ensures.none_before
-    c.index.result.now (c.index.ensures ∙ ap (λ z. get_or z c.in-Some-first_cut.place c.index.result.now) (sym c.as_slice.ensures.value))
-    c.as_slice-polygon.result.now c.as_slice-polygon.ensures.value in
-    let h = c.in_ok-test_split.ensures.accepted c.args.self.now.doc c.args.self.now.next c.args.n c.args.id.items (tested c.self.invariant c.self.view_is c.args.n c.args.id.items p a c.in-Some-first_cut.place (rings_seen c.as_slice-polygon.result.now) f c.has_room-room.result (c.has_room-room.ensures ∙ ap (λ z. has_room z c.self.inside.positions (length p.inner)) c.next.ensures.next)) in
-    parted_proper c.self.invariant c.self.view_is c.args.n c.args.id.items p a c.in-Some-first_cut.place (rings_seen c.as_slice-polygon.result.now) f h (rings_seen c.as_slice-2.result.now) (rings_seen c.as_slice-3.result.now) (ap rings_seen c.as_slice-2.ensures.value ∙ c.in_ok-first.ensures.first) (ap rings_seen c.as_slice-3.ensures.value ∙ c.in_ok-first.ensures.second)
-
-pub part_feature-requires-clause-small : goal.part_feature-requires-clause-small
-part_feature-requires-clause-small g c =
-    let p = path_seen c.in-Some.path in
-    let a = cuttable c.self.invariant c.self.view_is c.args.n (path_seen c.in-Some.path) (path_of c.args.positions.now) c.in-Some.ensures.value c.requires.there c.requires.inside c.requires.cut c.requires.different c.requires.free c.requires.new in
-    let f = found_cut c.as_slice.result.now (feature_at c.args.self.now.doc c.args.n).polygons
-    (ap polygons_seen c.as_slice.ensures.value ∙ c.in_ok-polygons.ensures ∙ ap (λ s. (feature_at s.doc c.args.n).polygons) c.self.view_is)
-    (path_seen c.in-Some.path) c.in-Some-first_cut.place c.in-Some-first_cut.ensures.within c.in-Some-first_cut.ensures.first c.in-Some-first_cut.ensures.none_before
-    c.index.result.now (c.index.ensures ∙ ap (λ z. get_or z c.in-Some-first_cut.place c.index.result.now) (sym c.as_slice.ensures.value))
-    c.as_slice-polygon.result.now c.as_slice-polygon.ensures.value in
-    let h = c.in_ok-test_split.ensures.accepted c.args.self.now.doc c.args.self.now.next c.args.n c.args.id.items (tested c.self.invariant c.self.view_is c.args.n c.args.id.items p a c.in-Some-first_cut.place (rings_seen c.as_slice-polygon.result.now) f c.has_room-room.result (c.has_room-room.ensures ∙ ap (λ z. has_room z c.self.inside.positions (length p.inner)) c.next.ensures.next)) in
-    parted_small c.self.invariant c.self.view_is c.args.n c.args.id.items p a c.in-Some-first_cut.place (rings_seen c.as_slice-polygon.result.now) f h (rings_seen c.as_slice-2.result.now) (rings_seen c.as_slice-3.result.now) (ap rings_seen c.as_slice-2.ensures.value ∙ c.in_ok-first.ensures.first) (ap rings_seen c.as_slice-3.ensures.value ∙ c.in_ok-first.ensures.second)
+    let h = c.in_ok-test_split.ensures.accepted c.args.self.now.doc c.args.self.now.next c.args.n c.args.id.items (tested c.self.invariant c.self.view_is c.args.n c.args.id.items p a c.in-Some-first_cut.place q f c.has_room-room.result (c.has_room-room.ensures ∙ ap (λ z. has_room z c.self.inside.positions (length p.inner)) c.next.ensures.next)) in
+    let first = ap rings_seen c.as_slice-2.ensures.value ∙ c.in_ok-first.ensures.first in
+    let second = ap rings_seen c.as_slice-3.ensures.value ∙ c.in_ok-first.ensures.second in
+    record {
+      holds = c.self.invariant.holds;
+      counted = counted_by c.self.invariant;
+      there = polygon_there c.self.invariant c.self.view_is c.args.n c.args.id.items p a c.in-Some-first_cut.place q f;
+      inside = feature_inside c.self.invariant c.self.view_is c.args.n c.args.id.items p a c.in-Some-first_cut.place q f;
+      few = next_few c.self.invariant c.self.view_is c.args.n c.args.id.items p a c.in-Some-first_cut.place q f h;
+      text = c.requires.text;
+      first_rings = rings_of_first c.self.invariant c.self.view_is c.args.n c.args.id.items p a c.in-Some-first_cut.place q f h (rings_seen c.as_slice-2.result.now) (rings_seen c.as_slice-3.result.now) first second;
+      second_rings = rings_of_second c.self.invariant c.self.view_is c.args.n c.args.id.items p a c.in-Some-first_cut.place q f h (rings_seen c.as_slice-2.result.now) (rings_seen c.as_slice-3.result.now) first second;
+      proper = parted_proper c.self.invariant c.self.view_is c.args.n c.args.id.items p a c.in-Some-first_cut.place q f h (rings_seen c.as_slice-2.result.now) (rings_seen c.as_slice-3.result.now) first second;
+      small = parted_small c.self.invariant c.self.view_is c.args.n c.args.id.items p a c.in-Some-first_cut.place q f h (rings_seen c.as_slice-2.result.now) (rings_seen c.as_slice-3.result.now) first second;
+    }
 
 pub overflow_add-self : goal.overflow_add-self
 overflow_add-self g c =
     let p = path_seen c.in-Some.path in
-    let a = cuttable c.self.invariant c.self.view_is c.args.n (path_seen c.in-Some.path) (path_of c.args.positions.now) c.in-Some.ensures.value c.requires.there c.requires.inside c.requires.cut c.requires.different c.requires.free c.requires.new in
+    let q = rings_seen c.as_slice-polygon.result.now in
+    let a = cuttable c.self.invariant c.self.view_is c.args.n p (path_of c.args.positions.now) c.in-Some.ensures.value c.requires.there c.requires.inside c.requires.cut c.requires.different c.requires.free c.requires.new in
     let f = found_cut c.as_slice.result.now (feature_at c.args.self.now.doc c.args.n).polygons
     (ap polygons_seen c.as_slice.ensures.value ∙ c.in_ok-polygons.ensures ∙ ap (λ s. (feature_at s.doc c.args.n).polygons) c.self.view_is)
-    (path_seen c.in-Some.path) c.in-Some-first_cut.place c.in-Some-first_cut.ensures.within c.in-Some-first_cut.ensures.first c.in-Some-first_cut.ensures.none_before
+    p c.in-Some-first_cut.place c.in-Some-first_cut.ensures.within c.in-Some-first_cut.ensures.first c.in-Some-first_cut.ensures.none_before
     c.index.result.now (c.index.ensures ∙ ap (λ z. get_or z c.in-Some-first_cut.place c.index.result.now) (sym c.as_slice.ensures.value))
     c.as_slice-polygon.result.now c.as_slice-polygon.ensures.value in
-    let h = c.in_ok-test_split.ensures.accepted c.args.self.now.doc c.args.self.now.next c.args.n c.args.id.items (tested c.self.invariant c.self.view_is c.args.n c.args.id.items p a c.in-Some-first_cut.place (rings_seen c.as_slice-polygon.result.now) f c.has_room-room.result (c.has_room-room.ensures ∙ ap (λ z. has_room z c.self.inside.positions (length p.inner)) c.next.ensures.next)) in
-    omega (arith, cut_fits c.self.invariant c.self.view_is c.args.n c.args.id.items p a c.in-Some-first_cut.place (rings_seen c.as_slice-polygon.result.now) f h)
+    let h = c.in_ok-test_split.ensures.accepted c.args.self.now.doc c.args.self.now.next c.args.n c.args.id.items (tested c.self.invariant c.self.view_is c.args.n c.args.id.items p a c.in-Some-first_cut.place q f c.has_room-room.result (c.has_room-room.ensures ∙ ap (λ z. has_room z c.self.inside.positions (length p.inner)) c.next.ensures.next)) in
+    omega (arith, cut_fits c.self.invariant c.self.view_is c.args.n c.args.id.items p a c.in-Some-first_cut.place q f h)
 
 pub invariant_of-self-2 : goal.invariant_of-self-2
 invariant_of-self-2 g c =
     let p = path_seen c.in-Some.path in
-    let a = cuttable c.self.invariant c.self.view_is c.args.n (path_seen c.in-Some.path) (path_of c.args.positions.now) c.in-Some.ensures.value c.requires.there c.requires.inside c.requires.cut c.requires.different c.requires.free c.requires.new in
+    let q = rings_seen c.as_slice-polygon.result.now in
+    let a = cuttable c.self.invariant c.self.view_is c.args.n p (path_of c.args.positions.now) c.in-Some.ensures.value c.requires.there c.requires.inside c.requires.cut c.requires.different c.requires.free c.requires.new in
     let f = found_cut c.as_slice.result.now (feature_at c.args.self.now.doc c.args.n).polygons
     (ap polygons_seen c.as_slice.ensures.value ∙ c.in_ok-polygons.ensures ∙ ap (λ s. (feature_at s.doc c.args.n).polygons) c.self.view_is)
-    (path_seen c.in-Some.path) c.in-Some-first_cut.place c.in-Some-first_cut.ensures.within c.in-Some-first_cut.ensures.first c.in-Some-first_cut.ensures.none_before
+    p c.in-Some-first_cut.place c.in-Some-first_cut.ensures.within c.in-Some-first_cut.ensures.first c.in-Some-first_cut.ensures.none_before
     c.index.result.now (c.index.ensures ∙ ap (λ z. get_or z c.in-Some-first_cut.place c.index.result.now) (sym c.as_slice.ensures.value))
     c.as_slice-polygon.result.now c.as_slice-polygon.ensures.value in
-    let h = c.in_ok-test_split.ensures.accepted c.args.self.now.doc c.args.self.now.next c.args.n c.args.id.items (tested c.self.invariant c.self.view_is c.args.n c.args.id.items p a c.in-Some-first_cut.place (rings_seen c.as_slice-polygon.result.now) f c.has_room-room.result (c.has_room-room.ensures ∙ ap (λ z. has_room z c.self.inside.positions (length p.inner)) c.next.ensures.next)) in
+    let h = c.in_ok-test_split.ensures.accepted c.args.self.now.doc c.args.self.now.next c.args.n c.args.id.items (tested c.self.invariant c.self.view_is c.args.n c.args.id.items p a c.in-Some-first_cut.place q f c.has_room-room.result (c.has_room-room.ensures ∙ ap (λ z. has_room z c.self.inside.positions (length p.inner)) c.next.ensures.next)) in
+    let first = ap rings_seen c.as_slice-2.ensures.value ∙ c.in_ok-first.ensures.first in
+    let second = ap rings_seen c.as_slice-3.ensures.value ∙ c.in_ok-first.ensures.second in
     kept_as (cut c.args.self.now.doc c.args.n c.args.id.items p c.args.self.now.next) c.part_feature.ensures.holds
-    (c.in_ok-number.ensures.parted ∙ parted_is c.self.invariant c.self.view_is c.args.n c.args.id.items p a c.in-Some-first_cut.place (rings_seen c.as_slice-polygon.result.now) f h (rings_seen c.as_slice-2.result.now) (rings_seen c.as_slice-3.result.now) (ap rings_seen c.as_slice-2.ensures.value ∙ c.in_ok-first.ensures.first) (ap rings_seen c.as_slice-3.ensures.value ∙ c.in_ok-first.ensures.second))
-    (cut_sized c.self.invariant c.self.view_is c.args.n c.args.id.items p a c.in-Some-first_cut.place (rings_seen c.as_slice-polygon.result.now) f h) c.part_feature.ensures.counted
+    (c.in_ok-number.ensures.parted ∙ parted_is c.self.invariant c.self.view_is c.args.n c.args.id.items p a c.in-Some-first_cut.place q f h (rings_seen c.as_slice-2.result.now) (rings_seen c.as_slice-3.result.now) first second)
+    (cut_sized c.self.invariant c.self.view_is c.args.n c.args.id.items p a c.in-Some-first_cut.place q f h) c.part_feature.ensures.counted
 
-pub returns-clause-accepted : goal.returns-clause-accepted
-returns-clause-accepted g c =
+pub returns : goal.returns
+returns g c =
     let p = path_seen c.in-Some.path in
-    let a = cuttable c.self.invariant c.self.view_is c.args.n (path_seen c.in-Some.path) (path_of c.args.positions.now) c.in-Some.ensures.value c.requires.there c.requires.inside c.requires.cut c.requires.different c.requires.free c.requires.new in
+    let q = rings_seen c.as_slice-polygon.result.now in
+    let a = cuttable c.self.invariant c.self.view_is c.args.n p (path_of c.args.positions.now) c.in-Some.ensures.value c.requires.there c.requires.inside c.requires.cut c.requires.different c.requires.free c.requires.new in
     let f = found_cut c.as_slice.result.now (feature_at c.args.self.now.doc c.args.n).polygons
     (ap polygons_seen c.as_slice.ensures.value ∙ c.in_ok-polygons.ensures ∙ ap (λ s. (feature_at s.doc c.args.n).polygons) c.self.view_is)
-    (path_seen c.in-Some.path) c.in-Some-first_cut.place c.in-Some-first_cut.ensures.within c.in-Some-first_cut.ensures.first c.in-Some-first_cut.ensures.none_before
+    p c.in-Some-first_cut.place c.in-Some-first_cut.ensures.within c.in-Some-first_cut.ensures.first c.in-Some-first_cut.ensures.none_before
     c.index.result.now (c.index.ensures ∙ ap (λ z. get_or z c.in-Some-first_cut.place c.index.result.now) (sym c.as_slice.ensures.value))
     c.as_slice-polygon.result.now c.as_slice-polygon.ensures.value in
-    let h = c.in_ok-test_split.ensures.accepted c.args.self.now.doc c.args.self.now.next c.args.n c.args.id.items (tested c.self.invariant c.self.view_is c.args.n c.args.id.items p a c.in-Some-first_cut.place (rings_seen c.as_slice-polygon.result.now) f c.has_room-room.result (c.has_room-room.ensures ∙ ap (λ z. has_room z c.self.inside.positions (length p.inner)) c.next.ensures.next)) in
-    ap (λ q. first_of (split_refusals c.args.self.now.doc c.args.self.now.next c.args.n c.args.id.items q)) (sym c.in-Some.ensures.value) ∙ h
-
-pub returns-clause-split : goal.returns-clause-split
-returns-clause-split g c =
-    let p = path_seen c.in-Some.path in
-    let a = cuttable c.self.invariant c.self.view_is c.args.n (path_seen c.in-Some.path) (path_of c.args.positions.now) c.in-Some.ensures.value c.requires.there c.requires.inside c.requires.cut c.requires.different c.requires.free c.requires.new in
-    let f = found_cut c.as_slice.result.now (feature_at c.args.self.now.doc c.args.n).polygons
-    (ap polygons_seen c.as_slice.ensures.value ∙ c.in_ok-polygons.ensures ∙ ap (λ s. (feature_at s.doc c.args.n).polygons) c.self.view_is)
-    (path_seen c.in-Some.path) c.in-Some-first_cut.place c.in-Some-first_cut.ensures.within c.in-Some-first_cut.ensures.first c.in-Some-first_cut.ensures.none_before
-    c.index.result.now (c.index.ensures ∙ ap (λ z. get_or z c.in-Some-first_cut.place c.index.result.now) (sym c.as_slice.ensures.value))
-    c.as_slice-polygon.result.now c.as_slice-polygon.ensures.value in
-    let h = c.in_ok-test_split.ensures.accepted c.args.self.now.doc c.args.self.now.next c.args.n c.args.id.items (tested c.self.invariant c.self.view_is c.args.n c.args.id.items p a c.in-Some-first_cut.place (rings_seen c.as_slice-polygon.result.now) f c.has_room-room.result (c.has_room-room.ensures ∙ ap (λ z. has_room z c.self.inside.positions (length p.inner)) c.next.ensures.next)) in
-    c.in_ok-number.ensures.parted ∙ parted_is c.self.invariant c.self.view_is c.args.n c.args.id.items p a c.in-Some-first_cut.place (rings_seen c.as_slice-polygon.result.now) f h (rings_seen c.as_slice-2.result.now) (rings_seen c.as_slice-3.result.now) (ap rings_seen c.as_slice-2.ensures.value ∙ c.in_ok-first.ensures.first) (ap rings_seen c.as_slice-3.ensures.value ∙ c.in_ok-first.ensures.second)
-    ∙ ap (λ q. cut c.args.self.now.doc c.args.n c.args.id.items q c.args.self.now.next) c.in-Some.ensures.value
-
-pub returns-in_err-test_split-clause-few : goal.returns-in_err-test_split-clause-few
-returns-in_err-test_split-clause-few g c =
-    let p = path_seen c.in-Some.path in
-    let a = cuttable c.self.invariant c.self.view_is c.args.n (path_seen c.in-Some.path) (path_of c.args.positions.now) c.in-Some.ensures.value c.requires.there c.requires.inside c.requires.cut c.requires.different c.requires.free c.requires.new in
-    let f = found_cut c.as_slice.result.now (feature_at c.args.self.now.doc c.args.n).polygons
-    (ap polygons_seen c.as_slice.ensures.value ∙ c.in_ok-polygons.ensures ∙ ap (λ s. (feature_at s.doc c.args.n).polygons) c.self.view_is)
-    (path_seen c.in-Some.path) c.in-Some-first_cut.place c.in-Some-first_cut.ensures.within c.in-Some-first_cut.ensures.first c.in-Some-first_cut.ensures.none_before
-    c.index.result.now (c.index.ensures ∙ ap (λ z. get_or z c.in-Some-first_cut.place c.index.result.now) (sym c.as_slice.ensures.value))
-    c.as_slice-polygon.result.now c.as_slice-polygon.ensures.value in
-    subst (λ q. c.test_split.new.tests ≤ c.args.self.now.tests + most_for (times_by c.args.self.now.cells) c.args.self.now.doc (cut c.args.self.now.doc c.args.n c.args.id.items q c.args.self.now.next)) c.in-Some.ensures.value
-    (split_few c.self.invariant c.self.view_is c.args.n c.args.id.items p a c.in-Some-first_cut.place (rings_seen c.as_slice-polygon.result.now) f c.as_slice-added.result.now (c.as_slice-added.ensures.value ∙ c.in_ok-added.ensures ∙ ap (λ z. map segment_of (links z)) (sym c.in-Some.ensures.positions)) c.test_split.new.tests c.test_split.ensures.few)
+    let h = c.in_ok-test_split.ensures.accepted c.args.self.now.doc c.args.self.now.next c.args.n c.args.id.items (tested c.self.invariant c.self.view_is c.args.n c.args.id.items p a c.in-Some-first_cut.place q f c.has_room-room.result (c.has_room-room.ensures ∙ ap (λ z. has_room z c.self.inside.positions (length p.inner)) c.next.ensures.next)) in
+    let first = ap rings_seen c.as_slice-2.ensures.value ∙ c.in_ok-first.ensures.first in
+    let second = ap rings_seen c.as_slice-3.ensures.value ∙ c.in_ok-first.ensures.second in
+    record {
+      accepted = ap (λ q. first_of (split_refusals c.args.self.now.doc c.args.self.now.next c.args.n c.args.id.items q)) (sym c.in-Some.ensures.value) ∙ h;
+      number = search rules;
+      split = c.in_ok-number.ensures.parted ∙ parted_is c.self.invariant c.self.view_is c.args.n c.args.id.items p a c.in-Some-first_cut.place q f h (rings_seen c.as_slice-2.result.now) (rings_seen c.as_slice-3.result.now) first second
+          ∙ ap (λ q. cut c.args.self.now.doc c.args.n c.args.id.items q c.args.self.now.next) c.in-Some.ensures.value;
+      next = search rules;
+      refused = search rules;
+      unchanged = search rules;
+      still = search rules;
+      few = subst (λ q. c.test_split.new.tests ≤ c.args.self.now.tests + most_for (times_by c.args.self.now.cells) c.args.self.now.doc (cut c.args.self.now.doc c.args.n c.args.id.items q c.args.self.now.next)) c.in-Some.ensures.value
+          (split_few c.self.invariant c.self.view_is c.args.n c.args.id.items p a c.in-Some-first_cut.place q f c.as_slice-added.result.now (c.as_slice-added.ensures.value ∙ c.in_ok-added.ensures ∙ ap (λ z. map segment_of (links z)) (sym c.in-Some.ensures.positions)) c.test_split.new.tests c.test_split.ensures.few);
+      cells = search rules;
+    }
 
 pub returns-in_err-number-clause-few : goal.returns-in_err-number-clause-few
 returns-in_err-number-clause-few g c =
     let p = path_seen c.in-Some.path in
-    let a = cuttable c.self.invariant c.self.view_is c.args.n (path_seen c.in-Some.path) (path_of c.args.positions.now) c.in-Some.ensures.value c.requires.there c.requires.inside c.requires.cut c.requires.different c.requires.free c.requires.new in
+    let q = rings_seen c.as_slice-polygon.result.now in
+    let a = cuttable c.self.invariant c.self.view_is c.args.n p (path_of c.args.positions.now) c.in-Some.ensures.value c.requires.there c.requires.inside c.requires.cut c.requires.different c.requires.free c.requires.new in
     let f = found_cut c.as_slice.result.now (feature_at c.args.self.now.doc c.args.n).polygons
     (ap polygons_seen c.as_slice.ensures.value ∙ c.in_ok-polygons.ensures ∙ ap (λ s. (feature_at s.doc c.args.n).polygons) c.self.view_is)
-    (path_seen c.in-Some.path) c.in-Some-first_cut.place c.in-Some-first_cut.ensures.within c.in-Some-first_cut.ensures.first c.in-Some-first_cut.ensures.none_before
+    p c.in-Some-first_cut.place c.in-Some-first_cut.ensures.within c.in-Some-first_cut.ensures.first c.in-Some-first_cut.ensures.none_before
     c.index.result.now (c.index.ensures ∙ ap (λ z. get_or z c.in-Some-first_cut.place c.index.result.now) (sym c.as_slice.ensures.value))
     c.as_slice-polygon.result.now c.as_slice-polygon.ensures.value in
     subst (λ q. c.test_split.new.tests ≤ c.args.self.now.tests + most_for (times_by c.args.self.now.cells) c.args.self.now.doc (cut c.args.self.now.doc c.args.n c.args.id.items q c.args.self.now.next)) c.in-Some.ensures.value
-    (split_few c.self.invariant c.self.view_is c.args.n c.args.id.items p a c.in-Some-first_cut.place (rings_seen c.as_slice-polygon.result.now) f c.as_slice-added.result.now (c.as_slice-added.ensures.value ∙ c.in_ok-added.ensures ∙ ap (λ z. map segment_of (links z)) (sym c.in-Some.ensures.positions)) c.test_split.new.tests c.test_split.ensures.few)
+    (split_few c.self.invariant c.self.view_is c.args.n c.args.id.items p a c.in-Some-first_cut.place q f c.as_slice-added.result.now (c.as_slice-added.ensures.value ∙ c.in_ok-added.ensures ∙ ap (λ z. map segment_of (links z)) (sym c.in-Some.ensures.positions)) c.test_split.new.tests c.test_split.ensures.few)
 
-pub returns-clause-few : goal.returns-clause-few
-returns-clause-few g c =
+pub returns-in_err-test_split : goal.returns-in_err-test_split
+returns-in_err-test_split g c =
     let p = path_seen c.in-Some.path in
-    let a = cuttable c.self.invariant c.self.view_is c.args.n (path_seen c.in-Some.path) (path_of c.args.positions.now) c.in-Some.ensures.value c.requires.there c.requires.inside c.requires.cut c.requires.different c.requires.free c.requires.new in
+    let q = rings_seen c.as_slice-polygon.result.now in
+    let a = cuttable c.self.invariant c.self.view_is c.args.n p (path_of c.args.positions.now) c.in-Some.ensures.value c.requires.there c.requires.inside c.requires.cut c.requires.different c.requires.free c.requires.new in
     let f = found_cut c.as_slice.result.now (feature_at c.args.self.now.doc c.args.n).polygons
     (ap polygons_seen c.as_slice.ensures.value ∙ c.in_ok-polygons.ensures ∙ ap (λ s. (feature_at s.doc c.args.n).polygons) c.self.view_is)
-    (path_seen c.in-Some.path) c.in-Some-first_cut.place c.in-Some-first_cut.ensures.within c.in-Some-first_cut.ensures.first c.in-Some-first_cut.ensures.none_before
-    c.index.result.now (c.index.ensures ∙ ap (λ z. get_or z c.in-Some-first_cut.place c.index.result.now) (sym c.as_slice.ensures.value))
-    c.as_slice-polygon.result.now c.as_slice-polygon.ensures.value in
-    subst (λ q. c.test_split.new.tests ≤ c.args.self.now.tests + most_for (times_by c.args.self.now.cells) c.args.self.now.doc (cut c.args.self.now.doc c.args.n c.args.id.items q c.args.self.now.next)) c.in-Some.ensures.value
-    (split_few c.self.invariant c.self.view_is c.args.n c.args.id.items p a c.in-Some-first_cut.place (rings_seen c.as_slice-polygon.result.now) f c.as_slice-added.result.now (c.as_slice-added.ensures.value ∙ c.in_ok-added.ensures ∙ ap (λ z. map segment_of (links z)) (sym c.in-Some.ensures.positions)) c.test_split.new.tests c.test_split.ensures.few)
-
-pub returns-in_err-test_split-clause-refused : goal.returns-in_err-test_split-clause-refused
-returns-in_err-test_split-clause-refused g c =
-    let p = path_seen c.in-Some.path in
-    let a = cuttable c.self.invariant c.self.view_is c.args.n (path_seen c.in-Some.path) (path_of c.args.positions.now) c.in-Some.ensures.value c.requires.there c.requires.inside c.requires.cut c.requires.different c.requires.free c.requires.new in
-    let f = found_cut c.as_slice.result.now (feature_at c.args.self.now.doc c.args.n).polygons
-    (ap polygons_seen c.as_slice.ensures.value ∙ c.in_ok-polygons.ensures ∙ ap (λ s. (feature_at s.doc c.args.n).polygons) c.self.view_is)
-    (path_seen c.in-Some.path) c.in-Some-first_cut.place c.in-Some-first_cut.ensures.within c.in-Some-first_cut.ensures.first c.in-Some-first_cut.ensures.none_before
+    p c.in-Some-first_cut.place c.in-Some-first_cut.ensures.within c.in-Some-first_cut.ensures.first c.in-Some-first_cut.ensures.none_before
     c.index.result.now (c.index.ensures ∙ ap (λ z. get_or z c.in-Some-first_cut.place c.index.result.now) (sym c.as_slice.ensures.value))
     c.as_slice-polygon.result.now c.as_slice-polygon.ensures.value in
     let r = err_from_is_err_and c.from_residual-in_err-test_split.result c.from_residual-in_err-test_split.ensures.1 in
-    rw (r.1, r.2)
-    (subst (λ q. Refuses c.in_err-test_split.field-0.0 (first_of (split_refusals c.args.self.now.doc c.args.self.now.next c.args.n c.args.id.items q))) c.in-Some.ensures.value
-    (c.in_err-test_split.ensures.refused c.args.self.now.doc c.args.self.now.next c.args.n c.args.id.items (tested c.self.invariant c.self.view_is c.args.n c.args.id.items p a c.in-Some-first_cut.place (rings_seen c.as_slice-polygon.result.now) f c.has_room-room.result (c.has_room-room.ensures ∙ ap (λ z. has_room z c.self.inside.positions (length p.inner)) c.next.ensures.next))))
+    record {
+      accepted = search rules;
+      number = search rules;
+      split = search rules;
+      next = search rules;
+      refused = rw (r.1, r.2)
+          (subst (λ q. Refuses c.in_err-test_split.field-0.0 (first_of (split_refusals c.args.self.now.doc c.args.self.now.next c.args.n c.args.id.items q))) c.in-Some.ensures.value
+          (c.in_err-test_split.ensures.refused c.args.self.now.doc c.args.self.now.next c.args.n c.args.id.items (tested c.self.invariant c.self.view_is c.args.n c.args.id.items p a c.in-Some-first_cut.place q f c.has_room-room.result (c.has_room-room.ensures ∙ ap (λ z. has_room z c.self.inside.positions (length p.inner)) c.next.ensures.next))));
+      unchanged = search rules;
+      still = search rules;
+      few = subst (λ q. c.test_split.new.tests ≤ c.args.self.now.tests + most_for (times_by c.args.self.now.cells) c.args.self.now.doc (cut c.args.self.now.doc c.args.n c.args.id.items q c.args.self.now.next)) c.in-Some.ensures.value
+          (split_few c.self.invariant c.self.view_is c.args.n c.args.id.items p a c.in-Some-first_cut.place q f c.as_slice-added.result.now (c.as_slice-added.ensures.value ∙ c.in_ok-added.ensures ∙ ap (λ z. map segment_of (links z)) (sym c.in-Some.ensures.positions)) c.test_split.new.tests c.test_split.ensures.few);
+      cells = search rules;
+    }
 
 pub returns-in_default-first_cut-clause-refused : goal.returns-in_default-first_cut-clause-refused
 returns-in_default-first_cut-clause-refused g c =

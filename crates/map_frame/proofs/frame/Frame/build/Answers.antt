@@ -1,4 +1,4 @@
-use Rattle.std.proofs.Common.{◌≡◌, ◌∙◌, sym, ap, subst, map, [], arith, length}
+use Rattle.std.proofs.Common.{◌≡◌, ◌∙◌, ap, subst, map, []}
 use Rattle.std.specs.Vec.Iter.{into_iter_items}
 use Rattle.map_opening.specs.Laying.{feature_numbers}
 use Rattle.map_frame.specs.Building.{progress, AreLayers}
@@ -32,8 +32,8 @@ invariant_of-result g c =
     (c.len-count.ensures ∙ c.build_layers.new.features.ok.0)
     c.in_ok-empty.ensures
 
-pub returns-clause-doc : goal.returns-clause-doc
-returns-clause-doc g c =
+pub returns : goal.returns
+returns g c =
     let t : Tables g.row.A.Denot = record {
       alloc = c.args.alloc;
       transform = c.args.transform;
@@ -50,27 +50,8 @@ returns-clause-doc g c =
     let end = progress c.build_layers.new.features.items left in
     let begun : start ≡ progress [] ps =
     ap (λ z. progress z (into_iter_items c.into_iter-waiting.result)) c.new-features.ensures.items ∙ ap (progress []) c.into_iter-waiting.ensures.rest in
-    tables_seen t c.args.layers.items ps left
-    (subst (λ z. AreLayers 0 c.args.layers.items c.in_ok-layers.layers.items z end) begun c.in_ok-layers.ensures)
-
-pub returns-clause-next : goal.returns-clause-next
-returns-clause-next g c =
-    let t : Tables g.row.A.Denot = record {
-      alloc = c.args.alloc;
-      transform = c.args.transform;
-      layers = c.in_ok-layers.layers;
-      members = c.args.members;
-      features = c.build_layers.new.features;
-      count = c.len-count.result;
-      names = c.in_ok-names.names;
-      empty = c.in_ok-empty.empty;
-    } in
-    let left = into_iter_items c.build_layers.new.waiting in
-    let ps = c.args.polygons.items in
-    let start = progress c.new-features.result.items (into_iter_items c.into_iter-waiting.result) in
-    let end = progress c.build_layers.new.features.items left in
-    let begun : start ≡ progress [] ps =
-    ap (λ z. progress z (into_iter_items c.into_iter-waiting.result)) c.new-features.ensures.items ∙ ap (progress []) c.into_iter-waiting.ensures.rest in
-    as_many t c.args.layers.items ps left
-    (subst (λ z. AreLayers 0 c.args.layers.items c.in_ok-layers.layers.items z end) begun c.in_ok-layers.ensures)
-    c.requires.stands
+    let laid = subst (λ z. AreLayers 0 c.args.layers.items c.in_ok-layers.layers.items z end) begun c.in_ok-layers.ensures in
+    record {
+      doc = tables_seen t c.args.layers.items ps left laid;
+      next = as_many t c.args.layers.items ps left laid c.requires.stands;
+    }

@@ -1,4 +1,4 @@
-use Rattle.std.proofs.Common.{◌≡◌, ◌∙◌, refl, sym, ap, map, option_map, rules}
+use Rattle.std.proofs.Common.{◌≡◌, ◌∙◌, refl, ap, map, rules}
 use Rattle.std.specs.List.{each_same}
 use Rattle.topo_outline.proofs.Copied.{copied_map}
 use Rattle.topo_outline.specs.Views.{view_kept}

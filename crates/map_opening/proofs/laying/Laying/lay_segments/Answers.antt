@@ -15,29 +15,17 @@ loop-at-init g c = record {
   cells = refl;
 }
 
-pub lay_segment-requires-clause-a : goal.lay_segment-requires-clause-a
-lay_segment-requires-clause-a g c =
-    (key_joins
-    c.args.self.now.vertices c.args.keys.now c.requires.round (g.I.SegIndex.held c.args.self.now.index) c.args.self.now.first c.args.self.now.segments
+pub lay_segment-requires : goal.lay_segment-requires
+lay_segment-requires g c =
+    let joins = key_joins c.args.self.now.vertices c.args.keys.now c.requires.round (g.I.SegIndex.held c.args.self.now.index) c.args.self.now.first c.args.self.now.segments
     (g.I.SegIndex.held c.loop-at.self.index) c.loop-at.self.first c.loop-at.self.segments c.loop-at.a c.loop-at.at c.loop-at.invariant.laid c.loop-at.self.vertices c.loop-at.invariant.vertices
-    c.index-keys-at.result c.loop-at-test.true c.index-keys-at.is).from
-
-pub lay_segment-requires-clause-b : goal.lay_segment-requires-clause-b
-lay_segment-requires-clause-b g c =
-    (key_joins
-    c.args.self.now.vertices c.args.keys.now c.requires.round (g.I.SegIndex.held c.args.self.now.index) c.args.self.now.first c.args.self.now.segments
-    (g.I.SegIndex.held c.loop-at.self.index) c.loop-at.self.first c.loop-at.self.segments c.loop-at.a c.loop-at.at c.loop-at.invariant.laid c.loop-at.self.vertices c.loop-at.invariant.vertices
-    c.index-keys-at.result c.loop-at-test.true c.index-keys-at.is).to
-
-pub lay_segment-requires-clause-apart : goal.lay_segment-requires-clause-apart
-lay_segment-requires-clause-apart g c =
-    (key_joins
-    c.args.self.now.vertices c.args.keys.now c.requires.round (g.I.SegIndex.held c.args.self.now.index) c.args.self.now.first c.args.self.now.segments
-    (g.I.SegIndex.held c.loop-at.self.index) c.loop-at.self.first c.loop-at.self.segments c.loop-at.a c.loop-at.at c.loop-at.invariant.laid c.loop-at.self.vertices c.loop-at.invariant.vertices
-    c.index-keys-at.result c.loop-at-test.true c.index-keys-at.is).apart
-
-pub lay_segment-requires-clause-small : goal.lay_segment-requires-clause-small
-lay_segment-requires-clause-small g c = omega (arith, c.loop-at.invariant.few, c.loop-at-test.true, c.requires.small)
+    c.index-keys-at.result c.loop-at-test.true c.index-keys-at.is in
+    record {
+      a = joins.from;
+      b = joins.to;
+      apart = joins.apart;
+      small = omega (arith, c.loop-at.invariant.few, c.loop-at-test.true, c.requires.small);
+    }
 
 pub loop-at-preserved : goal.loop-at-preserved
 loop-at-preserved g c = record {
@@ -55,29 +43,17 @@ loop-at-preserved g c = record {
   cells = c.lay_segment.ensures.cells ∙ c.loop-at.invariant.cells;
 }
 
-pub lay_segment-requires-2-clause-a : goal.lay_segment-requires-2-clause-a
-lay_segment-requires-2-clause-a g c =
-    (last_joins
-    c.args.self.now.vertices c.args.keys.now c.requires.round (g.I.SegIndex.held c.args.self.now.index) c.args.self.now.first c.args.self.now.segments
+pub lay_segment-requires-2 : goal.lay_segment-requires-2
+lay_segment-requires-2 g c =
+    let joins = last_joins c.args.self.now.vertices c.args.keys.now c.requires.round (g.I.SegIndex.held c.args.self.now.index) c.args.self.now.first c.args.self.now.segments
     (g.I.SegIndex.held c.loop-at.self.index) c.loop-at.self.first c.loop-at.self.segments c.loop-at.a c.loop-at.at c.loop-at.invariant.laid c.loop-at.self.vertices c.loop-at.invariant.vertices
-    c.index-keys-0-2.result c.loop-at-test.false c.index-keys-0-2.is).from
-
-pub lay_segment-requires-2-clause-b : goal.lay_segment-requires-2-clause-b
-lay_segment-requires-2-clause-b g c =
-    (last_joins
-    c.args.self.now.vertices c.args.keys.now c.requires.round (g.I.SegIndex.held c.args.self.now.index) c.args.self.now.first c.args.self.now.segments
-    (g.I.SegIndex.held c.loop-at.self.index) c.loop-at.self.first c.loop-at.self.segments c.loop-at.a c.loop-at.at c.loop-at.invariant.laid c.loop-at.self.vertices c.loop-at.invariant.vertices
-    c.index-keys-0-2.result c.loop-at-test.false c.index-keys-0-2.is).to
-
-pub lay_segment-requires-2-clause-apart : goal.lay_segment-requires-2-clause-apart
-lay_segment-requires-2-clause-apart g c =
-    (last_joins
-    c.args.self.now.vertices c.args.keys.now c.requires.round (g.I.SegIndex.held c.args.self.now.index) c.args.self.now.first c.args.self.now.segments
-    (g.I.SegIndex.held c.loop-at.self.index) c.loop-at.self.first c.loop-at.self.segments c.loop-at.a c.loop-at.at c.loop-at.invariant.laid c.loop-at.self.vertices c.loop-at.invariant.vertices
-    c.index-keys-0-2.result c.loop-at-test.false c.index-keys-0-2.is).apart
-
-pub lay_segment-requires-2-clause-small : goal.lay_segment-requires-2-clause-small
-lay_segment-requires-2-clause-small g c = omega (arith, c.loop-at.invariant.few, c.loop-at.auto.at-end (omega (arith, c.requires.round.long)), c.requires.small)
+    c.index-keys-0-2.result c.loop-at-test.false c.index-keys-0-2.is in
+    record {
+      a = joins.from;
+      b = joins.to;
+      apart = joins.apart;
+      small = omega (arith, c.loop-at.invariant.few, c.loop-at.auto.at-end (omega (arith, c.requires.round.long)), c.requires.small);
+    }
 
 pub returns-clause-filled : goal.returns-clause-filled
 returns-clause-filled g c = on_ok_map c.lay_segment-2.result (all_laid

@@ -1,6 +1,0 @@
-use Rattle.std.proofs.Common.{◌≡◌, drop}
-use Rattle.ring_machine.specs.Ring.{least}
-use Rattle.topo_reader.proofs.canonical.least.Given as goal
-
-abbrev pub invariant-loop-pos : goal.invariant-loop-pos
-invariant-loop-pos l = least l.least (drop l.pos-index l.others) ≡ least l.fn.first l.fn.others
