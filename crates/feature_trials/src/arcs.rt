@@ -32,6 +32,12 @@ impl Scan {
         value
     }
 
+    /// A digit behind those of the number.
+    fn push_digit(&mut self, byte: u8) {
+        let digit = i64::from(byte.wrapping_sub(b'0'));
+        self.number = self.number.wrapping_mul(10).wrapping_add(digit);
+    }
+
     /// A position ends.
     fn end_position(&mut self) -> Result<(), AllocError> {
         let y = self.take_number();
@@ -74,11 +80,19 @@ impl Scan {
             b']' => self.close()?,
             b',' => self.part(),
             b'-' => self.is_negative = true,
-            b'0'..=b'9' => {
-                let digit = i64::from(byte.wrapping_sub(b'0'));
-                self.number = self.number.wrapping_mul(10).wrapping_add(digit);
-            }
+            b'0'..=b'9' => self.push_digit(byte),
             _ => self.faults = self.faults.wrapping_add(1),
+        }
+        Ok(())
+    }
+
+    /// The bytes up to the end of the list.
+    fn read(&mut self, arcs: &[u8]) -> Result<(), AllocError> {
+        for byte in arcs {
+            self.step(*byte)?;
+            if self.depth == 0 {
+                break;
+            }
         }
         Ok(())
     }
@@ -96,12 +110,7 @@ pub(crate) fn segments_of(alloc: Global, arcs: &str) -> Result<Option<Vec<Seg>>,
         segments: Vec::new(alloc),
         faults: 0,
     };
-    for byte in arcs.as_bytes() {
-        scan.step(*byte)?;
-        if scan.depth == 0 {
-            break;
-        }
-    }
+    scan.read(arcs.as_bytes())?;
     Ok(if scan.depth == 0 && scan.faults == 0 {
         Some(scan.segments)
     } else {

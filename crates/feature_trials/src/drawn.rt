@@ -1,5 +1,5 @@
 // Edits of features that are drawn one after another, the same in each run.
-use arc_store::{IdText, ItemView, Map, Path};
+use arc_store::{IdText, ItemView, Map, Path, RingName};
 use grid_geometry::Pos;
 use rand_core::{Rng, SeedableRng};
 use rand_xoshiro::SplitMix64;
@@ -88,18 +88,27 @@ impl Drawn {
     }
 }
 
-/// The numbers of the features.
-fn numbers_of(alloc: Global, map: &Map<'_, GridIndex>) -> Result<Vec<u32>, AllocError> {
-    let mut numbers = Vec::new(alloc);
+/// Appends the numbers of the features.
+fn push_numbers(map: &Map<'_, GridIndex>, numbers: &mut Vec<u32>) -> Result<(), AllocError> {
     let Some(items) = map.frame().items(0) else {
-        return Ok(numbers);
+        return Ok(());
     };
     for item in items {
         if let ItemView::Leaf(number) = item {
             numbers.push(number)?;
         }
     }
-    Ok(numbers)
+    Ok(())
+}
+
+/// The number of some feature.
+fn drawn_number(alloc: Global, map: &Map<'_, GridIndex>, drawn: &mut Drawn) -> Result<u32, Fail> {
+    let mut numbers = Vec::new(alloc);
+    let pushed = push_numbers(map, &mut numbers);
+    let number = drawn.one_of(numbers.as_slice());
+    drop(numbers);
+    pushed?;
+    Ok(number.ok_or("a feature")?)
 }
 
 /// The outer ring of the feature.
@@ -134,6 +143,17 @@ fn place(ring: &[Pos], n: usize) -> Result<Pos, Fail> {
     Ok(*ring.get(at).ok_or("a vertex")?)
 }
 
+/// A path from a to b, over the position in the middle where there is one.
+fn path_of(alloc: Global, a: Pos, middle: Option<Pos>, b: Pos) -> Result<Vec<Pos>, AllocError> {
+    let mut path = Vec::new(alloc);
+    path.push(a)?;
+    if let Some(p) = middle {
+        path.push(p)?;
+    }
+    path.push(b)?;
+    Ok(path)
+}
+
 /// A split from a vertex of the outer ring to another, mostly to the second one after it, and over a
 /// position on the side of the one between.
 fn drawn_split<R: Abort>(
@@ -151,13 +171,28 @@ fn drawn_split<R: Abort>(
     };
     let (a, c) = (place(ring, n)?, place(ring, n.wrapping_add(1))?);
     let b = place(ring, n.wrapping_add(ahead))?;
-    let mut path = Vec::new(alloc);
-    path.push(a)?;
-    if drawn.below(4) != 0 {
-        path.push(between(rt, a, b, c))?;
-    }
-    path.push(b)?;
-    Ok(Edit::Split(f, path))
+    let middle = if drawn.below(4) == 0 {
+        None
+    } else {
+        Some(between(rt, a, b, c))
+    };
+    Ok(Edit::Split(f, path_of(alloc, a, middle, b)?))
+}
+
+/// The name of some ring that has the segment of these positions.
+fn drawn_user(
+    alloc: Global,
+    map: &Map<'_, GridIndex>,
+    drawn: &mut Drawn,
+    a: Pos,
+    b: Pos,
+) -> Result<RingName, Fail> {
+    let mut users = Vec::new(alloc);
+    let pushed = map.push_users(a, b, &mut users);
+    let name = drawn.one_of(users.as_slice());
+    drop(users);
+    pushed?;
+    Ok(name.ok_or("a ring")?)
 }
 
 /// A merge with the feature beyond some side of the ring, if there is one.
@@ -170,10 +205,24 @@ fn drawn_merge(
 ) -> Result<Edit, Fail> {
     let n = drawn.below(ring.len());
     let (a, b) = (place(ring, n)?, place(ring, n.wrapping_add(1))?);
-    let mut users = Vec::new(alloc);
-    map.push_users(a, b, &mut users)?;
-    let name = drawn.one_of(users.as_slice()).ok_or("a ring")?;
+    let name = drawn_user(alloc, map, drawn, a, b)?;
     Ok(Edit::Merge(name.feature, f))
+}
+
+/// An edit of the feature with this outer ring.
+fn drawn_on_ring<R: Abort>(
+    rt: &R,
+    alloc: Global,
+    map: &Map<'_, GridIndex>,
+    drawn: &mut Drawn,
+    f: u32,
+    ring: &[Pos],
+) -> Result<Edit, Fail> {
+    match drawn.below(32) {
+        0 => Ok(Edit::Delete(f)),
+        1..=14 => drawn_merge(alloc, map, drawn, f, ring),
+        _ => drawn_split(rt, alloc, drawn, f, ring),
+    }
 }
 
 /// An edit that may be accepted or refused.
@@ -183,32 +232,61 @@ fn drawn_edit<R: Abort>(
     map: &Map<'_, GridIndex>,
     drawn: &mut Drawn,
 ) -> Result<Edit, Fail> {
-    let numbers = numbers_of(alloc, map)?;
-    let f = drawn.one_of(numbers.as_slice()).ok_or("a feature")?;
+    let f = drawn_number(alloc, map, drawn)?;
     let ring = outer_ring(alloc, map, f)?;
-    match drawn.below(32) {
-        0 => Ok(Edit::Delete(f)),
-        1..=14 => drawn_merge(alloc, map, drawn, f, ring.as_slice()),
-        _ => drawn_split(rt, alloc, drawn, f, ring.as_slice()),
-    }
+    let edit = drawn_on_ring(rt, alloc, map, drawn, f, ring.as_slice());
+    drop(ring);
+    edit
+}
+
+/// Appends the start of a split.
+fn push_cut(alloc: Global, script: &mut String, f: u32) -> Result<(), AllocError> {
+    let text = format!(in alloc; "split {f} \"n {f}\"")?;
+    let pushed = script.push_str(text.as_str());
+    drop(text);
+    pushed
+}
+
+/// Appends a position of a path.
+fn push_position(alloc: Global, script: &mut String, p: Pos) -> Result<(), AllocError> {
+    let (x, y) = (p.x(), p.y());
+    let text = format!(in alloc; " {x} {y}")?;
+    let pushed = script.push_str(text.as_str());
+    drop(text);
+    pushed
 }
 
 /// Appends a split as a line of a script.
 fn push_split(alloc: Global, script: &mut String, f: u32, path: &[Pos]) -> Result<(), AllocError> {
-    script.push_str(format!(in alloc; "split {f} \"n {f}\"")?.as_str())?;
+    push_cut(alloc, script, f)?;
     for p in path {
-        let (x, y) = (p.x(), p.y());
-        script.push_str(format!(in alloc; " {x} {y}")?.as_str())?;
+        push_position(alloc, script, *p)?;
     }
     script.push_str("\n")
+}
+
+/// Appends a merge as a line of a script.
+fn push_merge(alloc: Global, script: &mut String, f: u32, g: u32) -> Result<(), AllocError> {
+    let text = format!(in alloc; "merge {f} {g}\n")?;
+    let pushed = script.push_str(text.as_str());
+    drop(text);
+    pushed
+}
+
+/// Appends a deletion as a line of a script.
+fn push_deletion(alloc: Global, script: &mut String, f: u32) -> Result<(), AllocError> {
+    let text = format!(in alloc; "delete {f}\n")?;
+    let pushed = script.push_str(text.as_str());
+    drop(text);
+    pushed
 }
 
 /// Appends the edit as a line of a script.
 fn push_line(alloc: Global, script: &mut String, edit: &Edit) -> Result<(), AllocError> {
     match edit {
         Edit::Split(f, path) => push_split(alloc, script, *f, path.as_slice()),
-        Edit::Merge(f, g) => script.push_str(format!(in alloc; "merge {f} {g}\n")?.as_str()),
-        Edit::Delete(f) => script.push_str(format!(in alloc; "delete {f}\n")?.as_str()),
+        Edit::Merge(f, g) => push_merge(alloc, script, *f, *g),
+        Edit::Delete(f) => push_deletion(alloc, script, *f),
     }
 }
 
@@ -224,10 +302,10 @@ fn cut<R: Abort>(
     let path = Path(path);
     let count = path.0.len();
     assert!(rt; 2 <= count && count <= 256);
-    Ok(match split(map, f, id, path) {
-        Ok(made) => Some(made),
-        Err(_) => None,
-    })
+    match split(map, f, id, path) {
+        Ok(made) => Ok(Some(made)),
+        Err(_) => Ok(None),
+    }
 }
 
 /// Makes the merge. Gives whether it was accepted.
@@ -240,6 +318,38 @@ fn take_out(map: &mut Map<'_, GridIndex>, f: u32) -> bool {
     delete(map, f).is_ok()
 }
 
+/// Counts a split, and appends its answer.
+fn end_split(alloc: Global, drawn: &mut Drawn, made: u32) -> Result<(), AllocError> {
+    drawn.tally.splits = drawn.tally.splits.wrapping_add(1);
+    let text = format!(in alloc; "ok {made}\n")?;
+    let pushed = drawn.push_answer(text.as_str());
+    drop(text);
+    pushed
+}
+
+/// Makes the merge, and appends its answer.
+fn make_merge(
+    map: &mut Map<'_, GridIndex>,
+    f: u32,
+    g: u32,
+    drawn: &mut Drawn,
+) -> Result<(), AllocError> {
+    let is_made = join(map, f, g);
+    drawn.tally.merges = drawn.tally.merges.wrapping_add(u32::from(is_made));
+    drawn.end(is_made)
+}
+
+/// Makes the deletion, and appends its answer.
+fn make_deletion(
+    map: &mut Map<'_, GridIndex>,
+    f: u32,
+    drawn: &mut Drawn,
+) -> Result<(), AllocError> {
+    let is_made = take_out(map, f);
+    drawn.tally.deletions = drawn.tally.deletions.wrapping_add(u32::from(is_made));
+    drawn.end(is_made)
+}
+
 /// Makes the edit, and appends its answer.
 fn make<R: Abort>(
     rt: &R,
@@ -250,23 +360,25 @@ fn make<R: Abort>(
 ) -> Result<(), AllocError> {
     match edit {
         Edit::Split(f, path) => match cut(rt, alloc, map, f, path)? {
-            Some(made) => {
-                drawn.tally.splits = drawn.tally.splits.wrapping_add(1);
-                drawn.push_answer(format!(in alloc; "ok {made}\n")?.as_str())
-            }
+            Some(made) => end_split(alloc, drawn, made),
             None => drawn.refuse(),
         },
-        Edit::Merge(f, g) => {
-            let is_made = join(map, f, g);
-            drawn.tally.merges = drawn.tally.merges.wrapping_add(u32::from(is_made));
-            drawn.end(is_made)
-        }
-        Edit::Delete(f) => {
-            let is_made = take_out(map, f);
-            drawn.tally.deletions = drawn.tally.deletions.wrapping_add(u32::from(is_made));
-            drawn.end(is_made)
-        }
+        Edit::Merge(f, g) => make_merge(map, f, g, drawn),
+        Edit::Delete(f) => make_deletion(map, f, drawn),
     }
+}
+
+/// Draws an edit, and makes it.
+fn draw_one<R: Abort>(
+    rt: &R,
+    alloc: Global,
+    map: &mut Map<'_, GridIndex>,
+    drawn: &mut Drawn,
+) -> Result<(), Fail> {
+    let edit = drawn_edit(rt, alloc, map, drawn)?;
+    push_line(alloc, &mut drawn.script, &edit)?;
+    make(rt, alloc, map, edit, drawn)?;
+    Ok(())
 }
 
 /// Draws so many edits, and makes them.
@@ -278,9 +390,7 @@ pub(crate) fn draw<R: Abort>(
     count: u32,
 ) -> Result<(), Fail> {
     for _ in 0..count {
-        let edit = drawn_edit(rt, alloc, map, drawn)?;
-        push_line(alloc, &mut drawn.script, &edit)?;
-        make(rt, alloc, map, edit, drawn)?;
+        draw_one(rt, alloc, map, drawn)?;
     }
     Ok(())
 }
