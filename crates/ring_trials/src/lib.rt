@@ -12,3 +12,5 @@ mod parts;
 mod plain_maps;
 #[cfg(test)]
 mod positions;
+#[cfg(test)]
+mod turned;
