@@ -1,17 +1,14 @@
 -- The rings of features that are gathered: each is there, and none is listed twice.
-use Rattle.std.proofs.Common.{◌≡◌, ◌≢◌, ℕ, true, refl, sym, ap, ◌∙◌, subst, List, [], ◌++◌, Option, Some, None}
-use Rattle.std.proofs.Common.{inl, inr, map, option_map, Contains}
-use Rattle.std.specs.Prelude.{IsTrue, unwrap_or, Vec}
+use Rattle.std.proofs.Common.{◌≡◌, ◌≢◌, ℕ, true, refl, sym, ap, ◌∙◌, subst, List, ◌++◌, Option, Some, None}
+use Rattle.std.proofs.Common.{inl, inr, Contains}
+use Rattle.std.specs.Prelude.{IsTrue}
 use Rattle.std.specs.FinMap as table
-use Rattle.std.specs.List.{flat_map}
-use Rattle.std.proofs.lemmas.List.Folds.{flat_map-map}
-use Rattle.ring_machine.specs.Document.{FeatureOf, DocumentOf}
+use Rattle.ring_machine.specs.Document.{FeatureOf}
 use Rattle.ring_machine.specs.Parts.{feature, rings}
 use Rattle.ring_machine.specs.WellFormed.{are_distinct}
 use Rattle.ring_machine.proofs.First.{In, in-append}
 use Rattle.ring_machine.proofs.Found.{distinct-append, feature_in}
 use Rattle.ring_machine.proofs.Members.{contains_in, in_contains}
-use Rattle.map_opening.specs.Laying.{polygon_numbers}
 use Rattle.map_frame.specs.Edits.{polygons_of}
 use Rattle.segment_index.specs.Candidates.{SegmentSet}
 use Rattle.feature_exchange.specs.Holds.{Holds}
@@ -19,14 +16,6 @@ use Rattle.feature_exchange.specs.Stored.{Stored}
 use Rattle.feature_exchange.specs.Under.{rings_under, polygon_under}
 use Rattle.feature_exchange.proofs.Parted.{nth_in, nth_distinct}
 use Rattle.feature_exchange.proofs.Under.{under_found, under_none, under_in, under_distinct, under_apart}
-
--- the numbers that were read are those of the feature
-pub numbers_read : {A : Type 0} (d : DocumentOf ℕ) (n : ℕ) (ps : List (Vec ℕ A))
-    → Some (map polygon_numbers ps) ≡ option_map (λ (f : FeatureOf ℕ). f.polygons) (feature d n)
-    → flat_map polygon_numbers ps ≡ rings_under d n
-numbers_read d n ps e =
-    sym (flat_map-map (λ polygon. polygon) polygon_numbers ps)
-    ∙ ap (λ (o : Option (List (List ℕ))). flat_map (λ polygon. polygon) (unwrap_or o [])) e
 
 module _ (s : Stored) (held : SegmentSet) (h : Holds s held) where
   kept : (r : ℕ) → In r (rings s.frame) → IsTrue (table.contains_key s.rings r)

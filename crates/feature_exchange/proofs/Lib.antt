@@ -11,3 +11,7 @@ pub mod Parted
 pub mod Halves
 pub mod Gathering
 pub mod Renaming
+pub mod KeyLists
+pub mod KeysByNumber
+pub mod VertexLists
+pub mod PolygonsRead

@@ -1,8 +1,9 @@
 -- The numbers of the rings of a feature, among those of the document.
-use Rattle.std.proofs.Common.{◌≡◌, ◌≤◌, ℕ, true, refl, sym, ap, ◌∙◌, subst, [], ◌++◌}
+use Rattle.std.proofs.Common.{◌≡◌, ◌≤◌, ℕ, true, refl, sym, ap, ◌∙◌, subst, List, [], ◌++◌}
 use Rattle.std.proofs.Common.{map, length, Option, Some, None, option_map, arith}
-use Rattle.std.specs.Prelude.{unwrap_or}
+use Rattle.std.specs.Prelude.{unwrap_or, Vec}
 use Rattle.std.specs.List.{flat_map}
+use Rattle.std.proofs.lemmas.List.Folds.{flat_map-map}
 use Rattle.ring_machine.specs.Document.{FeatureOf, DocumentOf}
 use Rattle.ring_machine.specs.Parts.{features, feature, rings, rings_of, in_feature, in_rings}
 use Rattle.ring_machine.specs.WellFormed.{are_distinct, WellFormed}
@@ -11,6 +12,7 @@ use Rattle.ring_machine.proofs.Found.{distinct_parts, feature_in, feature_stands
 use Rattle.ring_machine.proofs.Found.{feature_found, feature-in_rings}
 use Rattle.ring_machine.proofs.Instead.{rings_at}
 use Rattle.ring_machine.proofs.Neighbours.{in-flat_map}
+use Rattle.map_opening.specs.Laying.{polygon_numbers}
 use Rattle.map_frame.specs.Edits.{polygons_of}
 use Rattle.map_frame.proofs.NamedOnce.{one_owner}
 use Rattle.feature_exchange.specs.Under.{rings_under}
@@ -44,6 +46,14 @@ module _ {R : Type 0} (d : DocumentOf R) (n : ℕ) where
       by : (o : Option (FeatureOf R)) → feature d n ≡ o → (f : FeatureOf R) × (feature d n ≡ Some f)
       by None e = absurd (omega (arith, l, ap length (polygons_none e)))
       by (Some f) e = (f, e)
+
+-- the numbers that were read are those of the feature
+pub numbers_read : {A : Type 0} (d : DocumentOf ℕ) (n : ℕ) (ps : List (Vec ℕ A))
+    → Some (map polygon_numbers ps) ≡ option_map (λ (f : FeatureOf ℕ). f.polygons) (feature d n)
+    → flat_map polygon_numbers ps ≡ rings_under d n
+numbers_read d n ps e =
+    sym (flat_map-map (λ polygon. polygon) polygon_numbers ps)
+    ∙ ap (λ (o : Option (List (List ℕ))). flat_map (λ polygon. polygon) (unwrap_or o [])) e
 
 -- as many polygons as before the rings were changed
 pub polygons-in_rings : {R S : Type 0} (g : R → S) (d : DocumentOf R) (n : ℕ)

@@ -1,3 +1,4 @@
 pub mod Stored
 pub mod Holds
 pub mod Under
+pub mod Along

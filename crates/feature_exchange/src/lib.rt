@@ -8,8 +8,12 @@
 mod joining;
 mod numbers;
 mod parting;
+mod reading;
 mod taking;
+mod vertex_list;
 
 pub use joining::join_features;
 pub use parting::{Parts, part_feature};
+pub use reading::read_polygons;
 pub use taking::take_out_feature;
+pub use vertex_list::read_vertices;

@@ -1,5 +1,5 @@
 use Rattle.std.proofs.Common.{◌≡◌, ◌++◌, subst, OnOk}
-use Rattle.feature_exchange.proofs.Gathering.{numbers_read}
+use Rattle.feature_exchange.proofs.Under.{numbers_read}
 use Rattle.feature_exchange.proofs.numbers.push_feature.Goals as goal
 
 pub returns-in-Some : goal.returns-in-Some

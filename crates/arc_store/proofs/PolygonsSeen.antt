@@ -1,0 +1,40 @@
+-- A polygon of those that were read, at its place among them.
+use Rattle.std.proofs.Common.{◌≡◌, ◌<◌, ℕ, false, ap, ◌∙◌, subst, List, [], ◌∷◌, map, length, get_or}
+use Rattle.std.proofs.Common.{zero, suc, take, arith}
+use Rattle.std.specs.Prelude.{Vec}
+use Rattle.std.specs.List.{list_any}
+use Rattle.std.proofs.lemmas.List.{length-map}
+use Rattle.grid_geometry.specs.Position.{Position}
+use Rattle.ring_machine.specs.Cut.{Path, is_cut_by, first_that}
+use Rattle.ring_parts.specs.Seen.{rings_seen, polygons_seen}
+use Rattle.arc_store.specs.Splits.{IsFirstCut}
+
+-- an element, seen otherwise, stands at its place among all seen so
+pub at_mapped : {A B : Type 0} (of : A → B) (xs : List A) (i : ℕ) (x : A) (d : B) → i < length xs
+    → x ≡ get_or xs i x → of x ≡ get_or (map of xs) i d
+at_mapped of [] i x d l e = absurd (omega (arith, l))
+at_mapped of (y ∷ ys) zero x d l e = ap of e
+at_mapped of (y ∷ ys) (suc i) x d l e = at_mapped of ys i x d (omega (arith, l)) e
+
+-- the rings of the first polygon
+pub first_seen : {A : Type 0} (polygons : List (Vec (Vec Position A) A)) (x : Vec (Vec Position A) A) → x ≡ get_or polygons 0 x
+    → 0 < length polygons → (q : List (Vec Position A)) → q ≡ x.items → rings_seen q ≡ get_or (polygons_seen polygons) 0 []
+first_seen {A} polygons x is l q same =
+    ap rings_seen same ∙ at_mapped (λ (p : Vec (Vec Position A) A). rings_seen p.items) polygons 0 x [] l is
+
+-- the polygon at the place that was found is the first one that the path cuts
+pub found_cut : {A : Type 0} (polygons : List (Vec (Vec Position A) A)) (ps : List (List (List Position)))
+    → polygons_seen polygons ≡ ps → (path : Path) (place : ℕ) → place < length polygons
+    → first_that (is_cut_by path) (polygons_seen polygons) ≡ get_or (polygons_seen polygons) place [] ∷ []
+    → list_any (is_cut_by path) (take place (polygons_seen polygons)) ≡ false
+    → (x : Vec (Vec Position A) A) → x ≡ get_or polygons place x
+    → (q : List (Vec Position A)) → q ≡ x.items → IsFirstCut ps path place (rings_seen q)
+found_cut {A} polygons ps e path place l first none x is q same =
+    let at : rings_seen q ≡ get_or (polygons_seen polygons) place [] =
+    ap rings_seen same ∙ at_mapped (λ (p : Vec (Vec Position A) A). rings_seen p.items) polygons place x [] l is in
+    subst (λ z. IsFirstCut z path place (rings_seen q)) e (record {
+      within = omega (arith, l, length-map polygons (λ (p : Vec (Vec Position A) A). rings_seen p.items));
+      at = at;
+      first = first ∙ ap (λ z. z ∷ []) (sym at);
+      none_before = none;
+    })

@@ -1,7 +1,0 @@
-use Rattle.map_opening.specs.Laying.{polygon_numbers}
-use Rattle.arc_store.proofs.KeyLists.{part_held}
-use Rattle.arc_store.proofs.polygons.feature_positions.Goals as goal
-
-pub polygon_positions-requires-clause-held : goal.polygon_positions-requires-clause-held
-polygon_positions-requires-clause-held g c =
-    part_held c.args.borders.now polygon_numbers c.args.polygons.now c.loop-rings.rings-index c.rings-item.result c.as_slice.result.now c.loop-rings-test.true c.rings-item.is c.as_slice.ensures.value c.requires.held

@@ -1,6 +1,0 @@
-use Rattle.arc_store.proofs.KeyLists.{keys_more}
-use Rattle.arc_store.proofs.positions.push_polygon.Goals as goal
-
-pub loop-r-preserved : goal.loop-r-preserved
-loop-r-preserved g c =
-    keys_more c.args.borders.now c.args.rings.now c.loop-r.r-index c.args.keys.now.items c.loop-r.keys.items c.push_keys.new.out.items c.loop-r-test.true c.requires c.loop-r.invariant c.in_ok-push_keys.ensures

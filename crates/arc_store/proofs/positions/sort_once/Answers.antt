@@ -1,5 +1,0 @@
-use Rattle.ring_machine.proofs.SortedOnce.{sorted_once}
-use Rattle.arc_store.proofs.positions.sort_once.Goals as goal
-
-pub returns : goal.returns
-returns g c = sorted_once _ _ _ c.sort_unstable.ensures.permutation c.sort_unstable.ensures.sorted c.dedup.ensures.filtered

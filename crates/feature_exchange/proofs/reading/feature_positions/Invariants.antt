@@ -1,0 +1,11 @@
+use Rattle.std.proofs.Common.{◌≡◌, map, take}
+use Rattle.map_opening.specs.Laying.{polygon_numbers}
+use Rattle.ring_parts.specs.Seen.{polygons_seen}
+use Rattle.feature_exchange.specs.Along.{ring_in}
+use Rattle.feature_exchange.proofs.reading.feature_positions.Given as goal
+
+-- the polygons so far
+abbrev pub invariant-loop-rings : goal.invariant-loop-rings
+invariant-loop-rings g l =
+    polygons_seen l.found.items
+    ≡ map (map (ring_in l.vertices l.borders)) (map polygon_numbers (take l.rings-index l.polygons))

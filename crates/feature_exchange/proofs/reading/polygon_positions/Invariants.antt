@@ -1,0 +1,8 @@
+use Rattle.std.proofs.Common.{◌≡◌, map, take}
+use Rattle.ring_parts.specs.Seen.{rings_seen}
+use Rattle.feature_exchange.specs.Along.{ring_in}
+use Rattle.feature_exchange.proofs.reading.polygon_positions.Given as goal
+
+-- the rings so far
+abbrev pub invariant-loop-r : goal.invariant-loop-r
+invariant-loop-r g l = rings_seen l.polygon.items ≡ map (ring_in l.vertices l.borders) (take l.r-index l.rings)

@@ -1,0 +1,24 @@
+-- What is read along rings: the keys along all rings of a frame, and the ring under a number.
+use Rattle.std.specs.Prelude.{ℕ, ◌↔◌, List, IsTrue, Contains}
+use Rattle.std.specs.FinMap as table
+use Rattle.grid_geometry.specs.Position.{Position}
+use Rattle.ring_machine.specs.Document.{DocumentOf}
+use Rattle.ring_machine.specs.Ring.{canonical}
+use Rattle.ring_machine.specs.Parts.{rings}
+use Rattle.vertex_index.specs.Placement.{Placement}
+use Rattle.arc_tables.specs.Rings.{Rings, begins}
+use Rattle.feature_exchange.specs.Stored.{edges_under, positions_along}
+
+-- these are the keys along the rings of a frame, in any order
+abbrev pub AreAlong : Rings → DocumentOf ℕ → List ℕ → Type 0
+AreAlong m frame keys = (k : ℕ)
+    → Contains keys k ↔ ((r : ℕ) × Contains (rings frame) r × Contains (begins (edges_under m r)) k)
+
+-- the ring with this number, from its least position on
+abbrev pub ring_in : Placement → Rings → ℕ → List Position
+ring_in places m r = canonical (positions_along places (edges_under m r))
+
+-- each key along a ring is that of a vertex
+abbrev pub AlongVertices : Placement → Rings → Type 0
+AlongVertices places m =
+    (r k : ℕ) → Contains (begins (edges_under m r)) k → IsTrue (table.contains_key places k)

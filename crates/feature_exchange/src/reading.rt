@@ -1,0 +1,111 @@
+// The rings of a feature, read from the tables as positions.
+ghost use Rattle.std.specs.Prelude.{◌≡◌, ℕ, true, map, Contains, IfOk};
+ghost use Rattle.std.specs.FinMap as table;
+ghost use Rattle.std.specs.List.{flat_map};
+ghost use Rattle.ring_machine.specs.Refusals.{feature_at};
+ghost use Rattle.map_opening.specs.Laying.{polygon_numbers};
+ghost use Rattle.ring_parts.specs.Seen.{rings_seen, polygons_seen};
+ghost use Rattle.vertex_index.specs.Placement.{place};
+ghost use Rattle.feature_exchange.specs.Holds.{IsWhole};
+ghost use Rattle.feature_exchange.specs.Stored.{stored, document_of};
+ghost use Rattle.feature_exchange.specs.Along.{AlongVertices, ring_in};
+
+use grid_geometry::Pos;
+use map_frame::Frame;
+use ring_parts::canonical;
+use shared_arcs::Borders;
+use std::alloc::{AllocError, Allocator};
+use vertex_index::{VertexKey, Vertices};
+
+/// The positions under these keys. Fails for want of memory alone.
+pub(crate) fn positions_under<A: Allocator + Copy>(
+    alloc: A,
+    vertices: &Vertices<A>,
+    keys: &[VertexKey],
+) -> Result<Vec<Pos, A>, AllocError>
+    requires { (k : ℕ) → Contains keys.now k → table.contains_key vertices.now k ≡ true }
+    ensures { IfOk result (λ found. found.items ≡ map (place vertices.now) keys.now) }
+{
+    let mut found = Vec::with_capacity(alloc, keys.len())?;
+    for k in keys {
+        found.push(vertices.pos(*k))?;
+    }
+    Ok(found)
+}
+
+/// The ring with a number, from its least position on. Fails for want of memory alone.
+fn ring_positions<A: Allocator + Copy>(
+    alloc: A,
+    vertices: &Vertices<A>,
+    borders: &Borders<A>,
+    r: usize,
+) -> Result<Vec<Pos, A>, AllocError>
+    requires held { table.contains_key borders.now r ≡ true }
+    requires along { AlongVertices vertices.now borders.now }
+    ensures { IfOk result (λ ring. ring.items ≡ ring_in vertices.now borders.now r) }
+{
+    let mut keys = Vec::new(alloc);
+    borders.push_keys(r, &mut keys)?;
+    let found = positions_under(alloc, vertices, keys.as_slice())?;
+    canonical(alloc, found.as_slice())
+}
+
+/// The rings with these numbers, in order. Fails for want of memory alone.
+fn polygon_positions<A: Allocator + Copy>(
+    alloc: A,
+    vertices: &Vertices<A>,
+    borders: &Borders<A>,
+    rings: &[usize],
+) -> Result<Vec<Vec<Pos, A>, A>, AllocError>
+    requires held { (r : ℕ) → Contains rings.now r → table.contains_key borders.now r ≡ true }
+    requires along { AlongVertices vertices.now borders.now }
+    ensures { IfOk result (λ polygon. rings_seen polygon.items
+        ≡ map (ring_in vertices.now borders.now) rings.now) }
+{
+    let mut polygon = Vec::new(alloc);
+    for r in rings {
+        let ring = ring_positions(alloc, vertices, borders, *r)?;
+        polygon.push(ring)?;
+    }
+    Ok(polygon)
+}
+
+/// The rings of these polygons, in order. Fails for want of memory alone.
+fn feature_positions<A: Allocator + Copy>(
+    alloc: A,
+    vertices: &Vertices<A>,
+    borders: &Borders<A>,
+    polygons: &[Vec<usize, A>],
+) -> Result<Vec<Vec<Vec<Pos, A>, A>, A>, AllocError>
+    requires held { (r : ℕ) → Contains (flat_map polygon_numbers polygons.now) r
+        → table.contains_key borders.now r ≡ true }
+    requires along { AlongVertices vertices.now borders.now }
+    ensures { IfOk result (λ found. polygons_seen found.items
+        ≡ map (map (ring_in vertices.now borders.now)) (map polygon_numbers polygons.now)) }
+{
+    let mut found = Vec::new(alloc);
+    for rings in polygons {
+        let polygon = polygon_positions(alloc, vertices, borders, rings.as_slice())?;
+        found.push(polygon)?;
+    }
+    Ok(found)
+}
+
+/// The polygons of feature `n` of these tables, each ring as its positions from the least one on, the
+/// outer ring first; none where no feature has the number. Fails for want of memory alone.
+pub fn read_polygons<'a, A: Allocator + Copy>(
+    alloc: A,
+    frame: &Frame<'a, A>,
+    vertices: &Vertices<A>,
+    borders: &Borders<A>,
+    n: u32,
+) -> Result<Vec<Vec<Vec<Pos, A>, A>, A>, AllocError>
+    requires { IsWhole (stored frame.now borders.now vertices.now) }
+    ensures { IfOk result (λ found. polygons_seen found.items
+        ≡ (feature_at (document_of (stored frame.now borders.now vertices.now)) n).polygons) }
+{
+    match frame.polygons(n) {
+        Some(polygons) => feature_positions(alloc, vertices, borders, polygons),
+        None => Ok(Vec::new(alloc)),
+    }
+}

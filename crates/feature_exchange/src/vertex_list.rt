@@ -1,0 +1,101 @@
+// The positions of all vertices, read from the tables.
+ghost use Rattle.std.specs.Prelude.{◌≡◌, ◌++◌, ℕ, true, [], map, Contains, IfOk, IsTrue, OnOk};
+ghost use Rattle.std.specs.FinMap as table;
+ghost use Rattle.std.specs.List.{flat_map, fold};
+ghost use Rattle.ring_machine.specs.Parts.{features, rings};
+ghost use Rattle.ring_machine.specs.Query as query;
+ghost use Rattle.ring_machine.specs.Query.{add_position};
+ghost use Rattle.ring_machine.specs.WellFormed.{are_distinct};
+ghost use Rattle.arc_tables.specs.Rings.{begins};
+ghost use Rattle.map_opening.specs.Laying.{polygon_numbers};
+ghost use Rattle.feature_exchange.specs.Along.{AreAlong};
+ghost use Rattle.feature_exchange.specs.Holds.{IsWhole};
+ghost use Rattle.feature_exchange.specs.Stored.{stored, document_of, edges_under};
+
+use crate::reading::positions_under;
+use grid_geometry::Pos;
+use map_frame::Frame;
+use shared_arcs::Borders;
+use std::alloc::{AllocError, Allocator};
+use vertex_index::{VertexKey, Vertices};
+
+/// Appends the keys of these rings. Fails for want of memory alone.
+fn push_polygon_keys<A: Allocator + Copy>(
+    borders: &Borders<A>,
+    rings: &[usize],
+    keys: &mut Vec<VertexKey, A>,
+) -> Result<(), AllocError>
+    requires { (r : ℕ) → Contains rings.now r → table.contains_key borders.now r ≡ true }
+    ensures { OnOk result (keys.new.items
+        ≡ keys.old.items ++ flat_map (λ r. begins (edges_under borders.now r)) rings.now) }
+{
+    for r in rings {
+        borders.push_keys(*r, keys)?;
+    }
+    Ok(())
+}
+
+/// Appends the keys of a feature's rings. Fails for want of memory alone.
+fn push_feature_keys<A: Allocator + Copy>(
+    borders: &Borders<A>,
+    polygons: &[Vec<usize, A>],
+    keys: &mut Vec<VertexKey, A>,
+) -> Result<(), AllocError>
+    requires { (r : ℕ) → Contains (flat_map polygon_numbers polygons.now) r
+        → table.contains_key borders.now r ≡ true }
+    ensures { OnOk result (keys.new.items
+        ≡ keys.old.items
+        ++ flat_map (λ r. begins (edges_under borders.now r)) (flat_map polygon_numbers polygons.now)) }
+{
+    for rings in polygons {
+        push_polygon_keys(borders, rings.as_slice(), keys)?;
+    }
+    Ok(())
+}
+
+/// The keys of all rings. Fails for want of memory alone.
+fn all_keys<'a, A: Allocator + Copy>(
+    alloc: A,
+    borders: &Borders<A>,
+    frame: &Frame<'a, A>,
+) -> Result<Vec<VertexKey, A>, AllocError>
+    requires held { (r : ℕ) → Contains (rings frame.now.doc) r
+        → table.contains_key borders.now r ≡ true }
+    requires distinct { IsTrue (are_distinct (map (λ f. f.number) (features frame.now.doc))) }
+    ensures { IfOk result (λ keys. AreAlong borders.now frame.now.doc keys.items) }
+{
+    let mut keys = Vec::new(alloc);
+    for n in 0..frame.next() {
+        if let Some(polygons) = frame.polygons(n) {
+            push_feature_keys(borders, polygons, &mut keys)?;
+        }
+    }
+    Ok(keys)
+}
+
+/// The positions ascending, each once.
+fn sort_once<A: Allocator + Copy>(found: &mut Vec<Pos, A>)
+    ensures { found.new.items ≡ fold add_position [] found.old.items }
+{
+    found.sort_unstable();
+    found.dedup();
+}
+
+/// The positions of all vertices of these tables, ascending, each once. Walks the map. Fails for want
+/// of memory alone.
+pub fn read_vertices<'a, A: Allocator + Copy>(
+    alloc: A,
+    frame: &Frame<'a, A>,
+    vertices: &Vertices<A>,
+    borders: &Borders<A>,
+) -> Result<Vec<Pos, A>, AllocError>
+    requires whole { IsWhole (stored frame.now borders.now vertices.now) }
+    requires distinct { IsTrue (are_distinct (map (λ f. f.number) (features frame.now.doc))) }
+    ensures { IfOk result (λ found. found.items
+        ≡ query.vertices (document_of (stored frame.now borders.now vertices.now))) }
+{
+    let keys = all_keys(alloc, borders, frame)?;
+    let mut found = positions_under(alloc, vertices, keys.as_slice())?;
+    sort_once(&mut found);
+    Ok(found)
+}
