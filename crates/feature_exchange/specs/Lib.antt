@@ -2,3 +2,4 @@ pub mod Stored
 pub mod Holds
 pub mod Under
 pub mod Along
+pub mod Asked

@@ -1,13 +1,15 @@
 // Two features joined.
-ghost use Rattle.std.specs.Prelude.{◌≡◌, ◌≢◌, ◌≤◌, length, map, IsTrue, OnOk, OnErr};
+ghost use Rattle.std.specs.Prelude.{◌≡◌, ◌≢◌, ◌≤◌, length, IsTrue, OnOk, OnErr};
 ghost use Rattle.std.specs.List.{list_all};
 ghost use Rattle.std.specs.FinSet as set;
 ghost use Rattle.ring_machine.specs.Parts.{rings as rings_in, size};
 ghost use Rattle.ring_machine.specs.Planar.{Proper};
-ghost use Rattle.ring_machine.specs.Ring.{canonical, is_ring};
+ghost use Rattle.ring_machine.specs.Ring.{is_ring};
 ghost use Rattle.ring_machine.specs.WellFormed.{are_distinct};
+ghost use Rattle.ring_parts.specs.Seen.{rings_seen};
 ghost use Rattle.map_frame.specs.Edits.{polygons_of, joined};
 ghost use Rattle.ring_exchange.specs.Laid.{numbers_of};
+ghost use Rattle.feature_exchange.specs.Asked.{joined_as};
 ghost use Rattle.feature_exchange.specs.Holds.{Holds};
 ghost use Rattle.feature_exchange.specs.Stored.{stored, document_of};
 
@@ -61,16 +63,13 @@ pub fn join_features<'a, I: SegIndex, A: Allocator + Copy>(
     requires two { n ≢ g }
     requires there { length
         (polygons_of (document_of (stored frame.old borders.old vertices.old)) n) ≡ 1 }
-    requires rings { IsTrue (list_all is_ring (map (λ ring. ring.items) rings.now)) }
+    requires rings { IsTrue (list_all is_ring (rings_seen rings.now)) }
     requires proper { Proper
-        (joined (document_of (stored frame.old borders.old vertices.old)) n g
-        (map canonical (map (λ ring. ring.items) rings.now))) }
+        (joined_as (document_of (stored frame.old borders.old vertices.old)) n g rings.now) }
     requires small { size
-        (joined (document_of (stored frame.old borders.old vertices.old)) n g
-        (map canonical (map (λ ring. ring.items) rings.now))) ≤ 4000000 }
+        (joined_as (document_of (stored frame.old borders.old vertices.old)) n g rings.now) ≤ 4000000 }
     ensures joined { OnOk result (document_of (stored frame.new borders.new vertices.new)
-        ≡ joined (document_of (stored frame.old borders.old vertices.old)) n g
-        (map canonical (map (λ ring. ring.items) rings.now))) }
+        ≡ joined_as (document_of (stored frame.old borders.old vertices.old)) n g rings.now) }
     ensures unchanged { OnErr result (document_of (stored frame.new borders.new vertices.new)
         ≡ document_of (stored frame.old borders.old vertices.old)) }
     ensures next { frame.new.next ≡ frame.old.next }

@@ -5,12 +5,14 @@ ghost use Rattle.std.specs.FinSet as set;
 ghost use Rattle.ring_machine.specs.Parts.{rings as rings_in, size};
 ghost use Rattle.ring_machine.specs.Planar.{Proper};
 ghost use Rattle.ring_machine.specs.Refusals.{is_layer};
-ghost use Rattle.ring_machine.specs.Ring.{canonical, is_ring};
+ghost use Rattle.ring_machine.specs.Ring.{is_ring};
 ghost use Rattle.ring_machine.specs.WellFormed.{are_distinct};
+ghost use Rattle.ring_parts.specs.Seen.{rings_seen};
 ghost use Rattle.topo_outline.specs.Kept.{IsJson};
 ghost use Rattle.map_frame.specs.Edits.{polygons_of, parted};
 ghost use Rattle.ring_exchange.specs.Laid.{numbers_of, ring_at, AreThere, AreAdded, KeepsPlaces};
 ghost use Rattle.ring_exchange.specs.Standing.{Stands};
+ghost use Rattle.feature_exchange.specs.Asked.{parted_as};
 ghost use Rattle.feature_exchange.specs.Holds.{Holds};
 ghost use Rattle.feature_exchange.specs.Stored.{stored, document_of};
 
@@ -76,17 +78,14 @@ fn lay_second<'a, I: SegIndex, A: Allocator + Copy>(
     index: &mut I,
     segments: &mut usize,
     n: u32,
-    polygon: usize,
     first: &[LaidRing<A>],
-    rings: &[Vec<Pos, A>],
-    id: Vec<u8, A>,
+    parts: Parts<'_, A>,
 ) -> Result<Vec<LaidRing<A>, A>, AllocError>
     requires stands { Stands vertices.old borders.old (I.held index.old) }
-    requires rings { IsTrue (list_all is_ring (map (λ ring. ring.items) rings.now)) }
+    requires rings { IsTrue (list_all is_ring (rings_seen parts.second.now)) }
     requires counted { segments.old ≡ set.len (I.held index.old) }
-    requires small { segments.old
-        + sum_by length (map (λ ring. ring.items) rings.now) ≤ 8000000 }
-    requires there { polygon < length (polygons_of frame.old.doc n) }
+    requires small { segments.old + sum_by length (rings_seen parts.second.now) ≤ 8000000 }
+    requires there { parts.polygon < length (polygons_of frame.old.doc n) }
     requires inside { is_layer frame.old.doc n ≡ false }
     requires few { frame.old.next < 200000 }
     requires once { IsTrue (are_distinct (rings_in frame.old.doc)) }
@@ -94,10 +93,10 @@ fn lay_second<'a, I: SegIndex, A: Allocator + Copy>(
     ensures there { IfOk result (λ laid. AreThere borders.new laid.items) }
     ensures added { IfOk result (λ laid. AreAdded borders.old borders.new (numbers_of laid.items)) }
     ensures at { IfOk result (λ laid. map (ring_at vertices.new borders.new) (numbers_of laid.items)
-        ≡ map (λ ring. ring.items) rings.now) }
+        ≡ rings_seen parts.entry.second.now) }
     ensures parted { IfOk result (λ laid. frame.new ≡ record frame.old {
-      doc = parted frame.old.doc n polygon (numbers_of first.now) (numbers_of laid.items) id.items
-          frame.old.next;
+      doc = parted frame.old.doc n parts.entry.polygon (numbers_of first.now) (numbers_of laid.items)
+          parts.entry.id.items frame.old.next;
       next = frame.old.next + 1;
     }) }
     ensures kept { KeepsPlaces vertices.old vertices.new }
@@ -108,7 +107,13 @@ fn lay_second<'a, I: SegIndex, A: Allocator + Copy>(
     ensures counted { segments.new ≡ set.len (I.held index.new) }
     ensures cells { I.cells index.new ≡ I.cells index.old }
 {
-    let laid = match lay_rings(alloc, vertices, borders, index, segments, rings) {
+    let Parts {
+        polygon,
+        second,
+        id,
+        ..
+    } = parts;
+    let laid = match lay_rings(alloc, vertices, borders, index, segments, second) {
         Ok(laid) => laid,
         Err(e) => return Err(e),
     };
@@ -143,22 +148,16 @@ pub fn part_feature<'a, I: SegIndex, A: Allocator + Copy>(
     requires inside { is_layer (document_of (stored frame.old borders.old vertices.old)) n ≡ false }
     requires few { frame.old.next < 200000 }
     requires text { IsJson parts.id.items }
-    requires first_rings { IsTrue (list_all is_ring (map (λ ring. ring.items) parts.first.now)) }
-    requires second_rings { IsTrue (list_all is_ring (map (λ ring. ring.items) parts.second.now)) }
+    requires first_rings { IsTrue (list_all is_ring (rings_seen parts.first.now)) }
+    requires second_rings { IsTrue (list_all is_ring (rings_seen parts.second.now)) }
     requires proper { Proper
-        (parted (document_of (stored frame.old borders.old vertices.old)) n parts.polygon
-        (map canonical (map (λ ring. ring.items) parts.first.now))
-        (map canonical (map (λ ring. ring.items) parts.second.now)) parts.id.items frame.old.next) }
+        (parted_as (document_of (stored frame.old borders.old vertices.old)) n parts frame.old.next) }
     requires small { size
-        (parted (document_of (stored frame.old borders.old vertices.old)) n parts.polygon
-        (map canonical (map (λ ring. ring.items) parts.first.now))
-        (map canonical (map (λ ring. ring.items) parts.second.now)) parts.id.items frame.old.next)
+        (parted_as (document_of (stored frame.old borders.old vertices.old)) n parts frame.old.next)
         ≤ 4000000 }
     ensures number { IfOk result (λ m. m ≡ frame.old.next) }
     ensures parted { OnOk result (document_of (stored frame.new borders.new vertices.new)
-        ≡ parted (document_of (stored frame.old borders.old vertices.old)) n parts.entry.polygon
-        (map canonical (map (λ ring. ring.items) parts.entry.first.now))
-        (map canonical (map (λ ring. ring.items) parts.entry.second.now)) parts.entry.id.items
+        ≡ parted_as (document_of (stored frame.old borders.old vertices.old)) n parts.entry
         frame.old.next) }
     ensures next { OnOk result (frame.new.next ≡ frame.old.next + 1) }
     ensures unchanged { OnErr result (document_of (stored frame.new borders.new vertices.new)
@@ -168,23 +167,17 @@ pub fn part_feature<'a, I: SegIndex, A: Allocator + Copy>(
     ensures counted { segments.new ≡ set.len (I.held index.new) }
     ensures cells { I.cells index.new ≡ I.cells index.old }
 {
-    let Parts {
-        polygon,
-        first,
-        second,
-        id,
-    } = parts;
     let number = frame.next();
     let mut numbers = Vec::new(alloc);
-    push_polygon(frame, n, polygon, &mut numbers)?;
+    push_polygon(frame, n, parts.polygon, &mut numbers)?;
     let gone = gather_rings(alloc, borders, numbers.as_slice())?;
-    let laid = match lay_rings(alloc, vertices, borders, index, segments, first) {
+    let laid = match lay_rings(alloc, vertices, borders, index, segments, parts.first) {
         Ok(laid) => laid,
         Err(e) => return Err(e),
     };
     let came = laid.as_slice();
     match lay_second(
-        alloc, frame, vertices, borders, index, segments, n, polygon, came, second, id,
+        alloc, frame, vertices, borders, index, segments, n, came, parts,
     ) {
         Ok(_) => {
             let gone = gone.as_slice();

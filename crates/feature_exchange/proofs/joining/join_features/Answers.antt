@@ -1,4 +1,5 @@
-use Rattle.std.proofs.Common.{◌++◌, ◌∙◌, refl, sym, ap, subst, map, rules}
+use Rattle.std.proofs.Common.{◌++◌, ◌∙◌, refl, sym, ap, subst, rules}
+use Rattle.ring_parts.specs.Seen.{rings_seen}
 use Rattle.map_frame.specs.Edits.{joined}
 use Rattle.map_frame.specs.Framed.{Framed}
 use Rattle.ring_exchange.specs.Laid.{numbers_of, AreThere}
@@ -28,7 +29,7 @@ lay_rings-requires-clause-stands g c =
 pub lay_rings-requires-clause-small : goal.lay_rings-requires-clause-small
 lay_rings-requires-clause-small g c =
     joined_few (stored c.args.frame.now c.args.borders.now c.args.vertices.now) (g.I.SegIndex.held c.args.index.now) c.requires.holds c.args.n c.args.g c.requires.two c.requires.there
-    (map (λ ring. ring.items) c.args.rings.now) c.requires.small c.args.segments.now c.requires.counted
+    (rings_seen c.args.rings.now) c.requires.small c.args.segments.now c.requires.counted
 
 pub returns-in-Err-clause-unchanged : goal.returns-in-Err-clause-unchanged
 returns-in-Err-clause-unchanged g c =
@@ -46,7 +47,7 @@ take_out_rings-requires-clause-there g c =
 pub returns-in-Ok-join_laid : goal.returns-in-Ok-join_laid
 returns-in-Ok-join_laid g c =
     let both = joined_map (stored c.args.frame.now c.args.borders.now c.args.vertices.now) (stored c.args.frame.now c.lay_rings.new.borders c.lay_rings.new.vertices) (stored c.join_laid.new.frame c.take_out_rings.new.borders c.take_out_rings.new.vertices) (g.I.SegIndex.held c.args.index.now) (g.I.SegIndex.held c.lay_rings.new.index) (g.I.SegIndex.held c.take_out_rings.new.index) c.args.n c.args.g (numbers_of c.in-Ok.laid.items) (numbers_of c.as_slice-gone.result.now)
-    (map (λ ring. ring.items) c.args.rings.now)
+    (rings_seen c.args.rings.now)
     (record {
       holds = c.requires.holds;
       laid = c.lay_rings.ensures.stands;

@@ -40,5 +40,5 @@ returns-in-Err-part_laid-clause-kept g c =
 
 pub returns-in-Ok-part_laid-clause-parted : goal.returns-in-Ok-part_laid-clause-parted
 returns-in-Ok-part_laid-clause-parted g c =
-    subst (λ z. c.part_laid.new.frame ≡ record { doc = parted c.args.frame.now.doc c.args.n c.args.polygon (numbers_of c.args.first.now) (numbers_of z) c.args.id.items c.args.frame.now.next; next = c.args.frame.now.next + 1 })
+    subst (λ z. c.part_laid.new.frame ≡ record { doc = parted c.args.frame.now.doc c.args.n c.args.parts.polygon (numbers_of c.args.first.now) (numbers_of z) c.args.parts.id.items c.args.frame.now.next; next = c.args.frame.now.next + 1 })
     c.as_slice-came.ensures.value c.in-Ok-part_laid.ensures.ok

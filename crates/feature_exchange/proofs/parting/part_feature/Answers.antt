@@ -1,5 +1,6 @@
-use Rattle.std.proofs.Common.{◌++◌, ◌∙◌, refl, sym, ap, subst, map, arith, rules}
+use Rattle.std.proofs.Common.{◌++◌, ◌∙◌, refl, sym, ap, subst, arith, rules}
 use Rattle.ring_machine.proofs.StaysFormed.{is_layer-in_rings}
+use Rattle.ring_parts.specs.Seen.{rings_seen}
 use Rattle.map_frame.specs.Edits.{parted}
 use Rattle.map_frame.specs.Framed.{Framed}
 use Rattle.ring_exchange.specs.Laid.{numbers_of, AreThere, AreAdded}
@@ -28,7 +29,7 @@ lay_rings-requires-clause-stands g c =
 
 pub lay_rings-requires-clause-small : goal.lay_rings-requires-clause-small
 lay_rings-requires-clause-small g c =
-    omega (arith, parted_few (stored c.args.frame.now c.args.borders.now c.args.vertices.now) (g.I.SegIndex.held c.args.index.now) c.requires.holds c.args.n c.args.parts.polygon c.requires.there (map (λ ring. ring.items) c.args.parts.first.now) (map (λ ring. ring.items) c.args.parts.second.now) c.args.parts.id.items c.args.frame.now.next c.requires.small c.args.segments.now c.requires.counted)
+    omega (arith, parted_few (stored c.args.frame.now c.args.borders.now c.args.vertices.now) (g.I.SegIndex.held c.args.index.now) c.requires.holds c.args.n c.args.parts.polygon c.requires.there (rings_seen c.args.parts.first.now) (rings_seen c.args.parts.second.now) c.args.parts.id.items c.args.frame.now.next c.requires.small c.args.segments.now c.requires.counted)
 
 pub returns-in-Err-clause-unchanged : goal.returns-in-Err-clause-unchanged
 returns-in-Err-clause-unchanged g c =
@@ -36,7 +37,7 @@ returns-in-Err-clause-unchanged g c =
 
 pub lay_second-requires-clause-small : goal.lay_second-requires-clause-small
 lay_second-requires-clause-small g c =
-    omega (arith, c.in-Ok.ensures.few, parted_few (stored c.args.frame.now c.args.borders.now c.args.vertices.now) (g.I.SegIndex.held c.args.index.now) c.requires.holds c.args.n c.args.parts.polygon c.requires.there (map (λ ring. ring.items) c.args.parts.first.now) (map (λ ring. ring.items) c.args.parts.second.now) c.args.parts.id.items c.args.frame.now.next c.requires.small c.args.segments.now c.requires.counted)
+    omega (arith, c.in-Ok.ensures.few, parted_few (stored c.args.frame.now c.args.borders.now c.args.vertices.now) (g.I.SegIndex.held c.args.index.now) c.requires.holds c.args.n c.args.parts.polygon c.requires.there (rings_seen c.args.parts.first.now) (rings_seen c.args.parts.second.now) c.args.parts.id.items c.args.frame.now.next c.requires.small c.args.segments.now c.requires.counted)
 
 pub lay_second-requires-clause-there : goal.lay_second-requires-clause-there
 lay_second-requires-clause-there g c =
@@ -60,7 +61,7 @@ take_out_rings-requires-in-Err-lay_second-clause-there g c =
 pub returns-in-Ok-lay_second : goal.returns-in-Ok-lay_second
 returns-in-Ok-lay_second g c =
     let both = parted_map (stored c.args.frame.now c.args.borders.now c.args.vertices.now) (stored c.args.frame.now c.lay_second.new.borders c.lay_second.new.vertices) (stored c.lay_second.new.frame c.take_out_rings.new.borders c.take_out_rings.new.vertices) (g.I.SegIndex.held c.args.index.now) (g.I.SegIndex.held c.lay_second.new.index) (g.I.SegIndex.held c.take_out_rings.new.index) c.args.n c.args.parts.polygon (numbers_of c.in-Ok.laid.items) (numbers_of c.in-Ok-lay_second.field-0.items) (numbers_of c.as_slice-gone.result.now)
-    (map (λ ring. ring.items) c.args.parts.first.now) (map (λ ring. ring.items) c.args.parts.second.now) c.args.parts.id.items c.args.frame.now.next
+    (rings_seen c.args.parts.first.now) (rings_seen c.args.parts.second.now) c.args.parts.id.items c.args.frame.now.next
     (both_exchanged c.lay_rings.new.vertices c.lay_second.new.vertices c.lay_rings.new.borders c.lay_second.new.borders (g.I.SegIndex.held c.lay_rings.new.index) (g.I.SegIndex.held c.lay_second.new.index) c.in-Ok.laid.items c.in-Ok-lay_second.field-0.items
     c.lay_rings.ensures.stands c.in-Ok.ensures.there c.lay_second.ensures.stands c.in-Ok-lay_second.ensures.there c.in-Ok-lay_second.ensures.added c.lay_second.ensures.kept
     (stored c.args.frame.now c.args.borders.now c.args.vertices.now) (stored c.lay_second.new.frame c.take_out_rings.new.borders c.take_out_rings.new.vertices) (g.I.SegIndex.held c.args.index.now) (g.I.SegIndex.held c.take_out_rings.new.index) (numbers_of c.as_slice-gone.result.now) c.requires.holds c.in-Ok.ensures.added c.lay_rings.ensures.kept
