@@ -26,9 +26,7 @@ pub mod Opened
 pub mod Reading
 pub mod SpotLemmas
 pub mod NoJunction
-pub mod VertexLists
-pub mod KeyLists
-pub mod KeysByNumber
+pub mod VertexCounts
 pub mod RingAround
 pub mod RingKeys
 pub mod NamedRings
@@ -40,7 +38,7 @@ pub mod CutDecided
 pub mod PathSegments
 pub mod AllCanonical
 pub mod JoinParted
-pub mod PolygonsRead
+pub mod PolygonsSeen
 pub mod FeaturesKept
 pub mod SplitPlan
 pub mod MergePlan

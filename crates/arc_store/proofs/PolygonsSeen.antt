@@ -1,5 +1,5 @@
 -- A polygon of those that were read, at its place among them.
-use Rattle.std.proofs.Common.{◌≡◌, ◌<◌, ℕ, false, ap, ◌∙◌, subst, List, [], ◌∷◌, map, length, get_or}
+use Rattle.std.proofs.Common.{◌≡◌, ◌<◌, ℕ, false, sym, ap, ◌∙◌, subst, List, [], ◌∷◌, map, length, get_or}
 use Rattle.std.proofs.Common.{zero, suc, take, arith}
 use Rattle.std.specs.Prelude.{Vec}
 use Rattle.std.specs.List.{list_any}
@@ -27,12 +27,11 @@ pub found_cut : {A : Type 0} (polygons : List (Vec (Vec Position A) A)) (ps : Li
     → polygons_seen polygons ≡ ps → (path : Path) (place : ℕ) → place < length polygons
     → first_that (is_cut_by path) (polygons_seen polygons) ≡ get_or (polygons_seen polygons) place [] ∷ []
     → list_any (is_cut_by path) (take place (polygons_seen polygons)) ≡ false
-    → (x : Vec (Vec Position A) A) → x ≡ get_or polygons place x
-    → (q : List (Vec Position A)) → q ≡ x.items → IsFirstCut ps path place (rings_seen q)
-found_cut {A} polygons ps e path place l first none x is q same =
-    let at : rings_seen q ≡ get_or (polygons_seen polygons) place [] =
-    ap rings_seen same ∙ at_mapped (λ (p : Vec (Vec Position A) A). rings_seen p.items) polygons place x [] l is in
-    subst (λ z. IsFirstCut z path place (rings_seen q)) e (record {
+    → (x : Vec (Vec Position A) A) → x ≡ get_or polygons place x → IsFirstCut ps path place (rings_seen x.items)
+found_cut {A} polygons ps e path place l first none x is =
+    let at : rings_seen x.items ≡ get_or (polygons_seen polygons) place [] =
+    at_mapped (λ (p : Vec (Vec Position A) A). rings_seen p.items) polygons place x [] l is in
+    subst (λ z. IsFirstCut z path place (rings_seen x.items)) e (record {
       within = omega (arith, l, length-map polygons (λ (p : Vec (Vec Position A) A). rings_seen p.items));
       at = at;
       first = first ∙ ap (λ z. z ∷ []) (sym at);

@@ -18,7 +18,6 @@ mod names;
 mod near;
 mod path;
 mod plan;
-mod polygons;
 mod positions;
 mod raw_delete;
 mod raw_insert;

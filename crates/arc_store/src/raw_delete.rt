@@ -4,8 +4,7 @@ ghost use Rattle.arc_store.specs.declared.fault.EditFault.TheVariants.{OutOfMemo
 
 use crate::fault::EditFault;
 use crate::map::Map;
-use crate::polygons::read_polygons;
-use feature_exchange::take_out_feature;
+use feature_exchange::{read_polygons, take_out_feature};
 use ring_parts::count_all;
 use segment_index::SegIndex;
 use std::alloc::Allocator;

@@ -7,8 +7,7 @@ ghost use Rattle.arc_store.specs.declared.fault.EditFault.TheVariants.{OutOfMemo
 
 use crate::fault::EditFault;
 use crate::map::Map;
-use crate::polygons::read_polygons;
-use feature_exchange::join_features;
+use feature_exchange::{join_features, read_polygons};
 use grid_geometry::Pos;
 use ring_parts::{count_positions, join_polygons};
 use segment_index::SegIndex;

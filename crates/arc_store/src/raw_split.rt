@@ -6,9 +6,11 @@ ghost use Rattle.grid_geometry.specs.Segment.{Segment};
 ghost use Rattle.ring_machine.specs.Cut.{cut, path_of, is_cut_by};
 ghost use Rattle.ring_machine.specs.Document.{Document, Text};
 ghost use Rattle.ring_machine.specs.Parts.{has_feature, is_vertex};
+ghost use Rattle.ring_machine.specs.Planar.{Proper};
 ghost use Rattle.ring_machine.specs.Refusals.{first_of, split_refusals, feature_at, is_layer};
 ghost use Rattle.ring_machine.specs.Refusals.{positions_of, is_path_segment};
 ghost use Rattle.ring_machine.specs.Ring.{is_distinct, segment_of};
+ghost use Rattle.ring_machine.specs.WellFormed.{WellFormed};
 ghost use Rattle.topo_outline.specs.Kept.{IsJson};
 ghost use Rattle.ring_parts.specs.Seen.{path_seen, rings_seen, outer_length};
 ghost use Rattle.segment_index.specs.Times.{times_by};
@@ -16,18 +18,17 @@ ghost use Rattle.local_planarity.specs.Edits.{AreApart, IsAfter};
 ghost use Rattle.local_planarity.specs.Tests.{most_for, most_tests};
 ghost use Rattle.local_planarity.specs.declared.leaving.Leaving.TheVariants.{Nothing};
 ghost use Rattle.arc_store.specs.Faults.{Refuses};
-ghost use Rattle.arc_store.specs.Splits.{IsTested, has_room, last_refusals};
+ghost use Rattle.arc_store.specs.Splits.{IsCuttable, IsFirstCut, IsTested, has_room, last_refusals};
 
 use crate::fault::EditFault;
 use crate::map::Map;
 use crate::plan::test_planar;
-use crate::polygons::read_polygons;
-use feature_exchange::{Parts, part_feature};
+use feature_exchange::{Parts, part_feature, read_polygons};
 use grid_geometry::{Pos, Seg};
 use local_planarity::{Leaving, TestCount};
 use ring_parts::{Path, both_parts, first_cut, is_wrong_side, way_segments};
 use segment_index::SegIndex;
-use std::alloc::Allocator;
+use std::alloc::{AllocError, Allocator};
 
 /// Whether a number is left for a feature, and there is room for a path with so many inner positions
 /// in a map of so many positions.
@@ -98,7 +99,107 @@ fn test_split<I: SegIndex, A: Allocator + Copy>(
     }
 }
 
+/// The first polygon of a feature that a path cuts.
+#[derive(Drop)]
+struct FirstCut<A: Allocator + Copy> {
+    /// Its place among the polygons of the feature.
+    place: usize,
+    /// Its rings, the outer one first.
+    rings: Vec<Vec<Pos, A>, A>,
+}
+
 impl<'a, I: SegIndex, A: Allocator + Copy> Map<'a, I, A> {
+    /// The first polygon of feature `n` that a path cuts. Fails for want of memory alone. Every map is
+    /// well formed, and no two of its segments conflict.
+    fn find_cut(&self, n: u32, path: &Path<'_>) -> Result<FirstCut<A>, AllocError>
+        requires { list_any (is_cut_by (path_seen path.now)) (feature_at self.now.doc n).polygons
+            ≡ true }
+        ensures first { IfOk result (λ found. IsFirstCut (feature_at self.now.doc n).polygons
+            (path_seen path.now) found.place (rings_seen found.rings.items)) }
+        ensures formed { WellFormed self.now.doc }
+        ensures proper { Proper self.now.doc }
+    {
+        let mut polygons = read_polygons(self.alloc, &self.frame, &self.vertices, &self.borders, n)?;
+        let Some(place) = first_cut(path, polygons.as_slice()) else {
+            unreachable!()
+        };
+        let rings = polygons.swap_remove(place);
+        Ok(FirstCut { place, rings })
+    }
+
+    /// Tests that the path of these positions may cut feature `n`, in the polygon that was found.
+    /// Only the count of tests changes.
+    fn test_cut(
+        &mut self,
+        n: u32,
+        path: &Path<'_>,
+        positions: &[Pos],
+        found: &FirstCut<A>,
+    ) -> Result<(), EditFault>
+        requires short { length positions.now ≤ 256 }
+        requires along { positions_of (path_seen path.now) ≡ positions.now }
+        requires cuttable { IsCuttable self.old.doc n (path_seen path.now) }
+        requires first { IsFirstCut (feature_at self.old.doc n).polygons (path_seen path.now)
+            found.now.place (rings_seen found.now.rings.items) }
+        ensures accepted { OnOk result ((id : Text)
+            → first_of (split_refusals self.old.doc self.old.next n id (path_seen path.now)) ≡ None) }
+        ensures refused { IfErr result (λ fault. (id : Text) → Refuses fault
+            (first_of (split_refusals self.old.doc self.old.next n id (path_seen path.now)))) }
+        ensures unchanged { self.new ≡ record self.old { tests = self.new.tests } }
+        ensures few { (id : Text) → self.new.tests ≤ self.old.tests
+            + most_for (times_by self.old.cells) self.old.doc
+            (cut self.old.doc n id (path_seen path.now) self.old.next) }
+    {
+        let added = way_segments(self.alloc, positions)?;
+        let added = added.as_slice();
+        let room = has_room(self.frame.next(), self.positions, path.inner.len());
+        let polygon = found.rings.as_slice();
+        let (index, tests) = (&self.index, &mut self.tests);
+        match test_split(self.alloc, index, path, polygon, added, room, tests) {
+            Ok(()) => Ok(()),
+            Err(fault) => Err(fault),
+        }
+    }
+
+    /// Parts feature `n` in the polygon that was found, along a path that may cut it, and answers the
+    /// number of the new feature. Fails for want of memory alone, and then changes nothing.
+    fn exchange_parts(
+        &mut self,
+        n: u32,
+        id: Vec<u8, A>,
+        path: &Path<'_>,
+        found: &FirstCut<A>,
+    ) -> Result<u32, AllocError>
+        requires text { IsJson id.items }
+        requires cuttable { IsCuttable self.old.doc n (path_seen path.now) }
+        requires first { IsFirstCut (feature_at self.old.doc n).polygons (path_seen path.now)
+            found.now.place (rings_seen found.now.rings.items) }
+        requires accepted { first_of
+            (split_refusals self.old.doc self.old.next n id.items (path_seen path.now)) ≡ None }
+        ensures number { IfOk result (λ made. made ≡ self.old.next) }
+        ensures split { OnOk result (self.new.doc
+            ≡ cut self.old.doc n id.items (path_seen path.now) self.old.next) }
+        ensures next { OnOk result (self.new.next ≡ self.old.next + 1) }
+        ensures unchanged { OnErr result (self.new ≡ self.old) }
+        ensures tests { self.new.tests ≡ self.old.tests }
+        ensures cells { self.new.cells ≡ self.old.cells }
+    {
+        let (first, second) = both_parts(self.alloc, path, found.rings.as_slice())?;
+        let parts = Parts {
+            polygon: found.place,
+            first: first.as_slice(),
+            second: second.as_slice(),
+            id,
+        };
+        let (frame, vertices, borders) = (&mut self.frame, &mut self.vertices, &mut self.borders);
+        let (index, segments) = (&mut self.index, &mut self.segments);
+        let number = part_feature(
+            self.alloc, frame, vertices, borders, index, segments, n, parts,
+        )?;
+        self.positions += 2 + 2 * path.inner.len();
+        Ok(number)
+    }
+
     /// Cuts the first polygon of feature `n` that the path of these positions cuts: `n` keeps the
     /// part in which the path runs backwards, and the other one becomes a new Polygon directly after
     /// it, with this id and the properties and unknown members of `n`. Answers the number of the new
@@ -134,29 +235,9 @@ impl<'a, I: SegIndex, A: Allocator + Copy> Map<'a, I, A> {
         let Some(path) = Path::new(positions) else {
             return Err(EditFault::NotOnOuterRing);
         };
-        let polygons = read_polygons(self.alloc, &self.frame, &self.vertices, &self.borders, n)?;
-        let Some(place) = first_cut(&path, polygons.as_slice()) else {
-            return Err(EditFault::NotOnOuterRing);
-        };
-        let polygon = polygons[place].as_slice();
-        let added = way_segments(self.alloc, positions)?;
-        let added = added.as_slice();
-        let (first, second) = both_parts(self.alloc, &path, polygon)?;
-        let room = has_room(self.frame.next(), self.positions, path.inner.len());
-        let (index, tests) = (&self.index, &mut self.tests);
-        test_split(self.alloc, index, &path, polygon, added, room, tests)?;
-        let parts = Parts {
-            polygon: place,
-            first: first.as_slice(),
-            second: second.as_slice(),
-            id,
-        };
-        let (frame, vertices, borders) = (&mut self.frame, &mut self.vertices, &mut self.borders);
-        let (index, segments) = (&mut self.index, &mut self.segments);
-        let number = part_feature(
-            self.alloc, frame, vertices, borders, index, segments, n, parts,
-        )?;
-        self.positions += 2 + 2 * path.inner.len();
+        let found = self.find_cut(n, &path)?;
+        self.test_cut(n, &path, positions, &found)?;
+        let number = self.exchange_parts(n, id, &path, &found)?;
         Ok(number)
     }
 }

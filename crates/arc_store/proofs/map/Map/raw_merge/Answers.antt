@@ -5,7 +5,7 @@ use Rattle.ring_parts.specs.Seen.{rings_seen, polygons_seen}
 use Rattle.feature_exchange.specs.Stored.{stored, document_of}
 use Rattle.arc_store.proofs.FeaturesKept.{counted_by, kept_as}
 use Rattle.arc_store.proofs.MergePlan as plan
-use Rattle.arc_store.proofs.PolygonsRead.{first_seen}
+use Rattle.arc_store.proofs.PolygonsSeen.{first_seen}
 use Rattle.arc_store.proofs.map.Map.raw_merge.Goals as goal
 
 pub index-requires : goal.index-requires

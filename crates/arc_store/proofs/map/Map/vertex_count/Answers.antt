@@ -1,7 +1,7 @@
 use Rattle.std.proofs.Common.{ap, ◌∙◌, length}
 use Rattle.ring_machine.specs.Query.{vertices}
 use Rattle.feature_exchange.specs.Stored.{stored}
-use Rattle.arc_store.proofs.VertexLists.{vertices_counted}
+use Rattle.arc_store.proofs.VertexCounts.{vertices_counted}
 use Rattle.arc_store.proofs.map.Map.vertex_count.Goals as goal
 
 pub returns : goal.returns

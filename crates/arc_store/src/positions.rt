@@ -1,0 +1,28 @@
+ghost use Rattle.std.specs.Prelude.{◌≡◌, IfOk};
+ghost use Rattle.ring_machine.specs.Query.{vertices};
+ghost use Rattle.ring_machine.specs.Refusals.{feature_at};
+ghost use Rattle.ring_parts.specs.Seen.{polygons_seen};
+
+use crate::map::Map;
+use feature_exchange::{read_polygons, read_vertices};
+use grid_geometry::Pos;
+use segment_index::SegIndex;
+use std::alloc::{AllocError, Allocator};
+
+impl<'a, I: SegIndex, A: Allocator + Copy> Map<'a, I, A> {
+    /// The polygons of feature `n`, each ring as its positions from the least one on, the outer ring
+    /// first; none where no feature has the number. Fails for want of memory alone.
+    pub fn polygons(&self, n: u32) -> Result<Vec<Vec<Vec<Pos, A>, A>, A>, AllocError>
+        ensures { IfOk result
+            (λ found. polygons_seen found.items ≡ (feature_at self.now.doc n).polygons) }
+    {
+        read_polygons(self.alloc, &self.frame, &self.vertices, &self.borders, n)
+    }
+
+    /// The positions of all vertices, ascending, each once. Walks the map.
+    pub fn vertices(&self) -> Result<Vec<Pos, A>, AllocError>
+        ensures { IfOk result (λ found. found.items ≡ vertices self.now.doc) }
+    {
+        read_vertices(self.alloc, &self.frame, &self.vertices, &self.borders)
+    }
+}
