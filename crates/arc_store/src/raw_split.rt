@@ -119,7 +119,13 @@ impl<'a, I: SegIndex, A: Allocator + Copy> Map<'a, I, A> {
         ensures formed { WellFormed self.now.doc }
         ensures proper { Proper self.now.doc }
     {
-        let mut polygons = read_polygons(self.alloc, &self.frame, &self.vertices, &self.borders, n)?;
+        let mut polygons = read_polygons(
+            self.alloc,
+            &self.frame,
+            &self.vertices,
+            &self.borders,
+            n,
+        )?;
         let Some(place) = first_cut(path, polygons.as_slice()) else {
             unreachable!()
         };

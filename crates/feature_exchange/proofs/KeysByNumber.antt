@@ -1,7 +1,7 @@
 -- The keys along all rings of a frame, feature by feature in the order of their numbers.
 use Rattle.std.proofs.Common.{◌≡◌, ◌≢◌, ◌<◌, ◌≤◌, ◌+◌, ℕ, zero, suc, Bool, true, false, refl, sym, ap, ap₂, ◌∙◌, subst}
-use Rattle.std.proofs.Common.{List, [], ◌++◌, map, inl, inr, arith, Option, Some, None, option_map}
-use Rattle.std.specs.Prelude.{◌==◌, nat_lt, Vec, unwrap_or}
+use Rattle.std.proofs.Common.{List, [], ◌++◌, map, inl, inr, arith, Some, None, option_map}
+use Rattle.std.specs.Prelude.{nat_lt, unwrap_or}
 use Rattle.std.specs.List.{flat_map}
 use Rattle.std.proofs.lemmas.Bool.Decides.{nat_tests}
 use Rattle.std.proofs.lemmas.List.{append-nil}
