@@ -32,5 +32,6 @@ impl<'a, I: SegIndex, A: Allocator + Copy> Model for Map<'a, I, A> {
 
     ghost view = { λ m. state_of m.frame m.borders m.vertices m.tests (I.cells m.index) };
 
-    ghost invariant = { λ m. IsKept m.frame m.borders m.vertices (I.held m.index) m.positions m.segments };
+    ghost invariant = { λ m.
+        IsKept m.frame m.borders m.vertices (I.held m.index) m.positions m.segments };
 }

@@ -224,13 +224,14 @@ impl<'a, I: SegIndex, A: Allocator + Copy> Map<'a, I, A> {
         requires free { list_any (is_vertex self.old.doc) (path_of positions.now).inner ≡ false }
         requires new { is_path_segment self.old.doc (path_of positions.now) ≡ false }
         ensures accepted { OnOk result
-            (first_of (split_refusals self.old.doc self.old.next n id.items (path_of positions.now)) ≡ None) }
+            (first_of (split_refusals self.old.doc self.old.next n id.items (path_of positions.now))
+            ≡ None) }
         ensures number { IfOk result (λ made. made ≡ self.old.next) }
         ensures split { OnOk result (self.new.doc
             ≡ cut self.old.doc n id.items (path_of positions.now) self.old.next) }
         ensures next { OnOk result (self.new.next ≡ self.old.next + 1) }
-        ensures refused { IfErr result (λ fault. Refuses fault
-            (first_of (split_refusals self.old.doc self.old.next n id.items (path_of positions.now)))) }
+        ensures refused { IfErr result (λ fault. Refuses fault (first_of
+            (split_refusals self.old.doc self.old.next n id.items (path_of positions.now)))) }
         ensures unchanged { OnErr result (self.new.doc ≡ self.old.doc) }
         ensures still { OnErr result (self.new.next ≡ self.old.next) }
         ensures few { self.new.tests ≤ self.old.tests

@@ -1,4 +1,5 @@
-ghost use Rattle.std.specs.Prelude.{◌≡◌, ◌<◌, ◌+◌, ◌^◌, ◌⊎◌, ℕ, List, [], ◌∷◌, map, length, drop, true};
+ghost use Rattle.std.specs.Prelude.{◌≡◌, ◌<◌, ◌+◌, ◌^◌, ◌⊎◌, ◌∷◌, []};
+ghost use Rattle.std.specs.Prelude.{ℕ, List, map, length, drop, true};
 ghost use Rattle.std.specs.Prelude.{IfSome, IfNone, Contains};
 ghost use Rattle.std.specs.FinMap as table;
 ghost use Rattle.std.specs.Iterator.{YieldsFirst, item_count};
@@ -48,7 +49,8 @@ fn least_place<A: Allocator + Copy>(
 ) -> (usize, usize)
     requires placed { (k : ℕ) → Contains rest k → table.contains_key vertices.now k ≡ true }
     requires few { 1 + length rest < 2 ^ 64 }
-    ensures place { let ps = map (place vertices.now) rest.entry in result.0 ≡ length (before (least first ps) (first ∷ ps)) }
+    ensures place { let ps = map (place vertices.now) rest.entry in
+        result.0 ≡ length (before (least first ps) (first ∷ ps)) }
     ensures count { result.1 ≡ 1 + length rest.entry }
 {
     let mut lowest = first;
@@ -79,7 +81,8 @@ fn next_key<'m, A: Allocator + Copy>(
     rest: &mut RingKeys<'m, A>,
     all: &RingKeys<'m, A>,
 ) -> Option<VertexKey>
-    ensures some { IfSome result (λ k. (rest.old ≡ k ∷ rest.new) ⊎ ((rest.old ≡ []) × (all.now ≡ k ∷ rest.new))) }
+    ensures some { IfSome result (λ k.
+        (rest.old ≡ k ∷ rest.new) ⊎ ((rest.old ≡ []) × (all.now ≡ k ∷ rest.new))) }
     ensures none { IfNone result ((rest.old ≡ []) × (all.now ≡ [])) }
 {
     match rest.next() {

@@ -67,7 +67,8 @@ pub fn join_features<'a, I: SegIndex, A: Allocator + Copy>(
     requires proper { Proper
         (joined_as (document_of (stored frame.old borders.old vertices.old)) n g rings.now) }
     requires small { size
-        (joined_as (document_of (stored frame.old borders.old vertices.old)) n g rings.now) ≤ 4000000 }
+        (joined_as (document_of (stored frame.old borders.old vertices.old)) n g rings.now)
+        ≤ 4000000 }
     ensures joined { OnOk result (document_of (stored frame.new borders.new vertices.new)
         ≡ joined_as (document_of (stored frame.old borders.old vertices.old)) n g rings.now) }
     ensures unchanged { OnErr result (document_of (stored frame.new borders.new vertices.new)

@@ -44,8 +44,8 @@ fn push_feature_keys<A: Allocator + Copy>(
     requires { (r : ℕ) → Contains (flat_map polygon_numbers polygons.now) r
         → table.contains_key borders.now r ≡ true }
     ensures { OnOk result (keys.new.items
-        ≡ keys.old.items
-        ++ flat_map (λ r. begins (edges_under borders.now r)) (flat_map polygon_numbers polygons.now)) }
+        ≡ keys.old.items ++ flat_map (λ r. begins (edges_under borders.now r))
+        (flat_map polygon_numbers polygons.now)) }
 {
     for rings in polygons {
         push_polygon_keys(borders, rings.as_slice(), keys)?;

@@ -1,5 +1,6 @@
 // The features with which one has a border in common.
-ghost use Rattle.std.specs.Prelude.{◌≡◌, ◌==◌, ◌↔◌, not, [], map, length, get_or, IfOk, IfErr, OnOk, IsTrue};
+ghost use Rattle.std.specs.Prelude.{◌≡◌, ◌==◌, ◌↔◌, not, [], map, length, get_or};
+ghost use Rattle.std.specs.Prelude.{IfOk, IfErr, OnOk, IsTrue};
 ghost use Rattle.std.specs.List.{filter, flat_map};
 ghost use Rattle.grid_geometry.specs.Ring.{edges};
 ghost use Rattle.ring_machine.specs.Parts.{has_feature};

@@ -20,7 +20,8 @@ pub(crate) fn reply_to_area<A: Allocator + Copy>(
     text: &mut Vec<u8, A>,
 ) -> Result<bool, OutOfMemory>
     ensures { IfOk result (λ refuses.
-        Replied (state_of map.now) (state_of map.now) (Area feature) text.old.items text.new.items refuses) }
+        Replied (state_of map.now) (state_of map.now) (Area feature)
+        text.old.items text.new.items refuses) }
 {
     match area2_of(map, feature) {
         Ok(area) => {
@@ -42,7 +43,8 @@ pub(crate) fn reply_to_at<A: Allocator + Copy>(
     text: &mut Vec<u8, A>,
 ) -> Result<bool, OutOfMemory>
     ensures { IfOk result (λ refuses.
-        Replied (state_of map.now) (state_of map.now) (At position) text.old.items text.new.items refuses) }
+        Replied (state_of map.now) (state_of map.now) (At position)
+        text.old.items text.new.items refuses) }
 {
     let found = at(*text.allocator(), map, position)?;
     text.extend_from_slice(b"inside:")?;

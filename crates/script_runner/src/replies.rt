@@ -1,5 +1,6 @@
 // The answers to lines, and their texts.
-ghost use Rattle.std.specs.Prelude.{◌≡◌, ◌++◌, ◌≤◌, ℕ, List, length, OnOk, IfOk, IsSomeAnd, codes, decimal};
+ghost use Rattle.std.specs.Prelude.{◌≡◌, ◌++◌, ◌≤◌, ℕ, List, length, codes, decimal};
+ghost use Rattle.std.specs.Prelude.{OnOk, IfOk, IsSomeAnd};
 ghost use Rattle.ring_machine.specs.Command.{Thin, Split, Rename};
 ghost use Rattle.map_text.specs.Strings.{string_text};
 ghost use Rattle.script_runner.specs.Answers.{position_text, segment_text};

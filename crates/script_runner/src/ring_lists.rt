@@ -79,7 +79,8 @@ pub(crate) fn reply_to_rings<A: Allocator + Copy>(
     text: &mut Vec<u8, A>,
 ) -> Result<bool, OutOfMemory>
     ensures { IfOk result (λ refuses.
-        Replied (state_of map.now) (state_of map.now) (Rings f) text.old.items text.new.items refuses) }
+        Replied (state_of map.now) (state_of map.now) (Rings f)
+        text.old.items text.new.items refuses) }
 {
     let Some(feature) = map.feature(f) else {
         text.extend_from_slice(b"refused no feature")?;

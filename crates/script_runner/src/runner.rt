@@ -1,11 +1,13 @@
 //! What is kept between two bytes of a script.
-ghost use Rattle.std.specs.Prelude.{◌≡◌, ◌≤◌, ◌<◌, ◌+◌, ◌^◌, length, false, true, OnOk, OnErr, IfOk, Err, if◌then◌else◌};
+ghost use Rattle.std.specs.Prelude.{◌≡◌, ◌≤◌, ◌<◌, ◌+◌, ◌^◌, if◌then◌else◌};
+ghost use Rattle.std.specs.Prelude.{length, false, true, OnOk, OnErr, IfOk, Err};
 ghost use Rattle.std.specs.Io.KnownBytes.{Keeps};
 ghost use Rattle.script_runner.specs.Runs.{without_return, answered_by};
 ghost use Rattle.script_runner.specs.Replies.{meaning_of_said};
 ghost use Rattle.script_lines.specs.Commands.{SaysSound};
 ghost use Rattle.ring_machine.specs.Parts.{features};
-ghost use Rattle.script_runner.specs.Progress.{KeptMeans, LineStep, ByteStep, Feeds, FeedsPart, PutsPart, Told, start};
+ghost use Rattle.script_runner.specs.Progress.{KeptMeans, LineStep, ByteStep, Feeds, FeedsPart};
+ghost use Rattle.script_runner.specs.Progress.{PutsPart, Told, start};
 
 use crate::sending::send_reply;
 use crate::stop::{OutOfMemory, Stop};

@@ -5,7 +5,8 @@ ghost use Rattle.device_io.specs.Devices.{AppendsPrefix};
 ghost use Rattle.map_text.specs.Text.{text_of};
 ghost use Rattle.map_text.specs.Saved.{Saved};
 ghost use Rattle.topo_writer.specs.declared.sending.WriteFault.TheVariants.{Device};
-ghost use Rattle.script_runner.specs.Outcome.{AnswersAll, Completes, Ends, Halts, OpensAs, IsOpenEnd, IsBuildEnd};
+ghost use Rattle.script_runner.specs.Outcome.{AnswersAll, Completes, Ends, Halts};
+ghost use Rattle.script_runner.specs.Outcome.{OpensAs, IsOpenEnd, IsBuildEnd};
 
 use crate::fault::RunFault;
 use crate::runner::{Runner, Summary};

@@ -30,7 +30,8 @@ fn send_answer<A: Allocator + Copy, W: Sink>(
     requires sound { IsSound command }
     requires works { W.has_failed out.old ≡ false }
     ensures ok { IfOk result (λ refuses. Told (W.taken out.old) (W.taken out.new)
-        (λ text. RepliedLine (state_of map.old) (state_of map.new) (Asked (command_of command)) text refuses)) }
+        (λ text. RepliedLine (state_of map.old) (state_of map.new)
+        (Asked (command_of command)) text refuses)) }
     ensures cut { OnErr result (AppendsPrefix (W.taken out.old) (W.taken out.new)
         (reply_text (state_of map.old) (Asked (command_of command)))) }
     ensures works { OnOk result (W.has_failed out.new ≡ false) }
@@ -52,7 +53,8 @@ fn send_rings<A: Allocator + Copy, W: Sink>(
 ) -> Result<bool, Stop>
     requires { W.has_failed out.old ≡ false }
     ensures ok { IfOk result (λ refuses. Told (W.taken out.old) (W.taken out.new)
-        (λ text. RepliedLine (state_of map.now) (state_of map.now) (Asked (Rings feature)) text refuses)) }
+        (λ text. RepliedLine (state_of map.now) (state_of map.now)
+        (Asked (Rings feature)) text refuses)) }
     ensures cut { OnErr result (AppendsPrefix (W.taken out.old) (W.taken out.new)
         (reply_text (state_of map.now) (Asked (Rings feature)))) }
     ensures works { OnOk result (W.has_failed out.new ≡ false) }
@@ -73,7 +75,8 @@ fn send_counts<A: Allocator + Copy, W: Sink>(
 ) -> Result<bool, Stop>
     requires { W.has_failed out.old ≡ false }
     ensures ok { IfOk result (λ refuses. Told (W.taken out.old) (W.taken out.new)
-        (λ text. RepliedLine (state_of map.now) (state_of map.now) (Asked Count) text refuses)) }
+        (λ text. RepliedLine (state_of map.now) (state_of map.now)
+        (Asked Count) text refuses)) }
     ensures cut { OnErr result (AppendsPrefix (W.taken out.old) (W.taken out.new)
         (reply_text (state_of map.now) (Asked Count))) }
     ensures works { OnOk result (W.has_failed out.new ≡ false) }
@@ -116,7 +119,8 @@ pub(crate) fn send_reply<A: Allocator + Copy, W: Sink>(
     requires sound { SaysSound said }
     requires works { W.has_failed out.old ≡ false }
     ensures ok { IfOk result (λ refuses. Told (W.taken out.old) (W.taken out.new)
-        (λ text. RepliedLine (state_of map.old) (state_of map.new) (meaning_of_said said) text refuses)) }
+        (λ text. RepliedLine (state_of map.old) (state_of map.new)
+        (meaning_of_said said) text refuses)) }
     ensures cut { OnErr result (AppendsPrefix (W.taken out.old) (W.taken out.new)
         (reply_text (state_of map.old) (meaning_of_said said))) }
     ensures works { OnOk result (W.has_failed out.new ≡ false) }

@@ -86,14 +86,15 @@ fn split_now<'a, I: SegIndex, A: Allocator + Copy>(
     requires long { 2 ≤ length positions.now }
     requires short { length positions.now ≤ 256 }
     ensures accepted { OnOk result
-        (first_of (split_refusals map.old.doc map.old.next f (string_text id.now) (path_of positions.now))
-        ≡ None) }
+        (first_of (split_refusals map.old.doc map.old.next f (string_text id.now)
+        (path_of positions.now)) ≡ None) }
     ensures made { IfOk result (λ made. made ≡ map.old.next) }
     ensures split { OnOk result
         (map.new.doc ≡ cut map.old.doc f (string_text id.now) (path_of positions.now) map.old.next) }
     ensures next { OnOk result (map.new.next ≡ map.old.next + 1) }
     ensures refused { IfErr result (λ fault. Refuses fault
-        (first_of (split_refusals map.old.doc map.old.next f (string_text id.now) (path_of positions.now)))) }
+        (first_of (split_refusals map.old.doc map.old.next f (string_text id.now)
+        (path_of positions.now)))) }
     ensures unchanged { OnErr result (map.new.doc ≡ map.old.doc) }
     ensures still { OnErr result (map.new.next ≡ map.old.next) }
     ensures few { map.new.tests ≤ map.old.tests + most_for (times_by map.old.cells) map.old.doc
@@ -121,7 +122,8 @@ pub fn split<'a, I: SegIndex, A: Allocator + Copy>(
     requires long { 2 ≤ length path }
     requires short { length path ≤ 256 }
     ensures accepted { OnOk result
-        (first_of (split_refusals map.old.doc map.old.next f (string_text id) (path_of path)) ≡ None) }
+        (first_of (split_refusals map.old.doc map.old.next f (string_text id) (path_of path))
+        ≡ None) }
     ensures made { IfOk result (λ made. made ≡ map.old.next) }
     ensures split { OnOk result
         (map.new.doc ≡ cut map.old.doc f (string_text id) (path_of path) map.old.next) }
