@@ -32,7 +32,8 @@ found arcs e = found_from 0 arcs e
 
 -- a piece whose first edge is not found becomes the next arc
 abbrev pub with_found : List (List Position) → List Position → List (List Position)
-with_found arcs piece = if is_some (found arcs (first_edge piece)) then arcs else (arcs ++ piece ∷ [])
+with_found arcs piece =
+    if is_some (found arcs (first_edge piece)) then arcs else (arcs ++ piece ∷ [])
 
 -- what is kept by edges is what is found
 abbrev pub Mirrors : (Edge → Option ℤ) → List (List Position) → Type 0

@@ -1,15 +1,20 @@
 -- The items of a layer, as they are shown and as they are written.
-use Rattle.std.specs.Prelude.{◌≡◌, ℕ, ℤ, ◌+◌, ◌≤◌, List, [], ◌++◌, map, reverse, length, None, Some, unwrap_or, Contains}
+use Rattle.std.specs.Prelude.{◌≡◌, ℕ, ℤ, ◌+◌, ◌≤◌, List, [], ◌∷◌, ◌++◌, map, reverse, length}
+use Rattle.std.specs.Prelude.{None, Some, unwrap_or, Contains}
 use Rattle.std.specs.Borrow.{Bor}
 use Rattle.std.specs.List.{flat_map, filter_map, sum_by}
 use Rattle.grid_geometry.specs.Position.{Position}
-use Rattle.ring_machine.specs.Document.{Document, Feature, Null, Head, ItemOf, Item, Open, Close, Leaf, Kept, Layer}
+use Rattle.ring_machine.specs.Document.{Document, Feature, Null, Head, ItemOf, Item, Layer, Text}
+use Rattle.ring_machine.specs.Document.{Open, Close, Leaf, Kept}
 use Rattle.ring_machine.specs.Parts.{feature, feature_of, rings_of, in_item, in_feature}
 use Rattle.ring_machine.specs.Vertices.{is_junction}
 use Rattle.topo_outline.specs.declared.document.Head.{Head as CodeHead}
 use Rattle.topo_outline.specs.Views.{view_head}
+use Rattle.map_frame.specs.declared.items.ItemView.{ItemView}
 use Rattle.map_frame.specs.Readers.{ShownItem, Opens, Closes, Stands, Keeps, shown_item}
-use Rattle.map_text.specs.Arcs.{arcs_of, indexes, pieces, with_pieces}
+use Rattle.map_frame.specs.Shown.{view_item_view}
+use Rattle.map_text.specs.Arcs.{arcs_of, indexes}
+use Rattle.topo_writer.specs.Ways.{arcs_with, written_feature}
 
 -- ---- items as they are shown
 
@@ -66,6 +71,14 @@ written_at d s = written_item d (item_at d s)
 abbrev pub items_written : Document → List ShownItem → List (ItemOf (List ℤ))
 items_written d items = map (written_at d) items
 
+-- the one item that is seen, as it is written
+abbrev pub written : {A : Type 0} → Document → ItemView A → List (ItemOf (List ℤ))
+written d item = items_written d (view_item_view item ∷ [])
+
+-- the text of the feature with this number, by the indexes of the document's arcs
+abbrev pub leaf_text : Document → ℕ → Text
+leaf_text d n = written_feature (is_junction d) (arcs_of d) (feature_at d n)
+
 -- the heads of open collections, the innermost first; they are kept with the innermost last
 abbrev pub open_heads : {A : Type 0} → List (Bor (CodeHead A)) → List Head
 open_heads heads = reverse (map (λ h. view_head h.now) heads)
@@ -81,5 +94,4 @@ item_rings items = flat_map rings_of (filter_map feature_of items)
 pub record LeadsOn (d : Document) (arcs : List (List Position)) (items : List Item) : Type 0 where
   pub later : List (List Position)
   pub few : length arcs + sum_by length (item_rings items ++ later) ≤ 4000000
-  pub whole : arcs_of d
-      ≡ with_pieces arcs (flat_map (pieces (is_junction d)) (item_rings items ++ later))
+  pub whole : arcs_of d ≡ arcs_with d arcs (item_rings items ++ later)

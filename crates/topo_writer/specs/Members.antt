@@ -1,8 +1,12 @@
 -- The members that a geometry has beside its type and its parts.
-use Rattle.std.specs.Prelude.{List, ◌++◌, codes}
-use Rattle.ring_machine.specs.Document.{Member, Head}
-use Rattle.map_text.specs.Text.{member_if}
+use Rattle.std.specs.Prelude.{List, ◌++◌, map, codes, Option}
+use Rattle.ring_machine.specs.Document.{Member, Head, Text}
+use Rattle.map_text.specs.Text.{further, member_if, member_text}
 
 -- the id and the properties, where they are there
 abbrev pub head_members : Head → List Member
 head_members h = member_if (codes "\"id\"") h.id ++ member_if (codes "\"properties\"") h.properties
+
+-- the member after a comma; nothing where it is not there
+abbrev pub further_if : Text → Option Text → Text
+further_if name value = further (map member_text (member_if name value))

@@ -1,9 +1,9 @@
 -- The rings of a map, as they are read.
-use Rattle.std.specs.Prelude.{ℕ, List, [], unwrap_or, option_map}
-use Rattle.std.specs.List.{flat_map}
+use Rattle.std.specs.Prelude.{ℕ, List, [], unwrap_or, option_map, Contains}
+use Rattle.std.specs.List.{flat_map, AllByRecursion}
 use Rattle.grid_geometry.specs.Position.{Position}
 use Rattle.ring_machine.specs.Document.{Document}
-use Rattle.ring_machine.specs.Parts.{feature}
+use Rattle.ring_machine.specs.Parts.{feature, rings}
 use Rattle.map_frame.specs.Readers.{element, ring_at}
 
 -- the positions of the ring with this number of the polygon with this number of a feature; none
@@ -22,3 +22,7 @@ polygons_at d n = unwrap_or (option_map (λ f. f.polygons) (feature d n)) []
 -- the rings of a feature, polygon after polygon
 abbrev pub all_rings_at : Document → ℕ → List (List Position)
 all_rings_at d n = flat_map (λ polygon. polygon) (polygons_at d n)
+
+-- each of these is a ring of the document
+abbrev pub AreRings : Document → List (List Position) → Type 0
+AreRings d some = AllByRecursion (Contains (rings d)) some

@@ -5,12 +5,12 @@ use Rattle.grid_geometry.specs.Position.{Position}
 use Rattle.ring_machine.specs.Document.{Text, Member, Layer, Document}
 use Rattle.ring_machine.specs.Parts.{in_layer, size}
 use Rattle.ring_machine.specs.Planar.{Proper}
-use Rattle.ring_machine.specs.Vertices.{is_junction}
 use Rattle.ring_machine.specs.WellFormed.{WellFormed}
 use Rattle.map_frame.specs.Readers.{ShownFrame, shown_frame}
-use Rattle.map_text.specs.Arcs.{pieces, with_pieces}
-use Rattle.map_text.specs.Text.{commas, further, layer_member, member_if, member_text}
+use Rattle.map_text.specs.Text.{commas, further, layer_member, member_text}
 use Rattle.topo_writer.specs.Items.{item_rings, written_item}
+use Rattle.topo_writer.specs.Members.{further_if}
+use Rattle.topo_writer.specs.Ways.{arcs_with}
 
 -- ---- the sections
 
@@ -18,8 +18,7 @@ use Rattle.topo_writer.specs.Items.{item_rings, written_item}
 abbrev pub begin_text : Option Text → Text
 begin_text transform =
     codes "{\"type\":\"Topology\""
-    ++ (further (map member_text (member_if (codes "\"transform\"") transform))
-    ++ codes ",\"objects\":{")
+    ++ (further_if (codes "\"transform\"") transform ++ codes ",\"objects\":{")
 
 -- a layer, its rings by the indexes of the document's arcs
 abbrev pub layer_text : Document → Layer → Text
@@ -49,8 +48,7 @@ layer_rings l = item_rings l.items
 
 -- the arcs after the first layers, so many of them
 abbrev pub arcs_after : Document → ℕ → List (List Position)
-arcs_after d n =
-    with_pieces [] (flat_map (pieces (is_junction d)) (flat_map layer_rings (take n d.layers)))
+arcs_after d n = arcs_with d [] (flat_map layer_rings (take n d.layers))
 
 -- the document is that of a map, and the frame is the document's
 pub record IsMapFrame (d : Document) (frame : ShownFrame) : Type 0 where

@@ -6,7 +6,7 @@ use Rattle.grid_geometry.specs.Position.{Position}
 use Rattle.ring_machine.specs.Document.{Document, Feature, Form, Text}
 use Rattle.ring_machine.specs.Parts.{rings, in_feature}
 use Rattle.ring_machine.specs.Vertices.{is_junction}
-use Rattle.map_text.specs.Arcs.{pieces, indexes}
+use Rattle.map_text.specs.Arcs.{pieces, indexes, with_pieces}
 use Rattle.map_text.specs.Text.{commas, further, member_if, member_text, feature_text}
 use Rattle.map_text.specs.Text.{ring_text, polygon_text, shape_text}
 use Rattle.topo_writer.specs.Found.{found, first_edge, with_found, Fits}
@@ -50,6 +50,10 @@ FitAll arcs (piece ∷ pieces) = Fits arcs piece × FitAll (with_found arcs piec
 -- the pieces of all rings of the document
 abbrev pub all_pieces : Document → List (List Position)
 all_pieces d = flat_map (pieces (is_junction d)) (rings d)
+
+-- the arcs after these rings of the document were cut too
+abbrev pub arcs_with : Document → List (List Position) → List (List Position) → List (List Position)
+arcs_with d arcs some = with_pieces arcs (flat_map (pieces (is_junction d)) some)
 
 -- each of these is a piece of the document
 abbrev pub ArePieces : Document → List (List Position) → Type 0

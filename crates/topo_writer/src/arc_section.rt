@@ -1,14 +1,11 @@
 //! The arcs of a text, cut once more of the rings that they stand in, and sent to a device.
-ghost use Rattle.std.specs.Prelude.{◌≡◌, ◌+◌, ◌<◌, ◌≤◌, ◌++◌, [], ℕ, List, Option, pos, take, length, nat_lt, false, true};
-ghost use Rattle.std.specs.Prelude.{Some, Err, IfOk, OnOk, OnErr};
+ghost use Rattle.std.specs.Prelude.{◌≡◌, ◌+◌, ◌<◌, ◌≤◌, [], ℕ, List, Option, length, false, true};
+ghost use Rattle.std.specs.Prelude.{Err, IfOk, OnOk, OnErr};
 ghost use Rattle.std.specs.Io.KnownBytes.{Appends, Keeps};
-ghost use Rattle.indexmap.specs.IndexMap.{get};
 ghost use Rattle.device_io.specs.Devices.{AppendsPrefix};
 ghost use Rattle.ring_machine.specs.Planar.{Proper};
-ghost use Rattle.ring_machine.specs.Ring.{edge_eq};
-ghost use Rattle.map_text.specs.Text.{comma_if, arc_text};
-ghost use Rattle.topo_writer.specs.Found.{first_edge, HasArcs};
-ghost use Rattle.topo_writer.specs.Named.{arcs_along, listed_arcs};
+ghost use Rattle.topo_writer.specs.ByTable.{all_listed, first_listed, next_arc};
+ghost use Rattle.topo_writer.specs.Tables.{first_arcs, FindsArcs, IsArc};
 ghost use Rattle.topo_writer.specs.declared.sending.WriteFault.TheVariants.{Device, OutOfMemory};
 
 use crate::arcs::Arcs;
@@ -36,14 +33,13 @@ fn send_next<A: Allocator + Copy, W: Sink>(
     requires long { 2 ≤ length piece.now }
     requires few { sent ≤ 4000000 }
     ensures empty { OnOk result (text.new.items ≡ []) }
-    ensures next { IfOk result (λ after. get edge_eq arcs.now.starts (first_edge piece.now) ≡ Some (pos sent)
-        → (after ≡ sent + 1)
-        × Appends (W.taken out.old) (W.taken out.new) (comma_if (nat_lt 0 sent) ++ arc_text delta piece.now)) }
-    ensures other { IfOk result (λ after. (get edge_eq arcs.now.starts (first_edge piece.now) ≡ Some (pos sent) → ⊥)
-        → (after ≡ sent) × Keeps (W.taken out.old) (W.taken out.new)) }
+    ensures next { IfOk result (λ after. IsArc arcs.now piece.now sent → (after ≡ sent + 1)
+        × Appends (W.taken out.old) (W.taken out.new) (next_arc delta piece.now sent)) }
+    ensures other { IfOk result (λ after. (IsArc arcs.now piece.now sent → ⊥) → (after ≡ sent)
+        × Keeps (W.taken out.old) (W.taken out.new)) }
     ensures works { OnOk result (W.has_failed out.new ≡ false) }
-    ensures err { OnErr result ((get edge_eq arcs.now.starts (first_edge piece.now) ≡ Some (pos sent))
-        × AppendsPrefix (W.taken out.old) (W.taken out.new) (comma_if (nat_lt 0 sent) ++ arc_text delta piece.now)) }
+    ensures err { OnErr result (IsArc arcs.now piece.now sent
+        × AppendsPrefix (W.taken out.old) (W.taken out.new) (next_arc delta piece.now sent)) }
     ensures device { result ≡ Err Device → W.has_failed out.new ≡ true }
     ensures memory { result ≡ Err OutOfMemory → W.has_failed out.new ≡ false }
 {
@@ -55,8 +51,8 @@ fn send_next<A: Allocator + Copy, W: Sink>(
     Ok(sent + 1)
 }
 
-/// Sends the arcs that are cut first of the ring with this place among those named, after so many that
-/// are cut of the rings before it. How many have been sent then.
+/// Sends the arcs that are cut first of the ring with this place among those named, after so many
+/// that are cut of the rings before it. How many have been sent then.
 fn send_ring<'a, I: SegIndex, A: Allocator + Copy, W: Sink>(
     alloc: A,
     map: &Map<'a, I, A>,
@@ -70,19 +66,19 @@ fn send_ring<'a, I: SegIndex, A: Allocator + Copy, W: Sink>(
     requires working { W.has_failed out.old ≡ false }
     requires empty { text.old.items ≡ [] }
     requires proper { Proper map.now.doc }
-    requires table { HasArcs (get edge_eq arcs.now.starts) arcs.now.count (arcs_along map.now.doc arcs.now.rings.items) }
+    requires table { FindsArcs map.now.doc arcs.now }
     requires few { arcs.now.count ≤ 4000000 }
     requires there { i < length arcs.now.rings.items }
-    requires sent { sent ≡ length (arcs_along map.now.doc (take i arcs.now.rings.items)) }
+    requires sent { sent ≡ length (first_arcs map.now.doc arcs.now i) }
     ensures empty { OnOk result (text.new.items ≡ []) }
-    ensures sent { IfOk result (λ after. after ≡ length (arcs_along map.now.doc (take (i + 1) arcs.now.rings.items))) }
+    ensures sent { IfOk result (λ after. after ≡ length (first_arcs map.now.doc arcs.now (i + 1))) }
     ensures ok { OnOk result ((start : Option (List ℕ))
-        → Appends start (W.taken out.old) (listed_arcs delta (arcs_along map.now.doc (take i arcs.now.rings.items)))
-        → Appends start (W.taken out.new) (listed_arcs delta (arcs_along map.now.doc (take (i + 1) arcs.now.rings.items)))) }
+        → Appends start (W.taken out.old) (first_listed delta map.now.doc arcs.now i)
+        → Appends start (W.taken out.new) (first_listed delta map.now.doc arcs.now (i + 1))) }
     ensures works { OnOk result (W.has_failed out.new ≡ false) }
     ensures err { OnErr result ((start : Option (List ℕ))
-        → Appends start (W.taken out.old) (listed_arcs delta (arcs_along map.now.doc (take i arcs.now.rings.items)))
-        → AppendsPrefix start (W.taken out.new) (listed_arcs delta (arcs_along map.now.doc arcs.now.rings.items))) }
+        → Appends start (W.taken out.old) (first_listed delta map.now.doc arcs.now i)
+        → AppendsPrefix start (W.taken out.new) (all_listed delta map.now.doc arcs.now)) }
     ensures device { result ≡ Err Device → W.has_failed out.new ≡ true }
     ensures memory { result ≡ Err OutOfMemory → W.has_failed out.new ≡ false }
 {
@@ -107,14 +103,14 @@ pub(crate) fn send_arcs<'a, I: SegIndex, A: Allocator + Copy, W: Sink>(
     requires working { W.has_failed out.old ≡ false }
     requires empty { text.old.items ≡ [] }
     requires proper { Proper map.now.doc }
-    requires table { HasArcs (get edge_eq arcs.now.starts) arcs.now.count (arcs_along map.now.doc arcs.now.rings.items) }
+    requires table { FindsArcs map.now.doc arcs.now }
     requires few { arcs.now.count ≤ 4000000 }
     ensures empty { OnOk result (text.new.items ≡ []) }
     ensures ok { OnOk result (Appends (W.taken out.old) (W.taken out.new)
-        (listed_arcs delta (arcs_along map.now.doc arcs.now.rings.items))) }
+        (all_listed delta map.now.doc arcs.now)) }
     ensures works { OnOk result (W.has_failed out.new ≡ false) }
     ensures err { OnErr result (AppendsPrefix (W.taken out.old) (W.taken out.new)
-        (listed_arcs delta (arcs_along map.now.doc arcs.now.rings.items))) }
+        (all_listed delta map.now.doc arcs.now)) }
     ensures device { result ≡ Err Device → W.has_failed out.new ≡ true }
     ensures memory { result ≡ Err OutOfMemory → W.has_failed out.new ≡ false }
 {

@@ -1,11 +1,13 @@
 //! The arcs of a text, each border once, found by the edges that they begin and end with. Of their
 //! positions nothing is kept but which rings of the map they are cut of.
-ghost use Rattle.std.specs.Prelude.{◌≡◌, ◌+◌, ◌<◌, ◌≤◌, ◌++◌, List, get_or, length, pos, negsuc, [], ◌∷◌, true, false, Some, OnOk, IfOk};
+ghost use Rattle.std.specs.Prelude.{◌≡◌, ◌+◌, ◌<◌, ◌≤◌, pos, negsuc, true, false, Some, OnOk, IfOk};
+ghost use Rattle.std.specs.Prelude.{List, [], ◌∷◌, ◌++◌, get_or, length};
 ghost use Rattle.std.specs.List.{AllByRecursion};
 ghost use Rattle.indexmap.specs.IndexMap.{get, Updates};
 ghost use Rattle.grid_geometry.specs.Position.{Position};
 ghost use Rattle.ring_machine.specs.Ring.{edge_eq};
-ghost use Rattle.topo_writer.specs.Found.{found, first_edge, with_found, Fits, HasArcs};
+ghost use Rattle.topo_writer.specs.Found.{found, first_edge, with_found, Fits};
+ghost use Rattle.topo_writer.specs.Tables.{Finds, IsArc};
 ghost use Rattle.topo_writer.specs.Ways.{all_found, indexes_found, FitAll};
 
 use crate::cutting::Piece;
@@ -57,7 +59,7 @@ impl<A: Allocator + Copy> Arcs<A> {
     /// No arc. Takes no memory.
     pub fn new(alloc: A) -> Self
         ensures rings { result.rings.items ≡ [] }
-        ensures arcs { HasArcs (get edge_eq result.starts) result.count [] }
+        ensures arcs { Finds result [] }
     {
         Arcs {
             rings: Vec::new(alloc),
@@ -77,7 +79,8 @@ impl<A: Allocator + Copy> Arcs<A> {
     fn note(&mut self, from: Pos, to: Pos, index: i64) -> Result<(), AllocError>
         ensures rings { self.new.rings ≡ self.old.rings }
         ensures count { self.new.count ≡ self.old.count }
-        ensures updates { OnOk result (Updates edge_eq self.old.starts self.new.starts (from, to) (Some index)) }
+        ensures updates { OnOk result
+            (Updates edge_eq self.old.starts self.new.starts (from, to) (Some index)) }
     {
         self.starts.insert((from, to), index)?;
         Ok(())
@@ -89,11 +92,10 @@ impl<A: Allocator + Copy> Arcs<A> {
         requires few { self.old.count < 4000000 }
         ensures rings { OnOk result (self.new.rings ≡ self.old.rings) }
         ensures few { OnOk result (self.new.count ≤ self.old.count + 1) }
-        ensures arcs { OnOk result ((arcs : List (List Position))
-            → HasArcs (get edge_eq self.old.starts) self.old.count arcs → Fits arcs piece.now
-            → HasArcs (get edge_eq self.new.starts) self.new.count (with_found arcs piece.now)) }
-        ensures index { IfOk result (λ i. (arcs : List (List Position))
-            → HasArcs (get edge_eq self.old.starts) self.old.count arcs → Fits arcs piece.now
+        ensures arcs { OnOk result ((arcs : List (List Position)) → Finds self.old arcs
+            → Fits arcs piece.now → Finds self.new (with_found arcs piece.now)) }
+        ensures index { IfOk result (λ i. (arcs : List (List Position)) → Finds self.old arcs
+            → Fits arcs piece.now
             → found (with_found arcs piece.now) (first_edge piece.now) ≡ Some i) }
     {
         if let Some(index) = self.look(piece[0], piece[1]) {
@@ -118,11 +120,10 @@ impl<A: Allocator + Copy> Arcs<A> {
         requires long { AllByRecursion (λ piece. 2 ≤ length piece) pieces.now }
         requires few { self.old.count + length pieces.now ≤ 4000000 }
         ensures rings { OnOk result (self.new.rings ≡ self.old.rings) }
-        ensures arcs { OnOk result ((arcs : List (List Position))
-            → HasArcs (get edge_eq self.old.starts) self.old.count arcs → FitAll arcs pieces.now
-            → HasArcs (get edge_eq self.new.starts) self.new.count (all_found arcs pieces.now)) }
+        ensures arcs { OnOk result ((arcs : List (List Position)) → Finds self.old arcs
+            → FitAll arcs pieces.now → Finds self.new (all_found arcs pieces.now)) }
         ensures indexes { IfOk result (λ indexes. (arcs : List (List Position))
-            → HasArcs (get edge_eq self.old.starts) self.old.count arcs → FitAll arcs pieces.now
+            → Finds self.old arcs → FitAll arcs pieces.now
             → indexes.items ≡ indexes_found arcs pieces.now) }
     {
         let mut indexes = Vec::new(alloc);
@@ -155,8 +156,8 @@ impl<A: Allocator + Copy> Arcs<A> {
     pub(crate) fn is_arc(&self, piece: &[Pos], number: usize) -> bool
         requires long { 2 ≤ length piece.now }
         requires few { number ≤ 4000000 }
-        ensures yes { result ≡ true → get edge_eq self.now.starts (first_edge piece.now) ≡ Some (pos number) }
-        ensures no { result ≡ false → get edge_eq self.now.starts (first_edge piece.now) ≡ Some (pos number) → ⊥ }
+        ensures yes { result ≡ true → IsArc self.now piece.now number }
+        ensures no { result ≡ false → IsArc self.now piece.now number → ⊥ }
     {
         match self.look(piece[0], piece[1]) {
             Some(index) => index == forward(number),

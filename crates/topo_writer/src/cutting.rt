@@ -1,6 +1,6 @@
 //! Ways and rings, cut at junctions (TopoJSON 1.0, 2.1.3).
-ghost use Rattle.std.specs.Prelude.{◌≡◌, ◌+◌, ◌<◌, ◌≤◌, ◌||◌, ◌++◌, ◌∷◌, [], true, drop, take, length};
-ghost use Rattle.std.specs.Prelude.{if◌then◌else◌, OnOk, IfOk};
+ghost use Rattle.std.specs.Prelude.{◌≡◌, ◌+◌, ◌<◌, ◌≤◌, ◌||◌, ◌++◌, ◌∷◌, [], drop, take, length};
+ghost use Rattle.std.specs.Prelude.{if◌then◌else◌, true, OnOk, IfOk};
 ghost use Rattle.ring_machine.specs.Vertices.{is_junction};
 ghost use Rattle.map_text.specs.Arcs.{begun, pieces};
 ghost use Rattle.topo_writer.specs.Found.{at_place};
@@ -51,7 +51,8 @@ impl<A: Allocator + Copy> Piece<A> {
 /// Whether a piece of the way ends at a place.
 fn ends_at<'a, I: SegIndex, A: Allocator + Copy>(map: &Map<'a, I, A>, way: &[Pos], i: usize) -> bool
     requires { i < length way.now }
-    ensures { result ≡ (is_end (drop (i + 1) way.now) || is_junction map.now.doc (at_place way.now i)) }
+    ensures { result
+        ≡ (is_end (drop (i + 1) way.now) || is_junction map.now.doc (at_place way.now i)) }
 {
     i + 1 == way.len() || map.is_junction(way[i])
 }
@@ -103,7 +104,8 @@ fn cut_way<'a, I: SegIndex, A: Allocator + Copy>(
 fn first_junction<'a, I: SegIndex, A: Allocator + Copy>(map: &Map<'a, I, A>, ring: &[Pos]) -> usize
     requires { 0 < length ring.now }
     ensures within { result < length ring.now }
-    ensures begun { begun (is_junction map.now.doc) ring.now ≡ drop result ring.now ++ take result ring.now }
+    ensures begun { begun (is_junction map.now.doc) ring.now
+        ≡ drop result ring.now ++ take result ring.now }
 {
     for i in 0..ring.len() {
         if map.is_junction(ring[i]) {

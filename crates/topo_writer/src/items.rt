@@ -1,24 +1,20 @@
 //! The items of a layer, sent to a device one after another.
-ghost use Rattle.std.specs.Prelude.{◌≡◌, ℤ, List, ◌++◌, [], ◌∷◌, Some, Err, true, false, OnOk, OnErr, IfOk};
+ghost use Rattle.std.specs.Prelude.{◌≡◌, ℤ, List, ◌++◌, [], ◌∷◌, Some, Err, true, false};
+ghost use Rattle.std.specs.Prelude.{OnOk, OnErr, IfOk};
 ghost use Rattle.std.specs.Io.KnownBytes.{Appends};
 ghost use Rattle.device_io.specs.Devices.{AppendsPrefix};
-ghost use Rattle.std.specs.List.{flat_map};
-ghost use Rattle.indexmap.specs.IndexMap.{get};
-ghost use Rattle.ring_machine.specs.Ring.{edge_eq};
-ghost use Rattle.ring_machine.specs.Document.{Close, Leaf};
-ghost use Rattle.ring_machine.specs.Parts.{feature, in_feature, rings_of};
+ghost use Rattle.ring_machine.specs.Document.{Close};
+ghost use Rattle.ring_machine.specs.Parts.{feature};
 ghost use Rattle.ring_machine.specs.Planar.{Proper};
-ghost use Rattle.ring_machine.specs.Vertices.{is_junction};
 ghost use Rattle.ring_machine.specs.WellFormed.{WellFormed};
 ghost use Rattle.topo_outline.specs.Views.{view_head};
+ghost use Rattle.map_frame.specs.Readers.{Stands};
 ghost use Rattle.map_frame.specs.Shown.{view_item_view};
-ghost use Rattle.map_text.specs.Arcs.{arcs_of, indexes, pieces, with_pieces};
-ghost use Rattle.map_text.specs.Text.{comma_if, feature_text, items_text, opening_text};
-ghost use Rattle.topo_writer.specs.Found.{HasArcs};
-ghost use Rattle.topo_writer.specs.Named.{arcs_along};
-ghost use Rattle.topo_writer.specs.Items.{feature_at, item_at, item_rings, items_at, items_written, open_heads, written_at};
-ghost use Rattle.topo_writer.specs.Items.{IsThere, LeadsOn, ShowsLayer};
+ghost use Rattle.map_text.specs.Text.{comma_if, items_text, opening_text};
+ghost use Rattle.topo_writer.specs.Items.{feature_at, items_written, leaf_text, open_heads};
+ghost use Rattle.topo_writer.specs.Items.{written, IsThere, ShowsLayer};
 ghost use Rattle.topo_writer.specs.Opened.{more_after, open_after};
+ghost use Rattle.topo_writer.specs.Tables.{FindsArcs, Leads, TakesFeature, TakesItem, TakesItems};
 ghost use Rattle.topo_writer.specs.declared.sending.WriteFault.TheVariants.{Device, OutOfMemory};
 
 use crate::arcs::Arcs;
@@ -78,13 +74,12 @@ fn push_leaf<'a, I: SegIndex, A: Allocator + Copy>(
     requires proper { Proper map.now.doc }
     requires formed { WellFormed map.now.doc }
     requires there { feature map.now.doc n ≡ Some (feature_at map.now.doc n) }
-    requires table { HasArcs (get edge_eq arcs.old.starts) arcs.old.count (arcs_along map.now.doc arcs.old.rings.items) }
-    requires leads { LeadsOn map.now.doc (arcs_along map.now.doc arcs.old.rings.items) (Leaf (feature_at map.now.doc n) ∷ []) }
-    ensures table { OnOk result (HasArcs (get edge_eq arcs.new.starts) arcs.new.count (arcs_along map.now.doc arcs.new.rings.items)) }
-    ensures arcs { OnOk result (arcs_along map.now.doc arcs.new.rings.items ≡ with_pieces (arcs_along map.now.doc arcs.old.rings.items)
-        (flat_map (pieces (is_junction map.now.doc)) (rings_of (feature_at map.now.doc n)))) }
-    ensures text { OnOk result (text.new.items ≡ text.old.items ++ (comma_if more ++ feature_text
-        (in_feature (indexes (is_junction map.now.doc) (arcs_of map.now.doc)) (feature_at map.now.doc n)))) }
+    requires table { FindsArcs map.now.doc arcs.old }
+    requires leads { Leads map.now.doc arcs.old (Stands n ∷ []) }
+    ensures table { OnOk result (FindsArcs map.now.doc arcs.new) }
+    ensures arcs { OnOk result (TakesFeature map.now.doc arcs.old arcs.new n) }
+    ensures text { OnOk result (text.new.items
+        ≡ text.old.items ++ (comma_if more ++ leaf_text map.now.doc n)) }
 {
     let Some(view) = map.feature(n) else {
         return Ok(());
@@ -106,8 +101,8 @@ fn push_kept_text<A: Allocator + Copy>(
     text.extend_from_slice(kept)
 }
 
-/// Appends an item into the innermost of these collections, after a comma where something stands there
-/// already. Whether something stands before what follows.
+/// Appends an item into the innermost of these collections, after a comma where something stands
+/// there already. Whether something stands before what follows.
 fn push_item<'m, 'a, I: SegIndex, A: Allocator + Copy>(
     alloc: A,
     map: &Map<'a, I, A>,
@@ -120,16 +115,15 @@ fn push_item<'m, 'a, I: SegIndex, A: Allocator + Copy>(
     requires proper { Proper map.now.doc }
     requires formed { WellFormed map.now.doc }
     requires there { IsThere map.now.doc (view_item_view item) }
-    requires table { HasArcs (get edge_eq arcs.old.starts) arcs.old.count (arcs_along map.now.doc arcs.old.rings.items) }
-    requires leads { LeadsOn map.now.doc (arcs_along map.now.doc arcs.old.rings.items) (item_at map.now.doc (view_item_view item) ∷ []) }
-    ensures table { OnOk result (HasArcs (get edge_eq arcs.new.starts) arcs.new.count (arcs_along map.now.doc arcs.new.rings.items)) }
-    ensures arcs { OnOk result (arcs_along map.now.doc arcs.new.rings.items ≡ with_pieces (arcs_along map.now.doc arcs.old.rings.items)
-        (flat_map (pieces (is_junction map.now.doc)) (item_rings (item_at map.now.doc (view_item_view item.entry) ∷ [])))) }
+    requires table { FindsArcs map.now.doc arcs.old }
+    requires leads { Leads map.now.doc arcs.old (view_item_view item ∷ []) }
+    ensures table { OnOk result (FindsArcs map.now.doc arcs.new) }
+    ensures arcs { OnOk result (TakesItem map.now.doc arcs.old arcs.new item.entry) }
     ensures text { OnOk result (text.new.items ≡ text.old.items
-        ++ items_text (open_heads heads.old.items) more (written_at map.now.doc (view_item_view item.entry) ∷ [])) }
+        ++ items_text (open_heads heads.old.items) more (written map.now.doc item.entry)) }
     ensures heads { OnOk result (open_heads heads.new.items
-        ≡ open_after (open_heads heads.old.items) (written_at map.now.doc (view_item_view item.entry) ∷ [])) }
-    ensures more { IfOk result (λ after. after ≡ more_after more (written_at map.now.doc (view_item_view item.entry) ∷ [])) }
+        ≡ open_after (open_heads heads.old.items) (written map.now.doc item.entry)) }
+    ensures more { IfOk result (λ after. after ≡ more_after more (written map.now.doc item.entry)) }
 {
     match item {
         ItemView::Open(head) => {
@@ -168,20 +162,19 @@ fn send_item<'m, 'a, I: SegIndex, A: Allocator + Copy, W: Sink>(
     requires proper { Proper map.now.doc }
     requires formed { WellFormed map.now.doc }
     requires there { IsThere map.now.doc (view_item_view item) }
-    requires table { HasArcs (get edge_eq arcs.old.starts) arcs.old.count (arcs_along map.now.doc arcs.old.rings.items) }
-    requires leads { LeadsOn map.now.doc (arcs_along map.now.doc arcs.old.rings.items) (item_at map.now.doc (view_item_view item) ∷ []) }
-    ensures table { OnOk result (HasArcs (get edge_eq arcs.new.starts) arcs.new.count (arcs_along map.now.doc arcs.new.rings.items)) }
-    ensures arcs { OnOk result (arcs_along map.now.doc arcs.new.rings.items ≡ with_pieces (arcs_along map.now.doc arcs.old.rings.items)
-        (flat_map (pieces (is_junction map.now.doc)) (item_rings (item_at map.now.doc (view_item_view item.entry) ∷ [])))) }
+    requires table { FindsArcs map.now.doc arcs.old }
+    requires leads { Leads map.now.doc arcs.old (view_item_view item ∷ []) }
+    ensures table { OnOk result (FindsArcs map.now.doc arcs.new) }
+    ensures arcs { OnOk result (TakesItem map.now.doc arcs.old arcs.new item.entry) }
     ensures heads { OnOk result (open_heads heads.new.items
-        ≡ open_after (open_heads heads.old.items) (written_at map.now.doc (view_item_view item.entry) ∷ [])) }
-    ensures more { IfOk result (λ after. after ≡ more_after more (written_at map.now.doc (view_item_view item.entry) ∷ [])) }
+        ≡ open_after (open_heads heads.old.items) (written map.now.doc item.entry)) }
+    ensures more { IfOk result (λ after. after ≡ more_after more (written map.now.doc item.entry)) }
     ensures empty { OnOk result (text.new.items ≡ []) }
     ensures ok { OnOk result (Appends (W.taken out.old) (W.taken out.new)
-        (items_text (open_heads heads.old.items) more (written_at map.now.doc (view_item_view item.entry) ∷ []))) }
+        (items_text (open_heads heads.old.items) more (written map.now.doc item.entry))) }
     ensures works { OnOk result (W.has_failed out.new ≡ false) }
     ensures err { OnErr result (AppendsPrefix (W.taken out.old) (W.taken out.new)
-        (items_text (open_heads heads.old.items) more (written_at map.now.doc (view_item_view item.entry) ∷ []))) }
+        (items_text (open_heads heads.old.items) more (written map.now.doc item.entry))) }
     ensures device { result ≡ Err Device → W.has_failed out.new ≡ true }
     ensures memory { result ≡ Err OutOfMemory → W.has_failed out.new ≡ false }
 {
@@ -205,15 +198,16 @@ pub(crate) fn send_items<'m, 'a, I: SegIndex, A: Allocator + Copy, W: Sink>(
     requires proper { Proper map.now.doc }
     requires formed { WellFormed map.now.doc }
     requires shows { ShowsLayer map.now.doc items }
-    requires table { HasArcs (get edge_eq arcs.old.starts) arcs.old.count (arcs_along map.now.doc arcs.old.rings.items) }
-    requires leads { LeadsOn map.now.doc (arcs_along map.now.doc arcs.old.rings.items) (items_at map.now.doc items) }
-    ensures table { OnOk result (HasArcs (get edge_eq arcs.new.starts) arcs.new.count (arcs_along map.now.doc arcs.new.rings.items)) }
-    ensures arcs { OnOk result (arcs_along map.now.doc arcs.new.rings.items ≡ with_pieces (arcs_along map.now.doc arcs.old.rings.items)
-        (flat_map (pieces (is_junction map.now.doc)) (item_rings (items_at map.now.doc items.entry)))) }
+    requires table { FindsArcs map.now.doc arcs.old }
+    requires leads { Leads map.now.doc arcs.old items }
+    ensures table { OnOk result (FindsArcs map.now.doc arcs.new) }
+    ensures arcs { OnOk result (TakesItems map.now.doc arcs.old arcs.new items.entry) }
     ensures empty { OnOk result (text.new.items ≡ []) }
-    ensures ok { OnOk result (Appends (W.taken out.old) (W.taken out.new) (items_text [] false (items_written map.now.doc items.entry))) }
+    ensures ok { OnOk result (Appends (W.taken out.old) (W.taken out.new)
+        (items_text [] false (items_written map.now.doc items.entry))) }
     ensures works { OnOk result (W.has_failed out.new ≡ false) }
-    ensures err { OnErr result (AppendsPrefix (W.taken out.old) (W.taken out.new) (items_text [] false (items_written map.now.doc items.entry))) }
+    ensures err { OnErr result (AppendsPrefix (W.taken out.old) (W.taken out.new)
+        (items_text [] false (items_written map.now.doc items.entry))) }
     ensures device { result ≡ Err Device → W.has_failed out.new ≡ true }
     ensures memory { result ≡ Err OutOfMemory → W.has_failed out.new ≡ false }
 {

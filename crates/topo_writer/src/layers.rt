@@ -1,14 +1,13 @@
 //! The layers of a map, sent to a device one after another.
-ghost use Rattle.std.specs.Prelude.{◌≡◌, ◌+◌, ◌<◌, ◌++◌, [], codes, length, nat_lt, false, true, Err, OnOk, OnErr};
+ghost use Rattle.std.specs.Prelude.{◌≡◌, ◌+◌, ◌<◌, ◌++◌, [], codes, length, nat_lt, false, true};
+ghost use Rattle.std.specs.Prelude.{Err, OnOk, OnErr};
 ghost use Rattle.std.specs.Io.KnownBytes.{Appends};
-ghost use Rattle.indexmap.specs.IndexMap.{get};
 ghost use Rattle.device_io.specs.Devices.{AppendsPrefix};
-ghost use Rattle.ring_machine.specs.Ring.{edge_eq};
 ghost use Rattle.map_text.specs.Arcs.{arcs_of};
 ghost use Rattle.map_text.specs.Text.{comma_if};
-ghost use Rattle.topo_writer.specs.Found.{HasArcs};
-ghost use Rattle.topo_writer.specs.Named.{arcs_along};
-ghost use Rattle.topo_writer.specs.Sections.{arcs_after, layer_at, layer_text, layers_text, IsMapFrame};
+ghost use Rattle.topo_writer.specs.Sections.{arcs_after, layer_at, layer_text, layers_text};
+ghost use Rattle.topo_writer.specs.Sections.{IsMapFrame};
+ghost use Rattle.topo_writer.specs.Tables.{arcs_in, Finds, FindsArcs};
 ghost use Rattle.topo_writer.specs.declared.sending.WriteFault.TheVariants.{Device, OutOfMemory};
 
 use crate::arcs::Arcs;
@@ -34,8 +33,8 @@ fn push_name<A: Allocator + Copy>(
     text.extend_from_slice(b":")
 }
 
-/// Sends the layer with this number, and a comma where something stands before. A piece that is no arc
-/// yet becomes the next one.
+/// Sends the layer with this number, and a comma where something stands before. A piece that is no
+/// arc yet becomes the next one.
 fn send_layer<'m, 'a, I: SegIndex, A: Allocator + Copy, W: Sink>(
     alloc: A,
     map: &Map<'a, I, A>,
@@ -49,10 +48,10 @@ fn send_layer<'m, 'a, I: SegIndex, A: Allocator + Copy, W: Sink>(
     requires empty { text.old.items ≡ [] }
     requires frame { IsMapFrame map.now.doc frame.now }
     requires there { i < length map.now.doc.layers }
-    requires table { HasArcs (get edge_eq arcs.old.starts) arcs.old.count (arcs_along map.now.doc arcs.old.rings.items) }
-    requires arcs { arcs_along map.now.doc arcs.old.rings.items ≡ arcs_after map.now.doc i }
-    ensures table { OnOk result (HasArcs (get edge_eq arcs.new.starts) arcs.new.count (arcs_along map.now.doc arcs.new.rings.items)) }
-    ensures arcs { OnOk result (arcs_along map.now.doc arcs.new.rings.items ≡ arcs_after map.now.doc (i + 1)) }
+    requires table { FindsArcs map.now.doc arcs.old }
+    requires arcs { arcs_in map.now.doc arcs.old ≡ arcs_after map.now.doc i }
+    ensures table { OnOk result (FindsArcs map.now.doc arcs.new) }
+    ensures arcs { OnOk result (arcs_in map.now.doc arcs.new ≡ arcs_after map.now.doc (i + 1)) }
     ensures empty { OnOk result (text.new.items ≡ []) }
     ensures ok { OnOk result (Appends (W.taken out.old) (W.taken out.new)
         (comma_if (nat_lt 0 i) ++ layer_text map.now.doc (layer_at map.now.doc i))) }
@@ -86,14 +85,16 @@ pub(crate) fn send_layers<'m, 'a, I: SegIndex, A: Allocator + Copy, W: Sink>(
     requires working { W.has_failed out.old ≡ false }
     requires empty { text.old.items ≡ [] }
     requires frame { IsMapFrame map.now.doc frame.now }
-    requires table { HasArcs (get edge_eq arcs.old.starts) arcs.old.count [] }
+    requires table { Finds arcs.old [] }
     requires none { arcs.old.rings.items ≡ [] }
-    ensures table { OnOk result (HasArcs (get edge_eq arcs.new.starts) arcs.new.count (arcs_along map.now.doc arcs.new.rings.items)) }
-    ensures arcs { OnOk result (arcs_along map.now.doc arcs.new.rings.items ≡ arcs_of map.now.doc) }
+    ensures table { OnOk result (FindsArcs map.now.doc arcs.new) }
+    ensures arcs { OnOk result (arcs_in map.now.doc arcs.new ≡ arcs_of map.now.doc) }
     ensures empty { OnOk result (text.new.items ≡ []) }
-    ensures ok { OnOk result (Appends (W.taken out.old) (W.taken out.new) (layers_text map.now.doc)) }
+    ensures ok { OnOk result (Appends (W.taken out.old) (W.taken out.new)
+        (layers_text map.now.doc)) }
     ensures works { OnOk result (W.has_failed out.new ≡ false) }
-    ensures err { OnErr result (AppendsPrefix (W.taken out.old) (W.taken out.new) (layers_text map.now.doc)) }
+    ensures err { OnErr result (AppendsPrefix (W.taken out.old) (W.taken out.new)
+        (layers_text map.now.doc)) }
     ensures device { result ≡ Err Device → W.has_failed out.new ≡ true }
     ensures memory { result ≡ Err OutOfMemory → W.has_failed out.new ≡ false }
 {

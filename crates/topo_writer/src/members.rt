@@ -1,8 +1,8 @@
 // Members of an object, appended to a buffer after the first one.
 ghost use Rattle.std.specs.Prelude.{◌≡◌, ◌++◌, [], ◌∷◌, map, option_map, OnOk};
 ghost use Rattle.topo_outline.specs.Views.{view_head, view_kept};
-ghost use Rattle.topo_writer.specs.Members.{head_members};
-ghost use Rattle.map_text.specs.Text.{closing_text, further, member, member_if, member_text, opening_text};
+ghost use Rattle.topo_writer.specs.Members.{further_if, head_members};
+ghost use Rattle.map_text.specs.Text.{closing_text, further, member, member_text, opening_text};
 
 use std::alloc::{AllocError, Allocator};
 use topo_outline::{Head, KeptMember};
@@ -29,7 +29,7 @@ pub(crate) fn push_member_if<A: Allocator + Copy>(
     value: Option<&[u8]>,
 ) -> Result<(), AllocError>
     ensures { OnOk result (text.new.items
-        ≡ text.old.items ++ further (map member_text (member_if name.now (option_map (λ t. t.now) value.entry)))) }
+        ≡ text.old.items ++ further_if name.now (option_map (λ t. t.now) value.entry)) }
 {
     match value {
         Some(value) => push_member(text, name, value),

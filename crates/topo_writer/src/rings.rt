@@ -1,17 +1,12 @@
 //! The rings of a map, in the text.
-ghost use Rattle.std.specs.Prelude.{◌≡◌, ◌+◌, ◌≤◌, ◌++◌, length, Contains, OnOk, IfOk};
-ghost use Rattle.std.specs.List.{flat_map, sum_by, AllByRecursion};
-ghost use Rattle.indexmap.specs.IndexMap.{get};
-ghost use Rattle.ring_machine.specs.Ring.{edge_eq};
+ghost use Rattle.std.specs.Prelude.{◌≡◌, ◌++◌, length, Contains, OnOk, IfOk};
 ghost use Rattle.ring_machine.specs.Parts.{rings};
 ghost use Rattle.ring_machine.specs.Planar.{Proper};
-ghost use Rattle.ring_machine.specs.Vertices.{is_junction};
-ghost use Rattle.map_text.specs.Arcs.{pieces, with_pieces, indexes};
-ghost use Rattle.map_text.specs.Text.{ring_text};
-ghost use Rattle.topo_writer.specs.Found.{HasArcs};
-ghost use Rattle.topo_writer.specs.Named.{arcs_along, named_ring};
-ghost use Rattle.topo_writer.specs.Reading.{rings_at};
-ghost use Rattle.topo_writer.specs.Ways.{written_polygon};
+ghost use Rattle.topo_writer.specs.ByTable.{text_of_polygon, text_of_ring};
+ghost use Rattle.topo_writer.specs.Named.{named_pieces, named_ring};
+ghost use Rattle.topo_writer.specs.Reading.{rings_at, AreRings};
+ghost use Rattle.topo_writer.specs.Tables.{FindsArcs, HasRoom, HasRoomForRing};
+ghost use Rattle.topo_writer.specs.Tables.{TakesPolygon, TakesRing};
 
 use crate::arcs::{Arcs, RingName};
 use crate::cutting::{Piece, cut_ring};
@@ -45,14 +40,14 @@ pub(crate) fn cut_named<'a, I: SegIndex, A: Allocator + Copy>(
     map: &Map<'a, I, A>,
     name: RingName,
 ) -> Result<Vec<Piece<A>, A>, AllocError>
-    ensures { IfOk result (λ done. done.items ≡ pieces (is_junction map.now.doc) (named_ring map.now.doc name)) }
+    ensures { IfOk result (λ done. done.items ≡ named_pieces map.now.doc name) }
 {
     let positions = positions_of(alloc, map, name)?;
     cut_ring(alloc, map, positions.as_slice())
 }
 
-/// Appends a ring of the map by the indexes of its arcs. A piece that is no arc yet becomes the next
-/// one.
+/// Appends a ring of the map by the indexes of its arcs. A piece that is no arc yet becomes the
+/// next one.
 fn push_ring_of<'a, I: SegIndex, A: Allocator + Copy>(
     alloc: A,
     map: &Map<'a, I, A>,
@@ -62,13 +57,12 @@ fn push_ring_of<'a, I: SegIndex, A: Allocator + Copy>(
 ) -> Result<(), AllocError>
     requires proper { Proper map.now.doc }
     requires there { Contains (rings map.now.doc) (named_ring map.now.doc name) }
-    requires table { HasArcs (get edge_eq arcs.old.starts) arcs.old.count (arcs_along map.now.doc arcs.old.rings.items) }
-    requires few { length (arcs_along map.now.doc arcs.old.rings.items) + length (named_ring map.now.doc name) ≤ 4000000 }
-    ensures table { OnOk result (HasArcs (get edge_eq arcs.new.starts) arcs.new.count (arcs_along map.now.doc arcs.new.rings.items)) }
-    ensures arcs { OnOk result (arcs_along map.now.doc arcs.new.rings.items
-        ≡ with_pieces (arcs_along map.now.doc arcs.old.rings.items) (pieces (is_junction map.now.doc) (named_ring map.now.doc name))) }
+    requires table { FindsArcs map.now.doc arcs.old }
+    requires few { HasRoomForRing map.now.doc arcs.old name }
+    ensures table { OnOk result (FindsArcs map.now.doc arcs.new) }
+    ensures arcs { OnOk result (TakesRing map.now.doc arcs.old arcs.new name) }
     ensures text { OnOk result (text.new.items
-        ≡ text.old.items ++ ring_text (indexes (is_junction map.now.doc) (arcs_along map.now.doc arcs.new.rings.items) (named_ring map.now.doc name))) }
+        ≡ text.old.items ++ text_of_ring map.now.doc arcs.new name) }
 {
     let pieces = cut_named(alloc, map, name)?;
     let indexes = arcs.index_all(alloc, pieces.as_slice())?;
@@ -77,8 +71,8 @@ fn push_ring_of<'a, I: SegIndex, A: Allocator + Copy>(
     Ok(())
 }
 
-/// Appends a polygon of the map, which has so many rings, by the indexes of its arcs. A piece that is
-/// no arc yet becomes the next one.
+/// Appends a polygon of the map, which has so many rings, by the indexes of its arcs. A piece that
+/// is no arc yet becomes the next one.
 pub(crate) fn push_polygon_of<'a, I: SegIndex, A: Allocator + Copy>(
     alloc: A,
     map: &Map<'a, I, A>,
@@ -90,14 +84,13 @@ pub(crate) fn push_polygon_of<'a, I: SegIndex, A: Allocator + Copy>(
 ) -> Result<(), AllocError>
     requires proper { Proper map.now.doc }
     requires count { count ≡ length (rings_at map.now.doc n polygon) }
-    requires there { AllByRecursion (Contains (rings map.now.doc)) (rings_at map.now.doc n polygon) }
-    requires table { HasArcs (get edge_eq arcs.old.starts) arcs.old.count (arcs_along map.now.doc arcs.old.rings.items) }
-    requires few { length (arcs_along map.now.doc arcs.old.rings.items) + sum_by length (rings_at map.now.doc n polygon) ≤ 4000000 }
-    ensures table { OnOk result (HasArcs (get edge_eq arcs.new.starts) arcs.new.count (arcs_along map.now.doc arcs.new.rings.items)) }
-    ensures arcs { OnOk result (arcs_along map.now.doc arcs.new.rings.items
-        ≡ with_pieces (arcs_along map.now.doc arcs.old.rings.items) (flat_map (pieces (is_junction map.now.doc)) (rings_at map.now.doc n polygon))) }
+    requires there { AreRings map.now.doc (rings_at map.now.doc n polygon) }
+    requires table { FindsArcs map.now.doc arcs.old }
+    requires few { HasRoom map.now.doc arcs.old (rings_at map.now.doc n polygon) }
+    ensures table { OnOk result (FindsArcs map.now.doc arcs.new) }
+    ensures arcs { OnOk result (TakesPolygon map.now.doc arcs.old arcs.new n polygon) }
     ensures text { OnOk result (text.new.items
-        ≡ text.old.items ++ written_polygon (is_junction map.now.doc) (arcs_along map.now.doc arcs.new.rings.items) (rings_at map.now.doc n polygon)) }
+        ≡ text.old.items ++ text_of_polygon map.now.doc arcs.new n polygon) }
 {
     text.extend_from_slice(b"[")?;
     for ring in 0..count {

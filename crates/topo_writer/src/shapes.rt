@@ -1,22 +1,15 @@
 //! The polygons of a feature, in the text.
-ghost use Rattle.std.specs.Prelude.{◌≡◌, ◌+◌, ◌≤◌, ◌++◌, length, Some, option_map, Contains, OnOk};
-ghost use Rattle.std.specs.List.{flat_map, sum_by, AllByRecursion};
-ghost use Rattle.indexmap.specs.IndexMap.{get};
-ghost use Rattle.ring_machine.specs.Ring.{edge_eq};
-ghost use Rattle.ring_machine.specs.Parts.{feature, rings};
-ghost use Rattle.ring_machine.specs.Planar.{Proper};
-ghost use Rattle.ring_machine.specs.Vertices.{is_junction};
-ghost use Rattle.map_frame.specs.Readers.{shown};
-ghost use Rattle.map_text.specs.Arcs.{pieces, with_pieces};
-ghost use Rattle.topo_writer.specs.Found.{HasArcs};
-ghost use Rattle.topo_writer.specs.Named.{arcs_along};
-ghost use Rattle.topo_writer.specs.Reading.{all_rings_at, polygons_at};
-ghost use Rattle.topo_outline.specs.Views.{form_of};
+ghost use Rattle.std.specs.Prelude.{◌≡◌, ◌++◌, Some, true, option_map, OnOk};
 ghost use Rattle.ring_machine.specs.Document.{Feature};
+ghost use Rattle.ring_machine.specs.Parts.{feature};
+ghost use Rattle.ring_machine.specs.Planar.{Proper};
 ghost use Rattle.ring_machine.specs.WellFormed.{fits_form};
+ghost use Rattle.topo_outline.specs.Views.{form_of};
+ghost use Rattle.map_frame.specs.Readers.{shown};
 ghost use Rattle.map_text.specs.Text.{type_text};
-ghost use Rattle.std.specs.Prelude.{true};
-ghost use Rattle.topo_writer.specs.Ways.{written_feature, written_polygons, written_shape};
+ghost use Rattle.topo_writer.specs.ByTable.{text_of_feature, text_of_polygons, text_of_shape};
+ghost use Rattle.topo_writer.specs.Reading.{all_rings_at, AreRings};
+ghost use Rattle.topo_writer.specs.Tables.{FindsArcs, HasRoom, TakesPolygons};
 
 use crate::arcs::Arcs;
 use crate::members::{push_kept, push_member_if};
@@ -38,14 +31,13 @@ pub(crate) fn push_polygons_of<'a, I: SegIndex, A: Allocator + Copy>(
 ) -> Result<(), AllocError>
     requires proper { Proper map.now.doc }
     requires seen { Some view.now ≡ option_map shown (feature map.now.doc n) }
-    requires there { AllByRecursion (Contains (rings map.now.doc)) (all_rings_at map.now.doc n) }
-    requires table { HasArcs (get edge_eq arcs.old.starts) arcs.old.count (arcs_along map.now.doc arcs.old.rings.items) }
-    requires few { length (arcs_along map.now.doc arcs.old.rings.items) + sum_by length (all_rings_at map.now.doc n) ≤ 4000000 }
-    ensures table { OnOk result (HasArcs (get edge_eq arcs.new.starts) arcs.new.count (arcs_along map.now.doc arcs.new.rings.items)) }
-    ensures arcs { OnOk result (arcs_along map.now.doc arcs.new.rings.items
-        ≡ with_pieces (arcs_along map.now.doc arcs.old.rings.items) (flat_map (pieces (is_junction map.now.doc)) (all_rings_at map.now.doc n))) }
+    requires there { AreRings map.now.doc (all_rings_at map.now.doc n) }
+    requires table { FindsArcs map.now.doc arcs.old }
+    requires few { HasRoom map.now.doc arcs.old (all_rings_at map.now.doc n) }
+    ensures table { OnOk result (FindsArcs map.now.doc arcs.new) }
+    ensures arcs { OnOk result (TakesPolygons map.now.doc arcs.old arcs.new n) }
     ensures text { OnOk result (text.new.items
-        ≡ text.old.items ++ written_polygons (is_junction map.now.doc) (arcs_along map.now.doc arcs.new.rings.items) (polygons_at map.now.doc n)) }
+        ≡ text.old.items ++ text_of_polygons map.now.doc arcs.new n) }
 {
     for polygon in 0..view.polygon_count() {
         push_comma(text, polygon > 0)?;
@@ -54,8 +46,8 @@ pub(crate) fn push_polygons_of<'a, I: SegIndex, A: Allocator + Copy>(
     Ok(())
 }
 
-/// Appends the member `arcs` of the feature with this number, after a comma: its one polygon, or the
-/// list of its polygons, or nothing (TopoJSON 1.0, 2.2).
+/// Appends the member `arcs` of the feature with this number, after a comma: its one polygon, or
+/// the list of its polygons, or nothing (TopoJSON 1.0, 2.2).
 fn push_shape<'a, I: SegIndex, A: Allocator + Copy>(
     alloc: A,
     map: &Map<'a, I, A>,
@@ -67,14 +59,13 @@ fn push_shape<'a, I: SegIndex, A: Allocator + Copy>(
     requires proper { Proper map.now.doc }
     requires seen { Some view.now ≡ option_map shown (feature map.now.doc n) }
     requires fits { (f : Feature) → feature map.now.doc n ≡ Some f → fits_form f ≡ true }
-    requires there { AllByRecursion (Contains (rings map.now.doc)) (all_rings_at map.now.doc n) }
-    requires table { HasArcs (get edge_eq arcs.old.starts) arcs.old.count (arcs_along map.now.doc arcs.old.rings.items) }
-    requires few { length (arcs_along map.now.doc arcs.old.rings.items) + sum_by length (all_rings_at map.now.doc n) ≤ 4000000 }
-    ensures table { OnOk result (HasArcs (get edge_eq arcs.new.starts) arcs.new.count (arcs_along map.now.doc arcs.new.rings.items)) }
-    ensures arcs { OnOk result (arcs_along map.now.doc arcs.new.rings.items
-        ≡ with_pieces (arcs_along map.now.doc arcs.old.rings.items) (flat_map (pieces (is_junction map.now.doc)) (all_rings_at map.now.doc n))) }
+    requires there { AreRings map.now.doc (all_rings_at map.now.doc n) }
+    requires table { FindsArcs map.now.doc arcs.old }
+    requires few { HasRoom map.now.doc arcs.old (all_rings_at map.now.doc n) }
+    ensures table { OnOk result (FindsArcs map.now.doc arcs.new) }
+    ensures arcs { OnOk result (TakesPolygons map.now.doc arcs.old arcs.new n) }
     ensures text { OnOk result (text.new.items
-        ≡ text.old.items ++ written_shape (is_junction map.now.doc) (arcs_along map.now.doc arcs.new.rings.items) view.now.form (polygons_at map.now.doc n)) }
+        ≡ text.old.items ++ text_of_shape map.now.doc arcs.new view.now.form n) }
 {
     match view.form() {
         Form::Polygon => {
@@ -102,8 +93,8 @@ fn type_token(form: Form) -> &'static [u8]
     }
 }
 
-/// Appends the feature with this number, by the indexes of its rings' arcs. A piece that is no arc yet
-/// becomes the next one.
+/// Appends the feature with this number, by the indexes of its rings' arcs. A piece that is no arc
+/// yet becomes the next one.
 pub(crate) fn push_feature<'a, I: SegIndex, A: Allocator + Copy>(
     alloc: A,
     map: &Map<'a, I, A>,
@@ -115,14 +106,13 @@ pub(crate) fn push_feature<'a, I: SegIndex, A: Allocator + Copy>(
     requires proper { Proper map.now.doc }
     requires seen { Some view.now ≡ option_map shown (feature map.now.doc n) }
     requires fits { (f : Feature) → feature map.now.doc n ≡ Some f → fits_form f ≡ true }
-    requires there { AllByRecursion (Contains (rings map.now.doc)) (all_rings_at map.now.doc n) }
-    requires table { HasArcs (get edge_eq arcs.old.starts) arcs.old.count (arcs_along map.now.doc arcs.old.rings.items) }
-    requires few { length (arcs_along map.now.doc arcs.old.rings.items) + sum_by length (all_rings_at map.now.doc n) ≤ 4000000 }
-    ensures table { OnOk result (HasArcs (get edge_eq arcs.new.starts) arcs.new.count (arcs_along map.now.doc arcs.new.rings.items)) }
-    ensures arcs { OnOk result (arcs_along map.now.doc arcs.new.rings.items
-        ≡ with_pieces (arcs_along map.now.doc arcs.old.rings.items) (flat_map (pieces (is_junction map.now.doc)) (all_rings_at map.now.doc n))) }
+    requires there { AreRings map.now.doc (all_rings_at map.now.doc n) }
+    requires table { FindsArcs map.now.doc arcs.old }
+    requires few { HasRoom map.now.doc arcs.old (all_rings_at map.now.doc n) }
+    ensures table { OnOk result (FindsArcs map.now.doc arcs.new) }
+    ensures arcs { OnOk result (TakesPolygons map.now.doc arcs.old arcs.new n) }
     ensures text { OnOk result ((f : Feature) → feature map.now.doc n ≡ Some f
-        → text.new.items ≡ text.old.items ++ written_feature (is_junction map.now.doc) (arcs_along map.now.doc arcs.new.rings.items) f) }
+        → text.new.items ≡ text.old.items ++ text_of_feature map.now.doc arcs.new f) }
 {
     text.extend_from_slice(b"{\"type\":")?;
     text.extend_from_slice(type_token(view.form()))?;

@@ -1,8 +1,9 @@
 //! The pieces of a text (RFC 8259).
-ghost use Rattle.std.specs.Prelude.{◌≡◌, ◌<◌, ◌++◌, ◌-ℤ◌, pos, length, get_or, OnOk};
+ghost use Rattle.std.specs.Prelude.{◌≡◌, ◌<◌, ◌++◌, ◌-ℤ◌, length, OnOk};
 ghost use Rattle.std.specs.Fmt.{signed_decimal};
 ghost use Rattle.grid_geometry.specs.Position.{position};
 ghost use Rattle.map_text.specs.Text.{comma_if, pair_text, pairs, arc_text, ring_text};
+ghost use Rattle.topo_writer.specs.Found.{at_place};
 
 use grid_geometry::Pos;
 use itoa::Buffer;
@@ -64,7 +65,7 @@ fn upward(p: Pos, before: Pos) -> i64
 /// position itself at the first place and without one (TopoJSON 1.0, 2.1.2).
 fn pair_at(delta: bool, arc: &[Pos], i: usize) -> (i64, i64)
     requires { i < length arc.now }
-    ensures { position result.0 result.1 ≡ get_or (pairs delta arc.now) i (position (pos 0) (pos 0)) }
+    ensures { position result.0 result.1 ≡ at_place (pairs delta arc.now) i }
 {
     let p = arc[i];
     if !delta || i == 0 {
@@ -99,7 +100,8 @@ pub(crate) fn push_next<A: Allocator + Copy>(
     arc: &[Pos],
     more: bool,
 ) -> Result<(), AllocError>
-    ensures { OnOk result (text.new.items ≡ text.old.items ++ (comma_if more ++ arc_text delta arc.now)) }
+    ensures { OnOk result (text.new.items
+        ≡ text.old.items ++ (comma_if more ++ arc_text delta arc.now)) }
 {
     push_comma(text, more)?;
     push_arc(text, delta, arc)?;

@@ -38,7 +38,8 @@ fn push_end<A: Allocator + Copy>(
     text: &mut Vec<u8, A>,
     members: &[KeptMember<'_>],
 ) -> Result<(), AllocError>
-    ensures { OnOk result (text.new.items ≡ text.old.items ++ end_text (map view_kept members.now)) }
+    ensures { OnOk result (text.new.items
+        ≡ text.old.items ++ end_text (map view_kept members.now)) }
 {
     text.extend_from_slice(b"]")?;
     push_kept(text, members)?;
@@ -56,7 +57,8 @@ fn send_map<'m, 'a, I: SegIndex, A: Allocator + Copy, W: Sink>(
     requires frame { IsMapFrame map.now.doc frame.now }
     ensures ok { OnOk result (Appends (W.taken out.old) (W.taken out.new) (text_of map.now.doc)) }
     ensures works { OnOk result (W.has_failed out.new ≡ false) }
-    ensures err { OnErr result (AppendsPrefix (W.taken out.old) (W.taken out.new) (text_of map.now.doc)) }
+    ensures err { OnErr result (AppendsPrefix (W.taken out.old) (W.taken out.new)
+        (text_of map.now.doc)) }
     ensures device { result ≡ Err Device → W.has_failed out.new ≡ true }
     ensures memory { result ≡ Err OutOfMemory → W.has_failed out.new ≡ false }
 {
@@ -74,9 +76,9 @@ fn send_map<'m, 'a, I: SegIndex, A: Allocator + Copy, W: Sink>(
 }
 
 /// Writes the text of a map (TopoJSON 1.0): its layers by name, each border in one arc, and the
-/// members that were kept. The map is not changed. Where the writer fails in this call, the fault is
-/// `Device`, and where memory for a piece of the text is refused, `OutOfMemory`; a front of the text
-/// may have been taken then.
+/// members that were kept. The map is not changed. Where the writer fails in this call, the fault
+/// is `Device`, and where memory for a piece of the text is refused, `OutOfMemory`; a front of the
+/// text may have been taken then.
 pub fn write<'a, I: SegIndex, A: Allocator + Copy, W: Sink>(
     alloc: A,
     map: &Map<'a, I, A>,
@@ -85,7 +87,8 @@ pub fn write<'a, I: SegIndex, A: Allocator + Copy, W: Sink>(
     requires { W.has_failed out.old ≡ false }
     ensures ok { OnOk result (Appends (W.taken out.old) (W.taken out.new) (text_of map.now.doc)) }
     ensures works { OnOk result (W.has_failed out.new ≡ false) }
-    ensures err { OnErr result (AppendsPrefix (W.taken out.old) (W.taken out.new) (text_of map.now.doc)) }
+    ensures err { OnErr result (AppendsPrefix (W.taken out.old) (W.taken out.new)
+        (text_of map.now.doc)) }
     ensures device { result ≡ Err Device → W.has_failed out.new ≡ true }
     ensures memory { result ≡ Err OutOfMemory → W.has_failed out.new ≡ false }
     ensures saved { Saved (text_of map.now.doc) map.now.doc }
