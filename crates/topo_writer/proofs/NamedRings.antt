@@ -57,16 +57,16 @@ module _ (d : Document) where
       all_of (Contains (all_pieces d)) (pieces (is_junction d) ring)
       (λ piece i. in_contains (all_pieces d) piece (in-flat_map (pieces (is_junction d)) ring piece (rings d) (contains_in (rings d) ring c) i))
 
-  named_pieces : (names : List RingName) → AllByRecursion (Contains (all_pieces d)) (flat_map (pieces (is_junction d)) (map (named_ring d) names))
-  named_pieces [] = tt
-  named_pieces (name ∷ names) =
+  pieces_there : (names : List RingName) → AllByRecursion (Contains (all_pieces d)) (flat_map (pieces (is_junction d)) (map (named_ring d) names))
+  pieces_there [] = tt
+  pieces_there (name ∷ names) =
       each-append (Contains (all_pieces d)) (pieces (is_junction d) (named_ring d name)) (flat_map (pieces (is_junction d)) (map (named_ring d) names))
-      (each_named d (λ ring. AllByRecursion (Contains (all_pieces d)) (pieces (is_junction d) ring)) tt ring_pieces name) (named_pieces names)
+      (each_named d (λ ring. AllByRecursion (Contains (all_pieces d)) (pieces (is_junction d) ring)) tt ring_pieces name) (pieces_there names)
 
   -- they are pieces of the document
   pub along_pieces : (names : List RingName) → ArePieces d (arcs_along d names)
   along_pieces names =
-      with_pieces-each (Contains (all_pieces d)) [] (flat_map (pieces (is_junction d)) (map (named_ring d) names)) tt (named_pieces names)
+      with_pieces-each (Contains (all_pieces d)) [] (flat_map (pieces (is_junction d)) (map (named_ring d) names)) tt (pieces_there names)
 
   along_both : (xs ys : List RingName)
       → arcs_along d (xs ++ ys) ≡ with_pieces (arcs_along d xs) (flat_map (pieces (is_junction d)) (map (named_ring d) ys))

@@ -1,5 +1,5 @@
-use Rattle.std.proofs.Common.{◌≡◌, ◌+◌, [], drop, take, false}
-use Rattle.topo_writer.specs.Named.{arcs_along}
+use Rattle.std.proofs.Common.{◌≡◌, ◌+◌, [], drop, false}
+use Rattle.topo_writer.specs.Tables.{first_arcs}
 use Rattle.topo_writer.proofs.NextArcs.{OnWay}
 use Rattle.topo_writer.proofs.arc_section.send_ring.Given as goal
 
@@ -7,6 +7,6 @@ abbrev pub invariant-loop-k : goal.invariant-loop-k
 invariant-loop-k g l = record {
   empty : l.text.items ≡ [];
   works : g.W.Sink.has_failed l.out ≡ false;
-  on_way : OnWay l.delta (arcs_along l.map.doc (take l.i l.arcs.rings.items)) (arcs_along l.map.doc (take (l.i + 1) l.arcs.rings.items)) (drop l.k l.cut)
+  on_way : OnWay l.delta (first_arcs l.map.doc l.arcs l.i) (first_arcs l.map.doc l.arcs (l.i + 1)) (drop l.k l.cut)
       l.after (g.W.Sink.taken l.fn.out) (g.W.Sink.taken l.out);
 }

@@ -3,8 +3,8 @@ use Rattle.ring_machine.specs.Parts.{in_feature}
 use Rattle.ring_machine.specs.Vertices.{is_junction}
 use Rattle.map_text.specs.Arcs.{arcs_of, indexes}
 use Rattle.map_text.specs.Text.{feature_text}
-use Rattle.topo_writer.specs.Named.{arcs_along}
 use Rattle.topo_writer.specs.Items.{feature_at}
+use Rattle.topo_writer.specs.Tables.{arcs_in}
 use Rattle.topo_writer.proofs.InDocument.{rings_there, form_fits}
 use Rattle.topo_writer.proofs.ItemSteps.{after_comma}
 use Rattle.topo_writer.proofs.Leading.{feature_whole, leaf_rings, leaf_few}
@@ -17,7 +17,7 @@ pub push_feature-requires-clause-there : goal.push_feature-requires-clause-there
 push_feature-requires-clause-there g c = rings_there c.args.map.now.doc c.args.n
 
 pub push_feature-requires-clause-few : goal.push_feature-requires-clause-few
-push_feature-requires-clause-few g c = leaf_few c.args.map.now.doc (arcs_along c.args.map.now.doc c.args.arcs.now.rings.items) c.args.n c.requires.there c.requires.leads
+push_feature-requires-clause-few g c = leaf_few c.args.map.now.doc (arcs_in c.args.map.now.doc c.args.arcs.now) c.args.n c.requires.there c.requires.leads
 
 pub returns-clause-text : goal.returns-clause-text
 returns-clause-text g c =
@@ -26,4 +26,4 @@ returns-clause-text g c =
     after_comma c.args.text.now.items c.args.more (feature_text (in_feature (indexes (is_junction d) (arcs_of d)) f)) c.push_comma.new.text.items c.push_feature.new.text.items
     c.in_ok-push_comma.ensures
     (c.in_ok-push_feature.ensures.text f c.requires.there
-    ∙ ap (λ z. c.push_comma.new.text.items ++ feature_text z) (feature_whole d (arcs_along c.args.map.now.doc c.args.arcs.now.rings.items) (arcs_along c.args.map.now.doc c.push_feature.new.arcs.rings.items) f c.requires.leads (leaf_rings d c.args.n (arcs_along c.args.map.now.doc c.push_feature.new.arcs.rings.items) (arcs_along c.args.map.now.doc c.args.arcs.now.rings.items) c.requires.there c.in_ok-push_feature.ensures.arcs)))
+    ∙ ap (λ z. c.push_comma.new.text.items ++ feature_text z) (feature_whole d (arcs_in c.args.map.now.doc c.args.arcs.now) (arcs_in c.args.map.now.doc c.push_feature.new.arcs) f c.requires.leads (leaf_rings d c.args.n (arcs_in c.args.map.now.doc c.push_feature.new.arcs) (arcs_in c.args.map.now.doc c.args.arcs.now) c.requires.there c.in_ok-push_feature.ensures.arcs)))

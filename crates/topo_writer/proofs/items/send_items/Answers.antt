@@ -9,9 +9,9 @@ use Rattle.ring_machine.proofs.First.{In, in_right}
 use Rattle.map_frame.specs.Shown.{view_item_view}
 use Rattle.map_text.specs.Arcs.{pieces, with_pieces}
 use Rattle.map_text.specs.Text.{items_text}
-use Rattle.topo_writer.specs.Named.{arcs_along}
 use Rattle.topo_writer.specs.Items.{item_at, item_rings, items_at, items_written, open_heads, LeadsOn}
 use Rattle.topo_writer.specs.Opened.{is_begin, more_after, open_after}
+use Rattle.topo_writer.specs.Tables.{arcs_in}
 use Rattle.topo_writer.proofs.ItemLemmas.{shown_there, written_begins}
 use Rattle.topo_writer.proofs.ItemSteps.{heads_step, more_step, sent_step, sent_part, arcs_step}
 use Rattle.topo_writer.proofs.SectionLemmas.{on_err}
@@ -29,7 +29,7 @@ loop-item-init g c =
     record {
       all = sym begun;
       table = c.requires.table;
-      leads = subst (λ z. LeadsOn d (arcs_along d c.args.arcs.now.rings.items) (items_at d z)) (sym begun) c.requires.leads;
+      leads = subst (λ z. LeadsOn d (arcs_in d c.args.arcs.now) (items_at d z)) (sym begun) c.requires.leads;
       arcs = refl;
       heads = ap open_heads c.new-heads.ensures.items;
       empty = c.requires.empty;
@@ -49,7 +49,7 @@ send_item-requires-clause-there g c =
 pub send_item-requires-clause-leads : goal.send_item-requires-clause-leads
 send_item-requires-clause-leads g c =
     let d = c.args.map.now.doc in
-    let arcs = (arcs_along c.args.map.now.doc c.loop-item.arcs.rings.items) in
+    let arcs = arcs_in c.args.map.now.doc c.loop-item.arcs in
     leads_first d arcs (item_at d (view_item_view c.in-Some.item) ∷ []) (items_at d c.next.new.self)
     (subst (λ z. LeadsOn d arcs (items_at d z)) c.in-Some.ensures.steps c.loop-item.invariant.leads)
 
@@ -61,9 +61,9 @@ loop-item-preserved g c =
     let done = map view_item_view l.yielded in
     let s = view_item_view c.in-Some.item in
     let rest = c.next.new.self in
-    let start = (arcs_along c.args.map.now.doc c.args.arcs.now.rings.items) in
-    let arcs = arcs_along d l.arcs.rings.items in
-    let next = (arcs_along c.args.map.now.doc c.send_item.new.arcs.rings.items) in
+    let start = arcs_in c.args.map.now.doc c.args.arcs.now in
+    let arcs = arcs_in d l.arcs in
+    let next = arcs_in c.args.map.now.doc c.send_item.new.arcs in
     let seen : map view_item_view (l.yielded ++ c.in-Some.item ∷ []) ≡ done ++ s ∷ [] = map-append view_item_view l.yielded (c.in-Some.item ∷ []) in
     let whole : c.args.items ≡ done ++ s ∷ rest = l.invariant.all ∙ ap (λ z. done ++ z) c.in-Some.ensures.steps in
     let begins : is_begin [] (items_written d (done ++ s ∷ rest)) ≡ true =

@@ -4,8 +4,8 @@ use Rattle.std.specs.Io.KnownBytes.{Appends}
 use Rattle.device_io.specs.Devices.{AppendsPrefix}
 use Rattle.device_io.proofs.DeviceLemmas.{Appends-more}
 use Rattle.map_text.specs.Text.{comma_if, items_text}
-use Rattle.topo_writer.specs.Named.{arcs_along}
 use Rattle.topo_writer.specs.Items.{items_at, items_written}
+use Rattle.topo_writer.specs.Tables.{arcs_in}
 use Rattle.topo_writer.proofs.LayerLemmas.{arcs_next, items_are, items_out, items_shown, layer_leads, layer_parts, name_shown, shows_layer}
 use Rattle.topo_writer.proofs.SectionLemmas.{front_first, front_second, on_err}
 use Rattle.topo_writer.proofs.Sent.{filled}
@@ -25,7 +25,7 @@ send_items-requires-clause-leads g c =
     let i = c.args.i in
     let items = c.in-Some-items.items in
     let shown = items_shown d frame i items c.requires.frame c.requires.there c.in-Some-items.ensures in
-    layer_leads d i (arcs_along c.args.map.now.doc c.args.arcs.now.rings.items) (items_at d items) c.requires.frame.small c.requires.there c.requires.arcs
+    layer_leads d i (arcs_in c.args.map.now.doc c.args.arcs.now) (items_at d items) c.requires.frame.small c.requires.there c.requires.arcs
     (items_are d frame i items c.requires.frame c.requires.there shown)
 
 pub returns-clause-arcs : goal.returns-clause-arcs
@@ -35,7 +35,7 @@ returns-clause-arcs g c =
     let i = c.args.i in
     let items = c.in-Some-items.items in
     let shown = items_shown d frame i items c.requires.frame c.requires.there c.in-Some-items.ensures in
-    arcs_next d i c.requires.there (arcs_along c.args.map.now.doc c.args.arcs.now.rings.items) (arcs_along c.args.map.now.doc c.send_items.new.arcs.rings.items) (items_at d items) c.requires.arcs
+    arcs_next d i c.requires.there (arcs_in c.args.map.now.doc c.args.arcs.now) (arcs_in c.args.map.now.doc c.send_items.new.arcs) (items_at d items) c.requires.arcs
     (items_are d frame i items c.requires.frame c.requires.there shown) c.in_ok-send_items.ensures.arcs
 
 pub returns-clause-ok : goal.returns-clause-ok

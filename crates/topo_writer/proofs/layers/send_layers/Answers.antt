@@ -1,10 +1,8 @@
 use Rattle.std.proofs.Common.{◌≡◌, ◌<◌, sym, ap, subst, ◌∙◌, arith, length}
 use Rattle.std.proofs.KnownBytes.{Appends-nil}
-use Rattle.indexmap.specs.IndexMap.{get}
-use Rattle.ring_machine.specs.Ring.{edge_eq}
-use Rattle.topo_writer.specs.Found.{HasArcs}
 use Rattle.topo_writer.specs.Named.{arcs_along}
 use Rattle.topo_writer.specs.Sections.{arcs_after, layer_at, layer_text}
+use Rattle.topo_writer.specs.Tables.{Finds}
 use Rattle.topo_writer.proofs.LayerLemmas.{arcs_whole, layer_count, layer_there}
 use Rattle.topo_writer.proofs.SectionLemmas.{on_err}
 use Rattle.topo_writer.proofs.Sent.{sent_step, sent_part}
@@ -44,7 +42,7 @@ loop-i-init g c = record {
   empty = c.requires.empty;
   works = c.requires.working;
   table =
-      subst (λ r. HasArcs (get edge_eq c.args.arcs.now.starts) c.args.arcs.now.count (arcs_along c.args.map.now.doc r)) (sym c.requires.none)
+      subst (λ r. Finds c.args.arcs.now (arcs_along c.args.map.now.doc r)) (sym c.requires.none)
       c.requires.table;
   arcs = ap (arcs_along c.args.map.now.doc) c.requires.none;
 }

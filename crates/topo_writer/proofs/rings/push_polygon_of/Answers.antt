@@ -4,8 +4,8 @@ use Rattle.std.proofs.lemmas.List.{get_or_default, take_all}
 use Rattle.std.proofs.lemmas.List.Sums.{sum_by-drop_more}
 use Rattle.ring_machine.specs.Parts.{rings}
 use Rattle.ring_machine.specs.Vertices.{is_junction}
-use Rattle.topo_writer.specs.Named.{arcs_along}
 use Rattle.topo_writer.specs.Reading.{positions_at, rings_at}
+use Rattle.topo_writer.specs.Tables.{arcs_in}
 use Rattle.topo_writer.specs.Ways.{written_rings}
 use Rattle.topo_writer.proofs.Later.{arcs_step, text_step, ring_few}
 use Rattle.topo_writer.proofs.Listed.{bracketed, polygon_is}
@@ -45,9 +45,9 @@ loop-ring-preserved g c =
     let h : i < length rs = omega (arith, c.requires.count) in
     let is : r ≡ get_or rs i [] = ring_is d c.args.n c.args.polygon i in
     let e : r ≡ get_or rs i r = is ∙ get_or_default rs i [] r h in
-    let first = arcs_along d c.args.arcs.now.rings.items in
-    let before = arcs_along d c.loop-ring.arcs.rings.items in
-    let after = arcs_along d c.push_ring_of.new.arcs.rings.items in
+    let first = arcs_in d c.args.arcs.now in
+    let before = arcs_in d c.loop-ring.arcs in
+    let after = arcs_in d c.push_ring_of.new.arcs in
     let arcs = c.in_ok-push_ring_of.ensures.arcs in
     record {
       table = c.in_ok-push_ring_of.ensures.table;
@@ -61,7 +61,7 @@ pub returns-clause-text : goal.returns-clause-text
 returns-clause-text g c =
     let d = c.args.map.now.doc in
     let rs = rings_at d c.args.n c.args.polygon in
-    let arcs = arcs_along d c.loop-ring.arcs.rings.items in
+    let arcs = arcs_in d c.loop-ring.arcs in
     let begun = c.args.text.now.items ++ codes "[" in
     bracketed c.args.text.now.items (written_rings (is_junction d) arcs rs) begun c.loop-ring.text.items c.extend_from_slice-2.new.self.items refl
     (c.loop-ring.invariant.text ∙ ap (λ z. begun ++ written_rings (is_junction d) arcs z) (take_all c.loop-ring.ring rs (omega (arith, c.requires.count))))

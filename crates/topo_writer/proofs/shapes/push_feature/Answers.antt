@@ -3,7 +3,7 @@ use Rattle.std.specs.Prelude.{codes}
 use Rattle.ring_machine.specs.Vertices.{is_junction}
 use Rattle.map_frame.specs.Readers.{shown, Shown}
 use Rattle.map_text.specs.Text.{further, member_if, member_text, type_text}
-use Rattle.topo_writer.specs.Named.{arcs_along}
+use Rattle.topo_writer.specs.Tables.{arcs_in}
 use Rattle.topo_writer.specs.Ways.{written_shape}
 use Rattle.topo_writer.proofs.FeatureTexts.{feature_texts}
 use Rattle.topo_writer.proofs.SeenParts.{seen_as, polygons_read}
@@ -13,7 +13,7 @@ pub returns-clause-text : goal.returns-clause-text
 returns-clause-text g c f e =
     let d = c.args.map.now.doc in
     let j = is_junction d in
-    let arcs = (arcs_along c.args.map.now.doc c.push_shape.new.arcs.rings.items) in
+    let arcs = arcs_in c.args.map.now.doc c.push_shape.new.arcs in
     let v : c.args.view.now ≡ shown f = seen_as d c.args.n c.args.view.now f c.requires.seen e in
     let begun = c.extend_from_slice.new.self.items in
     let typed = c.extend_from_slice-2.new.self.items in

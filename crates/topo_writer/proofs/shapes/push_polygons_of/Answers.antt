@@ -4,8 +4,8 @@ use Rattle.std.specs.List.{AllByRecursion}
 use Rattle.std.proofs.lemmas.List.{append-nil, get_or_default}
 use Rattle.ring_machine.specs.Parts.{rings}
 use Rattle.ring_machine.specs.Vertices.{is_junction}
-use Rattle.topo_writer.specs.Named.{arcs_along}
 use Rattle.topo_writer.specs.Reading.{rings_at, polygons_at}
+use Rattle.topo_writer.specs.Tables.{arcs_in}
 use Rattle.topo_writer.specs.Ways.{written_polygon}
 use Rattle.topo_writer.proofs.LaterParts.{each_part, in_place, polygon_same, rings_few, left_step, part_arcs, part_text}
 use Rattle.topo_writer.proofs.SeenParts.{polygon_is_at, seen_count, seen_ring_count}
@@ -55,8 +55,8 @@ loop-polygon-preserved g c =
     let arcs = c.in_ok-push_polygon_of.ensures.arcs in
     record {
       table = c.in_ok-push_polygon_of.ensures.table;
-      few = omega (arith, c.loop-polygon.invariant.few, left_step (λ polygon. polygon) ps i p h e, ap length arcs, rings_few j (arcs_along c.args.map.now.doc c.loop-polygon.arcs.rings.items) p);
-      arcs = part_arcs j (arcs_along c.args.map.now.doc c.args.arcs.now.rings.items) (λ polygon. polygon) ps i p h e (arcs_along c.args.map.now.doc c.loop-polygon.arcs.rings.items) (arcs_along c.args.map.now.doc c.push_polygon_of.new.arcs.rings.items) c.loop-polygon.invariant.arcs arcs;
-      text = part_text j (arcs_along c.args.map.now.doc c.args.arcs.now.rings.items) (λ polygon. polygon) (written_polygon j) (polygon_same j) ps i p h e (arcs_along c.args.map.now.doc c.loop-polygon.arcs.rings.items) (arcs_along c.args.map.now.doc c.push_polygon_of.new.arcs.rings.items) c.loop-polygon.invariant.arcs arcs
+      few = omega (arith, c.loop-polygon.invariant.few, left_step (λ polygon. polygon) ps i p h e, ap length arcs, rings_few j (arcs_in c.args.map.now.doc c.loop-polygon.arcs) p);
+      arcs = part_arcs j (arcs_in c.args.map.now.doc c.args.arcs.now) (λ polygon. polygon) ps i p h e (arcs_in c.args.map.now.doc c.loop-polygon.arcs) (arcs_in c.args.map.now.doc c.push_polygon_of.new.arcs) c.loop-polygon.invariant.arcs arcs;
+      text = part_text j (arcs_in c.args.map.now.doc c.args.arcs.now) (λ polygon. polygon) (written_polygon j) (polygon_same j) ps i p h e (arcs_in c.args.map.now.doc c.loop-polygon.arcs) (arcs_in c.args.map.now.doc c.push_polygon_of.new.arcs) c.loop-polygon.invariant.arcs arcs
           c.args.text.now.items c.loop-polygon.text.items c.push_comma.new.text.items c.push_polygon_of.new.text.items c.loop-polygon.invariant.text c.in_ok-push_comma.ensures c.in_ok-push_polygon_of.ensures.text;
     }

@@ -6,8 +6,8 @@ use Rattle.ring_machine.specs.Parts.{rings}
 use Rattle.ring_machine.specs.Vertices.{is_junction}
 use Rattle.topo_outline.specs.Views.{form_of}
 use Rattle.map_text.specs.Arcs.{pieces, with_pieces}
-use Rattle.topo_writer.specs.Named.{arcs_along}
 use Rattle.topo_writer.specs.Reading.{rings_at, polygons_at}
+use Rattle.topo_writer.specs.Tables.{arcs_in}
 use Rattle.topo_writer.specs.Ways.{written_shape}
 use Rattle.topo_writer.proofs.FeatureTexts.{shape_many, shape_one}
 use Rattle.topo_writer.proofs.SeenParts.{one_polygon, one_rings, no_rings}
@@ -28,7 +28,7 @@ pub returns-in_ok-push_polygon_of-in-Polygon-clause-arcs :
 returns-in_ok-push_polygon_of-in-Polygon-clause-arcs g c =
     let form : c.args.view.now.form ≡ Polygon = sym c.form.ensures ∙ ap form_of c.in-Polygon.is in
     c.in_ok-push_polygon_of-in-Polygon.ensures.arcs
-    ∙ ap (λ z. with_pieces (arcs_along c.args.map.now.doc c.args.arcs.now.rings.items) (flat_map (pieces (is_junction c.args.map.now.doc)) z))
+    ∙ ap (λ z. with_pieces (arcs_in c.args.map.now.doc c.args.arcs.now) (flat_map (pieces (is_junction c.args.map.now.doc)) z))
     (sym (one_rings c.args.map.now.doc c.args.n c.args.view.now c.requires.seen c.requires.fits form))
 
 pub returns-in_ok-push_polygon_of-in-Polygon-clause-text :
@@ -37,7 +37,7 @@ returns-in_ok-push_polygon_of-in-Polygon-clause-text g c =
     let d = c.args.map.now.doc in
     let j = is_junction d in
     let form : c.args.view.now.form ≡ Polygon = sym c.form.ensures ∙ ap form_of c.in-Polygon.is in
-    let arcs = (arcs_along c.args.map.now.doc c.push_polygon_of.new.arcs.rings.items) in
+    let arcs = arcs_in c.args.map.now.doc c.push_polygon_of.new.arcs in
     shape_one j arcs (rings_at d c.args.n 0) c.args.text.now.items c.extend_from_slice.new.self.items c.push_polygon_of.new.text.items
     c.in_ok-extend_from_slice-in-Polygon.ensures.items c.in_ok-push_polygon_of-in-Polygon.ensures.text
     ∙ ap (λ z. c.args.text.now.items ++ written_shape j arcs z (rings_at d c.args.n 0 ∷ [])) (sym form)
@@ -49,7 +49,7 @@ returns-in_ok-extend_from_slice-in-MultiPolygon-2-clause-text g c =
     let d = c.args.map.now.doc in
     let j = is_junction d in
     let form : c.args.view.now.form ≡ MultiPolygon = sym c.form.ensures ∙ ap form_of c.in-MultiPolygon.is in
-    let arcs = (arcs_along c.args.map.now.doc c.push_polygons_of.new.arcs.rings.items) in
+    let arcs = arcs_in c.args.map.now.doc c.push_polygons_of.new.arcs in
     shape_many j arcs (polygons_at d c.args.n) c.args.text.now.items c.extend_from_slice-in-MultiPolygon.new.self.items c.push_polygons_of.new.text.items c.extend_from_slice-in-MultiPolygon-2.new.self.items
     c.in_ok-extend_from_slice-in-MultiPolygon.ensures.items c.in_ok-push_polygons_of-in-MultiPolygon.ensures.text c.in_ok-extend_from_slice-in-MultiPolygon-2.ensures.items
     ∙ ap (λ z. c.args.text.now.items ++ written_shape j arcs z (polygons_at d c.args.n)) (sym form)
@@ -57,5 +57,5 @@ returns-in_ok-extend_from_slice-in-MultiPolygon-2-clause-text g c =
 pub returns-in-Null-clause-arcs : goal.returns-in-Null-clause-arcs
 returns-in-Null-clause-arcs g c =
     let form : c.args.view.now.form ≡ Null = sym c.form.ensures ∙ ap form_of c.in-Null.is in
-    ap (λ z. with_pieces (arcs_along c.args.map.now.doc c.args.arcs.now.rings.items) (flat_map (pieces (is_junction c.args.map.now.doc)) z))
+    ap (λ z. with_pieces (arcs_in c.args.map.now.doc c.args.arcs.now) (flat_map (pieces (is_junction c.args.map.now.doc)) z))
     (sym (no_rings c.args.map.now.doc c.args.n c.args.view.now c.requires.seen c.requires.fits form))

@@ -3,7 +3,7 @@ use Rattle.std.specs.Io.KnownBytes.{Appends}
 use Rattle.device_io.specs.Devices.{AppendsPrefix}
 use Rattle.ring_machine.specs.Parts.{rings}
 use Rattle.ring_machine.specs.Vertices.{is_junction}
-use Rattle.topo_writer.specs.Named.{arcs_along}
+use Rattle.topo_writer.specs.Tables.{arcs_in}
 use Rattle.topo_writer.proofs.LaterParts.{rings_few}
 use Rattle.topo_writer.proofs.SectionLemmas.{all_sent, at_arcs, at_begin, at_end, at_layers, at_middle, nothing_yet, on_err}
 use Rattle.topo_writer.proofs.Sent.{filled}
@@ -46,7 +46,7 @@ returns-in_err-send_arcs-clause-err g c =
     on_err c.from_residual-in_err-send_arcs.result _
     (at_arcs c.args.map.now.doc c.args.frame.now c.requires.frame _ _ _ c.transform.ensures begun
     _ c.in_ok-send_layers.ensures.ok _ c.in_ok-put_all.ensures.ok
-    (arcs_along c.args.map.now.doc c.send_layers.new.arcs.rings.items) c.in_ok-send_layers.ensures.arcs (λ t. t.now) c.transform-2.result c.transform-2.ensures _ c.is_some-delta.ensures
+    (arcs_in c.args.map.now.doc c.send_layers.new.arcs) c.in_ok-send_layers.ensures.arcs (λ t. t.now) c.transform-2.result c.transform-2.ensures _ c.is_some-delta.ensures
     _ c.in_err-send_arcs.ensures.err)
 
 pub returns-in_err-push_end-clause-err : goal.returns-in_err-push_end-clause-err
@@ -55,7 +55,7 @@ returns-in_err-push_end-clause-err g c =
     on_err c.from_residual-in_err-push_end.result _
     (at_end c.args.map.now.doc c.args.frame.now c.requires.frame _ _ _ c.transform.ensures begun
     _ c.in_ok-send_layers.ensures.ok _ c.in_ok-put_all.ensures.ok
-    (arcs_along c.args.map.now.doc c.send_layers.new.arcs.rings.items) c.in_ok-send_layers.ensures.arcs (λ t. t.now) c.transform-2.result c.transform-2.ensures _ c.is_some-delta.ensures
+    (arcs_in c.args.map.now.doc c.send_layers.new.arcs) c.in_ok-send_layers.ensures.arcs (λ t. t.now) c.transform-2.result c.transform-2.ensures _ c.is_some-delta.ensures
     _ c.in_ok-send_arcs.ensures.ok _ c.members.ensures _ (nothing_yet _ _))
 
 pub returns-in_err-flush-2-clause-err : goal.returns-in_err-flush-2-clause-err
@@ -65,7 +65,7 @@ returns-in_err-flush-2-clause-err g c =
     on_err c.from_residual-in_err-flush-2.result _
     (at_end c.args.map.now.doc c.args.frame.now c.requires.frame _ _ _ c.transform.ensures begun
     _ c.in_ok-send_layers.ensures.ok _ c.in_ok-put_all.ensures.ok
-    (arcs_along c.args.map.now.doc c.send_layers.new.arcs.rings.items) c.in_ok-send_layers.ensures.arcs (λ t. t.now) c.transform-2.result c.transform-2.ensures _ c.is_some-delta.ensures
+    (arcs_in c.args.map.now.doc c.send_layers.new.arcs) c.in_ok-send_layers.ensures.arcs (λ t. t.now) c.transform-2.result c.transform-2.ensures _ c.is_some-delta.ensures
     _ c.in_ok-send_arcs.ensures.ok _ c.members.ensures _ (subst (AppendsPrefix _ _) end c.in_err-flush-2.ensures.err))
 
 pub returns-clause-ok : goal.returns-clause-ok
@@ -74,5 +74,5 @@ returns-clause-ok g c =
     let end = filled _ _ _ c.in_ok-send_arcs.ensures.empty c.in_ok-push_end.ensures in
     all_sent c.args.map.now.doc c.args.frame.now c.requires.frame _ _ _ c.transform.ensures begun
     _ c.in_ok-send_layers.ensures.ok _ c.in_ok-put_all.ensures.ok
-    (arcs_along c.args.map.now.doc c.send_layers.new.arcs.rings.items) c.in_ok-send_layers.ensures.arcs (λ t. t.now) c.transform-2.result c.transform-2.ensures _ c.is_some-delta.ensures
+    (arcs_in c.args.map.now.doc c.send_layers.new.arcs) c.in_ok-send_layers.ensures.arcs (λ t. t.now) c.transform-2.result c.transform-2.ensures _ c.is_some-delta.ensures
     _ c.in_ok-send_arcs.ensures.ok _ c.members.ensures _ (subst (Appends _ _) end c.in_ok-flush-2.ensures.ok)

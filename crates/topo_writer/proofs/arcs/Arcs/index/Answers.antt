@@ -7,6 +7,7 @@ use Rattle.grid_geometry.specs.Position.{Position}
 use Rattle.indexmap.specs.IndexMap.{get}
 use Rattle.ring_machine.specs.Ring.{edge_eq}
 use Rattle.topo_writer.specs.Found.{found, first_edge, last_edge, with_found, HasArcs}
+use Rattle.topo_writer.specs.Tables.{Finds}
 use Rattle.topo_writer.proofs.FoundLaws.{found_first, found_both, found_known, at_place_is}
 use Rattle.topo_writer.proofs.arcs.Arcs.index.Given.{Over}
 use Rattle.topo_writer.proofs.arcs.Arcs.index.Goals as goal
@@ -39,7 +40,7 @@ begin-2 g c = ap₂ (λ x y. (x, y)) (at_place_is c.args.piece.now 0 _ (omega (a
 end : (g : Over) (c : goal.After-self-1 g) → (c.index-piece-n.result, c.index-piece-n-2.result) ≡ last_edge c.args.piece.now
 end g c = ap₂ (λ x y. (x, y)) (at_place_is c.args.piece.now (length c.args.piece.now - 1) _ (omega (arith, c.requires.long)) c.index-piece-n.is) (at_place_is c.args.piece.now (length c.args.piece.now - 2) _ (omega (arith, c.requires.long)) c.index-piece-n-2.is)
 
-module _ (g : Over) (c : goal.After-self-1 g) (arcs : List (List Position)) (h : HasArcs (get edge_eq c.args.self.now.starts) c.args.self.now.count arcs) where
+module _ (g : Over) (c : goal.After-self-1 g) (arcs : List (List Position)) (h : Finds c.args.self.now arcs) where
   none_first : found arcs (first_edge c.args.piece.now) ≡ None
   none_first = ap (found arcs) (sym (begin g c)) ∙ sym (h.mirrors (c.index-piece-0.result, c.index-piece-1.result)) ∙ sym c.in_default.ensures
 
