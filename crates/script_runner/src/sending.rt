@@ -2,91 +2,30 @@
 ghost use Rattle.std.specs.Prelude.{◌≡◌, ◌++◌, codes, false, true, Err, OnOk, OnErr, IfOk};
 ghost use Rattle.std.specs.Io.KnownBytes.{Appends};
 ghost use Rattle.device_io.specs.Devices.{AppendsPrefix};
-ghost use Rattle.ring_machine.specs.Command.{Rings, Count};
 ghost use Rattle.map_text.specs.Text.{text_of};
-ghost use Rattle.script_runner.specs.Runs.{Asked, reply_text, state_of};
+ghost use Rattle.script_runner.specs.Runs.{reply_text, state_of};
 ghost use Rattle.script_runner.specs.Progress.{Told};
 ghost use Rattle.script_runner.specs.Replies.{RepliedLine, meaning_of_said};
-ghost use Rattle.script_lines.specs.Commands.{command_of, IsSound, SaysSound};
+ghost use Rattle.script_lines.specs.Commands.{SaysSound};
 
 use crate::questions::reply_to_count;
 use crate::replies::reply_to;
 use crate::ring_lists::reply_to_rings;
-use crate::stop::Stop;
+use crate::stop::{OutOfMemory, Stop};
 use arc_store::Map;
 use device_io::{Sink, put_all};
-use script_lines::{Command, Line};
+use script_lines::Line;
 use segment_index::GridIndex;
 use std::alloc::Allocator;
 use topo_writer::write;
 
-/// Sends the answer to a command, with a line feed. Answers whether it was refused.
-fn send_answer<A: Allocator + Copy, W: Sink>(
-    alloc: A,
-    map: &mut Map<'_, GridIndex<A>, A>,
-    command: Command,
-    out: &mut W,
-) -> Result<bool, Stop>
-    requires sound { IsSound command }
-    requires works { W.has_failed out.old ≡ false }
-    ensures ok { IfOk result (λ refuses. Told (W.taken out.old) (W.taken out.new)
-        (λ text. RepliedLine (state_of map.old) (state_of map.new)
-        (Asked (command_of command)) text refuses)) }
-    ensures cut { OnErr result (AppendsPrefix (W.taken out.old) (W.taken out.new)
-        (reply_text (state_of map.old) (Asked (command_of command)))) }
-    ensures works { OnOk result (W.has_failed out.new ≡ false) }
-    ensures failed { result ≡ Err Stop.Write → W.has_failed out.new ≡ true }
+/// Appends the answer to a line that says nothing that is taken. Answers that it counts as refused.
+fn push_bad_line<A: Allocator + Copy>(text: &mut Vec<u8, A>) -> Result<bool, OutOfMemory>
+    ensures text { OnOk result (text.new.items ≡ text.old.items ++ codes "bad line") }
+    ensures refused { IfOk result (λ refuses. refuses ≡ true) }
 {
-    let mut text = Vec::new(alloc);
-    let refuses = reply_to(map, command, &mut text)?;
-    text.push(b'\n')?;
-    put_all(out, text.as_slice())?;
-    Ok(refuses)
-}
-
-/// Sends the rings of a feature, with a line feed. Answers whether it was refused.
-fn send_rings<A: Allocator + Copy, W: Sink>(
-    alloc: A,
-    map: &Map<'_, GridIndex<A>, A>,
-    feature: u32,
-    out: &mut W,
-) -> Result<bool, Stop>
-    requires { W.has_failed out.old ≡ false }
-    ensures ok { IfOk result (λ refuses. Told (W.taken out.old) (W.taken out.new)
-        (λ text. RepliedLine (state_of map.now) (state_of map.now)
-        (Asked (Rings feature)) text refuses)) }
-    ensures cut { OnErr result (AppendsPrefix (W.taken out.old) (W.taken out.new)
-        (reply_text (state_of map.now) (Asked (Rings feature)))) }
-    ensures works { OnOk result (W.has_failed out.new ≡ false) }
-    ensures failed { result ≡ Err Stop.Write → W.has_failed out.new ≡ true }
-{
-    let mut text = Vec::new(alloc);
-    let refuses = reply_to_rings(map, feature, &mut text)?;
-    text.push(b'\n')?;
-    put_all(out, text.as_slice())?;
-    Ok(refuses)
-}
-
-/// Sends the counts of the map, with a line feed. Answers that it was not refused.
-fn send_counts<A: Allocator + Copy, W: Sink>(
-    alloc: A,
-    map: &Map<'_, GridIndex<A>, A>,
-    out: &mut W,
-) -> Result<bool, Stop>
-    requires { W.has_failed out.old ≡ false }
-    ensures ok { IfOk result (λ refuses. Told (W.taken out.old) (W.taken out.new)
-        (λ text. RepliedLine (state_of map.now) (state_of map.now)
-        (Asked Count) text refuses)) }
-    ensures cut { OnErr result (AppendsPrefix (W.taken out.old) (W.taken out.new)
-        (reply_text (state_of map.now) (Asked Count))) }
-    ensures works { OnOk result (W.has_failed out.new ≡ false) }
-    ensures failed { result ≡ Err Stop.Write → W.has_failed out.new ≡ true }
-{
-    let mut text = Vec::new(alloc);
-    let refuses = reply_to_count(map, &mut text)?;
-    text.push(b'\n')?;
-    put_all(out, text.as_slice())?;
-    Ok(refuses)
+    text.extend_from_slice(b"bad line")?;
+    Ok(true)
 }
 
 /// Sends the text of the map, with a line feed.
@@ -126,18 +65,19 @@ pub(crate) fn send_reply<A: Allocator + Copy, W: Sink>(
     ensures works { OnOk result (W.has_failed out.new ≡ false) }
     ensures failed { result ≡ Err Stop.Write → W.has_failed out.new ≡ true }
 {
-    match said {
-        Some(Line::Skip) => Ok(false),
-        Some(Line::Rings(feature)) => send_rings(alloc, map, feature, out),
-        Some(Line::Count) => send_counts(alloc, map, out),
-        Some(Line::Edit(command)) => send_answer(alloc, map, command, out),
+    let mut text = Vec::new(alloc);
+    let refuses = match said {
+        Some(Line::Skip) => return Ok(false),
         Some(Line::Document) => {
             send_document(alloc, map, out)?;
-            Ok(false)
+            return Ok(false);
         }
-        None => {
-            put_all(out, b"bad line\n")?;
-            Ok(true)
-        }
-    }
+        Some(Line::Rings(feature)) => reply_to_rings(map, feature, &mut text)?,
+        Some(Line::Count) => reply_to_count(map, &mut text)?,
+        Some(Line::Edit(command)) => reply_to(map, command, &mut text)?,
+        None => push_bad_line(&mut text)?,
+    };
+    text.push(b'\n')?;
+    put_all(out, text.as_slice())?;
+    Ok(refuses)
 }

@@ -8,7 +8,7 @@ returns-in_err-send_document-in-Some-Document-clause-cut g c =
     rw (c.in-Some-Document.is, c.in-Some-Document.field-0-is)
     (OnErr-by c.from_residual.result (document_begun (state_of c.args.map.now) (g.W.Sink.taken c.args.out.now) (g.W.Sink.taken c.send_document.new.out) c.in_err-send_document-in-Some-Document.ensures.cut))
 
-pub returns-in_ok-send_document-in-Some-Document-clause-ok : goal.returns-in_ok-send_document-in-Some-Document-clause-ok
-returns-in_ok-send_document-in-Some-Document-clause-ok g c =
+pub returns-in-Some-Document-clause-ok : goal.returns-in-Some-Document-clause-ok
+returns-in-Some-Document-clause-ok g c =
     rw (c.in-Some-Document.is, c.in-Some-Document.field-0-is)
     (document_shown (state_of c.args.map.now) (g.W.Sink.taken c.args.out.now) (g.W.Sink.taken c.send_document.new.out) c.in_ok-send_document-in-Some-Document.ensures.ok)
