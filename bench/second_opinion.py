@@ -1,7 +1,7 @@
 #!/usr/bin/env python3
 """Compares the built program border_edit with a model of its commands that stands on plain rings.
 
-The model below was written from docs/FORMATS.md alone, in another language and without any of the
+The model below follows the rules of docs/FORMATS.md, in another language and without any of the
 crates: it holds each ring as a list of positions, makes an edit in every ring that has the vertex,
 and looks for conflicts among all segments. Drawn commands are given to both, and the script goes on
 from what the model makes of them. Compared are
