@@ -1,0 +1,14 @@
+pub mod RingsBack
+pub mod DocumentsBack
+pub mod PlacesBack
+pub mod ExchangesBack
+pub mod PlacesFilled
+pub mod PlacesGrown
+pub mod ExchangesMade
+pub mod ExchangesSeen
+pub mod Examples
+pub mod NamesBack
+pub mod HistoriesKept
+pub mod Recorded
+pub mod RemovedFits
+pub mod InsertedFits
