@@ -12,7 +12,6 @@ use Rattle.grid_geometry.proofs.Conflicts.{segment-comm}
 use Rattle.ring_machine.specs.Ring.{has}
 use Rattle.ring_machine.specs.Parts.{size, is_vertex, is_segment}
 use Rattle.ring_machine.specs.Query.{distinct_segments}
-use Rattle.ring_machine.specs.Refusals.{first_of, insert_refusals}
 use Rattle.ring_machine.specs.Vertices.{ins}
 use Rattle.ring_machine.proofs.First.{In}
 use Rattle.ring_machine.proofs.Neighbours.{has-in}
@@ -23,7 +22,7 @@ use Rattle.segment_index.proofs.Singles.{same_segment}
 use Rattle.shared_arcs.specs.Joined.{Joined}
 use Rattle.arc_tables.specs.Rings.{Rings, users_of}
 use Rattle.map_frame.specs.Framed.{Framed}
-use Rattle.arc_store.specs.Edits.{IsInsertable, PutBetween}
+use Rattle.arc_store.specs.Edits.{IsInsertable, IsPlaceable, PutBetween}
 use Rattle.feature_exchange.specs.Holds.{IsIndexed, Holds}
 use Rattle.arc_store.specs.Kept.{IsKept}
 use Rattle.feature_exchange.specs.Stored.{stored, Stored, document_of}
@@ -133,14 +132,14 @@ module _ (s : Stored) (held : SegmentSet) (h : Holds s held) (a b q : Position) 
 
 -- ---- the map
 
--- an accepted insertion keeps what is true of the tables
+-- an insertion keeps what is true of the tables
 module _ (frame : Framed) (rings rings' : Rings) (places places' : Placement) (held held' : SegmentSet) (positions segments : ℕ) (h : IsKept frame rings places held positions segments) (j k : ℕ) (a b q : Position) (first : table.get places j ≡ Some a) (second : table.get places k ≡ Some b)
-    (border : is_segment (document_of (stored frame rings places)) (segment a b) ≡ true) (free : is_vertex (document_of (stored frame rings places)) q ≡ false) (accepted : first_of (insert_refusals (document_of (stored frame rings places)) a b q) ≡ None) (put : PutBetween places places' rings rings' j k q) where
+    (may : IsPlaceable (document_of (stored frame rings places)) a b q) (put : PutBetween places places' rings rings' j k q) where
   abbrev was : Stored
   was = stored frame rings places
 
   insertion : Insertion was rings' j k put.key a b q
-  insertion = record { first = first; second = second; new = put.new; edited = put.edited; accepted = accepted }
+  insertion = record { first = first; second = second; new = put.new; edited = put.edited; may = may }
 
   -- the document is the one with q between a and b
   pub doc_inserted : document_of (stored frame rings' places') ≡ ins (document_of was) a b q
@@ -159,10 +158,10 @@ module _ (frame : Framed) (rings rings' : Rings) (places places' : Placement) (h
     kept_inserted before after goes comes e =
         let e' : Exchanges held (spokes q (a ∷ b ∷ [])) (segment a b ∷ []) held' = λ t.
         e t ∙ ap₂ (λ x y. (set.contains held t || has_segment x t) && not (has_segment (y ∷ []) t)) comes goes in
-        let x = insert_indexed was held h.holds a b q border free j k first second rings' put.key held' insertion e' in
+        let x = insert_indexed was held h.holds a b q may.border may.free j k first second rings' put.key held' insertion e' in
         subst (λ z. IsKept frame rings' z held' (positions + count) (segments + 1)) (sym put.placed) (record {
           holds = holds_inserted was held held' rings' j k put.key a b q h.holds insertion x;
           sized = sym size_grows ∙ sym (ap size (document_inserted was rings' j k put.key a b q h.holds.whole h.holds.proper insertion));
-          single = ap (λ z. z + 1) h.single ∙ sym (insert_count was held h.holds a b q border free j k first second rings' put.key held' insertion e')
+          single = ap (λ z. z + 1) h.single ∙ sym (insert_count was held h.holds a b q may.border may.free j k first second rings' put.key held' insertion e')
               ∙ sym (ap (λ d. length (distinct_segments d)) (document_inserted was rings' j k put.key a b q h.holds.whole h.holds.proper insertion));
         })

@@ -2,7 +2,7 @@
 use Rattle.std.proofs.Common.{◌≡◌, ◌≢◌, ◌≤◌, ◌+◌, ℕ, Bool, true, false, refl, sym, ap, ap₂, ◌∙◌}
 use Rattle.std.proofs.Common.{subst, cond, List, [], ◌∷◌, map, length, ◌⊎◌, inl, inr, ◌&&◌, ◌||◌}
 use Rattle.std.proofs.Common.{arith, Some, None, is_some}
-use Rattle.std.specs.Prelude.{not, nat_le, option_map, unwrap_or}
+use Rattle.std.specs.Prelude.{not, option_map, unwrap_or}
 use Rattle.std.specs.List.{list_any}
 use Rattle.std.specs.FinMap as table
 use Rattle.std.proofs.lemmas.Bool.{false≢true}
@@ -14,7 +14,6 @@ use Rattle.ring_machine.specs.Ring.{canonical, is_ring, segment_of}
 use Rattle.ring_machine.specs.Parts.{rings, all_segments, size, is_segment}
 use Rattle.ring_machine.specs.Vertices.{ins, ins_ring}
 use Rattle.ring_machine.specs.Planar.{Proper}
-use Rattle.ring_machine.specs.Refusals.{first_of, insert_refusals}
 use Rattle.ring_machine.proofs.Arcs.{g_ins, ins_is}
 use Rattle.ring_machine.proofs.Edges.{starts, starts_of, by_edges}
 use Rattle.ring_machine.proofs.First.{In}
@@ -22,7 +21,7 @@ use Rattle.ring_machine.proofs.InRings.{document-agrees}
 use Rattle.ring_machine.proofs.Neighbours.{all_of, all_in, in-map, in-flat_map}
 use Rattle.ring_machine.proofs.RingSegments.{segment_eq-true}
 use Rattle.ring_machine.proofs.RingsOf.{rings-in_rings}
-use Rattle.ring_machine.proofs.Accepted.{InsertAccepted, insert-accepted, inserted}
+use Rattle.ring_machine.proofs.StaysProper.{ins_is_proper}
 use Rattle.ring_machine.proofs.Order.{or_true}
 use Rattle.vertex_index.proofs.PlacementLemmas.{get-inserted}
 use Rattle.segment_index.specs.Candidates.{SegmentSet, has as among}
@@ -36,6 +35,7 @@ use Rattle.map_opening.specs.Laying.{GoesRound}
 use Rattle.feature_exchange.specs.Holds.{Visits, IsWhole, IsIndexed, Holds}
 use Rattle.map_opening.proofs.SegmentLists.{has-eq}
 use Rattle.ring_machine.proofs.Members.{contains_in, in_contains, in_mapped, in_flat}
+use Rattle.arc_store.specs.Edits.{IsPlaceable}
 use Rattle.arc_store.proofs.Around.{segment_joined, come_over}
 use Rattle.arc_store.proofs.Insertions.{Comes, segments_ins}
 use Rattle.arc_store.proofs.Numbers.{users_of, size_over}
@@ -109,13 +109,13 @@ begins_new j k n es e i m =
 
 -- ---- the map
 
--- an accepted insertion of q, under the new key n, between the vertices of j and k
+-- an insertion of q, under the new key n, between the vertices of j and k
 pub record Insertion (s : Stored) (after : Rings) (j k n : ℕ) (a b q : Position) : Type 0 where
   pub first : table.get s.places j ≡ Some a
   pub second : table.get s.places k ≡ Some b
   pub new : table.get s.places n ≡ None
   pub edited : (r : ℕ) → table.get after r ≡ option_map (through j k n) (table.get s.rings r)
-  pub accepted : first_of (insert_refusals (document_of s) a b q) ≡ None
+  pub may : IsPlaceable (document_of s) a b q
 
 -- the map with these rings, and one more vertex
 abbrev pub with_vertex : Stored → Rings → ℕ → Position → Stored
@@ -125,9 +125,6 @@ with_vertex s after n q =
 module _ (s : Stored) (after : Rings) (j k n : ℕ) (a b q : Position) (w : IsWhole s) (proper : Proper (document_of s)) (i : Insertion s after j k n a b q) where
   abbrev next : Stored
   next = with_vertex s after n q
-
-  conditions : InsertAccepted (document_of s) a b q
-  conditions = insert-accepted (document_of s) a b q i.accepted
 
   kept_differs : (x : ℕ) → IsKept s.places x → x ≢ n
   kept_differs x h e = false≢true (sym (ap is_some (ap (table.get s.places) e ∙ i.new)) ∙ h)
@@ -139,7 +136,7 @@ module _ (s : Stored) (after : Rings) (j k n : ℕ) (a b q : Position) (w : IsWh
   ring_stays : (r : ℕ) → In r (rings s.frame) → is_ring (ins_ring a b q (ring_under s r)) ≡ true
   ring_stays r h =
       all_in is_ring (rings (ins (document_of s) a b q)) (ins_ring a b q (ring_under s r))
-      (inserted (document_of s) a b q proper i.accepted).0.are_rings
+      (ins_is_proper (document_of s) a b q proper i.may.free i.may.apart).are_rings
       (subst (In (ins_ring a b q (ring_under s r))) (sym (rings-in_rings (ins_ring a b q) (document_of s)))
       (in-map (ins_ring a b q) (ring_under s r) (rings (document_of s))
       (subst (In (ring_under s r)) (sym (rings-in_rings (ring_under s) s.frame)) (in-map (ring_under s) r (rings s.frame) h))))
@@ -191,7 +188,7 @@ module _ (s : Stored) (after : Rings) (j k n : ℕ) (a b q : Position) (w : IsWh
 
   -- the ends of the segment are joined
   pub border_joined : Joined s.rings j k
-  border_joined = segment_joined s w j k a b i.first i.second conditions.border
+  border_joined = segment_joined s w j k a b i.first i.second i.may.border
 
   -- the new vertex stands in a ring that had the segment
   new_passed : (r : ℕ) × Visits next r n
@@ -231,7 +228,7 @@ module _ (s : Stored) (after : Rings) (j k n : ℕ) (a b q : Position) (w : IsWh
           (v.0, (through j k n v.1.0, edges_after v.0 v.1.0 v.1.1, in_contains (begins (through j k n v.1.0)) x (begins_stay j k n v.1.0 x (contains_in (begins v.1.0) x v.1.2))))
 
       not_there : (y : ℕ) → y ≢ n → table.get next.places y ≡ Some q → ⊥
-      not_there y f e = false≢true (sym conditions.free ∙ key_vertex s w y q (sym (insert_other s.places n q y f) ∙ e))
+      not_there y f e = false≢true (sym i.may.free ∙ key_vertex s w y q (sym (insert_other s.places n q y f) ∙ e))
 
       same_key : (x y : ℕ) (p : Position) → table.get next.places x ≡ Some p
           → table.get next.places y ≡ Some p → Dec (x ≡ n) → Dec (y ≡ n) → x ≡ y
@@ -246,11 +243,11 @@ module _ (s : Stored) (after : Rings) (j k n : ℕ) (a b q : Position) (w : IsWh
   pub segments_inserted : (t : Segment)
       → is_segment (ins (document_of s) a b q) t
       ≡ ((is_segment (document_of s) t && not (segment_eq t (segment a b))) || list_any (segment_eq t) (segment a q ∷ segment q b ∷ []))
-  segments_inserted = segments_ins (document_of s) a b q conditions.border
+  segments_inserted = segments_ins (document_of s) a b q i.may.border
 
   -- those that come in are segments, are two, and are new
   pub come_inserted : Comes (document_of s) (segment a q) (segment q b)
-  come_inserted = come_over s w a b q conditions.border conditions.free
+  come_inserted = come_over s w a b q i.may.border i.may.free
 
   -- the size grows by one for each ring that has the segment
   pub size_inserted : size (ins (document_of s) a b q) ≡ size (document_of s) + length (users_of s j k)
@@ -288,7 +285,7 @@ module _ (s : Stored) (after : Rings) (j k n : ℕ) (a b q : Position) (w : IsWh
       apart_from_it u = on (segment_eq t (segment a b)) refl
         where
           new : (z : Segment) → is_segment (document_of s) z ≡ false → t ≡ z → segment_eq t (segment a b) ≡ true → ⊥
-          new z n e v = false≢true (sym n ∙ ap (is_segment (document_of s)) (sym e ∙ segment_eq-true t (segment a b) v) ∙ conditions.border)
+          new z n e v = false≢true (sym n ∙ ap (is_segment (document_of s)) (sym e ∙ segment_eq-true t (segment a b) v) ∙ i.may.border)
 
           on : (y : Bool) → segment_eq t (segment a b) ≡ y → segment_eq t (segment a b) ≡ false
           on false v = v
@@ -300,9 +297,6 @@ module _ (s : Stored) (after : Rings) (j k n : ℕ) (a b q : Position) (w : IsWh
             ]
           ])
 
-at_most : (m n : ℕ) → nat_le m n ≡ true → m ≤ n
-at_most m n h = grind arith
-
 -- the map with the new vertex is held again, where the index has its segments
 pub holds_inserted : (s : Stored) (held held' : SegmentSet) (after : Rings) (j k n : ℕ) (a b q : Position)
     → Holds s held → Insertion s after j k n a b q → IsIndexed (ins (document_of s) a b q) held'
@@ -313,7 +307,7 @@ holds_inserted s held held' after j k n a b q h i x =
       whole = whole_inserted s after j k n a b q h.whole h.proper i;
       formed = h.formed;
       keeps = h.keeps;
-      proper = subst Proper (sym is) (inserted (document_of s) a b q h.proper i.accepted).0;
-      small = subst (λ d. size d ≤ 4000000) (sym is) (at_most (size (ins (document_of s) a b q)) 4000000 (insert-accepted (document_of s) a b q i.accepted).small);
+      proper = subst Proper (sym is) (ins_is_proper (document_of s) a b q h.proper i.may.free i.may.apart);
+      small = subst (λ d. size d ≤ 4000000) (sym is) i.may.small;
       indexed = subst (λ d. IsIndexed d held') (sym is) x;
     }

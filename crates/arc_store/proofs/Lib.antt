@@ -1,3 +1,4 @@
+pub mod Accepted
 pub mod Moved
 pub mod Indexed
 pub mod RingEdits

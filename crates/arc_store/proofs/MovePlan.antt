@@ -37,6 +37,7 @@ use Rattle.local_planarity.proofs.Least.{apart_if_none}
 use Rattle.arc_store.specs.declared.fault.EditFault.{EditFault}
 use Rattle.arc_store.specs.declared.fault.EditFault.TheVariants as edit
 use Rattle.map_frame.specs.Framed.{Framed}
+use Rattle.arc_store.specs.Edits.{IsMovable}
 use Rattle.arc_store.specs.Faults.{Refuses}
 use Rattle.feature_exchange.specs.Stored.{Stored, document_of, stored}
 use Rattle.feature_exchange.specs.Holds.{IsWhole, IsIndexed, Holds}
@@ -136,21 +137,20 @@ module _ (s : Stored) (held : SegmentSet) (h : Holds s held) (k : ℕ) (p q : Po
 
 -- ---- the map
 
--- an accepted move keeps what is true of the tables
+-- a move keeps what is true of the tables
 kept_moved : (frame : Framed) (rings : Rings) (places : Placement) (held held' : SegmentSet)
     (size_kept single : ℕ) → IsKept frame rings places held size_kept single
     → (k : ℕ) (p q : Position) → table.get places k ≡ Some p
-    → is_vertex (document_of (stored frame rings places)) q ≡ false
-    → first_of (move_refusals (document_of (stored frame rings places)) p q) ≡ None
+    → IsMovable (document_of (stored frame rings places)) p q
     → (around : List Position) → AreAround places rings k around
     → Exchanges held (spokes q around) (spokes p around) held'
     → IsKept frame rings (table.insert places k q) held' size_kept single
-kept_moved frame rings places held held' size_kept single h k p q at free none around r e =
+kept_moved frame rings places held held' size_kept single h k p q at may around r e =
     let s = stored frame rings places in
     record {
-      holds = holds_moved s held held' k p q h.holds at none (plan_indexed s held h.holds k p q at free around r held' e);
-      sized = h.sized ∙ sym (size_moved s h.holds.whole k p q at free);
-      single = h.single ∙ sym (ap (λ d. length (distinct_segments d)) (document_moved s h.holds.whole k p q at free) ∙ plan_count s held h.holds k p q at free around r held' e);
+      holds = holds_moved s held held' k p q h.holds at may (plan_indexed s held h.holds k p q at may.free around r held' e);
+      sized = h.sized ∙ sym (size_moved s h.holds.whole k p q at may.free);
+      single = h.single ∙ sym (ap (λ d. length (distinct_segments d)) (document_moved s h.holds.whole k p q at may.free) ∙ plan_count s held h.holds k p q at may.free around r held' e);
     }
 
 -- ---- refusals
@@ -260,15 +260,14 @@ pub kept_after : {X E : Type 0} (result : Result X E) (frame : Framed) (rings : 
     (places places' : Placement) (held held' : SegmentSet) (size_kept single : ℕ)
     → IsKept frame rings places held size_kept single → (d : Document)
     → document_of (stored frame rings places) ≡ d → (k : ℕ) (p q : Position)
-    → table.get places k ≡ Some p → is_vertex d q ≡ false
-    → first_of (move_refusals d p q) ≡ None
+    → table.get places k ≡ Some p → IsMovable d p q
     → (around : List Position) → AreAround places rings k around
     → (added gone : List Segment) → added ≡ spokes q around → gone ≡ spokes p around
     → OnOk result (places' ≡ table.insert places k q) → OnOk result (Exchanges held added gone held')
     → OnErr result (places' ≡ places) → OnErr result (held' ≡ held)
     → IsKept frame rings places' held' size_kept single
-kept_after (Ok x) frame rings places places' held held' size_kept single h d is k p q at free none around r added gone comes goes moved exchanged same unchanged =
-    subst (λ z. IsKept frame rings z held' size_kept single) (sym moved) (kept_moved frame rings places held held' size_kept single h k p q at (ap (λ z. is_vertex z q) is ∙ free) (ap (λ z. first_of (move_refusals z p q)) is ∙ none) around r
+kept_after (Ok x) frame rings places places' held held' size_kept single h d is k p q at may around r added gone comes goes moved exchanged same unchanged =
+    subst (λ z. IsKept frame rings z held' size_kept single) (sym moved) (kept_moved frame rings places held held' size_kept single h k p q at (subst (λ z. IsMovable z p q) (sym is) may) around r
     (λ t. exchanged t ∙ ap₂ (λ y z. (set.contains held t || has_segment y t) && not (has_segment z t)) comes goes))
-kept_after (Err e) frame rings places places' held held' size_kept single h d is k p q at free none around r added gone comes goes moved exchanged same unchanged =
+kept_after (Err e) frame rings places places' held held' size_kept single h d is k p q at may around r added gone comes goes moved exchanged same unchanged =
     subst (λ z. IsKept frame rings z held' size_kept single) (sym same) (subst (λ z. IsKept frame rings places z size_kept single) (sym unchanged) h)

@@ -1,7 +1,7 @@
 -- What a move of a vertex makes of a map that is kept.
 use Rattle.std.proofs.Common.{◌≡◌, ◌≢◌, ◌≤◌, ◌+◌, ℕ, Bool, true, false, refl, sym, ap, ap₂, ◌∙◌}
 use Rattle.std.proofs.Common.{subst, cond, List, [], ◌∷◌, ◌++◌, map, length, ◌||◌, ◌&&◌, inl}
-use Rattle.std.proofs.Common.{inr, arith, Some, None, is_some}
+use Rattle.std.proofs.Common.{inr, arith, Some, is_some}
 use Rattle.std.specs.Prelude.{◌==◌, not, unwrap_or, pos}
 use Rattle.std.specs.List.{list_any, sum_by, fold}
 use Rattle.std.specs.FinMap as table
@@ -19,8 +19,6 @@ use Rattle.ring_machine.specs.Parts.{rings, size, is_vertex, is_segment, all_seg
 use Rattle.ring_machine.specs.Vertices.{put, put_ring}
 use Rattle.ring_machine.specs.Planar.{Proper}
 use Rattle.ring_machine.specs.WellFormed.{are_distinct}
-use Rattle.ring_machine.specs.Refusals.{first_of, move_refusals}
-use Rattle.ring_machine.proofs.Accepted.{move-accepted, moved}
 use Rattle.ring_machine.proofs.Canonical.{Pivot, pivot_of, canonical_parts, canonical_swap}
 use Rattle.ring_machine.proofs.First.{In}
 use Rattle.ring_machine.proofs.InRings.{document-agrees}
@@ -31,6 +29,7 @@ use Rattle.ring_machine.proofs.Orders.{segment_ordered}
 use Rattle.ring_machine.proofs.Removal.{none_parts, not_true}
 use Rattle.ring_machine.proofs.RingSegments.{segment_eq-true}
 use Rattle.ring_machine.proofs.RingsOf.{rings-in_rings}
+use Rattle.ring_machine.proofs.StaysProper.{put_is_proper}
 use Rattle.ring_machine.proofs.StaysRing.{put-distinct}
 use Rattle.vertex_index.specs.Placement.{Placement, AreDistinct, place}
 use Rattle.vertex_index.proofs.PlacementLemmas.{get-inserted}
@@ -51,6 +50,7 @@ use Rattle.feature_exchange.proofs.Base.{begin_kept, positions_distinct, positio
 use Rattle.feature_exchange.proofs.Base.{segment_between, joined_segment, joined_kept, joined_differ}
 use Rattle.feature_exchange.proofs.Base.{AreJoined, segments_to, segments_at, one_to}
 use Rattle.map_opening.proofs.SegmentLists.{has-eq}
+use Rattle.arc_store.specs.Edits.{IsMovable}
 use Rattle.arc_store.proofs.Indexed.{end_vertex}
 
 -- ---- lists
@@ -368,18 +368,17 @@ module _ (s : Stored) (w : IsWhole s) (k : ℕ) (p q : Position) (at : table.get
           let u = any_in (segment_eq t) (segments_to s.places q xs) (sym (has-eq (segments_to s.places q xs) t) ∙ f) in
           absurd (false≢true (sym (added_new xs u.0 u.1) ∙ ap (is_segment (document_of s)) (sym (segment_eq-true t u.0 u.2)) ∙ sym (i t) ∙ e))
 
--- an accepted move gives a map with all that is true of maps
+-- a move gives a map with all that is true of maps
 pub holds_moved : (s : Stored) (held held' : SegmentSet) (k : ℕ) (p q : Position) → Holds s held
-    → table.get s.places k ≡ Some p → first_of (move_refusals (document_of s) p q) ≡ None
+    → table.get s.places k ≡ Some p → IsMovable (document_of s) p q
     → IsIndexed (put (document_of s) p q) held' → Holds (moved_to s k q) held'
-holds_moved s held held' k p q h at none indexed =
-    let accepted = move-accepted (document_of s) p q none in
-    let is = document_moved s h.whole k p q at accepted.free in
+holds_moved s held held' k p q h at may indexed =
+    let is = document_moved s h.whole k p q at may.free in
     record {
-      whole = whole_moved s h.whole k p q at accepted.free;
+      whole = whole_moved s h.whole k p q at may.free;
       formed = h.formed;
       keeps = h.keeps;
-      proper = subst Proper (sym is) (moved (document_of s) p q h.proper none).0;
-      small = omega (arith, h.small, size_moved s h.whole k p q at accepted.free);
+      proper = subst Proper (sym is) (put_is_proper (document_of s) p q h.proper may.free may.apart);
+      small = omega (arith, h.small, size_moved s h.whole k p q at may.free);
       indexed = subst (λ d. IsIndexed d held') (sym is) indexed;
     }

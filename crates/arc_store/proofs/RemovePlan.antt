@@ -1,6 +1,6 @@
 -- The plan of a removal from between two vertices: what comes and goes, and what is kept.
 use Rattle.std.proofs.Common.{◌≡◌, ◌≤◌, ◌+◌, ◌-◌, ℕ, Bool, true, false, refl, sym, ap, ap₂, ◌∙◌}
-use Rattle.std.proofs.Common.{subst, List, [], ◌∷◌, length, inl, inr, arith, Some, None}
+use Rattle.std.proofs.Common.{subst, List, [], ◌∷◌, length, inl, inr, arith, Some}
 use Rattle.std.specs.FinMap as table
 use Rattle.std.specs.FinSet as set
 use Rattle.std.proofs.lemmas.Bool.{false≢true}
@@ -10,7 +10,7 @@ use Rattle.ring_machine.specs.Ring.{has}
 use Rattle.ring_machine.specs.Document.{Document}
 use Rattle.ring_machine.specs.Parts.{size, is_segment}
 use Rattle.ring_machine.specs.Query.{distinct_segments}
-use Rattle.ring_machine.specs.Refusals.{first_of, remove_refusals, are_long, is_bridged}
+use Rattle.ring_machine.specs.Refusals.{are_long, is_bridged}
 use Rattle.ring_machine.specs.Vertices.{del, is_junction}
 use Rattle.ring_machine.proofs.First.{In}
 use Rattle.ring_machine.proofs.Neighbours.{has-in}
@@ -25,7 +25,7 @@ use Rattle.arc_tables.specs.Edited.{AreApart}
 use Rattle.shared_arcs.specs.Joined.{Joined, AreNeighbours}
 use Rattle.arc_tables.specs.Rings.{Rings, users_of}
 use Rattle.map_frame.specs.Framed.{Framed}
-use Rattle.arc_store.specs.Edits.{IsRemovable, TakenOut}
+use Rattle.arc_store.specs.Edits.{HasBridging, IsLeavable, IsRemovable, TakenOut}
 use Rattle.feature_exchange.specs.Holds.{IsWhole, IsIndexed, Holds}
 use Rattle.arc_store.specs.Kept.{IsKept}
 use Rattle.feature_exchange.specs.Stored.{stored, Stored, document_of}
@@ -216,6 +216,21 @@ found {p = p} kept is here two inner long unjoined = record {
   unjoined = ap (λ d. is_bridged d p) is ∙ unjoined;
 }
 
+-- as it is read from the tables
+pub found_there : {rings : Rings} {places : Placement} {p : Position} {m j k : ℕ}
+    (h : HasBridging places rings p) → table.get places m ≡ Some p
+    → AreTwo (stored h.frame rings places) m j k
+    → IsFound h.frame rings places h.held (size (document_of (stored h.frame rings places)))
+    (length (distinct_segments (document_of (stored h.frame rings places)))) p m j k
+found_there h here two = record {
+  kept = record { holds = h.holds; sized = refl; single = refl };
+  here = here;
+  two = two;
+  inner = h.inner;
+  long = h.long;
+  unjoined = h.unjoined;
+}
+
 module _ {frame : Framed} {rings : Rings} {places : Placement} {held : SegmentSet} {positions segments : ℕ} {p : Position} {m j k : ℕ} (f : IsFound frame rings places held positions segments p m j k) where
   -- both neighbours have positions
   pub first_there : IsPlaced places j
@@ -250,7 +265,7 @@ module _ {frame : Framed} {rings : Rings} {places : Placement} {held : SegmentSe
   found_exchange =
       exchanged (stored frame rings places) held f.kept.holds m j k p f.here f.two f.unjoined
 
--- what an accepted removal leaves
+-- what a removal leaves
 pub record IsTaken (frame : Framed) (rings rings' : Rings) (places places' : Placement)
     (held' : SegmentSet) (positions segments : ℕ) (p : Position) (m k : ℕ) : Type 0 where
   -- the document is the one without p
@@ -261,9 +276,9 @@ pub record IsTaken (frame : Framed) (rings rings' : Rings) (places places' : Pla
   -- what is true of the tables stayed true
   pub kept : IsKept frame rings' places' held' (positions - users_of rings m k) (segments - 1)
 
-module _ {frame : Framed} {rings rings' : Rings} {places places' : Placement} {held : SegmentSet} {positions segments : ℕ} {p : Position} {m j k : ℕ} (f : IsFound frame rings places held positions segments p m j k) (out : TakenOut places places' rings rings' m k) (accepted : first_of (remove_refusals (document_of (stored frame rings places)) p) ≡ None) where
+module _ {frame : Framed} {rings rings' : Rings} {places places' : Placement} {held : SegmentSet} {positions segments : ℕ} {p : Position} {m j k : ℕ} (f : IsFound frame rings places held positions segments p m j k) (out : TakenOut places places' rings rings' m k) (may : IsLeavable (document_of (stored frame rings places)) p) where
   removing : Removing (stored frame rings places) rings' m j k p
-  removing = record { here = f.here; two = f.two; edited = out.edited; accepted = accepted }
+  removing = record { here = f.here; two = f.two; edited = out.edited; may = may }
 
   is_removed : document_of (without_vertex (stored frame rings places) rings' m) ≡ del (document_of (stored frame rings places)) p
   is_removed =
@@ -306,16 +321,16 @@ module _ {frame : Framed} {rings rings' : Rings} {places places' : Placement} {h
       kept = kept_removed;
     }
 
--- the tests accepted the removal, and the tables and the index changed
+-- the tables and the index changed
 pub taken : {frame : Framed} {rings rings' : Rings} {places places' : Placement}
     {held : SegmentSet} {positions segments : ℕ} {p : Position} {m j k : ℕ} {x y : Position}
     {after : Segment} {before : List Segment}
     → IsFound frame rings places held positions segments p m j k
     → table.get places j ≡ Some x → table.get places k ≡ Some y → after ≡ segment x y
     → before ≡ spokes p (x ∷ y ∷ [])
-    → ((d : Document) → IsRemovable d held p after → first_of (remove_refusals d p) ≡ None)
+    → IsLeavable (document_of (stored frame rings places)) p
     → TakenOut places places' rings rings' m k
     → (held' : SegmentSet) → Exchanges held (after ∷ []) before held'
     → IsTaken frame rings rings' places places' held' positions segments p m k
-taken {frame = frame} {rings = rings} {places = places} {x = x} {y = y} {after = after} {before = before} f first second comes goes accepted out held' e =
-    is_taken f out (accepted (document_of (stored frame rings places)) (found_planned f x y first second after before comes goes).removable) held' (found_exchange f x y first second after before comes goes held' e)
+taken {frame = frame} {rings = rings} {places = places} {x = x} {y = y} {after = after} {before = before} f first second comes goes may out held' e =
+    is_taken f out may held' (found_exchange f x y first second after before comes goes held' e)

@@ -1,7 +1,7 @@
 -- What a removal of a vertex does to a map that is kept.
 use Rattle.std.proofs.Common.{◌≡◌, ◌≢◌, ◌≤◌, ◌+◌, ℕ, Bool, true, false, refl, sym, ap, ap₂, ◌∙◌}
 use Rattle.std.proofs.Common.{subst, cond, List, [], ◌∷◌, ◌++◌, map, length, inl, inr, ◌&&◌, ◌||◌}
-use Rattle.std.proofs.Common.{arith, Some, None, is_some}
+use Rattle.std.proofs.Common.{arith, Some, is_some}
 use Rattle.std.specs.Prelude.{not, ◌==◌, option_map, unwrap_or}
 use Rattle.std.specs.List.{filter, list_any}
 use Rattle.std.specs.FinMap as table
@@ -17,7 +17,6 @@ use Rattle.ring_machine.specs.Ring.{canonical, has, is_ring}
 use Rattle.ring_machine.specs.Parts.{rings, all_segments, size, is_segment}
 use Rattle.ring_machine.specs.Vertices.{del, del_ring}
 use Rattle.ring_machine.specs.Planar.{Proper}
-use Rattle.ring_machine.specs.Refusals.{first_of, remove_refusals}
 use Rattle.ring_machine.proofs.Arcs.{is_of}
 use Rattle.ring_machine.proofs.Orders.{segment_ordered}
 use Rattle.ring_machine.proofs.Order.{position_eq-true, position_eq-refl}
@@ -29,8 +28,7 @@ use Rattle.ring_machine.proofs.Neighbours.{all_of, all_in, in-map, has-in, in-ha
 use Rattle.ring_machine.proofs.Removal.{g_del, del_is, Beside, others, filter_lacks}
 use Rattle.ring_machine.proofs.Removal.{onto as drawn_onto}
 use Rattle.ring_machine.proofs.RingsOf.{rings-in_rings}
-use Rattle.ring_machine.proofs.StaysProper.{ring_long, ring_distinct}
-use Rattle.ring_machine.proofs.Accepted.{RemoveAccepted, remove-accepted, removed}
+use Rattle.ring_machine.proofs.StaysProper.{ring_long, ring_distinct, del_is_proper}
 use Rattle.ring_machine.proofs.RingSegments.{segment_eq-true}
 use Rattle.segment_index.specs.Candidates.{SegmentSet, has as among}
 use Rattle.arc_tables.specs.Ways.{Edge, is_seg}
@@ -44,6 +42,7 @@ use Rattle.feature_exchange.specs.Holds.{IsWhole, IsIndexed, Holds}
 use Rattle.map_opening.proofs.SegmentLists.{has-eq}
 use Rattle.ring_machine.proofs.Members.{in_any, contains_in, in_contains, in_mapped, in_flat}
 use Rattle.ring_machine.proofs.Members.{same_answer, is_some-mapped, mapped_there}
+use Rattle.arc_store.specs.Edits.{IsLeavable}
 use Rattle.arc_store.proofs.Around.{AreTwo, two_ways, bridged_two, segments_two, bridge_two}
 use Rattle.map_opening.proofs.Counted.{filter-mapped}
 use Rattle.feature_exchange.proofs.Ends.{two_ends}
@@ -141,12 +140,12 @@ collapsed_same m k (e ∷ es) h =
 
 -- ---- the map
 
--- an accepted removal of p, the position of m, whose neighbours are j and k
+-- a removal of p, the position of m, whose neighbours are j and k
 pub record Removing (s : Stored) (after : Rings) (m j k : ℕ) (p : Position) : Type 0 where
   pub here : table.get s.places m ≡ Some p
   pub two : AreTwo s m j k
   pub edited : (r : ℕ) → table.get after r ≡ option_map (collapsed m k) (table.get s.rings r)
-  pub accepted : first_of (remove_refusals (document_of s) p) ≡ None
+  pub may : IsLeavable (document_of s) p
 
 -- the map with these rings, and one vertex less
 abbrev pub without_vertex : Stored → Rings → ℕ → Stored
@@ -156,9 +155,6 @@ without_vertex s after m =
 module _ (s : Stored) (after : Rings) (m j k : ℕ) (p : Position) (w : IsWhole s) (proper : Proper (document_of s)) (i : Removing s after m j k p) where
   abbrev next : Stored
   next = without_vertex s after m
-
-  conditions : RemoveAccepted (document_of s) p
-  conditions = remove-accepted (document_of s) p i.accepted
 
   p_is : place s.places m ≡ p
   p_is = place_is s.places m p i.here
@@ -190,7 +186,7 @@ module _ (s : Stored) (after : Rings) (m j k : ℕ) (p : Position) (w : IsWhole 
   ring_stays : (r : ℕ) → In r (rings s.frame) → is_ring (del_ring p (ring_under s r)) ≡ true
   ring_stays r h =
       all_in is_ring (rings (del (document_of s) p)) (del_ring p (ring_under s r))
-      (removed (document_of s) p proper i.accepted).0.are_rings
+      (del_is_proper (document_of s) p proper i.may.long i.may.apart).are_rings
       (subst (In (del_ring p (ring_under s r))) (sym (rings-in_rings (del_ring p) (document_of s)))
       (in-map (del_ring p) (ring_under s r) (rings (document_of s)) (ring_there r h)))
 
@@ -387,7 +383,7 @@ module _ (s : Stored) (after : Rings) (m j k : ℕ) (p : Position) (w : IsWhole 
   bridge_segment = bridge_two s w m p i.here j k i.two
 
   pub bridge_new : is_segment (document_of s) (segment (place s.places j) (place s.places k)) ≡ false
-  bridge_new = sym (bridged_two s w m p i.here j k i.two) ∙ conditions.bridge_is_new
+  bridge_new = sym (bridged_two s w m p i.here j k i.two) ∙ i.may.unjoined
 
   -- a ring with p has the segment of p and k
   has_by_segment : (ring : List Position) → In ring (rings (document_of s))
@@ -464,7 +460,7 @@ holds_removed s held held' after m j k p h i x =
       whole = whole_removed s after m j k p h.whole h.proper i;
       formed = h.formed;
       keeps = h.keeps;
-      proper = subst Proper (sym is) (removed (document_of s) p h.proper i.accepted).0;
+      proper = subst Proper (sym is) (del_is_proper (document_of s) p h.proper i.may.long i.may.apart);
       small = subst (λ d. size d ≤ 4000000) (sym is) (omega (arith, h.small, size_removed s after m j k p h.whole h.proper i));
       indexed = subst (λ d. IsIndexed d held') (sym is) x;
     }

@@ -12,6 +12,7 @@ ghost use Rattle.segment_index.specs.Candidates.{AreAmong, AreSingle};
 ghost use Rattle.segment_index.specs.Times.{times_by};
 ghost use Rattle.local_planarity.specs.Edits.{IsHeld};
 ghost use Rattle.local_planarity.specs.Tests.{most_for_move, most_given};
+ghost use Rattle.arc_store.specs.Edits.{HasMoving, IsMoving, IsMovable};
 ghost use Rattle.arc_store.specs.Faults.{Refuses};
 ghost use Rattle.feature_exchange.specs.Holds.{IsIndexed};
 ghost use Rattle.arc_store.specs.Planned.{AreNew, Exchanges};
@@ -23,8 +24,49 @@ use crate::plan::{add_all, discard_all, positions_around, spokes, test_planar};
 use grid_geometry::{Pos, Seg};
 use local_planarity::{Leaving, TestCount, crosses_on_way, holds_other};
 use segment_index::SegIndex;
+use shared_arcs::Borders;
 use std::alloc::{AllocError, Allocator};
 use vertex_index::{VertexKey, Vertices};
+
+/// A vertex that is to move.
+#[derive(Drop)]
+struct Moving<A: Allocator + Copy> {
+    key: VertexKey,
+    /// The positions of the vertices that are joined to it.
+    around: Vec<Pos, A>,
+    /// The segments to these from where it is.
+    before: Vec<Seg, A>,
+    /// The segments to these from where it goes.
+    after: Vec<Seg, A>,
+}
+
+/// What a move of the vertex at p to q, where none is, changes in the tables. Fails for want of
+/// memory alone.
+fn read_moving<A: Allocator + Copy>(
+    alloc: A,
+    vertices: &Vertices<A>,
+    borders: &Borders<A>,
+    p: Pos,
+    q: Pos,
+) -> Result<Moving<A>, EditFault>
+    requires { HasMoving vertices.now borders.now p q }
+    ensures read { IfOk result (λ m. IsMoving vertices.now borders.now p q
+        m.key m.around.items m.before.items m.after.items) }
+    ensures memory { IfErr result (λ fault. fault ≡ OutOfMemory) }
+{
+    let Some(key) = vertices.key_of(p) else {
+        return Err(EditFault::NoVertex);
+    };
+    let around = positions_around(alloc, vertices, borders, key)?;
+    let before = spokes(alloc, p, around.as_slice())?;
+    let after = spokes(alloc, q, around.as_slice())?;
+    Ok(Moving {
+        key,
+        around,
+        before,
+        after,
+    })
+}
 
 /// Whether the edge to one of these sweeps over a position when p moves to q, or p itself passes
 /// over a segment.
@@ -102,31 +144,33 @@ impl<'a, I: SegIndex, A: Allocator + Copy> Map<'a, I, A> {
             + most_for_move (times_by self.old.cells) self.old.doc p q }
         ensures cells { self.new.cells ≡ self.old.cells }
     {
-        let Some(k) = self.vertices.key_of(p) else {
-            return Err(EditFault::NoVertex);
-        };
-        let around = positions_around(self.alloc, &self.vertices, &self.borders, k)?;
-        let before = spokes(self.alloc, p, around.as_slice())?;
-        let after = spokes(self.alloc, q, around.as_slice())?;
+        let moving = read_moving(self.alloc, &self.vertices, &self.borders, p, q)?;
+        let around = moving.around.as_slice();
+        let (before, after) = (moving.before.as_slice(), moving.after.as_slice());
         let leaving = Leaving::EndingAt(p);
-        test_planar(
-            self.alloc,
-            &self.index,
-            leaving,
-            after.as_slice(),
-            &mut self.tests,
-        )?;
-        if sweeps(
-            self.alloc,
-            &self.index,
-            around.as_slice(),
-            p,
-            q,
-            &mut self.tests,
-        )? {
+        test_planar(self.alloc, &self.index, leaving, after, &mut self.tests)?;
+        if sweeps(self.alloc, &self.index, around, p, q, &mut self.tests)? {
             return Err(EditFault::Sweeps);
         }
-        let (before, after) = (before.as_slice(), after.as_slice());
-        shift(&mut self.vertices, &mut self.index, k, q, before, after)
+        let (vertices, index) = (&mut self.vertices, &mut self.index);
+        shift(vertices, index, moving.key, q, before, after)
+    }
+
+    /// Moves the vertex at p to q as a raw move does, but makes no test of two segments and asks of
+    /// no sweep: no two segments would be in conflict. Fails for want of memory alone, and then
+    /// changes nothing.
+    fn move_tables(&mut self, p: Pos, q: Pos) -> Result<(), EditFault>
+        requires movable { IsMovable self.old.doc p q }
+        ensures moved { OnOk result (self.new.doc ≡ put self.old.doc p q) }
+        ensures memory { IfErr result (λ fault. fault ≡ OutOfMemory) }
+        ensures unchanged { OnErr result (self.new.doc ≡ self.old.doc) }
+        ensures next { self.new.next ≡ self.old.next }
+        ensures tests { self.new.tests ≡ self.old.tests }
+        ensures cells { self.new.cells ≡ self.old.cells }
+    {
+        let moving = read_moving(self.alloc, &self.vertices, &self.borders, p, q)?;
+        let (before, after) = (moving.before.as_slice(), moving.after.as_slice());
+        let (vertices, index) = (&mut self.vertices, &mut self.index);
+        shift(vertices, index, moving.key, q, before, after)
     }
 }

@@ -3,6 +3,7 @@ use Rattle.ring_machine.specs.Vertices.{ins}
 use Rattle.segment_index.specs.Candidates.{AreSingle}
 use Rattle.feature_exchange.specs.Stored.{stored, document_of}
 use Rattle.arc_store.specs.Planned.{AreNew}
+use Rattle.arc_store.proofs.Accepted.{insert_may}
 use Rattle.arc_store.proofs.Indexed.{indexed_apart}
 use Rattle.arc_store.proofs.InsertPlan.{first_key, second_key, insert_off, insert_new, insert_single}
 use Rattle.arc_store.proofs.InsertPlan.{insert_unjoined, insertable, doc_inserted, size_grows, kept_inserted}
@@ -10,20 +11,18 @@ use Rattle.feature_exchange.proofs.SegmentBound.{segments_bound}
 use Rattle.arc_store.proofs.Tested.{inserted_few}
 use Rattle.arc_store.proofs.map.Map.raw_insert.Goals as goal
 
-pub returns-in_default-clause-refused : goal.returns-in_default-clause-refused
-returns-in_default-clause-refused g c =
+pub read_parting-requires-clause-first : goal.read_parting-requires-clause-first
+read_parting-requires-clause-first g c =
     let m = c.self.inside in
-    let key = first_key (stored m.frame m.borders m.vertices) (g.I.SegIndex.held m.index) c.self.invariant.holds c.args.a c.args.b c.args.q (rw (← c.self.view_is) at c.requires.segment) (rw (← c.self.view_is) at c.requires.free) in
-    absurd (c.in_default.ensures.absent key.0 key.1)
+    first_key (stored m.frame m.borders m.vertices) (g.I.SegIndex.held m.index) c.self.invariant.holds c.args.a c.args.b c.args.q (rw (← c.self.view_is) at c.requires.segment) (rw (← c.self.view_is) at c.requires.free)
 
-pub returns-in_default-key_of-clause-refused : goal.returns-in_default-key_of-clause-refused
-returns-in_default-key_of-clause-refused g c =
+pub read_parting-requires-clause-second : goal.read_parting-requires-clause-second
+read_parting-requires-clause-second g c =
     let m = c.self.inside in
-    let key = second_key (stored m.frame m.borders m.vertices) (g.I.SegIndex.held m.index) c.self.invariant.holds c.args.a c.args.b c.args.q (rw (← c.self.view_is) at c.requires.segment) (rw (← c.self.view_is) at c.requires.free) in
-    absurd (c.in_default-key_of.ensures.absent key.0 key.1)
+    second_key (stored m.frame m.borders m.vertices) (g.I.SegIndex.held m.index) c.self.invariant.holds c.args.a c.args.b c.args.q (rw (← c.self.view_is) at c.requires.segment) (rw (← c.self.view_is) at c.requires.free)
 
-pub spokes-requires : goal.spokes-requires
-spokes-requires g c =
+pub read_parting-requires-clause-apart : goal.read_parting-requires-clause-apart
+read_parting-requires-clause-apart g c =
     let m = c.self.inside in
     insert_off (stored m.frame m.borders m.vertices) (g.I.SegIndex.held m.index) c.self.invariant.holds c.args.a c.args.b c.args.q (rw (← c.self.view_is) at c.requires.segment) (rw (← c.self.view_is) at c.requires.free)
 
@@ -35,33 +34,36 @@ test_insert-requires-clause-apart g c =
 pub put_in-requires-clause-unjoined : goal.put_in-requires-clause-unjoined
 put_in-requires-clause-unjoined g c =
     let m = c.self.inside in
-    insert_unjoined (stored m.frame m.borders m.vertices) (g.I.SegIndex.held m.index) c.self.invariant.holds c.args.a c.args.b c.args.q (rw (← c.self.view_is) at c.requires.segment) (rw (← c.self.view_is) at c.requires.free) c.in-Some.i c.in-Some-key_of.j c.in-Some.ensures.found c.in-Some-key_of.ensures.found
+    let p = c.in_ok-parting.parting in
+    let r = c.in_ok-parting.ensures.read in
+    insert_unjoined (stored m.frame m.borders m.vertices) (g.I.SegIndex.held m.index) c.self.invariant.holds c.args.a c.args.b c.args.q (rw (← c.self.view_is) at c.requires.segment) (rw (← c.self.view_is) at c.requires.free) p.ends.0 p.ends.1 r.first r.second
 
 pub put_in-requires-clause-new : goal.put_in-requires-clause-new
 put_in-requires-clause-new g c =
     let m = c.self.inside in
-    subst (AreNew (g.I.SegIndex.held m.index)) (sym (c.as_slice-after.ensures.value ∙ c.in_ok-after.ensures))
+    subst (AreNew (g.I.SegIndex.held m.index)) (sym (c.as_slice-after.ensures.value ∙ c.in_ok-parting.ensures.read.comes))
     (insert_new (stored m.frame m.borders m.vertices) (g.I.SegIndex.held m.index) c.self.invariant.holds c.args.a c.args.b c.args.q (rw (← c.self.view_is) at c.requires.segment) (rw (← c.self.view_is) at c.requires.free))
 
 pub put_in-requires-clause-single : goal.put_in-requires-clause-single
 put_in-requires-clause-single g c =
     let m = c.self.inside in
-    subst AreSingle (sym (c.as_slice-after.ensures.value ∙ c.in_ok-after.ensures))
+    subst AreSingle (sym (c.as_slice-after.ensures.value ∙ c.in_ok-parting.ensures.read.comes))
     (insert_single (stored m.frame m.borders m.vertices) (g.I.SegIndex.held m.index) c.self.invariant.holds c.args.a c.args.b c.args.q (rw (← c.self.view_is) at c.requires.segment) (rw (← c.self.view_is) at c.requires.free))
 
 pub overflow_add-self : goal.overflow_add-self
 overflow_add-self g c =
     let m = c.self.inside in
-    let s = stored m.frame m.borders m.vertices in
-    let held = g.I.SegIndex.held m.index in
+    let p = c.in_ok-parting.parting in
+    let r = c.in_ok-parting.ensures.read in
     let border = rw (← c.self.view_is) at c.requires.segment in
     let free = rw (← c.self.view_is) at c.requires.free in
     let small = rw (← c.self.view_is) at c.requires.small in
-    let accepted = c.in_ok-test_insert.ensures.accepted (document_of s) (insertable s held c.self.invariant.holds c.args.a c.args.b c.args.q border free small) in
+    let s = stored m.frame m.borders m.vertices in
+    let may = insert_may (document_of s) c.args.a c.args.b c.args.q c.requires.apart small (c.in_ok-test_insert.ensures.accepted (document_of s) (insertable s (g.I.SegIndex.held m.index) c.self.invariant.holds c.args.a c.args.b c.args.q border free small)) in
     omega (
       arith,
-      small,
-      size_grows m.frame m.borders c.put_in.new.borders m.vertices c.put_in.new.vertices held (g.I.SegIndex.held c.put_in.new.index) m.positions m.segments c.self.invariant c.in-Some.i c.in-Some-key_of.j c.args.a c.args.b c.args.q c.in-Some.ensures.found c.in-Some-key_of.ensures.found border free accepted c.in_ok-put_in.ensures.put c.uses-rings.result c.uses-rings.ensures,
+      may.small,
+      size_grows m.frame m.borders c.put_in.new.borders m.vertices c.put_in.new.vertices (g.I.SegIndex.held m.index) (g.I.SegIndex.held c.put_in.new.index) m.positions m.segments c.self.invariant p.ends.0 p.ends.1 c.args.a c.args.b c.args.q r.first r.second may c.in_ok-rings.ensures.put c.in_ok-rings.rings c.in_ok-rings.ensures.rings,
     )
 
 pub overflow_add-self-2 : goal.overflow_add-self-2
@@ -72,37 +74,42 @@ overflow_add-self-2 g c =
 pub invariant_of-self-2 : goal.invariant_of-self-2
 invariant_of-self-2 g c =
     let m = c.self.inside in
-    let s = stored m.frame m.borders m.vertices in
-    let held = g.I.SegIndex.held m.index in
+    let p = c.in_ok-parting.parting in
+    let r = c.in_ok-parting.ensures.read in
     let border = rw (← c.self.view_is) at c.requires.segment in
     let free = rw (← c.self.view_is) at c.requires.free in
     let small = rw (← c.self.view_is) at c.requires.small in
-    let accepted = c.in_ok-test_insert.ensures.accepted (document_of s) (insertable s held c.self.invariant.holds c.args.a c.args.b c.args.q border free small) in
-    kept_inserted m.frame m.borders c.put_in.new.borders m.vertices c.put_in.new.vertices held (g.I.SegIndex.held c.put_in.new.index) m.positions m.segments c.self.invariant c.in-Some.i c.in-Some-key_of.j c.args.a c.args.b c.args.q c.in-Some.ensures.found c.in-Some-key_of.ensures.found border free accepted c.in_ok-put_in.ensures.put c.uses-rings.result c.uses-rings.ensures
-    c.in-Some-new.before c.as_slice-after.result.now c.in-Some-new.ensures.some (c.as_slice-after.ensures.value ∙ c.in_ok-after.ensures) c.in_ok-put_in.ensures.exchanged
+    let s = stored m.frame m.borders m.vertices in
+    let may = insert_may (document_of s) c.args.a c.args.b c.args.q c.requires.apart small (c.in_ok-test_insert.ensures.accepted (document_of s) (insertable s (g.I.SegIndex.held m.index) c.self.invariant.holds c.args.a c.args.b c.args.q border free small)) in
+    kept_inserted m.frame m.borders c.put_in.new.borders m.vertices c.put_in.new.vertices (g.I.SegIndex.held m.index) (g.I.SegIndex.held c.put_in.new.index) m.positions m.segments c.self.invariant p.ends.0 p.ends.1 c.args.a c.args.b c.args.q r.first r.second may c.in_ok-rings.ensures.put c.in_ok-rings.rings c.in_ok-rings.ensures.rings
+    p.before c.as_slice-after.result.now r.goes (c.as_slice-after.ensures.value ∙ r.comes) c.in_ok-rings.ensures.exchanged
 
 pub returns-clause-inserted : goal.returns-clause-inserted
 returns-clause-inserted g c =
     let m = c.self.inside in
-    let s = stored m.frame m.borders m.vertices in
-    let held = g.I.SegIndex.held m.index in
+    let p = c.in_ok-parting.parting in
+    let r = c.in_ok-parting.ensures.read in
     let border = rw (← c.self.view_is) at c.requires.segment in
     let free = rw (← c.self.view_is) at c.requires.free in
     let small = rw (← c.self.view_is) at c.requires.small in
-    let accepted = c.in_ok-test_insert.ensures.accepted (document_of s) (insertable s held c.self.invariant.holds c.args.a c.args.b c.args.q border free small) in
-    doc_inserted m.frame m.borders c.put_in.new.borders m.vertices c.put_in.new.vertices held (g.I.SegIndex.held c.put_in.new.index) m.positions m.segments c.self.invariant c.in-Some.i c.in-Some-key_of.j c.args.a c.args.b c.args.q c.in-Some.ensures.found c.in-Some-key_of.ensures.found border free accepted c.in_ok-put_in.ensures.put
+    let s = stored m.frame m.borders m.vertices in
+    let may = insert_may (document_of s) c.args.a c.args.b c.args.q c.requires.apart small (c.in_ok-test_insert.ensures.accepted (document_of s) (insertable s (g.I.SegIndex.held m.index) c.self.invariant.holds c.args.a c.args.b c.args.q border free small)) in
+    doc_inserted m.frame m.borders c.put_in.new.borders m.vertices c.put_in.new.vertices (g.I.SegIndex.held m.index) (g.I.SegIndex.held c.put_in.new.index) m.positions m.segments c.self.invariant p.ends.0 p.ends.1 c.args.a c.args.b c.args.q r.first r.second may c.in_ok-rings.ensures.put
     ∙ ap (λ z. ins z.doc c.args.a c.args.b c.args.q) c.self.view_is
 
 -- ---- the tests
 
 pub returns-in_err-test_insert-clause-few : goal.returns-in_err-test_insert-clause-few
 returns-in_err-test_insert-clause-few g c =
-    inserted_few c.self.invariant c.self.view_is c.args.a c.args.b c.args.q c.requires.segment c.requires.free c.requires.small c.in-Some-new.before c.as_slice-after.result.now c.in-Some-new.ensures.some (c.as_slice-after.ensures.value ∙ c.in_ok-after.ensures) c.test_insert.new.tests c.test_insert.ensures.few
+    let r = c.in_ok-parting.ensures.read in
+    inserted_few c.self.invariant c.self.view_is c.args.a c.args.b c.args.q c.requires.segment c.requires.free c.requires.small c.in_ok-parting.parting.before c.as_slice-after.result.now r.goes (c.as_slice-after.ensures.value ∙ r.comes) c.test_insert.new.tests c.test_insert.ensures.few
 
-pub returns-in_err-put_in-clause-few : goal.returns-in_err-put_in-clause-few
-returns-in_err-put_in-clause-few g c =
-    inserted_few c.self.invariant c.self.view_is c.args.a c.args.b c.args.q c.requires.segment c.requires.free c.requires.small c.in-Some-new.before c.as_slice-after.result.now c.in-Some-new.ensures.some (c.as_slice-after.ensures.value ∙ c.in_ok-after.ensures) c.test_insert.new.tests c.test_insert.ensures.few
+pub returns-in_err-rings-clause-few : goal.returns-in_err-rings-clause-few
+returns-in_err-rings-clause-few g c =
+    let r = c.in_ok-parting.ensures.read in
+    inserted_few c.self.invariant c.self.view_is c.args.a c.args.b c.args.q c.requires.segment c.requires.free c.requires.small c.in_ok-parting.parting.before c.as_slice-after.result.now r.goes (c.as_slice-after.ensures.value ∙ r.comes) c.test_insert.new.tests c.test_insert.ensures.few
 
 pub returns-clause-few : goal.returns-clause-few
 returns-clause-few g c =
-    inserted_few c.self.invariant c.self.view_is c.args.a c.args.b c.args.q c.requires.segment c.requires.free c.requires.small c.in-Some-new.before c.as_slice-after.result.now c.in-Some-new.ensures.some (c.as_slice-after.ensures.value ∙ c.in_ok-after.ensures) c.test_insert.new.tests c.test_insert.ensures.few
+    let r = c.in_ok-parting.ensures.read in
+    inserted_few c.self.invariant c.self.view_is c.args.a c.args.b c.args.q c.requires.segment c.requires.free c.requires.small c.in_ok-parting.parting.before c.as_slice-after.result.now r.goes (c.as_slice-after.ensures.value ∙ r.comes) c.test_insert.new.tests c.test_insert.ensures.few

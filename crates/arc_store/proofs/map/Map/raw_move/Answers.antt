@@ -1,39 +1,26 @@
-use Rattle.std.proofs.Common.{◌≡◌, ◌∙◌, sym, ap, subst, [], ◌∷◌}
+use Rattle.std.proofs.Common.{◌∙◌, sym, ap, subst, [], ◌∷◌}
 use Rattle.std.specs.Prelude.{not}
 use Rattle.std.proofs.lemmas.Result.{err_from_is_err_and, on_ok_weaker}
 use Rattle.ring_machine.specs.Parts.{is_vertex}
-use Rattle.ring_machine.specs.Ring.{has}
 use Rattle.ring_machine.specs.Command.{Sweeps}
 use Rattle.ring_machine.specs.Refusals.{first_of, ◌unless◌}
 use Rattle.segment_index.specs.Candidates.{AreAmong, AreSingle}
 use Rattle.feature_exchange.specs.Stored.{stored}
-use Rattle.arc_store.specs.Planned.{AreNew, spokes}
-use Rattle.feature_exchange.proofs.Base.{vertex_key}
-use Rattle.arc_store.proofs.MovePlan.{all_placed, off_before, off_after, held_apart, move_conflicts, move_decided}
+use Rattle.arc_store.specs.Planned.{AreNew}
+use Rattle.arc_store.proofs.Accepted.{move_may}
+use Rattle.arc_store.proofs.MovePlan.{held_apart, move_conflicts, move_decided}
 use Rattle.arc_store.proofs.MovePlan.{plan_new, plan_single, plan_held, plan_once, document_after, kept_after}
 use Rattle.arc_store.proofs.Tested.{conflicts_few, sweeps_few}
 use Rattle.arc_store.proofs.map.Map.raw_move.Goals as goal
 
-pub returns-in_default-clause-refused : goal.returns-in_default-clause-refused
-returns-in_default-clause-refused g c =
-    let key = vertex_key (stored c.self.inside.frame c.self.inside.borders c.self.inside.vertices) c.self.invariant.holds.whole c.args.p (ap (λ z. is_vertex z.doc c.args.p) c.self.view_is ∙ c.requires.vertex) in
-    absurd (c.in_default.ensures.absent key.0 key.1)
-
-pub positions_around-requires : goal.positions_around-requires
-positions_around-requires g c =
-    all_placed (stored c.self.inside.frame c.self.inside.borders c.self.inside.vertices) c.self.invariant.holds.whole c.in-Some.k
-
-pub spokes-requires : goal.spokes-requires
-spokes-requires g c =
-    let s = stored c.self.inside.frame c.self.inside.borders c.self.inside.vertices in
-    ap (λ z. has z c.args.p) c.as_slice.ensures.value
-    ∙ off_before s (g.I.SegIndex.held c.self.inside.index) c.self.invariant.holds c.in-Some.k c.args.p c.args.q c.in-Some.ensures.found (ap (λ z. is_vertex z.doc c.args.q) c.self.view_is ∙ c.requires.free) c.in_ok-around.around.items c.in_ok-around.ensures
-
-pub spokes-requires-2 : goal.spokes-requires-2
-spokes-requires-2 g c =
-    let s = stored c.self.inside.frame c.self.inside.borders c.self.inside.vertices in
-    ap (λ z. has z c.args.q) c.as_slice-2.ensures.value
-    ∙ off_after s (g.I.SegIndex.held c.self.inside.index) c.self.invariant.holds c.in-Some.k c.args.p c.args.q c.in-Some.ensures.found (ap (λ z. is_vertex z.doc c.args.q) c.self.view_is ∙ c.requires.free) c.in_ok-around.around.items c.in_ok-around.ensures
+pub read_moving-requires : goal.read_moving-requires
+read_moving-requires g c = record {
+  frame = c.self.inside.frame;
+  held = g.I.SegIndex.held c.self.inside.index;
+  holds = c.self.invariant.holds;
+  vertex = ap (λ z. is_vertex z.doc c.args.p) c.self.view_is ∙ c.requires.vertex;
+  free = ap (λ z. is_vertex z.doc c.args.q) c.self.view_is ∙ c.requires.free;
+}
 
 pub test_planar-requires : goal.test_planar-requires
 test_planar-requires g c =
@@ -41,89 +28,104 @@ test_planar-requires g c =
 
 pub returns-in_err-test_planar-clause-refused : goal.returns-in_err-test_planar-clause-refused
 returns-in_err-test_planar-clause-refused g c =
-    let comes : c.as_slice-3.result.now ≡ spokes c.args.q c.in_ok-around.around.items = c.as_slice-3.ensures.value ∙ c.in_ok-after.ensures ∙ ap (spokes c.args.q) c.as_slice-2.ensures.value in
+    let m = c.in_ok-moving.moving in
+    let r = c.in_ok-moving.ensures.read in
     let e = err_from_is_err_and c.from_residual-in_err-test_planar.result c.from_residual-in_err-test_planar.ensures.1 in
     rw (e.1, e.2)
-    (move_conflicts (stored c.self.inside.frame c.self.inside.borders c.self.inside.vertices) (g.I.SegIndex.held c.self.inside.index) c.self.invariant.holds c.args.self.now.doc (ap (λ z. z.doc) c.self.view_is) c.in-Some.k c.args.p c.args.q c.in-Some.ensures.found c.requires.vertex c.requires.free c.in_ok-around.around.items c.in_ok-around.ensures c.as_slice-3.result.now
-    comes c.in_err-test_planar.field-0.0 c.in_err-test_planar.ensures.refused)
+    (move_conflicts (stored c.self.inside.frame c.self.inside.borders c.self.inside.vertices) (g.I.SegIndex.held c.self.inside.index) c.self.invariant.holds c.args.self.now.doc (ap (λ z. z.doc) c.self.view_is) m.key c.args.p c.args.q r.here c.requires.vertex c.requires.free m.around.items r.all c.as_slice-after.result.now
+    (c.as_slice-after.ensures.value ∙ r.comes) c.in_err-test_planar.field-0.0 c.in_err-test_planar.ensures.refused)
 
 pub returns-then-branch-clause-refused : goal.returns-then-branch-clause-refused
 returns-then-branch-clause-refused g c =
-    move_decided (stored c.self.inside.frame c.self.inside.borders c.self.inside.vertices) (g.I.SegIndex.held c.self.inside.index) c.self.invariant.holds c.args.self.now.doc (ap (λ z. z.doc) c.self.view_is) c.in-Some.k c.args.p c.args.q c.in-Some.ensures.found c.requires.vertex c.requires.free c.in_ok-around.around.items c.in_ok-around.ensures c.as_slice-3.result.now
-    (c.as_slice-3.ensures.value ∙ c.in_ok-after.ensures ∙ ap (spokes c.args.q) c.as_slice-2.ensures.value)
-    c.as_slice-4.result.now c.as_slice-4.ensures.value c.in_ok-sweeps.field-0 c.in_ok-test_planar.ensures.apart c.in_ok-sweeps.ensures.sweeps
+    let m = c.in_ok-moving.moving in
+    let r = c.in_ok-moving.ensures.read in
+    move_decided (stored c.self.inside.frame c.self.inside.borders c.self.inside.vertices) (g.I.SegIndex.held c.self.inside.index) c.self.invariant.holds c.args.self.now.doc (ap (λ z. z.doc) c.self.view_is) m.key c.args.p c.args.q r.here c.requires.vertex c.requires.free m.around.items r.all c.as_slice-after.result.now
+    (c.as_slice-after.ensures.value ∙ r.comes)
+    c.as_slice-around.result.now c.as_slice-around.ensures.value c.in_ok-sweeps.field-0 c.in_ok-test_planar.ensures.apart c.in_ok-sweeps.ensures.sweeps
     ∙ ap (λ z. first_of ((Sweeps unless not z) ∷ [])) c.if-branch.true
 
 pub shift-requires-clause-new : goal.shift-requires-clause-new
 shift-requires-clause-new g c =
-    let s = stored c.self.inside.frame c.self.inside.borders c.self.inside.vertices in
-    subst (AreNew (g.I.SegIndex.held c.self.inside.index)) (sym (c.as_slice-after.ensures.value ∙ c.in_ok-after.ensures ∙ ap (spokes c.args.q) c.as_slice-2.ensures.value))
-    (plan_new s (g.I.SegIndex.held c.self.inside.index) c.self.invariant.holds c.in-Some.k c.args.p c.args.q c.in-Some.ensures.found (ap (λ z. is_vertex z.doc c.args.q) c.self.view_is ∙ c.requires.free) c.in_ok-around.around.items c.in_ok-around.ensures)
+    let m = c.in_ok-moving.moving in
+    let r = c.in_ok-moving.ensures.read in
+    subst (AreNew (g.I.SegIndex.held c.self.inside.index)) (sym (c.as_slice-after.ensures.value ∙ r.comes))
+    (plan_new (stored c.self.inside.frame c.self.inside.borders c.self.inside.vertices) (g.I.SegIndex.held c.self.inside.index) c.self.invariant.holds m.key c.args.p c.args.q r.here (ap (λ z. is_vertex z.doc c.args.q) c.self.view_is ∙ c.requires.free) m.around.items r.all)
 
 pub shift-requires-clause-after_once : goal.shift-requires-clause-after_once
 shift-requires-clause-after_once g c =
-    let s = stored c.self.inside.frame c.self.inside.borders c.self.inside.vertices in
-    subst AreSingle (sym (c.as_slice-after.ensures.value ∙ c.in_ok-after.ensures ∙ ap (spokes c.args.q) c.as_slice-2.ensures.value))
-    (plan_single s (g.I.SegIndex.held c.self.inside.index) c.self.invariant.holds c.in-Some.k c.args.p c.args.q c.in-Some.ensures.found (ap (λ z. is_vertex z.doc c.args.q) c.self.view_is ∙ c.requires.free) c.in_ok-around.around.items c.in_ok-around.ensures)
+    let m = c.in_ok-moving.moving in
+    let r = c.in_ok-moving.ensures.read in
+    subst AreSingle (sym (c.as_slice-after.ensures.value ∙ r.comes))
+    (plan_single (stored c.self.inside.frame c.self.inside.borders c.self.inside.vertices) (g.I.SegIndex.held c.self.inside.index) c.self.invariant.holds m.key c.args.p c.args.q r.here (ap (λ z. is_vertex z.doc c.args.q) c.self.view_is ∙ c.requires.free) m.around.items r.all)
 
 pub shift-requires-clause-held : goal.shift-requires-clause-held
 shift-requires-clause-held g c =
-    let s = stored c.self.inside.frame c.self.inside.borders c.self.inside.vertices in
-    subst (AreAmong (g.I.SegIndex.held c.self.inside.index)) (sym (c.as_slice-before.ensures.value ∙ c.in_ok-before.ensures ∙ ap (spokes c.args.p) c.as_slice.ensures.value))
-    (plan_held s (g.I.SegIndex.held c.self.inside.index) c.self.invariant.holds c.in-Some.k c.args.p c.args.q c.in-Some.ensures.found (ap (λ z. is_vertex z.doc c.args.q) c.self.view_is ∙ c.requires.free) c.in_ok-around.around.items c.in_ok-around.ensures)
+    let m = c.in_ok-moving.moving in
+    let r = c.in_ok-moving.ensures.read in
+    subst (AreAmong (g.I.SegIndex.held c.self.inside.index)) (sym (c.as_slice-before.ensures.value ∙ r.goes))
+    (plan_held (stored c.self.inside.frame c.self.inside.borders c.self.inside.vertices) (g.I.SegIndex.held c.self.inside.index) c.self.invariant.holds m.key c.args.p c.args.q r.here (ap (λ z. is_vertex z.doc c.args.q) c.self.view_is ∙ c.requires.free) m.around.items r.all)
 
 pub shift-requires-clause-before_once : goal.shift-requires-clause-before_once
 shift-requires-clause-before_once g c =
-    let s = stored c.self.inside.frame c.self.inside.borders c.self.inside.vertices in
-    subst AreSingle (sym (c.as_slice-before.ensures.value ∙ c.in_ok-before.ensures ∙ ap (spokes c.args.p) c.as_slice.ensures.value))
-    (plan_once s (g.I.SegIndex.held c.self.inside.index) c.self.invariant.holds c.in-Some.k c.args.p c.args.q c.in-Some.ensures.found (ap (λ z. is_vertex z.doc c.args.q) c.self.view_is ∙ c.requires.free) c.in_ok-around.around.items c.in_ok-around.ensures)
+    let m = c.in_ok-moving.moving in
+    let r = c.in_ok-moving.ensures.read in
+    subst AreSingle (sym (c.as_slice-before.ensures.value ∙ r.goes))
+    (plan_once (stored c.self.inside.frame c.self.inside.borders c.self.inside.vertices) (g.I.SegIndex.held c.self.inside.index) c.self.invariant.holds m.key c.args.p c.args.q r.here (ap (λ z. is_vertex z.doc c.args.q) c.self.view_is ∙ c.requires.free) m.around.items r.all)
 
 pub invariant_of-self-2 : goal.invariant_of-self-2
 invariant_of-self-2 g c =
-    kept_after c.shift.result c.self.inside.frame c.self.inside.borders c.self.inside.vertices c.shift.new.vertices (g.I.SegIndex.held c.self.inside.index) (g.I.SegIndex.held c.shift.new.index) c.self.inside.positions c.self.inside.segments c.self.invariant c.args.self.now.doc (ap (λ z. z.doc) c.self.view_is) c.in-Some.k c.args.p c.args.q c.in-Some.ensures.found c.requires.free
-    (move_decided (stored c.self.inside.frame c.self.inside.borders c.self.inside.vertices) (g.I.SegIndex.held c.self.inside.index) c.self.invariant.holds c.args.self.now.doc (ap (λ z. z.doc) c.self.view_is) c.in-Some.k c.args.p c.args.q c.in-Some.ensures.found c.requires.vertex c.requires.free c.in_ok-around.around.items c.in_ok-around.ensures c.as_slice-3.result.now
-    (c.as_slice-3.ensures.value ∙ c.in_ok-after.ensures ∙ ap (spokes c.args.q) c.as_slice-2.ensures.value)
-    c.as_slice-4.result.now c.as_slice-4.ensures.value c.in_ok-sweeps.field-0 c.in_ok-test_planar.ensures.apart c.in_ok-sweeps.ensures.sweeps
-    ∙ ap (λ z. first_of ((Sweeps unless not z) ∷ [])) c.if-branch.false)
-    c.in_ok-around.around.items c.in_ok-around.ensures c.as_slice-after.result.now c.as_slice-before.result.now
-    (c.as_slice-after.ensures.value ∙ c.in_ok-after.ensures ∙ ap (spokes c.args.q) c.as_slice-2.ensures.value)
-    (c.as_slice-before.ensures.value ∙ c.in_ok-before.ensures ∙ ap (spokes c.args.p) c.as_slice.ensures.value)
+    let m = c.in_ok-moving.moving in
+    let r = c.in_ok-moving.ensures.read in
+    kept_after c.shift.result c.self.inside.frame c.self.inside.borders c.self.inside.vertices c.shift.new.vertices (g.I.SegIndex.held c.self.inside.index) (g.I.SegIndex.held c.shift.new.index) c.self.inside.positions c.self.inside.segments c.self.invariant c.args.self.now.doc (ap (λ z. z.doc) c.self.view_is) m.key c.args.p c.args.q r.here
+    (move_may c.args.self.now.doc c.args.p c.args.q
+    (move_decided (stored c.self.inside.frame c.self.inside.borders c.self.inside.vertices) (g.I.SegIndex.held c.self.inside.index) c.self.invariant.holds c.args.self.now.doc (ap (λ z. z.doc) c.self.view_is) m.key c.args.p c.args.q r.here c.requires.vertex c.requires.free m.around.items r.all c.as_slice-after.result.now
+    (c.as_slice-after.ensures.value ∙ r.comes)
+    c.as_slice-around.result.now c.as_slice-around.ensures.value c.in_ok-sweeps.field-0 c.in_ok-test_planar.ensures.apart c.in_ok-sweeps.ensures.sweeps
+    ∙ ap (λ z. first_of ((Sweeps unless not z) ∷ [])) c.if-branch.false))
+    m.around.items r.all c.as_slice-after.result.now c.as_slice-before.result.now (c.as_slice-after.ensures.value ∙ r.comes) (c.as_slice-before.ensures.value ∙ r.goes)
     c.shift.ensures.moved c.shift.ensures.exchanged c.shift.ensures.vertices c.shift.ensures.index
 
 pub returns-clause-accepted : goal.returns-clause-accepted
 returns-clause-accepted g c =
-    on_ok_weaker c.shift.result (λ m.
-    move_decided (stored c.self.inside.frame c.self.inside.borders c.self.inside.vertices) (g.I.SegIndex.held c.self.inside.index) c.self.invariant.holds c.args.self.now.doc (ap (λ z. z.doc) c.self.view_is) c.in-Some.k c.args.p c.args.q c.in-Some.ensures.found c.requires.vertex c.requires.free c.in_ok-around.around.items c.in_ok-around.ensures c.as_slice-3.result.now
-    (c.as_slice-3.ensures.value ∙ c.in_ok-after.ensures ∙ ap (spokes c.args.q) c.as_slice-2.ensures.value)
-    c.as_slice-4.result.now c.as_slice-4.ensures.value c.in_ok-sweeps.field-0 c.in_ok-test_planar.ensures.apart c.in_ok-sweeps.ensures.sweeps
+    let m = c.in_ok-moving.moving in
+    let r = c.in_ok-moving.ensures.read in
+    on_ok_weaker c.shift.result (λ z.
+    move_decided (stored c.self.inside.frame c.self.inside.borders c.self.inside.vertices) (g.I.SegIndex.held c.self.inside.index) c.self.invariant.holds c.args.self.now.doc (ap (λ z. z.doc) c.self.view_is) m.key c.args.p c.args.q r.here c.requires.vertex c.requires.free m.around.items r.all c.as_slice-after.result.now
+    (c.as_slice-after.ensures.value ∙ r.comes)
+    c.as_slice-around.result.now c.as_slice-around.ensures.value c.in_ok-sweeps.field-0 c.in_ok-test_planar.ensures.apart c.in_ok-sweeps.ensures.sweeps
     ∙ ap (λ z. first_of ((Sweeps unless not z) ∷ [])) c.if-branch.false)
     c.shift.ensures.moved
 
 pub returns-clause-moved : goal.returns-clause-moved
 returns-clause-moved g c =
-    document_after c.shift.result c.self.inside.frame c.self.inside.borders c.self.inside.vertices c.shift.new.vertices c.self.invariant.holds.whole c.args.self.now.doc (ap (λ z. z.doc) c.self.view_is) c.in-Some.k c.args.p c.args.q c.in-Some.ensures.found c.requires.free c.shift.ensures.moved
+    document_after c.shift.result c.self.inside.frame c.self.inside.borders c.self.inside.vertices c.shift.new.vertices c.self.invariant.holds.whole c.args.self.now.doc (ap (λ z. z.doc) c.self.view_is) c.in_ok-moving.moving.key c.args.p c.args.q c.in_ok-moving.ensures.read.here c.requires.free c.shift.ensures.moved
 
 -- ---- how many tests
 
 pub returns-in_err-test_planar-clause-few : goal.returns-in_err-test_planar-clause-few
 returns-in_err-test_planar-clause-few g c =
-    conflicts_few c.self.invariant c.self.view_is c.in-Some.k c.args.p c.args.q c.in-Some.ensures.found c.requires.free c.in_ok-around.around.items c.in_ok-around.ensures c.as_slice-3.result.now
-    (c.as_slice-3.ensures.value ∙ c.in_ok-after.ensures ∙ ap (spokes c.args.q) c.as_slice-2.ensures.value) c.test_planar.new.tests c.test_planar.ensures.few
+    let m = c.in_ok-moving.moving in
+    let r = c.in_ok-moving.ensures.read in
+    conflicts_few c.self.invariant c.self.view_is m.key c.args.p c.args.q r.here c.requires.free m.around.items r.all c.as_slice-after.result.now
+    (c.as_slice-after.ensures.value ∙ r.comes) c.test_planar.new.tests c.test_planar.ensures.few
 
 pub returns-in_err-sweeps-clause-few : goal.returns-in_err-sweeps-clause-few
 returns-in_err-sweeps-clause-few g c =
-    sweeps_few c.self.invariant c.self.view_is c.in-Some.k c.args.p c.args.q c.in-Some.ensures.found c.requires.free c.in_ok-around.around.items c.in_ok-around.ensures c.as_slice-3.result.now
-    (c.as_slice-3.ensures.value ∙ c.in_ok-after.ensures ∙ ap (spokes c.args.q) c.as_slice-2.ensures.value) c.test_planar.new.tests c.test_planar.ensures.few
-    c.sweeps.new.tests c.sweeps.ensures.few
+    let m = c.in_ok-moving.moving in
+    let r = c.in_ok-moving.ensures.read in
+    sweeps_few c.self.invariant c.self.view_is m.key c.args.p c.args.q r.here c.requires.free m.around.items r.all c.as_slice-after.result.now
+    (c.as_slice-after.ensures.value ∙ r.comes) c.test_planar.new.tests c.test_planar.ensures.few c.sweeps.new.tests c.sweeps.ensures.few
 
 pub returns-then-branch-clause-few : goal.returns-then-branch-clause-few
 returns-then-branch-clause-few g c =
-    sweeps_few c.self.invariant c.self.view_is c.in-Some.k c.args.p c.args.q c.in-Some.ensures.found c.requires.free c.in_ok-around.around.items c.in_ok-around.ensures c.as_slice-3.result.now
-    (c.as_slice-3.ensures.value ∙ c.in_ok-after.ensures ∙ ap (spokes c.args.q) c.as_slice-2.ensures.value) c.test_planar.new.tests c.test_planar.ensures.few
-    c.sweeps.new.tests c.sweeps.ensures.few
+    let m = c.in_ok-moving.moving in
+    let r = c.in_ok-moving.ensures.read in
+    sweeps_few c.self.invariant c.self.view_is m.key c.args.p c.args.q r.here c.requires.free m.around.items r.all c.as_slice-after.result.now
+    (c.as_slice-after.ensures.value ∙ r.comes) c.test_planar.new.tests c.test_planar.ensures.few c.sweeps.new.tests c.sweeps.ensures.few
 
 pub returns-clause-few : goal.returns-clause-few
 returns-clause-few g c =
-    sweeps_few c.self.invariant c.self.view_is c.in-Some.k c.args.p c.args.q c.in-Some.ensures.found c.requires.free c.in_ok-around.around.items c.in_ok-around.ensures c.as_slice-3.result.now
-    (c.as_slice-3.ensures.value ∙ c.in_ok-after.ensures ∙ ap (spokes c.args.q) c.as_slice-2.ensures.value) c.test_planar.new.tests c.test_planar.ensures.few
-    c.sweeps.new.tests c.sweeps.ensures.few
+    let m = c.in_ok-moving.moving in
+    let r = c.in_ok-moving.ensures.read in
+    sweeps_few c.self.invariant c.self.view_is m.key c.args.p c.args.q r.here c.requires.free m.around.items r.all c.as_slice-after.result.now
+    (c.as_slice-after.ensures.value ∙ r.comes) c.test_planar.new.tests c.test_planar.ensures.few c.sweeps.new.tests c.sweeps.ensures.few

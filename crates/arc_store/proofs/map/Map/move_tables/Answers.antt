@@ -1,0 +1,56 @@
+use Rattle.std.proofs.Common.{◌∙◌, sym, ap, subst}
+use Rattle.ring_machine.specs.Parts.{is_vertex}
+use Rattle.segment_index.specs.Candidates.{AreAmong, AreSingle}
+use Rattle.feature_exchange.specs.Stored.{stored}
+use Rattle.arc_store.specs.Planned.{AreNew}
+use Rattle.arc_store.proofs.MovePlan.{plan_new, plan_single, plan_held, plan_once, document_after, kept_after}
+use Rattle.arc_store.proofs.map.Map.move_tables.Goals as goal
+
+pub read_moving-requires : goal.read_moving-requires
+read_moving-requires g c = record {
+  frame = c.self.inside.frame;
+  held = g.I.SegIndex.held c.self.inside.index;
+  holds = c.self.invariant.holds;
+  vertex = ap (λ z. is_vertex z.doc c.args.p) c.self.view_is ∙ c.requires.movable.vertex;
+  free = ap (λ z. is_vertex z.doc c.args.q) c.self.view_is ∙ c.requires.movable.free;
+}
+
+pub shift-requires-clause-new : goal.shift-requires-clause-new
+shift-requires-clause-new g c =
+    let m = c.in_ok-moving.moving in
+    let r = c.in_ok-moving.ensures.read in
+    subst (AreNew (g.I.SegIndex.held c.self.inside.index)) (sym (c.as_slice-after.ensures.value ∙ r.comes))
+    (plan_new (stored c.self.inside.frame c.self.inside.borders c.self.inside.vertices) (g.I.SegIndex.held c.self.inside.index) c.self.invariant.holds m.key c.args.p c.args.q r.here (ap (λ z. is_vertex z.doc c.args.q) c.self.view_is ∙ c.requires.movable.free) m.around.items r.all)
+
+pub shift-requires-clause-after_once : goal.shift-requires-clause-after_once
+shift-requires-clause-after_once g c =
+    let m = c.in_ok-moving.moving in
+    let r = c.in_ok-moving.ensures.read in
+    subst AreSingle (sym (c.as_slice-after.ensures.value ∙ r.comes))
+    (plan_single (stored c.self.inside.frame c.self.inside.borders c.self.inside.vertices) (g.I.SegIndex.held c.self.inside.index) c.self.invariant.holds m.key c.args.p c.args.q r.here (ap (λ z. is_vertex z.doc c.args.q) c.self.view_is ∙ c.requires.movable.free) m.around.items r.all)
+
+pub shift-requires-clause-held : goal.shift-requires-clause-held
+shift-requires-clause-held g c =
+    let m = c.in_ok-moving.moving in
+    let r = c.in_ok-moving.ensures.read in
+    subst (AreAmong (g.I.SegIndex.held c.self.inside.index)) (sym (c.as_slice-before.ensures.value ∙ r.goes))
+    (plan_held (stored c.self.inside.frame c.self.inside.borders c.self.inside.vertices) (g.I.SegIndex.held c.self.inside.index) c.self.invariant.holds m.key c.args.p c.args.q r.here (ap (λ z. is_vertex z.doc c.args.q) c.self.view_is ∙ c.requires.movable.free) m.around.items r.all)
+
+pub shift-requires-clause-before_once : goal.shift-requires-clause-before_once
+shift-requires-clause-before_once g c =
+    let m = c.in_ok-moving.moving in
+    let r = c.in_ok-moving.ensures.read in
+    subst AreSingle (sym (c.as_slice-before.ensures.value ∙ r.goes))
+    (plan_once (stored c.self.inside.frame c.self.inside.borders c.self.inside.vertices) (g.I.SegIndex.held c.self.inside.index) c.self.invariant.holds m.key c.args.p c.args.q r.here (ap (λ z. is_vertex z.doc c.args.q) c.self.view_is ∙ c.requires.movable.free) m.around.items r.all)
+
+pub invariant_of-self : goal.invariant_of-self
+invariant_of-self g c =
+    let m = c.in_ok-moving.moving in
+    let r = c.in_ok-moving.ensures.read in
+    kept_after c.shift.result c.self.inside.frame c.self.inside.borders c.self.inside.vertices c.shift.new.vertices (g.I.SegIndex.held c.self.inside.index) (g.I.SegIndex.held c.shift.new.index) c.self.inside.positions c.self.inside.segments c.self.invariant c.args.self.now.doc (ap (λ z. z.doc) c.self.view_is) m.key c.args.p c.args.q r.here c.requires.movable
+    m.around.items r.all c.as_slice-after.result.now c.as_slice-before.result.now (c.as_slice-after.ensures.value ∙ r.comes) (c.as_slice-before.ensures.value ∙ r.goes)
+    c.shift.ensures.moved c.shift.ensures.exchanged c.shift.ensures.vertices c.shift.ensures.index
+
+pub returns-clause-moved : goal.returns-clause-moved
+returns-clause-moved g c =
+    document_after c.shift.result c.self.inside.frame c.self.inside.borders c.self.inside.vertices c.shift.new.vertices c.self.invariant.holds.whole c.args.self.now.doc (ap (λ z. z.doc) c.self.view_is) c.in_ok-moving.moving.key c.args.p c.args.q c.in_ok-moving.ensures.read.here c.requires.movable.free c.shift.ensures.moved

@@ -1,0 +1,85 @@
+use Rattle.std.proofs.Common.{◌∙◌, ap, arith, subst, sym}
+use Rattle.ring_machine.specs.Parts.{is_vertex}
+use Rattle.ring_machine.specs.Refusals.{are_long, is_bridged}
+use Rattle.ring_machine.specs.Vertices.{is_junction}
+use Rattle.arc_store.specs.Edits.{IsLeavable}
+use Rattle.arc_store.specs.State.{State}
+use Rattle.arc_store.proofs.RemovePlan.{found, found_planned, not_joined, three_apart, taken}
+use Rattle.arc_store.proofs.map.Map.remove_tables.Goals as goal
+
+pub read_bridging-requires : goal.read_bridging-requires
+read_bridging-requires g c = record {
+  frame = c.self.inside.frame;
+  held = g.I.SegIndex.held c.self.inside.index;
+  holds = c.self.invariant.holds;
+  vertex = ap (λ z. is_vertex z.doc c.args.p) c.self.view_is ∙ c.requires.leavable.vertex;
+  inner = ap (λ z. is_junction z.doc c.args.p) c.self.view_is ∙ c.requires.leavable.inner;
+  long = ap (λ z. are_long z.doc c.args.p) c.self.view_is ∙ c.requires.leavable.long;
+  unjoined = ap (λ z. is_bridged z.doc c.args.p) c.self.view_is ∙ c.requires.leavable.unjoined;
+}
+
+-- ---- the tables
+
+pub take_out-requires-clause-between : goal.take_out-requires-clause-between
+take_out-requires-clause-between g c x = (c.in_ok-bridging.ensures.read.two.1 x).0
+
+pub take_out-requires-clause-unjoined : goal.take_out-requires-clause-unjoined
+take_out-requires-clause-unjoined g c =
+    let r = c.in_ok-bridging.ensures.read in
+    let f = found c.self.invariant (ap (λ z. z.doc) c.self.view_is) r.here r.two c.requires.leavable.inner c.requires.leavable.long c.requires.leavable.unjoined in
+    not_joined f
+
+pub take_out-requires-clause-apart : goal.take_out-requires-clause-apart
+take_out-requires-clause-apart g c =
+    let r = c.in_ok-bridging.ensures.read in
+    let f = found c.self.invariant (ap (λ z. z.doc) c.self.view_is) r.here r.two c.requires.leavable.inner c.requires.leavable.long c.requires.leavable.unjoined in
+    three_apart f
+
+pub take_out-requires-clause-new : goal.take_out-requires-clause-new
+take_out-requires-clause-new g c =
+    let r = c.in_ok-bridging.ensures.read in
+    let f = found c.self.invariant (ap (λ z. z.doc) c.self.view_is) r.here r.two c.requires.leavable.inner c.requires.leavable.long c.requires.leavable.unjoined in
+    (found_planned f r.a r.b r.first r.second c.in_ok-bridging.bridging.after c.as_slice-before.result.now r.comes (c.as_slice-before.ensures.value ∙ r.goes)).new
+
+pub take_out-requires-clause-held : goal.take_out-requires-clause-held
+take_out-requires-clause-held g c =
+    let r = c.in_ok-bridging.ensures.read in
+    let f = found c.self.invariant (ap (λ z. z.doc) c.self.view_is) r.here r.two c.requires.leavable.inner c.requires.leavable.long c.requires.leavable.unjoined in
+    (found_planned f r.a r.b r.first r.second c.in_ok-bridging.bridging.after c.as_slice-before.result.now r.comes (c.as_slice-before.ensures.value ∙ r.goes)).among
+
+pub take_out-requires-clause-single : goal.take_out-requires-clause-single
+take_out-requires-clause-single g c =
+    let r = c.in_ok-bridging.ensures.read in
+    let f = found c.self.invariant (ap (λ z. z.doc) c.self.view_is) r.here r.two c.requires.leavable.inner c.requires.leavable.long c.requires.leavable.unjoined in
+    (found_planned f r.a r.b r.first r.second c.in_ok-bridging.bridging.after c.as_slice-before.result.now r.comes (c.as_slice-before.ensures.value ∙ r.goes)).single
+
+-- ---- what is kept
+
+pub overflow_sub-self : goal.overflow_sub-self
+overflow_sub-self g c =
+    let r = c.in_ok-bridging.ensures.read in
+    let f = found c.self.invariant (ap (λ z. z.doc) c.self.view_is) r.here r.two c.requires.leavable.inner c.requires.leavable.long c.requires.leavable.unjoined in
+    let may = subst (λ (z : State). IsLeavable z.doc c.args.p) (sym c.self.view_is) c.requires.leavable in
+    let t = taken f r.first r.second r.comes (c.as_slice-before.ensures.value ∙ r.goes) may c.in_ok-rings.ensures.taken (g.I.SegIndex.held c.take_out.new.index) c.in_ok-rings.ensures.exchanged in
+    omega (arith, t.positions_there, c.in_ok-rings.ensures.rings)
+
+pub overflow_sub-self-2 : goal.overflow_sub-self-2
+overflow_sub-self-2 g c =
+    let r = c.in_ok-bridging.ensures.read in
+    let f = found c.self.invariant (ap (λ z. z.doc) c.self.view_is) r.here r.two c.requires.leavable.inner c.requires.leavable.long c.requires.leavable.unjoined in
+    let may = subst (λ (z : State). IsLeavable z.doc c.args.p) (sym c.self.view_is) c.requires.leavable in
+    (taken f r.first r.second r.comes (c.as_slice-before.ensures.value ∙ r.goes) may c.in_ok-rings.ensures.taken (g.I.SegIndex.held c.take_out.new.index) c.in_ok-rings.ensures.exchanged).segment_there
+
+pub invariant_of-self-2 : goal.invariant_of-self-2
+invariant_of-self-2 g c =
+    let r = c.in_ok-bridging.ensures.read in
+    let f = found c.self.invariant (ap (λ z. z.doc) c.self.view_is) r.here r.two c.requires.leavable.inner c.requires.leavable.long c.requires.leavable.unjoined in
+    let may = subst (λ (z : State). IsLeavable z.doc c.args.p) (sym c.self.view_is) c.requires.leavable in
+    rw c.in_ok-rings.ensures.rings (taken f r.first r.second r.comes (c.as_slice-before.ensures.value ∙ r.goes) may c.in_ok-rings.ensures.taken (g.I.SegIndex.held c.take_out.new.index) c.in_ok-rings.ensures.exchanged).kept
+
+pub returns-clause-removed : goal.returns-clause-removed
+returns-clause-removed g c =
+    let r = c.in_ok-bridging.ensures.read in
+    let f = found c.self.invariant (ap (λ z. z.doc) c.self.view_is) r.here r.two c.requires.leavable.inner c.requires.leavable.long c.requires.leavable.unjoined in
+    let may = subst (λ (z : State). IsLeavable z.doc c.args.p) (sym c.self.view_is) c.requires.leavable in
+    rw (← c.self.view_is) (taken f r.first r.second r.comes (c.as_slice-before.ensures.value ∙ r.goes) may c.in_ok-rings.ensures.taken (g.I.SegIndex.held c.take_out.new.index) c.in_ok-rings.ensures.exchanged).doc
