@@ -2,6 +2,7 @@ pub mod Building
 pub mod Copied
 pub mod Framed
 pub mod Growing
+pub mod Ids
 pub mod Kept
 pub mod Live
 pub mod Named
@@ -14,4 +15,3 @@ pub mod Renaming
 pub mod Seen
 pub mod Shown
 pub mod Texts
-pub mod Views

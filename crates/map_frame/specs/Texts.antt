@@ -1,6 +1,6 @@
 -- A feature beside its number and its rings.
 use Rattle.std.specs.Prelude.{ℕ, List, Option}
-use Rattle.ring_machine.specs.Document.{Text, Form, Member, FeatureOf}
+use Rattle.ring_machine.specs.Document.{Text, Form, Head, Member, FeatureOf}
 
 -- what a feature has beside its number and its polygons
 pub record Texts : Type 0 where
@@ -26,4 +26,13 @@ with_texts n t polygons = record {
   properties = t.properties;
   members = t.members;
   polygons = polygons;
+}
+
+-- what a feature has by what was read of it
+abbrev pub read_texts : Form → Head → Texts
+read_texts form head = record {
+  id = head.id;
+  form = form;
+  properties = head.properties;
+  members = head.members;
 }

@@ -11,7 +11,7 @@ ghost use Rattle.map_frame.specs.Opened.{opened, CanStand};
 ghost use Rattle.map_frame.specs.Seen.{items_at};
 ghost use Rattle.map_frame.specs.Building.{progress, IsRead, IsNext, IsSlot, AreSlots, first_of, lone, IsGeometry, AreLayers};
 
-use crate::feature::{Feature, FeatureTexts, Id, Stand};
+use crate::feature::{Feature, FeatureTexts, Stand};
 use crate::frame::Frame;
 use crate::layers::{Geometry, Layer, Slot};
 use crate::names::name_all;
@@ -34,16 +34,7 @@ fn build_feature<'a, A: Allocator + Copy>(
 ) -> Feature<'a, A>
     ensures { IsRead raw.entry (feature_numbers polygons) result }
 {
-    let id = match raw.head.id {
-        Some(text) => Id::Read(text),
-        None => Id::Absent,
-    };
-    let texts = FeatureTexts {
-        id,
-        form: raw.form,
-        properties: raw.head.properties,
-        members: raw.head.members,
-    };
+    let texts = FeatureTexts::read(raw.form, raw.head);
     Feature { texts, polygons }
 }
 

@@ -3,40 +3,11 @@
 ghost use Rattle.std.specs.Prelude.{◌≡◌, IfOk};
 ghost use Rattle.map_frame.specs.Copied.{AreCopied};
 
-use crate::feature::{Feature, FeatureTexts, Id};
+use crate::feature::Feature;
 use crate::frame::Frame;
 use crate::layers::{Geometry, Layer, Slot};
 use crate::tables::Tables;
 use std::alloc::{AllocError, Allocator};
-
-impl<'a, A: Allocator + Copy> Clone for Id<'a, A> {
-    ghost use Rattle.std.specs.Prelude.{◌≡◌};
-
-    ghost is_clone = { λ id copy. copy ≡ id };
-
-    fn clone(&self) -> Result<Id<'a, A>, AllocError> {
-        match self {
-            Id::Absent => Ok(Id::Absent),
-            Id::Read(text) => Ok(Id::Read(*text)),
-            Id::Given(text) => Ok(Id::Given(text.clone()?)),
-        }
-    }
-}
-
-impl<'a, A: Allocator + Copy> Clone for FeatureTexts<'a, A> {
-    ghost use Rattle.std.specs.Prelude.{◌≡◌};
-
-    ghost is_clone = { λ texts copy. copy ≡ texts };
-
-    fn clone(&self) -> Result<FeatureTexts<'a, A>, AllocError> {
-        Ok(FeatureTexts {
-            id: self.id.clone()?,
-            form: self.form,
-            properties: self.properties,
-            members: self.members.clone()?,
-        })
-    }
-}
 
 impl<'a, A: Allocator + Copy> Clone for Feature<'a, A> {
     ghost use Rattle.std.specs.Prelude.{◌≡◌};

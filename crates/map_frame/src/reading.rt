@@ -9,7 +9,7 @@ ghost use Rattle.map_frame.specs.Named.{number_at};
 ghost use Rattle.map_frame.specs.Readers.{shown, ring_at};
 ghost use Rattle.map_frame.specs.Placed.{ArePlaced};
 
-use crate::feature::{Feature, Id};
+use crate::feature::Feature;
 use crate::frame::Frame;
 use crate::layers::Geometry;
 use crate::names::RingName;
@@ -37,32 +37,28 @@ impl<'m, 'a, A: Allocator + Copy> FeatureView<'m, 'a, A> {
     pub fn id(&self) -> Option<&'m [u8]>
         ensures { option_map (λ t. t.now) result ≡ self.now.id }
     {
-        match &self.feature.texts.id {
-            Id::Absent => None,
-            Id::Read(text) => Some(*text),
-            Id::Given(text) => Some(text.as_slice()),
-        }
+        self.feature.texts.id()
     }
 
     /// The kind of its geometry.
     pub fn form(&self) -> Form
         ensures { form_of result ≡ self.now.form }
     {
-        self.feature.texts.form
+        self.feature.texts.form()
     }
 
     /// The text of `properties`, any JSON value.
     pub fn properties(&self) -> Option<&'a [u8]>
         ensures { option_map (λ t. t.now) result ≡ self.now.properties }
     {
-        self.feature.texts.properties
+        self.feature.texts.properties()
     }
 
     /// The members that are neither known nor a `bbox`, in order.
     pub fn members(&self) -> &'m [KeptMember<'a>]
         ensures { map view_kept result.now ≡ self.now.members }
     {
-        self.feature.texts.members.as_slice()
+        self.feature.texts.members()
     }
 
     /// How many polygons it has.

@@ -13,16 +13,15 @@ use crate::feature::{Feature, Id};
 use crate::frame::Frame;
 use crate::tables::Tables;
 use std::alloc::Allocator;
-use std::mem;
 
 /// Gives the feature this id, where one stands, and hands out the id that it had; else hands this id
 /// back.
 fn give_id<'a, A: Allocator + Copy>(place: &mut Option<Feature<'a, A>>, id: Id<'a, A>) -> Id<'a, A>
-    ensures given { place.new ≡ with_own_id id place.old }
-    ensures old { result ≡ id_or id place.old }
+    ensures given { place.new ≡ with_own_id id.entry place.old }
+    ensures old { result ≡ id_or id.entry place.old }
 {
     match place {
-        Some(feature) => mem::replace(&mut feature.texts.id, id),
+        Some(feature) => feature.texts.give_id(id),
         None => id,
     }
 }
@@ -32,9 +31,9 @@ impl<'a, A: Allocator + Copy> Tables<'a, A> {
     fn rename(&mut self, n: u32, id: Id<'a, A>) -> Id<'a, A>
         requires { IsFramed self.old }
         ensures done { framed self.new ≡ record (framed self.old) {
-          doc = with_id (framed self.old).doc n id;
+          doc = with_id (framed self.old).doc n id.entry;
         } }
-        ensures old { result ≡ id_or id (live self.old.features.items n) }
+        ensures old { result ≡ id_or id.entry (live self.old.features.items n) }
         ensures kept { IsFramed self.new }
     {
         let at = n as usize;
@@ -50,9 +49,9 @@ impl<'a, A: Allocator + Copy> Frame<'a, A> {
     /// Gives feature `n` this id, or none, and hands out the one that it had. A number that no feature
     /// has changes nothing, and then this id is handed back.
     pub fn rename(&mut self, n: u32, id: Id<'a, A>) -> Id<'a, A>
-        ensures renamed { self.new ≡ record self.old { doc = with_id self.old.doc n id } }
+        ensures renamed { self.new ≡ record self.old { doc = with_id self.old.doc n id.entry } }
         ensures old { (f : FeatureOf ℕ) → feature self.old.doc n ≡ Some f → result ≡ f.id }
-        ensures none { feature self.old.doc n ≡ None → result ≡ id }
+        ensures none { feature self.old.doc n ≡ None → result ≡ id.entry }
     {
         self.tables.rename(n, id)
     }

@@ -46,7 +46,7 @@ impl<'a, A: Allocator + Copy> Tables<'a, A> {
         requires room { HasRoom (flat_map polygon_numbers polygons.items) self.old.names.items }
         ensures done { framed self.new ≡ record (framed self.old) {
           doc = exchanged (framed self.old).places
-              ((n, Some (with_texts n texts (feature_numbers polygons))) ∷ []) (framed self.old).doc;
+              ((n, Some (with_texts n texts.entry (feature_numbers polygons))) ∷ []) (framed self.old).doc;
         } }
         ensures kept { IsFramed self.new }
     {
@@ -79,7 +79,7 @@ impl<'a, A: Allocator + Copy> Frame<'a, A> {
         requires room { (r : ℕ) → IsOf (flat_map polygon_numbers polygons.items) r → r < self.old.room }
         ensures { self.new ≡ record self.old {
           doc = exchanged self.old.places
-              ((n, Some (with_texts n texts (map polygon_numbers polygons.items))) ∷ []) self.old.doc;
+              ((n, Some (with_texts n texts.entry (map polygon_numbers polygons.items))) ∷ []) self.old.doc;
         } }
     {
         self.tables.put(n, texts, polygons);

@@ -1,29 +1,12 @@
 // What a feature has beside its number and its rings.
-ghost use Rattle.std.specs.Prelude.{◌≡◌, Some, IfOk, option_map};
-ghost use Rattle.ring_machine.specs.Document.{Polygon};
+ghost use Rattle.std.specs.Prelude.{◌≡◌, IfOk, option_map};
 ghost use Rattle.ring_machine.specs.Parts.{feature};
 ghost use Rattle.map_frame.specs.Texts.{texts_of};
 
-use crate::feature::{FeatureTexts, Id};
+use crate::feature::FeatureTexts;
 use crate::frame::Frame;
 use crate::reading::live_feature;
 use std::alloc::{AllocError, Allocator};
-use topo_outline::Form;
-
-impl<'a, A: Allocator + Copy> FeatureTexts<'a, A> {
-    /// What a new Polygon has that is a part of this feature: this id, a JSON value (RFC 8259, 3), and
-    /// the same properties and unknown members.
-    pub fn part(self, id: Vec<u8, A>) -> FeatureTexts<'a, A>
-        ensures { result ≡ record self.entry { id = Some id.items; form = Polygon } }
-    {
-        FeatureTexts {
-            id: Id::Given(id),
-            form: Form::Polygon,
-            properties: self.properties,
-            members: self.members,
-        }
-    }
-}
 
 impl<'a, A: Allocator + Copy> Frame<'a, A> {
     /// A copy of what feature `n` has beside its number and its rings; `None` where no feature has the
