@@ -16,6 +16,8 @@ pub mod NamedAs
 pub mod NamedForgotten
 pub mod NamedLists
 pub mod NamedOnce
+pub mod NamedRoom
+pub mod PlacedFrames
 pub mod PlacesSeen
 pub mod ReadAlone
 pub mod ReadFeatures

@@ -115,8 +115,8 @@ module _ {A : Type 0} (t : Tables A) (k : IsFramed t) (n : ℕ) where
   -- ---- a feature is taken
 
   module _ (f : Feature A) (was : slice_get fs n ≡ Some (Some f)) where
-    there : entry fs n ≡ Some (view_feature n f)
-    there = ap (λ z. option_map (view_feature n) (inner z)) was
+    pub there_seen : entry fs n ≡ Some (view_feature n f)
+    there_seen = ap (λ z. option_map (view_feature n) (inner z)) was
 
     pub taken_within : n < length fs
     taken_within = slice_get_within fs n (Some f) was
@@ -124,7 +124,7 @@ module _ {A : Type 0} (t : Tables A) (k : IsFramed t) (n : ℕ) where
     less_by_one : length (filter_map (entry fs) (all_numbers t.layers.items))
         ≡ length (filter_map (entry (slice_set fs n None)) (all_numbers t.layers.items)) + 1
     less_by_one =
-        length_less (entry fs) (entry (slice_set fs n None)) n (ap is_some there)
+        length_less (entry fs) (entry (slice_set fs n None)) n (ap is_some there_seen)
         (ap is_some (entry_here fs n None taken_within)) (λ m off. ap is_some (entry_other fs n None m off))
         (all_numbers t.layers.items) k.once (number_stands t k n taken_within)
 
@@ -147,7 +147,7 @@ module _ {A : Type 0} (t : Tables A) (k : IsFramed t) (n : ℕ) where
       taken_named once loss =
           let d = doc_of t in
           let e = doc_of taken in
-          let had : feature d n ≡ Some (view_feature n f) = entry_is t k n ∙ there in
+          let had : feature d n ≡ Some (view_feature n f) = entry_is t k n ∙ there_seen in
           named_anew d e t.names.items names.items names.items (λ m. m ≡ n) (λ m. ℕ_discrete m n) once k.named
           (loss_as _ _ t.names.items names.items (rings_to d n (view_feature n f) had) (rings_from d n (view_feature n f) had) loss)
           (gain_as (λ o k. ⊥) (λ o k. (o.feature ≡ n) × (number_at e o ≡ Some k)) names.items names.items

@@ -153,9 +153,9 @@ impl<'a, A: Allocator + Copy> Frame<'a, A> {
     pub fn is_alone(&self, n: u32) -> bool
         ensures { result ≡ is_layer self.now.doc n }
     {
-        if !self.has_feature(n) {
+        let Some(_feature) = live_feature(self.tables.features.as_slice(), n) else {
             return false;
-        }
+        };
         let Some(stand) = self.tables.stands.get(n as usize) else {
             return false;
         };
