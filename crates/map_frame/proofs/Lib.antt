@@ -10,6 +10,7 @@ pub mod CountedWithin
 pub mod EditedFeatures
 pub mod EditedNames
 pub mod EditedStands
+pub mod GrownFrames
 pub mod GrownPlace
 pub mod GrownTables
 pub mod NamedAs
