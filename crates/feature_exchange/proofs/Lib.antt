@@ -5,13 +5,13 @@ pub mod Under
 pub mod Changes
 pub mod Whole
 pub mod Exchanges
-pub mod Taken
-pub mod Joined
-pub mod Parted
-pub mod Halves
 pub mod Gathering
 pub mod Renaming
 pub mod KeyLists
 pub mod KeysByNumber
 pub mod VertexLists
 pub mod PolygonsRead
+pub mod Placed
+pub mod Readied
+pub mod Asked
+pub mod ExchangedFeatures

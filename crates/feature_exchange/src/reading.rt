@@ -8,8 +8,12 @@ ghost use Rattle.ring_parts.specs.Seen.{rings_seen, polygons_seen};
 ghost use Rattle.vertex_index.specs.Placement.{place};
 ghost use Rattle.feature_exchange.specs.Holds.{IsWhole};
 ghost use Rattle.feature_exchange.specs.Stored.{stored, document_of};
+ghost use Rattle.feature_exchange.specs.Standin as placed;
 ghost use Rattle.feature_exchange.specs.Along.{AlongVertices, ring_in};
 
+use crate::change::Change;
+use crate::standin;
+use crate::standin::PlacedFrame;
 use grid_geometry::Pos;
 use map_frame::Frame;
 use ring_parts::canonical;
@@ -108,4 +112,42 @@ pub fn read_polygons<'a, A: Allocator + Copy>(
         Some(polygons) => feature_positions(alloc, vertices, borders, polygons),
         None => Ok(Vec::new(alloc)),
     }
+}
+
+/// The polygons of feature `n`, as `read_polygons`, of the frame that is to come.
+fn read_placed<'a, A: Allocator + Copy, F: PlacedFrame<'a, A>>(
+    alloc: A,
+    frame: &standin::Frame<'a, A, F>,
+    vertices: &Vertices<A>,
+    borders: &Borders<A>,
+    n: u32,
+) -> Result<Vec<Vec<Vec<Pos, A>, A>, A>, AllocError>
+    requires { IsWhole (placed.stored frame.now borders.now vertices.now) }
+    ensures { IfOk result (λ found. polygons_seen found.items
+        ≡ (feature_at (document_of (placed.stored frame.now borders.now vertices.now)) n).polygons) }
+{
+    match frame.polygons(n) {
+        Some(polygons) => feature_positions(alloc, vertices, borders, polygons),
+        None => Ok(Vec::new(alloc)),
+    }
+}
+
+/// The polygons that these numbers have. Fails for want of memory alone.
+pub(crate) fn read_features<'a, A: Allocator + Copy, F: PlacedFrame<'a, A>>(
+    alloc: A,
+    frame: &standin::Frame<'a, A, F>,
+    vertices: &Vertices<A>,
+    borders: &Borders<A>,
+    changes: &[Change<'a, A>],
+) -> Result<Vec<Vec<Vec<Vec<Pos, A>, A>, A>, A>, AllocError>
+    requires { IsWhole (placed.stored frame.now borders.now vertices.now) }
+    ensures { IfOk result (λ found. map (λ p. polygons_seen p.items) found.items
+        ≡ map (λ c. (feature_at (document_of (placed.stored frame.now borders.now vertices.now))
+        c.number).polygons) changes.now) }
+{
+    let mut found = Vec::new(alloc);
+    for change in changes {
+        found.push(read_placed(alloc, frame, vertices, borders, change.number)?)?;
+    }
+    Ok(found)
 }
