@@ -15,3 +15,5 @@ pub mod Placed
 pub mod Readied
 pub mod Asked
 pub mod ExchangedFeatures
+pub mod LaidBeside
+pub mod EachExchanged
