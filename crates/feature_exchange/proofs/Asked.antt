@@ -2,18 +2,17 @@
 -- texts, and rings of the same shape.
 use Rattle.std.proofs.Common.{◌≡◌, ◌≤◌, ◌<◌, ◌+◌, ◌&&◌, ℕ, Bool, true, false, refl, sym, ap, ap₂, ◌∙◌, subst, List}
 use Rattle.std.proofs.Common.{[], ◌∷◌, ◌++◌, map, length, inl, inr, Option, Some, None, option_map, arith, get_or, drop}
-use Rattle.std.specs.Prelude.{Vec}
+use Rattle.std.specs.Prelude.{Vec, ◌==◌}
 use Rattle.std.specs.List.{flat_map, list_all, sum_by, AllByRecursion}
 use Rattle.std.specs.FinSet as set_of
 use Rattle.std.proofs.lemmas.List.{length-map, map-append}
 use Rattle.grid_geometry.specs.Position.{Position}
-use Rattle.ring_machine.specs.Document.{Feature, FeatureOf, DocumentOf, Document}
+use Rattle.ring_machine.specs.Document.{Feature, FeatureOf, DocumentOf, Document, Form, Polygon, MultiPolygon, Null}
 use Rattle.ring_machine.specs.Parts.{features, feature, in_feature, in_rings, rings, rings_of, size}
 use Rattle.ring_machine.specs.Planar.{Proper}
 use Rattle.ring_machine.specs.Refusals.{feature_at, or_else, no_feature}
 use Rattle.ring_machine.specs.Ring.{is_ring}
 use Rattle.ring_machine.specs.WellFormed.{are_distinct, fits_form, WellFormed}
-use Rattle.ring_machine.proofs.CutJoined.{fits-count}
 use Rattle.ring_machine.proofs.First.{In}
 use Rattle.ring_machine.proofs.Found.{feature_in, feature-in_rings}
 use Rattle.ring_machine.proofs.Members.{in_mapped, in_flat}
@@ -42,7 +41,7 @@ head_same y z ys zs e = ap (λ w. get_or w 0 y) e
 tail_same : {Y : Type 0} (y z : Y) (ys zs : List Y) → y ∷ ys ≡ z ∷ zs → ys ≡ zs
 tail_same y z ys zs e = ap (drop 1) e
 
-all_true : {X : Type 0} (test : X → Bool) (xs : List X) → ((x : X) → In x xs → test x ≡ true) → list_all test xs ≡ true
+pub all_true : {X : Type 0} (test : X → Bool) (xs : List X) → ((x : X) → In x xs → test x ≡ true) → list_all test xs ≡ true
 all_true test [] h = refl
 all_true test (x ∷ xs) h = ap₂ (λ a b. a && b) (h x (inl refl)) (all_true test xs (λ y i. h y (inr i)))
 
@@ -136,6 +135,15 @@ no_polygons : {X Y : Type 0} (g : X → Y) (xs : List X) → map g xs ≡ [] →
 no_polygons g [] e = refl
 no_polygons g (x ∷ xs) e = absurd (omega (arith, ap length e))
 
+form_same : {R S : Type 0} (g : R → S) (f : FeatureOf R) → fits_form (in_feature g f) ≡ fits_form f
+form_same g f = by f.form
+  where
+    by : (kind : Form)
+        → fits_form (in_feature g (record f { form = kind })) ≡ fits_form (record f { form = kind })
+    by Polygon = ap (λ n. n == 1) (length-map f.polygons (map g))
+    by MultiPolygon = refl
+    by Null = ap (λ n. n == 0) (length-map f.polygons (map g))
+
 module _ {A : Type 0} (g : ℕ → List Position) where
   -- these are the numbers of the rings that are asked for
   abbrev pub AreFor : List (Change A) → List (Vec (Vec ℕ A) A) → Type 0
@@ -199,9 +207,8 @@ module _ {A : Type 0} (g : ℕ → List Position) where
       by None s k f e = absurd cc
       by (Some w) s k f e =
           let same : with_texts c.number w.texts (feature_numbers l) ≡ f = cc in
-          ap fits_form (sym same)
-          ∙ fits-count (feature_seen c.number w) (feature_numbers l) (omega (arith, ap length s, length-map (feature_numbers l) (map g)))
-          ∙ k (feature_seen c.number w) refl
+          ap fits_form (sym same) ∙ sym (form_same g (with_texts c.number w.texts (feature_numbers l)))
+          ∙ ap (λ z. fits_form (with_texts c.number w.texts z)) s ∙ k (feature_seen c.number w) refl
 
   -- with rings in the place of their numbers they are what is asked for
   pub for_seen : (cs : List (Change A)) (ls : List (Vec (Vec ℕ A) A)) → AreFor cs ls

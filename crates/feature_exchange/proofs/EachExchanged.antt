@@ -1,5 +1,5 @@
 -- Numbers that get their features one after the other, the last one first.
-use Rattle.std.proofs.Common.{◌≡◌, ◌+◌, ◌<◌, ℕ, zero, suc, Bool, true, false, refl, sym, ap, ap₂, ◌∙◌, subst, cond, List}
+use Rattle.std.proofs.Common.{◌≡◌, ◌+◌, ◌-◌, ◌<◌, ℕ, zero, suc, Bool, true, false, refl, sym, ap, ap₂, ◌∙◌, subst, cond, List}
 use Rattle.std.proofs.Common.{[], ◌∷◌, ◌++◌, map, length, inl, inr, Option, Some, None, option_map, arith, get_or, append_assoc, eq-eqb}
 use Rattle.std.specs.Prelude.{Vec, set, ◌==◌}
 use Rattle.std.specs.List.{flat_map}
@@ -39,14 +39,15 @@ none_long : {X : Type 0} (xs : List X) → length xs ≡ 0 → xs ≡ []
 none_long [] e = refl
 none_long (x ∷ xs) e = absurd (omega (arith, e))
 
+-- the polygons that a number had, and the numbers of the rings that it gets
+abbrev pub Read : Type 0 → Type 0
+Read A = Vec (Vec (Vec Position A) A) A
+
+abbrev pub Came : Type 0 → Type 0
+Came A = Vec (Vec ℕ A) A
+
 module _ {A : Type 0} where
-  abbrev Read : Type 0
-  Read = Vec (Vec (Vec Position A) A) A
-
-  abbrev Came : Type 0
-  Came = Vec (Vec ℕ A) A
-
-  numbered-append : (xs ys : List (Change A)) (ls ms : List Came) → length xs ≡ length ls
+  numbered-append : (xs ys : List (Change A)) (ls ms : List (Came A)) → length xs ≡ length ls
       → all_numbered (xs ++ ys) (ls ++ ms) ≡ all_numbered xs ls ++ all_numbered ys ms
   numbered-append [] ys [] ms e = refl
   numbered-append [] ys (l ∷ ls) ms e = absurd (omega (arith, e))
@@ -55,12 +56,12 @@ module _ {A : Type 0} where
       ap (λ z. numbered x (feature_numbers l) ∷ z) (numbered-append xs ys ls ms (omega (arith, e)))
 
   -- so many are left, and the others have their features
-  pub record Halfway (frame0 : Framed) (cs0 : List (Change A)) (ps0 : List Read) (ls0 : List Came) (frame : Framed)
-      (cs : List (Change A)) (ps : List Read) (ls : List Came) (left : ℕ) : Type 0 where
+  pub record Halfway (frame0 : Framed) (cs0 : List (Change A)) (ps0 : List (Read A)) (ls0 : List (Came A)) (frame : Framed)
+      (cs : List (Change A)) (ps : List (Read A)) (ls : List (Came A)) (left : ℕ) : Type 0 where
     pub start : List (Change A)
     pub done : List (Change A)
-    pub read : List Read
-    pub came : List Came
+    pub read : List (Read A)
+    pub came : List (Came A)
     pub all : cs0 ≡ start ++ done
     pub now : cs ≡ start ++ all_had frame0.doc done read
     pub all_read : ps0 ≡ ps ++ read
@@ -70,7 +71,7 @@ module _ {A : Type 0} where
     pub long_ls : length ls ≡ left
     pub is : frame ≡ put_in frame0 (all_numbered done came)
 
-  pub halfway_first : (frame : Framed) (cs : List (Change A)) (ps : List Read) (ls : List Came)
+  pub halfway_first : (frame : Framed) (cs : List (Change A)) (ps : List (Read A)) (ls : List (Came A))
       → IsReady frame (all_numbered cs ls) → length ps ≡ length cs → length ls ≡ length cs
       → (left : ℕ) → left ≡ length cs → Halfway frame cs ps ls frame cs ps ls left
   halfway_first frame cs ps ls ready p l left e = record {
@@ -88,20 +89,20 @@ module _ {A : Type 0} where
     is = sym (ap (λ z. record frame { doc = z }) (none_exchanged frame.places frame.doc ready.placed.fills));
   }
 
-  module _ (frame0 : Framed) (cs0 : List (Change A)) (ps0 : List Read) (ls0 : List Came) (ready : IsReady frame0 (all_numbered cs0 ls0))
-      (frame : Framed) (cs : List (Change A)) (ps : List Read) (ls : List Came) (k : ℕ)
+  module _ (frame0 : Framed) (cs0 : List (Change A)) (ps0 : List (Read A)) (ls0 : List (Came A)) (ready : IsReady frame0 (all_numbered cs0 ls0))
+      (frame : Framed) (cs : List (Change A)) (ps : List (Read A)) (ls : List (Came A)) (k : ℕ)
       (half : Halfway frame0 cs0 ps0 ls0 frame cs ps ls (k + 1))
-      (ps' : List Read) (p : Read) (popped : ps ≡ ps' ++ p ∷ []) (ls' : List Came) (l : Came) (popped' : ls ≡ ls' ++ l ∷ []) where
-    last : (ys : List (Change A)) × (y : Change A) × (half.start ≡ ys ++ y ∷ []) × (length ys ≡ k)
+      (ps' : List (Read A)) (p : Read A) (popped : ps ≡ ps' ++ p ∷ []) (ls' : List (Came A)) (l : Came A) (popped' : ls ≡ ls' ++ l ∷ []) where
+    pub last : (ys : List (Change A)) × (y : Change A) × (half.start ≡ ys ++ y ∷ []) × (length ys ≡ k)
     last = snoc half.start k half.long
 
-    abbrev x : Change A
+    abbrev pub x : Change A
     x = last.1
 
-    abbrev pair : ℕ × Option (FeatureOf ℕ)
+    abbrev pub pair : ℕ × Option (FeatureOf ℕ)
     pair = numbered x (feature_numbers l)
 
-    abbrev rest : List (ℕ × Option (FeatureOf ℕ))
+    abbrev pub rest : List (ℕ × Option (FeatureOf ℕ))
     rest = all_numbered half.done half.came
 
     short_ls : length ls' ≡ k
@@ -174,8 +175,8 @@ module _ {A : Type 0} where
               (exchanged-append frame0.places rest frame0.doc (ready_right frame0 (pair ∷ []) rest ready_rest).own (pair ∷ []));
         }
 
-  module _ (frame0 : Framed) (cs0 : List (Change A)) (ps0 : List Read) (ls0 : List Came)
-      (frame : Framed) (cs : List (Change A)) (ps : List Read) (ls : List Came) (left : ℕ)
+  module _ (frame0 : Framed) (cs0 : List (Change A)) (ps0 : List (Read A)) (ls0 : List (Came A))
+      (frame : Framed) (cs : List (Change A)) (ps : List (Read A)) (ls : List (Came A)) (left : ℕ)
       (half : Halfway frame0 cs0 ps0 ls0 frame cs ps ls left) (none : left ≡ 0) where
     all_done : cs0 ≡ half.done
     all_done = half.all ∙ ap (λ z. z ++ half.done) (none_long half.start (half.long ∙ none))

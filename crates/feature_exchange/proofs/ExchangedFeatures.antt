@@ -1,7 +1,7 @@
 -- Features exchanged in a map, whose rings were laid before, and then the rings of what had the
 -- numbers taken out: the document, and that the map is kept.
 use Rattle.std.proofs.Common.{◌≡◌, ◌≤◌, ◌<◌, ℕ, Bool, true, false, refl, sym, ap, ap₂, ◌∙◌, subst, List, [], ◌∷◌, ◌++◌}
-use Rattle.std.proofs.Common.{map, Option, Some, None, arith, Contains, eq-eqb, get_or}
+use Rattle.std.proofs.Common.{map, Option, Some, None, arith, Contains, eq-eqb, get_or, inl, inr}
 use Rattle.std.specs.Prelude.{Vec, IsTrue, ◌==◌}
 use Rattle.std.specs.List.{flat_map, list_all, AllByRecursion}
 use Rattle.std.specs.FinMap as table

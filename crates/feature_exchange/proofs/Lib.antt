@@ -16,4 +16,6 @@ pub mod Readied
 pub mod Asked
 pub mod ExchangedFeatures
 pub mod LaidBeside
+pub mod LaidSoFar
 pub mod EachExchanged
+pub mod Prepared

@@ -115,22 +115,23 @@ module _ {R : Type 0} where
   pub others_same : (cs : List (ℕ × Option (FeatureOf R))) (k : ℕ → Option (FeatureOf R)) (m : ℕ)
       → (In m (numbers cs) → ⊥) → exchanged_features cs k m ≡ k m
   others_same [] k m f = refl
-  others_same (c ∷ cs) k m f = by (m == c.0) refl
+  others_same (c ∷ cs) k m f = by (m == c.0) refl (others_same cs k m (λ i. f (inr i)))
     where
-      by : (b : Bool) → (m == c.0) ≡ b → cond b c.1 (exchanged_features cs k m) ≡ k m
-      by true t = absurd (f (inl (sym (eqb-true m c.0 t))))
-      by false t = others_same cs k m (λ i. f (inr i))
+      by : (b : Bool) → (m == c.0) ≡ b → exchanged_features cs k m ≡ k m → cond b c.1 (exchanged_features cs k m) ≡ k m
+      by true t rest = absurd (f (inl (sym (eqb-true m c.0 t))))
+      by false t rest = rest
 
   pub has_given : (cs : List (ℕ × Option (FeatureOf R))) (k : ℕ → Option (FeatureOf R)) (c : ℕ × Option (FeatureOf R))
       → are_distinct (numbers cs) ≡ true → In c cs → exchanged_features cs k c.0 ≡ c.1
   has_given [] k c d i = absurd i
   has_given (b ∷ cs) k c d (inl e) =
       ap (λ t. cond t b.1 (exchanged_features cs k c.0)) (eq-eqb c.0 b.0 (sym (ap (λ z. z.0) e))) ∙ ap (λ z. z.1) e
-  has_given (b ∷ cs) k c d (inr i) = by (c.0 == b.0) refl
+  has_given (b ∷ cs) k c d (inr i) =
+      by (c.0 == b.0) refl (has_given cs k c (distinct_parts (b.0 ∷ []) (numbers cs) d).right i)
     where
-      by : (t : Bool) → (c.0 == b.0) ≡ t → cond t b.1 (exchanged_features cs k c.0) ≡ c.1
-      by true t = absurd ((distinct_parts (b.0 ∷ []) (numbers cs) d).apart c.0 (inl (sym (eqb-true c.0 b.0 t))) (in-map (λ z. z.0) c cs i))
-      by false t = has_given cs k c (distinct_parts (b.0 ∷ []) (numbers cs) d).right i
+      by : (t : Bool) → (c.0 == b.0) ≡ t → exchanged_features cs k c.0 ≡ c.1 → cond t b.1 (exchanged_features cs k c.0) ≡ c.1
+      by true t rest = absurd ((distinct_parts (b.0 ∷ []) (numbers cs) d).apart c.0 (inl (sym (eqb-true c.0 b.0 t))) (in-map (λ z. z.0) c cs i))
+      by false t rest = rest
 
   -- these numbers have places
   abbrev pub HavePlaces : List LayerTree → List (ℕ × Option (FeatureOf R)) → Type 0

@@ -145,7 +145,7 @@ pub under_stays : (frame : Framed) (xs ys : List (ℕ × Option (FeatureOf ℕ))
 under_stays frame xs ys r n place off =
     exchanged-feature frame.places ys frame.doc (own_right xs ys r.own) n place ∙ others_same ys (feature frame.doc) n off
 
-none_exchanged : {R : Type 0} (trees : List LayerTree) (d : DocumentOf R) → Fills trees d → exchanged trees [] d ≡ d
+pub none_exchanged : {R : Type 0} (trees : List LayerTree) (d : DocumentOf R) → Fills trees d → exchanged trees [] d ≡ d
 none_exchanged trees d fills = ap (λ z. record { transform = d.transform; layers = z; members = d.members }) (sym fills)
 
 pub all_changes : (frame : Framed) (cs : List (ℕ × Option (FeatureOf ℕ))) → IsReady frame cs

@@ -36,7 +36,7 @@ use vertex_index::Vertices;
 
 /// Gives a number its feature, whose rings have these numbers, and keeps what it had, with these
 /// polygons. Takes no memory.
-fn exchange_one<'a, A: Allocator + Copy, F: PlacedFrame<'a, A>>(
+fn exchange_one<'a, A: Allocator + Copy, F: PlacedFrame<A>>(
     frame: &mut Frame<'a, A, F>,
     change: &mut Change<'a, A>,
     polygons: Vec<Vec<Vec<Pos, A>, A>, A>,
@@ -44,8 +44,8 @@ fn exchange_one<'a, A: Allocator + Copy, F: PlacedFrame<'a, A>>(
 )
     requires { IsReady frame.old (numbered change.old (feature_numbers numbers) ∷ []) }
     ensures exchanged { frame.new
-        ≡ put_in frame.old (numbered change.old (feature_numbers numbers.entry) ∷ []) }
-    ensures had { change.new ≡ change_had frame.old.doc change.old polygons.entry }
+        ≡ put_in frame.old (numbered change.old (feature_numbers numbers) ∷ []) }
+    ensures had { change.new ≡ change_had frame.old.doc change.old polygons }
 {
     let had = match frame.take_out(change.number) {
         Some(texts) => Some(WholeFeature { texts, polygons }),
@@ -58,7 +58,7 @@ fn exchange_one<'a, A: Allocator + Copy, F: PlacedFrame<'a, A>>(
 
 /// Gives each number its feature, whose rings have these numbers, and keeps what they had, with
 /// these polygons. Takes no memory.
-fn exchange_each<'a, A: Allocator + Copy, F: PlacedFrame<'a, A>>(
+fn exchange_each<'a, A: Allocator + Copy, F: PlacedFrame<A>>(
     frame: &mut Frame<'a, A, F>,
     changes: &mut [Change<'a, A>],
     mut polygons: Vec<Vec<Vec<Vec<Pos, A>, A>, A>, A>,
@@ -68,8 +68,8 @@ fn exchange_each<'a, A: Allocator + Copy, F: PlacedFrame<'a, A>>(
     requires polygons { length polygons.items ≡ length changes.old }
     requires numbers { length numbers.items ≡ length changes.old }
     ensures exchanged { frame.new
-        ≡ put_in frame.old (all_numbered changes.old numbers.entry.items) }
-    ensures had { changes.new ≡ all_had frame.old.doc changes.old polygons.entry.items }
+        ≡ put_in frame.old (all_numbered changes.old numbers.items) }
+    ensures had { changes.new ≡ all_had frame.old.doc changes.old polygons.items }
 {
     let mut left = changes.len();
     while left > 0 {
@@ -81,7 +81,7 @@ fn exchange_each<'a, A: Allocator + Copy, F: PlacedFrame<'a, A>>(
 }
 
 /// Makes a new number after a feature, where one is to come.
-fn grow_after<'a, A: Allocator + Copy, F: PlacedFrame<'a, A>>(
+fn grow_after<'a, A: Allocator + Copy, F: PlacedFrame<A>>(
     frame: &mut Frame<'a, A, F>,
     after: Option<u32>,
 ) -> Result<(), AllocError>
@@ -99,7 +99,7 @@ fn grow_after<'a, A: Allocator + Copy, F: PlacedFrame<'a, A>>(
 }
 
 /// Makes room for the names of laid rings, and the new number where one is to come.
-fn make_room<'a, A: Allocator + Copy, F: PlacedFrame<'a, A>>(
+fn make_room<'a, A: Allocator + Copy, F: PlacedFrame<A>>(
     alloc: A,
     frame: &mut Frame<'a, A, F>,
     after: Option<u32>,
@@ -119,7 +119,7 @@ fn make_room<'a, A: Allocator + Copy, F: PlacedFrame<'a, A>>(
 /// Gives these numbers these features, each in the place of its number, where `after` is a feature a
 /// new number comes directly after it first; afterwards `changes` holds what the numbers had before.
 /// Fails for want of memory alone, and then changes nothing.
-pub fn exchange_features<'a, I: SegIndex, A: Allocator + Copy, F: PlacedFrame<'a, A>>(
+pub fn exchange_features<'a, I: SegIndex, A: Allocator + Copy, F: PlacedFrame<A>>(
     alloc: A,
     frame: &mut Frame<'a, A, F>,
     vertices: &mut Vertices<A>,
@@ -175,7 +175,7 @@ pub fn exchange_features<'a, I: SegIndex, A: Allocator + Copy, F: PlacedFrame<'a
 
 /// Lays the rings of the features that are to come, and makes room for them in the frame. Where that
 /// fails for want of memory, some of them are laid.
-fn lay_ready<'a, I: SegIndex, A: Allocator + Copy, F: PlacedFrame<'a, A>>(
+fn lay_ready<'a, I: SegIndex, A: Allocator + Copy, F: PlacedFrame<A>>(
     alloc: A,
     frame: &mut Frame<'a, A, F>,
     vertices: &mut Vertices<A>,

@@ -26,7 +26,7 @@ fn push_polygons<A: Allocator + Copy>(
 
 /// Appends the numbers of the rings of feature `n`, polygon after polygon; none where no feature has
 /// the number. Fails for want of memory alone.
-fn push_feature<'a, A: Allocator + Copy, F: PlacedFrame<'a, A>>(
+fn push_feature<'a, A: Allocator + Copy, F: PlacedFrame<A>>(
     frame: &Frame<'a, A, F>,
     n: u32,
     numbers: &mut Vec<usize, A>,
@@ -41,7 +41,7 @@ fn push_feature<'a, A: Allocator + Copy, F: PlacedFrame<'a, A>>(
 
 /// Appends the numbers of the rings that these numbers have, feature after feature. Fails for want
 /// of memory alone.
-pub(crate) fn push_features<'a, A: Allocator + Copy, F: PlacedFrame<'a, A>>(
+pub(crate) fn push_features<'a, A: Allocator + Copy, F: PlacedFrame<A>>(
     frame: &Frame<'a, A, F>,
     changes: &[Change<'a, A>],
     numbers: &mut Vec<usize, A>,

@@ -115,7 +115,7 @@ pub fn read_polygons<'a, A: Allocator + Copy>(
 }
 
 /// The polygons of feature `n`, as `read_polygons`, of the frame that is to come.
-fn read_placed<'a, A: Allocator + Copy, F: PlacedFrame<'a, A>>(
+fn read_placed<'a, A: Allocator + Copy, F: PlacedFrame<A>>(
     alloc: A,
     frame: &standin::Frame<'a, A, F>,
     vertices: &Vertices<A>,
@@ -133,7 +133,7 @@ fn read_placed<'a, A: Allocator + Copy, F: PlacedFrame<'a, A>>(
 }
 
 /// The polygons that these numbers have. Fails for want of memory alone.
-pub(crate) fn read_features<'a, A: Allocator + Copy, F: PlacedFrame<'a, A>>(
+pub(crate) fn read_features<'a, A: Allocator + Copy, F: PlacedFrame<A>>(
     alloc: A,
     frame: &standin::Frame<'a, A, F>,
     vertices: &Vertices<A>,

@@ -40,7 +40,7 @@ impl<'a, A: Allocator + Copy> Model for FeatureTexts<'a, A> {
 }
 
 /// The calls of a frame.
-pub trait PlacedFrame<'a, A: Allocator + Copy>: Drop {
+pub trait PlacedFrame<A: Allocator + Copy>: Drop {
     ghost framed: { Self → Framed };
 
     fn next(&self) -> u32
@@ -69,14 +69,14 @@ pub trait PlacedFrame<'a, A: Allocator + Copy>: Drop {
         }) }
         ensures err { OnErr result (framed self.new ≡ framed self.old) };
 
-    fn take_out(&mut self, n: u32) -> Option<FeatureTexts<'a, A>>
+    fn take_out(&mut self, n: u32) -> Option<FeatureTexts<'static, A>>
         requires once { IsTrue (are_distinct (rings_in (framed self.old).doc)) }
         ensures taken { framed self.new ≡ record (framed self.old) {
           doc = exchanged (framed self.old).places ((n, None) ∷ []) (framed self.old).doc;
         } }
         ensures texts { result ≡ option_map texts_of (feature (framed self.old).doc n) };
 
-    fn put(&mut self, n: u32, texts: FeatureTexts<'a, A>, polygons: Vec<Vec<usize, A>, A>)
+    fn put<'t>(&mut self, n: u32, texts: FeatureTexts<'t, A>, polygons: Vec<Vec<usize, A>, A>)
         requires below { n < (framed self.old).next }
         requires free { feature (framed self.old).doc n ≡ None }
         requires fits { fits_form (with_texts n texts (map polygon_numbers polygons.items)) ≡ true }
@@ -84,20 +84,20 @@ pub trait PlacedFrame<'a, A: Allocator + Copy>: Drop {
             → r < (framed self.old).room }
         ensures { framed self.new ≡ record (framed self.old) {
           doc = exchanged (framed self.old).places
-              ((n, Some (with_texts n texts.entry (map polygon_numbers polygons.items))) ∷ [])
+              ((n, Some (with_texts n texts (map polygon_numbers polygons.items))) ∷ [])
               (framed self.old).doc;
         } };
 }
 
 /// A frame, seen as `Framed`.
 #[derive(Drop)]
-pub struct Frame<'a, A: Allocator + Copy, F: PlacedFrame<'a, A>> {
+pub struct Frame<'a, A: Allocator + Copy, F: PlacedFrame<A>> {
     held: F,
     text: &'a [u8],
     alloc: A,
 }
 
-impl<'a, A: Allocator + Copy, F: PlacedFrame<'a, A>> Model for Frame<'a, A, F> {
+impl<'a, A: Allocator + Copy, F: PlacedFrame<A>> Model for Frame<'a, A, F> {
     ghost use Rattle.feature_exchange.specs.Standin.{Framed};
 
     ghost Value = { Framed };
@@ -105,7 +105,7 @@ impl<'a, A: Allocator + Copy, F: PlacedFrame<'a, A>> Model for Frame<'a, A, F> {
     ghost view = { λ f. F.framed f.held };
 }
 
-impl<'a, A: Allocator + Copy, F: PlacedFrame<'a, A>> Frame<'a, A, F> {
+impl<'a, A: Allocator + Copy, F: PlacedFrame<A>> Frame<'a, A, F> {
     /// The number of the next new feature.
     pub fn next(&self) -> u32
         ensures next { result ≡ self.now.next }
@@ -168,7 +168,7 @@ impl<'a, A: Allocator + Copy, F: PlacedFrame<'a, A>> Frame<'a, A, F> {
             → r < self.old.room }
         ensures { self.new ≡ record self.old {
           doc = exchanged self.old.places
-              ((n, Some (with_texts n texts.entry (map polygon_numbers polygons.items))) ∷ [])
+              ((n, Some (with_texts n texts (map polygon_numbers polygons.items))) ∷ [])
               self.old.doc;
         } }
     {
