@@ -22,6 +22,7 @@ use Rattle.ring_exchange.specs.declared.laid.LaidRing.{LaidRing}
 use Rattle.ring_exchange.proofs.Series.{number_there}
 use Rattle.feature_exchange.specs.Laying.{AreLaid, length_of}
 use Rattle.feature_exchange.proofs.Asked.{all_true}
+use Rattle.feature_exchange.proofs.KeyLists.{flat_more}
 use Rattle.feature_exchange.proofs.LaidBeside.{laid_none, laid_twice}
 
 -- the tables, and what is listed
@@ -34,12 +35,12 @@ pub record Tables (A C : Type 0) : Type 0 where
   pub cells : C
 
 -- one list more was laid
-pub record OneMore {A C : Type 0} (s t : Tables A C) (numbers : List ℕ) (length : ℕ) : Type 0 where
+pub record OneMore {A C : Type 0} (s t : Tables A C) (came : List ℕ) (much : ℕ) : Type 0 where
   pub stands : Stands t.places t.rings t.held
   pub laid : AreLaid s.places s.rings s.laid t.places t.rings t.laid
-  pub numbers : numbers_of t.laid ≡ numbers_of s.laid ++ numbers
+  pub numbers : numbers_of t.laid ≡ numbers_of s.laid ++ came
   pub counted : t.segments ≡ set.len t.held
-  pub few : t.segments ≤ s.segments + length
+  pub few : t.segments ≤ s.segments + much
   pub cells : t.cells ≡ s.cells
 
 module _ {A C X Y : Type 0} (nums : X → List ℕ) (see : (ℕ → List Position) → X → Y) where
@@ -127,12 +128,9 @@ module _ {P : Type 0} (f : P → List (List Position)) where
   -- one element more
   pub size_step : (ps : List P) (i : ℕ) (d : P) → i < length ps
       → length_of (flat_map f (take (i + 1) ps)) ≡ length_of (flat_map f (take i ps)) + length_of (f (get_or ps i d))
-  size_step [] i d l = absurd (omega (arith, l))
-  size_step (p ∷ ps) zero d l = omega (arith, sum_by-append length (f p) [])
-  size_step (p ∷ ps) (suc i) d l =
+  size_step ps i d l =
       omega (
         arith,
-        size_step ps i d (omega (arith, l)),
-        sum_by-append length (f p) (flat_map f (take (i + 1) ps)),
-        sum_by-append length (f p) (flat_map f (take i ps)),
+        ap (sum_by length) (flat_more f ps i d l),
+        sum_by-append length (flat_map f (take i ps)) (f (get_or ps i d)),
       )

@@ -84,7 +84,7 @@ pub trait PlacedFrame<A: Allocator + Copy>: Drop {
             → r < (framed self.old).room }
         ensures { framed self.new ≡ record (framed self.old) {
           doc = exchanged (framed self.old).places
-              ((n, Some (with_texts n texts (map polygon_numbers polygons.items))) ∷ [])
+              ((n, Some (with_texts n texts.entry (map polygon_numbers polygons.items))) ∷ [])
               (framed self.old).doc;
         } };
 }
@@ -168,7 +168,7 @@ impl<'a, A: Allocator + Copy, F: PlacedFrame<A>> Frame<'a, A, F> {
             → r < self.old.room }
         ensures { self.new ≡ record self.old {
           doc = exchanged self.old.places
-              ((n, Some (with_texts n texts (map polygon_numbers polygons.items))) ∷ [])
+              ((n, Some (with_texts n texts.entry (map polygon_numbers polygons.items))) ∷ [])
               self.old.doc;
         } }
     {
