@@ -28,3 +28,4 @@ said_sound text (said.Rings n) h = tt
 said_sound text said.Count h = tt
 said_sound text (said.Edit c) h = asked_sound text c h
 said_sound text said.Document h = tt
+said_sound text said.Undo h = tt

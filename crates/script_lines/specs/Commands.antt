@@ -1,7 +1,7 @@
 -- The lines of the code as the machine's commands.
 use Rattle.std.specs.Prelude.{◌≡◌, ℕ, pos, ◌<◌, ◌≤◌, ◌^◌, List, [], ◌++◌, length, Option, None, Some}
 use Rattle.grid_geometry.specs.Position.{Position, InRange}
-use Rattle.ring_machine.specs.Command.{Command, Move, Insert, Remove, Thin, Split, Merge, Rename, Delete, Area, At, Neighbours, Rings, Count, Show}
+use Rattle.ring_machine.specs.Command.{Command, Move, Insert, Remove, Thin, Split, Merge, Rename, Delete, Undo, Area, At, Neighbours, Rings, Count, Show}
 use Rattle.map_text.specs.Strings.{string_text}
 use Rattle.script_lines.specs.Lines.{spaced, spaced_position, most_bound, AreNaming, AreCutting, Says}
 use Rattle.script_lines.specs.declared.lines.Command.{Command as CommandLine}
@@ -30,6 +30,7 @@ says_of said.Skip = None
 says_of (said.Rings n) = Some (Rings n)
 says_of said.Count = Some Count
 says_of said.Document = Some Show
+says_of said.Undo = Some Undo
 says_of (said.Edit c) = Some (command_of c)
 
 -- the path of a split has 2 to 256 positions
@@ -54,6 +55,7 @@ SaysSound (Some (said.Rings n)) = Unit {0}
 SaysSound (Some said.Count) = Unit {0}
 SaysSound (Some (said.Edit c)) = IsSound c
 SaysSound (Some said.Document) = Unit {0}
+SaysSound (Some said.Undo) = Unit {0}
 
 -- a line that says nothing is bad; nothing is said of one for which there was no memory
 abbrev pub IsRefused : LineFault → List ℕ → Type 0
@@ -104,6 +106,10 @@ IsRenameTail tail _ = ⊥
 abbrev pub IsDeleteTail : List ℕ → Command → Type 0
 IsDeleteTail tail (Delete n) = IsFeatureTail tail n
 IsDeleteTail tail _ = ⊥
+
+abbrev pub IsUndoTail : List ℕ → Command → Type 0
+IsUndoTail tail Undo = tail ≡ []
+IsUndoTail tail _ = ⊥
 
 abbrev pub IsAreaTail : List ℕ → Command → Type 0
 IsAreaTail tail (Area n) = IsFeatureTail tail n

@@ -41,6 +41,8 @@ pub enum Line {
     Rings(u32),
     /// `count`: how many features, vertices and segments there are.
     Count,
+    /// `undo`: the newest change is taken back.
+    Undo,
     /// Any other edit or query.
     Edit(Command),
     /// `document`: the text of the map.
