@@ -9,7 +9,7 @@ ghost use Rattle.script_lines.specs.Commands.{IsUndoTail, IsAreaTail, IsAtTail, 
 ghost use Rattle.script_lines.specs.Commands.{IsRingsTail, IsCountTail, IsDocumentTail};
 
 use crate::ids::id_of;
-use crate::lines::{Command, Line, LineFault};
+use crate::lines::{Line, LineFault};
 use crate::paths::{is_path, read_path};
 use crate::words::{
     behind, spaced_feature, spaced_position, spaced_token, split_word, wide_number,
@@ -17,6 +17,7 @@ use crate::words::{
 use grid_geometry::Pos;
 use std::alloc::{AllocError, Global};
 use std::str;
+use undo_ring::Command;
 
 /// The most that the bound of a thinning may be: twice the area of the whole grid, which no
 /// triangle is over.
