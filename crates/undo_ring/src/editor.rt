@@ -3,8 +3,10 @@ ghost use Rattle.undo_ring.specs.Commands.{command_of, IsSound};
 ghost use Rattle.undo_ring.specs.Edited.{begun, Applies, Fails, IsUndone, StaysDone};
 
 use crate::answer::Answer;
+use crate::answering::{answer, is_change};
 use crate::command::Command;
 use arc_store::{EditFault, Map};
+use circular_buffer::HeapCircularBuffer;
 use segment_index::SegIndex;
 use std::alloc::{Allocator, Global};
 use std::marker::Model;
@@ -22,29 +24,43 @@ pub enum UndoFault {
 /// changes, the newest one first, and how many changes are kept at most.
 #[derive(Drop)]
 pub struct Editor<'a, I: SegIndex, A: Allocator + Copy = Global> {
+    alloc: A,
     held: Map<'a, I, A>,
-    depth: usize,
+    before: HeapCircularBuffer<Map<'a, I, A>, A>,
 }
 
 impl<'a, I: SegIndex, A: Allocator + Copy> Model for Editor<'a, I, A> {
-    ghost use Rattle.std.specs.Prelude.{[]};
     ghost use Rattle.undo_ring.specs.Edited.{Edited};
+    ghost use Rattle.undo_ring.specs.Copies.{documents, AreLike};
 
     ghost Value = { Edited };
 
-    ghost view = { λ e. record { map = e.held; past = []; depth = e.depth } };
+    ghost view = { λ e. record {
+      map = e.held;
+      past = documents e.before.items;
+      depth = e.before.capacity;
+    } };
+
+    ghost invariant = { λ e. AreLike e.held e.before.items };
 }
 
 impl<'a, I: SegIndex, A: Allocator + Copy> Editor<'a, I, A> {
     /// A map with no history yet, of which so many changes will be kept. Fails for want of memory
     /// alone, and then hands the map back.
-    pub fn new(_alloc: A, map: Map<'a, I, A>, depth: usize) -> Result<Self, Map<'a, I, A>>
+    pub fn new(alloc: A, map: Map<'a, I, A>, depth: usize) -> Result<Self, Map<'a, I, A>>
         requires least { 1 ≤ depth }
         requires most { depth ≤ 1000 }
         ensures made { IfOk result (λ editor. editor ≡ begun map.entry depth) }
         ensures back { IfErr result (λ back. back ≡ map.entry) }
     {
-        Ok(Editor { held: map, depth })
+        match HeapCircularBuffer::with_capacity(alloc, depth) {
+            Ok(before) => Ok(Editor {
+                alloc,
+                held: map,
+                before,
+            }),
+            Err(_) => Err(map),
+        }
     }
 
     /// The map.
@@ -64,8 +80,22 @@ impl<'a, I: SegIndex, A: Allocator + Copy> Editor<'a, I, A> {
         ensures failed { IfErr result
             (λ fault. Fails fault self.old self.new (command_of command)) }
     {
-        let _ = command;
-        Err(EditFault::OutOfMemory)
+        let Ok(before) = self.held.copy() else {
+            return Err(EditFault::OutOfMemory);
+        };
+        match answer(self.alloc, &mut self.held, command) {
+            Ok(answer) => {
+                if is_change(&answer) {
+                    let _ = self.before.push_front(before);
+                }
+                Ok(answer)
+            }
+            Err(EditFault::OutOfMemory) => {
+                self.held = before;
+                Err(EditFault::OutOfMemory)
+            }
+            Err(fault) => Err(fault),
+        }
     }
 
     /// Takes the newest change back that is kept. The next number stays.
@@ -73,6 +103,16 @@ impl<'a, I: SegIndex, A: Allocator + Copy> Editor<'a, I, A> {
         ensures undone { OnOk result (IsUndone self.old self.new) }
         ensures failed { IfErr result (λ fault. StaysDone fault self.old self.new) }
     {
-        Err(UndoFault::OutOfMemory)
+        let _kept = self.before.len();
+        let Some(before) = self.before.pop_front() else {
+            return Err(UndoFault::NothingToUndo);
+        };
+        if before.next_number() != self.held.next_number() {
+            let _ = self.before.push_front(before);
+            return Err(UndoFault::OutOfMemory);
+        }
+        self.held = before;
+        self.held.begin_edit();
+        Ok(())
     }
 }

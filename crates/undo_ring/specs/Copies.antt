@@ -1,0 +1,12 @@
+-- Maps from before the newest changes.
+use Rattle.std.specs.Prelude.{◌≡◌, List, map}
+use Rattle.std.specs.List.{AllByRecursion}
+use Rattle.ring_machine.specs.Document.{Document}
+use Rattle.arc_store.specs.State.{State}
+
+abbrev pub documents : List State → List Document
+documents maps = map (λ m. m.doc) maps
+
+-- the cells of each index have the frame that those of the map have
+abbrev pub AreLike : State → List State → Type 0
+AreLike now maps = AllByRecursion (λ m. m.cells ≡ now.cells) maps
