@@ -1,5 +1,6 @@
 ghost use Rattle.std.specs.Prelude.{◌≡◌, ◌≤◌, OnOk, IfOk, IfErr};
 ghost use Rattle.undo_ring.specs.Commands.{command_of, IsSound};
+ghost use Rattle.undo_ring.specs.Copies.{kept};
 ghost use Rattle.undo_ring.specs.Edited.{begun, Applies, Fails, IsUndone, StaysDone};
 
 use crate::answer::Answer;
@@ -18,6 +19,19 @@ pub enum UndoFault {
     NothingToUndo,
     /// There was no memory. Nothing was changed but the count of tests.
     OutOfMemory,
+}
+
+/// Puts a map in front of the others, where it is to be kept.
+fn keep<'a, I: SegIndex, A: Allocator + Copy>(
+    maps: &mut HeapCircularBuffer<Map<'a, I, A>, A>,
+    map: Map<'a, I, A>,
+    keeps: bool,
+)
+    ensures { maps.new ≡ kept maps.old map.entry keeps }
+{
+    if keeps {
+        let _ = maps.push_front(map);
+    }
 }
 
 /// A map and the history of its newest changes. It is seen as the map, the documents from before these
@@ -85,9 +99,7 @@ impl<'a, I: SegIndex, A: Allocator + Copy> Editor<'a, I, A> {
         };
         match answer(self.alloc, &mut self.held, command) {
             Ok(answer) => {
-                if is_change(&answer) {
-                    let _ = self.before.push_front(before);
-                }
+                keep(&mut self.before, before, is_change(&answer));
                 Ok(answer)
             }
             Err(EditFault::OutOfMemory) => {
