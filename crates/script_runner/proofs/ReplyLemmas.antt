@@ -41,7 +41,7 @@ by_step was is c old new refuses a st s k d t n = record {
 -- ---- what an editor answers
 
 -- an answer is no refusal
-answered : (a : Answer) → 0 ≡ refusals (answer_of a)
+answered : {A : Type 0} (a : Answer A) → 0 ≡ refusals (answer_of a)
 answered told.Done = refl
 answered (told.Thinned n) = refl
 answered (told.Made n) = refl
@@ -49,8 +49,8 @@ answered (told.Area z) = refl
 answered (told.At at) = refl
 answered (told.Neighbours ns) = refl
 
-pub applied : (was is : Edited) (c : Command) (a : Answer) (old new : List ℕ) → Applies was is c a → new ≡ old ++ answer_text (answer_of a) → Replied was is c old new false
-applied was is c a old new h t = by_step was is c old new false (answer_of a) (machine_of is) h.steps refl h.stays.depth t (answered a)
+pub applied : {A : Type 0} (was is : Edited) (c : Command) (a : Answer A) (old new : List ℕ) → Applies was is c a → new ≡ old ++ answer_text (answer_of a) → Replied was is c old new false
+applied {A} was is c a old new h t = by_step was is c old new false (answer_of a) (machine_of is) h.steps refl h.stays.depth t (answered a)
 
 refused : (was is : Edited) (c : Command) (r : Refusal) (old new : List ℕ) → Refuses was is c r → new ≡ old ++ (codes "refused " ++ refusal_text r) → Replied was is c old new true
 refused was is c r old new h t =

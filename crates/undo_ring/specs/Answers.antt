@@ -7,7 +7,7 @@ use Rattle.arc_store.specs.declared.fault.EditFault.TheVariants.{NoFeature, NoVe
 use Rattle.undo_ring.specs.declared.answer.Answer.{Answer}
 use Rattle.undo_ring.specs.declared.answer.Answer.TheVariants.{Done, Thinned, Made, Area, At, Neighbours}
 
-abbrev pub answer_of : Answer → Answered
+abbrev pub answer_of : {A : Type 0} → Answer A → Answered
 answer_of Done = machine.Done
 answer_of (Thinned n) = machine.Thinned n
 answer_of (Made n) = machine.Made n

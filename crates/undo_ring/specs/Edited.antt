@@ -37,7 +37,7 @@ abbrev pub IsSame : Edited → Edited → Type 0
 IsSame old new = new ≡ record old { map = record old.map { tests = new.map.tests } }
 
 -- the command was accepted: its answer, and what is left, are the machine's
-pub record Applies (old new : Edited) (c : Command) (answer : Answer) : Type 0 where
+pub record Applies {A : Type 0} (old new : Edited) (c : Command) (answer : Answer A) : Type 0 where
   pub steps : (answer_of answer, machine_of new) ≡ step old.depth (machine_of old) c
   pub stays : StaysMade old new
 

@@ -3,7 +3,6 @@
 #![tactic(auto)]
 
 mod answer;
-mod answering;
 mod command;
 mod editor;
 
