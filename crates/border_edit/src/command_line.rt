@@ -1,9 +1,8 @@
 //! The words of the program.
-ghost use Rattle.std.specs.Prelude.{◌≡◌, ◌≤◌, ℕ, map, codes, string_bytes, unwrap_or};
-ghost use Rattle.std.specs.Prelude.{IfOk, MatchOption, MatchResult};
-ghost use Rattle.clap.specs.Words.{app_of, rule_of};
-ghost use Rattle.border_edit.specs.Asked.{program, map_rule, script_rule, out_rule, undo_rule};
-ghost use Rattle.border_edit.specs.Asked.{text_of, IsNumber, IsDepth};
+ghost use Rattle.std.specs.Prelude.{◌≡◌, ◌≤◌, ℕ, [], map, codes, string_bytes, unwrap_or};
+ghost use Rattle.std.specs.Prelude.{option_map, IfOk, MatchOption};
+ghost use Rattle.clap.specs.Words.{app_of};
+ghost use Rattle.border_edit.specs.Asked.{program, text_of, IsDepth};
 
 use crate::asked::Words;
 use clap::error::ErrorKind;
