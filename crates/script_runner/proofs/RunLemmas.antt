@@ -8,7 +8,12 @@ use Rattle.ring_machine.specs.Document.{Document}
 use Rattle.script_runner.specs.Runs.{ended_line, open_line, lines_of, reply_text}
 use Rattle.script_runner.specs.Progress.{Progress, start, LineStep, Feeds, FeedsPart, IsPartReply, Told}
 use Rattle.script_runner.specs.Finish.{Finishes, PutsLast}
-use Rattle.script_runner.specs.Outcome.{Runs, AnswersAll, AnswersLines, AnswersPart, IsFront}
+use Rattle.script_runner.specs.Outcome.{OpensAs, Runs, AnswersAll, AnswersLines, AnswersPart, IsFront, Completes, SavesPart}
+use Rattle.device_io.specs.Devices.{AppendsPrefix}
+use Rattle.map_text.specs.Text.{text_of}
+use Rattle.map_text.specs.Saved.{Saved}
+use Rattle.arc_store.specs.State.{State as MapState}
+use Rattle.undo_ring.specs.Edited.{Edited, begun}
 use Rattle.script_runner.specs.declared.runner.Summary.{Summary}
 use Rattle.script_lines.proofs.CommandLemmas.{not_empty}
 use Rattle.script_runner.proofs.StepLemmas.{Feeds-append}
@@ -182,3 +187,18 @@ past_limit read room n t left within is less limit = (
   let e = fed_length read room t (omega arith) in omega arith,
   let e = length-drop t (take n room) in let f = length-take-le n room within in omega arith,
 )
+
+-- ---- the end of a run
+
+module _ (bytes : List ℕ) (depth : ℕ) (opened : MapState) (began : Edited) (ended last : MapState) (coming left taken given held holds : Option (List ℕ)) (s : Summary)
+    (is : began ≡ begun opened depth) (same : last ≡ ended) (answers : AnswersAll began.depth began.map.doc ended.doc coming left taken given s) where
+  answers_all : AnswersAll depth opened.doc last.doc coming left taken given s
+  answers_all =
+      subst (λ (e : Edited). AnswersAll e.depth e.map.doc last.doc coming left taken given s) is
+      (subst (λ (m : MapState). AnswersAll began.depth began.map.doc m.doc coming left taken given s) (sym same) answers)
+
+  pub completes : OpensAs bytes opened.doc → Appends held holds (text_of last.doc) → Saved (text_of last.doc) last.doc → Completes bytes depth coming left taken given held holds s
+  completes opens wrote saved = record { document = opened.doc; last = last.doc; opens = opens; answers = answers_all; wrote = wrote; saved = saved }
+
+  pub saves_part : AppendsPrefix held holds (text_of last.doc) → Saved (text_of last.doc) last.doc → SavesPart depth opened.doc coming left taken given held holds
+  saves_part wrote saved = record { last = last.doc; summary = s; answers = answers_all; wrote = wrote; saved = saved }

@@ -1,5 +1,5 @@
 -- Steps that follow one another, and what stands where one of them failed.
-use Rattle.std.proofs.Common.{Result, Ok, Err, OnErr, ◌≡◌, ℕ, ◌+◌, take, length, List, [], ◌∷◌, ◌++◌, Option, refl, sym, ap, ap₂, subst, ◌∙◌, arith, append_assoc, append-nil, inl, inr, MatchBool, Bool, true, false, ◌==◌}
+use Rattle.std.proofs.Common.{Result, Ok, Err, OnErr, ◌≡◌, ℕ, ◌+◌, take, length, List, [], ◌∷◌, ◌++◌, Option, refl, sym, ap, ap₂, subst, ◌∙◌, arith, append_assoc, append-nil, inl, inr, MatchBool, Bool, true, false, cond, ◌==◌}
 use Rattle.std.proofs.lemmas.List.{take_all}
 use Rattle.std.specs.Io.KnownBytes.{Keeps}
 use Rattle.std.proofs.KnownBytes.{Appends-nil}
@@ -7,7 +7,8 @@ use Rattle.ring_machine.specs.Document.{Document}
 use Rattle.undo_ring.specs.Edited.{Edited, machine_of}
 use Rattle.device_io.specs.Devices.{AppendsPrefix}
 use Rattle.device_io.proofs.DeviceLemmas.{Appends-none}
-use Rattle.script_runner.specs.Runs.{Meaning, reply_text}
+use Rattle.script_runner.specs.Runs.{Meaning, reply_text, state_after, answered_by, refused_by}
+use Rattle.script_runner.specs.Replies.{RepliedLine}
 use Rattle.script_runner.specs.Progress.{Progress, KeptMeans, LineStep, ByteStep, Feeds, PutsPart, FeedsPart, Told}
 use Rattle.script_runner.specs.Finish.{Finishes, PutsLast, Counts}
 use Rattle.script_runner.specs.declared.runner.Summary.{Summary}
@@ -25,6 +26,23 @@ put_part ended p old new e over line m ed es eo el k h =
     let (n, within, put) = h in
     let kept : KeptMeans p.over ended p.line m = rw (eo, el) k in
     (take n (reply_text e.depth (machine_of e) m), put, inr (m, n, kept, ap₂ (λ z x. take n (reply_text z x m)) (sym ed) (sym es)))
+
+-- the kept line is answered, of an editor as it was and is
+pub answered_line : (was is : Edited) (ended : Bool) (p q : Progress) (over : Bool) (line : List ℕ) (m : Meaning) (text : List ℕ) (refuses : Bool)
+    → p.depth ≡ was.depth → p.state ≡ machine_of was → p.over ≡ over → p.line ≡ line → KeptMeans over ended line m → RepliedLine was is m text refuses
+    → q.depth ≡ is.depth → q.state ≡ machine_of is → q.line ≡ [] → q.over ≡ false → q.answered ≡ p.answered + answered_by m → q.refused ≡ p.refused + cond refuses 1 0
+    → LineStep ended p text q
+answered_line was is ended p q over line m text refuses ed es eo el k r qd qs ql qo qa qr =
+    let kept : KeptMeans p.over ended p.line m = rw (eo, el) k in
+    (m, kept, record {
+      told = r.told ∙ ap₂ (λ n s. reply_text n s m) (sym ed) (sym es);
+      after = qs ∙ r.stands ∙ ap₂ (λ n s. state_after n s m) (sym ed) (sym es);
+      depth = qd ∙ r.depth ∙ sym ed;
+      line = ql;
+      over = qo;
+      answered = qa;
+      refused = qr ∙ ap (λ n. p.refused + n) (r.counts ∙ ap₂ (λ n s. refused_by n s m) (sym ed) (sym es));
+    })
 
 -- nothing was put
 pub put_nothing : (ended : Bool) (p : Progress) (a : Option (List ℕ)) → PutsPart ended p a a

@@ -9,6 +9,6 @@ returns-in_ok-extend_from_slice-in-Ok g c =
 
 pub returns-in_ok-extend_from_slice-in-Err-NothingToUndo : goal.returns-in_ok-extend_from_slice-in-Err-NothingToUndo
 returns-in_ok-extend_from_slice-in-Err-NothingToUndo g c =
-    not_undone c.args.editor.now c.undo.new.self c.args.text.now.items c.extend_from_slice-2.new.self.items
+    not_undone c.args.editor.now c.undo.new.self c.args.text.now.items c.extend_from_slice-in-Err-NothingToUndo.new.self.items
     (subst (λ f. StaysDone f c.args.editor.now c.undo.new.self) c.in-Err-NothingToUndo.field-0-is c.in-Err-NothingToUndo.ensures.failed)
     c.in_ok-extend_from_slice-in-Err-NothingToUndo.ensures.items
