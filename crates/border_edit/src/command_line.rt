@@ -52,8 +52,8 @@ fn command<'a>(alloc: Global) -> Result<Command<'a>, clap::Error>
 /// How many changes can be taken back, as the value of `--undo` says, or as is usual without one.
 fn depth_of(given: Option<&str>) -> Option<usize>
     ensures { MatchOption result
-        ((n : ℕ) → ¬ IsDepth (option_map (λ text. text.now) given) n)
-        (λ n. IsDepth (option_map (λ text. text.now) given) n) }
+        ((n : ℕ) → ¬ IsDepth (option_map (λ text. text.now) given.entry) n)
+        (λ n. IsDepth (option_map (λ text. text.now) given.entry) n) }
 {
     let Some(text) = given else {
         return Some(DEPTH);
