@@ -1,7 +1,7 @@
 -- A copy of a frame's tables means the same, and belongs together as they do.
 use Rattle.std.proofs.Common.{◌≡◌, ◌∙◌, ℕ, zero, suc, ◌<◌, ◌≤◌, refl, sym, ap, ap₂, subst}
 use Rattle.std.proofs.Common.{List, [], ◌∷◌, ◌++◌, length, map, Option, Some, None, option_map, Bool, true, false, ◌&&◌, Contains}
-use Rattle.std.specs.Prelude.{Vec, slice_get, unwrap_or}
+use Rattle.std.specs.Prelude.{Vec, slice_get}
 use Rattle.std.specs.List.{flat_map, list_all, AllZip, each_same, AllByRecursion}
 use Rattle.std.specs.Vec.{vec_len}
 use Rattle.std.proofs.lemmas.List.{length-map}

@@ -2,8 +2,8 @@
 use Rattle.std.proofs.Common.{◌≡◌, ◌≤◌, ◌<◌, ℕ, suc, Bool, true, false, refl, sym, ap, ◌∙◌, subst, List, [], ◌∷◌, length}
 use Rattle.std.proofs.Common.{inl, inr, Option, Some, None, arith}
 use Rattle.std.specs.List.{filter_map, cons_option, AllByRecursion}
-use Rattle.std.proofs.Common.{◌≡◌, ◌≢◌, ◌+◌, ◌<◌, ◌≤◌, ℕ, zero, suc, Bool, true, false, eqb, refl, sym, ap, ap₂, ◌∙◌, subst, List, [], ◌∷◌, ◌++◌}
-use Rattle.std.specs.List.{filter_map, list_all, cons_option, AllByRecursion, IsDistinct}
+use Rattle.std.proofs.Common.{◌≡◌, ◌<◌, ◌≤◌, ℕ, suc, Bool, true, false, eqb, refl, sym, ap, ◌∙◌, subst, List, [], ◌∷◌}
+use Rattle.std.specs.List.{filter_map, cons_option, AllByRecursion, IsDistinct}
 use Rattle.std.proofs.lemmas.Bool.Decides.{Decides-eqb}
 use Rattle.std.proofs.lemmas.Map.Steps.{length-le_from_distinct_below}
 use Rattle.ring_machine.specs.WellFormed.{are_distinct}

@@ -1,23 +1,16 @@
 -- Tables in which other features stand at the same places.
-use Rattle.std.proofs.Common.{◌≡◌, ◌<◌, ◌≤◌, ℕ, zero, suc, true, refl, sym, ap, ap₂, ◌∙◌, subst, List, [], ◌∷◌, length}
-use Rattle.std.proofs.Common.{Option, Some, None, option_map, map, arith}
+use Rattle.std.proofs.Common.{◌≡◌, ◌<◌, ◌≤◌, ℕ, true, refl, sym, ap, ◌∙◌, subst, List, length}
+use Rattle.std.proofs.Common.{Option, Some, None, option_map, map}
 use Rattle.std.specs.Prelude.{slice_get, Vec}
-use Rattle.std.specs.List.{list_all, flat_map, filter_map, AllByRecursion}
-use Rattle.std.proofs.lemmas.Option.{slice_get_within, slice_get_read}
-use Rattle.ring_machine.specs.Document.{FeatureOf, LayerOf, DocumentOf}
-use Rattle.ring_machine.specs.Parts.{features, feature}
-use Rattle.ring_machine.specs.WellFormed.{WellFormed, fits_form, are_distinct}
-use Rattle.ring_machine.proofs.First.{In, in_left, in_right}
-use Rattle.ring_machine.proofs.Members.{contains_in}
-use Rattle.edit_records.specs.Places.{LayerTree, filled}
+use Rattle.std.specs.List.{list_all, filter_map, AllByRecursion}
+use Rattle.std.proofs.lemmas.Option.{slice_get_within}
+use Rattle.ring_machine.specs.Document.{FeatureOf}
+use Rattle.ring_machine.specs.Parts.{feature}
+use Rattle.ring_machine.specs.WellFormed.{fits_form, are_distinct}
+use Rattle.edit_records.specs.Places.{filled}
 use Rattle.edit_records.proofs.PlacesBack.{filled-agree}
 use Rattle.map_frame.specs.declared.feature.Feature.{Feature}
-use Rattle.map_frame.specs.declared.feature.Stand.{Stand}
 use Rattle.map_frame.specs.declared.names.RingName.{RingName}
-use Rattle.map_frame.specs.declared.layers.Slot.{Slot}
-use Rattle.map_frame.specs.declared.layers.Geometry.{Geometry}
-use Rattle.map_frame.specs.declared.layers.Geometry.TheVariants as geometry
-use Rattle.map_frame.specs.declared.layers.Layer.{Layer}
 use Rattle.map_frame.specs.declared.tables.Tables.{Tables}
 use Rattle.map_frame.specs.Seen.{doc_of, places_of, view_feature}
 use Rattle.map_frame.specs.Named.{AreNamed}

@@ -1,5 +1,5 @@
 -- A frame in which a new number stands directly after that of a feature.
-use Rattle.std.proofs.Common.{◌≡◌, ◌+◌, ◌<◌, ℕ, true, false, refl, sym, ap, ◌∙◌, List, [], ◌∷◌, ◌++◌, length, slice_set}
+use Rattle.std.proofs.Common.{◌≡◌, ◌+◌, ◌<◌, ℕ, true, false, refl, sym, ap, ◌∙◌, [], ◌∷◌, ◌++◌, length, slice_set}
 use Rattle.std.proofs.Common.{Option, Some, None, is_some}
 use Rattle.std.specs.Prelude.{slice_get, Vec}
 use Rattle.std.specs.Vec.{with_item}
@@ -10,7 +10,6 @@ use Rattle.ring_machine.specs.Refusals.{is_layer}
 use Rattle.edit_records.specs.Places.{grown}
 use Rattle.map_frame.specs.declared.feature.Feature.{Feature}
 use Rattle.map_frame.specs.declared.feature.Stand.{Stand}
-use Rattle.map_frame.specs.declared.layers.Slot.{Slot}
 use Rattle.map_frame.specs.declared.layers.Slot.TheVariants as slot
 use Rattle.map_frame.specs.declared.layers.Geometry.TheVariants as geometry
 use Rattle.map_frame.specs.declared.layers.Layer.{Layer}

@@ -1,7 +1,6 @@
 -- Where a feature stands beside which a new number comes: in a slot among the items of its layer.
-use Rattle.std.proofs.Common.{◌≡◌, ◌<◌, ℕ, false, refl, ap, ◌∙◌, subst, List, [], length, map, sym, Option, Some, None, option_map, Bor, arith, rules}
-use Rattle.std.specs.Prelude.{slice_get, unwrap_or, Vec, IsSome}
-use Rattle.std.proofs.lemmas.List.{length-map}
+use Rattle.std.proofs.Common.{◌≡◌, ◌<◌, ℕ, false, refl, ap, ◌∙◌, length, sym, Option, Some, None}
+use Rattle.std.specs.Prelude.{slice_get, Vec}
 use Rattle.std.proofs.lemmas.Option.{slice_get_within}
 use Rattle.std.proofs.lemmas.Bool.{false≢true}
 use Rattle.ring_machine.specs.Refusals.{is_layer}

@@ -1,9 +1,8 @@
 -- Tables in which a new number stands directly after another.
-use Rattle.std.proofs.Common.{◌≡◌, ◌≢◌, ◌+◌, ◌<◌, ◌≤◌, ℕ, zero, suc, Bool, true, false, refl, sym, ap, ap₂, ◌∙◌, subst, List, [], ◌∷◌, ◌++◌, ◌&&◌, map}
+use Rattle.std.proofs.Common.{◌≡◌, ◌≢◌, ◌+◌, ◌<◌, ℕ, zero, suc, Bool, true, false, refl, sym, ap, ap₂, ◌∙◌, subst, List, [], ◌∷◌, ◌++◌, ◌&&◌, map}
 use Rattle.std.proofs.Common.{length, slice_set, cond, inl, inr, Option, Some, None, option_map, arith, Contains}
 use Rattle.std.specs.Prelude.{slice_get, Vec, ◌==◌}
 use Rattle.std.specs.List.{flat_map, list_all, AllByRecursion}
-use Rattle.std.proofs.lemmas.Bool.{false≢true}
 use Rattle.std.proofs.lemmas.Bool.Decides.{Decides-eqb}
 use Rattle.std.proofs.lemmas.List.{length-append}
 use Rattle.std.proofs.lemmas.Option.{slice_get_within}
@@ -12,7 +11,7 @@ use native.Mathlib.Decide.{ℕ_discrete}
 use Rattle.ring_machine.specs.Document.{DocumentOf}
 use Rattle.ring_machine.specs.Parts.{features as feature_list}
 use Rattle.ring_machine.specs.WellFormed.{WellFormed, are_distinct}
-use Rattle.ring_machine.proofs.First.{In, in_left, in_right}
+use Rattle.ring_machine.proofs.First.{In, in_left}
 use Rattle.ring_machine.proofs.Members.{contains_in, in_contains}
 use Rattle.ring_machine.proofs.Order.{and_both}
 use Rattle.edit_records.specs.Places.{Place, Begins, Ends, Text_of, Number, LayerTree, number_of, numbers_of, filled, grown, tree_with}
@@ -30,7 +29,7 @@ use Rattle.map_frame.specs.Framed.{Framed}
 use Rattle.map_frame.specs.Growing.{with_new, new_after}
 use Rattle.map_frame.specs.Kept.{IsFramed, StandsAt, is_closing, is_whole, is_enclosed, numbers_at, numbers_in, numbers_under, all_numbers}
 use Rattle.map_frame.specs.Named.{AreNamed}
-use Rattle.map_frame.specs.Seen.{doc_of, framed, view_feature, view_layer, places_at, tree_of, layer_tree, places_of}
+use Rattle.map_frame.specs.Seen.{doc_of, framed, view_feature, places_at, tree_of, layer_tree, places_of}
 use Rattle.map_frame.proofs.CountedWithin.{all_recursion_at}
 use Rattle.map_frame.proofs.EditedFeatures.{head_apart, tail_distinct, cons_distinct}
 use Rattle.map_frame.proofs.NamedOnce.{in_part, one_part, same_some, rest_distinct}

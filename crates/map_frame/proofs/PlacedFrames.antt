@@ -1,20 +1,19 @@
 -- What is true of the places of every frame, and of tables whose lists were only moved.
-use Rattle.std.proofs.Common.{◌≡◌, ◌<◌, ◌≤◌, ℕ, true, refl, sym, ap, ap₂, ◌∙◌, subst, List, [], ◌∷◌, length, slice_set, zero, suc}
-use Rattle.std.proofs.Common.{Option, Some, None, inl, inr, option_map}
+use Rattle.std.proofs.Common.{◌≡◌, ◌<◌, ◌≤◌, ℕ, refl, sym, ap, ◌∙◌, subst, List, [], ◌∷◌, length, slice_set, zero, suc}
+use Rattle.std.proofs.Common.{Option, Some, None, option_map}
 use Rattle.std.specs.Prelude.{slice_get, Vec, ◌==◌}
 use Rattle.std.specs.List.{list_any, AllByRecursion}
 use Rattle.std.proofs.lemmas.Bool.Decides.{Decides-eqb}
 use Rattle.ring_machine.specs.Document.{Text, FeatureOf}
 use Rattle.ring_machine.specs.Parts.{features, feature}
 use Rattle.ring_machine.specs.WellFormed.{WellFormed, are_distinct}
-use Rattle.ring_machine.proofs.First.{In}
 use Rattle.ring_machine.proofs.Members.{any_in, in_any}
 use Rattle.edit_records.specs.Places.{LayerTree, numbers_placed}
 use Rattle.edit_records.proofs.PlacesBack.{filled-agree}
 use Rattle.map_frame.specs.declared.feature.Feature.{Feature}
 use Rattle.map_frame.specs.declared.feature.Stand.{Stand}
 use Rattle.map_frame.specs.declared.tables.Tables.{Tables}
-use Rattle.map_frame.specs.Kept.{IsFramed, StandsAt, all_numbers}
+use Rattle.map_frame.specs.Kept.{IsFramed, all_numbers}
 use Rattle.map_frame.specs.Live.{live}
 use Rattle.map_frame.specs.Named.{AreNamed}
 use Rattle.map_frame.specs.Placed.{ArePlaced}

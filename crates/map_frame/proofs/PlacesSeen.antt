@@ -1,7 +1,7 @@
 -- The layers of a frame as places in which its features stand.
-use Rattle.std.proofs.Common.{◌≡◌, ℕ, zero, suc, Bool, true, false, refl, sym, ap, ap₂, ◌∙◌, List, [], ◌∷◌, ◌++◌, ◌&&◌}
+use Rattle.std.proofs.Common.{◌≡◌, ℕ, zero, suc, true, refl, sym, ap, ap₂, ◌∙◌, List, [], ◌∷◌, ◌++◌, ◌&&◌}
 use Rattle.std.proofs.Common.{map, Option, Some, None}
-use Rattle.std.specs.Prelude.{Vec, slice_get, option_to_list}
+use Rattle.std.specs.Prelude.{slice_get, option_to_list}
 use Rattle.std.specs.List.{flat_map, list_all}
 use Rattle.std.proofs.lemmas.Bool.{false≢true}
 use Rattle.std.proofs.lemmas.List.Concat.{flat_map-append}

@@ -2,10 +2,9 @@
 use Rattle.std.proofs.Common.{◌≡◌, ◌<◌, ℕ, true, refl, sym, ap, ap₂, ◌∙◌, List, length, map, slice_set}
 use Rattle.std.proofs.Common.{Option, Some, None, option_map, is_some}
 use Rattle.std.specs.Prelude.{slice_get, Vec}
-use Rattle.std.specs.List.{filter_map}
 use Rattle.std.proofs.lemmas.List.{length-set}
 use Rattle.ring_machine.specs.Document.{Text, FeatureOf, DocumentOf}
-use Rattle.ring_machine.specs.Parts.{in_features, in_item, in_layer}
+use Rattle.ring_machine.specs.Parts.{in_item, in_layer}
 use Rattle.ring_machine.specs.WellFormed.{fits_form}
 use Rattle.edit_records.specs.Records.{with_id}
 use Rattle.edit_records.proofs.PlacesBack.{filled-agree}

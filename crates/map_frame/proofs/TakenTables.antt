@@ -1,8 +1,8 @@
 -- Tables from which a feature was taken, or into which one was put.
-use Rattle.std.proofs.Common.{◌≡◌, ◌≢◌, ◌+◌, ◌<◌, ◌≤◌, ℕ, Bool, true, false, refl, sym, ap, ap₂, ◌∙◌, subst, cond, List, [], ◌∷◌}
-use Rattle.std.proofs.Common.{length, map, slice_set, arith, ◌⊎◌, inl, inr, Option, Some, None, is_some, option_map}
+use Rattle.std.proofs.Common.{◌≡◌, ◌≢◌, ◌+◌, ◌<◌, ℕ, Bool, true, false, refl, sym, ap, ap₂, ◌∙◌, cond, List, [], ◌∷◌}
+use Rattle.std.proofs.Common.{length, map, slice_set, arith, Option, Some, None, is_some, option_map}
 use Rattle.std.specs.Prelude.{slice_get, Vec, ◌==◌}
-use Rattle.std.specs.List.{filter_map, flat_map}
+use Rattle.std.specs.List.{filter_map}
 use Rattle.std.proofs.lemmas.Bool.{false≢true}
 use Rattle.std.proofs.lemmas.Bool.Decides.{Decides-eqb}
 use Rattle.std.proofs.lemmas.List.{length-set}
@@ -11,9 +11,8 @@ use native.Mathlib.Decide.{ℕ_discrete}
 use Rattle.ring_machine.specs.Document.{FeatureOf, DocumentOf}
 use Rattle.ring_machine.specs.Parts.{feature, rings}
 use Rattle.ring_machine.specs.WellFormed.{are_distinct, fits_form}
-use Rattle.ring_machine.proofs.First.{In}
 use Rattle.edit_records.specs.Places.{exchanged, exchanged_features}
-use Rattle.map_opening.specs.Laying.{polygon_numbers, feature_numbers}
+use Rattle.map_opening.specs.Laying.{polygon_numbers}
 use Rattle.map_frame.specs.declared.feature.Feature.{Feature}
 use Rattle.map_frame.specs.declared.names.RingName.{RingName}
 use Rattle.map_frame.specs.declared.tables.Tables.{Tables}

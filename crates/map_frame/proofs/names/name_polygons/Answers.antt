@@ -1,4 +1,4 @@
-use Rattle.std.proofs.Common.{◌≡◌, ◌<◌, ◌≤◌, arith, length, map, refl, sym, ap, ◌∙◌, subst, Some, option_map}
+use Rattle.std.proofs.Common.{◌≡◌, ◌≤◌, arith, length, map, refl, sym, ap, ◌∙◌, subst, Some, option_map}
 use Rattle.std.specs.Prelude.{slice_get}
 use Rattle.std.proofs.lemmas.List.{length-map}
 use Rattle.std.proofs.lemmas.Option.{slice_get-map, slice_get_read}

@@ -1,4 +1,4 @@
-use Rattle.std.proofs.Common.{◌≡◌, ◌<◌, ◌+◌, refl, sym, subst, length, map, arith, Some}
+use Rattle.std.proofs.Common.{◌≡◌, ◌+◌, refl, sym, subst, map, arith, Some}
 use Rattle.std.specs.Prelude.{slice_get}
 use Rattle.std.specs.List.{flat_map}
 use Rattle.std.specs.Vec.{with_item}
