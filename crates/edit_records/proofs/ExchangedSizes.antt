@@ -1,5 +1,5 @@
 -- How many positions there are after an exchange.
-use Rattle.std.proofs.Common.{◌≡◌, ◌+◌, ℕ, Bool, true, false, refl, sym, ap, ap₂, ◌∙◌, subst, cond, append-nil}
+use Rattle.std.proofs.Common.{◌≡◌, ◌≤◌, ◌+◌, ℕ, Bool, true, false, refl, sym, ap, ap₂, ◌∙◌, subst, cond, append-nil}
 use Rattle.std.proofs.Common.{List, [], ◌∷◌, ◌++◌, map, length, inl, inr, Option, Some, None, arith, eqb-true}
 use Rattle.std.specs.Prelude.{◌==◌}
 use Rattle.std.specs.List.{flat_map, filter_map, sum_by, AllByRecursion}
@@ -18,16 +18,8 @@ use Rattle.ring_machine.proofs.Order.{and_both}
 use Rattle.ring_machine.proofs.Removal.{not_true}
 use Rattle.edit_records.specs.Places.{Place, Begins, Ends, Text_of, Number, Tree, Alone, Places, LayerTree}
 use Rattle.edit_records.specs.Places.{number_of, numbers_of, numbers_placed, has_place, leaf, or_empty, item_at, items_of}
+use Rattle.edit_records.specs.Sizes.{weight, weights}
 use Rattle.edit_records.specs.Places.{filled, Fills, exchanged_features, exchanged, had_before}
-
--- the positions of a feature's rings, each ring counted for itself, and none where there is no feature
-abbrev pub weight : Option Feature → ℕ
-weight None = 0
-weight (Some f) = sum_by length (rings_of f)
-
--- those of all these features
-abbrev pub weights : List (ℕ × Option Feature) → ℕ
-weights cs = sum_by (λ c. weight c.1) cs
 
 abbrev total : List Feature → ℕ
 total fs = sum_by length (flat_map rings_of fs)
@@ -144,6 +136,24 @@ module _ (k : ℕ → Option Feature) where
       let b = sum_by-cons (λ (c : ℕ × Option Feature). weight c.1) c cs in
       omega (arith, one, rest, same, a, b)
 
+  -- the features of some numbers have no more positions than all
+  some_within : (ms ns : List ℕ) → are_distinct ns ≡ true → are_distinct ms ≡ true → AllByRecursion (λ m. In m ns) ms
+      → all_of k ms ≤ all_of k ns
+  some_within ms ns d e h = within ms k e h
+    where
+      same : (n : ℕ) (j : ℕ → Option Feature) (ms : List ℕ) → (In n ms → ⊥) → all_of (with_one n None j) ms ≡ all_of j ms
+      same n j ms off = apart_one n None j ms off
+
+      within : (ms : List ℕ) (j : ℕ → Option Feature) → are_distinct ms ≡ true → AllByRecursion (λ m. In m ns) ms
+          → all_of j ms ≤ all_of j ns
+      within [] j e h = omega arith
+      within (m ∷ ms) j e h =
+          let one = all_one m None j ns d h.0 in
+          let rest = within ms (with_one m None j) (and_both _ (are_distinct ms) e).1 h.1 in
+          let others = same m j ms (head_apart m ms e) in
+          let first = sum_by-cons (λ m. weight (j m)) m ms in
+          omega (arith, one, rest, others, first)
+
 had_weights : (d : Document) (cs : List (ℕ × Option Feature))
     → sum_by (λ c. weight (feature d c.0)) cs ≡ weights (had_before d cs)
 had_weights d [] = refl
@@ -151,6 +161,29 @@ had_weights d (c ∷ cs) =
     sum_by-cons (λ (c : ℕ × Option Feature). weight (feature d c.0)) c cs
     ∙ ap (λ z. weight (feature d c.0) + z) (had_weights d cs)
     ∙ sym (sum_by-cons (λ (c : ℕ × Option Feature). weight c.1) (c.0, feature d c.0) (had_before d cs))
+
+place_in : (trees : List LayerTree) (m : ℕ) → has_place trees m ≡ true → In m (numbers_placed trees)
+place_in trees m h =
+    let a = any_in (λ n. n == m) (numbers_placed trees) h in
+    subst (λ z. In z (numbers_placed trees)) (eqb-true a.0 m a.2) a.1
+
+all_placed : (trees : List LayerTree) (cs : List (ℕ × Option Feature)) → AllByRecursion (λ c. has_place trees c.0 ≡ true) cs
+    → AllByRecursion (λ c. In c.0 (numbers_placed trees)) cs
+all_placed trees [] h = tt
+all_placed trees (c ∷ cs) h = (place_in trees c.0 h.0, all_placed trees cs h.1)
+
+numbers_in : (trees : List LayerTree) (cs : List (ℕ × Option Feature)) → AllByRecursion (λ c. has_place trees c.0 ≡ true) cs
+    → AllByRecursion (λ m. In m (numbers_placed trees)) (map (λ c. c.0) cs)
+numbers_in trees [] h = tt
+numbers_in trees (c ∷ cs) h = (place_in trees c.0 h.0, numbers_in trees cs h.1)
+
+over_numbers : (k : ℕ → Option Feature) (cs : List (ℕ × Option Feature))
+    → all_of k (map (λ c. c.0) cs) ≡ sum_by (λ c. weight (k c.0)) cs
+over_numbers k [] = refl
+over_numbers k (c ∷ cs) =
+    sum_by-cons (λ m. weight (k m)) c.0 (map (λ c. c.0) cs)
+    ∙ ap (λ z. weight (k c.0) + z) (over_numbers k cs)
+    ∙ sym (sum_by-cons (λ (c : ℕ × Option Feature). weight (k c.0)) c cs)
 
 -- the positions before and those that come are the positions after and those that went
 pub exchanged-size : (trees : List LayerTree) (cs : List (ℕ × Option Feature)) (d : Document) → Fills trees d
@@ -160,16 +193,19 @@ pub exchanged-size : (trees : List LayerTree) (cs : List (ℕ × Option Feature)
 exchanged-size trees cs d fills alone apart placed =
     let after = total_filled (exchanged_features cs (feature d)) trees in
     let before = ap (λ ls. total (of_layers ls)) fills ∙ total_filled (feature d) trees in
-    let all = all_exchanged (feature d) cs (numbers_placed trees) alone apart (all_placed cs placed) in
+    let all = all_exchanged (feature d) cs (numbers_placed trees) alone apart (all_placed trees cs placed) in
     let had = had_weights d cs in
     omega (arith, after, before, all, had)
-  where
-    place_in : (m : ℕ) → has_place trees m ≡ true → In m (numbers_placed trees)
-    place_in m h =
-        let a = any_in (λ n. n == m) (numbers_placed trees) h in
-        subst (λ z. In z (numbers_placed trees)) (eqb-true a.0 m a.2) a.1
 
-    all_placed : (cs : List (ℕ × Option Feature)) → AllByRecursion (λ c. has_place trees c.0 ≡ true) cs
-        → AllByRecursion (λ c. In c.0 (numbers_placed trees)) cs
-    all_placed [] h = tt
-    all_placed (c ∷ cs) h = (place_in c.0 h.0, all_placed cs h.1)
+-- what these numbers had has no more positions than the document
+pub had-within : (trees : List LayerTree) (cs : List (ℕ × Option Feature)) (d : Document) → Fills trees d
+    → are_distinct (numbers_placed trees) ≡ true → are_distinct (map (λ c. c.0) cs) ≡ true
+    → AllByRecursion (λ c. has_place trees c.0 ≡ true) cs
+    → weights (had_before d cs) ≤ size d
+had-within trees cs d fills alone apart placed =
+    let before = ap (λ ls. total (of_layers ls)) fills ∙ total_filled (feature d) trees in
+    let some = some_within (feature d) (map (λ c. c.0) cs) (numbers_placed trees) alone apart
+    (numbers_in trees cs placed) in
+    let had = had_weights d cs in
+    let all = over_numbers (feature d) cs in
+    omega (arith, before, some, had, all)

@@ -5,7 +5,8 @@ use Rattle.ring_machine.specs.WellFormed.{are_distinct}
 use Rattle.edit_records.specs.Places.{LayerTree, AreFormed, numbers_placed, has_place, Fills}
 
 -- the features stand at the places of their numbers; a number that a feature ever had has one place
-pub record ArePlaced (trees : List LayerTree) (next : ℕ) (d : DocumentOf ℕ) : Type 0 where
+pub record ArePlaced {R : Type 0} (trees : List LayerTree) (next : ℕ) (d : DocumentOf R)
+    : Type 0 where
   pub fills : Fills trees d
   pub formed : AreFormed trees
   pub alone : IsTrue (are_distinct (numbers_placed trees))
