@@ -34,6 +34,8 @@ pub mod NamedRings
 pub mod NearLemmas
 pub mod PlacedMap
 pub mod ChangesCounted
+pub mod ExchangePlan
+pub mod DeletePlan
 pub mod SplitMade
 pub mod CutBorders
 pub mod CutDecided

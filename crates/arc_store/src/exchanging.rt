@@ -1,5 +1,5 @@
 // Features exchanged in a map: what every edit of features goes through.
-ghost use Rattle.std.specs.Prelude.{◌≡◌, ◌≤◌, ◌<◌, ◌∷◌, [], true, Some, length, map, option_map, IsTrue, IfOk, IfSome, OnOk, OnErr};
+ghost use Rattle.std.specs.Prelude.{◌≡◌, ◌≤◌, ◌<◌, ◌^◌, ◌∷◌, [], true, Some, length, map, option_map, IsTrue, IfOk, IfSome, OnOk, OnErr};
 ghost use Rattle.std.specs.List.{AllByRecursion};
 ghost use Rattle.edit_records.specs.Sizes.{weight, weights};
 ghost use Rattle.edit_records.specs.Places.{had_before};
@@ -40,6 +40,18 @@ fn count_changes<'a, A: Allocator + Copy>(changes: &[Change<'a, A>]) -> usize
         count += count_feature(&change.was);
     }
     count
+}
+
+/// A list of one polygon, of these rings.
+pub(crate) fn one_polygon<A: Allocator + Copy>(
+    alloc: A,
+    rings: Vec<Vec<Pos, A>, A>,
+) -> Result<Vec<Vec<Vec<Pos, A>, A>, A>, AllocError>
+    ensures { IfOk result (λ polygons. polygons.items ≡ rings ∷ []) }
+{
+    let mut polygons = Vec::new(alloc);
+    polygons.push(rings)?;
+    Ok(polygons)
 }
 
 /// A list of this change.
@@ -116,8 +128,7 @@ impl<'a, I: SegIndex, A: Allocator + Copy> Map<'a, I, A> {
         let Some(texts) = self.frame.texts(n)? else {
             unreachable!()
         };
-        let mut polygons = Vec::new(self.alloc);
-        polygons.push(rings)?;
+        let polygons = one_polygon(self.alloc, rings)?;
         Ok(Change {
             number,
             was: Some(WholeFeature {
@@ -156,6 +167,7 @@ impl<'a, I: SegIndex, A: Allocator + Copy> Map<'a, I, A> {
             Ok(()) => {}
             Err(e) => return Err(e),
         }
+        let _ = self.frame.next(); // and where they stand now
         let gone = count_changes(changes);
         self.positions = self.positions + came - gone;
         Ok(())

@@ -21,7 +21,7 @@ impl<'a, I: SegIndex, A: Allocator + Copy> Map<'a, I, A> {
         ensures tests { self.new.tests ≡ self.old.tests }
         ensures cells { self.new.cells ≡ self.old.cells }
     {
-        if !self.frame.has_feature(n) {
+        if !self.has_feature(n) {
             return Ok(());
         }
         let _ = self.next_placed();

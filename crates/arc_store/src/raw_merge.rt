@@ -3,7 +3,7 @@ ghost use Rattle.ring_machine.specs.Join.{join};
 ghost use Rattle.ring_machine.specs.Refusals.{first_of, merge_refusals, feature_at};
 ghost use Rattle.arc_store.specs.declared.fault.EditFault.TheVariants.{OutOfMemory};
 
-use crate::exchanging::two_changes;
+use crate::exchanging::{one_polygon, two_changes};
 use crate::fault::EditFault;
 use crate::map::Map;
 use feature_exchange::Change;
@@ -29,9 +29,7 @@ impl<'a, I: SegIndex, A: Allocator + Copy> Map<'a, I, A> {
         let others = self.polygons(g)?;
         let rings = join_polygons(self.alloc, ones[0].as_slice(), others[0].as_slice())?;
         let _ = self.next_placed();
-        let mut polygons = Vec::new(self.alloc);
-        polygons.push(rings)?;
-        let joined = self.with_polygons(n, polygons)?;
+        let joined = self.with_polygons(n, one_polygon(self.alloc, rings)?)?;
         let gone = Change {
             number: g,
             was: None,

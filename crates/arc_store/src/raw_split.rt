@@ -124,6 +124,7 @@ impl<'a, I: SegIndex, A: Allocator + Copy> Map<'a, I, A> {
         ensures formed { WellFormed self.now.doc }
         ensures proper { Proper self.now.doc }
     {
+        let _ = self.next_placed(); // it tells that the map is one
         let mut others = self.polygons(n)?;
         let Some(place) = first_cut(path, others.as_slice()) else {
             unreachable!()

@@ -31,7 +31,7 @@ use Rattle.map_frame.specs.Kept.{IsFramed, StandsAt, is_closing, is_whole, is_en
 use Rattle.map_frame.specs.Named.{AreNamed}
 use Rattle.map_frame.specs.Seen.{doc_of, framed, view_feature, places_at, tree_of, layer_tree, places_of}
 use Rattle.map_frame.proofs.CountedWithin.{all_recursion_at}
-use Rattle.map_frame.proofs.EditedFeatures.{head_apart, tail_distinct, cons_distinct}
+use Rattle.map_frame.proofs.EditedFeatures.{first_distinct}
 use Rattle.map_frame.proofs.NamedOnce.{in_part, one_part, same_some, rest_distinct}
 use Rattle.map_frame.proofs.PlacesSeen.{layers_filled, slot_placed, geometry_placed}
 use Rattle.map_frame.proofs.SlotsEntries.{entry, inner}
@@ -53,13 +53,6 @@ module _ {X : Type 0} where
 
 length_push : {X : Type 0} (xs : List X) (y : X) → length (xs ++ y ∷ []) ≡ length xs + 1
 length_push xs y = length-append xs (y ∷ [])
-
--- the first of two parts of distinct numbers
-first_distinct : (us vs : List ℕ) → are_distinct (us ++ vs) ≡ true → are_distinct us ≡ true
-first_distinct [] vs d = refl
-first_distinct (u ∷ us) vs d =
-    cons_distinct u us (λ i. head_apart u (us ++ vs) d (in_left u us vs i))
-    (first_distinct us vs (tail_distinct u (us ++ vs) d))
 
 -- a part of distinct numbers
 pub part_distinct : {X : Type 0} (g : X → List ℕ) (xs : List X) (i : ℕ) (x : X) → are_distinct (flat_map g xs) ≡ true
