@@ -1,9 +1,8 @@
 -- How many positions there are in features that are exchanged.
-use Rattle.std.proofs.Common.{◌≡◌, ◌≤◌, ◌<◌, ◌+◌, ℕ, true, false, refl, sym, ap, ap₂, ◌∙◌, ◌++◌, ◌&&◌, ◌||◌, arith}
+use Rattle.std.proofs.Common.{◌≡◌, ◌≤◌, ◌<◌, ◌+◌, ℕ, true, false, refl, sym, ap, ap₂, ◌∙◌, ◌++◌, ◌&&◌, ◌||◌}
 use Rattle.std.specs.Prelude.{◌==◌, not}
 use Rattle.std.proofs.Common.{List, [], ◌∷◌, map, length, take, get_or, Option, Some, None, option_map}
 use Rattle.std.specs.List.{sum_by, flat_map, AllByRecursion}
-use Rattle.std.proofs.lemmas.List.{length-map}
 use Rattle.std.proofs.lemmas.List.Sums.{sum_by-append, sum_by-cons}
 use Rattle.ring_machine.specs.Document.{Feature, Document}
 use Rattle.ring_machine.specs.Parts.{size}
@@ -13,7 +12,6 @@ use Rattle.ring_parts.proofs.CountedFew.{counted_flat, counted_more, counted_few
 use Rattle.edit_records.specs.Places.{LayerTree, Fills, exchanged, had_before, has_place, numbers_placed}
 use Rattle.edit_records.specs.Sizes.{weight, weights}
 use Rattle.edit_records.proofs.ExchangedSizes.{exchanged-size, had-within}
-use Rattle.map_frame.specs.Placed.{ArePlaced}
 use Rattle.feature_exchange.specs.Changed.{feature_seen, seen}
 use Rattle.feature_exchange.specs.Laying.{length_of, asked_rings}
 use Rattle.feature_exchange.specs.declared.change.Change.{Change}

@@ -1,5 +1,5 @@
 -- The plan of a deletion: what is asked of the exchange.
-use Rattle.std.proofs.Common.{◌≡◌, ◌≤◌, ◌<◌, ◌+◌, ℕ, true, false, refl, sym, ap, ◌∙◌, subst, List, [], ◌∷◌, Option, None, arith}
+use Rattle.std.proofs.Common.{◌≡◌, ◌<◌, ℕ, true, sym, subst, List, [], ◌∷◌, Option, None, arith}
 use Rattle.std.specs.List.{AllByRecursion}
 use Rattle.ring_machine.specs.Document.{Document, Feature}
 use Rattle.ring_machine.specs.Parts.{has_feature}

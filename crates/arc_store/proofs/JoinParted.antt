@@ -1,6 +1,6 @@
 -- Two features joined, as rings that come in the place of the first one's polygon: the document, its
 -- rings and its size.
-use Rattle.std.proofs.Common.{◌≡◌, ◌≤◌, ℕ, ◌+◌, Bool, true, false, refl, sym, ap, ap₂, ◌∙◌, subst, cond}
+use Rattle.std.proofs.Common.{◌≡◌, ◌≤◌, ℕ, ◌+◌, Bool, true, false, refl, sym, ap, ap₂, ◌∙◌, cond}
 use Rattle.std.proofs.Common.{List, [], ◌∷◌, ◌++◌, map, length, reverse, take, drop, Some, None, arith}
 use Rattle.std.specs.Prelude.{◌==◌, not}
 use Rattle.std.specs.List.{list_all, flat_map, filter, sum_by, prefix_len}
@@ -17,7 +17,6 @@ use Rattle.ring_machine.specs.WellFormed.{WellFormed}
 use Rattle.ring_machine.specs.Join.{take_out, join, joined, joined_polygons, joined_feature, is_common}
 use Rattle.ring_machine.specs.Join.{passed_alike, off_run}
 use Rattle.ring_machine.specs.Refusals.{feature_at, or_else, no_feature}
-use Rattle.ring_machine.proofs.CutJoined.{join_is, feature-join_at}
 use Rattle.ring_machine.proofs.Found.{feature_in, feature_stands}
 use Rattle.ring_machine.proofs.MergeAccepted.{MergeAccepted}
 use Rattle.ring_machine.proofs.Neighbours.{all_in, in-flat_map}

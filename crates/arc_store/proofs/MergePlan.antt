@@ -1,12 +1,12 @@
 -- The plan of a merge: the rings of both features, and what is asked of the exchange.
-use Rattle.std.proofs.Common.{◌≡◌, ◌≤◌, ◌<◌, ℕ, ◌+◌, true, false, refl, sym, ap, ap₂, ◌∙◌, subst, List}
-use Rattle.std.proofs.Common.{[], ◌∷◌, map, length, get_or, Option, Some, None, is_some, arith}
+use Rattle.std.proofs.Common.{◌≡◌, ◌<◌, ℕ, true, false, sym, ap, ap₂, ◌∙◌, subst, List}
+use Rattle.std.proofs.Common.{[], ◌∷◌, length, get_or, Option, Some, None, is_some, arith}
 use Rattle.std.specs.Prelude.{Vec, ◌==◌}
-use Rattle.std.specs.List.{sum_by, AllByRecursion}
+use Rattle.std.specs.List.{AllByRecursion}
 use Rattle.std.proofs.lemmas.List.{length-map}
 use Rattle.grid_geometry.specs.Position.{Position}
 use Rattle.ring_machine.specs.Document.{Document, Feature}
-use Rattle.ring_machine.specs.Parts.{size, has_feature}
+use Rattle.ring_machine.specs.Parts.{has_feature}
 use Rattle.ring_machine.specs.Join.{join}
 use Rattle.ring_machine.specs.Refusals.{first_of, merge_refusals, feature_at, or_else, no_feature}
 use Rattle.ring_machine.proofs.CutJoined.{formed-join}

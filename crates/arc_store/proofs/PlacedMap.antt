@@ -1,13 +1,13 @@
 -- Where the features of a map stand, and what is true of its document.
-use Rattle.std.proofs.Common.{◌≡◌, ◌≤◌, ◌<◌, ℕ, Bool, true, false, refl, sym, ap, ◌∙◌, subst, arith}
-use Rattle.std.proofs.Common.{List, [], ◌∷◌, Option, Some, None, option_map}
+use Rattle.std.proofs.Common.{◌≡◌, ◌<◌, ℕ, Bool, true, false, refl, sym, ap, ◌∙◌, subst, arith}
+use Rattle.std.proofs.Common.{List, Option, Some, None, option_map}
 use Rattle.std.proofs.Common.{is_some}
 use Rattle.std.proofs.lemmas.Bool.{false≢true}
-use Rattle.ring_machine.specs.Document.{DocumentOf, FeatureOf, Feature, Document}
+use Rattle.ring_machine.specs.Document.{DocumentOf, FeatureOf, Document}
 use Rattle.ring_machine.specs.Parts.{feature, in_feature, in_rings, has_feature}
 use Rattle.ring_machine.specs.Refusals.{feature_at, or_else, no_feature}
 use Rattle.ring_machine.proofs.Found.{feature-in_rings, has_feature-found}
-use Rattle.edit_records.specs.Places.{LayerTree, Fills, grown, has_place}
+use Rattle.edit_records.specs.Places.{LayerTree, Fills, has_place}
 use Rattle.edit_records.specs.Records.{IsMap}
 use Rattle.edit_records.proofs.ExchangesMade.{fills-nowhere}
 use Rattle.edit_records.proofs.PlacesBack.{fills-grown}
@@ -21,7 +21,7 @@ use Rattle.topo_outline.proofs.KeptRings.{keeps-in_rings}
 use Rattle.map_frame.specs.Framed.{Framed}
 use Rattle.map_frame.specs.Placed.{ArePlaced}
 use Rattle.map_frame.specs.Texts.{Texts, texts_of}
-use Rattle.feature_exchange.specs.Changed.{trees_after, number_after, MayGrow}
+use Rattle.feature_exchange.specs.Changed.{trees_after}
 use Rattle.feature_exchange.specs.Stored.{stored, ring_under, document_of}
 use Rattle.arc_store.specs.Kept.{IsKept, state_of}
 use Rattle.arc_store.specs.State.{State}

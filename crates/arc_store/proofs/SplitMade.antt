@@ -1,11 +1,11 @@
 -- A feature that is cut, as two features that come in the places of their numbers.
-use Rattle.std.proofs.Common.{◌≡◌, ◌<◌, ℕ, zero, suc, Bool, true, false, refl, sym, ap, ap₂, ◌∙◌, subst, cond, List, [], ◌∷◌, map, length, get_or, take, slice_set}
+use Rattle.std.proofs.Common.{◌≡◌, ◌<◌, ℕ, zero, suc, Bool, true, false, refl, sym, ap, ap₂, ◌∙◌, subst, cond, List, [], ◌∷◌, length, get_or, take, slice_set}
 use Rattle.std.proofs.Common.{Option, Some, None, is_some, arith}
 use Rattle.std.specs.List.{list_any}
 use Rattle.std.proofs.lemmas.Bool.{false≢true}
 use Rattle.grid_geometry.specs.Position.{Position}
 use Rattle.ring_machine.specs.Document.{Document, Feature, Text, Polygon}
-use Rattle.ring_machine.specs.Parts.{feature, has_feature}
+use Rattle.ring_machine.specs.Parts.{feature}
 use Rattle.ring_machine.specs.Cut.{Path, cut, stays, is_cut_by, first_that, change_first, first_polygon, second_polygon}
 use Rattle.ring_machine.specs.Refusals.{feature_at, or_else, no_feature}
 use Rattle.ring_machine.proofs.CutJoined.{new_part}

@@ -1,22 +1,21 @@
 -- The plan of a split: what the tests are asked of, what they decide, and what is kept.
-use Rattle.std.proofs.Common.{◌≡◌, ◌≤◌, ◌<◌, ℕ, ◌+◌, ◌*◌, Bool, true, false, refl, sym, ap, ap₂, ◌∙◌, subst}
-use Rattle.std.proofs.Common.{List, [], ◌∷◌, map, length, slice_set, zero, suc, Option, None, Some, eqb-true, arith}
+use Rattle.std.proofs.Common.{◌≡◌, ◌≤◌, ◌<◌, ℕ, ◌+◌, Bool, true, false, refl, sym, ap, subst}
+use Rattle.std.proofs.Common.{List, [], ◌∷◌, map, length, slice_set, zero, suc, Option, None, eqb-true, arith}
 use Rattle.std.specs.Prelude.{nat_le, nat_lt, ◌==◌}
-use Rattle.std.specs.List.{list_any, list_all, sum_by, AllByRecursion}
+use Rattle.std.specs.List.{list_any, sum_by, AllByRecursion}
 use Rattle.std.proofs.lemmas.Bool.Decides.{nat_tests}
 use Rattle.std.proofs.lemmas.List.{length-append}
 use Rattle.std.proofs.lemmas.List.Sums.{sum_by-cons, sum_by_more_le}
 use Rattle.grid_geometry.specs.Position.{Position}
 use Rattle.grid_geometry.specs.Segment.{Segment}
-use Rattle.ring_machine.specs.Ring.{canonical, is_distinct, is_ring}
+use Rattle.ring_machine.specs.Ring.{is_distinct}
 use Rattle.ring_machine.specs.Document.{Document, Feature, Text}
-use Rattle.ring_machine.specs.Parts.{feature, has_feature, is_vertex, size, all_segments}
+use Rattle.ring_machine.specs.Parts.{has_feature, is_vertex, size, all_segments}
 use Rattle.ring_machine.specs.Planar.{Proper, least_conflict}
 use Rattle.ring_machine.specs.WellFormed.{WellFormed}
-use Rattle.ring_machine.specs.Cut.{Path, cut, is_cut_by, is_wrong_side, first_polygon}
-use Rattle.ring_machine.specs.Cut.{second_polygon}
+use Rattle.ring_machine.specs.Cut.{Path, cut, is_cut_by, is_wrong_side}
 use Rattle.ring_machine.specs.Refusals.{first_of, is_layer, positions_of, is_path_segment}
-use Rattle.ring_machine.specs.Refusals.{feature_at, or_else, no_feature, split_refusals}
+use Rattle.ring_machine.specs.Refusals.{feature_at, split_refusals}
 use Rattle.ring_machine.proofs.SplitDocuments.{split-accepted}
 use Rattle.ring_machine.proofs.SplitProper.{split_is_proper}
 use Rattle.ring_machine.proofs.SplitSegments.{path_segments}
@@ -39,12 +38,11 @@ use Rattle.arc_store.proofs.PlacedMap.{next_new, there_below}
 use Rattle.arc_store.proofs.SplitMade.{both_parts, split_made}
 use Rattle.ring_machine.proofs.CutJoined.{formed-cut}
 use Rattle.map_frame.specs.Framed.{Framed}
-use Rattle.feature_exchange.specs.Stored.{stored, document_of}
 use Rattle.arc_store.specs.Kept.{IsKept, state_of}
 use Rattle.arc_store.specs.Splits.{IsCuttable, IsFirstCut, IsTested, last_refusals}
 use Rattle.arc_store.specs.State.{State}
 use Rattle.arc_store.proofs.CutDecided.{split_after, split_passed, split_decided}
-use Rattle.arc_store.proofs.FeaturesKept.{seen_doc, seen_next, seen_indexed, seen_size}
+use Rattle.arc_store.proofs.FeaturesKept.{seen_indexed, seen_size}
 use Rattle.arc_store.proofs.FeaturesKept.{gone_size}
 use Rattle.arc_store.proofs.PathSegments.{path_new, way_single}
 use Rattle.arc_store.proofs.Tested.{edit_few}

@@ -1,6 +1,6 @@
 -- Features that are asked for, with ring numbers in the place of rings: the same numbers, the same
 -- texts, and rings of the same shape.
-use Rattle.std.proofs.Common.{◌≡◌, ◌≤◌, ◌<◌, ◌+◌, ◌&&◌, ℕ, Bool, true, false, refl, sym, ap, ap₂, ◌∙◌, subst, List}
+use Rattle.std.proofs.Common.{◌≡◌, ◌≤◌, ◌<◌, ◌+◌, ◌&&◌, ℕ, Bool, true, refl, sym, ap, ap₂, ◌∙◌, subst, List}
 use Rattle.std.proofs.Common.{[], ◌∷◌, ◌++◌, map, length, inl, inr, Option, Some, None, option_map, arith, get_or, drop}
 use Rattle.std.specs.Prelude.{Vec, ◌==◌}
 use Rattle.std.specs.List.{flat_map, list_all, sum_by, AllByRecursion}
@@ -8,11 +8,10 @@ use Rattle.std.specs.FinSet as set_of
 use Rattle.std.proofs.lemmas.List.{length-map, map-append}
 use Rattle.grid_geometry.specs.Position.{Position}
 use Rattle.ring_machine.specs.Document.{Feature, FeatureOf, DocumentOf, Document, Form, Polygon, MultiPolygon, Null}
-use Rattle.ring_machine.specs.Parts.{features, feature, in_feature, in_rings, rings, rings_of, size}
-use Rattle.ring_machine.specs.Planar.{Proper}
+use Rattle.ring_machine.specs.Parts.{features, feature, in_feature, in_rings, rings, rings_of}
 use Rattle.ring_machine.specs.Refusals.{feature_at, or_else, no_feature}
 use Rattle.ring_machine.specs.Ring.{is_ring}
-use Rattle.ring_machine.specs.WellFormed.{are_distinct, fits_form, WellFormed}
+use Rattle.ring_machine.specs.WellFormed.{are_distinct, fits_form}
 use Rattle.ring_machine.proofs.First.{In}
 use Rattle.ring_machine.proofs.Found.{feature_in, feature-in_rings}
 use Rattle.ring_machine.proofs.Members.{in_mapped, in_flat}
@@ -25,7 +24,7 @@ use Rattle.segment_index.specs.Candidates.{SegmentSet}
 use Rattle.feature_exchange.specs.Changed.{feature_seen, seen}
 use Rattle.feature_exchange.specs.Holds.{Holds}
 use Rattle.feature_exchange.specs.Laying.{asked, asked_rings, polygons_in, length_of}
-use Rattle.feature_exchange.specs.Ready.{rings_in, coming, FitsForm, numbered, all_numbered, had, change_had, all_had}
+use Rattle.feature_exchange.specs.Ready.{rings_in, coming, FitsForm, all_numbered, had, all_had}
 use Rattle.map_frame.specs.Texts.{with_texts, texts_of}
 use Rattle.feature_exchange.specs.Stored.{Stored}
 use Rattle.feature_exchange.specs.declared.change.Change.{Change}

@@ -1,44 +1,42 @@
 -- Features exchanged in a map, whose rings were laid before, and then the rings of what had the
 -- numbers taken out: the document, and that the map is kept.
-use Rattle.std.proofs.Common.{◌≡◌, ◌≤◌, ◌<◌, ℕ, Bool, true, false, refl, sym, ap, ap₂, ◌∙◌, subst, List, [], ◌∷◌, ◌++◌}
-use Rattle.std.proofs.Common.{map, Option, Some, None, arith, Contains, eq-eqb, get_or, inl, inr}
-use Rattle.std.specs.Prelude.{Vec, IsTrue, ◌==◌}
-use Rattle.std.specs.List.{flat_map, list_all, AllByRecursion}
-use Rattle.std.specs.FinMap as table
+use Rattle.std.proofs.Common.{◌≡◌, ℕ, true, false, refl, sym, ap, ◌∙◌, subst, List, [], ◌∷◌}
+use Rattle.std.proofs.Common.{map, Option, arith, eq-eqb, get_or, inl, inr}
+use Rattle.std.specs.Prelude.{Vec, ◌==◌}
+use Rattle.std.specs.List.{flat_map, list_all}
 use Rattle.std.proofs.lemmas.Bool.{false≢true}
 use Rattle.std.proofs.lemmas.List.{append-nil}
-use Rattle.grid_geometry.specs.Position.{Position, position_lt}
-use Rattle.ring_machine.specs.Document.{Feature, FeatureOf, DocumentOf, Document}
-use Rattle.ring_machine.specs.Parts.{features, feature, in_feature, in_rings, rings, rings_of, size}
+use Rattle.grid_geometry.specs.Position.{Position}
+use Rattle.ring_machine.specs.Document.{FeatureOf}
+use Rattle.ring_machine.specs.Parts.{features, in_feature, in_rings, rings, rings_of, size}
 use Rattle.ring_machine.specs.Planar as proper
 use Rattle.ring_machine.specs.Ring.{canonical, is_ring, is_distinct, begins_least}
-use Rattle.ring_machine.specs.WellFormed.{are_distinct, WellFormed}
+use Rattle.ring_machine.specs.WellFormed.{WellFormed}
 use Rattle.ring_machine.proofs.Canonical.{canonical_at}
 use Rattle.ring_machine.proofs.FormedRings.{formed-before_rings}
 use Rattle.ring_machine.proofs.First.{In}
-use Rattle.ring_machine.proofs.Members.{contains_in, in_contains, in_flat}
+use Rattle.ring_machine.proofs.Members.{in_flat}
 use Rattle.ring_machine.proofs.Neighbours.{all_in, in-flat_map, in-map, none_in}
 use Rattle.ring_machine.proofs.Order.{and_both}
 use Rattle.ring_machine.proofs.OtherRings.{in_feature-agrees}
 use Rattle.map_opening.specs.Laying.{feature_numbers}
 use Rattle.map_opening.proofs.AddedRings.{same_map}
-use Rattle.edit_records.specs.Places.{LayerTree, exchanged, with_changed, is_exchanged}
+use Rattle.edit_records.specs.Places.{exchanged, is_exchanged}
 use Rattle.edit_records.specs.Records.{IsMap}
 use Rattle.edit_records.proofs.ExchangesSeen.{exchanged-rings}
 use Rattle.segment_index.specs.Candidates.{SegmentSet}
 use Rattle.topo_outline.specs.Kept.{KeepsTexts}
 use Rattle.topo_outline.proofs.KeptRings.{keeps-before_rings}
-use Rattle.ring_exchange.specs.Laid.{ring_at, AreAdded, AreGone, KeepsPlaces}
+use Rattle.ring_exchange.specs.Laid.{ring_at}
 use Rattle.feature_exchange.specs.Changed.{seen}
 use Rattle.feature_exchange.specs.Holds.{Holds}
-use Rattle.feature_exchange.specs.Laying.{asked, asked_rings}
-use Rattle.feature_exchange.specs.Ready.{coming, IsReady, FitsForm, all_numbered}
+use Rattle.feature_exchange.specs.Laying.{asked_rings}
+use Rattle.feature_exchange.specs.Ready.{coming, IsReady, all_numbered}
 use Rattle.map_frame.specs.Framed.{Framed}
-use Rattle.map_frame.specs.Placed.{ArePlaced}
 use Rattle.feature_exchange.specs.Stored.{Stored, ring_under, document_of}
 use Rattle.feature_exchange.specs.Under.{rings_under}
 use Rattle.feature_exchange.specs.declared.change.Change.{Change}
-use Rattle.feature_exchange.proofs.Asked.{AreFor, for_coming, for_rings, for_seen, for_numbers, for_own, for_below, for_fits}
+use Rattle.feature_exchange.proofs.Asked.{AreFor, for_coming, for_rings, for_seen}
 use Rattle.feature_exchange.proofs.Changes.{Changes}
 use Rattle.feature_exchange.proofs.Exchanges.{Exchanged, ring_stays, rings_came, exchanged_holds}
 use Rattle.feature_exchange.proofs.Readied.{going, all_changes}

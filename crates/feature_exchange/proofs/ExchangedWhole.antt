@@ -1,15 +1,11 @@
 -- Features exchanged, from before anything is laid until the old rings are taken out.
-use Rattle.std.proofs.Common.{◌≡◌, ◌≤◌, ◌<◌, ◌+◌, ℕ, true, refl, sym, ap, ◌∙◌, subst, List, [], ◌∷◌, map, length, Option, Some, None}
-use Rattle.std.proofs.Common.{Contains, is_some, arith}
-use Rattle.std.specs.Prelude.{Vec, IfSome, IsTrue}
+use Rattle.std.proofs.Common.{◌≡◌, ◌≤◌, ◌<◌, ℕ, true, refl, sym, ap, ◌∙◌, subst, List, [], map, Option, Some, None}
+use Rattle.std.proofs.Common.{is_some}
+use Rattle.std.specs.Prelude.{Vec, IfSome}
 use Rattle.std.specs.List.{flat_map, list_all, AllByRecursion}
-use Rattle.std.specs.FinMap as table
-use Rattle.std.specs.FinSet as set_of
 use Rattle.std.proofs.lemmas.List.Folds.{flat_map-map}
-use Rattle.grid_geometry.specs.Position.{Position}
-use Rattle.ring_machine.specs.Document.{Feature, FeatureOf, DocumentOf}
+use Rattle.ring_machine.specs.Document.{Feature, FeatureOf}
 use Rattle.ring_machine.specs.Parts.{feature, has_feature}
-use Rattle.ring_machine.specs.Refusals.{is_layer}
 use Rattle.ring_machine.specs.Ring.{is_ring}
 use Rattle.ring_machine.specs.WellFormed.{are_distinct}
 use Rattle.ring_machine.proofs.First.{In}
@@ -18,21 +14,20 @@ use Rattle.ring_machine.proofs.Members.{is_some-mapped}
 use Rattle.ring_machine.proofs.StaysFormed.{is_layer-in_rings}
 use Rattle.ring_machine.specs.Parts as parts_of
 use Rattle.vertex_index.specs.Placement.{Placement}
-use Rattle.arc_tables.specs.Ways.{Edge}
 use Rattle.arc_tables.specs.Rings.{Rings}
 use Rattle.map_frame.specs.Naming.{IsOf}
 use Rattle.map_opening.specs.Laying.{feature_numbers}
-use Rattle.edit_records.specs.Places.{LayerTree, has_place, exchanged}
+use Rattle.edit_records.specs.Places.{has_place, exchanged}
 use Rattle.edit_records.specs.Records.{IsMap}
 use Rattle.segment_index.specs.Candidates.{SegmentSet}
 use Rattle.topo_outline.specs.Kept.{KeepsTexts}
-use Rattle.ring_exchange.specs.Laid.{numbers_of, ring_at, AreThere, AreAdded, AreGone, KeepsPlaces}
+use Rattle.ring_exchange.specs.Laid.{numbers_of, ring_at, AreAdded, AreGone, KeepsPlaces}
 use Rattle.ring_exchange.specs.Standing.{Stands}
 use Rattle.ring_exchange.specs.declared.laid.LaidRing.{LaidRing}
 use Rattle.ring_exchange.proofs.Series.{number_there, there_none, added_first}
 use Rattle.feature_exchange.specs.Changed.{seen, changed_as, places_after, next_after, frame_after, MayGrow}
 use Rattle.feature_exchange.specs.Holds.{Holds}
-use Rattle.feature_exchange.specs.Laying.{AreLaid, asked, asked_rings, length_of}
+use Rattle.feature_exchange.specs.Laying.{AreLaid, asked_rings, length_of}
 use Rattle.feature_exchange.specs.Ready.{coming, IsReady, FitsForm, all_numbered, put_in}
 use Rattle.map_frame.specs.Framed.{Framed}
 use Rattle.map_frame.specs.Placed.{ArePlaced}
@@ -43,7 +38,7 @@ use Rattle.feature_exchange.proofs.Asked.{AreFor, asked_are_rings, asked_size, a
 use Rattle.feature_exchange.proofs.ExchangedFeatures.{exchanged_document, exchanged_map}
 use Rattle.feature_exchange.proofs.Exchanges.{Exchanged}
 use Rattle.feature_exchange.proofs.PlacesAfter.{places_come}
-use Rattle.feature_exchange.proofs.Prepared.{ready_of, came_is}
+use Rattle.feature_exchange.proofs.Prepared.{ready_of}
 use Rattle.feature_exchange.proofs.Readied.{going}
 
 -- the frame's features stand as the document's

@@ -1,6 +1,6 @@
 -- The rings of features that are gathered: each is there, and none is listed twice.
 use Rattle.std.proofs.Common.{◌≡◌, ℕ, true, refl, sym, ap, ◌∙◌, subst, List, [], ◌∷◌, Option, Some, None, map}
-use Rattle.std.proofs.Common.{inl, inr, Contains}
+use Rattle.std.proofs.Common.{inl, Contains}
 use Rattle.std.specs.Prelude.{IsTrue}
 use Rattle.std.specs.FinMap as table
 use Rattle.std.specs.List.{flat_map}

@@ -1,5 +1,5 @@
 -- Rings that are laid beside others, a list after the other.
-use Rattle.std.proofs.Common.{◌≡◌, ℕ, true, refl, sym, ap, ap₂, ◌∙◌, subst, List, [], ◌∷◌, ◌++◌, map, Some, None, is_some}
+use Rattle.std.proofs.Common.{◌≡◌, ℕ, refl, sym, ap, ap₂, ◌∙◌, subst, List, [], ◌++◌, map, Some, is_some}
 use Rattle.std.specs.Prelude.{IsTrue}
 use Rattle.std.specs.FinMap as table
 use Rattle.std.proofs.lemmas.Bool.{false≢true}
@@ -12,7 +12,7 @@ use Rattle.vertex_index.specs.Placement.{Placement}
 use Rattle.segment_index.specs.Candidates.{SegmentSet}
 use Rattle.arc_tables.specs.Rings.{Rings, edges}
 use Rattle.map_opening.proofs.AddedRings.{same_map}
-use Rattle.ring_exchange.specs.Laid.{numbers_of, ring_at, AreThere, AreAdded, AreGone, KeepsPlaces}
+use Rattle.ring_exchange.specs.Laid.{numbers_of, ring_at, AreThere, AreAdded, KeepsPlaces}
 use Rattle.ring_exchange.specs.Standing.{Stands}
 use Rattle.ring_exchange.specs.declared.laid.LaidRing.{LaidRing}
 use Rattle.ring_exchange.proofs.Series.{number_there, there_still, there_none, added_first}

@@ -1,11 +1,9 @@
 -- Lists of rings that were laid so far, one after the other.
-use Rattle.std.proofs.Common.{◌≡◌, ◌≤◌, ◌+◌, ◌<◌, ◌&&◌, ℕ, zero, suc, Bool, true, refl, sym, ap, ap₂, ◌∙◌, subst, List, [], ◌∷◌, ◌++◌}
-use Rattle.std.proofs.Common.{map, length, inl, inr, arith, get_or, take, append_assoc}
-use Rattle.std.specs.Prelude.{IsTrue, Option}
-use Rattle.std.specs.FinMap as table
+use Rattle.std.proofs.Common.{◌≡◌, ◌≤◌, ◌+◌, ◌<◌, ℕ, zero, suc, Bool, true, refl, sym, ap, ap₂, ◌∙◌, subst, List, [], ◌∷◌, ◌++◌}
+use Rattle.std.proofs.Common.{map, length, arith, get_or, take, append_assoc}
 use Rattle.std.specs.FinSet as set
 use Rattle.std.specs.List.{flat_map, list_all, sum_by}
-use Rattle.std.proofs.lemmas.List.{append-nil, map-append, map_push}
+use Rattle.std.proofs.lemmas.List.{append-nil, map_push}
 use Rattle.std.proofs.lemmas.List.Concat.{flat_map-append}
 use Rattle.std.proofs.lemmas.List.Sums.{sum_by-append}
 use Rattle.grid_geometry.specs.Position.{Position}

@@ -1,19 +1,18 @@
 -- Where a new number is to come after a feature in a collection, it and all others have a place.
-use Rattle.std.proofs.Common.{◌≡◌, ◌<◌, ◌≤◌, ◌+◌, ◌||◌, ℕ, Bool, true, false, refl, sym, ap, ap₂, ◌∙◌, subst, cond, List}
-use Rattle.std.proofs.Common.{[], ◌∷◌, ◌++◌, map, length, ◌⊎◌, inl, inr, Option, Some, None, is_some, arith, eq-eqb, eqb-true}
+use Rattle.std.proofs.Common.{◌≡◌, ◌<◌, ◌+◌, ◌||◌, ℕ, Bool, true, false, refl, sym, ap, ◌∙◌, subst, cond, List}
+use Rattle.std.proofs.Common.{[], ◌∷◌, ◌++◌, ◌⊎◌, inl, inr, Option, Some, None, is_some, arith, eq-eqb, eqb-true}
 use Rattle.std.specs.Prelude.{◌==◌, IfSome, nat_lt}
-use Rattle.std.specs.List.{flat_map, list_any}
+use Rattle.std.specs.List.{flat_map}
 use Rattle.std.proofs.lemmas.Bool.{false≢true}
 use Rattle.std.proofs.lemmas.Bool.Decides.{nat_tests}
 use Rattle.std.proofs.lemmas.List.Concat.{flat_map-append}
 use Rattle.ring_machine.specs.Document.{FeatureOf, DocumentOf}
-use Rattle.ring_machine.specs.Parts.{feature, has_feature}
+use Rattle.ring_machine.specs.Parts.{feature}
 use Rattle.ring_machine.specs.Refusals.{is_layer}
 use Rattle.ring_machine.proofs.First.{In, in-append, in_left, in_right}
 use Rattle.ring_machine.proofs.Found.{among, feature_in, has_feature-found}
-use Rattle.ring_machine.proofs.Members.{there}
 use Rattle.ring_machine.proofs.Order.{or_right}
-use Rattle.edit_records.specs.Places.{Place, Begins, Ends, Text_of, Number, Tree, Alone, Places, LayerTree, Fills, filled, items_of}
+use Rattle.edit_records.specs.Places.{Place, Begins, Ends, Text_of, Number, Tree, Alone, Places, LayerTree, filled, items_of}
 use Rattle.edit_records.specs.Places.{number_of, numbers_of, numbers_placed, has_place, with_new, tree_with, grown, leaf, or_empty}
 use Rattle.edit_records.proofs.ExchangesMade.{fills-nowhere}
 use Rattle.feature_exchange.specs.Changed.{places_after, next_after, MayGrow}

@@ -1,11 +1,10 @@
 -- Rings that are laid beside others, a list at a time.
-use Rattle.std.specs.Prelude.{ℕ, ◌≡◌, List, [], map, length, Option, None, Some, IsTrue, Vec}
+use Rattle.std.specs.Prelude.{ℕ, ◌≡◌, List, [], length, Option, None, Some, IsTrue}
 use Rattle.std.specs.FinMap as table
 use Rattle.std.specs.List.{flat_map, sum_by}
 use Rattle.grid_geometry.specs.Position.{Position}
 use Rattle.vertex_index.specs.Placement.{Placement}
 use Rattle.arc_tables.specs.Rings.{Rings}
-use Rattle.map_opening.specs.Laying.{polygon_numbers, feature_numbers}
 use Rattle.ring_parts.specs.Seen.{polygons_seen}
 use Rattle.ring_exchange.specs.Laid.{numbers_of, ring_at, AreThere, AreAdded, KeepsPlaces}
 use Rattle.ring_exchange.specs.declared.laid.LaidRing.{LaidRing}

@@ -1,4 +1,4 @@
-use Rattle.std.proofs.Common.{◌≡◌, ◌++◌, ◌∙◌, [], refl, sym, ap, subst, map, length, arith}
+use Rattle.std.proofs.Common.{◌++◌, ◌∙◌, sym, ap, subst, length}
 use Rattle.std.specs.List.{flat_map}
 use Rattle.std.proofs.lemmas.List.{length-map}
 use Rattle.ring_machine.specs.Refusals.{feature_at}
@@ -11,7 +11,7 @@ use Rattle.map_frame.specs.Framed.{Framed}
 use Rattle.feature_exchange.specs.Stored.{stored, ring_under, document_of}
 use Rattle.feature_exchange.specs.Under.{rings_under}
 use Rattle.feature_exchange.proofs.Asked.{asked_few, for_length, had_seen}
-use Rattle.feature_exchange.proofs.ExchangedWhole.{grows_frame, whole_rings, whole_size, whole_added, whole_ready, whole_document, whole_holds}
+use Rattle.feature_exchange.proofs.ExchangedWhole.{grows_frame, whole_rings, whole_size, whole_ready, whole_document, whole_holds}
 use Rattle.feature_exchange.proofs.Gathering.{going_there, going_different}
 use Rattle.feature_exchange.proofs.LaidBeside.{laid_added, laid_there}
 use Rattle.feature_exchange.proofs.Whole.{tables_stand, map_unchanged}

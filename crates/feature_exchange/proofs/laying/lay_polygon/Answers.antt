@@ -1,5 +1,5 @@
-use Rattle.std.proofs.Common.{sym, ap, ◌∙◌, subst}
-use Rattle.ring_exchange.specs.Laid.{numbers_of, AreThere}
+use Rattle.std.proofs.Common.{ap, ◌∙◌}
+use Rattle.ring_exchange.specs.Laid.{numbers_of}
 use Rattle.ring_exchange.proofs.Series.{back_again}
 use Rattle.feature_exchange.proofs.LaidBeside.{laid_more, laid_as}
 use Rattle.feature_exchange.proofs.laying.lay_polygon.Goals as goal

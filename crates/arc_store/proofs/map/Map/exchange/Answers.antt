@@ -3,7 +3,7 @@ use Rattle.edit_records.specs.Places.{had_before}
 use Rattle.edit_records.specs.Sizes.{weights}
 use Rattle.feature_exchange.specs.Changed.{seen, changed_as}
 use Rattle.feature_exchange.specs.Stored.{stored, document_of}
-use Rattle.arc_store.proofs.ExchangePlan.{apart_tables, below_tables, grows_tables, map_tables, texts_tables, came_few}
+use Rattle.arc_store.proofs.ExchangePlan.{apart_tables, below_tables, map_tables, texts_tables, came_few}
 use Rattle.arc_store.proofs.ExchangePlan.{gone_few, gone_bounded, positions_after, state_after}
 use Rattle.arc_store.proofs.FeaturesKept.{kept_as, counted_by}
 use Rattle.arc_store.proofs.map.Map.exchange.Goals as goal
