@@ -206,8 +206,9 @@ fn prepare<A: Allocator + Copy>(
     ensures room { IfOk result (λ polygons. (r : ℕ) → IsOf (flat_map polygon_numbers polygons.items) r
         → r < frame.new.room) }
 {
+    let polygons = triangle(alloc, ring)?;
     frame.reserve_names(&[ring])?;
-    triangle(alloc, ring)
+    Ok(polygons)
 }
 
 /// Puts a Polygon into the place of this number, where none stands.
