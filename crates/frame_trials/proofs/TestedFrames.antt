@@ -1,17 +1,22 @@
 -- Frames of tests: two features of one ring each.
-use Rattle.std.proofs.Common.{◌≡◌, ◌≤◌, ℕ, true, refl, sym, ap, ◌∙◌, List, [], ◌∷◌, ◌++◌, map, length, Option, arith}
-use Rattle.std.specs.Prelude.{Vec}
+use Rattle.std.proofs.Common.{◌≡◌, ◌<◌, ◌≤◌, ℕ, zero, suc, true, refl, sym, ap, ◌∙◌, subst, List, [], ◌∷◌, ◌++◌}
+use Rattle.std.proofs.Common.{map, length, Option, Some, arith}
+use Rattle.std.specs.Prelude.{Vec, slice_get}
 use Rattle.std.specs.List.{flat_map}
+use Rattle.std.proofs.lemmas.Bool.Decides.{Decides-eqb}
 use Rattle.std.proofs.lemmas.List.{length-map, take_all}
-use Rattle.ring_machine.specs.Document.{Text, Member}
+use Rattle.ring_machine.specs.Document.{Text, Member, Polygon}
 use Rattle.ring_machine.specs.Parts.{rings}
-use Rattle.ring_machine.specs.WellFormed.{are_distinct}
+use Rattle.ring_machine.specs.WellFormed.{are_distinct, fits_form}
 use Rattle.topo_outline.specs.Outline.{leaves}
 use Rattle.topo_outline.specs.Views.{view_layer}
 use Rattle.topo_outline.specs.declared.document.RawLayer.{RawLayer}
 use Rattle.topo_reader.proofs.Numbering.{rings_document, rings_within}
 use Rattle.map_opening.specs.Laying.{feature_numbers, polygon_numbers}
+use Rattle.map_frame.specs.Naming.{IsOf}
 use Rattle.map_frame.specs.Opened.{CanStand, opened}
+use Rattle.map_frame.specs.Texts.{Texts, with_texts}
+use Rattle.map_frame.proofs.NamedOnce.{same_some}
 
 -- ---- a feature of one ring
 
@@ -27,6 +32,22 @@ flat_is g (x ∷ xs) = ap (λ z. g x ++ z) (flat_is g xs)
 pub one_ring : {A : Type 0} (f : Vec (Vec ℕ A) A) (r : ℕ) → feature_numbers f ≡ (r ∷ []) ∷ []
     → flat_map polygon_numbers f.items ≡ r ∷ []
 one_ring f r e = flat_is polygon_numbers f.items ∙ ap (flat_map (λ ys. ys)) e
+
+-- there is room for it
+pub room_for : {A : Type 0} (f : Vec (Vec ℕ A) A) (ring room : ℕ) → feature_numbers f ≡ (ring ∷ []) ∷ []
+    → ring < room → (r : ℕ) → IsOf (flat_map polygon_numbers f.items) r → r < room
+room_for f ring room e l r i = by i.0 (ap (λ z. slice_get z i.0) (sym (one_ring f ring e)) ∙ i.1)
+  where
+    by : (j : ℕ) → slice_get (ring ∷ []) j ≡ Some r → r < room
+    by zero h = subst (λ z. z < room) (same_some ring r h) l
+    by (suc j) h = absurd cc
+
+-- a Polygon has one polygon
+pub polygon_fits : (n : ℕ) (t : Texts) (ps : List (List ℕ)) → t.form ≡ Polygon → length ps ≡ 1
+    → fits_form (with_texts n t ps) ≡ true
+polygon_fits n t ps e one =
+    subst (λ form. fits_form (with_texts n (record t { form = form }) ps) ≡ true) (sym e)
+    ((Decides-eqb (length ps) 1).1 one)
 
 -- ---- two such features
 

@@ -1,11 +1,9 @@
 //! Frames of small texts, and the changes of features in them.
-ghost use Rattle.std.specs.Prelude.{ℕ, ◌≡◌, ◌<◌, ◌∷◌, [], map, length, IfOk, IsTrue};
-ghost use Rattle.std.specs.List.{flat_map};
+ghost use Rattle.std.specs.Prelude.{ℕ, ◌≡◌, ◌<◌, ◌≤◌, ◌∷◌, [], map, length, IfOk, IsTrue, OnOk};
 ghost use Rattle.ring_machine.specs.Document.{FeatureOf, Polygon};
 ghost use Rattle.ring_machine.specs.Parts.{feature, rings};
 ghost use Rattle.ring_machine.specs.WellFormed.{are_distinct};
-ghost use Rattle.map_opening.specs.Laying.{feature_numbers, polygon_numbers};
-ghost use Rattle.map_frame.specs.Naming.{IsOf};
+ghost use Rattle.map_opening.specs.Laying.{feature_numbers};
 
 use map_frame::{FeatureTexts, Frame, Id, ItemView};
 use refusing_allocator::Refusing;
@@ -201,30 +199,34 @@ fn prepare<A: Allocator + Copy>(
     frame: &mut Frame<'_, A>,
     ring: usize,
 ) -> Result<Vec<Vec<usize, A>, A>, AllocError>
-    ensures same { frame.new ≡ record frame.old { room = frame.new.room } }
-    ensures one { IfOk result (λ polygons. length polygons.items ≡ 1) }
-    ensures room { IfOk result (λ polygons. (r : ℕ) → IsOf (flat_map polygon_numbers polygons.items) r
-        → r < frame.new.room) }
+    ensures doc { frame.new.doc ≡ frame.old.doc }
+    ensures longer { frame.old.room ≤ frame.new.room }
+    ensures polygons { IfOk result (λ polygons. feature_numbers polygons ≡ (ring ∷ []) ∷ []) }
+    ensures room { OnOk result (ring < frame.new.room) }
 {
     let polygons = triangle(alloc, ring)?;
     frame.reserve_names(&[ring])?;
     Ok(polygons)
 }
 
-/// Puts a Polygon into the place of this number, where none stands.
+/// Puts a Polygon, which is the ring with this number, into the place of `n`, where none stands.
 fn put_polygon<'a, R: Abort, A: Allocator + Copy>(
     rt: &R,
     frame: &mut Frame<'a, A>,
     n: u32,
     texts: FeatureTexts<'a, A>,
     polygons: Vec<Vec<usize, A>, A>,
+    ring: usize,
 )
     requires form { texts.form ≡ Polygon }
-    requires one { length polygons.items ≡ 1 }
-    requires room { (r : ℕ) → IsOf (flat_map polygon_numbers polygons.items) r → r < frame.old.room }
+    requires polygons { feature_numbers polygons ≡ (ring ∷ []) ∷ [] }
+    requires room { ring < frame.old.room }
+    ensures once { IsTrue (are_distinct (rings frame.old.doc)) → IsTrue (are_distinct (rings frame.new.doc)) }
+    ensures room { frame.new.room ≡ frame.old.room }
 {
     assert!(rt; n < frame.next());
-    assert!(rt; frame.feature(n).is_none());
+    assert!(rt; !frame.has_feature(n));
+    assert!(rt; frame.name_of(ring).is_none());
     frame.put(n, texts, polygons);
 }
 
@@ -286,7 +288,7 @@ fn take_from_collection<R: Abort>(
     see_gone(rt, frame);
     assert!(rt; has_leaves(frame, &[1]));
     assert!(rt; item_count(frame) == 4, "with its end, and the point");
-    put_polygon(rt, frame, 0, texts, polygons);
+    put_polygon(rt, frame, 0, texts, polygons, 0);
     see_first(rt, frame);
     see_collection(rt, frame);
     Ok(())
@@ -308,7 +310,7 @@ fn take_alone<R: Abort>(rt: &R, alloc: Global, frame: &mut Frame<'_>) -> Result<
     let texts = take_polygon(rt, frame, 0);
     see_gone(rt, frame);
     assert!(rt; is_empty_collection(frame));
-    put_polygon(rt, frame, 0, texts, polygons);
+    put_polygon(rt, frame, 0, texts, polygons, 0);
     see_first(rt, frame);
     see_alone(rt, frame);
     Ok(())
@@ -330,7 +332,8 @@ fn grow_after<R: Abort, A: Allocator + Copy>(
     frame: &mut Frame<'_, A>,
     n: u32,
 ) -> Result<u32, AllocError>
-    ensures { frame.new.room ≡ frame.old.room }
+    ensures doc { frame.new.doc ≡ frame.old.doc }
+    ensures room { frame.new.room ≡ frame.old.room }
 {
     assert!(rt; frame.has_feature(n));
     assert!(rt; !frame.is_alone(n));
@@ -359,10 +362,13 @@ fn put_part<R: Abort>(
     frame: &mut Frame<'_>,
     n: u32,
     ring: usize,
-) -> Result<(), AllocError> {
+) -> Result<(), AllocError>
+    requires { IsTrue (are_distinct (rings frame.old.doc)) }
+    ensures { OnOk result (IsTrue (are_distinct (rings frame.new.doc))) }
+{
     let polygons = prepare(alloc, frame, ring)?;
     let texts = part_texts(rt, alloc, frame, 0)?;
-    put_polygon(rt, frame, n, texts, polygons);
+    put_polygon(rt, frame, n, texts, polygons, ring);
     Ok(())
 }
 
@@ -385,7 +391,9 @@ fn see_part<R: Abort>(rt: &R, frame: &Frame<'_>, number: u32) {
 }
 
 /// Gives two numbers places after the first feature, in which nothing stands.
-fn grow_twice<R: Abort>(rt: &R, frame: &mut Frame<'_>) -> Result<(), AllocError> {
+fn grow_twice<R: Abort>(rt: &R, frame: &mut Frame<'_>) -> Result<(), AllocError>
+    ensures { frame.new.doc ≡ frame.old.doc }
+{
     assert!(rt; grow_after(rt, frame, 0)? == 2);
     assert!(rt; grow_after(rt, frame, 0)? == 3);
     assert!(rt; frame.next() == 4);
@@ -395,17 +403,26 @@ fn grow_twice<R: Abort>(rt: &R, frame: &mut Frame<'_>) -> Result<(), AllocError>
     Ok(())
 }
 
-/// Puts parts of the first feature into two new places after it.
-fn part_twice<R: Abort>(rt: &R, alloc: Global, frame: &mut Frame<'_>) -> Result<(), AllocError> {
+/// Puts parts of the first feature into two new places after it, and takes one of them out.
+fn part_twice<R: Abort>(rt: &R, alloc: Global, frame: &mut Frame<'_>) -> Result<(), AllocError>
+    requires { IsTrue (are_distinct (rings frame.old.doc)) }
+{
     grow_twice(rt, frame)?;
     put_part(rt, alloc, frame, 2, 5)?;
     see_part(rt, frame, 2);
     assert!(rt; has_leaves(frame, &[0, 2, 1]));
     put_part(rt, alloc, frame, 3, 3)?;
     assert!(rt; has_leaves(frame, &[0, 3, 2, 1]));
-    see_owners(rt, frame, &[Some(0), Some(1), None, Some(3), None, Some(2), None]);
-    assert!(rt; frame.feature_count() == 4);
+    see_owners(
+        rt,
+        frame,
+        &[Some(0), Some(1), None, Some(3), None, Some(2), None],
+    );
+    frame.take_out(2);
+    assert!(rt; has_leaves(frame, &[0, 3, 1]));
+    assert!(rt; frame.feature_count() == 3);
     assert!(rt; frame.next() == 4);
+    assert!(rt; is_of(frame, 5, None));
     Ok(())
 }
 
@@ -463,7 +480,7 @@ fn part_feature<R: Abort, A: Allocator + Copy>(
     let texts = part_texts(rt, alloc, frame, 0)?;
     let polygons = prepare(alloc, frame, 5)?;
     let number = grow_after(rt, frame, 0)?;
-    put_polygon(rt, frame, number, texts, polygons);
+    put_polygon(rt, frame, number, texts, polygons, 5);
     Ok(())
 }
 
