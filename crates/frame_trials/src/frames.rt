@@ -1,5 +1,5 @@
 //! Frames of small texts, and the changes of features in them.
-ghost use Rattle.std.specs.Prelude.{ℕ, ◌≡◌, ◌<◌, ◌≤◌, ◌∷◌, [], map, length, IfOk, IsTrue, OnOk};
+ghost use Rattle.std.specs.Prelude.{ℕ, ◌≡◌, ◌<◌, ◌∷◌, [], map, length, IfOk, IsTrue, OnOk};
 ghost use Rattle.ring_machine.specs.Document.{FeatureOf, Polygon};
 ghost use Rattle.ring_machine.specs.Parts.{feature, rings};
 ghost use Rattle.ring_machine.specs.WellFormed.{are_distinct};
@@ -200,7 +200,6 @@ fn prepare<A: Allocator + Copy>(
     ring: usize,
 ) -> Result<Vec<Vec<usize, A>, A>, AllocError>
     ensures doc { frame.new.doc ≡ frame.old.doc }
-    ensures longer { frame.old.room ≤ frame.new.room }
     ensures polygons { IfOk result (λ polygons. feature_numbers polygons ≡ (ring ∷ []) ∷ []) }
     ensures room { OnOk result (ring < frame.new.room) }
 {
@@ -222,7 +221,6 @@ fn put_polygon<'a, R: Abort, A: Allocator + Copy>(
     requires polygons { feature_numbers polygons ≡ (ring ∷ []) ∷ [] }
     requires room { ring < frame.old.room }
     ensures once { IsTrue (are_distinct (rings frame.old.doc)) → IsTrue (are_distinct (rings frame.new.doc)) }
-    ensures room { frame.new.room ≡ frame.old.room }
 {
     assert!(rt; n < frame.next());
     assert!(rt; !frame.has_feature(n));
