@@ -220,7 +220,7 @@ fn put_polygon<'a, R: Abort, A: Allocator + Copy>(
     requires form { texts.form ≡ Polygon }
     requires polygons { feature_numbers polygons ≡ (ring ∷ []) ∷ [] }
     requires room { ring < frame.old.room }
-    ensures once { IsTrue (are_distinct (rings frame.old.doc)) → IsTrue (are_distinct (rings frame.new.doc)) }
+    ensures { IsTrue (are_distinct (rings frame.old.doc)) → IsTrue (are_distinct (rings frame.new.doc)) }
 {
     assert!(rt; n < frame.next());
     assert!(rt; !frame.has_feature(n));

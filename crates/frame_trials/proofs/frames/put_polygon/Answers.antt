@@ -24,13 +24,14 @@ put-requires-clause-free g c =
     let off : c.has_feature.result ≡ false = cc in
     no_feature c.args.frame.now.doc c.args.n (sym c.has_feature.ensures ∙ off)
 
-pub returns-clause-once : goal.returns-clause-once
-returns-clause-once g c once =
+pub returns : goal.returns
+returns g c =
     let frame = c.args.frame.now in
     let placed = c.next.ensures.placed in
     let off : c.has_feature.result ≡ false = cc in
     let none : c.is_none.result ≡ true = cc in
     let f = with_texts c.args.n c.args.texts (feature_numbers c.args.polygons) in
+    λ once.
     subst (λ (frame : Framed). are_distinct (rings frame.doc) ≡ true) (sym c.put.ensures)
     (put_once frame.places frame.doc c.args.n c.args.ring f placed.fills placed.alone
     (no_feature frame.doc c.args.n (sym c.has_feature.ensures ∙ off))
