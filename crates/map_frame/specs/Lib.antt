@@ -7,7 +7,6 @@ pub mod Kept
 pub mod Live
 pub mod Named
 pub mod Naming
-pub mod Numbered
 pub mod Opened
 pub mod Placed
 pub mod Readers
