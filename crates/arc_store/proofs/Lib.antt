@@ -12,14 +12,11 @@ pub mod Removed
 pub mod RingUsers
 pub mod Judged
 pub mod RemovalJudged
-pub mod Tables
 pub mod InsertPlan
 pub mod RemovePlan
-pub mod Planned
 pub mod SegmentCounts
 pub mod MovePlan
 pub mod Tested
-pub mod AroundPlan
 pub mod FrameReads
 pub mod FrameNames
 pub mod FramedDocument

@@ -38,18 +38,19 @@ use Rattle.arc_store.specs.declared.fault.EditFault.{EditFault}
 use Rattle.arc_store.specs.declared.fault.EditFault.TheVariants as edit
 use Rattle.map_frame.specs.Framed.{Framed}
 use Rattle.arc_store.specs.Edits.{IsMovable}
+use Rattle.vertex_changes.specs.Changes.{HasMoving}
 use Rattle.arc_store.specs.Faults.{Refuses}
 use Rattle.feature_exchange.specs.Stored.{Stored, document_of, stored}
 use Rattle.feature_exchange.specs.Holds.{IsWhole, IsIndexed, Holds}
 use Rattle.arc_store.specs.Kept.{IsKept}
-use Rattle.arc_store.specs.Planned.{ArePlaced, AreAround, AreNew, Exchanges, spokes}
+use Rattle.vertex_changes.specs.Planned.{ArePlaced, AreAround, AreNew, Exchanges, spokes}
 use Rattle.ring_machine.proofs.Members.{any_in, in_mapped, in_contains}
 use Rattle.map_opening.proofs.Places.{place_is}
-use Rattle.feature_exchange.proofs.Base.{joined_kept, joined_apart, segments_to, segments_at}
+use Rattle.feature_exchange.proofs.Base.{joined_kept, joined_apart, segments_to, segments_at, vertex_key}
 use Rattle.feature_exchange.proofs.Base.{sweeps_by_joined}
 use Rattle.map_opening.proofs.SegmentLists.{has-eq}
 use Rattle.arc_store.proofs.Indexed.{indexed_ends, indexed_only, indexed_has}
-use Rattle.arc_store.proofs.Planned.{any_at}
+use Rattle.vertex_changes.proofs.Planned.{any_at}
 use Rattle.arc_store.proofs.Insertions.{any_mapped}
 use Rattle.arc_store.proofs.Moved.{segments_to_single, not_there, added_new, added_single}
 use Rattle.arc_store.proofs.Moved.{indexed_moved, reindexed, holds_moved, size_moved, document_moved}
@@ -57,29 +58,21 @@ use Rattle.arc_store.proofs.SegmentCounts.{as_many}
 
 -- ---- what stands around a vertex
 
-pub all_placed : (s : Stored) → IsWhole s → (k : ℕ) → ArePlaced s.places s.rings k
-all_placed s w k x j = (joined_kept s w k x j).1
+-- p is a vertex and q is none
+pub has_moving : (s : Stored) → IsWhole s → (p q : Position) → is_vertex (document_of s) p ≡ true
+    → is_vertex (document_of s) q ≡ false → HasMoving s.places s.rings p q
+has_moving s w p q vertex free = record {
+  here = vertex_key s w p vertex;
+  placed = λ k at x j. (joined_kept s w k x j).1;
+  apart = λ k x at j. (
+    λ e. joined_apart s w k x j (place_is s.places k p at ∙ sym e),
+    not_there s w k p q at free x (joined_kept s w k x j).1,
+  );
+}
 
 module _ (s : Stored) (held : SegmentSet) (h : Holds s held) (k : ℕ) (p q : Position) (at : table.get s.places k ≡ Some p) (free : is_vertex (document_of s) q ≡ false) (around : List Position) (r : AreAround s.places s.rings k around) where
   spokes_are : (z : Position) → spokes z around ≡ segments_to s.places z r.keys
   spokes_are z = ap (map (λ x. segment x z)) r.are ∙ map-map (λ x. segment x z) (place s.places) r.keys
-
-  apart_from : (z : Position) → ((x : ℕ) → Joined s.rings k x → place s.places x ≢ z)
-      → has around z ≡ false
-  apart_from z differ = by (has around z) refl
-    where
-      by : (b : Bool) → has around z ≡ b → has around z ≡ false
-      by false e = e
-      by true e =
-          let x = in_mapped (place s.places) z r.keys (subst (In z) r.are (has-in z around e)) in
-          absurd (differ x.0 ((r.joined x.0).0 (in_contains r.keys x.0 x.1)) x.2)
-
-  -- p and q are not around p
-  pub off_before : has around p ≡ false
-  off_before = apart_from p (λ x j e. joined_apart s h.whole k x j (place_is s.places k p at ∙ sym e))
-
-  pub off_after : has around q ≡ false
-  off_after = apart_from q (λ x j. not_there s h.whole k p q at free x (joined_kept s h.whole k x j).1)
 
   -- ---- what comes and goes
 

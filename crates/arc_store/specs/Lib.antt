@@ -4,7 +4,6 @@ pub mod Faults
 pub mod Kept
 pub mod Named
 pub mod Near
-pub mod Planned
 pub mod RingPlaces
 pub mod Splits
 pub mod Spots

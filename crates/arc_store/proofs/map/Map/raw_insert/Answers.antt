@@ -2,7 +2,7 @@ use Rattle.std.proofs.Common.{sym, subst, ap, ◌∙◌, arith}
 use Rattle.ring_machine.specs.Vertices.{ins}
 use Rattle.segment_index.specs.Candidates.{AreSingle}
 use Rattle.feature_exchange.specs.Stored.{stored, document_of}
-use Rattle.arc_store.specs.Planned.{AreNew}
+use Rattle.vertex_changes.specs.Planned.{AreNew}
 use Rattle.arc_store.proofs.Accepted.{insert_may}
 use Rattle.arc_store.proofs.Indexed.{indexed_apart}
 use Rattle.arc_store.proofs.InsertPlan.{first_key, second_key, insert_off, insert_new, insert_single}

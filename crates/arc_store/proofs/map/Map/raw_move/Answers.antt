@@ -6,21 +6,18 @@ use Rattle.ring_machine.specs.Command.{Sweeps}
 use Rattle.ring_machine.specs.Refusals.{first_of, ◌unless◌}
 use Rattle.segment_index.specs.Candidates.{AreAmong, AreSingle}
 use Rattle.feature_exchange.specs.Stored.{stored}
-use Rattle.arc_store.specs.Planned.{AreNew}
+use Rattle.vertex_changes.specs.Planned.{AreNew}
 use Rattle.arc_store.proofs.Accepted.{move_may}
 use Rattle.arc_store.proofs.MovePlan.{held_apart, move_conflicts, move_decided}
-use Rattle.arc_store.proofs.MovePlan.{plan_new, plan_single, plan_held, plan_once, document_after, kept_after}
+use Rattle.arc_store.proofs.MovePlan.{has_moving, plan_new, plan_single, plan_held, plan_once, document_after, kept_after}
 use Rattle.arc_store.proofs.Tested.{conflicts_few, sweeps_few}
 use Rattle.arc_store.proofs.map.Map.raw_move.Goals as goal
 
 pub read_moving-requires : goal.read_moving-requires
-read_moving-requires g c = record {
-  frame = c.self.inside.frame;
-  held = g.I.SegIndex.held c.self.inside.index;
-  holds = c.self.invariant.holds;
-  vertex = ap (λ z. is_vertex z.doc c.args.p) c.self.view_is ∙ c.requires.vertex;
-  free = ap (λ z. is_vertex z.doc c.args.q) c.self.view_is ∙ c.requires.free;
-}
+read_moving-requires g c =
+    has_moving (stored c.self.inside.frame c.self.inside.borders c.self.inside.vertices) c.self.invariant.holds.whole c.args.p c.args.q
+    (ap (λ z. is_vertex z.doc c.args.p) c.self.view_is ∙ c.requires.vertex)
+    (ap (λ z. is_vertex z.doc c.args.q) c.self.view_is ∙ c.requires.free)
 
 pub test_planar-requires : goal.test_planar-requires
 test_planar-requires g c =

@@ -6,20 +6,15 @@ use Rattle.ring_machine.specs.Vertices.{is_junction}
 use Rattle.feature_exchange.specs.Stored.{stored, document_of}
 use Rattle.arc_store.proofs.Accepted.{remove_may}
 use Rattle.arc_store.proofs.Indexed.{indexed_apart}
-use Rattle.arc_store.proofs.RemovePlan.{found, found_planned, not_joined, three_apart, taken}
+use Rattle.arc_store.proofs.RemovePlan.{has_bridging, found, found_planned, not_joined, three_apart, taken}
 use Rattle.arc_store.proofs.Tested.{removed_few}
 use Rattle.arc_store.proofs.map.Map.raw_remove.Goals as goal
 
 pub read_bridging-requires : goal.read_bridging-requires
-read_bridging-requires g c = record {
-  frame = c.self.inside.frame;
-  held = g.I.SegIndex.held c.self.inside.index;
-  holds = c.self.invariant.holds;
-  vertex = ap (λ z. is_vertex z.doc c.args.p) c.self.view_is ∙ c.requires.vertex;
-  inner = ap (λ z. is_junction z.doc c.args.p) c.self.view_is ∙ c.requires.inner;
-  long = ap (λ z. are_long z.doc c.args.p) c.self.view_is ∙ c.requires.long;
-  unjoined = ap (λ z. is_bridged z.doc c.args.p) c.self.view_is ∙ c.requires.unjoined;
-}
+read_bridging-requires g c =
+    has_bridging (stored c.self.inside.frame c.self.inside.borders c.self.inside.vertices) c.self.invariant.holds.whole c.args.p
+    (ap (λ z. is_vertex z.doc c.args.p) c.self.view_is ∙ c.requires.vertex)
+    (ap (λ z. is_junction z.doc c.args.p) c.self.view_is ∙ c.requires.inner)
 
 -- ---- the tests
 

@@ -4,19 +4,14 @@ use Rattle.ring_machine.specs.Refusals.{are_long, is_bridged}
 use Rattle.ring_machine.specs.Vertices.{is_junction}
 use Rattle.arc_store.specs.Edits.{IsLeavable}
 use Rattle.arc_store.specs.State.{State}
-use Rattle.arc_store.proofs.RemovePlan.{found, found_planned, not_joined, three_apart, taken}
+use Rattle.arc_store.proofs.RemovePlan.{has_bridging, found, found_planned, not_joined, three_apart, taken}
 use Rattle.arc_store.proofs.map.Map.remove_tables.Goals as goal
 
 pub read_bridging-requires : goal.read_bridging-requires
-read_bridging-requires g c = record {
-  frame = c.self.inside.frame;
-  held = g.I.SegIndex.held c.self.inside.index;
-  holds = c.self.invariant.holds;
-  vertex = ap (λ z. is_vertex z.doc c.args.p) c.self.view_is ∙ c.requires.leavable.vertex;
-  inner = ap (λ z. is_junction z.doc c.args.p) c.self.view_is ∙ c.requires.leavable.inner;
-  long = ap (λ z. are_long z.doc c.args.p) c.self.view_is ∙ c.requires.leavable.long;
-  unjoined = ap (λ z. is_bridged z.doc c.args.p) c.self.view_is ∙ c.requires.leavable.unjoined;
-}
+read_bridging-requires g c =
+    has_bridging (stored c.self.inside.frame c.self.inside.borders c.self.inside.vertices) c.self.invariant.holds.whole c.args.p
+    (ap (λ z. is_vertex z.doc c.args.p) c.self.view_is ∙ c.requires.leavable.vertex)
+    (ap (λ z. is_junction z.doc c.args.p) c.self.view_is ∙ c.requires.leavable.inner)
 
 -- ---- the tables
 

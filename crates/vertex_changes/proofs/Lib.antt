@@ -1,0 +1,3 @@
+pub mod Planned
+pub mod AroundPlan
+pub mod Tables
