@@ -8,7 +8,6 @@ use Rattle.std.specs.FinMap as table
 use Rattle.std.specs.FinSet as set
 use Rattle.std.proofs.lemmas.List.{length-map}
 use Rattle.std.proofs.lemmas.List.Folds.{list_any_more}
-use Rattle.std.proofs.lemmas.Result.{on_ok_weaker}
 use Rattle.std.proofs.lemmas.Simd.{map-map}
 use Rattle.grid_geometry.specs.Conflict.{conflict}
 use Rattle.grid_geometry.specs.Held.{is_held}
@@ -239,14 +238,14 @@ module _ (s : Stored) (held : SegmentSet) (h : Holds s held) (d : Document) (is 
 -- ---- the map after the last call of a move
 
 -- the document is the moved one
-pub document_after : {X E : Type 0} (result : Result X E) (frame : Framed) (rings : Rings)
-    (places places' : Placement) → IsWhole (stored frame rings places) → (d : Document)
+pub document_after : (frame : Framed) (rings : Rings) (places places' : Placement)
+    → IsWhole (stored frame rings places) → (d : Document)
     → document_of (stored frame rings places) ≡ d → (k : ℕ) (p q : Position)
-    → table.get places k ≡ Some p → is_vertex d q ≡ false
-    → OnOk result (places' ≡ table.insert places k q)
-    → OnOk result (document_of (stored frame rings places') ≡ put d p q)
-document_after result frame rings places places' w d is k p q at free moved =
-    on_ok_weaker result (λ m. ap (λ z. document_of (stored frame rings z)) m ∙ document_moved (stored frame rings places) w k p q at (ap (λ z. is_vertex z q) is ∙ free) ∙ ap (λ z. put z p q) is) moved
+    → table.get places k ≡ Some p → is_vertex d q ≡ false → places' ≡ table.insert places k q
+    → document_of (stored frame rings places') ≡ put d p q
+document_after frame rings places places' w d is k p q at free moved =
+    ap (λ z. document_of (stored frame rings z)) moved
+    ∙ document_moved (stored frame rings places) w k p q at (ap (λ z. is_vertex z q) is ∙ free) ∙ ap (λ z. put z p q) is
 
 -- what is true of the tables stays, whether the call fails or not
 pub kept_after : {X E : Type 0} (result : Result X E) (frame : Framed) (rings : Rings)

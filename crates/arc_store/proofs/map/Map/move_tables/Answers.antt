@@ -48,6 +48,14 @@ invariant_of-self g c =
     m.around.items r.all c.as_slice-after.result.now c.as_slice-before.result.now (c.as_slice-after.ensures.value ∙ r.comes) (c.as_slice-before.ensures.value ∙ r.goes)
     c.shift.ensures.moved c.shift.ensures.exchanged c.shift.ensures.vertices c.shift.ensures.index
 
+pub invariant_of-self-2 : goal.invariant_of-self-2
+invariant_of-self-2 g c =
+    let m = c.in_ok-moving.moving in
+    let r = c.in_ok-moving.ensures.read in
+    kept_after c.shift.result c.self.inside.frame c.self.inside.borders c.self.inside.vertices c.shift.new.vertices (g.I.SegIndex.held c.self.inside.index) (g.I.SegIndex.held c.shift.new.index) c.self.inside.positions c.self.inside.segments c.self.invariant c.args.self.now.doc (ap (λ z. z.doc) c.self.view_is) m.key c.args.p c.args.q r.here c.requires.movable
+    m.around.items r.all c.as_slice-after.result.now c.as_slice-before.result.now (c.as_slice-after.ensures.value ∙ r.comes) (c.as_slice-before.ensures.value ∙ r.goes)
+    c.shift.ensures.moved c.shift.ensures.exchanged c.shift.ensures.vertices c.shift.ensures.index
+
 pub returns-clause-moved : goal.returns-clause-moved
 returns-clause-moved g c =
-    document_after c.shift.result c.self.inside.frame c.self.inside.borders c.self.inside.vertices c.shift.new.vertices c.self.invariant.holds.whole c.args.self.now.doc (ap (λ z. z.doc) c.self.view_is) c.in_ok-moving.moving.key c.args.p c.args.q c.in_ok-moving.ensures.read.here c.requires.movable.free c.shift.ensures.moved
+    document_after c.self.inside.frame c.self.inside.borders c.self.inside.vertices c.shift.new.vertices c.self.invariant.holds.whole c.args.self.now.doc (ap (λ z. z.doc) c.self.view_is) c.in_ok-moving.moving.key c.args.p c.args.q c.in_ok-moving.ensures.read.here c.requires.movable.free c.in_ok-shift.ensures.moved

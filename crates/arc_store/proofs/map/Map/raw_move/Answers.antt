@@ -1,6 +1,6 @@
 use Rattle.std.proofs.Common.{◌∙◌, sym, ap, subst, [], ◌∷◌}
 use Rattle.std.specs.Prelude.{not}
-use Rattle.std.proofs.lemmas.Result.{err_from_is_err_and, on_ok_weaker}
+use Rattle.std.proofs.lemmas.Result.{err_from_is_err_and}
 use Rattle.ring_machine.specs.Parts.{is_vertex}
 use Rattle.ring_machine.specs.Command.{Sweeps}
 use Rattle.ring_machine.specs.Refusals.{first_of, ◌unless◌}
@@ -86,16 +86,14 @@ pub returns-clause-accepted : goal.returns-clause-accepted
 returns-clause-accepted g c =
     let m = c.in_ok-moving.moving in
     let r = c.in_ok-moving.ensures.read in
-    on_ok_weaker c.shift.result (λ z.
     move_decided (stored c.self.inside.frame c.self.inside.borders c.self.inside.vertices) (g.I.SegIndex.held c.self.inside.index) c.self.invariant.holds c.args.self.now.doc (ap (λ z. z.doc) c.self.view_is) m.key c.args.p c.args.q r.here c.requires.vertex c.requires.free m.around.items r.all c.as_slice-after.result.now
     (c.as_slice-after.ensures.value ∙ r.comes)
     c.as_slice-around.result.now c.as_slice-around.ensures.value c.in_ok-sweeps.field-0 c.in_ok-test_planar.ensures.apart c.in_ok-sweeps.ensures.sweeps
-    ∙ ap (λ z. first_of ((Sweeps unless not z) ∷ [])) c.if-branch.false)
-    c.shift.ensures.moved
+    ∙ ap (λ z. first_of ((Sweeps unless not z) ∷ [])) c.if-branch.false
 
 pub returns-clause-moved : goal.returns-clause-moved
 returns-clause-moved g c =
-    document_after c.shift.result c.self.inside.frame c.self.inside.borders c.self.inside.vertices c.shift.new.vertices c.self.invariant.holds.whole c.args.self.now.doc (ap (λ z. z.doc) c.self.view_is) c.in_ok-moving.moving.key c.args.p c.args.q c.in_ok-moving.ensures.read.here c.requires.free c.shift.ensures.moved
+    document_after c.self.inside.frame c.self.inside.borders c.self.inside.vertices c.shift.new.vertices c.self.invariant.holds.whole c.args.self.now.doc (ap (λ z. z.doc) c.self.view_is) c.in_ok-moving.moving.key c.args.p c.args.q c.in_ok-moving.ensures.read.here c.requires.free c.in_ok-shift.ensures.moved
 
 -- ---- how many tests
 
@@ -115,6 +113,13 @@ returns-in_err-sweeps-clause-few g c =
 
 pub returns-then-branch-clause-few : goal.returns-then-branch-clause-few
 returns-then-branch-clause-few g c =
+    let m = c.in_ok-moving.moving in
+    let r = c.in_ok-moving.ensures.read in
+    sweeps_few c.self.invariant c.self.view_is m.key c.args.p c.args.q r.here c.requires.free m.around.items r.all c.as_slice-after.result.now
+    (c.as_slice-after.ensures.value ∙ r.comes) c.test_planar.new.tests c.test_planar.ensures.few c.sweeps.new.tests c.sweeps.ensures.few
+
+pub returns-in_err-shift-clause-few : goal.returns-in_err-shift-clause-few
+returns-in_err-shift-clause-few g c =
     let m = c.in_ok-moving.moving in
     let r = c.in_ok-moving.ensures.read in
     sweeps_few c.self.invariant c.self.view_is m.key c.args.p c.args.q r.here c.requires.free m.around.items r.all c.as_slice-after.result.now

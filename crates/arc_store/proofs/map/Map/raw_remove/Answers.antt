@@ -1,7 +1,6 @@
 use Rattle.std.proofs.Common.{◌∙◌, ap, arith}
 use Rattle.std.proofs.lemmas.Result.{err_from_is_err_and}
 use Rattle.ring_machine.specs.Parts.{is_vertex}
-use Rattle.ring_machine.specs.Refusals.{are_long, is_bridged}
 use Rattle.ring_machine.specs.Vertices.{is_junction}
 use Rattle.feature_exchange.specs.Stored.{stored, document_of}
 use Rattle.arc_store.proofs.Accepted.{remove_may}

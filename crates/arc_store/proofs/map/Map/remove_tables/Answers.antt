@@ -1,6 +1,6 @@
 use Rattle.std.proofs.Common.{◌∙◌, ap, arith, subst, sym}
 use Rattle.ring_machine.specs.Parts.{is_vertex}
-use Rattle.ring_machine.specs.Refusals.{are_long, is_bridged}
+use Rattle.feature_exchange.specs.Stored.{stored}
 use Rattle.ring_machine.specs.Vertices.{is_junction}
 use Rattle.arc_store.specs.Edits.{IsLeavable}
 use Rattle.arc_store.specs.State.{State}
