@@ -18,11 +18,6 @@ pub record Removal : Type 0 where
   pub a : Position
   pub b : Position
 
--- a number, and the feature that had it, where one did
-pub record Change : Type 0 where
-  pub number : ℕ
-  pub was : Option Feature
-
 -- what was changed
 pub data Record : Type 0 where
   -- p to q
@@ -33,15 +28,10 @@ pub data Record : Type 0 where
   Thinned : List Removal → Record
   -- the feature, and its id before
   Renamed : ℕ → Option Text → Record
-  -- the features of at most two numbers before
-  Exchanged : List Change → Record
+  -- at most two numbers, each with the feature that had it, or none
+  Exchanged : List (ℕ × Option Feature) → Record
 
 -- ---- the document before
-
--- the numbers, each with the feature that had it
-abbrev pub pairs_of : List Change → List (ℕ × Option Feature)
-pairs_of [] = []
-pairs_of (c ∷ cs) = (c.number, c.was) ∷ pairs_of cs
 
 -- the vertex stands between its neighbours again
 abbrev pub put_back : Document → Removal → Document
@@ -58,7 +48,7 @@ back trees (Inserted q) d = del d q
 back trees (Removed r) d = put_back d r
 back trees (Thinned rs) d = fold put_back d rs
 back trees (Renamed n id) d = with_id d n id
-back trees (Exchanged cs) d = exchanged trees (pairs_of cs) d
+back trees (Exchanged cs) d = exchanged trees cs d
 
 -- ---- when a record fits
 
@@ -94,10 +84,10 @@ AreRemoved d [] = Unit {0}
 AreRemoved d (r ∷ rs) = IsRemoved d r × AreRemoved (put_back d r) rs
 
 -- every feature has the number that it is given for, and none has a number that is yet to come
-abbrev pub AreChanged : ℕ → List Change → Type 0
+abbrev pub AreChanged : ℕ → List (ℕ × Option Feature) → Type 0
 AreChanged next [] = Unit {0}
 AreChanged next (c ∷ cs) =
-    (c.number < next) × ((f : Feature) → c.was ≡ Some f → f.number ≡ c.number) × AreChanged next cs
+    (c.0 < next) × ((f : Feature) → c.1 ≡ Some f → f.number ≡ c.0) × AreChanged next cs
 
 abbrev pub Fits : ℕ → Document → Record → Type 0
 Fits next d (Moved p q) = IsMoved d p q
