@@ -10,7 +10,7 @@ use Rattle.ring_machine.specs.Vertices.{put, ins, del, is_junction}
 use Rattle.ring_machine.specs.Planar.{Proper}
 use Rattle.ring_machine.specs.Refusals.{are_long, is_bridged}
 use Rattle.ring_machine.specs.WellFormed.{WellFormed}
-use Rattle.edit_records.specs.Places.{LayerTree, exchanged}
+use Rattle.edit_records.specs.Places.{LayerTree, Fills, exchanged}
 
 -- a vertex that was left out, and its two neighbours
 pub record Removal : Type 0 where
@@ -58,6 +58,12 @@ pub record IsMap (d : Document) : Type 0 where
   pub formed : WellFormed d
   pub small : size d ≤ 4000000
 
+-- what is true of every map's document, the places of its features, and the next number
+pub record IsHeld (trees : List LayerTree) (next : ℕ) (d : Document) : Type 0 where
+  pub map : IsMap d
+  pub fills : Fills trees d
+  pub below : (m : ℕ) → next ≤ m → has_feature d m ≡ false
+
 -- q is a vertex, and p is none
 pub record IsMoved (d : Document) (p q : Position) : Type 0 where
   pub vertex : is_vertex d q ≡ true
@@ -103,3 +109,8 @@ pub record Undoes (trees : List LayerTree) (next : ℕ) (d : Document) (r : Reco
   pub fits : Fits next d r
   -- no number that is yet to come is a feature's
   pub below : (m : ℕ) → next ≤ m → has_feature (back trees r d) m ≡ false
+
+-- the record takes the change from d to e back, and fits
+pub record Takes (trees : List LayerTree) (next : ℕ) (d e : Document) (r : Record) : Type 0 where
+  pub undoes : Undoes trees next e r
+  pub was : back trees r e ≡ d
