@@ -7,7 +7,7 @@ use Rattle.ring_machine.specs.Document.{Document}
 use Rattle.ring_machine.specs.Parts.{size}
 use Rattle.ring_machine.specs.WellFormed.{are_distinct}
 use Rattle.edit_records.specs.Places.{Fills, had_before, has_place, numbers_placed}
-use Rattle.edit_records.specs.Records.{IsMap}
+use Rattle.edit_records.specs.Records.{IsMap, Record}
 use Rattle.edit_records.specs.Sizes.{weights}
 use Rattle.vertex_index.specs.Placement.{Placement}
 use Rattle.segment_index.specs.Candidates.{SegmentSet}
@@ -27,8 +27,8 @@ use Rattle.arc_store.proofs.ChangesCounted.{weights_asked, sizes_after, had_few,
 use Rattle.arc_store.proofs.PlacedMap.{placed-in_rings, fills_after}
 
 module _ {A : Type 0} {frame : Framed} {rings : Rings} {places : Placement} {held : SegmentSet} {positions segments : ℕ}
-    (kept : IsKept frame rings places held positions segments) {l : ℕ} {cells : Option GridFrame} {now : State}
-    (is : state_of frame rings places l cells ≡ now) (placed : ArePlaced frame.places frame.next frame.doc)
+    (kept : IsKept frame rings places held positions segments) {l : ℕ} {cells : Option GridFrame} {o : Option Record} {now : State}
+    (is : state_of frame rings places l cells o ≡ now) (placed : ArePlaced frame.places frame.next frame.doc)
     (after : Option ℕ) (cs : List (Change A)) (apart : are_distinct (map (λ c. c.0) (seen cs)) ≡ true)
     (below : AllByRecursion (λ c. c.0 < number_after after now.next) (seen cs))
     (grows : IfSome after (MayGrow now.doc now.next)) (map_is : IsMap (asked_document after (seen cs) now)) where

@@ -8,7 +8,7 @@ use Rattle.ring_machine.specs.Parts.{feature, in_feature, in_rings, has_feature}
 use Rattle.ring_machine.specs.Refusals.{feature_at, or_else, no_feature}
 use Rattle.ring_machine.proofs.Found.{feature-in_rings, has_feature-found}
 use Rattle.edit_records.specs.Places.{LayerTree, Fills, has_place}
-use Rattle.edit_records.specs.Records.{IsMap}
+use Rattle.edit_records.specs.Records.{IsMap, Record}
 use Rattle.edit_records.proofs.ExchangesMade.{fills-nowhere}
 use Rattle.edit_records.proofs.PlacesBack.{fills-grown}
 use Rattle.edit_records.proofs.PlacesFilled.{fills-in_rings}
@@ -39,8 +39,8 @@ placed-in_rings g trees next d h = record {
 }
 
 module _ {frame : Framed} {rings : Rings} {places : Placement} {held : SegmentSet} {positions segments : ℕ}
-    (kept : IsKept frame rings places held positions segments) {l : ℕ} {cells : Option GridFrame} {now : State}
-    (is : state_of frame rings places l cells ≡ now) where
+    (kept : IsKept frame rings places held positions segments) {l : ℕ} {cells : Option GridFrame} {o : Option Record} {now : State}
+    (is : state_of frame rings places l cells o ≡ now) where
   pub placed_seen : ArePlaced frame.places frame.next frame.doc → ArePlaced now.places now.next now.doc
   placed_seen h =
       subst (λ (s : State). ArePlaced s.places s.next s.doc) is

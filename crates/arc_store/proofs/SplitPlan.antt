@@ -29,7 +29,7 @@ use Rattle.local_planarity.specs.Edits.{IsAfter}
 use Rattle.local_planarity.specs.Tests.{most_for, most_tests}
 use Rattle.local_planarity.specs.declared.leaving.Leaving.TheVariants.{Nothing}
 use Rattle.edit_records.specs.Places.{LayerTree, grown, exchanged}
-use Rattle.edit_records.specs.Records.{IsMap}
+use Rattle.edit_records.specs.Records.{IsMap, Record}
 use Rattle.topo_outline.specs.Kept.{KeepsTexts, IsJson}
 use Rattle.topo_outline.proofs.KeptShapes.{keeps-cut}
 use Rattle.map_frame.specs.Placed.{ArePlaced}
@@ -79,8 +79,8 @@ cuttable d n p q seen formed proper there inside cuts different free new =
     })
 
 module _ {frame : Framed} {rings : Rings} {places : Placement} {held : SegmentSet} {positions segments : ℕ}
-    (kept : IsKept frame rings places held positions segments) {l : ℕ} {cells : Option GridFrame} {now : State}
-    (is : state_of frame rings places l cells ≡ now) where
+    (kept : IsKept frame rings places held positions segments) {l : ℕ} {cells : Option GridFrame} {o : Option Record} {now : State}
+    (is : state_of frame rings places l cells o ≡ now) where
   module _ (n : ℕ) (p : Path) (a : IsCuttable now.doc n p) where
     -- how many tests there were
     pub split_few : (id : Text) (added : List Segment) → added ≡ path_segments p → (m : ℕ)

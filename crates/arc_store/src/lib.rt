@@ -10,6 +10,7 @@ mod begin;
 mod build;
 mod copying;
 mod counts;
+mod edit_record;
 mod exchanging;
 mod fault;
 mod features;
@@ -30,6 +31,7 @@ mod raw_split;
 mod ring_iter;
 mod spot;
 
+pub use edit_record::{Record, Removal};
 pub use fault::{BuildFault, EditFault};
 pub use ids::IdText;
 pub use map::Map;

@@ -12,7 +12,6 @@ ghost use Rattle.local_planarity.specs.declared.leaving.Leaving.TheVariants.{One
 ghost use Rattle.arc_store.specs.Edits.{IsInsertable, IsPlaceable};
 ghost use Rattle.arc_store.specs.Faults.{Refuses};
 ghost use Rattle.vertex_changes.specs.Planned as planned;
-ghost use Rattle.arc_store.specs.declared.fault.EditFault.TheVariants.{OutOfMemory};
 
 use crate::fault::EditFault;
 use crate::map::Map;
@@ -20,7 +19,7 @@ use crate::plan::test_planar;
 use grid_geometry::{Pos, Seg};
 use local_planarity::{Leaving, TestCount, holds_other};
 use segment_index::SegIndex;
-use std::alloc::Allocator;
+use std::alloc::{AllocError, Allocator};
 use vertex_changes::{put_in, read_parting};
 
 /// Tests that nothing stands in the way of q between the ends of a segment, which goes while the
@@ -91,14 +90,10 @@ impl<'a, I: SegIndex, A: Allocator + Copy> Map<'a, I, A> {
     /// Puts q between a and b as a raw insertion does, but makes no test of two segments and asks of
     /// no sweep: no two segments would be in conflict. Fails for want of memory alone, and then
     /// changes nothing.
-    fn insert_tables(&mut self, a: Pos, b: Pos, q: Pos) -> Result<(), EditFault>
+    pub(crate) fn insert_tables(&mut self, a: Pos, b: Pos, q: Pos) -> Result<(), AllocError>
         requires placeable { IsPlaceable self.old.doc a b q }
-        ensures inserted { OnOk result (self.new.doc ≡ ins self.old.doc a b q) }
-        ensures memory { IfErr result (λ fault. fault ≡ OutOfMemory) }
-        ensures unchanged { OnErr result (self.new.doc ≡ self.old.doc) }
-        ensures next { self.new.next ≡ self.old.next }
-        ensures tests { self.new.tests ≡ self.old.tests }
-        ensures cells { self.new.cells ≡ self.old.cells }
+        ensures inserted { OnOk result (self.new ≡ record self.old { doc = ins self.old.doc a b q }) }
+        ensures unchanged { OnErr result (self.new ≡ self.old) }
     {
         let parting = read_parting(self.alloc, &self.vertices, a, b, q)?;
         let (ends, before) = (parting.ends, parting.before);

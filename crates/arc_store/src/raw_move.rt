@@ -13,7 +13,6 @@ ghost use Rattle.local_planarity.specs.Tests.{most_for_move, most_given};
 ghost use Rattle.arc_store.specs.Edits.{IsMovable};
 ghost use Rattle.arc_store.specs.Faults.{Refuses};
 ghost use Rattle.feature_exchange.specs.Holds.{IsIndexed};
-ghost use Rattle.arc_store.specs.declared.fault.EditFault.TheVariants.{OutOfMemory};
 
 use crate::fault::EditFault;
 use crate::map::Map;
@@ -81,14 +80,10 @@ impl<'a, I: SegIndex, A: Allocator + Copy> Map<'a, I, A> {
     /// Moves the vertex at p to q as a raw move does, but makes no test of two segments and asks of
     /// no sweep: no two segments would be in conflict. Fails for want of memory alone, and then
     /// changes nothing.
-    fn move_tables(&mut self, p: Pos, q: Pos) -> Result<(), EditFault>
+    pub(crate) fn move_tables(&mut self, p: Pos, q: Pos) -> Result<(), AllocError>
         requires movable { IsMovable self.old.doc p q }
-        ensures moved { OnOk result (self.new.doc ≡ put self.old.doc p q) }
-        ensures memory { IfErr result (λ fault. fault ≡ OutOfMemory) }
-        ensures unchanged { OnErr result (self.new.doc ≡ self.old.doc) }
-        ensures next { self.new.next ≡ self.old.next }
-        ensures tests { self.new.tests ≡ self.old.tests }
-        ensures cells { self.new.cells ≡ self.old.cells }
+        ensures moved { OnOk result (self.new ≡ record self.old { doc = put self.old.doc p q }) }
+        ensures unchanged { OnErr result (self.new ≡ self.old) }
     {
         let moving = read_moving(self.alloc, &self.vertices, &self.borders, p, q)?;
         let (before, after) = (moving.before.as_slice(), moving.after.as_slice());

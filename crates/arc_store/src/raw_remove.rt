@@ -11,7 +11,6 @@ ghost use Rattle.local_planarity.specs.Tests.{most_for, most_tests};
 ghost use Rattle.local_planarity.specs.declared.leaving.Leaving.TheVariants.{EndingAt};
 ghost use Rattle.arc_store.specs.Edits.{IsLeavable, IsRemovable};
 ghost use Rattle.arc_store.specs.Faults.{Refuses};
-ghost use Rattle.arc_store.specs.declared.fault.EditFault.TheVariants.{OutOfMemory};
 
 use crate::fault::EditFault;
 use crate::map::Map;
@@ -19,7 +18,7 @@ use crate::plan::test_planar;
 use grid_geometry::{Pos, Seg};
 use local_planarity::{Leaving, TestCount, holds_other};
 use segment_index::SegIndex;
-use std::alloc::Allocator;
+use std::alloc::{AllocError, Allocator};
 use vertex_changes::{read_bridging, take_out};
 
 /// Tests that p may go from between the ends of a segment.
@@ -86,14 +85,10 @@ impl<'a, I: SegIndex, A: Allocator + Copy> Map<'a, I, A> {
     /// Takes the vertex at p out as a raw removal does, but makes no test of two segments and asks of
     /// no sweep: no two segments would be in conflict. Fails for want of memory alone, and then
     /// changes nothing.
-    fn remove_tables(&mut self, p: Pos) -> Result<(), EditFault>
+    pub(crate) fn remove_tables(&mut self, p: Pos) -> Result<(), AllocError>
         requires leavable { IsLeavable self.old.doc p }
-        ensures removed { OnOk result (self.new.doc ≡ del self.old.doc p) }
-        ensures memory { IfErr result (λ fault. fault ≡ OutOfMemory) }
-        ensures unchanged { OnErr result (self.new.doc ≡ self.old.doc) }
-        ensures next { self.new.next ≡ self.old.next }
-        ensures tests { self.new.tests ≡ self.old.tests }
-        ensures cells { self.new.cells ≡ self.old.cells }
+        ensures removed { OnOk result (self.new ≡ record self.old { doc = del self.old.doc p }) }
+        ensures unchanged { OnErr result (self.new ≡ self.old) }
     {
         let bridging = read_bridging(self.alloc, &self.vertices, &self.borders, p)?;
         let (k, ends, after) = (bridging.key, bridging.ends, bridging.after);
