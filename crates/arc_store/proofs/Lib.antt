@@ -1,4 +1,5 @@
 pub mod Accepted
+pub mod StateKept
 pub mod Moved
 pub mod Indexed
 pub mod RingEdits

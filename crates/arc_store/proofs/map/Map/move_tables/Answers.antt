@@ -1,9 +1,10 @@
-use Rattle.std.proofs.Common.{◌∙◌, sym, ap, subst}
+use Rattle.std.proofs.Common.{◌∙◌, sym, ap, subst, refl}
 use Rattle.ring_machine.specs.Parts.{is_vertex}
 use Rattle.segment_index.specs.Candidates.{AreAmong, AreSingle}
 use Rattle.feature_exchange.specs.Stored.{stored}
 use Rattle.vertex_changes.specs.Planned.{AreNew}
 use Rattle.arc_store.proofs.MovePlan.{has_moving, plan_new, plan_single, plan_held, plan_once, document_after, kept_after}
+use Rattle.arc_store.proofs.StateKept.{with_document, same_tables}
 use Rattle.arc_store.proofs.map.Map.move_tables.Goals as goal
 
 pub read_moving-requires : goal.read_moving-requires
@@ -58,4 +59,8 @@ invariant_of-self-2 g c =
 
 pub returns-clause-moved : goal.returns-clause-moved
 returns-clause-moved g c =
-    document_after c.self.inside.frame c.self.inside.borders c.self.inside.vertices c.shift.new.vertices c.self.invariant.holds.whole c.args.self.now.doc (ap (λ z. z.doc) c.self.view_is) c.in_ok-moving.moving.key c.args.p c.args.q c.in_ok-moving.ensures.read.here c.requires.movable.free c.in_ok-shift.ensures.moved
+    with_document c.self.view_is
+    (document_after c.self.inside.frame c.self.inside.borders c.self.inside.vertices c.shift.new.vertices c.self.invariant.holds.whole c.args.self.now.doc (ap (λ z. z.doc) c.self.view_is) c.in_ok-moving.moving.key c.args.p c.args.q c.in_ok-moving.ensures.read.here c.requires.movable.free c.in_ok-shift.ensures.moved)
+
+pub returns-in_err-shift-clause-unchanged : goal.returns-in_err-shift-clause-unchanged
+returns-in_err-shift-clause-unchanged g c = same_tables c.self.view_is refl c.in_err-shift.ensures.vertices

@@ -1,10 +1,11 @@
 use Rattle.std.proofs.Common.{◌∙◌, ap, arith, subst, sym}
 use Rattle.ring_machine.specs.Parts.{is_vertex}
 use Rattle.feature_exchange.specs.Stored.{stored}
-use Rattle.ring_machine.specs.Vertices.{is_junction}
+use Rattle.ring_machine.specs.Vertices.{del, is_junction}
 use Rattle.arc_store.specs.Edits.{IsLeavable}
 use Rattle.arc_store.specs.State.{State}
 use Rattle.arc_store.proofs.RemovePlan.{has_bridging, found, found_planned, not_joined, three_apart, taken}
+use Rattle.arc_store.proofs.StateKept.{with_document, same_tables}
 use Rattle.arc_store.proofs.map.Map.remove_tables.Goals as goal
 
 pub read_bridging-requires : goal.read_bridging-requires
@@ -77,4 +78,10 @@ returns-clause-removed g c =
     let r = c.in_ok-bridging.ensures.read in
     let f = found c.self.invariant (ap (λ z. z.doc) c.self.view_is) r.here r.two c.requires.leavable.inner c.requires.leavable.long c.requires.leavable.unjoined in
     let may = subst (λ (z : State). IsLeavable z.doc c.args.p) (sym c.self.view_is) c.requires.leavable in
-    rw (← c.self.view_is) (taken f r.first r.second r.comes (c.as_slice-before.ensures.value ∙ r.goes) may c.in_ok-rings.ensures.taken (g.I.SegIndex.held c.take_out.new.index) c.in_ok-rings.ensures.exchanged).doc
+    with_document c.self.view_is
+    ((taken f r.first r.second r.comes (c.as_slice-before.ensures.value ∙ r.goes) may c.in_ok-rings.ensures.taken (g.I.SegIndex.held c.take_out.new.index) c.in_ok-rings.ensures.exchanged).doc
+    ∙ ap (λ z. del z.doc c.args.p) c.self.view_is)
+
+pub returns-in_err-rings-clause-unchanged : goal.returns-in_err-rings-clause-unchanged
+returns-in_err-rings-clause-unchanged g c =
+    same_tables c.self.view_is c.in_err-rings.ensures.borders c.in_err-rings.ensures.vertices
