@@ -22,6 +22,14 @@ module _ {A : Type 0} where
   record_seen (Renamed n id) = machine.Renamed n id
   record_seen (Exchanged cs) = machine.Exchanged (seen cs.items)
 
+-- p was left out of the document from between two vertices, and the record has them
+pub record IsLeftOut (d : Document) (p : Position) (last : Option machine.Record) : Type 0 where
+  pub a : Position
+  pub b : Position
+  pub is : last ≡ Some (machine.Removed (record { at = p; a = a; b = b }))
+  pub apart : a ≢ b
+  pub between : (s : Segment) → Contains (around d p) s → segment_eq s (segment a b) ≡ true
+
 -- the map keeps a record that takes the edit back
 abbrev pub IsRecorded : State → State → Type 0
 IsRecorded old new =

@@ -5,6 +5,7 @@ ghost use Rattle.ring_machine.specs.Document.{Document};
 ghost use Rattle.ring_machine.specs.Parts.{is_vertex, is_segment, size};
 ghost use Rattle.ring_machine.specs.Refusals.{first_of, insert_refusals};
 ghost use Rattle.ring_machine.specs.Vertices.{ins};
+ghost use Rattle.edit_records.specs.Records as made;
 ghost use Rattle.segment_index.specs.Times.{times_by};
 ghost use Rattle.local_planarity.specs.Edits.{AreApart, IsAfter};
 ghost use Rattle.local_planarity.specs.Tests.{most_for, most_tests};
@@ -13,6 +14,7 @@ ghost use Rattle.arc_store.specs.Edits.{IsInsertable, IsPlaceable};
 ghost use Rattle.arc_store.specs.Faults.{Refuses};
 ghost use Rattle.vertex_changes.specs.Planned as planned;
 
+use crate::edit_record::Record;
 use crate::fault::EditFault;
 use crate::map::Map;
 use crate::plan::test_planar;
@@ -67,10 +69,13 @@ impl<'a, I: SegIndex, A: Allocator + Copy> Map<'a, I, A> {
         requires small { size (ins self.old.doc a b q) ≤ 4000000 }
         ensures accepted { OnOk result (first_of (insert_refusals self.old.doc a b q) ≡ None) }
         ensures inserted { OnOk result (self.new.doc ≡ ins self.old.doc a b q) }
+        ensures recorded { OnOk result (self.new.last ≡ Some (made.Inserted q)) }
         ensures refused { IfErr result
             (λ fault. Refuses fault (first_of (insert_refusals self.old.doc a b q))) }
         ensures unchanged { OnErr result (self.new.doc ≡ self.old.doc) }
+        ensures still { OnErr result (self.new.last ≡ self.old.last) }
         ensures next { self.new.next ≡ self.old.next }
+        ensures places { self.new.places ≡ self.old.places }
         ensures few { self.new.tests ≤ self.old.tests
             + most_for (times_by self.old.cells) self.old.doc (ins self.old.doc a b q) }
         ensures cells { self.new.cells ≡ self.old.cells }
@@ -84,6 +89,7 @@ impl<'a, I: SegIndex, A: Allocator + Copy> Map<'a, I, A> {
         let rings = put_in(vertices, borders, &mut self.index, ends, q, before, after)?;
         self.positions += rings;
         self.segments += 1;
+        self.last = Some(Record::Inserted(q));
         Ok(())
     }
 

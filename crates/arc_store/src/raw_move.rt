@@ -1,4 +1,4 @@
-ghost use Rattle.std.specs.Prelude.{◌≡◌, ◌≢◌, ◌≤◌, ◌+◌, ◌||◌, true, false, List, None};
+ghost use Rattle.std.specs.Prelude.{◌≡◌, ◌≢◌, ◌≤◌, ◌+◌, ◌||◌, true, false, List, Some, None};
 ghost use Rattle.std.specs.Prelude.{OnOk, OnErr, IfOk, IfErr};
 ghost use Rattle.std.specs.List.{list_any};
 ghost use Rattle.grid_geometry.specs.Segment.{Segment, segment};
@@ -7,6 +7,7 @@ ghost use Rattle.ring_machine.specs.Sweep.{edge_sweeps, crosses_on_way};
 ghost use Rattle.ring_machine.specs.Parts.{is_vertex};
 ghost use Rattle.ring_machine.specs.Refusals.{first_of, move_refusals};
 ghost use Rattle.ring_machine.specs.Vertices.{put};
+ghost use Rattle.edit_records.specs.Records as made;
 ghost use Rattle.segment_index.specs.Times.{times_by};
 ghost use Rattle.local_planarity.specs.Edits.{IsHeld};
 ghost use Rattle.local_planarity.specs.Tests.{most_for_move, most_given};
@@ -14,6 +15,7 @@ ghost use Rattle.arc_store.specs.Edits.{IsMovable};
 ghost use Rattle.arc_store.specs.Faults.{Refuses};
 ghost use Rattle.feature_exchange.specs.Holds.{IsIndexed};
 
+use crate::edit_record::Record;
 use crate::fault::EditFault;
 use crate::map::Map;
 use crate::plan::test_planar;
@@ -56,10 +58,13 @@ impl<'a, I: SegIndex, A: Allocator + Copy> Map<'a, I, A> {
         requires free { is_vertex self.old.doc q ≡ false }
         ensures accepted { OnOk result (first_of (move_refusals self.old.doc p q) ≡ None) }
         ensures moved { OnOk result (self.new.doc ≡ put self.old.doc p q) }
+        ensures recorded { OnOk result (self.new.last ≡ Some (made.Moved p q)) }
         ensures refused { IfErr result
             (λ fault. Refuses fault (first_of (move_refusals self.old.doc p q))) }
         ensures unchanged { OnErr result (self.new.doc ≡ self.old.doc) }
+        ensures still { OnErr result (self.new.last ≡ self.old.last) }
         ensures next { self.new.next ≡ self.old.next }
+        ensures places { self.new.places ≡ self.old.places }
         ensures few { self.new.tests ≤ self.old.tests
             + most_for_move (times_by self.old.cells) self.old.doc p q }
         ensures cells { self.new.cells ≡ self.old.cells }
@@ -74,6 +79,7 @@ impl<'a, I: SegIndex, A: Allocator + Copy> Map<'a, I, A> {
         }
         let (vertices, index) = (&mut self.vertices, &mut self.index);
         shift(vertices, index, moving.key, q, before, after)?;
+        self.last = Some(Record::Moved { from: p, to: q });
         Ok(())
     }
 

@@ -11,7 +11,9 @@ ghost use Rattle.local_planarity.specs.Tests.{most_for, most_tests};
 ghost use Rattle.local_planarity.specs.declared.leaving.Leaving.TheVariants.{EndingAt};
 ghost use Rattle.arc_store.specs.Edits.{IsLeavable, IsRemovable};
 ghost use Rattle.arc_store.specs.Faults.{Refuses};
+ghost use Rattle.arc_store.specs.Recorded.{IsLeftOut};
 
+use crate::edit_record::{Record, Removal};
 use crate::fault::EditFault;
 use crate::map::Map;
 use crate::plan::test_planar;
@@ -63,10 +65,13 @@ impl<'a, I: SegIndex, A: Allocator + Copy> Map<'a, I, A> {
         requires unjoined { is_bridged self.old.doc p ≡ false }
         ensures accepted { OnOk result (first_of (remove_refusals self.old.doc p) ≡ None) }
         ensures removed { OnOk result (self.new.doc ≡ del self.old.doc p) }
+        ensures recorded { OnOk result (IsLeftOut self.old.doc p self.new.last) }
         ensures refused { IfErr result
             (λ fault. Refuses fault (first_of (remove_refusals self.old.doc p))) }
         ensures unchanged { OnErr result (self.new.doc ≡ self.old.doc) }
+        ensures still { OnErr result (self.new.last ≡ self.old.last) }
         ensures next { self.new.next ≡ self.old.next }
+        ensures places { self.new.places ≡ self.old.places }
         ensures few { self.new.tests ≤ self.old.tests
             + most_for (times_by self.old.cells) self.old.doc (del self.old.doc p) }
         ensures cells { self.new.cells ≡ self.old.cells }
@@ -79,6 +84,11 @@ impl<'a, I: SegIndex, A: Allocator + Copy> Map<'a, I, A> {
         let rings = take_out(vertices, borders, &mut self.index, k, ends, before, after)?;
         self.positions -= rings;
         self.segments -= 1;
+        self.last = Some(Record::Removed(Removal {
+            at: p,
+            a: after.lo,
+            b: after.hi,
+        }));
         Ok(())
     }
 
