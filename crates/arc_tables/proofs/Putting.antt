@@ -1,8 +1,8 @@
 -- Vertices come in one after the other, and go out again.
-use Rattle.std.proofs.Common.{◌≡◌, ◌≢◌, ℕ, ◌+◌, ◌≤◌, zero, suc, Bool, true, false, cond, refl, sym, ap, ap₂, ◌∙◌, subst, List, [], ◌∷◌, ◌++◌, take, ◌⊎◌, inl, inr, arith, get_or, length, Contains}
+use Rattle.std.proofs.Common.{◌≡◌, ◌≢◌, ℕ, ◌+◌, ◌≤◌, zero, suc, Bool, true, false, cond, refl, sym, ap, ap₂, ◌∙◌, subst, List, [], ◌∷◌, ◌++◌, take, ◌⊎◌, ◌-◌, inl, inr, arith, get_or, length, Contains}
 use native.Mathlib.Decide.{ℕ_discrete}
 use Rattle.std.specs.List.{flat_map, AllByRecursion}
-use Rattle.std.proofs.lemmas.List.{get_or_default}
+use Rattle.std.proofs.lemmas.List.{get_or_default, take_more}
 use Rattle.std.proofs.lemmas.List.Concat.{flat_map-append}
 use Rattle.slab.specs.Slab.{Slab, get}
 use Rattle.arc_tables.specs.declared.arc.Arc.{Arc}
@@ -171,6 +171,12 @@ all_taken : (P : Put → Type 0) (ps : List Put) (n : ℕ) → AllByRecursion P 
 all_taken P ps zero h = tt
 all_taken P [] (suc n) h = tt
 all_taken P (p ∷ ps) (suc n) h = (h.0, all_taken P ps n h.1)
+
+-- the last of the first so many
+pub taken_last : (ps : List Put) (n : ℕ) (p : Put) → 1 ≤ n → n ≤ length ps → p ≡ get_or ps (n - 1) p → take n ps ≡ take (n - 1) ps ++ p ∷ []
+taken_last ps n p some within is =
+    let e : n ≡ (n - 1) + 1 = omega (arith, some) in
+    ap (λ m. take m ps) e ∙ take_more ps (n - 1) p (omega (arith, some, within)) ∙ ap (λ z. take (n - 1) ps ++ z ∷ []) (sym is)
 
 -- the last of some puts
 abbrev pub IsLast : (ℕ → Type 0) → List Put → Put → Type 0

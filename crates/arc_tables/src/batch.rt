@@ -53,7 +53,8 @@ impl<A: Allocator + Copy> Tables<A> {
         let mut left = puts.len();
         while left > 0 {
             left -= 1;
-            self.take_back(puts[left].q, puts[left].b);
+            let put = puts[left];
+            self.take_back(put.q, put.b);
         }
     }
 
