@@ -4,15 +4,21 @@ use native.Mathlib.Decide.{ℕ_discrete}
 use Rattle.std.specs.List.{flat_map, AllByRecursion}
 use Rattle.std.proofs.lemmas.List.{get_or_default, take_more}
 use Rattle.std.proofs.lemmas.List.Concat.{flat_map-append}
+use Rattle.std.proofs.Common.{Option, None, Some, option_map, is_some}
+use Rattle.std.specs.FinMap as rings
 use Rattle.slab.specs.Slab.{Slab, get}
 use Rattle.arc_tables.specs.declared.arc.Arc.{Arc}
+use Rattle.arc_tables.specs.declared.arc.Use.{Use}
 use Rattle.arc_tables.specs.declared.batch.Put.{Put}
-use Rattle.arc_tables.specs.Ways.{Edge, links, is_seg, one, times, Once}
+use Rattle.arc_tables.specs.declared.tables.Tables.{Tables}
+use Rattle.arc_tables.specs.Ways.{Edge, links, walk, chain, is_seg, one, times, Once}
 use Rattle.arc_tables.specs.Edited.{AreApart, over, through, onto, drawn, collapsed, Collapses, IsOff, throughs, taken_back, ArePuts, WerePut}
-use Rattle.arc_tables.specs.Stores.{IsPlace, path_in}
+use Rattle.arc_tables.specs.Stores.{IsPlace, path_in, path_of, uses_in}
+use Rattle.arc_tables.specs.Sound.{rings_of}
 use Rattle.arc_tables.proofs.Segments.{ends_of, is_forth, is_back, times_comm, counts_none, counted, StandsFor, once_for}
-use Rattle.arc_tables.proofs.Moves.{flipped, times-append}
-use Rattle.arc_tables.proofs.EditLemmas.{Turns, EditsArcs, edit-flipped}
+use Rattle.arc_tables.proofs.Moves.{flipped, links-reverse, times-append}
+use Rattle.arc_tables.proofs.RingLemmas.{rings_kept}
+use Rattle.arc_tables.proofs.EditLemmas.{Turns, EditsArcs, edit-flipped, edited_everywhere}
 use Rattle.arc_tables.proofs.Inserting.{over-turns, placed, with_q, once_through}
 use Rattle.arc_tables.proofs.Removing.{onto_p, onto_other}
 
@@ -276,3 +282,31 @@ throughs-flipped (p ∷ ps) es = ap (throughs ps) (edit-flipped (over p.a p.b p.
 
 pub overs-turns : (ps : List Put) → Turns (overs ps)
 overs-turns ps e = throughs-flipped ps (e ∷ [])
+
+module _ {A : Type 0} where
+  -- every ring that the map has leads over the vertices
+  pub put_everywhere : (ps : List Put) (s t : Tables A) → ((i : ℕ) → links (path_of t i) ≡ throughs ps (links (path_of s i))) → t.rings ≡ s.rings → (r : ℕ) → rings.get (rings_of t) r ≡ option_map (throughs ps) (rings.get (rings_of s) r)
+  put_everywhere ps s t put same r =
+      edited_everywhere (overs ps) s t (overs-turns ps) (λ i. put i ∙ throughs_each ps (links (path_of s i))) same r ∙ by (rings.get (rings_of s) r)
+    where
+      by : (o : Option (List Edge)) → option_map (flat_map (overs ps)) o ≡ option_map (throughs ps) o
+      by None = refl
+      by (Some es) = ap (λ z. Some z) (sym (throughs_each ps es))
+
+-- ---- the same edges
+
+walk_linked : (ps qs : List ℕ) → links qs ≡ links ps → (back : Bool) → links (walk back qs) ≡ links (walk back ps)
+walk_linked ps qs k false = k
+walk_linked ps qs k true = links-reverse qs ∙ ap flipped k ∙ sym (links-reverse ps)
+
+chain_linked : (s t : ℕ → List ℕ) → ((i : ℕ) → links (t i) ≡ links (s i)) → (us : List Use) → chain t us ≡ chain s us
+chain_linked s t k [] = refl
+chain_linked s t k (u ∷ us) = ap₂ (λ y z. y ++ z) (walk_linked (s u.arc) (t u.arc) (k u.arc) u.back) (chain_linked s t k us)
+
+module _ {A : Type 0} where
+  -- no edge of an arc and no use changed
+  pub rings_linked : (s t : Tables A) → ((i : ℕ) → links (path_of t i) ≡ links (path_of s i)) → t.rings ≡ s.rings → rings_of t ≡ rings_of s
+  rings_linked s t k same = rings_kept s t (λ r. ap (λ z. is_some (get z r)) same) (record {
+    same = λ r. chain_linked (path_of s) (path_of t) k (uses_in (get t.rings r)) ∙ ap (λ z. chain (path_of s) (uses_in (get z r))) same;
+    once = once_linked (path_of s) (path_of t) k;
+  })
