@@ -1,5 +1,5 @@
 -- Vertices come in one after the other, and go out again.
-use Rattle.std.proofs.Common.{◌≡◌, ◌≢◌, ℕ, ◌+◌, ◌≤◌, zero, suc, Bool, true, false, cond, refl, sym, ap, ap₂, ◌∙◌, subst, List, [], ◌∷◌, ◌++◌, take, ◌⊎◌, ◌-◌, inl, inr, arith, get_or, length, Contains}
+use Rattle.std.proofs.Common.{◌≡◌, ◌≢◌, ℕ, ◌+◌, ◌≤◌, zero, suc, Bool, true, false, cond, refl, sym, ap, ap₂, ◌∙◌, subst, List, [], ◌∷◌, ◌++◌, take, ◌-◌, inl, inr, arith, get_or, length, Contains}
 use native.Mathlib.Decide.{ℕ_discrete}
 use Rattle.std.specs.List.{flat_map, AllByRecursion}
 use Rattle.std.proofs.lemmas.List.{get_or_default, take_more}

@@ -1,7 +1,6 @@
-use Rattle.std.proofs.Common.{ℕ, ◌≤◌, refl, sym, arith, Contains}
-use Rattle.slab.specs.Slab.{get}
-use Rattle.arc_tables.specs.Ways.{links, times}
-use Rattle.arc_tables.specs.Stores.{path_in, path_of}
+use Rattle.std.proofs.Common.{refl, sym, arith}
+use Rattle.arc_tables.specs.Ways.{links}
+use Rattle.arc_tables.specs.Stores.{path_of}
 use Rattle.arc_tables.proofs.Growing.{known_alike}
 use Rattle.arc_tables.proofs.EditLemmas.{listed_edited}
 use Rattle.arc_tables.proofs.Putting.{unmoved, off_unless, second_there, collapsed_at}

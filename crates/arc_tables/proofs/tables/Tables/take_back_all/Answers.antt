@@ -1,4 +1,4 @@
-use Rattle.std.proofs.Common.{◌≡◌, ◌-◌, ◌++◌, [], ◌∷◌, sym, ap, ◌∙◌, subst, take, arith}
+use Rattle.std.proofs.Common.{◌-◌, [], ◌∷◌, sym, ap, ◌∙◌, subst, take, arith}
 use Rattle.arc_tables.specs.Ways.{links}
 use Rattle.arc_tables.specs.Edited.{taken_back, WerePut}
 use Rattle.arc_tables.specs.Stores.{path_of}
