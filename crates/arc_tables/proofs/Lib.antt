@@ -15,6 +15,7 @@ pub mod Segments
 pub mod EditLemmas
 pub mod Inserting
 pub mod Removing
+pub mod Putting
 pub mod Counting
 pub mod UserLemmas
 pub mod CopyLemmas
