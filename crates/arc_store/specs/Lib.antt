@@ -1,4 +1,5 @@
 pub mod Edits
+pub mod Exchanged
 pub mod Faults
 pub mod Kept
 pub mod Named

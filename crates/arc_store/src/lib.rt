@@ -10,6 +10,7 @@ mod begin;
 mod build;
 mod copying;
 mod counts;
+mod exchanging;
 mod fault;
 mod features;
 mod ids;
