@@ -1,7 +1,8 @@
 -- What an edit of one vertex makes of a ring's edges.
-use Rattle.std.specs.Prelude.{ℕ, ◌==◌, ◌≡◌, ◌≢◌, ◌⊎◌, if◌then◌else◌, List, [], ◌∷◌, Contains}
+use Rattle.std.specs.Prelude.{ℕ, ◌+◌, ◌==◌, ◌≡◌, ◌≢◌, ◌⊎◌, if◌then◌else◌, List, [], ◌∷◌, map, count_by, Contains}
 use Rattle.std.specs.List.{flat_map, AllByRecursion}
 use Rattle.arc_tables.specs.declared.batch.Put.{Put}
+use Rattle.arc_tables.specs.Rings.{has_segment}
 use Rattle.arc_tables.specs.Ways.{Edge, is_seg, links, times}
 
 -- three different vertices
@@ -47,6 +48,13 @@ IsOff q es = (x : ℕ) → times q x es ≡ 0
 abbrev pub throughs : List Put → List Edge → List Edge
 throughs [] es = es
 throughs (p ∷ ps) es = throughs ps (through p.a p.b p.q es)
+
+-- how many positions these rings gain by the puts: one by each put for each ring that has its
+-- segment by then
+abbrev pub gained : List Put → List (List Edge) → ℕ
+gained [] rs = 0
+gained (p ∷ ps) rs =
+    count_by (has_segment p.a p.b) rs + gained ps (map (through p.a p.b p.q) rs)
 
 -- each put has a new vertex of its own, which is to come between two others
 abbrev pub ArePuts : (ℕ → Type 0) → List Put → Type 0

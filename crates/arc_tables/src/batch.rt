@@ -1,7 +1,9 @@
 //! Putting many vertices into the arcs, all or none.
-ghost use Rattle.std.specs.Prelude.{◌≡◌, ◌≢◌, ℕ, ◌≤◌, OnOk, OnErr};
+ghost use Rattle.std.specs.Prelude.{◌≡◌, ◌≢◌, ℕ, ◌≤◌, ◌<◌, ◌^◌, OnOk, OnErr, IfOk};
+ghost use Rattle.std.specs.FinMap as rings;
 ghost use Rattle.arc_tables.specs.Ways.{Once, links, times};
-ghost use Rattle.arc_tables.specs.Edited.{collapsed, IsOff, throughs, taken_back, ArePuts, WerePut};
+ghost use Rattle.arc_tables.specs.Edited.{collapsed, IsOff, throughs, taken_back, ArePuts, WerePut, gained};
+ghost use Rattle.arc_tables.specs.Sound.{rings_of};
 ghost use Rattle.arc_tables.specs.Stores.{path_of, Whole};
 
 use crate::editing::collapse_arc;
@@ -58,12 +60,15 @@ impl<A: Allocator + Copy> Tables<A> {
         }
     }
 
-    /// Puts these vertices in, one after the other, each in the one arc that has its segment. Fails
-    /// for want of memory alone, and then all are taken out again.
-    pub fn insert_all(&mut self, puts: &[Put]) -> Result<(), AllocError>
+    /// Puts these vertices in, one after the other, each in the one arc that has its segment, and says
+    /// how many positions the rings gain. Fails for want of memory alone, and then all are taken out
+    /// again.
+    pub fn insert_all(&mut self, puts: &[Put]) -> Result<usize, AllocError>
         requires whole { Whole self.old }
         requires once { Once (path_of self.old) }
         requires fits { ArePuts (λ q. (i : ℕ) → IsOff q (links (path_of self.old i))) puts.now }
+        requires few { gained puts.now (rings.values (rings_of self.old)) < 2 ^ 64 }
+        ensures count { IfOk result (λ n. n ≡ gained puts.now (rings.values (rings_of self.old))) }
         ensures ok { OnOk result ((i : ℕ) → links (path_of self.new i)
             ≡ throughs puts.now (links (path_of self.old i))) }
         ensures err { OnErr result ((i : ℕ) → links (path_of self.new i)
@@ -72,13 +77,15 @@ impl<A: Allocator + Copy> Tables<A> {
         ensures once { Once (path_of self.new) }
         ensures rings { self.new.rings ≡ self.old.rings }
     {
+        let mut count = 0;
         for at in 0..puts.len() {
             let put = puts[at];
+            count += self.uses(&mut None, put.a, put.b);
             if let Err(e) = self.insert(put.a, put.b, put.q) {
                 self.take_back_all(&puts[..at]);
                 return Err(e);
             }
         }
-        Ok(())
+        Ok(count)
     }
 }
