@@ -1,11 +1,14 @@
 -- What the code keeps of an edit, as the machine's record of it.
-use Rattle.std.specs.Prelude.{ℕ, ◌≡◌, List, map, Option, Some}
-use Rattle.std.specs.List.{reverse}
+use Rattle.std.specs.Prelude.{ℕ, ◌≡◌, ◌≢◌, true, List, [], ◌∷◌, map, reverse, Option, None, Some, Contains}
+use Rattle.grid_geometry.specs.Position.{Position}
+use Rattle.grid_geometry.specs.Segment.{Segment, segment, segment_eq}
+use Rattle.ring_machine.specs.Document.{Document}
+use Rattle.ring_machine.specs.Vertices.{around}
 use Rattle.edit_records.specs.Records as machine
 use Rattle.edit_records.specs.Records.{Takes}
 use Rattle.feature_exchange.specs.Changed.{seen}
+use Rattle.vertex_changes.specs.declared.removal.Removal.{Removal}
 use Rattle.arc_store.specs.State.{State}
-use Rattle.arc_store.specs.declared.edit_record.Removal.{Removal}
 use Rattle.arc_store.specs.declared.edit_record.Record.{Record}
 use Rattle.arc_store.specs.declared.edit_record.Record.TheVariants.{Moved, Inserted, Removed, Thinned, Renamed, Exchanged}
 
@@ -22,13 +25,22 @@ module _ {A : Type 0} where
   record_seen (Renamed n id) = machine.Renamed n id
   record_seen (Exchanged cs) = machine.Exchanged (seen cs.items)
 
--- p was left out of the document from between two vertices, and the record has them
-pub record IsLeftOut (d : Document) (p : Position) (last : Option machine.Record) : Type 0 where
-  pub a : Position
-  pub b : Position
-  pub is : last ≡ Some (machine.Removed (record { at = p; a = a; b = b }))
-  pub apart : a ≢ b
-  pub between : (s : Segment) → Contains (around d p) s → segment_eq s (segment a b) ≡ true
+-- the vertex at p was left out of the document from between two, and this says which
+pub record IsLeftOut (d : Document) (p : Position) (r : machine.Removal) : Type 0 where
+  pub at : r.at ≡ p
+  pub apart : r.a ≢ r.b
+  pub between : (s : Segment) → Contains (around d p) s → segment_eq s (segment r.a r.b) ≡ true
+
+-- the vertices that were left out since the edit began, newest first
+abbrev pub left_out : Option machine.Record → List machine.Removal
+left_out (Some (machine.Thinned rs)) = rs
+left_out _ = []
+
+-- the edit has left out such vertices, or nothing is to be taken back
+abbrev pub IsThinning : Option machine.Record → Type 0
+IsThinning None = Unit {0}
+IsThinning (Some (machine.Thinned (r ∷ rs))) = Unit {0}
+IsThinning (Some _) = ⊥
 
 -- the map keeps a record that takes the edit back
 abbrev pub IsRecorded : State → State → Type 0

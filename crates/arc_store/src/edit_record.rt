@@ -3,14 +3,7 @@ use feature_exchange::Change;
 use grid_geometry::Pos;
 use map_frame::Id;
 use std::alloc::{Allocator, Global};
-
-/// A vertex that was left out, and the two that it stood between.
-#[derive(Clone, Copy)]
-pub struct Removal {
-    pub at: Pos,
-    pub a: Pos,
-    pub b: Pos,
-}
+use vertex_changes::Removal;
 
 /// What an edit changed: with it the map can be given the document that it had before.
 #[derive(Drop)]

@@ -1,7 +1,10 @@
-ghost use Rattle.std.specs.Prelude.{◌≡◌, OnOk, OnErr, IfErr};
+ghost use Rattle.std.specs.Prelude.{◌≡◌, true, [], ◌∷◌, Some, OnOk, OnErr, IfErr};
 ghost use Rattle.ring_machine.specs.Join.{take_out};
+ghost use Rattle.ring_machine.specs.Parts.{feature, has_feature};
+ghost use Rattle.edit_records.specs.Records as made;
 ghost use Rattle.arc_store.specs.declared.fault.EditFault.TheVariants.{OutOfMemory};
 
+use crate::edit_record::Record;
 use crate::exchanging::one_change;
 use crate::fault::EditFault;
 use crate::map::Map;
@@ -15,9 +18,13 @@ impl<'a, I: SegIndex, A: Allocator + Copy> Map<'a, I, A> {
     /// for want of memory alone, and then changes nothing.
     pub fn raw_delete(&mut self, n: u32) -> Result<(), EditFault>
         ensures deleted { OnOk result (self.new.doc ≡ take_out self.old.doc n) }
+        ensures recorded { OnOk result (has_feature self.old.doc n ≡ true
+            → self.new.last ≡ Some (made.Exchanged ((n, feature self.old.doc n) ∷ []))) }
         ensures memory { IfErr result (λ fault. fault ≡ OutOfMemory) }
         ensures unchanged { OnErr result (self.new.doc ≡ self.old.doc) }
+        ensures still { OnErr result (self.new.last ≡ self.old.last) }
         ensures next { self.new.next ≡ self.old.next }
+        ensures places { self.new.places ≡ self.old.places }
         ensures tests { self.new.tests ≡ self.old.tests }
         ensures cells { self.new.cells ≡ self.old.cells }
     {
@@ -31,6 +38,7 @@ impl<'a, I: SegIndex, A: Allocator + Copy> Map<'a, I, A> {
         };
         let mut changes = one_change(self.alloc, gone)?;
         self.exchange(None, changes.as_mut_slice())?;
+        self.last = Some(Record::Exchanged(changes));
         Ok(())
     }
 }

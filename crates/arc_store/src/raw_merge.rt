@@ -1,8 +1,11 @@
-ghost use Rattle.std.specs.Prelude.{◌≡◌, None, OnOk, OnErr, IfErr};
+ghost use Rattle.std.specs.Prelude.{◌≡◌, [], ◌∷◌, Some, None, OnOk, OnErr, IfErr};
 ghost use Rattle.ring_machine.specs.Join.{join};
+ghost use Rattle.ring_machine.specs.Parts.{feature};
 ghost use Rattle.ring_machine.specs.Refusals.{first_of, merge_refusals, feature_at};
+ghost use Rattle.edit_records.specs.Records as made;
 ghost use Rattle.arc_store.specs.declared.fault.EditFault.TheVariants.{OutOfMemory};
 
+use crate::edit_record::Record;
 use crate::exchanging::{one_polygon, two_changes};
 use crate::fault::EditFault;
 use crate::map::Map;
@@ -19,9 +22,13 @@ impl<'a, I: SegIndex, A: Allocator + Copy> Map<'a, I, A> {
         requires { first_of (merge_refusals self.old.doc n g) ≡ None }
         ensures merged { OnOk result
             (self.new.doc ≡ join self.old.doc n (feature_at self.old.doc g)) }
+        ensures recorded { OnOk result (self.new.last ≡ Some (made.Exchanged
+            ((n, feature self.old.doc n) ∷ (g, feature self.old.doc g) ∷ []))) }
         ensures memory { IfErr result (λ fault. fault ≡ OutOfMemory) }
         ensures unchanged { OnErr result (self.new.doc ≡ self.old.doc) }
+        ensures still { OnErr result (self.new.last ≡ self.old.last) }
         ensures next { self.new.next ≡ self.old.next }
+        ensures places { self.new.places ≡ self.old.places }
         ensures tests { self.new.tests ≡ self.old.tests }
         ensures cells { self.new.cells ≡ self.old.cells }
     {
@@ -36,6 +43,7 @@ impl<'a, I: SegIndex, A: Allocator + Copy> Map<'a, I, A> {
         };
         let mut changes = two_changes(self.alloc, joined, gone)?;
         self.exchange(None, changes.as_mut_slice())?;
+        self.last = Some(Record::Exchanged(changes));
         Ok(())
     }
 }

@@ -1,19 +1,20 @@
-ghost use Rattle.std.specs.Prelude.{◌≡◌, ◌≤◌, ◌+◌, ◌⊎◌, ℕ, true, false, List, None, [], ◌∷◌};
+ghost use Rattle.std.specs.Prelude.{◌≡◌, ◌≤◌, ◌+◌, ℕ, true, false, List, Some, None, [], ◌∷◌};
 ghost use Rattle.std.specs.Prelude.{OnOk, OnErr, IfOk, IfErr};
 ghost use Rattle.grid_geometry.specs.Segment.{Segment};
 ghost use Rattle.ring_machine.specs.Document.{Document};
 ghost use Rattle.ring_machine.specs.Parts.{is_vertex};
 ghost use Rattle.ring_machine.specs.Refusals.{first_of, remove_refusals, are_long, is_bridged};
 ghost use Rattle.ring_machine.specs.Vertices.{del, is_junction};
+ghost use Rattle.edit_records.specs.Records as made;
 ghost use Rattle.segment_index.specs.Times.{times_by};
 ghost use Rattle.local_planarity.specs.Edits.{AreApart, IsAfter};
 ghost use Rattle.local_planarity.specs.Tests.{most_for, most_tests};
 ghost use Rattle.local_planarity.specs.declared.leaving.Leaving.TheVariants.{EndingAt};
 ghost use Rattle.arc_store.specs.Edits.{IsLeavable, IsRemovable};
 ghost use Rattle.arc_store.specs.Faults.{Refuses};
-ghost use Rattle.arc_store.specs.Recorded.{IsLeftOut};
+ghost use Rattle.arc_store.specs.Recorded.{removal_seen, IsLeftOut};
 
-use crate::edit_record::{Record, Removal};
+use crate::edit_record::Record;
 use crate::fault::EditFault;
 use crate::map::Map;
 use crate::plan::test_planar;
@@ -21,7 +22,7 @@ use grid_geometry::{Pos, Seg};
 use local_planarity::{Leaving, TestCount, holds_other};
 use segment_index::SegIndex;
 use std::alloc::{AllocError, Allocator};
-use vertex_changes::{read_bridging, take_out};
+use vertex_changes::{Removal, read_bridging, take_out};
 
 /// Tests that p may go from between the ends of a segment.
 fn test_remove<I: SegIndex, A: Allocator + Copy>(
@@ -54,22 +55,19 @@ fn test_remove<I: SegIndex, A: Allocator + Copy>(
 }
 
 impl<'a, I: SegIndex, A: Allocator + Copy> Map<'a, I, A> {
-    /// Takes the vertex at p out of every ring. It is no junction, its rings have more than three
-    /// positions, and its neighbours are not joined. Refused where two segments would be in conflict,
-    /// where the border sweeps over a position, or for want of memory; then nothing changes but the
-    /// count of tests.
-    pub fn raw_remove(&mut self, p: Pos) -> Result<(), EditFault>
+    /// Takes the vertex at p out of every ring, as a raw removal does, and keeps no record of it.
+    pub(crate) fn remove_tested(&mut self, p: Pos) -> Result<Removal, EditFault>
         requires vertex { is_vertex self.old.doc p ≡ true }
         requires inner { is_junction self.old.doc p ≡ false }
         requires long { are_long self.old.doc p ≡ true }
         requires unjoined { is_bridged self.old.doc p ≡ false }
         ensures accepted { OnOk result (first_of (remove_refusals self.old.doc p) ≡ None) }
         ensures removed { OnOk result (self.new.doc ≡ del self.old.doc p) }
-        ensures recorded { OnOk result (IsLeftOut self.old.doc p self.new.last) }
+        ensures left { IfOk result (λ r. IsLeftOut self.old.doc p (removal_seen r)) }
         ensures refused { IfErr result
             (λ fault. Refuses fault (first_of (remove_refusals self.old.doc p))) }
         ensures unchanged { OnErr result (self.new.doc ≡ self.old.doc) }
-        ensures still { OnErr result (self.new.last ≡ self.old.last) }
+        ensures last { self.new.last ≡ self.old.last }
         ensures next { self.new.next ≡ self.old.next }
         ensures places { self.new.places ≡ self.old.places }
         ensures few { self.new.tests ≤ self.old.tests
@@ -84,11 +82,38 @@ impl<'a, I: SegIndex, A: Allocator + Copy> Map<'a, I, A> {
         let rings = take_out(vertices, borders, &mut self.index, k, ends, before, after)?;
         self.positions -= rings;
         self.segments -= 1;
-        self.last = Some(Record::Removed(Removal {
+        Ok(Removal {
             at: p,
             a: after.lo,
             b: after.hi,
-        }));
+        })
+    }
+
+    /// Takes the vertex at p out of every ring. It is no junction, its rings have more than three
+    /// positions, and its neighbours are not joined. Refused where two segments would be in conflict,
+    /// where the border sweeps over a position, or for want of memory; then nothing changes but the
+    /// count of tests.
+    pub fn raw_remove(&mut self, p: Pos) -> Result<(), EditFault>
+        requires vertex { is_vertex self.old.doc p ≡ true }
+        requires inner { is_junction self.old.doc p ≡ false }
+        requires long { are_long self.old.doc p ≡ true }
+        requires unjoined { is_bridged self.old.doc p ≡ false }
+        ensures accepted { OnOk result (first_of (remove_refusals self.old.doc p) ≡ None) }
+        ensures removed { OnOk result (self.new.doc ≡ del self.old.doc p) }
+        ensures recorded { OnOk result ((r : made.Removal)
+            × (self.new.last ≡ Some (made.Removed r)) × IsLeftOut self.old.doc p r) }
+        ensures refused { IfErr result
+            (λ fault. Refuses fault (first_of (remove_refusals self.old.doc p))) }
+        ensures unchanged { OnErr result (self.new.doc ≡ self.old.doc) }
+        ensures still { OnErr result (self.new.last ≡ self.old.last) }
+        ensures next { self.new.next ≡ self.old.next }
+        ensures places { self.new.places ≡ self.old.places }
+        ensures few { self.new.tests ≤ self.old.tests
+            + most_for (times_by self.old.cells) self.old.doc (del self.old.doc p) }
+        ensures cells { self.new.cells ≡ self.old.cells }
+    {
+        let removal = self.remove_tested(p)?;
+        self.last = Some(Record::Removed(removal));
         Ok(())
     }
 

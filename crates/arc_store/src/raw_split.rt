@@ -1,16 +1,18 @@
-ghost use Rattle.std.specs.Prelude.{◌≡◌, ◌≤◌, ◌<◌, ◌+◌, ℕ, true, false, List, [], None, map, length, slice_set};
+ghost use Rattle.std.specs.Prelude.{◌≡◌, ◌≤◌, ◌<◌, ◌+◌, ℕ, true, false, List, [], ◌∷◌, Some, None, map, length, slice_set};
 ghost use Rattle.std.specs.Prelude.{IfOk, OnOk, OnErr, IfErr, IsTrue};
 ghost use Rattle.std.specs.List.{list_any};
 ghost use Rattle.grid_geometry.specs.Ring.{links};
 ghost use Rattle.grid_geometry.specs.Segment.{Segment};
 ghost use Rattle.ring_machine.specs.Cut.{cut, path_of, is_cut_by};
 ghost use Rattle.ring_machine.specs.Document.{Document, Text};
-ghost use Rattle.ring_machine.specs.Parts.{has_feature, is_vertex};
+ghost use Rattle.ring_machine.specs.Parts.{feature, has_feature, is_vertex};
 ghost use Rattle.ring_machine.specs.Planar.{Proper};
 ghost use Rattle.ring_machine.specs.Refusals.{first_of, split_refusals, feature_at, is_layer};
 ghost use Rattle.ring_machine.specs.Refusals.{positions_of, is_path_segment};
 ghost use Rattle.ring_machine.specs.Ring.{is_distinct, segment_of};
 ghost use Rattle.ring_machine.specs.WellFormed.{WellFormed};
+ghost use Rattle.edit_records.specs.Places.{grown};
+ghost use Rattle.edit_records.specs.Records as made;
 ghost use Rattle.topo_outline.specs.Kept.{IsJson};
 ghost use Rattle.ring_parts.specs.Seen.{path_seen, rings_seen, polygons_seen, outer_length};
 ghost use Rattle.segment_index.specs.Times.{times_by};
@@ -20,6 +22,7 @@ ghost use Rattle.local_planarity.specs.declared.leaving.Leaving.TheVariants.{Not
 ghost use Rattle.arc_store.specs.Faults.{Refuses};
 ghost use Rattle.arc_store.specs.Splits.{IsCuttable, IsFirstCut, IsTested, has_room, last_refusals};
 
+use crate::edit_record::Record;
 use crate::exchanging::two_changes;
 use crate::fault::EditFault;
 use crate::map::Map;
@@ -192,6 +195,9 @@ impl<'a, I: SegIndex, A: Allocator + Copy> Map<'a, I, A> {
         ensures split { OnOk result (self.new.doc
             ≡ cut self.old.doc n id.items (path_seen path.now) self.old.next) }
         ensures next { OnOk result (self.new.next ≡ self.old.next + 1) }
+        ensures places { OnOk result (self.new.places ≡ grown n self.old.next self.old.places) }
+        ensures recorded { OnOk result (self.new.last ≡ Some (made.Exchanged
+            ((n, feature self.old.doc n) ∷ (self.old.next, None) ∷ []))) }
         ensures unchanged { OnErr result (self.new ≡ self.old) }
         ensures tests { self.new.tests ≡ self.old.tests }
         ensures cells { self.new.cells ≡ self.old.cells }
@@ -207,10 +213,9 @@ impl<'a, I: SegIndex, A: Allocator + Copy> Map<'a, I, A> {
         let kept = self.with_polygons(n, others)?;
         let part = self.part_of(n, number, id, second)?;
         let mut changes = two_changes(self.alloc, kept, part)?;
-        match self.exchange(Some(n), changes.as_mut_slice()) {
-            Ok(()) => Ok(number),
-            Err(e) => Err(e),
-        }
+        self.exchange(Some(n), changes.as_mut_slice())?;
+        self.last = Some(Record::Exchanged(changes));
+        Ok(number)
     }
 
     /// Cuts the first polygon of feature `n` that the path of these positions cuts: `n` keeps the
@@ -237,10 +242,12 @@ impl<'a, I: SegIndex, A: Allocator + Copy> Map<'a, I, A> {
         ensures split { OnOk result (self.new.doc
             ≡ cut self.old.doc n id.items (path_of positions.now) self.old.next) }
         ensures next { OnOk result (self.new.next ≡ self.old.next + 1) }
+        ensures places { OnOk result (self.new.places ≡ grown n self.old.next self.old.places) }
+        ensures recorded { OnOk result (self.new.last ≡ Some (made.Exchanged
+            ((n, feature self.old.doc n) ∷ (self.old.next, None) ∷ []))) }
         ensures refused { IfErr result (λ fault. Refuses fault (first_of
             (split_refusals self.old.doc self.old.next n id.items (path_of positions.now)))) }
-        ensures unchanged { OnErr result (self.new.doc ≡ self.old.doc) }
-        ensures still { OnErr result (self.new.next ≡ self.old.next) }
+        ensures unchanged { OnErr result (self.new ≡ record self.old { tests = self.new.tests }) }
         ensures few { self.new.tests ≤ self.old.tests
             + most_for (times_by self.old.cells) self.old.doc
             (cut self.old.doc n id.items (path_of positions.now) self.old.next) }

@@ -39,7 +39,7 @@ fits_later next later l d (Inserted q) h = h
 fits_later next later l d (Removed r) h = h
 fits_later next later l d (Thinned rs) h = h
 fits_later next later l d (Renamed n id) h = h
-fits_later next later l d (Exchanged cs) h = changed_later next later l cs h
+fits_later next later l d (Exchanged cs) h = (h.0, changed_later next later l cs h.1)
 
 undoes_later : (trees : List LayerTree) (next later : ℕ) → next ≤ later → (d : Document) (r : Record)
     → Undoes trees next d r → Undoes trees later d r
@@ -80,7 +80,7 @@ module _ (trees : List LayerTree) (next n new : ℕ) (later : next ≤ new) wher
   back-grown d (Exchanged cs) h free =
       ap (λ z. record { transform = d.transform; layers = z; members = d.members })
       (filled-grown (exchanged_features cs (feature d)) n new
-      (none_before cs h (feature d) (feature_none d new free)) trees)
+      (none_before cs h.1 (feature d) (feature_none d new free)) trees)
 
   pub documents-grown : (d : Document) (rs : List Record) → AreUndoing trees next d rs
       → has_feature d new ≡ false → documents (grown n new trees) d rs ≡ documents trees d rs

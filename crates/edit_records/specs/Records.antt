@@ -1,6 +1,6 @@
 -- What takes a change back: a record of it, the document before it, and when a record fits.
-use Rattle.std.specs.Prelude.{ℕ, ◌≡◌, ◌≢◌, ◌≤◌, ◌<◌, ◌==◌, true, false, if◌then◌else◌}
-use Rattle.std.specs.Prelude.{List, [], ◌∷◌, Option, Some}
+use Rattle.std.specs.Prelude.{ℕ, ◌≡◌, ◌≢◌, ◌≤◌, ◌<◌, ◌==◌, true, false, IsTrue, if◌then◌else◌}
+use Rattle.std.specs.Prelude.{List, [], ◌∷◌, map, Option, Some}
 use Rattle.std.specs.List.{fold}
 use Rattle.grid_geometry.specs.Position.{Position}
 use Rattle.grid_geometry.specs.Segment.{segment}
@@ -9,7 +9,7 @@ use Rattle.ring_machine.specs.Parts.{has_feature, in_features, is_vertex, is_seg
 use Rattle.ring_machine.specs.Vertices.{put, ins, del, is_junction}
 use Rattle.ring_machine.specs.Planar.{Proper}
 use Rattle.ring_machine.specs.Refusals.{are_long, is_bridged}
-use Rattle.ring_machine.specs.WellFormed.{WellFormed}
+use Rattle.ring_machine.specs.WellFormed.{are_distinct, WellFormed}
 use Rattle.edit_records.specs.Places.{LayerTree, Fills, exchanged}
 
 -- a vertex that was left out, and its two neighbours
@@ -101,7 +101,7 @@ Fits next d (Inserted q) = IsInserted d q
 Fits next d (Removed r) = IsRemoved d r
 Fits next d (Thinned rs) = AreRemoved d rs
 Fits next d (Renamed n id) = Unit {0}
-Fits next d (Exchanged cs) = AreChanged next cs
+Fits next d (Exchanged cs) = IsTrue (are_distinct (map (λ c. c.0) cs)) × AreChanged next cs
 
 -- the record takes the change back from this document, the next number being this one
 pub record Undoes (trees : List LayerTree) (next : ℕ) (d : Document) (r : Record) : Type 0 where
