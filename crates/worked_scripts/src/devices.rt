@@ -21,6 +21,7 @@ fn a_reader_that_fails(rt: HostRuntime) -> Result<(), Fail> {
             rt.alloc(),
             TWO_SQUARES.as_bytes(),
             &mut source,
+            100,
             &mut sink,
             &mut saved,
         );
@@ -53,6 +54,7 @@ fn a_writer_that_fails(rt: HostRuntime) -> Result<(), Fail> {
             rt.alloc(),
             TWO_SQUARES.as_bytes(),
             &mut source,
+            100,
             &mut sink,
             &mut saved,
         );

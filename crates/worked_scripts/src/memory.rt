@@ -44,6 +44,7 @@ fn every_lesser_heap_is_refused(rt: HostRuntime) -> Result<(), Fail> {
                 rt.alloc(),
                 TRIANGLE_INSIDE.as_bytes(),
                 &mut source,
+                100,
                 &mut sink,
                 &mut saved,
             ) {

@@ -152,6 +152,7 @@ fn answers_whose_writer_fails(rt: HostRuntime) -> Result<(), Fail> {
             rt.alloc(),
             TWO_SQUARES.as_bytes(),
             &mut source,
+            100,
             &mut sink,
             &mut saved,
         );
@@ -184,6 +185,7 @@ fn a_saved_map_whose_writer_fails(rt: HostRuntime) -> Result<(), Fail> {
             rt.alloc(),
             TWO_SQUARES.as_bytes(),
             &mut source,
+            100,
             &mut sink,
             &mut saved,
         );

