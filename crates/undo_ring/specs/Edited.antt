@@ -1,5 +1,5 @@
 -- An editor as its callers see it, and what its calls make of it.
-use Rattle.std.specs.Prelude.{ℕ, ℤ, ◌≡◌, ◌≢◌, ◌⊎◌, List, [], MatchOption}
+use Rattle.std.specs.Prelude.{ℕ, ℤ, ◌≡◌, ◌≢◌, ◌⊎◌, List, [], None, MatchOption}
 use Rattle.ring_machine.specs.Document.{Document}
 use Rattle.ring_machine.specs.Command.{Command, Thin, Undo, Refusal, Done, Refused}
 use Rattle.ring_machine.specs.Command as machine
@@ -25,7 +25,7 @@ machine_of e = record { doc = e.map.doc; next = e.map.next; past = e.past }
 
 -- a map with no history
 abbrev pub begun : MapState → ℕ → Edited
-begun m depth = record { map = m; past = []; depth = depth }
+begun m depth = record { map = record m { last = None }; past = []; depth = depth }
 
 -- what no call changes: how many changes are kept, and the frame of the cells of the index
 pub record StaysMade (old new : Edited) : Type 0 where

@@ -3,6 +3,7 @@
 #![tactic(auto)]
 
 mod answer;
+mod answering;
 mod command;
 mod editor;
 
