@@ -80,10 +80,10 @@ impl<'a, I: SegIndex, A: Allocator + Copy> Map<'a, I, A> {
     fn thin_back(&mut self, mut removals: Vec<Removal, A>) -> Result<(), Record<'a, A>>
         requires fits { AreRemoved self.old.doc (reverse (map removal_seen removals.items)) }
         ensures put { OnOk result (self.new ≡ record self.old {
-            doc = fold put_back self.old.doc (reverse (map removal_seen removals.entry.items));
+            doc = fold put_back self.old.doc (reverse (map removal_seen removals.items));
         }) }
         ensures handed { IfErr result (λ kept. record_seen kept
-            ≡ machine.Thinned (reverse (map removal_seen removals.entry.items))) }
+            ≡ machine.Thinned (reverse (map removal_seen removals.items))) }
         ensures unchanged { OnErr result (self.new ≡ self.old) }
     {
         removals.reverse();
