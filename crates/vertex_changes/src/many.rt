@@ -101,7 +101,7 @@ fn place_all<A: Allocator + Copy>(
         AreKeyed vertices.old removals.now puts.items vertices.new) }
     ensures unchanged { OnErr result (vertices.new ≡ vertices.old) }
 {
-    let mut puts = Vec::with_capacity(removals.len(), alloc)?;
+    let mut puts = Vec::with_capacity(alloc, removals.len())?;
     for r in removals {
         match place_one(vertices, *r) {
             Ok(put) => puts.push_reserved(put),
