@@ -42,7 +42,8 @@ impl<'a, I: SegIndex, A: Allocator + Copy> Map<'a, I, A> {
     {
         let mut removals = match self.last.take() {
             Some(Record::Thinned(removals)) => removals,
-            _ => Vec::new(self.alloc),
+            Some(_other) => Vec::new(self.alloc),
+            None => Vec::new(self.alloc),
         };
         let answer = match removals.reserve(1) {
             Ok(()) => self.remove_tested(p),
