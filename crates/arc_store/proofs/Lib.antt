@@ -42,6 +42,7 @@ pub mod AllCanonical
 pub mod JoinParted
 pub mod PolygonsSeen
 pub mod FeaturesKept
+pub mod RenamedMap
 pub mod SplitPlan
 pub mod MergePlan
 mod Examples

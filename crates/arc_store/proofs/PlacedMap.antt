@@ -132,4 +132,5 @@ there_below trees next d h n there = by (has_place trees n) refl
 -- and the next one is no feature's
 pub next_new : {R : Type 0} (trees : List LayerTree) (next : ℕ) (d : DocumentOf R) → ArePlaced trees next d
     → has_feature d next ≡ false
-next_new trees next d h = later_new trees next d h next (omega arith)
+next_new trees next d h =
+    has_feature-found d next ∙ ap is_some (fills-nowhere trees d h.fills next (next_free trees next d h))

@@ -24,7 +24,7 @@ impl<'a, I: SegIndex, A: Allocator + Copy> Map<'a, I, A> {
     {
         if self.has_feature(n) {
             let id = self.frame.rename(n, Id::given(id));
-            self.last = Some(Record::Renamed { number: n, id });
+            self.keep(Record::Renamed { number: n, id });
         }
     }
 }
