@@ -6,15 +6,18 @@ use Rattle.ring_machine.specs.Parts.{feature, in_feature}
 use Rattle.ring_machine.proofs.Found.{feature-in_rings}
 use Rattle.edit_records.specs.Records.{Record, Renamed}
 use Rattle.vertex_index.specs.Placement.{Placement}
+use Rattle.segment_index.specs.Candidates.{SegmentSet}
 use Rattle.segment_index.specs.Frames.{Frame as GridFrame}
 use Rattle.arc_tables.specs.Rings.{Rings}
 use Rattle.map_frame.specs.Framed.{Framed}
 use Rattle.feature_exchange.specs.Stored.{stored, ring_under, document_of}
 use Rattle.feature_exchange.proofs.Renaming.{renamed_document}
-use Rattle.arc_store.specs.Kept.{state_of}
+use Rattle.arc_store.specs.Kept.{IsKept, state_of}
 use Rattle.arc_store.specs.State.{State}
 
-module _ {frame : Framed} {rings : Rings} {places : Placement} {l : ℕ} {cells : Option GridFrame} {o : Option Record} {now : State} (is : state_of frame rings places l cells o ≡ now) (n : ℕ) where
+module _ {frame : Framed} {rings : Rings} {places : Placement} {held : SegmentSet} {positions segments : ℕ}
+    (kept : IsKept frame rings places held positions segments) {l : ℕ} {cells : Option GridFrame} {o : Option Record} {now : State}
+    (is : state_of frame rings places l cells o ≡ now) (n : ℕ) where
   -- the feature has the id that it has in the frame
   pub id_there : (was : Option Text) → ((g : FeatureOf ℕ) → feature frame.doc n ≡ Some g → was ≡ g.id)
       → (f : Feature) → feature now.doc n ≡ Some f → was ≡ f.id
