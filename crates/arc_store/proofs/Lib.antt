@@ -15,6 +15,7 @@ pub mod Judged
 pub mod RemovalJudged
 pub mod InsertPlan
 pub mod RemovePlan
+pub mod LeftOut
 pub mod SegmentCounts
 pub mod MovePlan
 pub mod Tested
