@@ -32,7 +32,7 @@ impl<'a, I: SegIndex, A: Allocator + Copy> Map<'a, I, A> {
 
     /// Keeps them as what takes the edit back.
     fn keep_thinned(&mut self, removals: Vec<Removal, A>)
-        ensures { self.new ≡ record self.old { last = thinned removals.entry.items } }
+        ensures { self.new ≡ record self.old { last = thinned removals.items } }
     {
         self.last = if removals.is_empty() {
             None
