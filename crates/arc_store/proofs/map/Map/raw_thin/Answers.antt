@@ -1,14 +1,27 @@
-use Rattle.std.proofs.Common.{rules, ◌≡◌, ◌≤◌, ◌+◌, true, false, Some, None, ◌∷◌, OnOk, OnErr, IfErr, ℕ, ◌-◌, ◌*◌, ◌<◌, length, ◌/◌, ◌%◌, Bool, nat_eq, nat_lt, List, [], ◌++◌, slice_index_or, slice_set, bit_and, bit_or, Fits, w8, w32, w64, Bor, MutBor}
-use Rattle.ring_machine.specs.Parts.{is_vertex}
-use Rattle.ring_machine.specs.Refusals.{first_of, remove_refusals, are_long, is_bridged}
-use Rattle.ring_machine.specs.Vertices.{del, is_junction}
+use Rattle.std.proofs.Common.{◌≡◌, ap, ◌∙◌, refl, subst, Some, List, [], ◌∷◌, ◌++◌, map, reverse}
+use Rattle.std.proofs.lemmas.List.{reverse-append, map-append}
 use Rattle.edit_records.specs.Records as made
-use Rattle.segment_index.specs.Times.{times_by}
-use Rattle.local_planarity.specs.Tests.{most_for}
-use Rattle.arc_store.specs.Faults.{Refuses}
-use Rattle.arc_store.specs.Recorded.{IsLeftOut, IsThinning, left_out, thinned}
+use Rattle.vertex_changes.specs.declared.removal.Removal.{Removal}
+use Rattle.arc_store.specs.Recorded.{IsLeftOut, left_out, removal_seen, thinned}
+use Rattle.arc_store.specs.State.{State}
 use Rattle.arc_store.proofs.map.Map.raw_thin.Goals as goal
 
--- src/raw_thin.rt:46:5
+-- the record begins with the vertex that was left out last
+thinned_more : (rs : List Removal) (r : Removal)
+    → thinned (rs ++ r ∷ []) ≡ Some (made.Thinned (removal_seen r ∷ left_out (thinned rs)))
+thinned_more [] r = refl
+thinned_more (x ∷ rs) r =
+    ap (λ z. Some (made.Thinned z))
+    (ap reverse (map-append removal_seen (x ∷ rs) (r ∷ [])) ∙ reverse-append (map removal_seen (x ∷ rs)) (removal_seen r ∷ []))
+
 pub returns-in-Ok-clause-recorded : goal.returns-in-Ok-clause-recorded
-returns-in-Ok-clause-recorded g c = ?
+returns-in-Ok-clause-recorded g c =
+    let r = c.in-Ok.removal in
+    let taken = c.take_thinned-removals in
+    (removal_seen r, (
+      ap (λ z. z.last) c.keep_thinned-in-Ok.ensures
+      ∙ ap thinned (c.push_reserved.ensures.items ∙ ap (λ rs. rs ++ r ∷ []) c.reserve.ensures.items)
+      ∙ thinned_more taken.result.items r
+      ∙ ap (λ o. Some (made.Thinned (removal_seen r ∷ left_out o))) taken.ensures.handed,
+      subst (λ (z : State). IsLeftOut z.doc c.args.p (removal_seen r)) taken.ensures.taken c.in-Ok.ensures.left,
+    ))
