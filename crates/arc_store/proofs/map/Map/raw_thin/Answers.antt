@@ -18,10 +18,11 @@ pub returns-in-Ok-clause-recorded : goal.returns-in-Ok-clause-recorded
 returns-in-Ok-clause-recorded g c =
     let r = c.in-Ok.removal in
     let taken = c.take_thinned-removals in
-    (removal_seen r, (
+    (
+      removal_seen r,
       ap (λ z. z.last) c.keep_thinned-in-Ok.ensures
       ∙ ap thinned (c.push_reserved.ensures.items ∙ ap (λ rs. rs ++ r ∷ []) c.reserve.ensures.items)
       ∙ thinned_more taken.result.items r
       ∙ ap (λ o. Some (made.Thinned (removal_seen r ∷ left_out o))) taken.ensures.handed,
       subst (λ (z : State). IsLeftOut z.doc c.args.p (removal_seen r)) taken.ensures.taken c.in-Ok.ensures.left,
-    ))
+    )
