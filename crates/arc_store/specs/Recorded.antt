@@ -1,5 +1,5 @@
 -- What the code keeps of an edit, as the machine's record of it.
-use Rattle.std.specs.Prelude.{ℕ, ◌≡◌, ◌≢◌, true, List, [], ◌∷◌, map, reverse, Option, None, Some, Contains}
+use Rattle.std.specs.Prelude.{◌≡◌, ◌≢◌, true, List, [], ◌∷◌, map, reverse, Option, None, Some, Contains}
 use Rattle.grid_geometry.specs.Position.{Position}
 use Rattle.grid_geometry.specs.Segment.{Segment, segment, segment_eq}
 use Rattle.ring_machine.specs.Document.{Document}

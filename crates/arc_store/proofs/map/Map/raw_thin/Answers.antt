@@ -1,4 +1,4 @@
-use Rattle.std.proofs.Common.{◌≡◌, ap, ◌∙◌, refl, subst, Some, List, [], ◌∷◌, ◌++◌, map, reverse}
+use Rattle.std.proofs.Common.{◌≡◌, ap, ◌∙◌, refl, subst, Option, Some, List, [], ◌∷◌, ◌++◌, map, reverse}
 use Rattle.std.proofs.lemmas.List.{reverse-append, map-append}
 use Rattle.edit_records.specs.Records as made
 use Rattle.vertex_changes.specs.declared.removal.Removal.{Removal}
@@ -14,15 +14,17 @@ thinned_more (x ∷ rs) r =
     ap (λ z. Some (made.Thinned z))
     (ap reverse (map-append removal_seen (x ∷ rs) (r ∷ [])) ∙ reverse-append (map removal_seen (x ∷ rs)) (removal_seen r ∷ []))
 
+-- as it is kept after room was made and the vertex came to the others
+newest_first : {rs grown pushed : List Removal} {r : Removal} {was kept : Option made.Record}
+    → thinned rs ≡ was → grown ≡ rs → pushed ≡ grown ++ r ∷ [] → kept ≡ thinned pushed
+    → kept ≡ Some (made.Thinned (removal_seen r ∷ left_out was))
+newest_first {rs = rs} {r = r} handed room more is =
+    is ∙ ap thinned (more ∙ ap (λ xs. xs ++ r ∷ []) room) ∙ thinned_more rs r
+    ∙ ap (λ o. Some (made.Thinned (removal_seen r ∷ left_out o))) handed
+
 pub returns-in-Ok-clause-recorded : goal.returns-in-Ok-clause-recorded
-returns-in-Ok-clause-recorded g c =
-    let r = c.in-Ok.removal in
-    let taken = c.take_thinned-removals in
-    (
-      removal_seen r,
-      ap (λ z. z.last) c.keep_thinned-in-Ok.ensures
-      ∙ ap thinned (c.push_reserved.ensures.items ∙ ap (λ rs. rs ++ r ∷ []) c.reserve.ensures.items)
-      ∙ thinned_more taken.result.items r
-      ∙ ap (λ o. Some (made.Thinned (removal_seen r ∷ left_out o))) taken.ensures.handed,
-      subst (λ (z : State). IsLeftOut z.doc c.args.p (removal_seen r)) taken.ensures.taken c.in-Ok.ensures.left,
-    )
+returns-in-Ok-clause-recorded g c = (
+  removal_seen c.in-Ok.removal,
+  newest_first c.take_thinned-removals.ensures.handed c.reserve.ensures.items c.push_reserved.ensures.items (ap (λ z. z.last) c.keep_thinned-in-Ok.ensures),
+  subst (λ (z : State). IsLeftOut z.doc c.args.p (removal_seen c.in-Ok.removal)) c.take_thinned-removals.ensures.taken c.in-Ok.ensures.left,
+)
