@@ -33,6 +33,7 @@ pub mod NamedRings
 pub mod NearLemmas
 pub mod PlacedMap
 pub mod ChangesCounted
+pub mod ChangesRecorded
 pub mod ExchangePlan
 pub mod DeletePlan
 pub mod SplitMade
