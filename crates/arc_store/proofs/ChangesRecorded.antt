@@ -5,7 +5,7 @@ use Rattle.std.proofs.lemmas.List.{length-map}
 use Rattle.ring_machine.specs.Document.{Document, Feature}
 use Rattle.ring_machine.specs.Parts.{feature}
 use Rattle.edit_records.specs.Places.{had_before}
-use Rattle.edit_records.specs.Records.{Record, Exchanged}
+use Rattle.edit_records.specs.Records.{Exchanged}
 use Rattle.feature_exchange.specs.Changed.{feature_seen, seen}
 use Rattle.feature_exchange.specs.declared.change.Change.{Change}
 
