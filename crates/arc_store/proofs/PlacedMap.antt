@@ -130,10 +130,7 @@ there_below trees next d h n there = by (has_place trees n) refl
         absurd (false≢true (sym (has_feature-found d n ∙ ap is_some (fills-nowhere trees d h.fills n e)) ∙ there))
 
 -- and the next one is no feature's
-pub next_none : {R : Type 0} (trees : List LayerTree) (next : ℕ) (d : DocumentOf R) → ArePlaced trees next d
-    → feature d next ≡ None
-next_none trees next d h = fills-nowhere trees d h.fills next (next_free trees next d h)
-
 pub next_new : {R : Type 0} (trees : List LayerTree) (next : ℕ) (d : DocumentOf R) → ArePlaced trees next d
     → has_feature d next ≡ false
-next_new trees next d h = has_feature-found d next ∙ ap is_some (next_none trees next d h)
+next_new trees next d h =
+    has_feature-found d next ∙ ap is_some (fills-nowhere trees d h.fills next (next_free trees next d h))

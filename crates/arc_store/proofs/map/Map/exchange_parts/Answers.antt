@@ -13,8 +13,7 @@ use Rattle.feature_exchange.specs.Changed.{seen}
 use Rattle.arc_store.specs.Exchanged.{asked_document, with_polygons, part_of}
 use Rattle.arc_store.specs.State.{State}
 use Rattle.arc_store.proofs.ChangesCounted.{seen_two, two_apart}
-use Rattle.arc_store.proofs.ChangesRecorded.{record_kept}
-use Rattle.arc_store.proofs.PlacedMap.{next_none}
+use Rattle.arc_store.proofs.ChangesRecorded.{record_kept, next_none}
 use Rattle.arc_store.proofs.SplitPlan.{split_is, split_map, split_keeps, split_grows, split_differ, split_below, set_again, set_mapped}
 use Rattle.arc_store.proofs.map.Map.exchange_parts.Goals as goal
 
