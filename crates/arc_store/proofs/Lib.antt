@@ -1,5 +1,6 @@
 pub mod Accepted
 pub mod StateKept
+pub mod PutBack
 pub mod Moved
 pub mod Indexed
 pub mod RingEdits
