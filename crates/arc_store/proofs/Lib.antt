@@ -1,6 +1,7 @@
 pub mod Accepted
 pub mod StateKept
 pub mod PutBack
+pub mod ThinnedBack
 pub mod Moved
 pub mod Indexed
 pub mod RingEdits

@@ -1,5 +1,5 @@
 -- Vertices put back one after the other: what becomes of the vertices and the segments of a document.
-use Rattle.std.proofs.Common.{◌≡◌, ◌≤◌, ◌+◌, ◌*◌, ℕ, Bool, true, false, refl, sym, ap, ap₂, ◌∙◌}
+use Rattle.std.proofs.Common.{◌≡◌, ◌≤◌, ◌+◌, ◌*◌, Bool, true, false, refl, sym, ap, ap₂, ◌∙◌}
 use Rattle.std.proofs.Common.{cond, List, [], ◌∷◌, map, length, ◌⊎◌, inl, inr, ◌&&◌, ◌||◌, arith}
 use Rattle.std.specs.Prelude.{not}
 use Rattle.std.specs.List.{list_any, fold}
@@ -43,8 +43,9 @@ AreOut d rs = AreRemoved d (map removal_seen rs)
 -- ---- one vertex
 
 module _ (d : Document) (r : Removal) (h : IsRemoved d (removal_seen r)) where
-  ends : (is_vertex d r.a ≡ true) × (is_vertex d r.b ≡ true)
-  ends = border_ends d r.a r.b h.joined
+  -- its neighbours are vertices
+  pub border_there : (is_vertex d r.a ≡ true) × (is_vertex d r.b ≡ true)
+  border_there = border_ends d r.a r.b h.joined
 
   come : Comes d (segment r.a r.at) (segment r.at r.b)
   come = segments_come d r.a r.b r.at h.apart h.joined h.free
@@ -99,12 +100,12 @@ module _ (d : Document) (r : Removal) (h : IsRemoved d (removal_seen r)) where
       at : (t : Segment) → In t (over_segments r.a r.b r.at) → is_end p t ≡ true
           → (is_vertex d p ≡ true) ⊎ (p ≡ r.at)
       at t (inl e) i = elim (end_of_two p r.a r.at (ap (is_end p) e ∙ i)) [
-        | inl f ↦ inl (ap (is_vertex d) f ∙ ends.0)
+        | inl f ↦ inl (ap (is_vertex d) f ∙ border_there.0)
         | inr f ↦ inr f
       ]
       at t (inr (inl e)) i = elim (end_of_two p r.at r.b (ap (is_end p) e ∙ i)) [
         | inl f ↦ inr f
-        | inr f ↦ inl (ap (is_vertex d) f ∙ ends.1)
+        | inr f ↦ inl (ap (is_vertex d) f ∙ border_there.1)
       ]
       at t (inr (inr e)) i = absurd e
 
@@ -224,7 +225,7 @@ goings_single d (r ∷ rs) h t = by (segment_is t (segment r.a r.b)) refl (going
     gone : (is_segment (with_one d r) (segment r.a r.b) || has (comings rs) (segment r.a r.b)) ≡ false
     gone =
         ap₂ (λ y z. y || z) (unjoined d r h.0)
-        (none_between (with_one d r) rs h.1 r.a r.b (vertex_stays d r h.0 r.a (ends d r h.0).0) (vertex_stays d r h.0 r.b (ends d r h.0).1))
+        (none_between (with_one d r) rs h.1 r.a r.b (vertex_stays d r h.0 r.a (border_there d r h.0).0) (vertex_stays d r h.0 r.b (border_there d r h.0).1))
 
     once : has (goings rs) (segment r.a r.b) ≡ false
     once =
