@@ -187,7 +187,7 @@ module _ (frame : Framed) (rings : Rings) (places : Placement) (held : SegmentSe
   abbrev was : Stored
   was = stored frame rings places
 
-  small_again : size (with_all (document_of was) rs) ≤ 4000000
+  pub small_again : size (with_all (document_of was) rs) ≤ 4000000
   small_again = true_of_all (λ d. size d ≤ 4000000) (λ d i. i.small) (document_of was) rs h m.holds.small
 
   pub all_placeable : ArePlaceable places rs
