@@ -29,6 +29,8 @@ pub mod Reading
 pub mod SpotLemmas
 pub mod NoJunction
 pub mod VertexCounts
+pub mod RestorePlan
+pub mod NamedBack
 pub mod RingAround
 pub mod RingKeys
 pub mod NamedRings
