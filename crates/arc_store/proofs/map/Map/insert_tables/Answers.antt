@@ -1,4 +1,4 @@
-use Rattle.std.proofs.Common.{sym, subst, ap, ap₂, ◌∙◌, arith}
+use Rattle.std.proofs.Common.{sym, subst, ap, ◌∙◌, arith}
 use Rattle.std.proofs.lemmas.Result.{err_from_is_err_and}
 use Rattle.ring_machine.specs.Vertices.{ins}
 use Rattle.segment_index.specs.Candidates.{AreSingle}
