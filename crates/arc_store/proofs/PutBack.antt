@@ -1,10 +1,10 @@
 -- Vertices put back one after the other: what becomes of the vertices and the segments of a document.
 use Rattle.std.proofs.Common.{◌≡◌, ◌≤◌, ◌+◌, ◌*◌, Bool, true, false, refl, sym, ap, ap₂, ◌∙◌}
-use Rattle.std.proofs.Common.{cond, List, [], ◌∷◌, map, length, ◌⊎◌, inl, inr, ◌&&◌, ◌||◌, arith}
-use Rattle.std.specs.Prelude.{not}
+use Rattle.std.proofs.Common.{cond, List, [], ◌∷◌, ◌++◌, map, length, ◌⊎◌, inl, inr, ◌&&◌, ◌||◌, arith}
+use Rattle.std.specs.Prelude.{not, reverse}
 use Rattle.std.specs.List.{list_any, fold}
 use Rattle.std.proofs.lemmas.Bool.{false≢true}
-use Rattle.std.proofs.lemmas.List.{length-map}
+use Rattle.std.proofs.lemmas.List.{length-map, map-append, reverse-append}
 use Rattle.grid_geometry.specs.Position.{Position}
 use Rattle.grid_geometry.specs.Segment.{Segment, segment, segment_eq, is_end}
 use Rattle.grid_geometry.proofs.Conflicts.{segment-comm}
@@ -39,6 +39,14 @@ with_all d rs = fold put_back d (map removal_seen rs)
 
 abbrev pub AreOut : Document → List Removal → Type 0
 AreOut d rs = AreRemoved d (map removal_seen rs)
+
+-- in the order in which they went
+pub seen_reversed : (rs : List Removal) → map removal_seen (reverse rs) ≡ reverse (map removal_seen rs)
+seen_reversed [] = refl
+seen_reversed (r ∷ rs) =
+    ap (map removal_seen) (reverse-append (r ∷ []) rs) ∙ map-append removal_seen (reverse rs) (r ∷ [])
+    ∙ ap (λ z. z ++ removal_seen r ∷ []) (seen_reversed rs)
+    ∙ sym (reverse-append (removal_seen r ∷ []) (map removal_seen rs))
 
 -- ---- one vertex
 

@@ -124,6 +124,7 @@ placeable d places (r ∷ rs) h v =
       h.0.apart,
       (v r.a).0 ends.0,
       (v r.b).0 ends.1,
+      λ o. false≢true (sym h.0.free ∙ (v r.at).1 o),
       λ k free. placeable (with_one d r) (table.insert places k r.at) rs h.1 (vertices_after d places r h.0 v k free),
     )
 

@@ -1,4 +1,5 @@
 use Rattle.std.proofs.Common.{sym, subst, ap, ◌∙◌, arith}
+use Rattle.std.proofs.lemmas.Result.{err_from_is_err_and}
 use Rattle.feature_exchange.specs.Stored.{stored, document_of}
 use Rattle.feature_exchange.proofs.SegmentBound.{segments_bound}
 use Rattle.arc_store.specs.State.{State}
@@ -52,7 +53,9 @@ put_all-requires-clause-goings_once g c =
 
 pub returns-in_err-count-clause-unchanged : goal.returns-in_err-count-clause-unchanged
 returns-in_err-count-clause-unchanged g c =
-    same_tables c.self.view_is c.in_err-count.ensures.borders c.in_err-count.ensures.vertices
+    let e = err_from_is_err_and c.from_residual.result c.from_residual.ensures.1 in
+    rw e.1
+    (same_tables c.self.invariant c.self.view_is c.put_all.new.borders c.put_all.new.vertices (g.I.SegIndex.cells c.put_all.new.index) c.in_err-count.ensures.borders c.in_err-count.ensures.vertices c.put_all.ensures.cells)
 
 pub overflow_add-self : goal.overflow_add-self
 overflow_add-self g c =
@@ -81,5 +84,7 @@ pub returns-clause-put : goal.returns-clause-put
 returns-clause-put g c =
     let m = c.self.inside in
     let h = subst (λ (z : State). AreOut z.doc c.args.removals.now) (sym c.self.view_is) c.requires.fits in
-    with_document c.self.view_is (document_again m.frame m.borders m.vertices (g.I.SegIndex.held m.index) m.positions m.segments c.self.invariant c.args.removals.now h c.put_all.new.borders c.put_all.new.vertices c.in_ok-count.count c.in_ok-count.ensures.put
+    with_document c.self.invariant c.self.view_is c.put_all.new.borders c.put_all.new.vertices (g.I.SegIndex.cells c.put_all.new.index)
+    (document_again m.frame m.borders m.vertices (g.I.SegIndex.held m.index) m.positions m.segments c.self.invariant c.args.removals.now h c.put_all.new.borders c.put_all.new.vertices c.in_ok-count.count c.in_ok-count.ensures.put
     ∙ ap (λ (z : State). with_all z.doc c.args.removals.now) c.self.view_is)
+    c.put_all.ensures.cells
