@@ -86,9 +86,9 @@ module _ {A : Type 0} {frame : Framed} {rings : Rings} {places : Placement} {hel
     positions_after came gone e f = omega (arith, e, f, sizes, kept.sized, gone_few)
 
     pub state_after : (doc' : Document) (l' : ℕ) (cells' : Option GridFrame) → doc' ≡ changed_as after frame cs d → l' ≡ l → cells' ≡ cells
-        → record { doc = doc'; next = frame'.next; places = frame'.places; tests = l'; cells = cells' } ≡ exchanged_state after (seen cs) now
+        → record { doc = doc'; next = frame'.next; places = frame'.places; tests = l'; cells = cells'; last = o } ≡ exchanged_state after (seen cs) now
     state_after doc' l' cells' e f h =
-        ap₂ (λ x y. record { doc = x; next = y; places = frame'.places; tests = l'; cells = cells' }) e next'
-        ∙ ap₂ (λ x y. record { doc = changed_as after frame cs d; next = next_after after frame; places = x; tests = y; cells = cells' }) places' f
-        ∙ ap (λ x. record { doc = changed_as after frame cs d; next = next_after after frame; places = places_after after frame; tests = l; cells = x }) h
+        ap₂ (λ x y. record { doc = x; next = y; places = frame'.places; tests = l'; cells = cells'; last = o }) e next'
+        ∙ ap₂ (λ x y. record { doc = changed_as after frame cs d; next = next_after after frame; places = x; tests = y; cells = cells'; last = o }) places' f
+        ∙ ap (λ x. record { doc = changed_as after frame cs d; next = next_after after frame; places = places_after after frame; tests = l; cells = x; last = o }) h
         ∙ ap (λ (s : State). exchanged_state after (seen cs) s) is

@@ -1,5 +1,7 @@
 pub mod Accepted
 pub mod StateKept
+pub mod PutBack
+pub mod ThinnedBack
 pub mod Moved
 pub mod Indexed
 pub mod RingEdits
@@ -15,6 +17,7 @@ pub mod Judged
 pub mod RemovalJudged
 pub mod InsertPlan
 pub mod RemovePlan
+pub mod LeftOut
 pub mod SegmentCounts
 pub mod MovePlan
 pub mod Tested
@@ -26,12 +29,15 @@ pub mod Reading
 pub mod SpotLemmas
 pub mod NoJunction
 pub mod VertexCounts
+pub mod RestorePlan
+pub mod NamedBack
 pub mod RingAround
 pub mod RingKeys
 pub mod NamedRings
 pub mod NearLemmas
 pub mod PlacedMap
 pub mod ChangesCounted
+pub mod ChangesRecorded
 pub mod ExchangePlan
 pub mod DeletePlan
 pub mod SplitMade
@@ -42,6 +48,7 @@ pub mod AllCanonical
 pub mod JoinParted
 pub mod PolygonsSeen
 pub mod FeaturesKept
+pub mod RenamedMap
 pub mod SplitPlan
 pub mod MergePlan
 mod Examples

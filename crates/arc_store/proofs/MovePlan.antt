@@ -1,5 +1,5 @@
 -- The plan of a move: what stands around the vertex, what comes and goes, and when it is refused.
-use Rattle.std.proofs.Common.{◌≡◌, ◌≢◌, ◌<◌, ◌+◌, ℕ, Bool, true, false, refl, sym, ap, ap₂, ◌∙◌}
+use Rattle.std.proofs.Common.{◌≡◌, ◌<◌, ◌+◌, ℕ, Bool, true, false, sym, ap, ap₂, ◌∙◌}
 use Rattle.std.proofs.Common.{subst, List, [], ◌∷◌, map, length, take, get_or, ◌||◌, ◌&&◌, arith, Some, None, Option}
 use Rattle.std.proofs.Common.{Result, Ok, Err, OnOk, OnErr}
 use Rattle.std.specs.Prelude.{not}
@@ -22,14 +22,11 @@ use Rattle.ring_machine.specs.Query.{distinct_segments}
 use Rattle.ring_machine.specs.Refusals.{first_of, conflict_of, move_refusals, ◌unless◌}
 use Rattle.ring_machine.specs.Sweep.{crosses_on_way, edge_sweeps, move_sweeps}
 use Rattle.ring_machine.specs.Vertices.{put}
-use Rattle.ring_machine.proofs.First.{In}
-use Rattle.ring_machine.proofs.Neighbours.{has-in}
 use Rattle.ring_machine.proofs.Order.{and_both}
 use Rattle.vertex_index.specs.Placement.{Placement, place}
 use Rattle.segment_index.specs.Candidates.{SegmentSet, AreAmong, AreSingle, segment_is, has as has_segment}
 use Rattle.segment_index.proofs.Singles.{same_segment}
 use Rattle.arc_tables.specs.Rings.{Rings}
-use Rattle.shared_arcs.specs.Joined.{Joined}
 use Rattle.local_planarity.specs.declared.leaving.Leaving.TheVariants.{EndingAt}
 use Rattle.local_planarity.specs.Edits.{AreApart, IsAfter, IsEnds, IsHeld}
 use Rattle.local_planarity.proofs.Least.{apart_if_none}
@@ -42,8 +39,8 @@ use Rattle.arc_store.specs.Faults.{Refuses}
 use Rattle.feature_exchange.specs.Stored.{Stored, document_of, stored}
 use Rattle.feature_exchange.specs.Holds.{IsWhole, IsIndexed, Holds}
 use Rattle.arc_store.specs.Kept.{IsKept}
-use Rattle.vertex_changes.specs.Planned.{ArePlaced, AreAround, AreNew, Exchanges, spokes}
-use Rattle.ring_machine.proofs.Members.{any_in, in_mapped, in_contains}
+use Rattle.vertex_changes.specs.Planned.{AreAround, AreNew, Exchanges, spokes}
+use Rattle.ring_machine.proofs.Members.{any_in, in_contains}
 use Rattle.map_opening.proofs.Places.{place_is}
 use Rattle.feature_exchange.proofs.Base.{joined_kept, joined_apart, segments_to, segments_at, vertex_key}
 use Rattle.feature_exchange.proofs.Base.{sweeps_by_joined}

@@ -1,5 +1,5 @@
 -- Where the features of a map stand, and what is true of its document.
-use Rattle.std.proofs.Common.{◌≡◌, ◌<◌, ℕ, Bool, true, false, refl, sym, ap, ◌∙◌, subst, arith}
+use Rattle.std.proofs.Common.{◌≡◌, ◌<◌, ◌≤◌, ℕ, Bool, true, false, refl, sym, ap, ◌∙◌, subst, arith}
 use Rattle.std.proofs.Common.{List, Option, Some, None, option_map}
 use Rattle.std.proofs.Common.{is_some}
 use Rattle.std.proofs.lemmas.Bool.{false≢true}
@@ -8,7 +8,7 @@ use Rattle.ring_machine.specs.Parts.{feature, in_feature, in_rings, has_feature}
 use Rattle.ring_machine.specs.Refusals.{feature_at, or_else, no_feature}
 use Rattle.ring_machine.proofs.Found.{feature-in_rings, has_feature-found}
 use Rattle.edit_records.specs.Places.{LayerTree, Fills, has_place}
-use Rattle.edit_records.specs.Records.{IsMap, Record}
+use Rattle.edit_records.specs.Records.{IsMap, IsHeld, Record}
 use Rattle.edit_records.proofs.ExchangesMade.{fills-nowhere}
 use Rattle.edit_records.proofs.PlacesBack.{fills-grown}
 use Rattle.edit_records.proofs.PlacesFilled.{fills-in_rings}
@@ -38,6 +38,15 @@ placed-in_rings g trees next d h = record {
   known = h.known;
 }
 
+-- a number that is yet to come is no feature's
+pub later_new : {R : Type 0} (trees : List LayerTree) (next : ℕ) (d : DocumentOf R) → ArePlaced trees next d
+    → (m : ℕ) → next ≤ m → has_feature d m ≡ false
+later_new trees next d h m later = by (has_place trees m) refl
+  where
+    by : (b : Bool) → has_place trees m ≡ b → has_feature d m ≡ false
+    by false e = has_feature-found d m ∙ ap is_some (fills-nowhere trees d h.fills m e)
+    by true e = absurd (let l = h.known m e in omega (arith, l))
+
 module _ {frame : Framed} {rings : Rings} {places : Placement} {held : SegmentSet} {positions segments : ℕ}
     (kept : IsKept frame rings places held positions segments) {l : ℕ} {cells : Option GridFrame} {o : Option Record} {now : State}
     (is : state_of frame rings places l cells o ≡ now) where
@@ -57,6 +66,13 @@ module _ {frame : Framed} {rings : Rings} {places : Placement} {held : SegmentSe
   keeps_seen =
       subst KeepsTexts (seen_doc kept is)
       (keeps-in_rings (ring_under (stored frame rings places)) frame.doc kept.holds.keeps)
+
+  pub held_seen : ArePlaced frame.places frame.next frame.doc → IsHeld now.places now.next now.doc
+  held_seen h = record {
+    map = map_seen;
+    fills = (placed_seen h).fills;
+    below = later_new now.places now.next now.doc (placed_seen h);
+  }
 
   -- the texts of a feature as the frame has them
   pub texts_there : (n : ℕ) (t : Texts) → Some t ≡ option_map texts_of (feature frame.doc n)

@@ -1,7 +1,6 @@
 -- What an edit of one vertex is asked of, and what it does to the tables.
-use Rattle.std.specs.Prelude.{ℕ, ◌≡◌, ◌≢◌, ◌≤◌, ◌&&◌, ◌||◌, not, true, false, List, [], ◌∷◌, Some}
-use Rattle.std.specs.Prelude.{None, option_map}
-use Rattle.std.specs.FinMap as table
+use Rattle.std.specs.Prelude.{◌≡◌, ◌≢◌, ◌≤◌, ◌&&◌, ◌||◌, not, true, false, [], ◌∷◌}
+use Rattle.std.specs.Prelude.{None}
 use Rattle.grid_geometry.specs.Position.{Position}
 use Rattle.grid_geometry.specs.Segment.{Segment, segment, segment_eq, is_end}
 use Rattle.ring_machine.specs.Document.{Document}
@@ -10,16 +9,8 @@ use Rattle.ring_machine.specs.Planar.{first_pair}
 use Rattle.ring_machine.specs.Refusals.{are_long, is_bridged}
 use Rattle.ring_machine.specs.Vertices.{put, ins, del, is_junction}
 use Rattle.ring_machine.specs.Sweep.{holds_other, remove_sweeps}
-use Rattle.vertex_index.specs.Placement.{Placement}
 use Rattle.segment_index.specs.Candidates.{SegmentSet}
-use Rattle.arc_tables.specs.Edited.{through, collapsed}
-use Rattle.arc_tables.specs.Rings.{Rings}
-use Rattle.shared_arcs.specs.Joined.{AreNeighbours}
-use Rattle.shared_arcs.specs.declared.around.Neighbours.TheVariants.{Two}
-use Rattle.map_frame.specs.Framed.{Framed}
-use Rattle.feature_exchange.specs.Stored.{stored, document_of}
-use Rattle.feature_exchange.specs.Holds.{Holds, IsIndexed}
-use Rattle.vertex_changes.specs.Planned.{AreAround, spokes}
+use Rattle.feature_exchange.specs.Holds.{IsIndexed}
 
 -- ---- when the tables may change, whatever the edit sweeps over
 

@@ -1,5 +1,5 @@
 -- What the code keeps of an edit, as the machine's record of it.
-use Rattle.std.specs.Prelude.{ℕ, ◌≡◌, ◌≢◌, true, List, [], ◌∷◌, map, reverse, Option, None, Some, Contains}
+use Rattle.std.specs.Prelude.{◌≡◌, ◌≢◌, true, List, [], ◌∷◌, map, reverse, Option, None, Some, Contains}
 use Rattle.grid_geometry.specs.Position.{Position}
 use Rattle.grid_geometry.specs.Segment.{Segment, segment, segment_eq}
 use Rattle.ring_machine.specs.Document.{Document}
@@ -35,6 +35,11 @@ pub record IsLeftOut (d : Document) (p : Position) (r : machine.Removal) : Type 
 abbrev pub left_out : Option machine.Record → List machine.Removal
 left_out (Some (machine.Thinned rs)) = rs
 left_out _ = []
+
+-- what is kept of vertices that were left out in this order
+abbrev pub thinned : List Removal → Option machine.Record
+thinned [] = None
+thinned (r ∷ rs) = Some (machine.Thinned (reverse (map removal_seen (r ∷ rs))))
 
 -- the edit has left out such vertices, or nothing is to be taken back
 abbrev pub IsThinning : Option machine.Record → Type 0

@@ -1,4 +1,4 @@
-ghost use Rattle.std.specs.Prelude.{◌≡◌, None, option_map};
+ghost use Rattle.std.specs.Prelude.{◌≡◌, None, Some, option_map};
 ghost use Rattle.ring_machine.specs.Planar.{Proper};
 ghost use Rattle.edit_records.specs.Records.{IsHeld};
 ghost use Rattle.topo_outline.specs.Kept.{KeepsTexts};
@@ -23,6 +23,13 @@ impl<'a, I: SegIndex, A: Allocator + Copy> Map<'a, I, A> {
         let _ = self.frame.next(); // it tells where numbers stand
         self.tests = TestCount::new();
         self.last = None;
+    }
+
+    /// Keeps what takes the edit back.
+    pub(crate) fn keep(&mut self, made: Record<'a, A>)
+        ensures { self.new ≡ record self.old { last = Some (record_seen made.entry) } }
+    {
+        self.last = Some(made);
     }
 
     /// What takes the last edit back: a record where it changed the map, and none where it was

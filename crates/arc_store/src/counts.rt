@@ -2,6 +2,7 @@ ghost use Rattle.std.specs.Prelude.{◌≡◌, ◌≤◌, ℕ, None, length};
 ghost use Rattle.edit_records.specs.Records.{IsHeld};
 ghost use Rattle.ring_machine.specs.Parts.{feature, features, size, is_vertex};
 ghost use Rattle.ring_machine.specs.Query.{vertices, distinct_segments};
+ghost use Rattle.topo_outline.specs.Kept.{KeepsTexts};
 
 use crate::map::Map;
 use grid_geometry::Pos;
@@ -43,6 +44,7 @@ impl<'a, I: SegIndex, A: Allocator + Copy> Map<'a, I, A> {
         ensures next { result ≡ self.now.next }
         ensures below { (m : ℕ) → self.now.next ≤ m → feature self.now.doc m ≡ None }
         ensures held { IsHeld self.now.places self.now.next self.now.doc }
+        ensures keeps { KeepsTexts self.now.doc }
     {
         self.frame.next()
     }

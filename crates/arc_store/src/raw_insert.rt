@@ -89,7 +89,7 @@ impl<'a, I: SegIndex, A: Allocator + Copy> Map<'a, I, A> {
         let rings = put_in(vertices, borders, &mut self.index, ends, q, before, after)?;
         self.positions += rings;
         self.segments += 1;
-        self.last = Some(Record::Inserted(q));
+        self.keep(Record::Inserted(q));
         Ok(())
     }
 

@@ -79,7 +79,7 @@ impl<'a, I: SegIndex, A: Allocator + Copy> Map<'a, I, A> {
         }
         let (vertices, index) = (&mut self.vertices, &mut self.index);
         shift(vertices, index, moving.key, q, before, after)?;
-        self.last = Some(Record::Moved { from: p, to: q });
+        self.keep(Record::Moved { from: p, to: q });
         Ok(())
     }
 

@@ -17,14 +17,14 @@ impl<'a, I: SegIndex, A: Allocator + Copy> Map<'a, I, A> {
     pub fn raw_rename(&mut self, n: u32, id: Vec<u8, A>)
         requires text { IsJson id.items }
         ensures renamed { (f : Feature) → feature self.old.doc n ≡ Some f → self.new ≡ record self.old {
-            doc = renamed self.old.doc n id.items;
-            last = Some (made.Renamed n f.id);
+          doc = renamed self.old.doc n id.items;
+          last = Some (made.Renamed n f.id);
         } }
         ensures unchanged { feature self.old.doc n ≡ None → self.new ≡ self.old }
     {
         if self.has_feature(n) {
             let id = self.frame.rename(n, Id::given(id));
-            self.last = Some(Record::Renamed { number: n, id });
+            self.keep(Record::Renamed { number: n, id });
         }
     }
 }

@@ -6,7 +6,7 @@ ghost use Rattle.edit_records.specs.Records as made;
 ghost use Rattle.segment_index.specs.Times.{times_by};
 ghost use Rattle.local_planarity.specs.Tests.{most_for};
 ghost use Rattle.arc_store.specs.Faults.{Refuses};
-ghost use Rattle.arc_store.specs.Recorded.{IsLeftOut, IsThinning, left_out};
+ghost use Rattle.arc_store.specs.Recorded.{IsLeftOut, IsThinning, left_out, thinned};
 
 use crate::edit_record::Record;
 use crate::fault::EditFault;
@@ -17,6 +17,30 @@ use std::alloc::Allocator;
 use vertex_changes::Removal;
 
 impl<'a, I: SegIndex, A: Allocator + Copy> Map<'a, I, A> {
+    /// Hands out the vertices that the edit has left out so far.
+    fn take_thinned(&mut self) -> Vec<Removal, A>
+        requires thinning { IsThinning self.old.last }
+        ensures handed { thinned result.items ≡ self.old.last }
+        ensures taken { self.new ≡ record self.old { last = None } }
+    {
+        match self.last.take() {
+            Some(Record::Thinned(removals)) => removals,
+            Some(_other) => Vec::new(self.alloc),
+            None => Vec::new(self.alloc),
+        }
+    }
+
+    /// Keeps them as what takes the edit back.
+    fn keep_thinned(&mut self, removals: Vec<Removal, A>)
+        ensures { self.new ≡ record self.old { last = thinned removals.items } }
+    {
+        self.last = if removals.is_empty() {
+            None
+        } else {
+            Some(Record::Thinned(removals))
+        };
+    }
+
     /// Takes the vertex at p out as a raw removal does, in an edit that leaves several out: its
     /// record has all that this edit took out so.
     pub fn raw_thin(&mut self, p: Pos) -> Result<(), EditFault>
@@ -40,24 +64,21 @@ impl<'a, I: SegIndex, A: Allocator + Copy> Map<'a, I, A> {
             + most_for (times_by self.old.cells) self.old.doc (del self.old.doc p) }
         ensures cells { self.new.cells ≡ self.old.cells }
     {
-        let mut removals = match self.last.take() {
-            Some(Record::Thinned(removals)) => removals,
-            Some(_other) => Vec::new(self.alloc),
-            None => Vec::new(self.alloc),
-        };
-        let answer = match removals.reserve(1) {
-            Ok(()) => self.remove_tested(p),
-            Err(_) => Err(EditFault::OutOfMemory),
-        };
-        if let Ok(removal) = &answer {
-            removals.push_reserved(*removal);
+        let mut removals = self.take_thinned();
+        if removals.reserve(1).is_err() {
+            self.keep_thinned(removals);
+            return Err(EditFault::OutOfMemory);
         }
-        if !removals.is_empty() {
-            self.last = Some(Record::Thinned(removals));
-        }
-        match answer {
-            Ok(_) => Ok(()),
-            Err(fault) => Err(fault),
+        match self.remove_tested(p) {
+            Ok(removal) => {
+                removals.push_reserved(removal);
+                self.keep_thinned(removals);
+                Ok(())
+            }
+            Err(fault) => {
+                self.keep_thinned(removals);
+                Err(fault)
+            }
         }
     }
 }

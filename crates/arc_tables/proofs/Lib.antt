@@ -17,6 +17,7 @@ pub mod Inserting
 pub mod Removing
 pub mod Putting
 pub mod Counting
+pub mod Gaining
 pub mod UserLemmas
 pub mod CopyLemmas
 mod Examples

@@ -1,3 +1,4 @@
 pub mod Planned
 pub mod AroundPlan
 pub mod Tables
+pub mod PuttingBack

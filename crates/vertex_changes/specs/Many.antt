@@ -12,11 +12,11 @@ use Rattle.vertex_changes.specs.declared.removal.Removal.{Removal}
 
 -- ---- before
 
--- each in turn stands between two different ones, which are vertices by then
+-- each in turn comes where no vertex stands, between two different ones, which are vertices by then
 abbrev pub ArePlaceable : Placement → List Removal → Type 0
 ArePlaceable places [] = Unit {0}
 ArePlaceable places (r ∷ rs) =
-    (r.a ≢ r.b) × IsOccupied places r.a × IsOccupied places r.b
+    (r.a ≢ r.b) × IsOccupied places r.a × IsOccupied places r.b × ¬ IsOccupied places r.at
     × ((k : ℕ) → table.get places k ≡ None → ArePlaceable (table.insert places k r.at) rs)
 
 -- the segments that come with them

@@ -1,8 +1,8 @@
 // Vertices put back, all or none.
-ghost use Rattle.std.specs.Prelude.{◌≡◌, ◌<◌, ◌^◌, ◌||◌, ℕ, List, [], ◌∷◌, true, None, option_map, OnOk, OnErr, IfOk};
+ghost use Rattle.std.specs.Prelude.{◌≡◌, ◌≢◌, ◌<◌, ◌^◌, ◌||◌, ℕ, List, [], ◌∷◌, ◌++◌, true, None, option_map, OnOk, OnErr, IfOk};
 ghost use Rattle.std.specs.FinMap as table;
 ghost use Rattle.std.specs.FinSet as set;
-ghost use Rattle.grid_geometry.specs.Segment.{Segment};
+ghost use Rattle.grid_geometry.specs.Segment.{Segment, segment};
 ghost use Rattle.vertex_index.specs.Placement.{Placement, IsOccupied};
 ghost use Rattle.segment_index.specs.Candidates.{AreSingle, has};
 ghost use Rattle.arc_tables.specs.Edited.{gained, throughs, ArePuts};
@@ -15,11 +15,26 @@ ghost use Rattle.vertex_changes.specs.declared.removal.Removal.{Removal};
 use crate::removal::Removal;
 use crate::segments::{add_all, discard_all};
 use arc_tables::Put;
-use grid_geometry::Seg;
+use grid_geometry::{Pos, Seg};
 use segment_index::SegIndex;
 use shared_arcs::Borders;
 use std::alloc::{AllocError, Allocator};
 use vertex_index::Vertices;
+
+/// Appends the segment of two positions that differ. Fails for want of memory alone.
+fn push_segment<A: Allocator + Copy>(
+    segments: &mut Vec<Seg, A>,
+    a: Pos,
+    b: Pos,
+) -> Result<(), AllocError>
+    requires { a ≢ b }
+    ensures { OnOk result (segments.new.items ≡ segments.old.items ++ segment a b ∷ []) }
+{
+    if let Some(s) = Seg::new(a, b) {
+        segments.push(s)?;
+    }
+    Ok(())
+}
 
 /// The segments that come with these vertices. Fails for want of memory alone.
 fn all_comings<A: Allocator + Copy>(
@@ -31,10 +46,8 @@ fn all_comings<A: Allocator + Copy>(
 {
     let mut segments = Vec::new(alloc);
     for r in removals {
-        if let (Some(s), Some(t)) = (Seg::new(r.a, r.at), Seg::new(r.b, r.at)) {
-            segments.push(s)?;
-            segments.push(t)?;
-        }
+        push_segment(&mut segments, r.a, r.at)?;
+        push_segment(&mut segments, r.b, r.at)?;
     }
     Ok(segments)
 }
@@ -49,9 +62,7 @@ fn all_goings<A: Allocator + Copy>(
 {
     let mut segments = Vec::new(alloc);
     for r in removals {
-        if let Some(s) = Seg::new(r.a, r.b) {
-            segments.push(s)?;
-        }
+        push_segment(&mut segments, r.a, r.b)?;
     }
     Ok(segments)
 }
@@ -67,7 +78,10 @@ fn place_one<A: Allocator + Copy>(
     ensures keyed { IfOk result (λ put. AreKeyed vertices.old (r ∷ []) (put ∷ []) vertices.new) }
     ensures unchanged { OnErr result (vertices.new ≡ vertices.old) }
 {
-    let (Some(a), Some(b)) = (vertices.key_of(r.a), vertices.key_of(r.b)) else {
+    let Some(a) = vertices.key_of(r.a) else {
+        return Err(AllocError);
+    };
+    let Some(b) = vertices.key_of(r.b) else {
         return Err(AllocError);
     };
     match vertices.add(r.at) {
@@ -101,17 +115,17 @@ fn place_all<A: Allocator + Copy>(
         AreKeyed vertices.old removals.now puts.items vertices.new) }
     ensures unchanged { OnErr result (vertices.new ≡ vertices.old) }
 {
-    let mut puts = Vec::with_capacity(alloc, removals.len())?;
+    let mut placed = Vec::with_capacity(alloc, removals.len())?;
     for r in removals {
         match place_one(vertices, *r) {
-            Ok(put) => puts.push_reserved(put),
+            Ok(put) => placed.push_reserved(put),
             Err(e) => {
-                forget_all(vertices, puts.as_slice());
+                forget_all(vertices, placed.as_slice());
                 return Err(e);
             }
         }
     }
-    Ok(puts)
+    Ok(placed)
 }
 
 /// Puts vertices that are placed into the borders, and the segments that come into the index, and

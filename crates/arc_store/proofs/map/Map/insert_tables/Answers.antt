@@ -1,4 +1,4 @@
-use Rattle.std.proofs.Common.{sym, subst, ap, ap₂, ◌∙◌, arith}
+use Rattle.std.proofs.Common.{sym, subst, ap, ◌∙◌, arith}
 use Rattle.std.proofs.lemmas.Result.{err_from_is_err_and}
 use Rattle.ring_machine.specs.Vertices.{ins}
 use Rattle.segment_index.specs.Candidates.{AreSingle}
@@ -78,9 +78,13 @@ returns-clause-inserted g c =
     let p = c.in_ok-parting.parting in
     let r = c.in_ok-parting.ensures.read in
     let may = subst (λ (z : State). IsPlaceable z.doc c.args.a c.args.b c.args.q) (sym c.self.view_is) c.requires.placeable in
-    with_document c.self.view_is (doc_inserted m.frame m.borders c.put_in.new.borders m.vertices c.put_in.new.vertices (g.I.SegIndex.held m.index) (g.I.SegIndex.held c.put_in.new.index) m.positions m.segments c.self.invariant p.ends.0 p.ends.1 c.args.a c.args.b c.args.q r.first r.second may c.in_ok-rings.ensures.put
+    with_document c.self.invariant c.self.view_is c.put_in.new.borders c.put_in.new.vertices (g.I.SegIndex.cells c.put_in.new.index)
+    (doc_inserted m.frame m.borders c.put_in.new.borders m.vertices c.put_in.new.vertices (g.I.SegIndex.held m.index) (g.I.SegIndex.held c.put_in.new.index) m.positions m.segments c.self.invariant p.ends.0 p.ends.1 c.args.a c.args.b c.args.q r.first r.second may c.in_ok-rings.ensures.put
     ∙ ap (λ z. ins z.doc c.args.a c.args.b c.args.q) c.self.view_is)
+    c.put_in.ensures.cells
 
 pub returns-in_err-rings-clause-unchanged : goal.returns-in_err-rings-clause-unchanged
 returns-in_err-rings-clause-unchanged g c =
-    same_tables c.self.view_is c.in_err-rings.ensures.borders c.in_err-rings.ensures.vertices
+    let e = err_from_is_err_and c.from_residual-in_err-rings.result c.from_residual-in_err-rings.ensures.1 in
+    rw e.1
+    (same_tables c.self.invariant c.self.view_is c.put_in.new.borders c.put_in.new.vertices (g.I.SegIndex.cells c.put_in.new.index) c.in_err-rings.ensures.borders c.in_err-rings.ensures.vertices c.put_in.ensures.cells)

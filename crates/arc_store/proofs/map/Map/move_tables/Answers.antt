@@ -1,4 +1,5 @@
 use Rattle.std.proofs.Common.{◌∙◌, sym, ap, subst, refl}
+use Rattle.std.proofs.lemmas.Result.{err_from_is_err_and}
 use Rattle.ring_machine.specs.Parts.{is_vertex}
 use Rattle.segment_index.specs.Candidates.{AreAmong, AreSingle}
 use Rattle.feature_exchange.specs.Stored.{stored}
@@ -59,8 +60,12 @@ invariant_of-self-2 g c =
 
 pub returns-clause-moved : goal.returns-clause-moved
 returns-clause-moved g c =
-    with_document c.self.view_is
+    with_document c.self.invariant c.self.view_is c.self.inside.borders c.shift.new.vertices (g.I.SegIndex.cells c.shift.new.index)
     (document_after c.self.inside.frame c.self.inside.borders c.self.inside.vertices c.shift.new.vertices c.self.invariant.holds.whole c.args.self.now.doc (ap (λ z. z.doc) c.self.view_is) c.in_ok-moving.moving.key c.args.p c.args.q c.in_ok-moving.ensures.read.here c.requires.movable.free c.in_ok-shift.ensures.moved)
+    c.shift.ensures.cells
 
 pub returns-in_err-shift-clause-unchanged : goal.returns-in_err-shift-clause-unchanged
-returns-in_err-shift-clause-unchanged g c = same_tables c.self.view_is refl c.in_err-shift.ensures.vertices
+returns-in_err-shift-clause-unchanged g c =
+    let e = err_from_is_err_and c.from_residual-in_err-shift.result c.from_residual-in_err-shift.ensures.1 in
+    rw e.1
+    (same_tables c.self.invariant c.self.view_is c.self.inside.borders c.shift.new.vertices (g.I.SegIndex.cells c.shift.new.index) refl c.in_err-shift.ensures.vertices c.shift.ensures.cells)

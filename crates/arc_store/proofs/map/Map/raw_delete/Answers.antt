@@ -6,6 +6,7 @@ use Rattle.topo_outline.specs.Kept.{KeepsTexts}
 use Rattle.feature_exchange.specs.Changed.{seen}
 use Rattle.arc_store.specs.Exchanged.{asked_document}
 use Rattle.arc_store.specs.State.{State}
+use Rattle.arc_store.proofs.ChangesRecorded.{record_kept}
 use Rattle.arc_store.proofs.DeletePlan.{deleted_is, deleted_map, deleted_keeps, deleted_below}
 use Rattle.arc_store.proofs.map.Map.raw_delete.Goals as goal
 
@@ -44,5 +45,12 @@ returns-clause-deleted g c =
     let n = c.args.n in
     let placed = c.next_placed.ensures.placed in
     let asked : seen c.as_mut_slice.result.now ≡ (n, None) ∷ [] = ap seen (c.as_mut_slice.ensures.value ∙ c.in_ok-changes.ensures) in
-    ap (λ (s : State). s.doc) c.in_ok-exchange.ensures.exchanged ∙ ap (λ z. asked_document None z st) asked
+    ap (λ (s : State). s.doc) (c.self-2.view_is ∙ c.in_ok-exchange.ensures.exchanged) ∙ ap (λ z. asked_document None z st) asked
     ∙ deleted_is st.places st.next st.doc n placed
+
+pub returns-clause-recorded : goal.returns-clause-recorded
+returns-clause-recorded g c =
+    let v = c.in_ok-changes.changes in
+    λ there.
+    record_kept c.args.self.now.doc v.items c.as_mut_slice.result.now c.exchange.new.changes v.len v.ok.0 c.as_mut_slice.ensures.value c.in_ok-exchange.ensures.had
+    ((c.args.n, None) ∷ []) (ap seen (c.as_mut_slice.ensures.value ∙ c.in_ok-changes.ensures))

@@ -7,6 +7,7 @@ use Rattle.ring_machine.specs.Refusals.{first_of, ◌unless◌}
 use Rattle.segment_index.specs.Candidates.{AreAmong, AreSingle}
 use Rattle.feature_exchange.specs.Stored.{stored}
 use Rattle.vertex_changes.specs.Planned.{AreNew}
+use Rattle.arc_store.specs.State.{State}
 use Rattle.arc_store.proofs.Accepted.{move_may}
 use Rattle.arc_store.proofs.MovePlan.{held_apart, move_conflicts, move_decided}
 use Rattle.arc_store.proofs.MovePlan.{has_moving, plan_new, plan_single, plan_held, plan_once, document_after, kept_after}
@@ -93,7 +94,21 @@ returns-clause-accepted g c =
 
 pub returns-clause-moved : goal.returns-clause-moved
 returns-clause-moved g c =
-    document_after c.self.inside.frame c.self.inside.borders c.self.inside.vertices c.shift.new.vertices c.self.invariant.holds.whole c.args.self.now.doc (ap (λ z. z.doc) c.self.view_is) c.in_ok-moving.moving.key c.args.p c.args.q c.in_ok-moving.ensures.read.here c.requires.free c.in_ok-shift.ensures.moved
+    ap (λ (s : State). s.doc) c.keep.ensures
+    ∙ document_after c.self.inside.frame c.self.inside.borders c.self.inside.vertices c.shift.new.vertices c.self.invariant.holds.whole c.args.self.now.doc (ap (λ z. z.doc) c.self.view_is) c.in_ok-moving.moving.key c.args.p c.args.q c.in_ok-moving.ensures.read.here c.requires.free c.in_ok-shift.ensures.moved
+
+pub returns-clause-recorded : goal.returns-clause-recorded
+returns-clause-recorded g c = ap (λ (s : State). s.last) c.keep.ensures
+
+pub returns-clause-next : goal.returns-clause-next
+returns-clause-next g c = ap (λ (s : State). s.next) c.keep.ensures ∙ ap (λ (s : State). s.next) c.self.view_is
+
+pub returns-clause-places : goal.returns-clause-places
+returns-clause-places g c = ap (λ (s : State). s.places) c.keep.ensures ∙ ap (λ (s : State). s.places) c.self.view_is
+
+pub returns-clause-cells : goal.returns-clause-cells
+returns-clause-cells g c =
+    ap (λ (s : State). s.cells) c.keep.ensures ∙ c.shift.ensures.cells ∙ ap (λ (s : State). s.cells) c.self.view_is
 
 -- ---- how many tests
 
@@ -129,5 +144,6 @@ pub returns-clause-few : goal.returns-clause-few
 returns-clause-few g c =
     let m = c.in_ok-moving.moving in
     let r = c.in_ok-moving.ensures.read in
-    sweeps_few c.self.invariant c.self.view_is m.key c.args.p c.args.q r.here c.requires.free m.around.items r.all c.as_slice-after.result.now
-    (c.as_slice-after.ensures.value ∙ r.comes) c.test_planar.new.tests c.test_planar.ensures.few c.sweeps.new.tests c.sweeps.ensures.few
+    rw (ap (λ (s : State). s.tests) c.keep.ensures)
+    (sweeps_few c.self.invariant c.self.view_is m.key c.args.p c.args.q r.here c.requires.free m.around.items r.all c.as_slice-after.result.now
+    (c.as_slice-after.ensures.value ∙ r.comes) c.test_planar.new.tests c.test_planar.ensures.few c.sweeps.new.tests c.sweeps.ensures.few)

@@ -1,4 +1,5 @@
 use Rattle.std.proofs.Common.{◌∙◌, ap, arith, subst, sym}
+use Rattle.std.proofs.lemmas.Result.{err_from_is_err_and}
 use Rattle.ring_machine.specs.Parts.{is_vertex}
 use Rattle.feature_exchange.specs.Stored.{stored}
 use Rattle.ring_machine.specs.Vertices.{del, is_junction}
@@ -78,10 +79,13 @@ returns-clause-removed g c =
     let r = c.in_ok-bridging.ensures.read in
     let f = found c.self.invariant (ap (λ z. z.doc) c.self.view_is) r.here r.two c.requires.leavable.inner c.requires.leavable.long c.requires.leavable.unjoined in
     let may = subst (λ (z : State). IsLeavable z.doc c.args.p) (sym c.self.view_is) c.requires.leavable in
-    with_document c.self.view_is
+    with_document c.self.invariant c.self.view_is c.take_out.new.borders c.take_out.new.vertices (g.I.SegIndex.cells c.take_out.new.index)
     ((taken f r.first r.second r.comes (c.as_slice-before.ensures.value ∙ r.goes) may c.in_ok-rings.ensures.taken (g.I.SegIndex.held c.take_out.new.index) c.in_ok-rings.ensures.exchanged).doc
     ∙ ap (λ z. del z.doc c.args.p) c.self.view_is)
+    c.take_out.ensures.cells
 
 pub returns-in_err-rings-clause-unchanged : goal.returns-in_err-rings-clause-unchanged
 returns-in_err-rings-clause-unchanged g c =
-    same_tables c.self.view_is c.in_err-rings.ensures.borders c.in_err-rings.ensures.vertices
+    let e = err_from_is_err_and c.from_residual-in_err-rings.result c.from_residual-in_err-rings.ensures.1 in
+    rw e.1
+    (same_tables c.self.invariant c.self.view_is c.take_out.new.borders c.take_out.new.vertices (g.I.SegIndex.cells c.take_out.new.index) c.in_err-rings.ensures.borders c.in_err-rings.ensures.vertices c.take_out.ensures.cells)

@@ -1,10 +1,19 @@
-use Rattle.std.proofs.Common.{◌≡◌, ℕ, ◌+◌, ◌++◌, [], ◌∷◌, sym, ap, ◌∙◌, subst, take}
+use Rattle.std.proofs.Common.{◌≡◌, ℕ, ◌+◌, ◌++◌, [], ◌∷◌, sym, ap, ◌∙◌, subst, take, arith}
 use Rattle.std.proofs.lemmas.List.{take_more}
 use Rattle.arc_tables.specs.Ways.{links}
 use Rattle.arc_tables.specs.Edited.{IsOff, throughs, taken_back, ArePuts}
+use Rattle.arc_tables.specs.Sound.{rings_of}
 use Rattle.arc_tables.specs.Stores.{path_of}
+use Rattle.arc_tables.proofs.Gaining.{GainsSoFar, within_gained, one_more_gained, all_gained, through_everywhere}
 use Rattle.arc_tables.proofs.Putting.{puts_taken, puts_map, all_undone, one_more_put, once_put}
 use Rattle.arc_tables.proofs.tables.Tables.insert_all.Goals as goal
+
+pub uses-count-requires : goal.uses-count-requires
+uses-count-requires g c = record { whole = c.loop-at.invariant.whole; once = c.loop-at.invariant.once }
+
+pub overflow_add-count : goal.overflow_add-count
+overflow_add-count g c =
+    omega (arith, within_gained c.args.puts.now c.loop-at.at c.index-puts-at.result (rings_of c.args.self.now) (rings_of c.loop-at.self) c.loop-at.count c.loop-at-test.true c.index-puts-at.is c.loop-at.invariant.gained, c.uses-count.ensures, c.requires.few)
 
 pub take_back_all-requires-clause-put : goal.take_back_all-requires-clause-put
 take_back_all-requires-clause-put g c =
@@ -39,4 +48,11 @@ loop-at-preserved g c =
           (subst (ArePuts (λ q. (i : ℕ) → IsOff q (links (old i)))) next (puts_taken (λ q. (i : ℕ) → IsOff q (links (old i))) puts (at + 1) c.requires.fits)) c.loop-at.invariant.once;
       put = λ i. one_more_put (take at puts) p old now new c.loop-at.invariant.put c.in_default.ensures.ok i ∙ ap (λ z. throughs z (links (old i))) (sym next);
       rings = c.insert.ensures.rings ∙ c.loop-at.invariant.rings;
+      gained = subst (λ n. GainsSoFar (c.loop-at.count + n) puts (at + 1) (rings_of c.args.self.now) (rings_of c.insert.new.self)) (sym c.uses-count.ensures)
+          (one_more_gained puts at p (rings_of c.args.self.now) (rings_of c.loop-at.self) c.loop-at.count c.loop-at-test.true c.index-puts-at.is c.loop-at.invariant.gained
+          (rings_of c.insert.new.self) (through_everywhere p c.loop-at.self c.insert.new.self c.in_default.ensures.ok c.insert.ensures.rings));
     }
+
+pub returns-clause-count : goal.returns-clause-count
+returns-clause-count g c =
+    all_gained c.args.puts.now c.loop-at.at (rings_of c.args.self.now) (rings_of c.loop-at.self) c.loop-at.count c.loop-at-test.false c.loop-at.invariant.gained

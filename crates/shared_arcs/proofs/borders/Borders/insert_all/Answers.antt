@@ -1,8 +1,8 @@
-use Rattle.std.proofs.Common.{ℕ, ◌∙◌, sym, ap, subst}
+use Rattle.std.proofs.Common.{ℕ, ◌≡◌, ◌<◌, ◌^◌, ◌∙◌, sym, ap, subst, IfOk}
 use Rattle.std.specs.FinMap as map
 use Rattle.std.specs.Prelude.{option_map}
 use Rattle.arc_tables.specs.Ways.{links}
-use Rattle.arc_tables.specs.Edited.{IsOff, throughs}
+use Rattle.arc_tables.specs.Edited.{IsOff, throughs, gained}
 use Rattle.arc_tables.specs.Stores.{path_of}
 use Rattle.shared_arcs.specs.Joined.{Joined}
 use Rattle.arc_tables.proofs.Segments.{on_ok_map, on_err_map}
@@ -15,7 +15,14 @@ insert_all-requires-clause-fits g c =
     let s = c.self.inside.tables in
     puts_map (λ q. (x : ℕ) → ¬ (Joined c.args.self.now q x)) (λ q. (i : ℕ) → IsOff q (links (path_of s i)))
     (λ q h i x. not_joined s (each_used s c.self.invariant.whole.known) q x (subst (λ m. ¬ (Joined m q x)) (sym c.self.view_is) (h x)) i)
-    c.args.puts.now c.requires
+    c.args.puts.now c.requires.fits
+
+pub insert_all-requires-clause-few : goal.insert_all-requires-clause-few
+insert_all-requires-clause-few g c = subst (λ m. gained c.args.puts.now (map.values m) < 2 ^ 64) (sym c.self.view_is) c.requires.few
+
+pub returns-clause-count : goal.returns-clause-count
+returns-clause-count g c =
+    subst (λ m. IfOk c.insert_all.result (λ n. n ≡ gained c.args.puts.now (map.values m))) c.self.view_is c.insert_all.ensures.count
 
 pub returns-clause-ok : goal.returns-clause-ok
 returns-clause-ok g c =

@@ -1,13 +1,16 @@
-use Rattle.std.proofs.Common.{◌∙◌, ap, arith}
+use Rattle.std.proofs.Common.{◌∙◌, ap, arith, subst, sym}
 use Rattle.std.proofs.lemmas.Result.{err_from_is_err_and}
+use Rattle.grid_geometry.specs.Segment.{Segment}
 use Rattle.ring_machine.specs.Parts.{is_vertex}
 use Rattle.ring_machine.specs.Vertices.{is_junction}
 use Rattle.feature_exchange.specs.Stored.{stored, document_of}
+use Rattle.arc_store.specs.Recorded.{IsLeftOut}
 use Rattle.arc_store.proofs.Accepted.{remove_may}
 use Rattle.arc_store.proofs.Indexed.{indexed_apart}
+use Rattle.arc_store.proofs.LeftOut.{found_left}
 use Rattle.arc_store.proofs.RemovePlan.{has_bridging, found, found_planned, not_joined, three_apart, taken}
 use Rattle.arc_store.proofs.Tested.{removed_few}
-use Rattle.arc_store.proofs.map.Map.raw_remove.Goals as goal
+use Rattle.arc_store.proofs.map.Map.remove_tested.Goals as goal
 
 pub read_bridging-requires : goal.read_bridging-requires
 read_bridging-requires g c =
@@ -110,6 +113,13 @@ returns-clause-removed g c =
     let s = stored c.self.inside.frame c.self.inside.borders c.self.inside.vertices in
     let may = remove_may (document_of s) c.args.p (c.in_ok-test_remove.ensures.accepted (document_of s) plan.removable) in
     rw (← c.self.view_is) (taken f r.first r.second r.comes (c.as_slice-before.ensures.value ∙ r.goes) may c.in_ok-rings.ensures.taken (g.I.SegIndex.held c.take_out.new.index) c.in_ok-rings.ensures.exchanged).doc
+
+pub returns-clause-left : goal.returns-clause-left
+returns-clause-left g c =
+    let r = c.in_ok-bridging.ensures.read in
+    let f = found c.self.invariant (ap (λ z. z.doc) c.self.view_is) r.here r.two c.requires.inner c.requires.long c.requires.unjoined in
+    subst (λ (z : Segment). IsLeftOut c.args.self.now.doc c.args.p (record { at = c.args.p; a = z.lo; b = z.hi })) (sym c.after.view_is)
+    (found_left f (ap (λ z. z.doc) c.self.view_is) r.first r.second r.comes)
 
 -- ---- how many tests
 
