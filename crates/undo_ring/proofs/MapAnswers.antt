@@ -99,7 +99,7 @@ refused old new c rs a after steps fault f same =
 
 -- ---- an edit
 
-module _ {A : Type 0} (old new : MapState) (taken : old.last ≡ None) (placed : StaysPlaced old new) (cells : new.cells ≡ old.cells) where
+module _ (A : Type 0) (old new : MapState) (taken : old.last ≡ None) (placed : StaysPlaced old new) (cells : new.cells ≡ old.cells) where
   edited : (c : Command) (rs : List (Option Refusal)) (e : Document) → IsEdit old c rs machine.Done (λ depth st. changed depth st e)
       → (outcome : Result (Unit {0}) EditFault) → OnOk outcome (first_of rs ≡ None) → OnOk outcome (new.doc ≡ e) → IfErr outcome (λ fault. Refuses fault (first_of rs))
       → OnErr outcome (new.doc ≡ old.doc) → OnOk outcome (IsRecorded old new) → OnErr outcome (new.last ≡ None) → AnswersMap {A = A} old new c (done_of outcome)
@@ -143,7 +143,7 @@ module _ {A : Type 0} (old new : MapState) (taken : old.last ≡ None) (placed :
 
 -- ---- a split
 
-module _ {A : Type 0} (old new : MapState) (taken : old.last ≡ None) (cells : new.cells ≡ old.cells) (f : ℕ) (id : List ℕ) (path : List Position) where
+module _ (A : Type 0) (old new : MapState) (taken : old.last ≡ None) (cells : new.cells ≡ old.cells) (f : ℕ) (id : List ℕ) (path : List Position) where
   split_by : (outcome : Result ℕ EditFault) → OnOk outcome (first_of (split_refusals old.doc old.next f id (path_of path)) ≡ None) → IfOk outcome (λ made. made ≡ old.next)
       → OnOk outcome (new.doc ≡ cut old.doc f id (path_of path) old.next) → OnOk outcome (new.next ≡ old.next + 1) → IfErr outcome (λ fault. Refuses fault (first_of (split_refusals old.doc old.next f id (path_of path))))
       → OnErr outcome (new.doc ≡ old.doc) → OnErr outcome (new.next ≡ old.next) → OnOk outcome (new.places ≡ grown f old.next old.places) → OnErr outcome (new.places ≡ old.places)
@@ -162,15 +162,15 @@ module _ {A : Type 0} (old new : MapState) (taken : old.last ≡ None) (cells : 
       (λ depth past. step-split depth (with_past old past) f id path) fault refuses (same_map old new same (record { next = still; places = stay }) cells (unmade ∙ sym taken))
 
 -- of an id and a path as the call has them
-pub split_answered : {A : Type 0} (old new : MapState) → old.last ≡ None → new.cells ≡ old.cells → (f : ℕ) (name : List ℕ) (path : List Position) (copy : List ℕ) (copied : List Position) → copy ≡ name → copied ≡ path
+pub split_answered : (A : Type 0) (old new : MapState) → old.last ≡ None → new.cells ≡ old.cells → (f : ℕ) (name : List ℕ) (path : List Position) (copy : List ℕ) (copied : List Position) → copy ≡ name → copied ≡ path
     → (outcome : Result ℕ EditFault) → OnOk outcome (first_of (split_refusals old.doc old.next f (string_text copy) (path_of copied)) ≡ None) → IfOk outcome (λ made. made ≡ old.next)
     → OnOk outcome (new.doc ≡ cut old.doc f (string_text copy) (path_of copied) old.next) → OnOk outcome (new.next ≡ old.next + 1)
     → IfErr outcome (λ fault. Refuses fault (first_of (split_refusals old.doc old.next f (string_text copy) (path_of copied))))
     → OnErr outcome (new.doc ≡ old.doc) → OnErr outcome (new.next ≡ old.next) → OnOk outcome (new.places ≡ grown f old.next old.places) → OnErr outcome (new.places ≡ old.places)
     → OnOk outcome (IsRecorded old new) → OnErr outcome (new.last ≡ None) → AnswersMap {A = A} old new (Split f (string_text name) path) (made_of outcome)
-split_answered {A} old new taken cells f name path copy copied e h outcome none number is next refuses same still places stay recorded unmade =
+split_answered A old new taken cells f name path copy copied e h outcome none number is next refuses same still places stay recorded unmade =
     subst (λ z. AnswersMap {A = A} old new (Split f (string_text name) z) (made_of outcome)) h
-    (subst (λ z. AnswersMap {A = A} old new (Split f (string_text z) copied) (made_of outcome)) e (split_by {A = A} old new taken cells f (string_text copy) copied outcome none number is next refuses same still places stay recorded unmade))
+    (subst (λ z. AnswersMap {A = A} old new (Split f (string_text z) copied) (made_of outcome)) e (split_by A old new taken cells f (string_text copy) copied outcome none number is next refuses same still places stay recorded unmade))
 
 -- ---- a pass of thinning
 
@@ -196,9 +196,9 @@ module _ (d : Document) (t : ℤ) where
   passed = passes (vertices d) (record { doc = d; removed = 0 }) (λ z. refl)
 
 -- what a thinning keeps, as the count says
-thin_kept : {A : Type 0} (old new : MapState) (k : ℕ) → old.last ≡ None → StaysPlaced old new → new.cells ≡ old.cells
+thin_kept : (A : Type 0) (old new : MapState) (k : ℕ) → old.last ≡ None → StaysPlaced old new → new.cells ≡ old.cells
     → IsThinRecorded old new → MatchOption new.last (k ≡ 0) (λ made. 1 ≤ k) → Keeps (is_change {A = A} (told.Thinned k)) old new
-thin_kept {A} old new k taken placed cells recorded some = on new.last refl recorded some
+thin_kept A old new k taken placed cells recorded some = on new.last refl recorded some
   where
     on : (o : Option Record) → new.last ≡ o
         → MatchOption o (new.doc ≡ old.doc) (λ made. Takes new.places new.next old.doc new.doc made × (new.doc ≢ old.doc))
@@ -217,7 +217,7 @@ thin_by : {A : Type 0} (old new : MapState) (t : ℤ) (k : ℕ) → old.last ≡
 thin_by {A} old new t k taken placed cells recorded some count is = record {
   steps = λ depth past. by depth past ((thinned t old.doc).removed == 0) refl;
   cells = cells;
-  kept = thin_kept {A = A} old new k taken placed cells recorded some;
+  kept = thin_kept A old new k taken placed cells recorded some;
 }
   where
     by : (depth : ℕ) (past : List Document) (b : Bool) → ((thinned t old.doc).removed == 0) ≡ b

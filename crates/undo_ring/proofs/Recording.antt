@@ -1,5 +1,5 @@
 -- A history of records is the machine's.
-use Rattle.std.proofs.Common.{◌≡◌, ◌≢◌, ◌≤◌, ◌+◌, ℕ, zero, suc, refl, sym, ap, subst, ◌∙◌, List, [], ◌∷◌, map, take, drop, length, Bool, true, false, cond, Option, None, Some, option_map, inl, inr, ◌⊎◌, arith}
+use Rattle.std.proofs.Common.{◌≡◌, ◌≢◌, ◌≤◌, ◌+◌, ℕ, zero, suc, refl, sym, ap, subst, ◌∙◌, List, [], ◌∷◌, map, take, drop, length, Bool, true, false, cond, Option, None, Some, option_map, inl, inr, ◌⊎◌, arith, Result, Ok, Err, IfOk, IfErr}
 use Rattle.std.proofs.lemmas.List.{take_all}
 use Rattle.std.specs.Prelude.{MatchOption, slice_get}
 use Rattle.std.specs.List.{AllByRecursion}
@@ -10,7 +10,7 @@ use Rattle.ring_machine.specs.Machine.{State, step, undone}
 use Rattle.ring_machine.specs.Parts.{has_feature}
 use Rattle.ring_machine.proofs.Steps.{step-undo}
 use Rattle.edit_records.specs.Places.{grown}
-use Rattle.edit_records.specs.Records.{Record, Undoes, Takes, back}
+use Rattle.edit_records.specs.Records.{Record, IsHeld, Undoes, Takes, back}
 use Rattle.edit_records.specs.Histories.{documents, AreUndoing}
 use Rattle.edit_records.proofs.HistoriesKept.{documents-take, undoing-take, undoing-later}
 use Rattle.edit_records.proofs.HistoriesKept.{documents-grown, undoing-grown}
@@ -19,7 +19,7 @@ use Rattle.arc_store.specs.Recorded.{IsRecorded}
 use Rattle.arc_store.specs.State.{State as MapState}
 use Rattle.arc_store.specs.declared.fault.EditFault.{EditFault}
 use Rattle.undo_ring.specs.Answers.{answer_of, refusal_of}
-use Rattle.undo_ring.specs.Answered.{with_past, is_change, past_after, IsSameMap, StaysPlaced, IsGrown, Keeps, AcceptsOn, RefusesOn, StopsOn, FailsOn}
+use Rattle.undo_ring.specs.Answered.{with_past, is_change, past_after, IsSameMap, StaysPlaced, IsGrown, Keeps, AcceptsOn, RefusesOn, StopsOn, FailsOn, AnswersMap}
 use Rattle.undo_ring.specs.Edited.{Edited, machine_of, IsSame, Applies, Refuses, LacksMemory, IsCutShort, Fails, IsUndone}
 use Rattle.undo_ring.specs.Trails.{IsTrail, kept, edited_by}
 use Rattle.undo_ring.specs.declared.answer.Answer.{Answer}
@@ -293,3 +293,42 @@ module _ {X : Type 0} (seen : X → Record) (m : MapState) (records popped : Buf
             (ap (λ (z : MapState). let e : Edited = record { map = z; past = documents z.places z.doc (map seen records.items); depth = records.capacity } in e) now
             ∙ ap (λ k. record (edited_by seen m records) { map = record m { tests = k } }) (sym (ap (λ (z : MapState). z.tests) now))),
           )
+
+-- ---- a command, as the calls have it
+
+module _ {X : Type 0} (seen : X → Record) (m n now : MapState) (records after : Buffer X) (trail : IsTrail m (map seen records.items))
+    (held : IsHeld m.places m.next m.doc) (keeps : KeepsTexts m.doc) (made : Option X) (given : option_map seen made ≡ n.last)
+    (is : now ≡ handed n) (pushed : after ≡ kept records made) where
+  abbrev old : Edited
+  old = edited_by seen m records
+
+  abbrev new : Edited
+  new = edited_by seen now after
+
+  free : has_feature m.doc m.next ≡ false
+  free = held.below m.next (omega arith)
+
+  answered : {A : Type 0} (result : Result (Answer A) EditFault) (c : Command) → AnswersMap m n c result
+      → IsTrail (handed n) (map seen (kept records made).items)
+      × (IfOk result (Applies old (edited_by seen (handed n) (kept records made)) c) × IfErr result (λ fault. Fails fault old (edited_by seen (handed n) (kept records made)) c))
+  answered (Ok a) c h = let r = applied seen m records trail n made given free keeps c a h in (r.0, (r.1, tt))
+  answered (Err fault) c h = let r = failed seen m records trail n made given free keeps c fault h in (r.0, (tt, r.1))
+
+  module _ {A : Type 0} (result : Result (Answer A) EditFault) (c : Command) (h : AnswersMap m n c result) where
+    pub trail_after : IsTrail now (map seen after.items)
+    trail_after =
+        subst (λ z. IsTrail z (map seen after.items)) (sym is)
+        (subst (λ (b : Buffer X). IsTrail (handed n) (map seen b.items)) (sym pushed) (answered result c h).0)
+
+    module _ (e : Edited) (view : old ≡ e) where
+      pub applied_after : IfOk result (λ a. Applies e new c a)
+      applied_after =
+          subst (λ z. IfOk result (λ a. Applies z new c a)) view
+          (subst (λ z. IfOk result (λ a. Applies old (edited_by seen z after) c a)) (sym is)
+          (subst (λ (b : Buffer X). IfOk result (λ a. Applies old (edited_by seen (handed n) b) c a)) (sym pushed) (answered result c h).1.0))
+
+      pub failed_after : IfErr result (λ fault. Fails fault e new c)
+      failed_after =
+          subst (λ z. IfErr result (λ fault. Fails fault z new c)) view
+          (subst (λ z. IfErr result (λ fault. Fails fault old (edited_by seen z after) c)) (sym is)
+          (subst (λ (b : Buffer X). IfErr result (λ fault. Fails fault old (edited_by seen (handed n) b) c)) (sym pushed) (answered result c h).1.1))
