@@ -65,7 +65,7 @@ impl<'a, I: SegIndex, A: Allocator + Copy> Map<'a, I, A> {
     fn put_back_all(&mut self, removals: &[Removal]) -> Result<(), AllocError>
         requires fits { AreRemoved self.old.doc (map removal_seen removals.now) }
         ensures put { OnOk result (self.new ≡ record self.old {
-            doc = fold put_back self.old.doc (map removal_seen removals.now);
+          doc = fold put_back self.old.doc (map removal_seen removals.now);
         }) }
         ensures unchanged { OnErr result (self.new ≡ self.old) }
     {
@@ -80,7 +80,7 @@ impl<'a, I: SegIndex, A: Allocator + Copy> Map<'a, I, A> {
     fn thin_back(&mut self, mut removals: Vec<Removal, A>) -> Result<(), Record<'a, A>>
         requires fits { AreRemoved self.old.doc (reverse (map removal_seen removals.items)) }
         ensures put { OnOk result (self.new ≡ record self.old {
-            doc = fold put_back self.old.doc (reverse (map removal_seen removals.items));
+          doc = fold put_back self.old.doc (reverse (map removal_seen removals.items));
         }) }
         ensures handed { IfErr result (λ kept. record_seen kept
             ≡ machine.Thinned (reverse (map removal_seen removals.items))) }
@@ -111,7 +111,7 @@ impl<'a, I: SegIndex, A: Allocator + Copy> Map<'a, I, A> {
             (machine.Exchanged (seen changes.items)) }
         requires texts { KeepsTexts (exchanged self.old.places (seen changes.items) self.old.doc) }
         ensures exchanged { OnOk result (self.new ≡ record self.old {
-            doc = exchanged self.old.places (seen changes.entry.items) self.old.doc;
+          doc = exchanged self.old.places (seen changes.entry.items) self.old.doc;
         }) }
         ensures handed { IfErr result (λ kept. record_seen kept
             ≡ machine.Exchanged (seen changes.entry.items)) }
@@ -130,9 +130,9 @@ impl<'a, I: SegIndex, A: Allocator + Copy> Map<'a, I, A> {
         requires undoes { Undoes self.old.places self.old.next self.old.doc (record_seen made) }
         requires texts { KeepsTexts (back self.old.places (record_seen made) self.old.doc) }
         ensures restored { OnOk result (self.new ≡ record self.old {
-            doc = back self.old.places (record_seen made.entry) self.old.doc;
-            tests = 0;
-            last = None;
+          doc = back self.old.places (record_seen made.entry) self.old.doc;
+          tests = 0;
+          last = None;
         }) }
         ensures handed { IfErr result (λ kept. record_seen kept ≡ record_seen made.entry) }
         ensures unchanged { OnErr result (self.new ≡ record self.old { tests = 0; last = None }) }
