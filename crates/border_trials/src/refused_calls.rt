@@ -128,13 +128,17 @@ fn make<R: Abort, A: Allocator + Copy>(
             key(rt, keys, 2),
             key(rt, keys, 6),
         ),
-        Call::InsertChain => insert_chain(
-            rt,
-            borders,
-            key(rt, keys, 1),
-            key(rt, keys, 2),
-            [key(rt, keys, 6), key(rt, keys, 7), key(rt, keys, FAR)],
-        ),
+        Call::InsertChain => {
+            let gained = insert_chain(
+                rt,
+                borders,
+                key(rt, keys, 1),
+                key(rt, keys, 2),
+                [key(rt, keys, 6), key(rt, keys, 7), key(rt, keys, FAR)],
+            )?;
+            assert!(rt; gained == 6);
+            Ok(())
+        }
         Call::Remove => remove(rt, borders, key(rt, keys, 0)),
         Call::PushKeys => push_keys(rt, alloc, heap, borders, keys),
         Call::PushNeighbours => push_neighbours(rt, heap, borders, keys),

@@ -79,17 +79,19 @@ pub(crate) fn insert<R: Abort, A: Allocator + Copy>(
 }
 
 /// Three vertices that no ring has come in one after the other: the second between the first and
-/// `b`, the third between the second and `b`.
+/// `b`, the third between the second and `b`. Answers how many positions the rings gain.
 pub(crate) fn insert_chain<R: Abort, A: Allocator + Copy>(
     rt: &R,
     borders: &mut Borders<A>,
     a: VertexKey,
     b: VertexKey,
     chain: [VertexKey; 3],
-) -> Result<(), AllocError> {
+) -> Result<usize, AllocError> {
     let [first, second, third] = chain;
     assert!(rt; a != b && a != first && b != first && b != second && b != third);
     assert!(rt; first != second && first != third && second != third);
+    let shared = borders.uses(a, b);
+    assert!(rt; shared <= 2);
     match (
         borders.neighbours(first),
         borders.neighbours(second),

@@ -2,3 +2,4 @@ pub mod Planned
 pub mod AroundPlan
 pub mod Tables
 pub mod PuttingBack
+mod Examples

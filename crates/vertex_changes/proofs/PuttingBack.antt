@@ -1,5 +1,5 @@
 -- Vertices put back one after the other: what they are placed under, and what that gives.
-use Rattle.std.proofs.Common.{◌≡◌, ◌≢◌, ◌≤◌, ◌<◌, ◌+◌, ◌-◌, ℕ, zero, suc, Bool, true, false, cond, refl, sym, ap, ◌∙◌, subst, arith}
+use Rattle.std.proofs.Common.{◌≡◌, ◌≢◌, ◌≤◌, ◌<◌, ◌+◌, ◌-◌, ℕ, zero, suc, true, false, cond, refl, sym, ap, ◌∙◌, subst, arith}
 use Rattle.std.proofs.Common.{List, [], ◌∷◌, ◌++◌, length, take, drop, get_or, Some, None, is_some}
 use Rattle.std.specs.List.{AllByRecursion}
 use Rattle.std.specs.Ordering.{nat_cmp, eq_by_cmp}
@@ -59,7 +59,7 @@ apart_at rs h i r l e = subst IsApart (sym e) (each_at IsApart rs i r (all_apart
 
 -- ---- a position that comes in
 
-insert_here : (places : Placement) (k : ℕ) (q : Position) → table.get (table.insert places k q) k ≡ Some q
+pub insert_here : (places : Placement) (k : ℕ) (q : Position) → table.get (table.insert places k q) k ≡ Some q
 insert_here places k q =
     let e : eq_by_cmp nat_cmp k k ≡ true = grind (arith, nat_tests) in
     table.get-insert nat_cmp_total places k q k ∙ ap (λ b. cond b (Some q) (table.get places k)) e
@@ -186,11 +186,12 @@ pub puts_fit : (IsNew : ℕ → Type 0) (places : Placement) (rs : List Removal)
 puts_fit IsNew places [] [] places' new able h = tt
 puts_fit IsNew places [] (p ∷ ps) places' new able h = absurd h
 puts_fit IsNew places (r ∷ rs) [] places' new able h = absurd h
-puts_fit IsNew places (r ∷ rs) (p ∷ ps) places' new able h =
-    ((differ, λ e. other_key places p.a p.q (ap is_some h.0) h.2 (sym e), λ e. other_key places p.b p.q (ap is_some h.1) h.2 (sym e)),
-    new p.q h.2,
-    keys_apart (table.insert places p.q r.at) rs ps places' p.q (ap is_some (insert_here places p.q r.at)) h.3,
-    puts_fit IsNew (table.insert places p.q r.at) rs ps places' (λ k e. new k (free_before places p.q r.at k e)) (able.4 p.q h.2) h.3)
+puts_fit IsNew places (r ∷ rs) (p ∷ ps) places' new able h = (
+  (differ, λ e. other_key places p.a p.q (ap is_some h.0) h.2 (sym e), λ e. other_key places p.b p.q (ap is_some h.1) h.2 (sym e)),
+  new p.q h.2,
+  keys_apart (table.insert places p.q r.at) rs ps places' p.q (ap is_some (insert_here places p.q r.at)) h.3,
+  puts_fit IsNew (table.insert places p.q r.at) rs ps places' (λ k e. new k (free_before places p.q r.at k e)) (able.4 p.q h.2) h.3,
+)
   where
     differ : p.a ≢ p.b
     differ e = able.0 (same_Some r.a r.b (sym h.0 ∙ ap (table.get places) e ∙ h.1))

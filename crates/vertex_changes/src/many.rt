@@ -69,10 +69,7 @@ fn all_goings<A: Allocator + Copy>(
 
 /// Puts a vertex where this one was left out, whose neighbours are vertices, and answers what it is
 /// to come between. Where that fails nothing has changed.
-fn place_one<A: Allocator + Copy>(
-    vertices: &mut Vertices<A>,
-    r: Removal,
-) -> Result<Put, AllocError>
+fn place_one<A: Allocator + Copy>(vertices: &mut Vertices<A>, r: Removal) -> Result<Put, AllocError>
     requires first { IsOccupied vertices.old r.a }
     requires second { IsOccupied vertices.old r.b }
     ensures keyed { IfOk result (λ put. AreKeyed vertices.old (r ∷ []) (put ∷ []) vertices.new) }

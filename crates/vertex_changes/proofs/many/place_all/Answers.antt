@@ -6,9 +6,12 @@ use Rattle.vertex_changes.proofs.many.place_all.Goals as goal
 pub forget_all-requires : goal.forget_all-requires
 forget_all-requires g c =
     let old = c.args.vertices.now in
-    let done = take c.loop-r.r-index c.args.removals.now in
-    (old, done, subst (λ z. AreKeyed old done z c.place_one.new.vertices) (sym c.as_slice.ensures.value)
-    (subst (AreKeyed old done c.loop-r.placed.items) (sym c.in-Err.ensures.unchanged) c.loop-r.invariant.keyed))
+    let done = take c.loop-r.r-index c.args.removals.now in (
+      old,
+      done,
+      subst (λ z. AreKeyed old done z c.place_one.new.vertices) (sym c.as_slice.ensures.value)
+          (subst (AreKeyed old done c.loop-r.placed.items) (sym c.in-Err.ensures.unchanged) c.loop-r.invariant.keyed),
+    )
 
 pub loop-r-preserved : goal.loop-r-preserved
 loop-r-preserved g c =
