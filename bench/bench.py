@@ -93,6 +93,8 @@ DELETING, MOST_DELETED = 8, 100
 COUNTED = 800
 # How many changes are kept to be taken back, and how many lines are tried for each.
 KEPT, TRIED = 1_000, 4
+# What takes less than this, in seconds, is lost among the comments behind it.
+SHORTEST = 1e-5
 # A thinning that leaves out what it can.
 WHOLE_THIN = "thin 8000000000000000000000000"
 # More bytes of comment lines than a pipe and a reader's room hold: once they are written, what stood before has been
@@ -418,7 +420,7 @@ def why(done):
 # ---- the measures
 
 def middle(rates):
-    """The one in the middle: a piece that the machine held up is far from it, and so is one that is told as too short."""
+    """Of rates, or of seconds, the one in the middle: a piece that the machine held up is far from it, and so is one that is told as too short."""
     return sorted(rates)[len(rates) // 2]
 
 
@@ -639,21 +641,29 @@ def keeping(runner, map_):
     return runner.session(map_.path, "--undo", str(KEPT))
 
 
-def measure_undos(runner, map_, lines):
-    """These changes are made, and then all of them taken back, several times."""
-    good, made, back = accepted_of(runner, map_, lines), [], []
+def made_and_undone(runner, map_, lines):
+    """The seconds that these changes take, and those that as many undos take, the middle ones; and the answers."""
+    made, back = [], []
     with keeping(runner, map_) as session:
         for _ in range(PIECES_TIMED):
-            made.append(len(good) / session.seconds(good))
-            back.append(len(good) / session.seconds(["undo"] * len(good)))
-    return f"{middle(back):9.1f} /s     {middle(made):.1f} /s made, {PIECES_TIMED} times {len(good)} changes"
+            made.append(session.seconds(lines))
+            back.append(session.seconds(["undo"] * len(lines)))
+    if min(middle(made), middle(back)) < SHORTEST:
+        raise Failed("it is too short to be timed")
+    return middle(made), middle(back), session.answers
+
+
+def measure_undos(runner, map_, lines):
+    """These changes are made, and then all of them taken back, several times."""
+    good = accepted_of(runner, map_, lines)
+    made, back, _ = made_and_undone(runner, map_, good)
+    return f"{len(good) / back:9.1f} /s     {len(good) / made:.1f} /s made, {PIECES_TIMED} times {len(good)} changes"
 
 
 def measure_thinned(runner, map_):
-    with keeping(runner, map_) as session:
-        made, back = session.seconds([WHOLE_THIN]), session.seconds(["undo"])
-    count = int(session.answers[0].removeprefix("ok "))
-    return f"{count / back:9.1f} /s     {count / made:.1f} /s left out, {count} vertices"
+    made, back, answers = made_and_undone(runner, map_, [WHOLE_THIN])
+    count = int(answers[0].removeprefix("ok "))
+    return f"{count / back:9.1f} /s     {count / made:.1f} /s left out, {PIECES_TIMED} times {count} vertices"
 
 
 def measure_kept(runner, map_, lines):

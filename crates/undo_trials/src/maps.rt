@@ -90,8 +90,9 @@ fn comes_after<R: Abort>(rt: &R, alloc: Global, text: &str, nth: u64) -> bool {
 /// The number of the first growth after the editor of the text is there.
 pub(crate) fn first_growth<R: Abort>(rt: &R, alloc: Global, text: &str) -> u64 {
     let (mut before, mut after) = (0u64, MANY);
-    while before.saturating_add(1) < after {
-        let middle = before.saturating_add((after - before) / 2);
+    // each time half as many are left
+    for _ in 0..12u32 {
+        let middle = before.saturating_add(after) / 2;
         if comes_after(rt, alloc, text, middle) {
             after = middle;
         } else {
@@ -99,5 +100,6 @@ pub(crate) fn first_growth<R: Abort>(rt: &R, alloc: Global, text: &str) -> u64 {
         }
     }
     assert!(rt; after < MANY, "the opening ends");
+    assert_eq!(rt; after, before.wrapping_add(1));
     after
 }

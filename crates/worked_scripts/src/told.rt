@@ -17,15 +17,7 @@ fn told_within(alloc: Global, map: &[u8], script: &[u8], depth: usize) -> Result
     let mut source = FromReader::new(script);
     let mut sink = ToWriter::new(Vec::new(alloc));
     let mut saved = ToWriter::new(Vec::new(alloc));
-    let outcome = run(
-        alloc,
-        alloc,
-        map,
-        &mut source,
-        depth,
-        &mut sink,
-        &mut saved,
-    );
+    let outcome = run(alloc, alloc, map, &mut source, depth, &mut sink, &mut saved);
     let out = str::from_utf8(sink.writer.as_slice())?;
     let text = match outcome {
         Ok(summary) => format!(in alloc;
