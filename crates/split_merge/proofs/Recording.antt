@@ -1,5 +1,5 @@
 -- An edit of features that has begun, carried out: its record takes it back.
-use Rattle.std.proofs.Common.{◌≡◌, ◌≢◌, ◌+◌, ℕ, true, sym, ap, ◌∙◌, subst, List, Option, Some, None, is_some, eq-eqb}
+use Rattle.std.proofs.Common.{◌≡◌, ◌≢◌, ◌+◌, ℕ, true, sym, ap, ◌∙◌, subst, List, Some, None, is_some, eq-eqb}
 use Rattle.std.specs.Prelude.{Result, Ok, Err, OnOk}
 use Rattle.std.proofs.lemmas.Bool.{false≢true}
 use Rattle.ring_machine.specs.Document.{Document, Feature, Text}
@@ -29,11 +29,14 @@ module _ (old begun new : State) (begins : begun ≡ record old { tests = 0; las
   taken_back : (made : Record) (trees : List LayerTree) (next : ℕ) (e : Document)
       → new.last ≡ Some made → new.places ≡ trees → new.next ≡ next → new.doc ≡ e
       → Takes trees next begun.doc e made → IsRecorded old new
-  taken_back made trees next e last places after doc takes =
-      (made, last, subst (λ z. Takes new.places new.next z new.doc made) (ap (λ (s : State). s.doc) begins)
-      (subst (λ z. Takes z new.next begun.doc new.doc made) (sym places)
-      (subst (λ z. Takes trees z begun.doc new.doc made) (sym after)
-      (subst (λ z. Takes trees next begun.doc z made) (sym doc) takes))))
+  taken_back made trees next e last places after doc takes = (
+    made,
+    last,
+    subst (λ z. Takes new.places new.next z new.doc made) (ap (λ (s : State). s.doc) begins)
+        (subst (λ z. Takes z new.next begun.doc new.doc made) (sym places)
+        (subst (λ z. Takes trees z begun.doc new.doc made) (sym after)
+        (subst (λ z. Takes trees next begun.doc z made) (sym doc) takes))),
+  )
 
   pub delete_recorded : {T E : Type 0} (r : Result T E) (n : ℕ) → has_feature begun.doc n ≡ true
       → OnOk r (new.doc ≡ take_out begun.doc n)
@@ -88,6 +91,6 @@ module _ (old begun new : State) (begins : begun ≡ record old { tests = 0; las
       record {
         doc = ap (λ (s : State). s.doc) is ∙ ap (λ (s : State). renamed s.doc n id) begins;
         recorded = taken_back (Renamed n (f.0).id) begun.places begun.next (renamed begun.doc n id)
-        (ap (λ (s : State). s.last) is) (ap (λ (s : State). s.places) is) (ap (λ (s : State). s.next) is) (ap (λ (s : State). s.doc) is)
-        (rename-recorded begun.places begun.next begun.doc held n id f.0 f.1);
+            (ap (λ (s : State). s.last) is) (ap (λ (s : State). s.places) is) (ap (λ (s : State). s.next) is) (ap (λ (s : State). s.doc) is)
+            (rename-recorded begun.places begun.next begun.doc held n id f.0 f.1);
       }
