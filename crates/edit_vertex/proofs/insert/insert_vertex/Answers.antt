@@ -12,7 +12,7 @@ use Rattle.edit_records.proofs.InsertedFits.{insert-recorded}
 use Rattle.edit_vertex.proofs.Recording.{recorded_by}
 use Rattle.edit_vertex.proofs.insert.insert_vertex.Goals as goal
 
--- the beginning of an edit changes the count of tests alone
+-- the beginning of an edit changes the count of tests, and forgets what took the last one back
 pub returns-clause-accepted : goal.returns-clause-accepted
 returns-clause-accepted g c =
     subst (λ d. OnOk c.insert_now.result (first_of (insert_refusals d c.args.a c.args.b c.args.q) ≡ None)) (ap (λ (s : State). s.doc) c.begin_edit.ensures.begun) c.insert_now.ensures.accepted

@@ -12,7 +12,7 @@ use Rattle.edit_records.proofs.Recorded.{move-recorded}
 use Rattle.edit_vertex.proofs.Recording.{recorded_by}
 use Rattle.edit_vertex.proofs.moved.move_vertex.Goals as goal
 
--- the beginning of an edit changes the count of tests alone
+-- the beginning of an edit changes the count of tests, and forgets what took the last one back
 pub returns-clause-accepted : goal.returns-clause-accepted
 returns-clause-accepted g c =
     subst (λ d. OnOk c.move_now.result (first_of (move_refusals d c.args.p c.args.q) ≡ None)) (ap (λ (s : State). s.doc) c.begin_edit.ensures.begun) c.move_now.ensures.accepted

@@ -10,7 +10,7 @@ use Rattle.edit_vertex.specs.Untested.{is_early}
 use Rattle.edit_vertex.proofs.Recording.{removal_recorded}
 use Rattle.edit_vertex.proofs.remove.remove_vertex.Goals as goal
 
--- the beginning of an edit changes the count of tests alone
+-- the beginning of an edit changes the count of tests, and forgets what took the last one back
 pub returns-clause-accepted : goal.returns-clause-accepted
 returns-clause-accepted g c =
     subst (λ d. OnOk c.remove_now.result (first_of (remove_refusals d c.args.p) ≡ None)) (ap (λ (s : State). s.doc) c.begin_edit.ensures.begun) c.remove_now.ensures.accepted
