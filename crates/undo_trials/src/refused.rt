@@ -253,23 +253,32 @@ fn a_thinning(rt: HostRuntime) -> Result<(), Fail> {
     Ok(())
 }
 
-#[test]
-fn features(rt: HostRuntime) -> Result<(), Fail> {
-    let first = first_growth(&rt, rt.alloc(), SQUARES);
-    for edit in [
-        Edit::Split(0, &[(0, 0), (3, 7), (10, 10)]),
-        Edit::Split(1, &[(10, 5), (15, 6), (20, 10)]),
-        Edit::Merge(0, 1),
-        Edit::Merge(3, 0),
-        Edit::Delete(0),
-        Edit::Delete(3),
-        Edit::Delete(4),
-    ] {
-        let tally = refuse_edit(&rt, rt.alloc(), edit, first)?;
+/// Each of these edits and its undo, with each growth refused in turn.
+fn refuse_edits<R: Abort>(rt: &R, alloc: Global, edits: &[Edit]) -> Result<(), Fail> {
+    let first = first_growth(rt, alloc, SQUARES);
+    for edit in edits {
+        let tally = refuse_edit(rt, alloc, *edit, first)?;
         assert!(rt; 3 < tally.edits && 3 < tally.undos, "{edit:?} {tally:?}");
         assert_eq!(rt; tally.parts, 0);
     }
     Ok(())
+}
+
+#[test]
+fn a_split(rt: HostRuntime) -> Result<(), Fail> {
+    let edits = [Edit::Split(0, &[(0, 0), (3, 7), (10, 10)])];
+    refuse_edits(&rt, rt.alloc(), edits.as_slice())
+}
+
+#[test]
+fn a_merge(rt: HostRuntime) -> Result<(), Fail> {
+    refuse_edits(&rt, rt.alloc(), [Edit::Merge(0, 1)].as_slice())
+}
+
+#[test]
+fn deletions(rt: HostRuntime) -> Result<(), Fail> {
+    let edits = [Edit::Delete(3), Edit::Delete(4)];
+    refuse_edits(&rt, rt.alloc(), edits.as_slice())
 }
 
 /// An id needs memory, and the one before it none.

@@ -60,8 +60,8 @@ impl Trail {
     }
 }
 
-/// Gives the command to the editor, and keeps the text from before where it was a change; where it was
-/// none the text is the same. Gives whether it was a change.
+/// Gives the command to the editor, and keeps the text from before where it was a change. Gives whether
+/// it was one; where it was none, and yet changed the map, the next undo leads to another text.
 pub(crate) fn give<R: Abort, I: SegIndex, A: Allocator + Copy>(
     rt: &R,
     alloc: Global,
@@ -78,8 +78,6 @@ pub(crate) fn give<R: Abort, I: SegIndex, A: Allocator + Copy>(
     };
     if is_changed {
         trail.keep(written(rt, alloc, calm, editor.map()))?;
-    } else {
-        assert!(rt; is_written(rt, alloc, calm, editor.map(), trail.now.as_slice()));
     }
     Ok(is_changed)
 }
