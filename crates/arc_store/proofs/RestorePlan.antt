@@ -1,6 +1,5 @@
 -- What a record says of the way back, as the changes of the tables ask it.
 use Rattle.std.proofs.Common.{◌≡◌, ◌<◌, ℕ, List, [], ◌∷◌, ◌++◌, map, reverse, Option, None, refl, sym, ap, ◌∙◌, subst}
-use Rattle.std.proofs.lemmas.List.{reverse-append, map_push}
 use Rattle.std.specs.List.{fold, AllByRecursion}
 use Rattle.grid_geometry.specs.Position.{Position}
 use Rattle.ring_machine.specs.Document.{Document, Feature, Text}
@@ -100,15 +99,3 @@ module _ (now : State) (cs : List (ℕ × Option Feature)) (u : Undoes now.place
 
   pub map_back : IsMap (exchanged now.places cs now.doc)
   map_back = subst IsMap (sym (back_exchanged now.places now.next now.doc cs)) u.map
-
--- ---- a list turned
-
-map-reverse : {X Y : Type 0} (f : X → Y) (xs : List X) → map f (reverse xs) ≡ reverse (map f xs)
-map-reverse f [] = refl
-map-reverse f (x ∷ xs) =
-    ap (map f) (reverse-append (x ∷ []) xs) ∙ map_push f (reverse xs) x ∙ ap (λ l. l ++ f x ∷ []) (map-reverse f xs)
-    ∙ sym (reverse-append (f x ∷ []) (map f xs))
-
-pub seen_reversed : (rs : List Out) {turned : List Out} → turned ≡ reverse rs
-    → map removal_seen turned ≡ reverse (map removal_seen rs)
-seen_reversed rs is = ap (map removal_seen) is ∙ map-reverse removal_seen rs

@@ -1,6 +1,6 @@
 -- A feature that a path may cut in two, and what the code decides of it.
 use Rattle.std.specs.Prelude.{ℕ, ◌≡◌, ◌<◌, ◌+◌, ◌*◌, ◌&&◌, Bool, true, false, List, [], ◌∷◌}
-use Rattle.std.specs.Prelude.{nat_lt, nat_le, not, length, take, slice_index_or, Option}
+use Rattle.std.specs.Prelude.{nat_lt, nat_le, not, length, take, slice_index_or, slice_set, Option}
 use Rattle.std.specs.List.{list_any}
 use Rattle.grid_geometry.specs.Position.{Position}
 use Rattle.ring_machine.specs.Ring.{is_distinct}
@@ -12,8 +12,10 @@ use Rattle.ring_machine.specs.WellFormed.{WellFormed}
 use Rattle.ring_machine.specs.Cut.{Path, is_cut_by, is_wrong_side, first_that}
 use Rattle.ring_machine.specs.Refusals.{◌unless◌, feature_at, is_layer, positions_of}
 use Rattle.ring_machine.specs.Refusals.{is_path_segment}
+use Rattle.ring_parts.specs.Seen.{rings_seen, polygons_seen}
 use Rattle.segment_index.specs.Candidates.{SegmentSet}
 use Rattle.feature_exchange.specs.Holds.{IsIndexed}
+use Rattle.arc_store.specs.declared.raw_split.FirstCut.{FirstCut}
 
 -- the conditions of a split that come before conflicts, for a document of a map
 pub record IsCuttable (d : Document) (n : ℕ) (path : Path) : Type 0 where
@@ -33,6 +35,11 @@ pub record IsFirstCut (polygons : List (List (List Position))) (path : Path) (pl
   pub at : p ≡ slice_index_or polygons place []
   pub first : first_that (is_cut_by path) polygons ≡ p ∷ []
   pub none_before : list_any (is_cut_by path) (take place polygons) ≡ false
+
+-- what was found is that polygon and its place, and the polygons without its rings
+pub record IsFound {A : Type 0} (d : Document) (n : ℕ) (path : Path) (found : FirstCut A) : Type 0 where
+  pub first : IsFirstCut (feature_at d n).polygons path found.place (rings_seen found.rings.items)
+  pub others : polygons_seen found.others.items ≡ slice_set (feature_at d n).polygons found.place []
 
 -- a number is left for a feature, and room for a path that has so many inner positions, in a map of
 -- so many positions

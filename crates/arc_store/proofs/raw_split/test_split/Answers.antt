@@ -4,17 +4,6 @@ use Rattle.arc_store.proofs.CutDecided.{split_refused}
 use Rattle.arc_store.proofs.SplitPlan.{split_rest}
 use Rattle.arc_store.proofs.raw_split.test_split.Goals as goal
 
-pub returns-in-Ok-test_sides-clause-accepted : goal.returns-in-Ok-test_sides-clause-accepted
-returns-in-Ok-test_sides-clause-accepted g c = λ d next n id t.
-    split_rest d (g.I.SegIndex.held c.args.index.now) next n id _ _ c.args.room t c.args.added.now c.requires.added c.in-Ok.ensures.apart
-    ∙ c.in-Ok-test_sides.ensures.accepted
-
-pub returns-in-Err-test_sides-clause-refused : goal.returns-in-Err-test_sides-clause-refused
-returns-in-Err-test_sides-clause-refused g c = λ d next n id t.
-    subst (Refuses c.in-Err-test_sides.fault)
-    (sym (split_rest d (g.I.SegIndex.held c.args.index.now) next n id _ _ c.args.room t c.args.added.now c.requires.added c.in-Ok.ensures.apart))
-    c.in-Err-test_sides.ensures.refused
-
 pub returns-in-Err-clause-refused : goal.returns-in-Err-clause-refused
 returns-in-Err-clause-refused g c = λ d next n id t.
     split_refused d next n id _ t.cuttable (g.I.SegIndex.held c.args.index.now) t.indexed c.args.added.now c.requires.added c.in-Err.fault c.in-Err.ensures.refused
