@@ -1,12 +1,13 @@
-use Rattle.std.proofs.Common.{◌≡◌, ◌<◌, ◌+◌, sym, ap, ap₂, ◌∙◌, subst, map, slice_set, [], ◌∷◌, Some}
+use Rattle.std.proofs.Common.{◌≡◌, ◌<◌, ◌+◌, ◌++◌, sym, ap, ap₂, ◌∙◌, subst, map, length, take, drop, slice_set, [], ◌∷◌, Some}
 use Rattle.std.specs.Prelude.{Vec}
 use Rattle.std.specs.List.{AllByRecursion}
 use Rattle.grid_geometry.specs.Position.{Position}
-use Rattle.ring_machine.specs.Cut.{first_polygon, second_polygon}
+use Rattle.ring_machine.specs.Cut.{cut, first_polygon, second_polygon}
 use Rattle.ring_machine.specs.Parts.{feature}
 use Rattle.ring_machine.specs.Refusals.{feature_at}
 use Rattle.ring_machine.specs.WellFormed.{are_distinct}
 use Rattle.ring_parts.specs.Seen.{path_seen, rings_seen, polygons_seen}
+use Rattle.edit_records.specs.Places.{grown}
 use Rattle.edit_records.specs.Records.{IsMap, Exchanged}
 use Rattle.topo_outline.specs.Kept.{KeepsTexts}
 use Rattle.feature_exchange.specs.Changed.{seen}
