@@ -1,8 +1,8 @@
 -- How many positions there are in features that are exchanged.
 use Rattle.std.proofs.Common.{◌≡◌, ◌≤◌, ◌<◌, ◌+◌, ℕ, true, false, refl, sym, ap, ap₂, ◌∙◌, ◌++◌, ◌&&◌, ◌||◌}
 use Rattle.std.specs.Prelude.{◌==◌, not}
-use Rattle.std.proofs.Common.{List, [], ◌∷◌, map, length, take, get_or, Option, Some, None, option_map}
-use Rattle.std.specs.List.{sum_by, flat_map, AllByRecursion}
+use Rattle.std.proofs.Common.{List, [], ◌∷◌, map, length, Option, Some, None, option_map}
+use Rattle.std.specs.List.{flat_map, AllByRecursion}
 use Rattle.std.proofs.lemmas.List.Sums.{sum_by-append, sum_by-cons}
 use Rattle.ring_machine.specs.Document.{Feature, Document}
 use Rattle.ring_machine.specs.Parts.{size}

@@ -10,7 +10,7 @@ use Rattle.segment_index.specs.Candidates.{SegmentSet}
 use Rattle.segment_index.specs.Frames.{Frame as GridFrame}
 use Rattle.arc_tables.specs.Rings.{Rings}
 use Rattle.map_frame.specs.Framed.{Framed}
-use Rattle.feature_exchange.specs.Stored.{stored, ring_under, document_of}
+use Rattle.feature_exchange.specs.Stored.{stored, ring_under}
 use Rattle.arc_store.specs.Kept.{IsKept, state_of}
 use Rattle.arc_store.specs.State.{State}
 use Rattle.arc_store.proofs.NamedBack.{state_named}

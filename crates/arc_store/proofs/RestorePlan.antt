@@ -1,5 +1,5 @@
 -- What a record says of the way back, as the changes of the tables ask it.
-use Rattle.std.proofs.Common.{◌≡◌, ◌<◌, ℕ, List, [], ◌∷◌, ◌++◌, map, reverse, Option, None, refl, sym, ap, ◌∙◌, subst}
+use Rattle.std.proofs.Common.{◌≡◌, ◌<◌, ℕ, List, [], ◌∷◌, Option, None, refl, sym, ap, ◌∙◌, subst}
 use Rattle.std.specs.List.{fold, AllByRecursion}
 use Rattle.grid_geometry.specs.Position.{Position}
 use Rattle.ring_machine.specs.Document.{Document, Feature, Text}
@@ -9,8 +9,6 @@ use Rattle.edit_records.specs.Records.{Record, Removal, Moved, Inserted, Removed
 use Rattle.edit_records.specs.Records.{back, put_back, with_id, IsMap, AreChanged, Undoes}
 use Rattle.topo_outline.specs.Kept.{KeepsTexts}
 use Rattle.arc_store.specs.Edits.{IsMovable, IsPlaceable, IsLeavable}
-use Rattle.vertex_changes.specs.declared.removal.Removal.{Removal as Out}
-use Rattle.arc_store.specs.Recorded.{removal_seen}
 use Rattle.arc_store.specs.State.{State}
 
 module _ (trees : List LayerTree) (next : ℕ) (d : Document) where
