@@ -1,14 +1,12 @@
 -- How many positions there are in features that are exchanged.
 use Rattle.std.proofs.Common.{◌≡◌, ◌≤◌, ◌<◌, ◌+◌, ℕ, true, false, refl, sym, ap, ap₂, ◌∙◌, ◌++◌, ◌&&◌, ◌||◌}
 use Rattle.std.specs.Prelude.{◌==◌, not}
-use Rattle.std.proofs.Common.{List, [], ◌∷◌, map, length, take, get_or, Option, Some, None, option_map}
-use Rattle.std.specs.List.{sum_by, flat_map, AllByRecursion}
+use Rattle.std.proofs.Common.{List, [], ◌∷◌, map, length, Option, Some, None, option_map}
+use Rattle.std.specs.List.{flat_map, AllByRecursion}
 use Rattle.std.proofs.lemmas.List.Sums.{sum_by-append, sum_by-cons}
 use Rattle.ring_machine.specs.Document.{Feature, Document}
 use Rattle.ring_machine.specs.Parts.{size}
 use Rattle.ring_machine.specs.WellFormed.{are_distinct}
-use Rattle.ring_parts.specs.Seen.{polygons_seen}
-use Rattle.ring_parts.proofs.CountedFew.{counted_flat, counted_more, counted_few}
 use Rattle.edit_records.specs.Places.{LayerTree, Fills, exchanged, had_before, has_place, numbers_placed}
 use Rattle.edit_records.specs.Sizes.{weight, weights}
 use Rattle.edit_records.proofs.ExchangedSizes.{exchanged-size, had-within}
@@ -18,15 +16,6 @@ use Rattle.feature_exchange.specs.declared.change.Change.{Change}
 use Rattle.feature_exchange.specs.declared.change.WholeFeature.{WholeFeature}
 
 module _ {A : Type 0} where
-  -- the number does not matter
-  pub weight_any : (n : ℕ) (o : Option (WholeFeature A)) → weight (option_map (feature_seen n) o) ≡ weight (option_map (feature_seen 0) o)
-  weight_any n None = refl
-  weight_any n (Some w) = refl
-
-  -- a feature's positions, polygon by polygon
-  pub weight_polygons : (w : WholeFeature A) → sum_by (sum_by length) (polygons_seen w.polygons.items) ≡ weight (Some (feature_seen 0 w))
-  weight_polygons w = counted_flat length (polygons_seen w.polygons.items)
-
   asked_weight : (c : Change A) → length_of (asked_rings c) ≡ weight (option_map (feature_seen c.number) c.was)
   asked_weight c = by c.was refl
     where
@@ -42,16 +31,6 @@ module _ {A : Type 0} where
       ∙ ap (λ z. z + weights (seen cs)) (sym (asked_weight c))
       ∙ ap (λ z. length_of (asked_rings c) + z) (weights_asked cs)
       ∙ sym (sum_by-append length (asked_rings c) (flat_map asked_rings cs))
-
-  module _ (cs : List (Change A)) (i : ℕ) (x : Change A) (l : i < length cs) (e : x ≡ get_or cs i x) where
-    abbrev pair : Change A → ℕ × Option Feature
-    pair c = (c.number, option_map (feature_seen c.number) c.was)
-
-    pub seen_more : weights (seen (take (i + 1) cs)) ≡ weights (seen (take i cs)) + weight (option_map (feature_seen x.number) x.was)
-    seen_more = counted_more pair (λ c. weight c.1) cs i x l e
-
-    pub seen_few : weights (seen (take i cs)) + weight (option_map (feature_seen x.number) x.was) ≤ weights (seen cs)
-    seen_few = counted_few pair (λ c. weight c.1) cs i x l e
 
   numbers_seen : (cs : List (Change A)) → map (λ c. c.0) (seen cs) ≡ map (λ c. c.number) cs
   numbers_seen [] = refl

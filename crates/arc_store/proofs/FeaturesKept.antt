@@ -24,7 +24,7 @@ use Rattle.arc_tables.specs.Rings.{Rings}
 use Rattle.map_frame.specs.Framed.{Framed}
 use Rattle.feature_exchange.specs.Holds.{Holds, IsIndexed}
 use Rattle.feature_exchange.specs.Stored.{stored, document_of, ring_under}
-use Rattle.feature_exchange.proofs.Renaming.{renamed_document, renamed_holds}
+use Rattle.feature_exchange.proofs.Renaming.{named_document, renamed_holds}
 use Rattle.edit_records.specs.Records.{Record}
 use Rattle.arc_store.specs.Kept.{IsKept, state_of}
 use Rattle.arc_store.specs.State.{State}
@@ -115,6 +115,6 @@ module _ {frame : Framed} {rings : Rings} {places : Placement} {held : SegmentSe
   kept_renamed =
       kept_as (renamed (document_of (stored frame rings places)) n id)
       (renamed_holds (stored frame rings places) n id held json kept.holds)
-      (renamed_document (stored frame rings places) n id)
+      (named_document (stored frame rings places) n (Some id))
       (kept.sized ∙ sym (size-renamed (document_of (stored frame rings places)) n id))
       (counted_by kept)

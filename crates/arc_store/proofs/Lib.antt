@@ -31,7 +31,6 @@ pub mod NoJunction
 pub mod VertexCounts
 pub mod RestorePlan
 pub mod NamedBack
-pub mod RingAround
 pub mod RingKeys
 pub mod NamedRings
 pub mod NearLemmas

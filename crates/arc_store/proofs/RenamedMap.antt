@@ -10,10 +10,10 @@ use Rattle.segment_index.specs.Candidates.{SegmentSet}
 use Rattle.segment_index.specs.Frames.{Frame as GridFrame}
 use Rattle.arc_tables.specs.Rings.{Rings}
 use Rattle.map_frame.specs.Framed.{Framed}
-use Rattle.feature_exchange.specs.Stored.{stored, ring_under, document_of}
-use Rattle.feature_exchange.proofs.Renaming.{renamed_document}
+use Rattle.feature_exchange.specs.Stored.{stored, ring_under}
 use Rattle.arc_store.specs.Kept.{IsKept, state_of}
 use Rattle.arc_store.specs.State.{State}
+use Rattle.arc_store.proofs.NamedBack.{state_named}
 
 module _ {frame : Framed} {rings : Rings} {places : Placement} {held : SegmentSet} {positions segments : ℕ}
     (kept : IsKept frame rings places held positions segments) {l : ℕ} {cells : Option GridFrame} {o : Option Record} {now : State}
@@ -39,7 +39,5 @@ module _ {frame : Framed} {rings : Rings} {places : Placement} {held : SegmentSe
       → state_of new rings places l cells (Some (Renamed n was))
       ≡ record now { doc = renamed now.doc n id; last = Some (Renamed n f.id) }
   renamed_state id new made was old f e =
-      ap (λ (x : Framed). state_of x rings places l cells (Some (Renamed n was))) made
-      ∙ ap (λ d. record { doc = d; next = frame.next; places = frame.places; tests = l; cells = cells; last = Some (Renamed n was) }) (renamed_document (stored frame rings places) n id)
-      ∙ ap (λ i. record { doc = renamed (document_of (stored frame rings places)) n id; next = frame.next; places = frame.places; tests = l; cells = cells; last = Some (Renamed n i) }) (id_there was old f e)
-      ∙ ap (λ (s : State). record s { doc = renamed s.doc n id; last = Some (Renamed n f.id) }) is
+      ap (λ (s : State). record s { last = Some (Renamed n was) }) (state_named kept is n (Some id) new made)
+      ∙ ap (λ i. record now { doc = renamed now.doc n id; last = Some (Renamed n i) }) (id_there was old f e)

@@ -1,6 +1,5 @@
 -- What a record says of the way back, as the changes of the tables ask it.
-use Rattle.std.proofs.Common.{◌≡◌, ◌<◌, ℕ, List, [], ◌∷◌, ◌++◌, map, reverse, Option, None, refl, sym, ap, ◌∙◌, subst}
-use Rattle.std.proofs.lemmas.List.{reverse-append, map_push}
+use Rattle.std.proofs.Common.{◌≡◌, ◌<◌, ℕ, List, [], ◌∷◌, Option, None, refl, sym, ap, ◌∙◌, subst}
 use Rattle.std.specs.List.{fold, AllByRecursion}
 use Rattle.grid_geometry.specs.Position.{Position}
 use Rattle.ring_machine.specs.Document.{Document, Feature, Text}
@@ -10,8 +9,6 @@ use Rattle.edit_records.specs.Records.{Record, Removal, Moved, Inserted, Removed
 use Rattle.edit_records.specs.Records.{back, put_back, with_id, IsMap, AreChanged, Undoes}
 use Rattle.topo_outline.specs.Kept.{KeepsTexts}
 use Rattle.arc_store.specs.Edits.{IsMovable, IsPlaceable, IsLeavable}
-use Rattle.vertex_changes.specs.declared.removal.Removal.{Removal as Out}
-use Rattle.arc_store.specs.Recorded.{removal_seen}
 use Rattle.arc_store.specs.State.{State}
 
 module _ (trees : List LayerTree) (next : ℕ) (d : Document) where
@@ -100,15 +97,3 @@ module _ (now : State) (cs : List (ℕ × Option Feature)) (u : Undoes now.place
 
   pub map_back : IsMap (exchanged now.places cs now.doc)
   map_back = subst IsMap (sym (back_exchanged now.places now.next now.doc cs)) u.map
-
--- ---- a list turned
-
-map-reverse : {X Y : Type 0} (f : X → Y) (xs : List X) → map f (reverse xs) ≡ reverse (map f xs)
-map-reverse f [] = refl
-map-reverse f (x ∷ xs) =
-    ap (map f) (reverse-append (x ∷ []) xs) ∙ map_push f (reverse xs) x ∙ ap (λ l. l ++ f x ∷ []) (map-reverse f xs)
-    ∙ sym (reverse-append (f x ∷ []) (map f xs))
-
-pub seen_reversed : (rs : List Out) {turned : List Out} → turned ≡ reverse rs
-    → map removal_seen turned ≡ reverse (map removal_seen rs)
-seen_reversed rs is = ap (map removal_seen) is ∙ map-reverse removal_seen rs

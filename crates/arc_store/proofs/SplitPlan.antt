@@ -1,7 +1,7 @@
 -- The plan of a split: what the tests are asked of, what they decide, and what is kept.
 use Rattle.std.proofs.Common.{◌≡◌, ◌≤◌, ◌<◌, ℕ, ◌+◌, Bool, true, false, refl, sym, ap, subst}
 use Rattle.std.proofs.Common.{List, [], ◌∷◌, map, length, slice_set, zero, suc, Option, None, eqb-true, arith}
-use Rattle.std.specs.Prelude.{nat_le, nat_lt, ◌==◌}
+use Rattle.std.specs.Prelude.{not, nat_le, nat_lt, ◌==◌}
 use Rattle.std.specs.List.{list_any, sum_by, AllByRecursion}
 use Rattle.std.proofs.lemmas.Bool.Decides.{nat_tests}
 use Rattle.std.proofs.lemmas.List.{length-append}
@@ -9,13 +9,14 @@ use Rattle.std.proofs.lemmas.List.Sums.{sum_by-cons, sum_by_more_le}
 use Rattle.grid_geometry.specs.Position.{Position}
 use Rattle.grid_geometry.specs.Segment.{Segment}
 use Rattle.ring_machine.specs.Ring.{is_distinct}
+use Rattle.ring_machine.specs.Command.{WrongSide, TooLarge}
 use Rattle.ring_machine.specs.Document.{Document, Feature, Text}
 use Rattle.ring_machine.specs.Parts.{has_feature, is_vertex, size, all_segments}
 use Rattle.ring_machine.specs.Planar.{Proper, least_conflict}
 use Rattle.ring_machine.specs.WellFormed.{WellFormed}
 use Rattle.ring_machine.specs.Cut.{Path, cut, is_cut_by, is_wrong_side}
 use Rattle.ring_machine.specs.Refusals.{first_of, is_layer, positions_of, is_path_segment}
-use Rattle.ring_machine.specs.Refusals.{feature_at, split_refusals}
+use Rattle.ring_machine.specs.Refusals.{feature_at, split_refusals, ◌unless◌}
 use Rattle.ring_machine.proofs.SplitDocuments.{split-accepted}
 use Rattle.ring_machine.proofs.SplitProper.{split_is_proper}
 use Rattle.ring_machine.proofs.SplitSegments.{path_segments}
@@ -39,7 +40,7 @@ use Rattle.arc_store.proofs.SplitMade.{both_parts, split_made}
 use Rattle.ring_machine.proofs.CutJoined.{formed-cut}
 use Rattle.map_frame.specs.Framed.{Framed}
 use Rattle.arc_store.specs.Kept.{IsKept, state_of}
-use Rattle.arc_store.specs.Splits.{IsCuttable, IsFirstCut, IsTested, last_refusals}
+use Rattle.arc_store.specs.Splits.{IsCuttable, IsFirstCut, IsTested}
 use Rattle.arc_store.specs.State.{State}
 use Rattle.arc_store.proofs.CutDecided.{split_after, split_passed, split_decided}
 use Rattle.arc_store.proofs.FeaturesKept.{seen_indexed, seen_size}
@@ -169,7 +170,7 @@ module _ (d : Document) (held : SegmentSet) (next n : ℕ) (id : Text) (path : P
   -- where no two segments conflict, the last refusals decide
   pub split_rest : (added : List Segment) → added ≡ path_segments path
       → ((ss : List Segment) → IsAfter held Nothing added ss → least_conflict ss ≡ None)
-      → first_of (split_refusals d next n id path) ≡ first_of (last_refusals path polygon room)
+      → first_of (split_refusals d next n id path) ≡ first_of ((WrongSide unless not (is_wrong_side path polygon)) ∷ (TooLarge unless room) ∷ [])
   split_rest added comes none =
       split_decided d next n id path t.cuttable polygon t.first (is_wrong_side path polygon) room refl t.limits
       (none (all_segments (cut d n id path next)) (split_passed d next n id path t.cuttable held t.indexed added comes))

@@ -5,7 +5,6 @@ pub mod Kept
 pub mod Named
 pub mod Near
 pub mod Recorded
-pub mod RingPlaces
 pub mod Splits
 pub mod Spots
 pub mod State

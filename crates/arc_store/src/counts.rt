@@ -3,6 +3,7 @@ ghost use Rattle.edit_records.specs.Records.{IsHeld};
 ghost use Rattle.ring_machine.specs.Parts.{feature, features, size, is_vertex};
 ghost use Rattle.ring_machine.specs.Query.{vertices, distinct_segments};
 ghost use Rattle.topo_outline.specs.Kept.{KeepsTexts};
+ghost use Rattle.map_frame.specs.Placed.{ArePlaced};
 
 use crate::map::Map;
 use grid_geometry::Pos;
@@ -44,6 +45,7 @@ impl<'a, I: SegIndex, A: Allocator + Copy> Map<'a, I, A> {
         ensures next { result ≡ self.now.next }
         ensures below { (m : ℕ) → self.now.next ≤ m → feature self.now.doc m ≡ None }
         ensures held { IsHeld self.now.places self.now.next self.now.doc }
+        ensures placed { ArePlaced self.now.places self.now.next self.now.doc }
         ensures keeps { KeepsTexts self.now.doc }
     {
         self.frame.next()

@@ -1,98 +1,22 @@
 // Features exchanged in a map: what every edit of features goes through.
-ghost use Rattle.std.specs.Prelude.{◌≡◌, ◌≤◌, ◌<◌, ◌^◌, ◌∷◌, [], true, Some, length, map, option_map, IsTrue, IfOk, IfSome, OnOk, OnErr};
+ghost use Rattle.std.specs.Prelude.{◌≡◌, ◌<◌, ◌∷◌, [], true, Some, map, IsTrue, IfOk, IfSome, OnOk, OnErr};
 ghost use Rattle.std.specs.List.{AllByRecursion};
-ghost use Rattle.edit_records.specs.Sizes.{weight, weights};
 ghost use Rattle.edit_records.specs.Places.{had_before};
 ghost use Rattle.edit_records.specs.Records.{IsMap};
 ghost use Rattle.ring_machine.specs.Parts.{has_feature};
 ghost use Rattle.ring_machine.specs.WellFormed.{are_distinct};
 ghost use Rattle.ring_parts.specs.Seen.{rings_seen, polygons_seen};
 ghost use Rattle.topo_outline.specs.Kept.{KeepsTexts};
-ghost use Rattle.map_frame.specs.Placed.{ArePlaced};
-ghost use Rattle.feature_exchange.specs.Changed.{feature_seen, seen, number_after, MayGrow};
+ghost use Rattle.feature_exchange.specs.Changed.{seen, number_after, MayGrow};
 ghost use Rattle.arc_store.specs.Exchanged.{asked_document, exchanged_state, with_polygons, part_of};
 
 use crate::map::Map;
-use feature_exchange::{Change, WholeFeature, exchange_features};
+use feature_exchange::{Change, WholeFeature, count_changes, exchange_features, one_polygon};
 use grid_geometry::Pos;
-use ring_parts::count_all;
 use segment_index::SegIndex;
 use std::alloc::{AllocError, Allocator};
 
-/// How many positions the rings of a feature have; none where there is none.
-fn count_feature<'a, A: Allocator + Copy>(was: &Option<WholeFeature<'a, A>>) -> usize
-    requires { weight (option_map (feature_seen 0) was.now) < 2 ^ 64 }
-    ensures { result ≡ weight (option_map (feature_seen 0) was.now) }
-{
-    match was {
-        Some(whole) => count_all(whole.polygons.as_slice()),
-        None => 0,
-    }
-}
-
-/// How many positions the rings of the features have that are in these changes.
-fn count_changes<'a, A: Allocator + Copy>(changes: &[Change<'a, A>]) -> usize
-    requires { weights (seen changes.now) < 2 ^ 64 }
-    ensures { result ≡ weights (seen changes.now) }
-{
-    let mut count = 0;
-    for change in changes {
-        count += count_feature(&change.was);
-    }
-    count
-}
-
-/// A list of one polygon, of these rings.
-pub(crate) fn one_polygon<A: Allocator + Copy>(
-    alloc: A,
-    rings: Vec<Vec<Pos, A>, A>,
-) -> Result<Vec<Vec<Vec<Pos, A>, A>, A>, AllocError>
-    ensures { IfOk result (λ polygons. polygons.items ≡ rings ∷ []) }
-{
-    let mut polygons = Vec::new(alloc);
-    polygons.push(rings)?;
-    Ok(polygons)
-}
-
-/// A list of this change.
-pub(crate) fn one_change<'a, A: Allocator + Copy>(
-    alloc: A,
-    change: Change<'a, A>,
-) -> Result<Vec<Change<'a, A>, A>, AllocError>
-    ensures { IfOk result (λ list. list.items ≡ change.entry ∷ []) }
-{
-    let mut list = Vec::new(alloc);
-    list.push(change)?;
-    Ok(list)
-}
-
-/// A list of these two changes.
-pub(crate) fn two_changes<'a, A: Allocator + Copy>(
-    alloc: A,
-    first: Change<'a, A>,
-    second: Change<'a, A>,
-) -> Result<Vec<Change<'a, A>, A>, AllocError>
-    ensures { IfOk result (λ list. list.items ≡ first.entry ∷ second.entry ∷ []) }
-{
-    let mut list = Vec::new(alloc);
-    list.push(first)?;
-    list.push(second)?;
-    Ok(list)
-}
-
 impl<'a, I: SegIndex, A: Allocator + Copy> Map<'a, I, A> {
-    /// The number of the next new feature. The features of every map stand at the places of their
-    /// numbers.
-    pub(crate) fn next_placed(&self) -> u32
-        ensures next { result ≡ self.now.next }
-        ensures few { result ≤ 200000 }
-        ensures placed { ArePlaced self.now.places self.now.next self.now.doc }
-        ensures map { IsMap self.now.doc }
-        ensures keeps { KeepsTexts self.now.doc }
-    {
-        self.frame.next()
-    }
-
     /// Feature `n` with these polygons in the place of its own. Fails for want of memory alone.
     pub(crate) fn with_polygons(
         &self,

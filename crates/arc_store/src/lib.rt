@@ -30,15 +30,14 @@ mod raw_rename;
 mod raw_split;
 mod raw_thin;
 mod restore;
-mod ring_iter;
 mod spot;
 
 pub use edit_record::Record;
 pub use fault::{BuildFault, EditFault};
+pub use feature_exchange::RingIter;
 pub use ids::IdText;
 pub use map::Map;
 pub use map_frame::{FeatureView, FrameView, ItemIter, ItemView, RingName};
 pub use path::Path;
-pub use ring_iter::RingIter;
 pub use spot::Spot;
 pub use vertex_changes::Removal;

@@ -5,10 +5,9 @@ ghost use Rattle.edit_records.specs.Records as made;
 ghost use Rattle.arc_store.specs.declared.fault.EditFault.TheVariants.{OutOfMemory};
 
 use crate::edit_record::Record;
-use crate::exchanging::one_change;
 use crate::fault::EditFault;
 use crate::map::Map;
-use feature_exchange::Change;
+use feature_exchange::{Change, one_change};
 use segment_index::SegIndex;
 use std::alloc::Allocator;
 
@@ -31,7 +30,7 @@ impl<'a, I: SegIndex, A: Allocator + Copy> Map<'a, I, A> {
         if !self.has_feature(n) {
             return Ok(());
         }
-        let _ = self.next_placed();
+        let _ = self.next_number();
         let gone = Change {
             number: n,
             was: None,

@@ -6,10 +6,9 @@ ghost use Rattle.edit_records.specs.Records as made;
 ghost use Rattle.arc_store.specs.declared.fault.EditFault.TheVariants.{OutOfMemory};
 
 use crate::edit_record::Record;
-use crate::exchanging::{one_polygon, two_changes};
 use crate::fault::EditFault;
 use crate::map::Map;
-use feature_exchange::Change;
+use feature_exchange::{Change, one_polygon, two_changes};
 use ring_parts::join_polygons;
 use segment_index::SegIndex;
 use std::alloc::Allocator;
@@ -35,7 +34,7 @@ impl<'a, I: SegIndex, A: Allocator + Copy> Map<'a, I, A> {
         let ones = self.polygons(n)?;
         let others = self.polygons(g)?;
         let rings = join_polygons(self.alloc, ones[0].as_slice(), others[0].as_slice())?;
-        let _ = self.next_placed();
+        let _ = self.next_number();
         let joined = self.with_polygons(n, one_polygon(self.alloc, rings)?)?;
         let gone = Change {
             number: g,

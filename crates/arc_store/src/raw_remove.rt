@@ -67,12 +67,9 @@ impl<'a, I: SegIndex, A: Allocator + Copy> Map<'a, I, A> {
         ensures refused { IfErr result
             (λ fault. Refuses fault (first_of (remove_refusals self.old.doc p))) }
         ensures unchanged { OnErr result (self.new.doc ≡ self.old.doc) }
-        ensures last { self.new.last ≡ self.old.last }
-        ensures next { self.new.next ≡ self.old.next }
-        ensures places { self.new.places ≡ self.old.places }
+        ensures kept { self.new ≡ record self.old { doc = self.new.doc; tests = self.new.tests } }
         ensures few { self.new.tests ≤ self.old.tests
             + most_for (times_by self.old.cells) self.old.doc (del self.old.doc p) }
-        ensures cells { self.new.cells ≡ self.old.cells }
     {
         let bridging = read_bridging(self.alloc, &self.vertices, &self.borders, p)?;
         let (k, ends, after) = (bridging.key, bridging.ends, bridging.after);

@@ -21,3 +21,5 @@ pub mod Prepared
 pub mod EachExchanged
 pub mod PlacesAfter
 pub mod ExchangedWhole
+pub mod ChangesCounted
+pub mod RingAround

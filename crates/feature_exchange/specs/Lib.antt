@@ -5,3 +5,4 @@ pub mod Along
 pub mod Changed
 pub mod Laying
 pub mod Ready
+pub mod RingPlaces

@@ -6,13 +6,17 @@
 #![tactic(auto)]
 
 mod change;
+mod counting;
 mod exchanging;
 mod laying;
 mod numbers;
 mod reading;
+mod ring_iter;
 mod vertex_list;
 
-pub use change::{Change, WholeFeature};
+pub use change::{Change, WholeFeature, one_change, one_polygon, two_changes};
+pub use counting::count_changes;
 pub use exchanging::exchange_features;
 pub use reading::read_polygons;
+pub use ring_iter::RingIter;
 pub use vertex_list::read_vertices;

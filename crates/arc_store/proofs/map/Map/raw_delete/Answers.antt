@@ -18,7 +18,7 @@ pub exchange-requires-clause-below : goal.exchange-requires-clause-below
 exchange-requires-clause-below g c =
     let st = c.args.self.now in
     let n = c.args.n in
-    let placed = c.next_placed.ensures.placed in
+    let placed = c.next_number.ensures.placed in
     let asked : seen c.as_mut_slice.result.now ≡ (n, None) ∷ [] = ap seen (c.as_mut_slice.ensures.value ∙ c.in_ok-changes.ensures) in
     subst (λ z. AllByRecursion (λ x. x.0 < st.next) z) (sym asked)
     (deleted_below st.places st.next st.doc n placed (sym c.has_feature.ensures ∙ c.if-not-has_feature.false))
@@ -27,23 +27,23 @@ pub exchange-requires-clause-map : goal.exchange-requires-clause-map
 exchange-requires-clause-map g c =
     let st = c.args.self.now in
     let n = c.args.n in
-    let placed = c.next_placed.ensures.placed in
+    let placed = c.next_number.ensures.placed in
     let asked : seen c.as_mut_slice.result.now ≡ (n, None) ∷ [] = ap seen (c.as_mut_slice.ensures.value ∙ c.in_ok-changes.ensures) in
-    subst (λ z. IsMap (asked_document None z st)) (sym asked) (deleted_map st.places st.next st.doc n placed c.next_placed.ensures.map)
+    subst (λ z. IsMap (asked_document None z st)) (sym asked) (deleted_map st.places st.next st.doc n placed c.next_number.ensures.held.map)
 
 pub exchange-requires-clause-texts : goal.exchange-requires-clause-texts
 exchange-requires-clause-texts g c =
     let st = c.args.self.now in
     let n = c.args.n in
-    let placed = c.next_placed.ensures.placed in
+    let placed = c.next_number.ensures.placed in
     let asked : seen c.as_mut_slice.result.now ≡ (n, None) ∷ [] = ap seen (c.as_mut_slice.ensures.value ∙ c.in_ok-changes.ensures) in
-    subst (λ z. KeepsTexts (asked_document None z st)) (sym asked) (deleted_keeps st.places st.next st.doc n placed c.next_placed.ensures.keeps)
+    subst (λ z. KeepsTexts (asked_document None z st)) (sym asked) (deleted_keeps st.places st.next st.doc n placed c.next_number.ensures.keeps)
 
 pub returns-clause-deleted : goal.returns-clause-deleted
 returns-clause-deleted g c =
     let st = c.args.self.now in
     let n = c.args.n in
-    let placed = c.next_placed.ensures.placed in
+    let placed = c.next_number.ensures.placed in
     let asked : seen c.as_mut_slice.result.now ≡ (n, None) ∷ [] = ap seen (c.as_mut_slice.ensures.value ∙ c.in_ok-changes.ensures) in
     ap (λ (s : State). s.doc) (c.self-2.view_is ∙ c.in_ok-exchange.ensures.exchanged) ∙ ap (λ z. asked_document None z st) asked
     ∙ deleted_is st.places st.next st.doc n placed

@@ -54,7 +54,7 @@ exchange-requires-clause-below g c =
     seen_two c.in_ok-joined.joined (record { number = c.args.g; was = None }) (c.args.n, Some (with_polygons d c.args.n (made ∷ []))) (c.args.g, None)
     c.as_mut_slice.result.now (c.as_mut_slice.ensures.value ∙ c.in_ok-changes.ensures)
     (c.in_ok-joined.ensures ∙ ap (λ z. (c.args.n, Some (with_polygons d c.args.n (polygons_seen z))) ∷ []) c.in_ok-one_polygon.ensures) refl in
-    subst (λ z. AllByRecursion (λ x. x.0 < st.next) z) (sym asked) (plan.merge_below d c.args.n c.args.g c.requires st.places st.next c.next_placed.ensures.placed c.next_placed.ensures.map c.next_placed.ensures.keeps
+    subst (λ z. AllByRecursion (λ x. x.0 < st.next) z) (sym asked) (plan.merge_below d c.args.n c.args.g c.requires st.places st.next c.next_number.ensures.placed c.next_number.ensures.held.map c.next_number.ensures.keeps
     (polygons_seen ones) (polygons_seen others) c.in_ok-ones.ensures c.in_ok-others.ensures (rings_seen c.as_slice.result.now) (rings_seen c.as_slice-2.result.now) made
     one other c.in_ok-rings.ensures)
 
@@ -71,7 +71,7 @@ exchange-requires-clause-map g c =
     seen_two c.in_ok-joined.joined (record { number = c.args.g; was = None }) (c.args.n, Some (with_polygons d c.args.n (made ∷ []))) (c.args.g, None)
     c.as_mut_slice.result.now (c.as_mut_slice.ensures.value ∙ c.in_ok-changes.ensures)
     (c.in_ok-joined.ensures ∙ ap (λ z. (c.args.n, Some (with_polygons d c.args.n (polygons_seen z))) ∷ []) c.in_ok-one_polygon.ensures) refl in
-    subst (λ z. IsMap (asked_document None z st)) (sym asked) (plan.merge_map d c.args.n c.args.g c.requires st.places st.next c.next_placed.ensures.placed c.next_placed.ensures.map c.next_placed.ensures.keeps
+    subst (λ z. IsMap (asked_document None z st)) (sym asked) (plan.merge_map d c.args.n c.args.g c.requires st.places st.next c.next_number.ensures.placed c.next_number.ensures.held.map c.next_number.ensures.keeps
     (polygons_seen ones) (polygons_seen others) c.in_ok-ones.ensures c.in_ok-others.ensures (rings_seen c.as_slice.result.now) (rings_seen c.as_slice-2.result.now) made
     one other c.in_ok-rings.ensures)
 
@@ -88,7 +88,7 @@ exchange-requires-clause-texts g c =
     seen_two c.in_ok-joined.joined (record { number = c.args.g; was = None }) (c.args.n, Some (with_polygons d c.args.n (made ∷ []))) (c.args.g, None)
     c.as_mut_slice.result.now (c.as_mut_slice.ensures.value ∙ c.in_ok-changes.ensures)
     (c.in_ok-joined.ensures ∙ ap (λ z. (c.args.n, Some (with_polygons d c.args.n (polygons_seen z))) ∷ []) c.in_ok-one_polygon.ensures) refl in
-    subst (λ z. KeepsTexts (asked_document None z st)) (sym asked) (plan.merge_keeps d c.args.n c.args.g c.requires st.places st.next c.next_placed.ensures.placed c.next_placed.ensures.map c.next_placed.ensures.keeps
+    subst (λ z. KeepsTexts (asked_document None z st)) (sym asked) (plan.merge_keeps d c.args.n c.args.g c.requires st.places st.next c.next_number.ensures.placed c.next_number.ensures.held.map c.next_number.ensures.keeps
     (polygons_seen ones) (polygons_seen others) c.in_ok-ones.ensures c.in_ok-others.ensures (rings_seen c.as_slice.result.now) (rings_seen c.as_slice-2.result.now) made
     one other c.in_ok-rings.ensures)
 
@@ -106,7 +106,7 @@ returns-clause-merged g c =
     c.as_mut_slice.result.now (c.as_mut_slice.ensures.value ∙ c.in_ok-changes.ensures)
     (c.in_ok-joined.ensures ∙ ap (λ z. (c.args.n, Some (with_polygons d c.args.n (polygons_seen z))) ∷ []) c.in_ok-one_polygon.ensures) refl in
     ap (λ (s : State). s.doc) (c.self-2.view_is ∙ c.in_ok-exchange.ensures.exchanged) ∙ ap (λ z. asked_document None z st) asked
-    ∙ plan.merge_is d c.args.n c.args.g c.requires st.places st.next c.next_placed.ensures.placed c.next_placed.ensures.map c.next_placed.ensures.keeps
+    ∙ plan.merge_is d c.args.n c.args.g c.requires st.places st.next c.next_number.ensures.placed c.next_number.ensures.held.map c.next_number.ensures.keeps
     (polygons_seen ones) (polygons_seen others) c.in_ok-ones.ensures c.in_ok-others.ensures (rings_seen c.as_slice.result.now) (rings_seen c.as_slice-2.result.now) made
     one other c.in_ok-rings.ensures
 

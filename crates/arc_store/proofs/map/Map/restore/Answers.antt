@@ -1,9 +1,7 @@
-use Rattle.std.proofs.Common.{◌≡◌, ap, None}
-use Rattle.edit_records.specs.Records as machine
+use Rattle.std.proofs.Common.{ap}
 use Rattle.arc_tables.proofs.Segments.{on_ok_map}
 use Rattle.arc_store.specs.Recorded.{record_seen, removal_seen}
 use Rattle.feature_exchange.specs.Changed.{seen}
-use Rattle.arc_store.specs.State.{State}
 use Rattle.arc_store.proofs.RestorePlan.{movable_back, leavable_back, undoes_began, texts_began, map_began, restored}
 use Rattle.arc_store.proofs.RestorePlan.{back_moved, back_inserted, back_removed, back_thinned, back_renamed, back_exchanged}
 use Rattle.arc_store.proofs.map.Map.restore.Goals as goal

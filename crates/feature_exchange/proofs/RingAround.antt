@@ -18,7 +18,7 @@ use Rattle.ring_machine.proofs.Canonical.{Below}
 use Rattle.ring_machine.proofs.Order.{position_eq-refl, position_lt-apart, position_lt-total}
 use Rattle.ring_machine.proofs.Order.{position_lt-trans, and_both}
 use Rattle.vertex_index.specs.Placement.{Placement, place}
-use Rattle.arc_store.specs.RingPlaces.{positions_left, IsAround}
+use Rattle.feature_exchange.specs.RingPlaces.{positions_left, IsAround}
 
 -- ---- elements of lists
 

@@ -1,6 +1,6 @@
 use Rattle.std.proofs.Common.{◌≡◌, ◌<◌, ◌+◌, length}
-use Rattle.arc_store.proofs.RingAround.{IsLowest}
-use Rattle.arc_store.proofs.ring_iter.least_place.Given as goal
+use Rattle.feature_exchange.proofs.RingAround.{IsLowest}
+use Rattle.feature_exchange.proofs.ring_iter.least_place.Given as goal
 
 abbrev pub invariant-loop-k : goal.invariant-loop-k
 invariant-loop-k g l = record {

@@ -1,8 +1,8 @@
 use Rattle.std.proofs.Common.{arith, sym, ap, ◌∙◌, subst, length, drop}
 use Rattle.std.specs.Prelude.{Contains}
-use Rattle.arc_store.specs.RingPlaces.{positions_left, IsAround}
-use Rattle.arc_store.proofs.RingAround.{among_cons, begun_left, begun_around}
-use Rattle.arc_store.proofs.ring_iter.RingIter.begin.Goals as goal
+use Rattle.feature_exchange.specs.RingPlaces.{positions_left, IsAround}
+use Rattle.feature_exchange.proofs.RingAround.{among_cons, begun_left, begun_around}
+use Rattle.feature_exchange.proofs.ring_iter.RingIter.begin.Goals as goal
 
 pub least_place-place-requires-clause-placed : goal.least_place-place-requires-clause-placed
 least_place-place-requires-clause-placed g c =

@@ -1,3 +1,4 @@
+// The positions of a ring, one by one.
 ghost use Rattle.std.specs.Prelude.{◌≡◌, ◌<◌, ◌+◌, ◌^◌, ◌⊎◌, ◌∷◌, []};
 ghost use Rattle.std.specs.Prelude.{ℕ, List, map, length, drop, true};
 ghost use Rattle.std.specs.Prelude.{IfSome, IfNone, Contains};
@@ -5,11 +6,8 @@ ghost use Rattle.std.specs.FinMap as table;
 ghost use Rattle.std.specs.Iterator.{YieldsFirst, item_count};
 ghost use Rattle.ring_machine.specs.Ring.{before, least, canonical};
 ghost use Rattle.vertex_index.specs.Placement.{place};
-ghost use Rattle.map_frame.specs.Readers.{ring_at};
 
-use crate::map::Map;
 use grid_geometry::Pos;
-use segment_index::SegIndex;
 use shared_arcs::RingKeys;
 use std::alloc::{Allocator, Global};
 use std::marker::Model;
@@ -31,7 +29,7 @@ pub struct RingIter<'m, A: Allocator + Copy = Global> {
 impl<'m, A: Allocator + Copy> Model for RingIter<'m, A> {
     ghost use Rattle.std.specs.Prelude.{List};
     ghost use Rattle.grid_geometry.specs.Position.{Position};
-    ghost use Rattle.arc_store.specs.RingPlaces.{positions_left, IsAround};
+    ghost use Rattle.feature_exchange.specs.RingPlaces.{positions_left, IsAround};
 
     ghost Value = { List Position };
 
@@ -96,7 +94,7 @@ fn next_key<'m, A: Allocator + Copy>(
 
 impl<'m, A: Allocator + Copy> RingIter<'m, A> {
     /// The positions under these keys, from the least one on.
-    pub(crate) fn begin(all: RingKeys<'m, A>, vertices: &'m Vertices<A>) -> Option<RingIter<'m, A>>
+    pub fn begin(all: RingKeys<'m, A>, vertices: &'m Vertices<A>) -> Option<RingIter<'m, A>>
         requires placed { (k : ℕ) → Contains all k → table.contains_key vertices.now k ≡ true }
         requires few { length all < 2 ^ 64 }
         ensures some { IfSome result (λ it. it ≡ canonical (map (place vertices.now) all.entry)) }
@@ -130,17 +128,5 @@ impl<'m, A: Allocator + Copy> Iterator for RingIter<'m, A> {
         let k = next_key(&mut self.rest, &self.all)?;
         self.left -= 1;
         Some(self.vertices.pos(k))
-    }
-}
-
-impl<'a, I: SegIndex, A: Allocator + Copy> Map<'a, I, A> {
-    /// The positions of a ring, from the least one on: of the feature with this number the polygon
-    /// and the ring of these numbers, where the outer ring is the first one. `None` where there is
-    /// no such ring. Takes no memory.
-    pub fn ring(&self, n: u32, polygon: usize, ring: usize) -> Option<RingIter<'_, A>>
-        ensures { result ≡ ring_at self.now.doc n polygon ring }
-    {
-        let number = self.frame.ring(n, polygon, ring)?;
-        RingIter::begin(self.borders.keys(number)?, &self.vertices)
     }
 }

@@ -1,5 +1,5 @@
-use Rattle.arc_store.proofs.RingAround.{passed}
-use Rattle.arc_store.proofs.ring_iter.skip.Goals as goal
+use Rattle.feature_exchange.proofs.RingAround.{passed}
+use Rattle.feature_exchange.proofs.ring_iter.skip.Goals as goal
 
 pub loop-preserved : goal.loop-preserved
 loop-preserved g c =

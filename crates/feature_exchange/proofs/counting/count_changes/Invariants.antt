@@ -1,7 +1,7 @@
 use Rattle.std.proofs.Common.{◌≡◌, take}
 use Rattle.edit_records.specs.Sizes.{weights}
 use Rattle.feature_exchange.specs.Changed.{seen}
-use Rattle.arc_store.proofs.exchanging.count_changes.Given as goal
+use Rattle.feature_exchange.proofs.counting.count_changes.Given as goal
 
 -- those of the changes so far
 abbrev pub invariant-loop-change : goal.invariant-loop-change

@@ -2,8 +2,8 @@ use Rattle.std.proofs.Common.{ap, ◌∙◌, arith}
 use Rattle.std.proofs.lemmas.List.{take_all}
 use Rattle.edit_records.specs.Sizes.{weights}
 use Rattle.feature_exchange.specs.Changed.{seen}
-use Rattle.arc_store.proofs.ChangesCounted.{weight_any, seen_few, seen_more}
-use Rattle.arc_store.proofs.exchanging.count_changes.Goals as goal
+use Rattle.feature_exchange.proofs.ChangesCounted.{weight_any, seen_few, seen_more}
+use Rattle.feature_exchange.proofs.counting.count_changes.Goals as goal
 
 pub count_feature-count-requires : goal.count_feature-count-requires
 count_feature-count-requires g c =

@@ -3,8 +3,8 @@ use Rattle.std.specs.List.{sum_by}
 use Rattle.ring_parts.specs.Seen.{polygons_seen}
 use Rattle.edit_records.specs.Sizes.{weight}
 use Rattle.feature_exchange.specs.Changed.{feature_seen}
-use Rattle.arc_store.proofs.ChangesCounted.{weight_polygons}
-use Rattle.arc_store.proofs.exchanging.count_feature.Goals as goal
+use Rattle.feature_exchange.proofs.ChangesCounted.{weight_polygons}
+use Rattle.feature_exchange.proofs.counting.count_feature.Goals as goal
 
 pub count_all-requires : goal.count_all-requires
 count_all-requires g c =

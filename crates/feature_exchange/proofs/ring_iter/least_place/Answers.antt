@@ -1,9 +1,9 @@
 use Rattle.std.proofs.Common.{arith, refl, sym, ap, [], ◌∷◌, cond, length, true, false}
 use Rattle.std.proofs.lemmas.List.{length-append}
 use Rattle.ring_machine.proofs.Order.{position_eq-refl}
-use Rattle.arc_store.proofs.RingAround.{tested_lt, lower_key, no_lower_key}
-use Rattle.arc_store.proofs.ring_iter.least_place.Goals as goal
-use Rattle.arc_store.proofs.ring_iter.least_place.Goals.{then-lt, else-lt}
+use Rattle.feature_exchange.proofs.RingAround.{tested_lt, lower_key, no_lower_key}
+use Rattle.feature_exchange.proofs.ring_iter.least_place.Goals as goal
+use Rattle.feature_exchange.proofs.ring_iter.least_place.Goals.{then-lt, else-lt}
 
 pub loop-k-init : goal.loop-k-init
 loop-k-init g c = record { lowest = record { least_is = refl; place_is = sym (ap (λ b. length (cond b [] (c.args.first ∷ []))) (position_eq-refl c.args.first)) }; within = omega arith; counted = omega arith }

@@ -1,5 +1,5 @@
-use Rattle.arc_store.proofs.RingAround.{next_around}
-use Rattle.arc_store.proofs.ring_iter.RingIterIterator.next.Goals as goal
+use Rattle.feature_exchange.proofs.RingAround.{next_around}
+use Rattle.feature_exchange.proofs.ring_iter.RingIterIterator.next.Goals as goal
 
 pub invariant_of-self-2 : goal.invariant_of-self-2
 invariant_of-self-2 g c =
