@@ -46,7 +46,7 @@ impl Drawn {
     /// A number that is near this one.
     fn near(&mut self, n: i64) -> i64 {
         let count = STEP.saturating_mul(2).saturating_add(1);
-        let by = self.below(count as usize) as i64;
+        let by = i64::try_from(self.below(count as usize)).unwrap_or(0);
         n.saturating_add(by).saturating_sub(i64::from(STEP))
     }
 }
