@@ -32,11 +32,8 @@ pub mod RingAround
 pub mod RingKeys
 pub mod NamedRings
 pub mod NearLemmas
-pub mod PlacedMap
-pub mod ChangesCounted
-pub mod ExchangePlan
-pub mod DeletePlan
-pub mod SplitMade
+pub mod InsteadAlike
+pub mod CutParted
 pub mod CutBorders
 pub mod CutDecided
 pub mod PathSegments

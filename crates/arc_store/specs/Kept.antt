@@ -16,7 +16,6 @@ abbrev pub state_of : Framed → Rings → Placement → ℕ → Option GridFram
 state_of frame rings places tests cells = record {
   doc = document_of (stored frame rings places);
   next = frame.next;
-  places = frame.places;
   tests = tests;
   cells = cells;
 }

@@ -1,5 +1,4 @@
 pub mod Edits
-pub mod Exchanged
 pub mod Faults
 pub mod Kept
 pub mod Named

@@ -10,7 +10,6 @@ mod begin;
 mod build;
 mod copying;
 mod counts;
-mod exchanging;
 mod fault;
 mod features;
 mod ids;

@@ -2,10 +2,10 @@ ghost use Rattle.std.specs.Prelude.{◌≡◌, OnOk, OnErr, IfErr};
 ghost use Rattle.ring_machine.specs.Join.{take_out};
 ghost use Rattle.arc_store.specs.declared.fault.EditFault.TheVariants.{OutOfMemory};
 
-use crate::exchanging::one_change;
 use crate::fault::EditFault;
 use crate::map::Map;
-use feature_exchange::Change;
+use feature_exchange::{read_polygons, take_out_feature};
+use ring_parts::count_all;
 use segment_index::SegIndex;
 use std::alloc::Allocator;
 
@@ -21,16 +21,12 @@ impl<'a, I: SegIndex, A: Allocator + Copy> Map<'a, I, A> {
         ensures tests { self.new.tests ≡ self.old.tests }
         ensures cells { self.new.cells ≡ self.old.cells }
     {
-        if !self.has_feature(n) {
-            return Ok(());
-        }
-        let _ = self.next_placed();
-        let gone = Change {
-            number: n,
-            was: None,
-        };
-        let mut changes = one_change(self.alloc, gone)?;
-        self.exchange(None, changes.as_mut_slice())?;
+        let polygons = read_polygons(self.alloc, &self.frame, &self.vertices, &self.borders, n)?;
+        let gone = count_all(polygons.as_slice());
+        let (frame, vertices, borders) = (&mut self.frame, &mut self.vertices, &mut self.borders);
+        let (index, segments) = (&mut self.index, &mut self.segments);
+        take_out_feature(self.alloc, frame, vertices, borders, index, segments, n)?;
+        self.positions -= gone;
         Ok(())
     }
 }

@@ -3,7 +3,6 @@ ghost use Rattle.ring_machine.specs.Machine.{renamed};
 ghost use Rattle.topo_outline.specs.Kept.{IsJson};
 
 use crate::map::Map;
-use map_frame::Id;
 use segment_index::SegIndex;
 use std::alloc::Allocator;
 
@@ -14,6 +13,6 @@ impl<'a, I: SegIndex, A: Allocator + Copy> Map<'a, I, A> {
         requires text { IsJson id.items }
         ensures { self.new ≡ record self.old { doc = renamed self.old.doc n id.items } }
     {
-        let _ = self.frame.rename(n, Id::given(id));
+        self.frame.rename(n, id);
     }
 }

@@ -1,4 +1,4 @@
-ghost use Rattle.std.specs.Prelude.{◌≡◌, ◌≤◌, ◌<◌, ◌+◌, ℕ, true, false, List, [], None, map, length, slice_set};
+ghost use Rattle.std.specs.Prelude.{◌≡◌, ◌≤◌, ◌<◌, ◌+◌, ℕ, true, false, List, None, map, length};
 ghost use Rattle.std.specs.Prelude.{IfOk, OnOk, OnErr, IfErr, IsTrue};
 ghost use Rattle.std.specs.List.{list_any};
 ghost use Rattle.grid_geometry.specs.Ring.{links};
@@ -12,7 +12,7 @@ ghost use Rattle.ring_machine.specs.Refusals.{positions_of, is_path_segment};
 ghost use Rattle.ring_machine.specs.Ring.{is_distinct, segment_of};
 ghost use Rattle.ring_machine.specs.WellFormed.{WellFormed};
 ghost use Rattle.topo_outline.specs.Kept.{IsJson};
-ghost use Rattle.ring_parts.specs.Seen.{path_seen, rings_seen, polygons_seen, outer_length};
+ghost use Rattle.ring_parts.specs.Seen.{path_seen, rings_seen, outer_length};
 ghost use Rattle.segment_index.specs.Times.{times_by};
 ghost use Rattle.local_planarity.specs.Edits.{AreApart, IsAfter};
 ghost use Rattle.local_planarity.specs.Tests.{most_for, most_tests};
@@ -20,16 +20,15 @@ ghost use Rattle.local_planarity.specs.declared.leaving.Leaving.TheVariants.{Not
 ghost use Rattle.arc_store.specs.Faults.{Refuses};
 ghost use Rattle.arc_store.specs.Splits.{IsCuttable, IsFirstCut, IsTested, has_room, last_refusals};
 
-use crate::exchanging::two_changes;
 use crate::fault::EditFault;
 use crate::map::Map;
 use crate::plan::test_planar;
+use feature_exchange::{Parts, part_feature, read_polygons};
 use grid_geometry::{Pos, Seg};
 use local_planarity::{Leaving, TestCount};
 use ring_parts::{Path, both_parts, first_cut, is_wrong_side, way_segments};
 use segment_index::SegIndex;
 use std::alloc::{AllocError, Allocator};
-use std::mem;
 
 /// Whether a number is left for a feature, and there is room for a path with so many inner positions
 /// in a map of so many positions.
@@ -107,8 +106,6 @@ struct FirstCut<A: Allocator + Copy> {
     place: usize,
     /// Its rings, the outer one first.
     rings: Vec<Vec<Pos, A>, A>,
-    /// The polygons of the feature, with none of its rings in this place.
-    others: Vec<Vec<Vec<Pos, A>, A>, A>,
 }
 
 impl<'a, I: SegIndex, A: Allocator + Copy> Map<'a, I, A> {
@@ -119,22 +116,21 @@ impl<'a, I: SegIndex, A: Allocator + Copy> Map<'a, I, A> {
             ≡ true }
         ensures first { IfOk result (λ found. IsFirstCut (feature_at self.now.doc n).polygons
             (path_seen path.now) found.place (rings_seen found.rings.items)) }
-        ensures others { IfOk result (λ found. polygons_seen found.others.items
-            ≡ slice_set (feature_at self.now.doc n).polygons found.place []) }
         ensures formed { WellFormed self.now.doc }
         ensures proper { Proper self.now.doc }
     {
-        let _ = self.next_placed(); // it tells that the map is one
-        let mut others = self.polygons(n)?;
-        let Some(place) = first_cut(path, others.as_slice()) else {
+        let mut polygons = read_polygons(
+            self.alloc,
+            &self.frame,
+            &self.vertices,
+            &self.borders,
+            n,
+        )?;
+        let Some(place) = first_cut(path, polygons.as_slice()) else {
             unreachable!()
         };
-        let rings = mem::replace(&mut others[place], Vec::new(self.alloc));
-        Ok(FirstCut {
-            place,
-            rings,
-            others,
-        })
+        let rings = polygons.swap_remove(place);
+        Ok(FirstCut { place, rings })
     }
 
     /// Tests that the path of these positions may cut feature `n`, in the polygon that was found.
@@ -178,14 +174,12 @@ impl<'a, I: SegIndex, A: Allocator + Copy> Map<'a, I, A> {
         n: u32,
         id: Vec<u8, A>,
         path: &Path<'_>,
-        found: FirstCut<A>,
+        found: &FirstCut<A>,
     ) -> Result<u32, AllocError>
         requires text { IsJson id.items }
         requires cuttable { IsCuttable self.old.doc n (path_seen path.now) }
         requires first { IsFirstCut (feature_at self.old.doc n).polygons (path_seen path.now)
-            found.place (rings_seen found.rings.items) }
-        requires others { polygons_seen found.others.items
-            ≡ slice_set (feature_at self.old.doc n).polygons found.place [] }
+            found.now.place (rings_seen found.now.rings.items) }
         requires accepted { first_of
             (split_refusals self.old.doc self.old.next n id.items (path_seen path.now)) ≡ None }
         ensures number { IfOk result (λ made. made ≡ self.old.next) }
@@ -196,21 +190,20 @@ impl<'a, I: SegIndex, A: Allocator + Copy> Map<'a, I, A> {
         ensures tests { self.new.tests ≡ self.old.tests }
         ensures cells { self.new.cells ≡ self.old.cells }
     {
-        let FirstCut {
-            place,
-            rings,
-            mut others,
-        } = found;
-        let (first, second) = both_parts(self.alloc, path, rings.as_slice())?;
-        others[place] = first;
-        let number = self.next_placed();
-        let kept = self.with_polygons(n, others)?;
-        let part = self.part_of(n, number, id, second)?;
-        let mut changes = two_changes(self.alloc, kept, part)?;
-        match self.exchange(Some(n), changes.as_mut_slice()) {
-            Ok(()) => Ok(number),
-            Err(e) => Err(e),
-        }
+        let (first, second) = both_parts(self.alloc, path, found.rings.as_slice())?;
+        let parts = Parts {
+            polygon: found.place,
+            first: first.as_slice(),
+            second: second.as_slice(),
+            id,
+        };
+        let (frame, vertices, borders) = (&mut self.frame, &mut self.vertices, &mut self.borders);
+        let (index, segments) = (&mut self.index, &mut self.segments);
+        let number = part_feature(
+            self.alloc, frame, vertices, borders, index, segments, n, parts,
+        )?;
+        self.positions += 2 + 2 * path.inner.len();
+        Ok(number)
     }
 
     /// Cuts the first polygon of feature `n` that the path of these positions cuts: `n` keeps the
@@ -251,7 +244,7 @@ impl<'a, I: SegIndex, A: Allocator + Copy> Map<'a, I, A> {
         };
         let found = self.find_cut(n, &path)?;
         self.test_cut(n, &path, positions, &found)?;
-        let number = self.exchange_parts(n, id, &path, found)?;
+        let number = self.exchange_parts(n, id, &path, &found)?;
         Ok(number)
     }
 }

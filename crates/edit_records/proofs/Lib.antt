@@ -1,7 +1,6 @@
 pub mod RingsBack
 pub mod DocumentsBack
 pub mod PlacesBack
-pub mod ExchangedSizes
 pub mod ExchangesBack
 pub mod PlacesFilled
 pub mod PlacesGrown

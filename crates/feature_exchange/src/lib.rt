@@ -5,14 +5,15 @@
 //! through the whole map. It fails for want of memory alone, and then the map is as it was.
 #![tactic(auto)]
 
-mod change;
-mod exchanging;
-mod laying;
+mod joining;
 mod numbers;
+mod parting;
 mod reading;
+mod taking;
 mod vertex_list;
 
-pub use change::{Change, WholeFeature};
-pub use exchanging::exchange_features;
+pub use joining::join_features;
+pub use parting::{Parts, part_feature};
 pub use reading::read_polygons;
+pub use taking::take_out_feature;
 pub use vertex_list::read_vertices;

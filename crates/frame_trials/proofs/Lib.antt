@@ -1,3 +1,2 @@
 pub mod NothingLaid
 pub mod TestedFrames
-pub mod RingsPut

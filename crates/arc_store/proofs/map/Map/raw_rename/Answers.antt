@@ -1,7 +1,5 @@
-use Rattle.std.proofs.Common.{◌≡◌, sym, ap, ◌∙◌, subst}
+use Rattle.std.proofs.Common.{sym, ap, ◌∙◌, subst}
 use Rattle.ring_machine.specs.Machine.{renamed}
-use Rattle.edit_records.specs.Records.{with_id}
-use Rattle.map_frame.specs.Framed.{Framed}
 use Rattle.feature_exchange.specs.Stored.{stored}
 use Rattle.feature_exchange.proofs.Renaming.{renamed_document}
 use Rattle.arc_store.specs.Kept.{IsKept, state_of}
@@ -12,16 +10,12 @@ use Rattle.arc_store.proofs.map.Map.raw_rename.Goals as goal
 pub invariant_of-self : goal.invariant_of-self
 invariant_of-self g c =
     let m = c.self.inside in
-    let is : c.rename.new.self ≡ record m.frame { doc = renamed m.frame.doc c.args.n c.args.id.items } =
-    c.rename.ensures.renamed ∙ ap (λ z. record m.frame { doc = with_id m.frame.doc c.args.n z }) c.given.ensures in
-    subst (λ (f : Framed). IsKept f m.borders m.vertices (g.I.SegIndex.held m.index) m.positions m.segments) (sym is)
+    subst (λ f. IsKept f m.borders m.vertices (g.I.SegIndex.held m.index) m.positions m.segments) (sym c.rename.ensures)
     (kept_renamed c.self.invariant c.args.n c.args.id.items c.requires.text)
 
 pub returns : goal.returns
 returns g c =
     let m = c.self.inside in
-    let is : c.rename.new.self ≡ record m.frame { doc = renamed m.frame.doc c.args.n c.args.id.items } =
-    c.rename.ensures.renamed ∙ ap (λ z. record m.frame { doc = with_id m.frame.doc c.args.n z }) c.given.ensures in
-    ap (λ (f : Framed). state_of f m.borders m.vertices m.tests (g.I.SegIndex.cells m.index)) is
-    ∙ ap (λ d. record { doc = d; next = m.frame.next; places = m.frame.places; tests = m.tests; cells = g.I.SegIndex.cells m.index }) (renamed_document (stored m.frame m.borders m.vertices) c.args.n c.args.id.items)
+    ap (λ f. state_of f m.borders m.vertices m.tests (g.I.SegIndex.cells m.index)) c.rename.ensures
+    ∙ ap (λ d. record { doc = d; next = m.frame.next; tests = m.tests; cells = g.I.SegIndex.cells m.index }) (renamed_document (stored m.frame m.borders m.vertices) c.args.n c.args.id.items)
     ∙ ap (λ (s : State). record s { doc = renamed s.doc c.args.n c.args.id.items }) c.self.view_is
