@@ -1,5 +1,5 @@
-// A thousand drawn commands on a part of a real map, in two histories: about each fourth is an undo,
-// and in the end as many changes are taken back as are kept.
+// A thousand drawn commands on a part of a real map: about each fourth is an undo, and in the end as
+// many changes are taken back as are kept.
 use crate::columbus::COLUMBUS;
 use crate::drawing::{Drawn, drawn_command};
 use crate::edits::check_path;
@@ -12,8 +12,8 @@ use std::process::Abort;
 use std::test::Fail;
 use undo_ring::{Command, Editor};
 
-/// How many commands are drawn for a history.
-const COUNT: u32 = 500;
+/// How many commands are drawn.
+const COUNT: u32 = 1000;
 
 /// How many changes are kept.
 const DEPTH: usize = 50;
@@ -138,12 +138,12 @@ fn draw<R: Abort>(
 /// There are changes of each kind, and some were too old to be kept.
 fn are_many<R: Abort>(rt: &R, tally: Tally, trail: &Trail) {
     let dropped = trail.dropped;
-    assert!(rt; 50 < tally.undos && 20 < tally.refused, "{tally:?}");
-    assert!(rt; 10 < tally.moves && 10 < tally.insertions, "{tally:?}");
-    assert!(rt; 10 < tally.removals && 0 < tally.thinnings, "{tally:?}");
-    assert!(rt; 10 < tally.splits && 10 < tally.merges, "{tally:?}");
-    assert!(rt; 0 < tally.names && 0 < tally.deletions, "{tally:?}");
-    assert!(rt; 10 < dropped && 10 < trail.len(), "{dropped} {tally:?}");
+    assert!(rt; 100 < tally.undos && 50 < tally.refused, "{tally:?}");
+    assert!(rt; 20 < tally.moves && 20 < tally.insertions, "{tally:?}");
+    assert!(rt; 20 < tally.removals && 1 < tally.thinnings, "{tally:?}");
+    assert!(rt; 20 < tally.splits && 20 < tally.merges, "{tally:?}");
+    assert!(rt; 2 < tally.names && 2 < tally.deletions, "{tally:?}");
+    assert!(rt; 20 < dropped && 20 < trail.len(), "{dropped} {tally:?}");
 }
 
 /// Draws commands on the map, and then takes back as many changes as are kept.
@@ -151,10 +151,9 @@ fn draw_and_take_back<R: Abort>(
     rt: &R,
     alloc: Global,
     editor: &mut Editor<'_, GridIndex>,
-    start: u64,
     trail: &mut Trail,
 ) -> Result<(), Fail> {
-    let (mut drawn, mut tally) = (Drawn::new(start), nothing());
+    let (mut drawn, mut tally) = (Drawn::new(1), nothing());
     draw(rt, alloc, editor, &mut drawn, trail, &mut tally)?;
     are_many(rt, tally, trail);
     take_all_back(rt, alloc, alloc, editor, trail);
@@ -166,30 +165,20 @@ fn draw_on<R: Abort>(
     rt: &R,
     alloc: Global,
     editor: &mut Editor<'_, GridIndex>,
-    start: u64,
 ) -> Result<(), Fail> {
     let mut trail = Trail::new(alloc, written(rt, alloc, alloc, editor.map()), DEPTH);
-    let ended = draw_and_take_back(rt, alloc, editor, start, &mut trail);
+    let ended = draw_and_take_back(rt, alloc, editor, &mut trail);
     drop(trail);
     ended
 }
 
-/// The same of the part of a real map.
-fn draw_history<R: Abort>(rt: &R, alloc: Global, start: u64) -> Result<(), Fail> {
+#[test]
+fn drawn_commands_are_taken_back(rt: HostRuntime) -> Result<(), Fail> {
+    let alloc = rt.alloc();
     let Some(mut editor) = editor_of(alloc, alloc, COLUMBUS, DEPTH) else {
         panic!(rt; "the text opens");
     };
-    let ended = draw_on(rt, alloc, &mut editor, start);
+    let ended = draw_on(&rt, alloc, &mut editor);
     drop(editor);
     ended
-}
-
-#[test]
-fn a_history(rt: HostRuntime) -> Result<(), Fail> {
-    draw_history(&rt, rt.alloc(), 1)
-}
-
-#[test]
-fn another_history(rt: HostRuntime) -> Result<(), Fail> {
-    draw_history(&rt, rt.alloc(), 2)
 }

@@ -265,19 +265,23 @@ fn refuse_edits<R: Abort>(rt: &R, alloc: Global, edits: &[Edit]) -> Result<(), F
 }
 
 #[test]
-fn a_split(rt: HostRuntime) -> Result<(), Fail> {
-    let edits = [Edit::Split(0, &[(0, 0), (3, 7), (10, 10)])];
+fn splits(rt: HostRuntime) -> Result<(), Fail> {
+    let edits = [
+        Edit::Split(0, &[(0, 0), (3, 7), (10, 10)]),
+        Edit::Split(1, &[(10, 5), (15, 6), (20, 10)]),
+    ];
     refuse_edits(&rt, rt.alloc(), edits.as_slice())
 }
 
 #[test]
-fn a_merge(rt: HostRuntime) -> Result<(), Fail> {
-    refuse_edits(&rt, rt.alloc(), [Edit::Merge(0, 1)].as_slice())
+fn merges(rt: HostRuntime) -> Result<(), Fail> {
+    let edits = [Edit::Merge(0, 1), Edit::Merge(3, 0)];
+    refuse_edits(&rt, rt.alloc(), edits.as_slice())
 }
 
 #[test]
 fn deletions(rt: HostRuntime) -> Result<(), Fail> {
-    let edits = [Edit::Delete(3), Edit::Delete(4)];
+    let edits = [Edit::Delete(0), Edit::Delete(3), Edit::Delete(4)];
     refuse_edits(&rt, rt.alloc(), edits.as_slice())
 }
 
