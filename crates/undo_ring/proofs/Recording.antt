@@ -60,17 +60,17 @@ module _ {X : Type 0} (seen : X → Record) where
         → AreUndoing n.places n.next m.doc before × (documents n.places m.doc before ≡ past)
     older n free (inl s) = (
       subst (λ t. AreUndoing t n.next m.doc before) (sym s.places)
-      (subst (λ k. AreUndoing m.places k m.doc before) (sym s.next) trail.undoing),
+          (subst (λ k. AreUndoing m.places k m.doc before) (sym s.next) trail.undoing),
       ap (λ t. documents t m.doc before) s.places,
     )
     older n free (inr g) =
         let same : m.next ≤ m.next = omega arith in
         let more : m.next ≤ n.next = omega (arith, g.next) in (
           subst (λ t. AreUndoing t n.next m.doc before) (sym g.places)
-          (undoing-later (grown g.after m.next m.places) m.next n.next more m.doc before
-          (undoing-grown m.places m.next g.after m.next same m.doc before trail.undoing free)),
+              (undoing-later (grown g.after m.next m.places) m.next n.next more m.doc before
+              (undoing-grown m.places m.next g.after m.next same m.doc before trail.undoing free)),
           ap (λ t. documents t m.doc before) g.places
-          ∙ documents-grown m.places m.next g.after m.next same m.doc before trail.undoing free,
+              ∙ documents-grown m.places m.next g.after m.next same m.doc before trail.undoing free,
         )
 
     module _ (n : MapState) (free : has_feature m.doc m.next ≡ false) (keeps : KeepsTexts m.doc)
@@ -288,10 +288,10 @@ module _ {X : Type 0} (seen : X → Record) (m : MapState) (records popped : Buf
           let now : n ≡ record m { tests = 0 } = is ∙ ap (λ z. record m { tests = 0; last = z }) (sym trail.taken) in
           subst (λ (b : Buffer X). IsTrail n (map seen b.items) × IsSame (edited_by seen m records) (edited_by seen n b)) (sym list) (
             subst (IsTrail n) (sym seen_same) (subst (λ z. IsTrail z (map seen records.items)) (sym now)
-            (record { undoing = trail.undoing; texts = trail.texts; taken = trail.taken })),
+                (record { undoing = trail.undoing; texts = trail.texts; taken = trail.taken })),
             subst (λ z. IsSame (edited_by seen m records) (record { map = n; past = documents n.places n.doc z; depth = records.capacity })) (sym seen_same)
-            (ap (λ (z : MapState). let e : Edited = record { map = z; past = documents z.places z.doc (map seen records.items); depth = records.capacity } in e) now
-            ∙ ap (λ k. record (edited_by seen m records) { map = record m { tests = k } }) (sym (ap (λ (z : MapState). z.tests) now))),
+                (ap (λ (z : MapState). let e : Edited = record { map = z; past = documents z.places z.doc (map seen records.items); depth = records.capacity } in e) now
+                ∙ ap (λ k. record (edited_by seen m records) { map = record m { tests = k } }) (sym (ap (λ (z : MapState). z.tests) now))),
           )
 
 -- ---- a command, as the calls have it

@@ -12,7 +12,7 @@ returns-in-Err-Device-clause-fault g c = (
   c.in-Ok.opened.doc,
   c.in-Ok.ensures.opened,
   saves_part c.args.map.now c.args.depth c.in-Ok.opened c.in-Ok-new.editor c.in-Ok-answer_script.done.1.map c.map.result.now _ _ _ _ _ _ c.in-Ok-answer_script.done.0
-  c.in-Ok-new.ensures.made c.map.ensures c.in-Ok-answer_script.ensures.done c.in-Err-Device.ensures.err c.in-Err-Device.ensures.saved,
+      c.in-Ok-new.ensures.made c.map.ensures c.in-Ok-answer_script.ensures.done c.in-Err-Device.ensures.err c.in-Err-Device.ensures.saved,
 )
 
 pub returns-clause-fault : goal.returns-clause-fault
@@ -20,5 +20,5 @@ returns-clause-fault g c = inr (
   c.in-Ok.opened.doc,
   c.in-Ok.ensures.opened,
   inr (saves_part c.args.map.now c.args.depth c.in-Ok.opened c.in-Ok-new.editor c.in-Ok-answer_script.done.1.map c.map.result.now _ _ _ _ _ _ c.in-Ok-answer_script.done.0
-  c.in-Ok-new.ensures.made c.map.ensures c.in-Ok-answer_script.ensures.done c.in-Err-OutOfMemory-save.ensures.err c.in-Err-OutOfMemory-save.ensures.saved),
+      c.in-Ok-new.ensures.made c.map.ensures c.in-Ok-answer_script.ensures.done c.in-Err-OutOfMemory-save.ensures.err c.in-Err-OutOfMemory-save.ensures.saved),
 )
