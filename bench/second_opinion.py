@@ -4,8 +4,9 @@
 The model below follows the rules of docs/FORMATS.md, in another language and without any of the
 crates: it holds each ring as a list of positions, makes an edit in every ring that has the vertex,
 and looks for conflicts among all segments. Before each change it keeps a copy of its document, which
-an `undo` puts back. Drawn commands are given to both, and the script goes on from what the model
-makes of them; every second script ends with all the changes taken back that are kept. Compared are
+an `undo` puts back. Drawn commands, with as many changes kept as is drawn too, are given to both, and
+the script goes on from what the model makes of them; every second script ends with all the changes
+taken back that are kept. Compared are
 
     every answer, refusals and pairs in conflict included,
     the rings of all features after the last command,
@@ -554,6 +555,11 @@ def drawn_script(path, seed, count, depth):
     return script.lines, script.answers, model
 
 
+def drawn_depth(seed):
+    """How many changes are kept: from one to more than a script makes."""
+    return random.Random(f"depth {seed}").choice([1, 2, 3, 10, 50, 100, 1000])
+
+
 def compared(program, path, seed, count, depth):
     """Runs the program on what the model was given; a line that tells what came of it, and whether that is well."""
     lines, answers, model = drawn_script(path, seed, count, depth)
@@ -575,7 +581,9 @@ def compared(program, path, seed, count, depth):
         kept.write_text("".join(f"{line}\n" for line in lines))
         fault += f"; the script is {kept}"
     refused = sum(answer.startswith("refused") for answer in answers)
-    return f"{path.name} seed {seed}: {len(answers)} answers, {refused} refusals: {fault or 'the same'}", not fault
+    undone = sum(line == "undo" and answer == "ok" for line, answer in zip(lines, answers))
+    counts = f"{len(answers)} answers, {refused} refusals, {undone} undos"
+    return f"{path.name} seed {seed} depth {depth}: {counts}: {fault or 'the same'}", not fault
 
 
 def main():
@@ -585,12 +593,13 @@ def main():
     parser.add_argument("--program", default=program, help="the executable (%(default)s)")
     parser.add_argument("--seeds", type=int, default=4, help="how many scripts are drawn for each map (%(default)s)")
     parser.add_argument("--lines", type=int, default=600, help="how many commands a script has (%(default)s)")
-    parser.add_argument("--undo", type=int, default=100, help="how many changes are kept (%(default)s)")
+    parser.add_argument("--undo", type=int, help="how many changes are kept; drawn for each script where it is not given")
     options = parser.parse_args()
     all_well = True
     for path in options.map:
         for seed in range(options.seeds):
-            told, is_well = compared(options.program, path, seed, options.lines, options.undo)
+            depth = options.undo or drawn_depth(seed)
+            told, is_well = compared(options.program, path, seed, options.lines, depth)
             print(told, flush=True)
             all_well = all_well and is_well
     return 0 if all_well else 1
