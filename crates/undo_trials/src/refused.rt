@@ -2,7 +2,7 @@
 // thinning that left some out, which is one change; an undo that was refused one has changed nothing.
 use crate::edits::{EACH_KIND, Edit, is_made};
 use crate::maps::{MANY, SQUARES, TWO_SQUARES, editor_of, first_growth, map_of};
-use crate::written::{is_written, written};
+use crate::written::{Counts, counts_of, is_written, written};
 use arc_store::Map;
 use refusing_allocator::Refusing;
 use segment_index::{GridIndex, SegIndex};
@@ -120,16 +120,27 @@ enum Outcome {
     Usual,
 }
 
-/// After an edit that was refused memory.
+/// The counts of the map and its next number.
+fn told_of<I: SegIndex, A: Allocator + Copy>(map: &Map<'_, I, A>) -> (Counts, u32) {
+    (counts_of(map), map.next_number())
+}
+
+/// After an edit that was refused memory, of a map that had these counts and this next number.
 fn edit_was_refused<R: Abort, I: SegIndex, A: Allocator + Copy>(
     rt: &R,
     alloc: Global,
     calm: A,
     editor: &mut Editor<'_, I, A>,
     usual: &Usual,
+    told: (Counts, u32),
 ) -> Result<Outcome, Fail> {
     let text = written(rt, alloc, calm, editor.map());
     let is_same = text.as_slice() == usual.before.as_slice();
+    assert!(rt;
+        !is_same || told_of(editor.map()) == told,
+        "{:?}",
+        usual.edit
+    );
     let again = is_made_again(rt, alloc, calm, editor, usual, text.as_slice());
     drop(text);
     again?;
@@ -168,13 +179,16 @@ fn edit_and_undo<R: Abort, I: SegIndex, A: Allocator + Copy>(
     editor: &mut Editor<'_, I, A>,
     usual: &Usual,
 ) -> Result<Outcome, Fail> {
+    let told = told_of(editor.map());
     if !is_made(rt, alloc, editor, usual.edit)? {
         assert!(rt; refusing.was_refused());
-        return edit_was_refused(rt, alloc, calm, editor, usual);
+        return edit_was_refused(rt, alloc, calm, editor, usual, told);
     }
     assert!(rt; !refusing.was_refused(), "{:?}", usual.edit);
+    let told = told_of(editor.map());
     if !is_undone(rt, editor) {
         assert!(rt; refusing.was_refused());
+        assert_eq!(rt; told_of(editor.map()), told);
         return undo_was_refused(rt, alloc, calm, editor, usual);
     }
     assert!(rt; !refusing.was_refused(), "{:?}", usual.edit);

@@ -2,9 +2,12 @@
 use crate::maps::{TRIANGLE_INSIDE, TWO_SQUARES};
 use crate::told::texts_of;
 use device_io::{FromReader, ToWriter};
-use linked_list_allocator::LocalHeap;
+use refusing_allocator::Refusing;
 use script_runner::{RunFault, run};
 use std::test::Fail;
+
+/// More than the growths of any run below.
+const MANY: u64 = 10_000;
 
 /// Maps, scripts and their answers.
 const ROWS: [(&str, &[u8], &[u8]); 5] = [
@@ -35,50 +38,57 @@ const ROWS: [(&str, &[u8], &[u8]); 5] = [
     ),
 ];
 
-/// With lesser heaps, in steps of 512 bytes, the run ends for want of memory, with a front of the answers,
-/// or with all of them and a front of the saved text.
-#[test]
-fn every_lesser_heap_is_refused(rt: HostRuntime) -> Result<(), Fail> {
-    for row in &ROWS[..] {
-        let (map, script, answers) = *row;
-        let whole = texts_of(rt.alloc(), map.as_bytes(), script)?;
-        let mut refused = 0usize;
-        let mut done = false;
-        for room in 0..600usize {
-            let heap = LocalHeap::new(rt.alloc(), 64 + 512 * room)?;
-            let mut source = FromReader::new(script);
-            let mut sink = ToWriter::new(Vec::with_capacity(rt.alloc(), 64)?);
-            let mut saved = ToWriter::new(Vec::with_capacity(rt.alloc(), 1024)?);
-            match run(
-                &heap,
-                rt.alloc(),
-                map.as_bytes(),
-                &mut source,
-                100,
-                &mut sink,
-                &mut saved,
-            ) {
-                Ok(_) => {
-                    done = true;
-                    assert_eq!(rt; sink.writer.as_slice(), answers);
-                    assert_eq!(rt; saved.writer.as_slice(), whole.saved.as_str().as_bytes());
-                }
-                Err(RunFault::OutOfMemory) => {
-                    refused = room;
-                    assert!(rt; answers.starts_with(sink.writer.as_slice()));
-                    assert!(rt; saved.writer.is_empty() || sink.writer.as_slice() == answers);
-                    assert!(rt;
-                        whole
-                            .saved
-                            .as_str()
-                            .as_bytes()
-                            .starts_with(saved.writer.as_slice())
-                    );
-                }
-                Err(_) => assert!(rt; false, "another fault"),
-            }
+/// The run of this row, where the growth of this number is refused: it ends for want of memory, with
+/// a front of the answers, or with all of them and a front of the saved text. Gives whether it did.
+fn is_refused(
+    rt: &HostRuntime,
+    row: (&str, &[u8], &[u8]),
+    whole: &[u8],
+    nth: u64,
+) -> Result<bool, Fail> {
+    let (map, script, answers) = row;
+    let heap = Refusing::new(rt.alloc(), nth);
+    let mut source = FromReader::new(script);
+    let mut sink = ToWriter::new(Vec::with_capacity(rt.alloc(), 1024)?);
+    let mut saved = ToWriter::new(Vec::with_capacity(rt.alloc(), 1024)?);
+    let outcome = run(
+        &heap,
+        rt.alloc(),
+        map.as_bytes(),
+        &mut source,
+        100,
+        &mut sink,
+        &mut saved,
+    );
+    let (told, kept) = (sink.writer.as_slice(), saved.writer.as_slice());
+    assert!(rt; answers.starts_with(told) && whole.starts_with(kept));
+    if outcome.is_ok() {
+        assert!(rt; !heap.was_refused());
+        assert!(rt; told == answers && kept == whole);
+        return Ok(false);
+    }
+    assert!(rt; heap.was_refused());
+    assert!(rt; matches!(outcome, Err(RunFault::OutOfMemory)));
+    assert!(rt; kept.is_empty() || told == answers);
+    Ok(true)
+}
+
+/// How many growths the run of this row has, each of which was refused in turn.
+fn refuse_each(rt: &HostRuntime, row: (&str, &[u8], &[u8])) -> Result<u64, Fail> {
+    let texts = texts_of(rt.alloc(), row.0.as_bytes(), row.1)?;
+    for nth in 1..MANY {
+        if !is_refused(rt, row, texts.saved.as_str().as_bytes(), nth)? {
+            return Ok(nth - 1);
         }
-        assert!(rt; done && refused > 9);
+    }
+    panic!(rt; "the run ends");
+}
+
+#[test]
+fn each_growth_is_refused(rt: HostRuntime) -> Result<(), Fail> {
+    for row in &ROWS[..] {
+        let count = refuse_each(&rt, *row)?;
+        assert!(rt; 100 < count, "{count}");
     }
     Ok(())
 }
