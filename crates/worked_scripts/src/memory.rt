@@ -4,6 +4,8 @@ use crate::told::texts_of;
 use device_io::{FromReader, ToWriter};
 use refusing_allocator::Refusing;
 use script_runner::{RunFault, run};
+use std::alloc::Global;
+use std::process::Abort;
 use std::test::Fail;
 
 /// More than the growths of any run below.
@@ -40,20 +42,21 @@ const ROWS: [(&str, &[u8], &[u8]); 5] = [
 
 /// The run of this row, where the growth of this number is refused: it ends for want of memory, with
 /// a front of the answers, or with all of them and a front of the saved text. Gives whether it did.
-fn is_refused(
-    rt: &HostRuntime,
+fn is_refused<R: Abort>(
+    rt: &R,
+    alloc: Global,
     row: (&str, &[u8], &[u8]),
     whole: &[u8],
     nth: u64,
 ) -> Result<bool, Fail> {
     let (map, script, answers) = row;
-    let heap = Refusing::new(rt.alloc(), nth);
+    let heap = Refusing::new(alloc, nth);
     let mut source = FromReader::new(script);
-    let mut sink = ToWriter::new(Vec::with_capacity(rt.alloc(), 1024)?);
-    let mut saved = ToWriter::new(Vec::with_capacity(rt.alloc(), 1024)?);
+    let mut sink = ToWriter::new(Vec::with_capacity(alloc, 1024)?);
+    let mut saved = ToWriter::new(Vec::with_capacity(alloc, 1024)?);
     let outcome = run(
         &heap,
-        rt.alloc(),
+        alloc,
         map.as_bytes(),
         &mut source,
         100,
@@ -74,10 +77,10 @@ fn is_refused(
 }
 
 /// How many growths the run of this row has, each of which was refused in turn.
-fn refuse_each(rt: &HostRuntime, row: (&str, &[u8], &[u8])) -> Result<u64, Fail> {
-    let texts = texts_of(rt.alloc(), row.0.as_bytes(), row.1)?;
+fn refuse_each<R: Abort>(rt: &R, alloc: Global, row: (&str, &[u8], &[u8])) -> Result<u64, Fail> {
+    let texts = texts_of(alloc, row.0.as_bytes(), row.1)?;
     for nth in 1..MANY {
-        if !is_refused(rt, row, texts.saved.as_str().as_bytes(), nth)? {
+        if !is_refused(rt, alloc, row, texts.saved.as_str().as_bytes(), nth)? {
             return Ok(nth - 1);
         }
     }
@@ -87,7 +90,7 @@ fn refuse_each(rt: &HostRuntime, row: (&str, &[u8], &[u8])) -> Result<u64, Fail>
 #[test]
 fn each_growth_is_refused(rt: HostRuntime) -> Result<(), Fail> {
     for row in &ROWS[..] {
-        let count = refuse_each(&rt, *row)?;
+        let count = refuse_each(&rt, rt.alloc(), *row)?;
         assert!(rt; 100 < count, "{count}");
     }
     Ok(())
