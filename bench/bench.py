@@ -28,6 +28,15 @@ For each map there is one line a measure:
     deletes   features deleted a second: all but one of the map's, in drawn order
     in turn   the same in the map's order
     memory    the most memory that opening the map and a few questions took
+    moved     changes taken back a second, and made a second: 1,000 vertices moved by one unit, and then as many undos
+    inserted  the same of vertices put into the middle of segments
+    removed   of vertices left out
+    cut       of features cut in two, which is as many as the map has features that can be cut, if they are fewer
+    deleted   of features
+    thinned   vertices put back a second by the undo of one thinning with the greatest bound, and left out a second
+    of moves  the most memory that was taken with 1,000 moves kept, and how much more that is than before them
+    of cuts   the same with 1,000 splits kept
+    of thin   and with one thinning with the greatest bound kept
     work      with --instructions alone: the processor's instructions for a split or a merge, and for a deletion, beside
               opening and saving, and how often each asks memory for what its last cache has not; counted by valgrind,
               which has the same counts whatever else the machine does
@@ -82,6 +91,12 @@ LEAST_PIECE = 0.02
 DELETING, MOST_DELETED = 8, 100
 # How many splits and merges have their instructions counted.
 COUNTED = 800
+# How many changes are kept to be taken back, and how many lines are tried for each.
+KEPT, TRIED = 1_000, 4
+# What takes less than this, in seconds, is lost among the comments behind it.
+SHORTEST = 1e-5
+# A thinning that leaves out what it can.
+WHOLE_THIN = "thin 8000000000000000000000000"
 # More bytes of comment lines than a pipe and a reader's room hold: once they are written, what stood before has been
 # answered.
 HELD_BACK = ("#" * 8_000 + "\n") * 16
@@ -89,7 +104,7 @@ HELD_BACK = ("#" * 8_000 + "\n") * 16
 Map = collections.namedtuple("Map", "name path")
 Run = collections.namedtuple("Run", "seconds status out err")
 Count = collections.namedtuple("Count", "instructions misses")
-Drawn = collections.namedtuple("Drawn", "vertices features cuts near")
+Drawn = collections.namedtuple("Drawn", "vertices features cuts near segments")
 # A feature's number, and the ends of a path that may cut it.
 Cut = collections.namedtuple("Cut", "feature start end")
 
@@ -227,8 +242,8 @@ def cuts_of(features, arcs):
 
 
 def draw(path, seed):
-    """Vertices of the rings, how many features there are, and paths that may cut some, from all over the map and of
-    features that follow each other."""
+    """Vertices of the rings, how many features there are, paths that may cut some, from all over the map and of
+    features that follow each other, and segments."""
     topology = json.loads(pathlib.Path(path).read_bytes())
     features = []
     for layer in topology["objects"].values():
@@ -240,7 +255,9 @@ def draw(path, seed):
     drawn = rand.sample(vertices, min(len(vertices), MOST_DRAWN))
     cuts = list(cuts_of(features, arcs))
     first = max(0, (len(cuts) - NEAR) // 2)
-    return Drawn(drawn, len(features), rand.sample(cuts, min(len(cuts), MOST_DRAWN)), cuts[first : first + NEAR])
+    near, cuts = cuts[first : first + NEAR], rand.sample(cuts, min(len(cuts), MOST_DRAWN))
+    segments = [pair for n, arc in enumerate(arcs) if n in used for pair in zip(arc, arc[1:])]
+    return Drawn(drawn, len(features), cuts, near, rand.sample(segments, min(len(segments), TRIED * KEPT)))
 
 
 def apart(function, *given):
@@ -334,10 +351,10 @@ class Runner:
             return self.told(child, own, seconds)
 
     @contextlib.contextmanager
-    def started(self, path, script, own):
+    def started(self, path, script, own, *more):
         """A run of the program, with what it writes in a folder of its own; it is ended when it lasts too long."""
         with open(f"{own}/out", "wb") as to, open(f"{own}/err", "wb") as errors:
-            words = [*self.words, path, script, "--out", self.folder / "saved.json"]
+            words = [*self.words, path, script, "--out", self.folder / "saved.json", *more]
             child = subprocess.Popen(words, stdin=subprocess.DEVNULL, stdout=to, stderr=errors)
             late = threading.Timer(self.limit, child.kill)
             late.start()
@@ -355,12 +372,12 @@ class Runner:
         return Run(seconds, child.returncode, out, err)
 
     @contextlib.contextmanager
-    def session(self, path):
+    def session(self, path, *more):
         """A run that is given its script piece by piece, and of which every line has to be accepted."""
         with tempfile.TemporaryDirectory(dir=self.folder) as own:
             pipe = f"{own}/pipe"
             os.mkfifo(pipe)
-            with self.started(path, pipe, own) as child, opened_for(child, pipe) as script:
+            with self.started(path, pipe, own, *more) as child, opened_for(child, pipe) as script:
                 session = Session(child, script)
                 yield session
             done = self.told(child, own, 0)
@@ -403,7 +420,7 @@ def why(done):
 # ---- the measures
 
 def middle(rates):
-    """The one in the middle: a piece that the machine held up is far from it, and so is one that is told as too short."""
+    """Of rates, or of seconds, the one in the middle: a piece that the machine held up is far from it, and so is one that is told as too short."""
     return sorted(rates)[len(rates) // 2]
 
 
@@ -593,6 +610,71 @@ def measure_memory(runner, map_, drawn):
     return f"{peak / 1e6:9.1f} MB     {peak / map_.path.stat().st_size:.1f} bytes a byte of the map"
 
 
+def changes_of(drawn, rand):
+    """Lines that change a map, by the measure of their undo; some may be refused."""
+    numbers = rand.sample(range(drawn.features), max(drawn.features - 1, 0))
+    middles = [(a, b, tuple((p + q) // 2 for p, q in zip(a, b))) for a, b in drawn.segments]
+    return {
+        "moved": [f"move {x} {y} {x + 1} {y}" for x, y in drawn.vertices],
+        "inserted": ["insert {} {} {} {} {} {}".format(*(k for p in three for k in p)) for three in middles],
+        "removed": [f"remove {x} {y}" for x, y in drawn.vertices],
+        "cut": ['split {} "part" {} {} {} {}'.format(cut.feature, *cut.start, *cut.end) for cut in drawn.cuts],
+        "deleted": [f"delete {n}" for n in numbers],
+    }
+
+
+def accepted_of(runner, map_, lines):
+    """The first ones of these lines that are accepted one after another."""
+    tried = lines[: TRIED * KEPT]
+    done = runner.run(map_.path, tried)
+    answers = done.out.splitlines()
+    if done.status not in (0, 1) or len(answers) != len(tried):
+        raise Failed(why(done))
+    good = [line for line, answer in zip(tried, answers) if answer.startswith("ok")]
+    if not good:
+        raise Failed("no change is accepted")
+    return good[:KEPT]
+
+
+def keeping(runner, map_):
+    """A run that keeps as many changes as can be kept."""
+    return runner.session(map_.path, "--undo", str(KEPT))
+
+
+def made_and_undone(runner, map_, lines):
+    """The seconds that these changes take, and those that as many undos take, the middle ones; and the answers."""
+    made, back = [], []
+    with keeping(runner, map_) as session:
+        for _ in range(PIECES_TIMED):
+            made.append(session.seconds(lines))
+            back.append(session.seconds(["undo"] * len(lines)))
+    if min(middle(made), middle(back)) < SHORTEST:
+        raise Failed("it is too short to be timed")
+    return middle(made), middle(back), session.answers
+
+
+def measure_undos(runner, map_, lines):
+    """These changes are made, and then all of them taken back, several times."""
+    good = accepted_of(runner, map_, lines)
+    made, back, _ = made_and_undone(runner, map_, good)
+    return f"{len(good) / back:9.1f} /s     {len(good) / made:.1f} /s made, {PIECES_TIMED} times {len(good)} changes"
+
+
+def measure_thinned(runner, map_):
+    made, back, answers = made_and_undone(runner, map_, [WHOLE_THIN])
+    count = int(answers[0].removeprefix("ok "))
+    return f"{count / back:9.1f} /s     {count / made:.1f} /s left out, {PIECES_TIMED} times {count} vertices"
+
+
+def measure_kept(runner, map_, lines):
+    """The most memory with these changes kept."""
+    with keeping(runner, map_) as session:
+        before = session.peak()
+        session.timed(lines)
+        peak = session.peak()
+    return f"{peak / 1e6:9.1f} MB     {(peak - before) / 1e6:.1f} MB more than before, {len(lines)} changes"
+
+
 def measure_work(counter, map_, drawn, rand):
     if not shutil.which("valgrind"):
         raise Failed("valgrind is not there")
@@ -646,6 +728,13 @@ def measure(options, runner, map_):
     line("deletes", lambda: measure_deletes(runner, map_, rand.sample(numbers, len(numbers))))
     line("in turn", lambda: measure_deletes(runner, map_, numbers))
     line("memory", lambda: measure_memory(runner, map_, drawn))
+    changes = changes_of(drawn, rand)
+    for name, lines in changes.items():
+        line(name, lambda: measure_undos(runner, map_, lines))
+    line("thinned", lambda: measure_thinned(runner, map_))
+    for name, kind in (("of moves", "moved"), ("of cuts", "cut")):
+        line(name, lambda: measure_kept(runner, map_, accepted_of(runner, map_, changes[kind])))
+    line("of thin", lambda: measure_kept(runner, map_, [WHOLE_THIN]))
     if options.instructions:
         counter = Counter(options.program, options.limit, runner.folder)
         line("work", lambda: measure_work(counter, map_, drawn, rand))

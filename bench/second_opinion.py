@@ -3,18 +3,21 @@
 
 The model below follows the rules of docs/FORMATS.md, in another language and without any of the
 crates: it holds each ring as a list of positions, makes an edit in every ring that has the vertex,
-and looks for conflicts among all segments. Drawn commands are given to both, and the script goes on
-from what the model makes of them. Compared are
+and looks for conflicts among all segments. Before each change it keeps a copy of its document, which
+an `undo` puts back. Drawn commands, with as many changes kept as is drawn too, are given to both, and
+the script goes on from what the model makes of them; every second script ends with all the changes
+taken back that are kept. Compared are
 
     every answer, refusals and pairs in conflict included,
     the rings of all features after the last command,
-    the saved map: its rings, and that each segment stands in one arc and there once, and that arcs
-    are cut at the junctions and nowhere else.
+    the saved map: its features in their order with their ids and rings, and that each segment
+    stands in one arc and there once, and that arcs are cut at the junctions and nowhere else.
 
 The program has to stand already (`rt ci` leaves it). There is one line a run; the status is 0 where
 nothing differs. A script that differs is left beside the maps that bench.py makes, in bench/out.
 """
 import argparse
+import collections
 import json
 import pathlib
 import random
@@ -24,6 +27,10 @@ import tempfile
 
 TOP = pathlib.Path(__file__).resolve().parent.parent
 LARGEST_THINNED = 3000
+EDITS = {"move", "insert", "remove", "thin", "split", "merge", "rename", "delete"}
+
+# What an undo brings back: all but the next number.
+Document = collections.namedtuple("Document", "features layers ids order")
 
 
 # ---- positions and segments
@@ -127,11 +134,14 @@ def joined(arcs, indexes):
 
 
 class Model:
-    """A map as plain rings, by feature, polygon and ring, with counts of each segment's rings."""
+    """A map as plain rings, by feature, polygon and ring, with counts of each segment's rings; the features' ids, and
+    their numbers in the order of the text; and the documents from before the newest changes."""
 
-    def __init__(self, topology):
+    def __init__(self, topology, depth=1):
         self.features, self.layers, self.next = {}, set(), 0
         self.segments, self.places = {}, {}
+        self.ids, self.order = {}, []
+        self.past = collections.deque(maxlen=depth)
         arcs = arcs_of(topology)
         for geometry in topology["objects"].values():
             self.read(arcs, geometry, True)
@@ -146,6 +156,8 @@ class Model:
             if is_layer:
                 self.layers.add(self.next)
             self.put(self.next, [[joined(arcs, indexes) for indexes in rings] for rings in polygons])
+            self.ids[self.next] = geometry.get("id")
+            self.order.append(self.next)
             self.next += 1
 
     def rings_at(self, number):
@@ -155,6 +167,21 @@ class Model:
         self.features[number] = polygons
         for name, ring in self.rings_at(number):
             self.add(name, ring)
+
+    def document(self):
+        """A copy of what the map means."""
+        features = {number: [list(rings) for rings in polygons] for number, polygons in self.features.items()}
+        return Document(features, set(self.layers), dict(self.ids), list(self.order))
+
+    def shown(self):
+        """The features in the order of the text, with their ids and rings."""
+        return [(self.ids[number], self.features[number]) for number in self.order]
+
+    def take_out(self, number):
+        """A feature leaves the map."""
+        self.take(number)
+        self.layers.discard(number)
+        self.order.remove(number)
 
     def take(self, number):
         for name, ring in self.rings_at(number):
@@ -269,7 +296,7 @@ class Model:
 
     # ---- features
 
-    def split(self, number, path):
+    def split(self, number, name, path):
         polygons = self.polygons(number)
         refuse_if(number in self.layers, "no collection")
         ends = {path[0], path[-1]}
@@ -298,6 +325,8 @@ class Model:
         kept = self.take(number)
         self.put(number, kept[: cut[0]] + parts[:1] + kept[cut[0] + 1 :])
         self.put(self.next, parts[1:])
+        self.ids[self.next] = name
+        self.order.insert(self.order.index(number) + 1, self.next)
         self.next += 1
         return f"ok {self.next - 1}"
 
@@ -323,19 +352,27 @@ class Model:
         at = ring2.index(rest[-1])
         other_rest = ring2[at:] + ring2[:at]
         other_rest = other_rest[1 : other_rest.index(rest[0])]
-        self.take(number), self.take(other)
-        self.layers.discard(other)
+        self.take(number), self.take_out(other)
         self.put(number, [[from_least(rest + other_rest), *holes, *holes2]])
         return "ok"
 
     def rename(self, number, name):
         self.polygons(number)
+        self.ids[number] = name
         return "ok"
 
     def delete(self, number):
         self.polygons(number)
-        self.take(number)
-        self.layers.discard(number)
+        self.take_out(number)
+        return "ok"
+
+    def undo(self):
+        refuse_if(not self.past, "nothing to undo")
+        features, self.layers, self.ids, self.order = self.past.pop()
+        for number in [n for n, polygons in self.features.items() if features.get(n) != polygons]:
+            self.take(number)
+        for number in features.keys() - self.features.keys():
+            self.put(number, features[number])
         return "ok"
 
     # ---- questions
@@ -394,6 +431,9 @@ class Drawing:
         ]
         return [a, *inner, b]
 
+    def name(self):
+        return f"n {self.rand.randrange(1000)}"
+
     def edge(self):
         ring = self.outer(self.feature())
         at = self.rand.randrange(len(ring))
@@ -417,7 +457,7 @@ class Drawing:
 
     def split(self):
         number = self.feature()
-        return number, self.path(self.outer(number))
+        return number, self.name(), self.path(self.outer(number))
 
     def merge(self):
         number = self.feature()
@@ -427,13 +467,13 @@ class Drawing:
     def command(self):
         """A command's word and what it is given."""
         words = {
-            "split": 30, "merge": 18, "delete": 1, "rename": 1, "move": 20, "insert": 12, "remove": 12,
+            "split": 30, "merge": 18, "delete": 2, "rename": 2, "move": 20, "insert": 12, "remove": 12, "undo": 24,
             "thin": len(self.model.places) < LARGEST_THINNED, "area": 4, "neighbours": 3, "rings": 3, "at": 3, "count": 1,
         }
         word = self.rand.choices(list(words), list(words.values()))[0]
         given = {
             "split": self.split, "merge": self.merge, "move": self.move, "insert": self.insert, "at": self.at, "count": tuple,
-            "remove": lambda: (self.edge()[0],), "rename": lambda: (self.feature(), "new"),
+            "undo": tuple, "remove": lambda: (self.edge()[0],), "rename": lambda: (self.feature(), self.name()),
             "thin": lambda: (self.rand.choice((0, 10**6, 10**12, 10**14)),),
         }
         return word, given.get(word, lambda: (self.feature(),))()
@@ -445,15 +485,19 @@ def line_of(word, given):
             return " ".join(map(text, it))
         return f"{it[0]} {it[1]}" if isinstance(it, tuple) else json.dumps(it) if isinstance(it, str) else str(it)
 
-    given = [given[0], "part", given[1]] if word == "split" else given
     return " ".join([word, *map(text, given)])
 
 
 def answer_of(model, word, given):
+    """The model's answer; it keeps the document from before a change."""
+    before = model.document() if word in EDITS else None
     try:
-        return getattr(model, word)(*given)
+        answer = getattr(model, word)(*given)
     except Refused as why:
         return f"refused {why}"
+    if word in EDITS and (word != "thin" or answer != "ok 0"):
+        model.past.append(before)
+    return answer
 
 
 # ---- comparing
@@ -470,8 +514,8 @@ def saved_fault(model, saved):
     """What is wrong with the saved map, or None."""
     topology = json.loads(saved)
     again = Model(topology)
-    if sorted(map(str, again.features.values())) != sorted(map(str, model.features.values())):
-        return "the rings that were saved differ"
+    if again.shown() != model.shown():
+        return "the features that were saved differ"
     arcs = arcs_of(topology)
     segments = [segment(a, b) for arc in arcs for a, b in zip(arc, arc[1:])]
     if len(segments) != len({*segments}) or {*segments} != {*model.segments}:
@@ -479,29 +523,51 @@ def saved_fault(model, saved):
     return None if all(ends_well(model, arc) for arc in arcs) else "an arc is not cut at the junctions alone"
 
 
-def drawn_script(path, seed, count):
-    """The lines, the model's answers to them, and the model after them."""
-    model = Model(json.loads(path.read_bytes()))
-    drawing, lines, answers = Drawing(model, random.Random(seed)), [], []
+class Script:
+    """Lines, and the model's answers to them."""
+
+    def __init__(self, model):
+        self.model, self.lines, self.answers = model, [], []
+
+    def give(self, word, *given):
+        self.lines.append(line_of(word, given))
+        self.answers.append(answer_of(self.model, word, given))
+
+    def ask_rings(self):
+        for number in sorted(self.model.features):
+            self.give("rings", number)
+
+
+def drawn_script(path, seed, count, depth):
+    """A drawn script, and the model after it."""
+    model = Model(json.loads(path.read_bytes()), depth)
+    drawing, script = Drawing(model, random.Random(seed)), Script(model)
     for _ in range(count):
         if len(model.features) < 2:
             break
         word, given = drawing.command()
-        lines.append(line_of(word, given))
-        answers.append(answer_of(model, word, given))
-    for number in sorted(model.features):
-        lines.append(f"rings {number}")
-        answers.append(model.rings(number))
-    return lines, answers, model
+        script.give(word, *given)
+    script.ask_rings()
+    if seed % 2:
+        for _ in range(len(model.past) + 1):
+            script.give("undo")
+        script.ask_rings()
+    return script.lines, script.answers, model
 
 
-def compared(program, path, seed, count):
+def drawn_depth(seed):
+    """How many changes are kept: from one to more than a script makes."""
+    return random.Random(f"depth {seed}").choice([1, 2, 3, 10, 50, 100, 1000])
+
+
+def compared(program, path, seed, count, depth):
     """Runs the program on what the model was given; a line that tells what came of it, and whether that is well."""
-    lines, answers, model = drawn_script(path, seed, count)
+    lines, answers, model = drawn_script(path, seed, count, depth)
     with tempfile.TemporaryDirectory() as folder:
         script, saved = pathlib.Path(folder, "script"), pathlib.Path(folder, "saved.json")
         script.write_text("".join(f"{line}\n" for line in lines))
-        done = subprocess.run([program, path, script, "--out", saved], capture_output=True, text=True)
+        words = [program, path, script, "--out", saved, "--undo", str(depth)]
+        done = subprocess.run(words, capture_output=True, text=True)
         told = done.stdout.splitlines()
         fault = done.stderr.strip() or saved_fault(model, saved.read_bytes())
     differ = next((n for n, (a, b) in enumerate(zip(told, answers)) if a != b), None)
@@ -515,7 +581,9 @@ def compared(program, path, seed, count):
         kept.write_text("".join(f"{line}\n" for line in lines))
         fault += f"; the script is {kept}"
     refused = sum(answer.startswith("refused") for answer in answers)
-    return f"{path.name} seed {seed}: {len(answers)} answers, {refused} refusals: {fault or 'the same'}", not fault
+    undone = sum(line == "undo" and answer == "ok" for line, answer in zip(lines, answers))
+    counts = f"{len(answers)} answers, {refused} refusals, {undone} undos"
+    return f"{path.name} seed {seed} depth {depth}: {counts}: {fault or 'the same'}", not fault
 
 
 def main():
@@ -525,11 +593,13 @@ def main():
     parser.add_argument("--program", default=program, help="the executable (%(default)s)")
     parser.add_argument("--seeds", type=int, default=4, help="how many scripts are drawn for each map (%(default)s)")
     parser.add_argument("--lines", type=int, default=600, help="how many commands a script has (%(default)s)")
+    parser.add_argument("--undo", type=int, help="how many changes are kept; drawn for each script where it is not given")
     options = parser.parse_args()
     all_well = True
     for path in options.map:
         for seed in range(options.seeds):
-            told, is_well = compared(options.program, path, seed, options.lines)
+            depth = options.undo or drawn_depth(seed)
+            told, is_well = compared(options.program, path, seed, options.lines, depth)
             print(told, flush=True)
             all_well = all_well and is_well
     return 0 if all_well else 1

@@ -24,7 +24,8 @@ use Rattle.arc_tables.specs.Rings.{Rings}
 use Rattle.map_frame.specs.Framed.{Framed}
 use Rattle.feature_exchange.specs.Holds.{Holds, IsIndexed}
 use Rattle.feature_exchange.specs.Stored.{stored, document_of, ring_under}
-use Rattle.feature_exchange.proofs.Renaming.{renamed_document, renamed_holds}
+use Rattle.feature_exchange.proofs.Renaming.{named_document, renamed_holds}
+use Rattle.edit_records.specs.Records.{Record}
 use Rattle.arc_store.specs.Kept.{IsKept, state_of}
 use Rattle.arc_store.specs.State.{State}
 use Rattle.ring_parts.proofs.CountedFew.{counted_flat}
@@ -49,7 +50,7 @@ module _ {frame : Framed} {rings : Rings} {places : Placement} {held : SegmentSe
   pub counted_by : IsKept frame rings places held positions segments → segments ≡ set.len held
   counted_by k = k.single ∙ indexed_len (document_of (stored frame rings places)) held k.holds.indexed
 
-  module _ (kept : IsKept frame rings places held positions segments) {l : ℕ} {cells : Option GridFrame} {now : State} (is : state_of frame rings places l cells ≡ now) where
+  module _ (kept : IsKept frame rings places held positions segments) {l : ℕ} {cells : Option GridFrame} {o : Option Record} {now : State} (is : state_of frame rings places l cells o ≡ now) where
     -- the document is the one that is seen
     pub seen_doc : document_of (stored frame rings places) ≡ now.doc
     seen_doc = ap (λ (z : State). z.doc) is
@@ -114,6 +115,6 @@ module _ {frame : Framed} {rings : Rings} {places : Placement} {held : SegmentSe
   kept_renamed =
       kept_as (renamed (document_of (stored frame rings places)) n id)
       (renamed_holds (stored frame rings places) n id held json kept.holds)
-      (renamed_document (stored frame rings places) n id)
+      (named_document (stored frame rings places) n (Some id))
       (kept.sized ∙ sym (size-renamed (document_of (stored frame rings places)) n id))
       (counted_by kept)

@@ -12,10 +12,9 @@ use Rattle.ring_machine.proofs.Members.{in_flat}
 use Rattle.map_frame.specs.declared.names.RingName.{RingName}
 use Rattle.map_frame.specs.Named.{number_at}
 use Rattle.map_frame.specs.Readers.{element, ring_at}
-use Rattle.map_frame.proofs.EditedFeatures.{head_apart, tail_distinct}
-use Rattle.map_frame.proofs.LawsTaken.{first_distinct, second_distinct}
+use Rattle.map_frame.proofs.EditedFeatures.{head_apart, tail_distinct, first_distinct}
 use Rattle.map_frame.proofs.NamedForgotten.{element_is}
-use Rattle.map_frame.proofs.NamedOnce.{same_some, in_part, one_part, found_at, ring_in, one_owner}
+use Rattle.map_frame.proofs.NamedOnce.{same_some, in_part, one_part, found_at, ring_in, one_owner, rest_distinct}
 use Rattle.map_frame.proofs.ReadFeatures.{in_get}
 
 -- a ring's number is one of the frame
@@ -61,7 +60,7 @@ part_distinct g [] i x d e = absurd cc
 part_distinct g (y ∷ xs) zero x d e =
     ap (λ z. are_distinct (g z)) (sym (same_some y x e)) ∙ first_distinct (g y) (flat_map g xs) d
 part_distinct g (y ∷ xs) (suc i) x d e =
-    part_distinct g xs i x (second_distinct (g y) (flat_map g xs) d) e
+    part_distinct g xs i x (rest_distinct (g y) (flat_map g xs) d) e
 
 one_place : (rs : List ℕ) → are_distinct rs ≡ true → (i j r : ℕ) → slice_get rs i ≡ Some r
     → slice_get rs j ≡ Some r → i ≡ j

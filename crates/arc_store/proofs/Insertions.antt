@@ -169,7 +169,7 @@ segments_ins d a b q border t =
     ∙ ap₂ (λ y w. (y && not (segment_eq t (segment a b))) || (w && list_any (segment_eq t) (over_segments a b q))) (sym (is_segment_by d t)) (sym (is_segment_by d (segment a b)) ∙ border)
 
 -- the ends of a segment are vertices
-border_ends : (d : Document) (a b : Position) → is_segment d (segment a b) ≡ true
+pub border_ends : (d : Document) (a b : Position) → is_segment d (segment a b) ≡ true
     → (is_vertex d a ≡ true) × (is_vertex d b ≡ true)
 border_ends d a b h = let e = two_ends a b in (end_vertex d a (segment a b) h e.0, end_vertex d b (segment a b) h e.1)
 

@@ -1,7 +1,7 @@
 -- Two features joined, as rings that come in the place of the first one's polygon: the document, its
 -- rings and its size.
-use Rattle.std.proofs.Common.{◌≡◌, ◌≤◌, ℕ, ◌+◌, Bool, true, false, refl, sym, ap, ap₂, ◌∙◌, subst, cond}
-use Rattle.std.proofs.Common.{List, [], ◌∷◌, ◌++◌, map, length, reverse, take, drop, Some, arith}
+use Rattle.std.proofs.Common.{◌≡◌, ◌≤◌, ℕ, ◌+◌, Bool, true, false, refl, sym, ap, ap₂, ◌∙◌, cond}
+use Rattle.std.proofs.Common.{List, [], ◌∷◌, ◌++◌, map, length, reverse, take, drop, Some, None, arith}
 use Rattle.std.specs.Prelude.{◌==◌, not}
 use Rattle.std.specs.List.{list_all, flat_map, filter, sum_by, prefix_len}
 use Rattle.std.proofs.lemmas.Bool.{eqb-true, eqb-false}
@@ -17,7 +17,6 @@ use Rattle.ring_machine.specs.WellFormed.{WellFormed}
 use Rattle.ring_machine.specs.Join.{take_out, join, joined, joined_polygons, joined_feature, is_common}
 use Rattle.ring_machine.specs.Join.{passed_alike, off_run}
 use Rattle.ring_machine.specs.Refusals.{feature_at, or_else, no_feature}
-use Rattle.ring_machine.proofs.CutJoined.{join_is, feature-join_at}
 use Rattle.ring_machine.proofs.Found.{feature_in, feature_stands}
 use Rattle.ring_machine.proofs.MergeAccepted.{MergeAccepted}
 use Rattle.ring_machine.proofs.Neighbours.{all_in, in-flat_map}
@@ -27,8 +26,10 @@ use Rattle.ring_machine.proofs.StaysFormed.{formed-take_out}
 use Rattle.ring_machine.proofs.StaysProper.{edges_start}
 use Rattle.ring_machine.proofs.Without.{feature-take_out_other, size-take_out_at, size-instead_at}
 use Rattle.map_opening.proofs.KeyRings.{length-canonical}
-use Rattle.map_frame.specs.Edits as frame
-use Rattle.arc_store.proofs.InsteadAlike.{instead_found}
+use Rattle.edit_records.specs.Places.{LayerTree, Fills, AreFormed, exchanged}
+use Rattle.edit_records.proofs.ExchangesMade.{join-made, feature-own}
+use Rattle.map_frame.specs.Texts.{texts_of, with_texts}
+use Rattle.arc_store.specs.Exchanged.{with_polygons}
 
 -- ---- how long a joined ring is
 
@@ -92,7 +93,7 @@ found_rings d n f proper e = pass_all is_ring (rings_of f) (λ r i.
 
 -- ---- the document
 
-differ : (a b : ℕ) → (a == b) ≡ false → (b == a) ≡ false
+pub differ : (a b : ℕ) → (a == b) ≡ false → (b == a) ≡ false
 differ a b h = by (b == a) refl
   where
     by : (c : Bool) → (b == a) ≡ c → (b == a) ≡ false
@@ -112,26 +113,18 @@ module _ (d : Document) (n m : ℕ) (formed : WellFormed d) (a : MergeAccepted d
   polygons_are : joined_polygons a.first.polygons a.second.polygons ≡ merged ∷ []
   polygons_are = ap₂ joined_polygons a.pair_is.first a.pair_is.second
 
-  -- the joined rings come in the place of the first feature's polygon
-  pub join_parted : join d n (feature_at d m) ≡ frame.joined d n m merged
-  join_parted =
-      ap (join d n) second_is
-      ∙ join_is d n a.second
-      ∙ ap₂ (λ y z. take_out y z) (instead_found n (joined_feature a.second) (λ (f : Feature). record f { polygons = merged ∷ [] } ∷ []) d formed agree) a.second_number
+  -- the joined rings come in the place of the first feature's polygon, and the second one goes
+  pub merge_made : (trees : List LayerTree) → Fills trees d → AreFormed trees
+      → exchanged trees ((n, Some (with_polygons d n (merged ∷ []))) ∷ (m, None) ∷ []) d ≡ join d n (feature_at d m)
+  merge_made trees fills formed_trees =
+      ap₂ (λ x y. exchanged trees ((n, Some x) ∷ (y, None) ∷ []) d) (sym first_made) (sym a.second_number)
+      ∙ join-made trees d n a.first a.second fills formed_trees a.first_is (eqb-false n a.second.number apart)
+      ∙ ap (join d n) (sym second_is)
     where
-      agree : (f : Feature) → feature d n ≡ Some f
-          → joined_feature a.second f ≡ record f { polygons = merged ∷ [] } ∷ []
-      agree f e =
-          let same : f ≡ a.first = ap (or_else no_feature) (sym e ∙ a.first_is) in
-          ap (λ ps. record f { polygons = ps } ∷ []) (ap (λ (k : Feature). joined_polygons k.polygons a.second.polygons) same ∙ polygons_are)
-
-  pub merged_rings : Proper (join d n (feature_at d m)) → list_all is_ring merged ≡ true
-  merged_rings proper =
-      let f : Feature = record a.first { polygons = joined_polygons a.first.polygons a.second.polygons } in
-      let rings : rings_of f ≡ merged = ap (flat_map (λ q. q)) polygons_are ∙ append-nil merged in
-      ap (list_all is_ring) (sym rings)
-      ∙ found_rings (join d n a.second) n f (subst (λ g. Proper (join d n g)) second_is proper)
-      (feature-join_at d n a.second formed a.first a.first_is (differ n a.second.number apart))
+      first_made : record a.first { polygons = joined_polygons a.first.polygons a.second.polygons } ≡ with_polygons d n (merged ∷ [])
+      first_made =
+          ap₂ (λ k ps. with_texts k (texts_of a.first) ps) (feature-own d n a.first a.first_is) polygons_are
+          ∙ ap (λ (f : Feature). with_texts n (texts_of f) (merged ∷ [])) (sym (ap (or_else no_feature) a.first_is))
 
   -- ---- size
 

@@ -1,4 +1,7 @@
 pub mod Accepted
+pub mod StateKept
+pub mod PutBack
+pub mod ThinnedBack
 pub mod Moved
 pub mod Indexed
 pub mod RingEdits
@@ -12,14 +15,12 @@ pub mod Removed
 pub mod RingUsers
 pub mod Judged
 pub mod RemovalJudged
-pub mod Tables
 pub mod InsertPlan
 pub mod RemovePlan
-pub mod Planned
+pub mod LeftOut
 pub mod SegmentCounts
 pub mod MovePlan
 pub mod Tested
-pub mod AroundPlan
 pub mod FrameReads
 pub mod FrameNames
 pub mod FramedDocument
@@ -28,12 +29,17 @@ pub mod Reading
 pub mod SpotLemmas
 pub mod NoJunction
 pub mod VertexCounts
-pub mod RingAround
+pub mod RestorePlan
+pub mod NamedBack
 pub mod RingKeys
 pub mod NamedRings
 pub mod NearLemmas
-pub mod InsteadAlike
-pub mod CutParted
+pub mod PlacedMap
+pub mod ChangesCounted
+pub mod ChangesRecorded
+pub mod ExchangePlan
+pub mod DeletePlan
+pub mod SplitMade
 pub mod CutBorders
 pub mod CutDecided
 pub mod PathSegments
@@ -41,6 +47,7 @@ pub mod AllCanonical
 pub mod JoinParted
 pub mod PolygonsSeen
 pub mod FeaturesKept
+pub mod RenamedMap
 pub mod SplitPlan
 pub mod MergePlan
 mod Examples

@@ -1,5 +1,5 @@
 -- The plan of a move: what stands around the vertex, what comes and goes, and when it is refused.
-use Rattle.std.proofs.Common.{◌≡◌, ◌≢◌, ◌<◌, ◌+◌, ℕ, Bool, true, false, refl, sym, ap, ap₂, ◌∙◌}
+use Rattle.std.proofs.Common.{◌≡◌, ◌<◌, ◌+◌, ℕ, Bool, true, false, sym, ap, ap₂, ◌∙◌}
 use Rattle.std.proofs.Common.{subst, List, [], ◌∷◌, map, length, take, get_or, ◌||◌, ◌&&◌, arith, Some, None, Option}
 use Rattle.std.proofs.Common.{Result, Ok, Err, OnOk, OnErr}
 use Rattle.std.specs.Prelude.{not}
@@ -8,7 +8,6 @@ use Rattle.std.specs.FinMap as table
 use Rattle.std.specs.FinSet as set
 use Rattle.std.proofs.lemmas.List.{length-map}
 use Rattle.std.proofs.lemmas.List.Folds.{list_any_more}
-use Rattle.std.proofs.lemmas.Result.{on_ok_weaker}
 use Rattle.std.proofs.lemmas.Simd.{map-map}
 use Rattle.grid_geometry.specs.Conflict.{conflict}
 use Rattle.grid_geometry.specs.Held.{is_held}
@@ -23,14 +22,11 @@ use Rattle.ring_machine.specs.Query.{distinct_segments}
 use Rattle.ring_machine.specs.Refusals.{first_of, conflict_of, move_refusals, ◌unless◌}
 use Rattle.ring_machine.specs.Sweep.{crosses_on_way, edge_sweeps, move_sweeps}
 use Rattle.ring_machine.specs.Vertices.{put}
-use Rattle.ring_machine.proofs.First.{In}
-use Rattle.ring_machine.proofs.Neighbours.{has-in}
 use Rattle.ring_machine.proofs.Order.{and_both}
 use Rattle.vertex_index.specs.Placement.{Placement, place}
 use Rattle.segment_index.specs.Candidates.{SegmentSet, AreAmong, AreSingle, segment_is, has as has_segment}
 use Rattle.segment_index.proofs.Singles.{same_segment}
 use Rattle.arc_tables.specs.Rings.{Rings}
-use Rattle.shared_arcs.specs.Joined.{Joined}
 use Rattle.local_planarity.specs.declared.leaving.Leaving.TheVariants.{EndingAt}
 use Rattle.local_planarity.specs.Edits.{AreApart, IsAfter, IsEnds, IsHeld}
 use Rattle.local_planarity.proofs.Least.{apart_if_none}
@@ -38,18 +34,19 @@ use Rattle.arc_store.specs.declared.fault.EditFault.{EditFault}
 use Rattle.arc_store.specs.declared.fault.EditFault.TheVariants as edit
 use Rattle.map_frame.specs.Framed.{Framed}
 use Rattle.arc_store.specs.Edits.{IsMovable}
+use Rattle.vertex_changes.specs.Changes.{HasMoving}
 use Rattle.arc_store.specs.Faults.{Refuses}
 use Rattle.feature_exchange.specs.Stored.{Stored, document_of, stored}
 use Rattle.feature_exchange.specs.Holds.{IsWhole, IsIndexed, Holds}
 use Rattle.arc_store.specs.Kept.{IsKept}
-use Rattle.arc_store.specs.Planned.{ArePlaced, AreAround, AreNew, Exchanges, spokes}
-use Rattle.ring_machine.proofs.Members.{any_in, in_mapped, in_contains}
+use Rattle.vertex_changes.specs.Planned.{AreAround, AreNew, Exchanges, spokes}
+use Rattle.ring_machine.proofs.Members.{any_in, in_contains}
 use Rattle.map_opening.proofs.Places.{place_is}
-use Rattle.feature_exchange.proofs.Base.{joined_kept, joined_apart, segments_to, segments_at}
+use Rattle.feature_exchange.proofs.Base.{joined_kept, joined_apart, segments_to, segments_at, vertex_key}
 use Rattle.feature_exchange.proofs.Base.{sweeps_by_joined}
 use Rattle.map_opening.proofs.SegmentLists.{has-eq}
 use Rattle.arc_store.proofs.Indexed.{indexed_ends, indexed_only, indexed_has}
-use Rattle.arc_store.proofs.Planned.{any_at}
+use Rattle.vertex_changes.proofs.Planned.{any_at}
 use Rattle.arc_store.proofs.Insertions.{any_mapped}
 use Rattle.arc_store.proofs.Moved.{segments_to_single, not_there, added_new, added_single}
 use Rattle.arc_store.proofs.Moved.{indexed_moved, reindexed, holds_moved, size_moved, document_moved}
@@ -57,29 +54,21 @@ use Rattle.arc_store.proofs.SegmentCounts.{as_many}
 
 -- ---- what stands around a vertex
 
-pub all_placed : (s : Stored) → IsWhole s → (k : ℕ) → ArePlaced s.places s.rings k
-all_placed s w k x j = (joined_kept s w k x j).1
+-- p is a vertex and q is none
+pub has_moving : (s : Stored) → IsWhole s → (p q : Position) → is_vertex (document_of s) p ≡ true
+    → is_vertex (document_of s) q ≡ false → HasMoving s.places s.rings p q
+has_moving s w p q vertex free = record {
+  here = vertex_key s w p vertex;
+  placed = λ k at x j. (joined_kept s w k x j).1;
+  apart = λ k x at j. (
+    λ e. joined_apart s w k x j (place_is s.places k p at ∙ sym e),
+    not_there s w k p q at free x (joined_kept s w k x j).1,
+  );
+}
 
 module _ (s : Stored) (held : SegmentSet) (h : Holds s held) (k : ℕ) (p q : Position) (at : table.get s.places k ≡ Some p) (free : is_vertex (document_of s) q ≡ false) (around : List Position) (r : AreAround s.places s.rings k around) where
   spokes_are : (z : Position) → spokes z around ≡ segments_to s.places z r.keys
   spokes_are z = ap (map (λ x. segment x z)) r.are ∙ map-map (λ x. segment x z) (place s.places) r.keys
-
-  apart_from : (z : Position) → ((x : ℕ) → Joined s.rings k x → place s.places x ≢ z)
-      → has around z ≡ false
-  apart_from z differ = by (has around z) refl
-    where
-      by : (b : Bool) → has around z ≡ b → has around z ≡ false
-      by false e = e
-      by true e =
-          let x = in_mapped (place s.places) z r.keys (subst (In z) r.are (has-in z around e)) in
-          absurd (differ x.0 ((r.joined x.0).0 (in_contains r.keys x.0 x.1)) x.2)
-
-  -- p and q are not around p
-  pub off_before : has around p ≡ false
-  off_before = apart_from p (λ x j e. joined_apart s h.whole k x j (place_is s.places k p at ∙ sym e))
-
-  pub off_after : has around q ≡ false
-  off_after = apart_from q (λ x j. not_there s h.whole k p q at free x (joined_kept s h.whole k x j).1)
 
   -- ---- what comes and goes
 
@@ -246,14 +235,14 @@ module _ (s : Stored) (held : SegmentSet) (h : Holds s held) (d : Document) (is 
 -- ---- the map after the last call of a move
 
 -- the document is the moved one
-pub document_after : {X E : Type 0} (result : Result X E) (frame : Framed) (rings : Rings)
-    (places places' : Placement) → IsWhole (stored frame rings places) → (d : Document)
+pub document_after : (frame : Framed) (rings : Rings) (places places' : Placement)
+    → IsWhole (stored frame rings places) → (d : Document)
     → document_of (stored frame rings places) ≡ d → (k : ℕ) (p q : Position)
-    → table.get places k ≡ Some p → is_vertex d q ≡ false
-    → OnOk result (places' ≡ table.insert places k q)
-    → OnOk result (document_of (stored frame rings places') ≡ put d p q)
-document_after result frame rings places places' w d is k p q at free moved =
-    on_ok_weaker result (λ m. ap (λ z. document_of (stored frame rings z)) m ∙ document_moved (stored frame rings places) w k p q at (ap (λ z. is_vertex z q) is ∙ free) ∙ ap (λ z. put z p q) is) moved
+    → table.get places k ≡ Some p → is_vertex d q ≡ false → places' ≡ table.insert places k q
+    → document_of (stored frame rings places') ≡ put d p q
+document_after frame rings places places' w d is k p q at free moved =
+    ap (λ z. document_of (stored frame rings z)) moved
+    ∙ document_moved (stored frame rings places) w k p q at (ap (λ z. is_vertex z q) is ∙ free) ∙ ap (λ z. put z p q) is
 
 -- what is true of the tables stays, whether the call fails or not
 pub kept_after : {X E : Type 0} (result : Result X E) (frame : Framed) (rings : Rings)

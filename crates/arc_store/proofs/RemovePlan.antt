@@ -8,7 +8,7 @@ use Rattle.grid_geometry.specs.Position.{Position}
 use Rattle.grid_geometry.specs.Segment.{Segment, segment, segment_eq}
 use Rattle.ring_machine.specs.Ring.{has}
 use Rattle.ring_machine.specs.Document.{Document}
-use Rattle.ring_machine.specs.Parts.{size, is_segment}
+use Rattle.ring_machine.specs.Parts.{size, is_segment, is_vertex}
 use Rattle.ring_machine.specs.Query.{distinct_segments}
 use Rattle.ring_machine.specs.Refusals.{are_long, is_bridged}
 use Rattle.ring_machine.specs.Vertices.{del, is_junction}
@@ -25,15 +25,16 @@ use Rattle.arc_tables.specs.Edited.{AreApart}
 use Rattle.shared_arcs.specs.Joined.{Joined, AreNeighbours}
 use Rattle.arc_tables.specs.Rings.{Rings, users_of}
 use Rattle.map_frame.specs.Framed.{Framed}
-use Rattle.arc_store.specs.Edits.{HasBridging, IsLeavable, IsRemovable, TakenOut}
+use Rattle.arc_store.specs.Edits.{IsLeavable, IsRemovable}
+use Rattle.vertex_changes.specs.Changes.{HasBridging, TakenOut}
 use Rattle.feature_exchange.specs.Holds.{IsWhole, IsIndexed, Holds}
 use Rattle.arc_store.specs.Kept.{IsKept}
 use Rattle.feature_exchange.specs.Stored.{stored, Stored, document_of}
-use Rattle.arc_store.specs.Planned.{AreNew, Exchanges, spokes}
+use Rattle.vertex_changes.specs.Planned.{AreNew, Exchanges, spokes}
 use Rattle.arc_store.proofs.Around.{AreTwo, bridged_two, segments_two, sweeps_two, unbridged_two}
 use Rattle.arc_store.proofs.Around.{two_apart, neighbours_none, neighbours_one, neighbours_more}
 use Rattle.map_opening.proofs.Places.{IsKept as IsPlaced, place_is}
-use Rattle.feature_exchange.proofs.Base.{joined_kept, joined_apart, joined_back}
+use Rattle.feature_exchange.proofs.Base.{joined_kept, joined_apart, joined_back, vertex_key}
 use Rattle.feature_exchange.proofs.Base.{joined_segment, one_to, key_vertex}
 use Rattle.arc_store.proofs.SegmentCounts.{as_many}
 use Rattle.arc_store.proofs.InsertPlan.{one_single, two_single}
@@ -50,6 +51,16 @@ two_neighbours s w m p here inner neighbours.None h = absurd (neighbours_none s 
 two_neighbours s w m p here inner (One a) h = absurd (neighbours_one s w m p here a h)
 two_neighbours s w m p here inner (Two j k) h = (j, k, refl)
 two_neighbours s w m p here inner More h = absurd (false≢true (sym inner ∙ neighbours_more s w m p here h))
+
+-- p is a vertex and no junction
+pub has_bridging : (s : Stored) → IsWhole s → (p : Position) → is_vertex (document_of s) p ≡ true
+    → is_junction (document_of s) p ≡ false → HasBridging s.places s.rings p
+has_bridging s w p vertex inner = record {
+  here = vertex_key s w p vertex;
+  two = λ k here found are. two_neighbours s w k p here inner found are;
+  placed = λ k here x j. (joined_kept s w k x j).1;
+  apart = λ k x here j e. joined_apart s w k x j (place_is s.places k p here ∙ sym e);
+}
 
 -- the segment that comes is new, and those that go are held and stand once; so p may go
 pub record IsPlanned (d : Document) (held : SegmentSet) (p : Position) (after : Segment)
@@ -214,21 +225,6 @@ found {p = p} kept is here two inner long unjoined = record {
   inner = ap (λ d. is_junction d p) is ∙ inner;
   long = ap (λ d. are_long d p) is ∙ long;
   unjoined = ap (λ d. is_bridged d p) is ∙ unjoined;
-}
-
--- as it is read from the tables
-pub found_there : {rings : Rings} {places : Placement} {p : Position} {m j k : ℕ}
-    (h : HasBridging places rings p) → table.get places m ≡ Some p
-    → AreTwo (stored h.frame rings places) m j k
-    → IsFound h.frame rings places h.held (size (document_of (stored h.frame rings places)))
-    (length (distinct_segments (document_of (stored h.frame rings places)))) p m j k
-found_there h here two = record {
-  kept = record { holds = h.holds; sized = refl; single = refl };
-  here = here;
-  two = two;
-  inner = h.inner;
-  long = h.long;
-  unjoined = h.unjoined;
 }
 
 module _ {frame : Framed} {rings : Rings} {places : Placement} {held : SegmentSet} {positions segments : ℕ} {p : Position} {m j k : ℕ} (f : IsFound frame rings places held positions segments p m j k) where

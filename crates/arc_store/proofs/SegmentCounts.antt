@@ -11,7 +11,7 @@ use Rattle.ring_machine.specs.Query.{distinct_segments}
 use Rattle.segment_index.specs.Candidates.{SegmentSet, AreAmong, AreSingle, segment_is, has, times_in}
 use Rattle.segment_index.proofs.Singles.{segment_total, same_sets, is-itself, has-is}
 use Rattle.feature_exchange.specs.Holds.{IsIndexed}
-use Rattle.arc_store.specs.Planned.{AreNew, Gains, Exchanges}
+use Rattle.vertex_changes.specs.Planned.{AreNew, Gains, Exchanges}
 use Rattle.map_opening.proofs.SegmentLists.{has-eq, or_nothing, has_all, single_all}
 
 or_swap : (a b c : Bool) → (a || (b || c)) ≡ (b || (a || c))
@@ -75,9 +75,14 @@ pub len_gains : (old new : SegmentSet) (xs : List Segment) → AreSingle xs → 
 len_gains old new xs single free h =
     ap set.len (same_sets new (gained old xs) (λ t. h t ∙ sym (contains_gained old xs t))) ∙ len_gained old xs single free
 
+-- each that goes was held, or comes
+abbrev pub AreThere : SegmentSet → List Segment → List Segment → Type 0
+AreThere held added gone =
+    (t : Segment) → has gone t ≡ true → (set.contains held t || has added t) ≡ true
+
 -- as many more as came, and as many less as went
 pub len_exchanges : (old new : SegmentSet) (added gone : List Segment) → AreSingle added
-    → AreNew old added → AreSingle gone → AreAmong old gone → Exchanges old added gone new
+    → AreNew old added → AreSingle gone → AreThere old added gone → Exchanges old added gone new
     → set.len new + length gone ≡ set.len old + length added
 len_exchanges old new added gone single free once among h =
     sym (len_gains new (gained old added) gone once went back) ∙ len_gained old added single free
@@ -99,7 +104,7 @@ len_exchanges old new added gone single free once among h =
     back : Gains new gone (gained old added)
     back t =
         contains_gained old added t
-        ∙ by t (set.contains old t || has added t) (has gone t) refl (λ e. ap (λ b. b || has added t) (among t e))
+        ∙ by t (set.contains old t || has added t) (has gone t) refl (among t)
         ∙ ap (λ b. b || has gone t) (sym (h t))
 
 -- ---- the segments of a document, each once
@@ -120,9 +125,16 @@ indexed_len d held h =
         ∙ ap (λ b. b || has (distinct_segments d) t) (sym (set.contains-empty segment_cmp t))
 
 -- documents whose indexes hold as many segments have as many
+pub as_many_there : (c d : Document) (held held' : SegmentSet) (added gone : List Segment)
+    → IsIndexed c held → IsIndexed d held' → AreSingle added → AreNew held added → AreSingle gone
+    → AreThere held added gone → Exchanges held added gone held'
+    → length (distinct_segments d) + length gone ≡ length (distinct_segments c) + length added
+as_many_there c d held held' added gone i j single free once among h =
+    omega (arith, indexed_len c held i, indexed_len d held' j, len_exchanges held held' added gone single free once among h)
+
 pub as_many : (c d : Document) (held held' : SegmentSet) (added gone : List Segment)
     → IsIndexed c held → IsIndexed d held' → AreSingle added → AreNew held added → AreSingle gone
     → AreAmong held gone → Exchanges held added gone held'
     → length (distinct_segments d) + length gone ≡ length (distinct_segments c) + length added
 as_many c d held held' added gone i j single free once among h =
-    omega (arith, indexed_len c held i, indexed_len d held' j, len_exchanges held held' added gone single free once among h)
+    as_many_there c d held held' added gone i j single free once (λ t e. ap (λ b. b || has added t) (among t e)) h

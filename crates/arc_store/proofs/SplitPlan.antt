@@ -1,22 +1,22 @@
 -- The plan of a split: what the tests are asked of, what they decide, and what is kept.
-use Rattle.std.proofs.Common.{◌≡◌, ◌≤◌, ◌<◌, ℕ, ◌+◌, ◌*◌, Bool, true, false, refl, sym, ap, ap₂, ◌∙◌, subst}
-use Rattle.std.proofs.Common.{List, [], ◌∷◌, map, length, Option, None, Some, arith}
-use Rattle.std.specs.Prelude.{nat_le, nat_lt, option_map, unwrap_or}
-use Rattle.std.specs.List.{list_any, list_all, sum_by}
+use Rattle.std.proofs.Common.{◌≡◌, ◌≤◌, ◌<◌, ℕ, ◌+◌, Bool, true, false, refl, sym, ap, subst}
+use Rattle.std.proofs.Common.{List, [], ◌∷◌, map, length, slice_set, zero, suc, Option, None, eqb-true, arith}
+use Rattle.std.specs.Prelude.{not, nat_le, nat_lt, ◌==◌}
+use Rattle.std.specs.List.{list_any, sum_by, AllByRecursion}
 use Rattle.std.proofs.lemmas.Bool.Decides.{nat_tests}
 use Rattle.std.proofs.lemmas.List.{length-append}
 use Rattle.std.proofs.lemmas.List.Sums.{sum_by-cons, sum_by_more_le}
 use Rattle.grid_geometry.specs.Position.{Position}
 use Rattle.grid_geometry.specs.Segment.{Segment}
-use Rattle.ring_machine.specs.Ring.{canonical, is_distinct, is_ring}
+use Rattle.ring_machine.specs.Ring.{is_distinct}
+use Rattle.ring_machine.specs.Command.{WrongSide, TooLarge}
 use Rattle.ring_machine.specs.Document.{Document, Feature, Text}
-use Rattle.ring_machine.specs.Parts.{feature, has_feature, is_vertex, size, all_segments}
+use Rattle.ring_machine.specs.Parts.{has_feature, is_vertex, size, all_segments}
 use Rattle.ring_machine.specs.Planar.{Proper, least_conflict}
 use Rattle.ring_machine.specs.WellFormed.{WellFormed}
-use Rattle.ring_machine.specs.Cut.{Path, cut, is_cut_by, is_wrong_side, first_polygon}
-use Rattle.ring_machine.specs.Cut.{second_polygon}
+use Rattle.ring_machine.specs.Cut.{Path, cut, is_cut_by, is_wrong_side}
 use Rattle.ring_machine.specs.Refusals.{first_of, is_layer, positions_of, is_path_segment}
-use Rattle.ring_machine.specs.Refusals.{feature_at, or_else, no_feature, split_refusals}
+use Rattle.ring_machine.specs.Refusals.{feature_at, split_refusals, ◌unless◌}
 use Rattle.ring_machine.proofs.SplitDocuments.{split-accepted}
 use Rattle.ring_machine.proofs.SplitProper.{split_is_proper}
 use Rattle.ring_machine.proofs.SplitSegments.{path_segments}
@@ -29,17 +29,21 @@ use Rattle.arc_tables.specs.Rings.{Rings}
 use Rattle.local_planarity.specs.Edits.{IsAfter}
 use Rattle.local_planarity.specs.Tests.{most_for, most_tests}
 use Rattle.local_planarity.specs.declared.leaving.Leaving.TheVariants.{Nothing}
-use Rattle.map_frame.specs.Edits.{parted, polygons_of}
+use Rattle.edit_records.specs.Places.{LayerTree, grown, exchanged}
+use Rattle.edit_records.specs.Records.{IsMap, Record}
+use Rattle.topo_outline.specs.Kept.{KeepsTexts, IsJson}
+use Rattle.topo_outline.proofs.KeptShapes.{keeps-cut}
+use Rattle.map_frame.specs.Placed.{ArePlaced}
+use Rattle.feature_exchange.specs.Changed.{MayGrow}
+use Rattle.arc_store.proofs.PlacedMap.{next_new, there_below}
+use Rattle.arc_store.proofs.SplitMade.{both_parts, split_made}
+use Rattle.ring_machine.proofs.CutJoined.{formed-cut}
 use Rattle.map_frame.specs.Framed.{Framed}
-use Rattle.feature_exchange.specs.Stored.{stored, document_of}
 use Rattle.arc_store.specs.Kept.{IsKept, state_of}
-use Rattle.arc_store.specs.Splits.{IsCuttable, IsFirstCut, IsTested, last_refusals}
+use Rattle.arc_store.specs.Splits.{IsCuttable, IsFirstCut, IsTested}
 use Rattle.arc_store.specs.State.{State}
-use Rattle.arc_store.proofs.AllCanonical.{all_canonical}
-use Rattle.arc_store.proofs.CutBorders.{cut_size, first_rings, second_rings}
 use Rattle.arc_store.proofs.CutDecided.{split_after, split_passed, split_decided}
-use Rattle.arc_store.proofs.CutParted.{cut_parted}
-use Rattle.arc_store.proofs.FeaturesKept.{seen_doc, seen_next, seen_indexed, seen_size}
+use Rattle.arc_store.proofs.FeaturesKept.{seen_indexed, seen_size}
 use Rattle.arc_store.proofs.FeaturesKept.{gone_size}
 use Rattle.arc_store.proofs.PathSegments.{path_new, way_single}
 use Rattle.arc_store.proofs.Tested.{edit_few}
@@ -58,15 +62,6 @@ outer_part : (q : List (List Position)) → outer_length q ≤ sum_by length q
 outer_part [] = omega arith
 outer_part (outer ∷ holes) = omega (arith, sum_by-cons length outer holes)
 
--- no feature has no polygons
-polygons_at : (d : Document) (n : ℕ) → polygons_of d n ≡ (feature_at d n).polygons
-polygons_at d n = by (feature d n)
-  where
-    by : (o : Option Feature)
-        → unwrap_or (option_map (λ f. f.polygons) o) [] ≡ (or_else no_feature o).polygons
-    by None = refl
-    by (Some f) = refl
-
 -- the conditions, for the path as the code holds it
 pub cuttable : (d : Document) (n : ℕ) (p q : Path) → p ≡ q → WellFormed d → Proper d → has_feature d n ≡ true
     → is_layer d n ≡ false → list_any (is_cut_by q) (feature_at d n).polygons ≡ true
@@ -84,31 +79,10 @@ cuttable d n p q seen formed proper there inside cuts different free new =
       new = new;
     })
 
--- these parts of a polygon may take its place in a document; the one that they make has two positions
--- more, and twice as many as the path has between its ends
-pub record PartsFit (doc : Document) (next n place : ℕ) (first second : List (List Position)) (id : Text)
-    (positions : ℕ) (path : Path) (made : Document) : Type 0 where
-  pub there : place < length (polygons_of doc n)
-  pub inside : is_layer doc n ≡ false
-  pub few : next < 200000
-  pub first_rings : list_all is_ring first ≡ true
-  pub second_rings : list_all is_ring second ≡ true
-  pub proper : Proper (parted doc n place (map canonical first) (map canonical second) id next)
-  pub small : size (parted doc n place (map canonical first) (map canonical second) id next) ≤ 4000000
-  pub makes : parted doc n place (map canonical first) (map canonical second) id next ≡ made
-  pub sized : positions + (2 + 2 * length path.inner) ≡ size made
-  pub fits : positions + (2 + 2 * length path.inner) ≤ 4000000
-
 module _ {frame : Framed} {rings : Rings} {places : Placement} {held : SegmentSet} {positions segments : ℕ}
-    (kept : IsKept frame rings places held positions segments) {l : ℕ} {cells : Option GridFrame} {now : State}
-    (is : state_of frame rings places l cells ≡ now) where
-  abbrev doc : Document
-  doc = document_of (stored frame rings places)
-
+    (kept : IsKept frame rings places held positions segments) {l : ℕ} {cells : Option GridFrame} {o : Option Record} {now : State}
+    (is : state_of frame rings places l cells o ≡ now) where
   module _ (n : ℕ) (p : Path) (a : IsCuttable now.doc n p) where
-    feature_inside : is_layer doc n ≡ false
-    feature_inside = ap (λ d. is_layer d n) (seen_doc kept is) ∙ a.inside
-
     -- how many tests there were
     pub split_few : (id : Text) (added : List Segment) → added ≡ path_segments p → (m : ℕ)
         → ((ss : List Segment) → IsAfter held Nothing added ss → m ≤ l + most_tests (times_by cells) ss added)
@@ -121,14 +95,6 @@ module _ {frame : Framed} {rings : Rings} {places : Placement} {held : SegmentSe
         subst (λ (z : State). m ≤ z.tests + most_for (times_by z.cells) now.doc (cut now.doc n id p now.next)) is counted
 
     module _ (place : ℕ) (q : List (List Position)) (c : IsFirstCut (feature_at now.doc n).polygons p place q) where
-      polygon_there : place < length (polygons_of doc n)
-      polygon_there = omega (
-        arith,
-        c.within,
-        ap length (polygons_at now.doc n),
-        ap (λ d. length (polygons_of d n)) (seen_doc kept is),
-      )
-
       -- its outer ring has no more positions than the map
       pub outer_few : outer_length q ≤ positions
       outer_few = omega (
@@ -140,49 +106,62 @@ module _ {frame : Framed} {rings : Rings} {places : Placement} {held : SegmentSe
         seen_size kept is,
       )
 
-      module _ (id : Text) (accepted : first_of (split_refusals now.doc now.next n id p) ≡ None) where
-        cut_proper : Proper (cut now.doc n id p now.next)
-        cut_proper = split_is_proper now.doc now.next n id p a.formed a.proper accepted
+-- ---- what is asked of the exchange
 
-        next_few : frame.next < 200000
-        next_few = subst (λ z. z < 200000) (sym (seen_next kept is)) (below now.next (split-accepted now.doc now.next n id p accepted).numbers_left)
+module _ (trees : List LayerTree) (next : ℕ) (d : Document) (n : ℕ) (id : Text) (p : Path) (place : ℕ) (q : List (List Position))
+    (placed : ArePlaced trees next d) (is_map : IsMap d) (keeps : KeepsTexts d) (json : IsJson id) (a : IsCuttable d n p)
+    (c : IsFirstCut (feature_at d n).polygons p place q) (accepted : first_of (split_refusals d next n id p) ≡ None) where
+  abbrev pub asked_for : List (ℕ × Option Feature)
+  asked_for = both_parts trees d n next id p place q placed a c
 
-        cut_small : size (cut now.doc n id p now.next) ≤ 4000000
-        cut_small = at_most (size (cut now.doc n id p now.next)) (split-accepted now.doc now.next n id p accepted).small
+  pub split_is : exchanged (grown n next trees) asked_for d ≡ cut d n id p next
+  split_is = split_made trees d n next id p place q placed a c
 
-        -- as many positions more
-        cut_sized : positions + (2 + 2 * length p.inner) ≡ size (cut now.doc n id p now.next)
-        cut_sized = omega (arith, seen_size kept is, cut_size now.doc now.next n id p a)
+  cut_map : IsMap (cut d n id p next)
+  cut_map = record {
+    proper = split_is_proper d next n id p a.formed a.proper accepted;
+    formed = formed-cut d n id p next a.formed a.inside (next_new trees next d placed);
+    small = at_most (size (cut d n id p next)) (split-accepted d next n id p accepted).small;
+  }
 
-        -- the parts as the code has them
-        module _ (first second : List (List Position)) (f : first ≡ first_polygon p q) (s : second ≡ second_polygon p q) where
-          rings_of_first : list_all is_ring first ≡ true
-          rings_of_first = ap (list_all is_ring) f ∙ first_rings now.doc now.next n id p a cut_proper q c.first
+  pub split_map : IsMap (exchanged (grown n next trees) asked_for d)
+  split_map = subst IsMap (sym split_is) cut_map
 
-          rings_of_second : list_all is_ring second ≡ true
-          rings_of_second = ap (list_all is_ring) s ∙ second_rings now.doc now.next n id p a cut_proper q c.first
+  pub split_keeps : KeepsTexts (exchanged (grown n next trees) asked_for d)
+  split_keeps = subst KeepsTexts (sym split_is) (keeps-cut d n id p next a.formed json keeps)
 
-          parted_is : parted doc n place (map canonical first) (map canonical second) id frame.next
-              ≡ cut now.doc n id p now.next
-          parted_is =
-              ap₂ (λ x y. parted x n place (map canonical first) (map canonical second) id y) (seen_doc kept is) (seen_next kept is)
-              ∙ ap₂ (λ x y. parted now.doc n place x y id now.next) (all_canonical first rings_of_first ∙ f) (all_canonical second rings_of_second ∙ s)
-              ∙ sym (cut_parted now.doc n id p now.next place q a.formed c)
+  pub split_grows : MayGrow d next n
+  split_grows = record {
+    there = a.there;
+    inside = a.inside;
+    few = below next (split-accepted d next n id p accepted).numbers_left;
+  }
 
-          -- the exchange may be asked for them, and makes the document that is cut
-          pub parts_fit : PartsFit doc frame.next n place first second id positions p (cut now.doc n id p now.next)
-          parts_fit = record {
-            there = polygon_there;
-            inside = feature_inside;
-            few = next_few;
-            first_rings = rings_of_first;
-            second_rings = rings_of_second;
-            proper = subst Proper (sym parted_is) cut_proper;
-            small = subst (λ z. size z ≤ 4000000) (sym parted_is) cut_small;
-            makes = parted_is;
-            sized = cut_sized;
-            fits = omega (arith, cut_sized, cut_small);
-          }
+  -- the number of the part is another one
+  pub split_differ : (next == n) ≡ false
+  split_differ = by (next == n) refl
+    where
+      by : (b : Bool) → (next == n) ≡ b → b ≡ false
+      by false e = refl
+      by true e = absurd (let l = there_below trees next d placed n a.there in let s : next ≡ n = eqb-true next n e in omega (arith, l, s))
+
+  pub split_below : AllByRecursion (λ x. x.0 < next + 1) asked_for
+  split_below =
+      let l = there_below trees next d placed n a.there in
+      let first : n < next + 1 = omega (arith, l) in
+      (first, (let second : next < next + 1 = omega arith in second, tt))
+
+-- ---- lists that were written twice
+
+pub set_again : {X : Type 0} (xs : List X) (i : ℕ) (x y : X) → slice_set (slice_set xs i x) i y ≡ slice_set xs i y
+set_again [] i x y = refl
+set_again (z ∷ xs) zero x y = refl
+set_again (z ∷ xs) (suc i) x y = ap (λ w. z ∷ w) (set_again xs i x y)
+
+pub set_mapped : {X Y : Type 0} (f : X → Y) (xs : List X) (i : ℕ) (x : X) → map f (slice_set xs i x) ≡ slice_set (map f xs) i (f x)
+set_mapped f [] i x = refl
+set_mapped f (z ∷ xs) zero x = refl
+set_mapped f (z ∷ xs) (suc i) x = ap (λ w. f z ∷ w) (set_mapped f xs i x)
 
 -- ---- what the tests decide
 
@@ -191,7 +170,7 @@ module _ (d : Document) (held : SegmentSet) (next n : ℕ) (id : Text) (path : P
   -- where no two segments conflict, the last refusals decide
   pub split_rest : (added : List Segment) → added ≡ path_segments path
       → ((ss : List Segment) → IsAfter held Nothing added ss → least_conflict ss ≡ None)
-      → first_of (split_refusals d next n id path) ≡ first_of (last_refusals path polygon room)
+      → first_of (split_refusals d next n id path) ≡ first_of ((WrongSide unless not (is_wrong_side path polygon)) ∷ (TooLarge unless room) ∷ [])
   split_rest added comes none =
       split_decided d next n id path t.cuttable polygon t.first (is_wrong_side path polygon) room refl t.limits
       (none (all_segments (cut d n id path next)) (split_passed d next n id path t.cuttable held t.indexed added comes))

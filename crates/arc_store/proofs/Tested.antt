@@ -25,9 +25,10 @@ use Rattle.local_planarity.proofs.Added.{tests_among}
 use Rattle.local_planarity.proofs.Nearby.{has-filter}
 use Rattle.map_frame.specs.Framed.{Framed}
 use Rattle.feature_exchange.specs.Holds.{IsIndexed}
+use Rattle.edit_records.specs.Records.{Record}
 use Rattle.arc_store.specs.Kept.{IsKept, state_of}
 use Rattle.feature_exchange.specs.Stored.{stored, document_of}
-use Rattle.arc_store.specs.Planned.{AreAround, AreNew, spokes}
+use Rattle.vertex_changes.specs.Planned.{AreAround, AreNew, spokes}
 use Rattle.arc_store.specs.State.{State}
 use Rattle.arc_store.proofs.Indexed.{indexed_has}
 use Rattle.arc_store.proofs.InsertPlan.{insertable, insert_new, insert_single, one_single}
@@ -96,7 +97,7 @@ new_one held x new t h = by (segment_is t x) refl h
     by true e k = ap (set.contains held) (same_segment t x e) ∙ new
     by false e k = absurd (false≢true k)
 
-module _ {frame : Framed} {rings : Rings} {places : Placement} {held : SegmentSet} {positions segments : ℕ} (kept : IsKept frame rings places held positions segments) {l : ℕ} {cells : Option GridFrame} {now : State} (is : state_of frame rings places l cells ≡ now) where
+module _ {frame : Framed} {rings : Rings} {places : Placement} {held : SegmentSet} {positions segments : ℕ} (kept : IsKept frame rings places held positions segments) {l : ℕ} {cells : Option GridFrame} {o : Option Record} {now : State} (is : state_of frame rings places l cells o ≡ now) where
   abbrev doc : Document
   doc = document_of (stored frame rings places)
 

@@ -1,7 +1,6 @@
 -- What an edit of one vertex is asked of, and what it does to the tables.
-use Rattle.std.specs.Prelude.{ℕ, ◌≡◌, ◌≢◌, ◌≤◌, ◌&&◌, ◌||◌, not, true, false, List, [], ◌∷◌, Some}
-use Rattle.std.specs.Prelude.{None, option_map}
-use Rattle.std.specs.FinMap as table
+use Rattle.std.specs.Prelude.{◌≡◌, ◌≢◌, ◌≤◌, ◌&&◌, ◌||◌, not, true, false, [], ◌∷◌}
+use Rattle.std.specs.Prelude.{None}
 use Rattle.grid_geometry.specs.Position.{Position}
 use Rattle.grid_geometry.specs.Segment.{Segment, segment, segment_eq, is_end}
 use Rattle.ring_machine.specs.Document.{Document}
@@ -10,16 +9,8 @@ use Rattle.ring_machine.specs.Planar.{first_pair}
 use Rattle.ring_machine.specs.Refusals.{are_long, is_bridged}
 use Rattle.ring_machine.specs.Vertices.{put, ins, del, is_junction}
 use Rattle.ring_machine.specs.Sweep.{holds_other, remove_sweeps}
-use Rattle.vertex_index.specs.Placement.{Placement}
 use Rattle.segment_index.specs.Candidates.{SegmentSet}
-use Rattle.arc_tables.specs.Edited.{through, collapsed}
-use Rattle.arc_tables.specs.Rings.{Rings}
-use Rattle.shared_arcs.specs.Joined.{AreNeighbours}
-use Rattle.shared_arcs.specs.declared.around.Neighbours.TheVariants.{Two}
-use Rattle.map_frame.specs.Framed.{Framed}
-use Rattle.feature_exchange.specs.Stored.{stored, document_of}
-use Rattle.feature_exchange.specs.Holds.{Holds, IsIndexed}
-use Rattle.arc_store.specs.Planned.{AreAround, spokes}
+use Rattle.feature_exchange.specs.Holds.{IsIndexed}
 
 -- ---- when the tables may change, whatever the edit sweeps over
 
@@ -68,69 +59,3 @@ pub record IsRemovable (d : Document) (held : SegmentSet) (p : Position) (t : Se
   pub without : (s : Segment)
       → is_segment (del d p) s ≡ ((is_segment d s && not (is_end p s)) || segment_eq s t)
   pub sweeps : remove_sweeps d p ≡ holds_other d (t.lo ∷ p ∷ t.hi ∷ []) t.lo p t.hi
-
--- ---- what is read around a vertex
-
--- the tables of a map, where p is a vertex and q is none
-pub record HasMoving (places : Placement) (rings : Rings) (p q : Position) : Type 0 where
-  pub frame : Framed
-  pub held : SegmentSet
-  pub holds : Holds (stored frame rings places) held
-  pub vertex : is_vertex (document_of (stored frame rings places)) p ≡ true
-  pub free : is_vertex (document_of (stored frame rings places)) q ≡ false
-
--- what is read for a move: the vertex at p, the positions that it is joined to, the segments to
--- these from p, which go, and from q, which come
-pub record IsMoving (places : Placement) (rings : Rings) (p q : Position) (key : ℕ)
-    (around : List Position) (before after : List Segment) : Type 0 where
-  pub here : table.get places key ≡ Some p
-  pub all : AreAround places rings key around
-  pub goes : before ≡ spokes p around
-  pub comes : after ≡ spokes q around
-
--- what is read for an insertion: the vertices at a and b, their segment, which goes, and those from
--- q, which come
-pub record IsParting (places : Placement) (a b q : Position) (j k : ℕ) (before : Segment)
-    (after : List Segment) : Type 0 where
-  pub first : table.get places j ≡ Some a
-  pub second : table.get places k ≡ Some b
-  pub goes : before ≡ segment a b
-  pub comes : after ≡ spokes q (a ∷ b ∷ [])
-
--- the tables of a map, where p is a vertex and no junction, its rings are long enough, and its
--- neighbours are not joined
-pub record HasBridging (places : Placement) (rings : Rings) (p : Position) : Type 0 where
-  pub frame : Framed
-  pub held : SegmentSet
-  pub holds : Holds (stored frame rings places) held
-  pub vertex : is_vertex (document_of (stored frame rings places)) p ≡ true
-  pub inner : is_junction (document_of (stored frame rings places)) p ≡ false
-  pub long : are_long (document_of (stored frame rings places)) p ≡ true
-  pub unjoined : is_bridged (document_of (stored frame rings places)) p ≡ false
-
--- what is read for a removal: the vertex at p, its two neighbours, the segments to these, which go,
--- and the segment of the two, which comes
-pub record IsBridging (places : Placement) (rings : Rings) (p : Position) (key j k : ℕ)
-    (before : List Segment) (after : Segment) : Type 0 where
-  pub here : table.get places key ≡ Some p
-  pub two : AreNeighbours rings key (Two j k)
-  pub a : Position
-  pub b : Position
-  pub first : table.get places j ≡ Some a
-  pub second : table.get places k ≡ Some b
-  pub goes : before ≡ spokes p (a ∷ b ∷ [])
-  pub comes : after ≡ segment a b
-
--- ---- what becomes of the tables
-
--- a new vertex at q stands between those of a and b in every ring that has their segment
-pub record PutBetween (places places' : Placement) (rings rings' : Rings) (a b : ℕ) (q : Position) : Type 0 where
-  pub key : ℕ
-  pub new : table.get places key ≡ None
-  pub placed : places' ≡ table.insert places key q
-  pub edited : (r : ℕ) → table.get rings' r ≡ option_map (through a b key) (table.get rings r)
-
--- vertex k moved onto b and is gone
-pub record TakenOut (places places' : Placement) (rings rings' : Rings) (k b : ℕ) : Type 0 where
-  pub placed : places' ≡ table.remove places k
-  pub edited : (r : ℕ) → table.get rings' r ≡ option_map (collapsed k b) (table.get rings r)

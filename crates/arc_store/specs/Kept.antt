@@ -1,5 +1,6 @@
 -- A map's tables as its callers see them, and what is true of them.
 use Rattle.std.specs.Prelude.{ℕ, ◌≡◌, length, Option}
+use Rattle.edit_records.specs.Records.{Record}
 use Rattle.ring_machine.specs.Parts.{size}
 use Rattle.ring_machine.specs.Query.{distinct_segments}
 use Rattle.segment_index.specs.Candidates.{SegmentSet}
@@ -12,12 +13,14 @@ use Rattle.arc_store.specs.State.{State}
 use Rattle.feature_exchange.specs.Holds.{Holds}
 
 -- the map as its callers see it
-abbrev pub state_of : Framed → Rings → Placement → ℕ → Option GridFrame → State
-state_of frame rings places tests cells = record {
+abbrev pub state_of : Framed → Rings → Placement → ℕ → Option GridFrame → Option Record → State
+state_of frame rings places tests cells last = record {
   doc = document_of (stored frame rings places);
   next = frame.next;
+  places = frame.places;
   tests = tests;
   cells = cells;
+  last = last;
 }
 
 -- what is true of the tables of every map

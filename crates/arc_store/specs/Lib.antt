@@ -1,10 +1,10 @@
 pub mod Edits
+pub mod Exchanged
 pub mod Faults
 pub mod Kept
 pub mod Named
 pub mod Near
-pub mod Planned
-pub mod RingPlaces
+pub mod Recorded
 pub mod Splits
 pub mod Spots
 pub mod State

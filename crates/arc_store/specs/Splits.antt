@@ -1,19 +1,20 @@
 -- A feature that a path may cut in two, and what the code decides of it.
 use Rattle.std.specs.Prelude.{ℕ, ◌≡◌, ◌<◌, ◌+◌, ◌*◌, ◌&&◌, Bool, true, false, List, [], ◌∷◌}
-use Rattle.std.specs.Prelude.{nat_lt, nat_le, not, length, take, slice_index_or, Option}
+use Rattle.std.specs.Prelude.{nat_lt, nat_le, length, take, slice_index_or, slice_set}
 use Rattle.std.specs.List.{list_any}
 use Rattle.grid_geometry.specs.Position.{Position}
 use Rattle.ring_machine.specs.Ring.{is_distinct}
-use Rattle.ring_machine.specs.Command.{Refusal, WrongSide, TooLarge}
 use Rattle.ring_machine.specs.Document.{Document}
 use Rattle.ring_machine.specs.Parts.{has_feature, is_vertex, size}
 use Rattle.ring_machine.specs.Planar.{Proper}
 use Rattle.ring_machine.specs.WellFormed.{WellFormed}
-use Rattle.ring_machine.specs.Cut.{Path, is_cut_by, is_wrong_side, first_that}
-use Rattle.ring_machine.specs.Refusals.{◌unless◌, feature_at, is_layer, positions_of}
+use Rattle.ring_machine.specs.Cut.{Path, is_cut_by, first_that}
+use Rattle.ring_machine.specs.Refusals.{feature_at, is_layer, positions_of}
 use Rattle.ring_machine.specs.Refusals.{is_path_segment}
+use Rattle.ring_parts.specs.Seen.{rings_seen, polygons_seen}
 use Rattle.segment_index.specs.Candidates.{SegmentSet}
 use Rattle.feature_exchange.specs.Holds.{IsIndexed}
+use Rattle.arc_store.specs.declared.raw_split.FirstCut.{FirstCut}
 
 -- the conditions of a split that come before conflicts, for a document of a map
 pub record IsCuttable (d : Document) (n : ℕ) (path : Path) : Type 0 where
@@ -34,16 +35,16 @@ pub record IsFirstCut (polygons : List (List (List Position))) (path : Path) (pl
   pub first : first_that (is_cut_by path) polygons ≡ p ∷ []
   pub none_before : list_any (is_cut_by path) (take place polygons) ≡ false
 
+-- what was found is that polygon and its place, and the polygons without its rings
+pub record IsFound {A : Type 0} (d : Document) (n : ℕ) (path : Path) (found : FirstCut A) : Type 0 where
+  pub first : IsFirstCut (feature_at d n).polygons path found.place (rings_seen found.rings.items)
+  pub others : polygons_seen found.others.items ≡ slice_set (feature_at d n).polygons found.place []
+
 -- a number is left for a feature, and room for a path that has so many inner positions, in a map of
 -- so many positions
 abbrev pub has_room : ℕ → ℕ → ℕ → Bool
 has_room next positions inner =
     nat_lt next 200000 && nat_le (positions + 2 + 2 * inner) 4000000
-
--- the refusals of a split that come after conflicts: a part on the wrong side, then the limits
-abbrev pub last_refusals : Path → List (List Position) → Bool → List (Option Refusal)
-last_refusals path polygon room =
-    (WrongSide unless not (is_wrong_side path polygon)) ∷ (TooLarge unless room) ∷ []
 
 -- the path may cut feature n, in this polygon first; an index holds the segments of the document; and
 -- the limits leave room, or do not

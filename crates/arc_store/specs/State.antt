@@ -1,12 +1,17 @@
 -- A map as its callers see it.
-use Rattle.std.specs.Prelude.{ℕ, Option}
+use Rattle.std.specs.Prelude.{ℕ, List, Option}
 use Rattle.ring_machine.specs.Document.{Document}
+use Rattle.edit_records.specs.Places.{LayerTree}
+use Rattle.edit_records.specs.Records.{Record}
 use Rattle.segment_index.specs.Frames.{Frame}
 
--- the document, the number of the next new feature, how many tests of two segments the last edit
--- made, and the frame of the cells of the index, where it has cells
+-- the document, the number of the next new feature, the places of all numbers below it, how many
+-- tests of two segments the last edit made, the frame of the cells of the index, where it has cells,
+-- and what takes the last edit back, where it changed the map and was not asked for since
 pub record State : Type 0 where
   pub doc : Document
   pub next : ℕ
+  pub places : List LayerTree
   pub tests : ℕ
   pub cells : Option Frame
+  pub last : Option Record

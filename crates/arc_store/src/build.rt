@@ -1,4 +1,4 @@
-ghost use Rattle.std.specs.Prelude.{◌≡◌, IfOk, IfErr, length};
+ghost use Rattle.std.specs.Prelude.{◌≡◌, None, IfOk, IfErr, length};
 ghost use Rattle.std.specs.FinSet as set;
 ghost use Rattle.ring_machine.specs.Parts.{features};
 ghost use Rattle.ring_machine.specs.Planar.{Proper, first_pair};
@@ -26,6 +26,7 @@ impl<'a, I: SegIndex, A: Allocator + Copy> Map<'a, I, A> {
         ensures next { IfOk result (λ map. map.next ≡ length (features map.doc)) }
         ensures untested { IfOk result (λ map. map.tests ≡ 0) }
         ensures cells { IfOk result (λ map. map.cells ≡ I.cells index) }
+        ensures none { IfOk result (λ map. map.last ≡ None) }
         ensures conflict { IfErr result
             (λ fault. Names fault (first_pair (document_of (view_raw raw.entry)))) }
     {
@@ -49,6 +50,7 @@ impl<'a, I: SegIndex, A: Allocator + Copy> Map<'a, I, A> {
             tests: TestCount::new(),
             positions: laid.positions,
             segments: laid.segments,
+            last: None,
         })
     }
 }

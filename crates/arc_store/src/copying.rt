@@ -1,14 +1,15 @@
-ghost use Rattle.std.specs.Prelude.{◌≡◌, IfOk};
+ghost use Rattle.std.specs.Prelude.{◌≡◌, None, IfOk};
 
 use crate::map::Map;
 use segment_index::SegIndex;
 use std::alloc::{AllocError, Allocator};
 
 impl<'a, I: SegIndex, A: Allocator + Copy> Map<'a, I, A> {
-    /// Another map with the same document, next number and count of tests, in memory of the same
-    /// allocator. Fails for want of memory alone.
+    /// Another map with the same document, places, next number and count of tests, in memory of the
+    /// same allocator; what takes the last edit back stays with this one. Fails for want of memory
+    /// alone.
     pub fn copy(&self) -> Result<Map<'a, I, A>, AllocError>
-        ensures { IfOk result (λ copy. copy ≡ self.now) }
+        ensures { IfOk result (λ copy. copy ≡ record self.now { last = None }) }
     {
         let frame = self.frame.copy()?;
         let vertices = self.vertices.copy()?;
@@ -23,6 +24,7 @@ impl<'a, I: SegIndex, A: Allocator + Copy> Map<'a, I, A> {
             tests: self.tests,
             positions: self.positions,
             segments: self.segments,
+            last: None,
         })
     }
 }

@@ -1,6 +1,9 @@
 ghost use Rattle.std.specs.Prelude.{◌≡◌, ◌≤◌, ℕ, None, length};
+ghost use Rattle.edit_records.specs.Records.{IsHeld};
 ghost use Rattle.ring_machine.specs.Parts.{feature, features, size, is_vertex};
 ghost use Rattle.ring_machine.specs.Query.{vertices, distinct_segments};
+ghost use Rattle.topo_outline.specs.Kept.{KeepsTexts};
+ghost use Rattle.map_frame.specs.Placed.{ArePlaced};
 
 use crate::map::Map;
 use grid_geometry::Pos;
@@ -36,10 +39,14 @@ impl<'a, I: SegIndex, A: Allocator + Copy> Map<'a, I, A> {
         self.positions
     }
 
-    /// The number of the next new feature; no feature has it, or a greater one.
+    /// The number of the next new feature; no feature has it, or a greater one. The features of
+    /// every map stand at the places of their numbers.
     pub fn next_number(&self) -> u32
         ensures next { result ≡ self.now.next }
         ensures below { (m : ℕ) → self.now.next ≤ m → feature self.now.doc m ≡ None }
+        ensures held { IsHeld self.now.places self.now.next self.now.doc }
+        ensures placed { ArePlaced self.now.places self.now.next self.now.doc }
+        ensures keeps { KeepsTexts self.now.doc }
     {
         self.frame.next()
     }

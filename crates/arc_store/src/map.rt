@@ -1,3 +1,4 @@
+use crate::edit_record::Record;
 use local_planarity::TestCount;
 use map_frame::Frame;
 use segment_index::SegIndex;
@@ -7,8 +8,9 @@ use std::marker::Model;
 use vertex_index::Vertices;
 
 /// A map of shared borders, in which no two segments conflict. It is seen as its document, the
-/// number of the next new feature, how many tests the last edit made, and the frame of the cells of
-/// its index. The index always holds exactly the segments of its document.
+/// number of the next new feature, the places of the numbers below it, how many tests the last edit
+/// made, the frame of the cells of its index, and what takes the last edit back. The index always
+/// holds exactly the segments of its document.
 #[derive(Drop)]
 pub struct Map<'a, I: SegIndex, A: Allocator + Copy = Global> {
     pub(crate) alloc: A,
@@ -21,16 +23,21 @@ pub struct Map<'a, I: SegIndex, A: Allocator + Copy = Global> {
     pub(crate) positions: usize,
     /// How many segments there are, each counted once.
     pub(crate) segments: usize,
+    /// What takes the last edit back, until it is handed out.
+    pub(crate) last: Option<Record<'a, A>>,
 }
 
 impl<'a, I: SegIndex, A: Allocator + Copy> Model for Map<'a, I, A> {
+    ghost use Rattle.std.specs.Prelude.{option_map};
+    ghost use Rattle.arc_store.specs.Recorded.{record_seen};
     ghost use Rattle.arc_store.specs.State.{State};
 
     ghost Value = { State };
 
     ghost use Rattle.arc_store.specs.Kept.{state_of, IsKept};
 
-    ghost view = { λ m. state_of m.frame m.borders m.vertices m.tests (I.cells m.index) };
+    ghost view = { λ m. state_of m.frame m.borders m.vertices m.tests (I.cells m.index)
+        (option_map record_seen m.last) };
 
     ghost invariant = { λ m.
         IsKept m.frame m.borders m.vertices (I.held m.index) m.positions m.segments };

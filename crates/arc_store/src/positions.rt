@@ -2,9 +2,10 @@ ghost use Rattle.std.specs.Prelude.{◌≡◌, IfOk};
 ghost use Rattle.ring_machine.specs.Query.{vertices};
 ghost use Rattle.ring_machine.specs.Refusals.{feature_at};
 ghost use Rattle.ring_parts.specs.Seen.{polygons_seen};
+ghost use Rattle.map_frame.specs.Readers.{ring_at};
 
 use crate::map::Map;
-use feature_exchange::{read_polygons, read_vertices};
+use feature_exchange::{RingIter, read_polygons, read_vertices};
 use grid_geometry::Pos;
 use segment_index::SegIndex;
 use std::alloc::{AllocError, Allocator};
@@ -17,6 +18,16 @@ impl<'a, I: SegIndex, A: Allocator + Copy> Map<'a, I, A> {
             (λ found. polygons_seen found.items ≡ (feature_at self.now.doc n).polygons) }
     {
         read_polygons(self.alloc, &self.frame, &self.vertices, &self.borders, n)
+    }
+
+    /// The positions of a ring, from the least one on: of the feature with this number the polygon
+    /// and the ring of these numbers, where the outer ring is the first one. `None` where there is
+    /// no such ring. Takes no memory.
+    pub fn ring(&self, n: u32, polygon: usize, ring: usize) -> Option<RingIter<'_, A>>
+        ensures { result ≡ ring_at self.now.doc n polygon ring }
+    {
+        let number = self.frame.ring(n, polygon, ring)?;
+        RingIter::begin(self.borders.keys(number)?, &self.vertices)
     }
 
     /// The positions of all vertices, ascending, each once. Walks the map.

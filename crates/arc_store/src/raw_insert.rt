@@ -1,150 +1,28 @@
 ghost use Rattle.std.specs.Prelude.{◌≡◌, ◌≢◌, ◌≤◌, ◌+◌, ℕ, true, false, List, Some, None, [], ◌∷◌};
 ghost use Rattle.std.specs.Prelude.{OnOk, OnErr, IfOk, IfErr};
-ghost use Rattle.std.specs.FinMap as table;
-ghost use Rattle.std.specs.FinSet as set;
 ghost use Rattle.grid_geometry.specs.Segment.{Segment, segment};
 ghost use Rattle.ring_machine.specs.Document.{Document};
 ghost use Rattle.ring_machine.specs.Parts.{is_vertex, is_segment, size};
-ghost use Rattle.ring_machine.specs.Ring as machine;
 ghost use Rattle.ring_machine.specs.Refusals.{first_of, insert_refusals};
 ghost use Rattle.ring_machine.specs.Vertices.{ins};
-ghost use Rattle.segment_index.specs.Candidates.{AreSingle};
+ghost use Rattle.edit_records.specs.Records as made;
 ghost use Rattle.segment_index.specs.Times.{times_by};
-ghost use Rattle.arc_tables.specs.Edited.{AreApart as AreThree};
-ghost use Rattle.arc_tables.specs.Rings.{users_of};
-ghost use Rattle.shared_arcs.specs.Joined.{Joined};
 ghost use Rattle.local_planarity.specs.Edits.{AreApart, IsAfter};
 ghost use Rattle.local_planarity.specs.Tests.{most_for, most_tests};
 ghost use Rattle.local_planarity.specs.declared.leaving.Leaving.TheVariants.{One};
-ghost use Rattle.arc_store.specs.Edits.{IsInsertable, IsPlaceable, IsParting, PutBetween};
+ghost use Rattle.arc_store.specs.Edits.{IsInsertable, IsPlaceable};
 ghost use Rattle.arc_store.specs.Faults.{Refuses};
-ghost use Rattle.arc_store.specs.Planned as planned;
-ghost use Rattle.arc_store.specs.Planned.{AreNew, Exchanges};
-ghost use Rattle.arc_store.specs.declared.fault.EditFault.TheVariants.{OutOfMemory};
+ghost use Rattle.vertex_changes.specs.Planned as planned;
 
+use crate::edit_record::Record;
 use crate::fault::EditFault;
 use crate::map::Map;
-use crate::plan::{add_all, discard_all, spokes, test_planar};
+use crate::plan::test_planar;
 use grid_geometry::{Pos, Seg};
 use local_planarity::{Leaving, TestCount, holds_other};
 use segment_index::SegIndex;
-use shared_arcs::Borders;
 use std::alloc::{AllocError, Allocator};
-use vertex_index::{VertexKey, Vertices};
-
-/// A segment that a vertex is to come into.
-#[derive(Drop)]
-struct Parting<A: Allocator + Copy> {
-    /// The vertices at its ends.
-    ends: (VertexKey, VertexKey),
-    /// Itself.
-    before: Seg,
-    /// The segments from its ends to where the vertex comes.
-    after: Vec<Seg, A>,
-}
-
-/// What a vertex at q between those at a and b changes in the tables. Fails for want of memory
-/// alone.
-fn read_parting<A: Allocator + Copy>(
-    alloc: A,
-    vertices: &Vertices<A>,
-    a: Pos,
-    b: Pos,
-    q: Pos,
-) -> Result<Parting<A>, EditFault>
-    requires different { a ≢ b }
-    requires first { (j : ℕ) × (table.get vertices.now j ≡ Some a) }
-    requires second { (k : ℕ) × (table.get vertices.now k ≡ Some b) }
-    requires apart { machine.has (a ∷ b ∷ []) q ≡ false }
-    ensures read { IfOk result (λ r. IsParting vertices.now a b q
-        r.ends.0 r.ends.1 r.before r.after.items) }
-    ensures memory { IfErr result (λ fault. fault ≡ OutOfMemory) }
-{
-    let Some(i) = vertices.key_of(a) else {
-        return Err(EditFault::NoSegment);
-    };
-    let Some(j) = vertices.key_of(b) else {
-        return Err(EditFault::NoSegment);
-    };
-    let Some(before) = Seg::new(a, b) else {
-        return Err(EditFault::NoSegment);
-    };
-    let after = spokes(alloc, q, &[a, b])?;
-    Ok(Parting {
-        ends: (i, j),
-        before,
-        after,
-    })
-}
-
-/// Puts a vertex at q between two that are joined, in the tables of vertices and of borders. Where
-/// that fails for want of memory both are as they were.
-fn put_between<A: Allocator + Copy>(
-    vertices: &mut Vertices<A>,
-    borders: &mut Borders<A>,
-    a: VertexKey,
-    b: VertexKey,
-    q: Pos,
-) -> Result<(), AllocError>
-    requires unjoined { (k x : ℕ) → table.get vertices.old k ≡ None → ¬ Joined borders.old k x }
-    requires apart { (k : ℕ) → table.get vertices.old k ≡ None → AreThree a b k }
-    ensures put { OnOk result (PutBetween vertices.old vertices.new borders.old borders.new a b q) }
-    ensures vertices { OnErr result (vertices.new ≡ vertices.old) }
-    ensures borders { OnErr result (borders.new ≡ borders.old) }
-{
-    let Ok(k) = vertices.add(q) else {
-        return Err(AllocError);
-    };
-    match borders.insert(a, b, k) {
-        Ok(()) => Ok(()),
-        Err(e) => {
-            vertices.remove(k);
-            Err(e)
-        }
-    }
-}
-
-/// Puts a vertex at q between two that are joined, where their segment goes and the added ones
-/// come, and says how many rings have it. Where that fails for want of memory all three tables are
-/// as they were.
-fn put_in<I: SegIndex, A: Allocator + Copy>(
-    vertices: &mut Vertices<A>,
-    borders: &mut Borders<A>,
-    index: &mut I,
-    ends: (VertexKey, VertexKey),
-    q: Pos,
-    before: Seg,
-    after: &[Seg],
-) -> Result<usize, EditFault>
-    requires unjoined { (k x : ℕ) → table.get vertices.old k ≡ None → ¬ Joined borders.old k x }
-    requires apart { (k : ℕ) → table.get vertices.old k ≡ None → AreThree ends.0 ends.1 k }
-    requires held { set.contains (I.held index.old) before ≡ true }
-    requires new { AreNew (I.held index.old) after.now }
-    requires single { AreSingle after.now }
-    ensures put { OnOk result
-        (PutBetween vertices.old vertices.new borders.old borders.new ends.0 ends.1 q) }
-    ensures exchanged { OnOk result
-        (Exchanges (I.held index.old) after.now (before ∷ []) (I.held index.new)) }
-    ensures rings { IfOk result (λ n. n ≡ users_of borders.old ends.0 ends.1) }
-    ensures memory { IfErr result (λ fault. fault ≡ OutOfMemory) }
-    ensures vertices { OnErr result (vertices.new ≡ vertices.old) }
-    ensures borders { OnErr result (borders.new ≡ borders.old) }
-    ensures unchanged { OnErr result (I.held index.new ≡ I.held index.old) }
-    ensures cells { I.cells index.new ≡ I.cells index.old }
-{
-    let rings = borders.uses(ends.0, ends.1);
-    add_all(index, after)?;
-    match put_between(vertices, borders, ends.0, ends.1, q) {
-        Ok(()) => {
-            index.discard(before);
-            Ok(rings)
-        }
-        Err(_) => {
-            discard_all(index, after);
-            Err(EditFault::OutOfMemory)
-        }
-    }
-}
+use vertex_changes::{put_in, read_parting};
 
 /// Tests that nothing stands in the way of q between the ends of a segment, which goes while the
 /// added ones come.
@@ -191,10 +69,13 @@ impl<'a, I: SegIndex, A: Allocator + Copy> Map<'a, I, A> {
         requires small { size (ins self.old.doc a b q) ≤ 4000000 }
         ensures accepted { OnOk result (first_of (insert_refusals self.old.doc a b q) ≡ None) }
         ensures inserted { OnOk result (self.new.doc ≡ ins self.old.doc a b q) }
+        ensures recorded { OnOk result (self.new.last ≡ Some (made.Inserted q)) }
         ensures refused { IfErr result
             (λ fault. Refuses fault (first_of (insert_refusals self.old.doc a b q))) }
         ensures unchanged { OnErr result (self.new.doc ≡ self.old.doc) }
+        ensures still { OnErr result (self.new.last ≡ self.old.last) }
         ensures next { self.new.next ≡ self.old.next }
+        ensures places { self.new.places ≡ self.old.places }
         ensures few { self.new.tests ≤ self.old.tests
             + most_for (times_by self.old.cells) self.old.doc (ins self.old.doc a b q) }
         ensures cells { self.new.cells ≡ self.old.cells }
@@ -208,20 +89,17 @@ impl<'a, I: SegIndex, A: Allocator + Copy> Map<'a, I, A> {
         let rings = put_in(vertices, borders, &mut self.index, ends, q, before, after)?;
         self.positions += rings;
         self.segments += 1;
+        self.keep(Record::Inserted(q));
         Ok(())
     }
 
     /// Puts q between a and b as a raw insertion does, but makes no test of two segments and asks of
     /// no sweep: no two segments would be in conflict. Fails for want of memory alone, and then
     /// changes nothing.
-    fn insert_tables(&mut self, a: Pos, b: Pos, q: Pos) -> Result<(), EditFault>
+    pub(crate) fn insert_tables(&mut self, a: Pos, b: Pos, q: Pos) -> Result<(), AllocError>
         requires placeable { IsPlaceable self.old.doc a b q }
-        ensures inserted { OnOk result (self.new.doc ≡ ins self.old.doc a b q) }
-        ensures memory { IfErr result (λ fault. fault ≡ OutOfMemory) }
-        ensures unchanged { OnErr result (self.new.doc ≡ self.old.doc) }
-        ensures next { self.new.next ≡ self.old.next }
-        ensures tests { self.new.tests ≡ self.old.tests }
-        ensures cells { self.new.cells ≡ self.old.cells }
+        ensures inserted { OnOk result (self.new ≡ record self.old { doc = ins self.old.doc a b q }) }
+        ensures unchanged { OnErr result (self.new ≡ self.old) }
     {
         let parting = read_parting(self.alloc, &self.vertices, a, b, q)?;
         let (ends, before) = (parting.ends, parting.before);

@@ -1,6 +1,5 @@
-ghost use Rattle.std.specs.Prelude.{◌≡◌, ◌≢◌, ◌≤◌, ◌+◌, ◌||◌, true, false, List, None};
+ghost use Rattle.std.specs.Prelude.{◌≡◌, ◌≢◌, ◌≤◌, ◌+◌, ◌||◌, true, false, List, Some, None};
 ghost use Rattle.std.specs.Prelude.{OnOk, OnErr, IfOk, IfErr};
-ghost use Rattle.std.specs.FinMap as table;
 ghost use Rattle.std.specs.List.{list_any};
 ghost use Rattle.grid_geometry.specs.Segment.{Segment, segment};
 ghost use Rattle.ring_machine.specs.Document.{Document};
@@ -8,65 +7,23 @@ ghost use Rattle.ring_machine.specs.Sweep.{edge_sweeps, crosses_on_way};
 ghost use Rattle.ring_machine.specs.Parts.{is_vertex};
 ghost use Rattle.ring_machine.specs.Refusals.{first_of, move_refusals};
 ghost use Rattle.ring_machine.specs.Vertices.{put};
-ghost use Rattle.segment_index.specs.Candidates.{AreAmong, AreSingle};
+ghost use Rattle.edit_records.specs.Records as made;
 ghost use Rattle.segment_index.specs.Times.{times_by};
 ghost use Rattle.local_planarity.specs.Edits.{IsHeld};
 ghost use Rattle.local_planarity.specs.Tests.{most_for_move, most_given};
-ghost use Rattle.arc_store.specs.Edits.{HasMoving, IsMoving, IsMovable};
+ghost use Rattle.arc_store.specs.Edits.{IsMovable};
 ghost use Rattle.arc_store.specs.Faults.{Refuses};
 ghost use Rattle.feature_exchange.specs.Holds.{IsIndexed};
-ghost use Rattle.arc_store.specs.Planned.{AreNew, Exchanges};
-ghost use Rattle.arc_store.specs.declared.fault.EditFault.TheVariants.{OutOfMemory};
 
+use crate::edit_record::Record;
 use crate::fault::EditFault;
 use crate::map::Map;
-use crate::plan::{add_all, discard_all, positions_around, spokes, test_planar};
-use grid_geometry::{Pos, Seg};
+use crate::plan::test_planar;
+use grid_geometry::Pos;
 use local_planarity::{Leaving, TestCount, crosses_on_way, holds_other};
 use segment_index::SegIndex;
-use shared_arcs::Borders;
 use std::alloc::{AllocError, Allocator};
-use vertex_index::{VertexKey, Vertices};
-
-/// A vertex that is to move.
-#[derive(Drop)]
-struct Moving<A: Allocator + Copy> {
-    key: VertexKey,
-    /// The positions of the vertices that are joined to it.
-    around: Vec<Pos, A>,
-    /// The segments to these from where it is.
-    before: Vec<Seg, A>,
-    /// The segments to these from where it goes.
-    after: Vec<Seg, A>,
-}
-
-/// What a move of the vertex at p to q, where none is, changes in the tables. Fails for want of
-/// memory alone.
-fn read_moving<A: Allocator + Copy>(
-    alloc: A,
-    vertices: &Vertices<A>,
-    borders: &Borders<A>,
-    p: Pos,
-    q: Pos,
-) -> Result<Moving<A>, EditFault>
-    requires { HasMoving vertices.now borders.now p q }
-    ensures read { IfOk result (λ m. IsMoving vertices.now borders.now p q
-        m.key m.around.items m.before.items m.after.items) }
-    ensures memory { IfErr result (λ fault. fault ≡ OutOfMemory) }
-{
-    let Some(key) = vertices.key_of(p) else {
-        return Err(EditFault::NoVertex);
-    };
-    let around = positions_around(alloc, vertices, borders, key)?;
-    let before = spokes(alloc, p, around.as_slice())?;
-    let after = spokes(alloc, q, around.as_slice())?;
-    Ok(Moving {
-        key,
-        around,
-        before,
-        after,
-    })
-}
+use vertex_changes::{read_moving, shift};
 
 /// Whether the edge to one of these sweeps over a position when p moves to q, or p itself passes
 /// over a segment.
@@ -92,41 +49,6 @@ fn sweeps<I: SegIndex, A: Allocator + Copy>(
     crosses_on_way(alloc, index, p, q, tests)
 }
 
-/// Moves vertex `k`, in the table of vertices and in the index. Where that fails for want of memory
-/// both are as they were.
-fn shift<I: SegIndex, A: Allocator + Copy>(
-    vertices: &mut Vertices<A>,
-    index: &mut I,
-    k: VertexKey,
-    q: Pos,
-    before: &[Seg],
-    after: &[Seg],
-) -> Result<(), EditFault>
-    requires key { table.contains_key vertices.old k ≡ true }
-    requires new { AreNew (I.held index.old) after.now }
-    requires after_once { AreSingle after.now }
-    requires held { AreAmong (I.held index.old) before.now }
-    requires before_once { AreSingle before.now }
-    ensures moved { OnOk result (vertices.new ≡ table.insert vertices.old k q) }
-    ensures exchanged { OnOk result
-        (Exchanges (I.held index.old) after.now before.now (I.held index.new)) }
-    ensures memory { IfErr result (λ fault. fault ≡ OutOfMemory) }
-    ensures vertices { OnErr result (vertices.new ≡ vertices.old) }
-    ensures index { OnErr result (I.held index.new ≡ I.held index.old) }
-    ensures cells { I.cells index.new ≡ I.cells index.old }
-{
-    add_all(index, after)?;
-    match vertices.shift(k, q) {
-        Ok(()) => {}
-        Err(_) => {
-            discard_all(index, after);
-            return Err(EditFault::OutOfMemory);
-        }
-    }
-    discard_all(index, before);
-    Ok(())
-}
-
 impl<'a, I: SegIndex, A: Allocator + Copy> Map<'a, I, A> {
     /// Moves the vertex at p to q, which is none, in every ring that has it. Refused where two
     /// segments would be in conflict, where the move sweeps over a position or a segment, or for want
@@ -136,10 +58,13 @@ impl<'a, I: SegIndex, A: Allocator + Copy> Map<'a, I, A> {
         requires free { is_vertex self.old.doc q ≡ false }
         ensures accepted { OnOk result (first_of (move_refusals self.old.doc p q) ≡ None) }
         ensures moved { OnOk result (self.new.doc ≡ put self.old.doc p q) }
+        ensures recorded { OnOk result (self.new.last ≡ Some (made.Moved p q)) }
         ensures refused { IfErr result
             (λ fault. Refuses fault (first_of (move_refusals self.old.doc p q))) }
         ensures unchanged { OnErr result (self.new.doc ≡ self.old.doc) }
+        ensures still { OnErr result (self.new.last ≡ self.old.last) }
         ensures next { self.new.next ≡ self.old.next }
+        ensures places { self.new.places ≡ self.old.places }
         ensures few { self.new.tests ≤ self.old.tests
             + most_for_move (times_by self.old.cells) self.old.doc p q }
         ensures cells { self.new.cells ≡ self.old.cells }
@@ -153,24 +78,23 @@ impl<'a, I: SegIndex, A: Allocator + Copy> Map<'a, I, A> {
             return Err(EditFault::Sweeps);
         }
         let (vertices, index) = (&mut self.vertices, &mut self.index);
-        shift(vertices, index, moving.key, q, before, after)
+        shift(vertices, index, moving.key, q, before, after)?;
+        self.keep(Record::Moved { from: p, to: q });
+        Ok(())
     }
 
     /// Moves the vertex at p to q as a raw move does, but makes no test of two segments and asks of
     /// no sweep: no two segments would be in conflict. Fails for want of memory alone, and then
     /// changes nothing.
-    fn move_tables(&mut self, p: Pos, q: Pos) -> Result<(), EditFault>
+    pub(crate) fn move_tables(&mut self, p: Pos, q: Pos) -> Result<(), AllocError>
         requires movable { IsMovable self.old.doc p q }
-        ensures moved { OnOk result (self.new.doc ≡ put self.old.doc p q) }
-        ensures memory { IfErr result (λ fault. fault ≡ OutOfMemory) }
-        ensures unchanged { OnErr result (self.new.doc ≡ self.old.doc) }
-        ensures next { self.new.next ≡ self.old.next }
-        ensures tests { self.new.tests ≡ self.old.tests }
-        ensures cells { self.new.cells ≡ self.old.cells }
+        ensures moved { OnOk result (self.new ≡ record self.old { doc = put self.old.doc p q }) }
+        ensures unchanged { OnErr result (self.new ≡ self.old) }
     {
         let moving = read_moving(self.alloc, &self.vertices, &self.borders, p, q)?;
         let (before, after) = (moving.before.as_slice(), moving.after.as_slice());
         let (vertices, index) = (&mut self.vertices, &mut self.index);
-        shift(vertices, index, moving.key, q, before, after)
+        shift(vertices, index, moving.key, q, before, after)?;
+        Ok(())
     }
 }

@@ -1,8 +1,13 @@
-ghost use Rattle.std.specs.Prelude.{◌≡◌};
+ghost use Rattle.std.specs.Prelude.{◌≡◌, Some, None};
+ghost use Rattle.ring_machine.specs.Document.{Feature};
+ghost use Rattle.ring_machine.specs.Parts.{feature};
+ghost use Rattle.edit_records.specs.Records as made;
 ghost use Rattle.ring_machine.specs.Machine.{renamed};
 ghost use Rattle.topo_outline.specs.Kept.{IsJson};
 
+use crate::edit_record::Record;
 use crate::map::Map;
+use map_frame::Id;
 use segment_index::SegIndex;
 use std::alloc::Allocator;
 
@@ -11,8 +16,15 @@ impl<'a, I: SegIndex, A: Allocator + Copy> Map<'a, I, A> {
     /// nothing.
     pub fn raw_rename(&mut self, n: u32, id: Vec<u8, A>)
         requires text { IsJson id.items }
-        ensures { self.new ≡ record self.old { doc = renamed self.old.doc n id.items } }
+        ensures renamed { (f : Feature) → feature self.old.doc n ≡ Some f → self.new ≡ record self.old {
+          doc = renamed self.old.doc n id.items;
+          last = Some (made.Renamed n f.id);
+        } }
+        ensures unchanged { feature self.old.doc n ≡ None → self.new ≡ self.old }
     {
-        self.frame.rename(n, id);
+        if self.has_feature(n) {
+            let id = self.frame.rename(n, Id::given(id));
+            self.keep(Record::Renamed { number: n, id });
+        }
     }
 }

@@ -1,16 +1,18 @@
-ghost use Rattle.std.specs.Prelude.{◌≡◌, ◌≤◌, ◌<◌, ◌+◌, ℕ, true, false, List, None, map, length};
+ghost use Rattle.std.specs.Prelude.{◌≡◌, ◌≤◌, ◌<◌, ◌+◌, ℕ, true, false, List, [], ◌∷◌, Some, None, map, length};
 ghost use Rattle.std.specs.Prelude.{IfOk, OnOk, OnErr, IfErr, IsTrue};
 ghost use Rattle.std.specs.List.{list_any};
 ghost use Rattle.grid_geometry.specs.Ring.{links};
 ghost use Rattle.grid_geometry.specs.Segment.{Segment};
 ghost use Rattle.ring_machine.specs.Cut.{cut, path_of, is_cut_by};
 ghost use Rattle.ring_machine.specs.Document.{Document, Text};
-ghost use Rattle.ring_machine.specs.Parts.{has_feature, is_vertex};
+ghost use Rattle.ring_machine.specs.Parts.{feature, has_feature, is_vertex};
 ghost use Rattle.ring_machine.specs.Planar.{Proper};
 ghost use Rattle.ring_machine.specs.Refusals.{first_of, split_refusals, feature_at, is_layer};
 ghost use Rattle.ring_machine.specs.Refusals.{positions_of, is_path_segment};
 ghost use Rattle.ring_machine.specs.Ring.{is_distinct, segment_of};
 ghost use Rattle.ring_machine.specs.WellFormed.{WellFormed};
+ghost use Rattle.edit_records.specs.Places.{grown};
+ghost use Rattle.edit_records.specs.Records as made;
 ghost use Rattle.topo_outline.specs.Kept.{IsJson};
 ghost use Rattle.ring_parts.specs.Seen.{path_seen, rings_seen, outer_length};
 ghost use Rattle.segment_index.specs.Times.{times_by};
@@ -18,17 +20,19 @@ ghost use Rattle.local_planarity.specs.Edits.{AreApart, IsAfter};
 ghost use Rattle.local_planarity.specs.Tests.{most_for, most_tests};
 ghost use Rattle.local_planarity.specs.declared.leaving.Leaving.TheVariants.{Nothing};
 ghost use Rattle.arc_store.specs.Faults.{Refuses};
-ghost use Rattle.arc_store.specs.Splits.{IsCuttable, IsFirstCut, IsTested, has_room, last_refusals};
+ghost use Rattle.arc_store.specs.Splits.{IsCuttable, IsFound, IsTested, has_room};
 
+use crate::edit_record::Record;
 use crate::fault::EditFault;
 use crate::map::Map;
 use crate::plan::test_planar;
-use feature_exchange::{Parts, part_feature, read_polygons};
+use feature_exchange::two_changes;
 use grid_geometry::{Pos, Seg};
 use local_planarity::{Leaving, TestCount};
 use ring_parts::{Path, both_parts, first_cut, is_wrong_side, way_segments};
 use segment_index::SegIndex;
 use std::alloc::{AllocError, Allocator};
+use std::mem;
 
 /// Whether a number is left for a feature, and there is room for a path with so many inner positions
 /// in a map of so many positions.
@@ -38,32 +42,6 @@ fn has_room(next: u32, positions: usize, inner: usize) -> bool
     ensures { result ≡ has_room next positions inner }
 {
     next < 200_000 && positions + 2 + 2 * inner <= 4_000_000
-}
-
-/// Tests that both parts of a polygon lie on their sides, and that there is room.
-fn test_sides<A: Allocator + Copy>(
-    alloc: A,
-    path: &Path<'_>,
-    polygon: &[Vec<Pos, A>],
-    room: bool,
-) -> Result<(), EditFault>
-    requires { outer_length (rings_seen polygon.now) + length path.now.inner.now < 1099511627776 }
-    ensures accepted { OnOk result
-        (first_of (last_refusals (path_seen path.now) (rings_seen polygon.now) room) ≡ None) }
-    ensures refused { IfErr result (λ fault. Refuses fault
-        (first_of (last_refusals (path_seen path.now) (rings_seen polygon.now) room))) }
-{
-    match is_wrong_side(alloc, path, polygon) {
-        Ok(true) => Err(EditFault::WrongSide),
-        Ok(false) => {
-            if room {
-                Ok(())
-            } else {
-                Err(EditFault::TooLarge)
-            }
-        }
-        Err(_) => Err(EditFault::OutOfMemory),
-    }
 }
 
 /// Tests a path that cuts a polygon, whose segments are these: that none conflicts, that both parts
@@ -91,9 +69,16 @@ fn test_split<I: SegIndex, A: Allocator + Copy>(
         → tests.new ≤ tests.old + most_tests (times_by (I.cells index.now)) ss added.now }
 {
     match test_planar(alloc, index, Leaving::Nothing, added, tests) {
-        Ok(()) => match test_sides(alloc, path, polygon, room) {
-            Ok(()) => Ok(()),
-            Err(fault) => Err(fault),
+        Ok(()) => match is_wrong_side(alloc, path, polygon) {
+            Ok(true) => Err(EditFault::WrongSide),
+            Ok(false) => {
+                if room {
+                    Ok(())
+                } else {
+                    Err(EditFault::TooLarge)
+                }
+            }
+            Err(_) => Err(EditFault::OutOfMemory),
         },
         Err(fault) => Err(fault),
     }
@@ -106,6 +91,8 @@ struct FirstCut<A: Allocator + Copy> {
     place: usize,
     /// Its rings, the outer one first.
     rings: Vec<Vec<Pos, A>, A>,
+    /// The polygons of the feature, with none of its rings in this place.
+    others: Vec<Vec<Vec<Pos, A>, A>, A>,
 }
 
 impl<'a, I: SegIndex, A: Allocator + Copy> Map<'a, I, A> {
@@ -114,23 +101,21 @@ impl<'a, I: SegIndex, A: Allocator + Copy> Map<'a, I, A> {
     fn find_cut(&self, n: u32, path: &Path<'_>) -> Result<FirstCut<A>, AllocError>
         requires { list_any (is_cut_by (path_seen path.now)) (feature_at self.now.doc n).polygons
             ≡ true }
-        ensures first { IfOk result (λ found. IsFirstCut (feature_at self.now.doc n).polygons
-            (path_seen path.now) found.place (rings_seen found.rings.items)) }
+        ensures found { IfOk result (IsFound self.now.doc n (path_seen path.now)) }
         ensures formed { WellFormed self.now.doc }
         ensures proper { Proper self.now.doc }
     {
-        let mut polygons = read_polygons(
-            self.alloc,
-            &self.frame,
-            &self.vertices,
-            &self.borders,
-            n,
-        )?;
-        let Some(place) = first_cut(path, polygons.as_slice()) else {
+        let _ = self.next_number(); // it tells that the map is one
+        let mut others = self.polygons(n)?;
+        let Some(place) = first_cut(path, others.as_slice()) else {
             unreachable!()
         };
-        let rings = polygons.swap_remove(place);
-        Ok(FirstCut { place, rings })
+        let rings = mem::replace(&mut others[place], Vec::new(self.alloc));
+        Ok(FirstCut {
+            place,
+            rings,
+            others,
+        })
     }
 
     /// Tests that the path of these positions may cut feature `n`, in the polygon that was found.
@@ -145,8 +130,7 @@ impl<'a, I: SegIndex, A: Allocator + Copy> Map<'a, I, A> {
         requires short { length positions.now ≤ 256 }
         requires along { positions_of (path_seen path.now) ≡ positions.now }
         requires cuttable { IsCuttable self.old.doc n (path_seen path.now) }
-        requires first { IsFirstCut (feature_at self.old.doc n).polygons (path_seen path.now)
-            found.now.place (rings_seen found.now.rings.items) }
+        requires found { IsFound self.old.doc n (path_seen path.now) found.now }
         ensures accepted { OnOk result ((id : Text)
             → first_of (split_refusals self.old.doc self.old.next n id (path_seen path.now)) ≡ None) }
         ensures refused { IfErr result (λ fault. (id : Text) → Refuses fault
@@ -174,35 +158,35 @@ impl<'a, I: SegIndex, A: Allocator + Copy> Map<'a, I, A> {
         n: u32,
         id: Vec<u8, A>,
         path: &Path<'_>,
-        found: &FirstCut<A>,
+        found: FirstCut<A>,
     ) -> Result<u32, AllocError>
         requires text { IsJson id.items }
         requires cuttable { IsCuttable self.old.doc n (path_seen path.now) }
-        requires first { IsFirstCut (feature_at self.old.doc n).polygons (path_seen path.now)
-            found.now.place (rings_seen found.now.rings.items) }
+        requires found { IsFound self.old.doc n (path_seen path.now) found }
         requires accepted { first_of
             (split_refusals self.old.doc self.old.next n id.items (path_seen path.now)) ≡ None }
         ensures number { IfOk result (λ made. made ≡ self.old.next) }
-        ensures split { OnOk result (self.new.doc
-            ≡ cut self.old.doc n id.items (path_seen path.now) self.old.next) }
-        ensures next { OnOk result (self.new.next ≡ self.old.next + 1) }
+        ensures split { OnOk result (self.new ≡ record self.old {
+          doc = cut self.old.doc n id.items (path_seen path.now) self.old.next;
+          next = self.old.next + 1;
+          places = grown n self.old.next self.old.places;
+          last = Some (made.Exchanged ((n, feature self.old.doc n) ∷ (self.old.next, None) ∷ []));
+        }) }
         ensures unchanged { OnErr result (self.new ≡ self.old) }
-        ensures tests { self.new.tests ≡ self.old.tests }
-        ensures cells { self.new.cells ≡ self.old.cells }
     {
-        let (first, second) = both_parts(self.alloc, path, found.rings.as_slice())?;
-        let parts = Parts {
-            polygon: found.place,
-            first: first.as_slice(),
-            second: second.as_slice(),
-            id,
-        };
-        let (frame, vertices, borders) = (&mut self.frame, &mut self.vertices, &mut self.borders);
-        let (index, segments) = (&mut self.index, &mut self.segments);
-        let number = part_feature(
-            self.alloc, frame, vertices, borders, index, segments, n, parts,
-        )?;
-        self.positions += 2 + 2 * path.inner.len();
+        let FirstCut {
+            place,
+            rings,
+            mut others,
+        } = found;
+        let (first, second) = both_parts(self.alloc, path, rings.as_slice())?;
+        others[place] = first;
+        let number = self.next_number();
+        let kept = self.with_polygons(n, others)?;
+        let part = self.part_of(n, number, id, second)?;
+        let mut changes = two_changes(self.alloc, kept, part)?;
+        self.exchange(Some(n), changes.as_mut_slice())?;
+        self.last = Some(Record::Exchanged(changes));
         Ok(number)
     }
 
@@ -230,10 +214,12 @@ impl<'a, I: SegIndex, A: Allocator + Copy> Map<'a, I, A> {
         ensures split { OnOk result (self.new.doc
             ≡ cut self.old.doc n id.items (path_of positions.now) self.old.next) }
         ensures next { OnOk result (self.new.next ≡ self.old.next + 1) }
+        ensures places { OnOk result (self.new.places ≡ grown n self.old.next self.old.places) }
+        ensures recorded { OnOk result (self.new.last ≡ Some (made.Exchanged
+            ((n, feature self.old.doc n) ∷ (self.old.next, None) ∷ []))) }
         ensures refused { IfErr result (λ fault. Refuses fault (first_of
             (split_refusals self.old.doc self.old.next n id.items (path_of positions.now)))) }
-        ensures unchanged { OnErr result (self.new.doc ≡ self.old.doc) }
-        ensures still { OnErr result (self.new.next ≡ self.old.next) }
+        ensures unchanged { OnErr result (self.new ≡ record self.old { tests = self.new.tests }) }
         ensures few { self.new.tests ≤ self.old.tests
             + most_for (times_by self.old.cells) self.old.doc
             (cut self.old.doc n id.items (path_of positions.now) self.old.next) }
@@ -244,7 +230,7 @@ impl<'a, I: SegIndex, A: Allocator + Copy> Map<'a, I, A> {
         };
         let found = self.find_cut(n, &path)?;
         self.test_cut(n, &path, positions, &found)?;
-        let number = self.exchange_parts(n, id, &path, &found)?;
+        let number = self.exchange_parts(n, id, &path, found)?;
         Ok(number)
     }
 }

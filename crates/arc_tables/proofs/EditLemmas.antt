@@ -26,7 +26,7 @@ Turns g = (e : Edge) → g (flip e) ≡ flipped (g e)
 abbrev pub EditsArcs : (Edge → List Edge) → (ℕ → List ℕ) → (ℕ → List ℕ) → Type 0
 EditsArcs g s t = (i : ℕ) → links (t i) ≡ flat_map g (links (s i))
 
-edit-flipped : (g : Edge → List Edge) → Turns g → (es : List Edge) → flat_map g (flipped es) ≡ flipped (flat_map g es)
+pub edit-flipped : (g : Edge → List Edge) → Turns g → (es : List Edge) → flat_map g (flipped es) ≡ flipped (flat_map g es)
 edit-flipped g t [] = refl
 edit-flipped g t (e ∷ es) =
     ap (flat_map g) (flipped-append (e ∷ []) es)

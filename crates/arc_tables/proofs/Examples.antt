@@ -3,7 +3,9 @@ use Rattle.std.proofs.Common.{◌≡◌, ℕ, true, List, [], ◌∷◌, map, re
 use Rattle.std.specs.Prelude.{count_by}
 use Rattle.std.specs.Ordering.{nat_cmp}
 use Rattle.std.specs.FinMap as map_of
+use Rattle.arc_tables.specs.declared.batch.Put.{Put}
 use Rattle.arc_tables.specs.Ways.{Edge, links, both_parts, times}
+use Rattle.arc_tables.specs.Edited.{gained}
 use Rattle.arc_tables.specs.Rings.{Rings, edges, begins, has_segment, users_of}
 use Rattle.arc_tables.specs.Stores.{without, including}
 
@@ -55,3 +57,29 @@ own_side = counted 0 1
 
 diagonal : users_of both_squares 0 2 ≡ 0
 diagonal = counted 0 2
+
+-- ---- positions gained
+
+abbrev rings : List (List Edge)
+rings = map (λ e. e.1) squares
+
+abbrev put : ℕ → ℕ → ℕ → Put
+put a b q = record { a = a; b = b; q = q }
+
+-- a vertex in the shared side stands in both squares
+in_the_shared_side : gained (put 1 2 6 ∷ []) rings ≡ 2
+in_the_shared_side = refl
+
+-- and so does a second one, in a half of it
+in_a_half_of_it : gained (put 1 2 6 ∷ put 6 2 7 ∷ []) rings ≡ 4
+in_a_half_of_it = refl
+
+-- the side is none any more once it has a vertex
+in_the_side_again : gained (put 1 2 6 ∷ put 1 2 7 ∷ []) rings ≡ 2
+in_the_side_again = refl
+
+in_an_own_side : gained (put 0 1 6 ∷ []) rings ≡ 1
+in_an_own_side = refl
+
+across : gained (put 0 2 6 ∷ []) rings ≡ 0
+across = refl

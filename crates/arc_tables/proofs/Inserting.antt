@@ -118,7 +118,7 @@ module _ {A : Type 0} where
 
 module _ (a b q : ℕ) (ne : AreApart a b q) where
   -- a segment of q comes in where that of a and b was
-  with_q : (x : ℕ) (es : List Edge) → ((y : ℕ) → times q y es ≡ 0) → times q x (through a b q es) ≤ times a b es
+  pub with_q : (x : ℕ) (es : List Edge) → ((y : ℕ) → times q y es ≡ 0) → times q x (through a b q es) ≤ times a b es
   with_q x [] h = omega arith
   with_q x (e ∷ es) h = omega (arith, times-append q x (over a b q e) (through a b q es), by (is_seg a b e) refl, with_q x es (λ y. omega (arith, h y)))
     where

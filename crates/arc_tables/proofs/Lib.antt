@@ -15,7 +15,9 @@ pub mod Segments
 pub mod EditLemmas
 pub mod Inserting
 pub mod Removing
+pub mod Putting
 pub mod Counting
+pub mod Gaining
 pub mod UserLemmas
 pub mod CopyLemmas
 mod Examples

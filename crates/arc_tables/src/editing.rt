@@ -95,7 +95,7 @@ fn collapse<A: Allocator + Copy>(path: &mut Vec<VertexKey, A>, p: VertexKey, b: 
 }
 
 /// Moves `p` onto its neighbour `b` in arc `i`, if there is one.
-fn collapse_arc<A: Allocator + Copy>(
+pub(crate) fn collapse_arc<A: Allocator + Copy>(
     arcs: &mut Slab<Arc<A>, A>,
     i: usize,
     p: VertexKey,

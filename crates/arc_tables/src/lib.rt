@@ -6,6 +6,7 @@
 #![tactic(auto)]
 
 mod arc;
+mod batch;
 mod copying;
 mod cutting;
 mod editing;
@@ -18,6 +19,7 @@ mod tables;
 mod taking;
 
 pub use arc::{Arc, Ring, Stand, Use};
+pub use batch::Put;
 pub use place::{Place, arcs_at};
 pub use standing::mark_end;
 pub use tables::Tables;

@@ -9,4 +9,6 @@ pub struct Words {
     pub script: String,
     /// The path of the file that the map is saved in.
     pub out: String,
+    /// How many changes can be taken back.
+    pub depth: usize,
 }

@@ -1,10 +1,24 @@
 //! The words of the program.
+ghost use Rattle.std.specs.Prelude.{◌≡◌, ◌≤◌, ℕ, [], map, codes, string_bytes, unwrap_or};
+ghost use Rattle.std.specs.Prelude.{option_map, IfOk, MatchOption};
+ghost use Rattle.clap.specs.Words.{app_of};
+ghost use Rattle.border_edit.specs.Asked.{program, text_of, IsDepth};
+
 use crate::asked::Words;
+use clap::error::ErrorKind;
 use clap::{Arg, ArgAction, Command};
 use std::alloc::Global;
 
+/// How many changes can be taken back where the words say nothing of it.
+const DEPTH: usize = 100;
+
+/// The most changes that can be taken back.
+const MOST_DEPTH: usize = 1000;
+
 /// The program's words and their help.
-fn command<'a>(alloc: Global) -> Result<Command<'a>, clap::Error> {
+fn command<'a>(alloc: Global) -> Result<Command<'a>, clap::Error>
+    ensures { IfOk result (λ command. app_of command ≡ program) }
+{
     let map = Arg::new(alloc, "MAP")
         .help("The TopoJSON topology to open")
         .required(true)
@@ -19,23 +33,61 @@ fn command<'a>(alloc: Global) -> Result<Command<'a>, clap::Error> {
         .help("The file that the edited map is saved in")
         .required(true)
         .action(ArgAction::Set);
+    let undo = Arg::new(alloc, "undo")
+        .long("undo")
+        .value_name("N")
+        .help("How many changes can be taken back, from 1 to 1000; 100 if absent")
+        .action(ArgAction::Set);
     let command = Command::new(alloc, "border_edit")
         .about(
             "Edits the shared borders of a TopoJSON map by a script, and prints an answer a line",
         )
         .arg(map)?
         .arg(script)?
-        .arg(out)?;
+        .arg(out)?
+        .arg(undo)?;
     Ok(command)
 }
 
+/// How many changes can be taken back, as the value of `--undo` says, or as is usual without one.
+fn depth_of(given: Option<&str>) -> Option<usize>
+    ensures { MatchOption result
+        ((n : ℕ) → ¬ IsDepth (option_map (λ text. text.now) given.entry) n)
+        (λ n. IsDepth (option_map (λ text. text.now) given.entry) n) }
+{
+    let Some(text) = given else {
+        return Some(DEPTH);
+    };
+    match text.parse::<usize>() {
+        Ok(depth) if 1 <= depth && depth <= MOST_DEPTH => Some(depth),
+        _ => None,
+    }
+}
+
 /// Reads the words, the program's name first. A request for help is an error here too.
-pub(crate) fn words(alloc: Global, given: &[String]) -> Result<Words, clap::Error> {
-    let matches = command(alloc)?.try_get_matches_from(given)?;
-    // A parse gives all three, since all are required.
+pub(crate) fn words(alloc: Global, given: &[String]) -> Result<Words, clap::Error>
+    ensures map { IfOk result (λ words. string_bytes words.map
+        ≡ unwrap_or (text_of (codes "MAP") (map string_bytes given.now)) []) }
+    ensures script { IfOk result (λ words. string_bytes words.script
+        ≡ unwrap_or (text_of (codes "SCRIPT") (map string_bytes given.now)) []) }
+    ensures out { IfOk result (λ words. string_bytes words.out
+        ≡ unwrap_or (text_of (codes "out") (map string_bytes given.now)) []) }
+    ensures depth { IfOk result (λ words.
+        IsDepth (text_of (codes "undo") (map string_bytes given.now)) words.depth) }
+    ensures least { IfOk result (λ words. 1 ≤ words.depth) }
+    ensures most { IfOk result (λ words. words.depth ≤ 1000) }
+{
+    let mut command = command(alloc)?;
+    let matches = command.try_get_matches_from_mut(given)?;
+    let Some(depth) = depth_of(matches.get_str("undo")) else {
+        let message = "--undo takes a whole number from 1 to 1000";
+        return Err(command.error(ErrorKind::ValueValidation, message)?);
+    };
+    // A parse gives the first three, since they are required.
     Ok(Words {
         map: String::from_str(alloc, matches.get_str("MAP").unwrap_or(""))?,
         script: String::from_str(alloc, matches.get_str("SCRIPT").unwrap_or(""))?,
         out: String::from_str(alloc, matches.get_str("out").unwrap_or(""))?,
+        depth,
     })
 }

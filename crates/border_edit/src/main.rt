@@ -55,6 +55,7 @@ fn edit(rt: &HostRuntime) -> Result<u8, Stop> {
         alloc,
         map.as_slice(),
         &mut source,
+        words.depth,
         &mut sink,
         &mut saved,
     );

@@ -39,6 +39,31 @@ fn a_map_a_script_and_a_file_are_taken(rt: HostRuntime) -> Result<(), Fail> {
         assert_eq!(rt; words.map.as_str(), "map.json");
         assert_eq!(rt; words.script.as_str(), "script.txt");
         assert_eq!(rt; words.out.as_str(), "saved.json");
+        assert_eq!(rt; words.depth, 100);
+    }
+    Ok(())
+}
+
+#[test]
+fn the_depth_of_undo_is_taken(rt: HostRuntime) -> Result<(), Fail> {
+    let table = [
+        (
+            ["border_edit", "m", "s", "--out", "f", "--undo", "2"].as_slice(),
+            2,
+        ),
+        (&["border_edit", "--undo", "1", "m", "s", "--out", "f"], 1),
+        (
+            &["border_edit", "m", "--undo=1000", "s", "--out", "f"],
+            1000,
+        ),
+    ];
+    for (line, depth) in table {
+        let given = given(rt.alloc(), line)?;
+        let words = words(rt.alloc(), given.as_slice())?;
+        assert_eq!(rt; words.map.as_str(), "m");
+        assert_eq!(rt; words.script.as_str(), "s");
+        assert_eq!(rt; words.out.as_str(), "f");
+        assert_eq!(rt; words.depth, depth);
     }
     Ok(())
 }
@@ -73,6 +98,19 @@ fn all_other_words_stop_the_program(rt: HostRuntime) -> Result<(), Fail> {
             ],
             64,
         ),
+        (&["border_edit", "m", "s", "--out", "f", "--undo"], 64),
+        (&["border_edit", "m", "s", "--out", "f", "--undo", "0"], 64),
+        (
+            &["border_edit", "m", "s", "--out", "f", "--undo", "1001"],
+            64,
+        ),
+        (&["border_edit", "m", "s", "--out", "f", "--undo", "-1"], 64),
+        (
+            &["border_edit", "m", "s", "--out", "f", "--undo", "two"],
+            64,
+        ),
+        (&["border_edit", "m", "s", "--out", "f", "--undo", ""], 64),
+        (&["border_edit", "m", "s", "--undo", "2"], 64),
         (&["border_edit", "--help"], 0),
         (&["border_edit", "map.json", "-h"], 0),
     ];

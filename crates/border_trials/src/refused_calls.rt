@@ -1,7 +1,7 @@
 //! Calls on borders that are refused memory: no ring has changed then, and the call that is made
 //! again has its answer.
 use crate::squares::{
-    LEFT, RIGHT, add, goes_along, goes_round, insert, key, pick, remove, vertex_keys,
+    LEFT, RIGHT, add, goes_along, goes_round, insert, insert_chain, key, pick, remove, vertex_keys,
 };
 use linked_list_allocator::LocalHeap;
 use refusing_allocator::Refusing;
@@ -26,6 +26,7 @@ enum Call {
     AddRing,
     EndArcs,
     Insert,
+    InsertChain,
     Remove,
     PushKeys,
     PushNeighbours,
@@ -33,10 +34,11 @@ enum Call {
 }
 
 /// All of them.
-const CALLS: [Call; 7] = [
+const CALLS: [Call; 8] = [
     Call::AddRing,
     Call::EndArcs,
     Call::Insert,
+    Call::InsertChain,
     Call::Remove,
     Call::PushKeys,
     Call::PushNeighbours,
@@ -126,6 +128,17 @@ fn make<R: Abort, A: Allocator + Copy>(
             key(rt, keys, 2),
             key(rt, keys, 6),
         ),
+        Call::InsertChain => {
+            let gained = insert_chain(
+                rt,
+                borders,
+                key(rt, keys, 1),
+                key(rt, keys, 2),
+                [key(rt, keys, 6), key(rt, keys, 7), key(rt, keys, FAR)],
+            )?;
+            assert!(rt; gained == 6);
+            Ok(())
+        }
         Call::Remove => remove(rt, borders, key(rt, keys, 0)),
         Call::PushKeys => push_keys(rt, alloc, heap, borders, keys),
         Call::PushNeighbours => push_neighbours(rt, heap, borders, keys),
@@ -147,6 +160,14 @@ fn is_made<R: Abort, A: Allocator + Copy>(
                 && goes_round(rt, alloc, borders, 2, keys, &[0, 3, 6])?,
         ),
         Call::Insert => are_rings(rt, alloc, borders, keys, &[0, 1, 6, 2, 3], &[1, 4, 5, 2, 6]),
+        Call::InsertChain => are_rings(
+            rt,
+            alloc,
+            borders,
+            keys,
+            &[0, 1, 6, 7, FAR, 2, 3],
+            &[1, 4, 5, 2, FAR, 7, 6],
+        ),
         Call::Remove => are_rings(rt, alloc, borders, keys, &[1, 2, 3], &RIGHT),
         _ => are_rings(rt, alloc, borders, keys, &LEFT, &RIGHT),
     }

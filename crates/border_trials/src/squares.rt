@@ -1,6 +1,6 @@
 //! Squares that share a side, and calls on their borders.
 use grid_geometry::Pos;
-use shared_arcs::{Borders, Neighbours};
+use shared_arcs::{Borders, Neighbours, Put};
 use std::alloc::{AllocError, Allocator, Global};
 use std::process::Abort;
 use std::test::Fail;
@@ -75,6 +75,42 @@ pub(crate) fn insert<R: Abort, A: Allocator + Copy>(
     match borders.neighbours(q) {
         Neighbours::None => borders.insert(a, b, q),
         _ => panic!(rt; "some ring has the vertex"),
+    }
+}
+
+/// Three vertices that no ring has come in one after the other: the second between the first and
+/// `b`, the third between the second and `b`. Answers how many positions the rings gain.
+pub(crate) fn insert_chain<R: Abort, A: Allocator + Copy>(
+    rt: &R,
+    borders: &mut Borders<A>,
+    a: VertexKey,
+    b: VertexKey,
+    chain: [VertexKey; 3],
+) -> Result<usize, AllocError> {
+    let [first, second, third] = chain;
+    assert!(rt; a != b && a != first && b != first && b != second && b != third);
+    assert!(rt; first != second && first != third && second != third);
+    let shared = borders.uses(a, b);
+    assert!(rt; shared <= 2);
+    match (
+        borders.neighbours(first),
+        borders.neighbours(second),
+        borders.neighbours(third),
+    ) {
+        (Neighbours::None, Neighbours::None, Neighbours::None) => borders.insert_all(&[
+            Put { a, b, q: first },
+            Put {
+                a: first,
+                b,
+                q: second,
+            },
+            Put {
+                a: second,
+                b,
+                q: third,
+            },
+        ]),
+        _ => panic!(rt; "some ring has a vertex"),
     }
 }
 

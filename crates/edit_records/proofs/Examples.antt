@@ -35,7 +35,7 @@ own_exchanged : exchanged places_E ((0, None) ∷ []) E ≡ E_without
 own_exchanged = refl
 
 own_back : back places_E
-    (Exchanged (record { number = 0; was = Some (polygon 0 None (square_a ∷ [])) } ∷ [])) E_without
+    (Exchanged ((0, Some (polygon 0 None (square_a ∷ []))) ∷ [])) E_without
     ≡ E
 unfolding back
 own_back = refl
@@ -104,7 +104,7 @@ split_exchanged : exchanged (grown 0 2 places_M) ((0, Some first_A) ∷ (2, Some
 split_exchanged = refl
 
 split_back : back (grown 0 2 places_M)
-    (Exchanged (record { number = 0; was = feature M 0 } ∷ record { number = 2; was = None } ∷ []))
+    (Exchanged ((0, feature M 0) ∷ (2, None) ∷ []))
     M_split ≡ M
 unfolding back
 split_back = refl
@@ -133,8 +133,8 @@ gone_after = refl
 -- the newest one is taken back first
 abbrev newest_first : List Record
 newest_first =
-    Exchanged (record { number = 1; was = Some B } ∷ [])
-    ∷ Exchanged (record { number = 0; was = Some (polygon 0 (Some (letter 65)) (square_a ∷ [])) } ∷ [])
+    Exchanged ((1, Some B) ∷ [])
+    ∷ Exchanged ((0, Some (polygon 0 (Some (letter 65)) (square_a ∷ []))) ∷ [])
     ∷ []
 
 both_back : documents places_M both_gone newest_first ≡ (first_gone ∷ M ∷ [])

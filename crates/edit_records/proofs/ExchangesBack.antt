@@ -12,7 +12,6 @@ use Rattle.ring_machine.proofs.Found.{feature_none}
 use Rattle.ring_machine.proofs.TakenOut.{take_out_is}
 use Rattle.ring_machine.proofs.Without.{feature-take_out_other}
 use Rattle.edit_records.specs.Places.{LayerTree, filled, Fills, numbers_placed, exchanged_features, exchanged, grown}
-use Rattle.edit_records.specs.Records.{Change, pairs_of}
 use Rattle.edit_records.proofs.PlacesBack.{filled-agree, fills-grown}
 
 -- ---- what stood at the numbers
@@ -66,35 +65,35 @@ two_changed n l o p j k at there other m = by (m == n) (m == l) refl refl
 
 -- ---- the edits of features
 
-abbrev pub deleted : Document → ℕ → List Change
-deleted d n = record { number = n; was = feature d n } ∷ []
+abbrev pub deleted : Document → ℕ → List (ℕ × Option Feature)
+deleted d n = (n, feature d n) ∷ []
 
-abbrev pub merged : Document → ℕ → ℕ → List Change
+abbrev pub merged : Document → ℕ → ℕ → List (ℕ × Option Feature)
 merged d n g =
-    record { number = n; was = feature d n } ∷ record { number = g; was = feature d g } ∷ []
+    (n, feature d n) ∷ (g, feature d g) ∷ []
 
-abbrev pub split : Document → ℕ → ℕ → List Change
-split d n new = record { number = n; was = feature d n } ∷ record { number = new; was = None } ∷ []
+abbrev pub split : Document → ℕ → ℕ → List (ℕ × Option Feature)
+split d n new = (n, feature d n) ∷ (new, None) ∷ []
 
 pub take_out-back : (trees : List LayerTree) (d : Document) (n : ℕ) → Fills trees d
-    → exchanged trees (pairs_of (deleted d n)) (take_out d n) ≡ d
+    → exchanged trees (deleted d n) (take_out d n) ≡ d
 take_out-back trees d n fills =
-    exchanged-back trees (pairs_of (deleted d n)) d (take_out d n) fills
+    exchanged-back trees (deleted d n) d (take_out d n) fills
     (ap (λ (z : Document). z.transform) (take_out_is n d)) (ap (λ (z : Document). z.members) (take_out_is n d))
     (λ m i. one_changed n (feature d n) (feature (take_out d n)) (feature d) refl (feature-take_out_other d n) m)
 
 pub join-back : (trees : List LayerTree) (d : Document) (n : ℕ) (g : Feature) → Fills trees d
-    → exchanged trees (pairs_of (merged d n g.number)) (join d n g) ≡ d
+    → exchanged trees (merged d n g.number) (join d n g) ≡ d
 unfolding join take_out
 join-back trees d n g fills =
-    exchanged-back trees (pairs_of (merged d n g.number)) d (join d n g) fills refl refl
+    exchanged-back trees (merged d n g.number) d (join d n g) fills refl refl
     (λ m i. two_changed n g.number (feature d n) (feature d g.number) (feature (join d n g)) (feature d) refl refl (feature-join_other d n g) m)
 
 pub cut-back : (trees : List LayerTree) (d : Document) (n : ℕ) (id : Text) (path : Path) (new : ℕ)
     → Fills trees d → has_feature d new ≡ false
-    → exchanged (grown n new trees) (pairs_of (split d n new)) (cut d n id path new) ≡ d
+    → exchanged (grown n new trees) (split d n new) (cut d n id path new) ≡ d
 unfolding cut
 cut-back trees d n id path new fills free =
     let none = feature_none d new free in
-    exchanged-back (grown n new trees) (pairs_of (split d n new)) d (cut d n id path new) (fills-grown trees d n new none fills) refl refl
+    exchanged-back (grown n new trees) (split d n new) d (cut d n id path new) (fills-grown trees d n new none fills) refl refl
     (λ m i. two_changed n new (feature d n) None (feature (cut d n id path new)) (feature d) refl none (feature-cut_other d n id path new) m)

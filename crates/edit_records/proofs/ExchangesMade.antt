@@ -28,7 +28,7 @@ use Rattle.edit_records.specs.Places.{number_of, numbers_of}
 use Rattle.edit_records.specs.Places.{is_formed, AreFormed, numbers_placed, has_place, leaf, or_empty}
 use Rattle.edit_records.specs.Places.{item_at, items_of, filled, Fills, exchanged_features, AreNumbered}
 use Rattle.edit_records.specs.Places.{exchanged, had_before, with_changed, with_new, tree_with, grown}
-use Rattle.edit_records.specs.Records.{Change, pairs_of, AreChanged}
+use Rattle.edit_records.specs.Records.{AreChanged}
 use Rattle.edit_records.proofs.ExchangesBack.{exchanged-back}
 use Rattle.edit_records.proofs.PlacesBack.{filled-agree}
 use Rattle.edit_records.proofs.PlacesFilled.{AreOwn, found-filled, filled-changed}
@@ -112,7 +112,7 @@ module _ {R : Type 0} where
         (λ m i. features-twice cs (feature (exchanged trees cs d)) (feature d) m (placed m i))
 
 -- what is given back has its numbers
-pub changed-numbered : (next : ℕ) (cs : List Change) → AreChanged next cs → AreNumbered (pairs_of cs)
+pub changed-numbered : (next : ℕ) (cs : List (ℕ × Option Feature)) → AreChanged next cs → AreNumbered cs
 changed-numbered next [] h = h
 changed-numbered next (c ∷ cs) h = (h.1, changed-numbered next cs h.2)
 

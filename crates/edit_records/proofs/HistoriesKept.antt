@@ -6,8 +6,8 @@ use Rattle.ring_machine.specs.Document.{Document, Feature}
 use Rattle.ring_machine.specs.Parts.{feature, has_feature}
 use Rattle.ring_machine.proofs.Found.{feature_none}
 use Rattle.edit_records.specs.Places.{LayerTree, exchanged_features, grown}
-use Rattle.edit_records.specs.Records.{Record, Moved, Inserted, Removed, Thinned, Renamed, Exchanged, Change}
-use Rattle.edit_records.specs.Records.{pairs_of, back, AreChanged, Fits, IsMap, Undoes}
+use Rattle.edit_records.specs.Records.{Record, Moved, Inserted, Removed, Thinned, Renamed, Exchanged}
+use Rattle.edit_records.specs.Records.{back, AreChanged, Fits, IsMap, Undoes}
 use Rattle.edit_records.specs.Histories.{documents, AreUndoing}
 use Rattle.edit_records.proofs.PlacesBack.{filled-grown}
 
@@ -28,7 +28,7 @@ undoing-take trees next (suc n) d (r ∷ rs) h = (h.0, undoing-take trees next n
 
 -- ---- a greater next number
 
-changed_later : (next later : ℕ) → next ≤ later → (cs : List Change) → AreChanged next cs → AreChanged later cs
+changed_later : (next later : ℕ) → next ≤ later → (cs : List (ℕ × Option Feature)) → AreChanged next cs → AreChanged later cs
 changed_later next later l [] h = h
 changed_later next later l (c ∷ cs) h =
     (omega (arith, h.0), h.1, changed_later next later l cs h.2)
@@ -39,7 +39,7 @@ fits_later next later l d (Inserted q) h = h
 fits_later next later l d (Removed r) h = h
 fits_later next later l d (Thinned rs) h = h
 fits_later next later l d (Renamed n id) h = h
-fits_later next later l d (Exchanged cs) h = changed_later next later l cs h
+fits_later next later l d (Exchanged cs) h = (h.0, changed_later next later l cs h.1)
 
 undoes_later : (trees : List LayerTree) (next later : ℕ) → next ≤ later → (d : Document) (r : Record)
     → Undoes trees next d r → Undoes trees later d r
@@ -58,15 +58,15 @@ undoing-later trees next later l d (r ∷ rs) h =
 -- ---- a new number's place
 
 module _ (trees : List LayerTree) (next n new : ℕ) (later : next ≤ new) where
-  none_before : (cs : List Change) → AreChanged next cs → (features : ℕ → Option Feature)
-      → features new ≡ None → exchanged_features (pairs_of cs) features new ≡ None
+  none_before : (cs : List (ℕ × Option Feature)) → AreChanged next cs → (features : ℕ → Option Feature)
+      → features new ≡ None → exchanged_features cs features new ≡ None
   none_before [] h features none = none
   none_before (c ∷ cs) h features none =
-      by (new == c.number) refl (none_before cs h.2 features none)
+      by (new == c.0) refl (none_before cs h.2 features none)
     where
-      by : (b : Bool) → (new == c.number) ≡ b → exchanged_features (pairs_of cs) features new ≡ None
-          → cond b c.was (exchanged_features (pairs_of cs) features new) ≡ None
-      by true e k = let same : new ≡ c.number = eqb-true new c.number e in absurd (omega (arith, same, h.0, later))
+      by : (b : Bool) → (new == c.0) ≡ b → exchanged_features cs features new ≡ None
+          → cond b c.1 (exchanged_features cs features new) ≡ None
+      by true e k = let same : new ≡ c.0 = eqb-true new c.0 e in absurd (omega (arith, same, h.0, later))
       by false e k = k
 
   pub back-grown : (d : Document) (r : Record) → Fits next d r → has_feature d new ≡ false
@@ -79,8 +79,8 @@ module _ (trees : List LayerTree) (next n new : ℕ) (later : next ≤ new) wher
   back-grown d (Renamed m id) h free = refl
   back-grown d (Exchanged cs) h free =
       ap (λ z. record { transform = d.transform; layers = z; members = d.members })
-      (filled-grown (exchanged_features (pairs_of cs) (feature d)) n new
-      (none_before cs h (feature d) (feature_none d new free)) trees)
+      (filled-grown (exchanged_features cs (feature d)) n new
+      (none_before cs h.1 (feature d) (feature_none d new free)) trees)
 
   pub documents-grown : (d : Document) (rs : List Record) → AreUndoing trees next d rs
       → has_feature d new ≡ false → documents (grown n new trees) d rs ≡ documents trees d rs

@@ -1,6 +1,7 @@
 pub mod RingsBack
 pub mod DocumentsBack
 pub mod PlacesBack
+pub mod ExchangedSizes
 pub mod ExchangesBack
 pub mod PlacesFilled
 pub mod PlacesGrown

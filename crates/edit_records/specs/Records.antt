@@ -1,6 +1,6 @@
 -- What takes a change back: a record of it, the document before it, and when a record fits.
-use Rattle.std.specs.Prelude.{ℕ, ◌≡◌, ◌≢◌, ◌≤◌, ◌<◌, ◌==◌, true, false, if◌then◌else◌}
-use Rattle.std.specs.Prelude.{List, [], ◌∷◌, Option, Some}
+use Rattle.std.specs.Prelude.{ℕ, ◌≡◌, ◌≢◌, ◌≤◌, ◌<◌, ◌==◌, true, false, IsTrue, if◌then◌else◌}
+use Rattle.std.specs.Prelude.{List, [], ◌∷◌, map, Option, Some}
 use Rattle.std.specs.List.{fold}
 use Rattle.grid_geometry.specs.Position.{Position}
 use Rattle.grid_geometry.specs.Segment.{segment}
@@ -9,19 +9,14 @@ use Rattle.ring_machine.specs.Parts.{has_feature, in_features, is_vertex, is_seg
 use Rattle.ring_machine.specs.Vertices.{put, ins, del, is_junction}
 use Rattle.ring_machine.specs.Planar.{Proper}
 use Rattle.ring_machine.specs.Refusals.{are_long, is_bridged}
-use Rattle.ring_machine.specs.WellFormed.{WellFormed}
-use Rattle.edit_records.specs.Places.{LayerTree, exchanged}
+use Rattle.ring_machine.specs.WellFormed.{are_distinct, WellFormed}
+use Rattle.edit_records.specs.Places.{LayerTree, Fills, exchanged}
 
 -- a vertex that was left out, and its two neighbours
 pub record Removal : Type 0 where
   pub at : Position
   pub a : Position
   pub b : Position
-
--- a number, and the feature that had it, where one did
-pub record Change : Type 0 where
-  pub number : ℕ
-  pub was : Option Feature
 
 -- what was changed
 pub data Record : Type 0 where
@@ -33,15 +28,10 @@ pub data Record : Type 0 where
   Thinned : List Removal → Record
   -- the feature, and its id before
   Renamed : ℕ → Option Text → Record
-  -- the features of at most two numbers before
-  Exchanged : List Change → Record
+  -- at most two numbers, each with the feature that had it, or none
+  Exchanged : List (ℕ × Option Feature) → Record
 
 -- ---- the document before
-
--- the numbers, each with the feature that had it
-abbrev pub pairs_of : List Change → List (ℕ × Option Feature)
-pairs_of [] = []
-pairs_of (c ∷ cs) = (c.number, c.was) ∷ pairs_of cs
 
 -- the vertex stands between its neighbours again
 abbrev pub put_back : Document → Removal → Document
@@ -58,7 +48,7 @@ back trees (Inserted q) d = del d q
 back trees (Removed r) d = put_back d r
 back trees (Thinned rs) d = fold put_back d rs
 back trees (Renamed n id) d = with_id d n id
-back trees (Exchanged cs) d = exchanged trees (pairs_of cs) d
+back trees (Exchanged cs) d = exchanged trees cs d
 
 -- ---- when a record fits
 
@@ -67,6 +57,12 @@ pub record IsMap (d : Document) : Type 0 where
   pub proper : Proper d
   pub formed : WellFormed d
   pub small : size d ≤ 4000000
+
+-- what is true of every map's document, the places of its features, and the next number
+pub record IsHeld (trees : List LayerTree) (next : ℕ) (d : Document) : Type 0 where
+  pub map : IsMap d
+  pub fills : Fills trees d
+  pub below : (m : ℕ) → next ≤ m → has_feature d m ≡ false
 
 -- q is a vertex, and p is none
 pub record IsMoved (d : Document) (p q : Position) : Type 0 where
@@ -94,10 +90,10 @@ AreRemoved d [] = Unit {0}
 AreRemoved d (r ∷ rs) = IsRemoved d r × AreRemoved (put_back d r) rs
 
 -- every feature has the number that it is given for, and none has a number that is yet to come
-abbrev pub AreChanged : ℕ → List Change → Type 0
+abbrev pub AreChanged : ℕ → List (ℕ × Option Feature) → Type 0
 AreChanged next [] = Unit {0}
 AreChanged next (c ∷ cs) =
-    (c.number < next) × ((f : Feature) → c.was ≡ Some f → f.number ≡ c.number) × AreChanged next cs
+    (c.0 < next) × ((f : Feature) → c.1 ≡ Some f → f.number ≡ c.0) × AreChanged next cs
 
 abbrev pub Fits : ℕ → Document → Record → Type 0
 Fits next d (Moved p q) = IsMoved d p q
@@ -105,7 +101,7 @@ Fits next d (Inserted q) = IsInserted d q
 Fits next d (Removed r) = IsRemoved d r
 Fits next d (Thinned rs) = AreRemoved d rs
 Fits next d (Renamed n id) = Unit {0}
-Fits next d (Exchanged cs) = AreChanged next cs
+Fits next d (Exchanged cs) = IsTrue (are_distinct (map (λ c. c.0) cs)) × AreChanged next cs
 
 -- the record takes the change back from this document, the next number being this one
 pub record Undoes (trees : List LayerTree) (next : ℕ) (d : Document) (r : Record) : Type 0 where
@@ -113,3 +109,8 @@ pub record Undoes (trees : List LayerTree) (next : ℕ) (d : Document) (r : Reco
   pub fits : Fits next d r
   -- no number that is yet to come is a feature's
   pub below : (m : ℕ) → next ≤ m → has_feature (back trees r d) m ≡ false
+
+-- the record takes the change from d to e back, and fits
+pub record Takes (trees : List LayerTree) (next : ℕ) (d e : Document) (r : Record) : Type 0 where
+  pub undoes : Undoes trees next e r
+  pub was : back trees r e ≡ d

@@ -4,4 +4,6 @@ pub mod Moving
 pub mod Inserting
 pub mod Removing
 pub mod Passing
+pub mod Recording
+pub mod ThinKept
 pub mod Examples

@@ -1,10 +1,12 @@
-ghost use Rattle.std.specs.Prelude.{◌≡◌, ◌≤◌, ◌+◌, None, OnOk, OnErr, IfErr, IsTrue};
+ghost use Rattle.std.specs.Prelude.{◌≡◌, ◌≤◌, ◌+◌, Some, None, OnOk, OnErr, IfErr, IsTrue};
 ghost use Rattle.ring_machine.specs.Planar.{Proper};
 ghost use Rattle.ring_machine.specs.Refusals.{first_of, insert_refusals};
 ghost use Rattle.ring_machine.specs.Vertices.{ins};
+ghost use Rattle.edit_records.specs.Records as made;
 ghost use Rattle.segment_index.specs.Times.{times_by};
 ghost use Rattle.local_planarity.specs.Tests.{most_for};
 ghost use Rattle.arc_store.specs.Faults.{Refuses};
+ghost use Rattle.arc_store.specs.Recorded.{IsRecorded};
 ghost use Rattle.edit_vertex.specs.Untested.{is_early};
 
 use arc_store::{EditFault, Map};
@@ -25,12 +27,15 @@ fn insert_now<'a, I: SegIndex, A: Allocator + Copy>(
     requires proper { Proper map.old.doc }
     ensures accepted { OnOk result (first_of (insert_refusals map.old.doc a b q) ≡ None) }
     ensures inserted { OnOk result (map.new.doc ≡ ins map.old.doc a b q) }
+    ensures recorded { OnOk result (map.new.last ≡ Some (made.Inserted q)) }
     ensures refused { IfErr result
         (λ fault. Refuses fault (first_of (insert_refusals map.old.doc a b q))) }
     ensures unchanged { OnErr result (map.new.doc ≡ map.old.doc) }
+    ensures still { OnErr result (map.new.last ≡ map.old.last) }
     ensures untested { IfErr result
         (λ fault. IsTrue (is_early fault) → map.new.tests ≡ map.old.tests) }
     ensures next { map.new.next ≡ map.old.next }
+    ensures places { map.new.places ≡ map.old.places }
     ensures few { map.new.tests ≤ map.old.tests
         + most_for (times_by map.old.cells) map.old.doc (ins map.old.doc a b q) }
     ensures cells { map.new.cells ≡ map.old.cells }
@@ -61,11 +66,14 @@ pub fn insert_vertex<'a, I: SegIndex, A: Allocator + Copy>(
 ) -> Result<(), EditFault>
     ensures accepted { OnOk result (first_of (insert_refusals map.old.doc a b q) ≡ None) }
     ensures inserted { OnOk result (map.new.doc ≡ ins map.old.doc a b q) }
+    ensures recorded { OnOk result (IsRecorded map.old map.new) }
     ensures refused { IfErr result
         (λ fault. Refuses fault (first_of (insert_refusals map.old.doc a b q))) }
     ensures unchanged { OnErr result (map.new.doc ≡ map.old.doc) }
+    ensures none { OnErr result (map.new.last ≡ None) }
     ensures untested { IfErr result (λ fault. IsTrue (is_early fault) → map.new.tests ≡ 0) }
     ensures next { map.new.next ≡ map.old.next }
+    ensures places { map.new.places ≡ map.old.places }
     ensures few { map.new.tests
         ≤ most_for (times_by map.old.cells) map.old.doc (ins map.old.doc a b q) }
     ensures cells { map.new.cells ≡ map.old.cells }

@@ -1,6 +1,7 @@
 //! The edits of one vertex: the named conditions of each, in their order, and then the change.
 //!
-//! Each edit begins a new count of tests. Where it is refused nothing else changes.
+//! Each edit begins a new count of tests, and keeps what takes it back. Where it is refused nothing
+//! is to be taken back, and nothing else changes.
 #![tactic(auto)]
 
 mod insert;

@@ -1,12 +1,15 @@
-ghost use Rattle.std.specs.Prelude.{◌≡◌, ◌≢◌, ◌≤◌, ◌+◌, None, OnOk, OnErr, IfErr, IsTrue};
+ghost use Rattle.std.specs.Prelude.{◌≡◌, ◌≢◌, ◌≤◌, ◌+◌, Some, None, OnOk, OnErr, IfErr, IsTrue};
 ghost use Rattle.grid_geometry.specs.Segment.{segment};
 ghost use Rattle.ring_machine.specs.Parts.{is_segment};
 ghost use Rattle.ring_machine.specs.Planar.{Proper};
 ghost use Rattle.ring_machine.specs.Refusals.{first_of, remove_refusals};
 ghost use Rattle.ring_machine.specs.Vertices.{del};
+ghost use Rattle.edit_records.specs.Records as made;
+ghost use Rattle.edit_records.specs.Records.{IsInserted};
 ghost use Rattle.segment_index.specs.Times.{times_by};
 ghost use Rattle.local_planarity.specs.Tests.{most_for};
 ghost use Rattle.arc_store.specs.Faults.{Refuses};
+ghost use Rattle.arc_store.specs.Recorded.{IsLeftOut, IsRecorded};
 ghost use Rattle.edit_vertex.specs.Untested.{is_early};
 
 use arc_store::{EditFault, Map, Spot};
@@ -28,23 +31,15 @@ fn is_joined<'a, I: SegIndex, A: Allocator + Copy>(map: &Map<'a, I, A>, a: Pos, 
     }
 }
 
-/// Leaves p out of every ring, in an edit that has begun.
-pub(crate) fn remove_now<'a, I: SegIndex, A: Allocator + Copy>(
-    map: &mut Map<'a, I, A>,
+/// Tells whether p may be left out, but for what would be in conflict or swept over.
+pub(crate) fn check_removal<'a, I: SegIndex, A: Allocator + Copy>(
+    map: &Map<'a, I, A>,
     p: Pos,
 ) -> Result<(), EditFault>
-    requires proper { Proper map.old.doc }
-    ensures accepted { OnOk result (first_of (remove_refusals map.old.doc p) ≡ None) }
-    ensures removed { OnOk result (map.new.doc ≡ del map.old.doc p) }
+    requires proper { Proper map.now.doc }
+    ensures leavable { OnOk result (IsInserted map.now.doc p) }
     ensures refused { IfErr result
-        (λ fault. Refuses fault (first_of (remove_refusals map.old.doc p))) }
-    ensures unchanged { OnErr result (map.new.doc ≡ map.old.doc) }
-    ensures untested { IfErr result
-        (λ fault. IsTrue (is_early fault) → map.new.tests ≡ map.old.tests) }
-    ensures next { map.new.next ≡ map.old.next }
-    ensures few { map.new.tests ≤ map.old.tests
-        + most_for (times_by map.old.cells) map.old.doc (del map.old.doc p) }
-    ensures cells { map.new.cells ≡ map.old.cells }
+        (λ fault. Refuses fault (first_of (remove_refusals map.now.doc p))) }
 {
     let Some(spot) = map.spot(p) else {
         return Err(EditFault::NoVertex);
@@ -57,10 +52,38 @@ pub(crate) fn remove_now<'a, I: SegIndex, A: Allocator + Copy>(
             if is_joined(map, *a, *b) {
                 return Err(EditFault::SegmentExists);
             }
-            map.raw_remove(p)
+            Ok(())
         }
         Spot::Junction => Err(EditFault::Junction),
     }
+}
+
+/// Leaves p out of every ring, in an edit that has begun.
+fn remove_now<'a, I: SegIndex, A: Allocator + Copy>(
+    map: &mut Map<'a, I, A>,
+    p: Pos,
+) -> Result<(), EditFault>
+    requires proper { Proper map.old.doc }
+    ensures accepted { OnOk result (first_of (remove_refusals map.old.doc p) ≡ None) }
+    ensures removed { OnOk result (map.new.doc ≡ del map.old.doc p) }
+    ensures recorded { OnOk result ((r : made.Removal)
+        × (map.new.last ≡ Some (made.Removed r)) × IsLeftOut map.old.doc p r) }
+    ensures refused { IfErr result
+        (λ fault. Refuses fault (first_of (remove_refusals map.old.doc p))) }
+    ensures unchanged { OnErr result (map.new.doc ≡ map.old.doc) }
+    ensures still { OnErr result (map.new.last ≡ map.old.last) }
+    ensures untested { IfErr result
+        (λ fault. IsTrue (is_early fault) → map.new.tests ≡ map.old.tests) }
+    ensures next { map.new.next ≡ map.old.next }
+    ensures places { map.new.places ≡ map.old.places }
+    ensures few { map.new.tests ≤ map.old.tests
+        + most_for (times_by map.old.cells) map.old.doc (del map.old.doc p) }
+    ensures cells { map.new.cells ≡ map.old.cells }
+{
+    if let Err(fault) = check_removal(map, p) {
+        return Err(fault);
+    }
+    map.raw_remove(p)
 }
 
 /// Leaves p out of every ring. Refused by the first condition that fails, or for want of memory.
@@ -70,11 +93,14 @@ pub fn remove_vertex<'a, I: SegIndex, A: Allocator + Copy>(
 ) -> Result<(), EditFault>
     ensures accepted { OnOk result (first_of (remove_refusals map.old.doc p) ≡ None) }
     ensures removed { OnOk result (map.new.doc ≡ del map.old.doc p) }
+    ensures recorded { OnOk result (IsRecorded map.old map.new) }
     ensures refused { IfErr result
         (λ fault. Refuses fault (first_of (remove_refusals map.old.doc p))) }
     ensures unchanged { OnErr result (map.new.doc ≡ map.old.doc) }
+    ensures none { OnErr result (map.new.last ≡ None) }
     ensures untested { IfErr result (λ fault. IsTrue (is_early fault) → map.new.tests ≡ 0) }
     ensures next { map.new.next ≡ map.old.next }
+    ensures places { map.new.places ≡ map.old.places }
     ensures few { map.new.tests
         ≤ most_for (times_by map.old.cells) map.old.doc (del map.old.doc p) }
     ensures cells { map.new.cells ≡ map.old.cells }

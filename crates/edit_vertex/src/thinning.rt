@@ -1,15 +1,22 @@
-ghost use Rattle.std.specs.Prelude.{◌≡◌, ◌≤◌, ℕ, ◌+◌, ◌&&◌, not, if◌then◌else◌, OnOk, OnErr, IfOk};
+ghost use Rattle.std.specs.Prelude.{◌≡◌, ◌≤◌, ℕ, ◌+◌, ◌&&◌, not, true, false, is_some, if◌then◌else◌, None, Some, ◌∷◌, OnOk, OnErr, IfOk, IfErr, IsTrue, MatchOption};
 ghost use Rattle.std.specs.Prelude.{int_le, pos, unsigned_abs};
 ghost use Rattle.grid_geometry.specs.Orientation.{orientation};
+ghost use Rattle.ring_machine.specs.Document.{Document};
 ghost use Rattle.ring_machine.specs.Parts.{is_vertex};
 ghost use Rattle.ring_machine.specs.Planar.{Proper};
+ghost use Rattle.ring_machine.specs.Refusals.{first_of, remove_refusals};
 ghost use Rattle.ring_machine.specs.Thin.{is_flat, thinned, thin_at};
-ghost use Rattle.ring_machine.specs.Vertices.{is_junction};
+ghost use Rattle.ring_machine.specs.Vertices.{del, is_junction};
+ghost use Rattle.edit_records.specs.Records as made;
 ghost use Rattle.segment_index.specs.Times.{times_by};
+ghost use Rattle.local_planarity.specs.Tests.{most_for};
+ghost use Rattle.arc_store.specs.Faults.{Refuses};
+ghost use Rattle.arc_store.specs.Recorded.{IsLeftOut, IsThinning, left_out};
+ghost use Rattle.edit_vertex.specs.Kept.{IsThinnedFrom, IsThinRecorded};
 ghost use Rattle.edit_vertex.specs.Tested.{most_at, most_for_thin};
 ghost use Rattle.ring_machine.specs.Thin.{IsThinnedPart};
 
-use crate::remove::remove_now;
+use crate::remove::check_removal;
 use arc_store::{EditFault, Map, Spot};
 use grid_geometry::{Pos, orient};
 use segment_index::SegIndex;
@@ -38,6 +45,34 @@ fn is_thin<'a, I: SegIndex, A: Allocator + Copy>(map: &Map<'a, I, A>, p: Pos, t:
     }
 }
 
+/// Leaves p out of every ring, in a thinning.
+fn thin_now<'a, I: SegIndex, A: Allocator + Copy>(
+    map: &mut Map<'a, I, A>,
+    p: Pos,
+) -> Result<(), EditFault>
+    requires proper { Proper map.old.doc }
+    requires thinning { IsThinning map.old.last }
+    ensures accepted { OnOk result (first_of (remove_refusals map.old.doc p) ≡ None) }
+    ensures removed { OnOk result (map.new.doc ≡ del map.old.doc p) }
+    ensures recorded { OnOk result ((r : made.Removal)
+        × (map.new.last ≡ Some (made.Thinned (r ∷ left_out map.old.last)))
+        × IsLeftOut map.old.doc p r) }
+    ensures refused { IfErr result
+        (λ fault. Refuses fault (first_of (remove_refusals map.old.doc p))) }
+    ensures unchanged { OnErr result (map.new.doc ≡ map.old.doc) }
+    ensures still { OnErr result (map.new.last ≡ map.old.last) }
+    ensures next { map.new.next ≡ map.old.next }
+    ensures places { map.new.places ≡ map.old.places }
+    ensures few { map.new.tests ≤ map.old.tests
+        + most_for (times_by map.old.cells) map.old.doc (del map.old.doc p) }
+    ensures cells { map.new.cells ≡ map.old.cells }
+{
+    if let Err(fault) = check_removal(map, p) {
+        return Err(fault);
+    }
+    map.raw_thin(p)
+}
+
 /// Leaves p out where it is flat by t, is no junction, and may be removed; tells whether it did.
 fn thin_at<'a, I: SegIndex, A: Allocator + Copy>(
     map: &mut Map<'a, I, A>,
@@ -45,20 +80,28 @@ fn thin_at<'a, I: SegIndex, A: Allocator + Copy>(
     p: Pos,
 ) -> Result<bool, AllocError>
     requires proper { Proper map.old.doc }
+    requires thinning { IsThinning map.old.last }
     ensures thinned { (n : ℕ) → IfOk result
         (λ gone. thin_at t (record { doc = map.old.doc; removed = n }) p
         ≡ record { doc = map.new.doc; removed = n + (if gone then 1 else 0) }) }
     ensures unchanged { OnErr result (map.new.doc ≡ map.old.doc) }
     ensures proper { Proper map.new.doc }
+    ensures recorded { (start : Document)
+        → IsThinnedFrom start map.old → IsThinnedFrom start map.new }
+    ensures gone { IfOk result (λ gone. gone ≡ true → IsTrue (is_some map.new.last)) }
+    ensures stays { IfOk result (λ gone. gone ≡ false → map.new.last ≡ map.old.last) }
+    ensures still { OnErr result (map.new.last ≡ map.old.last) }
     ensures next { map.new.next ≡ map.old.next }
+    ensures places { map.new.places ≡ map.old.places }
     ensures few { map.new.tests ≤ map.old.tests
         + most_at (times_by map.old.cells) t map.old.doc p }
     ensures cells { map.new.cells ≡ map.old.cells }
 {
+    let _ = map.next_number(); // it tells where numbers stand
     if !is_thin(map, p, t) {
         return Ok(false);
     }
-    match remove_now(map, p) {
+    match thin_now(map, p) {
         Ok(()) => Ok(true),
         Err(fault) => match fault {
             EditFault::OutOfMemory => Err(AllocError),
@@ -78,7 +121,10 @@ pub fn thin<'a, I: SegIndex, A: Allocator + Copy>(
     ensures count { IfOk result (λ n. n ≡ (thinned t map.old.doc).removed) }
     ensures thinned { OnOk result (map.new.doc ≡ (thinned t map.old.doc).doc) }
     ensures part { OnErr result (IsThinnedPart t map.old.doc map.new.doc) }
+    ensures recorded { IsThinRecorded map.old map.new }
+    ensures some { IfOk result (λ n. MatchOption map.new.last (n ≡ 0) (λ made. 1 ≤ n)) }
     ensures next { map.new.next ≡ map.old.next }
+    ensures places { map.new.places ≡ map.old.places }
     ensures few { map.new.tests ≤ most_for_thin (times_by map.old.cells) t map.old.doc }
     ensures cells { map.new.cells ≡ map.old.cells }
 {

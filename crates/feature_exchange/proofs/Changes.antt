@@ -3,6 +3,7 @@ use Rattle.std.proofs.Common.{◌≡◌, ℕ, true, sym, subst, List, [], ◌++�
 use Rattle.ring_machine.specs.WellFormed.{are_distinct}
 use Rattle.ring_machine.proofs.First.{In, in-append, in_left, in_right}
 use Rattle.ring_machine.proofs.Found.{DistinctParts, distinct-append, distinct_parts}
+use Rattle.ring_machine.proofs.Members.{in_swap}
 
 -- of the old numbers these went, and these came; none of what is there now stands twice
 pub record Changes (old new gone came : List ℕ) : Type 0 where
@@ -88,3 +89,17 @@ changes_as old new gone came old' new' gone' came' e f g h c =
     subst (λ z. Changes z new' gone' came') (sym e)
     (subst (λ z. Changes old z gone' came') (sym f)
     (subst (λ z. Changes old new z came') (sym g) (subst (λ z. Changes old new gone z) (sym h) c)))
+
+-- in another order
+pub changes_swap : (old new gone gone' came came' : List ℕ) → Changes old new (gone ++ gone') (came ++ came')
+    → Changes old new (gone' ++ gone) (came' ++ came)
+changes_swap old new gone gone' came came' c = record {
+  was = λ r i. c.was r (in_swap r gone' gone i);
+  from = λ r i. elim (c.from r i) [
+    | inl j ↦ inl (j.0, λ k. j.1 (in_swap r gone' gone k))
+    | inr j ↦ inr (in_swap r came came' j)
+  ];
+  stays = λ r i f. c.stays r i (λ k. f (in_swap r gone gone' k));
+  comes = λ r i. c.comes r (in_swap r came' came i);
+  once = c.once;
+}

@@ -1,67 +1,58 @@
 -- The rings of features that are gathered: each is there, and none is listed twice.
-use Rattle.std.proofs.Common.{◌≡◌, ◌≢◌, ℕ, true, refl, sym, ap, ◌∙◌, subst, List, ◌++◌, Option, Some, None}
-use Rattle.std.proofs.Common.{inl, inr, Contains}
+use Rattle.std.proofs.Common.{◌≡◌, ℕ, true, refl, sym, ap, ◌∙◌, subst, List, [], ◌∷◌, Option, Some, None, map}
+use Rattle.std.proofs.Common.{inl, Contains}
 use Rattle.std.specs.Prelude.{IsTrue}
 use Rattle.std.specs.FinMap as table
+use Rattle.std.specs.List.{flat_map}
+use Rattle.std.proofs.lemmas.List.Folds.{flat_map-map}
 use Rattle.ring_machine.specs.Document.{FeatureOf}
 use Rattle.ring_machine.specs.Parts.{feature, rings}
 use Rattle.ring_machine.specs.WellFormed.{are_distinct}
-use Rattle.ring_machine.proofs.First.{In, in-append}
-use Rattle.ring_machine.proofs.Found.{distinct-append, feature_in}
-use Rattle.ring_machine.proofs.Members.{contains_in, in_contains}
-use Rattle.map_frame.specs.Edits.{polygons_of}
+use Rattle.ring_machine.proofs.First.{In}
+use Rattle.ring_machine.proofs.Found.{distinct-append, distinct_parts, feature_in}
+use Rattle.ring_machine.proofs.Members.{contains_in, in_contains, in_flat}
 use Rattle.segment_index.specs.Candidates.{SegmentSet}
 use Rattle.feature_exchange.specs.Holds.{Holds}
 use Rattle.feature_exchange.specs.Stored.{Stored}
-use Rattle.feature_exchange.specs.Under.{rings_under, polygon_under}
-use Rattle.feature_exchange.proofs.Parted.{nth_in, nth_distinct}
+use Rattle.feature_exchange.specs.declared.change.Change.{Change}
+use Rattle.feature_exchange.specs.Under.{rings_under}
 use Rattle.feature_exchange.proofs.Under.{under_found, under_none, under_in, under_distinct, under_apart}
 
 module _ (s : Stored) (held : SegmentSet) (h : Holds s held) where
   kept : (r : ℕ) → In r (rings s.frame) → IsTrue (table.contains_key s.rings r)
   kept r i = (h.whole.named r).0 (in_contains (rings s.frame) r i)
 
-  -- ---- of one feature
+  -- ---- of several features
 
-  pub one_there : (n : ℕ) (numbers : List ℕ) → numbers ≡ rings_under s.frame n → (r : ℕ) → Contains numbers r
-      → IsTrue (table.contains_key s.rings r)
-  one_there n numbers is r c = kept r (under_in s.frame n r (subst (In r) is (contains_in numbers r c)))
+  abbrev under_all : List ℕ → List ℕ
+  under_all ns = flat_map (rings_under s.frame) ns
 
-  pub one_different : (n : ℕ) (numbers : List ℕ) → numbers ≡ rings_under s.frame n → are_distinct numbers ≡ true
-  one_different n numbers is = ap are_distinct is ∙ under_distinct s.frame h.formed h.whole.once n
-
-  -- ---- of two
-
-  pub two_there : (n g : ℕ) (numbers : List ℕ) → numbers ≡ rings_under s.frame n ++ rings_under s.frame g
-      → (r : ℕ) → Contains numbers r → IsTrue (table.contains_key s.rings r)
-  two_there n g numbers is r c =
-      kept r (elim (in-append r (rings_under s.frame n) (rings_under s.frame g) (subst (In r) is (contains_in numbers r c))) [
-        | inl i ↦ under_in s.frame n r i
-        | inr i ↦ under_in s.frame g r i
-      ])
-
-  pub two_different : (n g : ℕ) → n ≢ g → (numbers : List ℕ)
-      → numbers ≡ rings_under s.frame n ++ rings_under s.frame g → are_distinct numbers ≡ true
-  two_different n g two numbers is =
-      ap are_distinct is
-      ∙ distinct-append (rings_under s.frame n) (rings_under s.frame g) (under_distinct s.frame h.formed h.whole.once n)
-      (under_distinct s.frame h.formed h.whole.once g) (λ r i j. apart r j (feature s.frame n) refl i)
+  all_different : (ns : List ℕ) → are_distinct ns ≡ true → are_distinct (under_all ns) ≡ true
+  all_different [] d = refl
+  all_different (n ∷ ns) d =
+      let parts = distinct_parts (n ∷ []) ns d in
+      distinct-append (rings_under s.frame n) (under_all ns) (under_distinct s.frame h.formed h.whole.once n) (all_different ns parts.right)
+      (λ r i j.
+      let w = in_flat (rings_under s.frame) r ns j in
+      apart n w.0 (λ e. parts.apart n (inl refl) (subst (λ z. In z ns) (sym e) w.1)) r w.2 (feature s.frame n) refl i)
     where
-      apart : (r : ℕ) → In r (rings_under s.frame g) → (o : Option (FeatureOf ℕ)) → feature s.frame n ≡ o
-          → In r (rings_under s.frame n) → ⊥
-      apart r j None e i = subst (In r) (under_none s.frame n e) i
-      apart r j (Some f) e i =
+      apart : (n g : ℕ) → (n ≡ g → ⊥) → (r : ℕ) → In r (rings_under s.frame g) → (o : Option (FeatureOf ℕ))
+          → feature s.frame n ≡ o → In r (rings_under s.frame n) → ⊥
+      apart n g two r j None e i = subst (In r) (under_none s.frame n e) i
+      apart n g two r j (Some f) e i =
           let k = feature_in s.frame n f e in
           under_apart s.frame h.formed h.whole.once g f k.0 (λ m. two (sym k.1 ∙ m)) r (subst (In r) (under_found s.frame n f e) i) j
 
-  -- ---- of a polygon
+  module _ {A : Type 0} (cs : List (Change A)) where
+    pub going_is : flat_map (λ c. rings_under s.frame c.number) cs ≡ under_all (map (λ c. c.number) cs)
+    going_is = sym (flat_map-map (rings_under s.frame) (λ (c : Change A). c.number) cs)
 
-  pub polygon_there : (n polygon : ℕ) (numbers : List ℕ) → numbers ≡ polygon_under s.frame n polygon → (r : ℕ)
-      → Contains numbers r → IsTrue (table.contains_key s.rings r)
-  polygon_there n polygon numbers is r c =
-      kept r (under_in s.frame n r (nth_in (polygons_of s.frame n) polygon r (subst (In r) is (contains_in numbers r c))))
+    pub going_there : (numbers : List ℕ) → numbers ≡ flat_map (λ c. rings_under s.frame c.number) cs
+        → (r : ℕ) → Contains numbers r → IsTrue (table.contains_key s.rings r)
+    going_there numbers is r c =
+        let w = in_flat (λ (c : Change A). rings_under s.frame c.number) r cs (subst (In r) is (contains_in numbers r c)) in
+        kept r (under_in s.frame w.0.number r w.2)
 
-  pub polygon_different : (n polygon : ℕ) (numbers : List ℕ) → numbers ≡ polygon_under s.frame n polygon
-      → are_distinct numbers ≡ true
-  polygon_different n polygon numbers is =
-      ap are_distinct is ∙ nth_distinct (polygons_of s.frame n) polygon (under_distinct s.frame h.formed h.whole.once n)
+    pub going_different : are_distinct (map (λ c. c.number) cs) ≡ true → (numbers : List ℕ)
+        → numbers ≡ flat_map (λ c. rings_under s.frame c.number) cs → are_distinct numbers ≡ true
+    going_different d numbers is = ap are_distinct (is ∙ going_is) ∙ all_different (map (λ c. c.number) cs) d

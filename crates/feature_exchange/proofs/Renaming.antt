@@ -1,36 +1,95 @@
--- A feature that gets another id: the tables stay, and so do the document's rings.
-use Rattle.std.proofs.Common.{◌≡◌, ◌↔◌, sym, ap, ◌∙◌, subst, is_some, arith, Contains}
-use Rattle.std.specs.Prelude.{ℕ, IsTrue}
+-- A feature that gets another id, or none: the tables stay, and so do the document's rings.
+use Rattle.std.proofs.Common.{◌≡◌, ◌≤◌, ◌↔◌, ℕ, Bool, true, false, refl, sym, ap, ap₂, ◌∙◌, cond, subst, Option}
+use Rattle.std.proofs.Common.{List, [], ◌∷◌, ◌++◌, map, is_some, arith, Contains, Some}
+use Rattle.std.specs.Prelude.{◌==◌, IsTrue}
 use Rattle.std.specs.FinMap as table
-use Rattle.ring_machine.specs.Document.{Text}
-use Rattle.ring_machine.specs.Machine.{renamed}
-use Rattle.ring_machine.specs.Parts.{size}
+use Rattle.std.specs.List.{flat_map}
+use Rattle.ring_machine.specs.Document.{FeatureOf, ItemOf, DocumentOf, Open, Close, Leaf, Kept, Text}
+use Rattle.ring_machine.specs.Parts.{features, rings_of, rings, size, in_item, in_feature, in_rings}
 use Rattle.ring_machine.specs.Planar.{Proper}
-use Rattle.ring_machine.specs.WellFormed.{are_distinct}
-use Rattle.ring_machine.proofs.Renamed.{rings-renamed, in_rings-renamed, size-renamed, proper-renamed}
+use Rattle.ring_machine.specs.WellFormed.{WellFormed, are_distinct}
+use Rattle.ring_machine.proofs.Found.{features-in_features}
+use Rattle.ring_machine.proofs.FormedRings.{formed-in_rings, formed-before_rings}
+use Rattle.ring_machine.proofs.InItems.{in_items-square}
+use Rattle.ring_machine.proofs.Renamed.{size-renamed, proper-renamed}
 use Rattle.ring_machine.proofs.StaysFormed.{formed-renamed}
-use Rattle.topo_outline.specs.Kept.{IsJson}
+use Rattle.edit_records.specs.Records.{with_id, IsMap}
+use Rattle.topo_outline.specs.Kept.{KeepsTexts, IsJson}
+use Rattle.topo_outline.proofs.KeptRings.{keeps-in_rings, keeps-before_rings}
 use Rattle.topo_outline.proofs.KeptShapes.{keeps-renamed}
 use Rattle.segment_index.specs.Candidates.{SegmentSet}
 use Rattle.feature_exchange.specs.Holds.{Holds}
 use Rattle.feature_exchange.specs.Stored.{Stored, ring_under, document_of}
 use Rattle.feature_exchange.proofs.Whole.{tables_stand, map_holds}
 
-module _ (s : Stored) (n : ℕ) (id : Text) where
+-- the feature with this id, or none, where it has the number n
+abbrev named : {R : Type 0} → ℕ → Option Text → FeatureOf R → FeatureOf R
+named n id f = cond (f.number == n) (record f { id = id }) f
+
+module _ {R : Type 0} (n : ℕ) (id : Option Text) where
+  rings_same : (fs : List (FeatureOf R)) → flat_map rings_of (map (named n id) fs) ≡ flat_map rings_of fs
+  rings_same [] = refl
+  rings_same (f ∷ fs) = ap₂ (λ y z. y ++ z) (by (f.number == n)) (rings_same fs)
+    where
+      by : (b : Bool) → rings_of (cond b (record f { id = id }) f) ≡ rings_of f
+      by true = refl
+      by false = refl
+
+  pub rings-named : (d : DocumentOf R) → rings (with_id d n id) ≡ rings d
+  rings-named d = ap (flat_map rings_of) (features-in_features (named n id) d) ∙ rings_same (features d)
+
+-- rings changed before or after
+in_rings-named : {R S : Type 0} (g : R → S) (d : DocumentOf R) (n : ℕ) (id : Option Text)
+    → in_rings g (with_id d n id) ≡ with_id (in_rings g d) n id
+in_rings-named {R} {S} g d n id =
+    in_items-square (map (in_item (in_feature g))) (map (in_item (named n id))) (map (in_item (named n id))) (map (in_item (in_feature g))) items d
+  where
+    items : (is : List (ItemOf R))
+        → map (in_item (in_feature g)) (map (in_item (named n id)) is)
+        ≡ map (in_item (named n id)) (map (in_item (in_feature g)) is)
+    items [] = refl
+    items (Open h ∷ is) = ap (λ z. Open h ∷ z) (items is)
+    items (Close ∷ is) = ap (λ z. Close ∷ z) (items is)
+    items (Kept t ∷ is) = ap (λ z. Kept t ∷ z) (items is)
+    items (Leaf f ∷ is) = ap₂ (λ y z. Leaf y ∷ z) (by (f.number == n)) (items is)
+      where
+        by : (b : Bool) → in_feature g (cond b (record f { id = id }) f)
+            ≡ cond b (record (in_feature g f) { id = id }) (in_feature g f)
+        by true = refl
+        by false = refl
+
+-- ---- the tables
+
+module _ (s : Stored) (n : ℕ) (id : Option Text) where
   -- what is kept with the other id
-  abbrev with_id : Stored
-  with_id = record s { frame = renamed s.frame n id }
+  abbrev named_tables : Stored
+  named_tables = record s { frame = with_id s.frame n id }
 
-  pub renamed_document : document_of with_id ≡ renamed (document_of s) n id
-  renamed_document = in_rings-renamed (ring_under s) s.frame n id
+  pub named_document : document_of named_tables ≡ with_id (document_of s) n id
+  named_document = in_rings-named (ring_under s) s.frame n id
 
-  pub renamed_holds : (held : SegmentSet) → IsJson id → Holds s held → Holds with_id held
-  renamed_holds held json h =
-      let same = rings-renamed n id s.frame in
-      map_holds with_id held (tables_stand s held h)
+  pub named_holds : (held : SegmentSet) → IsMap (with_id (document_of s) n id) → KeepsTexts (with_id (document_of s) n id)
+      → Holds s held → Holds named_tables held
+  named_holds held m keeps h =
+      let same = rings-named n id s.frame in
+      map_holds named_tables held (tables_stand s held h)
       (λ r. subst (λ z. Contains z r ↔ IsTrue (is_some (table.get s.rings r))) (sym same) (h.whole.named r))
       (ap are_distinct same ∙ h.whole.once)
-      (formed-renamed s.frame n id h.formed)
-      (keeps-renamed s.frame n id json h.keeps)
-      (subst Proper (sym renamed_document) (proper-renamed (document_of s) n id h.proper))
-      (omega (arith, ap size renamed_document, size-renamed (document_of s) n id, h.small))
+      (formed-before_rings (ring_under s) (with_id s.frame n id) (subst WellFormed (sym named_document) m.formed))
+      (keeps-before_rings (ring_under s) (with_id s.frame n id) (subst KeepsTexts (sym named_document) keeps))
+      (subst Proper (sym named_document) m.proper)
+      (subst (λ d. size d ≤ 4000000) (sym named_document) m.small)
+
+-- an id that is a JSON value leaves a map one
+module _ (s : Stored) (n : ℕ) (id : Text) (held : SegmentSet) (json : IsJson id) (h : Holds s held) where
+  renamed_map : IsMap (with_id (document_of s) n (Some id))
+  renamed_map = record {
+    proper = proper-renamed (document_of s) n id h.proper;
+    formed = formed-renamed (document_of s) n id (formed-in_rings (ring_under s) s.frame h.formed);
+    small = omega (arith, size-renamed (document_of s) n id, h.small);
+  }
+
+  pub renamed_holds : Holds (named_tables s n (Some id)) held
+  renamed_holds =
+      named_holds s n (Some id) held renamed_map
+      (keeps-renamed (document_of s) n id json (keeps-in_rings (ring_under s) s.frame h.keeps)) h

@@ -13,9 +13,8 @@ use Rattle.ring_machine.proofs.Found.{feature_found, feature-in_rings}
 use Rattle.ring_machine.proofs.Instead.{rings_at}
 use Rattle.ring_machine.proofs.Neighbours.{in-flat_map}
 use Rattle.map_opening.specs.Laying.{polygon_numbers}
-use Rattle.map_frame.specs.Edits.{polygons_of}
 use Rattle.map_frame.proofs.NamedOnce.{one_owner}
-use Rattle.feature_exchange.specs.Under.{rings_under}
+use Rattle.feature_exchange.specs.Under.{polygons_of, rings_under}
 
 module _ {R : Type 0} (d : DocumentOf R) (n : ℕ) where
   pub polygons_found : (f : FeatureOf R) → feature d n ≡ Some f → polygons_of d n ≡ f.polygons

@@ -2,4 +2,7 @@ pub mod Stored
 pub mod Holds
 pub mod Under
 pub mod Along
-pub mod Asked
+pub mod Changed
+pub mod Laying
+pub mod Ready
+pub mod RingPlaces

@@ -5,15 +5,18 @@
 //! through the whole map. It fails for want of memory alone, and then the map is as it was.
 #![tactic(auto)]
 
-mod joining;
+mod change;
+mod counting;
+mod exchanging;
+mod laying;
 mod numbers;
-mod parting;
 mod reading;
-mod taking;
+mod ring_iter;
 mod vertex_list;
 
-pub use joining::join_features;
-pub use parting::{Parts, part_feature};
+pub use change::{Change, WholeFeature, one_change, one_polygon, two_changes};
+pub use counting::count_changes;
+pub use exchanging::exchange_features;
 pub use reading::read_polygons;
-pub use taking::take_out_feature;
+pub use ring_iter::RingIter;
 pub use vertex_list::read_vertices;

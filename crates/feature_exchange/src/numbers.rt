@@ -3,8 +3,9 @@ ghost use Rattle.std.specs.Prelude.{◌≡◌, ◌++◌, IfOk, OnOk};
 ghost use Rattle.std.specs.List.{flat_map};
 ghost use Rattle.map_opening.specs.Laying.{polygon_numbers};
 ghost use Rattle.ring_exchange.specs.Laid.{numbers_of};
-ghost use Rattle.feature_exchange.specs.Under.{rings_under, polygon_under};
+ghost use Rattle.feature_exchange.specs.Under.{rings_under};
 
+use crate::change::Change;
 use map_frame::Frame;
 use ring_exchange::LaidRing;
 use std::alloc::{AllocError, Allocator};
@@ -25,7 +26,7 @@ fn push_polygons<A: Allocator + Copy>(
 
 /// Appends the numbers of the rings of feature `n`, polygon after polygon; none where no feature has
 /// the number. Fails for want of memory alone.
-pub(crate) fn push_feature<'a, A: Allocator + Copy>(
+fn push_feature<'a, A: Allocator + Copy>(
     frame: &Frame<'a, A>,
     n: u32,
     numbers: &mut Vec<usize, A>,
@@ -38,24 +39,20 @@ pub(crate) fn push_feature<'a, A: Allocator + Copy>(
     }
 }
 
-/// Appends the numbers of the rings of a polygon of feature `n`; none where there is no such
-/// polygon. Fails for want of memory alone.
-pub(crate) fn push_polygon<'a, A: Allocator + Copy>(
+/// Appends the numbers of the rings that these numbers have, feature after feature. Fails for want
+/// of memory alone.
+pub(crate) fn push_features<'a, A: Allocator + Copy>(
     frame: &Frame<'a, A>,
-    n: u32,
-    polygon: usize,
+    changes: &[Change<'a, A>],
     numbers: &mut Vec<usize, A>,
 ) -> Result<(), AllocError>
-    ensures { OnOk result
-        (numbers.new.items ≡ numbers.old.items ++ polygon_under frame.now.doc n polygon) }
+    ensures { OnOk result (numbers.new.items
+        ≡ numbers.old.items ++ flat_map (λ c. rings_under frame.now.doc c.number) changes.now) }
 {
-    let Some(polygons) = frame.polygons(n) else {
-        return Ok(());
-    };
-    match polygons.get(polygon) {
-        Some(rings) => numbers.extend_from_slice(rings.as_slice()),
-        None => Ok(()),
+    for change in changes {
+        push_feature(frame, change.number, numbers)?;
     }
+    Ok(())
 }
 
 /// The numbers of these rings. Fails for want of memory alone.

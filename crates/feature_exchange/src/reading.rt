@@ -10,6 +10,7 @@ ghost use Rattle.feature_exchange.specs.Holds.{IsWhole};
 ghost use Rattle.feature_exchange.specs.Stored.{stored, document_of};
 ghost use Rattle.feature_exchange.specs.Along.{AlongVertices, ring_in};
 
+use crate::change::Change;
 use grid_geometry::Pos;
 use map_frame::Frame;
 use ring_parts::canonical;
@@ -71,7 +72,7 @@ fn polygon_positions<A: Allocator + Copy>(
 }
 
 /// The rings of these polygons, in order. Fails for want of memory alone.
-fn feature_positions<A: Allocator + Copy>(
+pub(crate) fn feature_positions<A: Allocator + Copy>(
     alloc: A,
     vertices: &Vertices<A>,
     borders: &Borders<A>,
@@ -108,4 +109,24 @@ pub fn read_polygons<'a, A: Allocator + Copy>(
         Some(polygons) => feature_positions(alloc, vertices, borders, polygons),
         None => Ok(Vec::new(alloc)),
     }
+}
+
+/// The polygons that these numbers have. Fails for want of memory alone.
+pub(crate) fn read_features<'a, A: Allocator + Copy>(
+    alloc: A,
+    frame: &Frame<'a, A>,
+    vertices: &Vertices<A>,
+    borders: &Borders<A>,
+    changes: &[Change<'a, A>],
+) -> Result<Vec<Vec<Vec<Vec<Pos, A>, A>, A>, A>, AllocError>
+    requires { IsWhole (stored frame.now borders.now vertices.now) }
+    ensures { IfOk result (λ found. map (λ p. polygons_seen p.items) found.items
+        ≡ map (λ c. (feature_at (document_of (stored frame.now borders.now vertices.now))
+        c.number).polygons) changes.now) }
+{
+    let mut found = Vec::new(alloc);
+    for change in changes {
+        found.push(read_polygons(alloc, frame, vertices, borders, change.number)?)?;
+    }
+    Ok(found)
 }

@@ -41,7 +41,7 @@ fn texts_of<R: Abort>(rt: &R, alloc: Global, map: &str, script: &str) -> Texts {
     let mut sink = ToWriter::new(Vec::new(alloc));
     let mut saved = ToWriter::new(Vec::new(alloc));
     let map = map.as_bytes();
-    let ended = run(alloc, alloc, map, &mut source, &mut sink, &mut saved).is_ok();
+    let ended = run(alloc, alloc, map, &mut source, 100, &mut sink, &mut saved).is_ok();
     assert!(rt; ended, "the run has no fault");
     Texts {
         answers: sink.writer,

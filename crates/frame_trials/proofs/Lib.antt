@@ -1,2 +1,3 @@
 pub mod NothingLaid
 pub mod TestedFrames
+pub mod RingsPut

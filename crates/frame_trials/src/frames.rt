@@ -1,10 +1,11 @@
-//! Frames of small texts, and a feature that is parted.
-ghost use Rattle.std.specs.Prelude.{◌≡◌, ◌+◌, ◌<◌, ◌∷◌, [], map, length, IfOk, IsTrue, OnErr, OnOk, vec_len};
+//! Frames of small texts, and the changes of features in them.
+ghost use Rattle.std.specs.Prelude.{ℕ, ◌≡◌, ◌<◌, ◌∷◌, [], map, length, IfOk, IsTrue, OnOk};
+ghost use Rattle.ring_machine.specs.Document.{FeatureOf, Polygon};
+ghost use Rattle.ring_machine.specs.Parts.{feature, rings};
+ghost use Rattle.ring_machine.specs.WellFormed.{are_distinct};
 ghost use Rattle.map_opening.specs.Laying.{feature_numbers};
-ghost use Rattle.map_frame.specs.Edits.{polygons_of};
-ghost use Rattle.map_frame.specs.Numbered.{IsNumbered};
 
-use map_frame::{Frame, ItemView};
+use map_frame::{FeatureTexts, Frame, Id, ItemView};
 use refusing_allocator::Refusing;
 use std::alloc::{AllocError, Allocator, Global};
 use std::process::Abort;
@@ -15,154 +16,19 @@ use topo_reader::read;
 /// More than the growths of any run below.
 const MANY: u64 = 100;
 
-/// Numbers for the rings of these polygons, from `next` on.
-fn number_polygons<X>(
-    alloc: Global,
-    polygons: &[Vec<X>],
-    next: &mut usize,
-) -> Result<Vec<Vec<usize>>, AllocError>
-    ensures { IfOk result (λ numbers. vec_len numbers ≡ length polygons.now) }
-{
-    let mut numbers = Vec::new(alloc);
-    for polygon in polygons {
-        let mut rings = Vec::new(alloc);
-        for _ in polygon {
-            rings.push(*next)?;
-            *next = next.wrapping_add(1);
-        }
-        numbers.push(rings)?;
-    }
-    Ok(numbers)
-}
-
-/// Numbers for the rings of these features, from 0 on.
-fn number_rings<X>(
-    alloc: Global,
-    features: &[Vec<Vec<X>>],
-) -> Result<Vec<Vec<Vec<usize>>>, AllocError>
-    ensures { IfOk result (λ numbers. map (λ n. length n.items) numbers.items
-        ≡ map (λ f. length f.items) features.now) }
-{
-    let mut next = 0;
-    let mut numbers = Vec::new(alloc);
-    for feature in features {
-        numbers.push(number_polygons(alloc, feature.as_slice(), &mut next)?)?;
-    }
-    Ok(numbers)
-}
-
-/// The frame of a topology; fails too where there is none.
-fn frame_of(alloc: Global, text: &[u8]) -> Result<Frame<'_>, AllocError> {
-    let Ok(raw) = read(alloc, alloc, text) else {
-        return Err(AllocError);
-    };
-    let numbers = number_rings(alloc, raw.polygons.as_slice())?;
-    Frame::build(alloc, raw.transform, raw.layers, raw.members, numbers)
-}
-
-/// A layer that is a feature.
-const ALONE: &[u8] = b"{\"type\":\"Topology\",\"objects\":{\"a\":{\"type\":\"Polygon\",\
-\"arcs\":[[0]]}},\"arcs\":[[[0,0],[4,0],[0,4],[0,0]]]}";
+/// Two layers that are features.
+const ALONE: &[u8] = b"{\"type\":\"Topology\",\"objects\":{\"a\":{\"type\":\"Polygon\",\"id\":7,\
+\"properties\":{\"k\":1},\"note\":true,\"arcs\":[[0]]},\"b\":{\"type\":\"Polygon\",\
+\"arcs\":[[1]]}},\"arcs\":[[[0,0],[4,0],[0,4],[0,0]],[[9,0],[12,0],[9,4],[9,0]]]}";
 
 /// A collection of two features with a point between them.
 const COLLECTION: &[u8] = b"{\"type\":\"Topology\",\"objects\":{\"a\":\
-{\"type\":\"GeometryCollection\",\"geometries\":[{\"type\":\"Polygon\",\"arcs\":[[0]]},\
+{\"type\":\"GeometryCollection\",\"geometries\":[{\"type\":\"Polygon\",\"id\":7,\
+\"properties\":{\"k\":1},\"note\":true,\"arcs\":[[0]]},\
 {\"type\":\"Point\",\"coordinates\":[0,0]},{\"type\":\"Polygon\",\"arcs\":[[1]]}]}},\
 \"arcs\":[[[0,0],[4,0],[0,4],[0,0]],[[9,0],[12,0],[9,4],[9,0]]]}";
 
-/// Whether the ring with this number is of this feature; `None`: of no one.
-fn is_of<A: Allocator + Copy>(frame: &Frame<'_, A>, ring: usize, feature: Option<u32>) -> bool {
-    match frame.name_of(ring) {
-        Some(name) => feature == Some(name.feature),
-        None => feature.is_none(),
-    }
-}
-
-/// Whether the features of the first layer have these numbers, in this order.
-fn has_leaves<A: Allocator + Copy>(frame: &Frame<'_, A>, numbers: &[u32]) -> bool {
-    let Some(items) = frame.view().items(0) else {
-        return numbers.is_empty();
-    };
-    let mut count: usize = 0;
-    for item in items {
-        if let ItemView::Leaf(number) = item {
-            match numbers.get(count) {
-                Some(wanted) if *wanted == number => count = count.wrapping_add(1),
-                _ => return false,
-            }
-        }
-    }
-    count == numbers.len()
-}
-
-/// How many items the first layer has, the end of each collection counted too.
-fn item_count(frame: &Frame<'_>) -> usize {
-    let mut count: usize = 0;
-    if let Some(items) = frame.view().items(0) {
-        for _ in items {
-            count = count.wrapping_add(1);
-        }
-    }
-    count
-}
-
-/// The frame has one feature, which is a layer.
-fn see_alone<R: Abort>(rt: &R, frame: &Frame<'_>) {
-    assert!(rt; frame.is_alone(0));
-    assert!(rt; frame.feature_count() == 1);
-    assert!(rt; is_of(frame, 0, Some(0)));
-    assert!(rt; is_of(frame, 1, None));
-}
-
-#[test]
-fn a_feature_alone(rt: HostRuntime) -> Result<(), Fail> {
-    let frame = frame_of(rt.alloc(), ALONE)?;
-    see_alone(&rt, &frame);
-    drop(frame);
-    Ok(())
-}
-
-/// The frame has two features in a collection, with a point between them.
-fn see_collection<R: Abort>(rt: &R, frame: &Frame<'_>) {
-    assert!(rt; frame.feature_count() == 2);
-    assert!(rt; !frame.is_alone(0));
-    assert!(rt; !frame.is_alone(1));
-    assert!(rt; has_leaves(frame, &[0, 1]));
-    assert!(rt; item_count(frame) == 5, "with its end, and the point");
-}
-
-#[test]
-fn a_collection(rt: HostRuntime) -> Result<(), Fail> {
-    let frame = frame_of(rt.alloc(), COLLECTION)?;
-    see_collection(&rt, &frame);
-    drop(frame);
-    Ok(())
-}
-
-/// A copy of the frame of the collection, which is gone then.
-fn copied(alloc: Global) -> Result<Frame<'static>, AllocError> {
-    let frame = frame_of(alloc, COLLECTION)?;
-    let copy = frame.copy();
-    drop(frame);
-    copy
-}
-
-/// The frame has the two features of the collection.
-fn see_two<R: Abort>(rt: &R, frame: &Frame<'_>) {
-    assert!(rt; frame.feature_count() == 2);
-    assert!(rt; has_leaves(frame, &[0, 1]));
-    assert!(rt; is_of(frame, 1, Some(1)));
-}
-
-#[test]
-fn a_copy(rt: HostRuntime) -> Result<(), Fail> {
-    let copy = copied(rt.alloc())?;
-    see_two(&rt, &copy);
-    drop(copy);
-    Ok(())
-}
-
-// ---- features that are parted
+// ---- frames
 
 /// A feature of one polygon, which is one ring with this number.
 fn triangle<A: Allocator + Copy>(
@@ -201,15 +67,17 @@ fn are_two<X, A: Allocator + Copy>(features: &[Vec<X, A>]) -> bool
     }
 }
 
-/// The collection, where the features' rings have the numbers 0 and 1.
-fn triangles<R: Abort, A: Allocator + Copy>(
+/// The frame of a text with two features of one ring each, which have the numbers 0 and 1. Fails
+/// too where the text is no topology.
+fn frame_of<R: Abort, A: Allocator + Copy>(
     rt: &R,
     alloc: A,
     heap: Global,
+    text: &'static [u8],
 ) -> Result<Frame<'static, A>, AllocError>
-    ensures { IfOk result (λ frame. IsNumbered frame.doc 2) }
+    ensures { IfOk result (λ frame. IsTrue (are_distinct (rings frame.doc))) }
 {
-    let Ok(raw) = read(alloc, heap, COLLECTION) else {
+    let Ok(raw) = read(alloc, heap, text) else {
         return Err(AllocError);
     };
     assert!(rt; are_two(raw.polygons.as_slice()));
@@ -221,40 +89,285 @@ fn triangles<R: Abort, A: Allocator + Copy>(
     Ok(frame)
 }
 
-/// The feature has one polygon.
-fn has_one<A: Allocator + Copy>(frame: &Frame<'_, A>, n: u32) -> bool
-    ensures { IsTrue result → length (polygons_of frame.now.doc n) ≡ 1 }
+/// Whether the ring with this number is of this feature; `None`: of no one.
+fn is_of<A: Allocator + Copy>(frame: &Frame<'_, A>, ring: usize, feature: Option<u32>) -> bool {
+    match frame.name_of(ring) {
+        Some(name) => feature == Some(name.feature),
+        None => feature.is_none(),
+    }
+}
+
+/// Whether the features of the first layer have these numbers, in this order.
+fn has_leaves<A: Allocator + Copy>(frame: &Frame<'_, A>, numbers: &[u32]) -> bool {
+    let Some(items) = frame.view().items(0) else {
+        return numbers.is_empty();
+    };
+    let mut count: usize = 0;
+    for item in items {
+        if let ItemView::Leaf(number) = item {
+            match numbers.get(count) {
+                Some(wanted) if *wanted == number => count = count.wrapping_add(1),
+                _ => return false,
+            }
+        }
+    }
+    count == numbers.len()
+}
+
+/// How many items the first layer has, the end of each collection counted too.
+fn item_count(frame: &Frame<'_>) -> usize {
+    let mut count: usize = 0;
+    if let Some(items) = frame.view().items(0) {
+        for _ in items {
+            count = count.wrapping_add(1);
+        }
+    }
+    count
+}
+
+/// Whether the first layer is a collection with nothing in it.
+fn is_empty_collection(frame: &Frame<'_>) -> bool {
+    let Some(mut items) = frame.view().items(0) else {
+        return false;
+    };
+    let opens = matches!(items.next(), Some(ItemView::Open(_)));
+    let closes = matches!(items.next(), Some(ItemView::Close));
+    opens && closes && items.next().is_none()
+}
+
+/// The frame has two features, each of which is a layer.
+fn see_alone<R: Abort>(rt: &R, frame: &Frame<'_>) {
+    assert!(rt; frame.is_alone(0));
+    assert!(rt; frame.is_alone(1));
+    assert!(rt; frame.feature_count() == 2);
+    assert!(rt; has_leaves(frame, &[0]));
+    assert!(rt; item_count(frame) == 1);
+    assert!(rt; is_of(frame, 0, Some(0)));
+    assert!(rt; is_of(frame, 1, Some(1)));
+    assert!(rt; is_of(frame, 2, None));
+}
+
+#[test]
+fn features_alone(rt: HostRuntime) -> Result<(), Fail> {
+    let frame = frame_of(&rt, rt.alloc(), rt.alloc(), ALONE)?;
+    see_alone(&rt, &frame);
+    drop(frame);
+    Ok(())
+}
+
+/// The frame has two features in a collection, with a point between them.
+fn see_collection<R: Abort>(rt: &R, frame: &Frame<'_>) {
+    assert!(rt; frame.feature_count() == 2);
+    assert!(rt; !frame.is_alone(0));
+    assert!(rt; !frame.is_alone(1));
+    assert!(rt; has_leaves(frame, &[0, 1]));
+    assert!(rt; item_count(frame) == 5, "with its end, and the point");
+    assert!(rt; is_of(frame, 0, Some(0)));
+    assert!(rt; is_of(frame, 1, Some(1)));
+    assert!(rt; is_of(frame, 2, None));
+}
+
+#[test]
+fn a_collection(rt: HostRuntime) -> Result<(), Fail> {
+    let frame = frame_of(&rt, rt.alloc(), rt.alloc(), COLLECTION)?;
+    see_collection(&rt, &frame);
+    drop(frame);
+    Ok(())
+}
+
+/// A copy of the frame of the collection, which is gone then.
+fn copied<R: Abort>(rt: &R, alloc: Global) -> Result<Frame<'static>, AllocError> {
+    let frame = frame_of(rt, alloc, alloc, COLLECTION)?;
+    let copy = frame.copy();
+    drop(frame);
+    copy
+}
+
+#[test]
+fn a_copy(rt: HostRuntime) -> Result<(), Fail> {
+    let copy = copied(&rt, rt.alloc())?;
+    see_collection(&rt, &copy);
+    drop(copy);
+    Ok(())
+}
+
+// ---- features that are taken out and put back
+
+/// A feature of one polygon, which is the ring with this number, and room for it.
+fn prepare<A: Allocator + Copy>(
+    alloc: A,
+    frame: &mut Frame<'_, A>,
+    ring: usize,
+) -> Result<Vec<Vec<usize, A>, A>, AllocError>
+    ensures doc { frame.new.doc ≡ frame.old.doc }
+    ensures polygons { IfOk result (λ polygons. feature_numbers polygons ≡ (ring ∷ []) ∷ []) }
+    ensures room { OnOk result (ring < frame.new.room) }
 {
-    match frame.polygons(n) {
-        Some(polygons) => polygons.len() == 1,
+    let polygons = triangle(alloc, ring)?;
+    frame.reserve_names(&[ring])?;
+    Ok(polygons)
+}
+
+/// Puts a Polygon, which is the ring with this number, into the place of `n`, where none stands.
+fn put_polygon<'a, R: Abort, A: Allocator + Copy>(
+    rt: &R,
+    frame: &mut Frame<'a, A>,
+    n: u32,
+    texts: FeatureTexts<'a, A>,
+    polygons: Vec<Vec<usize, A>, A>,
+    ring: usize,
+)
+    requires form { texts.form ≡ Polygon }
+    requires polygons { feature_numbers polygons ≡ (ring ∷ []) ∷ [] }
+    requires room { ring < frame.old.room }
+    ensures { IsTrue (are_distinct (rings frame.old.doc)) → IsTrue (are_distinct (rings frame.new.doc)) }
+{
+    assert!(rt; n < frame.next());
+    assert!(rt; !frame.has_feature(n));
+    assert!(rt; frame.name_of(ring).is_none());
+    frame.put(n, texts, polygons);
+}
+
+/// Whether this feature is a Polygon.
+fn is_polygon<A: Allocator + Copy>(frame: &Frame<'_, A>, n: u32) -> bool
+    ensures { IsTrue result → (f : FeatureOf ℕ) → feature frame.now.doc n ≡ Some f → f.form ≡ Polygon }
+{
+    match frame.feature(n) {
+        Some(feature) => feature.form() == Form::Polygon,
         None => false,
     }
 }
 
-/// Gives a feature the ring with the next number as its only polygon, and parts another feature of
-/// the ring with the number after it from it.
-fn part_feature<R: Abort, A: Allocator + Copy>(
+/// Takes a Polygon out of its place.
+fn take_polygon<'a, R: Abort, A: Allocator + Copy>(
     rt: &R,
-    alloc: A,
+    frame: &mut Frame<'a, A>,
+    n: u32,
+) -> FeatureTexts<'a, A>
+    requires { IsTrue (are_distinct (rings frame.old.doc)) }
+    ensures form { result.form ≡ Polygon }
+    ensures room { frame.new.room ≡ frame.old.room }
+{
+    assert!(rt; is_polygon(frame, n));
+    frame.take_out(n).expect(rt, "the feature is there")
+}
+
+/// Nothing has the number of the first feature.
+fn see_gone<R: Abort>(rt: &R, frame: &Frame<'_>) {
+    assert!(rt; frame.feature(0).is_none());
+    assert!(rt; !frame.is_alone(0));
+    assert!(rt; frame.feature_count() == 1);
+    assert!(rt; frame.next() == 2);
+    assert!(rt; is_of(frame, 0, None));
+    assert!(rt; is_of(frame, 1, Some(1)));
+}
+
+/// The first feature has what was read of it, and the ring 0.
+fn see_first<R: Abort>(rt: &R, frame: &Frame<'_>) {
+    let first = frame.feature(0).expect(rt, "the feature is there");
+    assert!(rt; first.id() == Some(b"7".as_slice()));
+    assert!(rt; first.form() == Form::Polygon);
+    assert!(rt; first.properties() == Some(b"{\"k\":1}".as_slice()));
+    assert!(rt; first.members().len() == 1);
+    assert!(rt; frame.ring(0, 0, 0) == Some(0));
+    assert!(rt; frame.next() == 2);
+}
+
+/// Takes the first feature out of the collection, and puts it back.
+fn take_from_collection<R: Abort>(
+    rt: &R,
+    alloc: Global,
+    frame: &mut Frame<'_>,
+) -> Result<(), AllocError>
+    requires { IsTrue (are_distinct (rings frame.old.doc)) }
+{
+    let polygons = prepare(alloc, frame, 0)?;
+    let texts = take_polygon(rt, frame, 0);
+    see_gone(rt, frame);
+    assert!(rt; has_leaves(frame, &[1]));
+    assert!(rt; item_count(frame) == 4, "with its end, and the point");
+    put_polygon(rt, frame, 0, texts, polygons, 0);
+    see_first(rt, frame);
+    see_collection(rt, frame);
+    Ok(())
+}
+
+#[test]
+fn a_feature_is_put_back(rt: HostRuntime) -> Result<(), Fail> {
+    let mut frame = frame_of(&rt, rt.alloc(), rt.alloc(), COLLECTION)?;
+    let taken = take_from_collection(&rt, rt.alloc(), &mut frame);
+    drop(frame);
+    Ok(taken?)
+}
+
+/// Takes the feature out that is the first layer, and puts it back.
+fn take_alone<R: Abort>(rt: &R, alloc: Global, frame: &mut Frame<'_>) -> Result<(), AllocError>
+    requires { IsTrue (are_distinct (rings frame.old.doc)) }
+{
+    let polygons = prepare(alloc, frame, 0)?;
+    let texts = take_polygon(rt, frame, 0);
+    see_gone(rt, frame);
+    assert!(rt; is_empty_collection(frame));
+    put_polygon(rt, frame, 0, texts, polygons, 0);
+    see_first(rt, frame);
+    see_alone(rt, frame);
+    Ok(())
+}
+
+#[test]
+fn a_layer_is_put_back(rt: HostRuntime) -> Result<(), Fail> {
+    let mut frame = frame_of(&rt, rt.alloc(), rt.alloc(), ALONE)?;
+    let taken = take_alone(&rt, rt.alloc(), &mut frame);
+    drop(frame);
+    Ok(taken?)
+}
+
+// ---- new features
+
+/// A new number directly after that of this feature, which stands in a collection.
+fn grow_after<R: Abort, A: Allocator + Copy>(
+    rt: &R,
     frame: &mut Frame<'_, A>,
     n: u32,
-    next: usize,
 ) -> Result<u32, AllocError>
-    requires few { next < 1000 }
-    requires numbered { IsNumbered frame.old.doc next }
-    ensures numbered { OnOk result (IsNumbered frame.new.doc (next + 2)) }
-    ensures same { OnErr result (frame.new ≡ frame.old) }
+    ensures doc { frame.new.doc ≡ frame.old.doc }
+    ensures room { frame.new.room ≡ frame.old.room }
 {
-    assert!(rt; has_one(frame, n));
+    assert!(rt; frame.has_feature(n));
     assert!(rt; !frame.is_alone(n));
     assert!(rt; frame.next() < 200000);
-    let _ = frame.view(); // so that it is known to be well formed
-    let first = Vec::from_slice(alloc, &[next])?;
-    let second = Vec::from_slice(alloc, &[next + 1])?;
+    frame.grow(n)
+}
+
+/// What a part of this feature has, with an id of its own.
+fn part_texts<'a, R: Abort, A: Allocator + Copy>(
+    rt: &R,
+    alloc: A,
+    frame: &Frame<'a, A>,
+    n: u32,
+) -> Result<FeatureTexts<'a, A>, AllocError>
+    ensures { IfOk result (λ texts. texts.form ≡ Polygon) }
+{
     let id = Vec::from_slice(alloc, b"\"new\"")?;
-    let number = frame.part(n, 0, first, second, id)?;
-    assert!(rt; frame.has_feature(number));
-    Ok(number)
+    let texts = frame.texts(n)?;
+    Ok(texts.expect(rt, "the feature is there").part(id))
+}
+
+/// Puts a part of the first feature, which is the ring with this number, into the place of `n`.
+fn put_part<R: Abort>(
+    rt: &R,
+    alloc: Global,
+    frame: &mut Frame<'_>,
+    n: u32,
+    ring: usize,
+) -> Result<(), AllocError>
+    requires { IsTrue (are_distinct (rings frame.old.doc)) }
+    ensures { OnOk result (IsTrue (are_distinct (rings frame.new.doc))) }
+{
+    let polygons = prepare(alloc, frame, ring)?;
+    let texts = part_texts(rt, alloc, frame, 0)?;
+    put_polygon(rt, frame, n, texts, polygons, ring);
+    Ok(())
 }
 
 /// The rings from 0 on are of these features.
@@ -264,64 +377,123 @@ fn see_owners<R: Abort>(rt: &R, frame: &Frame<'_>, owners: &[Option<u32>]) {
     }
 }
 
-/// Parts a feature twice, and takes out one of its parts.
-fn part_twice<R: Abort>(rt: &R, alloc: Global, frame: &mut Frame<'_>) -> Result<(), AllocError>
-    requires { IsNumbered frame.old.doc 2 }
+/// The feature of this number is a Polygon with the id that it was given, and has the properties of
+/// the first feature and the ring 5.
+fn see_part<R: Abort>(rt: &R, frame: &Frame<'_>, number: u32) {
+    let part = frame.feature(number).expect(rt, "the part is there");
+    assert!(rt; part.id() == Some(b"\"new\"".as_slice()));
+    assert!(rt; part.form() == Form::Polygon);
+    assert!(rt; part.properties() == Some(b"{\"k\":1}".as_slice()));
+    assert!(rt; part.members().len() == 1);
+    assert!(rt; frame.ring(number, 0, 0) == Some(5));
+}
+
+/// Gives two numbers places after the first feature, in which nothing stands.
+fn grow_twice<R: Abort>(rt: &R, frame: &mut Frame<'_>) -> Result<(), AllocError>
+    ensures { frame.new.doc ≡ frame.old.doc }
 {
-    assert!(rt; part_feature(rt, alloc, frame, 0, 2)? == 2);
-    assert!(rt; part_feature(rt, alloc, frame, 0, 4)? == 3);
+    assert!(rt; grow_after(rt, frame, 0)? == 2);
+    assert!(rt; grow_after(rt, frame, 0)? == 3);
+    assert!(rt; frame.next() == 4);
+    assert!(rt; frame.feature(2).is_none());
+    assert!(rt; frame.feature(3).is_none());
+    see_collection(rt, frame);
+    Ok(())
+}
+
+/// Puts parts of the first feature into two new places after it, and takes one of them out.
+fn part_twice<R: Abort>(rt: &R, alloc: Global, frame: &mut Frame<'_>) -> Result<(), AllocError>
+    requires { IsTrue (are_distinct (rings frame.old.doc)) }
+{
+    grow_twice(rt, frame)?;
+    put_part(rt, alloc, frame, 2, 5)?;
+    see_part(rt, frame, 2);
+    assert!(rt; has_leaves(frame, &[0, 2, 1]));
+    put_part(rt, alloc, frame, 3, 3)?;
     assert!(rt; has_leaves(frame, &[0, 3, 2, 1]));
-    see_owners(rt, frame, &[None, Some(1), None, Some(2), Some(0), Some(3)]);
+    see_owners(
+        rt,
+        frame,
+        &[Some(0), Some(1), None, Some(3), None, Some(2), None],
+    );
     frame.take_out(2);
     assert!(rt; has_leaves(frame, &[0, 3, 1]));
     assert!(rt; frame.feature_count() == 3);
     assert!(rt; frame.next() == 4);
-    assert!(rt; is_of(frame, 3, None));
+    assert!(rt; is_of(frame, 5, None));
     Ok(())
 }
 
 #[test]
 fn parts_stand_after_their_feature(rt: HostRuntime) -> Result<(), Fail> {
-    let mut frame = triangles(&rt, rt.alloc(), rt.alloc())?;
+    let mut frame = frame_of(&rt, rt.alloc(), rt.alloc(), COLLECTION)?;
     let parted = part_twice(&rt, rt.alloc(), &mut frame);
     drop(frame);
     Ok(parted?)
 }
 
-/// The feature of this number is a polygon with the id that it was given, and has the ring 3.
-fn see_part<R: Abort>(rt: &R, frame: &Frame<'_>, number: u32) {
-    let part = frame.feature(number).expect(rt, "the part is there");
-    assert!(rt; part.id() == Some(b"\"new\"".as_slice()));
-    assert!(rt; part.form() == Form::Polygon);
-    assert!(rt; frame.ring(number, 0, 0) == Some(3));
+// ---- other ids
+
+/// Whether this feature has this id.
+fn has_id(frame: &Frame<'_>, n: u32, id: Option<&[u8]>) -> bool {
+    match frame.feature(n) {
+        Some(feature) => feature.id() == id,
+        None => false,
+    }
 }
 
-/// Parts the second feature.
-fn part_off<R: Abort>(rt: &R, alloc: Global, frame: &mut Frame<'_>) -> Result<(), AllocError>
-    requires { IsNumbered frame.old.doc 2 }
-{
-    let number = part_feature(rt, alloc, frame, 1, 2)?;
-    see_part(rt, frame, number);
-    assert!(rt; frame.ring(1, 0, 0) == Some(2));
+/// Gives the features another id, and then their own again.
+fn rename_both<R: Abort>(rt: &R, alloc: Global, frame: &mut Frame<'_>) -> Result<(), AllocError> {
+    let text = Vec::from_slice(alloc, b"\"new\"")?;
+    let new = frame.rename(9, Id::given(text));
+    let old = frame.rename(0, new);
+    assert!(rt; has_id(frame, 0, Some(b"\"new\"".as_slice())));
+    let new = frame.rename(0, old);
+    assert!(rt; has_id(frame, 0, Some(b"7".as_slice())));
+    let none = frame.rename(1, new);
+    assert!(rt; has_id(frame, 1, Some(b"\"new\"".as_slice())));
+    let new = frame.rename(1, none);
+    assert!(rt; has_id(frame, 1, None));
+    drop(new);
+    see_collection(rt, frame);
     Ok(())
 }
 
 #[test]
-fn a_part_is_a_polygon_with_its_id(rt: HostRuntime) -> Result<(), Fail> {
-    let mut frame = triangles(&rt, rt.alloc(), rt.alloc())?;
-    let parted = part_off(&rt, rt.alloc(), &mut frame);
+fn an_id_is_given_back(rt: HostRuntime) -> Result<(), Fail> {
+    let mut frame = frame_of(&rt, rt.alloc(), rt.alloc(), COLLECTION)?;
+    let renamed = rename_both(&rt, rt.alloc(), &mut frame);
     drop(frame);
-    Ok(parted?)
+    Ok(renamed?)
 }
 
-/// Whether nothing of the frame has changed.
+// ---- refused growths
+
+/// Puts a part of the first feature, which is the ring 5, into a new place after it.
+fn part_feature<R: Abort, A: Allocator + Copy>(
+    rt: &R,
+    alloc: A,
+    frame: &mut Frame<'_, A>,
+) -> Result<(), AllocError> {
+    let texts = part_texts(rt, alloc, frame, 0)?;
+    let polygons = prepare(alloc, frame, 5)?;
+    let number = grow_after(rt, frame, 0)?;
+    put_polygon(rt, frame, number, texts, polygons, 5);
+    Ok(())
+}
+
+/// Whether the frame shows what it showed at first.
 fn stays<A: Allocator + Copy>(frame: &Frame<'_, A>) -> bool {
-    has_leaves(frame, &[0, 1]) && is_of(frame, 0, Some(0)) && is_of(frame, 2, None)
+    has_leaves(frame, &[0, 1])
+        && frame.feature_count() == 2
+        && frame.next() == 2
+        && is_of(frame, 0, Some(0))
+        && is_of(frame, 5, None)
 }
 
 /// Whether the first feature was parted.
 fn is_parted<A: Allocator + Copy>(frame: &Frame<'_, A>) -> bool {
-    has_leaves(frame, &[0, 2, 1]) && is_of(frame, 3, Some(2))
+    has_leaves(frame, &[0, 2, 1]) && frame.next() == 3 && is_of(frame, 5, Some(2))
 }
 
 /// Parts a feature, and again if a growth was refused. Gives whether it was.
@@ -330,14 +502,12 @@ fn part_again<R: Abort, A: Allocator + Copy>(
     alloc: A,
     frame: &mut Frame<'_, A>,
     growth: u64,
-) -> Result<bool, AllocError>
-    requires { IsNumbered frame.old.doc 2 }
-{
-    match part_feature(rt, alloc, frame, 0, 2) {
-        Ok(_) => Ok(false),
+) -> Result<bool, AllocError> {
+    match part_feature(rt, alloc, frame) {
+        Ok(()) => Ok(false),
         Err(_) => {
             assert!(rt; stays(frame), "growth {growth}");
-            part_feature(rt, alloc, frame, 0, 2)?;
+            part_feature(rt, alloc, frame)?;
             Ok(true)
         }
     }
@@ -347,7 +517,7 @@ fn part_again<R: Abort, A: Allocator + Copy>(
 /// it was.
 fn is_refused<R: Abort>(rt: &R, heap: Global, growth: u64) -> Result<bool, Fail> {
     let refusing = Refusing::new(heap, growth);
-    let Ok(mut frame) = triangles(rt, &refusing, heap) else {
+    let Ok(mut frame) = frame_of(rt, &refusing, heap, COLLECTION) else {
         return Ok(true);
     };
     let parted = part_again(rt, &refusing, &mut frame, growth);

@@ -31,21 +31,25 @@ module _ {A : Type 0} where
   pub record HasRoom (n : ℕ) (now : Progress A) : Type 0 where
     pub few : length now.features + n ≤ 200000
     pub there : n ≤ length now.waiting
+    pub alike : length now.stands ≡ length now.features
 
   -- so many features came
   pub record Came (n : ℕ) (old new : Progress A) : Type 0 where
     pub more : length new.features ≡ length old.features + n
+    pub stood : length new.stands ≡ length old.stands + n
     pub fewer : length old.waiting ≡ n + length new.waiting
 
   pub came_none : (old new : Progress A) → new ≡ old → Came 0 old new
   came_none old new e = record {
     more = ap (λ p. length p.features) e ∙ omega arith;
+    stood = ap (λ p. length p.stands) e ∙ omega arith;
     fewer = ap (λ p. length p.waiting) (sym e) ∙ omega arith;
   }
 
   pub came_both : (m n k : ℕ) (old now new : Progress A) → Came m old now → Came n now new → k ≡ m + n → Came k old new
   came_both m n k old now new g h e = record {
     more = omega (arith, g.more, h.more, e);
+    stood = omega (arith, g.stood, h.stood, e);
     fewer = omega (arith, g.fewer, h.fewer, e);
   }
 
@@ -53,11 +57,13 @@ module _ {A : Type 0} where
   room_left m n k old new h c e = record {
     few = omega (arith, h.few, c.more, e);
     there = omega (arith, h.there, c.fewer, e);
+    alike = omega (arith, h.alike, c.more, c.stood);
   }
 
   pub came_next : {raw : _} (layer at : ℕ) (old new : Progress A) → IsNext raw layer at old new → Came 1 old new
   came_next layer at old new h = record {
     more = ap length h.appended ∙ length-append old.features (Some h.feature ∷ []);
+    stood = ap length h.stood ∙ length-append old.stands (record { layer = layer; slot = at } ∷ []);
     fewer = ap length h.taken ∙ omega arith;
   }
 
@@ -78,6 +84,7 @@ module _ {A : Type 0} where
   room_first before left i now h e = record {
     few = omega (arith, h.few, ap leaves_of e, leaves_of-cons i left);
     there = omega (arith, h.there, ap leaves_of e, leaves_of-cons i left);
+    alike = h.alike;
   }
 
   came_slot : (layer at : ℕ) (i : Item A) (s : Slot A) (old new : Progress A) → IsSlot layer at i s old new
@@ -206,6 +213,7 @@ module _ {A : Type 0} where
   layer_room before left r now h e = record {
     few = omega (arith, h.few, ap all_leaves e, all_leaves-cons r left);
     there = omega (arith, h.there, ap all_leaves e, all_leaves-cons r left);
+    alike = h.alike;
   }
 
   pub layers_more : (raws : List (RawLayer A)) (start : Progress A) (before left : List (RawLayer A)) (r : RawLayer A)

@@ -1,12 +1,13 @@
 -- What the layers that were built mean, and where their features stand.
 use Rattle.std.proofs.Common.{◌≡◌, ◌≢◌, ◌∙◌, ℕ, zero, suc, ◌+◌, ◌<◌, ◌≤◌, refl, sym, ap, ap₂, subst, arith, append_assoc}
-use Rattle.std.proofs.Common.{List, [], ◌∷◌, ◌++◌, length, map, drop, Option, Some, None, option_map, true, ◌&&◌, inl, Contains}
+use Rattle.std.proofs.Common.{List, [], ◌∷◌, ◌++◌, length, map, drop, Option, Some, option_map, true, ◌&&◌, inl, Contains}
 use Rattle.std.specs.Prelude.{Vec, not, IsTrue, slice_get, unwrap_or}
 use Rattle.std.specs.List.{flat_map, list_all}
 use Rattle.std.proofs.lemmas.Option.{slice_get-map}
 use native.Mathlib.Decide.{ℕ_discrete, dec_lt}
 use Rattle.ring_machine.specs.Document.{Text, ItemOf, LayerOf, Leaf}
-use Rattle.ring_machine.specs.WellFormed.{is_geometry}
+use Rattle.std.proofs.lemmas.Bool.{false≢true}
+use Rattle.ring_machine.specs.WellFormed.{is_inner, is_geometry}
 use Rattle.ring_machine.proofs.First.{In}
 use Rattle.ring_machine.proofs.Members.{in_contains}
 use Rattle.ring_machine.proofs.Order.{and_both}
@@ -20,14 +21,15 @@ use Rattle.topo_outline.specs.declared.document.RawFeature.{RawFeature}
 use Rattle.topo_outline.specs.declared.document.RawLayer.{RawLayer}
 use Rattle.topo_reader.specs.Document.{numbered, polygons_at, items_from, layers_from}
 use Rattle.map_frame.specs.declared.feature.Feature.{Feature}
+use Rattle.map_frame.specs.declared.feature.Stand.{Stand}
 use Rattle.map_frame.specs.declared.layers.Slot.{Slot}
-use Rattle.map_frame.specs.declared.layers.Slot.TheVariants as slot
 use Rattle.map_frame.specs.declared.layers.Geometry.{Geometry}
 use Rattle.map_frame.specs.declared.layers.Geometry.TheVariants as geometry
 use Rattle.map_frame.specs.declared.layers.Layer.{Layer}
 use Rattle.map_frame.specs.Building.{Progress, IsNext, IsLeaf, IsSlot, AreSlots, is_lone, IsGeometry, AreLayers}
-use Rattle.map_frame.specs.Kept.{numbers_at, numbers_under, is_enclosed}
-use Rattle.map_frame.specs.Seen.{or_empty, view_feature, leaf_of, items_at, items_of, view_layer}
+use Rattle.map_frame.specs.Kept.{numbers_at, numbers_under, is_closing, is_whole, is_enclosed}
+use Rattle.map_frame.specs.Seen.{view_feature, leaf_of, items_at, items_of, view_layer}
+use Rattle.edit_records.specs.Places.{or_empty}
 use Rattle.map_frame.proofs.Built.{leaves_of, came_next, came_geometry}
 
 -- ---- lists
@@ -48,14 +50,16 @@ got_behind : {X : Type 0} (xs : List X) (x : X) (ys : List X) → slice_get (xs 
 got_behind [] x ys = refl
 got_behind (z ∷ xs) x ys = got_behind xs x ys
 
-same_feature : {X : Type 0} (x y : X) (o : Option (Option X)) → o ≡ Some (Some x) → o ≡ Some (Some y) → x ≡ y
-same_feature x y o e f = ap (λ z. unwrap_or (unwrap_or z None) x) (sym e ∙ f)
+same_element : {X : Type 0} (x y : X) (o : Option X) → o ≡ Some x → o ≡ Some y → x ≡ y
+same_element x y o e f = ap (λ z. unwrap_or z x) (sym e ∙ f)
 
 module _ {A : Type 0} where
-  -- these are all features, some of which came so far
-  pub record Whole (fs : List (Option (Feature A))) (p : Progress A) : Type 0 where
+  -- these are all features and where they stand, some of which came so far
+  pub record Whole (fs : List (Option (Feature A))) (ss : List Stand) (p : Progress A) : Type 0 where
     pub more : List (Option (Feature A))
     pub whole : fs ≡ p.features ++ more
+    pub more_stands : List Stand
+    pub whole_stands : ss ≡ p.stands ++ more_stands
 
   -- these are the polygons of all features, some of which wait still
   pub record Waits (all : List (Vec (Vec ℕ A) A)) (p : Progress A) : Type 0 where
@@ -63,21 +67,36 @@ module _ {A : Type 0} where
 
   -- ---- the next feature
 
-  module _ (fs : List (Option (Feature A))) (all : List (Vec (Vec ℕ A) A)) (raw : RawFeature A) (layer at : ℕ) (old new : Progress A)
+  module _ (fs : List (Option (Feature A))) (ss : List Stand) (all : List (Vec (Vec ℕ A) A)) (raw : RawFeature A) (layer at : ℕ) (old new : Progress A)
       (h : IsNext raw layer at old new) where
-    next_whole : (w : Whole fs new) → fs ≡ old.features ++ Some h.feature ∷ w.more
+    next_whole : (w : Whole fs ss new) → fs ≡ old.features ++ Some h.feature ∷ w.more
     next_whole w = w.whole ∙ ap (λ z. z ++ w.more) h.appended ∙ append_assoc old.features (Some h.feature ∷ []) w.more
 
-    whole_next : Whole fs new → Whole fs old
-    whole_next w = record { more = Some h.feature ∷ w.more; whole = next_whole w }
+    next_stands : (w : Whole fs ss new) → ss ≡ old.stands ++ record { layer = layer; slot = at } ∷ w.more_stands
+    next_stands w =
+        w.whole_stands ∙ ap (λ z. z ++ w.more_stands) h.stood
+        ∙ append_assoc old.stands (record { layer = layer; slot = at } ∷ []) w.more_stands
+
+    whole_next : Whole fs ss new → Whole fs ss old
+    whole_next w = record {
+      more = Some h.feature ∷ w.more;
+      whole = next_whole w;
+      more_stands = record { layer = layer; slot = at } ∷ w.more_stands;
+      whole_stands = next_stands w;
+    }
 
     waits_next : Waits all old → Waits all new
     waits_next v =
         let long : length new.features ≡ suc (length old.features) = omega (arith, (came_next layer at old new h).more) in
         record { waits = ap (λ n. drop n all) long ∙ drop_more all (length old.features) h.polygons new.waiting (v.waits ∙ h.taken) }
 
-    feature_there : Whole fs new → slice_get fs (length old.features) ≡ Some (Some h.feature)
+    feature_there : Whole fs ss new → slice_get fs (length old.features) ≡ Some (Some h.feature)
     feature_there w = ap (λ z. slice_get z (length old.features)) (next_whole w) ∙ got_behind old.features (Some h.feature) w.more
+
+    stand_there : Whole fs ss new → slice_get ss (length old.features) ≡ Some (record { layer = layer; slot = at })
+    stand_there w =
+        ap₂ (λ z i. slice_get z i) (next_stands w) (sym h.alike)
+        ∙ got_behind old.stands (record { layer = layer; slot = at }) w.more_stands
 
     polygons_there : Waits all old → polygons_at (map feature_numbers all) (length old.features) ≡ feature_numbers h.polygons
     polygons_there v =
@@ -89,24 +108,24 @@ module _ {A : Type 0} where
       → leaf_of fs n ≡ Leaf (view_feature n f) ∷ []
   leaf_at fs n f e = rw e refl
 
-  leaf_seen : (fs : List (Option (Feature A))) (all : List (Vec (Vec ℕ A) A)) (raw : RawFeature A) (layer at : ℕ) (old new : Progress A)
-      → IsNext raw layer at old new → Whole fs new → Waits all old
+  leaf_seen : (fs : List (Option (Feature A))) (ss : List Stand) (all : List (Vec (Vec ℕ A) A)) (raw : RawFeature A) (layer at : ℕ) (old new : Progress A)
+      → IsNext raw layer at old new → Whole fs ss new → Waits all old
       → leaf_of fs (length old.features)
       ≡ Leaf (numbered (length old.features) (form_of raw.form) (view_head raw.head) (polygons_at (map feature_numbers all) (length old.features))) ∷ []
-  leaf_seen fs all raw layer at old new h w v =
+  leaf_seen fs ss all raw layer at old new h w v =
       let n = length old.features in
-      leaf_at fs n h.feature (feature_there fs all raw layer at old new h w)
+      leaf_at fs n h.feature (feature_there fs ss all raw layer at old new h w)
       ∙ ap (λ z. Leaf z ∷ [])
-      (h.read.seen n ∙ ap (λ z. numbered n (form_of raw.form) (view_head raw.head) z) (sym (polygons_there fs all raw layer at old new h v)))
+      (h.read.seen n ∙ ap (λ z. numbered n (form_of raw.form) (view_head raw.head) z) (sym (polygons_there fs ss all raw layer at old new h v)))
 
   -- ---- what is meant
 
-  module _ (fs : List (Option (Feature A))) (all : List (Vec (Vec ℕ A) A)) where
+  module _ (fs : List (Option (Feature A))) (ss : List Stand) (all : List (Vec (Vec ℕ A) A)) where
     abbrev rings : List (List (List ℕ))
     rings = map feature_numbers all
 
     slot_seen : (layer at : ℕ) (i : Item A) (s : Slot A) (old now : Progress A) → IsSlot layer at i s old now
-        → Whole fs now → Waits all old → (ps : List Piece)
+        → Whole fs ss now → Waits all old → (ps : List Piece)
         → items_at fs s ++ items_from (length now.features) rings ps ≡ items_from (length old.features) rings (view_item i ∷ ps)
     slot_seen layer at (item.Open h) s old now k w v ps =
         ap₂ (λ y n. y ++ items_from n rings ps) (ap (items_at fs) k.0) (ap (λ p. length p.features) k.1)
@@ -116,26 +135,26 @@ module _ {A : Type 0} where
         ap₂ (λ y n. y ++ items_from n rings ps) (ap (items_at fs) k.0) (ap (λ p. length p.features) k.1)
     slot_seen layer at (item.Leaf raw) s old now k w v ps =
         ap₂ (λ y n. y ++ items_from n rings ps)
-        (ap (items_at fs) k.0.1 ∙ ap (λ ns. flat_map (leaf_of fs) ns) k.0.2 ∙ ap (λ z. z ++ []) (leaf_seen fs all raw layer at old now k.1 w v))
+        (ap (items_at fs) k.0.1 ∙ ap (λ ns. flat_map (leaf_of fs) ns) k.0.2 ∙ ap (λ z. z ++ []) (leaf_seen fs ss all raw layer at old now k.1 w v))
         (came_next layer at old now k.1).more
 
     whole_slot : (layer at : ℕ) (i : Item A) (s : Slot A) (old now : Progress A) → IsSlot layer at i s old now
-        → Whole fs now → Whole fs old
-    whole_slot layer at (item.Open h) s old now k w = subst (λ p. Whole fs p) k.1 w
-    whole_slot layer at item.Close s old now k w = subst (λ p. Whole fs p) k.1 w
-    whole_slot layer at (item.Kept t) s old now k w = subst (λ p. Whole fs p) k.1 w
-    whole_slot layer at (item.Leaf raw) s old now k w = whole_next fs all raw layer at old now k.1 w
+        → Whole fs ss now → Whole fs ss old
+    whole_slot layer at (item.Open h) s old now k w = subst (λ p. Whole fs ss p) k.1 w
+    whole_slot layer at item.Close s old now k w = subst (λ p. Whole fs ss p) k.1 w
+    whole_slot layer at (item.Kept t) s old now k w = subst (λ p. Whole fs ss p) k.1 w
+    whole_slot layer at (item.Leaf raw) s old now k w = whole_next fs ss all raw layer at old now k.1 w
 
     waits_slot : (layer at : ℕ) (i : Item A) (s : Slot A) (old now : Progress A) → IsSlot layer at i s old now
         → Waits all old → Waits all now
     waits_slot layer at (item.Open h) s old now k v = subst (λ p. Waits all p) (sym k.1) v
     waits_slot layer at item.Close s old now k v = subst (λ p. Waits all p) (sym k.1) v
     waits_slot layer at (item.Kept t) s old now k v = subst (λ p. Waits all p) (sym k.1) v
-    waits_slot layer at (item.Leaf raw) s old now k v = waits_next fs all raw layer at old now k.1 v
+    waits_slot layer at (item.Leaf raw) s old now k v = waits_next fs ss all raw layer at old now k.1 v
 
     whole_slots : (layer at : ℕ) (items : List (Item A)) (slots : List (Slot A)) (old new : Progress A)
-        → AreSlots layer at items slots old new → Whole fs new → Whole fs old
-    whole_slots layer at [] [] old new h w = subst (λ p. Whole fs p) h w
+        → AreSlots layer at items slots old new → Whole fs ss new → Whole fs ss old
+    whole_slots layer at [] [] old new h w = subst (λ p. Whole fs ss p) h w
     whole_slots layer at [] (s ∷ slots) old new h w = absurd h
     whole_slots layer at (i ∷ items) [] old new h w = absurd h
     whole_slots layer at (i ∷ items) (s ∷ slots) old new h w =
@@ -150,7 +169,7 @@ module _ {A : Type 0} where
         waits_slots layer (at + 1) items slots h.0 new h.2 (waits_slot layer at i s old h.0 h.1 v)
 
     slots_seen : (layer at : ℕ) (items : List (Item A)) (slots : List (Slot A)) (old new : Progress A)
-        → AreSlots layer at items slots old new → Whole fs new → Waits all old
+        → AreSlots layer at items slots old new → Whole fs ss new → Waits all old
         → flat_map (items_at fs) slots ≡ items_from (length old.features) rings (map view_item items)
     slots_seen layer at [] [] old new h w v = refl
     slots_seen layer at [] (s ∷ slots) old new h w v = absurd h
@@ -161,26 +180,26 @@ module _ {A : Type 0} where
         ∙ slot_seen layer at i s old h.0 h.1 (whole_slots layer (at + 1) items slots h.0 new h.2 w) v (map view_item items)
 
     geometry_seen : (at : ℕ) (items : List (Item A)) (g : Geometry A) (old new : Progress A) → IsGeometry at items g old new
-        → Whole fs new → Waits all old
+        → Whole fs ss new → Waits all old
         → items_of fs g ≡ items_from (length old.features) rings (map view_item items)
     geometry_seen at items (geometry.Alone n) old new h w v =
-        ap (λ z. or_empty (leaf_of fs z)) h.2 ∙ ap or_empty (leaf_seen fs all h.0 at 0 old new h.3 w v)
+        ap (λ z. or_empty (leaf_of fs z)) h.2 ∙ ap or_empty (leaf_seen fs ss all h.0 at 0 old new h.3 w v)
         ∙ ap (λ z. items_from (length old.features) rings (map view_item z)) (sym h.1)
     geometry_seen at items (geometry.Items slots) old new h w v = slots_seen at 0 items slots.items old new h.1 w v
 
     whole_geometry : (at : ℕ) (items : List (Item A)) (g : Geometry A) (old new : Progress A) → IsGeometry at items g old new
-        → Whole fs new → Whole fs old
-    whole_geometry at items (geometry.Alone n) old new h w = whole_next fs all h.0 at 0 old new h.3 w
+        → Whole fs ss new → Whole fs ss old
+    whole_geometry at items (geometry.Alone n) old new h w = whole_next fs ss all h.0 at 0 old new h.3 w
     whole_geometry at items (geometry.Items slots) old new h w = whole_slots at 0 items slots.items old new h.1 w
 
     waits_geometry : (at : ℕ) (items : List (Item A)) (g : Geometry A) (old new : Progress A) → IsGeometry at items g old new
         → Waits all old → Waits all new
-    waits_geometry at items (geometry.Alone n) old new h v = waits_next fs all h.0 at 0 old new h.3 v
+    waits_geometry at items (geometry.Alone n) old new h v = waits_next fs ss all h.0 at 0 old new h.3 v
     waits_geometry at items (geometry.Items slots) old new h v = waits_slots at 0 items slots.items old new h.1 v
 
     whole_layers : (at : ℕ) (raws : List (RawLayer A)) (layers : List (Layer A)) (old new : Progress A) → AreLayers at raws layers old new
-        → Whole fs new → Whole fs old
-    whole_layers at [] [] old new h w = subst (λ p. Whole fs p) h w
+        → Whole fs ss new → Whole fs ss old
+    whole_layers at [] [] old new h w = subst (λ p. Whole fs ss p) h w
     whole_layers at [] (l ∷ layers) old new h w = absurd h
     whole_layers at (r ∷ raws) [] old new h w = absurd h
     whole_layers at (r ∷ raws) (l ∷ layers) old new h w =
@@ -191,7 +210,7 @@ module _ {A : Type 0} where
 
     -- the layers mean what was read
     pub layers_seen : (at : ℕ) (raws : List (RawLayer A)) (layers : List (Layer A)) (old new : Progress A) → AreLayers at raws layers old new
-        → Whole fs new → Waits all old
+        → Whole fs ss new → Waits all old
         → map (view_layer fs) layers ≡ layers_from (length old.features) rings (map read.view_layer raws)
     layers_seen at [] [] old new h w v = refl
     layers_seen at [] (l ∷ layers) old new h w v = absurd h
@@ -205,7 +224,7 @@ module _ {A : Type 0} where
   -- ---- where features stand
 
   -- the feature with this number stands in one of the slots from this one on
-  record SlotStands (layer at : ℕ) (slots : List (Slot A)) (n : ℕ) (x : Feature A) : Type 0 where
+  record SlotStands (layer at : ℕ) (slots : List (Slot A)) (n : ℕ) (x : Stand) : Type 0 where
     pub of_layer : x.layer ≡ layer
     pub place : ℕ
     pub of_slot : x.slot ≡ at + place
@@ -213,7 +232,7 @@ module _ {A : Type 0} where
     pub there : slice_get slots place ≡ Some found
     pub has : In n (numbers_at found)
 
-  later : (layer at : ℕ) (s : Slot A) (slots : List (Slot A)) (n : ℕ) (x : Feature A) → SlotStands layer (at + 1) slots n x
+  later : (layer at : ℕ) (s : Slot A) (slots : List (Slot A)) (n : ℕ) (x : Stand) → SlotStands layer (at + 1) slots n x
       → SlotStands layer at (s ∷ slots) n x
   later layer at s slots n x k = record {
     of_layer = k.of_layer;
@@ -224,28 +243,29 @@ module _ {A : Type 0} where
     has = k.has;
   }
 
-  module _ (fs : List (Option (Feature A))) (all : List (Vec (Vec ℕ A) A)) (n : ℕ) (x : Feature A) (got : slice_get fs n ≡ Some (Some x)) where
-    next_is : (raw : RawFeature A) (layer at : ℕ) (old new : Progress A) (h : IsNext raw layer at old new) → Whole fs new
-        → n ≡ length old.features → x ≡ h.feature
+  module _ (fs : List (Option (Feature A))) (ss : List Stand) (all : List (Vec (Vec ℕ A) A)) (n : ℕ) (x : Stand) (got : slice_get ss n ≡ Some x) where
+    next_is : (raw : RawFeature A) (layer at : ℕ) (old new : Progress A) (h : IsNext raw layer at old new) → Whole fs ss new
+        → n ≡ length old.features → x ≡ record { layer = layer; slot = at }
     next_is raw layer at old new h w e =
-        same_feature x h.feature (slice_get fs n) got (ap (slice_get fs) e ∙ feature_there fs all raw layer at old new h w)
+        same_element x (record { layer = layer; slot = at }) (slice_get ss n) got
+        (ap (slice_get ss) e ∙ stand_there fs ss all raw layer at old new h w)
 
     leaf_here : (raw : RawFeature A) (layer at : ℕ) (s : Slot A) (slots : List (Slot A)) (old new : Progress A)
-        → IsLeaf (length old.features) s → IsNext raw layer at old new → Whole fs new → n ≡ length old.features
+        → IsLeaf (length old.features) s → IsNext raw layer at old new → Whole fs ss new → n ≡ length old.features
         → SlotStands layer at (s ∷ slots) n x
     leaf_here raw layer at s slots old new k h w e =
         let same = next_is raw layer at old new h w e in
         record {
-          of_layer = ap (λ z. z.layer) same ∙ h.read.of_layer;
+          of_layer = ap (λ z. z.layer) same;
           place = 0;
-          of_slot = omega (arith, ap (λ z. z.slot) same, h.read.of_slot);
+          of_slot = omega (arith, ap (λ z. z.slot) same);
           found = s;
           there = refl;
           has = subst (λ z. In n z) (sym (ap numbers_at k.1 ∙ k.2)) (inl (sym e));
         }
 
     slots_standing : (layer at : ℕ) (items : List (Item A)) (slots : List (Slot A)) (old new : Progress A)
-        → AreSlots layer at items slots old new → Whole fs new → length old.features ≤ n → n < length new.features
+        → AreSlots layer at items slots old new → Whole fs ss new → length old.features ≤ n → n < length new.features
         → SlotStands layer at slots n x
     slots_standing layer at [] [] old new h w lo hi = absurd (omega (arith, ap (λ p. length p.features) h))
     slots_standing layer at [] (s ∷ slots) old new h w lo hi = absurd h
@@ -263,7 +283,7 @@ module _ {A : Type 0} where
             → (length h.0.features ≤ n → n < length new.features → SlotStands layer (at + 1) slots n x)
             → SlotStands layer at (s ∷ slots) n x
         by (yes e) rest =
-            leaf_here raw layer at s slots old h.0 h.1.0 h.1.1 (whole_slots fs all layer (at + 1) items slots h.0 new h.2 w) e
+            leaf_here raw layer at s slots old h.0 h.1.0 h.1.1 (whole_slots fs ss all layer (at + 1) items slots h.0 new h.2 w) e
         by (no f) rest =
             later layer at s slots n x
             (rest (above (length old.features) (length h.0.features) lo f (came_next layer at old h.0 h.1.1).more) hi)
@@ -281,11 +301,11 @@ module _ {A : Type 0} where
     under_alone l j m g e = rw g (in_contains (m ∷ []) n (inl e))
 
     layer_standing : (at : ℕ) (items : List (Item A)) (l : Layer A) (g : Geometry A) (old new : Progress A) → l.geometry ≡ g
-        → IsGeometry at items g old new → Whole fs new → length old.features ≤ n → n < length new.features
+        → IsGeometry at items g old new → Whole fs ss new → length old.features ≤ n → n < length new.features
         → (x.layer ≡ at) × Contains (numbers_under (Some l) x.slot) n
     layer_standing at items l (geometry.Alone m) old new e h w lo hi =
         let here : n ≡ length old.features = omega (arith, lo, hi, (came_next at 0 old new h.3).more) in (
-          ap (λ z. z.layer) (next_is h.0 at 0 old new h.3 w here) ∙ h.3.read.of_layer,
+          ap (λ z. z.layer) (next_is h.0 at 0 old new h.3 w here),
           under_alone l x.slot m e (h.2 ∙ sym here),
         )
     layer_standing at items l (geometry.Items slots) old new e h w lo hi =
@@ -293,7 +313,7 @@ module _ {A : Type 0} where
         (k.of_layer, under_items l slots x.slot k.place k.found e k.of_slot k.there k.has)
 
     pub layers_standing : (at : ℕ) (raws : List (RawLayer A)) (layers : List (Layer A)) (old new : Progress A) → AreLayers at raws layers old new
-        → Whole fs new → length old.features ≤ n → n < length new.features
+        → Whole fs ss new → length old.features ≤ n → n < length new.features
         → (k : ℕ) × (x.layer ≡ at + k) × Contains (numbers_under (slice_get layers k) x.slot) n
     layers_standing at [] [] old new h w lo hi = absurd (omega (arith, ap (λ p. length p.features) h))
     layers_standing at [] (l ∷ layers) old new h w lo hi = absurd h
@@ -306,7 +326,7 @@ module _ {A : Type 0} where
             → (k : ℕ) × (x.layer ≡ at + 1 + k) × Contains (numbers_under (slice_get layers k) x.slot) n)
             → (k : ℕ) × (x.layer ≡ at + k) × Contains (numbers_under (slice_get (l ∷ layers) k) x.slot) n
         by (yes below) rest =
-            let k = layer_standing at r.items.items l l.geometry old h.0 refl h.2 (whole_layers fs all (at + 1) raws layers h.0 new h.3 w) lo below in
+            let k = layer_standing at r.items.items l l.geometry old h.0 refl h.2 (whole_layers fs ss all (at + 1) raws layers h.0 new h.3 w) lo below in
             (0, omega (arith, k.0), k.1)
         by (no f) rest =
             let k = rest (above (length h.0.features) f) hi in
@@ -317,33 +337,50 @@ module _ {A : Type 0} where
 
   -- ---- lone features stand as such
 
-  begins_open : (layer at : ℕ) (i : Item A) (s : Slot A) (items : List (Item A)) (xs : List (Slot A)) (old new : Progress A)
-      → AreSlots layer at (i ∷ items) xs old new → ((now : Progress A) (t : Slot A) → IsSlot layer at i t old now → t ≡ s)
-      → (ss : List (Slot A)) × (xs ≡ s ∷ ss)
-  begins_open layer at i s items [] old new h is = absurd h
-  begins_open layer at i s items (t ∷ ss) old new h is = (ss, ap (λ z. z ∷ ss) (is h.0 t h.1))
+  closing_built : (layer at n k : ℕ) (all : List (List (List ℕ))) (items : List (Item A)) (slots : List (Slot A)) (old new : Progress A)
+      → AreSlots layer at items slots old new → is_inner k (items_from n all (map view_item items)) ≡ true
+      → is_closing k slots ≡ true
+  closing_built layer at n zero all [] [] old new h e = refl
+  closing_built layer at n (suc k) all [] [] old new h e = absurd (false≢true e)
+  closing_built layer at n k all [] (s ∷ slots) old new h e = absurd h
+  closing_built layer at n k all (i ∷ items) [] old new h e = absurd h
+  closing_built layer at n zero all (item.Open hd ∷ items) (s ∷ slots) old new h e = absurd (false≢true e)
+  closing_built layer at n zero all (item.Close ∷ items) (s ∷ slots) old new h e = absurd (false≢true e)
+  closing_built layer at n zero all (item.Kept t ∷ items) (s ∷ slots) old new h e = absurd (false≢true e)
+  closing_built layer at n zero all (item.Leaf raw ∷ items) (s ∷ slots) old new h e = absurd (false≢true e)
+  closing_built layer at n (suc k) all (item.Open hd ∷ items) (s ∷ slots) old new h e =
+      ap (λ z. is_closing (suc k) (z ∷ slots)) h.1.0
+      ∙ closing_built layer (at + 1) n (suc (suc k)) all items slots h.0 new h.2 e
+  closing_built layer at n (suc k) all (item.Close ∷ items) (s ∷ slots) old new h e =
+      ap (λ z. is_closing (suc k) (z ∷ slots)) h.1.0 ∙ closing_built layer (at + 1) n k all items slots h.0 new h.2 e
+  closing_built layer at n (suc k) all (item.Kept t ∷ items) (s ∷ slots) old new h e =
+      ap (λ z. is_closing (suc k) (z ∷ slots)) h.1.0
+      ∙ closing_built layer (at + 1) n (suc k) all items slots h.0 new h.2 e
+  closing_built layer at n (suc k) all (item.Leaf raw ∷ items) (s ∷ slots) old new h e =
+      ap (λ z. is_closing (suc k) (z ∷ slots)) h.1.0.1
+      ∙ closing_built layer (at + 1) (n + 1) (suc k) all items slots h.0 new h.2 e
 
-  items_enclosed : (at n : ℕ) (all : List (List (List ℕ))) (items : List (Item A)) (slots : Vec (Slot A) A) (old new : Progress A)
-      → IsTrue (not (is_lone items)) → AreSlots at 0 items slots.items old new
-      → is_geometry (items_from n all (map view_item items)) ≡ true → is_enclosed (geometry.Items slots) ≡ true
-  items_enclosed at n all [] slots old new lone h e = absurd cc
-  items_enclosed at n all (item.Open hd ∷ items) slots old new lone h e =
-      let k = begins_open at 0 (item.Open hd) (slot.Open hd) items slots.items old new h (λ now t i. i.0) in
-      rw k.1 refl
-  items_enclosed at n all (item.Close ∷ items) slots old new lone h e = absurd cc
-  items_enclosed at n all (item.Kept t ∷ items) slots old new lone h e =
-      let k = begins_open at 0 (item.Kept t) (slot.Kept t) items slots.items old new h (λ now t i. i.0) in
-      rw k.1 refl
-  items_enclosed at n all (item.Leaf raw ∷ []) slots old new lone h e = absurd cc
-  items_enclosed at n all (item.Leaf raw ∷ item.Open hd ∷ items) slots old new lone h e = absurd cc
-  items_enclosed at n all (item.Leaf raw ∷ item.Close ∷ items) slots old new lone h e = absurd cc
-  items_enclosed at n all (item.Leaf raw ∷ item.Kept t ∷ items) slots old new lone h e = absurd cc
-  items_enclosed at n all (item.Leaf raw ∷ item.Leaf other ∷ items) slots old new lone h e = absurd cc
+  whole_built : (at n : ℕ) (all : List (List (List ℕ))) (items : List (Item A)) (slots : List (Slot A)) (old new : Progress A)
+      → IsTrue (not (is_lone items)) → AreSlots at 0 items slots old new
+      → is_geometry (items_from n all (map view_item items)) ≡ true → is_whole slots ≡ true
+  whole_built at n all [] slots old new lone h e = absurd (false≢true e)
+  whole_built at n all (item.Open hd ∷ items) [] old new lone h e = absurd h
+  whole_built at n all (item.Open hd ∷ items) (s ∷ slots) old new lone h e =
+      ap (λ z. is_whole (z ∷ slots)) h.1.0 ∙ closing_built at 1 n 1 all items slots h.0 new h.2 e
+  whole_built at n all (item.Close ∷ items) slots old new lone h e = absurd (false≢true e)
+  whole_built at n all (item.Kept t ∷ items) [] old new lone h e = absurd h
+  whole_built at n all (item.Kept t ∷ items) (s ∷ slots) old new lone h e =
+      ap (λ z. is_whole (z ∷ slots)) h.1.0 ∙ closing_built at 1 n 0 all items slots h.0 new h.2 e
+  whole_built at n all (item.Leaf raw ∷ []) slots old new lone h e = absurd (false≢true lone)
+  whole_built at n all (item.Leaf raw ∷ item.Open hd ∷ items) slots old new lone h e = absurd (false≢true e)
+  whole_built at n all (item.Leaf raw ∷ item.Close ∷ items) slots old new lone h e = absurd (false≢true e)
+  whole_built at n all (item.Leaf raw ∷ item.Kept t ∷ items) slots old new lone h e = absurd (false≢true e)
+  whole_built at n all (item.Leaf raw ∷ item.Leaf other ∷ items) slots old new lone h e = absurd (false≢true e)
 
   geometry_enclosed : (at n : ℕ) (all : List (List (List ℕ))) (items : List (Item A)) (g : Geometry A) (old new : Progress A)
       → IsGeometry at items g old new → is_geometry (items_from n all (map view_item items)) ≡ true → is_enclosed g ≡ true
   geometry_enclosed at n all items (geometry.Alone m) old new h e = refl
-  geometry_enclosed at n all items (geometry.Items slots) old new h e = items_enclosed at n all items slots old new h.0 h.1 e
+  geometry_enclosed at n all items (geometry.Items slots) old new h e = whole_built at n all items slots.items old new h.0 h.1 e
 
   pub layers_enclosed : (at n : ℕ) (all : List (List (List ℕ))) (raws : List (RawLayer A)) (layers : List (Layer A)) (old new : Progress A)
       → AreLayers at raws layers old new

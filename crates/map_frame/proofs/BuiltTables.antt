@@ -14,9 +14,10 @@ use Rattle.topo_outline.specs.Views.{view_kept}
 use Rattle.topo_outline.specs.Views as read
 use Rattle.topo_outline.specs.declared.document.RawLayer.{RawLayer}
 use Rattle.map_frame.specs.declared.feature.Feature.{Feature}
+use Rattle.map_frame.specs.declared.feature.Stand.{Stand}
 use Rattle.map_frame.specs.declared.names.RingName.{RingName}
 use Rattle.map_frame.specs.declared.tables.Tables.{Tables}
-use Rattle.map_frame.specs.Building.{progress, AreLayers}
+use Rattle.map_frame.specs.Building.{Progress, AreLayers}
 use Rattle.map_frame.specs.Kept.{numbers_under, all_numbers, StandsAt, IsFramed}
 use Rattle.map_frame.specs.Named.{number_at, AreNamed}
 use Rattle.map_frame.specs.Naming.{number_among, AllNamed}
@@ -27,18 +28,31 @@ use Rattle.map_frame.proofs.Built.{came_layers}
 use Rattle.map_frame.proofs.BuiltFrames.{Whole, Waits, layers_seen, layers_standing, layers_enclosed}
 use Rattle.map_frame.proofs.BuiltNumbers.{layers_numbers, from_distinct, from_below, layers_length, polygons_found}
 
+-- nothing was built so far
+abbrev pub begin : {A : Type 0} → List (Vec (Vec ℕ A) A) → Progress A
+begin polygons = record { features = []; stands = []; waiting = polygons }
+
+-- the tables so far
+abbrev pub so_far : {A : Type 0} → Tables A → List (Vec (Vec ℕ A) A) → Progress A
+so_far t left = record { features = t.features.items; stands = t.stands.items; waiting = left }
+
 module _ {A : Type 0} (t : Tables A) (raws : List (RawLayer A)) (polygons left : List (Vec (Vec ℕ A) A))
-    (built : AreLayers 0 raws t.layers.items (progress [] polygons) (progress t.features.items left)) where
+    (built : AreLayers 0 raws t.layers.items (begin polygons) (so_far t left)) where
   abbrev all : List (List (List ℕ))
   all = map feature_numbers polygons
 
   abbrev what_was_read : DocumentOf ℕ
   what_was_read = opened (option_map (λ x. x.now) t.transform) raws (map view_kept t.members.items) polygons
 
-  whole : Whole t.features.items (progress t.features.items left)
-  whole = record { more = []; whole = sym (append-nil t.features.items) }
+  whole : Whole t.features.items t.stands.items (so_far t left)
+  whole = record {
+    more = [];
+    whole = sym (append-nil t.features.items);
+    more_stands = [];
+    whole_stands = sym (append-nil t.stands.items);
+  }
 
-  waits : Waits polygons (progress [] polygons)
+  waits : Waits polygons (begin polygons)
   waits = record { waits = refl }
 
   abbrev with_layers : List (LayerOf ℕ) → DocumentOf ℕ
@@ -51,21 +65,29 @@ module _ {A : Type 0} (t : Tables A) (raws : List (RawLayer A)) (polygons left :
   -- they mean what was read
   pub tables_seen : doc_of t ≡ what_was_read
   tables_seen =
-      ap with_layers (layers_seen t.features.items polygons 0 raws t.layers.items (progress [] polygons) (progress t.features.items left) built whole waits)
+      ap with_layers (layers_seen t.features.items t.stands.items polygons 0 raws t.layers.items (begin polygons) (so_far t left) built whole waits)
 
   module _ (stand : CanStand (option_map (λ x. x.now) t.transform) raws (map view_kept t.members.items) polygons) where
     -- there are as many features as lists of polygons
     pub as_many : length t.features.items ≡ length polygons
     as_many =
-        omega (arith, (came_layers 0 raws t.layers.items (progress [] polygons) (progress t.features.items left) built).more, stand.counted)
+        omega (arith, (came_layers 0 raws t.layers.items (begin polygons) (so_far t left) built).more, stand.counted)
 
     features_counted : length (features (doc_of t)) ≡ length t.features.items
     features_counted =
         ap (λ d. length (features d)) tables_seen ∙ layers_length 0 all (map read.view_layer raws) ∙ sym stand.counted ∙ sym as_many
 
-    stands : (n : ℕ) (x : Feature A) → slice_get t.features.items n ≡ Some (Some x) → StandsAt t.layers.items n x
+    -- and each stands somewhere
+    stood : length t.stands.items ≡ length t.features.items
+    stood =
+        let c = came_layers 0 raws t.layers.items (begin polygons) (so_far t left) built in
+        omega (arith, c.more, c.stood)
+
+    stands : (n : ℕ) (x : Stand) → slice_get t.stands.items n ≡ Some x → StandsAt t.layers.items n x
     stands n x got =
-        let k = layers_standing t.features.items polygons n x got 0 raws t.layers.items (progress [] polygons) (progress t.features.items left) built whole (omega arith) (slice_get_within t.features.items n (Some x) got) in
+        let within = slice_get_within t.stands.items n x got in
+        let k = layers_standing t.features.items t.stands.items polygons n x got 0 raws t.layers.items (begin polygons) (so_far t left) built whole (omega arith)
+        (omega (arith, within, stood)) in
         let place : k.0 ≡ x.layer = omega (arith, k.1) in
         subst (λ j. Contains (numbers_under (slice_get t.layers.items j) x.slot) n) place k.2
 
@@ -85,12 +107,13 @@ module _ {A : Type 0} (t : Tables A) (raws : List (RawLayer A)) (polygons left :
         → ((features : List (Option (Feature A))) → flat_map (items_at features) t.empty.items ≡ empty_collection)
         → IsFramed t
     tables_framed named counted empty =
-        let numbers = layers_numbers 0 raws t.layers.items (progress [] polygons) (progress t.features.items left) built in
+        let numbers = layers_numbers 0 raws t.layers.items (begin polygons) (so_far t left) built in
         record {
           formed = subst (λ d. WellFormed d) (sym tables_seen) stand.formed;
-          enclosed = layers_enclosed 0 0 all raws t.layers.items (progress [] polygons) (progress t.features.items left) built stand.formed.geometries;
+          enclosed = layers_enclosed 0 0 all raws t.layers.items (begin polygons) (so_far t left) built stand.formed.geometries;
           once = from_distinct 0 (length t.features.items) (all_numbers t.layers.items) numbers;
           below = from_below 0 (length t.features.items) (all_numbers t.layers.items) numbers;
+          alike = stood;
           standing = stands;
           counted = counted ∙ sym features_counted;
           few = omega (arith, as_many, stand.few);

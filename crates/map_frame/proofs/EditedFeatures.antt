@@ -1,12 +1,12 @@
 -- The features by the numbers in the layers: their forms, their numbers, and how many there are.
-use Rattle.std.proofs.Common.{◌≡◌, ℕ, suc, Bool, true, false, refl, sym, ap, ap₂, ◌∙◌, subst, List, [], ◌∷◌}
+use Rattle.std.proofs.Common.{◌≡◌, ℕ, suc, Bool, true, false, refl, sym, ap, ap₂, ◌∙◌, subst, List, [], ◌∷◌, ◌++◌}
 use Rattle.std.proofs.Common.{map, length, ◌+◌, ◌⊎◌, inl, inr, Option, Some, None, is_some, ◌&&◌, ◌||◌, arith}
 use Rattle.std.specs.Prelude.{◌==◌, not}
 use Rattle.std.specs.List.{filter_map, list_any, list_all, cons_option}
 use Rattle.std.proofs.lemmas.Bool.{false≢true}
 use Rattle.std.proofs.lemmas.Bool.Decides.{Decides-eqb}
 use Rattle.ring_machine.specs.WellFormed.{are_distinct}
-use Rattle.ring_machine.proofs.First.{In}
+use Rattle.ring_machine.proofs.First.{In, in_left}
 use Rattle.ring_machine.proofs.Members.{in_any}
 use Rattle.ring_machine.proofs.Order.{and_both}
 use Rattle.ring_machine.proofs.Removal.{not_true}
@@ -85,6 +85,13 @@ tail_distinct k ks d = (and_both (not (list_any (λ m. m == k) ks)) (are_distinc
 
 pub cons_distinct : (k : ℕ) (ks : List ℕ) → (In k ks → ⊥) → are_distinct ks ≡ true → are_distinct (k ∷ ks) ≡ true
 cons_distinct k ks off d = ap₂ (λ a b. not a && b) (lacks k ks off) d
+
+-- the first of two parts of distinct numbers
+pub first_distinct : (us vs : List ℕ) → are_distinct (us ++ vs) ≡ true → are_distinct us ≡ true
+first_distinct [] vs d = refl
+first_distinct (u ∷ us) vs d =
+    cons_distinct u us (λ i. head_apart u (us ++ vs) d (in_left u us vs i))
+    (first_distinct us vs (tail_distinct u (us ++ vs) d))
 
 module _ {X : Type 0} (h : ℕ → Option X) (number : X → ℕ) (numbered : (n : ℕ) (x : X) → h n ≡ Some x → number x ≡ n) where
   in_numbers : (k : ℕ) (ns : List ℕ) → In k (map number (filter_map h ns)) → In k ns

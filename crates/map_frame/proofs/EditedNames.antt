@@ -1,10 +1,11 @@
 -- The table of names after an edit.
-use Rattle.std.proofs.Common.{◌≡◌, ℕ, true, sym, ap, ◌∙◌, subst, List, ◌⊎◌, inl, inr, Option, Some}
+use Rattle.std.proofs.Common.{◌≡◌, ◌≢◌, ℕ, true, sym, ap, ◌∙◌, subst, List, ◌⊎◌, inl, inr, Option, Some, None}
 use Rattle.ring_machine.specs.Document.{DocumentOf}
 use Rattle.ring_machine.specs.Parts.{feature, rings}
 use Rattle.ring_machine.specs.WellFormed.{are_distinct}
 use Rattle.map_frame.specs.declared.names.RingName.{RingName}
-use Rattle.map_frame.specs.Named.{number_at, AreNamed}
+use native.Mathlib.Decide.{ℕ_discrete}
+use Rattle.map_frame.specs.Named.{IsNamed, number_at, AreNamed}
 use Rattle.map_frame.specs.Naming.{Gain, Loss, SameNames}
 use Rattle.map_frame.proofs.NamedOnce.{ring_of, ring_in, one_owner}
 
@@ -82,3 +83,27 @@ named_anew d e old now new Touched decided once named loss gain same =
               let b = ring_in (feature d q.0.feature) q.0 k q.2 in
               f (subst Touched (one_owner d once q.0.feature o.feature b.0 a.0 k b.1 a.1 b.2 a.2) q.1),
         )
+
+-- the names after a feature was put into its place: its rings got names
+pub named_put : (d e : DocumentOf ℕ) (old new : List (Option RingName)) (n : ℕ) → AreNamed old d → feature d n ≡ None
+    → Gain old new (λ o k. (o.feature ≡ n) × (number_at e o ≡ Some k))
+    → ((m : ℕ) → m ≢ n → feature e m ≡ feature d m)
+    → AreNamed new e
+named_put d e old new n named free gain same = record {
+  right = λ r o i. elim (gain.right r o i) [
+    | inl m ↦ let at = named.right r o m in other o (away o r at) ∙ at
+    | inr m ↦ m.1
+  ];
+  each = λ r o i. each r o i (ℕ_discrete o.feature n);
+}
+  where
+    away : (o : RingName) (k : ℕ) → number_at d o ≡ Some k → o.feature ≢ n
+    away o k i s = let h : None ≡ Some k = sym (ap (λ z. ring_of z o) (ap (feature d) s ∙ free)) ∙ i in absurd cc
+
+    other : (o : RingName) → o.feature ≢ n → number_at e o ≡ number_at d o
+    other o f = ap (λ z. ring_of z o) (same o.feature f)
+
+    each : (r : ℕ) (o : RingName) → number_at e o ≡ Some r → Dec (o.feature ≡ n)
+        → (p : RingName) × IsNamed new r p
+    each r o i (yes s) = gain.each r o (s, i)
+    each r o i (no f) = let m = named.each r o (sym (other o f) ∙ i) in gain.kept r m.0 m.1

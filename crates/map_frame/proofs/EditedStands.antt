@@ -1,110 +1,91 @@
--- What is true of the tables of a frame beside the names of its rings.
-use Rattle.std.proofs.Common.{◌≡◌, ◌<◌, ◌≤◌, ℕ, zero, suc, subst, List, length, Option, Some, None, refl, sym}
-use Rattle.std.proofs.Common.{[], ◌∷◌, option_map}
-use Rattle.std.specs.Prelude.{slice_get, IsTrue}
-use Rattle.std.specs.List.{list_all, flat_map, AllByRecursion}
+-- Tables in which other features stand at the same places.
+use Rattle.std.proofs.Common.{◌≡◌, ◌<◌, ◌≤◌, ℕ, true, refl, sym, ap, ◌∙◌, subst, List, length}
+use Rattle.std.proofs.Common.{Option, Some, None, option_map, map}
+use Rattle.std.specs.Prelude.{slice_get, Vec}
+use Rattle.std.specs.List.{list_all, filter_map, AllByRecursion}
+use Rattle.std.proofs.lemmas.Option.{slice_get_within}
 use Rattle.ring_machine.specs.Document.{FeatureOf}
-use Rattle.ring_machine.specs.Parts.{features, feature}
-use Rattle.ring_machine.specs.Join.{empty_collection}
-use Rattle.ring_machine.specs.WellFormed.{WellFormed, are_distinct}
-use Rattle.ring_machine.proofs.First.{In, in_left, in_right}
-use Rattle.ring_machine.proofs.Members.{contains_in}
+use Rattle.ring_machine.specs.Parts.{feature}
+use Rattle.ring_machine.specs.WellFormed.{fits_form, are_distinct}
+use Rattle.edit_records.specs.Places.{filled}
+use Rattle.edit_records.proofs.PlacesBack.{filled-agree}
 use Rattle.map_frame.specs.declared.feature.Feature.{Feature}
-use Rattle.map_frame.specs.declared.layers.Slot.{Slot}
-use Rattle.map_frame.specs.declared.layers.Geometry.{Geometry}
-use Rattle.map_frame.specs.declared.layers.Geometry.TheVariants as geometry
-use Rattle.map_frame.specs.declared.layers.Layer.{Layer}
+use Rattle.map_frame.specs.declared.names.RingName.{RingName}
 use Rattle.map_frame.specs.declared.tables.Tables.{Tables}
-use Rattle.map_frame.specs.Seen.{doc_of, items_at, view_feature}
+use Rattle.map_frame.specs.Seen.{doc_of, places_of, view_feature}
 use Rattle.map_frame.specs.Named.{AreNamed}
-use Rattle.map_frame.specs.Kept.{IsFramed, StandsAt, is_enclosed, all_numbers, numbers_in, numbers_at, numbers_under}
-use Rattle.map_frame.proofs.SlotsEntries.{entry, inner, feature_of_frame}
-
--- all that is kept of a frame but the names of its rings
-pub record Stands {A : Type 0} (f : Tables A) : Type 0 where
-  pub formed : WellFormed (doc_of f)
-  pub enclosed : IsTrue (list_all (λ l. is_enclosed l.geometry) f.layers.items)
-  pub once : IsTrue (are_distinct (all_numbers f.layers.items))
-  pub below : AllByRecursion (λ n. n < length f.features.items) (all_numbers f.layers.items)
-  pub standing : (n : ℕ) (x : Feature A) → slice_get f.features.items n ≡ Some (Some x)
-      → StandsAt f.layers.items n x
-  pub counted : f.count ≡ length (features (doc_of f))
-  pub few : length f.features.items ≤ 200000
-  pub empty : (features : List (Option (Feature A)))
-      → flat_map (items_at features) f.empty.items ≡ empty_collection
-
-in_flat_at : {X Y : Type 0} (g : X → List Y) (xs : List X) (i : ℕ) (x : X) (y : Y) → slice_get xs i ≡ Some x
-    → In y (g x) → In y (flat_map g xs)
-in_flat_at g [] i x y e k = absurd cc
-in_flat_at g (z ∷ xs) zero x y e k =
-    in_left y (g z) (flat_map g xs) (let same : z ≡ x = cc in subst (λ w. In y (g w)) (sym same) k)
-in_flat_at g (z ∷ xs) (suc i) x y e k = in_right y (g z) (flat_map g xs) (in_flat_at g xs i x y e k)
+use Rattle.map_frame.specs.Kept.{IsFramed, all_numbers}
+use Rattle.map_frame.proofs.EditedFeatures.{forms_at, forms_all, distinct_numbers}
+use Rattle.map_frame.proofs.PlacesSeen.{layers_filled, layers_geometries}
+use Rattle.map_frame.proofs.ReadFeatures.{number_stands}
+use Rattle.map_frame.proofs.SlotsEntries.{entry, entry_number, inner, feature_of_frame, features_of}
 
 module _ {A : Type 0} where
-  pub stands : (f : Tables A) → IsFramed f → Stands f
-  stands f k = record {
-    formed = k.formed;
-    enclosed = k.enclosed;
-    once = k.once;
-    below = k.below;
-    standing = k.standing;
-    counted = k.counted;
-    few = k.few;
-    empty = k.empty;
-  }
-
-  pub framed_with : (f : Tables A) → Stands f → AreNamed f.names.items (doc_of f) → IsFramed f
-  framed_with f k named = record {
-    formed = k.formed;
-    enclosed = k.enclosed;
-    once = k.once;
-    below = k.below;
-    standing = k.standing;
-    counted = k.counted;
-    few = k.few;
-    named = named;
-    empty = k.empty;
-  }
-
-  -- ---- a number that stands at a place is one of all numbers
-
-  in_geometry : (g : Geometry A) (at n : ℕ) (l : Layer A) → l.geometry ≡ g → In n (numbers_under (Some l) at)
-      → In n (numbers_in l.geometry)
-  in_geometry (geometry.Alone m) at n l e k = rw e (rw e at k)
-  in_geometry (geometry.Items ss) at n l e k = rw e (by (slice_get ss.items at) refl (rw e at k))
+  -- a feature that is there has a number of the table
+  pub entry_within : (fs : List (Option (Feature A))) (n : ℕ) (x : FeatureOf ℕ) → entry fs n ≡ Some x → n < length fs
+  entry_within fs n x e = by (slice_get fs n) refl
     where
-      in_slot : Option (Slot A) → List ℕ
-      in_slot None = []
-      in_slot (Some s) = numbers_at s
+      by : (o : Option (Option (Feature A))) → slice_get fs n ≡ o → n < length fs
+      by None is = absurd (let h : None ≡ Some x = sym (ap (λ z. option_map (view_feature n) (inner z)) is) ∙ e in cc)
+      by (Some o) is = slice_get_within fs n o is
 
-      by : (o : Option (Slot A)) → slice_get ss.items at ≡ o → In n (in_slot (slice_get ss.items at))
-          → In n (flat_map numbers_at ss.items)
-      by None f h = absurd (rw f at h)
-      by (Some s) f h = in_flat_at numbers_at ss.items at s n f (rw f at h)
+module _ {A : Type 0} (t : Tables A) (k : IsFramed t) where
+  -- a feature is that of the table
+  pub entry_is : (n : ℕ) → feature (doc_of t) n ≡ entry t.features.items n
+  entry_is n =
+      feature_of_frame t n (λ x e. number_stands t k n (entry_within t.features.items n x e))
 
-  pub stands_in : (ls : List (Layer A)) (n : ℕ) (x : Feature A) → StandsAt ls n x → In n (all_numbers ls)
-  stands_in ls n x h = by (slice_get ls x.layer) refl (contains_in _ n h)
-    where
-      by : (o : Option (Layer A)) → slice_get ls x.layer ≡ o → In n (numbers_under (slice_get ls x.layer) x.slot)
-          → In n (all_numbers ls)
-      by None e k = absurd (rw e at k)
-      by (Some l) e k =
-          in_flat_at (λ l. numbers_in l.geometry) ls x.layer l n e (in_geometry l.geometry x.slot n l refl (rw e at k))
+  -- and its form fits
+  pub entry_fits : (n : ℕ) (y : FeatureOf ℕ) → entry t.features.items n ≡ Some y → fits_form y ≡ true
+  entry_fits n y e =
+      forms_at fits_form (entry t.features.items) (all_numbers t.layers.items) n y
+      (ap (list_all fits_form) (sym (features_of t)) ∙ k.formed.forms)
+      (number_stands t k n (entry_within t.features.items n y e)) e
 
-  -- a feature of the table is one of all numbers
-  pub entry_stands : (f : Tables A) → ((n : ℕ) (x : Feature A) → slice_get f.features.items n ≡ Some (Some x)
-      → StandsAt f.layers.items n x) → (n : ℕ) (v : FeatureOf ℕ) → entry f.features.items n ≡ Some v
-      → In n (all_numbers f.layers.items)
-  entry_stands f standing n v e = by (slice_get f.features.items n) refl e
-    where
-      by : (o : Option (Option (Feature A))) → slice_get f.features.items n ≡ o
-          → option_map (view_feature n) (inner (slice_get f.features.items n)) ≡ Some v
-          → In n (all_numbers f.layers.items)
-      by None is k = absurd (let h : None ≡ Some v = rw is at k in cc)
-      by (Some None) is k = absurd (let h : None ≡ Some v = rw is at k in cc)
-      by (Some (Some x)) is k = stands_in f.layers.items n x (standing n x is)
+  module _ (fs' : Vec (Option (Feature A)) A) (count : ℕ) (names : Vec (Option RingName) A)
+      (len : length fs'.items ≡ length t.features.items) where
+    abbrev edited : Tables A
+    edited = record t { features = fs'; count = count; names = names }
 
-  -- the feature with a number is that of the table
-  pub entry_is : (f : Tables A) → ((n : ℕ) (x : Feature A) → slice_get f.features.items n ≡ Some (Some x)
-      → StandsAt f.layers.items n x) → (n : ℕ) → feature (doc_of f) n ≡ entry f.features.items n
-  entry_is f standing n = feature_of_frame f n (entry_stands f standing n)
+    pub edited_entry : (n : ℕ) → feature (doc_of edited) n ≡ entry fs'.items n
+    edited_entry n =
+        feature_of_frame edited n
+        (λ x e. number_stands t k n (subst (λ z. n < z) len (entry_within fs'.items n x e)))
+
+    -- these features stand at the places of their numbers
+    pub edited_doc : (j : ℕ → Option (FeatureOf ℕ)) → ((m : ℕ) → entry fs'.items m ≡ j m)
+        → doc_of edited ≡ record {
+          transform = (doc_of t).transform;
+          layers = filled j (places_of t.layers.items);
+          members = (doc_of t).members;
+        }
+    edited_doc j each =
+        ap (λ z. record { transform = (doc_of t).transform; layers = z; members = (doc_of t).members })
+        (layers_filled fs'.items t.layers.items
+        ∙ filled-agree (entry fs'.items) j (places_of t.layers.items) (λ m i. each m))
+
+    -- the tables still belong together
+    pub edited_kept : ((m : ℕ) (y : FeatureOf ℕ) → entry fs'.items m ≡ Some y → fits_form y ≡ true)
+        → count ≡ length (filter_map (entry fs'.items) (all_numbers t.layers.items))
+        → AreNamed names.items (doc_of edited) → IsFramed edited
+    edited_kept fits counted named = record {
+      formed = record {
+        geometries = layers_geometries fs'.items t.layers.items k.enclosed;
+        forms = ap (list_all fits_form) (features_of edited)
+            ∙ forms_all fits_form (entry fs'.items) ns (λ m y i e. fits m y e);
+        numbers = ap (λ xs. are_distinct (map (λ f. f.number) xs)) (features_of edited)
+            ∙ distinct_numbers (entry fs'.items) (λ f. f.number) (entry_number fs'.items) ns k.once;
+      };
+      enclosed = k.enclosed;
+      once = k.once;
+      below = subst (λ z. AllByRecursion (λ n. n < z) ns) (sym len) k.below;
+      alike = k.alike ∙ sym len;
+      standing = k.standing;
+      counted = counted ∙ sym (ap length (features_of edited));
+      few = subst (λ z. z ≤ 200000) (sym len) k.few;
+      named = named;
+      empty = k.empty;
+    }
+      where
+        ns : List ℕ
+        ns = all_numbers t.layers.items

@@ -28,7 +28,7 @@ parts_apart (u ∷ us) vs d r (inl e) j =
     head_apart u (us ++ vs) d (in_right u us vs (subst (λ z. In z vs) (sym e) j))
 parts_apart (u ∷ us) vs d r (inr i) j = parts_apart us vs (tail_distinct u (us ++ vs) d) r i j
 
-rest_distinct : (us vs : List ℕ) → are_distinct (us ++ vs) ≡ true → are_distinct vs ≡ true
+pub rest_distinct : (us vs : List ℕ) → are_distinct (us ++ vs) ≡ true → are_distinct vs ≡ true
 rest_distinct [] vs d = d
 rest_distinct (u ∷ us) vs d = rest_distinct us vs (tail_distinct u (us ++ vs) d)
 

@@ -15,6 +15,7 @@ use Rattle.ring_machine.proofs.Neighbours.{all_in, in-flat_map}
 use Rattle.ring_machine.proofs.Order.{and_both}
 use Rattle.ring_machine.proofs.Removal.{not_true}
 use Rattle.map_frame.specs.declared.feature.Feature.{Feature}
+use Rattle.map_frame.specs.declared.feature.Stand.{Stand}
 use Rattle.map_frame.specs.declared.layers.Slot.{Slot}
 use Rattle.map_frame.specs.declared.layers.Slot.TheVariants as slot
 use Rattle.map_frame.specs.declared.layers.Geometry.{Geometry}
@@ -135,22 +136,23 @@ module _ {A : Type 0} (t : Tables A) (k : IsFramed t) (n : ℕ) where
   pub none_alone : live features_in n ≡ None → false ≡ is_layer (doc_of t) n
   none_alone e = absent (is_layer (doc_of t) n) (λ h. let a = layer_there h in none-some a.3 (sym e ∙ a.4))
 
-  module _ (f : Feature A) (there : live features_in n ≡ Some f) where
-    -- the layer that the feature names holds it
-    stands_there : (l : Layer A) → slice_get t.layers.items f.layer ≡ Some l → In n (numbers_in l.geometry)
+  module _ (f : Feature A) (there : live features_in n ≡ Some f) (s : Stand)
+      (at : slice_get t.stands.items n ≡ Some s) where
+    -- the layer in which it is said to stand holds it
+    stands_there : (l : Layer A) → slice_get t.layers.items s.layer ≡ Some l → In n (numbers_in l.geometry)
     stands_there l e =
-        let s = stands_in t.layers.items n f (k.standing n f (live_there features_in n f there)) in
-        subst (λ z. In n (numbers_in z.geometry)) (same_Some s.0 l (sym s.1 ∙ e)) s.2
+        let i = stands_in t.layers.items n s (k.standing n s at) in
+        subst (λ z. In n (numbers_in z.geometry)) (same_Some i.0 l (sym i.1 ∙ e)) i.2
 
     -- a feature that its layer says is alone
-    pub is_alone : (l : Layer A) (m : ℕ) → slice_get t.layers.items f.layer ≡ Some l → l.geometry ≡ geometry.Alone m
+    pub is_alone : (l : Layer A) (m : ℕ) → slice_get t.layers.items s.layer ≡ Some l → l.geometry ≡ geometry.Alone m
         → true ≡ is_layer (doc_of t) n
     is_alone l m e g =
         let own : m ≡ n = only (subst (λ z. In n (numbers_in z)) g (stands_there l e)) in
         let whole : is_only n (items_of features_in l.geometry) ≡ true =
         ap (λ z. is_only n (items_of features_in z)) (g ∙ ap {B = Geometry A} (λ z. geometry.Alone z) own) ∙ only_alone features_in n f there in
         let ls = map (view_layer features_in) t.layers.items in
-        let at = in_get ls f.layer (view_layer features_in l) (slice_get-map (view_layer features_in) t.layers.items f.layer ∙ ap (option_map (view_layer features_in)) e) in
+        let at = in_get ls s.layer (view_layer features_in l) (slice_get-map (view_layer features_in) t.layers.items s.layer ∙ ap (option_map (view_layer features_in)) e) in
         sym (read ∙ in_any (λ z. is_only n z.items) (view_layer features_in l) ls at whole)
       where
         only : In n (m ∷ []) → m ≡ n
@@ -158,14 +160,14 @@ module _ {A : Type 0} (t : Tables A) (k : IsFramed t) (n : ℕ) where
         only (inr i) = absurd i
 
     -- and one that stands among items
-    pub not_alone : (l : Layer A) (ss : Vec (Slot A) A) → slice_get t.layers.items f.layer ≡ Some l
+    pub not_alone : (l : Layer A) (ss : Vec (Slot A) A) → slice_get t.layers.items s.layer ≡ Some l
         → l.geometry ≡ geometry.Items ss → false ≡ is_layer (doc_of t) n
     not_alone l ss e g =
         absent (is_layer (doc_of t) n) (
         λ h.
         let a = layer_there h in
         let one = same_part (λ (z : Layer A). numbers_in z.geometry) n l a.0 t.layers.items k.once
-        (in_get t.layers.items f.layer l e) a.1 (stands_there l e)
+        (in_get t.layers.items s.layer l e) a.1 (stands_there l e)
         (subst (λ z. In n (numbers_in z)) (sym a.2) (inl refl)) in
         differ (sym g ∙ ap (λ (z : Layer A). z.geometry) one ∙ a.2)
         )
@@ -174,7 +176,7 @@ module _ {A : Type 0} (t : Tables A) (k : IsFramed t) (n : ℕ) where
         differ e = absurd cc
 
     -- the layer is there
-    pub in_some_layer : slice_get t.layers.items f.layer ≡ None → ⊥
+    pub in_some_layer : slice_get t.layers.items s.layer ≡ None → ⊥
     in_some_layer e =
-        let s = stands_in t.layers.items n f (k.standing n f (live_there features_in n f there)) in
-        none-some s.0 (sym e ∙ s.1)
+        let i = stands_in t.layers.items n s (k.standing n s at) in
+        none-some i.0 (sym e ∙ i.1)

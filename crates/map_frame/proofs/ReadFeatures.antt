@@ -1,5 +1,5 @@
 -- The features of a frame's document by their numbers.
-use Rattle.std.proofs.Common.{◌≡◌, ◌≤◌, length, ℕ, zero, suc, refl, sym, ap, ap₂, ◌∙◌, List, [], ◌∷◌, ◌++◌, map, arith, inl, inr, Contains}
+use Rattle.std.proofs.Common.{◌≡◌, ◌<◌, ◌≤◌, subst, length, ℕ, zero, suc, refl, sym, ap, ap₂, ◌∙◌, List, [], ◌∷◌, ◌++◌, map, arith, inl, inr, Contains}
 use Rattle.std.proofs.Common.{Bool, true, false, ◌||◌, cond, Option, Some, None, option_map, is_some}
 use Rattle.std.specs.Prelude.{◌==◌, Vec}
 use Rattle.std.specs.List.{filter_map, flat_map, slice_get, find, list_any}
@@ -8,13 +8,14 @@ use Rattle.std.proofs.lemmas.Bool.Decides.{Decides-eqb}
 use Rattle.std.proofs.lemmas.List.{append-nil}
 use Rattle.std.proofs.lemmas.List.Concat.{flat_map-append}
 use Rattle.std.proofs.lemmas.List.Elements.{filter_map-append}
-use Rattle.std.proofs.lemmas.Option.{none-some, same_Some, slice_get_past}
+use Rattle.std.proofs.lemmas.Option.{none-some, same_Some, slice_get_past, slice_get_within}
 use Rattle.ring_machine.specs.Document.{FeatureOf}
 use Rattle.ring_machine.specs.Parts.{feature_of, features, feature, has_feature}
 use Rattle.ring_machine.proofs.First.{In}
 use Rattle.ring_machine.proofs.Members.{contains_in, is_some-mapped}
 use Rattle.ring_machine.proofs.Neighbours.{in-flat_map}
 use Rattle.map_frame.specs.declared.feature.Feature.{Feature}
+use Rattle.map_frame.specs.declared.feature.Stand.{Stand}
 use Rattle.map_frame.specs.declared.layers.Slot.{Slot}
 use Rattle.map_frame.specs.declared.layers.Slot.TheVariants as slot
 use Rattle.map_frame.specs.declared.layers.Geometry.{Geometry}
@@ -23,7 +24,8 @@ use Rattle.map_frame.specs.declared.layers.Layer.{Layer}
 use Rattle.map_frame.specs.declared.tables.Tables.{Tables}
 use Rattle.map_frame.specs.Kept.{IsFramed, StandsAt, all_numbers, numbers_at, numbers_in, numbers_under}
 use Rattle.map_frame.specs.Live.{live}
-use Rattle.map_frame.specs.Seen.{doc_of, items_at, items_of, leaf_of, or_empty, view_feature, view_layer}
+use Rattle.map_frame.specs.Seen.{doc_of, items_at, items_of, leaf_of, view_feature, view_layer}
+use Rattle.edit_records.specs.Places.{or_empty}
 
 module _ {A : Type 0} (fs : List (Option (Feature A))) where
   -- the feature with this number, where it is there
@@ -145,6 +147,12 @@ module _ {A : Type 0} (fs : List (Option (Feature A))) where
 
 -- ---- where a feature stands
 
+-- an element before the end
+pub got_within : {X : Type 0} (xs : List X) (i : ℕ) → i < length xs → (x : X) × (slice_get xs i ≡ Some x)
+got_within [] i l = absurd (omega (arith, l))
+got_within (x ∷ xs) zero l = (x, refl)
+got_within (x ∷ xs) (suc i) l = got_within xs i (omega (arith, l))
+
 -- an element that is read is one of the list
 pub in_get : {X : Type 0} (xs : List X) (i : ℕ) (x : X) → slice_get xs i ≡ Some x → In x xs
 in_get [] i x e = absurd (none-some x e)
@@ -167,21 +175,31 @@ module _ {A : Type 0} where
       by (geometry.Items ss) e h = rw e (slots ss (slice_get ss.items at) refl (rw e at h))
 
   -- and in a layer of the frame
-  pub stands_in : (ls : List (Layer A)) (n : ℕ) (f : Feature A) → StandsAt ls n f
-      → (l : Layer A) × (slice_get ls f.layer ≡ Some l) × In n (numbers_in l.geometry)
-  stands_in ls n f h = by (slice_get ls f.layer) refl
+  pub stands_in : (ls : List (Layer A)) (n : ℕ) (s : Stand) → StandsAt ls n s
+      → (l : Layer A) × (slice_get ls s.layer ≡ Some l) × In n (numbers_in l.geometry)
+  stands_in ls n s h = by (slice_get ls s.layer) refl
     where
-      by : (o : Option (Layer A)) → slice_get ls f.layer ≡ o
-          → (l : Layer A) × (slice_get ls f.layer ≡ Some l) × In n (numbers_in l.geometry)
+      by : (o : Option (Layer A)) → slice_get ls s.layer ≡ o
+          → (l : Layer A) × (slice_get ls s.layer ≡ Some l) × In n (numbers_in l.geometry)
       by None e = absurd (contains_in [] n (rw e at h))
-      by (Some l) e = (l, e, under_in l f.slot n (rw e at h))
+      by (Some l) e = (l, e, under_in l s.slot n (rw e at h))
 
 module _ {A : Type 0} (t : Tables A) (k : IsFramed t) where
+  -- where the number stands
+  pub stand_there : (n : ℕ) → n < length t.features.items → (s : Stand) × (slice_get t.stands.items n ≡ Some s)
+  stand_there n l = got_within t.stands.items n (subst (λ z. n < z) (sym k.alike) l)
+
+  -- a number of the table is among all
+  pub number_stands : (n : ℕ) → n < length t.features.items → In n (all_numbers t.layers.items)
+  number_stands n l =
+      let at = stand_there n l in
+      let s = stands_in t.layers.items n at.0 (k.standing n at.0 at.1) in
+      in-flat_map (λ l. numbers_in l.geometry) s.0 n t.layers.items (in_get t.layers.items at.0.layer s.0 s.1) s.2
+
   -- a feature's number is among all
   pub stands : (n : ℕ) (f : Feature A) → live t.features.items n ≡ Some f → In n (all_numbers t.layers.items)
   stands n f e =
-      let s = stands_in t.layers.items n f (k.standing n f (live_there t.features.items n f e)) in
-      in-flat_map (λ l. numbers_in l.geometry) s.0 n t.layers.items (in_get t.layers.items f.layer s.0 s.1) s.2
+      number_stands n (slice_get_within t.features.items n (Some f) (live_there t.features.items n f e))
 
   -- the feature with this number
   pub feature_is : (n : ℕ) → feature (doc_of t) n ≡ option_map (view_feature n) (live t.features.items n)

@@ -74,14 +74,14 @@ module _ (n : ℕ) (h : FeatureOf ℕ → FeatureOf ℕ) where
       by true = same f
       by false = refl
 
--- the feature with another id
-abbrev pub with_id : Text → FeatureOf ℕ → FeatureOf ℕ
-with_id id f = record f { id = Some id }
+-- the feature with another id, or none
+abbrev pub set_id : Option Text → FeatureOf ℕ → FeatureOf ℕ
+set_id id f = record f { id = id }
 
-pub only_fits : (n : ℕ) (id : Text) (f : FeatureOf ℕ) → fits_form f ≡ true → fits_form (only n (with_id id) f) ≡ true
+pub only_fits : (n : ℕ) (id : Option Text) (f : FeatureOf ℕ) → fits_form f ≡ true → fits_form (only n (set_id id) f) ≡ true
 only_fits n id f k = by (f.number == n)
   where
-    by : (b : Bool) → fits_form (if b then with_id id f else f) ≡ true
+    by : (b : Bool) → fits_form (if b then set_id id f else f) ≡ true
     by true = k
     by false = k
 
@@ -91,6 +91,6 @@ rings_mapped g same None o = refl
 rings_mapped g same (Some f) o = ap (λ z. element (element (Some z) o.polygon) o.ring) (same f)
 
 -- a ring has the same number
-pub ring_kept : (n : ℕ) (id : Text) (u : Option (FeatureOf ℕ)) (o : RingName)
-    → ring_of (option_map (only n (with_id id)) u) o ≡ ring_of u o
-ring_kept n id u o = rings_mapped (only n (with_id id)) (only_rings n (with_id id) (λ f. refl)) u o
+pub ring_kept : (n : ℕ) (id : Option Text) (u : Option (FeatureOf ℕ)) (o : RingName)
+    → ring_of (option_map (only n (set_id id)) u) o ≡ ring_of u o
+ring_kept n id u o = rings_mapped (only n (set_id id)) (only_rings n (set_id id) (λ f. refl)) u o

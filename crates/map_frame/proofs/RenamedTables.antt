@@ -1,74 +1,96 @@
 -- Tables in which a feature got another id.
-use Rattle.std.proofs.Common.{◌≡◌, ◌<◌, ℕ, refl, sym, ap, ap₂, ◌∙◌, length, slice_set}
-use Rattle.std.proofs.Common.{Option, Some, None, option_map}
+use Rattle.std.proofs.Common.{◌≡◌, ◌<◌, ℕ, true, refl, sym, ap, ap₂, ◌∙◌, List, length, map, slice_set}
+use Rattle.std.proofs.Common.{Option, Some, None, option_map, is_some}
 use Rattle.std.specs.Prelude.{slice_get, Vec}
 use Rattle.std.proofs.lemmas.List.{length-set}
-use Rattle.ring_machine.specs.Machine.{renamed}
+use Rattle.ring_machine.specs.Document.{Text, FeatureOf, DocumentOf}
+use Rattle.ring_machine.specs.Parts.{in_item, in_layer}
+use Rattle.ring_machine.specs.WellFormed.{fits_form}
+use Rattle.edit_records.specs.Records.{with_id}
+use Rattle.edit_records.proofs.PlacesBack.{filled-agree}
+use Rattle.edit_records.proofs.PlacesFilled.{filled-changed}
 use Rattle.map_frame.specs.declared.feature.Feature.{Feature}
-use Rattle.map_frame.specs.declared.feature.Id.TheVariants.{Given}
 use Rattle.map_frame.specs.declared.tables.Tables.{Tables}
-use Rattle.map_frame.specs.Kept.{IsFramed, StandsAt}
-use Rattle.map_frame.specs.Seen.{framed, doc_of, view_feature}
-use Rattle.map_frame.proofs.EditedMapped.{doc_mapped, stands_mapped}
+use Rattle.map_frame.specs.Framed.{Framed}
+use Rattle.map_frame.specs.Kept.{IsFramed, all_numbers}
+use Rattle.map_frame.specs.Renaming.{with_own_id}
+use Rattle.map_frame.specs.Seen.{framed, doc_of, places_of, view_feature}
+use Rattle.map_frame.proofs.EditedFeatures.{length_alike}
 use Rattle.map_frame.proofs.EditedNames.{named_alike}
-use Rattle.map_frame.proofs.EditedPlaced.{standing_set, SamePlace}
-use Rattle.map_frame.proofs.EditedStands.{stands, framed_with, entry_is}
-use Rattle.map_frame.proofs.NamedOnce.{ring_of, same_some}
-use Rattle.map_frame.proofs.RenamedFeature.{only, only_set, only_absent, only_fits, with_id, ring_kept}
-use Rattle.map_frame.proofs.SlotsEntries.{entry, inner}
+use Rattle.map_frame.proofs.EditedStands.{entry_is, entry_fits, edited_entry, edited_kept}
+use Rattle.map_frame.proofs.NamedOnce.{ring_of}
+use Rattle.map_frame.proofs.PlacesSeen.{layers_filled}
+use Rattle.map_frame.proofs.RenamedFeature.{only, only_set, only_absent, only_fits, set_id, ring_kept}
+use Rattle.map_frame.proofs.SlotsEntries.{entry, inner, features_of}
 
-module _ {A : Type 0} (t : Tables A) (n : ℕ) (id : Vec ℕ A) where
+module _ {A : Type 0} (t : Tables A) (n : ℕ) (id : Option Text) where
+  abbrev fs : List (Option (Feature A))
+  fs = t.features.items
+
+  abbrev change : FeatureOf ℕ → FeatureOf ℕ
+  change = only n (set_id id)
+
+  -- each feature is changed in its place
+  doc_changed : (fs' : Vec (Option (Feature A)) A) → ((m : ℕ) → entry fs'.items m ≡ option_map change (entry fs m))
+      → doc_of (record t { features = fs' }) ≡ with_id (doc_of t) n id
+  doc_changed fs' each =
+      ap (λ z. record { transform = (doc_of t).transform; layers = z; members = (doc_of t).members })
+      (layers_filled fs'.items t.layers.items
+      ∙ filled-agree (entry fs'.items) (λ m. option_map change (entry fs m)) (places_of t.layers.items) (λ m i. each m)
+      ∙ sym (filled-changed change (entry fs) (places_of t.layers.items))
+      ∙ ap (map (in_layer (map (in_item change)))) (sym (layers_filled fs t.layers.items)))
+
+  abbrev framed_as : DocumentOf ℕ → ℕ → Framed
+  framed_as d next = record { doc = d; next = next; places = places_of t.layers.items; room = length t.names.items }
+
   -- no feature has the number
-  pub renamed_none : entry t.features.items n ≡ None
-      → framed t ≡ record { doc = renamed (doc_of t) n id.items; next = length t.features.items }
+  pub renamed_none : entry fs n ≡ None → framed t ≡ record (framed t) { doc = with_id (doc_of t) n id }
   renamed_none gone =
-      ap (λ d. record { doc = d; next = length t.features.items })
-      (doc_mapped (only n (with_id id.items)) t t.features (only_absent n (with_id id.items) t.features.items gone))
+      ap (λ d. framed_as d (length fs)) (doc_changed t.features (only_absent n (set_id id) fs gone))
 
   module _ (place was : Option (Feature A)) (fs' : Vec (Option (Feature A)) A)
-      (items : fs'.items ≡ slice_set t.features.items n place) (l : n < length t.features.items)
-      (here : slice_get t.features.items n ≡ Some was)
-      (is : place ≡ option_map (λ (f : Feature A). record f { id = Given id }) was) where
-    given_id : (u : Option (Feature A)) → option_map (view_feature n) (option_map (λ (f : Feature A). record f { id = Given id }) u)
-        ≡ option_map (with_id id.items) (option_map (view_feature n) u)
+      (items : fs'.items ≡ slice_set fs n place) (l : n < length fs)
+      (here : slice_get fs n ≡ Some was) (is : place ≡ with_own_id id was) where
+    given_id : (u : Option (Feature A)) → option_map (view_feature n) (with_own_id id u)
+        ≡ option_map (set_id id) (option_map (view_feature n) u)
     given_id None = refl
     given_id (Some f) = refl
 
-    each : (m : ℕ) → entry fs'.items m ≡ option_map (only n (with_id id.items)) (entry t.features.items m)
+    each : (m : ℕ) → entry fs'.items m ≡ option_map change (entry fs m)
     each m =
         ap (λ z. entry z m) items
-        ∙ only_set n (with_id id.items) t.features.items place l
+        ∙ only_set n (set_id id) fs place l
         (ap (option_map (view_feature n)) is ∙ given_id was
-        ∙ ap (λ z. option_map (with_id id.items) (option_map (view_feature n) (inner z))) (sym here)) m
+        ∙ ap (λ z. option_map (set_id id) (option_map (view_feature n) (inner z))) (sym here)) m
 
-    pub renamed_doc : framed (record t { features = fs' })
-        ≡ record { doc = renamed (doc_of t) n id.items; next = length t.features.items }
-    renamed_doc =
-        ap₂ (λ d k. record { doc = d; next = k }) (doc_mapped (only n (with_id id.items)) t fs' each)
-        (ap length items ∙ length-set t.features.items n place)
+    long : length fs'.items ≡ length fs
+    long = ap length items ∙ length-set fs n place
 
-    same_place : (u : Option (Feature A)) (x : Feature A)
-        → option_map (λ (f : Feature A). record f { id = Given id }) u ≡ Some x
-        → (y : Feature A) × (u ≡ Some y) × SamePlace x y
-    same_place None x e = absurd cc
-    same_place (Some y) x e =
-        let k : record y { id = Given id } ≡ x = same_some _ _ e in
-        (y, refl, record { layer = ap (λ (f : Feature A). f.layer) (sym k); slot = ap (λ (f : Feature A). f.slot) (sym k) })
+    pub renamed_doc : framed (record t { features = fs' }) ≡ record (framed t) { doc = with_id (doc_of t) n id }
+    renamed_doc = ap₂ (λ d z. framed_as d z) (doc_changed fs' each) long
 
-    placed : IsFramed t → (m : ℕ) (x : Feature A) → slice_get fs'.items m ≡ Some (Some x) → StandsAt t.layers.items m x
-    placed k m x e =
-        standing_set t.layers.items t.features.items n place l
-        (λ y p. let w = same_place was y (sym is ∙ p) in (w.0, here ∙ ap Some w.1, w.2))
-        k.standing m x (ap (λ z. slice_get z m) (sym items) ∙ e)
+    some_mapped : (o : Option (FeatureOf ℕ)) → is_some (option_map change o) ≡ is_some o
+    some_mapped None = refl
+    some_mapped (Some f) = refl
 
-    pub renamed_kept : IsFramed t → IsFramed (record t { features = fs' })
-    renamed_kept k =
-        let t' : Tables A = record t { features = fs' } in
-        framed_with t'
-        (stands_mapped (only n (with_id id.items)) t fs' each (λ m f e fits. only_fits n id.items f fits)
-        (ap length items ∙ length-set t.features.items n place) (placed k) (stands t k))
-        (named_alike t.names.items (doc_of t) (doc_of t')
-        (λ o. ap (λ z. ring_of z o) (entry_is t' (placed k) o.feature ∙ each o.feature)
-        ∙ ring_kept n id.items (entry t.features.items o.feature) o
-        ∙ ap (λ z. ring_of z o) (sym (entry_is t k.standing o.feature)))
-        k.named)
+    module _ (k : IsFramed t) where
+      fits : (m : ℕ) (y : FeatureOf ℕ) → entry fs'.items m ≡ Some y → fits_form y ≡ true
+      fits m y e = by (entry fs m) refl
+        where
+          by : (o : Option (FeatureOf ℕ)) → entry fs m ≡ o → fits_form y ≡ true
+          by None h = absurd (let q : None ≡ Some y = ap (option_map change) (sym h) ∙ sym (each m) ∙ e in cc)
+          by (Some f) h =
+              let q : Some (change f) ≡ Some y = ap (option_map change) (sym h) ∙ sym (each m) ∙ e in
+              let same : change f ≡ y = cc in
+              ap fits_form (sym same) ∙ only_fits n id f (entry_fits t k m f h)
+
+      pub renamed_kept : IsFramed (record t { features = fs' })
+      renamed_kept =
+          edited_kept t k fs' t.count t.names long fits
+          (k.counted ∙ ap length (features_of t)
+          ∙ length_alike (entry fs) (entry fs'.items) (λ m. sym (ap is_some (each m) ∙ some_mapped (entry fs m))) (all_numbers t.layers.items))
+          (named_alike t.names.items (doc_of t) (doc_of (record t { features = fs' }))
+          (λ o. ap (λ z. ring_of z o) (edited_entry t k fs' t.count t.names long o.feature ∙ each o.feature)
+          ∙ ring_kept n id (entry fs o.feature) o
+          ∙ ap (λ z. ring_of z o) (sym (entry_is t k o.feature)))
+          k.named)

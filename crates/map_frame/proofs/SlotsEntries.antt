@@ -16,7 +16,8 @@ use Rattle.map_frame.specs.declared.layers.Geometry.{Geometry}
 use Rattle.map_frame.specs.declared.layers.Geometry.TheVariants as geometry
 use Rattle.map_frame.specs.declared.layers.Layer.{Layer}
 use Rattle.map_frame.specs.declared.tables.Tables.{Tables}
-use Rattle.map_frame.specs.Seen.{view_feature, view_layer, leaf_of, items_at, items_of, or_empty, doc_of}
+use Rattle.map_frame.specs.Seen.{view_feature, view_layer, leaf_of, items_at, items_of, doc_of}
+use Rattle.edit_records.specs.Places.{or_empty}
 use Rattle.map_frame.specs.Kept.{numbers_at, numbers_in, all_numbers}
 
 -- what is there within

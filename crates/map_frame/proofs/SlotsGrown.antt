@@ -6,7 +6,7 @@ use Rattle.std.specs.List.{flat_map}
 use Rattle.std.proofs.lemmas.Bool.{false≢true}
 use Rattle.std.proofs.lemmas.Bool.Decides.{Decides-eqb}
 use Rattle.ring_machine.proofs.First.{In}
-use Rattle.map_frame.specs.Parting.{grown, with_new}
+use Rattle.map_frame.specs.Growing.{with_new, new_after}
 use Rattle.map_frame.proofs.NamedOnce.{same_some}
 
 -- ---- one part of a list of parts is changed
@@ -46,22 +46,22 @@ module _ {X Y : Type 0} (g g' : X → List Y) (H : List Y → List Y) (none : H 
 -- ---- the numbers
 
 module _ (n new : ℕ) where
-  pub with_new_here : with_new n new n ≡ n ∷ new ∷ []
-  with_new_here = by (n == n) ((Decides-eqb n n).1 refl)
+  pub new_after_here : new_after n new n ≡ n ∷ new ∷ []
+  new_after_here = by (n == n) ((Decides-eqb n n).1 refl)
     where
       by : (b : Bool) → b ≡ true → (if b then n ∷ new ∷ [] else (n ∷ [])) ≡ n ∷ new ∷ []
       by true e = refl
       by false e = absurd (false≢true e)
 
-  pub with_new_other : (m : ℕ) → m ≢ n → with_new n new m ≡ m ∷ []
-  with_new_other m f = by (m == n) refl
+  pub new_after_other : (m : ℕ) → m ≢ n → new_after n new m ≡ m ∷ []
+  new_after_other m f = by (m == n) refl
     where
       by : (b : Bool) → (m == n) ≡ b → (if b then n ∷ new ∷ [] else (m ∷ [])) ≡ m ∷ []
       by true e = absurd (f ((Decides-eqb m n).0 e))
       by false e = refl
 
   -- numbers without n stay
-  pub grown_off : (ns : List ℕ) → (In n ns → ⊥) → grown n new ns ≡ ns
+  pub grown_off : (ns : List ℕ) → (In n ns → ⊥) → with_new n new ns ≡ ns
   grown_off [] off = refl
   grown_off (m ∷ ns) off =
-      ap₂ (λ a b. a ++ b) (with_new_other m (λ e. off (inl e))) (grown_off ns (λ i. off (inr i)))
+      ap₂ (λ a b. a ++ b) (new_after_other m (λ e. off (inl e))) (grown_off ns (λ i. off (inr i)))

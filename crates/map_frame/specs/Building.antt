@@ -1,5 +1,5 @@
 -- What building makes of the layers that were read, layer by layer and item by item.
-use Rattle.std.specs.Prelude.{◌≡◌, ℕ, ◌+◌, List, [], ◌∷◌, ◌++◌, length, map, Option, None, Some, slice_get, Bool, true, false, not, IsTrue, Vec}
+use Rattle.std.specs.Prelude.{◌≡◌, ℕ, ◌+◌, List, [], ◌∷◌, ◌++◌, length, Option, None, Some, slice_get, Bool, true, false, not, IsTrue, Vec}
 use Rattle.map_opening.specs.Laying.{feature_numbers}
 use Rattle.topo_outline.specs.Views.{form_of, view_head}
 use Rattle.topo_outline.specs.declared.document.Item.{Item}
@@ -7,7 +7,9 @@ use Rattle.topo_outline.specs.declared.document.Item.TheVariants as item
 use Rattle.topo_outline.specs.declared.document.RawFeature.{RawFeature}
 use Rattle.topo_outline.specs.declared.document.RawLayer.{RawLayer}
 use Rattle.topo_reader.specs.Document.{numbered}
+use Rattle.map_frame.specs.declared.building.Gathered.{Gathered}
 use Rattle.map_frame.specs.declared.feature.Feature.{Feature}
+use Rattle.map_frame.specs.declared.feature.Stand.{Stand}
 use Rattle.map_frame.specs.declared.layers.Slot.{Slot}
 use Rattle.map_frame.specs.declared.layers.Slot.TheVariants as slot
 use Rattle.map_frame.specs.declared.layers.Geometry.{Geometry}
@@ -15,30 +17,35 @@ use Rattle.map_frame.specs.declared.layers.Geometry.TheVariants as geometry
 use Rattle.map_frame.specs.declared.layers.Layer.{Layer}
 use Rattle.map_frame.specs.Seen.{view_feature}
 
--- the features so far, and the polygons of each feature to come
+-- the features so far, where they stand, and the polygons of each feature to come
 pub record Progress (A : Type 0) : Type 0 where
   pub features : List (Option (Feature A))
+  pub stands : List Stand
   pub waiting : List (Vec (Vec ℕ A) A)
 
 module _ {A : Type 0} where
-  abbrev pub progress : List (Option (Feature A)) → List (Vec (Vec ℕ A) A) → Progress A
-  progress features waiting = record { features = features; waiting = waiting }
+  abbrev pub progress : Gathered A → List (Vec (Vec ℕ A) A) → Progress A
+  progress g waiting = record {
+    features = g.features.items;
+    stands = g.stands.items;
+    waiting = waiting;
+  }
 
-  -- the feature that was read, with these polygons, in this slot of this layer
-  pub record IsRead (raw : RawFeature A) (layer slot : ℕ) (polygons : List (List ℕ))
-      (f : Feature A) : Type 0 where
-    pub of_layer : f.layer ≡ layer
-    pub of_slot : f.slot ≡ slot
+  -- the feature that was read, with these polygons
+  pub record IsRead (raw : RawFeature A) (polygons : List (List ℕ)) (f : Feature A) : Type 0 where
     pub seen : (n : ℕ)
         → view_feature n f ≡ numbered n (form_of raw.form) (view_head raw.head) polygons
 
-  -- the feature that was read comes next, with the polygons that waited first
+  -- the feature that was read comes next, in this slot of this layer, with the polygons that
+  -- waited first
   pub record IsNext (raw : RawFeature A) (layer slot : ℕ) (old new : Progress A) : Type 0 where
     pub feature : Feature A
     pub polygons : Vec (Vec ℕ A) A
     pub appended : new.features ≡ old.features ++ Some feature ∷ []
+    pub alike : length old.stands ≡ length old.features
+    pub stood : new.stands ≡ old.stands ++ (record { layer = layer; slot = slot }) ∷ []
     pub taken : old.waiting ≡ polygons ∷ new.waiting
-    pub read : IsRead raw layer slot (feature_numbers polygons) feature
+    pub read : IsRead raw (feature_numbers polygons) feature
 
   -- the slot has this number alone
   abbrev pub IsLeaf : ℕ → Slot A → Type 0

@@ -1,5 +1,5 @@
 -- What a copy of a frame's tables shares with them.
-use Rattle.std.specs.Prelude.{◌≡◌, ℕ, List, map, length, Option, option_map}
+use Rattle.std.specs.Prelude.{◌≡◌, ℕ, List, map, option_map}
 use Rattle.ring_machine.specs.Document.{Text, Head, FeatureOf}
 use Rattle.topo_outline.specs.Views.{view_head, view_kept}
 use Rattle.map_frame.specs.declared.feature.Feature.{Feature}
@@ -28,12 +28,6 @@ pub record LayerText : Type 0 where
   pub name : Text
   pub geometry : GeometryText
 
--- a feature with its texts and the numbers of its rings, and where it stands
-pub record Placed : Type 0 where
-  pub layer : ℕ
-  pub slot : ℕ
-  pub feature : FeatureOf ℕ
-
 module _ {A : Type 0} where
   abbrev pub slot_text : Slot A → SlotText
   slot_text (slot.Open h) = opens (view_head h)
@@ -48,15 +42,17 @@ module _ {A : Type 0} where
   abbrev pub layer_text : Layer A → LayerText
   layer_text l = record { name = l.name.now; geometry = geometry_text l.geometry }
 
-  abbrev pub placed : Feature A → Placed
-  placed f = record { layer = f.layer; slot = f.slot; feature = view_feature 0 f }
+  -- the feature with its texts and the numbers of its rings
+  abbrev pub seen : Feature A → FeatureOf ℕ
+  seen f = view_feature 0 f
 
   -- the tables have the same texts and numbers
   pub record AreCopied (t copy : Tables A) : Type 0 where
     pub transform : copy.transform ≡ t.transform
     pub layers : map layer_text copy.layers.items ≡ map layer_text t.layers.items
     pub members : map view_kept copy.members.items ≡ map view_kept t.members.items
-    pub features : map (option_map placed) copy.features.items ≡ map (option_map placed) t.features.items
+    pub features : map (option_map seen) copy.features.items ≡ map (option_map seen) t.features.items
+    pub stands : copy.stands.items ≡ t.stands.items
     pub count : copy.count ≡ t.count
     pub names : copy.names.items ≡ t.names.items
     pub empty : map slot_text copy.empty.items ≡ map slot_text t.empty.items

@@ -1,10 +1,11 @@
 -- What is true of every frame.
-use Rattle.std.specs.Prelude.{ℕ, ◌≡◌, ◌<◌, ◌≤◌, List, [], ◌∷◌, length, Option, None, Some, slice_get, IsTrue, Bool, true, false, Contains}
+use Rattle.std.specs.Prelude.{ℕ, zero, suc, ◌≡◌, ◌<◌, ◌≤◌, List, [], ◌∷◌, length, Option, None, Some, slice_get, IsTrue, Bool, true, false, Contains}
 use Rattle.std.specs.List.{list_all, flat_map, AllByRecursion}
 use Rattle.ring_machine.specs.Parts.{features}
 use Rattle.ring_machine.specs.Join.{empty_collection}
 use Rattle.ring_machine.specs.WellFormed.{WellFormed, are_distinct}
 use Rattle.map_frame.specs.declared.feature.Feature.{Feature}
+use Rattle.map_frame.specs.declared.feature.Stand.{Stand}
 use Rattle.map_frame.specs.declared.layers.Slot.{Slot}
 use Rattle.map_frame.specs.declared.layers.Slot.TheVariants as slot
 use Rattle.map_frame.specs.declared.layers.Geometry.{Geometry}
@@ -44,21 +45,32 @@ module _ {A : Type 0} where
       under (geometry.Alone n) = n ∷ []
       under (geometry.Items slots) = in_slot (slice_get slots.items at)
 
-  -- the feature with this number stands where it is said to stand
-  abbrev pub StandsAt : List (Layer A) → ℕ → Feature A → Type 0
-  StandsAt layers n f = Contains (numbers_under (slice_get layers f.layer) f.slot) n
+  -- the number stands where it is said to stand
+  abbrev pub StandsAt : List (Layer A) → ℕ → Stand → Type 0
+  StandsAt layers n s = Contains (numbers_under (slice_get layers s.layer) s.slot) n
 
-  -- items that begin with a collection or a kept text
+  -- the slots lead to the end of the n collections that are open, and no further
+  abbrev pub is_closing : ℕ → List (Slot A) → Bool
+  is_closing zero [] = true
+  is_closing zero (s ∷ ss) = false
+  is_closing (suc n) [] = false
+  is_closing (suc n) (slot.Open h ∷ ss) = is_closing (suc (suc n)) ss
+  is_closing (suc n) (slot.Close ∷ ss) = is_closing n ss
+  is_closing (suc n) (slot.Kept t ∷ ss) = is_closing (suc n) ss
+  is_closing (suc n) (slot.Leaves ns ∷ ss) = is_closing (suc n) ss
+
+  -- a kept text, or a collection from its beginning to its end
+  abbrev pub is_whole : List (Slot A) → Bool
+  is_whole [] = false
+  is_whole (slot.Open h ∷ ss) = is_closing 1 ss
+  is_whole (slot.Kept t ∷ ss) = is_closing 0 ss
+  is_whole (slot.Close ∷ ss) = false
+  is_whole (slot.Leaves ns ∷ ss) = false
+
+  -- a feature alone, or such items, whatever features are there
   abbrev pub is_enclosed : Geometry A → Bool
   is_enclosed (geometry.Alone n) = true
-  is_enclosed (geometry.Items slots) = begins slots.items
-    where
-      begins : List (Slot A) → Bool
-      begins [] = false
-      begins (slot.Open h ∷ ss) = true
-      begins (slot.Kept t ∷ ss) = true
-      begins (slot.Close ∷ ss) = false
-      begins (slot.Leaves ns ∷ ss) = false
+  is_enclosed (geometry.Items slots) = is_whole slots.items
 
   -- the frame's tables belong together
   pub record IsFramed (f : Tables A) : Type 0 where
@@ -67,8 +79,9 @@ module _ {A : Type 0} where
     -- no number stands twice, and each is one of the table
     pub once : IsTrue (are_distinct (all_numbers f.layers.items))
     pub below : AllByRecursion (λ n. n < length f.features.items) (all_numbers f.layers.items)
-    pub standing : (n : ℕ) (x : Feature A) → slice_get f.features.items n ≡ Some (Some x)
-        → StandsAt f.layers.items n x
+    pub alike : length f.stands.items ≡ length f.features.items
+    pub standing : (n : ℕ) (s : Stand) → slice_get f.stands.items n ≡ Some s
+        → StandsAt f.layers.items n s
     pub counted : f.count ≡ length (features (doc_of f))
     pub few : length f.features.items ≤ 200000
     pub named : AreNamed f.names.items (doc_of f)

@@ -1,12 +1,11 @@
 -- What the code of a frame means.
 use Rattle.std.specs.Prelude.{ℕ, List, [], ◌∷◌, map, length, Option, None, Some, option_map, slice_get}
 use Rattle.std.specs.List.{flat_map}
-use Rattle.ring_machine.specs.Document.{Text, FeatureOf, ItemOf, Open, Close, Leaf, Kept, LayerOf, DocumentOf}
-use Rattle.ring_machine.specs.Join.{empty_collection}
-use Rattle.topo_outline.specs.Views.{form_of, view_head, view_kept}
+use Rattle.ring_machine.specs.Document.{FeatureOf, ItemOf, Open, Close, Leaf, Kept, LayerOf, DocumentOf}
+use Rattle.edit_records.specs.Places.{Place, Begins, Ends, Text_of, Number, Tree, Alone, Places, LayerTree}
+use Rattle.edit_records.specs.Places.{or_empty}
+use Rattle.topo_outline.specs.Views.{view_head, view_kept}
 use Rattle.map_opening.specs.Laying.{feature_numbers}
-use Rattle.map_frame.specs.declared.feature.Id.{Id}
-use Rattle.map_frame.specs.declared.feature.Id.TheVariants as id
 use Rattle.map_frame.specs.declared.feature.Feature.{Feature}
 use Rattle.map_frame.specs.declared.layers.Slot.{Slot}
 use Rattle.map_frame.specs.declared.layers.Slot.TheVariants as slot
@@ -15,29 +14,12 @@ use Rattle.map_frame.specs.declared.layers.Geometry.TheVariants as geometry
 use Rattle.map_frame.specs.declared.layers.Layer.{Layer}
 use Rattle.map_frame.specs.declared.tables.Tables.{Tables}
 use Rattle.map_frame.specs.Framed.{Framed}
-
--- the items, and those of an empty collection where there are none
-abbrev pub or_empty : List (ItemOf ℕ) → List (ItemOf ℕ)
-or_empty [] = empty_collection
-or_empty (i ∷ items) = i ∷ items
+use Rattle.map_frame.specs.Texts.{with_texts}
 
 module _ {A : Type 0} where
-  -- the text of an id
-  abbrev pub view_id : Id A → Option Text
-  view_id id.Absent = None
-  view_id (id.Read t) = Some t.now
-  view_id (id.Given t) = Some t.items
-
   -- the feature with this number
   abbrev pub view_feature : ℕ → Feature A → FeatureOf ℕ
-  view_feature n f = record {
-    number = n;
-    id = view_id f.id;
-    form = form_of f.form;
-    properties = option_map (λ t. t.now) f.properties;
-    members = map view_kept f.members.items;
-    polygons = feature_numbers f.polygons;
-  }
+  view_feature n f = with_texts n f.texts (feature_numbers f.polygons)
 
   -- the leaf of the feature with this number, and nothing where it was taken out
   abbrev pub leaf_of : List (Option (Feature A)) → ℕ → List (ItemOf ℕ)
@@ -71,5 +53,30 @@ module _ {A : Type 0} where
     members = map view_kept f.members.items;
   }
 
+  -- ---- places
+
+  -- the places of a slot
+  abbrev pub places_at : Slot A → List Place
+  places_at (slot.Open h) = Begins (view_head h) ∷ []
+  places_at slot.Close = Ends ∷ []
+  places_at (slot.Kept t) = Text_of t.now ∷ []
+  places_at (slot.Leaves numbers) = map Number numbers.items
+
+  abbrev pub tree_of : Geometry A → Tree
+  tree_of (geometry.Alone n) = Alone n
+  tree_of (geometry.Items slots) = Places (flat_map places_at slots.items)
+
+  abbrev pub layer_tree : Layer A → LayerTree
+  layer_tree l = record { name = l.name.now; tree = tree_of l.geometry }
+
+  -- the places of all numbers that a feature ever had
+  abbrev pub places_of : List (Layer A) → List LayerTree
+  places_of layers = map layer_tree layers
+
   abbrev pub framed : Tables A → Framed
-  framed f = record { doc = doc_of f; next = length f.features.items }
+  framed f = record {
+    doc = doc_of f;
+    next = length f.features.items;
+    places = places_of f.layers.items;
+    room = length f.names.items;
+  }

@@ -11,59 +11,57 @@ ghost use Rattle.map_frame.specs.Opened.{opened, CanStand};
 ghost use Rattle.map_frame.specs.Seen.{items_at};
 ghost use Rattle.map_frame.specs.Building.{progress, IsRead, IsNext, IsSlot, AreSlots, first_of, lone, IsGeometry, AreLayers};
 
-use crate::feature::{Feature, Id};
+use crate::feature::{Feature, FeatureTexts, Stand};
 use crate::frame::Frame;
 use crate::layers::{Geometry, Layer, Slot};
 use crate::names::name_all;
 use crate::tables::Tables;
-use std::alloc::{AllocError, Allocator};
+use std::alloc::{AllocError, Allocator, Global};
 use std::vec::IntoIter;
 use topo_outline::{Head, Item, KeptMember, RawFeature, RawLayer};
 
-/// The feature that was read, with its polygons, in this slot of this layer.
-fn build_feature<'a, A: Allocator + Copy>(
-    raw: RawFeature<'a, A>,
-    layer: usize,
-    slot: usize,
-    polygons: Vec<Vec<usize, A>, A>,
-) -> Feature<'a, A>
-    ensures { IsRead raw.entry layer slot (feature_numbers polygons) result }
-{
-    let id = match raw.head.id {
-        Some(text) => Id::Read(text),
-        None => Id::Absent,
-    };
-    Feature {
-        layer,
-        slot,
-        id,
-        form: raw.form,
-        properties: raw.head.properties,
-        members: raw.head.members,
-        polygons,
-    }
+/// The features that were read so far, and where they stand.
+#[derive(Drop)]
+struct Gathered<'a, A: Allocator + Copy = Global> {
+    features: Vec<Option<Feature<'a, A>>, A>,
+    stands: Vec<Stand, A>,
 }
 
-/// Appends the next feature, with the polygons that wait first, and returns its number.
+/// The feature that was read, with its polygons.
+fn build_feature<'a, A: Allocator + Copy>(
+    raw: RawFeature<'a, A>,
+    polygons: Vec<Vec<usize, A>, A>,
+) -> Feature<'a, A>
+    ensures { IsRead raw.entry (feature_numbers polygons) result }
+{
+    let texts = FeatureTexts::read(raw.form, raw.head);
+    Feature { texts, polygons }
+}
+
+/// Appends the next feature, which stands in this slot of this layer, with the polygons that wait
+/// first, and returns its number.
 fn push_feature<'a, A: Allocator + Copy>(
     raw: RawFeature<'a, A>,
     layer: usize,
     slot: usize,
-    features: &mut Vec<Option<Feature<'a, A>>, A>,
+    gathered: &mut Gathered<'a, A>,
     waiting: &mut IntoIter<Vec<Vec<usize, A>, A>, A>,
 ) -> Result<u32, AllocError>
-    requires few { length features.old.items < 200000 }
+    requires few { length gathered.old.features.items < 200000 }
     requires there { 0 < length (into_iter_items waiting.old) }
-    ensures number { IfOk result (λ number. number ≡ length features.old.items) }
+    requires alike { length gathered.old.stands.items ≡ length gathered.old.features.items }
+    ensures number { IfOk result (λ number. number ≡ length gathered.old.features.items) }
     ensures next { IfOk result (λ number. IsNext raw.entry layer slot
-        (progress features.old.items (into_iter_items waiting.old))
-        (progress features.new.items (into_iter_items waiting.new))) }
+        (progress gathered.old (into_iter_items waiting.old))
+        (progress gathered.new (into_iter_items waiting.new))) }
 {
-    let number = features.len() as u32;
+    let number = gathered.features.len() as u32;
     let Some(polygons) = waiting.next() else {
         unreachable!();
     };
-    features.push(Some(build_feature(raw, layer, slot, polygons)))?;
+    let feature = build_feature(raw, polygons);
+    gathered.features.push(Some(feature))?;
+    gathered.stands.push(Stand { layer, slot })?;
     Ok(number)
 }
 
@@ -73,21 +71,22 @@ fn build_slot<'a, A: Allocator + Copy>(
     item: Item<'a, A>,
     layer: usize,
     slot: usize,
-    features: &mut Vec<Option<Feature<'a, A>>, A>,
+    gathered: &mut Gathered<'a, A>,
     waiting: &mut IntoIter<Vec<Vec<usize, A>, A>, A>,
 ) -> Result<Slot<'a, A>, AllocError>
-    requires few { length features.old.items + length (leaves_in (view_item item ∷ [])) ≤ 200000 }
+    requires few { length gathered.old.features.items + length (leaves_in (view_item item ∷ [])) ≤ 200000 }
     requires there { length (leaves_in (view_item item ∷ [])) ≤ length (into_iter_items waiting.old) }
+    requires alike { length gathered.old.stands.items ≡ length gathered.old.features.items }
     ensures { IfOk result (λ s. IsSlot layer slot item.entry s
-        (progress features.old.items (into_iter_items waiting.old))
-        (progress features.new.items (into_iter_items waiting.new))) }
+        (progress gathered.old (into_iter_items waiting.old))
+        (progress gathered.new (into_iter_items waiting.new))) }
 {
     match item {
         Item::Open(head) => Ok(Slot::Open(head)),
         Item::Close => Ok(Slot::Close),
         Item::Kept(text) => Ok(Slot::Kept(text)),
         Item::Leaf(raw) => {
-            let number = push_feature(raw, layer, slot, features, waiting)?;
+            let number = push_feature(raw, layer, slot, gathered, waiting)?;
             let mut numbers = Vec::new(alloc);
             numbers.push(number)?;
             Ok(Slot::Leaves(numbers))
@@ -100,18 +99,19 @@ fn build_slots<'a, A: Allocator + Copy>(
     alloc: A,
     items: Vec<Item<'a, A>, A>,
     layer: usize,
-    features: &mut Vec<Option<Feature<'a, A>>, A>,
+    gathered: &mut Gathered<'a, A>,
     waiting: &mut IntoIter<Vec<Vec<usize, A>, A>, A>,
 ) -> Result<Vec<Slot<'a, A>, A>, AllocError>
-    requires few { length features.old.items + length (leaves_in (map view_item items.items)) ≤ 200000 }
+    requires few { length gathered.old.features.items + length (leaves_in (map view_item items.items)) ≤ 200000 }
     requires there { length (leaves_in (map view_item items.items)) ≤ length (into_iter_items waiting.old) }
+    requires alike { length gathered.old.stands.items ≡ length gathered.old.features.items }
     ensures { IfOk result (λ slots. AreSlots layer 0 items.entry.items slots.items
-        (progress features.old.items (into_iter_items waiting.old))
-        (progress features.new.items (into_iter_items waiting.new))) }
+        (progress gathered.old (into_iter_items waiting.old))
+        (progress gathered.new (into_iter_items waiting.new))) }
 {
     let mut slots = Vec::new(alloc);
     for item in items {
-        let slot = build_slot(alloc, item, layer, slots.len(), features, waiting)?;
+        let slot = build_slot(alloc, item, layer, slots.len(), gathered, waiting)?;
         slots.push(slot)?;
     }
     Ok(slots)
@@ -142,16 +142,17 @@ fn build_geometry<'a, A: Allocator + Copy>(
     alloc: A,
     items: Vec<Item<'a, A>, A>,
     layer: usize,
-    features: &mut Vec<Option<Feature<'a, A>>, A>,
+    gathered: &mut Gathered<'a, A>,
     waiting: &mut IntoIter<Vec<Vec<usize, A>, A>, A>,
 ) -> Result<Geometry<'a, A>, AllocError>
-    requires few { length features.old.items + length (leaves_in (map view_item items.items)) ≤ 200000 }
+    requires few { length gathered.old.features.items + length (leaves_in (map view_item items.items)) ≤ 200000 }
     requires there { length (leaves_in (map view_item items.items)) ≤ length (into_iter_items waiting.old) }
+    requires alike { length gathered.old.stands.items ≡ length gathered.old.features.items }
     ensures { IfOk result (λ geometry. IsGeometry layer items.entry.items geometry
-        (progress features.old.items (into_iter_items waiting.old))
-        (progress features.new.items (into_iter_items waiting.new))) }
+        (progress gathered.old (into_iter_items waiting.old))
+        (progress gathered.new (into_iter_items waiting.new))) }
 {
-    let slots = build_slots(alloc, items, layer, features, waiting)?;
+    let slots = build_slots(alloc, items, layer, gathered, waiting)?;
     match lone_number(slots.as_slice()) {
         Some(number) => Ok(Geometry::Alone(number)),
         None => Ok(Geometry::Items(slots)),
@@ -163,18 +164,19 @@ fn build_geometry<'a, A: Allocator + Copy>(
 fn build_layers<'a, A: Allocator + Copy>(
     alloc: A,
     raws: Vec<RawLayer<'a, A>, A>,
-    features: &mut Vec<Option<Feature<'a, A>>, A>,
+    gathered: &mut Gathered<'a, A>,
     waiting: &mut IntoIter<Vec<Vec<usize, A>, A>, A>,
 ) -> Result<Vec<Layer<'a, A>, A>, AllocError>
-    requires few { length features.old.items + length (leaves (map view_layer raws.items)) ≤ 200000 }
+    requires few { length gathered.old.features.items + length (leaves (map view_layer raws.items)) ≤ 200000 }
     requires there { length (leaves (map view_layer raws.items)) ≤ length (into_iter_items waiting.old) }
+    requires alike { length gathered.old.stands.items ≡ length gathered.old.features.items }
     ensures { IfOk result (λ layers. AreLayers 0 raws.entry.items layers.items
-        (progress features.old.items (into_iter_items waiting.old))
-        (progress features.new.items (into_iter_items waiting.new))) }
+        (progress gathered.old (into_iter_items waiting.old))
+        (progress gathered.new (into_iter_items waiting.new))) }
 {
     let mut layers = Vec::new(alloc);
     for raw in raws {
-        let geometry = build_geometry(alloc, raw.items, layers.len(), features, waiting)?;
+        let geometry = build_geometry(alloc, raw.items, layers.len(), gathered, waiting)?;
         layers.push(Layer {
             name: raw.name,
             geometry,
@@ -215,10 +217,14 @@ impl<'a, A: Allocator + Copy> Frame<'a, A> {
         ensures next { IfOk result (λ frame. frame.next ≡ length polygons.items) }
     {
         let names = name_all(alloc, polygons.as_slice())?;
-        let mut features = Vec::new(alloc);
+        let mut gathered = Gathered {
+            features: Vec::new(alloc),
+            stands: Vec::new(alloc),
+        };
         let mut waiting = polygons.into_iter();
-        let layers = build_layers(alloc, layers, &mut features, &mut waiting)?;
+        let layers = build_layers(alloc, layers, &mut gathered, &mut waiting)?;
         let empty = empty_items(alloc)?;
+        let Gathered { features, stands } = gathered;
         let count = features.len();
         Ok(Frame {
             tables: Tables {
@@ -227,6 +233,7 @@ impl<'a, A: Allocator + Copy> Frame<'a, A> {
                 layers,
                 members,
                 features,
+                stands,
                 count,
                 names,
                 empty,

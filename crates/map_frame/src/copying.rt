@@ -3,41 +3,21 @@
 ghost use Rattle.std.specs.Prelude.{◌≡◌, IfOk};
 ghost use Rattle.map_frame.specs.Copied.{AreCopied};
 
-use crate::feature::{Feature, Id};
+use crate::feature::Feature;
 use crate::frame::Frame;
 use crate::layers::{Geometry, Layer, Slot};
 use crate::tables::Tables;
 use std::alloc::{AllocError, Allocator};
 
-impl<'a, A: Allocator + Copy> Clone for Id<'a, A> {
-    ghost use Rattle.std.specs.Prelude.{◌≡◌};
-    ghost use Rattle.map_frame.specs.Seen.{view_id};
-
-    ghost is_clone = { λ id copy. view_id copy ≡ view_id id };
-
-    fn clone(&self) -> Result<Id<'a, A>, AllocError> {
-        match self {
-            Id::Absent => Ok(Id::Absent),
-            Id::Read(text) => Ok(Id::Read(*text)),
-            Id::Given(text) => Ok(Id::Given(text.clone()?)),
-        }
-    }
-}
-
 impl<'a, A: Allocator + Copy> Clone for Feature<'a, A> {
     ghost use Rattle.std.specs.Prelude.{◌≡◌};
-    ghost use Rattle.map_frame.specs.Copied.{placed};
+    ghost use Rattle.map_frame.specs.Copied.{seen};
 
-    ghost is_clone = { λ feature copy. placed copy ≡ placed feature };
+    ghost is_clone = { λ feature copy. seen copy ≡ seen feature };
 
     fn clone(&self) -> Result<Feature<'a, A>, AllocError> {
         Ok(Feature {
-            layer: self.layer,
-            slot: self.slot,
-            id: self.id.clone()?,
-            form: self.form,
-            properties: self.properties,
-            members: self.members.clone()?,
+            texts: self.texts.clone()?,
             polygons: self.polygons.clone()?,
         })
     }
@@ -95,6 +75,7 @@ impl<'a, A: Allocator + Copy> Tables<'a, A> {
         let layers = self.layers.clone()?;
         let members = self.members.clone()?;
         let features = self.features.clone()?;
+        let stands = Vec::from_slice(self.alloc, self.stands.as_slice())?;
         let names = Vec::from_slice(self.alloc, self.names.as_slice())?;
         let empty = self.empty.clone()?;
         Ok(Tables {
@@ -103,6 +84,7 @@ impl<'a, A: Allocator + Copy> Tables<'a, A> {
             layers,
             members,
             features,
+            stands,
             count: self.count,
             names,
             empty,

@@ -1,5 +1,6 @@
 // By a ring's number where it stands.
 ghost use Rattle.std.specs.Prelude.{◌≡◌, ◌<◌, ◌≤◌, ℕ, length, map, Some, OnOk, IfOk, slice_get};
+ghost use Rattle.std.specs.List.{flat_map};
 ghost use Rattle.map_opening.specs.Laying.{polygon_numbers, feature_numbers};
 ghost use Rattle.map_frame.specs.Naming.{Gain, Loss, SameNames, IsOf, HasRoom, AllNamed};
 ghost use Rattle.map_frame.specs.Readers.{element};
@@ -73,6 +74,22 @@ pub(crate) fn name_polygon<A: Allocator + Copy>(
             ring,
         };
         name_ring(names, rings[ring], name);
+    }
+}
+
+/// Keeps a name for each ring of a feature, where there is room.
+pub(crate) fn name_polygons<A: Allocator + Copy>(
+    names: &mut Vec<Option<RingName>, A>,
+    feature: u32,
+    polygons: &[Vec<usize, A>],
+)
+    requires { HasRoom (flat_map polygon_numbers polygons.now) names.old.items }
+    ensures gained { Gain names.old.items names.new.items (λ o k. (o.feature ≡ feature)
+        × (element (slice_get (map polygon_numbers polygons.now) o.polygon) o.ring ≡ Some k)) }
+    ensures len { length names.new.items ≡ length names.old.items }
+{
+    for polygon in 0..polygons.len() {
+        name_polygon(names, feature, polygon, polygons[polygon].as_slice());
     }
 }
 

@@ -7,9 +7,9 @@ ghost use Rattle.map_opening.specs.Laying.{polygon_numbers};
 ghost use Rattle.map_frame.specs.Live.{live};
 ghost use Rattle.map_frame.specs.Named.{number_at};
 ghost use Rattle.map_frame.specs.Readers.{shown, ring_at};
-ghost use Rattle.map_frame.specs.Seen.{view_id};
+ghost use Rattle.map_frame.specs.Placed.{ArePlaced};
 
-use crate::feature::{Feature, Id};
+use crate::feature::Feature;
 use crate::frame::Frame;
 use crate::layers::Geometry;
 use crate::names::RingName;
@@ -37,32 +37,28 @@ impl<'m, 'a, A: Allocator + Copy> FeatureView<'m, 'a, A> {
     pub fn id(&self) -> Option<&'m [u8]>
         ensures { option_map (λ t. t.now) result ≡ self.now.id }
     {
-        match &self.feature.id {
-            Id::Absent => None,
-            Id::Read(text) => Some(*text),
-            Id::Given(text) => Some(text.as_slice()),
-        }
+        self.feature.texts.id()
     }
 
     /// The kind of its geometry.
     pub fn form(&self) -> Form
         ensures { form_of result ≡ self.now.form }
     {
-        self.feature.form
+        self.feature.texts.form()
     }
 
     /// The text of `properties`, any JSON value.
     pub fn properties(&self) -> Option<&'a [u8]>
         ensures { option_map (λ t. t.now) result ≡ self.now.properties }
     {
-        self.feature.properties
+        self.feature.texts.properties()
     }
 
     /// The members that are neither known nor a `bbox`, in order.
     pub fn members(&self) -> &'m [KeptMember<'a>]
         ensures { map view_kept result.now ≡ self.now.members }
     {
-        self.feature.members.as_slice()
+        self.feature.texts.members()
     }
 
     /// How many polygons it has.
@@ -141,6 +137,7 @@ impl<'a, A: Allocator + Copy> Frame<'a, A> {
         ensures next { result ≡ self.now.next }
         ensures few { result ≤ 200000 }
         ensures below { (m : ℕ) → self.now.next ≤ m → feature self.now.doc m ≡ None }
+        ensures placed { ArePlaced self.now.places self.now.next self.now.doc }
     {
         self.tables.features.as_slice().len() as u32
     }
@@ -156,10 +153,13 @@ impl<'a, A: Allocator + Copy> Frame<'a, A> {
     pub fn is_alone(&self, n: u32) -> bool
         ensures { result ≡ is_layer self.now.doc n }
     {
-        let Some(feature) = live_feature(self.tables.features.as_slice(), n) else {
+        let Some(_feature) = live_feature(self.tables.features.as_slice(), n) else {
             return false;
         };
-        match self.tables.layers.get(feature.layer) {
+        let Some(stand) = self.tables.stands.get(n as usize) else {
+            return false;
+        };
+        match self.tables.layers.get(stand.layer) {
             Some(layer) => matches!(layer.geometry, Geometry::Alone(_)),
             None => false,
         }

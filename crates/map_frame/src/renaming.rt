@@ -1,9 +1,12 @@
 // Giving a feature another id.
-ghost use Rattle.std.specs.Prelude.{◌≡◌, option_map};
-ghost use Rattle.ring_machine.specs.Machine.{renamed};
+ghost use Rattle.std.specs.Prelude.{◌≡◌, ℕ, None, Some};
+ghost use Rattle.edit_records.specs.Records.{with_id};
+ghost use Rattle.ring_machine.specs.Document.{FeatureOf};
+ghost use Rattle.ring_machine.specs.Parts.{feature};
 ghost use Rattle.map_frame.specs.declared.feature.Feature.{Feature};
-ghost use Rattle.map_frame.specs.declared.feature.Id.TheVariants.{Given};
 ghost use Rattle.map_frame.specs.Kept.{IsFramed};
+ghost use Rattle.map_frame.specs.Live.{live};
+ghost use Rattle.map_frame.specs.Renaming.{with_own_id, id_or};
 ghost use Rattle.map_frame.specs.Seen.{framed};
 
 use crate::feature::{Feature, Id};
@@ -11,37 +14,45 @@ use crate::frame::Frame;
 use crate::tables::Tables;
 use std::alloc::Allocator;
 
-/// Gives the feature this id, where one stands.
-fn give_id<'a, A: Allocator + Copy>(place: &mut Option<Feature<'a, A>>, id: Vec<u8, A>)
-    ensures { place.new ≡ option_map (λ (f : Feature _). record f { id = Given id }) place.old }
+/// Gives the feature this id, where one stands, and hands out the id that it had; else hands this id
+/// back.
+fn give_id<'a, A: Allocator + Copy>(place: &mut Option<Feature<'a, A>>, id: Id<'a, A>) -> Id<'a, A>
+    ensures given { place.new ≡ with_own_id id.entry place.old }
+    ensures old { result ≡ id_or id.entry place.old }
 {
-    if let Some(feature) = place {
-        feature.id = Id::Given(id);
+    match place {
+        Some(feature) => feature.texts.give_id(id),
+        None => id,
     }
 }
 
 impl<'a, A: Allocator + Copy> Tables<'a, A> {
-    /// Gives feature `n` this id.
-    fn rename(&mut self, n: u32, id: Vec<u8, A>)
+    /// Gives feature `n` this id, and hands out the id that it had.
+    fn rename(&mut self, n: u32, id: Id<'a, A>) -> Id<'a, A>
         requires { IsFramed self.old }
         ensures done { framed self.new ≡ record (framed self.old) {
-          doc = renamed (framed self.old).doc n id.items;
+          doc = with_id (framed self.old).doc n id.entry;
         } }
+        ensures old { result ≡ id_or id.entry (live self.old.features.items n) }
         ensures kept { IsFramed self.new }
     {
         let at = n as usize;
         if at < self.features.len() {
-            give_id(&mut self.features[at], id);
+            give_id(&mut self.features[at], id)
+        } else {
+            id
         }
     }
 }
 
 impl<'a, A: Allocator + Copy> Frame<'a, A> {
-    /// Gives feature `n` this id, a JSON string (RFC 8259, 7). A number that no feature has changes
-    /// nothing.
-    pub fn rename(&mut self, n: u32, id: Vec<u8, A>)
-        ensures { self.new ≡ record self.old { doc = renamed self.old.doc n id.items } }
+    /// Gives feature `n` this id, or none, and hands out the one that it had. A number that no feature
+    /// has changes nothing, and then this id is handed back.
+    pub fn rename(&mut self, n: u32, id: Id<'a, A>) -> Id<'a, A>
+        ensures renamed { self.new ≡ record self.old { doc = with_id self.old.doc n id.entry } }
+        ensures old { (f : FeatureOf ℕ) → feature self.old.doc n ≡ Some f → result ≡ f.id }
+        ensures none { feature self.old.doc n ≡ None → result ≡ id.entry }
     {
-        self.tables.rename(n, id);
+        self.tables.rename(n, id)
     }
 }

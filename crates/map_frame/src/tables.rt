@@ -1,5 +1,5 @@
 // The tables of a frame.
-use crate::feature::Feature;
+use crate::feature::{Feature, Stand};
 use crate::layers::{Layer, Slot};
 use crate::names::RingName;
 use std::alloc::{Allocator, Global};
@@ -17,6 +17,8 @@ pub(crate) struct Tables<'a, A: Allocator + Copy = Global> {
     pub(crate) members: Vec<KeptMember<'a>, A>,
     /// The features by their numbers, `None` where one was taken out.
     pub(crate) features: Vec<Option<Feature<'a, A>>, A>,
+    /// Where the feature with a number stands, also where it was taken out.
+    pub(crate) stands: Vec<Stand, A>,
     /// How many features there are.
     pub(crate) count: usize,
     /// By a ring's number where it stands; `None` where there is no such ring.

@@ -175,6 +175,7 @@ fn a_script_without_an_end(rt: HostRuntime) -> Result<(), Fail> {
         rt.alloc(),
         TWO_SQUARES.as_bytes(),
         &mut source,
+        100,
         &mut sink,
         &mut saved,
     );

@@ -229,7 +229,11 @@ fn other_lines(rt: HostRuntime) -> Result<(), Fail> {
         "documents",
         "Document",
         " document",
-        "undo",
+        "undo ",
+        "undo 1",
+        "undos",
+        "Undo",
+        " undo",
     ];
     are_bad(&rt, rt.alloc(), &lines[..])
 }

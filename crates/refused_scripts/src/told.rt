@@ -15,7 +15,7 @@ pub(crate) fn told(alloc: Global, map: &[u8], script: &[u8]) -> Result<String, F
     let mut source = FromReader::new(script);
     let mut sink = ToWriter::new(Vec::new(alloc));
     let mut saved = ToWriter::new(Vec::new(alloc));
-    let outcome = run(alloc, alloc, map, &mut source, &mut sink, &mut saved);
+    let outcome = run(alloc, alloc, map, &mut source, 100, &mut sink, &mut saved);
     let out = str::from_utf8(sink.writer.as_slice())?;
     let text = match outcome {
         Ok(summary) => format!(in alloc;

@@ -31,7 +31,7 @@ fn texts_of(alloc: Global, map: &[u8], script: &[u8]) -> Option<Texts> {
     let mut source = FromReader::new(script);
     let mut sink = ToWriter::new(Vec::new(alloc));
     let mut saved = ToWriter::new(Vec::new(alloc));
-    if run(alloc, alloc, map, &mut source, &mut sink, &mut saved).is_err() {
+    if run(alloc, alloc, map, &mut source, 100, &mut sink, &mut saved).is_err() {
         return None;
     }
     Some(Texts {

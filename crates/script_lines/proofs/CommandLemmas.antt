@@ -9,12 +9,12 @@ use Rattle.std.proofs.lemmas.Str.{IsUtf8-from_ascii, IsUtf8-append, IsAscii-appe
 use Rattle.std.proofs.lemmas.Str.Ascii.{IsAscii-cons}
 use Rattle.grid_geometry.specs.Position.{Position, InRange}
 use Rattle.ring_machine.specs.Document.{Text}
-use Rattle.ring_machine.specs.Command.{Command, Move, Insert, Remove, Thin, Split, Merge, Rename, Delete, Area, At, Neighbours, Rings, Count, Show}
+use Rattle.ring_machine.specs.Command.{Command, Move, Insert, Remove, Thin, Split, Merge, Rename, Delete, Undo, Area, At, Neighbours, Rings, Count, Show}
 use Rattle.topo_outline.specs.Kept.{IsName}
 use Rattle.map_text.specs.Strings.{string_text}
 use Rattle.script_lines.specs.Lines.{spaced, spaced_position, spaced_token, spaced_path, most_bound, Gives, AreNaming, AreCutting, Asks, Says}
 use Rattle.script_lines.specs.Words.{is_letter, EndsWord, IsFeature, IsPlace, IsToken, IsPathTail}
-use Rattle.script_lines.specs.Commands.{says_of, IsRefused, IsPositionTail, IsFeatureTail, IsMoveTail, IsInsertTail, IsRemoveTail, IsThinTail, IsSplitTail, IsMergeTail, IsRenameTail, IsDeleteTail, IsAreaTail, IsAtTail, IsNeighboursTail, IsRingsTail, IsCountTail, IsDocumentTail}
+use Rattle.script_lines.specs.Commands.{says_of, IsRefused, IsPositionTail, IsFeatureTail, IsMoveTail, IsInsertTail, IsRemoveTail, IsThinTail, IsSplitTail, IsMergeTail, IsRenameTail, IsDeleteTail, IsUndoTail, IsAreaTail, IsAtTail, IsNeighboursTail, IsRingsTail, IsCountTail, IsDocumentTail}
 use Rattle.script_lines.specs.declared.lines.Line.{Line}
 use Rattle.script_lines.specs.declared.lines.LineFault.{LineFault}
 use Rattle.script_lines.specs.declared.lines.LineFault.TheVariants as fault
@@ -60,6 +60,10 @@ count_long tail _ more h = h
 pub document_long : (tail : List ℕ) (c : Command) → (tail ≡ [] → ⊥) → IsDocumentTail tail c → ⊥
 document_long tail Show more h = more h
 document_long tail _ more h = h
+
+pub undo_long : (tail : List ℕ) (c : Command) → (tail ≡ [] → ⊥) → IsUndoTail tail c → ⊥
+undo_long tail Undo more h = more h
+undo_long tail _ more h = h
 
 pub delete_none : (tail : List ℕ) (c : Command) → ((n : ℕ) → ¬ IsFeatureTail tail n) → IsDeleteTail tail c → ⊥
 delete_none tail (Delete n) never h = never n h
@@ -294,12 +298,13 @@ Behind word tail c =
     (MatchBool (bytes_eq word (codes "merge")) (IsMergeTail tail c)
     (MatchBool (bytes_eq word (codes "rename")) (IsRenameTail tail c)
     (MatchBool (bytes_eq word (codes "delete")) (IsDeleteTail tail c)
+    (MatchBool (bytes_eq word (codes "undo")) (IsUndoTail tail c)
     (MatchBool (bytes_eq word (codes "area")) (IsAreaTail tail c)
     (MatchBool (bytes_eq word (codes "at")) (IsAtTail tail c)
     (MatchBool (bytes_eq word (codes "neighbours")) (IsNeighboursTail tail c)
     (MatchBool (bytes_eq word (codes "rings")) (IsRingsTail tail c)
     (MatchBool (bytes_eq word (codes "count")) (IsCountTail tail c)
-    (MatchBool (bytes_eq word (codes "document")) (IsDocumentTail tail c) ⊥)))))))))))))
+    (MatchBool (bytes_eq word (codes "document")) (IsDocumentTail tail c) ⊥))))))))))))))
 
 -- what is found is one of those that are wanted, and where nothing is found there is none
 abbrev pub Found : Option Line → (Command → Type 0) → Type 0
@@ -344,6 +349,10 @@ tail_delete : (line tail : List ℕ) (c : Command) → line ≡ codes "delete" +
 tail_delete line tail (Delete n) e h = (e ∙ ap (λ t. codes "delete" ++ t) h.0, h.1)
 tail_delete line tail _ e h = absurd h
 
+tail_undo : (line tail : List ℕ) (c : Command) → line ≡ codes "undo" ++ tail → IsUndoTail tail c → Asks line c
+tail_undo line tail Undo e h = e ∙ ap (λ t. codes "undo" ++ t) h
+tail_undo line tail _ e h = absurd h
+
 tail_area : (line tail : List ℕ) (c : Command) → line ≡ codes "area" ++ tail → IsAreaTail tail c → Asks line c
 tail_area line tail (Area n) e h = (e ∙ ap (λ t. codes "area" ++ t) h.0, h.1)
 tail_area line tail _ e h = absurd h
@@ -386,6 +395,7 @@ module _ (line word tail : List ℕ) (taken : word ≡ take_while is_letter line
       let (words, e, w) = h in
       by_front (codes "rename") words (Rename n id) (search rules) (subst EndsWord (sym w.whole) refl) e w
   asked_behind (Delete n) h = by_front (codes "delete") (spaced (pos n)) (Delete n) (search rules) refl h.0 (refl, h.1)
+  asked_behind Undo h = by_front (codes "undo") [] Undo (search rules) tt h refl
   asked_behind (Area n) h = by_front (codes "area") (spaced (pos n)) (Area n) (search rules) refl h.0 (refl, h.1)
   asked_behind (At p) h = by_front (codes "at") (spaced_position p) (At p) (search rules) refl h.0 (refl, h.1)
   asked_behind (Neighbours n) h = by_front (codes "neighbours") (spaced (pos n)) (Neighbours n) (search rules) refl h.0 (refl, h.1)
@@ -440,6 +450,9 @@ module _ (line word tail : List ℕ) (taken : word ≡ take_while is_letter line
 
   pub arm_delete : Arm (codes "delete") (IsDeleteTail tail)
   arm_delete = arm (codes "delete") (IsDeleteTail tail) (λ c h. h) (tail_delete line tail)
+
+  pub arm_undo : Arm (codes "undo") (IsUndoTail tail)
+  arm_undo = arm (codes "undo") (IsUndoTail tail) (λ c h. h) (tail_undo line tail)
 
   pub arm_area : Arm (codes "area") (IsAreaTail tail)
   arm_area = arm (codes "area") (IsAreaTail tail) (λ c h. h) (tail_area line tail)
@@ -502,6 +515,7 @@ asked_utf8 line (Rename n id) h =
     let (words, e, w) = h in
     subst IsUtf8 (sym e) (behind_word (codes "rename") words (search rules) (subst IsUtf8 (sym w.whole) (behind_number n (spaced_token w.token) w.number (token_utf8 w.token id w.gives))))
 asked_utf8 line (Delete n) h = IsUtf8-from_ascii line (subst IsAscii (sym h.0) (IsAscii-append (codes "delete") (spaced (pos n)) (search rules) (feature_ascii n h.1)))
+asked_utf8 line Undo h = IsUtf8-from_ascii line (subst IsAscii (sym h) (search rules))
 asked_utf8 line (Area n) h = IsUtf8-from_ascii line (subst IsAscii (sym h.0) (IsAscii-append (codes "area") (spaced (pos n)) (search rules) (feature_ascii n h.1)))
 asked_utf8 line (At p) h = IsUtf8-from_ascii line (subst IsAscii (sym h.0) (IsAscii-append (codes "at") (spaced_position p) (search rules) (place_ascii p h.1)))
 asked_utf8 line (Neighbours n) h = IsUtf8-from_ascii line (subst IsAscii (sym h.0) (IsAscii-append (codes "neighbours") (spaced (pos n)) (search rules) (feature_ascii n h.1)))

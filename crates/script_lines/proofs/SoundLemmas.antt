@@ -1,13 +1,14 @@
 -- What a line says is sound: the path of a split has as many positions as a path may have.
 use Rattle.std.proofs.Common.{List, ℕ, Some}
 use Rattle.script_lines.specs.Lines.{Asks, Says}
-use Rattle.script_lines.specs.Commands.{command_of, says_of, IsSound, SaysSound}
-use Rattle.script_lines.specs.declared.lines.Command.{Command as CommandLine}
-use Rattle.script_lines.specs.declared.lines.Command.TheVariants as line
+use Rattle.undo_ring.specs.Commands.{command_of, IsSound}
+use Rattle.script_lines.specs.Commands.{says_of, SaysSound}
+use Rattle.undo_ring.specs.declared.command.Command.{Command}
+use Rattle.undo_ring.specs.declared.command.Command.TheVariants as line
 use Rattle.script_lines.specs.declared.lines.Line.{Line}
 use Rattle.script_lines.specs.declared.lines.Line.TheVariants as said
 
-asked_sound : (text : List ℕ) (c : CommandLine) → Asks text (command_of c) → IsSound c
+asked_sound : (text : List ℕ) (c : Command) → Asks text (command_of c) → IsSound c
 asked_sound text (line.Split n name path) h =
     let (words, e, w) = h in
     (w.along.least, w.along.most)
@@ -28,3 +29,4 @@ said_sound text (said.Rings n) h = tt
 said_sound text said.Count h = tt
 said_sound text (said.Edit c) h = asked_sound text c h
 said_sound text said.Document h = tt
+said_sound text said.Undo h = tt

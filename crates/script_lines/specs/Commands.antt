@@ -1,52 +1,23 @@
 -- The lines of the code as the machine's commands.
-use Rattle.std.specs.Prelude.{◌≡◌, ℕ, pos, ◌<◌, ◌≤◌, ◌^◌, List, [], ◌++◌, length, Option, None, Some}
+use Rattle.std.specs.Prelude.{◌≡◌, ℕ, pos, ◌<◌, ◌≤◌, ◌^◌, List, [], ◌++◌, Option, None, Some}
 use Rattle.grid_geometry.specs.Position.{Position, InRange}
-use Rattle.ring_machine.specs.Command.{Command, Move, Insert, Remove, Thin, Split, Merge, Rename, Delete, Area, At, Neighbours, Rings, Count, Show}
-use Rattle.map_text.specs.Strings.{string_text}
+use Rattle.ring_machine.specs.Command.{Command, Move, Insert, Remove, Thin, Split, Merge, Rename, Delete, Undo, Area, At, Neighbours, Rings, Count, Show}
 use Rattle.script_lines.specs.Lines.{spaced, spaced_position, most_bound, AreNaming, AreCutting, Says}
-use Rattle.script_lines.specs.declared.lines.Command.{Command as CommandLine}
-use Rattle.script_lines.specs.declared.lines.Command.TheVariants as line
+use Rattle.undo_ring.specs.Commands.{command_of, IsSound}
 use Rattle.script_lines.specs.declared.lines.Line.{Line}
 use Rattle.script_lines.specs.declared.lines.Line.TheVariants as said
 use Rattle.script_lines.specs.declared.lines.LineFault.{LineFault}
 use Rattle.script_lines.specs.declared.lines.LineFault.TheVariants as fault
-
--- an id is the JSON string that is written for its text
-abbrev pub command_of : CommandLine → Command
-command_of (line.Move p q) = Move p q
-command_of (line.Insert a b q) = Insert a b q
-command_of (line.Remove p) = Remove p
-command_of (line.Thin t) = Thin t
-command_of (line.Split n name path) = Split n (string_text name) path
-command_of (line.Merge n m) = Merge n m
-command_of (line.Rename n name) = Rename n (string_text name)
-command_of (line.Delete n) = Delete n
-command_of (line.Area n) = Area n
-command_of (line.At p) = At p
-command_of (line.Neighbours n) = Neighbours n
 
 abbrev pub says_of : Line → Option Command
 says_of said.Skip = None
 says_of (said.Rings n) = Some (Rings n)
 says_of said.Count = Some Count
 says_of said.Document = Some Show
+says_of said.Undo = Some Undo
 says_of (said.Edit c) = Some (command_of c)
 
--- the path of a split has 2 to 256 positions
-abbrev pub IsSound : CommandLine → Type 0
-IsSound (line.Split n name path) = (2 ≤ length path) × (length path ≤ 256)
-IsSound (line.Move p q) = Unit {0}
-IsSound (line.Insert a b q) = Unit {0}
-IsSound (line.Remove p) = Unit {0}
-IsSound (line.Thin t) = Unit {0}
-IsSound (line.Merge n m) = Unit {0}
-IsSound (line.Rename n name) = Unit {0}
-IsSound (line.Delete n) = Unit {0}
-IsSound (line.Area n) = Unit {0}
-IsSound (line.At p) = Unit {0}
-IsSound (line.Neighbours n) = Unit {0}
-
--- the same of what a line says, if it says anything that is taken
+-- what a line says, if it says anything that is taken, is sound
 abbrev pub SaysSound : Option Line → Type 0
 SaysSound None = Unit {0}
 SaysSound (Some said.Skip) = Unit {0}
@@ -54,6 +25,7 @@ SaysSound (Some (said.Rings n)) = Unit {0}
 SaysSound (Some said.Count) = Unit {0}
 SaysSound (Some (said.Edit c)) = IsSound c
 SaysSound (Some said.Document) = Unit {0}
+SaysSound (Some said.Undo) = Unit {0}
 
 -- a line that says nothing is bad; nothing is said of one for which there was no memory
 abbrev pub IsRefused : LineFault → List ℕ → Type 0
@@ -104,6 +76,10 @@ IsRenameTail tail _ = ⊥
 abbrev pub IsDeleteTail : List ℕ → Command → Type 0
 IsDeleteTail tail (Delete n) = IsFeatureTail tail n
 IsDeleteTail tail _ = ⊥
+
+abbrev pub IsUndoTail : List ℕ → Command → Type 0
+IsUndoTail tail Undo = tail ≡ []
+IsUndoTail tail _ = ⊥
 
 abbrev pub IsAreaTail : List ℕ → Command → Type 0
 IsAreaTail tail (Area n) = IsFeatureTail tail n

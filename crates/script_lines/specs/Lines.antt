@@ -4,7 +4,7 @@ use Rattle.std.specs.Fmt.{signed_decimal}
 use Rattle.std.specs.List.{AllByRecursion, flat_map}
 use Rattle.grid_geometry.specs.Position.{Position, InRange}
 use Rattle.ring_machine.specs.Document.{Text}
-use Rattle.ring_machine.specs.Command.{Command, Move, Insert, Remove, Thin, Split, Merge, Rename, Delete, Area, At, Neighbours, Rings, Count, Show}
+use Rattle.ring_machine.specs.Command.{Command, Move, Insert, Remove, Thin, Split, Merge, Rename, Delete, Undo, Area, At, Neighbours, Rings, Count, Show}
 use Rattle.topo_outline.specs.Kept.{IsName}
 use Rattle.map_text.specs.Strings.{string_text}
 
@@ -71,6 +71,7 @@ Asks line (Merge n m) =
 Asks line (Rename n id) =
     (words : List ℕ) × (line ≡ codes "rename" ++ words) × AreNaming words n id
 Asks line (Delete n) = (line ≡ codes "delete" ++ spaced (pos n)) × (n < 2 ^ 32)
+Asks line Undo = line ≡ codes "undo"
 Asks line (Area n) = (line ≡ codes "area" ++ spaced (pos n)) × (n < 2 ^ 32)
 Asks line (At p) = (line ≡ codes "at" ++ spaced_position p) × InRange p
 Asks line (Neighbours n) = (line ≡ codes "neighbours" ++ spaced (pos n)) × (n < 2 ^ 32)

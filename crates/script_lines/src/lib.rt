@@ -7,5 +7,5 @@ mod parsing;
 mod paths;
 mod words;
 
-pub use lines::{Command, Line, LineFault};
+pub use lines::{Line, LineFault};
 pub use parsing::parse_line;

@@ -5,11 +5,11 @@ ghost use Rattle.script_lines.specs.Lines.{Says, Asks, is_comment};
 ghost use Rattle.script_lines.specs.Commands.{says_of, IsRefused, IsPositionTail, IsFeatureTail};
 ghost use Rattle.script_lines.specs.Commands.{IsMoveTail, IsInsertTail, IsRemoveTail, IsThinTail};
 ghost use Rattle.script_lines.specs.Commands.{IsSplitTail, IsMergeTail, IsRenameTail, IsDeleteTail};
-ghost use Rattle.script_lines.specs.Commands.{IsAreaTail, IsAtTail, IsNeighboursTail};
+ghost use Rattle.script_lines.specs.Commands.{IsUndoTail, IsAreaTail, IsAtTail, IsNeighboursTail};
 ghost use Rattle.script_lines.specs.Commands.{IsRingsTail, IsCountTail, IsDocumentTail};
 
 use crate::ids::id_of;
-use crate::lines::{Command, Line, LineFault};
+use crate::lines::{Line, LineFault};
 use crate::paths::{is_path, read_path};
 use crate::words::{
     behind, spaced_feature, spaced_position, spaced_token, split_word, wide_number,
@@ -17,6 +17,7 @@ use crate::words::{
 use grid_geometry::Pos;
 use std::alloc::{AllocError, Global};
 use std::str;
+use undo_ring::Command;
 
 /// The most that the bound of a thinning may be: twice the area of the whole grid, which no
 /// triangle is over.
@@ -196,6 +197,19 @@ fn split_behind(heap: Global, tail: &[u8]) -> Result<Option<Line>, AllocError>
     }
 }
 
+/// The taking back, where nothing stands behind the word `undo`.
+fn undo_behind(tail: &[u8]) -> Option<Line>
+    ensures { MatchOption result
+        ((c : Asked) → ¬ IsUndoTail tail.now c)
+        (λ line. IsSomeAnd (says_of line) (IsUndoTail tail.now)) }
+{
+    if tail.is_empty() {
+        Some(Line::Undo)
+    } else {
+        None
+    }
+}
+
 /// The question for an area that stands behind the word `area`.
 fn area_behind(tail: &[u8]) -> Option<Line>
     ensures { MatchOption result
@@ -293,6 +307,8 @@ fn by_word(heap: Global, line: &[u8]) -> Result<Option<Line>, AllocError>
         rename_behind(heap, tail)
     } else if word == b"delete".as_slice() {
         Ok(delete_behind(tail))
+    } else if word == b"undo".as_slice() {
+        Ok(undo_behind(tail))
     } else if word == b"area".as_slice() {
         Ok(area_behind(tail))
     } else if word == b"at".as_slice() {

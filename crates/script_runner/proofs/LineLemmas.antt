@@ -45,21 +45,22 @@ AllMean-more [] (n ∷ ms) l m h k = absurd h
 AllMean-more (x ∷ ls) [] l m h k = absurd h
 AllMean-more (x ∷ ls) (n ∷ ms) l m h k = (h.0, AllMean-more ls ms l m h.1 k)
 
-replies-more : (st : State) (ms : List Meaning) (m : Meaning) → replies st (ms ++ m ∷ []) ≡ replies st ms ++ reply_text (state_after_all st ms) m
-replies-more st [] m = append-nil (reply_text st m)
-replies-more st (n ∷ ms) m = ap (λ t. reply_text st n ++ t) (replies-more (state_after st n) ms m) ∙ sym (append_assoc (reply_text st n) (replies (state_after st n) ms) (reply_text (state_after_all (state_after st n) ms) m))
+module _ (depth : ℕ) where
+  replies-more : (st : State) (ms : List Meaning) (m : Meaning) → replies depth st (ms ++ m ∷ []) ≡ replies depth st ms ++ reply_text depth (state_after_all depth st ms) m
+  replies-more st [] m = append-nil (reply_text depth st m)
+  replies-more st (n ∷ ms) m = ap (λ t. reply_text depth st n ++ t) (replies-more (state_after depth st n) ms m) ∙ sym (append_assoc (reply_text depth st n) (replies depth (state_after depth st n) ms) (reply_text depth (state_after_all depth (state_after depth st n) ms) m))
 
-state-more : (st : State) (ms : List Meaning) (m : Meaning) → state_after_all st (ms ++ m ∷ []) ≡ state_after (state_after_all st ms) m
-state-more st [] m = refl
-state-more st (n ∷ ms) m = state-more (state_after st n) ms m
+  state-more : (st : State) (ms : List Meaning) (m : Meaning) → state_after_all depth st (ms ++ m ∷ []) ≡ state_after depth (state_after_all depth st ms) m
+  state-more st [] m = refl
+  state-more st (n ∷ ms) m = state-more (state_after depth st n) ms m
+
+  refused-more : (st : State) (ms : List Meaning) (m : Meaning) → refused depth st (ms ++ m ∷ []) ≡ refused depth st ms + refused_by depth (state_after_all depth st ms) m
+  refused-more st [] m = omega arith
+  refused-more st (n ∷ ms) m = let h = refused-more (state_after depth st n) ms m in omega arith
 
 answered-more : (ms : List Meaning) (m : Meaning) → answered (ms ++ m ∷ []) ≡ answered ms + answered_by m
 answered-more [] m = omega arith
 answered-more (n ∷ ms) m = let h = answered-more ms m in omega arith
-
-refused-more : (st : State) (ms : List Meaning) (m : Meaning) → refused st (ms ++ m ∷ []) ≡ refused st ms + refused_by (state_after_all st ms) m
-refused-more st [] m = omega arith
-refused-more st (n ∷ ms) m = let h = refused-more (state_after st n) ms m in omega arith
 
 -- ---- lines
 
@@ -82,16 +83,17 @@ pub record Kept (p : Progress) (pending : List ℕ) : Type 0 where
   pub same : length pending ≤ 8192 → p.line ≡ pending
 
 -- where the runner stands: the lines so far with their meanings and replies, and the bytes of the next
-pub record Mid (d : Document) (seen out : List ℕ) (p : Progress) : Type 0 where
+pub record Mid (depth : ℕ) (d : Document) (seen out : List ℕ) (p : Progress) : Type 0 where
   pub ended : List (List ℕ)
   pub pending : List ℕ
   pub meanings : List Meaning
   pub cut : AreLines seen ended pending
   pub mean : AllMean (map ended_line ended) meanings
-  pub told : out ≡ replies (opened_state d) meanings
-  pub state : p.state ≡ state_after_all (opened_state d) meanings
+  pub told : out ≡ replies depth (opened_state d) meanings
+  pub state : p.state ≡ state_after_all depth (opened_state d) meanings
+  pub keeps : p.depth ≡ depth
   pub answered : p.answered ≡ answered meanings
-  pub refused : p.refused ≡ refused (opened_state d) meanings
+  pub refused : p.refused ≡ refused depth (opened_state d) meanings
   pub kept : Kept p pending
 
 long_is_bad : (ended : Bool) (pending : List ℕ) → 8192 < length pending → Means (line_at ended pending) Bad
@@ -140,22 +142,22 @@ Kept-more p pending b k = by (nat_lt (length p.line) 8192) refl
         or_true true = refl
         or_true false = refl
 
-module _ (d : Document) (seen out : List ℕ) (p q : Progress) (m : Mid d seen out p) where
+module _ (depth : ℕ) (d : Document) (seen out : List ℕ) (p q : Progress) (m : Mid depth d seen out p) where
   -- the replies with one more
-  pub replied : (said : Meaning) (text : List ℕ) → text ≡ reply_text p.state said → out ++ text ≡ replies (opened_state d) (m.meanings ++ said ∷ [])
-  replied said text t = ap₂ (λ x y. x ++ y) m.told (t ∙ ap (λ s. reply_text s said) m.state) ∙ sym (replies-more (opened_state d) m.meanings said)
+  pub replied : (said : Meaning) (text : List ℕ) → text ≡ reply_text p.depth p.state said → out ++ text ≡ replies depth (opened_state d) (m.meanings ++ said ∷ [])
+  replied said text t = ap₂ (λ x y. x ++ y) m.told (t ∙ ap₂ (λ n s. reply_text n s said) m.keeps m.state) ∙ sym (replies-more depth (opened_state d) m.meanings said)
 
-  pub stated : (said : Meaning) → q.state ≡ state_after p.state said → q.state ≡ state_after_all (opened_state d) (m.meanings ++ said ∷ [])
-  stated said h = h ∙ ap (λ s. state_after s said) m.state ∙ sym (state-more (opened_state d) m.meanings said)
+  pub stated : (said : Meaning) → q.state ≡ state_after p.depth p.state said → q.state ≡ state_after_all depth (opened_state d) (m.meanings ++ said ∷ [])
+  stated said h = h ∙ ap₂ (λ n s. state_after n s said) m.keeps m.state ∙ sym (state-more depth (opened_state d) m.meanings said)
 
   pub counted : (said : Meaning) → q.answered ≡ p.answered + answered_by said → q.answered ≡ answered (m.meanings ++ said ∷ [])
   counted said h = h ∙ ap (λ n. n + answered_by said) m.answered ∙ sym (answered-more m.meanings said)
 
-  pub refusing : (said : Meaning) → q.refused ≡ p.refused + refused_by p.state said → q.refused ≡ refused (opened_state d) (m.meanings ++ said ∷ [])
-  refusing said h = h ∙ ap₂ (λ n s. n + refused_by s said) m.refused m.state ∙ sym (refused-more (opened_state d) m.meanings said)
+  pub refusing : (said : Meaning) → q.refused ≡ p.refused + refused_by p.depth p.state said → q.refused ≡ refused depth (opened_state d) (m.meanings ++ said ∷ [])
+  refusing said h = h ∙ ap₂ (λ n k. n + k) m.refused (ap₂ (λ n s. refused_by n s said) m.keeps m.state) ∙ sym (refused-more depth (opened_state d) m.meanings said)
 
-pub Mid-line : (d : Document) (seen out : List ℕ) (p q : Progress) (text : List ℕ) → Mid d seen out p → LineStep true p text q → Mid d (seen ++ 10 ∷ []) (out ++ text) q
-Mid-line d seen out p q text m s =
+pub Mid-line : (depth : ℕ) (d : Document) (seen out : List ℕ) (p q : Progress) (text : List ℕ) → Mid depth d seen out p → LineStep true p text q → Mid depth d (seen ++ 10 ∷ []) (out ++ text) q
+Mid-line depth d seen out p q text m s =
     let (said, k, a) = s in
     record {
       ended = m.ended ++ m.pending ∷ [];
@@ -167,20 +169,21 @@ Mid-line d seen out p q text m s =
         open_end = tt;
       };
       mean = rw map-append (AllMean-more (map ended_line m.ended) m.meanings (ended_line m.pending) said m.mean (kept_means true p.over p.line m.pending said m.kept.over m.kept.same k));
-      told = replied d seen out p q m said text a.told;
-      state = stated d seen out p q m said a.after;
-      answered = counted d seen out p q m said a.answered;
-      refused = refusing d seen out p q m said a.refused;
+      told = replied depth d seen out p q m said text a.told;
+      state = stated depth d seen out p q m said a.after;
+      keeps = a.depth ∙ m.keeps;
+      answered = counted depth d seen out p q m said a.answered;
+      refused = refusing depth d seen out p q m said a.refused;
       kept = record { len = rw a.line refl; over = a.over; same = λ _. a.line };
     }
 
-pub Mid-byte : (d : Document) (seen out : List ℕ) (p q : Progress) (b : ℕ) (text : List ℕ) → Mid d seen out p → ByteStep p b text q → Mid d (seen ++ b ∷ []) (out ++ text) q
-Mid-byte d seen out p q b text m h = by (b == 10) refl h
+pub Mid-byte : (depth : ℕ) (d : Document) (seen out : List ℕ) (p q : Progress) (b : ℕ) (text : List ℕ) → Mid depth d seen out p → ByteStep p b text q → Mid depth d (seen ++ b ∷ []) (out ++ text) q
+Mid-byte depth d seen out p q b text m h = by (b == 10) refl h
   where
-    by : (t : Bool) → (b == 10) ≡ t → MatchBool t (LineStep true p text q × (q.bytes ≡ p.bytes + 1)) ((text ≡ []) × (q ≡ more p b)) → Mid d (seen ++ b ∷ []) (out ++ text) q
+    by : (t : Bool) → (b == 10) ≡ t → MatchBool t (LineStep true p text q × (q.bytes ≡ p.bytes + 1)) ((text ≡ []) × (q ≡ more p b)) → Mid depth d (seen ++ b ∷ []) (out ++ text) q
     by true e s =
         let is : b ≡ 10 = grind (arith, nat_tests) in
-        rw is (Mid-line d seen out p q text m s.0)
+        rw is (Mid-line depth d seen out p q text m s.0)
     by false e s =
         let ne : b ≢ 10 = grind (arith, nat_tests) in
         rw (s.0, s.1, append-nil) (record {
@@ -191,20 +194,21 @@ Mid-byte d seen out p q b text m h = by (b == 10) refl h
           mean = m.mean;
           told = m.told;
           state = m.state;
+          keeps = m.keeps;
           answered = m.answered;
           refused = m.refused;
           kept = Kept-more p m.pending b m.kept;
         })
 
-pub Mid-feeds : (bs : List ℕ) (d : Document) (seen out : List ℕ) (p q : Progress) (text : List ℕ) → Mid d seen out p → Feeds p bs text q → Mid d (seen ++ bs) (out ++ text) q
-Mid-feeds [] d seen out p q text m h = rw (h.0, h.1, append-nil, append-nil) m
-Mid-feeds (b ∷ bs) d seen out p q text m h =
+pub Mid-feeds : (bs : List ℕ) (depth : ℕ) (d : Document) (seen out : List ℕ) (p q : Progress) (text : List ℕ) → Mid depth d seen out p → Feeds p bs text q → Mid depth d (seen ++ bs) (out ++ text) q
+Mid-feeds [] depth d seen out p q text m h = rw (h.0, h.1, append-nil, append-nil) m
+Mid-feeds (b ∷ bs) depth d seen out p q text m h =
     let (mid, first, rest, step, tail, whole) = h in
-    let next = Mid-feeds bs d (seen ++ b ∷ []) (out ++ first) mid q rest (Mid-byte d seen out p mid b first m step) tail in
-    subst (λ t. Mid d (seen ++ b ∷ bs) t q) (append_assoc out first rest ∙ ap (λ t. out ++ t) (sym whole)) (subst (λ s. Mid d s ((out ++ first) ++ rest) q) (append_assoc seen (b ∷ []) bs) next)
+    let next = Mid-feeds bs depth d (seen ++ b ∷ []) (out ++ first) mid q rest (Mid-byte depth d seen out p mid b first m step) tail in
+    subst (λ t. Mid depth d (seen ++ b ∷ bs) t q) (append_assoc out first rest ∙ ap (λ t. out ++ t) (sym whole)) (subst (λ s. Mid depth d s ((out ++ first) ++ rest) q) (append_assoc seen (b ∷ []) bs) next)
 
-pub Mid-start : (d : Document) → Mid d [] [] (start d)
-Mid-start d = record {
+pub Mid-start : (depth : ℕ) (d : Document) → Mid depth d [] [] (start depth d)
+Mid-start depth d = record {
   ended = [];
   pending = [];
   meanings = [];
@@ -212,6 +216,7 @@ Mid-start d = record {
   mean = tt;
   told = refl;
   state = refl;
+  keeps = refl;
   answered = refl;
   refused = refl;
   kept = record { len = refl; over = refl; same = λ _. refl };

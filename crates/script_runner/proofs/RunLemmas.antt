@@ -1,5 +1,5 @@
 -- What was fed to a runner is lines with their answers, and the bytes after them.
-use Rattle.std.proofs.Common.{◌≡◌, ℕ, ◌+◌, ◌<◌, ◌≤◌, min, Bool, true, false, length, take, drop, List, [], ◌∷◌, ◌++◌, refl, sym, ap, subst, ◌∙◌, arith, append_assoc, append-nil, length-append, length-drop, MatchBool, ◌==◌, map, inl, inr, ◌⊎◌, Option}
+use Rattle.std.proofs.Common.{◌≡◌, ℕ, ◌+◌, ◌<◌, ◌≤◌, min, Bool, true, false, length, take, drop, List, [], ◌∷◌, ◌++◌, refl, sym, ap, ap₂, subst, ◌∙◌, arith, append_assoc, append-nil, length-append, length-drop, MatchBool, ◌==◌, map, inl, inr, ◌⊎◌, Option}
 use Rattle.std.proofs.lemmas.Bool.Decides.{nat_tests}
 use Rattle.std.proofs.lemmas.List.{take-append-drop, length-take-le, take-take}
 use Rattle.std.specs.Io.KnownBytes.{Appends, Consumes, Keeps}
@@ -8,19 +8,24 @@ use Rattle.ring_machine.specs.Document.{Document}
 use Rattle.script_runner.specs.Runs.{ended_line, open_line, lines_of, reply_text}
 use Rattle.script_runner.specs.Progress.{Progress, start, LineStep, Feeds, FeedsPart, IsPartReply, Told}
 use Rattle.script_runner.specs.Finish.{Finishes, PutsLast}
-use Rattle.script_runner.specs.Outcome.{Runs, AnswersAll, AnswersLines, AnswersPart, IsFront}
+use Rattle.script_runner.specs.Outcome.{OpensAs, Runs, AnswersAll, AnswersLines, AnswersPart, IsFront, Completes, SavesPart}
+use Rattle.device_io.specs.Devices.{AppendsPrefix}
+use Rattle.map_text.specs.Text.{text_of}
+use Rattle.map_text.specs.Saved.{Saved}
+use Rattle.arc_store.specs.State.{State as MapState}
+use Rattle.undo_ring.specs.Edited.{Edited, begun}
 use Rattle.script_runner.specs.declared.runner.Summary.{Summary}
 use Rattle.script_lines.proofs.CommandLemmas.{not_empty}
 use Rattle.script_runner.proofs.StepLemmas.{Feeds-append}
 use Rattle.script_runner.proofs.LineLemmas.{Mid, Mid-feeds, Mid-start, kept_means, AllMean-more, replied, stated, counted, refusing}
 
-stands : (d : Document) (read text : List ℕ) (p : Progress) → Feeds (start d) read text p → Mid d read text p
-stands d read text p fed = Mid-feeds read d [] [] (start d) p text (Mid-start d) fed
+stands : (depth : ℕ) (d : Document) (read text : List ℕ) (p : Progress) → Feeds (start depth d) read text p → Mid depth d read text p
+stands depth d read text p fed = Mid-feeds read depth d [] [] (start depth d) p text (Mid-start depth d) fed
 
-pub lines_answered : (d : Document) (read text further : List ℕ) (p : Progress) (coming left taken given : Option (List ℕ)) → Feeds (start d) read text p
-    → Consumes coming left (read ++ further) → (further ≡ []) ⊎ ((length read ≡ 1073741824) × (0 < length further)) → Appends taken given text → AnswersLines d coming left taken given
-lines_answered d read text further p coming left taken given fed came limit put =
-    let m = stands d read text p fed in
+pub lines_answered : (depth : ℕ) (d : Document) (read text further : List ℕ) (p : Progress) (coming left taken given : Option (List ℕ)) → Feeds (start depth d) read text p
+    → Consumes coming left (read ++ further) → (further ≡ []) ⊎ ((length read ≡ 1073741824) × (0 < length further)) → Appends taken given text → AnswersLines depth d coming left taken given
+lines_answered depth d read text further p coming left taken given fed came limit put =
+    let m = stands depth d read text p fed in
     record {
       came = read;
       further = further;
@@ -35,16 +40,16 @@ lines_answered d read text further p coming left taken given fed came limit put 
     }
 
 -- a part of the reply to the kept line is the front of the reply to the line
-front : (ended : Bool) (d : Document) (read text : List ℕ) (p : Progress) (m : Mid d read text p) (part : List ℕ) → IsPartReply ended p part → IsFront d m.meanings m.pending part
-front ended d read text p m part (inl e) = inl e
-front ended d read text p m part (inr h) =
+front : (ended : Bool) (depth : ℕ) (d : Document) (read text : List ℕ) (p : Progress) (m : Mid depth d read text p) (part : List ℕ) → IsPartReply ended p part → IsFront depth d m.meanings m.pending part
+front ended depth d read text p m part (inl e) = inl e
+front ended depth d read text p m part (inr h) =
     let (said, k, means, is) = h in
-    inr (ended, said, k, kept_means ended p.over p.line m.pending said m.kept.over m.kept.same means, is ∙ ap (λ s. take k (reply_text s said)) m.state)
+    inr (ended, said, k, kept_means ended p.over p.line m.pending said m.kept.over m.kept.same means, is ∙ ap₂ (λ x s. take k (reply_text x s said)) m.keeps m.state)
 
-part_from : (ended : Bool) (d : Document) (read text further part : List ℕ) (p : Progress) (coming left taken given : Option (List ℕ)) → Feeds (start d) read text p
-    → Consumes coming left (read ++ further) → IsPartReply ended p part → Appends taken given (text ++ part) → AnswersPart d coming left taken given
-part_from ended d read text further part p coming left taken given fed came is put =
-    let m = stands d read text p fed in
+part_from : (ended : Bool) (depth : ℕ) (d : Document) (read text further part : List ℕ) (p : Progress) (coming left taken given : Option (List ℕ)) → Feeds (start depth d) read text p
+    → Consumes coming left (read ++ further) → IsPartReply ended p part → Appends taken given (text ++ part) → AnswersPart depth d coming left taken given
+part_from ended depth d read text further part p coming left taken given fed came is put =
+    let m = stands depth d read text p fed in
     record {
       came = read;
       further = further;
@@ -55,27 +60,27 @@ part_from ended d read text further part p coming left taken given fed came is p
       read = came;
       cut = m.cut;
       mean = m.mean;
-      front = front ended d read text p m part is;
+      front = front ended depth d read text p m part is;
       wrote = subst (λ t. Appends taken given (t ++ part)) m.told put;
     }
 
 -- in the middle of a piece
-pub part_in_piece : (d : Document) (read text piece further : List ℕ) (p : Progress) (coming left taken mid given : Option (List ℕ)) → Feeds (start d) read text p
-    → Consumes coming left (read ++ (piece ++ further)) → Appends taken mid text → FeedsPart mid given p piece → AnswersPart d coming left taken given
-part_in_piece d read text piece further p coming left taken mid given fed came put h =
+pub part_in_piece : (depth : ℕ) (d : Document) (read text piece further : List ℕ) (p : Progress) (coming left taken mid given : Option (List ℕ)) → Feeds (start depth d) read text p
+    → Consumes coming left (read ++ (piece ++ further)) → Appends taken mid text → FeedsPart mid given p piece → AnswersPart depth d coming left taken given
+part_in_piece depth d read text piece further p coming left taken mid given fed came put h =
     let (n, q, before, part, within, fed_more, is, put_more) = h in
-    part_from true d (read ++ take n piece) (text ++ before) (drop n piece ++ further) part q coming left taken given (Feeds-append read (take n piece) (start d) p q text before fed fed_more)
+    part_from true depth d (read ++ take n piece) (text ++ before) (drop n piece ++ further) part q coming left taken given (Feeds-append read (take n piece) (start depth d) p q text before fed fed_more)
     (subst (Consumes coming left) (whole n) came) is (subst (Appends taken given) (sym (append_assoc text before part)) (Appends-more taken mid given text (before ++ part) put put_more))
   where
     whole : (n : ℕ) → read ++ (piece ++ further) ≡ (read ++ take n piece) ++ (drop n piece ++ further)
     whole n = ap (λ t. read ++ (t ++ further)) (sym (take-append-drop n piece)) ∙ ap (λ t. read ++ t) (append_assoc (take n piece) (drop n piece) further) ∙ sym (append_assoc read (take n piece) (drop n piece ++ further))
 
 -- at the last line
-pub part_at_end : (d : Document) (read text : List ℕ) (p : Progress) (coming left taken mid given : Option (List ℕ)) → Feeds (start d) read text p
-    → Consumes coming left read → Appends taken mid text → PutsLast p mid given → AnswersPart d coming left taken given
-part_at_end d read text p coming left taken mid given fed came put h =
+pub part_at_end : (depth : ℕ) (d : Document) (read text : List ℕ) (p : Progress) (coming left taken mid given : Option (List ℕ)) → Feeds (start depth d) read text p
+    → Consumes coming left read → Appends taken mid text → PutsLast p mid given → AnswersPart depth d coming left taken given
+part_at_end depth d read text p coming left taken mid given fed came put h =
     let (part, put_more, is) = h in
-    part_from false d read text [] part p coming left taken given fed (subst (Consumes coming left) (sym (append-nil read)) came) is (Appends-more taken mid given text part put put_more)
+    part_from false depth d read text [] part p coming left taken given fed (subst (Consumes coming left) (sym (append-nil read)) came) is (Appends-more taken mid given text part put put_more)
 
 no_pending : (n : ℕ) → min 8192 n ≡ 0 → n ≡ 0
 no_pending n e = omega arith
@@ -89,16 +94,16 @@ with_last ended [] h = absurd (h refl)
 with_last ended (b ∷ bs) h = refl
 
 -- the whole script
-pub script_run : (d e : Document) (read text last : List ℕ) (p : Progress) (s : Summary) → Feeds (start d) read text p → Finishes p last s e → Runs d e read (text ++ last) s
-script_run d e read text last p s fed done = by (length p.line == 0) refl done.1
+pub script_run : (depth : ℕ) (d e : Document) (read text last : List ℕ) (p : Progress) (s : Summary) → Feeds (start depth d) read text p → Finishes p last s e → Runs depth d e read (text ++ last) s
+script_run depth d e read text last p s fed done = by (length p.line == 0) refl done.1
   where
-    m : Mid d read text p
-    m = stands d read text p fed
+    m : Mid depth d read text p
+    m = stands depth d read text p fed
 
     q : Progress
     q = done.0
 
-    by : (t : Bool) → (length p.line == 0) ≡ t → MatchBool t ((last ≡ []) × (q ≡ p)) (LineStep false p last q) → Runs d e read (text ++ last) s
+    by : (t : Bool) → (length p.line == 0) ≡ t → MatchBool t ((last ≡ []) × (q ≡ p)) (LineStep false p last q) → Runs depth d e read (text ++ last) s
     by true b h =
         let empty : length p.line ≡ 0 = grind (arith, nat_tests) in
         let none : m.pending ≡ [] = length_zero m.pending (no_pending (length m.pending) (sym m.kept.len ∙ empty)) in
@@ -122,22 +127,22 @@ script_run d e read text last p s fed done = by (length p.line == 0) refl done.1
           meanings = m.meanings ++ said ∷ [];
           cut = m.cut;
           mean = rw (with_last m.ended m.pending some) (AllMean-more (map ended_line m.ended) m.meanings (open_line m.pending) said m.mean (kept_means false p.over p.line m.pending said m.kept.over m.kept.same means));
-          told = replied d read text p q m said last is.told;
-          after = done.3 ∙ ap (λ st. st.doc) (stated d read text p q m said is.after);
-          answered = done.2.answered ∙ counted d read text p q m said is.answered;
-          refused = done.2.refused ∙ refusing d read text p q m said is.refused;
+          told = replied depth d read text p q m said last is.told;
+          after = done.3 ∙ ap (λ st. st.doc) (stated depth d read text p q m said is.after);
+          answered = done.2.answered ∙ counted depth d read text p q m said is.answered;
+          refused = done.2.refused ∙ refusing depth d read text p q m said is.refused;
         }
 
-pub all_answered : (d e : Document) (read text : List ℕ) (p : Progress) (s : Summary) (coming left taken mid given : Option (List ℕ)) → Feeds (start d) read text p
-    → Consumes coming left read → Appends taken mid text → Told mid given (λ last. Finishes p last s e) → AnswersAll d e coming left taken given s
-all_answered d e read text p s coming left taken mid given fed came put h =
+pub all_answered : (depth : ℕ) (d e : Document) (read text : List ℕ) (p : Progress) (s : Summary) (coming left taken mid given : Option (List ℕ)) → Feeds (start depth d) read text p
+    → Consumes coming left read → Appends taken mid text → Told mid given (λ last. Finishes p last s e) → AnswersAll depth d e coming left taken given s
+all_answered depth d e read text p s coming left taken mid given fed came put h =
     let (last, put_last, done) = h in
     record {
       script = read;
       text = text ++ last;
       read = came;
       wrote = Appends-more taken mid given text last put put_last;
-      runs = script_run d e read text last p s fed done;
+      runs = script_run depth d e read text last p s fed done;
     }
 
 -- ---- bytes of a reader
@@ -160,17 +165,17 @@ piece_came a b c read room n t within h k = Consumes-more a b c read (take t roo
 pub whole_came : (a b c : Option (List ℕ)) (read room : List ℕ) (n t : ℕ) → t ≡ n → Consumes a b read → Consumes b c (take n room) → Consumes a c (read ++ take t room)
 whole_came a b c read room n t e h k = Consumes-more a b c read (take t room) h (subst (λ m. Consumes b c (take m room)) (sym e) k)
 
-pub lines_kept : (d : Document) (read text : List ℕ) (p : Progress) (coming mid left taken given : Option (List ℕ)) → Feeds (start d) read text p
-    → Consumes coming mid read → Keeps mid left → Appends taken given text → AnswersLines d coming left taken given
-lines_kept d read text p coming mid left taken given fed came k put =
-    lines_answered d read text [] p coming left taken given fed (subst (Consumes coming left) (sym (append-nil read)) (kept_read coming mid left read came k)) (inl refl) put
+pub lines_kept : (depth : ℕ) (d : Document) (read text : List ℕ) (p : Progress) (coming mid left taken given : Option (List ℕ)) → Feeds (start depth d) read text p
+    → Consumes coming mid read → Keeps mid left → Appends taken given text → AnswersLines depth d coming left taken given
+lines_kept depth d read text p coming mid left taken given fed came k put =
+    lines_answered depth d read text [] p coming left taken given fed (subst (Consumes coming left) (sym (append-nil read)) (kept_read coming mid left read came k)) (inl refl) put
 
 -- the script goes past its limit in this piece
-pub lines_in_piece : (d : Document) (read text piece further new : List ℕ) (p q : Progress) (coming left taken mid given : Option (List ℕ)) → Feeds (start d) read text p
+pub lines_in_piece : (depth : ℕ) (d : Document) (read text piece further new : List ℕ) (p q : Progress) (coming left taken mid given : Option (List ℕ)) → Feeds (start depth d) read text p
     → Consumes coming left (read ++ (piece ++ further)) → Appends taken mid text → Appends mid given new → Feeds p piece new q
-    → (length (read ++ piece) ≡ 1073741824) × (0 < length further) → AnswersLines d coming left taken given
-lines_in_piece d read text piece further new p q coming left taken mid given fed came put put_new fed_new limit =
-    lines_answered d (read ++ piece) (text ++ new) further q coming left taken given (Feeds-append read piece (start d) p q text new fed fed_new)
+    → (length (read ++ piece) ≡ 1073741824) × (0 < length further) → AnswersLines depth d coming left taken given
+lines_in_piece depth d read text piece further new p q coming left taken mid given fed came put put_new fed_new limit =
+    lines_answered depth d (read ++ piece) (text ++ new) further q coming left taken given (Feeds-append read piece (start depth d) p q text new fed fed_new)
     (subst (Consumes coming left) (sym (append_assoc read piece further)) came) (inr limit) (Appends-more taken mid given text new put put_new)
 
 pub fed_length : (read room : List ℕ) (t : ℕ) → t ≤ length room → length (read ++ take t room) ≡ length read + t
@@ -182,3 +187,18 @@ past_limit read room n t left within is less limit = (
   let e = fed_length read room t (omega arith) in omega arith,
   let e = length-drop t (take n room) in let f = length-take-le n room within in omega arith,
 )
+
+-- ---- the end of a run
+
+module _ (bytes : List ℕ) (depth : ℕ) (opened : MapState) (began : Edited) (ended last : MapState) (coming left taken given held holds : Option (List ℕ)) (s : Summary)
+    (is : began ≡ begun opened depth) (same : last ≡ ended) (answers : AnswersAll began.depth began.map.doc ended.doc coming left taken given s) where
+  answers_all : AnswersAll depth opened.doc last.doc coming left taken given s
+  answers_all =
+      subst (λ (e : Edited). AnswersAll e.depth e.map.doc last.doc coming left taken given s) is
+      (subst (λ (m : MapState). AnswersAll began.depth began.map.doc m.doc coming left taken given s) (sym same) answers)
+
+  pub completes : OpensAs bytes opened.doc → Appends held holds (text_of last.doc) → Saved (text_of last.doc) last.doc → Completes bytes depth coming left taken given held holds s
+  completes opens wrote saved = record { document = opened.doc; last = last.doc; opens = opens; answers = answers_all; wrote = wrote; saved = saved }
+
+  pub saves_part : AppendsPrefix held holds (text_of last.doc) → Saved (text_of last.doc) last.doc → SavesPart depth opened.doc coming left taken given held holds
+  saves_part wrote saved = record { last = last.doc; summary = s; answers = answers_all; wrote = wrote; saved = saved }

@@ -1,11 +1,12 @@
 -- What a writer has of the answer to a line.
-use Rattle.std.proofs.Common.{◌≡◌, ℕ, ◌+◌, List, [], ◌++◌, length, take, false, Option, sym, ap, subst, arith, codes, append-nil, length-append}
+use Rattle.std.proofs.Common.{◌≡◌, ℕ, ◌+◌, List, [], ◌++◌, length, take, false, Option, refl, sym, ap, subst, arith, codes, append-nil, length-append}
 use Rattle.std.proofs.lemmas.List.{take-append-le, take_all}
 use Rattle.std.proofs.Math.Seq.{take-append-add}
 use Rattle.device_io.proofs.DeviceLemmas.{Appends-more, Appends-none}
 use Rattle.std.specs.Io.KnownBytes.{Appends, Keeps}
 use Rattle.device_io.specs.Devices.{AppendsPrefix}
-use Rattle.ring_machine.specs.Machine.{State}
+use Rattle.ring_machine.specs.Document.{Document}
+use Rattle.undo_ring.specs.Edited.{Edited, machine_of}
 use Rattle.ring_machine.specs.Command.{Show}
 use Rattle.map_text.specs.Text.{text_of}
 use Rattle.script_runner.specs.Answers.{answer_text}
@@ -15,14 +16,15 @@ use Rattle.script_runner.specs.Replies.{RepliedLine}
 use Rattle.script_runner.proofs.ReplyLemmas.{step-show}
 
 -- the answer that shows the document
-pub show_text : (st : State) → reply_text st (Asked Show) ≡ text_of st.doc ++ codes "\n"
-show_text st = ap (λ r. answer_text r.0 ++ codes "\n") (step-show st)
+pub show_text : (e : Edited) → reply_text e.depth (machine_of e) (Asked Show) ≡ text_of e.map.doc ++ codes "\n"
+show_text e = ap (λ r. answer_text r.0 ++ codes "\n") (step-show e.depth (machine_of e))
 
-pub shown : (st : State) → RepliedLine st st (Asked Show) (text_of st.doc ++ codes "\n") false
-shown st = record {
-  told = sym (show_text st);
-  stands = ap (λ r. r.1) (sym (step-show st));
-  counts = ap (λ r. refusals r.0) (sym (step-show st));
+pub shown : (e : Edited) → RepliedLine e e (Asked Show) (text_of e.map.doc ++ codes "\n") false
+shown e = record {
+  told = sym (show_text e);
+  stands = ap (λ r. r.1) (sym (step-show e.depth (machine_of e)));
+  depth = refl;
+  counts = ap (λ r. refusals r.0) (sym (step-show e.depth (machine_of e)));
 }
 
 -- ---- parts of a text that were put one after another
@@ -48,9 +50,9 @@ prefix_kept a b c xs h k = (length xs, omega arith, subst (Appends a c) (sym (ta
 
 -- ---- the document, as the answer to a line
 
-module _ (st : State) (a b : Option (List ℕ)) where
-  pub document_shown : Appends a b (text_of st.doc ++ codes "\n") → Told a b (λ text. RepliedLine st st (Asked Show) text false)
-  document_shown h = (text_of st.doc ++ codes "\n", h, shown st)
+module _ (e : Edited) (d : Document) (is : d ≡ e.map.doc) (a b : Option (List ℕ)) where
+  pub document_shown : Appends a b (text_of d ++ codes "\n") → Told a b (λ text. RepliedLine e e (Asked Show) text false)
+  document_shown h = (text_of e.map.doc ++ codes "\n", subst (λ z. Appends a b (text_of z ++ codes "\n")) is h, shown e)
 
-  pub document_begun : AppendsPrefix a b (text_of st.doc ++ codes "\n") → AppendsPrefix a b (reply_text st (Asked Show))
-  document_begun h = subst (AppendsPrefix a b) (sym (show_text st)) h
+  pub document_begun : AppendsPrefix a b (text_of d ++ codes "\n") → AppendsPrefix a b (reply_text e.depth (machine_of e) (Asked Show))
+  document_begun h = subst (AppendsPrefix a b) (sym (show_text e)) (subst (λ z. AppendsPrefix a b (text_of z ++ codes "\n")) is h)

@@ -1,13 +1,14 @@
 -- Steps that follow one another, and what stands where one of them failed.
-use Rattle.std.proofs.Common.{Result, Ok, Err, OnErr, ◌≡◌, ℕ, ◌+◌, take, length, List, [], ◌∷◌, ◌++◌, Option, refl, sym, ap, subst, ◌∙◌, arith, append_assoc, append-nil, inl, inr, MatchBool, Bool, true, false, ◌==◌}
+use Rattle.std.proofs.Common.{Result, Ok, Err, OnErr, ◌≡◌, ℕ, ◌+◌, take, length, List, [], ◌∷◌, ◌++◌, Option, refl, sym, ap, ap₂, subst, ◌∙◌, arith, append_assoc, append-nil, inl, inr, MatchBool, Bool, true, false, cond, ◌==◌}
 use Rattle.std.proofs.lemmas.List.{take_all}
 use Rattle.std.specs.Io.KnownBytes.{Keeps}
 use Rattle.std.proofs.KnownBytes.{Appends-nil}
 use Rattle.ring_machine.specs.Document.{Document}
-use Rattle.ring_machine.specs.Machine.{State}
+use Rattle.undo_ring.specs.Edited.{Edited, machine_of}
 use Rattle.device_io.specs.Devices.{AppendsPrefix}
 use Rattle.device_io.proofs.DeviceLemmas.{Appends-none}
-use Rattle.script_runner.specs.Runs.{Meaning, reply_text}
+use Rattle.script_runner.specs.Runs.{Meaning, reply_text, state_after, answered_by, refused_by}
+use Rattle.script_runner.specs.Replies.{RepliedLine}
 use Rattle.script_runner.specs.Progress.{Progress, KeptMeans, LineStep, ByteStep, Feeds, PutsPart, FeedsPart, Told}
 use Rattle.script_runner.specs.Finish.{Finishes, PutsLast, Counts}
 use Rattle.script_runner.specs.declared.runner.Summary.{Summary}
@@ -18,13 +19,33 @@ OnErr-by (Ok x) h = tt
 OnErr-by (Err e) h = h
 
 -- the front of a reply
-pub put_part : (ended : Bool) (p : Progress) (old new : Option (List ℕ)) (st : State) (over : Bool) (line : List ℕ) (m : Meaning)
-    → p.state ≡ st → p.over ≡ over → p.line ≡ line → KeptMeans over ended line m → AppendsPrefix old new (reply_text st m)
+pub put_part : (ended : Bool) (p : Progress) (old new : Option (List ℕ)) (e : Edited) (over : Bool) (line : List ℕ) (m : Meaning)
+    → p.depth ≡ e.depth → p.state ≡ machine_of e → p.over ≡ over → p.line ≡ line → KeptMeans over ended line m → AppendsPrefix old new (reply_text e.depth (machine_of e) m)
     → PutsPart ended p old new
-put_part ended p old new st over line m es eo el k h =
+put_part ended p old new e over line m ed es eo el k h =
     let (n, within, put) = h in
     let kept : KeptMeans p.over ended p.line m = rw (eo, el) k in
-    (take n (reply_text st m), put, inr (m, n, kept, ap (λ x. take n (reply_text x m)) (sym es)))
+    (take n (reply_text e.depth (machine_of e) m), put, inr (m, n, kept, ap₂ (λ z x. take n (reply_text z x m)) (sym ed) (sym es)))
+
+-- the kept line is answered, of an editor as it was and is
+pub answered_line : (was is : Edited) (ended : Bool) (p q : Progress) (over : Bool) (line : List ℕ) (m : Meaning) (text : List ℕ) (refuses : Bool)
+    → p.depth ≡ was.depth → p.state ≡ machine_of was → p.over ≡ over → p.line ≡ line → KeptMeans over ended line m → RepliedLine was is m text refuses
+    → q.depth ≡ is.depth → q.state ≡ machine_of is → q.line ≡ [] → q.over ≡ false → q.answered ≡ p.answered + answered_by m → q.refused ≡ p.refused + cond refuses 1 0
+    → LineStep ended p text q
+answered_line was is ended p q over line m text refuses ed es eo el k r qd qs ql qo qa qr =
+    let kept : KeptMeans p.over ended p.line m = rw (eo, el) k in (
+      m,
+      kept,
+      record {
+        told = r.told ∙ ap₂ (λ n s. reply_text n s m) (sym ed) (sym es);
+        after = qs ∙ r.stands ∙ ap₂ (λ n s. state_after n s m) (sym ed) (sym es);
+        depth = qd ∙ r.depth ∙ sym ed;
+        line = ql;
+        over = qo;
+        answered = qa;
+        refused = qr ∙ ap (λ n. p.refused + n) (r.counts ∙ ap₂ (λ n s. refused_by n s m) (sym ed) (sym es));
+      },
+    )
 
 -- nothing was put
 pub put_nothing : (ended : Bool) (p : Progress) (a : Option (List ℕ)) → PutsPart ended p a a
@@ -34,7 +55,7 @@ put_nothing ended p a = ([], Appends-nil a, inl refl)
 pub fed_line : (p q : Progress) (b : ℕ) (text : List ℕ) → b ≡ 10 → LineStep true (record p { bytes = p.bytes + 1 }) text q → q.bytes ≡ p.bytes + 1 → ByteStep p b text q
 fed_line p q b text e s n =
     let (m, k, a) = s in
-    let step : LineStep true p text q = (m, k, record { told = a.told; after = a.after; line = a.line; over = a.over; answered = a.answered; refused = a.refused }) in
+    let step : LineStep true p text q = (m, k, record { told = a.told; after = a.after; depth = a.depth; line = a.line; over = a.over; answered = a.answered; refused = a.refused }) in
     subst (λ c. ByteStep p c text q) (sym e) (step, n)
 
 -- one more byte
@@ -62,7 +83,7 @@ pub put_last : (p q : Progress) (a b c : Option (List ℕ)) → Told a b (λ tex
 put_last p q a b c h k =
     let (text, put, step) = h in
     let (m, means, done) = step in
-    let whole : take (length text) (reply_text p.state m) ≡ text = ap (take (length text)) (sym done.told) ∙ take_all (length text) text (omega arith) in
+    let whole : take (length text) (reply_text p.depth p.state m) ≡ text = ap (take (length text)) (sym done.told) ∙ take_all (length text) text (omega arith) in
     (text, put_kept a b c text put k, inr (m, length text, means, sym whole))
 
 last_none : (p : Progress) (t : Bool) → t ≡ true → MatchBool t ((let none : List ℕ = [] in none ≡ []) × (p ≡ p)) (LineStep false p [] p)

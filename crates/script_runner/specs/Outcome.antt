@@ -35,31 +35,31 @@ pub record OpensAs (bytes : List ℕ) (d : Document) : Type 0 where
 abbrev pub IsUnopened : List ℕ → Type 0
 IsUnopened bytes = (d : Document) → ¬ OpensAs bytes d
 
--- a script's lines were answered by the text, one after another, on the document d, and e is the last
--- document
-pub record Runs (d e : Document) (script text : List ℕ) (summary : Summary) : Type 0 where
+-- a script's lines were answered by the text, one after another, on the document d, of whose changes
+-- at most depth were kept, and e is the last document
+pub record Runs (depth : ℕ) (d e : Document) (script text : List ℕ) (summary : Summary) : Type 0 where
   pub ended : List (List ℕ)
   pub last : List ℕ
   pub meanings : List Meaning
   pub cut : AreLines script ended last
   pub mean : AllMean (lines_of ended last) meanings
-  pub told : text ≡ replies (opened_state d) meanings
-  pub after : e ≡ document_after d meanings
+  pub told : text ≡ replies depth (opened_state d) meanings
+  pub after : e ≡ document_after depth d meanings
   pub answered : summary.answered ≡ answered meanings
-  pub refused : summary.refused ≡ refused (opened_state d) meanings
+  pub refused : summary.refused ≡ refused depth (opened_state d) meanings
 
 -- the script was read to its end, and the answers to it were written; e is the last document
-pub record AnswersAll (d e : Document) (coming left taken given : Known) (summary : Summary)
+pub record AnswersAll (depth : ℕ) (d e : Document) (coming left taken given : Known) (summary : Summary)
     : Type 0 where
   pub script : List ℕ
   pub text : List ℕ
   pub read : Consumes coming left script
   pub wrote : Appends taken given text
-  pub runs : Runs d e script text summary
+  pub runs : Runs depth d e script text summary
 
 -- these bytes came, the lines that ended among them were answered, and no more was written;
 -- only past the limit of a script did further bytes come
-pub record AnswersLines (d : Document) (coming left taken given : Known) : Type 0 where
+pub record AnswersLines (depth : ℕ) (d : Document) (coming left taken given : Known) : Type 0 where
   pub came : List ℕ
   pub further : List ℕ
   pub ended : List (List ℕ)
@@ -69,17 +69,17 @@ pub record AnswersLines (d : Document) (coming left taken given : Known) : Type 
   pub limit : (further ≡ []) ⊎ ((length came ≡ 1073741824) × (0 < length further))
   pub cut : AreLines came ended pending
   pub mean : AllMean (map ended_line ended) meanings
-  pub wrote : Appends taken given (replies (opened_state d) meanings)
+  pub wrote : Appends taken given (replies depth (opened_state d) meanings)
 
 -- nothing, or the front of the reply to the line
-abbrev pub IsFront : Document → List Meaning → List ℕ → List ℕ → Type 0
-IsFront d before line part =
+abbrev pub IsFront : ℕ → Document → List Meaning → List ℕ → List ℕ → Type 0
+IsFront depth d before line part =
     (part ≡ []) ⊎ ((ended : Bool) × (m : Meaning) × (k : ℕ) × Means (line_at ended line) m
-    × (part ≡ take k (reply_text (state_after_all (opened_state d) before) m)))
+    × (part ≡ take k (reply_text depth (state_after_all depth (opened_state d) before) m)))
 
 -- these bytes came, the lines that ended among them were answered, and perhaps a part of the
 -- answer to the next line was written
-pub record AnswersPart (d : Document) (coming left taken given : Known) : Type 0 where
+pub record AnswersPart (depth : ℕ) (d : Document) (coming left taken given : Known) : Type 0 where
   pub came : List ℕ
   pub further : List ℕ
   pub ended : List (List ℕ)
@@ -89,25 +89,26 @@ pub record AnswersPart (d : Document) (coming left taken given : Known) : Type 0
   pub read : Consumes coming left (came ++ further)
   pub cut : AreLines came ended pending
   pub mean : AllMean (map ended_line ended) meanings
-  pub front : IsFront d meanings pending part
-  pub wrote : Appends taken given (replies (opened_state d) meanings ++ part)
+  pub front : IsFront depth d meanings pending part
+  pub wrote : Appends taken given (replies depth (opened_state d) meanings ++ part)
 
 -- the map opened, its script was answered, and the text of the last document was saved: it means
 -- that document, and each border stands in it once
-pub record Completes (bytes : List ℕ) (coming left taken given held holds : Known)
+pub record Completes (bytes : List ℕ) (depth : ℕ) (coming left taken given held holds : Known)
     (summary : Summary) : Type 0 where
   pub document : Document
   pub last : Document
   pub opens : OpensAs bytes document
-  pub answers : AnswersAll document last coming left taken given summary
+  pub answers : AnswersAll depth document last coming left taken given summary
   pub wrote : Appends held holds (text_of last)
   pub saved : Saved (text_of last) last
 
 -- the script was answered, and a front of the text of the last document was saved
-pub record SavesPart (d : Document) (coming left taken given held holds : Known) : Type 0 where
+pub record SavesPart (depth : ℕ) (d : Document) (coming left taken given held holds : Known)
+    : Type 0 where
   pub last : Document
   pub summary : Summary
-  pub answers : AnswersAll d last coming left taken given summary
+  pub answers : AnswersAll depth d last coming left taken given summary
   pub wrote : AppendsPrefix held holds (text_of last)
   pub saved : Saved (text_of last) last
 
@@ -122,33 +123,34 @@ IsUnsaved held holds = holds ≡ held
 
 -- memory was refused after the map was opened: in an answer, and then nothing was saved, or in
 -- saving, and then all lines were answered
-abbrev pub LacksMemory : Document → Known → Known → Known → Known → Known → Known → Type 0
-LacksMemory d coming left taken given held holds =
-    (AnswersPart d coming left taken given × IsUnsaved held holds)
-    ⊎ SavesPart d coming left taken given held holds
+abbrev pub LacksMemory : ℕ → Document → Known → Known → Known → Known → Known → Known → Type 0
+LacksMemory depth d coming left taken given held holds =
+    (AnswersPart depth d coming left taken given × IsUnsaved held holds)
+    ⊎ SavesPart depth d coming left taken given held holds
 
 -- what stands after a fault: the map's first fault, or how far the answers or the saving came
-abbrev pub Ends : RunFault → List ℕ → Known → Known → Known → Known → Known → Known → Type 0
-Ends (fault.Open f) bytes coming left taken given held holds =
+abbrev pub Ends : RunFault → List ℕ → ℕ → Known → Known → Known → Known → Known → Known → Type 0
+Ends (fault.Open f) bytes depth coming left taken given held holds =
     IsFault bytes f × (f ≢ opening.OutOfMemory) × IsUnopened bytes
     × IsUntouched coming left taken given × IsUnsaved held holds
-Ends fault.Read bytes coming left taken given held holds =
-    (d : Document) × OpensAs bytes d × AnswersLines d coming left taken given
+Ends fault.Read bytes depth coming left taken given held holds =
+    (d : Document) × OpensAs bytes d × AnswersLines depth d coming left taken given
     × IsUnsaved held holds
-Ends fault.Write bytes coming left taken given held holds =
-    (d : Document) × OpensAs bytes d × AnswersPart d coming left taken given
+Ends fault.Write bytes depth coming left taken given held holds =
+    (d : Document) × OpensAs bytes d × AnswersPart depth d coming left taken given
     × IsUnsaved held holds
-Ends fault.Save bytes coming left taken given held holds =
-    (d : Document) × OpensAs bytes d × SavesPart d coming left taken given held holds
-Ends fault.OutOfMemory bytes coming left taken given held holds =
+Ends fault.Save bytes depth coming left taken given held holds =
+    (d : Document) × OpensAs bytes d × SavesPart depth d coming left taken given held holds
+Ends fault.OutOfMemory bytes depth coming left taken given held holds =
     (IsUntouched coming left taken given × IsUnsaved held holds)
-    ⊎ ((d : Document) × OpensAs bytes d × LacksMemory d coming left taken given held holds)
+    ⊎ ((d : Document) × OpensAs bytes d × LacksMemory depth d coming left taken given held holds)
 
 -- the same of the script alone, for the document
-abbrev pub Halts : Halt → Document → Known → Known → Known → Known → Type 0
-Halts halt.Read d coming left taken given = AnswersLines d coming left taken given
-Halts halt.Write d coming left taken given = AnswersPart d coming left taken given
-Halts halt.OutOfMemory d coming left taken given = AnswersPart d coming left taken given
+abbrev pub Halts : Halt → ℕ → Document → Known → Known → Known → Known → Type 0
+Halts halt.Read depth d coming left taken given = AnswersLines depth d coming left taken given
+Halts halt.Write depth d coming left taken given = AnswersPart depth d coming left taken given
+Halts halt.OutOfMemory depth d coming left taken given =
+    AnswersPart depth d coming left taken given
 
 -- why a map was not opened, want of memory apart
 abbrev pub IsOpenEnd : RunFault → List ℕ → Type 0

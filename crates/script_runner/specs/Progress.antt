@@ -5,9 +5,10 @@ use Rattle.ring_machine.specs.Document.{Document}
 use Rattle.ring_machine.specs.Machine.{State}
 use Rattle.script_runner.specs.Runs.{ScriptLine, ended_line, open_line, Meaning, Bad, Means, reply_text, state_after, answered_by, refused_by, opened_state}
 
--- the machine's state, the bytes of the line so far, whether more than are kept came, and the counts
+-- the machine's state and how many changes it keeps at most, the bytes of the line so far, whether more than are kept came, and the counts
 pub record Progress : Type 0 where
   pub state : State
+  pub depth : ℕ
   pub line : List ℕ
   pub over : Bool
   pub answered : ℕ
@@ -20,8 +21,16 @@ pub record InBounds (kept answered refused bytes : ℕ) : Type 0 where
   pub fewer : answered + kept ≤ bytes
   pub within : refused ≤ answered
 
-abbrev pub start : Document → Progress
-start d = record { state = opened_state d; line = []; over = false; answered = 0; refused = 0; bytes = 0 }
+abbrev pub start : ℕ → Document → Progress
+start depth d = record {
+  state = opened_state d;
+  depth = depth;
+  line = [];
+  over = false;
+  answered = 0;
+  refused = 0;
+  bytes = 0;
+}
 
 -- a line that a line feed ends, or the last one
 abbrev pub line_at : Bool → List ℕ → ScriptLine
@@ -34,12 +43,13 @@ KeptMeans over ended line m = MatchBool over (m ≡ Bad) (Means (line_at ended l
 
 -- the kept line, of this meaning, is answered
 pub record IsAnswered (p : Progress) (m : Meaning) (text : List ℕ) (q : Progress) : Type 0 where
-  pub told : text ≡ reply_text p.state m
-  pub after : q.state ≡ state_after p.state m
+  pub told : text ≡ reply_text p.depth p.state m
+  pub after : q.state ≡ state_after p.depth p.state m
+  pub depth : q.depth ≡ p.depth
   pub line : q.line ≡ []
   pub over : q.over ≡ false
   pub answered : q.answered ≡ p.answered + answered_by m
-  pub refused : q.refused ≡ p.refused + refused_by p.state m
+  pub refused : q.refused ≡ p.refused + refused_by p.depth p.state m
 
 -- the kept line is answered by this text
 abbrev pub LineStep : Bool → Progress → List ℕ → Progress → Type 0
@@ -73,7 +83,7 @@ Told old new P = (text : List ℕ) × Appends old new text × P text
 abbrev pub IsPartReply : Bool → Progress → List ℕ → Type 0
 IsPartReply ended p part =
     (part ≡ []) ⊎ ((m : Meaning) × (k : ℕ) × KeptMeans p.over ended p.line m
-    × (part ≡ take k (reply_text p.state m)))
+    × (part ≡ take k (reply_text p.depth p.state m)))
 
 -- some of the reply to the kept line was put
 abbrev pub PutsPart : Bool → Progress → Option (List ℕ) → Option (List ℕ) → Type 0

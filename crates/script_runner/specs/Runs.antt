@@ -6,7 +6,6 @@ use Rattle.ring_machine.specs.Parts.{features}
 use Rattle.ring_machine.specs.Command.{Command, Answer, Refused}
 use Rattle.ring_machine.specs.Machine.{State, step}
 use Rattle.script_lines.specs.Lines.{Says}
-use Rattle.arc_store.specs.State.{State as MapState}
 use Rattle.script_runner.specs.Answers.{answer_text}
 
 -- ---- lines
@@ -75,17 +74,17 @@ AllMean [] (m ∷ ms) = ⊥
 AllMean (l ∷ ls) [] = ⊥
 AllMean (l ∷ ls) (m ∷ ms) = Means l m × AllMean ls ms
 
--- ---- answers; the machine keeps no history yet
+-- ---- answers of the machine, which keeps at most depth changes
 
-abbrev pub reply_text : State → Meaning → List ℕ
-reply_text st Skipped = []
-reply_text st (Asked c) = answer_text (step 0 st c).0 ++ codes "\n"
-reply_text st Bad = codes "bad line\n"
+abbrev pub reply_text : ℕ → State → Meaning → List ℕ
+reply_text depth st Skipped = []
+reply_text depth st (Asked c) = answer_text (step depth st c).0 ++ codes "\n"
+reply_text depth st Bad = codes "bad line\n"
 
-abbrev pub state_after : State → Meaning → State
-state_after st Skipped = st
-state_after st (Asked c) = (step 0 st c).1
-state_after st Bad = st
+abbrev pub state_after : ℕ → State → Meaning → State
+state_after depth st Skipped = st
+state_after depth st (Asked c) = (step depth st c).1
+state_after depth st Bad = st
 
 -- an answer that is a refusal counts one
 abbrev pub refusals : Answer → ℕ
@@ -97,36 +96,32 @@ answered_by Skipped = 0
 answered_by (Asked c) = 1
 answered_by Bad = 1
 
-abbrev pub refused_by : State → Meaning → ℕ
-refused_by st Skipped = 0
-refused_by st (Asked c) = refusals (step 0 st c).0
-refused_by st Bad = 1
+abbrev pub refused_by : ℕ → State → Meaning → ℕ
+refused_by depth st Skipped = 0
+refused_by depth st (Asked c) = refusals (step depth st c).0
+refused_by depth st Bad = 1
 
 -- the answers in order
-abbrev pub replies : State → List Meaning → List ℕ
-replies st [] = []
-replies st (m ∷ ms) = reply_text st m ++ replies (state_after st m) ms
+abbrev pub replies : ℕ → State → List Meaning → List ℕ
+replies depth st [] = []
+replies depth st (m ∷ ms) = reply_text depth st m ++ replies depth (state_after depth st m) ms
 
-abbrev pub state_after_all : State → List Meaning → State
-state_after_all st [] = st
-state_after_all st (m ∷ ms) = state_after_all (state_after st m) ms
+abbrev pub state_after_all : ℕ → State → List Meaning → State
+state_after_all depth st [] = st
+state_after_all depth st (m ∷ ms) = state_after_all depth (state_after depth st m) ms
 
 abbrev pub answered : List Meaning → ℕ
 answered [] = 0
 answered (m ∷ ms) = answered_by m + answered ms
 
-abbrev pub refused : State → List Meaning → ℕ
-refused st [] = 0
-refused st (m ∷ ms) = refused_by st m + refused (state_after st m) ms
+abbrev pub refused : ℕ → State → List Meaning → ℕ
+refused depth st [] = 0
+refused depth st (m ∷ ms) = refused_by depth st m + refused depth (state_after depth st m) ms
 
--- a map as a state of the machine
-abbrev pub state_of : MapState → State
-state_of m = record { doc = m.doc; next = m.next; past = [] }
-
--- opened: the next number is that of the features
+-- opened: the next number is that of the features, and there is no history
 abbrev pub opened_state : Document → State
 opened_state d = record { doc = d; next = length (features d); past = [] }
 
 -- the document after lines of these meanings, of the one that was opened
-abbrev pub document_after : Document → List Meaning → Document
-document_after d meanings = (state_after_all (opened_state d) meanings).doc
+abbrev pub document_after : ℕ → Document → List Meaning → Document
+document_after depth d meanings = (state_after_all depth (opened_state d) meanings).doc

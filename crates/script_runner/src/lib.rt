@@ -1,7 +1,6 @@
 //! Lines in, answers out: a script is run on a map, and what it makes of the map is saved.
 #![tactic(auto)]
 
-mod copies;
 mod fault;
 mod questions;
 mod replies;
@@ -15,4 +14,5 @@ mod texts;
 pub use fault::RunFault;
 pub use runner::Summary;
 pub use running::run;
-pub use script_lines::{Command, Line, LineFault, parse_line};
+pub use script_lines::{Line, LineFault, parse_line};
+pub use undo_ring::{Answer, Command};

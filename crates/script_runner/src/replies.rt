@@ -1,24 +1,21 @@
-// The answers to lines, and their texts.
-ghost use Rattle.std.specs.Prelude.{◌≡◌, ◌++◌, ◌≤◌, ℕ, List, length, codes, decimal};
-ghost use Rattle.std.specs.Prelude.{OnOk, IfOk, IsSomeAnd};
-ghost use Rattle.ring_machine.specs.Command.{Thin, Split, Rename};
-ghost use Rattle.map_text.specs.Strings.{string_text};
+// The answers to commands, and their texts.
+ghost use Rattle.std.specs.Prelude.{◌≡◌, ◌++◌, codes, decimal, OnOk, IfOk};
+ghost use Rattle.ring_machine.specs.Command.{Undo};
+ghost use Rattle.undo_ring.specs.Commands.{command_of, IsSound};
+ghost use Rattle.undo_ring.specs.Answers.{answer_of};
 ghost use Rattle.script_runner.specs.Answers.{position_text, segment_text};
-ghost use Rattle.script_runner.specs.Runs.{state_of};
-ghost use Rattle.script_runner.specs.Replies.{Replied, Tells, TellsMade, TellsFault};
-ghost use Rattle.script_lines.specs.Commands.{command_of, IsSound};
+ghost use Rattle.script_runner.specs.Answers.{answer_text, at_text, neighbours_text};
+ghost use Rattle.script_runner.specs.Replies.{Replied, TellsFault};
 
-use crate::copies::{id_in, path_in};
-use crate::questions::{reply_to_area, reply_to_at, reply_to_neighbours};
 use crate::stop::OutOfMemory;
-use crate::texts::{push_number, push_position, push_segment};
-use arc_store::{EditFault, IdText, Map, Path};
-use edit_vertex::{insert_vertex, move_vertex, remove_vertex, thin};
+use crate::texts::{push_features, push_number, push_position, push_segment};
+use arc_store::EditFault;
 use grid_geometry::{Pos, Seg};
-use script_lines::Command;
+use itoa::Integer;
+use point_queries::{At, Numbers};
 use segment_index::GridIndex;
-use split_merge::{delete, merge, rename, split};
 use std::alloc::Allocator;
+use undo_ring::{Answer, Command, Editor, UndoFault};
 
 /// Appends the pair of segments in conflict.
 fn push_conflict<A: Allocator + Copy>(
@@ -89,16 +86,74 @@ fn push_refusal<A: Allocator + Copy>(
     Ok(())
 }
 
-/// Appends the answer to an edit. Answers whether it was refused.
-fn push_outcome<A: Allocator + Copy>(
+/// Appends `ok` and a number.
+fn push_ok<A: Allocator + Copy, I: Integer>(
     text: &mut Vec<u8, A>,
-    outcome: Result<(), EditFault>,
-) -> Result<bool, OutOfMemory>
-    ensures { IfOk result (λ refuses. Tells outcome text.old.items text.new.items refuses) }
+    number: I,
+) -> Result<(), OutOfMemory>
+    ensures { OnOk result (text.new.items ≡ text.old.items ++ (codes "ok " ++ I.text number)) }
 {
-    match outcome {
-        Ok(()) => {
-            text.extend_from_slice(b"ok")?;
+    text.extend_from_slice(b"ok ")?;
+    push_number(text, number)?;
+    Ok(())
+}
+
+/// Appends the features that hold a position, and those on whose borders it lies.
+fn push_at<A: Allocator + Copy>(text: &mut Vec<u8, A>, found: &At<A>) -> Result<(), OutOfMemory>
+    ensures { OnOk result
+        (text.new.items ≡ text.old.items ++ at_text found.now.inside found.now.border) }
+{
+    text.extend_from_slice(b"inside:")?;
+    push_features(text, &found.inside)?;
+    text.extend_from_slice(b" border:")?;
+    push_features(text, &found.border)?;
+    Ok(())
+}
+
+/// Appends the features that have a segment in common with a feature.
+fn push_neighbours<A: Allocator + Copy>(
+    text: &mut Vec<u8, A>,
+    found: &Numbers<A>,
+) -> Result<(), OutOfMemory>
+    ensures { OnOk result (text.new.items ≡ text.old.items ++ neighbours_text found.now) }
+{
+    text.extend_from_slice(b"neighbours:")?;
+    push_features(text, found)?;
+    Ok(())
+}
+
+/// Appends the text of an answer that is no refusal.
+fn push_answer<A: Allocator + Copy>(
+    text: &mut Vec<u8, A>,
+    answer: &Answer<A>,
+) -> Result<(), OutOfMemory>
+    ensures { OnOk result
+        (text.new.items ≡ text.old.items ++ answer_text (answer_of answer.now)) }
+{
+    match answer {
+        Answer::Done => text.extend_from_slice(b"ok")?,
+        Answer::Thinned(removed) => push_ok(text, *removed)?,
+        Answer::Made(number) => push_ok(text, *number)?,
+        Answer::Area(area) => push_number(text, *area)?,
+        Answer::At(found) => push_at(text, found)?,
+        Answer::Neighbours(found) => push_neighbours(text, found)?,
+    }
+    Ok(())
+}
+
+/// Answers a command. Answers whether it was refused.
+pub(crate) fn reply_to<A: Allocator + Copy>(
+    editor: &mut Editor<'_, GridIndex<A>, A>,
+    command: Command,
+    text: &mut Vec<u8, A>,
+) -> Result<bool, OutOfMemory>
+    requires { IsSound command }
+    ensures { IfOk result (λ refuses. Replied editor.old editor.new (command_of command)
+        text.old.items text.new.items refuses) }
+{
+    match editor.apply(command) {
+        Ok(answer) => {
+            push_answer(text, &answer)?;
             Ok(false)
         }
         Err(fault) => {
@@ -108,97 +163,23 @@ fn push_outcome<A: Allocator + Copy>(
     }
 }
 
-/// Appends the answer to a split. Answers whether it was refused.
-fn push_made<A: Allocator + Copy>(
+/// Takes the newest change back. Answers whether it was refused.
+pub(crate) fn reply_to_undo<A: Allocator + Copy>(
+    editor: &mut Editor<'_, GridIndex<A>, A>,
     text: &mut Vec<u8, A>,
-    outcome: Result<u32, EditFault>,
 ) -> Result<bool, OutOfMemory>
-    ensures { IfOk result (λ refuses. TellsMade outcome text.old.items text.new.items refuses) }
+    ensures { IfOk result (λ refuses.
+        Replied editor.old editor.new Undo text.old.items text.new.items refuses) }
 {
-    match outcome {
-        Ok(made) => {
-            text.extend_from_slice(b"ok ")?;
-            push_number(text, made)?;
+    match editor.undo() {
+        Ok(()) => {
+            text.extend_from_slice(b"ok")?;
             Ok(false)
         }
-        Err(refused) => {
-            push_refusal(text, refused)?;
+        Err(UndoFault::NothingToUndo) => {
+            text.extend_from_slice(b"refused nothing to undo")?;
             Ok(true)
         }
-    }
-}
-
-/// Cuts a feature and appends the number of the new one. Answers whether it was refused.
-fn reply_to_split<A: Allocator + Copy>(
-    map: &mut Map<'_, GridIndex<A>, A>,
-    feature: u32,
-    id: &IdText,
-    path: &Path,
-    text: &mut Vec<u8, A>,
-) -> Result<bool, OutOfMemory>
-    requires long { 2 ≤ length path.now }
-    requires short { length path.now ≤ 256 }
-    ensures { IfOk result (λ refuses. Replied (state_of map.old) (state_of map.new)
-        (Split feature (string_text id.now) path.now) text.old.items text.new.items refuses) }
-{
-    let alloc = *text.allocator();
-    let id = id_in(alloc, id)?;
-    let path = path_in(alloc, path)?;
-    push_made(text, split(map, feature, id, path))
-}
-
-/// Gives a feature another id. Answers whether it was refused.
-fn reply_to_rename<A: Allocator + Copy>(
-    map: &mut Map<'_, GridIndex<A>, A>,
-    feature: u32,
-    id: &IdText,
-    text: &mut Vec<u8, A>,
-) -> Result<bool, OutOfMemory>
-    ensures { IfOk result (λ refuses. Replied (state_of map.old) (state_of map.new)
-        (Rename feature (string_text id.now)) text.old.items text.new.items refuses) }
-{
-    let id = id_in(*text.allocator(), id)?;
-    push_outcome(text, rename(map, feature, id))
-}
-
-/// Leaves flat vertices out and appends how many they were. Answers that it was not refused.
-fn reply_to_thin<A: Allocator + Copy>(
-    map: &mut Map<'_, GridIndex<A>, A>,
-    bound: i128,
-    text: &mut Vec<u8, A>,
-) -> Result<bool, OutOfMemory>
-    ensures { IfOk result (λ refuses.
-        Replied (state_of map.old) (state_of map.new) (Thin bound)
-        text.old.items text.new.items refuses) }
-{
-    let removed = thin(map, bound)?;
-    text.extend_from_slice(b"ok ")?;
-    push_number(text, removed)?;
-    Ok(false)
-}
-
-/// Answers a command. Answers whether it was refused.
-pub(crate) fn reply_to<A: Allocator + Copy>(
-    map: &mut Map<'_, GridIndex<A>, A>,
-    command: Command,
-    text: &mut Vec<u8, A>,
-) -> Result<bool, OutOfMemory>
-    requires { IsSound command }
-    ensures { IfOk result (λ refuses.
-        Replied (state_of map.old) (state_of map.new) (command_of command)
-        text.old.items text.new.items refuses) }
-{
-    match command {
-        Command::Move(from, to) => push_outcome(text, move_vertex(map, from, to)),
-        Command::Insert(a, b, new) => push_outcome(text, insert_vertex(map, a, b, new)),
-        Command::Remove(vertex) => push_outcome(text, remove_vertex(map, vertex)),
-        Command::Thin(bound) => reply_to_thin(map, bound, text),
-        Command::Split(feature, id, path) => reply_to_split(map, feature, &id, &path, text),
-        Command::Merge(stays, goes) => push_outcome(text, merge(map, stays, goes)),
-        Command::Rename(feature, id) => reply_to_rename(map, feature, &id, text),
-        Command::Delete(feature) => push_outcome(text, delete(map, feature)),
-        Command::Area(feature) => reply_to_area(map, feature, text),
-        Command::At(position) => reply_to_at(map, position, text),
-        Command::Neighbours(feature) => reply_to_neighbours(map, feature, text),
+        Err(UndoFault::OutOfMemory) => Err(OutOfMemory),
     }
 }

@@ -4,8 +4,7 @@ ghost use Rattle.ring_machine.specs.Command.{Rings};
 ghost use Rattle.ring_machine.specs.Refusals.{feature_at};
 ghost use Rattle.map_text.specs.Text.{commas, pair_text};
 ghost use Rattle.script_runner.specs.Answers.{ring_text, polygon_text};
-ghost use Rattle.script_runner.specs.Runs.{state_of};
-ghost use Rattle.script_runner.specs.Replies.{Replied};
+ghost use Rattle.script_runner.specs.Replies.{IsShown};
 
 use crate::stop::OutOfMemory;
 use arc_store::{Map, RingIter};
@@ -79,8 +78,7 @@ pub(crate) fn reply_to_rings<A: Allocator + Copy>(
     text: &mut Vec<u8, A>,
 ) -> Result<bool, OutOfMemory>
     ensures { IfOk result (λ refuses.
-        Replied (state_of map.now) (state_of map.now) (Rings f)
-        text.old.items text.new.items refuses) }
+        IsShown map.now.doc (Rings f) text.old.items text.new.items refuses) }
 {
     let Some(feature) = map.feature(f) else {
         text.extend_from_slice(b"refused no feature")?;

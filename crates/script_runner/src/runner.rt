@@ -1,6 +1,6 @@
 //! What is kept between two bytes of a script.
 ghost use Rattle.std.specs.Prelude.{◌≡◌, ◌≤◌, ◌<◌, ◌+◌, ◌^◌, if◌then◌else◌};
-ghost use Rattle.std.specs.Prelude.{length, false, true, OnOk, OnErr, IfOk, Err};
+ghost use Rattle.std.specs.Prelude.{[], length, false, true, OnOk, OnErr, IfOk, Err};
 ghost use Rattle.std.specs.Io.KnownBytes.{Keeps};
 ghost use Rattle.script_runner.specs.Runs.{without_return, answered_by};
 ghost use Rattle.script_runner.specs.Replies.{meaning_of_said};
@@ -11,12 +11,12 @@ ghost use Rattle.script_runner.specs.Progress.{PutsPart, Told, start};
 
 use crate::sending::send_reply;
 use crate::stop::{OutOfMemory, Stop};
-use arc_store::Map;
 use device_io::Sink;
 use script_lines::{Line, LineFault, parse_line};
 use segment_index::GridIndex;
 use std::alloc::{Allocator, Global};
 use std::marker::Model;
+use undo_ring::Editor;
 
 /// The most bytes of a line that are kept.
 const MAX_LINE: usize = 8192;
@@ -71,12 +71,12 @@ pub struct Summary {
     pub refused: u64,
 }
 
-/// The map, the line so far, and the counts.
+/// The map with its history, the line so far, and the counts.
 #[derive(Drop)]
 pub(crate) struct Runner<'a, A: Allocator + Copy> {
     /// Holds the id and the path of a line while it is answered.
     heap: Global,
-    map: Map<'a, GridIndex<A>, A>,
+    editor: Editor<'a, GridIndex<A>, A>,
     line: Vec<u8, A>,
     over: bool,
     answered: u64,
@@ -87,12 +87,13 @@ pub(crate) struct Runner<'a, A: Allocator + Copy> {
 impl<'a, A: Allocator + Copy> Model for Runner<'a, A> {
     ghost use Rattle.std.specs.Prelude.{◌≤◌, ◌+◌, length};
     ghost use Rattle.script_runner.specs.Progress.{Progress, InBounds};
-    ghost use Rattle.script_runner.specs.Runs.{state_of};
+    ghost use Rattle.undo_ring.specs.Edited.{machine_of};
 
     ghost Value = { Progress };
 
     ghost view = { λ r. record {
-      state = state_of r.map;
+      state = machine_of r.editor;
+      depth = r.editor.depth;
       line = r.line.items;
       over = r.over;
       answered = r.answered;
@@ -105,13 +106,14 @@ impl<'a, A: Allocator + Copy> Model for Runner<'a, A> {
 
 impl<'a, A: Allocator + Copy> Runner<'a, A> {
     /// Nothing was fed.
-    pub(crate) fn new(alloc: A, heap: Global, map: Map<'a, GridIndex<A>, A>) -> Self
-        requires { map.next ≡ length (features map.doc) }
-        ensures { result ≡ start map.entry.doc }
+    pub(crate) fn new(alloc: A, heap: Global, editor: Editor<'a, GridIndex<A>, A>) -> Self
+        requires numbered { editor.map.next ≡ length (features editor.map.doc) }
+        requires fresh { editor.past ≡ [] }
+        ensures { result ≡ start editor.entry.depth editor.entry.map.doc }
     {
         Runner {
             heap,
-            map,
+            editor,
             line: Vec::new(alloc),
             over: false,
             answered: 0,
@@ -135,7 +137,7 @@ impl<'a, A: Allocator + Copy> Runner<'a, A> {
         let over = self.over;
         let said = said(self.heap, self.line.as_slice(), over, ended)?;
         let counts = is_answered(&said);
-        let refuses = send_reply(*self.line.allocator(), &mut self.map, said, out)?;
+        let refuses = send_reply(*self.line.allocator(), &mut self.editor, said, out)?;
         self.answered += one_if(counts);
         self.refused += one_if(refuses);
         self.line.clear();
@@ -185,38 +187,38 @@ impl<'a, A: Allocator + Copy> Runner<'a, A> {
 
     ghost use Rattle.script_runner.specs.Finish.{Finishes, PutsLast, Counts};
 
-    /// Sends the answers on, and answers the counts and the map.
-    fn flush<W: Sink>(self, out: &mut W) -> Result<(Summary, Map<'a, GridIndex<A>, A>), Stop>
+    /// Sends the answers on, and answers the counts and the map with its history.
+    fn flush<W: Sink>(self, out: &mut W) -> Result<(Summary, Editor<'a, GridIndex<A>, A>), Stop>
         requires { W.has_failed out.old ≡ false }
         ensures kept { Keeps (W.taken out.old) (W.taken out.new) }
         ensures ends { IfOk result
-            (λ done. Counts self.entry done.0 × (done.1.doc ≡ self.entry.state.doc)) }
+            (λ done. Counts self.entry done.0 × (done.1.map.doc ≡ self.entry.state.doc)) }
         ensures works { OnOk result (W.has_failed out.new ≡ false) }
         ensures failed { result ≡ Err Stop.Write → W.has_failed out.new ≡ true }
     {
         out.flush()?;
         let Runner {
             heap: _,
-            map,
+            editor,
             line: _,
             over: _,
             answered,
             refused,
             bytes: _,
         } = self;
-        Ok((Summary { answered, refused }, map))
+        Ok((Summary { answered, refused }, editor))
     }
 
     /// Answers a last line that no line feed ends, and sends the answers on. Answers the counts and
-    /// the map.
+    /// the map with its history.
     pub(crate) fn finish<W: Sink>(
         mut self,
         out: &mut W,
-    ) -> Result<(Summary, Map<'a, GridIndex<A>, A>), Stop>
+    ) -> Result<(Summary, Editor<'a, GridIndex<A>, A>), Stop>
         requires works { W.has_failed out.old ≡ false }
         requires bytes { self.bytes < 2 ^ 63 }
         ensures ok { IfOk result (λ done. Told (W.taken out.old) (W.taken out.new)
-            (λ text. Finishes self.entry text done.0 done.1.doc)) }
+            (λ text. Finishes self.entry text done.0 done.1.map.doc)) }
         ensures cut { OnErr result (PutsLast self.entry (W.taken out.old) (W.taken out.new)) }
         ensures works { OnOk result (W.has_failed out.new ≡ false) }
         ensures failed { result ≡ Err Stop.Write → W.has_failed out.new ≡ true }

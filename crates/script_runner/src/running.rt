@@ -1,4 +1,4 @@
-ghost use Rattle.std.specs.Prelude.{◌≡◌, length, false, true, OnOk, OnErr, IfOk, IfErr, Err};
+ghost use Rattle.std.specs.Prelude.{◌≡◌, ◌≤◌, [], length, false, true, OnOk, OnErr, IfOk, IfErr, Err};
 ghost use Rattle.ring_machine.specs.Parts.{features};
 ghost use Rattle.std.specs.Io.KnownBytes.{Appends, IsAtEnd};
 ghost use Rattle.device_io.specs.Devices.{AppendsPrefix};
@@ -18,6 +18,7 @@ use std::alloc::{Allocator, Global};
 use topo_outline::OpenFault;
 use topo_reader::read;
 use topo_writer::{WriteFault, write};
+use undo_ring::Editor;
 
 /// The most bytes of a script.
 const MAX_SCRIPT: usize = 1_073_741_824;
@@ -64,25 +65,28 @@ fn open<'a, A: Allocator + Copy>(
     }
 }
 
-/// Answers each line of a script, piece by piece as it comes. Answers the counts and the map.
+/// Answers each line of a script, piece by piece as it comes. Answers the counts and the map with its
+/// history.
 fn answer_script<'a, A: Allocator + Copy, R: Source, W: Sink>(
     alloc: A,
     heap: Global,
-    map: Map<'a, GridIndex<A>, A>,
+    editor: Editor<'a, GridIndex<A>, A>,
     script: &mut R,
     out: &mut W,
-) -> Result<(Summary, Map<'a, GridIndex<A>, A>), Halt>
-    requires numbered { map.next ≡ length (features map.doc) }
+) -> Result<(Summary, Editor<'a, GridIndex<A>, A>), Halt>
+    requires numbered { editor.map.next ≡ length (features editor.map.doc) }
+    requires fresh { editor.past ≡ [] }
     requires reader { R.has_failed script.old ≡ false }
     requires writer { W.has_failed out.old ≡ false }
-    ensures done { IfOk result (λ done. AnswersAll map.entry.doc done.1.doc (R.coming script.old)
-        (R.coming script.new) (W.taken out.old) (W.taken out.new) done.0) }
+    ensures done { IfOk result (λ done. AnswersAll editor.entry.depth editor.entry.map.doc
+        done.1.map.doc (R.coming script.old) (R.coming script.new) (W.taken out.old)
+        (W.taken out.new) done.0) }
     ensures end { OnOk result (IsAtEnd (R.coming script.new)) }
-    ensures halted { IfErr result (λ halt. Halts halt map.entry.doc (R.coming script.old)
-        (R.coming script.new) (W.taken out.old) (W.taken out.new)) }
+    ensures halted { IfErr result (λ halt. Halts halt editor.entry.depth editor.entry.map.doc
+        (R.coming script.old) (R.coming script.new) (W.taken out.old) (W.taken out.new)) }
     ensures write { result ≡ Err Halt.Write → W.has_failed out.new ≡ true }
 {
-    let mut runner = Runner::new(alloc, heap, map);
+    let mut runner = Runner::new(alloc, heap, editor);
     let mut room = [0u8; PIECE];
     let mut left = MAX_SCRIPT;
     loop {
@@ -135,24 +139,28 @@ fn save<A: Allocator + Copy, V: Sink>(
 /// answered in order, with a line feed, before the next piece is read; after the last line `out`
 /// is flushed, and then the text of the map goes to `saved`, which is flushed too. A line ends with
 /// a line feed, before which one carriage return is dropped, and a last line without a line feed
-/// counts where it is not empty. A line of more than 8,192 bytes is a bad line. `heap` holds
-/// decoded texts while the map is opened, and the id and the path of a line; `alloc` all else.
+/// counts where it is not empty. A line of more than 8,192 bytes is a bad line. The newest `depth`
+/// changes can be taken back. `heap` holds decoded texts while the map is opened, and the id and
+/// the path of a line; `alloc` all else.
 pub fn run<'a, A: Allocator + Copy, R: Source, W: Sink, V: Sink>(
     alloc: A,
     heap: Global,
     map: &'a [u8],
     script: &mut R,
+    depth: usize,
     out: &mut W,
     saved: &mut V,
 ) -> Result<Summary, RunFault<'a>>
+    requires least { 1 ≤ depth }
+    requires most { depth ≤ 1000 }
     requires reader { R.has_failed script.old ≡ false }
     requires writer { W.has_failed out.old ≡ false }
     requires saver { V.has_failed saved.old ≡ false }
-    ensures done { IfOk result (λ summary. Completes map.now (R.coming script.old)
+    ensures done { IfOk result (λ summary. Completes map.now depth (R.coming script.old)
         (R.coming script.new) (W.taken out.old) (W.taken out.new) (V.taken saved.old)
         (V.taken saved.new) summary) }
     ensures end { OnOk result (IsAtEnd (R.coming script.new)) }
-    ensures fault { IfErr result (λ fault. Ends fault map.now (R.coming script.old)
+    ensures fault { IfErr result (λ fault. Ends fault map.now depth (R.coming script.old)
         (R.coming script.new) (W.taken out.old) (W.taken out.new) (V.taken saved.old)
         (V.taken saved.new)) }
     ensures write { result ≡ Err RunFault.Write → W.has_failed out.new ≡ true }
@@ -162,13 +170,17 @@ pub fn run<'a, A: Allocator + Copy, R: Source, W: Sink, V: Sink>(
         Ok(opened) => opened,
         Err(fault) => return Err(fault),
     };
-    let (summary, last) = match answer_script(alloc, heap, opened, script, out) {
+    let editor = match Editor::new(alloc, opened, depth) {
+        Ok(editor) => editor,
+        Err(_) => return Err(RunFault::OutOfMemory),
+    };
+    let (summary, last) = match answer_script(alloc, heap, editor, script, out) {
         Ok(done) => done,
         Err(Halt::Read) => return Err(RunFault::Read),
         Err(Halt::Write) => return Err(RunFault::Write),
         Err(Halt::OutOfMemory) => return Err(RunFault::OutOfMemory),
     };
-    match save(alloc, &last, saved) {
+    match save(alloc, last.map(), saved) {
         Ok(()) => Ok(summary),
         Err(WriteFault::Device) => Err(RunFault::Save),
         Err(WriteFault::OutOfMemory) => Err(RunFault::OutOfMemory),

@@ -3,13 +3,14 @@ ghost use Rattle.std.specs.Prelude.{◌≡◌, ◌++◌, codes, false, true, Err
 ghost use Rattle.std.specs.Io.KnownBytes.{Appends};
 ghost use Rattle.device_io.specs.Devices.{AppendsPrefix};
 ghost use Rattle.map_text.specs.Text.{text_of};
-ghost use Rattle.script_runner.specs.Runs.{reply_text, state_of};
+ghost use Rattle.undo_ring.specs.Edited.{machine_of};
+ghost use Rattle.script_runner.specs.Runs.{reply_text};
 ghost use Rattle.script_runner.specs.Progress.{Told};
 ghost use Rattle.script_runner.specs.Replies.{RepliedLine, meaning_of_said};
 ghost use Rattle.script_lines.specs.Commands.{SaysSound};
 
 use crate::questions::reply_to_count;
-use crate::replies::reply_to;
+use crate::replies::{reply_to, reply_to_undo};
 use crate::ring_lists::reply_to_rings;
 use crate::stop::{OutOfMemory, Stop};
 use arc_store::Map;
@@ -18,6 +19,7 @@ use script_lines::Line;
 use segment_index::GridIndex;
 use std::alloc::Allocator;
 use topo_writer::write;
+use undo_ring::Editor;
 
 /// Appends the answer to a line that says nothing that is taken. Answers that it counts as refused.
 fn push_bad_line<A: Allocator + Copy>(text: &mut Vec<u8, A>) -> Result<bool, OutOfMemory>
@@ -51,17 +53,16 @@ fn send_document<A: Allocator + Copy, W: Sink>(
 /// where it says nothing that is taken. Answers whether it was refused.
 pub(crate) fn send_reply<A: Allocator + Copy, W: Sink>(
     alloc: A,
-    map: &mut Map<'_, GridIndex<A>, A>,
+    editor: &mut Editor<'_, GridIndex<A>, A>,
     said: Option<Line>,
     out: &mut W,
 ) -> Result<bool, Stop>
     requires sound { SaysSound said }
     requires works { W.has_failed out.old ≡ false }
     ensures ok { IfOk result (λ refuses. Told (W.taken out.old) (W.taken out.new)
-        (λ text. RepliedLine (state_of map.old) (state_of map.new)
-        (meaning_of_said said) text refuses)) }
+        (λ text. RepliedLine editor.old editor.new (meaning_of_said said) text refuses)) }
     ensures cut { OnErr result (AppendsPrefix (W.taken out.old) (W.taken out.new)
-        (reply_text (state_of map.old) (meaning_of_said said))) }
+        (reply_text editor.old.depth (machine_of editor.old) (meaning_of_said said))) }
     ensures works { OnOk result (W.has_failed out.new ≡ false) }
     ensures failed { result ≡ Err Stop.Write → W.has_failed out.new ≡ true }
 {
@@ -69,12 +70,13 @@ pub(crate) fn send_reply<A: Allocator + Copy, W: Sink>(
     let refuses = match said {
         Some(Line::Skip) => return Ok(false),
         Some(Line::Document) => {
-            send_document(alloc, map, out)?;
+            send_document(alloc, editor.map(), out)?;
             return Ok(false);
         }
-        Some(Line::Rings(feature)) => reply_to_rings(map, feature, &mut text)?,
-        Some(Line::Count) => reply_to_count(map, &mut text)?,
-        Some(Line::Edit(command)) => reply_to(map, command, &mut text)?,
+        Some(Line::Rings(feature)) => reply_to_rings(editor.map(), feature, &mut text)?,
+        Some(Line::Count) => reply_to_count(editor.map(), &mut text)?,
+        Some(Line::Undo) => reply_to_undo(editor, &mut text)?,
+        Some(Line::Edit(command)) => reply_to(editor, command, &mut text)?,
         None => push_bad_line(&mut text)?,
     };
     text.push(b'\n')?;

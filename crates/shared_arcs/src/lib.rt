@@ -9,7 +9,7 @@ mod reading;
 mod ring_keys;
 mod vertex_edits;
 
-pub use arc_tables::Place;
+pub use arc_tables::{Place, Put};
 pub use around::Neighbours;
 pub use borders::Borders;
 pub use ring_keys::RingKeys;

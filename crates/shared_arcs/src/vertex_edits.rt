@@ -1,12 +1,13 @@
 //! The edits of one vertex in every ring at once, and what stands around it.
-ghost use Rattle.std.specs.Prelude.{◌≡◌, ◌≤◌, ◌⊎◌, ℕ, List, OnOk, OnErr, IfSome, IfNone, option_map, length, min};
+ghost use Rattle.std.specs.Prelude.{◌≡◌, ◌≤◌, ◌<◌, ◌^◌, ◌⊎◌, ℕ, List, OnOk, OnErr, IfOk, IfSome, IfNone, option_map, length, min};
 ghost use Rattle.std.specs.FinMap as map;
 ghost use Rattle.arc_tables.specs.Ways.{Edge};
-ghost use Rattle.arc_tables.specs.Edited.{AreApart, through, collapsed};
+ghost use Rattle.arc_tables.specs.Edited.{AreApart, through, collapsed, throughs, gained, ArePuts};
 ghost use Rattle.shared_arcs.specs.Joined.{Joined, Passes, AreNeighbours};
 
 use crate::around::{Neighbours, neighbours_at, shortest_ring};
 use crate::borders::Borders;
+use arc_tables::Put;
 use std::alloc::{AllocError, Allocator};
 use vertex_index::VertexKey;
 
@@ -21,6 +22,20 @@ impl<A: Allocator + Copy> Borders<A> {
         ensures err { OnErr result (self.new ≡ self.old) }
     {
         self.tables.insert(a, b, q)
+    }
+
+    /// Puts these vertices, which no ring has, each between its two in every ring that has their
+    /// segment, one after the other, and says how many positions the rings gain. Fails for want of
+    /// memory alone, and then nothing has changed.
+    pub fn insert_all(&mut self, puts: &[Put]) -> Result<usize, AllocError>
+        requires fits { ArePuts (λ q. (x : ℕ) → ¬ Joined self.old q x) puts.now }
+        requires few { gained puts.now (map.values self.old) < 2 ^ 64 }
+        ensures count { IfOk result (λ n. n ≡ gained puts.now (map.values self.old)) }
+        ensures ok { OnOk result ((r : ℕ) → map.get self.new r
+            ≡ option_map (throughs puts.now) (map.get self.old r)) }
+        ensures err { OnErr result (self.new ≡ self.old) }
+    {
+        self.tables.insert_all(puts)
     }
 
     /// Takes vertex `p`, whose neighbours are `a` and `b` in every ring that has it, out of every

@@ -3,3 +3,4 @@ pub mod SplitConditions
 pub mod RingConditions
 pub mod MergeConditions
 pub mod PathSegments
+pub mod Recording

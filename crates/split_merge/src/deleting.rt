@@ -2,6 +2,7 @@ ghost use Rattle.std.specs.Prelude.{◌≡◌, None, OnOk, OnErr, IfErr};
 ghost use Rattle.ring_machine.specs.Join.{take_out};
 ghost use Rattle.ring_machine.specs.Refusals.{first_of, feature_refusals};
 ghost use Rattle.arc_store.specs.Faults.{Refuses};
+ghost use Rattle.arc_store.specs.Recorded.{IsRecorded};
 
 use arc_store::{EditFault, Map};
 use segment_index::SegIndex;
@@ -16,10 +17,13 @@ pub fn delete<'a, I: SegIndex, A: Allocator + Copy>(
 ) -> Result<(), EditFault>
     ensures accepted { OnOk result (first_of (feature_refusals map.old.doc f) ≡ None) }
     ensures deleted { OnOk result (map.new.doc ≡ take_out map.old.doc f) }
+    ensures recorded { OnOk result (IsRecorded map.old map.new) }
     ensures refused { IfErr result
         (λ fault. Refuses fault (first_of (feature_refusals map.old.doc f))) }
     ensures unchanged { OnErr result (map.new.doc ≡ map.old.doc) }
+    ensures none { OnErr result (map.new.last ≡ None) }
     ensures next { map.new.next ≡ map.old.next }
+    ensures places { map.new.places ≡ map.old.places }
     ensures untested { map.new.tests ≡ 0 }
     ensures cells { map.new.cells ≡ map.old.cells }
 {

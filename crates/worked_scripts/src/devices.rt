@@ -5,9 +5,9 @@ use device_io::{FailAt, FromReader, ToWriter};
 use script_runner::{RunFault, run};
 use std::test::Fail;
 
-const SCRIPT: &[u8; 33] = b"area 0\nmove 10 10 12 12\r\nx\narea 0";
+const SCRIPT: &[u8; 45] = b"area 0\nmove 10 10 12 12\r\nx\narea 0\nundo\narea 0";
 
-const ANSWERS: &[u8; 20] = b"200\nok\nbad line\n240\n";
+const ANSWERS: &[u8; 27] = b"200\nok\nbad line\n240\nok\n200\n";
 
 /// What is left of a script after its reader fails: the answers to the lines before.
 #[test]
@@ -21,6 +21,7 @@ fn a_reader_that_fails(rt: HostRuntime) -> Result<(), Fail> {
             rt.alloc(),
             TWO_SQUARES.as_bytes(),
             &mut source,
+            100,
             &mut sink,
             &mut saved,
         );
@@ -30,10 +31,10 @@ fn a_reader_that_fails(rt: HostRuntime) -> Result<(), Fail> {
             assert_eq!(rt; out, b"".as_slice());
         } else if calls == 1 {
             assert!(rt; matches!(outcome, Err(RunFault::Read)));
-            assert_eq!(rt; out, b"200\nok\nbad line\n".as_slice());
+            assert_eq!(rt; out, b"200\nok\nbad line\n240\nok\n".as_slice());
         } else {
             assert!(rt; outcome.is_ok());
-            assert_eq!(rt; out, b"200\nok\nbad line\n240\n".as_slice());
+            assert_eq!(rt; out, ANSWERS.as_slice());
         }
         assert_eq!(rt; saved.writer.is_empty(), outcome.is_err());
     }
@@ -43,8 +44,8 @@ fn a_reader_that_fails(rt: HostRuntime) -> Result<(), Fail> {
 /// Each answer is one call of the writer, and the last call flushes.
 #[test]
 fn a_writer_that_fails(rt: HostRuntime) -> Result<(), Fail> {
-    let lengths = [0usize, 4, 7, 16, 20];
-    for calls in 0..5u64 {
+    let lengths = [0usize, 4, 7, 16, 20, 23, 27];
+    for calls in 0..7u64 {
         let mut source = FromReader::new(SCRIPT.as_slice());
         let mut sink = FailAt::new(ToWriter::new(Vec::new(rt.alloc())), calls);
         let mut saved = ToWriter::new(Vec::new(rt.alloc()));
@@ -53,6 +54,7 @@ fn a_writer_that_fails(rt: HostRuntime) -> Result<(), Fail> {
             rt.alloc(),
             TWO_SQUARES.as_bytes(),
             &mut source,
+            100,
             &mut sink,
             &mut saved,
         );

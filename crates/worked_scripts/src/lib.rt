@@ -19,3 +19,5 @@ mod saving;
 mod scripts;
 #[cfg(test)]
 mod told;
+#[cfg(test)]
+mod undone;

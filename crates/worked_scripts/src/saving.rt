@@ -10,11 +10,11 @@ use std::process::Abort;
 use std::test::Fail;
 
 /// The text of the two squares.
-const SQUARES: &str =
+pub(crate) const SQUARES: &str =
     "{\"type\":\"Topology\",\"objects\":{\"land\":{\"type\":\"GeometryCollection\",\"geometries\":[{\"type\":\"Polygon\",\"id\":\"A\",\"arcs\":[[0,1]]},{\"type\":\"Polygon\",\"id\":\"B\",\"arcs\":[[2,-1]]}]}},\"arcs\":[[[10,0],[10,10]],[[10,10],[0,10],[0,0],[10,0]],[[10,0],[20,0],[20,10],[10,10]]]}";
 
 /// The script has these answers on the map, and this text is saved.
-fn is_saved<R: Abort + AllocGlobal>(
+pub(crate) fn is_saved<R: Abort + AllocGlobal>(
     rt: &R,
     map: &str,
     script: &str,
@@ -152,6 +152,7 @@ fn answers_whose_writer_fails(rt: HostRuntime) -> Result<(), Fail> {
             rt.alloc(),
             TWO_SQUARES.as_bytes(),
             &mut source,
+            100,
             &mut sink,
             &mut saved,
         );
@@ -184,6 +185,7 @@ fn a_saved_map_whose_writer_fails(rt: HostRuntime) -> Result<(), Fail> {
             rt.alloc(),
             TWO_SQUARES.as_bytes(),
             &mut source,
+            100,
             &mut sink,
             &mut saved,
         );

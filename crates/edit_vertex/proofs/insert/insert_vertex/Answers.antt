@@ -7,9 +7,12 @@ use Rattle.local_planarity.specs.Tests.{most_for}
 use Rattle.arc_store.specs.Faults.{Refuses}
 use Rattle.arc_store.specs.State.{State}
 use Rattle.edit_vertex.specs.Untested.{is_early}
+use Rattle.edit_records.specs.Records.{Inserted}
+use Rattle.edit_records.proofs.InsertedFits.{insert-recorded}
+use Rattle.edit_vertex.proofs.Recording.{recorded_by}
 use Rattle.edit_vertex.proofs.insert.insert_vertex.Goals as goal
 
--- the beginning of an edit changes the count of tests alone
+-- the beginning of an edit changes the count of tests, and forgets what took the last one back
 pub returns-clause-accepted : goal.returns-clause-accepted
 returns-clause-accepted g c =
     subst (λ d. OnOk c.insert_now.result (first_of (insert_refusals d c.args.a c.args.b c.args.q) ≡ None)) (ap (λ (s : State). s.doc) c.begin_edit.ensures.begun) c.insert_now.ensures.accepted
@@ -39,3 +42,17 @@ returns-clause-few g c =
 
 pub returns-clause-cells : goal.returns-clause-cells
 returns-clause-cells g c = c.insert_now.ensures.cells ∙ ap (λ (s : State). s.cells) c.begin_edit.ensures.begun
+
+pub returns-clause-recorded : goal.returns-clause-recorded
+returns-clause-recorded g c =
+    let now = c.begin_edit.new.self in
+    recorded_by c.args.map.now c.begin_edit.new.self c.insert_now.new.map c.begin_edit.ensures.begun c.insert_now.ensures.next c.insert_now.ensures.places c.insert_now.result (ins now.doc c.args.a c.args.b c.args.q) (Inserted c.args.q)
+    (insert-recorded now.places now.next now.doc c.begin_edit.ensures.held c.args.a c.args.b c.args.q)
+    c.insert_now.ensures.accepted c.insert_now.ensures.recorded c.insert_now.ensures.inserted
+
+pub returns-clause-none : goal.returns-clause-none
+returns-clause-none g c =
+    subst (λ last. OnErr c.insert_now.result (c.insert_now.new.map.last ≡ last)) (ap (λ (s : State). s.last) c.begin_edit.ensures.begun) c.insert_now.ensures.still
+
+pub returns-clause-places : goal.returns-clause-places
+returns-clause-places g c = c.insert_now.ensures.places ∙ ap (λ (s : State). s.places) c.begin_edit.ensures.begun

@@ -7,9 +7,12 @@ use Rattle.local_planarity.specs.Tests.{most_for_move}
 use Rattle.arc_store.specs.Faults.{Refuses}
 use Rattle.arc_store.specs.State.{State}
 use Rattle.edit_vertex.specs.Untested.{is_early}
+use Rattle.edit_records.specs.Records.{Moved}
+use Rattle.edit_records.proofs.Recorded.{move-recorded}
+use Rattle.edit_vertex.proofs.Recording.{recorded_by}
 use Rattle.edit_vertex.proofs.moved.move_vertex.Goals as goal
 
--- the beginning of an edit changes the count of tests alone
+-- the beginning of an edit changes the count of tests, and forgets what took the last one back
 pub returns-clause-accepted : goal.returns-clause-accepted
 returns-clause-accepted g c =
     subst (λ d. OnOk c.move_now.result (first_of (move_refusals d c.args.p c.args.q) ≡ None)) (ap (λ (s : State). s.doc) c.begin_edit.ensures.begun) c.move_now.ensures.accepted
@@ -39,3 +42,17 @@ returns-clause-few g c =
 
 pub returns-clause-cells : goal.returns-clause-cells
 returns-clause-cells g c = c.move_now.ensures.cells ∙ ap (λ (s : State). s.cells) c.begin_edit.ensures.begun
+
+pub returns-clause-recorded : goal.returns-clause-recorded
+returns-clause-recorded g c =
+    let now = c.begin_edit.new.self in
+    recorded_by c.args.map.now c.begin_edit.new.self c.move_now.new.map c.begin_edit.ensures.begun c.move_now.ensures.next c.move_now.ensures.places c.move_now.result (put now.doc c.args.p c.args.q) (Moved c.args.p c.args.q)
+    (move-recorded now.places now.next now.doc c.begin_edit.ensures.held c.args.p c.args.q)
+    c.move_now.ensures.accepted c.move_now.ensures.recorded c.move_now.ensures.moved
+
+pub returns-clause-none : goal.returns-clause-none
+returns-clause-none g c =
+    subst (λ last. OnErr c.move_now.result (c.move_now.new.map.last ≡ last)) (ap (λ (s : State). s.last) c.begin_edit.ensures.begun) c.move_now.ensures.still
+
+pub returns-clause-places : goal.returns-clause-places
+returns-clause-places g c = c.move_now.ensures.places ∙ ap (λ (s : State). s.places) c.begin_edit.ensures.begun

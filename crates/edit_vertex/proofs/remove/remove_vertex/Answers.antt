@@ -7,9 +7,10 @@ use Rattle.local_planarity.specs.Tests.{most_for}
 use Rattle.arc_store.specs.Faults.{Refuses}
 use Rattle.arc_store.specs.State.{State}
 use Rattle.edit_vertex.specs.Untested.{is_early}
+use Rattle.edit_vertex.proofs.Recording.{removal_recorded}
 use Rattle.edit_vertex.proofs.remove.remove_vertex.Goals as goal
 
--- the beginning of an edit changes the count of tests alone
+-- the beginning of an edit changes the count of tests, and forgets what took the last one back
 pub returns-clause-accepted : goal.returns-clause-accepted
 returns-clause-accepted g c =
     subst (λ d. OnOk c.remove_now.result (first_of (remove_refusals d c.args.p) ≡ None)) (ap (λ (s : State). s.doc) c.begin_edit.ensures.begun) c.remove_now.ensures.accepted
@@ -39,3 +40,14 @@ returns-clause-few g c =
 
 pub returns-clause-cells : goal.returns-clause-cells
 returns-clause-cells g c = c.remove_now.ensures.cells ∙ ap (λ (s : State). s.cells) c.begin_edit.ensures.begun
+
+pub returns-clause-recorded : goal.returns-clause-recorded
+returns-clause-recorded g c =
+    removal_recorded c.args.map.now c.begin_edit.new.self c.remove_now.new.map c.begin_edit.ensures.begun c.remove_now.ensures.next c.remove_now.ensures.places c.remove_now.result c.args.p c.begin_edit.ensures.held c.remove_now.ensures.accepted c.remove_now.ensures.recorded c.remove_now.ensures.removed
+
+pub returns-clause-none : goal.returns-clause-none
+returns-clause-none g c =
+    subst (λ last. OnErr c.remove_now.result (c.remove_now.new.map.last ≡ last)) (ap (λ (s : State). s.last) c.begin_edit.ensures.begun) c.remove_now.ensures.still
+
+pub returns-clause-places : goal.returns-clause-places
+returns-clause-places g c = c.remove_now.ensures.places ∙ ap (λ (s : State). s.places) c.begin_edit.ensures.begun

@@ -1,4 +1,4 @@
-use Rattle.std.proofs.Common.{◌≡◌, ◌≤◌, ◌+◌, sym, ap, ◌∙◌, subst, take, to_z, of_z, arith}
+use Rattle.std.proofs.Common.{◌≡◌, ◌≤◌, ◌+◌, refl, sym, ap, ◌∙◌, subst, take, to_z, of_z, arith}
 use Rattle.std.specs.Int.{w128}
 use Rattle.std.proofs.lemmas.Int.{ints}
 use Rattle.std.specs.List.{fold}
@@ -10,6 +10,7 @@ use Rattle.segment_index.specs.Times.{times_by}
 use Rattle.arc_store.specs.State.{State}
 use Rattle.edit_vertex.specs.Tested.{most_at, most_over, most_for_thin}
 use Rattle.edit_vertex.proofs.Passing.{with_count, most_more, most_part}
+use Rattle.edit_vertex.proofs.ThinKept.{IsCount, none_left, thinning_kept, one_counted, as_counted}
 use Rattle.edit_vertex.proofs.thinning.thin.Goals as goal
 use Rattle.edit_vertex.proofs.thinning.thin.Goals.{in-Ok-true, in-Ok-false}
 
@@ -36,7 +37,22 @@ returns-clause-thinned g c =
     let all = c.as_slice-ascending.ensures.value ∙ c.in_ok-vertices.ensures ∙ ap vertices old in
     sym (ap (λ (s : Thinning). s.doc) c.loop-p.invariant.so_far) ∙ ap (λ t. (fold (thin_at t) (with_count c.args.map.now.doc 0) (take c.loop-p.p-index c.as_slice-ascending.result.now)).doc) same ∙ ap (λ ps. (fold (thin_at c.args.t) (with_count c.args.map.now.doc 0) ps).doc) (take_all c.loop-p.p-index c.as_slice-ascending.result.now c.loop-p-test.false ∙ all)
 
--- ---- how many tests
+-- ---- the pass
+
+pub loop-p-init : goal.loop-p-init
+loop-p-init g c =
+    let begins = c.begin_edit.ensures.begun in
+    record {
+      so_far = ap (λ (s : State). with_count s.doc 0) (sym begins);
+      few = omega arith;
+      proper = c.begin_edit.ensures.proper;
+      next = ap (λ (s : State). s.next) begins;
+      places = ap (λ (s : State). s.places) begins;
+      cells = ap (λ (s : State). s.cells) begins;
+      tests = omega (arith, ap (λ (s : State). s.tests) begins);
+      kept = none_left c.args.map.now c.begin_edit.new.self begins c.begin_edit.ensures.held;
+      count = subst (λ (s : State). IsCount s.last 0) (sym begins) refl;
+    }
 
 pub loop-p-preserved : goal.loop-p-preserved
 loop-p-preserved g c =
@@ -49,9 +65,15 @@ loop-p-preserved g c =
       ];
       proper = c.thin_at.ensures.proper;
       next = c.thin_at.ensures.next ∙ c.loop-p.invariant.next;
+      places = c.thin_at.ensures.places ∙ c.loop-p.invariant.places;
       cells = c.thin_at.ensures.cells ∙ c.loop-p.invariant.cells;
       tests = most_more (times_by c.args.map.now.cells) t (with_count c.args.map.now.doc 0) c.loop-p.map.doc c.loop-p.removed c.as_slice-ascending.result.now c.loop-p.p-index c.p-item.result c.loop-p.map.tests c.thin_at.new.map.tests c.loop-p-test.true c.p-item.is c.loop-p.invariant.so_far c.loop-p.invariant.tests
           (subst (λ cells. c.thin_at.new.map.tests ≤ c.loop-p.map.tests + most_at (times_by cells) t c.loop-p.map.doc c.p-item.result) c.loop-p.invariant.cells c.thin_at.ensures.few);
+      kept = c.thin_at.ensures.recorded c.args.map.now.doc c.loop-p.invariant.kept;
+      count = elim c.if-thin_at.branch [
+        | in-Ok-true w ↦ one_counted c.thin_at.new.map.last c.loop-p.removed c.if-thin_at.removed (grind (arith, common_steps)) w.removed-is
+        | in-Ok-false w ↦ as_counted c.loop-p.map.last c.thin_at.new.map.last c.loop-p.removed c.if-thin_at.removed (grind (arith, common_steps)) w.removed-is c.loop-p.invariant.count
+      ];
     }
 
 pub returns-clause-few : goal.returns-clause-few
@@ -88,3 +110,12 @@ returns-in-Err-clause-few g c =
       ap (λ z. most_over times z first ps) same,
       ap (λ z. most_over times c.args.t first z) all,
     )
+
+-- ---- what takes it back
+
+pub returns-clause-recorded : goal.returns-clause-recorded
+returns-clause-recorded g c = thinning_kept c.args.map.now c.loop-p.map c.loop-p.invariant.kept
+
+pub returns-in-Err-clause-recorded : goal.returns-in-Err-clause-recorded
+returns-in-Err-clause-recorded g c =
+    thinning_kept c.args.map.now c.thin_at.new.map (c.thin_at.ensures.recorded c.args.map.now.doc c.loop-p.invariant.kept)

@@ -3,8 +3,10 @@ use Rattle.std.specs.List.{fold}
 use Rattle.ring_machine.specs.Planar.{Proper}
 use Rattle.ring_machine.specs.Thin.{thin_at}
 use Rattle.segment_index.specs.Times.{times_by}
+use Rattle.edit_vertex.specs.Kept.{IsThinnedFrom}
 use Rattle.edit_vertex.specs.Tested.{most_over}
 use Rattle.edit_vertex.proofs.Passing.{with_count}
+use Rattle.edit_vertex.proofs.ThinKept.{IsCount}
 use Rattle.edit_vertex.proofs.thinning.thin.Given as goal
 
 -- the pass over the vertices so far, and no more left out than these
@@ -14,6 +16,9 @@ invariant-loop-p g l = record {
   few : l.removed ≤ l.p-index;
   proper : Proper l.map.doc;
   next : l.map.next ≡ l.fn.map.next;
+  places : l.map.places ≡ l.fn.map.places;
   cells : l.map.cells ≡ l.fn.map.cells;
   tests : l.map.tests ≤ most_over (times_by l.fn.map.cells) l.t (with_count l.fn.map.doc 0) (take l.p-index l.ascending);
+  kept : IsThinnedFrom l.fn.map.doc l.map;
+  count : IsCount l.map.last l.removed;
 }

@@ -1,10 +1,12 @@
 use Rattle.std.proofs.Common.{◌≡◌, sym, ap, ◌∙◌, subst, to_z, of_z, arith}
 use Rattle.std.specs.Int.{w128}
 use Rattle.std.proofs.lemmas.Int.{ints}
+use Rattle.std.proofs.lemmas.Bool.{false≢true}
 use Rattle.ring_machine.specs.Planar.{Proper}
 use Rattle.ring_machine.proofs.Accepted.{removed}
 use Rattle.segment_index.specs.Times.{times_by}
 use Rattle.edit_vertex.proofs.Passing.{is_thin, thin_gone, thin_refused, thin_passed, most_thin}
+use Rattle.edit_vertex.proofs.ThinKept.{left_one, left_as_is}
 use Rattle.edit_vertex.proofs.thinning.thin_at.Goals as goal
 
 pub returns-then-not-is_thin-clause-thinned : goal.returns-then-not-is_thin-clause-thinned
@@ -15,20 +17,29 @@ returns-then-not-is_thin-clause-thinned g c = λ n.
 pub returns-in-Ok-clause-thinned : goal.returns-in-Ok-clause-thinned
 returns-in-Ok-clause-thinned g c = λ n.
     let same : to_z w128 (of_z w128 c.args.t) ≡ c.args.t = omega (arith, ints) in
-    thin_gone c.args.t c.args.map.now.doc c.args.p n (ap (λ t. is_thin t c.args.map.now.doc c.args.p) (sym same) ∙ sym c.is_thin.ensures ∙ c.if-not-is_thin.false) c.in-Ok.ensures.accepted c.remove_now.new.map.doc c.in-Ok.ensures.removed
+    thin_gone c.args.t c.args.map.now.doc c.args.p n (ap (λ t. is_thin t c.args.map.now.doc c.args.p) (sym same) ∙ sym c.is_thin.ensures ∙ c.if-not-is_thin.false) c.in-Ok.ensures.accepted c.thin_now.new.map.doc c.in-Ok.ensures.removed
 
 pub returns-in-Ok-clause-proper : goal.returns-in-Ok-clause-proper
 returns-in-Ok-clause-proper g c =
     subst Proper (sym c.in-Ok.ensures.removed) (removed c.args.map.now.doc c.args.p c.requires.proper c.in-Ok.ensures.accepted).0
 
+pub returns-in-Ok-clause-recorded : goal.returns-in-Ok-clause-recorded
+returns-in-Ok-clause-recorded g c = λ start.
+    left_one start c.args.map.now c.thin_now.new.map c.args.p c.next_number.ensures.held c.in-Ok.ensures.next c.in-Ok.ensures.places c.in-Ok.ensures.accepted c.in-Ok.ensures.removed c.in-Ok.ensures.recorded
+
 pub returns-in_default : goal.returns-in_default
 returns-in_default g c =
     let same : to_z w128 (of_z w128 c.args.t) ≡ c.args.t = omega (arith, ints) in
     record {
-      thinned = λ n. thin_refused c.args.t c.args.map.now.doc c.args.p n (ap (λ t. is_thin t c.args.map.now.doc c.args.p) (sym same) ∙ sym c.is_thin.ensures ∙ c.if-not-is_thin.false) c.in-Err.fault c.in-Err.ensures.refused c.in_default.not-OutOfMemory c.remove_now.new.map.doc c.in-Err.ensures.unchanged;
+      thinned = λ n. thin_refused c.args.t c.args.map.now.doc c.args.p n (ap (λ t. is_thin t c.args.map.now.doc c.args.p) (sym same) ∙ sym c.is_thin.ensures ∙ c.if-not-is_thin.false) c.in-Err.fault c.in-Err.ensures.refused c.in_default.not-OutOfMemory c.thin_now.new.map.doc c.in-Err.ensures.unchanged;
       unchanged = tt;
       proper = subst Proper (sym c.in-Err.ensures.unchanged) c.requires.proper;
+      recorded = λ start. left_as_is start c.args.map.now c.thin_now.new.map c.in-Err.ensures.next c.in-Err.ensures.places c.in-Err.ensures.unchanged c.in-Err.ensures.still;
+      gone = λ e. absurd (false≢true e);
+      stays = λ _. c.in-Err.ensures.still;
+      still = tt;
       next = c.in-Err.ensures.next;
+      places = c.in-Err.ensures.places;
       few = omega (arith, c.in-Err.ensures.few, most_thin (times_by c.args.map.now.cells) c.args.t c.args.map.now.doc c.args.p (ap (λ t. is_thin t c.args.map.now.doc c.args.p) (sym same) ∙ sym c.is_thin.ensures ∙ c.if-not-is_thin.false));
       cells = c.in-Err.ensures.cells;
     }

@@ -8,26 +8,29 @@ pub loop-raw-init : goal.loop-raw-init
 loop-raw-init g c =
     let it = c.into_iter-raw-iterator in
     layers_begin (into_iter_items it.result) c.new-layers.result.items
-    (progress c.args.features.now.items (into_iter_items c.args.waiting.now)) c.new-layers.ensures.items
-    (subst (λ z. HasRoom (all_leaves z) (progress c.args.features.now.items (into_iter_items c.args.waiting.now))) (sym it.ensures.into_iter_gives.0)
-    (record { few = c.requires.few; there = c.requires.there }))
+    (progress c.args.gathered.now (into_iter_items c.args.waiting.now)) c.new-layers.ensures.items
+    (subst (λ z. HasRoom (all_leaves z) (progress c.args.gathered.now (into_iter_items c.args.waiting.now))) (sym it.ensures.into_iter_gives.0)
+    (record { few = c.requires.few; there = c.requires.there; alike = c.requires.alike }))
 
 pub build_geometry-requires-clause-few : goal.build_geometry-requires-clause-few
 build_geometry-requires-clause-few g c =
     (layer_room (into_iter_items c.loop-raw.raw-iterator) (into_iter_items c.next.new.self) c.in-Some.raw
-    (progress c.loop-raw.features.items (into_iter_items c.loop-raw.waiting)) c.loop-raw.invariant.room c.in-Some.ensures.steps.0).few
+    (progress c.loop-raw.gathered (into_iter_items c.loop-raw.waiting)) c.loop-raw.invariant.room c.in-Some.ensures.steps.0).few
 
 pub build_geometry-requires-clause-there : goal.build_geometry-requires-clause-there
 build_geometry-requires-clause-there g c =
     (layer_room (into_iter_items c.loop-raw.raw-iterator) (into_iter_items c.next.new.self) c.in-Some.raw
-    (progress c.loop-raw.features.items (into_iter_items c.loop-raw.waiting)) c.loop-raw.invariant.room c.in-Some.ensures.steps.0).there
+    (progress c.loop-raw.gathered (into_iter_items c.loop-raw.waiting)) c.loop-raw.invariant.room c.in-Some.ensures.steps.0).there
+
+pub build_geometry-requires-clause-alike : goal.build_geometry-requires-clause-alike
+build_geometry-requires-clause-alike g c = c.loop-raw.invariant.room.alike
 
 pub loop-raw-preserved : goal.loop-raw-preserved
 loop-raw-preserved g c =
-    let start = progress c.args.features.now.items (into_iter_items c.args.waiting.now) in
+    let start = progress c.args.gathered.now (into_iter_items c.args.waiting.now) in
     let raws = into_iter_items c.into_iter-raw-iterator.result in
-    let now = progress c.loop-raw.features.items (into_iter_items c.loop-raw.waiting) in
-    let next = progress c.build_geometry.new.features.items (into_iter_items c.build_geometry.new.waiting) in
+    let now = progress c.loop-raw.gathered (into_iter_items c.loop-raw.waiting) in
+    let next = progress c.build_geometry.new.gathered (into_iter_items c.build_geometry.new.waiting) in
     let layers = c.loop-raw.layers in
     subst (λ z. LayersSoFar raws start (into_iter_items c.next.new.self) z next) (sym c.in_ok-push.ensures.items)
     (layers_more raws start (into_iter_items c.loop-raw.raw-iterator) (into_iter_items c.next.new.self) c.in-Some.raw
@@ -36,10 +39,10 @@ loop-raw-preserved g c =
 
 pub returns : goal.returns
 returns g c =
-    let start = progress c.args.features.now.items (into_iter_items c.args.waiting.now) in
+    let start = progress c.args.gathered.now (into_iter_items c.args.waiting.now) in
     let it = c.into_iter-raw-iterator in
     let raws = into_iter_items it.result in
-    let now = progress c.loop-raw.features.items (into_iter_items c.loop-raw.waiting) in
+    let now = progress c.loop-raw.gathered (into_iter_items c.loop-raw.waiting) in
     subst (λ z. AreLayers 0 z c.loop-raw.layers.items start now) it.ensures.into_iter_gives.0
     (layers_end raws start (into_iter_items c.loop-raw.raw-iterator) c.loop-raw.layers.items now c.loop-raw.invariant
     (nothing_left (into_iter_items c.loop-raw.raw-iterator) (into_iter_len c.loop-raw.raw-iterator) c.loop-raw.raw-iterator.rest.ok.0 c.in-None.ensures.steps.0))

@@ -16,8 +16,8 @@ push_feature-requires-clause-there g c =
 pub returns-in_ok-push-in-Leaf : goal.returns-in_ok-push-in-Leaf
 returns-in_ok-push-in-Leaf g c =
     subst (λ i. IsSlot c.args.layer c.args.slot i (slot.Leaves c.push.new.self)
-    (progress c.args.features.now.items (into_iter_items c.args.waiting.now))
-    (progress c.push_feature.new.features.items (into_iter_items c.push_feature.new.waiting)))
+    (progress c.args.gathered.now (into_iter_items c.args.waiting.now))
+    (progress c.push_feature.new.gathered (into_iter_items c.push_feature.new.waiting)))
     (sym c.in-Leaf.is) (
       (
         c.push.new.self,

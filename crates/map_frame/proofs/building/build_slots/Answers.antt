@@ -8,26 +8,29 @@ pub loop-item-init : goal.loop-item-init
 loop-item-init g c =
     let it = c.into_iter-item-iterator in
     slots_begin c.args.layer (into_iter_items it.result) (into_iter_items it.result) c.new-slots.result.items
-    (progress c.args.features.now.items (into_iter_items c.args.waiting.now)) refl c.new-slots.ensures.items
-    (subst (λ z. HasRoom (leaves_of z) (progress c.args.features.now.items (into_iter_items c.args.waiting.now))) (sym it.ensures.into_iter_gives.0)
-    (record { few = c.requires.few; there = c.requires.there }))
+    (progress c.args.gathered.now (into_iter_items c.args.waiting.now)) refl c.new-slots.ensures.items
+    (subst (λ z. HasRoom (leaves_of z) (progress c.args.gathered.now (into_iter_items c.args.waiting.now))) (sym it.ensures.into_iter_gives.0)
+    (record { few = c.requires.few; there = c.requires.there; alike = c.requires.alike }))
 
 pub build_slot-requires-clause-few : goal.build_slot-requires-clause-few
 build_slot-requires-clause-few g c =
     (room_first (into_iter_items c.loop-item.item-iterator) (into_iter_items c.next.new.self) c.in-Some.item
-    (progress c.loop-item.features.items (into_iter_items c.loop-item.waiting)) c.loop-item.invariant.room c.in-Some.ensures.steps.0).few
+    (progress c.loop-item.gathered (into_iter_items c.loop-item.waiting)) c.loop-item.invariant.room c.in-Some.ensures.steps.0).few
 
 pub build_slot-requires-clause-there : goal.build_slot-requires-clause-there
 build_slot-requires-clause-there g c =
     (room_first (into_iter_items c.loop-item.item-iterator) (into_iter_items c.next.new.self) c.in-Some.item
-    (progress c.loop-item.features.items (into_iter_items c.loop-item.waiting)) c.loop-item.invariant.room c.in-Some.ensures.steps.0).there
+    (progress c.loop-item.gathered (into_iter_items c.loop-item.waiting)) c.loop-item.invariant.room c.in-Some.ensures.steps.0).there
+
+pub build_slot-requires-clause-alike : goal.build_slot-requires-clause-alike
+build_slot-requires-clause-alike g c = c.loop-item.invariant.room.alike
 
 pub loop-item-preserved : goal.loop-item-preserved
 loop-item-preserved g c =
-    let start = progress c.args.features.now.items (into_iter_items c.args.waiting.now) in
+    let start = progress c.args.gathered.now (into_iter_items c.args.waiting.now) in
     let items = into_iter_items c.into_iter-item-iterator.result in
-    let now = progress c.loop-item.features.items (into_iter_items c.loop-item.waiting) in
-    let next = progress c.build_slot.new.features.items (into_iter_items c.build_slot.new.waiting) in
+    let now = progress c.loop-item.gathered (into_iter_items c.loop-item.waiting) in
+    let next = progress c.build_slot.new.gathered (into_iter_items c.build_slot.new.waiting) in
     let slots = c.loop-item.slots in
     subst (λ z. SlotsSoFar c.args.layer items start (into_iter_items c.next.new.self) z next) (sym c.in_ok-push.ensures.items)
     (slots_more c.args.layer items start (into_iter_items c.loop-item.item-iterator) (into_iter_items c.next.new.self) c.in-Some.item
@@ -36,10 +39,10 @@ loop-item-preserved g c =
 
 pub returns : goal.returns
 returns g c =
-    let start = progress c.args.features.now.items (into_iter_items c.args.waiting.now) in
+    let start = progress c.args.gathered.now (into_iter_items c.args.waiting.now) in
     let it = c.into_iter-item-iterator in
     let items = into_iter_items it.result in
-    let now = progress c.loop-item.features.items (into_iter_items c.loop-item.waiting) in
+    let now = progress c.loop-item.gathered (into_iter_items c.loop-item.waiting) in
     subst (λ z. AreSlots c.args.layer 0 z c.loop-item.slots.items start now) it.ensures.into_iter_gives.0
     (slots_end c.args.layer items start (into_iter_items c.loop-item.item-iterator) c.loop-item.slots.items now c.loop-item.invariant
     (nothing_left (into_iter_items c.loop-item.item-iterator) (into_iter_len c.loop-item.item-iterator) c.loop-item.item-iterator.rest.ok.0 c.in-None.ensures.steps.0))

@@ -1,5 +1,5 @@
 use Rattle.std.proofs.Common.{◌≡◌, codes, rules}
-use Rattle.script_lines.proofs.CommandLemmas.{arm_move, arm_insert, arm_remove, arm_thin, arm_split, arm_merge, arm_rename, arm_delete, arm_area, arm_at, arm_neighbours, arm_rings, arm_count, arm_document}
+use Rattle.script_lines.proofs.CommandLemmas.{arm_move, arm_insert, arm_remove, arm_thin, arm_split, arm_merge, arm_rename, arm_delete, arm_undo, arm_area, arm_at, arm_neighbours, arm_rings, arm_count, arm_document}
 use Rattle.script_lines.proofs.parsing.by_word.Goals as goal
 
 pub returns-then-eq : goal.returns-then-eq
@@ -44,30 +44,35 @@ returns-then-eq-8 c =
 
 pub returns-then-eq-9 : goal.returns-then-eq-9
 returns-then-eq-9 c =
-    let is : c.split_word.result.0.now ≡ codes "area" = search rules in
-    arm_area c.args.line.now c.split_word.result.0.now c.split_word.result.1.now c.split_word.ensures.word c.split_word.ensures.rest c.area_behind.result is c.area_behind.ensures
+    let is : c.split_word.result.0.now ≡ codes "undo" = search rules in
+    arm_undo c.args.line.now c.split_word.result.0.now c.split_word.result.1.now c.split_word.ensures.word c.split_word.ensures.rest c.undo_behind.result is c.undo_behind.ensures
 
 pub returns-then-eq-10 : goal.returns-then-eq-10
 returns-then-eq-10 c =
-    let is : c.split_word.result.0.now ≡ codes "at" = search rules in
-    arm_at c.args.line.now c.split_word.result.0.now c.split_word.result.1.now c.split_word.ensures.word c.split_word.ensures.rest c.at_behind.result is c.at_behind.ensures
+    let is : c.split_word.result.0.now ≡ codes "area" = search rules in
+    arm_area c.args.line.now c.split_word.result.0.now c.split_word.result.1.now c.split_word.ensures.word c.split_word.ensures.rest c.area_behind.result is c.area_behind.ensures
 
 pub returns-then-eq-11 : goal.returns-then-eq-11
 returns-then-eq-11 c =
-    let is : c.split_word.result.0.now ≡ codes "neighbours" = search rules in
-    arm_neighbours c.args.line.now c.split_word.result.0.now c.split_word.result.1.now c.split_word.ensures.word c.split_word.ensures.rest c.neighbours_behind.result is c.neighbours_behind.ensures
+    let is : c.split_word.result.0.now ≡ codes "at" = search rules in
+    arm_at c.args.line.now c.split_word.result.0.now c.split_word.result.1.now c.split_word.ensures.word c.split_word.ensures.rest c.at_behind.result is c.at_behind.ensures
 
 pub returns-then-eq-12 : goal.returns-then-eq-12
 returns-then-eq-12 c =
-    let is : c.split_word.result.0.now ≡ codes "rings" = search rules in
-    arm_rings c.args.line.now c.split_word.result.0.now c.split_word.result.1.now c.split_word.ensures.word c.split_word.ensures.rest c.rings_behind.result is c.rings_behind.ensures
+    let is : c.split_word.result.0.now ≡ codes "neighbours" = search rules in
+    arm_neighbours c.args.line.now c.split_word.result.0.now c.split_word.result.1.now c.split_word.ensures.word c.split_word.ensures.rest c.neighbours_behind.result is c.neighbours_behind.ensures
 
 pub returns-then-eq-13 : goal.returns-then-eq-13
 returns-then-eq-13 c =
-    let is : c.split_word.result.0.now ≡ codes "count" = search rules in
-    arm_count c.args.line.now c.split_word.result.0.now c.split_word.result.1.now c.split_word.ensures.word c.split_word.ensures.rest c.count_behind.result is c.count_behind.ensures
+    let is : c.split_word.result.0.now ≡ codes "rings" = search rules in
+    arm_rings c.args.line.now c.split_word.result.0.now c.split_word.result.1.now c.split_word.ensures.word c.split_word.ensures.rest c.rings_behind.result is c.rings_behind.ensures
 
 pub returns-then-eq-14 : goal.returns-then-eq-14
 returns-then-eq-14 c =
+    let is : c.split_word.result.0.now ≡ codes "count" = search rules in
+    arm_count c.args.line.now c.split_word.result.0.now c.split_word.result.1.now c.split_word.ensures.word c.split_word.ensures.rest c.count_behind.result is c.count_behind.ensures
+
+pub returns-then-eq-15 : goal.returns-then-eq-15
+returns-then-eq-15 c =
     let is : c.split_word.result.0.now ≡ codes "document" = search rules in
     arm_document c.args.line.now c.split_word.result.0.now c.split_word.result.1.now c.split_word.ensures.word c.split_word.ensures.rest c.document_behind.result is c.document_behind.ensures

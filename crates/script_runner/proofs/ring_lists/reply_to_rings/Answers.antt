@@ -6,7 +6,6 @@ use Rattle.ring_machine.specs.Parts.{has_feature}
 use Rattle.ring_machine.specs.Refusals.{feature_at}
 use Rattle.point_queries.proofs.Shows.{numbers_shown, count_is, is_shown}
 use Rattle.script_runner.specs.Answers.{polygon_text}
-use Rattle.script_runner.specs.Runs.{state_of}
 use Rattle.script_runner.proofs.ReplyLemmas.{listed, not_listed}
 use Rattle.script_runner.proofs.ListLemmas.{item_step, items_end}
 use Rattle.script_runner.proofs.ring_lists.reply_to_rings.Goals as goal
@@ -14,7 +13,7 @@ use Rattle.script_runner.proofs.ring_lists.reply_to_rings.Goals as goal
 pub returns-in_default : goal.returns-in_default
 returns-in_default g c =
     let none : has_feature c.args.map.now.doc c.args.f ≡ false = is_shown c.args.map.now.doc c.args.f ∙ ap is_some (sym c.feature.ensures.shown ∙ c.in_default.is) in
-    not_listed (state_of c.args.map.now) c.args.f c.args.text.now.items c.extend_from_slice.new.self.items (λ h. false≢true (sym none ∙ h)) c.in_ok-extend_from_slice.ensures.items
+    not_listed c.args.map.now.doc c.args.f c.args.text.now.items c.extend_from_slice.new.self.items (λ h. false≢true (sym none ∙ h)) c.in_ok-extend_from_slice.ensures.items
 
 pub push_polygon-requires : goal.push_polygon-requires
 push_polygon-requires g c =
@@ -38,5 +37,5 @@ returns g c =
     let long = c.polygon_count-polygon-end.ensures ∙ ap length numbers ∙ length-map polygons length in
     let past : length polygons ≤ c.loop-polygon.polygon = omega (arith, long, c.loop-polygon-test.false) in
     let some : has_feature c.args.map.now.doc c.args.f ≡ true = is_shown c.args.map.now.doc c.args.f ∙ ap is_some (sym c.feature.ensures.shown ∙ c.in-Some.is) in
-    listed (state_of c.args.map.now) c.args.f c.args.text.now.items c.extend_from_slice-3.new.self.items some
+    listed c.args.map.now.doc c.args.f c.args.text.now.items c.extend_from_slice-3.new.self.items some
     (items_end polygon_text polygons c.loop-polygon.polygon c.args.text.now.items c.loop-polygon.text.items c.extend_from_slice-3.new.self.items past c.loop-polygon.invariant c.in_ok-extend_from_slice-3.ensures.items)

@@ -10,35 +10,35 @@ use Rattle.script_runner.proofs.running.answer_script.Goals as goal
 pub returns-in-Err-clause-halted : goal.returns-in-Err-clause-halted
 returns-in-Err-clause-halted g c =
     let (read, text, came, put, fed, counted) = c.loop-n.invariant.so_far in
-    lines_kept c.args.map.doc read text c.loop-n.runner _ _ _ _ _ fed came c.in-Err.ensures.err put
+    lines_kept c.args.editor.depth c.args.editor.map.doc read text c.loop-n.runner _ _ _ _ _ fed came c.in-Err.ensures.err put
 
 pub returns-in-Ok-finish-clause-done : goal.returns-in-Ok-finish-clause-done
 returns-in-Ok-finish-clause-done g c =
     let (read, text, came, put, fed, counted) = c.loop-n.invariant.so_far in
-    all_answered c.args.map.doc c.in-Ok-finish.done.1.doc read text c.loop-n.runner c.in-Ok-finish.done.0 _ _ _ _ _ fed (end_read _ _ _ read c.get.new.room c.in-Ok.n c.if-n-eq0.true came c.in-Ok.ensures.ok) put c.in-Ok-finish.ensures.ok
+    all_answered c.args.editor.depth c.args.editor.map.doc c.in-Ok-finish.done.1.map.doc read text c.loop-n.runner c.in-Ok-finish.done.0 _ _ _ _ _ fed (end_read _ _ _ read c.get.new.room c.in-Ok.n c.if-n-eq0.true came c.in-Ok.ensures.ok) put c.in-Ok-finish.ensures.ok
 
 pub returns-in-Err-Write-clause-halted : goal.returns-in-Err-Write-clause-halted
 returns-in-Err-Write-clause-halted g c =
     let (read, text, came, put, fed, counted) = c.loop-n.invariant.so_far in
-    part_at_end c.args.map.doc read text c.loop-n.runner _ _ _ _ _ fed (end_read _ _ _ read c.get.new.room c.in-Ok.n c.if-n-eq0.true came c.in-Ok.ensures.ok) put c.in-Err-Write.ensures.cut
+    part_at_end c.args.editor.depth c.args.editor.map.doc read text c.loop-n.runner _ _ _ _ _ fed (end_read _ _ _ read c.get.new.room c.in-Ok.n c.if-n-eq0.true came c.in-Ok.ensures.ok) put c.in-Err-Write.ensures.cut
 
 pub returns-in-Err-OutOfMemory-clause-halted : goal.returns-in-Err-OutOfMemory-clause-halted
 returns-in-Err-OutOfMemory-clause-halted g c =
     let (read, text, came, put, fed, counted) = c.loop-n.invariant.so_far in
-    part_at_end c.args.map.doc read text c.loop-n.runner _ _ _ _ _ fed (end_read _ _ _ read c.get.new.room c.in-Ok.n c.if-n-eq0.true came c.in-Ok.ensures.ok) put c.in-Err-OutOfMemory.ensures.cut
+    part_at_end c.args.editor.depth c.args.editor.map.doc read text c.loop-n.runner _ _ _ _ _ fed (end_read _ _ _ read c.get.new.room c.in-Ok.n c.if-n-eq0.true came c.in-Ok.ensures.ok) put c.in-Err-OutOfMemory.ensures.cut
 
 pub returns-in-Err-Write-feed-clause-halted : goal.returns-in-Err-Write-feed-clause-halted
 returns-in-Err-Write-feed-clause-halted g c =
     let (read, text, came, put, fed, counted) = c.loop-n.invariant.so_far in
     let within : c.min-taken.result ≤ c.in-Ok.n = omega arith in
-    part_in_piece c.args.map.doc read text (take c.min-taken.result c.get.new.room) (drop c.min-taken.result (take c.in-Ok.n c.get.new.room)) c.loop-n.runner _ _ _ _ _ fed
+    part_in_piece c.args.editor.depth c.args.editor.map.doc read text (take c.min-taken.result c.get.new.room) (drop c.min-taken.result (take c.in-Ok.n c.get.new.room)) c.loop-n.runner _ _ _ _ _ fed
     (piece_came _ _ _ read c.get.new.room c.in-Ok.n c.min-taken.result within came c.in-Ok.ensures.ok) put c.in-Err-Write-feed.ensures.cut
 
 pub returns-in-Err-OutOfMemory-feed-clause-halted : goal.returns-in-Err-OutOfMemory-feed-clause-halted
 returns-in-Err-OutOfMemory-feed-clause-halted g c =
     let (read, text, came, put, fed, counted) = c.loop-n.invariant.so_far in
     let within : c.min-taken.result ≤ c.in-Ok.n = omega arith in
-    part_in_piece c.args.map.doc read text (take c.min-taken.result c.get.new.room) (drop c.min-taken.result (take c.in-Ok.n c.get.new.room)) c.loop-n.runner _ _ _ _ _ fed
+    part_in_piece c.args.editor.depth c.args.editor.map.doc read text (take c.min-taken.result c.get.new.room) (drop c.min-taken.result (take c.in-Ok.n c.get.new.room)) c.loop-n.runner _ _ _ _ _ fed
     (piece_came _ _ _ read c.get.new.room c.in-Ok.n c.min-taken.result within came c.in-Ok.ensures.ok) put c.in-Err-OutOfMemory-feed.ensures.cut
 
 pub returns-then-taken-n-clause-halted : goal.returns-then-taken-n-clause-halted
@@ -46,7 +46,7 @@ returns-then-taken-n-clause-halted g c =
     let (read, text, came, put, fed, counted) = c.loop-n.invariant.so_far in
     let (new, put_new, fed_new) = c.in-Ok-feed.ensures.ok in
     let within : c.min-taken.result ≤ c.in-Ok.n = omega arith in
-    lines_in_piece c.args.map.doc read text (take c.min-taken.result c.get.new.room) (drop c.min-taken.result (take c.in-Ok.n c.get.new.room)) new c.loop-n.runner c.feed.new.self _ _ _ _ _ fed
+    lines_in_piece c.args.editor.depth c.args.editor.map.doc read text (take c.min-taken.result c.get.new.room) (drop c.min-taken.result (take c.in-Ok.n c.get.new.room)) new c.loop-n.runner c.feed.new.self _ _ _ _ _ fed
     (piece_came _ _ _ read c.get.new.room c.in-Ok.n c.min-taken.result within came c.in-Ok.ensures.ok) put put_new fed_new
     (past_limit read c.get.new.room c.in-Ok.n c.min-taken.result c.loop-n.left c.in-Ok.ensures.within c.min-taken.ensures c.if-taken-n.true counted)
 

@@ -1,4 +1,4 @@
-use Rattle.script_runner.specs.Runs.{state_of}
+use Rattle.std.proofs.Common.{ap}
 use Rattle.script_runner.proofs.StepLemmas.{OnErr-by}
 use Rattle.script_runner.proofs.SendLemmas.{document_shown, document_begun}
 use Rattle.script_runner.proofs.sending.send_reply.Goals as goal
@@ -6,9 +6,9 @@ use Rattle.script_runner.proofs.sending.send_reply.Goals as goal
 pub returns-in_err-send_document-in-Some-Document-clause-cut : goal.returns-in_err-send_document-in-Some-Document-clause-cut
 returns-in_err-send_document-in-Some-Document-clause-cut g c =
     rw (c.in-Some-Document.is, c.in-Some-Document.field-0-is)
-    (OnErr-by c.from_residual.result (document_begun (state_of c.args.map.now) (g.W.Sink.taken c.args.out.now) (g.W.Sink.taken c.send_document.new.out) c.in_err-send_document-in-Some-Document.ensures.cut))
+    (OnErr-by c.from_residual.result (document_begun c.args.editor.now (c.map.result.now).doc (ap (λ m. m.doc) c.map.ensures) (g.W.Sink.taken c.args.out.now) (g.W.Sink.taken c.send_document.new.out) c.in_err-send_document-in-Some-Document.ensures.cut))
 
 pub returns-in-Some-Document-clause-ok : goal.returns-in-Some-Document-clause-ok
 returns-in-Some-Document-clause-ok g c =
     rw (c.in-Some-Document.is, c.in-Some-Document.field-0-is)
-    (document_shown (state_of c.args.map.now) (g.W.Sink.taken c.args.out.now) (g.W.Sink.taken c.send_document.new.out) c.in_ok-send_document-in-Some-Document.ensures.ok)
+    (document_shown c.args.editor.now (c.map.result.now).doc (ap (λ m. m.doc) c.map.ensures) (g.W.Sink.taken c.args.out.now) (g.W.Sink.taken c.send_document.new.out) c.in_ok-send_document-in-Some-Document.ensures.ok)

@@ -9,6 +9,7 @@ use Rattle.arc_store.specs.Faults.{Refuses}
 use Rattle.arc_store.specs.State.{State}
 use Rattle.map_text.specs.Strings.{string_text}
 use Rattle.split_merge.proofs.SplitConditions.{areas_add_up}
+use Rattle.split_merge.proofs.Recording.{split_recorded}
 use Rattle.split_merge.proofs.splitting.split.Goals as goal
 
 -- the positions are the path's
@@ -20,7 +21,7 @@ pub split_now-requires-clause-short : goal.split_now-requires-clause-short
 split_now-requires-clause-short g c =
     subst (λ ps. length ps ≤ 256) (sym (c.as_slice.ensures.value ∙ c.path.view_is)) c.requires.short
 
--- the beginning of an edit changes the count of tests alone
+-- the beginning of an edit leaves the document as it is
 pub returns-clause-accepted : goal.returns-clause-accepted
 returns-clause-accepted g c =
     let m = c.args.map.now in
@@ -51,3 +52,9 @@ pub returns-clause-areas : goal.returns-clause-areas
 returns-clause-areas g c =
     subst (λ d. IfOk c.split_now.result (λ made. area_of (feature_at c.split_now.new.map.doc c.args.f) +ℤ area_of (feature_at c.split_now.new.map.doc made) ≡ area_of (feature_at d c.args.f))) (ap (λ (s : State). s.doc) c.begin_edit.ensures.begun)
     (areas_add_up c.split_now.result c.begin_edit.new.self.doc c.split_now.new.map.doc c.begin_edit.new.self.next c.args.f (string_text c.args.id) (path_of c.as_slice.result.now) c.frame.ensures.formed c.begin_edit.ensures.proper c.next_number.ensures.below c.split_now.ensures.accepted c.split_now.ensures.made c.split_now.ensures.split)
+
+pub returns-clause-recorded : goal.returns-clause-recorded
+returns-clause-recorded g c =
+    split_recorded c.args.map.now c.begin_edit.new.self c.split_now.new.map c.begin_edit.ensures.begun c.begin_edit.ensures.held c.split_now.result c.args.f
+    (string_text c.args.id) (path_of c.as_slice.result.now)
+    c.split_now.ensures.accepted c.split_now.ensures.split c.split_now.ensures.recorded c.split_now.ensures.next c.split_now.ensures.places

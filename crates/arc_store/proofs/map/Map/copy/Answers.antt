@@ -1,3 +1,5 @@
+use Rattle.std.proofs.Common.{ap, None}
+use Rattle.arc_store.specs.State.{State}
 use Rattle.arc_store.proofs.map.Map.copy.Goals as goal
 
 pub invariant_of-result : goal.invariant_of-result
@@ -8,4 +10,4 @@ invariant_of-result g c =
 pub returns : goal.returns
 returns g c =
     rw (c.in_ok-frame.ensures, c.in_ok-vertices.ensures, c.in_ok-borders.ensures, c.in_ok-index.ensures.cells)
-    c.self.view_is
+    (ap (λ (s : State). record s { last = None }) c.self.view_is)

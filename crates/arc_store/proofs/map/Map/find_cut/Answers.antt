@@ -1,26 +1,25 @@
-use Rattle.std.proofs.Common.{sym, ap, ◌∙◌, get_or}
+use Rattle.std.proofs.Common.{sym, ap, ◌∙◌, [], get_or, slice_set}
+use Rattle.std.specs.Prelude.{Vec}
+use Rattle.grid_geometry.specs.Position.{Position}
 use Rattle.ring_machine.specs.Refusals.{feature_at}
-use Rattle.ring_parts.specs.Seen.{path_seen, polygons_seen}
-use Rattle.arc_store.proofs.FeaturesKept.{seen_formed, seen_proper}
+use Rattle.ring_parts.specs.Seen.{path_seen, rings_seen, polygons_seen}
 use Rattle.arc_store.proofs.PolygonsSeen.{found_cut}
+use Rattle.arc_store.proofs.SplitPlan.{set_mapped}
 use Rattle.arc_store.proofs.map.Map.find_cut.Goals as goal
 
-pub returns-clause-first : goal.returns-clause-first
-returns-clause-first g c =
-    let rings = c.swap_remove-rings.result in
-    found_cut c.as_slice.result.now (feature_at c.args.self.now.doc c.args.n).polygons
-    (ap polygons_seen c.as_slice.ensures.value ∙ c.in_ok-polygons.ensures ∙ ap (λ s. (feature_at s.doc c.args.n).polygons) c.self.view_is)
-    (path_seen c.args.path.now) c.in-Some.place c.in-Some.ensures.within c.in-Some.ensures.first c.in-Some.ensures.none_before
-    rings (c.swap_remove-rings.ensures.value ∙ ap (λ z. get_or z c.in-Some.place rings) (sym c.as_slice.ensures.value))
-
-pub returns-clause-formed : goal.returns-clause-formed
-returns-clause-formed g c = seen_formed c.self.invariant c.self.view_is
-
-pub returns-clause-proper : goal.returns-clause-proper
-returns-clause-proper g c = seen_proper c.self.invariant c.self.view_is
-
-pub returns-in_err-polygons-clause-formed : goal.returns-in_err-polygons-clause-formed
-returns-in_err-polygons-clause-formed g c = seen_formed c.self.invariant c.self.view_is
-
-pub returns-in_err-polygons-clause-proper : goal.returns-in_err-polygons-clause-proper
-returns-in_err-polygons-clause-proper g c = seen_proper c.self.invariant c.self.view_is
+pub returns-clause-found : goal.returns-clause-found
+returns-clause-found g c =
+    let rings = c.replace-rings.result in
+    let items = c.in_ok-others.others.items in
+    let v = c.replace-rings.ensures.value in
+    let place = c.in-Some.place in
+    record {
+      first = found_cut c.as_slice.result.now (feature_at c.args.self.now.doc c.args.n).polygons
+          (ap polygons_seen c.as_slice.ensures.value ∙ c.in_ok-others.ensures)
+          (path_seen c.args.path.now) c.in-Some.place c.in-Some.ensures.within c.in-Some.ensures.first c.in-Some.ensures.none_before
+          rings (v ∙ c.index_mut.ensures.value ∙ ap (λ z. get_or items c.in-Some.place z) (sym v) ∙ ap (λ z. get_or z c.in-Some.place rings) (sym c.as_slice.ensures.value));
+      others = set_mapped (λ (p : Vec (Vec Position g.row.A.Denot) g.row.A.Denot). rings_seen p.items) c.in_ok-others.others.items place c.replace-rings.new.dest
+          ∙ ap (slice_set (polygons_seen c.in_ok-others.others.items) place)
+          (ap (λ (p : Vec (Vec Position g.row.A.Denot) g.row.A.Denot). rings_seen p.items) c.replace-rings.ensures.after ∙ ap rings_seen c.new.ensures.items)
+          ∙ ap (λ z. slice_set z place []) c.in_ok-others.ensures;
+    }

@@ -1,14 +1,15 @@
-use Rattle.std.proofs.Common.{sym, subst, ap, ap₂, ◌∙◌, arith}
+use Rattle.std.proofs.Common.{sym, subst, ap, ◌∙◌, arith}
 use Rattle.std.proofs.lemmas.Result.{err_from_is_err_and}
 use Rattle.ring_machine.specs.Vertices.{ins}
 use Rattle.segment_index.specs.Candidates.{AreSingle}
 use Rattle.feature_exchange.specs.Stored.{stored, document_of}
 use Rattle.arc_store.specs.Edits.{IsPlaceable}
-use Rattle.arc_store.specs.Planned.{AreNew}
+use Rattle.vertex_changes.specs.Planned.{AreNew}
 use Rattle.arc_store.specs.State.{State}
 use Rattle.arc_store.proofs.InsertPlan.{first_key, second_key, insert_off, insert_new, insert_single}
 use Rattle.arc_store.proofs.InsertPlan.{insert_unjoined, doc_inserted, size_grows, kept_inserted}
 use Rattle.feature_exchange.proofs.SegmentBound.{segments_bound}
+use Rattle.arc_store.proofs.StateKept.{with_document, same_tables}
 use Rattle.arc_store.proofs.map.Map.insert_tables.Goals as goal
 
 pub read_parting-requires-clause-first : goal.read_parting-requires-clause-first
@@ -77,12 +78,13 @@ returns-clause-inserted g c =
     let p = c.in_ok-parting.parting in
     let r = c.in_ok-parting.ensures.read in
     let may = subst (λ (z : State). IsPlaceable z.doc c.args.a c.args.b c.args.q) (sym c.self.view_is) c.requires.placeable in
-    doc_inserted m.frame m.borders c.put_in.new.borders m.vertices c.put_in.new.vertices (g.I.SegIndex.held m.index) (g.I.SegIndex.held c.put_in.new.index) m.positions m.segments c.self.invariant p.ends.0 p.ends.1 c.args.a c.args.b c.args.q r.first r.second may c.in_ok-rings.ensures.put
-    ∙ ap (λ z. ins z.doc c.args.a c.args.b c.args.q) c.self.view_is
+    with_document c.self.invariant c.self.view_is c.put_in.new.borders c.put_in.new.vertices (g.I.SegIndex.cells c.put_in.new.index)
+    (doc_inserted m.frame m.borders c.put_in.new.borders m.vertices c.put_in.new.vertices (g.I.SegIndex.held m.index) (g.I.SegIndex.held c.put_in.new.index) m.positions m.segments c.self.invariant p.ends.0 p.ends.1 c.args.a c.args.b c.args.q r.first r.second may c.in_ok-rings.ensures.put
+    ∙ ap (λ z. ins z.doc c.args.a c.args.b c.args.q) c.self.view_is)
+    c.put_in.ensures.cells
 
 pub returns-in_err-rings-clause-unchanged : goal.returns-in_err-rings-clause-unchanged
 returns-in_err-rings-clause-unchanged g c =
     let e = err_from_is_err_and c.from_residual-in_err-rings.result c.from_residual-in_err-rings.ensures.1 in
     rw e.1
-    (ap₂ (λ x y. document_of (stored c.self.inside.frame x y)) c.in_err-rings.ensures.borders c.in_err-rings.ensures.vertices
-    ∙ ap (λ z. z.doc) c.self.view_is)
+    (same_tables c.self.invariant c.self.view_is c.put_in.new.borders c.put_in.new.vertices (g.I.SegIndex.cells c.put_in.new.index) c.in_err-rings.ensures.borders c.in_err-rings.ensures.vertices c.put_in.ensures.cells)

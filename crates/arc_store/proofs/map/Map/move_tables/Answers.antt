@@ -1,19 +1,18 @@
-use Rattle.std.proofs.Common.{◌∙◌, sym, ap, subst}
+use Rattle.std.proofs.Common.{◌∙◌, sym, ap, subst, refl}
+use Rattle.std.proofs.lemmas.Result.{err_from_is_err_and}
 use Rattle.ring_machine.specs.Parts.{is_vertex}
 use Rattle.segment_index.specs.Candidates.{AreAmong, AreSingle}
 use Rattle.feature_exchange.specs.Stored.{stored}
-use Rattle.arc_store.specs.Planned.{AreNew}
-use Rattle.arc_store.proofs.MovePlan.{plan_new, plan_single, plan_held, plan_once, document_after, kept_after}
+use Rattle.vertex_changes.specs.Planned.{AreNew}
+use Rattle.arc_store.proofs.MovePlan.{has_moving, plan_new, plan_single, plan_held, plan_once, document_after, kept_after}
+use Rattle.arc_store.proofs.StateKept.{with_document, same_tables}
 use Rattle.arc_store.proofs.map.Map.move_tables.Goals as goal
 
 pub read_moving-requires : goal.read_moving-requires
-read_moving-requires g c = record {
-  frame = c.self.inside.frame;
-  held = g.I.SegIndex.held c.self.inside.index;
-  holds = c.self.invariant.holds;
-  vertex = ap (λ z. is_vertex z.doc c.args.p) c.self.view_is ∙ c.requires.movable.vertex;
-  free = ap (λ z. is_vertex z.doc c.args.q) c.self.view_is ∙ c.requires.movable.free;
-}
+read_moving-requires g c =
+    has_moving (stored c.self.inside.frame c.self.inside.borders c.self.inside.vertices) c.self.invariant.holds.whole c.args.p c.args.q
+    (ap (λ z. is_vertex z.doc c.args.p) c.self.view_is ∙ c.requires.movable.vertex)
+    (ap (λ z. is_vertex z.doc c.args.q) c.self.view_is ∙ c.requires.movable.free)
 
 pub shift-requires-clause-new : goal.shift-requires-clause-new
 shift-requires-clause-new g c =
@@ -51,6 +50,22 @@ invariant_of-self g c =
     m.around.items r.all c.as_slice-after.result.now c.as_slice-before.result.now (c.as_slice-after.ensures.value ∙ r.comes) (c.as_slice-before.ensures.value ∙ r.goes)
     c.shift.ensures.moved c.shift.ensures.exchanged c.shift.ensures.vertices c.shift.ensures.index
 
+pub invariant_of-self-2 : goal.invariant_of-self-2
+invariant_of-self-2 g c =
+    let m = c.in_ok-moving.moving in
+    let r = c.in_ok-moving.ensures.read in
+    kept_after c.shift.result c.self.inside.frame c.self.inside.borders c.self.inside.vertices c.shift.new.vertices (g.I.SegIndex.held c.self.inside.index) (g.I.SegIndex.held c.shift.new.index) c.self.inside.positions c.self.inside.segments c.self.invariant c.args.self.now.doc (ap (λ z. z.doc) c.self.view_is) m.key c.args.p c.args.q r.here c.requires.movable
+    m.around.items r.all c.as_slice-after.result.now c.as_slice-before.result.now (c.as_slice-after.ensures.value ∙ r.comes) (c.as_slice-before.ensures.value ∙ r.goes)
+    c.shift.ensures.moved c.shift.ensures.exchanged c.shift.ensures.vertices c.shift.ensures.index
+
 pub returns-clause-moved : goal.returns-clause-moved
 returns-clause-moved g c =
-    document_after c.shift.result c.self.inside.frame c.self.inside.borders c.self.inside.vertices c.shift.new.vertices c.self.invariant.holds.whole c.args.self.now.doc (ap (λ z. z.doc) c.self.view_is) c.in_ok-moving.moving.key c.args.p c.args.q c.in_ok-moving.ensures.read.here c.requires.movable.free c.shift.ensures.moved
+    with_document c.self.invariant c.self.view_is c.self.inside.borders c.shift.new.vertices (g.I.SegIndex.cells c.shift.new.index)
+    (document_after c.self.inside.frame c.self.inside.borders c.self.inside.vertices c.shift.new.vertices c.self.invariant.holds.whole c.args.self.now.doc (ap (λ z. z.doc) c.self.view_is) c.in_ok-moving.moving.key c.args.p c.args.q c.in_ok-moving.ensures.read.here c.requires.movable.free c.in_ok-shift.ensures.moved)
+    c.shift.ensures.cells
+
+pub returns-in_err-shift-clause-unchanged : goal.returns-in_err-shift-clause-unchanged
+returns-in_err-shift-clause-unchanged g c =
+    let e = err_from_is_err_and c.from_residual-in_err-shift.result c.from_residual-in_err-shift.ensures.1 in
+    rw e.1
+    (same_tables c.self.invariant c.self.view_is c.self.inside.borders c.shift.new.vertices (g.I.SegIndex.cells c.shift.new.index) refl c.in_err-shift.ensures.vertices c.shift.ensures.cells)

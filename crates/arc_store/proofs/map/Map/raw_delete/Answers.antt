@@ -1,45 +1,56 @@
-use Rattle.std.proofs.Common.{ap, ◌∙◌, length, arith}
-use Rattle.std.specs.List.{sum_by}
-use Rattle.ring_machine.specs.Join.{take_out}
-use Rattle.ring_parts.specs.Seen.{polygons_seen}
-use Rattle.feature_exchange.specs.Stored.{stored, document_of}
-use Rattle.arc_store.proofs.FeaturesKept.{kept_as, counted_by, gone_few, gone_bounded, gone_sized}
+use Rattle.std.proofs.Common.{◌≡◌, ◌<◌, sym, ap, ◌∙◌, subst, [], ◌∷◌, None}
+use Rattle.std.specs.List.{AllByRecursion}
+use Rattle.ring_machine.proofs.TakenOut.{take_out_none}
+use Rattle.edit_records.specs.Records.{IsMap}
+use Rattle.topo_outline.specs.Kept.{KeepsTexts}
+use Rattle.feature_exchange.specs.Changed.{seen}
+use Rattle.arc_store.specs.Exchanged.{asked_document}
+use Rattle.arc_store.specs.State.{State}
+use Rattle.arc_store.proofs.ChangesRecorded.{record_kept}
+use Rattle.arc_store.proofs.DeletePlan.{deleted_is, deleted_map, deleted_keeps, deleted_below}
 use Rattle.arc_store.proofs.map.Map.raw_delete.Goals as goal
 
-pub count_all-gone-requires : goal.count_all-gone-requires
-count_all-gone-requires g c =
-    omega (
-      arith,
-      ap (λ z. sum_by (sum_by length) (polygons_seen z)) c.as_slice.ensures.value,
-      gone_bounded c.self.invariant c.args.n (polygons_seen c.in_ok-polygons.polygons.items) c.in_ok-polygons.ensures,
-    )
+pub returns-then-not-has_feature-clause-deleted : goal.returns-then-not-has_feature-clause-deleted
+returns-then-not-has_feature-clause-deleted g c =
+    sym (take_out_none c.args.n c.args.self.now.doc (sym c.has_feature.ensures ∙ c.if-not-has_feature.true))
 
-pub take_out_feature-requires-clause-counted : goal.take_out_feature-requires-clause-counted
-take_out_feature-requires-clause-counted g c = counted_by c.self.invariant
+pub exchange-requires-clause-below : goal.exchange-requires-clause-below
+exchange-requires-clause-below g c =
+    let st = c.args.self.now in
+    let n = c.args.n in
+    let placed = c.next_number.ensures.placed in
+    let asked : seen c.as_mut_slice.result.now ≡ (n, None) ∷ [] = ap seen (c.as_mut_slice.ensures.value ∙ c.in_ok-changes.ensures) in
+    subst (λ z. AllByRecursion (λ x. x.0 < st.next) z) (sym asked)
+    (deleted_below st.places st.next st.doc n placed (sym c.has_feature.ensures ∙ c.if-not-has_feature.false))
 
-pub overflow_sub-self : goal.overflow_sub-self
-overflow_sub-self g c =
-    omega (
-      arith,
-      c.count_all-gone.ensures,
-      ap (λ z. sum_by (sum_by length) (polygons_seen z)) c.as_slice.ensures.value,
-      gone_few c.self.invariant c.args.n (polygons_seen c.in_ok-polygons.polygons.items) c.in_ok-polygons.ensures,
-    )
+pub exchange-requires-clause-map : goal.exchange-requires-clause-map
+exchange-requires-clause-map g c =
+    let st = c.args.self.now in
+    let n = c.args.n in
+    let placed = c.next_number.ensures.placed in
+    let asked : seen c.as_mut_slice.result.now ≡ (n, None) ∷ [] = ap seen (c.as_mut_slice.ensures.value ∙ c.in_ok-changes.ensures) in
+    subst (λ z. IsMap (asked_document None z st)) (sym asked) (deleted_map st.places st.next st.doc n placed c.next_number.ensures.held.map)
 
--- refused for want of memory: the document is as it was
-pub invariant_of-self : goal.invariant_of-self
-invariant_of-self g c =
-    let m = c.self.inside in
-    kept_as (document_of (stored m.frame m.borders m.vertices)) c.take_out_feature.ensures.holds c.in_err-take_out_feature.ensures.unchanged c.self.invariant.sized c.take_out_feature.ensures.counted
-
-pub invariant_of-self-2 : goal.invariant_of-self-2
-invariant_of-self-2 g c =
-    let m = c.self.inside in
-    kept_as (take_out (document_of (stored m.frame m.borders m.vertices)) c.args.n) c.take_out_feature.ensures.holds c.in_ok-take_out_feature.ensures.taken
-    (gone_sized c.self.invariant c.args.n (polygons_seen c.in_ok-polygons.polygons.items) c.in_ok-polygons.ensures c.count_all-gone.result
-    (c.count_all-gone.ensures ∙ ap (λ z. sum_by (sum_by length) (polygons_seen z)) c.as_slice.ensures.value))
-    c.take_out_feature.ensures.counted
+pub exchange-requires-clause-texts : goal.exchange-requires-clause-texts
+exchange-requires-clause-texts g c =
+    let st = c.args.self.now in
+    let n = c.args.n in
+    let placed = c.next_number.ensures.placed in
+    let asked : seen c.as_mut_slice.result.now ≡ (n, None) ∷ [] = ap seen (c.as_mut_slice.ensures.value ∙ c.in_ok-changes.ensures) in
+    subst (λ z. KeepsTexts (asked_document None z st)) (sym asked) (deleted_keeps st.places st.next st.doc n placed c.next_number.ensures.keeps)
 
 pub returns-clause-deleted : goal.returns-clause-deleted
 returns-clause-deleted g c =
-    c.in_ok-take_out_feature.ensures.taken ∙ ap (λ s. take_out s.doc c.args.n) c.self.view_is
+    let st = c.args.self.now in
+    let n = c.args.n in
+    let placed = c.next_number.ensures.placed in
+    let asked : seen c.as_mut_slice.result.now ≡ (n, None) ∷ [] = ap seen (c.as_mut_slice.ensures.value ∙ c.in_ok-changes.ensures) in
+    ap (λ (s : State). s.doc) (c.self-2.view_is ∙ c.in_ok-exchange.ensures.exchanged) ∙ ap (λ z. asked_document None z st) asked
+    ∙ deleted_is st.places st.next st.doc n placed
+
+pub returns-clause-recorded : goal.returns-clause-recorded
+returns-clause-recorded g c =
+    let v = c.in_ok-changes.changes in
+    λ there.
+    record_kept c.args.self.now.doc v.items c.as_mut_slice.result.now c.exchange.new.changes v.len v.ok.0 c.as_mut_slice.ensures.value c.in_ok-exchange.ensures.had
+    ((c.args.n, None) ∷ []) (ap seen (c.as_mut_slice.ensures.value ∙ c.in_ok-changes.ensures))

@@ -2,7 +2,8 @@ use Rattle.std.proofs.Common.{sym, subst, ap, ◌∙◌, arith}
 use Rattle.ring_machine.specs.Vertices.{ins}
 use Rattle.segment_index.specs.Candidates.{AreSingle}
 use Rattle.feature_exchange.specs.Stored.{stored, document_of}
-use Rattle.arc_store.specs.Planned.{AreNew}
+use Rattle.vertex_changes.specs.Planned.{AreNew}
+use Rattle.arc_store.specs.State.{State}
 use Rattle.arc_store.proofs.Accepted.{insert_may}
 use Rattle.arc_store.proofs.Indexed.{indexed_apart}
 use Rattle.arc_store.proofs.InsertPlan.{first_key, second_key, insert_off, insert_new, insert_single}
@@ -94,8 +95,22 @@ returns-clause-inserted g c =
     let small = rw (← c.self.view_is) at c.requires.small in
     let s = stored m.frame m.borders m.vertices in
     let may = insert_may (document_of s) c.args.a c.args.b c.args.q c.requires.apart small (c.in_ok-test_insert.ensures.accepted (document_of s) (insertable s (g.I.SegIndex.held m.index) c.self.invariant.holds c.args.a c.args.b c.args.q border free small)) in
-    doc_inserted m.frame m.borders c.put_in.new.borders m.vertices c.put_in.new.vertices (g.I.SegIndex.held m.index) (g.I.SegIndex.held c.put_in.new.index) m.positions m.segments c.self.invariant p.ends.0 p.ends.1 c.args.a c.args.b c.args.q r.first r.second may c.in_ok-rings.ensures.put
+    ap (λ (s : State). s.doc) c.keep.ensures
+    ∙ doc_inserted m.frame m.borders c.put_in.new.borders m.vertices c.put_in.new.vertices (g.I.SegIndex.held m.index) (g.I.SegIndex.held c.put_in.new.index) m.positions m.segments c.self.invariant p.ends.0 p.ends.1 c.args.a c.args.b c.args.q r.first r.second may c.in_ok-rings.ensures.put
     ∙ ap (λ z. ins z.doc c.args.a c.args.b c.args.q) c.self.view_is
+
+pub returns-clause-recorded : goal.returns-clause-recorded
+returns-clause-recorded g c = ap (λ (s : State). s.last) c.keep.ensures
+
+pub returns-clause-next : goal.returns-clause-next
+returns-clause-next g c = ap (λ (s : State). s.next) c.keep.ensures ∙ ap (λ (s : State). s.next) c.self.view_is
+
+pub returns-clause-places : goal.returns-clause-places
+returns-clause-places g c = ap (λ (s : State). s.places) c.keep.ensures ∙ ap (λ (s : State). s.places) c.self.view_is
+
+pub returns-clause-cells : goal.returns-clause-cells
+returns-clause-cells g c =
+    ap (λ (s : State). s.cells) c.keep.ensures ∙ c.put_in.ensures.cells ∙ ap (λ (s : State). s.cells) c.self.view_is
 
 -- ---- the tests
 
@@ -112,4 +127,5 @@ returns-in_err-rings-clause-few g c =
 pub returns-clause-few : goal.returns-clause-few
 returns-clause-few g c =
     let r = c.in_ok-parting.ensures.read in
-    inserted_few c.self.invariant c.self.view_is c.args.a c.args.b c.args.q c.requires.segment c.requires.free c.requires.small c.in_ok-parting.parting.before c.as_slice-after.result.now r.goes (c.as_slice-after.ensures.value ∙ r.comes) c.test_insert.new.tests c.test_insert.ensures.few
+    rw (ap (λ (s : State). s.tests) c.keep.ensures)
+    (inserted_few c.self.invariant c.self.view_is c.args.a c.args.b c.args.q c.requires.segment c.requires.free c.requires.small c.in_ok-parting.parting.before c.as_slice-after.result.now r.goes (c.as_slice-after.ensures.value ∙ r.comes) c.test_insert.new.tests c.test_insert.ensures.few)

@@ -1,95 +1,123 @@
-use Rattle.std.proofs.Common.{ap, ◌∙◌, arith}
-use Rattle.ring_machine.specs.Join.{join}
-use Rattle.ring_machine.specs.Refusals.{feature_at}
+use Rattle.std.proofs.Common.{◌≡◌, ◌<◌, refl, sym, ap, ◌∙◌, subst, map, [], ◌∷◌, Some, None, arith}
+use Rattle.std.specs.List.{AllByRecursion}
+use Rattle.ring_machine.specs.WellFormed.{are_distinct}
 use Rattle.ring_parts.specs.Seen.{rings_seen, polygons_seen}
-use Rattle.feature_exchange.specs.Stored.{stored, document_of}
-use Rattle.arc_store.proofs.FeaturesKept.{counted_by, kept_as}
+use Rattle.edit_records.specs.Records.{IsMap}
+use Rattle.topo_outline.specs.Kept.{KeepsTexts}
+use Rattle.feature_exchange.specs.Changed.{seen}
+use Rattle.arc_store.specs.Exchanged.{asked_document, with_polygons}
+use Rattle.arc_store.specs.State.{State}
+use Rattle.arc_store.proofs.ChangesCounted.{seen_two, two_apart}
+use Rattle.arc_store.proofs.ChangesRecorded.{record_kept}
 use Rattle.arc_store.proofs.MergePlan as plan
 use Rattle.arc_store.proofs.PolygonsSeen.{first_seen}
 use Rattle.arc_store.proofs.map.Map.raw_merge.Goals as goal
 
 pub index-requires : goal.index-requires
 index-requires g c =
-    let there = plan.first_there c.self.invariant c.self.view_is c.args.n c.args.g c.requires c.in_ok-ones.ones.items
-    (c.in_ok-ones.ensures ∙ ap (λ s. (feature_at s.doc c.args.n).polygons) c.self.view_is) in
+    let there = plan.first_there c.args.self.now.doc c.args.n c.args.g c.requires c.in_ok-ones.ones.items c.in_ok-ones.ensures in
     omega (arith, there, c.in_ok-ones.ones.ok)
 
 pub index-requires-2 : goal.index-requires-2
 index-requires-2 g c =
-    let there = plan.second_there c.self.invariant c.self.view_is c.args.n c.args.g c.requires c.in_ok-others.others.items
-    (c.in_ok-others.ensures ∙ ap (λ s. (feature_at s.doc c.args.g).polygons) c.self.view_is) in
+    let there = plan.second_there c.args.self.now.doc c.args.n c.args.g c.requires c.in_ok-others.others.items c.in_ok-others.ensures in
     omega (arith, there, c.in_ok-others.others.ok)
 
-pub count_left_out-left_out-requires : goal.count_left_out-left_out-requires
-count_left_out-left_out-requires g c =
-    let ones = c.in_ok-ones.ensures ∙ ap (λ s. (feature_at s.doc c.args.n).polygons) c.self.view_is in
-    let others = c.in_ok-others.ensures ∙ ap (λ s. (feature_at s.doc c.args.g).polygons) c.self.view_is in
-    let one = first_seen c.in_ok-ones.ones.items c.index.result.now c.index.ensures (plan.first_there c.self.invariant c.self.view_is c.args.n c.args.g c.requires c.in_ok-ones.ones.items ones) c.as_slice-one.result.now c.as_slice-one.ensures.value in
-    let other = first_seen c.in_ok-others.others.items c.index-2.result.now c.index-2.ensures (plan.second_there c.self.invariant c.self.view_is c.args.n c.args.g c.requires c.in_ok-others.others.items others) c.as_slice-other.result.now c.as_slice-other.ensures.value in
-    let rings = ap rings_seen c.as_slice-rings.ensures.value ∙ c.in_ok-rings.ensures in
-    record {
-      many = plan.both_few c.self.invariant c.self.view_is c.args.n c.args.g c.requires (polygons_seen c.in_ok-ones.ones.items) (polygons_seen c.in_ok-others.others.items) ones others
-          (rings_seen c.as_slice-one.result.now) (rings_seen c.as_slice-other.result.now) one other;
-      fewer = plan.made_short c.self.invariant c.self.view_is c.args.n c.args.g c.requires (polygons_seen c.in_ok-ones.ones.items) (polygons_seen c.in_ok-others.others.items) ones others
-          (rings_seen c.as_slice-one.result.now) (rings_seen c.as_slice-other.result.now) one other (rings_seen c.as_slice-rings.result.now) rings;
-    }
+pub with_polygons-requires : goal.with_polygons-requires
+with_polygons-requires g c = plan.first_has c.args.self.now.doc c.args.n c.args.g c.requires
 
-pub join_features-requires : goal.join_features-requires
-join_features-requires g c =
-    let ones = c.in_ok-ones.ensures ∙ ap (λ s. (feature_at s.doc c.args.n).polygons) c.self.view_is in
-    let others = c.in_ok-others.ensures ∙ ap (λ s. (feature_at s.doc c.args.g).polygons) c.self.view_is in
-    let one = first_seen c.in_ok-ones.ones.items c.index.result.now c.index.ensures (plan.first_there c.self.invariant c.self.view_is c.args.n c.args.g c.requires c.in_ok-ones.ones.items ones) c.as_slice-one.result.now c.as_slice-one.ensures.value in
-    let other = first_seen c.in_ok-others.others.items c.index-2.result.now c.index-2.ensures (plan.second_there c.self.invariant c.self.view_is c.args.n c.args.g c.requires c.in_ok-others.others.items others) c.as_slice-other.result.now c.as_slice-other.ensures.value in
-    let rings = ap rings_seen c.as_slice-rings.ensures.value ∙ c.in_ok-rings.ensures in
-    record {
-      holds = c.self.invariant.holds;
-      counted = counted_by c.self.invariant;
-      two = plan.two c.self.invariant c.self.view_is c.args.n c.args.g c.requires;
-      there = plan.one_polygon c.self.invariant c.self.view_is c.args.n c.args.g c.requires;
-      rings = plan.made_rings c.self.invariant c.self.view_is c.args.n c.args.g c.requires (polygons_seen c.in_ok-ones.ones.items) (polygons_seen c.in_ok-others.others.items) ones others
-          (rings_seen c.as_slice-one.result.now) (rings_seen c.as_slice-other.result.now) one other (rings_seen c.as_slice-rings.result.now) rings;
-      proper = plan.joined_proper c.self.invariant c.self.view_is c.args.n c.args.g c.requires (polygons_seen c.in_ok-ones.ones.items) (polygons_seen c.in_ok-others.others.items) ones others
-          (rings_seen c.as_slice-one.result.now) (rings_seen c.as_slice-other.result.now) one other (rings_seen c.as_slice-rings.result.now) rings;
-      small = plan.joined_small c.self.invariant c.self.view_is c.args.n c.args.g c.requires (polygons_seen c.in_ok-ones.ones.items) (polygons_seen c.in_ok-others.others.items) ones others
-          (rings_seen c.as_slice-one.result.now) (rings_seen c.as_slice-other.result.now) one other (rings_seen c.as_slice-rings.result.now) rings;
-    }
+pub exchange-requires-clause-apart : goal.exchange-requires-clause-apart
+exchange-requires-clause-apart g c =
+    let st = c.args.self.now in
+    let d = st.doc in
+    let ones = c.in_ok-ones.ones.items in
+    let others = c.in_ok-others.others.items in
+    let one = first_seen ones c.index.result.now c.index.ensures (plan.first_there d c.args.n c.args.g c.requires ones c.in_ok-ones.ensures) c.as_slice.result.now c.as_slice.ensures.value in
+    let other = first_seen others c.index-2.result.now c.index-2.ensures (plan.second_there d c.args.n c.args.g c.requires others c.in_ok-others.ensures) c.as_slice-2.result.now c.as_slice-2.ensures.value in
+    let made = rings_seen c.in_ok-rings.rings.items in
+    let asked : seen c.as_mut_slice.result.now ≡ (c.args.n, Some (with_polygons d c.args.n (made ∷ []))) ∷ (c.args.g, None) ∷ [] =
+    seen_two c.in_ok-joined.joined (record { number = c.args.g; was = None }) (c.args.n, Some (with_polygons d c.args.n (made ∷ []))) (c.args.g, None)
+    c.as_mut_slice.result.now (c.as_mut_slice.ensures.value ∙ c.in_ok-changes.ensures)
+    (c.in_ok-joined.ensures ∙ ap (λ z. (c.args.n, Some (with_polygons d c.args.n (polygons_seen z))) ∷ []) c.in_ok-one_polygon.ensures) refl in
+    ap (λ z. are_distinct (map (λ x. x.0) z)) asked ∙ two_apart c.args.n c.args.g (plan.numbers_differ d c.args.n c.args.g c.requires)
 
--- refused for want of memory: the document is as it was
-pub invariant_of-self : goal.invariant_of-self
-invariant_of-self g c =
-    let m = c.self.inside in
-    kept_as (document_of (stored m.frame m.borders m.vertices)) c.join_features.ensures.holds c.in_err-join_features.ensures.unchanged c.self.invariant.sized c.join_features.ensures.counted
+pub exchange-requires-clause-below : goal.exchange-requires-clause-below
+exchange-requires-clause-below g c =
+    let st = c.args.self.now in
+    let d = st.doc in
+    let ones = c.in_ok-ones.ones.items in
+    let others = c.in_ok-others.others.items in
+    let one = first_seen ones c.index.result.now c.index.ensures (plan.first_there d c.args.n c.args.g c.requires ones c.in_ok-ones.ensures) c.as_slice.result.now c.as_slice.ensures.value in
+    let other = first_seen others c.index-2.result.now c.index-2.ensures (plan.second_there d c.args.n c.args.g c.requires others c.in_ok-others.ensures) c.as_slice-2.result.now c.as_slice-2.ensures.value in
+    let made = rings_seen c.in_ok-rings.rings.items in
+    let asked : seen c.as_mut_slice.result.now ≡ (c.args.n, Some (with_polygons d c.args.n (made ∷ []))) ∷ (c.args.g, None) ∷ [] =
+    seen_two c.in_ok-joined.joined (record { number = c.args.g; was = None }) (c.args.n, Some (with_polygons d c.args.n (made ∷ []))) (c.args.g, None)
+    c.as_mut_slice.result.now (c.as_mut_slice.ensures.value ∙ c.in_ok-changes.ensures)
+    (c.in_ok-joined.ensures ∙ ap (λ z. (c.args.n, Some (with_polygons d c.args.n (polygons_seen z))) ∷ []) c.in_ok-one_polygon.ensures) refl in
+    subst (λ z. AllByRecursion (λ x. x.0 < st.next) z) (sym asked) (plan.merge_below d c.args.n c.args.g c.requires st.places st.next c.next_number.ensures.placed c.next_number.ensures.held.map c.next_number.ensures.keeps
+    (polygons_seen ones) (polygons_seen others) c.in_ok-ones.ensures c.in_ok-others.ensures (rings_seen c.as_slice.result.now) (rings_seen c.as_slice-2.result.now) made
+    one other c.in_ok-rings.ensures)
 
-pub overflow_sub-self : goal.overflow_sub-self
-overflow_sub-self g c =
-    let ones = c.in_ok-ones.ensures ∙ ap (λ s. (feature_at s.doc c.args.n).polygons) c.self.view_is in
-    let others = c.in_ok-others.ensures ∙ ap (λ s. (feature_at s.doc c.args.g).polygons) c.self.view_is in
-    let one = first_seen c.in_ok-ones.ones.items c.index.result.now c.index.ensures (plan.first_there c.self.invariant c.self.view_is c.args.n c.args.g c.requires c.in_ok-ones.ones.items ones) c.as_slice-one.result.now c.as_slice-one.ensures.value in
-    let other = first_seen c.in_ok-others.others.items c.index-2.result.now c.index-2.ensures (plan.second_there c.self.invariant c.self.view_is c.args.n c.args.g c.requires c.in_ok-others.others.items others) c.as_slice-other.result.now c.as_slice-other.ensures.value in
-    let rings = ap rings_seen c.as_slice-rings.ensures.value ∙ c.in_ok-rings.ensures in
-    plan.joined_left c.self.invariant c.self.view_is c.args.n c.args.g c.requires (polygons_seen c.in_ok-ones.ones.items) (polygons_seen c.in_ok-others.others.items) ones others
-    (rings_seen c.as_slice-one.result.now) (rings_seen c.as_slice-other.result.now) one other (rings_seen c.as_slice-rings.result.now) rings c.count_left_out-left_out.result c.count_left_out-left_out.ensures
+pub exchange-requires-clause-map : goal.exchange-requires-clause-map
+exchange-requires-clause-map g c =
+    let st = c.args.self.now in
+    let d = st.doc in
+    let ones = c.in_ok-ones.ones.items in
+    let others = c.in_ok-others.others.items in
+    let one = first_seen ones c.index.result.now c.index.ensures (plan.first_there d c.args.n c.args.g c.requires ones c.in_ok-ones.ensures) c.as_slice.result.now c.as_slice.ensures.value in
+    let other = first_seen others c.index-2.result.now c.index-2.ensures (plan.second_there d c.args.n c.args.g c.requires others c.in_ok-others.ensures) c.as_slice-2.result.now c.as_slice-2.ensures.value in
+    let made = rings_seen c.in_ok-rings.rings.items in
+    let asked : seen c.as_mut_slice.result.now ≡ (c.args.n, Some (with_polygons d c.args.n (made ∷ []))) ∷ (c.args.g, None) ∷ [] =
+    seen_two c.in_ok-joined.joined (record { number = c.args.g; was = None }) (c.args.n, Some (with_polygons d c.args.n (made ∷ []))) (c.args.g, None)
+    c.as_mut_slice.result.now (c.as_mut_slice.ensures.value ∙ c.in_ok-changes.ensures)
+    (c.in_ok-joined.ensures ∙ ap (λ z. (c.args.n, Some (with_polygons d c.args.n (polygons_seen z))) ∷ []) c.in_ok-one_polygon.ensures) refl in
+    subst (λ z. IsMap (asked_document None z st)) (sym asked) (plan.merge_map d c.args.n c.args.g c.requires st.places st.next c.next_number.ensures.placed c.next_number.ensures.held.map c.next_number.ensures.keeps
+    (polygons_seen ones) (polygons_seen others) c.in_ok-ones.ensures c.in_ok-others.ensures (rings_seen c.as_slice.result.now) (rings_seen c.as_slice-2.result.now) made
+    one other c.in_ok-rings.ensures)
 
-pub invariant_of-self-2 : goal.invariant_of-self-2
-invariant_of-self-2 g c =
-    let ones = c.in_ok-ones.ensures ∙ ap (λ s. (feature_at s.doc c.args.n).polygons) c.self.view_is in
-    let others = c.in_ok-others.ensures ∙ ap (λ s. (feature_at s.doc c.args.g).polygons) c.self.view_is in
-    let one = first_seen c.in_ok-ones.ones.items c.index.result.now c.index.ensures (plan.first_there c.self.invariant c.self.view_is c.args.n c.args.g c.requires c.in_ok-ones.ones.items ones) c.as_slice-one.result.now c.as_slice-one.ensures.value in
-    let other = first_seen c.in_ok-others.others.items c.index-2.result.now c.index-2.ensures (plan.second_there c.self.invariant c.self.view_is c.args.n c.args.g c.requires c.in_ok-others.others.items others) c.as_slice-other.result.now c.as_slice-other.ensures.value in
-    let rings = ap rings_seen c.as_slice-rings.ensures.value ∙ c.in_ok-rings.ensures in
-    kept_as (join c.args.self.now.doc c.args.n (feature_at c.args.self.now.doc c.args.g)) c.join_features.ensures.holds
-    (c.in_ok-join_features.ensures.joined ∙ plan.joined_is c.self.invariant c.self.view_is c.args.n c.args.g c.requires (polygons_seen c.in_ok-ones.ones.items) (polygons_seen c.in_ok-others.others.items) ones others
-    (rings_seen c.as_slice-one.result.now) (rings_seen c.as_slice-other.result.now) one other (rings_seen c.as_slice-rings.result.now) rings)
-    (plan.joined_sized c.self.invariant c.self.view_is c.args.n c.args.g c.requires (polygons_seen c.in_ok-ones.ones.items) (polygons_seen c.in_ok-others.others.items) ones others
-    (rings_seen c.as_slice-one.result.now) (rings_seen c.as_slice-other.result.now) one other (rings_seen c.as_slice-rings.result.now) rings c.count_left_out-left_out.result c.count_left_out-left_out.ensures)
-    c.join_features.ensures.counted
+pub exchange-requires-clause-texts : goal.exchange-requires-clause-texts
+exchange-requires-clause-texts g c =
+    let st = c.args.self.now in
+    let d = st.doc in
+    let ones = c.in_ok-ones.ones.items in
+    let others = c.in_ok-others.others.items in
+    let one = first_seen ones c.index.result.now c.index.ensures (plan.first_there d c.args.n c.args.g c.requires ones c.in_ok-ones.ensures) c.as_slice.result.now c.as_slice.ensures.value in
+    let other = first_seen others c.index-2.result.now c.index-2.ensures (plan.second_there d c.args.n c.args.g c.requires others c.in_ok-others.ensures) c.as_slice-2.result.now c.as_slice-2.ensures.value in
+    let made = rings_seen c.in_ok-rings.rings.items in
+    let asked : seen c.as_mut_slice.result.now ≡ (c.args.n, Some (with_polygons d c.args.n (made ∷ []))) ∷ (c.args.g, None) ∷ [] =
+    seen_two c.in_ok-joined.joined (record { number = c.args.g; was = None }) (c.args.n, Some (with_polygons d c.args.n (made ∷ []))) (c.args.g, None)
+    c.as_mut_slice.result.now (c.as_mut_slice.ensures.value ∙ c.in_ok-changes.ensures)
+    (c.in_ok-joined.ensures ∙ ap (λ z. (c.args.n, Some (with_polygons d c.args.n (polygons_seen z))) ∷ []) c.in_ok-one_polygon.ensures) refl in
+    subst (λ z. KeepsTexts (asked_document None z st)) (sym asked) (plan.merge_keeps d c.args.n c.args.g c.requires st.places st.next c.next_number.ensures.placed c.next_number.ensures.held.map c.next_number.ensures.keeps
+    (polygons_seen ones) (polygons_seen others) c.in_ok-ones.ensures c.in_ok-others.ensures (rings_seen c.as_slice.result.now) (rings_seen c.as_slice-2.result.now) made
+    one other c.in_ok-rings.ensures)
 
 pub returns-clause-merged : goal.returns-clause-merged
 returns-clause-merged g c =
-    let ones = c.in_ok-ones.ensures ∙ ap (λ s. (feature_at s.doc c.args.n).polygons) c.self.view_is in
-    let others = c.in_ok-others.ensures ∙ ap (λ s. (feature_at s.doc c.args.g).polygons) c.self.view_is in
-    let one = first_seen c.in_ok-ones.ones.items c.index.result.now c.index.ensures (plan.first_there c.self.invariant c.self.view_is c.args.n c.args.g c.requires c.in_ok-ones.ones.items ones) c.as_slice-one.result.now c.as_slice-one.ensures.value in
-    let other = first_seen c.in_ok-others.others.items c.index-2.result.now c.index-2.ensures (plan.second_there c.self.invariant c.self.view_is c.args.n c.args.g c.requires c.in_ok-others.others.items others) c.as_slice-other.result.now c.as_slice-other.ensures.value in
-    let rings = ap rings_seen c.as_slice-rings.ensures.value ∙ c.in_ok-rings.ensures in
-    c.in_ok-join_features.ensures.joined ∙ plan.joined_is c.self.invariant c.self.view_is c.args.n c.args.g c.requires (polygons_seen c.in_ok-ones.ones.items) (polygons_seen c.in_ok-others.others.items) ones others
-    (rings_seen c.as_slice-one.result.now) (rings_seen c.as_slice-other.result.now) one other (rings_seen c.as_slice-rings.result.now) rings
+    let st = c.args.self.now in
+    let d = st.doc in
+    let ones = c.in_ok-ones.ones.items in
+    let others = c.in_ok-others.others.items in
+    let one = first_seen ones c.index.result.now c.index.ensures (plan.first_there d c.args.n c.args.g c.requires ones c.in_ok-ones.ensures) c.as_slice.result.now c.as_slice.ensures.value in
+    let other = first_seen others c.index-2.result.now c.index-2.ensures (plan.second_there d c.args.n c.args.g c.requires others c.in_ok-others.ensures) c.as_slice-2.result.now c.as_slice-2.ensures.value in
+    let made = rings_seen c.in_ok-rings.rings.items in
+    let asked : seen c.as_mut_slice.result.now ≡ (c.args.n, Some (with_polygons d c.args.n (made ∷ []))) ∷ (c.args.g, None) ∷ [] =
+    seen_two c.in_ok-joined.joined (record { number = c.args.g; was = None }) (c.args.n, Some (with_polygons d c.args.n (made ∷ []))) (c.args.g, None)
+    c.as_mut_slice.result.now (c.as_mut_slice.ensures.value ∙ c.in_ok-changes.ensures)
+    (c.in_ok-joined.ensures ∙ ap (λ z. (c.args.n, Some (with_polygons d c.args.n (polygons_seen z))) ∷ []) c.in_ok-one_polygon.ensures) refl in
+    ap (λ (s : State). s.doc) (c.self-2.view_is ∙ c.in_ok-exchange.ensures.exchanged) ∙ ap (λ z. asked_document None z st) asked
+    ∙ plan.merge_is d c.args.n c.args.g c.requires st.places st.next c.next_number.ensures.placed c.next_number.ensures.held.map c.next_number.ensures.keeps
+    (polygons_seen ones) (polygons_seen others) c.in_ok-ones.ensures c.in_ok-others.ensures (rings_seen c.as_slice.result.now) (rings_seen c.as_slice-2.result.now) made
+    one other c.in_ok-rings.ensures
+
+pub returns-clause-recorded : goal.returns-clause-recorded
+returns-clause-recorded g c =
+    let d = c.args.self.now.doc in
+    let v = c.in_ok-changes.changes in
+    let made = rings_seen c.in_ok-rings.rings.items in
+    let asked : seen c.as_mut_slice.result.now ≡ (c.args.n, Some (with_polygons d c.args.n (made ∷ []))) ∷ (c.args.g, None) ∷ [] =
+    seen_two c.in_ok-joined.joined (record { number = c.args.g; was = None }) (c.args.n, Some (with_polygons d c.args.n (made ∷ []))) (c.args.g, None)
+    c.as_mut_slice.result.now (c.as_mut_slice.ensures.value ∙ c.in_ok-changes.ensures)
+    (c.in_ok-joined.ensures ∙ ap (λ z. (c.args.n, Some (with_polygons d c.args.n (polygons_seen z))) ∷ []) c.in_ok-one_polygon.ensures) refl in
+    record_kept d v.items c.as_mut_slice.result.now c.exchange.new.changes v.len v.ok.0 c.as_mut_slice.ensures.value c.in_ok-exchange.ensures.had
+    ((c.args.n, Some (with_polygons d c.args.n (made ∷ []))) ∷ (c.args.g, None) ∷ []) asked

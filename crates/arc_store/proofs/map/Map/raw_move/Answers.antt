@@ -1,26 +1,24 @@
 use Rattle.std.proofs.Common.{◌∙◌, sym, ap, subst, [], ◌∷◌}
 use Rattle.std.specs.Prelude.{not}
-use Rattle.std.proofs.lemmas.Result.{err_from_is_err_and, on_ok_weaker}
+use Rattle.std.proofs.lemmas.Result.{err_from_is_err_and}
 use Rattle.ring_machine.specs.Parts.{is_vertex}
 use Rattle.ring_machine.specs.Command.{Sweeps}
 use Rattle.ring_machine.specs.Refusals.{first_of, ◌unless◌}
 use Rattle.segment_index.specs.Candidates.{AreAmong, AreSingle}
 use Rattle.feature_exchange.specs.Stored.{stored}
-use Rattle.arc_store.specs.Planned.{AreNew}
+use Rattle.vertex_changes.specs.Planned.{AreNew}
+use Rattle.arc_store.specs.State.{State}
 use Rattle.arc_store.proofs.Accepted.{move_may}
 use Rattle.arc_store.proofs.MovePlan.{held_apart, move_conflicts, move_decided}
-use Rattle.arc_store.proofs.MovePlan.{plan_new, plan_single, plan_held, plan_once, document_after, kept_after}
+use Rattle.arc_store.proofs.MovePlan.{has_moving, plan_new, plan_single, plan_held, plan_once, document_after, kept_after}
 use Rattle.arc_store.proofs.Tested.{conflicts_few, sweeps_few}
 use Rattle.arc_store.proofs.map.Map.raw_move.Goals as goal
 
 pub read_moving-requires : goal.read_moving-requires
-read_moving-requires g c = record {
-  frame = c.self.inside.frame;
-  held = g.I.SegIndex.held c.self.inside.index;
-  holds = c.self.invariant.holds;
-  vertex = ap (λ z. is_vertex z.doc c.args.p) c.self.view_is ∙ c.requires.vertex;
-  free = ap (λ z. is_vertex z.doc c.args.q) c.self.view_is ∙ c.requires.free;
-}
+read_moving-requires g c =
+    has_moving (stored c.self.inside.frame c.self.inside.borders c.self.inside.vertices) c.self.invariant.holds.whole c.args.p c.args.q
+    (ap (λ z. is_vertex z.doc c.args.p) c.self.view_is ∙ c.requires.vertex)
+    (ap (λ z. is_vertex z.doc c.args.q) c.self.view_is ∙ c.requires.free)
 
 pub test_planar-requires : goal.test_planar-requires
 test_planar-requires g c =
@@ -89,16 +87,28 @@ pub returns-clause-accepted : goal.returns-clause-accepted
 returns-clause-accepted g c =
     let m = c.in_ok-moving.moving in
     let r = c.in_ok-moving.ensures.read in
-    on_ok_weaker c.shift.result (λ z.
     move_decided (stored c.self.inside.frame c.self.inside.borders c.self.inside.vertices) (g.I.SegIndex.held c.self.inside.index) c.self.invariant.holds c.args.self.now.doc (ap (λ z. z.doc) c.self.view_is) m.key c.args.p c.args.q r.here c.requires.vertex c.requires.free m.around.items r.all c.as_slice-after.result.now
     (c.as_slice-after.ensures.value ∙ r.comes)
     c.as_slice-around.result.now c.as_slice-around.ensures.value c.in_ok-sweeps.field-0 c.in_ok-test_planar.ensures.apart c.in_ok-sweeps.ensures.sweeps
-    ∙ ap (λ z. first_of ((Sweeps unless not z) ∷ [])) c.if-branch.false)
-    c.shift.ensures.moved
+    ∙ ap (λ z. first_of ((Sweeps unless not z) ∷ [])) c.if-branch.false
 
 pub returns-clause-moved : goal.returns-clause-moved
 returns-clause-moved g c =
-    document_after c.shift.result c.self.inside.frame c.self.inside.borders c.self.inside.vertices c.shift.new.vertices c.self.invariant.holds.whole c.args.self.now.doc (ap (λ z. z.doc) c.self.view_is) c.in_ok-moving.moving.key c.args.p c.args.q c.in_ok-moving.ensures.read.here c.requires.free c.shift.ensures.moved
+    ap (λ (s : State). s.doc) c.keep.ensures
+    ∙ document_after c.self.inside.frame c.self.inside.borders c.self.inside.vertices c.shift.new.vertices c.self.invariant.holds.whole c.args.self.now.doc (ap (λ z. z.doc) c.self.view_is) c.in_ok-moving.moving.key c.args.p c.args.q c.in_ok-moving.ensures.read.here c.requires.free c.in_ok-shift.ensures.moved
+
+pub returns-clause-recorded : goal.returns-clause-recorded
+returns-clause-recorded g c = ap (λ (s : State). s.last) c.keep.ensures
+
+pub returns-clause-next : goal.returns-clause-next
+returns-clause-next g c = ap (λ (s : State). s.next) c.keep.ensures ∙ ap (λ (s : State). s.next) c.self.view_is
+
+pub returns-clause-places : goal.returns-clause-places
+returns-clause-places g c = ap (λ (s : State). s.places) c.keep.ensures ∙ ap (λ (s : State). s.places) c.self.view_is
+
+pub returns-clause-cells : goal.returns-clause-cells
+returns-clause-cells g c =
+    ap (λ (s : State). s.cells) c.keep.ensures ∙ c.shift.ensures.cells ∙ ap (λ (s : State). s.cells) c.self.view_is
 
 -- ---- how many tests
 
@@ -123,9 +133,17 @@ returns-then-branch-clause-few g c =
     sweeps_few c.self.invariant c.self.view_is m.key c.args.p c.args.q r.here c.requires.free m.around.items r.all c.as_slice-after.result.now
     (c.as_slice-after.ensures.value ∙ r.comes) c.test_planar.new.tests c.test_planar.ensures.few c.sweeps.new.tests c.sweeps.ensures.few
 
-pub returns-clause-few : goal.returns-clause-few
-returns-clause-few g c =
+pub returns-in_err-shift-clause-few : goal.returns-in_err-shift-clause-few
+returns-in_err-shift-clause-few g c =
     let m = c.in_ok-moving.moving in
     let r = c.in_ok-moving.ensures.read in
     sweeps_few c.self.invariant c.self.view_is m.key c.args.p c.args.q r.here c.requires.free m.around.items r.all c.as_slice-after.result.now
     (c.as_slice-after.ensures.value ∙ r.comes) c.test_planar.new.tests c.test_planar.ensures.few c.sweeps.new.tests c.sweeps.ensures.few
+
+pub returns-clause-few : goal.returns-clause-few
+returns-clause-few g c =
+    let m = c.in_ok-moving.moving in
+    let r = c.in_ok-moving.ensures.read in
+    rw (ap (λ (s : State). s.tests) c.keep.ensures)
+    (sweeps_few c.self.invariant c.self.view_is m.key c.args.p c.args.q r.here c.requires.free m.around.items r.all c.as_slice-after.result.now
+    (c.as_slice-after.ensures.value ∙ r.comes) c.test_planar.new.tests c.test_planar.ensures.few c.sweeps.new.tests c.sweeps.ensures.few)

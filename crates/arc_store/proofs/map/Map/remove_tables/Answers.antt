@@ -1,22 +1,19 @@
 use Rattle.std.proofs.Common.{◌∙◌, ap, arith, subst, sym}
+use Rattle.std.proofs.lemmas.Result.{err_from_is_err_and}
 use Rattle.ring_machine.specs.Parts.{is_vertex}
-use Rattle.ring_machine.specs.Refusals.{are_long, is_bridged}
-use Rattle.ring_machine.specs.Vertices.{is_junction}
+use Rattle.feature_exchange.specs.Stored.{stored}
+use Rattle.ring_machine.specs.Vertices.{del, is_junction}
 use Rattle.arc_store.specs.Edits.{IsLeavable}
 use Rattle.arc_store.specs.State.{State}
-use Rattle.arc_store.proofs.RemovePlan.{found, found_planned, not_joined, three_apart, taken}
+use Rattle.arc_store.proofs.RemovePlan.{has_bridging, found, found_planned, not_joined, three_apart, taken}
+use Rattle.arc_store.proofs.StateKept.{with_document, same_tables}
 use Rattle.arc_store.proofs.map.Map.remove_tables.Goals as goal
 
 pub read_bridging-requires : goal.read_bridging-requires
-read_bridging-requires g c = record {
-  frame = c.self.inside.frame;
-  held = g.I.SegIndex.held c.self.inside.index;
-  holds = c.self.invariant.holds;
-  vertex = ap (λ z. is_vertex z.doc c.args.p) c.self.view_is ∙ c.requires.leavable.vertex;
-  inner = ap (λ z. is_junction z.doc c.args.p) c.self.view_is ∙ c.requires.leavable.inner;
-  long = ap (λ z. are_long z.doc c.args.p) c.self.view_is ∙ c.requires.leavable.long;
-  unjoined = ap (λ z. is_bridged z.doc c.args.p) c.self.view_is ∙ c.requires.leavable.unjoined;
-}
+read_bridging-requires g c =
+    has_bridging (stored c.self.inside.frame c.self.inside.borders c.self.inside.vertices) c.self.invariant.holds.whole c.args.p
+    (ap (λ z. is_vertex z.doc c.args.p) c.self.view_is ∙ c.requires.leavable.vertex)
+    (ap (λ z. is_junction z.doc c.args.p) c.self.view_is ∙ c.requires.leavable.inner)
 
 -- ---- the tables
 
@@ -82,4 +79,13 @@ returns-clause-removed g c =
     let r = c.in_ok-bridging.ensures.read in
     let f = found c.self.invariant (ap (λ z. z.doc) c.self.view_is) r.here r.two c.requires.leavable.inner c.requires.leavable.long c.requires.leavable.unjoined in
     let may = subst (λ (z : State). IsLeavable z.doc c.args.p) (sym c.self.view_is) c.requires.leavable in
-    rw (← c.self.view_is) (taken f r.first r.second r.comes (c.as_slice-before.ensures.value ∙ r.goes) may c.in_ok-rings.ensures.taken (g.I.SegIndex.held c.take_out.new.index) c.in_ok-rings.ensures.exchanged).doc
+    with_document c.self.invariant c.self.view_is c.take_out.new.borders c.take_out.new.vertices (g.I.SegIndex.cells c.take_out.new.index)
+    ((taken f r.first r.second r.comes (c.as_slice-before.ensures.value ∙ r.goes) may c.in_ok-rings.ensures.taken (g.I.SegIndex.held c.take_out.new.index) c.in_ok-rings.ensures.exchanged).doc
+    ∙ ap (λ z. del z.doc c.args.p) c.self.view_is)
+    c.take_out.ensures.cells
+
+pub returns-in_err-rings-clause-unchanged : goal.returns-in_err-rings-clause-unchanged
+returns-in_err-rings-clause-unchanged g c =
+    let e = err_from_is_err_and c.from_residual-in_err-rings.result c.from_residual-in_err-rings.ensures.1 in
+    rw e.1
+    (same_tables c.self.invariant c.self.view_is c.take_out.new.borders c.take_out.new.vertices (g.I.SegIndex.cells c.take_out.new.index) c.in_err-rings.ensures.borders c.in_err-rings.ensures.vertices c.take_out.ensures.cells)

@@ -29,7 +29,7 @@ test_split-requires-clause-short g c =
     omega (
       arith,
       ap (λ z. outer_length (rings_seen z)) c.as_slice-polygon.ensures.value,
-      outer_few c.self.invariant c.self.view_is c.args.n p c.requires.cuttable c.args.found.now.place (rings_seen c.args.found.now.rings.items) c.requires.first,
+      outer_few c.self.invariant c.self.view_is c.args.n p c.requires.cuttable c.args.found.now.place (rings_seen c.args.found.now.rings.items) c.requires.found.first,
       seen_small c.self.invariant c.self.view_is,
       c.requires.short,
       inner_length p c.args.positions.now c.requires.along,

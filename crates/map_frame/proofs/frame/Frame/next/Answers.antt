@@ -2,6 +2,8 @@ use Rattle.std.proofs.Common.{◌≤◌, sym, ap, ◌∙◌, subst, option_map}
 use Rattle.ring_machine.specs.Parts.{feature}
 use Rattle.map_frame.specs.Seen.{view_feature}
 use Rattle.map_frame.proofs.ReadFeatures.{feature_is, live_past}
+use Rattle.map_frame.specs.Placed.{ArePlaced}
+use Rattle.map_frame.proofs.PlacedFrames.{all_placed}
 use Rattle.map_frame.proofs.frame.Frame.next.Goals as goal
 
 pub returns-clause-below : goal.returns-clause-below
@@ -10,3 +12,7 @@ returns-clause-below g c = λ m past.
     ap (λ f. feature f.doc m) (sym c.self.view_is)
     ∙ feature_is t c.self.invariant m
     ∙ ap (option_map (view_feature m)) (live_past t.features.items m (subst (λ f. f.next ≤ m) (sym c.self.view_is) past))
+
+pub returns-clause-placed : goal.returns-clause-placed
+returns-clause-placed g c =
+    subst (λ f. ArePlaced f.places f.next f.doc) c.self.view_is (all_placed c.self.inside.tables c.self.invariant)

@@ -2,7 +2,7 @@ use Rattle.std.proofs.Common.{◌≡◌, ◌∙◌, refl, ap, map, rules}
 use Rattle.std.specs.List.{each_same}
 use Rattle.topo_outline.proofs.Copied.{copied_map}
 use Rattle.topo_outline.specs.Views.{view_kept}
-use Rattle.map_frame.specs.Copied.{layer_text, slot_text, placed}
+use Rattle.map_frame.specs.Copied.{layer_text, slot_text, seen}
 use Rattle.map_frame.proofs.CopiedFrames.{options_copied}
 use Rattle.map_frame.proofs.tables.Tables.copy.Goals as goal
 
@@ -13,8 +13,9 @@ returns g c =
       transform = refl;
       layers = copied_map (λ l copy. layer_text copy ≡ layer_text l) layer_text (λ l copy same. same) t.layers.items c.in_ok-layers.layers.items c.in_ok-layers.ensures.cases.0;
       members = ap (map view_kept) (each_same t.members.items c.in_ok-members.members.items c.in_ok-members.ensures.cases.0);
-      features = options_copied _ placed (λ x y same. search rules) (λ x same. search rules) (λ y same. search rules) t.features.items c.in_ok-features.features.items c.in_ok-features.ensures.cases.0;
+      features = options_copied _ seen (λ x y same. search rules) (λ x same. search rules) (λ y same. search rules) t.features.items c.in_ok-features.features.items c.in_ok-features.ensures.cases.0;
+      stands = c.in_ok-stands.ensures.items ∙ c.as_slice.ensures.value;
       count = refl;
-      names = c.in_ok-names.ensures.items ∙ c.as_slice.ensures.value;
+      names = c.in_ok-names.ensures.items ∙ c.as_slice-2.ensures.value;
       empty = copied_map (λ s copy. slot_text copy ≡ slot_text s) slot_text (λ s copy same. same) t.empty.items c.in_ok-empty.empty.items c.in_ok-empty.ensures.cases.0;
     }

@@ -7,7 +7,7 @@ pub returns-then-is_empty-clause-ok : goal.returns-then-is_empty-clause-ok
 returns-then-is_empty-clause-ok g c =
     let is = ap (λ p. length p.line == 0) (sym c.self.view_is) ∙ ap (λ l. length l == 0) (sym c.as_slice.ensures.value) ∙ sym c.is_empty.ensures ∙ c.if-is_empty.true in
     IfOk-weaker c.flush.result _ _
-    (λ done counts. finished_none c.args.self (g.W.Sink.taken c.args.out.now) (g.W.Sink.taken c.flush.new.out) done.0 done.1.doc is c.flush.ensures.kept counts.0 counts.1) c.flush.ensures.ends
+    (λ done counts. finished_none c.args.self (g.W.Sink.taken c.args.out.now) (g.W.Sink.taken c.flush.new.out) done.0 done.1.map.doc is c.flush.ensures.kept counts.0 counts.1) c.flush.ensures.ends
 
 pub returns-then-is_empty-clause-cut : goal.returns-then-is_empty-clause-cut
 returns-then-is_empty-clause-cut g c =
@@ -18,7 +18,7 @@ pub returns-clause-ok : goal.returns-clause-ok
 returns-clause-ok g c =
     let is = ap (λ p. length p.line == 0) (sym c.self.view_is) ∙ ap (λ l. length l == 0) (sym c.as_slice.ensures.value) ∙ sym c.is_empty.ensures ∙ c.if-is_empty.false in
     IfOk-weaker c.flush-2.result _ _
-    (λ done counts. finished_line c.args.self c.answer.new.self (g.W.Sink.taken c.args.out.now) (g.W.Sink.taken c.answer.new.out) (g.W.Sink.taken c.flush-2.new.out) done.0 done.1.doc is
+    (λ done counts. finished_line c.args.self c.answer.new.self (g.W.Sink.taken c.args.out.now) (g.W.Sink.taken c.answer.new.out) (g.W.Sink.taken c.flush-2.new.out) done.0 done.1.map.doc is
     c.in_ok-answer.ensures.ok c.flush-2.ensures.kept counts.0 counts.1) c.flush-2.ensures.ends
 
 pub returns-clause-cut : goal.returns-clause-cut

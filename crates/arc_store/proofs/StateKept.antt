@@ -1,0 +1,27 @@
+-- The map as its callers see it, after its tables changed and nothing else did.
+use Rattle.std.proofs.Common.{◌≡◌, ℕ, ap, ap₂, ◌∙◌, Option}
+use Rattle.ring_machine.specs.Document.{Document}
+use Rattle.edit_records.specs.Records.{Record}
+use Rattle.segment_index.specs.Candidates.{SegmentSet}
+use Rattle.segment_index.specs.Frames.{Frame as GridFrame}
+use Rattle.vertex_index.specs.Placement.{Placement}
+use Rattle.arc_tables.specs.Rings.{Rings}
+use Rattle.map_frame.specs.Framed.{Framed}
+use Rattle.feature_exchange.specs.Stored.{stored, document_of}
+use Rattle.arc_store.specs.Kept.{IsKept, state_of}
+use Rattle.arc_store.specs.State.{State}
+
+module _ {frame : Framed} {rings : Rings} {places : Placement} {held : SegmentSet} {positions segments : ℕ}
+    (kept : IsKept frame rings places held positions segments) {l : ℕ} {cells : Option GridFrame} {o : Option Record} {now : State}
+    (is : state_of frame rings places l cells o ≡ now) (rings' : Rings) (places' : Placement) (cells' : Option GridFrame) where
+  -- another document
+  pub with_document : {d : Document} → document_of (stored frame rings' places') ≡ d → cells' ≡ cells
+      → state_of frame rings' places' l cells' o ≡ record now { doc = d }
+  with_document {d} e c =
+      ap₂ (λ y z. record { doc = y; next = frame.next; places = frame.places; tests = l; cells = z; last = o }) e c
+      ∙ ap (λ (s : State). record s { doc = d }) is
+
+  -- the same tables
+  pub same_tables : rings' ≡ rings → places' ≡ places → cells' ≡ cells → state_of frame rings' places' l cells' o ≡ now
+  same_tables r p c =
+      ap₂ (λ x y. state_of frame x y l cells' o) r p ∙ ap (λ z. state_of frame rings places l z o) c ∙ is

@@ -1,0 +1,15 @@
+use Rattle.std.proofs.Common.{sym, subst}
+use Rattle.edit_records.specs.Records.{IsHeld}
+use Rattle.topo_outline.specs.Kept.{KeepsTexts}
+use Rattle.arc_store.specs.State.{State}
+use Rattle.arc_store.proofs.PlacedMap.{held_seen, keeps_seen}
+use Rattle.arc_store.proofs.map.Map.begin_edit.Goals as goal
+
+pub returns-clause-held : goal.returns-clause-held
+returns-clause-held g c =
+    subst (λ (s : State). IsHeld s.places s.next s.doc) (sym c.self.view_is)
+    (held_seen c.self.invariant c.self.view_is c.next.ensures.placed)
+
+pub returns-clause-keeps : goal.returns-clause-keeps
+returns-clause-keeps g c =
+    subst (λ (s : State). KeepsTexts s.doc) (sym c.self.view_is) (keeps_seen c.self.invariant c.self.view_is)

@@ -1,0 +1,30 @@
+use Rattle.std.proofs.Common.{◌≡◌, ap, ◌∙◌, refl, subst, Option, Some, List, [], ◌∷◌, ◌++◌, map, reverse}
+use Rattle.std.proofs.lemmas.List.{reverse-append, map-append}
+use Rattle.edit_records.specs.Records as made
+use Rattle.vertex_changes.specs.declared.removal.Removal.{Removal}
+use Rattle.arc_store.specs.Recorded.{IsLeftOut, left_out, removal_seen, thinned}
+use Rattle.arc_store.specs.State.{State}
+use Rattle.arc_store.proofs.map.Map.raw_thin.Goals as goal
+
+-- the record begins with the vertex that was left out last
+thinned_more : (rs : List Removal) (r : Removal)
+    → thinned (rs ++ r ∷ []) ≡ Some (made.Thinned (removal_seen r ∷ left_out (thinned rs)))
+thinned_more [] r = refl
+thinned_more (x ∷ rs) r =
+    ap (λ z. Some (made.Thinned z))
+    (ap reverse (map-append removal_seen (x ∷ rs) (r ∷ [])) ∙ reverse-append (map removal_seen (x ∷ rs)) (removal_seen r ∷ []))
+
+-- as it is kept after room was made and the vertex came to the others
+newest_first : {rs grown pushed : List Removal} {r : Removal} {was kept : Option made.Record}
+    → thinned rs ≡ was → grown ≡ rs → pushed ≡ grown ++ r ∷ [] → kept ≡ thinned pushed
+    → kept ≡ Some (made.Thinned (removal_seen r ∷ left_out was))
+newest_first {rs = rs} {r = r} handed room more is =
+    is ∙ ap thinned (more ∙ ap (λ xs. xs ++ r ∷ []) room) ∙ thinned_more rs r
+    ∙ ap (λ o. Some (made.Thinned (removal_seen r ∷ left_out o))) handed
+
+pub returns-in-Ok-clause-recorded : goal.returns-in-Ok-clause-recorded
+returns-in-Ok-clause-recorded g c = (
+  removal_seen c.in-Ok.removal,
+  newest_first c.take_thinned-removals.ensures.handed c.reserve.ensures.items c.push_reserved.ensures.items (ap (λ z. z.last) c.keep_thinned-in-Ok.ensures),
+  subst (λ (z : State). IsLeftOut z.doc c.args.p (removal_seen c.in-Ok.removal)) c.take_thinned-removals.ensures.taken c.in-Ok.ensures.left,
+)

@@ -1,0 +1,145 @@
+use Rattle.std.proofs.Common.{◌∙◌, ap, arith, subst, sym}
+use Rattle.std.proofs.lemmas.Result.{err_from_is_err_and}
+use Rattle.grid_geometry.specs.Segment.{Segment}
+use Rattle.ring_machine.specs.Parts.{is_vertex}
+use Rattle.ring_machine.specs.Vertices.{is_junction}
+use Rattle.feature_exchange.specs.Stored.{stored, document_of}
+use Rattle.arc_store.specs.Recorded.{IsLeftOut}
+use Rattle.arc_store.proofs.Accepted.{remove_may}
+use Rattle.arc_store.proofs.Indexed.{indexed_apart}
+use Rattle.arc_store.proofs.LeftOut.{found_left}
+use Rattle.arc_store.proofs.RemovePlan.{has_bridging, found, found_planned, not_joined, three_apart, taken}
+use Rattle.arc_store.proofs.Tested.{removed_few}
+use Rattle.arc_store.proofs.map.Map.remove_tested.Goals as goal
+
+pub read_bridging-requires : goal.read_bridging-requires
+read_bridging-requires g c =
+    has_bridging (stored c.self.inside.frame c.self.inside.borders c.self.inside.vertices) c.self.invariant.holds.whole c.args.p
+    (ap (λ z. is_vertex z.doc c.args.p) c.self.view_is ∙ c.requires.vertex)
+    (ap (λ z. is_junction z.doc c.args.p) c.self.view_is ∙ c.requires.inner)
+
+-- ---- the tests
+
+pub test_remove-requires : goal.test_remove-requires
+test_remove-requires g c = record {
+  apart = indexed_apart (document_of (stored c.self.inside.frame c.self.inside.borders c.self.inside.vertices)) (g.I.SegIndex.held c.self.inside.index) c.self.invariant.holds.indexed c.self.invariant.holds.proper;
+}
+
+pub returns-in_err-test_remove-clause-refused : goal.returns-in_err-test_remove-clause-refused
+returns-in_err-test_remove-clause-refused g c =
+    let r = c.in_ok-bridging.ensures.read in
+    let f = found c.self.invariant (ap (λ z. z.doc) c.self.view_is) r.here r.two c.requires.inner c.requires.long c.requires.unjoined in
+    let plan = found_planned f r.a r.b r.first r.second c.in_ok-bridging.bridging.after c.as_slice-before.result.now r.comes (c.as_slice-before.ensures.value ∙ r.goes) in
+    let e = err_from_is_err_and c.from_residual-in_err-test_remove.result c.from_residual-in_err-test_remove.ensures.1 in
+    rw (e.1, e.2, ← c.self.view_is) (c.in_err-test_remove.ensures.refused (document_of (stored c.self.inside.frame c.self.inside.borders c.self.inside.vertices)) plan.removable)
+
+-- ---- the tables
+
+pub take_out-requires-clause-between : goal.take_out-requires-clause-between
+take_out-requires-clause-between g c x = (c.in_ok-bridging.ensures.read.two.1 x).0
+
+pub take_out-requires-clause-unjoined : goal.take_out-requires-clause-unjoined
+take_out-requires-clause-unjoined g c =
+    let r = c.in_ok-bridging.ensures.read in
+    let f = found c.self.invariant (ap (λ z. z.doc) c.self.view_is) r.here r.two c.requires.inner c.requires.long c.requires.unjoined in
+    not_joined f
+
+pub take_out-requires-clause-apart : goal.take_out-requires-clause-apart
+take_out-requires-clause-apart g c =
+    let r = c.in_ok-bridging.ensures.read in
+    let f = found c.self.invariant (ap (λ z. z.doc) c.self.view_is) r.here r.two c.requires.inner c.requires.long c.requires.unjoined in
+    three_apart f
+
+pub take_out-requires-clause-new : goal.take_out-requires-clause-new
+take_out-requires-clause-new g c =
+    let r = c.in_ok-bridging.ensures.read in
+    let f = found c.self.invariant (ap (λ z. z.doc) c.self.view_is) r.here r.two c.requires.inner c.requires.long c.requires.unjoined in
+    (found_planned f r.a r.b r.first r.second c.in_ok-bridging.bridging.after c.as_slice-before.result.now r.comes (c.as_slice-before.ensures.value ∙ r.goes)).new
+
+pub take_out-requires-clause-held : goal.take_out-requires-clause-held
+take_out-requires-clause-held g c =
+    let r = c.in_ok-bridging.ensures.read in
+    let f = found c.self.invariant (ap (λ z. z.doc) c.self.view_is) r.here r.two c.requires.inner c.requires.long c.requires.unjoined in
+    (found_planned f r.a r.b r.first r.second c.in_ok-bridging.bridging.after c.as_slice-before.result.now r.comes (c.as_slice-before.ensures.value ∙ r.goes)).among
+
+pub take_out-requires-clause-single : goal.take_out-requires-clause-single
+take_out-requires-clause-single g c =
+    let r = c.in_ok-bridging.ensures.read in
+    let f = found c.self.invariant (ap (λ z. z.doc) c.self.view_is) r.here r.two c.requires.inner c.requires.long c.requires.unjoined in
+    (found_planned f r.a r.b r.first r.second c.in_ok-bridging.bridging.after c.as_slice-before.result.now r.comes (c.as_slice-before.ensures.value ∙ r.goes)).single
+
+-- ---- what is kept
+
+pub overflow_sub-self : goal.overflow_sub-self
+overflow_sub-self g c =
+    let r = c.in_ok-bridging.ensures.read in
+    let f = found c.self.invariant (ap (λ z. z.doc) c.self.view_is) r.here r.two c.requires.inner c.requires.long c.requires.unjoined in
+    let plan = found_planned f r.a r.b r.first r.second c.in_ok-bridging.bridging.after c.as_slice-before.result.now r.comes (c.as_slice-before.ensures.value ∙ r.goes) in
+    let s = stored c.self.inside.frame c.self.inside.borders c.self.inside.vertices in
+    let may = remove_may (document_of s) c.args.p (c.in_ok-test_remove.ensures.accepted (document_of s) plan.removable) in
+    let t = taken f r.first r.second r.comes (c.as_slice-before.ensures.value ∙ r.goes) may c.in_ok-rings.ensures.taken (g.I.SegIndex.held c.take_out.new.index) c.in_ok-rings.ensures.exchanged in
+    omega (arith, t.positions_there, c.in_ok-rings.ensures.rings)
+
+pub overflow_sub-self-2 : goal.overflow_sub-self-2
+overflow_sub-self-2 g c =
+    let r = c.in_ok-bridging.ensures.read in
+    let f = found c.self.invariant (ap (λ z. z.doc) c.self.view_is) r.here r.two c.requires.inner c.requires.long c.requires.unjoined in
+    let plan = found_planned f r.a r.b r.first r.second c.in_ok-bridging.bridging.after c.as_slice-before.result.now r.comes (c.as_slice-before.ensures.value ∙ r.goes) in
+    let s = stored c.self.inside.frame c.self.inside.borders c.self.inside.vertices in
+    let may = remove_may (document_of s) c.args.p (c.in_ok-test_remove.ensures.accepted (document_of s) plan.removable) in
+    (taken f r.first r.second r.comes (c.as_slice-before.ensures.value ∙ r.goes) may c.in_ok-rings.ensures.taken (g.I.SegIndex.held c.take_out.new.index) c.in_ok-rings.ensures.exchanged).segment_there
+
+pub invariant_of-self-2 : goal.invariant_of-self-2
+invariant_of-self-2 g c =
+    let r = c.in_ok-bridging.ensures.read in
+    let f = found c.self.invariant (ap (λ z. z.doc) c.self.view_is) r.here r.two c.requires.inner c.requires.long c.requires.unjoined in
+    let plan = found_planned f r.a r.b r.first r.second c.in_ok-bridging.bridging.after c.as_slice-before.result.now r.comes (c.as_slice-before.ensures.value ∙ r.goes) in
+    let s = stored c.self.inside.frame c.self.inside.borders c.self.inside.vertices in
+    let may = remove_may (document_of s) c.args.p (c.in_ok-test_remove.ensures.accepted (document_of s) plan.removable) in
+    rw c.in_ok-rings.ensures.rings (taken f r.first r.second r.comes (c.as_slice-before.ensures.value ∙ r.goes) may c.in_ok-rings.ensures.taken (g.I.SegIndex.held c.take_out.new.index) c.in_ok-rings.ensures.exchanged).kept
+
+pub returns-clause-accepted : goal.returns-clause-accepted
+returns-clause-accepted g c =
+    let r = c.in_ok-bridging.ensures.read in
+    let f = found c.self.invariant (ap (λ z. z.doc) c.self.view_is) r.here r.two c.requires.inner c.requires.long c.requires.unjoined in
+    let plan = found_planned f r.a r.b r.first r.second c.in_ok-bridging.bridging.after c.as_slice-before.result.now r.comes (c.as_slice-before.ensures.value ∙ r.goes) in
+    rw (← c.self.view_is) (c.in_ok-test_remove.ensures.accepted (document_of (stored c.self.inside.frame c.self.inside.borders c.self.inside.vertices)) plan.removable)
+
+pub returns-clause-removed : goal.returns-clause-removed
+returns-clause-removed g c =
+    let r = c.in_ok-bridging.ensures.read in
+    let f = found c.self.invariant (ap (λ z. z.doc) c.self.view_is) r.here r.two c.requires.inner c.requires.long c.requires.unjoined in
+    let plan = found_planned f r.a r.b r.first r.second c.in_ok-bridging.bridging.after c.as_slice-before.result.now r.comes (c.as_slice-before.ensures.value ∙ r.goes) in
+    let s = stored c.self.inside.frame c.self.inside.borders c.self.inside.vertices in
+    let may = remove_may (document_of s) c.args.p (c.in_ok-test_remove.ensures.accepted (document_of s) plan.removable) in
+    rw (← c.self.view_is) (taken f r.first r.second r.comes (c.as_slice-before.ensures.value ∙ r.goes) may c.in_ok-rings.ensures.taken (g.I.SegIndex.held c.take_out.new.index) c.in_ok-rings.ensures.exchanged).doc
+
+pub returns-clause-left : goal.returns-clause-left
+returns-clause-left g c =
+    let r = c.in_ok-bridging.ensures.read in
+    let f = found c.self.invariant (ap (λ z. z.doc) c.self.view_is) r.here r.two c.requires.inner c.requires.long c.requires.unjoined in
+    subst (λ (z : Segment). IsLeftOut c.args.self.now.doc c.args.p (record { at = c.args.p; a = z.lo; b = z.hi })) (sym c.after.view_is)
+    (found_left f (ap (λ z. z.doc) c.self.view_is) r.first r.second r.comes)
+
+-- ---- how many tests
+
+pub returns-in_err-test_remove-clause-few : goal.returns-in_err-test_remove-clause-few
+returns-in_err-test_remove-clause-few g c =
+    let r = c.in_ok-bridging.ensures.read in
+    let f = found c.self.invariant (ap (λ z. z.doc) c.self.view_is) r.here r.two c.requires.inner c.requires.long c.requires.unjoined in
+    let plan = found_planned f r.a r.b r.first r.second c.in_ok-bridging.bridging.after c.as_slice-before.result.now r.comes (c.as_slice-before.ensures.value ∙ r.goes) in
+    removed_few c.self.invariant c.self.view_is c.args.p c.in_ok-bridging.bridging.after c.as_slice-before.result.now plan c.test_remove.new.tests c.test_remove.ensures.few
+
+pub returns-in_err-rings-clause-few : goal.returns-in_err-rings-clause-few
+returns-in_err-rings-clause-few g c =
+    let r = c.in_ok-bridging.ensures.read in
+    let f = found c.self.invariant (ap (λ z. z.doc) c.self.view_is) r.here r.two c.requires.inner c.requires.long c.requires.unjoined in
+    let plan = found_planned f r.a r.b r.first r.second c.in_ok-bridging.bridging.after c.as_slice-before.result.now r.comes (c.as_slice-before.ensures.value ∙ r.goes) in
+    removed_few c.self.invariant c.self.view_is c.args.p c.in_ok-bridging.bridging.after c.as_slice-before.result.now plan c.test_remove.new.tests c.test_remove.ensures.few
+
+pub returns-clause-few : goal.returns-clause-few
+returns-clause-few g c =
+    let r = c.in_ok-bridging.ensures.read in
+    let f = found c.self.invariant (ap (λ z. z.doc) c.self.view_is) r.here r.two c.requires.inner c.requires.long c.requires.unjoined in
+    let plan = found_planned f r.a r.b r.first r.second c.in_ok-bridging.bridging.after c.as_slice-before.result.now r.comes (c.as_slice-before.ensures.value ∙ r.goes) in
+    removed_few c.self.invariant c.self.view_is c.args.p c.in_ok-bridging.bridging.after c.as_slice-before.result.now plan c.test_remove.new.tests c.test_remove.ensures.few

@@ -1,0 +1,84 @@
+ghost use Rattle.std.specs.Prelude.{◌≡◌, ◌≤◌, ◌+◌, true, false, Some, None, ◌∷◌, OnOk, OnErr, IfErr};
+ghost use Rattle.ring_machine.specs.Parts.{is_vertex};
+ghost use Rattle.ring_machine.specs.Refusals.{first_of, remove_refusals, are_long, is_bridged};
+ghost use Rattle.ring_machine.specs.Vertices.{del, is_junction};
+ghost use Rattle.edit_records.specs.Records as made;
+ghost use Rattle.segment_index.specs.Times.{times_by};
+ghost use Rattle.local_planarity.specs.Tests.{most_for};
+ghost use Rattle.arc_store.specs.Faults.{Refuses};
+ghost use Rattle.arc_store.specs.Recorded.{IsLeftOut, IsThinning, left_out, thinned};
+
+use crate::edit_record::Record;
+use crate::fault::EditFault;
+use crate::map::Map;
+use grid_geometry::Pos;
+use segment_index::SegIndex;
+use std::alloc::Allocator;
+use vertex_changes::Removal;
+
+impl<'a, I: SegIndex, A: Allocator + Copy> Map<'a, I, A> {
+    /// Hands out the vertices that the edit has left out so far.
+    fn take_thinned(&mut self) -> Vec<Removal, A>
+        requires thinning { IsThinning self.old.last }
+        ensures handed { thinned result.items ≡ self.old.last }
+        ensures taken { self.new ≡ record self.old { last = None } }
+    {
+        match self.last.take() {
+            Some(Record::Thinned(removals)) => removals,
+            Some(_other) => Vec::new(self.alloc),
+            None => Vec::new(self.alloc),
+        }
+    }
+
+    /// Keeps them as what takes the edit back.
+    fn keep_thinned(&mut self, removals: Vec<Removal, A>)
+        ensures { self.new ≡ record self.old { last = thinned removals.items } }
+    {
+        self.last = if removals.is_empty() {
+            None
+        } else {
+            Some(Record::Thinned(removals))
+        };
+    }
+
+    /// Takes the vertex at p out as a raw removal does, in an edit that leaves several out: its
+    /// record has all that this edit took out so.
+    pub fn raw_thin(&mut self, p: Pos) -> Result<(), EditFault>
+        requires vertex { is_vertex self.old.doc p ≡ true }
+        requires inner { is_junction self.old.doc p ≡ false }
+        requires long { are_long self.old.doc p ≡ true }
+        requires unjoined { is_bridged self.old.doc p ≡ false }
+        requires thinning { IsThinning self.old.last }
+        ensures accepted { OnOk result (first_of (remove_refusals self.old.doc p) ≡ None) }
+        ensures removed { OnOk result (self.new.doc ≡ del self.old.doc p) }
+        ensures recorded { OnOk result ((r : made.Removal)
+            × (self.new.last ≡ Some (made.Thinned (r ∷ left_out self.old.last)))
+            × IsLeftOut self.old.doc p r) }
+        ensures refused { IfErr result
+            (λ fault. Refuses fault (first_of (remove_refusals self.old.doc p))) }
+        ensures unchanged { OnErr result (self.new.doc ≡ self.old.doc) }
+        ensures still { OnErr result (self.new.last ≡ self.old.last) }
+        ensures next { self.new.next ≡ self.old.next }
+        ensures places { self.new.places ≡ self.old.places }
+        ensures few { self.new.tests ≤ self.old.tests
+            + most_for (times_by self.old.cells) self.old.doc (del self.old.doc p) }
+        ensures cells { self.new.cells ≡ self.old.cells }
+    {
+        let mut removals = self.take_thinned();
+        if removals.reserve(1).is_err() {
+            self.keep_thinned(removals);
+            return Err(EditFault::OutOfMemory);
+        }
+        match self.remove_tested(p) {
+            Ok(removal) => {
+                removals.push_reserved(removal);
+                self.keep_thinned(removals);
+                Ok(())
+            }
+            Err(fault) => {
+                self.keep_thinned(removals);
+                Err(fault)
+            }
+        }
+    }
+}

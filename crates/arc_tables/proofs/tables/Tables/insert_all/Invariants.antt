@@ -1,0 +1,17 @@
+use Rattle.std.proofs.Common.{◌≡◌, ℕ, take}
+use Rattle.arc_tables.specs.Ways.{Once, links}
+use Rattle.arc_tables.specs.Edited.{throughs}
+use Rattle.arc_tables.specs.Sound.{rings_of}
+use Rattle.arc_tables.specs.Stores.{path_of, Whole}
+use Rattle.arc_tables.proofs.Gaining.{GainsSoFar}
+use Rattle.arc_tables.proofs.tables.Tables.insert_all.Given as goal
+
+-- so many are put in
+abbrev pub invariant-loop-at : goal.invariant-loop-at
+invariant-loop-at g l = record {
+  whole : Whole l.self;
+  once : Once (path_of l.self);
+  put : (i : ℕ) → links (path_of l.self i) ≡ throughs (take l.at l.puts) (links (path_of l.fn.self i));
+  rings : l.self.rings ≡ l.fn.self.rings;
+  gained : GainsSoFar l.count l.puts l.at (rings_of l.fn.self) (rings_of l.self);
+}

@@ -1,0 +1,23 @@
+use Rattle.std.proofs.Common.{rules, codes}
+use Rattle.border_edit.proofs.WordLemmas.{word_is, depth_is}
+use Rattle.border_edit.proofs.command_line.words.Goals as goal
+
+pub returns-clause-map : goal.returns-clause-map
+returns-clause-map c =
+    word_is _ c.in_ok-matches.matches _ (codes "MAP") _ c.get_str-2.result _ c.unwrap_or.result _
+    c.in_ok-command.ensures c.in_ok-matches.ensures.ok.2 (search rules) c.get_str-2.ensures (search rules) c.unwrap_or.ensures c.in_ok-from_str.ensures.ok
+
+pub returns-clause-script : goal.returns-clause-script
+returns-clause-script c =
+    word_is _ c.in_ok-matches.matches _ (codes "SCRIPT") _ c.get_str-3.result _ c.unwrap_or-2.result _
+    c.in_ok-command.ensures c.in_ok-matches.ensures.ok.2 (search rules) c.get_str-3.ensures (search rules) c.unwrap_or-2.ensures c.in_ok-from_str-2.ensures.ok
+
+pub returns-clause-out : goal.returns-clause-out
+returns-clause-out c =
+    word_is _ c.in_ok-matches.matches _ (codes "out") _ c.get_str-4.result _ c.unwrap_or-3.result _
+    c.in_ok-command.ensures c.in_ok-matches.ensures.ok.2 (search rules) c.get_str-4.ensures (search rules) c.unwrap_or-3.ensures c.in_ok-from_str-3.ensures.ok
+
+pub returns-clause-depth : goal.returns-clause-depth
+returns-clause-depth c =
+    depth_is _ c.in_ok-matches.matches _ (codes "undo") _ c.get_str.result _
+    c.in_ok-command.ensures c.in_ok-matches.ensures.ok.2 (search rules) c.get_str.ensures c.in-Some.ensures

@@ -1,0 +1,114 @@
+-- Features exchanged in a map, whose rings were laid before, and then the rings of what had the
+-- numbers taken out: the document, and that the map is kept.
+use Rattle.std.proofs.Common.{◌≡◌, ℕ, true, false, refl, sym, ap, ◌∙◌, subst, List, [], ◌∷◌}
+use Rattle.std.proofs.Common.{map, Option, arith, eq-eqb, get_or, inl, inr}
+use Rattle.std.specs.Prelude.{Vec, ◌==◌}
+use Rattle.std.specs.List.{flat_map, list_all}
+use Rattle.std.proofs.lemmas.Bool.{false≢true}
+use Rattle.std.proofs.lemmas.List.{append-nil}
+use Rattle.grid_geometry.specs.Position.{Position}
+use Rattle.ring_machine.specs.Document.{FeatureOf}
+use Rattle.ring_machine.specs.Parts.{features, in_feature, in_rings, rings, rings_of, size}
+use Rattle.ring_machine.specs.Planar as proper
+use Rattle.ring_machine.specs.Ring.{canonical, is_ring, is_distinct, begins_least}
+use Rattle.ring_machine.specs.WellFormed.{WellFormed}
+use Rattle.ring_machine.proofs.Canonical.{canonical_at}
+use Rattle.ring_machine.proofs.FormedRings.{formed-before_rings}
+use Rattle.ring_machine.proofs.First.{In}
+use Rattle.ring_machine.proofs.Members.{in_flat}
+use Rattle.ring_machine.proofs.Neighbours.{all_in, in-flat_map, in-map, none_in}
+use Rattle.ring_machine.proofs.Order.{and_both}
+use Rattle.ring_machine.proofs.OtherRings.{in_feature-agrees}
+use Rattle.map_opening.specs.Laying.{feature_numbers}
+use Rattle.map_opening.proofs.AddedRings.{same_map}
+use Rattle.edit_records.specs.Places.{exchanged, is_exchanged}
+use Rattle.edit_records.specs.Records.{IsMap}
+use Rattle.edit_records.proofs.ExchangesSeen.{exchanged-rings}
+use Rattle.segment_index.specs.Candidates.{SegmentSet}
+use Rattle.topo_outline.specs.Kept.{KeepsTexts}
+use Rattle.topo_outline.proofs.KeptRings.{keeps-before_rings}
+use Rattle.ring_exchange.specs.Laid.{ring_at}
+use Rattle.feature_exchange.specs.Changed.{seen}
+use Rattle.feature_exchange.specs.Holds.{Holds}
+use Rattle.feature_exchange.specs.Laying.{asked_rings}
+use Rattle.feature_exchange.specs.Ready.{coming, IsReady, all_numbered}
+use Rattle.map_frame.specs.Framed.{Framed}
+use Rattle.feature_exchange.specs.Stored.{Stored, ring_under, document_of}
+use Rattle.feature_exchange.specs.Under.{rings_under}
+use Rattle.feature_exchange.specs.declared.change.Change.{Change}
+use Rattle.feature_exchange.proofs.Asked.{AreFor, for_coming, for_rings, for_seen}
+use Rattle.feature_exchange.proofs.Changes.{Changes}
+use Rattle.feature_exchange.proofs.Exchanges.{Exchanged, ring_stays, rings_came, exchanged_holds}
+use Rattle.feature_exchange.proofs.Readied.{going, all_changes}
+use Rattle.feature_exchange.proofs.Under.{under_apart}
+
+-- a ring begins at its least position
+pub canonical_ring : (ring : List Position) → is_ring ring ≡ true → canonical ring ≡ ring
+canonical_ring [] h = refl
+canonical_ring (p ∷ ps) h =
+    let least = (and_both (is_distinct (p ∷ ps)) (begins_least (p ∷ ps)) (and_both _ _ h).1).1 in
+    canonical_at [] ps p refl least ∙ append-nil (p ∷ ps)
+
+module _ {A : Type 0} (old mid new : Stored) (h i j : SegmentSet) (frame : Framed) (cs : List (Change A))
+    (ls : List (Vec (Vec ℕ A) A)) (same_frame : frame.doc ≡ old.frame) (ready : IsReady frame (all_numbered cs ls))
+    (is : new.frame ≡ exchanged frame.places (all_numbered cs ls) frame.doc)
+    (e : Exchanged old mid new h i j (coming (all_numbered cs ls)) (going old.frame (all_numbered cs ls)))
+    (at : AreFor (ring_at mid.places mid.rings) cs ls)
+    (are_rings : list_all is_ring (flat_map asked_rings cs) ≡ true) where
+  abbrev pairs : List (ℕ × Option (FeatureOf ℕ))
+  pairs = all_numbered cs ls
+
+  changes : Changes (rings old.frame) (rings new.frame) (going old.frame pairs) (coming pairs)
+  changes =
+      subst (λ z. Changes (rings old.frame) (rings z) (going old.frame pairs) (coming pairs)) (sym is)
+      (subst (λ z. Changes (rings z) (rings (exchanged frame.places pairs frame.doc)) (going z pairs) (coming pairs)) same_frame
+      (all_changes frame pairs ready))
+
+  -- a ring that came is as it was laid
+  ring_laid : (r : ℕ) → In r (coming pairs) → ring_under new r ≡ ring_at mid.places mid.rings r
+  ring_laid r k =
+      let listed = subst (In r) (for_coming (ring_at mid.places mid.rings) cs ls at) k in
+      let ring : is_ring (ring_at mid.places mid.rings r) ≡ true =
+      all_in is_ring (flat_map asked_rings cs) (ring_at mid.places mid.rings r) are_rings
+      (subst (In (ring_at mid.places mid.rings r)) (for_rings (ring_at mid.places mid.rings) cs ls at)
+      (in-map (ring_at mid.places mid.rings) r (flat_map (λ l. flat_map (λ p. p) (feature_numbers l)) ls) listed)) in
+      ap (λ (z : List (List Position)). get_or z 0 (ring_under new r))
+      (rings_came old mid new h i j (coming pairs) (going old.frame pairs) e changes.was (r ∷ [])
+      (λ x l. elim l [ inl s ↦ subst (λ z. In z (coming pairs)) s k | inr m ↦ absurd m ])
+      (ring_at mid.places mid.rings r ∷ []) refl)
+      ∙ canonical_ring (ring_at mid.places mid.rings r) ring
+
+  for_new : AreFor (ring_under new) cs ls
+  for_new =
+      same_map (λ l. map (map (ring_under new)) (feature_numbers l)) (λ l. map (map (ring_at mid.places mid.rings)) (feature_numbers l)) ls
+      (λ l k. same_map (map (ring_under new)) (map (ring_at mid.places mid.rings)) (feature_numbers l) (λ p m.
+      same_map (ring_under new) (ring_at mid.places mid.rings) p (λ r o.
+      ring_laid r (subst (In r) (sym (for_coming (ring_at mid.places mid.rings) cs ls at))
+      (in-flat_map (λ (l : Vec (Vec ℕ A) A). flat_map (λ p. p) (feature_numbers l)) l r ls k
+      (in-flat_map (λ (p : List ℕ). p) p r (feature_numbers l) m o))))))
+      ∙ at
+
+  others_stay : (f : FeatureOf ℕ) → In f (features old.frame) → is_exchanged pairs f.number ≡ false
+      → in_feature (ring_under new) f ≡ in_feature (ring_under old) f
+  others_stay f k off = in_feature-agrees (ring_under old) (ring_under new) f (λ r l.
+      ring_stays old mid new h i j (coming pairs) (going old.frame pairs) e r (in-flat_map rings_of f r (features old.frame) k l)
+      (λ m.
+      let w = in_flat (λ (c : ℕ × Option (FeatureOf ℕ)). rings_under old.frame c.0) r pairs m in
+      under_apart old.frame e.holds.formed e.holds.whole.once w.0.0 f k
+      (λ s. false≢true (sym (none_in (λ (c : ℕ × Option (FeatureOf ℕ)). f.number == c.0) pairs w.0 off w.1) ∙ eq-eqb f.number w.0.0 s))
+      r l w.2))
+
+  pub exchanged_document : document_of new ≡ exchanged frame.places (seen cs) (document_of old)
+  exchanged_document =
+      ap (in_rings (ring_under new)) (is ∙ ap (exchanged frame.places pairs) same_frame)
+      ∙ exchanged-rings (ring_under old) (ring_under new) frame.places pairs old.frame others_stay
+      ∙ ap (λ z. exchanged frame.places z (document_of old)) (for_seen (ring_under new) cs ls for_new)
+
+  pub exchanged_map : IsMap (exchanged frame.places (seen cs) (document_of old))
+      → KeepsTexts (exchanged frame.places (seen cs) (document_of old)) → Holds new j
+  exchanged_map map_is keeps =
+      exchanged_holds old mid new h i j (coming pairs) (going old.frame pairs) e changes
+      (formed-before_rings (ring_under new) new.frame (subst WellFormed (sym exchanged_document) map_is.formed))
+      (keeps-before_rings (ring_under new) new.frame (subst KeepsTexts (sym exchanged_document) keeps))
+      (subst (λ z. proper.Proper z) (sym exchanged_document) map_is.proper)
+      (omega (arith, ap size exchanged_document, map_is.small))

@@ -1,0 +1,142 @@
+-- Features exchanged, from before anything is laid until the old rings are taken out.
+use Rattle.std.proofs.Common.{◌≡◌, ◌≤◌, ◌<◌, ℕ, true, refl, sym, ap, ◌∙◌, subst, List, [], map, Option, Some, None}
+use Rattle.std.proofs.Common.{is_some}
+use Rattle.std.specs.Prelude.{Vec, IfSome}
+use Rattle.std.specs.List.{flat_map, list_all, AllByRecursion}
+use Rattle.std.proofs.lemmas.List.Folds.{flat_map-map}
+use Rattle.ring_machine.specs.Document.{Feature, FeatureOf}
+use Rattle.ring_machine.specs.Parts.{feature, has_feature}
+use Rattle.ring_machine.specs.Ring.{is_ring}
+use Rattle.ring_machine.specs.WellFormed.{are_distinct}
+use Rattle.ring_machine.proofs.First.{In}
+use Rattle.ring_machine.proofs.Found.{has_feature-found, feature-in_rings}
+use Rattle.ring_machine.proofs.Members.{is_some-mapped}
+use Rattle.ring_machine.proofs.StaysFormed.{is_layer-in_rings}
+use Rattle.ring_machine.specs.Parts as parts_of
+use Rattle.vertex_index.specs.Placement.{Placement}
+use Rattle.arc_tables.specs.Rings.{Rings}
+use Rattle.map_frame.specs.Naming.{IsOf}
+use Rattle.map_opening.specs.Laying.{feature_numbers}
+use Rattle.edit_records.specs.Places.{has_place, exchanged}
+use Rattle.edit_records.specs.Records.{IsMap}
+use Rattle.segment_index.specs.Candidates.{SegmentSet}
+use Rattle.topo_outline.specs.Kept.{KeepsTexts}
+use Rattle.ring_exchange.specs.Laid.{numbers_of, ring_at, AreAdded, AreGone, KeepsPlaces}
+use Rattle.ring_exchange.specs.Standing.{Stands}
+use Rattle.ring_exchange.specs.declared.laid.LaidRing.{LaidRing}
+use Rattle.ring_exchange.proofs.Series.{number_there, there_none, added_first}
+use Rattle.feature_exchange.specs.Changed.{seen, changed_as, places_after, next_after, frame_after, MayGrow}
+use Rattle.feature_exchange.specs.Holds.{Holds}
+use Rattle.feature_exchange.specs.Laying.{AreLaid, asked_rings, length_of}
+use Rattle.feature_exchange.specs.Ready.{coming, IsReady, FitsForm, all_numbered, put_in}
+use Rattle.map_frame.specs.Framed.{Framed}
+use Rattle.map_frame.specs.Placed.{ArePlaced}
+use Rattle.feature_exchange.specs.Stored.{stored, Stored, ring_under, document_of}
+use Rattle.feature_exchange.specs.Under.{rings_under}
+use Rattle.feature_exchange.specs.declared.change.Change.{Change}
+use Rattle.feature_exchange.proofs.Asked.{AreFor, asked_are_rings, asked_size, asked_fit, for_coming, for_numbers}
+use Rattle.feature_exchange.proofs.ExchangedFeatures.{exchanged_document, exchanged_map}
+use Rattle.feature_exchange.proofs.Exchanges.{Exchanged}
+use Rattle.feature_exchange.proofs.PlacesAfter.{places_come}
+use Rattle.feature_exchange.proofs.Prepared.{ready_of}
+use Rattle.feature_exchange.proofs.Readied.{going}
+
+-- the frame's features stand as the document's
+pub grows_frame : (s : Stored) (next : ℕ) (after : Option ℕ) → IfSome after (MayGrow (document_of s) next)
+    → IfSome after (MayGrow s.frame next)
+grows_frame s next None g = g
+grows_frame s next (Some n) g = record {
+  there =
+      has_feature-found s.frame n ∙ sym (is_some-mapped (parts_of.in_feature (ring_under s)) (feature s.frame n))
+      ∙ ap is_some (sym (feature-in_rings (ring_under s) s.frame n))
+      ∙ sym (has_feature-found (document_of s) n) ∙ g.there;
+  inside = sym (is_layer-in_rings (ring_under s) s.frame n) ∙ g.inside;
+  few = g.few;
+}
+
+-- ---- before
+
+module _ {A : Type 0} (frame : Framed) (b : Rings) (v : Placement) (placed : ArePlaced frame.places frame.next frame.doc)
+    (after : Option ℕ) (grows : IfSome after (MayGrow (document_of (stored frame b v)) frame.next)) (cs : List (Change A))
+    (below : AllByRecursion (λ c. c.number < next_after after frame) cs)
+    (apart : are_distinct (map (λ c. c.number) cs) ≡ true)
+    (map_is : IsMap (changed_as after frame cs (document_of (stored frame b v)))) where
+  comes : (m : ℕ) → m < next_after after frame → has_place (places_after after frame) m ≡ true
+  comes = places_come frame placed after (grows_frame (stored frame b v) frame.next after grows)
+
+  pub whole_rings : list_all is_ring (flat_map asked_rings cs) ≡ true
+  whole_rings =
+      asked_are_rings (places_after after frame) (next_after after frame) cs comes below apart (document_of (stored frame b v)) map_is
+
+  pub whole_size : length_of (flat_map asked_rings cs) ≤ 4000000
+  whole_size =
+      asked_size (places_after after frame) (next_after after frame) cs comes below apart (document_of (stored frame b v)) map_is
+
+  whole_fit : (c : ℕ × Option Feature) → In c (seen cs) → FitsForm c.1
+  whole_fit =
+      asked_fit (places_after after frame) (next_after after frame) cs comes below apart (document_of (stored frame b v)) map_is
+
+  -- ---- when all is laid
+
+  module _ (b1 : Rings) (v1 : Placement) (h i : SegmentSet) (holds : Holds (stored frame b v) h) (frame1 : Framed)
+      (placed1 : ArePlaced frame1.places frame1.next frame1.doc)
+      (ok : frame1 ≡ record (frame_after after frame) { room = frame1.room }) (ls : List (Vec (Vec ℕ A) A))
+      (laid : List (LaidRing A)) (stands : Stands v1 b1 i) (more : AreLaid v b [] v1 b1 laid)
+      (listed : numbers_of laid ≡ flat_map (λ l. flat_map (λ p. p) (feature_numbers l)) ls)
+      (at : AreFor (ring_at v1 b1) cs ls) (room : (r : ℕ) → IsOf (numbers_of laid) r → r < frame1.room) where
+    pub whole_added : AreAdded b b1 (numbers_of laid)
+    whole_added = more.added b (there_none {A = A} b [] refl) (added_first {A = A} b [] refl)
+
+    pub whole_ready : IsReady frame1 (all_numbered cs ls)
+    whole_ready =
+        ready_of (stored frame b v) h holds frame1 (ap (λ (f : Framed). f.doc) ok) placed1 cs ls
+        (subst (λ z. AllByRecursion (λ c. c.number < z) cs) (sym (ap (λ (f : Framed). f.next) ok)) below) apart
+        b1 (numbers_of laid) whole_added listed (ring_at v1 b1) at whole_fit room
+
+    -- ---- when the old rings are gone
+
+    module _ (frame2 : Framed) (b2 : Rings) (v2 : Placement) (j : SegmentSet) (gone : List ℕ)
+        (is : frame2 ≡ put_in frame1 (all_numbered cs ls)) (stands' : Stands v2 b2 j) (went : AreGone b1 b2 gone)
+        (left : KeepsPlaces v2 v1) (gone_is : gone ≡ flat_map (λ c. rings_under frame.doc c.number) cs)
+        (texts : KeepsTexts (changed_as after frame cs (document_of (stored frame b v)))) where
+      going_is : gone ≡ going frame.doc (all_numbered cs ls)
+      going_is =
+          gone_is
+          ∙ sym (flat_map-map (rings_under frame.doc) (λ (c : Change A). c.number) cs)
+          ∙ ap (flat_map (rings_under frame.doc)) (sym (for_numbers (ring_at v1 b1) cs ls at))
+          ∙ flat_map-map (rings_under frame.doc) (λ (c : ℕ × Option (FeatureOf ℕ)). c.0) (all_numbered cs ls)
+
+      came : coming (all_numbered cs ls) ≡ numbers_of laid
+      came = for_coming (ring_at v1 b1) cs ls at ∙ sym listed
+
+      abbrev mid : Stored
+      mid = record { frame = frame.doc; rings = b1; places = v1 }
+
+      exchange : Exchanged (stored frame b v) mid (stored frame2 b2 v2) h i j (coming (all_numbered cs ls)) (going frame.doc (all_numbered cs ls))
+      exchange = record {
+        holds = holds;
+        laid = stands;
+        added = subst (AreAdded b b1) (sym came) whole_added;
+        there = λ r k. number_there b1 laid (more.there (there_none {A = A} b [] refl)) r (subst (In r) came k);
+        kept = more.kept;
+        stands = stands';
+        went = subst (AreGone b1 b2) going_is went;
+        left = left;
+      }
+
+      places_is : frame1.places ≡ places_after after frame
+      places_is = ap (λ (f : Framed). f.places) ok
+
+      doc_is : frame2.doc ≡ exchanged frame1.places (all_numbered cs ls) frame1.doc
+      doc_is = ap (λ (f : Framed). f.doc) is
+
+      pub whole_document : document_of (stored frame2 b2 v2) ≡ changed_as after frame cs (document_of (stored frame b v))
+      whole_document =
+          exchanged_document (stored frame b v) mid (stored frame2 b2 v2) h i j frame1 cs ls (ap (λ (f : Framed). f.doc) ok) whole_ready doc_is exchange at whole_rings
+          ∙ ap (λ z. exchanged z (seen cs) (document_of (stored frame b v))) places_is
+
+      pub whole_holds : Holds (stored frame2 b2 v2) j
+      whole_holds =
+          exchanged_map (stored frame b v) mid (stored frame2 b2 v2) h i j frame1 cs ls (ap (λ (f : Framed). f.doc) ok) whole_ready doc_is exchange at whole_rings
+          (subst (λ z. IsMap (exchanged z (seen cs) (document_of (stored frame b v)))) (sym places_is) map_is)
+          (subst (λ z. KeepsTexts (exchanged z (seen cs) (document_of (stored frame b v)))) (sym places_is) texts)

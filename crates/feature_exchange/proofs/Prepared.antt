@@ -1,0 +1,63 @@
+-- What was laid and made room for is ready to be put into the frame.
+use Rattle.std.proofs.Common.{◌≡◌, ◌<◌, ℕ, zero, suc, true, sym, ap, ◌∙◌, subst, List, [], ◌∷◌, map, inl, inr, Option, Some}
+use Rattle.std.proofs.Common.{is_some, Contains}
+use Rattle.std.specs.Prelude.{Vec, slice_get}
+use Rattle.std.specs.List.{flat_map, AllByRecursion}
+use Rattle.std.proofs.lemmas.Bool.{false≢true}
+use Rattle.grid_geometry.specs.Position.{Position}
+use Rattle.ring_machine.specs.Document.{Feature}
+use Rattle.ring_machine.specs.Parts.{rings}
+use Rattle.ring_machine.specs.WellFormed.{are_distinct}
+use Rattle.ring_machine.proofs.First.{In}
+use Rattle.ring_machine.proofs.Members.{contains_in, in_contains}
+use Rattle.arc_tables.specs.Rings.{Rings}
+use Rattle.map_frame.specs.Naming.{IsOf}
+use Rattle.map_opening.specs.Laying.{feature_numbers}
+use Rattle.segment_index.specs.Candidates.{SegmentSet}
+use Rattle.ring_exchange.specs.Laid.{AreAdded}
+use Rattle.feature_exchange.specs.Changed.{seen}
+use Rattle.feature_exchange.specs.Holds.{Holds}
+use Rattle.feature_exchange.specs.Ready.{coming, IsReady, FitsForm, all_numbered}
+use Rattle.map_frame.specs.Framed.{Framed}
+use Rattle.map_frame.specs.Placed.{ArePlaced}
+use Rattle.feature_exchange.specs.Stored.{Stored}
+use Rattle.feature_exchange.specs.declared.change.Change.{Change}
+use Rattle.feature_exchange.proofs.Asked.{AreFor, for_coming, for_numbers, for_own, for_below, for_fits}
+
+pub of_in : (xs : List ℕ) (r : ℕ) → In r xs → IsOf xs r
+of_in [] r i = absurd i
+of_in (x ∷ xs) r (inl e) = (0, ap (λ z. Some z) e)
+of_in (x ∷ xs) r (inr i) = let k = of_in xs r i in (suc k.0, k.1)
+
+pub in_of : (xs : List ℕ) (r i : ℕ) → slice_get xs i ≡ Some r → In r xs
+in_of [] r i e = absurd cc
+in_of (x ∷ xs) r zero e = inl cc
+in_of (x ∷ xs) r (suc i) e = inr (in_of xs r i e)
+
+module _ {A : Type 0} (s : Stored) (held : SegmentSet) (h : Holds s held) (frame : Framed) (same : frame.doc ≡ s.frame)
+    (placed : ArePlaced frame.places frame.next frame.doc) (cs : List (Change A)) (ls : List (Vec (Vec ℕ A) A))
+    (below : AllByRecursion (λ c. c.number < frame.next) cs) (apart : are_distinct (map (λ c. c.number) cs) ≡ true)
+    (m : Rings) (numbers : List ℕ) (added : AreAdded s.rings m numbers)
+    (listed : numbers ≡ flat_map (λ l. flat_map (λ p. p) (feature_numbers l)) ls)
+    (g : ℕ → List Position) (at : AreFor g cs ls) (fits : (c : ℕ × Option Feature) → In c (seen cs) → FitsForm c.1)
+    (room : (r : ℕ) → IsOf numbers r → r < frame.room) where
+  pub came_is : coming (all_numbered cs ls) ≡ numbers
+  came_is = for_coming g cs ls at ∙ sym listed
+
+  in_numbers : (r : ℕ) → Contains (coming (all_numbered cs ls)) r → In r numbers
+  in_numbers r c = subst (In r) came_is (contains_in (coming (all_numbered cs ls)) r c)
+
+  pub ready_of : IsReady frame (all_numbered cs ls)
+  ready_of = record {
+    placed = placed;
+    below = for_below frame.next cs ls below;
+    apart = ap are_distinct (for_numbers g cs ls at) ∙ apart;
+    own = for_own cs ls;
+    fits = for_fits g cs ls at fits;
+    once = ap are_distinct (ap rings same) ∙ h.whole.once;
+    different = ap are_distinct came_is ∙ added.different;
+    new = λ r c o.
+        false≢true (sym (ap is_some (added.free r (in_contains numbers r (in_numbers r c))))
+        ∙ (h.whole.named r).0 (subst (λ z. Contains (rings z) r) same o));
+    room = λ r c. room r (of_in numbers r (in_numbers r c));
+  }

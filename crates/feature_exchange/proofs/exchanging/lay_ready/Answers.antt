@@ -1,0 +1,8 @@
+use Rattle.std.proofs.Common.{sym, ap, subst}
+use Rattle.map_frame.specs.Naming.{IsOf}
+use Rattle.ring_exchange.specs.Laid.{numbers_of}
+use Rattle.feature_exchange.proofs.exchanging.lay_ready.Goals as goal
+
+pub returns-in-Ok-make_room-clause-room : goal.returns-in-Ok-make_room-clause-room
+returns-in-Ok-make_room-clause-room g c =
+    λ r i. c.in-Ok-make_room.ensures.room r (subst (λ z. IsOf z r) (sym (ap numbers_of c.as_slice.ensures.value)) i)

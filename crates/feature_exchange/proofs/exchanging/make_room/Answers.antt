@@ -1,0 +1,9 @@
+use Rattle.std.proofs.Common.{◌<◌, sym, ap, ◌∙◌, subst}
+use Rattle.map_frame.specs.Naming.{IsOf}
+use Rattle.map_frame.specs.Framed.{Framed}
+use Rattle.feature_exchange.proofs.exchanging.make_room.Goals as goal
+
+pub returns-in-Ok-clause-room : goal.returns-in-Ok-clause-room
+returns-in-Ok-clause-room g c =
+    λ r i. subst (λ z. r < z) (sym (ap (λ (f : Framed). f.room) c.in-Ok.ensures.ok))
+    (c.in_ok-reserve_names.ensures.room r (subst (λ z. IsOf z r) (sym (c.as_slice.ensures.value ∙ c.in_ok-numbers.ensures)) i))

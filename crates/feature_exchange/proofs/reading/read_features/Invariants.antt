@@ -1,0 +1,11 @@
+use Rattle.std.proofs.Common.{◌≡◌, map, take}
+use Rattle.ring_machine.specs.Refusals.{feature_at}
+use Rattle.ring_parts.specs.Seen.{polygons_seen}
+use Rattle.feature_exchange.specs.Stored.{stored, document_of}
+use Rattle.feature_exchange.proofs.reading.read_features.Given as goal
+
+-- the polygons of the features so far
+abbrev pub invariant-loop-change : goal.invariant-loop-change
+invariant-loop-change g l =
+    map (λ p. polygons_seen p.items) l.found.items
+    ≡ map (λ c. (feature_at (document_of (stored l.frame l.borders l.vertices)) c.number).polygons) (take l.change-index l.changes)

@@ -1,0 +1,246 @@
+// Features given to numbers, each in the place of its number.
+ghost use Rattle.std.specs.Prelude.{◌≡◌, ◌≤◌, ◌<◌, ◌+◌, ◌∷◌, [], ℕ, None, Some, length, map, slice_index_or, slice_set};
+ghost use Rattle.std.specs.Prelude.{IsTrue, IfOk, IfSome, OnOk, OnErr, Contains};
+ghost use Rattle.std.specs.List.{list_all, flat_map, AllByRecursion};
+ghost use Rattle.std.specs.FinSet as set;
+ghost use Rattle.ring_machine.specs.Parts.{feature};
+ghost use Rattle.ring_machine.specs.Refusals.{feature_at};
+ghost use Rattle.ring_machine.specs.Ring.{is_ring};
+ghost use Rattle.ring_machine.specs.WellFormed.{are_distinct};
+ghost use Rattle.edit_records.specs.Places.{exchanged, had_before};
+ghost use Rattle.edit_records.specs.Records.{IsMap};
+ghost use Rattle.map_frame.specs.Naming.{IsOf};
+ghost use Rattle.map_opening.specs.Laying.{feature_numbers};
+ghost use Rattle.ring_exchange.specs.Laid.{numbers_of, ring_at, AreThere};
+ghost use Rattle.ring_exchange.specs.Standing.{Stands};
+ghost use Rattle.topo_outline.specs.Kept.{KeepsTexts};
+ghost use Rattle.feature_exchange.specs.Changed.{seen, changed_as, frame_after, next_after, MayGrow};
+ghost use Rattle.feature_exchange.specs.Holds.{Holds};
+ghost use Rattle.feature_exchange.specs.Laying.{AreLaid, length_of, asked, asked_rings};
+ghost use Rattle.feature_exchange.specs.Ready.{IsReady, numbered, all_numbered, change_had, all_had, put_in};
+ghost use Rattle.feature_exchange.specs.Stored.{stored, document_of};
+ghost use Rattle.feature_exchange.specs.declared.change.Change.{Change};
+
+use crate::change::{Change, WholeFeature};
+use crate::laying::lay_features;
+use crate::numbers::{laid_numbers, push_features};
+use crate::reading::read_features;
+use grid_geometry::Pos;
+use map_frame::Frame;
+use ring_exchange::{LaidRing, gather_rings, take_out_rings};
+use segment_index::SegIndex;
+use shared_arcs::Borders;
+use std::alloc::{AllocError, Allocator};
+use std::mem;
+use vertex_index::Vertices;
+
+/// Gives a number its feature, whose rings have these numbers, and keeps what it had, with these
+/// polygons. Takes no memory.
+fn exchange_one<'a, A: Allocator + Copy>(
+    frame: &mut Frame<'a, A>,
+    change: &mut Change<'a, A>,
+    polygons: Vec<Vec<Vec<Pos, A>, A>, A>,
+    numbers: Vec<Vec<usize, A>, A>,
+)
+    requires { IsReady frame.old (numbered change.old (feature_numbers numbers) ∷ []) }
+    ensures exchanged { frame.new
+        ≡ put_in frame.old (numbered change.old (feature_numbers numbers) ∷ []) }
+    ensures had { change.new ≡ change_had frame.old.doc change.old polygons }
+{
+    let had = match frame.take_out(change.number) {
+        Some(texts) => Some(WholeFeature { texts, polygons }),
+        None => None,
+    };
+    match mem::replace(&mut change.was, had) {
+        Some(whole) => frame.put(change.number, whole.texts, numbers),
+        None => {}
+    }
+}
+
+/// Does so for one of these changes.
+fn exchange_at<'a, A: Allocator + Copy>(
+    frame: &mut Frame<'a, A>,
+    changes: &mut [Change<'a, A>],
+    at: usize,
+    polygons: Vec<Vec<Vec<Pos, A>, A>, A>,
+    numbers: Vec<Vec<usize, A>, A>,
+)
+    requires within { at < length changes.old }
+    requires ready { (c : Change _) → c ≡ slice_index_or changes.old at c
+        → IsReady frame.old (numbered c (feature_numbers numbers) ∷ []) }
+    ensures exchanged { (c : Change _) → c ≡ slice_index_or changes.old at c
+        → frame.new ≡ put_in frame.old (numbered c (feature_numbers numbers) ∷ []) }
+    ensures had { (c : Change _) → c ≡ slice_index_or changes.old at c
+        → changes.new ≡ slice_set changes.old at (change_had frame.old.doc c polygons) }
+{
+    exchange_one(frame, &mut changes[at], polygons, numbers);
+}
+
+/// Gives each number its feature, whose rings have these numbers, and keeps what they had, with
+/// these polygons. Takes no memory.
+fn exchange_each<'a, A: Allocator + Copy>(
+    frame: &mut Frame<'a, A>,
+    changes: &mut [Change<'a, A>],
+    mut polygons: Vec<Vec<Vec<Vec<Pos, A>, A>, A>, A>,
+    mut numbers: Vec<Vec<Vec<usize, A>, A>, A>,
+)
+    requires ready { IsReady frame.old (all_numbered changes.old numbers.items) }
+    requires polygons { length polygons.items ≡ length changes.old }
+    requires numbers { length numbers.items ≡ length changes.old }
+    ensures exchanged { frame.new
+        ≡ put_in frame.old (all_numbered changes.old numbers.items) }
+    ensures had { changes.new ≡ all_had frame.old.doc changes.old polygons.items }
+{
+    let mut left = changes.len();
+    while left > 0 {
+        left -= 1;
+        let read = polygons.pop().unwrap();
+        let came = numbers.pop().unwrap();
+        exchange_at(frame, changes, left, read, came);
+    }
+}
+
+/// Makes a new number after a feature, where one is to come.
+fn grow_after<'a, A: Allocator + Copy>(
+    frame: &mut Frame<'a, A>,
+    after: Option<u32>,
+) -> Result<(), AllocError>
+    requires { IfSome after (MayGrow frame.old.doc frame.old.next) }
+    ensures ok { OnOk result (frame.new ≡ frame_after after frame.old) }
+    ensures err { OnErr result (frame.new ≡ frame.old) }
+{
+    let Some(n) = after else {
+        return Ok(());
+    };
+    match frame.grow(n) {
+        Ok(_) => Ok(()),
+        Err(e) => Err(e),
+    }
+}
+
+/// Makes room for the names of laid rings, and the new number where one is to come.
+fn make_room<'a, A: Allocator + Copy>(
+    alloc: A,
+    frame: &mut Frame<'a, A>,
+    after: Option<u32>,
+    laid: &[LaidRing<A>],
+) -> Result<(), AllocError>
+    requires { IfSome after (MayGrow frame.old.doc frame.old.next) }
+    ensures ok { OnOk result (frame.new
+        ≡ record (frame_after after frame.old) { room = frame.new.room }) }
+    ensures room { OnOk result ((r : ℕ) → IsOf (numbers_of laid.now) r → r < frame.new.room) }
+    ensures err { OnErr result (frame.new ≡ record frame.old { room = frame.new.room }) }
+{
+    let numbers = laid_numbers(alloc, laid)?;
+    frame.reserve_names(numbers.as_slice())?;
+    match grow_after(frame, after) {
+        Ok(()) => Ok(()),
+        Err(e) => Err(e),
+    }
+}
+
+/// Gives these numbers these features, each in the place of its number, where `after` is a feature a
+/// new number comes directly after it first; afterwards `changes` holds what the numbers had before.
+/// Fails for want of memory alone, and then changes nothing.
+pub fn exchange_features<'a, I: SegIndex, A: Allocator + Copy>(
+    alloc: A,
+    frame: &mut Frame<'a, A>,
+    vertices: &mut Vertices<A>,
+    borders: &mut Borders<A>,
+    index: &mut I,
+    segments: &mut usize,
+    after: Option<u32>,
+    changes: &mut [Change<'a, A>],
+) -> Result<(), AllocError>
+    requires holds { Holds (stored frame.old borders.old vertices.old) (I.held index.old) }
+    requires counted { segments.old ≡ set.len (I.held index.old) }
+    requires apart { IsTrue (are_distinct (map (λ c. c.number) changes.old)) }
+    requires below { AllByRecursion (λ c. c.number < next_after after frame.old) changes.old }
+    requires grows { IfSome after
+        (MayGrow (document_of (stored frame.old borders.old vertices.old)) frame.old.next) }
+    requires map { IsMap (changed_as after frame.old changes.old
+        (document_of (stored frame.old borders.old vertices.old))) }
+    requires texts { KeepsTexts (changed_as after frame.old changes.old
+        (document_of (stored frame.old borders.old vertices.old))) }
+    ensures exchanged { OnOk result (document_of (stored frame.new borders.new vertices.new)
+        ≡ changed_as after frame.old changes.old
+        (document_of (stored frame.old borders.old vertices.old))) }
+    ensures had { OnOk result (seen changes.new
+        ≡ had_before (document_of (stored frame.old borders.old vertices.old)) (seen changes.old)) }
+    ensures next { OnOk result (frame.new.next ≡ next_after after frame.old) }
+    ensures places { OnOk result (frame.new.places ≡ (frame_after after frame.old).places) }
+    ensures unchanged { OnErr result (document_of (stored frame.new borders.new vertices.new)
+        ≡ document_of (stored frame.old borders.old vertices.old)) }
+    ensures next_still { OnErr result (frame.new.next ≡ frame.old.next) }
+    ensures places_still { OnErr result (frame.new.places ≡ frame.old.places) }
+    ensures changes_still { OnErr result (changes.new ≡ changes.old) }
+    ensures holds { Holds (stored frame.new borders.new vertices.new) (I.held index.new) }
+    ensures counted { segments.new ≡ set.len (I.held index.new) }
+    ensures cells { I.cells index.new ≡ I.cells index.old }
+{
+    // where numbers stand, before anything is laid
+    let _ = frame.next();
+    let read = read_features(alloc, frame, vertices, borders, changes)?;
+    let mut numbers = Vec::new(alloc);
+    push_features(frame, changes, &mut numbers)?;
+    let gone = gather_rings(alloc, borders, numbers.as_slice())?;
+    let mut laid = Vec::new(alloc);
+    match lay_ready(
+        alloc, frame, vertices, borders, index, segments, after, changes, &mut laid,
+    ) {
+        Ok(came) => {
+            let _ = frame.next();
+            exchange_each(frame, changes, read, came);
+            take_out_rings(vertices, borders, index, segments, gone.as_slice());
+            Ok(())
+        }
+        Err(e) => {
+            take_out_rings(vertices, borders, index, segments, laid.as_slice());
+            Err(e)
+        }
+    }
+}
+
+/// Lays the rings of the features that are to come, and makes room for them in the frame. Where that
+/// fails for want of memory, some of them are laid.
+fn lay_ready<'a, I: SegIndex, A: Allocator + Copy>(
+    alloc: A,
+    frame: &mut Frame<'a, A>,
+    vertices: &mut Vertices<A>,
+    borders: &mut Borders<A>,
+    index: &mut I,
+    segments: &mut usize,
+    after: Option<u32>,
+    changes: &[Change<'a, A>],
+    laid: &mut Vec<LaidRing<A>, A>,
+) -> Result<Vec<Vec<Vec<usize, A>, A>, A>, AllocError>
+    requires grows { IfSome after (MayGrow frame.old.doc frame.old.next) }
+    requires stands { Stands vertices.old borders.old (I.held index.old) }
+    requires rings { IsTrue (list_all is_ring (flat_map asked_rings changes.now)) }
+    requires none { laid.old.items ≡ [] }
+    requires counted { segments.old ≡ set.len (I.held index.old) }
+    requires small { segments.old + length_of (flat_map asked_rings changes.now) ≤ 8000000 }
+    ensures stands { Stands vertices.new borders.new (I.held index.new) }
+    ensures laid { AreLaid vertices.old borders.old [] vertices.new borders.new laid.new.items }
+    ensures numbers { IfOk result (λ lists. numbers_of laid.new.items
+        ≡ flat_map (λ l. flat_map (λ p. p) (feature_numbers l)) lists.items) }
+    ensures at { IfOk result (λ lists. map
+        (λ l. map (map (ring_at vertices.new borders.new)) (feature_numbers l)) lists.items
+        ≡ map asked changes.now) }
+    ensures ok { OnOk result (frame.new
+        ≡ record (frame_after after frame.old) { room = frame.new.room }) }
+    ensures room { OnOk result ((r : ℕ) → IsOf (numbers_of laid.new.items) r
+        → r < frame.new.room) }
+    ensures err { OnErr result (frame.new ≡ record frame.old { room = frame.new.room }) }
+    ensures counted { segments.new ≡ set.len (I.held index.new) }
+    ensures cells { I.cells index.new ≡ I.cells index.old }
+{
+    let lists = match lay_features(alloc, vertices, borders, index, segments, changes, laid) {
+        Ok(lists) => lists,
+        Err(e) => return Err(e),
+    };
+    match make_room(alloc, frame, after, laid.as_slice()) {
+        Ok(()) => Ok(lists),
+        Err(e) => Err(e),
+    }
+}

@@ -1,0 +1,54 @@
+-- There are at most as many features as places in the table.
+use Rattle.std.proofs.Common.{◌≡◌, ◌≤◌, ◌<◌, ℕ, suc, Bool, true, false, refl, sym, ap, ◌∙◌, subst, List, [], ◌∷◌, length}
+use Rattle.std.proofs.Common.{inl, inr, Option, Some, None, arith}
+use Rattle.std.specs.List.{filter_map, cons_option, AllByRecursion}
+use Rattle.std.proofs.Common.{◌≡◌, ◌<◌, ◌≤◌, ℕ, suc, Bool, true, false, eqb, refl, sym, ap, ◌∙◌, subst, List, [], ◌∷◌}
+use Rattle.std.specs.List.{filter_map, cons_option, AllByRecursion, IsDistinct}
+use Rattle.std.proofs.lemmas.Bool.Decides.{Decides-eqb}
+use Rattle.std.proofs.lemmas.Map.Steps.{length-le_from_distinct_below}
+use Rattle.ring_machine.specs.WellFormed.{are_distinct}
+use Rattle.ring_machine.proofs.First.{In}
+use Rattle.ring_machine.proofs.Members.{any_in}
+use Rattle.map_frame.specs.declared.tables.Tables.{Tables}
+use Rattle.map_frame.specs.Kept.{IsFramed, all_numbers}
+use Rattle.map_frame.proofs.EditedFeatures.{head_apart, tail_distinct}
+use Rattle.map_frame.proofs.SlotsEntries.{entry, features_of}
+
+distinct_is : (ns : List ℕ) → are_distinct ns ≡ true → IsDistinct eqb ns
+unfolding IsDistinct
+distinct_is [] d = tt
+distinct_is (n ∷ ns) d = (apart ns (head_apart n ns d), distinct_is ns (tail_distinct n ns d))
+  where
+    apart : (ms : List ℕ) → (In n ms → ⊥) → AllByRecursion (λ m. eqb n m ≡ false) ms
+    apart [] off = tt
+    apart (m ∷ ms) off = (by (eqb n m) refl, apart ms (λ i. off (inr i)))
+      where
+        by : (b : Bool) → eqb n m ≡ b → b ≡ false
+        by true e = absurd (off (inl (sym ((Decides-eqb n m).0 e))))
+        by false e = refl
+
+pub all_recursion_at : {X : Type 0} (P : X → Type 0) (xs : List X) (x : X) → AllByRecursion P xs → In x xs → P x
+all_recursion_at P [] x h i = absurd i
+all_recursion_at P (y ∷ xs) x h (inl e) = subst P e h.0
+all_recursion_at P (y ∷ xs) x h (inr i) = all_recursion_at P xs x h.1 i
+
+some_among : {X Y : Type 0} (h : X → Option Y) (xs : List X) → length (filter_map h xs) ≤ length xs
+some_among h [] = omega arith
+some_among {X} {Y} h (x ∷ xs) = by (h x) (some_among h xs)
+  where
+    by : (o : Option Y) → length (filter_map h xs) ≤ length xs → length (cons_option o (filter_map h xs)) ≤ suc (length xs)
+    by None l = omega (arith, l)
+    by (Some y) l = let s : suc (length (filter_map h xs)) ≤ suc (length xs) = omega (arith, l) in s
+
+-- there are at most as many features as places in the table
+pub counted_within : {A : Type 0} (t : Tables A) → IsFramed t → t.count ≤ length t.features.items
+counted_within t k =
+    let ns = all_numbers t.layers.items in
+    let is : t.count ≡ length (filter_map (entry t.features.items) ns) = k.counted ∙ ap length (features_of t) in
+    let among : length (filter_map (entry t.features.items) ns) ≤ length ns = some_among (entry t.features.items) ns in
+    let within : length ns ≤ length t.features.items =
+    length-le_from_distinct_below ns (length t.features.items) (distinct_is ns k.once)
+    (λ q h. let a = any_in (eqb q) ns h in
+    subst (λ z. z < length t.features.items) (sym ((Decides-eqb q a.0).0 a.2))
+    (all_recursion_at (λ m. m < length t.features.items) ns a.0 k.below a.1)) in
+    omega (arith, is, among, within)

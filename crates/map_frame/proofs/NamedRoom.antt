@@ -1,0 +1,18 @@
+-- Room for the rings of a feature.
+use Rattle.std.proofs.Common.{◌≡◌, ℕ, suc, ap, List, [], ◌∷◌, inl, inr, Some}
+use Rattle.std.specs.Prelude.{slice_get}
+use Rattle.std.specs.List.{flat_map}
+use Rattle.ring_machine.proofs.First.{In}
+use Rattle.map_frame.specs.Naming.{IsOf}
+use Rattle.map_frame.proofs.NamedOnce.{in_part}
+use Rattle.map_frame.proofs.ReadFeatures.{in_get}
+
+pub of_in : (xs : List ℕ) (r : ℕ) → In r xs → IsOf xs r
+of_in [] r i = absurd i
+of_in (x ∷ xs) r (inl e) = (0, ap Some e)
+of_in (x ∷ xs) r (inr i) = let j = of_in xs r i in (suc j.0, j.1)
+
+-- a number of a part is one of all
+pub of_part : {X : Type 0} (g : X → List ℕ) (xs : List X) (i : ℕ) (x : X) (r : ℕ) → slice_get xs i ≡ Some x
+    → IsOf (g x) r → IsOf (flat_map g xs) r
+of_part g xs i x r e q = of_in (flat_map g xs) r (in_part g xs i x r e (in_get (g x) q.0 r q.1))

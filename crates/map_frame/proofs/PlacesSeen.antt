@@ -1,0 +1,153 @@
+-- The layers of a frame as places in which its features stand.
+use Rattle.std.proofs.Common.{◌≡◌, ℕ, zero, suc, true, refl, sym, ap, ap₂, ◌∙◌, List, [], ◌∷◌, ◌++◌, ◌&&◌}
+use Rattle.std.proofs.Common.{map, Option, Some, None}
+use Rattle.std.specs.Prelude.{slice_get, option_to_list}
+use Rattle.std.specs.List.{flat_map, list_all}
+use Rattle.std.proofs.lemmas.Bool.{false≢true}
+use Rattle.std.proofs.lemmas.List.Concat.{flat_map-append}
+use Rattle.ring_machine.specs.Document.{FeatureOf, ItemOf, Leaf}
+use Rattle.ring_machine.specs.WellFormed.{is_inner, is_geometry}
+use Rattle.ring_machine.proofs.Order.{and_both}
+use Rattle.edit_records.specs.Places.{Place, Number, LayerTree, AreFormed, is_formed, number_of, numbers_of, numbers_placed}
+use Rattle.edit_records.specs.Places.{leaf, or_empty, item_at, filled}
+use Rattle.edit_records.specs.Places as tree
+use Rattle.map_frame.specs.declared.feature.Feature.{Feature}
+use Rattle.map_frame.specs.declared.layers.Slot.{Slot}
+use Rattle.map_frame.specs.declared.layers.Slot.TheVariants as slot
+use Rattle.map_frame.specs.declared.layers.Geometry.{Geometry}
+use Rattle.map_frame.specs.declared.layers.Geometry.TheVariants as geometry
+use Rattle.map_frame.specs.declared.layers.Layer.{Layer}
+use Rattle.map_frame.specs.Kept.{is_closing, is_whole, is_enclosed, numbers_at, numbers_in, all_numbers}
+use Rattle.map_frame.specs.Seen.{view_layer, leaf_of, items_at, items_of, places_at, tree_of, places_of}
+use Rattle.map_frame.proofs.SlotsEntries.{entry, leaf_is}
+
+module _ {A : Type 0} (fs : List (Option (Feature A))) where
+  -- a feature stands at the place of its number
+  leaf_filled : (n : ℕ) → leaf_of fs n ≡ leaf (entry fs n)
+  leaf_filled n = leaf_is fs n ∙ by (entry fs n)
+    where
+      by : (o : Option (FeatureOf ℕ)) → map Leaf (option_to_list o) ≡ leaf o
+      by None = refl
+      by (Some f) = refl
+
+  leaves_filled : (ns : List ℕ) → flat_map (leaf_of fs) ns ≡ flat_map (item_at (entry fs)) (map Number ns)
+  leaves_filled [] = refl
+  leaves_filled (n ∷ ns) = ap₂ (λ y z. y ++ z) (leaf_filled n) (leaves_filled ns)
+
+  slot_filled : (s : Slot A) → items_at fs s ≡ flat_map (item_at (entry fs)) (places_at s)
+  slot_filled (slot.Open h) = refl
+  slot_filled slot.Close = refl
+  slot_filled (slot.Kept t) = refl
+  slot_filled (slot.Leaves ns) = leaves_filled ns.items
+
+  slots_filled : (ss : List (Slot A)) → flat_map (items_at fs) ss ≡ flat_map (item_at (entry fs)) (flat_map places_at ss)
+  slots_filled [] = refl
+  slots_filled (s ∷ ss) =
+      ap₂ (λ y z. y ++ z) (slot_filled s) (slots_filled ss)
+      ∙ sym (flat_map-append (item_at (entry fs)) (places_at s) (flat_map places_at ss))
+
+  geometry_filled : (g : Geometry A) → items_of fs g ≡ tree.items_of (entry fs) (tree_of g)
+  geometry_filled (geometry.Alone n) = ap or_empty (leaf_filled n)
+  geometry_filled (geometry.Items ss) = slots_filled ss.items
+
+  -- the features of the table stand at the places of their numbers
+  pub layers_filled : (ls : List (Layer A)) → map (view_layer fs) ls ≡ filled (entry fs) (places_of ls)
+  layers_filled [] = refl
+  layers_filled (l ∷ ls) =
+      ap₂ (λ y z. record { name = l.name.now; items = y } ∷ z) (geometry_filled l.geometry) (layers_filled ls)
+
+  -- ---- whatever features are there, a layer is a geometry
+
+  leaves_inner : (n : ℕ) (ns : List ℕ) (is : List (ItemOf ℕ)) → is_inner (suc n) is ≡ true
+      → is_inner (suc n) (flat_map (leaf_of fs) ns ++ is) ≡ true
+  leaves_inner n [] is h = h
+  leaves_inner n (m ∷ ns) is h = by (slice_get fs m) refl (leaves_inner n ns is h)
+    where
+      by : (o : Option (Option (Feature A))) → slice_get fs m ≡ o
+          → is_inner (suc n) (flat_map (leaf_of fs) ns ++ is) ≡ true
+          → is_inner (suc n) ((leaf_of fs m ++ flat_map (leaf_of fs) ns) ++ is) ≡ true
+      by None e rest = rw e rest
+      by (Some None) e rest = rw e rest
+      by (Some (Some f)) e rest = rw e rest
+
+  pub closing_inner : (n : ℕ) (ss : List (Slot A)) → is_closing n ss ≡ true → is_inner n (flat_map (items_at fs) ss) ≡ true
+  closing_inner zero [] h = refl
+  closing_inner zero (s ∷ ss) h = absurd (false≢true h)
+  closing_inner (suc n) [] h = absurd (false≢true h)
+  closing_inner (suc n) (slot.Open o ∷ ss) h = closing_inner (suc (suc n)) ss h
+  closing_inner (suc n) (slot.Close ∷ ss) h = closing_inner n ss h
+  closing_inner (suc n) (slot.Kept t ∷ ss) h = closing_inner (suc n) ss h
+  closing_inner (suc n) (slot.Leaves ns ∷ ss) h =
+      leaves_inner n ns.items (flat_map (items_at fs) ss) (closing_inner (suc n) ss h)
+
+  whole_geometry : (ss : List (Slot A)) → is_whole ss ≡ true → is_geometry (flat_map (items_at fs) ss) ≡ true
+  whole_geometry [] h = absurd (false≢true h)
+  whole_geometry (slot.Open o ∷ ss) h = closing_inner 1 ss h
+  whole_geometry (slot.Kept t ∷ ss) h = closing_inner 0 ss h
+  whole_geometry (slot.Close ∷ ss) h = absurd (false≢true h)
+  whole_geometry (slot.Leaves ns ∷ ss) h = absurd (false≢true h)
+
+  alone_geometry : (n : ℕ) → is_geometry (or_empty (leaf_of fs n)) ≡ true
+  alone_geometry n = ap (λ z. is_geometry (or_empty z)) (leaf_filled n) ∙ by (entry fs n)
+    where
+      by : (o : Option (FeatureOf ℕ)) → is_geometry (or_empty (leaf o)) ≡ true
+      by None = refl
+      by (Some f) = refl
+
+  enclosed_geometry : (g : Geometry A) → is_enclosed g ≡ true → is_geometry (items_of fs g) ≡ true
+  enclosed_geometry (geometry.Alone n) h = alone_geometry n
+  enclosed_geometry (geometry.Items ss) h = whole_geometry ss.items h
+
+  pub layers_geometries : (ls : List (Layer A)) → list_all (λ l. is_enclosed l.geometry) ls ≡ true
+      → list_all (λ l. is_geometry l.items) (map (view_layer fs) ls) ≡ true
+  layers_geometries [] h = refl
+  layers_geometries (l ∷ ls) h =
+      let b = and_both (is_enclosed l.geometry) (list_all (λ l. is_enclosed l.geometry) ls) h in
+      ap₂ (λ y z. y && z) (enclosed_geometry l.geometry b.0) (layers_geometries ls b.1)
+
+-- ---- the numbers that have a place
+
+leaves_placed : (ns : List ℕ) → flat_map number_of (map Number ns) ≡ ns
+leaves_placed [] = refl
+leaves_placed (n ∷ ns) = ap (λ z. n ∷ z) (leaves_placed ns)
+
+module _ {A : Type 0} where
+  pub slot_placed : (s : Slot A) → flat_map number_of (places_at s) ≡ numbers_at s
+  slot_placed (slot.Open h) = refl
+  slot_placed slot.Close = refl
+  slot_placed (slot.Kept t) = refl
+  slot_placed (slot.Leaves ns) = leaves_placed ns.items
+
+  slots_placed : (ss : List (Slot A)) → flat_map number_of (flat_map places_at ss) ≡ flat_map numbers_at ss
+  slots_placed [] = refl
+  slots_placed (s ∷ ss) =
+      flat_map-append number_of (places_at s) (flat_map places_at ss)
+      ∙ ap₂ (λ y z. y ++ z) (slot_placed s) (slots_placed ss)
+
+  pub geometry_placed : (g : Geometry A) → numbers_of (tree_of g) ≡ numbers_in g
+  geometry_placed (geometry.Alone n) = refl
+  geometry_placed (geometry.Items ss) = slots_placed ss.items
+
+  -- they are the numbers in the layers
+  pub layers_placed : (ls : List (Layer A)) → numbers_placed (places_of ls) ≡ all_numbers ls
+  layers_placed [] = refl
+  layers_placed (l ∷ ls) = ap₂ (λ y z. y ++ z) (geometry_placed l.geometry) (layers_placed ls)
+
+  -- ---- how a layer begins
+
+  whole_formed : (ss : List (Slot A)) → is_whole ss ≡ true → is_formed (tree.Places (flat_map places_at ss)) ≡ true
+  whole_formed [] h = absurd (false≢true h)
+  whole_formed (slot.Open o ∷ ss) h = refl
+  whole_formed (slot.Kept t ∷ ss) h = refl
+  whole_formed (slot.Close ∷ ss) h = absurd (false≢true h)
+  whole_formed (slot.Leaves ns ∷ ss) h = absurd (false≢true h)
+
+  geometry_formed : (g : Geometry A) → is_enclosed g ≡ true → is_formed (tree_of g) ≡ true
+  geometry_formed (geometry.Alone n) h = refl
+  geometry_formed (geometry.Items ss) h = whole_formed ss.items h
+
+  pub layers_formed : (ls : List (Layer A)) → list_all (λ l. is_enclosed l.geometry) ls ≡ true → AreFormed (places_of ls)
+  layers_formed [] h = refl
+  layers_formed (l ∷ ls) h =
+      let b = and_both (is_enclosed l.geometry) (list_all (λ l. is_enclosed l.geometry) ls) h in
+      ap₂ (λ y z. y && z) (geometry_formed l.geometry b.0) (layers_formed ls b.1)

@@ -1,0 +1,7 @@
+use Rattle.std.proofs.Common.{◌≡◌, take}
+use Rattle.map_frame.specs.Growing.{with_new}
+use Rattle.map_frame.proofs.growing.with_number.Given as goal
+
+-- the numbers so far, the new one with them
+abbrev pub invariant-loop-m : goal.invariant-loop-m
+invariant-loop-m g l = l.longer.items ≡ with_new l.n l.number (take l.m-index l.numbers)

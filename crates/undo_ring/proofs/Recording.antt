@@ -1,0 +1,334 @@
+-- A history of records is the machine's.
+use Rattle.std.proofs.Common.{◌≡◌, ◌≢◌, ◌≤◌, ◌+◌, ℕ, zero, suc, refl, sym, ap, subst, ◌∙◌, List, [], ◌∷◌, map, take, drop, length, Bool, true, false, cond, Option, None, Some, option_map, inl, inr, ◌⊎◌, arith, Result, Ok, Err, IfOk, IfErr}
+use Rattle.std.proofs.lemmas.List.{take_all}
+use Rattle.std.specs.Prelude.{MatchOption, slice_get}
+use Rattle.std.specs.List.{AllByRecursion}
+use Rattle.circular_buffer.specs.Buffer.{Buffer, buffer}
+use Rattle.ring_machine.specs.Document.{Document}
+use Rattle.ring_machine.specs.Command.{Command, Undo, Refusal, Done, Refused, NothingToUndo}
+use Rattle.ring_machine.specs.Machine.{State, step, undone}
+use Rattle.ring_machine.specs.Parts.{has_feature}
+use Rattle.ring_machine.proofs.Steps.{step-undo}
+use Rattle.edit_records.specs.Places.{grown}
+use Rattle.edit_records.specs.Records.{Record, IsHeld, Undoes, Takes, back}
+use Rattle.edit_records.specs.Histories.{documents, AreUndoing}
+use Rattle.edit_records.proofs.HistoriesKept.{documents-take, undoing-take, undoing-later}
+use Rattle.edit_records.proofs.HistoriesKept.{documents-grown, undoing-grown}
+use Rattle.topo_outline.specs.Kept.{KeepsTexts}
+use Rattle.arc_store.specs.Recorded.{IsRecorded}
+use Rattle.arc_store.specs.State.{State as MapState}
+use Rattle.arc_store.specs.declared.fault.EditFault.{EditFault}
+use Rattle.undo_ring.specs.Answers.{answer_of, refusal_of}
+use Rattle.undo_ring.specs.Answered.{with_past, is_change, past_after, IsSameMap, StaysPlaced, IsGrown, Keeps, AcceptsOn, RefusesOn, StopsOn, FailsOn, AnswersMap}
+use Rattle.undo_ring.specs.Edited.{Edited, machine_of, IsSame, Applies, Refuses, LacksMemory, IsCutShort, Fails, IsUndone}
+use Rattle.undo_ring.specs.Trails.{IsTrail, kept, edited_by}
+use Rattle.undo_ring.specs.declared.answer.Answer.{Answer}
+use Rattle.undo_ring.proofs.MapAnswers.{same_map}
+
+-- the map without the record that it handed out
+abbrev pub handed : MapState → MapState
+handed m = record m { last = None }
+
+all-take : {X : Type 0} (P : X → Type 0) (n : ℕ) (xs : List X) → AllByRecursion P xs → AllByRecursion P (take n xs)
+all-take P zero xs h = tt
+all-take P (suc n) [] h = tt
+all-take P (suc n) (x ∷ xs) h = (h.0, all-take P n xs h.1)
+
+some_is : {X : Type 0} {x y : X} → Some x ≡ Some y → x ≡ y
+some_is e = cc
+
+none_some : {X : Type 0} {x : X} → None ≡ Some x → ⊥
+none_some e = cc
+
+module _ {X : Type 0} (seen : X → Record) where
+  seen-take : (n : ℕ) (xs : List X) → map seen (take n xs) ≡ take n (map seen xs)
+  seen-take zero xs = refl
+  seen-take (suc n) [] = refl
+  seen-take (suc n) (x ∷ xs) = ap (λ z. seen x ∷ z) (seen-take n xs)
+
+  module _ (m : MapState) (records : Buffer X) (trail : IsTrail m (map seen records.items)) where
+    abbrev before : List Record
+    before = map seen records.items
+
+    abbrev past : List Document
+    past = documents m.places m.doc before
+
+    -- ---- a change
+
+    -- older records still lead to the same documents
+    older : (n : MapState) → has_feature m.doc m.next ≡ false → StaysPlaced m n ⊎ IsGrown m n
+        → AreUndoing n.places n.next m.doc before × (documents n.places m.doc before ≡ past)
+    older n free (inl s) = (
+      subst (λ t. AreUndoing t n.next m.doc before) (sym s.places)
+          (subst (λ k. AreUndoing m.places k m.doc before) (sym s.next) trail.undoing),
+      ap (λ t. documents t m.doc before) s.places,
+    )
+    older n free (inr g) =
+        let same : m.next ≤ m.next = omega arith in
+        let more : m.next ≤ n.next = omega (arith, g.next) in (
+          subst (λ t. AreUndoing t n.next m.doc before) (sym g.places)
+              (undoing-later (grown g.after m.next m.places) m.next n.next more m.doc before
+              (undoing-grown m.places m.next g.after m.next same m.doc before trail.undoing free)),
+          ap (λ t. documents t m.doc before) g.places
+              ∙ documents-grown m.places m.next g.after m.next same m.doc before trail.undoing free,
+        )
+
+    module _ (n : MapState) (free : has_feature m.doc m.next ≡ false) (keeps : KeepsTexts m.doc)
+        (recorded : IsRecorded m n) (placed : StaysPlaced m n ⊎ IsGrown m n) (r : X)
+        (given : Some (seen r) ≡ n.last) where
+      made_is : recorded.0 ≡ seen r
+      made_is = some_is (sym recorded.1 ∙ sym given)
+
+      undoes : Undoes n.places n.next n.doc (seen r)
+      undoes = subst (Undoes n.places n.next n.doc) made_is recorded.2.undoes
+
+      was : back n.places (seen r) n.doc ≡ m.doc
+      was = ap (λ z. back n.places z n.doc) (sym made_is) ∙ recorded.2.was
+
+      abbrev pushed : List X
+      pushed = take records.capacity (r ∷ records.items)
+
+      undoing_pushed : AreUndoing n.places n.next n.doc (map seen pushed)
+      undoing_pushed =
+          subst (AreUndoing n.places n.next n.doc) (sym (seen-take records.capacity (r ∷ records.items)))
+          (undoing-take n.places n.next records.capacity n.doc (seen r ∷ before)
+          (undoes, subst (λ z. AreUndoing n.places n.next z before) (sym was) (older n free placed).0))
+
+      past_pushed : documents n.places n.doc (map seen pushed) ≡ take records.capacity (m.doc ∷ past)
+      past_pushed =
+          ap (documents n.places n.doc) (seen-take records.capacity (r ∷ records.items))
+          ∙ documents-take n.places records.capacity n.doc (seen r ∷ before)
+          ∙ ap (λ z. take records.capacity (z ∷ documents n.places z before)) was
+          ∙ ap (λ z. take records.capacity (m.doc ∷ z)) (older n free placed).1
+
+      trail_pushed : IsTrail (handed n) (map seen pushed)
+      trail_pushed = record {
+        undoing = undoing_pushed;
+        texts = subst (AllByRecursion KeepsTexts) (sym past_pushed)
+            (all-take KeepsTexts records.capacity (m.doc ∷ past) (keeps, trail.texts));
+        taken = refl;
+      }
+
+    -- ---- no change
+
+    module _ (n : MapState) (same : IsSameMap m n) where
+      still : handed n ≡ record m { tests = n.tests }
+      still = ap handed same ∙ ap (λ z. record m { tests = n.tests; last = z }) (sym trail.taken)
+
+      none_made : (made : Option X) → option_map seen made ≡ n.last → made ≡ None
+      none_made None e = refl
+      none_made (Some r) e = absurd (none_some (sym (e ∙ ap (λ (z : MapState). z.last) same ∙ trail.taken)))
+
+      trail_still : IsTrail (handed n) before
+      trail_still = subst (λ z. IsTrail z before) (sym still) (record {
+        undoing = trail.undoing;
+        texts = trail.texts;
+        taken = trail.taken;
+      })
+
+      same_still : IsSame (edited_by seen m records) (edited_by seen (handed n) records)
+      same_still = ap (λ z. edited_by seen z records) still
+
+    -- ---- what became of the map, and of the records
+
+    module _ (n : MapState) (made : Option X) (given : option_map seen made ≡ n.last) where
+      abbrev after : Edited
+      after = edited_by seen (handed n) (kept records made)
+
+      abbrev Stays : Type 0
+      Stays = IsTrail (handed n) (map seen (kept records made).items)
+
+      when_same : IsSameMap m n → Stays × IsSame (edited_by seen m records) after
+      when_same same =
+          subst (λ o. IsTrail (handed n) (map seen (kept records o).items) × IsSame (edited_by seen m records) (edited_by seen (handed n) (kept records o)))
+          (sym (none_made n same made given)) (trail_still n same, same_still n same)
+
+      module _ (free : has_feature m.doc m.next ≡ false) (keeps : KeepsTexts m.doc) where
+        when_changed : IsRecorded m n → StaysPlaced m n ⊎ IsGrown m n
+            → Stays × ((after.past ≡ take records.capacity (m.doc ∷ past)) × (after.depth ≡ records.capacity))
+        when_changed recorded placed = by made given
+          where
+            by : (o : Option X) → option_map seen o ≡ n.last
+                → IsTrail (handed n) (map seen (kept records o).items)
+                × ((documents n.places n.doc (map seen (kept records o).items) ≡ take records.capacity (m.doc ∷ past)) × ((kept records o).capacity ≡ records.capacity))
+            by None e = absurd (none_some (e ∙ recorded.1))
+            by (Some r) e = (trail_pushed n free keeps recorded placed r e, (past_pushed n free keeps recorded placed r e, refl))
+
+        -- an accepted command
+        pub applied : {A : Type 0} (c : Command) (a : Answer A) → AcceptsOn m n c a
+            → Stays × Applies (edited_by seen m records) after c a
+        applied {A} c a h = by (is_change a) refl h.kept
+          where
+            steps : (p : List Document) → p ≡ past_after a records.capacity m.doc past
+                → (answer_of a, with_past n p) ≡ step records.capacity (with_past m past) c
+            steps p e = ap (λ z. (answer_of a, with_past n z)) e ∙ h.steps records.capacity past
+
+            by : (b : Bool) → is_change a ≡ b → Keeps b m n
+                → Stays × Applies (edited_by seen m records) after c a
+            by true e k =
+                let w = when_changed k.0 k.1 in (
+                  w.0,
+                  record {
+                    steps = steps after.past (w.1.0 ∙ sym (ap (λ b. cond b (take records.capacity (m.doc ∷ past)) past) e));
+                    stays = record { depth = w.1.1; cells = h.cells };
+                  },
+                )
+            by false e k =
+                let w = when_same k in (
+                  w.0,
+                  record {
+                    steps = steps after.past (ap (λ (z : Edited). z.past) w.1 ∙ sym (ap (λ b. cond b (take records.capacity (m.doc ∷ past)) past) e));
+                    stays = record { depth = ap (λ (z : Edited). z.depth) w.1; cells = h.cells };
+                  },
+                )
+
+        -- one that failed
+        pub failed : (c : Command) (fault : EditFault) → FailsOn fault m n c
+            → Stays × Fails fault (edited_by seen m records) after c
+        failed c fault h = by (refusal_of fault) h
+          where
+            stopped : StopsOn m n c → Stays × (LacksMemory (edited_by seen m records) after ⊎ IsCutShort (edited_by seen m records) after c)
+            stopped s = on n.last refl s.recorded
+              where
+                on : (o : Option Record) → n.last ≡ o
+                    → MatchOption o (n.doc ≡ m.doc) (λ z. Takes n.places n.next m.doc n.doc z × (n.doc ≢ m.doc))
+                    → Stays × (LacksMemory (edited_by seen m records) after ⊎ IsCutShort (edited_by seen m records) after c)
+                on None e d =
+                    let w = when_same (same_map m n d s.stays s.cells (e ∙ sym trail.taken)) in (w.0, inl w.1)
+                on (Some z) e k =
+                    let w = when_changed (z, e, k.0) (inl s.stays) in (
+                      w.0,
+                      inr (record {
+                        bound = s.bound;
+                        thins = s.thins;
+                        part = s.part;
+                        other = k.1;
+                        change = ap (λ p. with_past n p) w.1.0 ∙ ap (λ k. let st : State = record { doc = n.doc; next = k; past = take records.capacity (m.doc ∷ past) } in st) s.stays.next;
+                        stays = record { depth = w.1.1; cells = s.cells };
+                      }),
+                    )
+
+            by : (o : Option Refusal) → MatchOption o (IsSameMap m n ⊎ StopsOn m n c) (RefusesOn m n c)
+                → Stays × MatchOption o (LacksMemory (edited_by seen m records) after ⊎ IsCutShort (edited_by seen m records) after c) (Refuses (edited_by seen m records) after c)
+            by None (inl same) = let w = when_same same in (w.0, inl w.1)
+            by None (inr s) = stopped s
+            by (Some r) k =
+                let w = when_same k.same in (w.0, record { steps = k.steps records.capacity past; same = w.1 })
+
+-- ---- taking back
+
+module _ {X : Type 0} where
+  front_item : (items : List X) (x : X) → Some x ≡ slice_get items 0 → items ≡ x ∷ drop 1 items
+  front_item [] x e = absurd (none_some (sym e))
+  front_item (y ∷ ys) x e = ap (λ z. z ∷ ys) (sym (some_is e))
+
+  no_item : (items : List X) → None ≡ slice_get items 0 → items ≡ []
+  no_item [] e = refl
+  no_item (y ∷ ys) e = absurd (none_some e)
+
+module _ {X : Type 0} (seen : X → Record) (m : MapState) (records popped : Buffer X) (trail : IsTrail m (map seen records.items))
+    (gone : popped ≡ buffer (drop 1 records.items) records.capacity) where
+  -- nothing was kept
+  pub none_kept : None ≡ slice_get records.items 0
+      → IsTrail m (map seen popped.items) × Refuses (edited_by seen m records) (edited_by seen m popped) Undo NothingToUndo
+  none_kept none =
+      let empty = no_item records.items none in
+      let same : popped ≡ records =
+      gone ∙ ap (λ xs. buffer (drop 1 xs) records.capacity) empty ∙ ap (λ xs. buffer xs records.capacity) (sym empty) in (
+        subst (λ (b : Buffer X). IsTrail m (map seen b.items)) (sym same) trail,
+        record {
+          steps = sym (step-undo records.capacity (machine_of (edited_by seen m records))
+              ∙ ap (λ xs. undone (with_past m (documents m.places m.doc (map seen xs)))) empty
+              ∙ ap (λ xs. (Refused NothingToUndo, with_past m (documents m.places m.doc (map seen xs)))) (sym empty));
+          same = ap (edited_by seen m) same;
+        },
+      )
+
+  module _ (x : X) (first : Some x ≡ slice_get records.items 0) where
+    abbrev rest : List X
+    rest = drop 1 records.items
+
+    front : records.items ≡ x ∷ rest
+    front = front_item records.items x first
+
+    all : IsTrail m (seen x ∷ map seen rest)
+    all = subst (λ xs. IsTrail m (map seen xs)) front trail
+
+    pub first_undoes : Undoes m.places m.next m.doc (seen x)
+    first_undoes = all.undoing.0
+
+    pub first_texts : KeepsTexts (back m.places (seen x) m.doc)
+    first_texts = all.texts.0
+
+    module _ (n : MapState) where
+      pub taken_back : n ≡ record m { doc = back m.places (seen x) m.doc; tests = 0; last = None }
+          → IsTrail n (map seen popped.items) × IsUndone (edited_by seen m records) (edited_by seen n popped)
+      taken_back is =
+          subst (λ (b : Buffer X). IsTrail n (map seen b.items) × IsUndone (edited_by seen m records) (edited_by seen n b)) (sym gone)
+          (subst (λ z. IsTrail z (map seen rest) × IsUndone (edited_by seen m records) (edited_by seen z (buffer rest records.capacity))) (sym is) (
+            record { undoing = all.undoing.1; texts = all.texts.1; taken = refl },
+            record {
+              steps = sym (step-undo records.capacity (machine_of (edited_by seen m records))
+                  ∙ ap (λ xs. undone (with_past m (documents m.places m.doc (map seen xs)))) front);
+              untested = refl;
+              stays = record { depth = refl; cells = refl };
+            },
+          ))
+
+      -- the record is in front again
+      pub not_back : n ≡ record m { tests = 0; last = None } → length records.items ≤ records.capacity
+          → (y : X) → seen y ≡ seen x → (pushed : Buffer X) → pushed ≡ buffer (take popped.capacity (y ∷ popped.items)) popped.capacity
+          → IsTrail n (map seen pushed.items) × IsSame (edited_by seen m records) (edited_by seen n pushed)
+      not_back is within y same pushed put =
+          let list : pushed ≡ buffer (y ∷ rest) records.capacity =
+          put ∙ ap (λ (b : Buffer X). buffer (take b.capacity (y ∷ b.items)) b.capacity) gone
+          ∙ ap (λ xs. buffer xs records.capacity) (take_all records.capacity (y ∷ rest) (omega (arith, within, ap length front))) in
+          let seen_same : map seen (y ∷ rest) ≡ map seen records.items =
+          ap (λ z. z ∷ map seen rest) same ∙ ap (map seen) (sym front) in
+          let now : n ≡ record m { tests = 0 } = is ∙ ap (λ z. record m { tests = 0; last = z }) (sym trail.taken) in
+          subst (λ (b : Buffer X). IsTrail n (map seen b.items) × IsSame (edited_by seen m records) (edited_by seen n b)) (sym list) (
+            subst (IsTrail n) (sym seen_same) (subst (λ z. IsTrail z (map seen records.items)) (sym now)
+                (record { undoing = trail.undoing; texts = trail.texts; taken = trail.taken })),
+            subst (λ z. IsSame (edited_by seen m records) (record { map = n; past = documents n.places n.doc z; depth = records.capacity })) (sym seen_same)
+                (ap (λ (z : MapState). let e : Edited = record { map = z; past = documents z.places z.doc (map seen records.items); depth = records.capacity } in e) now
+                ∙ ap (λ k. record (edited_by seen m records) { map = record m { tests = k } }) (sym (ap (λ (z : MapState). z.tests) now))),
+          )
+
+-- ---- a command, as the calls have it
+
+module _ {X : Type 0} (seen : X → Record) (m n now : MapState) (records after : Buffer X) (trail : IsTrail m (map seen records.items))
+    (held : IsHeld m.places m.next m.doc) (keeps : KeepsTexts m.doc) (made : Option X) (given : option_map seen made ≡ n.last)
+    (is : now ≡ handed n) (pushed : after ≡ kept records made) where
+  abbrev old : Edited
+  old = edited_by seen m records
+
+  abbrev new : Edited
+  new = edited_by seen now after
+
+  free : has_feature m.doc m.next ≡ false
+  free = held.below m.next (omega arith)
+
+  answered : {A : Type 0} (result : Result (Answer A) EditFault) (c : Command) → AnswersMap m n c result
+      → IsTrail (handed n) (map seen (kept records made).items)
+      × (IfOk result (Applies old (edited_by seen (handed n) (kept records made)) c) × IfErr result (λ fault. Fails fault old (edited_by seen (handed n) (kept records made)) c))
+  answered (Ok a) c h = let r = applied seen m records trail n made given free keeps c a h in (r.0, (r.1, tt))
+  answered (Err fault) c h = let r = failed seen m records trail n made given free keeps c fault h in (r.0, (tt, r.1))
+
+  module _ {A : Type 0} (result : Result (Answer A) EditFault) (c : Command) (h : AnswersMap m n c result) where
+    pub trail_after : IsTrail now (map seen after.items)
+    trail_after =
+        subst (λ z. IsTrail z (map seen after.items)) (sym is)
+        (subst (λ (b : Buffer X). IsTrail (handed n) (map seen b.items)) (sym pushed) (answered result c h).0)
+
+    module _ (e : Edited) (view : old ≡ e) where
+      pub applied_after : IfOk result (λ a. Applies e new c a)
+      applied_after =
+          subst (λ z. IfOk result (λ a. Applies z new c a)) view
+          (subst (λ z. IfOk result (λ a. Applies old (edited_by seen z after) c a)) (sym is)
+          (subst (λ (b : Buffer X). IfOk result (λ a. Applies old (edited_by seen (handed n) b) c a)) (sym pushed) (answered result c h).1.0))
+
+      pub failed_after : IfErr result (λ fault. Fails fault e new c)
+      failed_after =
+          subst (λ z. IfErr result (λ fault. Fails fault z new c)) view
+          (subst (λ z. IfErr result (λ fault. Fails fault old (edited_by seen z after) c)) (sym is)
+          (subst (λ (b : Buffer X). IfErr result (λ fault. Fails fault old (edited_by seen (handed n) b) c)) (sym pushed) (answered result c h).1.1))

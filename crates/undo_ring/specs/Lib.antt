@@ -1,0 +1,5 @@
+pub mod Commands
+pub mod Answers
+pub mod Edited
+pub mod Answered
+pub mod Trails

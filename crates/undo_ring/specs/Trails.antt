@@ -1,0 +1,29 @@
+-- The records of a map's newest changes.
+use Rattle.std.specs.Prelude.{ℕ, ◌≡◌, ◌∷◌, List, map, take, Option, None, Some}
+use Rattle.std.specs.List.{AllByRecursion}
+use Rattle.circular_buffer.specs.Buffer.{Buffer, buffer}
+use Rattle.edit_records.specs.Records.{Record}
+use Rattle.edit_records.specs.Histories.{documents, AreUndoing}
+use Rattle.topo_outline.specs.Kept.{KeepsTexts}
+use Rattle.arc_store.specs.State.{State as MapState}
+use Rattle.undo_ring.specs.Edited.{Edited}
+
+-- each record takes its change back to a document whose texts may be kept, and the map has handed out
+-- the record of its last edit
+pub record IsTrail (now : MapState) (rs : List Record) : Type 0 where
+  pub undoing : AreUndoing now.places now.next now.doc rs
+  pub texts : AllByRecursion KeepsTexts (documents now.places now.doc rs)
+  pub taken : now.last ≡ None
+
+-- the records with one more in front, where there is one
+abbrev pub kept : {X : Type 0} → Buffer X → Option X → Buffer X
+kept records None = records
+kept records (Some made) = buffer (take records.capacity (made ∷ records.items)) records.capacity
+
+-- an editor of this map, with these records of its changes
+abbrev pub edited_by : {X : Type 0} → (X → Record) → MapState → Buffer X → Edited
+edited_by seen m records = record {
+  map = m;
+  past = documents m.places m.doc (map seen records.items);
+  depth = records.capacity;
+}

@@ -1,0 +1,12 @@
+//! A map with its history: each command is a step of the machine, and the newest changes can be
+//! taken back.
+#![tactic(auto)]
+
+mod answer;
+mod answering;
+mod command;
+mod editor;
+
+pub use answer::Answer;
+pub use command::Command;
+pub use editor::{Editor, UndoFault};

@@ -1,0 +1,92 @@
+// The text of a map as it is then, and whether the map is as if it had been opened from it.
+use crate::maps::map_of;
+use arc_store::Map;
+use device_io::ToWriter;
+use grid_geometry::{Pos, Seg};
+use segment_index::SegIndex;
+use std::alloc::{Allocator, Global};
+use std::process::Abort;
+use topo_writer::write;
+
+/// The text of the map. The heap refuses no growth.
+pub(crate) fn written<R: Abort, I: SegIndex, A: Allocator + Copy>(
+    rt: &R,
+    alloc: Global,
+    calm: A,
+    map: &Map<'_, I, A>,
+) -> Vec<u8> {
+    let mut out = ToWriter::new(Vec::new(alloc));
+    let is_whole = write(calm, map, &mut out).is_ok();
+    assert!(rt; is_whole, "the map is written");
+    out.writer
+}
+
+/// Whether the map is written so.
+pub(crate) fn is_written<R: Abort, I: SegIndex, A: Allocator + Copy>(
+    rt: &R,
+    alloc: Global,
+    calm: A,
+    map: &Map<'_, I, A>,
+    text: &[u8],
+) -> bool {
+    let found = written(rt, alloc, calm, map);
+    let is_same = found.as_slice() == text;
+    drop(found);
+    is_same
+}
+
+/// What a map tells of itself beside its text.
+#[derive(Clone, Copy, Debug, PartialEq, Eq)]
+pub(crate) struct Counts {
+    features: usize,
+    vertices: usize,
+    segments: usize,
+    positions: usize,
+    /// How many rings have each side of each outer ring, all added up.
+    users: usize,
+}
+
+/// How many rings have each side of the first outer ring of this feature but its last, added up.
+fn users_along<I: SegIndex, A: Allocator + Copy>(map: &Map<'_, I, A>, n: u32) -> usize {
+    let Some(positions) = map.ring(n, 0, 0) else {
+        return 0;
+    };
+    let (mut users, mut last): (usize, Option<Pos>) = (0, None);
+    for p in positions {
+        if let Some(side) = last.and_then(|before| Seg::new(before, p)) {
+            users = users.wrapping_add(map.uses(side));
+        }
+        last = Some(p);
+    }
+    users
+}
+
+/// The counts of the map.
+pub(crate) fn counts_of<I: SegIndex, A: Allocator + Copy>(map: &Map<'_, I, A>) -> Counts {
+    let mut users = 0usize;
+    for n in 0..map.next_number() {
+        users = users.wrapping_add(users_along(map, n));
+    }
+    Counts {
+        features: map.feature_count(),
+        vertices: map.vertex_count(),
+        segments: map.segment_count(),
+        positions: map.position_count(),
+        users,
+    }
+}
+
+/// The map has the segments of the one that is opened from this text, in as many rings.
+pub(crate) fn is_as_opened<R: Abort, I: SegIndex, A: Allocator + Copy>(
+    rt: &R,
+    alloc: Global,
+    map: &Map<'_, I, A>,
+    text: &[u8],
+) {
+    let Some(other) = map_of(alloc, alloc, text) else {
+        panic!(rt; "what is written opens");
+    };
+    let counts = counts_of(&other);
+    drop(other);
+    assert_eq!(rt; counts_of(map), counts);
+}
