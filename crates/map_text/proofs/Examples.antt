@@ -1,6 +1,6 @@
 -- The texts of documents, worked out.
 use Rattle.std.proofs.Common.{refl}
-use Rattle.std.specs.Prelude.{◌≡◌, pos, negsuc, true, false, [], ◌∷◌, None, Some, codes, map}
+use Rattle.std.specs.Prelude.{◌≡◌, ℕ, List, pos, negsuc, true, false, [], ◌∷◌, None, Some, codes, map}
 use Rattle.std.specs.Fmt.{digits}
 use Rattle.ring_machine.specs.Document.{Document, Layer, Open, Close, Leaf, Kept}
 use Rattle.ring_machine.specs.Document.{MultiPolygon}
@@ -69,9 +69,11 @@ both_kinds = refl
 
 -- ---- whole texts
 
+abbrev pub squares_text : List ℕ
+squares_text = codes "{\"type\":\"Topology\",\"objects\":{\"land\":{\"type\":\"GeometryCollection\",\"geometries\":[{\"type\":\"Polygon\",\"id\":\"A\",\"arcs\":[[0,1]]},{\"type\":\"Polygon\",\"id\":\"B\",\"arcs\":[[2,-1]]}]}},\"arcs\":[[[10,0],[10,10]],[[10,10],[0,10],[0,0],[10,0]],[[10,0],[20,0],[20,10],[10,10]]]}"
+
 -- the arcs are numbered anew, members stand in their order, and a `bbox` is left out
-two_squares : text_of M
-    ≡ codes "{\"type\":\"Topology\",\"objects\":{\"land\":{\"type\":\"GeometryCollection\",\"geometries\":[{\"type\":\"Polygon\",\"id\":\"A\",\"arcs\":[[0,1]]},{\"type\":\"Polygon\",\"id\":\"B\",\"arcs\":[[2,-1]]}]}},\"arcs\":[[[10,0],[10,10]],[[10,10],[0,10],[0,0],[10,0]],[[10,0],[20,0],[20,10],[10,10]]]}"
+pub two_squares : text_of M ≡ squares_text
 unfolding digits
 two_squares = refl
 

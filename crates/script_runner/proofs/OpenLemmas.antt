@@ -1,13 +1,14 @@
 -- What opens as a document, and what opens as none.
 use Rattle.std.proofs.Common.{◌≡◌, sym, ap, ◌∙◌, subst, List, ℕ}
-use Rattle.std.specs.Prelude.{Some, None, Ok}
+use Rattle.std.specs.Prelude.{Some, None}
 use Rattle.grid_geometry.specs.Segment.{Segment}
 use Rattle.ring_machine.specs.Document.{Document}
 use Rattle.ring_machine.specs.Planar.{Proper, first_pair}
 use Rattle.topo_reader.specs.Document.{Opened, document_of}
 use Rattle.topo_reader.specs.Opening.{Opens}
 use Rattle.topo_reader.specs.Reads.{Reads, Fits}
-use Rattle.topo_reader.proofs.MeaningOfText.{opens}
+use Rattle.topo_reader.proofs.MeaningOfText.{is_read}
+use Rattle.topo_reader.proofs.OneReading.{one_reading}
 use Rattle.arc_store.specs.Faults.{Names}
 use Rattle.arc_store.specs.declared.fault.BuildFault.{BuildFault}
 use Rattle.arc_store.specs.declared.fault.BuildFault.TheVariants as build
@@ -21,19 +22,14 @@ opens_as bytes read d is e proper = subst (λ z. Proper z → OpensAs bytes z) (
 pub not_read : (bytes : List ℕ) → ¬ ((d : Document) × (reading : Reads bytes d) × Fits reading) → IsUnopened bytes
 not_read bytes none d h = none (d, h.reads, h.fits)
 
--- what was read is the one document that the bytes mean
-same_read : (bytes : List ℕ) (o p : Opened) → Opens bytes o → Opens bytes p → o ≡ p
-same_read bytes o p a b = let e : Ok o ≡ Ok p = sym a.opens ∙ b.opens in cc
-
 none_is_some : (u : Segment × Segment) → None ≡ Some u → ⊥
 none_is_some u e = absurd cc
 
 -- where two segments of it conflict, it does not open
 pub in_conflict : (bytes : List ℕ) (o : Opened) (s t : Segment) → Opens bytes o → first_pair (document_of o) ≡ Some (s, t) → IsUnopened bytes
 in_conflict bytes o s t a e d h =
-    let (p, b, same) = opens bytes d h.reads h.fits in
-    let is : first_pair d ≡ Some (s, t) = ap first_pair (sym same ∙ ap document_of (sym (same_read bytes o p a b))) ∙ e in
-    none_is_some (s, t) (sym h.proper.apart ∙ is)
+    let same : d ≡ document_of o = one_reading bytes d (document_of o) h.reads (is_read bytes o a).0 in
+    none_is_some (s, t) (sym h.proper.apart ∙ ap first_pair same ∙ e)
 
 -- the end of a run whose map was read, and not built
 pub not_built : (bytes : List ℕ) (o : Opened) (f : BuildFault) (end : RunFault) → Opens bytes o → Names f (first_pair (document_of o)) → IsBuildEnd f end → IsOpenEnd end bytes
