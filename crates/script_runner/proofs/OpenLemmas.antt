@@ -1,6 +1,6 @@
 -- What opens as a document, and what opens as none.
-use Rattle.std.proofs.Common.{◌≡◌, sym, ap, ◌∙◌, subst, List, ℕ}
-use Rattle.std.specs.Prelude.{Some, None}
+use Rattle.std.proofs.Common.{◌≡◌, refl, sym, ap, ◌∙◌, subst, List, ℕ, inl}
+use Rattle.std.specs.Prelude.{Some, None, Ok}
 use Rattle.grid_geometry.specs.Segment.{Segment}
 use Rattle.ring_machine.specs.Document.{Document}
 use Rattle.ring_machine.specs.Planar.{Proper, first_pair}
@@ -13,7 +13,10 @@ use Rattle.arc_store.specs.Faults.{Names}
 use Rattle.arc_store.specs.declared.fault.BuildFault.{BuildFault}
 use Rattle.arc_store.specs.declared.fault.BuildFault.TheVariants as build
 use Rattle.script_runner.specs.declared.fault.RunFault.{RunFault}
-use Rattle.script_runner.specs.Outcome.{OpensAs, IsUnopened, IsOpenEnd, IsBuildEnd}
+use Rattle.script_runner.specs.declared.fault.RunFault.TheVariants as fault
+use Rattle.script_runner.specs.Devices.{Devices}
+use Rattle.script_runner.specs.Outcome.{OpensAs, IsUnopened, Ends}
+use Rattle.script_runner.specs.Ended.{IsOpenEnd, IsBuildEnd}
 
 pub opens_as : (bytes : List ℕ) (read d : Document) → ((reading : Reads bytes read) × Fits reading) → d ≡ read → Proper d → OpensAs bytes d
 opens_as bytes read d is e proper = subst (λ z. Proper z → OpensAs bytes z) (sym e) (λ p. record { reads = is.0; fits = is.1; proper = p }) proper
@@ -35,3 +38,11 @@ in_conflict bytes o s t a e d h =
 pub not_built : (bytes : List ℕ) (o : Opened) (f : BuildFault) (end : RunFault) → Opens bytes o → Names f (first_pair (document_of o)) → IsBuildEnd f end → IsOpenEnd end bytes
 not_built bytes o (build.Conflict s t) end a pair is = subst (λ z. IsOpenEnd z bytes) (sym is) ((o, a, pair), (λ e. absurd cc), in_conflict bytes o s t a pair)
 not_built bytes o build.OutOfMemory end a pair is = subst (λ z. IsOpenEnd z bytes) (sym is) tt
+
+-- a run that ends with its opening leaves its devices as they were
+pub ends_unopened : (end : RunFault) (bytes : List ℕ) (depth : ℕ) (at : Devices) → IsOpenEnd end bytes → Ends end bytes depth at at
+ends_unopened (fault.Open f) bytes depth at h = (h.0, h.1, h.2, refl)
+ends_unopened fault.Read bytes depth at h = absurd h
+ends_unopened fault.Write bytes depth at h = absurd h
+ends_unopened fault.Save bytes depth at h = absurd h
+ends_unopened fault.OutOfMemory bytes depth at h = inl refl
