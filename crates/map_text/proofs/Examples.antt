@@ -107,6 +107,22 @@ kept_texts : text_of Q
 unfolding digits
 kept_texts = refl
 
+-- the members of a collection: its type, its id, its properties, its geometries, and those that are
+-- kept
+abbrev described : Document
+described = document (record {
+  name = codes "\"c\"";
+  items = Open (record {
+    id = Some (codes "\"C\"");
+    properties = Some (codes "{\"n\":1}");
+    members = record { name = codes "\"k\""; value = codes "2" } ∷ [];
+  }) ∷ null 0 (codes "7") ∷ Close ∷ [];
+} ∷ [])
+
+texts_of_a_collection : text_of described
+    ≡ codes "{\"type\":\"Topology\",\"objects\":{\"c\":{\"type\":\"GeometryCollection\",\"id\":\"C\",\"properties\":{\"n\":1},\"geometries\":[{\"type\":null,\"id\":7}],\"k\":2}},\"arcs\":[]}"
+texts_of_a_collection = refl
+
 -- a topology without layers
 nothing : text_of (document []) ≡ codes "{\"type\":\"Topology\",\"objects\":{},\"arcs\":[]}"
 nothing = refl

@@ -18,7 +18,7 @@ fn repeat(text: &mut Vec<u8>, piece: &[u8], times: usize) -> Result<(), AllocFai
 }
 
 /// A text of so many pieces between a front and an end.
-fn long_text(
+pub(crate) fn long_text(
     rt: &HostRuntime,
     front: &[u8],
     piece: &[u8],
