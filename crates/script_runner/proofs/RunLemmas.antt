@@ -217,13 +217,13 @@ lines_in_piece depth d before after read text piece further new p q mid fed came
 -- a piece is no longer than its room, and so is what of it goes past the limit
 pub piece_fits : (room : List ℕ) (n t : ℕ) → length room ≡ 4096 → n ≤ length room → t ≤ n → length (take t room ++ drop t (take n room)) ≤ 4096
 piece_fits room n t whole within less = (
-  let e = length-append (take t room) (drop t (take n room)) in
-  let f = length-drop t (take n room) in
-  let h = length-take-le n room within in
-  let k : t ≤ length room = omega arith in
-  let l = length-take-le t room k in
-  omega arith
-)
+    let e = length-append (take t room) (drop t (take n room)) in
+    let f = length-drop t (take n room) in
+    let h = length-take-le n room within in
+    let k : t ≤ length room = omega arith in
+    let l = length-take-le t room k in
+    omega arith
+    )
 
 pub rest_fits : (room : List ℕ) (n t : ℕ) → length room ≡ 4096 → n ≤ length room → length (drop t (take n room)) ≤ 4096
 rest_fits room n t whole within =

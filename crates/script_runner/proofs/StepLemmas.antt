@@ -40,17 +40,20 @@ pub answered_line : (was is : Edited) (ended : Bool) (p q : Progress) (over : Bo
     → q.depth ≡ is.depth → q.state ≡ machine_of is → q.line ≡ [] → q.over ≡ false → q.answered ≡ p.answered + answered_by m → q.refused ≡ p.refused + cond refuses 1 0
     → LineStep ended p text q
 answered_line was is ended p q over line m text refuses ed es eo el k r shows qd qs ql qo qa qr =
-    let kept : KeptMeans p.over ended p.line m = rw (eo, el) k in
-    (m, kept, record {
-      told = r.told ∙ ap₂ (λ n s. reply_text n s m) (sym ed) (sym es);
-      shown = subst (λ s. ShowsSaved s m) (sym es) shows;
-      after = qs ∙ r.stands ∙ ap₂ (λ n s. state_after n s m) (sym ed) (sym es);
-      depth = qd ∙ r.depth ∙ sym ed;
-      line = ql;
-      over = qo;
-      answered = qa;
-      refused = qr ∙ ap (λ n. p.refused + n) (r.counts ∙ ap₂ (λ n s. refused_by n s m) (sym ed) (sym es));
-    })
+    let kept : KeptMeans p.over ended p.line m = rw (eo, el) k in (
+      m,
+      kept,
+      record {
+        told = r.told ∙ ap₂ (λ n s. reply_text n s m) (sym ed) (sym es);
+        shown = subst (λ s. ShowsSaved s m) (sym es) shows;
+        after = qs ∙ r.stands ∙ ap₂ (λ n s. state_after n s m) (sym ed) (sym es);
+        depth = qd ∙ r.depth ∙ sym ed;
+        line = ql;
+        over = qo;
+        answered = qa;
+        refused = qr ∙ ap (λ n. p.refused + n) (r.counts ∙ ap₂ (λ n s. refused_by n s m) (sym ed) (sym es));
+      },
+    )
 
 -- a command is no question for the document
 not_show : (c : Command) → Asked (command_of c) ≡ Asked Show → ⊥

@@ -17,9 +17,12 @@ returns-in_err-said-clause-cut g c =
 
 pub returns-clause-ok : goal.returns-clause-ok
 returns-clause-ok g c =
-    let (text, put, replied) = c.in_ok-refuses.ensures.ok in
-    (text, put, answered_line c.self.inside.editor c.send_reply.new.editor c.args.ended c.args.self.now _ c.self.inside.over c.as_slice.result.now (meaning_of_said c.in_ok-said.said) text c.in_ok-refuses.refuses
-    (ap (λ p. p.depth) (sym c.self.view_is)) (ap (λ p. p.state) (sym c.self.view_is)) (ap (λ p. p.over) (sym c.self.view_is)) (ap (λ p. p.line) (sym c.self.view_is) ∙ sym c.as_slice.ensures.value)
-    c.in_ok-said.ensures.means replied (shows c.self.inside.editor c.in_ok-said.said c.in_ok-refuses.ensures.shown) refl refl c.clear.ensures.items refl
-    (ap₂ (λ a b. a + b) (ap (λ p. p.answered) c.self.view_is) (c.one_if.ensures ∙ c.is_answered-counts.ensures))
-    (ap₂ (λ a b. a + b) (ap (λ p. p.refused) c.self.view_is) c.one_if-2.ensures))
+    let (text, put, replied) = c.in_ok-refuses.ensures.ok in (
+      text,
+      put,
+      answered_line c.self.inside.editor c.send_reply.new.editor c.args.ended c.args.self.now _ c.self.inside.over c.as_slice.result.now (meaning_of_said c.in_ok-said.said) text c.in_ok-refuses.refuses
+          (ap (λ p. p.depth) (sym c.self.view_is)) (ap (λ p. p.state) (sym c.self.view_is)) (ap (λ p. p.over) (sym c.self.view_is)) (ap (λ p. p.line) (sym c.self.view_is) ∙ sym c.as_slice.ensures.value)
+          c.in_ok-said.ensures.means replied (shows c.self.inside.editor c.in_ok-said.said c.in_ok-refuses.ensures.shown) refl refl c.clear.ensures.items refl
+          (ap₂ (λ a b. a + b) (ap (λ p. p.answered) c.self.view_is) (c.one_if.ensures ∙ c.is_answered-counts.ensures))
+          (ap₂ (λ a b. a + b) (ap (λ p. p.refused) c.self.view_is) c.one_if-2.ensures),
+    )
