@@ -535,8 +535,8 @@ said_asked line (Some c) short h = (short, h)
 
 -- a line that is no comment and asks for no command says nothing, nor does one that is too long
 pub says_nothing : (line : List ℕ) → is_comment line ≡ false → ((c : Command) → Asks line c → ⊥) → (asked : Option Command) → Says line asked → ⊥
-says_nothing line no never None h = false≢true (sym no ∙ h.1.1)
-says_nothing line no never (Some c) h = never c h.1
+says_nothing line plain never None h = false≢true (sym plain ∙ h.1.1)
+says_nothing line plain never (Some c) h = never c h.1
 
 pub too_long : (line : List ℕ) → 8192 < length line → (asked : Option Command) → Says line asked → ⊥
 too_long line long asked h = let short : length line ≤ 8192 = h.0 in absurd (omega arith)
