@@ -563,10 +563,6 @@ def measure_save(runner, map_, opening, whole):
     return f"{whole - opening:9.3f} s      {size:.2f} MB, {size / (whole - opening):.1f} MB/s"
 
 
-def measure_edits(runner, map_, drawn, seconds):
-    return rate(runner, map_.path, Moves(runner, map_.path, drawn.vertices).script, seconds)
-
-
 def measure_questions(runner, map_, seconds, ask, answer):
     """Lines a second that `ask` gives, each answered by a text of this form."""
     return rate(runner, map_.path, lambda count: [ask() for _ in range(count)], seconds, answer)
@@ -585,10 +581,6 @@ def of_positions(drawn, rand):
         raise Failed("the map has no vertex")
     (west, east), (south, north) = ((min(along), max(along)) for along in zip(*drawn.vertices))
     return lambda: f"at {rand.randint(west, east)} {rand.randint(south, north)}"
-
-
-def measure_splits(runner, map_, features, cuts, seconds):
-    return rate(runner, map_.path, Splits(runner, map_.path, features, cuts).script, seconds)
 
 
 def measure_deletes(runner, map_, numbers):
@@ -720,7 +712,7 @@ def measure(options, runner, map_):
     drawn = apart(draw, map_.path, options.seed)
     line("open", lambda: measure_open(runner, map_, opening))
     line("save", lambda: measure_save(runner, map_, opening, whole))
-    line("edits", lambda: measure_edits(runner, map_, drawn, options.seconds))
+    line("edits", lambda: rate(runner, map_.path, Moves(runner, map_.path, drawn.vertices).script, options.seconds))
     rand = random.Random(options.seed)
 
     def questions(ask, answer):
@@ -730,7 +722,8 @@ def measure(options, runner, map_):
     line("at", lambda: questions(of_positions(drawn, rand), "inside:( [0-9]+)* border:( [0-9]+)*"))
     line("sharing", lambda: questions(of_features("neighbours", drawn, rand), "neighbours:( [0-9]+)*"))
     for name, cuts in (("splits", drawn.cuts), ("near", drawn.near)):
-        line(name, lambda: measure_splits(runner, map_, drawn.features, cuts, options.seconds))
+        script = Splits(runner, map_.path, drawn.features, cuts).script
+        line(name, lambda: rate(runner, map_.path, script, options.seconds))
     numbers = range(drawn.features - 1)
     line("deletes", lambda: measure_deletes(runner, map_, rand.sample(numbers, len(numbers))))
     line("in turn", lambda: measure_deletes(runner, map_, numbers))
