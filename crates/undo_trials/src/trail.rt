@@ -65,7 +65,7 @@ impl<'a> Trail<'a> {
     }
 
     /// The map is written as the copy of it, and tells the same counts.
-    fn is_kept<R: Abort>(&self, rt: &R, alloc: Global, map: &Map<'a, GridIndex>) {
+    fn compare<R: Abort>(&self, rt: &R, alloc: Global, map: &Map<'a, GridIndex>) {
         let text = written(rt, alloc, alloc, &self.now);
         let is_same = is_written(rt, alloc, alloc, map, text.as_slice());
         drop(text);
