@@ -37,9 +37,9 @@ For each map there is one line a measure:
     of moves  the most memory that was taken with 1,000 moves kept, and how much more that is than before them
     of cuts   the same with 1,000 splits kept
     of thin   and with one thinning with the greatest bound kept
-    work      with --instructions alone: the processor's instructions for a split or a merge, and for a deletion, beside
-              opening and saving, and how often each asks memory for what its last cache has not; counted by valgrind,
-              which has the same counts whatever else the machine does
+    work      with --instructions alone: the processor's instructions for a split or a merge, for a deletion, for a move
+              and for its undo, beside opening and saving, and how often each asks memory for what its last cache has
+              not; counted by valgrind, which has the same counts whatever else the machine does
 
 Lines a second are timed inside one run, without opening and saving: the script comes through a pipe, and the clock runs
 from when the lines are written to when the program has read on past them. The rate is the middle one of several pieces.
@@ -328,11 +328,11 @@ class Runner:
     def __init__(self, program, limit, folder):
         self.words, self.limit, self.folder = [program], limit, pathlib.Path(folder)
 
-    def run(self, path, lines):
+    def run(self, path, lines, *more):
         """Runs a script on a map."""
         script = self.folder / "script"
         script.write_text("".join(line + "\n" for line in lines), encoding="ascii")
-        return self.ran(path, script)
+        return self.ran(path, script, *more)
 
     def opened(self, path):
         """Runs a script that can't be read, so that nothing comes after opening."""
@@ -341,11 +341,11 @@ class Runner:
             raise Failed(why(done))
         return done
 
-    def ran(self, path, script):
+    def ran(self, path, script, *more):
         """Runs the program from its start to its end."""
         start = time.perf_counter()
         with tempfile.TemporaryDirectory(dir=self.folder) as own:
-            with self.started(path, script, own) as child:
+            with self.started(path, script, own, *more) as child:
                 child.wait()
                 seconds = time.perf_counter() - start
             return self.told(child, own, seconds)
@@ -385,9 +385,9 @@ class Runner:
         if done.status != 0 or done.err or len(session.answers) != session.lines:
             raise Failed(why(done))
 
-    def accepted(self, path, lines):
+    def accepted(self, path, lines, *more):
         """Runs a script of which every line has to be accepted."""
-        done = self.run(path, lines)
+        done = self.run(path, lines, *more)
         if done.status != 0 or done.err or done.out.count("\n") != len(lines):
             raise Failed(why(done))
         return done
@@ -563,10 +563,6 @@ def measure_save(runner, map_, opening, whole):
     return f"{whole - opening:9.3f} s      {size:.2f} MB, {size / (whole - opening):.1f} MB/s"
 
 
-def measure_edits(runner, map_, drawn, seconds):
-    return rate(runner, map_.path, Moves(runner, map_.path, drawn.vertices).script, seconds)
-
-
 def measure_questions(runner, map_, seconds, ask, answer):
     """Lines a second that `ask` gives, each answered by a text of this form."""
     return rate(runner, map_.path, lambda count: [ask() for _ in range(count)], seconds, answer)
@@ -585,10 +581,6 @@ def of_positions(drawn, rand):
         raise Failed("the map has no vertex")
     (west, east), (south, north) = ((min(along), max(along)) for along in zip(*drawn.vertices))
     return lambda: f"at {rand.randint(west, east)} {rand.randint(south, north)}"
-
-
-def measure_splits(runner, map_, features, cuts, seconds):
-    return rate(runner, map_.path, Splits(runner, map_.path, features, cuts).script, seconds)
 
 
 def measure_deletes(runner, map_, numbers):
@@ -675,22 +667,29 @@ def measure_kept(runner, map_, lines):
     return f"{peak / 1e6:9.1f} MB     {(peak - before) / 1e6:.1f} MB more than before, {len(lines)} changes"
 
 
-def measure_work(counter, map_, drawn, rand):
+def counted(counter, path, lines, before):
+    """The instructions and the misses of each of these lines, beside those of a run without them."""
+    counter.accepted(path, lines, "--undo", str(KEPT))
+    after = counter.last()
+    return after, Count(*((one - other) / len(lines) for one, other in zip(after, before)))
+
+
+def measure_work(runner, counter, map_, drawn, changes):
     if not shutil.which("valgrind"):
         raise Failed("valgrind is not there")
     counter.opened(map_.path)
     opening = counter.last()
     counter.accepted(map_.path, [])
     whole = counter.last()
-    edits = Splits(counter, map_.path, drawn.features, drawn.cuts).script(COUNTED)
-    counter.accepted(map_.path, edits)
-    edited = counter.last()
-    numbers = rand.sample(range(drawn.features), max(drawn.features - 1, 1))
-    counter.accepted(map_.path, [f"delete {n}" for n in numbers])
-    deleted = counter.last()
-    of_edits = [(after - before) / len(edits) for after, before in zip(edited, whole)]
-    of_deletions = [(after - before) / len(numbers) for after, before in zip(deleted, opening)]
-    return "{:9.0f} a split or merge, {:.0f} misses; {:.0f} a deletion, {:.0f} misses".format(*of_edits, *of_deletions)
+    splits = Splits(counter, map_.path, drawn.features, drawn.cuts).script(COUNTED)
+    moves = accepted_of(runner, map_, changes["moved"])
+    _, of_edit = counted(counter, map_.path, splits, whole)
+    _, of_deletion = counted(counter, map_.path, changes["deleted"], opening)
+    moved, of_move = counted(counter, map_.path, moves, whole)
+    counter.accepted(map_.path, moves + ["undo"] * len(moves), "--undo", str(KEPT))
+    of_undo = Count(*((after - before) / len(moves) for after, before in zip(counter.last(), moved)))
+    each = {"a split or merge": of_edit, "a deletion": of_deletion, "a move": of_move, "its undo": of_undo}
+    return "; ".join(f"{count.instructions:9.0f} {what}, {count.misses:.0f} misses" for what, count in each.items())
 
 
 def measure(options, runner, map_):
@@ -713,7 +712,7 @@ def measure(options, runner, map_):
     drawn = apart(draw, map_.path, options.seed)
     line("open", lambda: measure_open(runner, map_, opening))
     line("save", lambda: measure_save(runner, map_, opening, whole))
-    line("edits", lambda: measure_edits(runner, map_, drawn, options.seconds))
+    line("edits", lambda: rate(runner, map_.path, Moves(runner, map_.path, drawn.vertices).script, options.seconds))
     rand = random.Random(options.seed)
 
     def questions(ask, answer):
@@ -723,7 +722,8 @@ def measure(options, runner, map_):
     line("at", lambda: questions(of_positions(drawn, rand), "inside:( [0-9]+)* border:( [0-9]+)*"))
     line("sharing", lambda: questions(of_features("neighbours", drawn, rand), "neighbours:( [0-9]+)*"))
     for name, cuts in (("splits", drawn.cuts), ("near", drawn.near)):
-        line(name, lambda: measure_splits(runner, map_, drawn.features, cuts, options.seconds))
+        script = Splits(runner, map_.path, drawn.features, cuts).script
+        line(name, lambda: rate(runner, map_.path, script, options.seconds))
     numbers = range(drawn.features - 1)
     line("deletes", lambda: measure_deletes(runner, map_, rand.sample(numbers, len(numbers))))
     line("in turn", lambda: measure_deletes(runner, map_, numbers))
@@ -737,7 +737,7 @@ def measure(options, runner, map_):
     line("of thin", lambda: measure_kept(runner, map_, [WHOLE_THIN]))
     if options.instructions:
         counter = Counter(options.program, options.limit, runner.folder)
-        line("work", lambda: measure_work(counter, map_, drawn, rand))
+        line("work", lambda: measure_work(runner, counter, map_, drawn, changes))
 
 
 def maps_of(options):

@@ -39,10 +39,11 @@ impl<'a, I: SegIndex, A: Allocator + Copy> Map<'a, I, A> {
         self.positions
     }
 
-    /// The number of the next new feature; no feature has it, or a greater one. The features of
-    /// every map stand at the places of their numbers.
+    /// The number of the next new feature, at most 200,000; no feature has it, or a greater one. The
+    /// features of every map stand at the places of their numbers.
     pub fn next_number(&self) -> u32
         ensures next { result ≡ self.now.next }
+        ensures few { result ≤ 200000 }
         ensures below { (m : ℕ) → self.now.next ≤ m → feature self.now.doc m ≡ None }
         ensures held { IsHeld self.now.places self.now.next self.now.doc }
         ensures placed { ArePlaced self.now.places self.now.next self.now.doc }

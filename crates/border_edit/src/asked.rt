@@ -1,4 +1,5 @@
 //! What the words of the program ask for.
+ghost use Rattle.std.specs.Prelude.{◌≤◌};
 
 /// What the words of the program ask for.
 #[derive(Debug, Drop)]
@@ -11,4 +12,6 @@ pub struct Words {
     pub out: String,
     /// How many changes can be taken back.
     pub depth: usize,
+    ghost least: { 1 ≤ depth },
+    ghost most: { depth ≤ 1000 },
 }

@@ -74,8 +74,6 @@ pub(crate) fn words(alloc: Global, given: &[String]) -> Result<Words, clap::Erro
         ≡ unwrap_or (text_of (codes "out") (map string_bytes given.now)) []) }
     ensures depth { IfOk result (λ words.
         IsDepth (text_of (codes "undo") (map string_bytes given.now)) words.depth) }
-    ensures least { IfOk result (λ words. 1 ≤ words.depth) }
-    ensures most { IfOk result (λ words. words.depth ≤ 1000) }
 {
     let mut command = command(alloc)?;
     let matches = command.try_get_matches_from_mut(given)?;

@@ -1,4 +1,4 @@
-//! What ends the program beside a run, and the statuses that it ends with.
+//! What ends the program before a script is run, and the statuses that it ends with.
 ghost use Rattle.std.specs.Prelude.{◌≡◌, ◌≢◌};
 ghost use Rattle.std.specs.IoError.{error_kind};
 ghost use Rattle.border_edit.specs.Status.{status_of};
@@ -8,7 +8,7 @@ use script_runner::{RunFault, Summary};
 use std::alloc::{AllocError, AllocFailed};
 use std::io::{Error, ErrorKind};
 
-/// What ends the program before a script is run, or after it.
+/// What ends the program before a script is run.
 #[derive(Debug, Drop)]
 pub enum Stop {
     /// The words ask for help, or do not parse.
@@ -17,8 +17,6 @@ pub enum Stop {
     Map,
     /// The script can't be opened.
     Script,
-    /// The file of the saved map can't be written.
-    Save,
     /// A growth was refused.
     NoMemory,
 }
@@ -46,7 +44,7 @@ impl Stop {
                 Mistake::DisplayHelp | Mistake::DisplayVersion => 0,
                 _ => 64,
             },
-            Stop::Map | Stop::Script | Stop::Save | Stop::NoMemory => 3,
+            Stop::Map | Stop::Script | Stop::NoMemory => 3,
         }
     }
 }

@@ -54,12 +54,15 @@ impl<D: Sink> Sink for FailAt<D> {
 
     ghost has_failed = { λ s. fails_itself s || D.has_failed s.device };
 
+    ghost is_flushed = { λ s. D.is_flushed s.device };
+
     fn put(&mut self, piece: &[u8]) -> Result<usize, Failed>
         requires { (fails_itself self.old || D.has_failed self.old.device) ≡ false }
         ensures within { IfOk result (λ n. n ≤ length piece.now) }
         ensures moves { IfOk result (λ n. 0 < length piece.now → 0 < n) }
         ensures ok { IfOk result (λ n.
             Appends (D.taken self.old.device) (D.taken self.new.device) (take n piece.now)) }
+        ensures unsent { IfOk result (λ n. 0 < n → D.is_flushed self.new.device ≡ false) }
         ensures works { OnOk result
             ((fails_itself self.new || D.has_failed self.new.device) ≡ false) }
         ensures err { OnErr result (Keeps (D.taken self.old.device) (D.taken self.new.device)) }
@@ -78,6 +81,7 @@ impl<D: Sink> Sink for FailAt<D> {
     fn flush(&mut self) -> Result<(), Failed>
         requires { (fails_itself self.old || D.has_failed self.old.device) ≡ false }
         ensures kept { Keeps (D.taken self.old.device) (D.taken self.new.device) }
+        ensures sent { OnOk result (D.is_flushed self.new.device ≡ true) }
         ensures works { OnOk result
             ((fails_itself self.new || D.has_failed self.new.device) ≡ false) }
         ensures failed { OnErr result

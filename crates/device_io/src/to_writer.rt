@@ -11,30 +11,37 @@ pub struct ToWriter<W> {
     /// The writer that the bytes went to.
     pub writer: W,
     failed: bool,
+    flushed: bool,
 }
 
 impl<W: Write> ToWriter<W> {
-    /// A sink that has taken what the writer holds, and has not failed.
+    /// A sink that has taken what the writer holds, and has not failed. What the writer holds may be
+    /// still to be sent on.
     pub fn new(writer: W) -> Self
         ensures writer { result.writer ≡ writer }
         ensures taken { ⟦<ToWriter<W> as Sink>⟧.taken result ≡ W.contents writer }
         ensures works { ⟦<ToWriter<W> as Sink>⟧.has_failed result ≡ false }
+        ensures unsent { ⟦<ToWriter<W> as Sink>⟧.is_flushed result ≡ false }
     {
         ToWriter {
             writer,
             failed: false,
+            flushed: false,
         }
     }
 }
 
 impl<W: Write> Sink for ToWriter<W> {
-    ghost use Rattle.device_io.specs.Flags.{writer_failed};
+    ghost use Rattle.device_io.specs.Flags.{writer_failed, writer_flushed};
 
     ghost taken = { λ s. W.contents s.writer };
 
     ghost has_failed = { writer_failed };
 
+    ghost is_flushed = { writer_flushed };
+
     fn put(&mut self, piece: &[u8]) -> Result<usize, Failed> {
+        self.flushed = false;
         match self.writer.write(piece) {
             Ok(n) if n > 0 || piece.is_empty() => Ok(n),
             _ => {
@@ -46,7 +53,10 @@ impl<W: Write> Sink for ToWriter<W> {
 
     fn flush(&mut self) -> Result<(), Failed> {
         match self.writer.flush() {
-            Ok(()) => Ok(()),
+            Ok(()) => {
+                self.flushed = true;
+                Ok(())
+            }
             Err(_) => {
                 self.failed = true;
                 Err(Failed)

@@ -6,4 +6,5 @@ pub mod Removing
 pub mod Passing
 pub mod Recording
 pub mod ThinKept
+pub mod SidesKept
 pub mod Examples

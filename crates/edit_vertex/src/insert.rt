@@ -1,6 +1,7 @@
 ghost use Rattle.std.specs.Prelude.{◌≡◌, ◌≤◌, ◌+◌, Some, None, OnOk, OnErr, IfErr, IsTrue};
 ghost use Rattle.ring_machine.specs.Planar.{Proper};
 ghost use Rattle.ring_machine.specs.Refusals.{first_of, insert_refusals};
+ghost use Rattle.ring_machine.specs.Sides.{KeepsSides};
 ghost use Rattle.ring_machine.specs.Vertices.{ins};
 ghost use Rattle.edit_records.specs.Records as made;
 ghost use Rattle.segment_index.specs.Times.{times_by};
@@ -66,6 +67,7 @@ pub fn insert_vertex<'a, I: SegIndex, A: Allocator + Copy>(
 ) -> Result<(), EditFault>
     ensures accepted { OnOk result (first_of (insert_refusals map.old.doc a b q) ≡ None) }
     ensures inserted { OnOk result (map.new.doc ≡ ins map.old.doc a b q) }
+    ensures sides { OnOk result (KeepsSides map.old.doc map.new.doc) }
     ensures recorded { OnOk result (IsRecorded map.old map.new) }
     ensures refused { IfErr result
         (λ fault. Refuses fault (first_of (insert_refusals map.old.doc a b q))) }

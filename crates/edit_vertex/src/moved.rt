@@ -1,5 +1,6 @@
 ghost use Rattle.std.specs.Prelude.{◌≡◌, ◌≤◌, ◌+◌, Some, None, OnOk, OnErr, IfErr, IsTrue};
 ghost use Rattle.ring_machine.specs.Refusals.{first_of, move_refusals};
+ghost use Rattle.ring_machine.specs.Sides.{KeepsSides};
 ghost use Rattle.ring_machine.specs.Vertices.{put};
 ghost use Rattle.edit_records.specs.Records as made;
 ghost use Rattle.segment_index.specs.Times.{times_by};
@@ -52,6 +53,7 @@ pub fn move_vertex<'a, I: SegIndex, A: Allocator + Copy>(
 ) -> Result<(), EditFault>
     ensures accepted { OnOk result (first_of (move_refusals map.old.doc p q) ≡ None) }
     ensures moved { OnOk result (map.new.doc ≡ put map.old.doc p q) }
+    ensures sides { OnOk result (KeepsSides map.old.doc map.new.doc) }
     ensures recorded { OnOk result (IsRecorded map.old map.new) }
     ensures refused { IfErr result
         (λ fault. Refuses fault (first_of (move_refusals map.old.doc p q))) }

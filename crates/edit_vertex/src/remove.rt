@@ -3,6 +3,7 @@ ghost use Rattle.grid_geometry.specs.Segment.{segment};
 ghost use Rattle.ring_machine.specs.Parts.{is_segment};
 ghost use Rattle.ring_machine.specs.Planar.{Proper};
 ghost use Rattle.ring_machine.specs.Refusals.{first_of, remove_refusals};
+ghost use Rattle.ring_machine.specs.Sides.{KeepsSides};
 ghost use Rattle.ring_machine.specs.Vertices.{del};
 ghost use Rattle.edit_records.specs.Records as made;
 ghost use Rattle.edit_records.specs.Records.{IsInserted};
@@ -93,6 +94,7 @@ pub fn remove_vertex<'a, I: SegIndex, A: Allocator + Copy>(
 ) -> Result<(), EditFault>
     ensures accepted { OnOk result (first_of (remove_refusals map.old.doc p) ≡ None) }
     ensures removed { OnOk result (map.new.doc ≡ del map.old.doc p) }
+    ensures sides { OnOk result (KeepsSides map.old.doc map.new.doc) }
     ensures recorded { OnOk result (IsRecorded map.old map.new) }
     ensures refused { IfErr result
         (λ fault. Refuses fault (first_of (remove_refusals map.old.doc p))) }

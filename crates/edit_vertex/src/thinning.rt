@@ -5,6 +5,7 @@ ghost use Rattle.ring_machine.specs.Document.{Document};
 ghost use Rattle.ring_machine.specs.Parts.{is_vertex};
 ghost use Rattle.ring_machine.specs.Planar.{Proper};
 ghost use Rattle.ring_machine.specs.Refusals.{first_of, remove_refusals};
+ghost use Rattle.ring_machine.specs.Sides.{KeepsSides};
 ghost use Rattle.ring_machine.specs.Thin.{is_flat, thinned, thin_at};
 ghost use Rattle.ring_machine.specs.Vertices.{del, is_junction};
 ghost use Rattle.edit_records.specs.Records as made;
@@ -121,6 +122,7 @@ pub fn thin<'a, I: SegIndex, A: Allocator + Copy>(
     ensures count { IfOk result (λ n. n ≡ (thinned t map.old.doc).removed) }
     ensures thinned { OnOk result (map.new.doc ≡ (thinned t map.old.doc).doc) }
     ensures part { OnErr result (IsThinnedPart t map.old.doc map.new.doc) }
+    ensures sides { KeepsSides map.old.doc map.new.doc }
     ensures recorded { IsThinRecorded map.old map.new }
     ensures some { IfOk result (λ n. MatchOption map.new.last (n ≡ 0) (λ made. 1 ≤ n)) }
     ensures next { map.new.next ≡ map.old.next }

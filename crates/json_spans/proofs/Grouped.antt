@@ -14,7 +14,7 @@ use Rattle.json_spans.specs.Walk.{items, members}
 use Rattle.json_spans.specs.Grammar.{Space, Number, minus, plain_number, zero_first, digit_first, Value, null, yes, no, number, text, list, object, Items, no_item, some_items, SomeItems, item, MoreItems, list_end, next_item, Members, no_member, some_members, SomeMembers, name, member, MoreMembers, object_end, next_member, Json, json}
 use Rattle.json_spans.specs.Inside.{IsValue, IsText, quoted, Padded, padded, Pair, pair, Parted, last_part, next_part, Bracketed, no_part, parts, ListOf, ObjectOf, Below, HasItems, HasMembers, ItemsAreValues, MembersAreValues}
 use Rattle.json_spans.proofs.Framing.{space_framed, chars_framed, value_framed, alone}
-use Rattle.json_spans.proofs.Padding.{value_solid, trimmed_is}
+use Rattle.json_spans.proofs.Padding.{stands, value_solid, trimmed_is}
 use Rattle.json_spans.proofs.Itemized.{only_items, only_members}
 
 -- ---- parts
@@ -92,7 +92,7 @@ object_parts s (some_members i) place = let p = member_parts s i (place + 1) in 
 nonzero_kind : (x : ℕ) → is_nonzero x ≡ true → kind_from x ≡ kind.Number
 nonzero_kind x e = grind (arith, nat_tests)
 
-number_kind : {xs r : List ℕ} → Number xs r → kind_of xs ≡ kind.Number
+pub number_kind : {xs r : List ℕ} → Number xs r → kind_of xs ≡ kind.Number
 number_kind (minus u) = refl
 number_kind (plain_number (zero_first f)) = refl
 number_kind (plain_number (digit_first {x = x} e d f)) = nonzero_kind x e
@@ -147,14 +147,17 @@ parted_all : {X : Type 0} {P : ℕ → List ℕ → X → Type 0} {close place :
 parted_all Q h (last_part {place = place} {part = part} {x = x} p) = (h place part x p, tt)
 parted_all Q h (next_part {place = place} {part = part} {x = x} p q) = (h place part x p, parted_all Q h q)
 
-bracketed_all : {X : Type 0} {P : ℕ → List ℕ → X → Type 0} {start close place : ℕ} {bytes : List ℕ} {xs : List X} → (Q : X → Type 0) → ((place : ℕ) (part : List ℕ) (x : X) → P place part x → Q x) → Bracketed P start close place bytes xs → All Q xs
-bracketed_all Q h (no_part s) = All-from_recursion Q [] tt
-bracketed_all {xs = xs} Q h (parts q) = All-from_recursion Q xs (parted_all Q h q)
+pub bracketed_each : {X : Type 0} {P : ℕ → List ℕ → X → Type 0} {start close place : ℕ} {bytes : List ℕ} {xs : List X} → (Q : X → Type 0) → ((place : ℕ) (part : List ℕ) (x : X) → P place part x → Q x) → Bracketed P start close place bytes xs → AllByRecursion Q xs
+bracketed_each Q h (no_part s) = tt
+bracketed_each Q h (parts q) = parted_all Q h q
 
-padded_value : {A : List ℕ → Type 0} (place : ℕ) (part : List ℕ) (x : Node) → Padded A place part x → A x.bytes
+bracketed_all : {X : Type 0} {P : ℕ → List ℕ → X → Type 0} {start close place : ℕ} {bytes : List ℕ} {xs : List X} → (Q : X → Type 0) → ((place : ℕ) (part : List ℕ) (x : X) → P place part x → Q x) → Bracketed P start close place bytes xs → All Q xs
+bracketed_all {xs = xs} Q h d = All-from_recursion Q xs (bracketed_each Q h d)
+
+pub padded_value : {A : List ℕ → Type 0} (place : ℕ) (part : List ℕ) (x : Node) → Padded A place part x → A x.bytes
 padded_value place part x (padded a v b) = v
 
-pair_value : (n place : ℕ) (part : List ℕ) (m : Node × Node) → Pair n place part m → IsText m.0.bytes × IsValue n m.1.bytes
+pub pair_value : (n place : ℕ) (part : List ℕ) (m : Node × Node) → Pair n place part m → IsText m.0.bytes × IsValue n m.1.bytes
 pair_value n place part m (pair a b) = (padded_value _ _ _ a, padded_value _ _ _ b)
 
 below_map : (n : ℕ) (P Q : ℕ → Type 0) → ((k : ℕ) → P k → Q k) → Below n P → Below n Q
@@ -173,12 +176,24 @@ members_are_values node n d e =
 
 -- ---- a whole text
 
-pub root_value : (n : ℕ) (xs : List ℕ) → Json n xs → IsValue n (trimmed (record { at_byte = 0; bytes = xs })).bytes
-root_value n xs (json s v t) =
+pub root_padded : (n : ℕ) (xs : List ℕ) → Json n xs → Padded (IsValue n) 0 xs (trimmed (record { at_byte = 0; bytes = xs }))
+root_padded n xs (json s v t) =
     let a = space_framed s in
     let b = value_framed v in
     let c = space_framed t in
     let whole : xs ≡ a.bs ++ (b.bs ++ c.bs) = grouped a.bs b.bs c.bs [] a.is b.is c.is ∙ append-nil (a.bs ++ (b.bs ++ c.bs)) in
     let part : Padded (IsValue n) 0 (a.bs ++ (b.bs ++ c.bs)) (record { at_byte = 0 + length a.bs; bytes = b.bs }) = padded (alone a) (alone b) (alone c) in
-    let is : trimmed (record { at_byte = 0; bytes = xs }) ≡ record { at_byte = 0 + length a.bs; bytes = b.bs } = ap (λ w. trimmed (record { at_byte = 0; bytes = w })) whole ∙ trimmed_is (value_solid n) part in
-    subst (λ node. IsValue n node.bytes) (sym is) (alone b)
+    let there : Padded (IsValue n) 0 xs (record { at_byte = 0 + length a.bs; bytes = b.bs }) = subst (λ w. Padded (IsValue n) 0 w (record { at_byte = 0 + length a.bs; bytes = b.bs })) (sym whole) part in
+    subst (λ node. Padded (IsValue n) 0 xs node) (sym (trimmed_is (value_solid n) there)) there
+
+pub root_value : (n : ℕ) (xs : List ℕ) → Json n xs → IsValue n (trimmed (record { at_byte = 0; bytes = xs })).bytes
+root_value n xs h = padded_value {A = IsValue n} 0 xs (trimmed (record { at_byte = 0; bytes = xs })) (root_padded n xs h)
+
+-- a value with space round it is a whole text
+pub padded_json : {n place : ℕ} {xs : List ℕ} {root : Node} → Padded (IsValue n) place xs root → Json n xs
+padded_json (padded {bytes = v} {back = back} a d b) =
+    json (stands (space_framed a) (v ++ back)) (stands (value_framed d) back) b
+
+-- and the value is what is left without the space
+pub padded_root : {n : ℕ} {xs : List ℕ} {root : Node} → Padded (IsValue n) 0 xs root → root ≡ trimmed (record { at_byte = 0; bytes = xs })
+padded_root {n = n} d = sym (trimmed_is (value_solid n) d)

@@ -1,6 +1,6 @@
 -- What whole numbers mean.
 use Rattle.std.proofs.Common.{◌≡◌, ℕ, zero, suc, ◌+◌, ◌<◌, List, [], ◌∷◌, ◌++◌, length, take, drop, Bool, true, false, refl, sym, subst, ◌∙◌, cond, arith, inl, inr, ◌⊎◌}
-use Rattle.std.specs.Prelude.{◌==◌, ◌&&◌, ◌^◌, nat_lt, nat_le, ℤ, pos, negsuc, Option, Some, None, Err}
+use Rattle.std.specs.Prelude.{◌==◌, ◌&&◌, ◌^◌, nat_lt, nat_le, ℤ, pos, negsuc, unsigned_abs, Option, Some, None, Ok, Err}
 use Rattle.std.specs.List.{list_all}
 use Rattle.std.proofs.lemmas.Bool.{eqb-true, lt-ltb, ltb-true}
 use Rattle.std.proofs.lemmas.Bool.Decides.{nat_tests}
@@ -43,6 +43,24 @@ held_minus (suc n) = refl
 pub whole_is : (bytes : List ℕ) (z : ℤ) → IsWhole bytes z → whole_of bytes ≡ held z
 whole_is bytes z (plain {fraction = f} (digits {x = x} {xs = xs} t d) n) = rw (digit_no_minus x t, digits_read (digits {x = x} t d) n) refl
 whole_is bytes z (negative {integer = ds} d n) = rw (digits_read d n) (held_minus (value_from 0 ds))
+
+-- the number, however large
+abbrev valued : Bool → Option (List ℕ) → Option ℤ
+valued sign None = None
+valued true (Some ds) = Some (minus (value_from 0 ds))
+valued false (Some ds) = Some (pos (value_from 0 ds))
+
+abbrev number_of : List ℕ → Option ℤ
+number_of [] = None
+number_of (x ∷ xs) = cond (x == 45) (valued true (whole_digits xs)) (valued false (whole_digits (x ∷ xs)))
+
+number_is : (bytes : List ℕ) (z : ℤ) → IsWhole bytes z → number_of bytes ≡ Some z
+number_is bytes z (plain {fraction = f} (digits {x = x} {xs = xs} t d) n) = rw (digit_no_minus x t, digits_read (digits {x = x} t d) n) refl
+number_is bytes z (negative {integer = ds} d n) = rw (digits_read d n) refl
+
+-- bytes mean one whole number at most
+pub one_whole : (bytes : List ℕ) (y z : ℤ) → IsWhole bytes y → IsWhole bytes z → y ≡ z
+one_whole bytes y z d e = let same : Some y ≡ Some z = sym (number_is bytes y d) ∙ number_is bytes z e in cc
 
 -- ---- what is read is a whole number
 
@@ -135,3 +153,14 @@ means bytes = elim (decide bytes) [
   | inl w ↦ rw (whole_is bytes w.0 w.1) (held_means bytes w.0 w.1)
   | inr e ↦ rw e (λ z d. held_no_form z (sym (whole_is bytes z d) ∙ e))
 ]
+
+-- a number that 64 bits with a sign hold
+small_held : (z : ℤ) → unsigned_abs z < 2 ^ 63 → held z ≡ Ok z
+small_held (pos n) h = let fits : nat_lt n (2 ^ 63) ≡ true = lt-ltb _ _ h in rw fits refl
+small_held (negsuc n) h = let fits : nat_le (suc n) (2 ^ 63) ≡ true = search (arith, nat_tests) in rw fits refl
+
+pub whole_read : (bytes : List ℕ) (z : ℤ) → IsWhole bytes z → unsigned_abs z < 2 ^ 63 → whole_of bytes ≡ Ok z
+whole_read bytes z d h = whole_is bytes z d ∙ small_held z h
+
+pub whole_meant : (bytes : List ℕ) (z : ℤ) → whole_of bytes ≡ Ok z → IsWhole bytes z
+whole_meant bytes z e = subst (λ r. Means r bytes) e (means bytes)

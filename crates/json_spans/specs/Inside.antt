@@ -1,9 +1,9 @@
 -- What stands inside a list and inside an object (RFC 8259, sections 4 and 5), put together from
 -- its bytes. Bytes: 44 `,`, 58 `:`, 91 `[`, 93 `]`, 123 `{`, 125 `}`.
-use Rattle.std.specs.Prelude.{◌≡◌, ℕ, zero, suc, ◌+◌, List, [], ◌∷◌, ◌++◌, length}
-use Rattle.std.specs.List.{All}
-use Rattle.json_spans.specs.Grammar.{Space, Chars, Value}
-use Rattle.json_spans.specs.Parts.{Node}
+use Rattle.std.specs.Prelude.{◌≡◌, ℕ, zero, suc, ◌+◌, List, [], ◌∷◌, ◌++◌, length, codes}
+use Rattle.std.specs.List.{All, AllByRecursion, AllZip}
+use Rattle.json_spans.specs.Grammar.{Space, Chars, Number, Value}
+use Rattle.json_spans.specs.Nodes.{Node}
 use Rattle.json_spans.specs.Kinds.{kind_of}
 use Rattle.json_spans.specs.declared.kinds.Kind.TheVariants as kind
 
@@ -16,6 +16,13 @@ IsValue n bytes = Value n bytes []
 
 pub data IsText : List ℕ → Type 0 where
   quoted : {xs : List ℕ} → Chars xs [] → IsText (34 ∷ xs)
+
+-- a number, and the literal null (sections 6 and 3)
+abbrev pub IsNumber : List ℕ → Type 0
+IsNumber bytes = Number bytes []
+
+abbrev pub IsNull : List ℕ → Type 0
+IsNull bytes = bytes ≡ codes "null"
 
 -- The bytes from the place on are one of `A` with space round it, and the node is that one.
 pub data Padded (A : List ℕ → Type 0) : ℕ → List ℕ → Node → Type 0 where
@@ -55,12 +62,31 @@ ListOf n node items = Bracketed (Padded (IsValue n)) 91 93 node.at_byte node.byt
 abbrev pub ObjectOf : ℕ → Node → List (Node × Node) → Type 0
 ObjectOf n node members = Bracketed (Pair n) 123 125 node.at_byte node.bytes members
 
+-- the same, however deep they are
+abbrev pub IsListOf : Node → List Node → Type 0
+IsListOf node items = (n : ℕ) × ListOf n node items
+
+abbrev pub IsObjectOf : Node → List (Node × Node) → Type 0
+IsObjectOf node members = (n : ℕ) × ObjectOf n node members
+
+-- the node is a list
+abbrev pub IsList : Node → Type 0
+IsList node = (items : List Node) × IsListOf node items
+
+-- a list of such items
+abbrev pub IsListWith : (Node → Type 0) → Node → Type 0
+IsListWith P node = (items : List Node) × IsListOf node items × AllByRecursion P items
+
+-- a list whose items stand for these, one by one
+abbrev pub IsListFor : {A : Type 0} → (Node → A → Type 0) → Node → List A → Type 0
+IsListFor R node as' = (items : List Node) × IsListOf node items × AllZip R items as'
+
+-- ---- what a walk gives
+
 -- one level less
 abbrev pub Below : ℕ → (ℕ → Type 0) → Type 0
 Below zero P = ⊥
 Below (suc n) P = P n
-
--- ---- what a walk gives
 
 -- where the node is a list in the grammar, these are its items
 abbrev pub HasItems : Node → List Node → Type 0

@@ -1,16 +1,18 @@
 -- Worked examples of the definitions.
-use Rattle.std.proofs.Common.{◌≡◌, pos, true, false, refl, [], ◌∷◌, None, Some}
+use Rattle.std.proofs.Common.{◌≡◌, pos, negsuc, true, false, refl, [], ◌∷◌, None, Some}
 use Rattle.grid_geometry.specs.Position.{position}
 use Rattle.grid_geometry.specs.Segment.{Segment, segment}
+use Rattle.grid_geometry.specs.Orientation.{orientation, is_on, are_split}
+use Rattle.grid_geometry.specs.Conflict.{cross, is_within, conflict}
 use Rattle.ring_machine.specs.Vertices.{put, del}
 use Rattle.ring_machine.proofs.Worked.{at, M}
 use Rattle.segment_index.specs.Frames.{Frame, line}
 use Rattle.segment_index.specs.Times.{times_by}
 use Rattle.local_planarity.specs.declared.leaving.Leaving.TheVariants.{Nothing, EndingAt, One}
 use Rattle.local_planarity.specs.Edits.{leaves}
-use Rattle.local_planarity.specs.Pairs.{ordered, lesser}
+use Rattle.local_planarity.specs.Pairs.{ordered, lesser, tests_to_conflict}
 use Rattle.local_planarity.specs.Spans.{box_of_three}
-use Rattle.local_planarity.specs.Tests.{pairs, most_tests, added, most_for, most_for_move}
+use Rattle.local_planarity.specs.Tests.{pairs, most_tests, fewest_tests, added, most_for, most_for_move}
 
 -- 0 0 to 10 0, and 10 0 to 10 10
 abbrev lower : Segment
@@ -18,6 +20,10 @@ lower = segment (position (pos 0) (pos 0)) (position (pos 10) (pos 0))
 
 abbrev right : Segment
 right = segment (position (pos 10) (pos 0)) (position (pos 10) (pos 10))
+
+-- 5 -1 to 5 1
+abbrev across : Segment
+across = segment (position (pos 5) (negsuc 0)) (position (pos 5) (pos 1))
 
 nothing_leaves : leaves Nothing lower ≡ false
 nothing_leaves = refl
@@ -53,6 +59,15 @@ least_of_two = refl
 keeps_the_least : lesser (Some (lower, lower)) (lower, right) ≡ (lower, lower)
 keeps_the_least = refl
 
+-- the second of three is in conflict; none is
+up_to_the_second : tests_to_conflict lower (right ∷ across ∷ lower ∷ []) ≡ 2
+unfolding conflict cross is_within is_on are_split orientation
+up_to_the_second = refl
+
+all_of_them : tests_to_conflict lower (right ∷ lower ∷ []) ≡ 2
+unfolding conflict cross is_within is_on are_split orientation
+all_of_them = refl
+
 box : box_of_three (position (pos 3) (pos 9)) (position (pos 7) (pos 2)) (position (pos 5) (pos 4)) ≡ record { x0 = pos 3; y0 = pos 2; x1 = pos 7; y1 = pos 9 }
 box = refl
 
@@ -66,6 +81,14 @@ one = refl
 -- two added ones, each with two candidates given twice at most: eight, and one against each other
 eight_and_one : most_tests (λ t rect. 2) (lower ∷ right ∷ []) (lower ∷ right ∷ []) ≡ 9
 eight_and_one = refl
+
+-- 20 0 to 20 10
+abbrev far : Segment
+far = segment (position (pos 20) (pos 0)) (position (pos 20) (pos 10))
+
+-- of two added ones one has its box at the segment that stays, and they are tested against each other
+one_and_one : fewest_tests (lower ∷ []) (right ∷ far ∷ []) ≡ 2
+one_and_one = refl
 
 -- ---- two squares with a common side, which have seven segments
 

@@ -1,6 +1,7 @@
 pub mod Lists
 pub mod Least
 pub mod Nearby
+pub mod Counts
 pub mod Added
 pub mod Spans
 pub mod Sweeping

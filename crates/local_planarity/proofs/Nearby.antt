@@ -4,16 +4,16 @@ use Rattle.std.proofs.Common.{List, [], ◌∷◌, ◌++◌, length, take, get_o
 use Rattle.std.specs.FinSet as set
 use Rattle.std.specs.List.{filter, sum_by}
 use Rattle.std.proofs.lemmas.Bool.{false≢true}
-use Rattle.std.proofs.lemmas.List.Sums.{sum_by-cons, sum_by_more, sum_by-take-le}
-use Rattle.grid_geometry.specs.Segment.{Segment, Box, box_of}
+use Rattle.std.proofs.lemmas.List.Sums.{sum_by-cons, sum_by_more, sum_by-take-le, length-filter}
+use Rattle.grid_geometry.specs.Segment.{Segment, Box, box_of, boxes_meet}
 use Rattle.ring_machine.proofs.Order.{and_both, or_true}
 use Rattle.segment_index.specs.Candidates.{SegmentSet, Gives, has, times_in, segment_is}
 use Rattle.segment_index.proofs.Singles.{same_segment, is-itself, times-filter}
 use Rattle.local_planarity.specs.declared.leaving.Leaving.{Leaving}
 use Rattle.local_planarity.specs.declared.leaving.Leaving.TheVariants.{Nothing}
-use Rattle.local_planarity.specs.Edits.{leaves, stays, IsAfter, IsHeld}
+use Rattle.local_planarity.specs.Edits.{leaves, stays, AreStaying, IsAfter, IsHeld}
 use Rattle.local_planarity.specs.Near.{IsNear}
-use Rattle.local_planarity.specs.Tests.{most_given, most_tests, pairs}
+use Rattle.local_planarity.specs.Tests.{count_near, most_given, most_tests, pairs}
 
 -- ---- near a segment
 
@@ -83,6 +83,22 @@ pub near_few : (held : SegmentSet) (times : Segment → Box → ℕ) (leaving : 
     → ((t : Segment) → stays held leaving t ≡ true → has ss t ≡ true) → length near ≤ most_given times ss s
 near_few held times leaving s near ss n into = length_at_most (λ t. times t (box_of s)) ss near n.few (λ t h. into t (n.among t h))
 
+ones : (ss : List Segment) → sum_by (λ s. 1) ss ≡ length ss
+ones [] = refl
+ones (s ∷ ss) = omega (arith, sum_by-cons (λ t. 1) s ss, ones ss)
+
+-- of segments that stay, those whose boxes meet that of s are all among what is near it
+pub near_many : (held : SegmentSet) (times : Segment → Box → ℕ) (leaving : Leaving) (s : Segment) (near ts : List Segment) → IsNear held times leaving s near → AreStaying held leaving ts
+    → count_near ts s ≤ length near
+near_many held times leaving s near ts n staying =
+    let meets : Segment → Bool = λ t. boxes_meet (box_of t) (box_of s) in
+    let found = length_at_most (λ t. 1) near (filter meets ts)
+    (λ t. omega (arith, times-filter meets ts t, staying.once t))
+    (λ t h.
+    let both = and_both (has ts t) (meets t) (sym (has-filter meets ts t) ∙ h) in
+    n.covers t (staying.each t both.0) both.1) in
+    omega (arith, found, length-filter meets ts, ones near)
+
 -- all that stays is there after the edit
 pub after_has : (held : SegmentSet) (leaving : Leaving) (added ss : List Segment) → IsAfter held leaving added ss → (t : Segment) → stays held leaving t ≡ true → has ss t ≡ true
 after_has held leaving added ss e t h = e t ∙ ap (λ b. b || has added t) h
@@ -105,7 +121,7 @@ held_has held leaving ss e t h = e t ∙ (and_both (set.contains held t) (not (l
 abbrev pub most_so_far : (Segment → Box → ℕ) → List Segment → List Segment → ℕ → ℕ
 most_so_far times ss added k = sum_by (most_given times ss) (take k added) + pairs k
 
-pairs-one : (k : ℕ) → pairs (k + 1) ≡ k + pairs k
+pub pairs-one : (k : ℕ) → pairs (k + 1) ≡ k + pairs k
 pairs-one k = let e : k + 1 ≡ suc k = omega arith in ap pairs e
 
 pub pairs-mono : (k n : ℕ) → pairs k ≤ pairs (n + k)

@@ -5,7 +5,7 @@ use Rattle.grid_geometry.specs.Position.{Position}
 use Rattle.grid_geometry.specs.Segment.{Segment, segment_eq, is_end}
 use Rattle.grid_geometry.specs.Conflict.{conflict}
 use Rattle.ring_machine.specs.Ring as machine
-use Rattle.segment_index.specs.Candidates.{SegmentSet, has}
+use Rattle.segment_index.specs.Candidates.{SegmentSet, AreSingle, has}
 use Rattle.local_planarity.specs.declared.leaving.Leaving.{Leaving}
 use Rattle.local_planarity.specs.declared.leaving.Leaving.TheVariants.{Nothing, EndingAt, One}
 
@@ -31,6 +31,11 @@ IsHeld held ss = (s : Segment) → has ss s ≡ set.contains held s
 -- the list has exactly the held segments that do not leave, and the added ones
 abbrev pub IsAfter : SegmentSet → Leaving → List Segment → List Segment → Type 0
 IsAfter held leaving added ss = (s : Segment) → has ss s ≡ (stays held leaving s || has added s)
+
+-- each segment of the list is held and does not go away, and none stands twice
+pub record AreStaying (held : SegmentSet) (leaving : Leaving) (ts : List Segment) : Type 0 where
+  pub each : (t : Segment) → has ts t ≡ true → stays held leaving t ≡ true
+  pub once : AreSingle ts
 
 -- the list has exactly the ends of the held segments
 pub record IsEnds (held : SegmentSet) (ps : List Position) : Type 0 where

@@ -1,5 +1,5 @@
 -- The least pair in conflict, found by one test after another.
-use Rattle.std.specs.Prelude.{List, Option, None, Some, if◌then◌else◌}
+use Rattle.std.specs.Prelude.{ℕ, suc, List, [], ◌∷◌, Option, None, Some, if◌then◌else◌}
 use Rattle.std.specs.List.{fold}
 use Rattle.grid_geometry.specs.Segment.{Segment, segment_lt}
 use Rattle.grid_geometry.specs.Conflict.{conflict}
@@ -23,3 +23,8 @@ after_test s found t = if conflict s t then Some (lesser found (ordered s t)) el
 abbrev pub first_against : Segment → List Segment → Option (Segment × Segment)
     → Option (Segment × Segment)
 first_against s others before = fold (after_test s) before others
+
+-- how many of the others s is tested against, one after another, up to the first in conflict with it
+abbrev pub tests_to_conflict : Segment → List Segment → ℕ
+tests_to_conflict s [] = 0
+tests_to_conflict s (t ∷ ts) = if conflict s t then 1 else suc (tests_to_conflict s ts)

@@ -1,8 +1,8 @@
--- How many tests of two segments an edit takes at most.
+-- How many tests of two segments an edit takes at most, and at least.
 use Rattle.std.specs.Prelude.{ℕ, zero, suc, ◌+◌, not, List, length}
-use Rattle.std.specs.List.{filter, sum_by}
+use Rattle.std.specs.List.{filter, sum_by, count_by}
 use Rattle.grid_geometry.specs.Position.{Position}
-use Rattle.grid_geometry.specs.Segment.{Segment, Box, box_of, segment}
+use Rattle.grid_geometry.specs.Segment.{Segment, Box, box_of, boxes_meet, segment}
 use Rattle.ring_machine.specs.Document.{Document}
 use Rattle.ring_machine.specs.Parts.{is_segment}
 use Rattle.ring_machine.specs.Query.{distinct_segments}
@@ -21,6 +21,15 @@ pairs (suc n) = n + pairs n
 -- each added segment against its candidates, and the added ones against each other
 abbrev pub most_tests : (Segment → Box → ℕ) → List Segment → List Segment → ℕ
 most_tests times ss added = sum_by (most_given times ss) added + pairs (length added)
+
+-- how many of the segments have a box that meets that of s
+abbrev pub count_near : List Segment → Segment → ℕ
+count_near ts s = count_by (λ t. boxes_meet (box_of t) (box_of s)) ts
+
+-- each added segment against those of the others that are near it, and the added ones against each
+-- other
+abbrev pub fewest_tests : List Segment → List Segment → ℕ
+fewest_tests ts added = sum_by (count_near ts) added + pairs (length added)
 
 -- ---- over documents
 

@@ -1,10 +1,10 @@
 //! The first pair of segments in conflict.
-ghost use Rattle.std.specs.Prelude.{◌≡◌, ◌+◌, ◌≤◌, ◌∷◌, List, IfOk};
+ghost use Rattle.std.specs.Prelude.{◌≡◌, ◌+◌, ◌≤◌, ◌∷◌, List, IfOk, OnOk, min};
 ghost use Rattle.grid_geometry.specs.Segment.{Segment};
 ghost use Rattle.ring_machine.specs.Planar.{least_conflict};
 ghost use Rattle.segment_index.specs.Times.{times_by};
-ghost use Rattle.local_planarity.specs.Edits.{AreApart, IsAfter, IsHeld};
-ghost use Rattle.local_planarity.specs.Tests.{most_given, most_tests};
+ghost use Rattle.local_planarity.specs.Edits.{AreApart, AreStaying, IsAfter, IsHeld};
+ghost use Rattle.local_planarity.specs.Tests.{fewest_tests, most_given, most_tests};
 
 use crate::count::TestCount;
 use crate::leaving::Leaving;
@@ -29,6 +29,8 @@ pub fn first_conflict<I: SegIndex, A: Allocator + Copy>(
         → IsAfter (I.held index.now) leaving added.now ss → least_conflict ss ≡ pair) }
     ensures few { (ss : List Segment) → IsAfter (I.held index.now) leaving added.now ss
         → tests.new ≤ tests.old + most_tests (times_by (I.cells index.now)) ss added.now }
+    ensures counted { OnOk result ((ts : List Segment) → AreStaying (I.held index.now) leaving ts
+        → min (tests.old + fewest_tests ts added.now) u64.MAX ≤ tests.new) }
 {
     let mut first = None;
     for (at, s) in added.iter().enumerate() {

@@ -1,4 +1,4 @@
-ghost use Rattle.std.specs.Prelude.{◌≡◌, ◌+◌, ◌≤◌, length};
+ghost use Rattle.std.specs.Prelude.{◌≡◌, ◌+◌, ◌≤◌, length, min};
 ghost use Rattle.std.specs.List.{list_any};
 ghost use Rattle.grid_geometry.specs.Conflict as geometry;
 ghost use Rattle.ring_machine.specs.Planar.{pair_lt};
@@ -32,7 +32,7 @@ fn lesser(found: Option<(Seg, Seg)>, pair: (Seg, Seg)) -> (Seg, Seg)
 }
 
 /// The least of the pair that was found before, if any, and of the pairs of s with others that it
-/// conflicts with.
+/// conflicts with. Each of the others is one test.
 pub(crate) fn first_against(
     s: Seg,
     others: &[Seg],
@@ -41,6 +41,7 @@ pub(crate) fn first_against(
 ) -> Option<(Seg, Seg)>
     ensures first { result ≡ spec.first_against s others.now before }
     ensures few { tests.new ≤ tests.old + length others.now }
+    ensures counted { min (tests.old + length others.now) u64.MAX ≤ tests.new }
 {
     let mut found = before;
     for t in others {
@@ -51,10 +52,11 @@ pub(crate) fn first_against(
     found
 }
 
-/// Whether s conflicts with one of the others.
+/// Whether s conflicts with one of the others. Each of them is one test, up to the first that does.
 pub(crate) fn conflicts_with(s: Seg, others: &[Seg], tests: &mut TestCount) -> bool
     ensures some { result ≡ list_any (geometry.conflict s) others.now }
-    ensures few { tests.new ≤ tests.old + length others.now }
+    ensures few { tests.new ≤ tests.old + spec.tests_to_conflict s others.now }
+    ensures counted { min (tests.old + spec.tests_to_conflict s others.now) u64.MAX ≤ tests.new }
 {
     for t in others {
         if tests.test(s, *t) {

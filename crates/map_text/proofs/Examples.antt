@@ -1,6 +1,6 @@
 -- The texts of documents, worked out.
 use Rattle.std.proofs.Common.{refl}
-use Rattle.std.specs.Prelude.{◌≡◌, pos, negsuc, true, false, [], ◌∷◌, None, Some, codes, map}
+use Rattle.std.specs.Prelude.{◌≡◌, ℕ, List, pos, negsuc, true, false, [], ◌∷◌, None, Some, codes, map}
 use Rattle.std.specs.Fmt.{digits}
 use Rattle.ring_machine.specs.Document.{Document, Layer, Open, Close, Leaf, Kept}
 use Rattle.ring_machine.specs.Document.{MultiPolygon}
@@ -69,9 +69,11 @@ both_kinds = refl
 
 -- ---- whole texts
 
+abbrev pub squares_text : List ℕ
+squares_text = codes "{\"type\":\"Topology\",\"objects\":{\"land\":{\"type\":\"GeometryCollection\",\"geometries\":[{\"type\":\"Polygon\",\"id\":\"A\",\"arcs\":[[0,1]]},{\"type\":\"Polygon\",\"id\":\"B\",\"arcs\":[[2,-1]]}]}},\"arcs\":[[[10,0],[10,10]],[[10,10],[0,10],[0,0],[10,0]],[[10,0],[20,0],[20,10],[10,10]]]}"
+
 -- the arcs are numbered anew, members stand in their order, and a `bbox` is left out
-two_squares : text_of M
-    ≡ codes "{\"type\":\"Topology\",\"objects\":{\"land\":{\"type\":\"GeometryCollection\",\"geometries\":[{\"type\":\"Polygon\",\"id\":\"A\",\"arcs\":[[0,1]]},{\"type\":\"Polygon\",\"id\":\"B\",\"arcs\":[[2,-1]]}]}},\"arcs\":[[[10,0],[10,10]],[[10,10],[0,10],[0,0],[10,0]],[[10,0],[20,0],[20,10],[10,10]]]}"
+pub two_squares : text_of M ≡ squares_text
 unfolding digits
 two_squares = refl
 
@@ -104,6 +106,22 @@ kept_texts : text_of Q
     ≡ codes "{\"type\":\"Topology\",\"transform\":{\"scale\":[0.50,1e-3],\"translate\":[-1.25,50.0]},\"objects\":{\"z\":{\"type\":\"GeometryCollection\",\"geometries\":[{\"type\":\"GeometryCollection\",\"geometries\":[{\"type\":\"Polygon\",\"properties\":{\"n\": 1.50,\"s\":\"\\u00e9\"},\"arcs\":[[0]]}]},{\"type\":\"Point\",\"coordinates\":[3,4]},{\"type\":null,\"id\":7}]}},\"arcs\":[[[0,0],[5,0],[0,5],[-5,-5]]],\"note\":\"kept  1.0\"}"
 unfolding digits
 kept_texts = refl
+
+-- the members of a collection: its type, its id, its properties, its geometries, and those that are
+-- kept
+abbrev described : Document
+described = document (record {
+  name = codes "\"c\"";
+  items = Open (record {
+    id = Some (codes "\"C\"");
+    properties = Some (codes "{\"n\":1}");
+    members = record { name = codes "\"k\""; value = codes "2" } ∷ [];
+  }) ∷ null 0 (codes "7") ∷ Close ∷ [];
+} ∷ [])
+
+texts_of_a_collection : text_of described
+    ≡ codes "{\"type\":\"Topology\",\"objects\":{\"c\":{\"type\":\"GeometryCollection\",\"id\":\"C\",\"properties\":{\"n\":1},\"geometries\":[{\"type\":null,\"id\":7}],\"k\":2}},\"arcs\":[]}"
+texts_of_a_collection = refl
 
 -- a topology without layers
 nothing : text_of (document []) ≡ codes "{\"type\":\"Topology\",\"objects\":{},\"arcs\":[]}"

@@ -1,18 +1,21 @@
 -- A document that is writable, worked out.
-use Rattle.std.proofs.Common.{◌≢◌, ℕ, ◌≤◌, List, [], ◌∷◌, refl, arith, codes, bytes_eq}
+use Rattle.std.proofs.Common.{◌≢◌, ℕ, ◌≤◌, List, [], ◌∷◌, refl, subst, arith, codes, bytes_eq}
 use Rattle.std.specs.List.{IsDistinct, AllPairs}
 use Rattle.std.proofs.lemmas.Slice.Eq.{bytes_eq-Decides}
 use Rattle.std.proofs.lemmas.Map.Made.{AllPairs-from_IsDistinct}
 use Rattle.serde_json.proofs.OnLiterals.{serde_json_on_literals}
 use Rattle.grid_geometry.specs.Position.{InRange}
+use Rattle.ring_machine.specs.Document.{Document}
+use Rattle.ring_machine.specs.WellFormed.{Same}
 use Rattle.ring_machine.proofs.Worked.{at}
 use Rattle.json_spans.specs.Grammar.{text, quote, ascii}
 use Rattle.topo_outline.specs.declared.members.Owner.{Owner}
 use Rattle.topo_outline.specs.Kept.{IsJson, IsName, AreKeptMembers}
+use Rattle.topo_reader.specs.Reads.{Reads}
 use Rattle.map_text.specs.Text.{text_of}
 use Rattle.map_text.specs.Saved.{Saved}
 use Rattle.map_text.specs.Writable.{IsWritable}
-use Rattle.map_text.proofs.Examples.{M}
+use Rattle.map_text.proofs.Examples.{M, squares_text, two_squares}
 use Rattle.map_text.proofs.MembersKnown.{plain_name}
 use Rattle.map_text.proofs.ReadingBack.{text_saves}
 
@@ -61,3 +64,7 @@ writable = record {
 -- so their text is read as the two squares again
 kept : Saved (text_of M) M
 kept = text_saves M writable
+
+-- these bytes mean the two squares, but for the numbers of the features
+squares_read : (meaning : Document) × Reads squares_text meaning × Same M meaning
+squares_read = subst (λ bytes. (meaning : Document) × Reads bytes meaning × Same M meaning) two_squares (kept.meaning, kept.reads, kept.same)

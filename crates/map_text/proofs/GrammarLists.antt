@@ -4,12 +4,10 @@ use Rattle.std.specs.List.{AllByRecursion}
 use Rattle.std.proofs.lemmas.List.{append-nil}
 use Rattle.ring_machine.specs.Document.{Text}
 use Rattle.json_spans.specs.Grammar.{no_space, Value, list, no_item, some_items, item, MoreItems, list_end, next_item}
-use Rattle.json_spans.specs.Parts.{Node}
-use Rattle.json_spans.specs.Walk.{items}
-use Rattle.json_spans.specs.Inside.{IsValue, Padded, padded, Parted, last_part, next_part, Bracketed, no_part, parts, ListOf}
+use Rattle.json_spans.specs.Nodes.{Node}
+use Rattle.json_spans.specs.Inside.{IsValue, Padded, padded, Parted, last_part, next_part, Bracketed, no_part, parts, IsListOf}
 use Rattle.json_spans.proofs.Framing.{value_framed}
 use Rattle.json_spans.proofs.Padding.{stands}
-use Rattle.json_spans.proofs.Itemized.{only_items}
 use Rattle.topo_outline.specs.Kept.{IsJson}
 use Rattle.map_text.specs.Text.{further, list_text}
 use Rattle.map_text.proofs.GrammarDeeper.{all_at_once}
@@ -59,28 +57,26 @@ listed n place t (u ∷ us) v h =
       are = ap (λ (z : List Text). t ∷ z) rest.are;
     }
 
-record HasList (n : ℕ) (node : Node) (ts : List Text) : Type 0 where
-  nodes : List Node
-  list : ListOf n node nodes
-  are : map bytes_of nodes ≡ ts
+-- the node is a list of these texts
+pub record HasTexts (node : Node) (ts : List Text) : Type 0 where
+  pub nodes : List Node
+  pub list : IsListOf node nodes
+  pub are : map bytes_of nodes ≡ ts
 
-has_list : (n : ℕ) (node : Node) (ts : List Text) → node.bytes ≡ list_text ts → AllByRecursion (IsValue n) ts → HasList n node ts
-has_list n node [] e h = record {
+all_listed : (n : ℕ) (node : Node) (ts : List Text) → node.bytes ≡ list_text ts → AllByRecursion (IsValue n) ts → HasTexts node ts
+all_listed n node [] e h = record {
   nodes = [];
-  list = subst (λ z. Bracketed (Padded (IsValue n)) 91 93 node.at_byte z []) (sym e) (no_part no_space);
+  list = (n, subst (λ z. Bracketed (Padded (IsValue n)) 91 93 node.at_byte z []) (sym e) (no_part no_space));
   are = refl;
 }
-has_list n node (t ∷ ts) e h =
+all_listed n node (t ∷ ts) e h =
     let all = listed n (node.at_byte + 1) t ts h.0 h.1 in
     record {
       nodes = all.nodes;
-      list = subst (λ z. Bracketed (Padded (IsValue n)) 91 93 node.at_byte z all.nodes) (sym e) (parts all.parted);
+      list = (n, subst (λ z. Bracketed (Padded (IsValue n)) 91 93 node.at_byte z all.nodes) (sym e) (parts all.parted));
       are = all.are;
     }
 
 -- the items of a list are the values that it was made of
-pub items_are : (node : Node) (ts : List Text) → node.bytes ≡ list_text ts → AllByRecursion IsJson ts → map bytes_of (items node) ≡ ts
-items_are node ts e h =
-    let all = all_at_once ts h in
-    let found = has_list all.0 node ts e all.1 in
-    ap (λ (ns : List Node). map bytes_of ns) (sym (only_items node all.0 found.nodes found.list)) ∙ found.are
+pub has_texts : (node : Node) (ts : List Text) → node.bytes ≡ list_text ts → AllByRecursion IsJson ts → HasTexts node ts
+has_texts node ts e h = let all = all_at_once ts h in all_listed all.0 node ts e all.1

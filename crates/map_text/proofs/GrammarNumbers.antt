@@ -1,15 +1,13 @@
 -- A written whole number is a JSON number, and is read as it was.
-use Rattle.std.proofs.Common.{◌≡◌, ℕ, zero, suc, ◌+◌, ◌-◌, ◌*◌, ◌<◌, ◌≤◌, ◌/◌, ◌%◌, ◌^◌, true, refl, ◌∙◌, subst, List, [], ◌∷◌, ◌++◌, arith, ℤ, pos, negsuc}
-use Rattle.std.specs.Prelude.{unsigned_abs, Ok, nat_lt, nat_le}
+use Rattle.std.proofs.Common.{◌≡◌, ℕ, zero, suc, ◌+◌, ◌-◌, ◌*◌, ◌<◌, ◌≤◌, ◌/◌, ◌%◌, ◌^◌, true, refl, subst, List, [], ◌∷◌, ◌++◌, arith, ℤ, pos, negsuc}
+use Rattle.std.specs.Prelude.{unsigned_abs}
 use Rattle.std.specs.Fmt.{decimal, signed_decimal}
 use Rattle.std.proofs.lemmas.Fmt.{decimal_by_steps}
-use Rattle.std.proofs.lemmas.Bool.{lt-ltb}
 use Rattle.std.proofs.lemmas.Bool.Decides.{nat_tests}
 use Rattle.std.proofs.lemmas.List.{append-nil}
 use Rattle.json_spans.specs.Bytes.{is_digit, is_nonzero}
 use Rattle.json_spans.specs.Grammar.{Digits, no_digit, digit, SomeDigits, digits, no_exponent, no_fraction, Unsigned, zero_first, digit_first, minus, plain_number, number}
-use Rattle.json_spans.specs.Whole.{value_from, whole_of, no_point, IsWhole, plain, negative, minus as minus_of}
-use Rattle.json_spans.proofs.Meant.{whole_is}
+use Rattle.json_spans.specs.Whole.{value_from, no_point, IsWhole, plain, negative, minus as minus_of}
 use Rattle.topo_outline.specs.Kept.{IsJson}
 
 -- ---- digits
@@ -88,10 +86,6 @@ is_plain n ds d = subst (λ z. IsWhole z (pos n)) (append-nil ds) (subst (λ m. 
 is_negative : (n : ℕ) (ds : List ℕ) → IsDecimal (suc n) ds → IsWhole (45 ∷ ds) (negsuc n)
 is_negative n ds d = subst (λ z. IsWhole (45 ∷ z) (negsuc n)) (append-nil ds) (subst (λ m. IsWhole (45 ∷ (ds ++ [])) (minus_of m)) d.value (negative d.some no_point))
 
-pub whole_read : (z : ℤ) → unsigned_abs z < 2 ^ 63 → whole_of (signed_decimal z) ≡ Ok z
-whole_read (pos n) h =
-    let fits : nat_lt n (2 ^ 63) ≡ true = lt-ltb _ _ h in
-    whole_is (decimal n) (pos n) (is_plain n (decimal n) (decimal_is n (omega (arith, h)))) ∙ rw fits refl
-whole_read (negsuc n) h =
-    let fits : nat_le (suc n) (2 ^ 63) ≡ true = search (arith, nat_tests) in
-    whole_is (45 ∷ decimal (suc n)) (negsuc n) (is_negative n (decimal (suc n)) (decimal_is (suc n) (omega (arith, h)))) ∙ rw fits refl
+pub whole_written : (z : ℤ) → unsigned_abs z < 2 ^ 63 → IsWhole (signed_decimal z) z
+whole_written (pos n) h = is_plain n (decimal n) (decimal_is n (omega (arith, h)))
+whole_written (negsuc n) h = is_negative n (decimal (suc n)) (decimal_is (suc n) (omega (arith, h)))

@@ -4,12 +4,10 @@ use Rattle.std.specs.List.{AllByRecursion}
 use Rattle.std.proofs.lemmas.List.{append-nil}
 use Rattle.ring_machine.specs.Document.{Member}
 use Rattle.json_spans.specs.Grammar.{no_space, Value, object, no_member, some_members, SomeMembers, name, member as behind_name, MoreMembers, object_end, next_member}
-use Rattle.json_spans.specs.Parts.{Node}
-use Rattle.json_spans.specs.Walk.{members}
-use Rattle.json_spans.specs.Inside.{IsValue, IsText, quoted, Pair, pair, Parted, last_part, next_part, Bracketed, no_part, parts, ObjectOf}
+use Rattle.json_spans.specs.Nodes.{Node}
+use Rattle.json_spans.specs.Inside.{IsValue, IsText, quoted, Pair, pair, Parted, last_part, next_part, Bracketed, no_part, parts, IsObjectOf}
 use Rattle.json_spans.proofs.Framing.{chars_framed, value_framed}
 use Rattle.json_spans.proofs.Padding.{stands}
-use Rattle.json_spans.proofs.Itemized.{only_members}
 use Rattle.topo_outline.specs.Kept.{IsJson}
 use Rattle.map_text.specs.Text.{further, member_text, object_text}
 use Rattle.map_text.proofs.GrammarDeeper.{all_at_once}
@@ -91,28 +89,26 @@ all_paired n place m (k ∷ ks) v h =
       are = ap (λ (z : List Member). m ∷ z) rest.are;
     }
 
-record HasObject (n : ℕ) (node : Node) (ms : List Member) : Type 0 where
-  nodes : List (Node × Node)
-  object : ObjectOf n node nodes
-  are : map as_member nodes ≡ ms
+-- the node is an object with these members
+pub record HasMembers (node : Node) (ms : List Member) : Type 0 where
+  pub nodes : List (Node × Node)
+  pub object : IsObjectOf node nodes
+  pub are : map as_member nodes ≡ ms
 
-has_object : (n : ℕ) (node : Node) (ms : List Member) → node.bytes ≡ object_text ms → AllByRecursion (IsMemberOf n) ms → HasObject n node ms
-has_object n node [] e h = record {
+all_there : (n : ℕ) (node : Node) (ms : List Member) → node.bytes ≡ object_text ms → AllByRecursion (IsMemberOf n) ms → HasMembers node ms
+all_there n node [] e h = record {
   nodes = [];
-  object = subst (λ z. Bracketed (Pair n) 123 125 node.at_byte z []) (sym e) (no_part no_space);
+  object = (n, subst (λ z. Bracketed (Pair n) 123 125 node.at_byte z []) (sym e) (no_part no_space));
   are = refl;
 }
-has_object n node (m ∷ ms) e h =
+all_there n node (m ∷ ms) e h =
     let all = all_paired n (node.at_byte + 1) m ms h.0 h.1 in
     record {
       nodes = all.nodes;
-      object = subst (λ z. Bracketed (Pair n) 123 125 node.at_byte z all.nodes) (sym e) (parts all.parted);
+      object = (n, subst (λ z. Bracketed (Pair n) 123 125 node.at_byte z all.nodes) (sym e) (parts all.parted));
       are = all.are;
     }
 
 -- the members of an object are those that it was made of
-pub members_are : (node : Node) (ms : List Member) → node.bytes ≡ object_text ms → AllByRecursion IsMember ms → map as_member (members node) ≡ ms
-members_are node ms e h =
-    let all = all_members ms h in
-    let found = has_object all.0 node ms e all.1 in
-    ap (λ (ps : List (Node × Node)). map as_member ps) (sym (only_members node all.0 found.nodes found.object)) ∙ found.are
+pub has_members : (node : Node) (ms : List Member) → node.bytes ≡ object_text ms → AllByRecursion IsMember ms → HasMembers node ms
+has_members node ms e h = let all = all_members ms h in all_there all.0 node ms e all.1

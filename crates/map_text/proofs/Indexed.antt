@@ -2,13 +2,13 @@
 use Rattle.std.proofs.Common.{◌≡◌, ◌+◌, Bool, true, false, refl, sym, ap, ap₂, ◌∙◌, cond, List, []}
 use Rattle.std.proofs.Common.{◌∷◌, ◌++◌, ◌||◌, length, map, append_assoc, reverse, ℤ, pos, negsuc}
 use Rattle.std.proofs.Common.{subst, Option, Some, None}
-use Rattle.std.specs.Prelude.{slice_get, option_map, unwrap_or, Ok}
+use Rattle.std.specs.Prelude.{slice_get, option_map, unwrap_or}
 use Rattle.std.specs.List.{flat_map, AllByRecursion, AllZip}
 use Rattle.std.proofs.lemmas.Bool.{false≢true, or_left}
 use Rattle.std.proofs.lemmas.List.{length-append}
 use Rattle.std.proofs.lemmas.List.Folds.{list_any-append}
-use Rattle.json_spans.specs.Parts.{Node}
-use Rattle.json_spans.specs.Whole.{whole_of}
+use Rattle.json_spans.specs.Nodes.{Node}
+use Rattle.json_spans.specs.Whole.{IsWhole}
 use Rattle.grid_geometry.specs.Position.{Position}
 use Rattle.ring_machine.specs.Document.{Document}
 use Rattle.ring_machine.specs.Parts.{rings}
@@ -16,7 +16,8 @@ use Rattle.ring_machine.specs.Vertices.{is_junction}
 use Rattle.ring_machine.proofs.Order.{or_right}
 use Rattle.ring_machine.proofs.First.{In}
 use Rattle.ring_machine.proofs.Neighbours.{all_of, in-flat_map}
-use Rattle.topo_reader.specs.Indexes.{Arc, arc_named}
+use Rattle.topo_reader.specs.Arcs.{Arc}
+use Rattle.topo_reader.specs.Indexes.{arc_named}
 use Rattle.topo_reader.specs.Reads.{IsUse, forward, backward}
 use Rattle.map_text.specs.Arcs.{pieces, are_equal, index_from, index_of, indexes, is_arc, with_piece}
 use Rattle.map_text.specs.Arcs.{with_pieces, arcs_of}
@@ -100,7 +101,7 @@ indexes_name d ring i =
     all = flat_map (pieces (is_junction d)) (rings d)
 
 -- a node that is an index of an arc is a use of it
-pub is_use : (arcs : List Arc) (n : Node) (z : ℤ) (a : Arc) → whole_of n.bytes ≡ Ok z → Names arcs z a → IsUse arcs n a
+pub is_use : (arcs : List Arc) (n : Node) (z : ℤ) (a : Arc) → IsWhole n.bytes z → Names arcs z a → IsUse arcs n a
 is_use arcs n (pos i) a e h = forward e h
 is_use arcs n (negsuc i) a e h = by (slice_get arcs i) refl h
   where

@@ -6,12 +6,12 @@ use Rattle.std.proofs.lemmas.Bool.{eqb-true, eq-eqb}
 use Rattle.std.proofs.lemmas.Slice.Eq.{bytes_eq-Decides}
 use Rattle.std.proofs.lemmas.Map.Made.{AllPairs-from_IsDistinct, IsDistinct-from_AllPairs}
 use Rattle.ring_machine.specs.Document.{Text, Member}
-use Rattle.json_spans.specs.Parts.{Node}
+use Rattle.json_spans.specs.Nodes.{Node}
 use Rattle.topo_outline.specs.declared.words.Word.{Word}
 use Rattle.topo_outline.specs.declared.words.Word.TheVariants as word
 use Rattle.topo_outline.specs.declared.members.Owner.{Owner}
 use Rattle.topo_outline.specs.Words.{word_of}
-use Rattle.topo_outline.specs.Shape.{EntryNode, code, kept, text_of, is_known}
+use Rattle.topo_outline.specs.Members.{EntryNode, code, kept, text_of, is_known}
 use Rattle.topo_outline.specs.IsOutline.{HasEntries, value_at}
 use Rattle.ring_machine.proofs.Order.{and_both}
 use Rattle.ring_machine.proofs.Removal.{not_true}

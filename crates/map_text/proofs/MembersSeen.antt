@@ -3,17 +3,16 @@ use Rattle.std.proofs.Common.{◌≡◌, ◌≢◌, not, ℕ, List, [], ◌∷�
 use Rattle.std.specs.Prelude.{Option, Some, None, option_map, ◌==◌, if◌then◌else◌, filter}
 use Rattle.std.specs.List.{AllByRecursion, AllZip, AllPairs}
 use Rattle.ring_machine.specs.Document.{Text, Member}
-use Rattle.json_spans.specs.Parts.{Node}
-use Rattle.json_spans.specs.Walk.{members}
+use Rattle.json_spans.specs.Nodes.{Node}
 use Rattle.json_spans.specs.Decoded.{decoded}
 use Rattle.topo_outline.specs.declared.words.Word.{Word}
 use Rattle.topo_outline.specs.declared.members.Owner.{Owner}
 use Rattle.topo_outline.specs.Words.{word_of}
-use Rattle.topo_outline.specs.Shape.{EntryNode, entry_of, member, code, kept, kept_text, text_of, is_known}
+use Rattle.topo_outline.specs.Members.{EntryNode, entry_of, member, code, kept, kept_text, text_of, is_known}
 use Rattle.topo_outline.specs.IsOutline.{Entries, no_entry, entry, HasEntries, value_at}
 use Rattle.map_text.specs.Text.{object_text}
 use Rattle.map_text.proofs.GrammarLists.{bytes_of}
-use Rattle.map_text.proofs.GrammarObjects.{IsMember, as_member, members_are}
+use Rattle.map_text.proofs.GrammarObjects.{IsMember, as_member, has_members}
 
 -- a member without its places
 pub record Seen : Type 0 where
@@ -61,12 +60,12 @@ pub record IsSeen (node : Node) (ss : List Seen) : Type 0 where
 
 pub object_seen : (node : Node) (ms : List Member) (ts : List (List ℕ)) → node.bytes ≡ object_text ms → AllByRecursion IsMember ms → AllZip Says ms ts → AllPairs (λ t u. t ≢ u) ts → IsSeen node (all_seen ts ms)
 object_seen node ms ts e h s d =
-    let are = members_are node ms e h in
-    let says : AllZip Says (map as_member (members node)) ts = subst (λ z. AllZip Says z ts) (sym are) s in
+    let found = has_members node ms e h in
+    let says : AllZip Says (map as_member found.nodes) ts = subst (λ z. AllZip Says z ts) (sym found.are) s in
     record {
-      entries = entries_of ts (members node);
-      has = record { names = ts; object = rw e refl; entries = are_entries ts (members node) says; differ = d };
-      are = entries_seen ts (members node) ∙ ap (λ (z : List Member). all_seen ts z) are;
+      entries = entries_of ts found.nodes;
+      has = record { members = found.nodes; names = ts; object = found.object; entries = are_entries ts found.nodes says; differ = d };
+      are = entries_seen ts found.nodes ∙ ap (λ (z : List Member). all_seen ts z) found.are;
     }
 
 -- ---- members by their words

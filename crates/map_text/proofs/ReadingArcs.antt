@@ -1,20 +1,20 @@
 -- The written arcs are read as they were.
-use Rattle.std.proofs.Common.{◌≡◌, ◌≤◌, ◌<◌, ◌^◌, List, [], ◌∷◌, map, Bool, true, false, length, sym, ap, ap₂, ◌∙◌, arith, ℤ, pos, ◌+ℤ◌, ◌-ℤ◌}
+use Rattle.std.proofs.Common.{◌≡◌, ◌≤◌, ◌<◌, ◌^◌, List, [], ◌∷◌, map, Bool, true, false, length, sym, ap₂, subst, arith, ℤ, pos, ◌+ℤ◌, ◌-ℤ◌}
 use Rattle.std.specs.Prelude.{unsigned_abs}
 use Rattle.std.specs.List.{AllByRecursion}
 use Rattle.std.specs.Fmt.{signed_decimal}
 use Rattle.std.proofs.lemmas.Int.{ints}
 use Rattle.grid_geometry.specs.Position.{Position, position, InRange}
-use Rattle.json_spans.specs.Parts.{Node}
-use Rattle.json_spans.specs.Walk.{items}
-use Rattle.json_spans.specs.Whole.{whole_of}
+use Rattle.json_spans.specs.Nodes.{Node}
+use Rattle.json_spans.specs.Inside.{IsListOf}
+use Rattle.json_spans.specs.Whole.{IsWhole}
 use Rattle.topo_outline.specs.Kept.{IsJson}
-use Rattle.topo_reader.specs.Positions.{origin}
+use Rattle.topo_reader.specs.Arcs.{origin}
 use Rattle.topo_reader.specs.Reads.{IsSum, Sums, no_pair, pair, ArePositions, IsArc, AreArcs}
 use Rattle.map_text.specs.Text.{pair_text, differences, pairs, arc_text, arcs_text}
-use Rattle.map_text.proofs.GrammarLists.{bytes_of, items_are, list_is_json}
-use Rattle.map_text.proofs.GrammarNumbers.{whole_is_json, whole_read}
-use Rattle.map_text.proofs.ReadingLists.{all_mapped, Stands, first_same, rest_same, zipped, list_there, list_stands, list_json, two}
+use Rattle.map_text.proofs.GrammarLists.{bytes_of, has_texts, list_is_json}
+use Rattle.map_text.proofs.GrammarNumbers.{whole_is_json, whole_written}
+use Rattle.map_text.proofs.ReadingLists.{all_mapped, Stands, first_same, rest_same, zipped, list_stands, list_json, two}
 
 -- ---- whole numbers
 
@@ -45,19 +45,18 @@ pair_json p h = list_is_json (signed_decimal p.x ∷ signed_decimal p.y ∷ []) 
 
 is_sum : (before q p : Position) (n : Node) → Small q → InRange p → p ≡ position (before.x +ℤ q.x) (before.y +ℤ q.y) → n.bytes ≡ pair_text q → IsSum before n p
 is_sum before q p n small range is e =
-    let found = two (items n) (signed_decimal q.x) (signed_decimal q.y) (items_are n (signed_decimal q.x ∷ signed_decimal q.y ∷ []) e (numbers_json q small)) in
+    let listed = has_texts n (signed_decimal q.x ∷ signed_decimal q.y ∷ []) e (numbers_json q small) in
+    let found = two listed.nodes (signed_decimal q.x) (signed_decimal q.y) listed.are in
     record {
       first = found.first;
       second = found.second;
       x = q.x;
       y = q.y;
-      list = list_there n (signed_decimal q.x ∷ signed_decimal q.y ∷ []) e;
-      two = found.are;
-      x_is = ap whole_of found.first_is ∙ whole_read q.x small.x;
-      y_is = ap whole_of found.second_is ∙ whole_read q.y small.y;
+      two = subst (λ ns. IsListOf n ns) found.are listed.list;
+      x_is = subst (λ z. IsWhole z q.x) (sym found.first_is) (whole_written q.x small.x);
+      y_is = subst (λ z. IsWhole z q.y) (sym found.second_is) (whole_written q.y small.y);
       sum = is;
-      x_within = range.across;
-      y_within = range.upward;
+      in_range = range;
     }
 
 -- ---- positions, each for itself
@@ -108,16 +107,14 @@ pub record IsLine (ps : List Position) : Type 0 where
 arc_json : (delta : Bool) (ps : List Position) → IsLine ps → IsJson (arc_text delta ps)
 arc_json delta ps h = list_is_json (map pair_text (pairs delta ps)) (pairs_json delta ps h.range)
 
-are_positions : (delta : Bool) (n : Node) (ps : List Position) → AllByRecursion InRange ps → map bytes_of (items n) ≡ map pair_text (pairs delta ps) → ArePositions delta (items n) ps
-are_positions true n ps h e = are_sums origin (items n) ps origin_in_range h e
-are_positions false n ps h e = zipped InRange (IsSum origin) pair_text (items n) ps position_stands e h
+are_positions : (delta : Bool) (ns : List Node) (ps : List Position) → AllByRecursion InRange ps → map bytes_of ns ≡ map pair_text (pairs delta ps) → ArePositions delta ns ps
+are_positions true ns ps h e = are_sums origin ns ps origin_in_range h e
+are_positions false ns ps h e = zipped InRange (IsSum origin) pair_text ns ps position_stands e h
 
 arc_stands : (delta : Bool) → Stands IsLine (IsArc delta) (arc_text delta)
-arc_stands delta n ps h e = record {
-  list = list_there n (map pair_text (pairs delta ps)) e;
-  positions = are_positions delta n ps h.range (items_are n (map pair_text (pairs delta ps)) e (pairs_json delta ps h.range));
-  long = h.long;
-}
+arc_stands delta n ps h e =
+    let listed = has_texts n (map pair_text (pairs delta ps)) e (pairs_json delta ps h.range) in
+    record { items = listed.nodes; list = listed.list; positions = are_positions delta listed.nodes ps h.range listed.are; long = h.long }
 
 pub arcs_json : (delta : Bool) (arcs : List (List Position)) → AllByRecursion IsLine arcs → IsJson (arcs_text delta arcs)
 arcs_json delta arcs h = list_json IsLine (arc_text delta) arcs (arc_json delta) h

@@ -1,5 +1,5 @@
 -- The written text of a document is read as the document.
-use Rattle.std.proofs.Common.{◌≡◌, ℕ, ◌≤◌, List, [], ◌∷◌, ◌++◌, map, length, true, refl, sym, ap, ◌∙◌, subst, codes, ℤ}
+use Rattle.std.proofs.Common.{◌≡◌, ℕ, ◌≤◌, ◌+◌, List, [], ◌∷◌, ◌++◌, map, length, true, refl, sym, ap, ◌∙◌, subst, codes, ℤ}
 use Rattle.std.specs.Prelude.{Option, Some, None, option_map, is_some}
 use Rattle.std.specs.List.{AllByRecursion, AllZip, flat_map, filter_map}
 use Rattle.grid_geometry.specs.Position.{Position, InRange}
@@ -7,21 +7,17 @@ use Rattle.ring_machine.specs.Document.{Text, Member, Layer, Document}
 use Rattle.ring_machine.specs.Parts.{feature_of, in_feature, in_item, in_layer}
 use Rattle.ring_machine.specs.WellFormed.{is_geometry, Same}
 use Rattle.ring_machine.specs.Vertices.{is_junction}
-use Rattle.json_spans.specs.Grammar.{no_space, json}
-use Rattle.json_spans.specs.Parts.{Node}
-use Rattle.json_spans.specs.Inside.{IsValue}
-use Rattle.json_spans.specs.Kinds.{kind_of}
-use Rattle.json_spans.proofs.Padding.{value_solid, trimmed_is}
+use Rattle.json_spans.specs.Nodes.{Node}
 use Rattle.topo_outline.specs.declared.words.Word.TheVariants as word
 use Rattle.topo_outline.specs.declared.members.Owner.TheVariants as owner
 use Rattle.topo_outline.specs.Words.{word_of}
-use Rattle.topo_outline.specs.Shape.{is_list_kind, EntryNode, LayerText}
+use Rattle.topo_outline.specs.Members.{EntryNode}
+use Rattle.topo_outline.specs.Layers.{LayerText}
 use Rattle.topo_outline.specs.IsOutline.{value_at, HasEntries, IsTransform, no_transform, IsOutline}
 use Rattle.topo_outline.specs.Kept.{IsJson, IsName, IfThere, IsKeptTransform, KeepsItem}
-use Rattle.topo_reader.specs.Indexes.{Arc}
+use Rattle.topo_reader.specs.Arcs.{Arc}
 use Rattle.topo_reader.specs.Document.{Opened, document_of}
-use Rattle.topo_reader.specs.Opening.{root_of}
-use Rattle.topo_reader.specs.Reads.{Reads}
+use Rattle.topo_reader.specs.Reads.{AreArcs, Reads}
 use Rattle.map_text.specs.Arcs.{pieces, arcs_of, indexes}
 use Rattle.map_text.specs.Text.{object_text, member, member_if, arcs_text, layer_member, text_of}
 use Rattle.map_text.specs.Saved.{Saved}
@@ -158,15 +154,12 @@ transform_read None (Some t) e k = absurd cc
 transform_read (Some n) None e k = absurd cc
 transform_read (Some n) (Some t) e k = let same : n.bytes ≡ t = cc in kept_transform t n k same
 
-root_is : (levels : ℕ) (bytes : List ℕ) → IsValue levels bytes → (root_of bytes).bytes ≡ bytes
-root_is levels bytes v = ap bytes_of (trimmed_is (value_solid levels) (bare 0 bytes v))
-
 -- the outline of the text, with its layers and its arcs
 record IsOutlined (d : Document) (root : Node) : Type 0 where
   arcs : Node
   layers : List LayerText
   outline : IsOutline root (record { transform = d.transform; layers = layers; arcs = arcs; members = d.members })
-  arcs_are : arcs.bytes ≡ all_arcs_text d
+  arcs_are : AreArcs (is_some d.transform) arcs (arcs_of d)
   read : AllZip (IsReadLayer (arcs_of d) (ring_indexes d) (ring_pieces d)) d.layers layers
 
 outlined : (d : Document) → IsWritable d → (root : Node) → root.bytes ≡ text_of d → IsOutlined d root
@@ -175,6 +168,7 @@ outlined d w root e =
     let objects = node_there (value_at word.Objects o.entries) (objects_text d) (o.values word.Objects refl) in
     let found = node_there (value_at word.Arcs o.entries) (all_arcs_text d) (o.values word.Arcs refl) in
     let inside = objects_read d w objects.0 objects.2 in
+    let lines = arcs_read (is_some d.transform) found.0 (arcs_of d) (are_lines d w) found.2 in
     record {
       arcs = found.0;
       layers = inside.read.texts;
@@ -183,16 +177,16 @@ outlined d w root e =
         objects = objects.0;
         named = inside.named;
         of_root = o.has;
-        topology = has_type owner.Topology root (fields d) d.members (codes "\"Topology\"") (codes "Topology") o (o.values word.Type refl) topology_named refl;
+        topology = has_type owner.Topology root (fields d) d.members (codes "\"Topology\"") (codes "Topology") o (o.values word.Type refl) topology_named;
         transform = transform_read (value_at word.Transform o.entries) d.transform (o.values word.Transform refl) w.keeps.transform;
         has_objects = objects.1;
         of_objects = inside.has;
         layers = inside.read.layers;
         has_arcs = found.1;
-        are_arcs = ap (λ (z : List ℕ). is_list_kind (kind_of z)) found.2;
+        are_arcs = (lines.0, lines.1);
         members = sym o.keeps;
       };
-      arcs_are = found.2;
+      arcs_are = lines;
       read = inside.read.read;
     }
 
@@ -206,16 +200,21 @@ same_as_read d w layers h =
     ap (λ (ls : List Layer). let e : Document = record { transform = d.transform; layers = ls; members = d.members } in e)
     (layers_same (arcs_of d) (ring_indexes d) (ring_pieces d) d.layers layers h (are_plain d w) (flat_map layer_polygons d.layers) [] 0 refl refl)
 
-abbrev reading : (d : Document) → (w : IsWritable d) → (o : IsOutlined d (root_of (text_of d))) → Reads (text_of d) (document_of (as_read d o.layers))
+-- the text stands alone, with no space round it
+abbrev whole : Document → Node
+whole d = record { at_byte = 0 + 0; bytes = text_of d }
+
+abbrev reading : (d : Document) → (w : IsWritable d) → (o : IsOutlined d (whole d)) → Reads (text_of d) (document_of (as_read d o.layers))
 reading d w o = record {
   levels = (text_json d w).0;
-  json = json no_space (text_json d w).1 no_space;
+  root = whole d;
+  json = bare 0 (text_of d) (text_json d w).1;
   shape = record { transform = d.transform; layers = o.layers; arcs = o.arcs; members = d.members };
   arcs = arcs_of d;
   uses = flat_map (layer_uses (arcs_of d) (ring_indexes d) (ring_pieces d)) d.layers;
   polygons = flat_map layer_polygons d.layers;
   topology = o.outline;
-  arcs_are = arcs_read (is_some d.transform) o.arcs (arcs_of d) (are_lines d w) o.arcs_are;
+  arcs_are = o.arcs_are;
   uses_are = layers_use (arcs_of d) (ring_indexes d) (ring_pieces d) d.layers o.layers o.read (are_plain d w);
   rings_are = layers_lead (arcs_of d) (ring_indexes d) (ring_pieces d) d.layers (are_plain d w);
   document = refl;
@@ -225,6 +224,5 @@ reading d w o = record {
 -- and each border stands in it once
 pub text_saves : (d : Document) → IsWritable d → Saved (text_of d) d
 text_saves d w =
-    let j = text_json d w in
-    let o = outlined d w (root_of (text_of d)) (root_is j.0 (text_of d) j.1) in
+    let o = outlined d w (whole d) refl in
     saved_by (text_of d) d (document_of (as_read d o.layers)) w.are_rings (reading d w o) refl (same_as_read d w o.layers o.read)

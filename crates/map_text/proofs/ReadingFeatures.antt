@@ -7,24 +7,21 @@ use Rattle.ring_machine.specs.Document.{Text, Form, Head, Member, FeatureOf}
 use Rattle.ring_machine.specs.Document as form
 use Rattle.json_spans.specs.Grammar.{null, text as string_value}
 use Rattle.json_spans.specs.Inside.{IsValue, IsText, quoted}
-use Rattle.json_spans.specs.Parts.{Node}
-use Rattle.json_spans.specs.Walk.{items}
-use Rattle.json_spans.specs.Kinds.{kind_of}
+use Rattle.json_spans.specs.Nodes.{Node}
 use Rattle.json_spans.specs.Decoded.{decoded}
-use Rattle.json_spans.specs.declared.kinds.Kind.TheVariants as kind
 use Rattle.topo_outline.specs.declared.words.Word.TheVariants as word
 use Rattle.topo_outline.specs.declared.members.Owner.{Owner}
 use Rattle.topo_outline.specs.declared.members.Owner.TheVariants as owner
 use Rattle.topo_outline.specs.Words.{word_of}
-use Rattle.topo_outline.specs.Shape.{EntryNode, is_known, text_of, kept, head, Piece, starts, ends, leaf}
+use Rattle.topo_outline.specs.Members.{EntryNode, is_known, text_of, kept, head}
+use Rattle.topo_outline.specs.Layers.{Piece, starts, ends, leaf}
 use Rattle.topo_outline.specs.IsOutline.{HasType, value_at, IsGeometry, AreGeometries, null_geometry, polygon, multi_polygon, collection}
 use Rattle.topo_outline.specs.Kept.{IsJson, IsName, IfThere, IsKeptHead, owner_of, head_of}
-use Rattle.topo_reader.specs.Indexes.{Arc}
+use Rattle.topo_reader.specs.Arcs.{Arc}
 use Rattle.map_text.specs.Text.{list_text, object_text, member_text, further, commas, member, member_if, type_text, polygon_text, shape_text, feature_text, opening_text, closing_text}
-use Rattle.map_text.proofs.GrammarLists.{bytes_of, items_are, list_is_json}
+use Rattle.map_text.proofs.GrammarLists.{bytes_of, has_texts, list_is_json}
 use Rattle.map_text.proofs.MembersKnown.{type_named, id_named, properties_named, arcs_named, geometries_named, polygon_named, multi_polygon_named, collection_named}
 use Rattle.map_text.proofs.MembersFields.{Field, present, IsField, HasFields, written_object, written_json}
-use Rattle.map_text.proofs.ReadingLists.{list_there}
 use Rattle.map_text.proofs.ReadingPlaces.{node_there}
 use Rattle.map_text.proofs.ReadingUses.{ShapeIndexes, Fits, shape_json, IsShape, polygon_lists, shape_lists, one, several, nothing}
 
@@ -76,10 +73,10 @@ geometries_is_field o value k j = record { named = geometries_named; word_is = r
 same_head : (o : Owner) (es : List EntryNode) (h : Head) → text_of word.Id es ≡ h.id → text_of word.Properties es ≡ h.properties → kept o es ≡ h.members → head o es ≡ h
 same_head o es h i p k = rw (i, p, k) refl
 
-pub has_type : (o : Owner) (n : Node) (fs : List Field) (ms : List Member) (token name : List ℕ) → (w : HasFields o n fs ms) → option_map bytes_of (value_at word.Type w.entries) ≡ Some token → IsName token name → kind_of token ≡ kind.Text → HasType w.entries name
-has_type o n fs ms token name w e h k =
+pub has_type : (o : Owner) (n : Node) (fs : List Field) (ms : List Member) (token name : List ℕ) → (w : HasFields o n fs ms) → option_map bytes_of (value_at word.Type w.entries) ≡ Some token → IsName token name → HasType w.entries name
+has_type o n fs ms token name w e h =
     let found = node_there (value_at word.Type w.entries) token e in
-    record { value = found.0; there = found.1; string = ap kind_of found.2 ∙ k; says = ap decoded found.2 ∙ h.says }
+    record { value = found.0; there = found.1; string = subst IsText (sym found.2) h.string; says = ap decoded found.2 ∙ h.says }
 
 -- ---- features
 
@@ -133,7 +130,7 @@ polygon_text_made arcs h p u k s =
           let at_arcs = node_there (value_at word.Arcs w.entries) (polygon_text p) (w.values word.Arcs refl) in (
             at_arcs.0,
             subst (λ z. IsGeometry n (leaf form.Polygon z at_arcs.0 ∷ [])) (same_head owner.Rings w.entries h (w.texts word.Id refl) (w.texts word.Properties refl) w.keeps)
-                (polygon w.has (has_type owner.Rings n fs h.members (type_text form.Polygon) (codes "Polygon") w (w.values word.Type refl) polygon_named refl) at_arcs.1 (polygon_lists arcs at_arcs.0 p u s.0 at_arcs.2)),
+                (polygon w.has (has_type owner.Rings n fs h.members (type_text form.Polygon) (codes "Polygon") w (w.values word.Type refl) polygon_named) at_arcs.1 (polygon_lists arcs at_arcs.0 p u s.0 at_arcs.2)),
             at_arcs.2,
           );
     }
@@ -150,7 +147,7 @@ multi_polygon_text_made arcs h ps us k s =
           let at_arcs = node_there (value_at word.Arcs w.entries) (list_text (map polygon_text ps)) (w.values word.Arcs refl) in (
             at_arcs.0,
             subst (λ z. IsGeometry n (leaf form.MultiPolygon z at_arcs.0 ∷ [])) (same_head owner.Rings w.entries h (w.texts word.Id refl) (w.texts word.Properties refl) w.keeps)
-                (multi_polygon w.has (has_type owner.Rings n fs h.members (type_text form.MultiPolygon) (codes "MultiPolygon") w (w.values word.Type refl) multi_polygon_named refl) at_arcs.1 (shape_lists arcs at_arcs.0 ps us s at_arcs.2)),
+                (multi_polygon w.has (has_type owner.Rings n fs h.members (type_text form.MultiPolygon) (codes "MultiPolygon") w (w.values word.Type refl) multi_polygon_named) at_arcs.1 (shape_lists arcs at_arcs.0 ps us s at_arcs.2)),
             at_arcs.2,
           );
     }
@@ -167,7 +164,7 @@ null_text_made h k =
           let at_type = node_there (value_at word.Type w.entries) (type_text form.Null) (w.values word.Type refl) in (
             n,
             subst (λ z. IsGeometry n (leaf form.Null z n ∷ [])) (same_head owner.Null w.entries h (w.texts word.Id refl) (w.texts word.Properties refl) w.keeps)
-                (null_geometry w.has at_type.1 (ap kind_of at_type.2)),
+                (null_geometry w.has at_type.1 at_type.2),
             tt,
           );
     }
@@ -229,9 +226,10 @@ collection_read Q h ts n k j e inner =
     let fs = collection_fields h (list_text ts) in
     let w = written_object owner.Collection n fs h.members (collections_are_fields h (list_text ts) k (list_is_json ts j)) refl k.members (e ∙ collection_is h ts) in
     let at_list = node_there (value_at word.Geometries w.entries) (list_text ts) (w.values word.Geometries refl) in
-    let found = inner (items at_list.0) (items_are at_list.0 ts at_list.2 j) in (
+    let listed = has_texts at_list.0 ts at_list.2 j in
+    let found = inner listed.nodes listed.are in (
       found.0,
       subst (λ z. IsGeometry n (starts z ∷ (found.0 ++ (ends ∷ [])))) (same_head owner.Collection w.entries h (w.texts word.Id refl) (w.texts word.Properties refl) w.keeps)
-          (collection w.has (has_type owner.Collection n fs h.members (codes "\"GeometryCollection\"") (codes "GeometryCollection") w (w.values word.Type refl) collection_named refl) at_list.1 (list_there at_list.0 ts at_list.2) found.1),
+          (collection w.has (has_type owner.Collection n fs h.members (codes "\"GeometryCollection\"") (codes "GeometryCollection") w (w.values word.Type refl) collection_named) at_list.1 listed.list found.1),
       found.2,
     )

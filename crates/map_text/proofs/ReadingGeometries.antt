@@ -2,12 +2,12 @@
 use Rattle.std.proofs.Common.{◌≡◌, List, [], ◌∷◌, ◌++◌, map, ℤ}
 use Rattle.std.specs.List.{AllByRecursion, AllZip}
 use Rattle.ring_machine.specs.Document.{Text, Head, FeatureOf, Open, Close, Leaf, Kept}
-use Rattle.json_spans.specs.Parts.{Node}
+use Rattle.json_spans.specs.Nodes.{Node}
 use Rattle.topo_outline.specs.declared.members.Owner.TheVariants as owner
-use Rattle.topo_outline.specs.Shape.{Piece, starts, ends, leaf, text}
+use Rattle.topo_outline.specs.Layers.{Piece, starts, ends, leaf, text}
 use Rattle.topo_outline.specs.IsOutline.{IsGeometry, AreGeometries, no_geometry, geometry}
 use Rattle.topo_outline.specs.Kept.{IsJson, IsKeptHead, IsKeptGeometry, owner_of, head_of}
-use Rattle.topo_reader.specs.Indexes.{Arc}
+use Rattle.topo_reader.specs.Arcs.{Arc}
 use Rattle.map_text.proofs.GrammarLists.{bytes_of}
 use Rattle.map_text.proofs.ReadingLists.{first_same, rest_same}
 use Rattle.map_text.proofs.ReadingPlaces.{kept_geometry}

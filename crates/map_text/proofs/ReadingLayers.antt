@@ -8,13 +8,13 @@ use Rattle.grid_geometry.specs.Position.{Position}
 use Rattle.ring_machine.specs.Document.{Text, Head, Member, Feature, FeatureOf, Item, Layer, Open, Close, Leaf, Kept}
 use Rattle.ring_machine.specs.Parts.{feature_of, in_feature, in_item, in_layer}
 use Rattle.ring_machine.specs.WellFormed.{is_geometry}
-use Rattle.json_spans.specs.Parts.{Node}
-use Rattle.topo_outline.specs.Shape.{EntryNode, Piece, starts, ends, leaf, text, LayerText}
-use Rattle.topo_outline.specs.Outline.{leaves_in, leaves}
+use Rattle.json_spans.specs.Nodes.{Node}
+use Rattle.topo_outline.specs.Members.{EntryNode}
+use Rattle.topo_outline.specs.Layers.{Piece, starts, ends, leaf, text, LayerText, leaves_in, leaves}
 use Rattle.topo_outline.specs.IsOutline.{AreLayers, no_layer}
 use Rattle.topo_outline.specs.IsOutline as shape
 use Rattle.topo_outline.specs.Kept.{IsJson, IsName, head_of}
-use Rattle.topo_reader.specs.Indexes.{Arc}
+use Rattle.topo_reader.specs.Arcs.{Arc}
 use Rattle.topo_reader.specs.Reads.{GeometryUses, AreRings, IsRing}
 use Rattle.topo_reader.specs.Document.{Polygons, polygons_at, items_from, layers_from}
 use Rattle.map_text.specs.Text.{items_text, layer_member}

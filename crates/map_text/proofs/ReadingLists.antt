@@ -1,13 +1,12 @@
 -- The items of a written list stand for what it was made of, one by one.
-use Rattle.std.proofs.Common.{◌≡◌, List, [], ◌∷◌, map, true, refl, ap}
+use Rattle.std.proofs.Common.{◌≡◌, List, [], ◌∷◌, map, refl, ap}
 use Rattle.std.specs.List.{AllByRecursion, AllZip}
 use Rattle.ring_machine.specs.Document.{Text}
-use Rattle.json_spans.specs.Parts.{Node}
-use Rattle.json_spans.specs.Walk.{items}
-use Rattle.topo_outline.specs.Shape.{is_list}
+use Rattle.json_spans.specs.Nodes.{Node}
+use Rattle.json_spans.specs.Inside.{IsListFor}
 use Rattle.topo_outline.specs.Kept.{IsJson}
 use Rattle.map_text.specs.Text.{list_text}
-use Rattle.map_text.proofs.GrammarLists.{bytes_of, items_are, list_is_json}
+use Rattle.map_text.proofs.GrammarLists.{bytes_of, has_texts, list_is_json}
 
 pub all_mapped : {A : Type 0} (Q : A → Type 0) (P : Text → Type 0) (f : A → Text) (xs : List A) → ((x : A) → Q x → P (f x)) → AllByRecursion Q xs → AllByRecursion P (map f xs)
 all_mapped Q P f [] h q = tt
@@ -42,11 +41,10 @@ zipped Q R f (n ∷ ns) [] h e q = absurd cc
 zipped Q R f (n ∷ ns) (x ∷ xs) h e q =
     (h n x q.0 (first_same n.bytes (f x) (map bytes_of ns) (map f xs) e), zipped Q R f ns xs h (rest_same n.bytes (f x) (map bytes_of ns) (map f xs) e) q.1)
 
-pub list_there : (n : Node) (ts : List Text) → n.bytes ≡ list_text ts → is_list n ≡ true
-list_there n ts e = rw e refl
-
-pub list_stands : {A : Type 0} (Q : A → Type 0) (R : Node → A → Type 0) (f : A → Text) (n : Node) (xs : List A) → Stands Q R f → ((x : A) → Q x → IsJson (f x)) → AllByRecursion Q xs → n.bytes ≡ list_text (map f xs) → AllZip R (items n) xs
-list_stands Q R f n xs h j q e = zipped Q R f (items n) xs h (items_are n (map f xs) e (all_mapped Q IsJson f xs j q)) q
+pub list_stands : {A : Type 0} (Q : A → Type 0) (R : Node → A → Type 0) (f : A → Text) (n : Node) (xs : List A) → Stands Q R f → ((x : A) → Q x → IsJson (f x)) → AllByRecursion Q xs → n.bytes ≡ list_text (map f xs) → IsListFor R n xs
+list_stands Q R f n xs h j q e =
+    let found = has_texts n (map f xs) e (all_mapped Q IsJson f xs j q) in
+    (found.nodes, found.list, zipped Q R f found.nodes xs h found.are q)
 
 pub list_json : {A : Type 0} (Q : A → Type 0) (f : A → Text) (xs : List A) → ((x : A) → Q x → IsJson (f x)) → AllByRecursion Q xs → IsJson (list_text (map f xs))
 list_json Q f xs j q = list_is_json (map f xs) (all_mapped Q IsJson f xs j q)

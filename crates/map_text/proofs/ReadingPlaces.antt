@@ -1,16 +1,15 @@
 -- What a kept text means does not depend on the place where it stands.
-use Rattle.std.proofs.Common.{◌≡◌, ℕ, zero, suc, ◌+◌, List, [], ◌∷◌, map, take, drop, length, Bool, true, false, refl, sym, ap, ap₂, ◌∙◌, subst, codes, ◌⊎◌, inl, inr}
+use Rattle.std.proofs.Common.{◌≡◌, ℕ, ◌+◌, List, [], ◌∷◌, map, length, refl, sym, ap, ap₂, ◌∙◌, subst, codes, ◌⊎◌, inl, inr}
 use Rattle.std.specs.Prelude.{Option, Some, None, option_map}
 use Rattle.std.specs.List.{AllZip}
 use Rattle.ring_machine.specs.Document.{Text, Member}
-use Rattle.json_spans.specs.Parts.{Node, comma_at, colon_at, after_comma, if_more, parts_from, parts_left, has_first}
-use Rattle.json_spans.specs.Trimmed.{trimmed, spaces_before, before_spaces}
-use Rattle.json_spans.specs.Walk.{raw_parts, items, members, member_of, behind_colon}
-use Rattle.json_spans.specs.Kinds.{kind_of}
+use Rattle.json_spans.specs.Nodes.{Node}
+use Rattle.json_spans.specs.Inside.{IsText, IsNumber, IsValue, Padded, padded, Pair, pair, Parted, last_part, next_part, Bracketed, no_part, parts, IsListOf, IsObjectOf}
+use Rattle.json_spans.specs.Decoded.{decoded}
 use Rattle.topo_outline.specs.declared.words.Word.{Word}
 use Rattle.topo_outline.specs.declared.words.Word.TheVariants as word
-use Rattle.topo_outline.specs.Shape.{is_list_kind, is_kind_object, EntryNode, entry_of, code, Piece, text}
-use Rattle.json_spans.specs.Decoded.{decoded}
+use Rattle.topo_outline.specs.Members.{EntryNode, entry_of, code}
+use Rattle.topo_outline.specs.Layers.{Piece, text}
 use Rattle.topo_outline.specs.IsOutline.{Entries, no_entry, entry, HasEntries, value_at, HasType, AreTwoNumbers, IsTransform, transform, IsGeometry, point, multi_point, null_geometry, polygon, multi_polygon, collection, null_transform, no_transform}
 use Rattle.topo_outline.specs.Kept.{IsKeptGeometry, IsKeptTransform}
 use Rattle.map_text.proofs.GrammarLists.{bytes_of}
@@ -20,65 +19,42 @@ use Rattle.map_text.proofs.ReadingLists.{two}
 
 -- ---- parts at two places
 
-more_alike : (o : Option (List ℕ)) (f g : List ℕ → List Node) → ((xs : List ℕ) → map bytes_of (f xs) ≡ map bytes_of (g xs)) → map bytes_of (if_more o f) ≡ map bytes_of (if_more o g)
-more_alike None f g h = refl
-more_alike (Some xs) f g h = h xs
+-- the same part at another place: what is seen of it is the same
+abbrev Moves : {X B : Type 0} → (ℕ → List ℕ → X → Type 0) → (X → B) → Type 0
+Moves {X} P f = (place other : ℕ) (part : List ℕ) (x : X) → P place part x → (y : X) × P other part y × (f x ≡ f y)
 
-parts_alike : (fuel p q : ℕ) (xs : List ℕ) → map bytes_of (parts_from fuel p xs) ≡ map bytes_of (parts_from fuel q xs)
-unfolding parts_from
-parts_alike zero p q xs = refl
-parts_alike (suc n) p q xs =
-    ap (λ (z : List Text). take (comma_at xs) xs ∷ z)
-    (more_alike (after_comma (drop (comma_at xs) xs)) (parts_from n (p + comma_at xs + 1)) (parts_from n (q + comma_at xs + 1)) (λ ys. parts_alike n (p + comma_at xs + 1) (q + comma_at xs + 1) ys))
+padded_moves : (A : List ℕ → Type 0) → Moves (Padded A) bytes_of
+padded_moves A place other part x (padded {front = front} {bytes = v} a h b) = (record { at_byte = other + length front; bytes = v }, padded a h b, refl)
 
-left_alike : (more : Bool) (p q : ℕ) (xs : List ℕ) → map bytes_of (parts_left more p xs) ≡ map bytes_of (parts_left more q xs)
-left_alike true p q xs = parts_alike (length xs + 1) p q xs
-left_alike false p q xs = refl
+pair_moves : (n : ℕ) → Moves (Pair n) as_member
+pair_moves n place other part x (pair {front = front} {name = name} {value = value} a b) =
+    let first = padded_moves IsText place other front name a in
+    let second = padded_moves (IsValue n) (place + length front + 1) (other + length front + 1) _ value b in
+    ((first.0, second.0), pair first.1 second.1, ap₂ (λ (s t : Text). let m : Member = record { name = s; value = t } in m) first.2 second.2)
 
-raw_alike : (p q : ℕ) (xs : List ℕ) → map bytes_of (raw_parts p xs) ≡ map bytes_of (raw_parts q xs)
-raw_alike p q [] = refl
-raw_alike p q (x ∷ xs) = left_alike (has_first (drop (spaces_before xs) xs)) (p + 1) (q + 1) xs
+module _ {X B : Type 0} (P : ℕ → List ℕ → X → Type 0) (f : X → B) (moves : Moves P f) where
+  parted_moves : {close place : ℕ} {bytes : List ℕ} {xs : List X} (other : ℕ) → Parted P close place bytes xs → (ys : List X) × Parted P close other bytes ys × (map f xs ≡ map f ys)
+  parted_moves other (last_part {place = place} {part = part} {x = x} p) =
+      let there = moves place other part x p in
+      (there.0 ∷ [], last_part there.1, ap (λ (b : B). let bs : List B = b ∷ [] in bs) there.2)
+  parted_moves other (next_part {place = place} {part = part} {x = x} p q) =
+      let there = moves place other part x p in
+      let rest = parted_moves (other + length part + 1) q in
+      (there.0 ∷ rest.0, next_part there.1 rest.1, ap₂ (λ (b : B) (bs : List B). b ∷ bs) there.2 rest.2)
 
--- what is made of each part by its bytes alone
-made_alike : {A : Type 0} (f : List ℕ → A) (g : Node → A) (ns : List Node) → ((n : Node) → g n ≡ f n.bytes) → map g ns ≡ map f (map bytes_of ns)
-made_alike f g [] h = refl
-made_alike f g (n ∷ ns) h = ap₂ (λ a bs. a ∷ bs) (h n) (made_alike f g ns h)
+  bracketed_moves : {start close place : ℕ} {bytes : List ℕ} {xs : List X} (other : ℕ) → Bracketed P start close place bytes xs → (ys : List X) × Bracketed P start close other bytes ys × (map f xs ≡ map f ys)
+  bracketed_moves other (no_part s) = ([], no_part s, refl)
+  bracketed_moves other (parts q) = let there = parted_moves (other + 1) q in (there.0, parts there.1, there.2)
 
-mapped_twice : {A B : Type 0} (f : A → B) (g : Node → A) (ns : List Node) → map f (map g ns) ≡ map (λ n. f (g n)) ns
-mapped_twice f g [] = refl
-mapped_twice {B = B} f g (n ∷ ns) = ap (λ (z : List B). f (g n) ∷ z) (mapped_twice f g ns)
+list_moves : (m n : Node) {ns : List Node} → m.bytes ≡ n.bytes → IsListOf m ns → (ks : List Node) × IsListOf n ks × (map bytes_of ns ≡ map bytes_of ks)
+list_moves m n e h =
+    let there = bracketed_moves (Padded (IsValue h.0)) bytes_of (padded_moves (IsValue h.0)) n.at_byte h.1 in
+    (there.0, (h.0, subst (λ z. Bracketed (Padded (IsValue h.0)) 91 93 n.at_byte z there.0) e there.1), there.2)
 
-abbrev trimmed_bytes : List ℕ → List ℕ
-trimmed_bytes xs = before_spaces (drop (spaces_before xs) xs)
-
-pub items_alike : (m n : Node) → m.bytes ≡ n.bytes → map bytes_of (items m) ≡ map bytes_of (items n)
-items_alike m n e =
-    mapped_twice bytes_of trimmed (raw_parts m.at_byte m.bytes) ∙ made_alike trimmed_bytes (λ k. bytes_of (trimmed k)) (raw_parts m.at_byte m.bytes) (λ k. refl)
-    ∙ ap (λ (z : List Text). map trimmed_bytes z) (ap (λ (z : List ℕ). map bytes_of (raw_parts m.at_byte z)) e ∙ raw_alike m.at_byte n.at_byte n.bytes)
-    ∙ sym (mapped_twice bytes_of trimmed (raw_parts n.at_byte n.bytes) ∙ made_alike trimmed_bytes (λ k. bytes_of (trimmed k)) (raw_parts n.at_byte n.bytes) (λ k. refl))
-
-abbrev value_bytes : List ℕ → List ℕ
-value_bytes [] = trimmed_bytes []
-value_bytes (x ∷ xs) = trimmed_bytes xs
-
-abbrev member_from : List ℕ → Member
-member_from xs = record { name = trimmed_bytes (take (colon_at xs) xs); value = value_bytes (drop (colon_at xs) xs) }
-
-behind_is : (p : ℕ) (xs : List ℕ) → bytes_of (trimmed (behind_colon p xs)) ≡ value_bytes xs
-behind_is p [] = refl
-behind_is p (x ∷ xs) = refl
-
-member_is : (n : Node) → as_member (member_of n) ≡ member_from n.bytes
-member_is n = ap (λ (v : Text). let m : Member = record { name = trimmed_bytes (take (colon_at n.bytes) n.bytes); value = v } in m) (behind_is (n.at_byte + colon_at n.bytes) (drop (colon_at n.bytes) n.bytes))
-
-pub members_alike : (m n : Node) → m.bytes ≡ n.bytes → map as_member (members m) ≡ map as_member (members n)
-members_alike m n e =
-    pairs_twice (raw_parts m.at_byte m.bytes) ∙ made_alike member_from (λ k. as_member (member_of k)) (raw_parts m.at_byte m.bytes) member_is
-    ∙ ap (λ (z : List Text). map member_from z) (ap (λ (z : List ℕ). map bytes_of (raw_parts m.at_byte z)) e ∙ raw_alike m.at_byte n.at_byte n.bytes)
-    ∙ sym (pairs_twice (raw_parts n.at_byte n.bytes) ∙ made_alike member_from (λ k. as_member (member_of k)) (raw_parts n.at_byte n.bytes) member_is)
-  where
-    pairs_twice : (ns : List Node) → map as_member (map member_of ns) ≡ map (λ k. as_member (member_of k)) ns
-    pairs_twice ns = mapped_twice as_member member_of ns
+object_moves : (m n : Node) {ms : List (Node × Node)} → m.bytes ≡ n.bytes → IsObjectOf m ms → (ks : List (Node × Node)) × IsObjectOf n ks × (map as_member ms ≡ map as_member ks)
+object_moves m n e h =
+    let there = bracketed_moves (Pair h.0) as_member (pair_moves h.0) n.at_byte h.1 in
+    (there.0, (h.0, subst (λ z. Bracketed (Pair h.0) 123 125 n.at_byte z there.0) e there.1), there.2)
 
 -- ---- entries at two places
 
@@ -98,12 +74,12 @@ pub record IsElsewhere (n : Node) (es : List EntryNode) : Type 0 where
 
 pub elsewhere : (m n : Node) {es : List EntryNode} → m.bytes ≡ n.bytes → HasEntries m es → IsElsewhere n es
 elsewhere m n {es = es} e h =
-    let alike = members_alike m n e in
-    let says : AllZip Says (map as_member (members n)) h.names = subst (λ z. AllZip Says z h.names) alike (says_all h.entries) in
+    let there = object_moves m n e h.object in
+    let says : AllZip Says (map as_member there.0) h.names = subst (λ z. AllZip Says z h.names) there.2 (says_all h.entries) in
     record {
-      entries = entries_of h.names (members n);
-      has = record { names = h.names; object = ap (λ (z : List ℕ). is_kind_object (kind_of z)) (sym e) ∙ h.object; entries = are_entries h.names (members n) says; differ = h.differ };
-      same = seen_all h.entries ∙ ap (λ (z : List Member). all_seen h.names z) alike ∙ sym (entries_seen h.names (members n));
+      entries = entries_of h.names there.0;
+      has = record { members = there.0; names = h.names; object = there.1; entries = are_entries h.names there.0 says; differ = h.differ };
+      same = seen_all h.entries ∙ ap (λ (z : List Member). all_seen h.names z) there.2 ∙ sym (entries_seen h.names there.0);
     }
 
 pub node_there : (o : Option Node) (t : Text) → option_map bytes_of o ≡ Some t → (n : Node) × (o ≡ Some n) × (n.bytes ≡ t)
@@ -117,7 +93,7 @@ value_elsewhere w es fs n same e =
 type_elsewhere : (es fs : List EntryNode) (t : List ℕ) → map seen es ≡ map seen fs → HasType es t → HasType fs t
 type_elsewhere es fs t same h =
     let found = value_elsewhere word.Type es fs h.value same h.there in
-    record { value = found.0; there = found.1; string = ap kind_of found.2 ∙ h.string; says = ap decoded found.2 ∙ h.says }
+    record { value = found.0; there = found.1; string = subst IsText (sym found.2) h.string; says = ap decoded found.2 ∙ h.says }
 
 -- ---- a point
 
@@ -146,14 +122,14 @@ kept_geometry t n k e =
 
 numbers_elsewhere : (m n : Node) → m.bytes ≡ n.bytes → AreTwoNumbers m → AreTwoNumbers n
 numbers_elsewhere m n e h =
-    let found = two (items n) h.x.bytes h.y.bytes (sym (items_alike m n e) ∙ ap (λ (z : List Node). map bytes_of z) h.two) in
+    let there = list_moves m n e h.two in
+    let found = two there.0 h.x.bytes h.y.bytes (sym there.2) in
     record {
       x = found.first;
       y = found.second;
-      list = ap (λ (z : List ℕ). is_list_kind (kind_of z)) (sym e) ∙ h.list;
-      two = found.are;
-      x_number = ap kind_of found.first_is ∙ h.x_number;
-      y_number = ap kind_of found.second_is ∙ h.y_number;
+      two = subst (λ ns. IsListOf n ns) found.are there.1;
+      x_number = subst IsNumber (sym found.first_is) h.x_number;
+      y_number = subst IsNumber (sym found.second_is) h.y_number;
     }
 
 transform_made : {o : Option Node} {v : Option Text} (m n : Node) (t : Text) → m.bytes ≡ n.bytes → o ≡ Some m → v ≡ Some t → IsTransform o v → IsTransform (Some n) (Some n.bytes)

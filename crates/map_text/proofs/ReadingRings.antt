@@ -16,7 +16,7 @@ use Rattle.ring_machine.specs.Vertices.{is_junction}
 use Rattle.ring_machine.proofs.First.{In}
 use Rattle.ring_machine.proofs.Neighbours.{all_of, all_in}
 use Rattle.topo_outline.specs.Kept.{IsKeptHead, KeepsItem, owner_of, head_of}
-use Rattle.topo_reader.specs.Indexes.{Arc}
+use Rattle.topo_reader.specs.Arcs.{Arc}
 use Rattle.topo_reader.specs.Reads.{IsRing}
 use Rattle.map_text.specs.Arcs.{led_from, cut_way, cut_round, begun, pieces, is_arc, with_piece, with_pieces, arcs_of, indexes}
 use Rattle.map_text.proofs.Junctions.{begun_rotated}

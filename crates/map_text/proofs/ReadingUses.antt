@@ -1,21 +1,21 @@
 -- The written indexes of a feature's rings are read as uses of the arcs that they name.
-use Rattle.std.proofs.Common.{◌≡◌, ◌&&◌, ◌<◌, ◌^◌, List, [], ◌∷◌, map, Bool, true, refl, ap, ap₂, ◌∙◌, arith, ℤ}
+use Rattle.std.proofs.Common.{◌≡◌, ◌<◌, ◌^◌, List, [], ◌∷◌, map, refl, sym, subst, arith, ℤ}
 use Rattle.std.specs.Prelude.{unsigned_abs}
-use Rattle.std.specs.List.{AllByRecursion, AllZip, list_all}
+use Rattle.std.specs.List.{AllByRecursion, AllZip}
 use Rattle.std.specs.Fmt.{signed_decimal}
 use Rattle.ring_machine.specs.Document.{Text, Form, Polygon, MultiPolygon, Null}
-use Rattle.json_spans.specs.Parts.{Node}
-use Rattle.json_spans.specs.Walk.{items}
-use Rattle.json_spans.specs.Whole.{whole_of}
-use Rattle.topo_outline.specs.Shape.{is_list, are_lists, are_lists_of_lists}
+use Rattle.json_spans.specs.Nodes.{Node}
+use Rattle.json_spans.specs.Inside.{IsList}
+use Rattle.json_spans.specs.Whole.{IsWhole}
+use Rattle.topo_outline.specs.IsOutline.{AreLists, AreListsOfLists}
 use Rattle.topo_outline.specs.Kept.{IsJson, IfThere}
-use Rattle.topo_reader.specs.Indexes.{Arc}
+use Rattle.topo_reader.specs.Arcs.{Arc}
 use Rattle.topo_reader.specs.Reads.{IsUse, RingUses, PolygonUses, GeometryUses}
 use Rattle.map_text.specs.Text.{list_text, ring_text, polygon_text, shape_text}
-use Rattle.map_text.proofs.GrammarLists.{bytes_of, items_are, list_is_json}
-use Rattle.map_text.proofs.GrammarNumbers.{whole_is_json, whole_read}
+use Rattle.map_text.proofs.GrammarLists.{bytes_of, HasTexts, has_texts, list_is_json}
+use Rattle.map_text.proofs.GrammarNumbers.{whole_is_json, whole_written}
 use Rattle.map_text.proofs.Indexed.{Names, is_use}
-use Rattle.map_text.proofs.ReadingLists.{first_same, rest_same, list_there}
+use Rattle.map_text.proofs.ReadingLists.{first_same, rest_same}
 
 -- ---- lists of which each element goes with one of another list
 
@@ -34,11 +34,12 @@ all_json Q f [] (y ∷ ys) h q = absurd q
 all_json Q f (x ∷ xs) [] h q = absurd q
 all_json Q f (x ∷ xs) (y ∷ ys) h q = (h x y q.0, all_json Q f xs ys h q.1)
 
-all_tested : {A : Type 0} (test : Node → Bool) (f : A → Text) (ns : List Node) (xs : List A) → ((n : Node) (x : A) → n.bytes ≡ f x → test n ≡ true) → map bytes_of ns ≡ map f xs → list_all test ns ≡ true
-all_tested test f [] xs h e = refl
-all_tested test f (n ∷ ns) [] h e = absurd cc
-all_tested test f (n ∷ ns) (x ∷ xs) h e =
-    ap₂ (λ a b. a && b) (h n x (first_same n.bytes (f x) (map bytes_of ns) (map f xs) e)) (all_tested test f ns xs h (rest_same n.bytes (f x) (map bytes_of ns) (map f xs) e))
+all_with : {A B : Type 0} (Q : A → B → Type 0) (P : Node → Type 0) (f : A → Text) (ns : List Node) (xs : List A) (ys : List B) → ((n : Node) (x : A) (y : B) → Q x y → n.bytes ≡ f x → P n) → map bytes_of ns ≡ map f xs → AllZip Q xs ys → AllByRecursion P ns
+all_with Q P f [] xs ys h e q = tt
+all_with Q P f (n ∷ ns) [] ys h e q = absurd cc
+all_with Q P f (n ∷ ns) (x ∷ xs) [] h e q = absurd q
+all_with Q P f (n ∷ ns) (x ∷ xs) (y ∷ ys) h e q =
+    (h n x y q.0 (first_same n.bytes (f x) (map bytes_of ns) (map f xs) e), all_with Q P f ns xs ys h (rest_same n.bytes (f x) (map bytes_of ns) (map f xs) e) q.1)
 
 -- ---- indexes
 
@@ -70,38 +71,41 @@ polygons_json arcs ps uses h = list_is_json (map polygon_text ps) (all_json (Pol
 -- ---- uses
 
 read_use : (arcs : List Arc) (n : Node) (z : ℤ) (a : Arc) → IsIndex arcs z a → n.bytes ≡ signed_decimal z → IsUse arcs n a
-read_use arcs n z a h e = is_use arcs n z a (ap whole_of e ∙ whole_read z h.0) h.1
+read_use arcs n z a h e = is_use arcs n z a (subst (λ bytes. IsWhole bytes z) (sym e) (whole_written z h.0)) h.1
+
+ring_texts : (arcs : List Arc) (n : Node) (zs : List ℤ) (uses : List Arc) → RingIndexes arcs zs uses → n.bytes ≡ ring_text zs → HasTexts n (map signed_decimal zs)
+ring_texts arcs n zs uses h e = has_texts n (map signed_decimal zs) e (all_json (IsIndex arcs) signed_decimal zs uses (index_json arcs) h)
 
 ring_uses : (arcs : List Arc) (n : Node) (zs : List ℤ) (uses : List Arc) → RingIndexes arcs zs uses → n.bytes ≡ ring_text zs → RingUses arcs n uses
 ring_uses arcs n zs uses h e =
-    zipped_with (IsIndex arcs) (IsUse arcs) signed_decimal (items n) zs uses (read_use arcs) (items_are n (map signed_decimal zs) e (all_json (IsIndex arcs) signed_decimal zs uses (index_json arcs) h)) h
+    let found = ring_texts arcs n zs uses h e in
+    (found.nodes, found.list, zipped_with (IsIndex arcs) (IsUse arcs) signed_decimal found.nodes zs uses (read_use arcs) found.are h)
 
-polygon_items : (arcs : List Arc) (n : Node) (rings : List (List ℤ)) (uses : List (List Arc)) → PolygonIndexes arcs rings uses → n.bytes ≡ polygon_text rings → map bytes_of (items n) ≡ map ring_text rings
-polygon_items arcs n rings uses h e = items_are n (map ring_text rings) e (all_json (RingIndexes arcs) ring_text rings uses (ring_json arcs) h)
+polygon_texts : (arcs : List Arc) (n : Node) (rings : List (List ℤ)) (uses : List (List Arc)) → PolygonIndexes arcs rings uses → n.bytes ≡ polygon_text rings → HasTexts n (map ring_text rings)
+polygon_texts arcs n rings uses h e = has_texts n (map ring_text rings) e (all_json (RingIndexes arcs) ring_text rings uses (ring_json arcs) h)
 
 polygon_uses : (arcs : List Arc) (n : Node) (rings : List (List ℤ)) (uses : List (List Arc)) → PolygonIndexes arcs rings uses → n.bytes ≡ polygon_text rings → PolygonUses arcs n uses
-polygon_uses arcs n rings uses h e = zipped_with (RingIndexes arcs) (RingUses arcs) ring_text (items n) rings uses (ring_uses arcs) (polygon_items arcs n rings uses h e) h
+polygon_uses arcs n rings uses h e =
+    let found = polygon_texts arcs n rings uses h e in
+    (found.nodes, found.list, zipped_with (RingIndexes arcs) (RingUses arcs) ring_text found.nodes rings uses (ring_uses arcs) found.are h)
 
-shape_items : (arcs : List Arc) (n : Node) (ps : List (List (List ℤ))) (uses : List (List (List Arc))) → ShapeIndexes arcs ps uses → n.bytes ≡ list_text (map polygon_text ps) → map bytes_of (items n) ≡ map polygon_text ps
-shape_items arcs n ps uses h e = items_are n (map polygon_text ps) e (all_json (PolygonIndexes arcs) polygon_text ps uses (polygon_json arcs) h)
+shape_texts : (arcs : List Arc) (n : Node) (ps : List (List (List ℤ))) (uses : List (List (List Arc))) → ShapeIndexes arcs ps uses → n.bytes ≡ list_text (map polygon_text ps) → HasTexts n (map polygon_text ps)
+shape_texts arcs n ps uses h e = has_texts n (map polygon_text ps) e (all_json (PolygonIndexes arcs) polygon_text ps uses (polygon_json arcs) h)
 
 -- ---- lists in lists
 
-ring_is_list : (n : Node) (zs : List ℤ) → n.bytes ≡ ring_text zs → is_list n ≡ true
-ring_is_list n zs e = list_there n (map signed_decimal zs) e
+ring_list : (arcs : List Arc) (n : Node) (zs : List ℤ) (uses : List Arc) → RingIndexes arcs zs uses → n.bytes ≡ ring_text zs → IsList n
+ring_list arcs n zs uses h e = let found = ring_texts arcs n zs uses h e in (found.nodes, found.list)
 
-pub polygon_lists : (arcs : List Arc) (n : Node) (rings : List (List ℤ)) (uses : List (List Arc)) → PolygonIndexes arcs rings uses → n.bytes ≡ polygon_text rings → are_lists n ≡ true
-polygon_lists arcs n rings uses h e = ap₂ (λ a b. a && b) (list_there n (map ring_text rings) e) (all_tested is_list ring_text (items n) rings ring_is_list (polygon_items arcs n rings uses h e))
+pub polygon_lists : (arcs : List Arc) (n : Node) (rings : List (List ℤ)) (uses : List (List Arc)) → PolygonIndexes arcs rings uses → n.bytes ≡ polygon_text rings → AreLists n
+polygon_lists arcs n rings uses h e =
+    let found = polygon_texts arcs n rings uses h e in
+    (found.nodes, found.list, all_with (RingIndexes arcs) IsList ring_text found.nodes rings uses (ring_list arcs) found.are h)
 
-all_lists : (arcs : List Arc) (ns : List Node) (ps : List (List (List ℤ))) (uses : List (List (List Arc))) → ShapeIndexes arcs ps uses → map bytes_of ns ≡ map polygon_text ps → list_all are_lists ns ≡ true
-all_lists arcs [] ps uses h e = refl
-all_lists arcs (n ∷ ns) [] uses h e = absurd cc
-all_lists arcs (n ∷ ns) (p ∷ ps) [] h e = absurd h
-all_lists arcs (n ∷ ns) (p ∷ ps) (u ∷ us) h e =
-    ap₂ (λ a b. a && b) (polygon_lists arcs n p u h.0 (first_same n.bytes (polygon_text p) (map bytes_of ns) (map polygon_text ps) e)) (all_lists arcs ns ps us h.1 (rest_same n.bytes (polygon_text p) (map bytes_of ns) (map polygon_text ps) e))
-
-pub shape_lists : (arcs : List Arc) (n : Node) (ps : List (List (List ℤ))) (uses : List (List (List Arc))) → ShapeIndexes arcs ps uses → n.bytes ≡ list_text (map polygon_text ps) → are_lists_of_lists n ≡ true
-shape_lists arcs n ps uses h e = ap₂ (λ a b. a && b) (list_there n (map polygon_text ps) e) (all_lists arcs (items n) ps uses h (shape_items arcs n ps uses h e))
+pub shape_lists : (arcs : List Arc) (n : Node) (ps : List (List (List ℤ))) (uses : List (List (List Arc))) → ShapeIndexes arcs ps uses → n.bytes ≡ list_text (map polygon_text ps) → AreListsOfLists n
+shape_lists arcs n ps uses h e =
+    let found = shape_texts arcs n ps uses h e in
+    (found.nodes, found.list, all_with (PolygonIndexes arcs) AreLists polygon_text found.nodes ps uses (polygon_lists arcs) found.are h)
 
 -- ---- the arcs of a geometry, by its form
 
@@ -125,6 +129,8 @@ pub geometry_uses : (arcs : List Arc) {form : Form} {ps : List (List (List ℤ))
 geometry_uses arcs n [] one h e = absurd h
 geometry_uses arcs n (u ∷ []) (one {p = p}) h e = (u, polygon_uses arcs n p u h.0 e, refl)
 geometry_uses arcs n (u ∷ v ∷ us) one h e = absurd h.1
-geometry_uses arcs n uses (several {ps = ps}) h e = zipped_with (PolygonIndexes arcs) (PolygonUses arcs) polygon_text (items n) ps uses (polygon_uses arcs) (shape_items arcs n ps uses h e) h
+geometry_uses arcs n uses (several {ps = ps}) h e =
+    let found = shape_texts arcs n ps uses h e in
+    (found.nodes, found.list, zipped_with (PolygonIndexes arcs) (PolygonUses arcs) polygon_text found.nodes ps uses (polygon_uses arcs) found.are h)
 geometry_uses arcs n [] nothing h e = refl
 geometry_uses arcs n (u ∷ us) nothing h e = absurd h

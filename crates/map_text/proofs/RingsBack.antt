@@ -11,7 +11,7 @@ use Rattle.ring_machine.proofs.Order.{and_both, position_eq-refl}
 use Rattle.ring_machine.proofs.Removal.{none_parts, not_true}
 use Rattle.ring_machine.proofs.Canonical.{Pivot, canonical_at, canonical_swap}
 use Rattle.ring_machine.proofs.Spots.{rotated_distinct}
-use Rattle.topo_reader.specs.Indexes.{Arc}
+use Rattle.topo_reader.specs.Arcs.{Arc}
 use Rattle.topo_reader.specs.Reads.{Chain, there, along, Once, last, same, next, IsRing}
 use Rattle.topo_reader.proofs.Repeats.{differ}
 use Rattle.map_text.specs.Arcs.{led_from, cut_way, cut_round, begun, pieces}

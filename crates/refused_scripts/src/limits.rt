@@ -2,9 +2,10 @@
 ghost use Rattle.std.specs.Prelude.{None, false};
 
 use crate::told::{TWO_SQUARES, told};
-use device_io::{Failed, Source, ToWriter};
+use device_io::{Failed, FromReader, Source, ToWriter};
 use script_runner::{RunFault, run};
-use std::alloc::AllocFailed;
+use std::alloc::{AllocFailed, Global};
+use std::process::Abort;
 use std::test::Fail;
 
 /// Appends a piece so many times.
@@ -18,7 +19,7 @@ fn repeat(text: &mut Vec<u8>, piece: &[u8], times: usize) -> Result<(), AllocFai
 }
 
 /// A text of so many pieces between a front and an end.
-fn long_text(
+pub(crate) fn long_text(
     rt: &HostRuntime,
     front: &[u8],
     piece: &[u8],
@@ -44,6 +45,34 @@ fn a_map_of_too_many_bytes(rt: HostRuntime) -> Result<(), Fail> {
     assert_eq!(rt;
         told(rt.alloc(), map.as_slice(), b"")?.as_str(),
         "open: not json at 67108864"
+    );
+    Ok(())
+}
+
+/// Two squares in as many bytes as a map may have, most of them spaces.
+#[test]
+fn a_map_of_all_bytes(rt: HostRuntime) -> Result<(), Fail> {
+    let squares = TWO_SQUARES.as_bytes();
+    let spaces = 67_108_864usize.saturating_sub(squares.len());
+    let map = long_text(&rt, b"{", b" ", spaces, &squares[1..])?;
+    assert_eq!(rt; map.len(), 67_108_864);
+    let mut source = FromReader::new(b"area 0".as_slice());
+    let mut sink = ToWriter::new(Vec::new(rt.alloc()));
+    let mut saved = ToWriter::new(Vec::new(rt.alloc()));
+    let outcome = run(
+        rt.alloc(),
+        rt.alloc(),
+        map.as_slice(),
+        &mut source,
+        100,
+        &mut sink,
+        &mut saved,
+    );
+    assert!(rt; outcome.is_ok());
+    assert_eq!(rt; sink.writer.as_slice(), b"200\n".as_slice());
+    assert_eq!(rt;
+        saved.writer.as_slice(),
+        b"{\"type\":\"Topology\",\"objects\":{\"land\":{\"type\":\"GeometryCollection\",\"geometries\":[{\"type\":\"Polygon\",\"id\":\"A\",\"arcs\":[[0,1]]},{\"type\":\"Polygon\",\"id\":\"B\",\"arcs\":[[2,-1]]}]}},\"arcs\":[[[10,0],[10,10]],[[10,10],[0,10],[0,0],[10,0]],[[10,0],[20,0],[20,10],[10,10]]]}".as_slice()
     );
     Ok(())
 }
@@ -183,6 +212,73 @@ fn a_script_without_an_end(rt: HostRuntime) -> Result<(), Fail> {
     assert!(rt; sink.writer.is_empty());
     assert!(rt; saved.writer.is_empty());
     Ok(())
+}
+
+/// A reader of so many bytes of comment lines, and then of what is left.
+#[derive(Drop)]
+struct Commented<S> {
+    comments: usize,
+    end: S,
+}
+
+impl<S: Source> Source for Commented<S> {
+    ghost coming = { λ _. None };
+
+    ghost has_failed = { λ s. S.has_failed s.end };
+
+    fn get(&mut self, room: &mut [u8]) -> Result<usize, Failed> {
+        if self.comments == 0 {
+            return self.end.get(room);
+        }
+        let count = room.len().min(self.comments);
+        for byte in room.iter_mut() {
+            *byte = b'#';
+        }
+        if let Some(last) = room[..count].last_mut() {
+            *last = b'\n';
+        }
+        self.comments -= count;
+        Ok(count)
+    }
+}
+
+/// The run of two squares and a script of this length, which ends in two questions without a line
+/// feed, has these answers; whether it ended well.
+fn is_read<R: Abort>(rt: &R, alloc: Global, length: usize, answers: &[u8]) -> bool {
+    let end = b"area 0\narea 0";
+    let mut source = Commented {
+        comments: length.saturating_sub(end.len()),
+        end: FromReader::new(end.as_slice()),
+    };
+    let mut sink = ToWriter::new(Vec::new(alloc));
+    let mut saved = ToWriter::new(Vec::new(alloc));
+    let outcome = run(
+        alloc,
+        alloc,
+        TWO_SQUARES.as_bytes(),
+        &mut source,
+        100,
+        &mut sink,
+        &mut saved,
+    );
+    assert_eq!(rt; sink.writer.as_slice(), answers);
+    assert_eq!(rt; saved.writer.is_empty(), outcome.is_err());
+    if outcome.is_err() {
+        assert!(rt; matches!(outcome, Err(RunFault::Read)));
+    }
+    outcome.is_ok()
+}
+
+/// A script of as many bytes as one may have.
+#[test]
+fn a_script_of_all_bytes(rt: HostRuntime) {
+    assert!(rt; is_read(&rt, rt.alloc(), 1_073_741_824, b"200\n200\n"));
+}
+
+/// One byte more; the last line is not answered.
+#[test]
+fn a_script_of_too_many_bytes(rt: HostRuntime) {
+    assert!(rt; !is_read(&rt, rt.alloc(), 1_073_741_825, b"200\n"));
 }
 
 /// A path of 256 positions is one, a path of 257 none.

@@ -24,6 +24,10 @@ use Rattle.ring_machine.proofs.Worked.{both_squares, corner_hole, square_hole}
 sizes : map size (M ∷ S ∷ Q ∷ []) ≡ (8 ∷ 14 ∷ 3 ∷ [])
 sizes = refl
 
+-- the positions of holes count too
+size_with_holes : size H ≡ 13
+size_with_holes = refl
+
 -- a document of 4,000,000 positions is not too large, and one of 4,000,001 is
 greatest_size : (d : Document) → size d ≡ 4000000 → is_small d ≡ true
 greatest_size d e = ap (λ n. nat_le n 4000000) e

@@ -1,5 +1,5 @@
 -- The maps of the worked examples, and runs of commands that compute.
-use Rattle.std.specs.Prelude.{ℕ, pos, neg_ℤ, List, [], ◌∷◌, None, Some, Option}
+use Rattle.std.specs.Prelude.{ℕ, pos, neg_ℤ, List, [], ◌∷◌, None, Some, Option, codes}
 use Rattle.grid_geometry.specs.Position.{Position, position}
 use Rattle.grid_geometry.specs.Orientation.{orientation, is_on, are_split}
 use Rattle.grid_geometry.specs.Conflict.{cross, is_within, conflict}
@@ -104,6 +104,13 @@ land =
 abbrev pub M : Document
 M = document (land ∷ [])
 
+-- square A with an id, properties and a member that the editor does not know
+abbrev pub described : Feature
+described = record (polygon 0 (Some (letter 65)) (square_a ∷ [])) {
+  properties = Some (codes "{\"n\":1}");
+  members = record { name = codes "\"k\""; value = codes "2" } ∷ [];
+}
+
 -- the ring round both squares
 abbrev pub both_squares : List Position
 both_squares = at 0 0 ∷ at 10 0 ∷ at 20 0 ∷ at 20 10 ∷ at 10 10 ∷ at 0 10 ∷ []
@@ -152,6 +159,11 @@ dented_left =
 abbrev pub L : Document
 L = document
     (collection (letter 108) (plain 0 (dented_right ∷ []) ∷ plain 1 (dented_left ∷ []) ∷ []) ∷ [])
+
+-- square B with a tip in its left side that reaches the dent of A
+abbrev pub tipped_left : List Position
+tipped_left =
+    at 8 5 ∷ at 12 4 ∷ at 10 3 ∷ at 10 0 ∷ at 20 0 ∷ at 20 10 ∷ at 10 10 ∷ at 10 7 ∷ at 12 6 ∷ []
 
 -- a small square
 abbrev pub small_square : List Position

@@ -27,6 +27,6 @@ pub said_sound : (text : List ℕ) (l : Line) → Says text (says_of l) → Says
 said_sound text said.Skip h = tt
 said_sound text (said.Rings n) h = tt
 said_sound text said.Count h = tt
-said_sound text (said.Edit c) h = asked_sound text c h
+said_sound text (said.Edit c) h = asked_sound text c h.1
 said_sound text said.Document h = tt
 said_sound text said.Undo h = tt

@@ -85,7 +85,11 @@ abbrev pub is_comment : List ℕ → Bool
 is_comment [] = true
 is_comment (b ∷ bs) = b == 35
 
--- the line, which is UTF-8, says nothing, or it asks for a command
+-- an empty line and a comment, which are UTF-8, ask for nothing, and another line for its command
+abbrev pub AsksFor : List ℕ → Option Command → Type 0
+AsksFor line None = IsUtf8 line × IsTrue (is_comment line)
+AsksFor line (Some c) = Asks line c
+
+-- a line of at most 8192 bytes says what it asks for
 abbrev pub Says : List ℕ → Option Command → Type 0
-Says line None = IsUtf8 line × IsTrue (is_comment line)
-Says line (Some c) = Asks line c
+Says line said = (length line ≤ 8192) × AsksFor line said

@@ -23,6 +23,9 @@ use undo_ring::Command;
 /// triangle is over.
 const MAX_BOUND: u128 = 8_000_000_000_000_000_000_000_000;
 
+/// The most bytes of a line.
+const MAX_LINE: usize = 8192;
+
 /// The move that stands behind the word `move`.
 fn move_behind(tail: &[u8]) -> Option<Line>
     ensures { MatchOption result
@@ -340,14 +343,17 @@ fn is_comment(line: &[u8]) -> bool
 /// dropped before it. A line is a command's word and what it is asked with, with exactly one space
 /// between two of them, and none before or behind; a number is `0`, or digits of which the first is
 /// not `0`, perhaps behind a minus, and an id is a JSON string (RFC 8259, section 7). `heap` holds
-/// an id and a path. `BadLine` comes where the line says nothing, `OutOfMemory` where `heap` has no
-/// room for what it says.
+/// an id and a path. `BadLine` comes where the line says nothing, as any line of more than 8,192
+/// bytes, `OutOfMemory` where `heap` has no room for what it says.
 #[tactic(auto, using(crate::proofs::CommandLemmas::no_memory))]
 pub fn parse_line(heap: Global, line: &[u8]) -> Result<Line, LineFault>
     ensures { MatchResult result
         (λ said. Says line.now (says_of said))
         (λ fault. IsRefused fault line.now) }
 {
+    if line.len() > MAX_LINE {
+        return Err(LineFault::BadLine);
+    }
     let Ok(_) = str::from_utf8(line) else {
         return Err(LineFault::BadLine);
     };

@@ -7,7 +7,7 @@ use Rattle.std.proofs.lemmas.List.{map-append, take-append-drop}
 use Rattle.std.proofs.lemmas.Slice.Eq.{bytes_eq-Decides}
 use Rattle.ring_machine.specs.Document.{Document}
 use Rattle.ring_machine.specs.Machine.{State}
-use Rattle.script_runner.specs.Runs.{NoFeed, NoFeeds, with_feeds, AreLines, ScriptLine, without_return, ended_line, Meaning, Bad, Means, AllMean, reply_text, state_after, answered_by, refused_by, replies, state_after_all, answered, refused, opened_state}
+use Rattle.script_runner.specs.Runs.{NoFeed, NoFeeds, with_feeds, AreLines, ScriptLine, without_return, ended_line, Meaning, Bad, Means, AllMean, reply_text, state_after, answered_by, refused_by, ShowsSaved, AllShowSaved, replies, state_after_all, answered, refused, opened_state}
 use Rattle.script_runner.specs.Progress.{Progress, start, line_at, KeptMeans, LineStep, more, ByteStep, Feeds}
 
 -- ---- a carriage return at the end
@@ -54,6 +54,10 @@ module _ (depth : ℕ) where
   state-more st [] m = refl
   state-more st (n ∷ ms) m = state-more (state_after depth st n) ms m
 
+  shown-more : (st : State) (ms : List Meaning) (m : Meaning) → AllShowSaved depth st ms → ShowsSaved (state_after_all depth st ms) m → AllShowSaved depth st (ms ++ m ∷ [])
+  shown-more st [] m h k = (k, tt)
+  shown-more st (n ∷ ms) m h k = (h.0, shown-more (state_after depth st n) ms m h.1 k)
+
   refused-more : (st : State) (ms : List Meaning) (m : Meaning) → refused depth st (ms ++ m ∷ []) ≡ refused depth st ms + refused_by depth (state_after_all depth st ms) m
   refused-more st [] m = omega arith
   refused-more st (n ∷ ms) m = let h = refused-more (state_after depth st n) ms m in omega arith
@@ -90,6 +94,7 @@ pub record Mid (depth : ℕ) (d : Document) (seen out : List ℕ) (p : Progress)
   pub cut : AreLines seen ended pending
   pub mean : AllMean (map ended_line ended) meanings
   pub told : out ≡ replies depth (opened_state d) meanings
+  pub shown : AllShowSaved depth (opened_state d) meanings
   pub state : p.state ≡ state_after_all depth (opened_state d) meanings
   pub keeps : p.depth ≡ depth
   pub answered : p.answered ≡ answered meanings
@@ -147,6 +152,9 @@ module _ (depth : ℕ) (d : Document) (seen out : List ℕ) (p q : Progress) (m 
   pub replied : (said : Meaning) (text : List ℕ) → text ≡ reply_text p.depth p.state said → out ++ text ≡ replies depth (opened_state d) (m.meanings ++ said ∷ [])
   replied said text t = ap₂ (λ x y. x ++ y) m.told (t ∙ ap₂ (λ n s. reply_text n s said) m.keeps m.state) ∙ sym (replies-more depth (opened_state d) m.meanings said)
 
+  pub showing : (said : Meaning) → ShowsSaved p.state said → AllShowSaved depth (opened_state d) (m.meanings ++ said ∷ [])
+  showing said h = shown-more depth (opened_state d) m.meanings said m.shown (subst (λ s. ShowsSaved s said) m.state h)
+
   pub stated : (said : Meaning) → q.state ≡ state_after p.depth p.state said → q.state ≡ state_after_all depth (opened_state d) (m.meanings ++ said ∷ [])
   stated said h = h ∙ ap₂ (λ n s. state_after n s said) m.keeps m.state ∙ sym (state-more depth (opened_state d) m.meanings said)
 
@@ -170,6 +178,7 @@ Mid-line depth d seen out p q text m s =
       };
       mean = rw map-append (AllMean-more (map ended_line m.ended) m.meanings (ended_line m.pending) said m.mean (kept_means true p.over p.line m.pending said m.kept.over m.kept.same k));
       told = replied depth d seen out p q m said text a.told;
+      shown = showing depth d seen out p q m said a.shown;
       state = stated depth d seen out p q m said a.after;
       keeps = a.depth ∙ m.keeps;
       answered = counted depth d seen out p q m said a.answered;
@@ -193,6 +202,7 @@ Mid-byte depth d seen out p q b text m h = by (b == 10) refl h
           cut = record { all = rw (m.cut.all, append_assoc) refl; whole = m.cut.whole; open_end = NoFeed-more m.pending b m.cut.open_end ne };
           mean = m.mean;
           told = m.told;
+          shown = m.shown;
           state = m.state;
           keeps = m.keeps;
           answered = m.answered;
@@ -215,6 +225,7 @@ Mid-start depth d = record {
   cut = record { all = refl; whole = tt; open_end = tt };
   mean = tt;
   told = refl;
+  shown = tt;
   state = refl;
   keeps = refl;
   answered = refl;

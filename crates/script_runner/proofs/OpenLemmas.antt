@@ -1,5 +1,5 @@
 -- What opens as a document, and what opens as none.
-use Rattle.std.proofs.Common.{◌≡◌, sym, ap, ◌∙◌, subst, List, ℕ}
+use Rattle.std.proofs.Common.{◌≡◌, refl, sym, ap, ◌∙◌, subst, List, ℕ, inl}
 use Rattle.std.specs.Prelude.{Some, None, Ok}
 use Rattle.grid_geometry.specs.Segment.{Segment}
 use Rattle.ring_machine.specs.Document.{Document}
@@ -7,12 +7,16 @@ use Rattle.ring_machine.specs.Planar.{Proper, first_pair}
 use Rattle.topo_reader.specs.Document.{Opened, document_of}
 use Rattle.topo_reader.specs.Opening.{Opens}
 use Rattle.topo_reader.specs.Reads.{Reads, Fits}
-use Rattle.topo_reader.proofs.MeaningOfText.{opens}
+use Rattle.topo_reader.proofs.MeaningOfText.{is_read}
+use Rattle.topo_reader.proofs.OneReading.{one_reading}
 use Rattle.arc_store.specs.Faults.{Names}
 use Rattle.arc_store.specs.declared.fault.BuildFault.{BuildFault}
 use Rattle.arc_store.specs.declared.fault.BuildFault.TheVariants as build
 use Rattle.script_runner.specs.declared.fault.RunFault.{RunFault}
-use Rattle.script_runner.specs.Outcome.{OpensAs, IsUnopened, IsOpenEnd, IsBuildEnd}
+use Rattle.script_runner.specs.declared.fault.RunFault.TheVariants as fault
+use Rattle.script_runner.specs.Devices.{Devices}
+use Rattle.script_runner.specs.Outcome.{OpensAs, IsUnopened, Ends}
+use Rattle.script_runner.specs.Ended.{IsOpenEnd, IsBuildEnd}
 
 pub opens_as : (bytes : List ℕ) (read d : Document) → ((reading : Reads bytes read) × Fits reading) → d ≡ read → Proper d → OpensAs bytes d
 opens_as bytes read d is e proper = subst (λ z. Proper z → OpensAs bytes z) (sym e) (λ p. record { reads = is.0; fits = is.1; proper = p }) proper
@@ -21,21 +25,24 @@ opens_as bytes read d is e proper = subst (λ z. Proper z → OpensAs bytes z) (
 pub not_read : (bytes : List ℕ) → ¬ ((d : Document) × (reading : Reads bytes d) × Fits reading) → IsUnopened bytes
 not_read bytes none d h = none (d, h.reads, h.fits)
 
--- what was read is the one document that the bytes mean
-same_read : (bytes : List ℕ) (o p : Opened) → Opens bytes o → Opens bytes p → o ≡ p
-same_read bytes o p a b = let e : Ok o ≡ Ok p = sym a.opens ∙ b.opens in cc
-
 none_is_some : (u : Segment × Segment) → None ≡ Some u → ⊥
 none_is_some u e = absurd cc
 
 -- where two segments of it conflict, it does not open
 pub in_conflict : (bytes : List ℕ) (o : Opened) (s t : Segment) → Opens bytes o → first_pair (document_of o) ≡ Some (s, t) → IsUnopened bytes
 in_conflict bytes o s t a e d h =
-    let (p, b, same) = opens bytes d h.reads h.fits in
-    let is : first_pair d ≡ Some (s, t) = ap first_pair (sym same ∙ ap document_of (sym (same_read bytes o p a b))) ∙ e in
-    none_is_some (s, t) (sym h.proper.apart ∙ is)
+    let same : d ≡ document_of o = one_reading bytes d (document_of o) h.reads (is_read bytes o a).0 in
+    none_is_some (s, t) (sym h.proper.apart ∙ ap first_pair same ∙ e)
 
 -- the end of a run whose map was read, and not built
 pub not_built : (bytes : List ℕ) (o : Opened) (f : BuildFault) (end : RunFault) → Opens bytes o → Names f (first_pair (document_of o)) → IsBuildEnd f end → IsOpenEnd end bytes
 not_built bytes o (build.Conflict s t) end a pair is = subst (λ z. IsOpenEnd z bytes) (sym is) ((o, a, pair), (λ e. absurd cc), in_conflict bytes o s t a pair)
 not_built bytes o build.OutOfMemory end a pair is = subst (λ z. IsOpenEnd z bytes) (sym is) tt
+
+-- a run that ends with its opening leaves its devices as they were
+pub ends_unopened : (end : RunFault) (bytes : List ℕ) (depth : ℕ) (at : Devices) → IsOpenEnd end bytes → Ends end bytes depth at at
+ends_unopened (fault.Open f) bytes depth at h = (h.0, h.1, h.2, refl)
+ends_unopened fault.Read bytes depth at h = absurd h
+ends_unopened fault.Write bytes depth at h = absurd h
+ends_unopened fault.Save bytes depth at h = absurd h
+ends_unopened fault.OutOfMemory bytes depth at h = inl refl

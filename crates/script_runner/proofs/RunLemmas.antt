@@ -1,14 +1,18 @@
 -- What was fed to a runner is lines with their answers, and the bytes after them.
-use Rattle.std.proofs.Common.{◌≡◌, ℕ, ◌+◌, ◌<◌, ◌≤◌, min, Bool, true, false, length, take, drop, List, [], ◌∷◌, ◌++◌, refl, sym, ap, ap₂, subst, ◌∙◌, arith, append_assoc, append-nil, length-append, length-drop, MatchBool, ◌==◌, map, inl, inr, ◌⊎◌, Option}
+use Rattle.std.proofs.Common.{◌≡◌, ◌≢◌, ℕ, ◌+◌, ◌<◌, ◌≤◌, min, Bool, true, false, length, take, drop, List, [], ◌∷◌, ◌++◌, refl, sym, ap, ap₂, subst, ◌∙◌, arith, append_assoc, append-nil, length-append, length-drop, MatchBool, ◌==◌, map, inl, inr, ◌⊎◌, Option}
 use Rattle.std.proofs.lemmas.Bool.Decides.{nat_tests}
 use Rattle.std.proofs.lemmas.List.{take-append-drop, length-take-le, take-take}
-use Rattle.std.specs.Io.KnownBytes.{Appends, Consumes, Keeps}
+use Rattle.std.specs.Io.KnownBytes.{Appends, Consumes, Keeps, IsAtEnd}
 use Rattle.device_io.proofs.DeviceLemmas.{Consumes-more, Consumes-none, Appends-more}
 use Rattle.ring_machine.specs.Document.{Document}
-use Rattle.script_runner.specs.Runs.{ended_line, open_line, lines_of, reply_text}
-use Rattle.script_runner.specs.Progress.{Progress, start, LineStep, Feeds, FeedsPart, IsPartReply, Told}
+use Rattle.script_runner.specs.Devices.{Reader, Writer, Devices, devices}
+use Rattle.script_runner.specs.Runs.{ended_line, open_line, lines_of, reply_text, state_after_all, opened_state}
+use Rattle.script_runner.specs.Progress.{Progress, start, line_at, LineStep, Feeds, FeedsPart, IsReplyFront, IsPartAt, Told}
 use Rattle.script_runner.specs.Finish.{Finishes, PutsLast}
-use Rattle.script_runner.specs.Outcome.{OpensAs, Runs, AnswersAll, AnswersLines, AnswersPart, IsFront, Completes, SavesPart}
+use Rattle.script_runner.specs.Outcome.{OpensAs, Runs, AnswersAll, AnswersUpTo, AnswersLines, AnswersPart, IsNextLine, IsFront, Completes, SavesPart, Ends}
+use Rattle.script_runner.specs.Ended.{Answers, Halts}
+use Rattle.script_runner.specs.declared.fault.RunFault.TheVariants as fault
+use Rattle.script_runner.specs.declared.stop.Halt.TheVariants as halt
 use Rattle.device_io.specs.Devices.{AppendsPrefix}
 use Rattle.map_text.specs.Text.{text_of}
 use Rattle.map_text.specs.Saved.{Saved}
@@ -17,70 +21,93 @@ use Rattle.undo_ring.specs.Edited.{Edited, begun}
 use Rattle.script_runner.specs.declared.runner.Summary.{Summary}
 use Rattle.script_lines.proofs.CommandLemmas.{not_empty}
 use Rattle.script_runner.proofs.StepLemmas.{Feeds-append}
-use Rattle.script_runner.proofs.LineLemmas.{Mid, Mid-feeds, Mid-start, kept_means, AllMean-more, replied, stated, counted, refusing}
+use Rattle.script_runner.proofs.LineLemmas.{Kept, Mid, Mid-feeds, Mid-start, kept_means, AllMean-more, replied, showing, stated, counted, refusing}
 
 stands : (depth : ℕ) (d : Document) (read text : List ℕ) (p : Progress) → Feeds (start depth d) read text p → Mid depth d read text p
 stands depth d read text p fed = Mid-feeds read depth d [] [] (start depth d) p text (Mid-start depth d) fed
 
-pub lines_answered : (depth : ℕ) (d : Document) (read text further : List ℕ) (p : Progress) (coming left taken given : Option (List ℕ)) → Feeds (start depth d) read text p
-    → Consumes coming left (read ++ further) → (further ≡ []) ⊎ ((length read ≡ 1073741824) × (0 < length further)) → Appends taken given text → AnswersLines depth d coming left taken given
-lines_answered depth d read text further p coming left taken given fed came limit put =
-    let m = stands depth d read text p fed in
-    record {
-      came = read;
-      further = further;
-      ended = m.ended;
-      pending = m.pending;
-      meanings = m.meanings;
-      read = came;
-      limit = limit;
-      cut = m.cut;
-      mean = m.mean;
-      wrote = subst (Appends taken given) m.told put;
-    }
+line_some : (p : Progress) (pending : List ℕ) → Kept p pending → (p.line ≡ [] → ⊥) → pending ≡ [] → ⊥
+line_some p pending k some e = some (k.same (subst (λ l. length l ≤ 8192) (sym e) (omega arith)) ∙ e)
 
--- a part of the reply to the kept line is the front of the reply to the line
-front : (ended : Bool) (depth : ℕ) (d : Document) (read text : List ℕ) (p : Progress) (m : Mid depth d read text p) (part : List ℕ) → IsPartReply ended p part → IsFront depth d m.meanings m.pending part
-front ended depth d read text p m part (inl e) = inl e
-front ended depth d read text p m part (inr h) =
-    let (said, k, means, is) = h in
-    inr (ended, said, k, kept_means ended p.over p.line m.pending said m.kept.over m.kept.same means, is ∙ ap₂ (λ x s. take k (reply_text x s said)) m.keeps m.state)
+module _ (depth : ℕ) (d : Document) (before after : Devices) where
+  -- where the answers stand after what was fed
+  abbrev up_to : (read text further part : List ℕ) (p : Progress) → Feeds (start depth d) read text p → Consumes before.script.coming after.script.coming (read ++ further) → length further ≤ 4096
+      → Appends before.answers.taken after.answers.taken (text ++ part) → AnswersUpTo depth d before after
+  up_to read text further part p fed came piece put =
+      let m = stands depth d read text p fed in
+      record {
+        came = read;
+        further = further;
+        ended = m.ended;
+        pending = m.pending;
+        meanings = m.meanings;
+        part = part;
+        read = came;
+        piece = piece;
+        cut = m.cut;
+        mean = m.mean;
+        shown = m.shown;
+        wrote = subst (λ t. Appends before.answers.taken after.answers.taken (t ++ part)) m.told put;
+      }
 
-part_from : (ended : Bool) (depth : ℕ) (d : Document) (read text further part : List ℕ) (p : Progress) (coming left taken given : Option (List ℕ)) → Feeds (start depth d) read text p
-    → Consumes coming left (read ++ further) → IsPartReply ended p part → Appends taken given (text ++ part) → AnswersPart depth d coming left taken given
-part_from ended depth d read text further part p coming left taken given fed came is put =
-    let m = stands depth d read text p fed in
-    record {
-      came = read;
-      further = further;
-      ended = m.ended;
-      pending = m.pending;
-      meanings = m.meanings;
-      part = part;
-      read = came;
-      cut = m.cut;
-      mean = m.mean;
-      front = front ended depth d read text p m part is;
-      wrote = subst (λ t. Appends taken given (t ++ part)) m.told put;
-    }
+  pub lines_answered : (read text further : List ℕ) (p : Progress) → Feeds (start depth d) read text p → Consumes before.script.coming after.script.coming (read ++ further) → length further ≤ 4096
+      → ((further ≡ []) × (after.script.failed ≡ true)) ⊎ ((length read ≡ 1073741824) × (0 < length further)) → Appends before.answers.taken after.answers.taken text → AnswersLines depth d before after
+  lines_answered read text further p fed came piece cause put = record {
+    lines = up_to read text further [] p fed came piece (subst (Appends before.answers.taken after.answers.taken) (sym (append-nil text)) put);
+    whole = refl;
+    cause = cause;
+  }
 
--- in the middle of a piece
-pub part_in_piece : (depth : ℕ) (d : Document) (read text piece further : List ℕ) (p : Progress) (coming left taken mid given : Option (List ℕ)) → Feeds (start depth d) read text p
-    → Consumes coming left (read ++ (piece ++ further)) → Appends taken mid text → FeedsPart mid given p piece → AnswersPart depth d coming left taken given
-part_in_piece depth d read text piece further p coming left taken mid given fed came put h =
-    let (n, q, before, part, within, fed_more, is, put_more) = h in
-    part_from true depth d (read ++ take n piece) (text ++ before) (drop n piece ++ further) part q coming left taken given (Feeds-append read (take n piece) (start depth d) p q text before fed fed_more)
-    (subst (Consumes coming left) (whole n) came) is (subst (Appends taken given) (sym (append_assoc text before part)) (Appends-more taken mid given text (before ++ part) put put_more))
-  where
-    whole : (n : ℕ) → read ++ (piece ++ further) ≡ (read ++ take n piece) ++ (drop n piece ++ further)
-    whole n = ap (λ t. read ++ (t ++ further)) (sym (take-append-drop n piece)) ∙ ap (λ t. read ++ t) (append_assoc (take n piece) (drop n piece) further) ∙ sym (append_assoc read (take n piece) (drop n piece ++ further))
+  -- a part of the reply to the kept line is the front of the reply to the next line
+  front : (ended : Bool) (read text : List ℕ) (p : Progress) (m : Mid depth d read text p) (further part : List ℕ) → IsNextLine m.pending further after.script.coming (line_at ended m.pending)
+      → IsReplyFront ended p part → IsFront depth (state_after_all depth (opened_state d) m.meanings) (IsNextLine m.pending further after.script.coming) part
+  front ended read text p m further part next h =
+      let (said, k, means, is) = h in
+      inr (line_at ended m.pending, said, k, next, kept_means ended p.over p.line m.pending said m.kept.over m.kept.same means, is ∙ ap₂ (λ x s. take k (reply_text x s said)) m.keeps m.state)
 
--- at the last line
-pub part_at_end : (depth : ℕ) (d : Document) (read text : List ℕ) (p : Progress) (coming left taken mid given : Option (List ℕ)) → Feeds (start depth d) read text p
-    → Consumes coming left read → Appends taken mid text → PutsLast p mid given → AnswersPart depth d coming left taken given
-part_at_end depth d read text p coming left taken mid given fed came put h =
-    let (part, put_more, is) = h in
-    part_from false depth d read text [] part p coming left taken given fed (subst (Consumes coming left) (sym (append-nil read)) came) is (Appends-more taken mid given text part put put_more)
+  front_at_byte : (read text rest part : List ℕ) (b : ℕ) (p : Progress) (m : Mid depth d read text p) → IsPartAt b p part
+      → IsFront depth (state_after_all depth (opened_state d) m.meanings) (IsNextLine m.pending (b ∷ rest) after.script.coming) part
+  front_at_byte read text rest part b p m (inl none) = inl none
+  front_at_byte read text rest part b p m (inr h) = front true read text p m (b ∷ rest) part (inl (rest, ap (λ c. c ∷ rest) h.0, refl)) h.1
+
+  front_at_end : (read text part : List ℕ) (p : Progress) (m : Mid depth d read text p) → IsAtEnd after.script.coming → (part ≡ []) ⊎ ((p.line ≢ []) × IsReplyFront false p part)
+      → IsFront depth (state_after_all depth (opened_state d) m.meanings) (IsNextLine m.pending [] after.script.coming) part
+  front_at_end read text part p m end (inl none) = inl none
+  front_at_end read text part p m end (inr h) = front false read text p m [] part (inr (refl, end, line_some p m.pending m.kept h.0, refl)) h.1
+
+  -- at a byte of a piece
+  pub part_at_byte : (read text rest part : List ℕ) (b : ℕ) (p : Progress) → Feeds (start depth d) read text p → Consumes before.script.coming after.script.coming (read ++ b ∷ rest) → length (b ∷ rest) ≤ 4096
+      → Appends before.answers.taken after.answers.taken (text ++ part) → IsPartAt b p part → AnswersPart depth d before after
+  part_at_byte read text rest part b p fed came piece put is = record {
+    lines = up_to read text (b ∷ rest) part p fed came piece put;
+    stopped = λ e. absurd cc;
+    front = front_at_byte read text rest part b p (stands depth d read text p fed) is;
+  }
+
+  -- at the last line
+  pub part_at_end : (read text : List ℕ) (p : Progress) (mid : Option (List ℕ)) → Feeds (start depth d) read text p → Consumes before.script.coming after.script.coming read → IsAtEnd after.script.coming
+      → Appends before.answers.taken mid text → PutsLast p mid after.answers.taken → AnswersPart depth d before after
+  part_at_end read text p mid fed came end put h =
+      let (part, put_more, is) = h in
+      let all = subst (Consumes before.script.coming after.script.coming) (sym (append-nil read)) came in
+      record {
+        lines = up_to read text [] part p fed all (omega arith) (Appends-more before.answers.taken mid after.answers.taken text part put put_more);
+        stopped = λ _. end;
+        front = front_at_end read text part p (stands depth d read text p fed) end is;
+      }
+
+  -- in the middle of a piece
+  pub part_in_piece : (read text piece further : List ℕ) (p : Progress) (mid : Option (List ℕ)) → Feeds (start depth d) read text p → Consumes before.script.coming after.script.coming (read ++ (piece ++ further))
+      → length (piece ++ further) ≤ 4096 → Appends before.answers.taken mid text → FeedsPart mid after.answers.taken p piece → AnswersPart depth d before after
+  part_in_piece read text piece further p mid fed came short put h =
+      part_at_byte (read ++ h.front) (text ++ h.before) (h.rest ++ further) h.part h.byte h.mid (Feeds-append read h.front (start depth d) p h.mid text h.before fed h.fed)
+      (subst (Consumes before.script.coming after.script.coming) (ap (λ t. read ++ t) parts ∙ sym (append_assoc read h.front (h.byte ∷ (h.rest ++ further)))) came)
+      (let e = ap length parts in let f = length-append h.front (h.byte ∷ (h.rest ++ further)) in omega arith)
+      (subst (Appends before.answers.taken after.answers.taken) (sym (append_assoc text h.before h.part)) (Appends-more before.answers.taken mid after.answers.taken text (h.before ++ h.part) put h.put))
+      h.is
+    where
+      parts : piece ++ further ≡ h.front ++ (h.byte ∷ (h.rest ++ further))
+      parts = ap (λ t. t ++ further) h.whole ∙ append_assoc h.front (h.byte ∷ h.rest) further
 
 no_pending : (n : ℕ) → min 8192 n ≡ 0 → n ≡ 0
 no_pending n e = omega arith
@@ -114,13 +141,14 @@ script_run depth d e read text last p s fed done = by (length p.line == 0) refl 
           cut = m.cut;
           mean = rw none m.mean;
           told = rw (h.0, append-nil) m.told;
+          shown = m.shown;
           after = done.3 ∙ ap (λ x. x.state.doc) h.1 ∙ ap (λ st. st.doc) m.state;
           answered = done.2.answered ∙ ap (λ x. x.answered) h.1 ∙ m.answered;
           refused = done.2.refused ∙ ap (λ x. x.refused) h.1 ∙ m.refused;
         }
     by false b h =
         let (said, means, is) = h in
-        let some : m.pending ≡ [] → ⊥ = λ k. not_empty p.line b (m.kept.same (subst (λ l. length l ≤ 8192) (sym k) (omega arith)) ∙ k) in
+        let some : m.pending ≡ [] → ⊥ = line_some p m.pending m.kept (not_empty p.line b) in
         record {
           ended = m.ended;
           last = m.pending;
@@ -128,20 +156,25 @@ script_run depth d e read text last p s fed done = by (length p.line == 0) refl 
           cut = m.cut;
           mean = rw (with_last m.ended m.pending some) (AllMean-more (map ended_line m.ended) m.meanings (open_line m.pending) said m.mean (kept_means false p.over p.line m.pending said m.kept.over m.kept.same means));
           told = replied depth d read text p q m said last is.told;
+          shown = showing depth d read text p q m said is.shown;
           after = done.3 ∙ ap (λ st. st.doc) (stated depth d read text p q m said is.after);
           answered = done.2.answered ∙ counted depth d read text p q m said is.answered;
           refused = done.2.refused ∙ refusing depth d read text p q m said is.refused;
         }
 
-pub all_answered : (depth : ℕ) (d e : Document) (read text : List ℕ) (p : Progress) (s : Summary) (coming left taken mid given : Option (List ℕ)) → Feeds (start depth d) read text p
-    → Consumes coming left read → Appends taken mid text → Told mid given (λ last. Finishes p last s e) → AnswersAll depth d e coming left taken given s
-all_answered depth d e read text p s coming left taken mid given fed came put h =
+pub all_answered : (depth : ℕ) (d e : Document) (before after : Devices) (read text : List ℕ) (p : Progress) (s : Summary) (mid : Option (List ℕ)) → Feeds (start depth d) read text p
+    → Consumes before.script.coming after.script.coming read → IsAtEnd after.script.coming → length read ≤ 1073741824 → Appends before.answers.taken mid text
+    → Told mid after.answers.taken (λ last. Finishes p last s e) → after.answers.flushed ≡ true → AnswersAll depth d e before after s
+all_answered depth d e before after read text p s mid fed came end within put h sent =
     let (last, put_last, done) = h in
     record {
       script = read;
       text = text ++ last;
       read = came;
-      wrote = Appends-more taken mid given text last put put_last;
+      ended = end;
+      within = within;
+      wrote = Appends-more before.answers.taken mid after.answers.taken text last put put_last;
+      sent = sent;
       runs = script_run depth d e read text last p s fed done;
     }
 
@@ -165,18 +198,38 @@ piece_came a b c read room n t within h k = Consumes-more a b c read (take t roo
 pub whole_came : (a b c : Option (List ℕ)) (read room : List ℕ) (n t : ℕ) → t ≡ n → Consumes a b read → Consumes b c (take n room) → Consumes a c (read ++ take t room)
 whole_came a b c read room n t e h k = Consumes-more a b c read (take t room) h (subst (λ m. Consumes b c (take m room)) (sym e) k)
 
-pub lines_kept : (depth : ℕ) (d : Document) (read text : List ℕ) (p : Progress) (coming mid left taken given : Option (List ℕ)) → Feeds (start depth d) read text p
-    → Consumes coming mid read → Keeps mid left → Appends taken given text → AnswersLines depth d coming left taken given
-lines_kept depth d read text p coming mid left taken given fed came k put =
-    lines_answered depth d read text [] p coming left taken given fed (subst (Consumes coming left) (sym (append-nil read)) (kept_read coming mid left read came k)) (inl refl) put
+-- the reader failed
+pub lines_kept : (depth : ℕ) (d : Document) (before after : Devices) (read text : List ℕ) (p : Progress) (mid : Option (List ℕ)) → Feeds (start depth d) read text p
+    → Consumes before.script.coming mid read → Keeps mid after.script.coming → after.script.failed ≡ true → Appends before.answers.taken after.answers.taken text → AnswersLines depth d before after
+lines_kept depth d before after read text p mid fed came k failed put =
+    lines_answered depth d before after read text [] p fed (subst (Consumes before.script.coming after.script.coming) (sym (append-nil read)) (kept_read before.script.coming mid after.script.coming read came k))
+    (omega arith) (inl (refl, failed)) put
 
 -- the script goes past its limit in this piece
-pub lines_in_piece : (depth : ℕ) (d : Document) (read text piece further new : List ℕ) (p q : Progress) (coming left taken mid given : Option (List ℕ)) → Feeds (start depth d) read text p
-    → Consumes coming left (read ++ (piece ++ further)) → Appends taken mid text → Appends mid given new → Feeds p piece new q
-    → (length (read ++ piece) ≡ 1073741824) × (0 < length further) → AnswersLines depth d coming left taken given
-lines_in_piece depth d read text piece further new p q coming left taken mid given fed came put put_new fed_new limit =
-    lines_answered depth d (read ++ piece) (text ++ new) further q coming left taken given (Feeds-append read piece (start depth d) p q text new fed fed_new)
-    (subst (Consumes coming left) (sym (append_assoc read piece further)) came) (inr limit) (Appends-more taken mid given text new put put_new)
+pub lines_in_piece : (depth : ℕ) (d : Document) (before after : Devices) (read text piece further new : List ℕ) (p q : Progress) (mid : Option (List ℕ)) → Feeds (start depth d) read text p
+    → Consumes before.script.coming after.script.coming (read ++ (piece ++ further)) → length further ≤ 4096 → Appends before.answers.taken mid text → Appends mid after.answers.taken new → Feeds p piece new q
+    → (length (read ++ piece) ≡ 1073741824) × (0 < length further) → AnswersLines depth d before after
+lines_in_piece depth d before after read text piece further new p q mid fed came short put put_new fed_new limit =
+    lines_answered depth d before after (read ++ piece) (text ++ new) further q (Feeds-append read piece (start depth d) p q text new fed fed_new)
+    (subst (Consumes before.script.coming after.script.coming) (sym (append_assoc read piece further)) came) short (inr limit)
+    (Appends-more before.answers.taken mid after.answers.taken text new put put_new)
+
+-- a piece is no longer than its room, and so is what of it goes past the limit
+pub piece_fits : (room : List ℕ) (n t : ℕ) → length room ≡ 4096 → n ≤ length room → t ≤ n → length (take t room ++ drop t (take n room)) ≤ 4096
+piece_fits room n t whole within less = (
+    let e = length-append (take t room) (drop t (take n room)) in
+    let f = length-drop t (take n room) in
+    let h = length-take-le n room within in
+    let k : t ≤ length room = omega arith in
+    let l = length-take-le t room k in
+    omega arith
+    )
+
+pub rest_fits : (room : List ℕ) (n t : ℕ) → length room ≡ 4096 → n ≤ length room → length (drop t (take n room)) ≤ 4096
+rest_fits room n t whole within =
+    let f = length-drop t (take n room) in
+    let h = length-take-le n room within in
+    omega arith
 
 pub fed_length : (read room : List ℕ) (t : ℕ) → t ≤ length room → length (read ++ take t room) ≡ length read + t
 fed_length read room t h = length-append read (take t room) ∙ ap (λ n. length read + n) (length-take-le t room h)
@@ -190,15 +243,39 @@ past_limit read room n t left within is less limit = (
 
 -- ---- the end of a run
 
-module _ (bytes : List ℕ) (depth : ℕ) (opened : MapState) (began : Edited) (ended last : MapState) (coming left taken given held holds : Option (List ℕ)) (s : Summary)
-    (is : began ≡ begun opened depth) (same : last ≡ ended) (answers : AnswersAll began.depth began.map.doc ended.doc coming left taken given s) where
-  answers_all : AnswersAll depth opened.doc last.doc coming left taken given s
-  answers_all =
-      subst (λ (e : Edited). AnswersAll e.depth e.map.doc last.doc coming left taken given s) is
-      (subst (λ (m : MapState). AnswersAll began.depth began.map.doc m.doc coming left taken given s) (sym same) answers)
+module _ (bytes : List ℕ) (depth : ℕ) (opened : MapState) (began : Edited) (is : began ≡ begun opened depth) (opens : OpensAs bytes opened.doc) (coming left : Reader) (taken given : Writer) where
+  -- the reader failed, or gave too much
+  pub ends_lines : Halts halt.Read began.depth began.map.doc coming left taken given → (held : Writer) → Ends fault.Read bytes depth (devices coming taken held) (devices left given held)
+  ends_lines h held = (opened.doc, opens, subst (λ (e : Edited). Halts halt.Read e.depth e.map.doc coming left taken given) is h held, refl)
 
-  pub completes : OpensAs bytes opened.doc → Appends held holds (text_of last.doc) → Saved (text_of last.doc) last.doc → Completes bytes depth coming left taken given held holds s
-  completes opens wrote saved = record { document = opened.doc; last = last.doc; opens = opens; answers = answers_all; wrote = wrote; saved = saved }
+  -- the writer failed
+  pub ends_part : Halts halt.Write began.depth began.map.doc coming left taken given → given.failed ≡ true → (held : Writer)
+      → Ends fault.Write bytes depth (devices coming taken held) (devices left given held)
+  ends_part h failed held = (opened.doc, opens, subst (λ (e : Edited). Halts halt.Write e.depth e.map.doc coming left taken given) is h held, failed, refl)
 
-  pub saves_part : AppendsPrefix held holds (text_of last.doc) → Saved (text_of last.doc) last.doc → SavesPart depth opened.doc coming left taken given held holds
-  saves_part wrote saved = record { last = last.doc; summary = s; answers = answers_all; wrote = wrote; saved = saved }
+  -- memory was refused in an answer
+  pub ends_unsaved : Halts halt.OutOfMemory began.depth began.map.doc coming left taken given → (held : Writer)
+      → Ends fault.OutOfMemory bytes depth (devices coming taken held) (devices left given held)
+  ends_unsaved h held = inr (opened.doc, opens, inl (subst (λ (e : Edited). Halts halt.OutOfMemory e.depth e.map.doc coming left taken given) is h held, refl))
+
+  module _ (ended last : MapState) (held holds : Writer) (s : Summary) (same : last ≡ ended) (answers : Answers began.depth began.map.doc ended.doc coming left taken given s) where
+    answers_all : AnswersAll depth opened.doc last.doc (devices coming taken held) (devices left given holds) s
+    answers_all =
+        subst (λ (e : Edited). Answers e.depth e.map.doc last.doc coming left taken given s) is
+        (subst (λ (m : MapState). Answers began.depth began.map.doc m.doc coming left taken given s) (sym same) answers) held holds
+
+    pub completes : Appends held.taken holds.taken (text_of last.doc) → holds.flushed ≡ true → Saved (text_of last.doc) last.doc → Completes bytes depth (devices coming taken held) (devices left given holds) s
+    completes wrote sent saved = record { document = opened.doc; last = last.doc; opens = opens; answers = answers_all; wrote = wrote; sent = sent; saved = saved }
+
+    saves_part : AppendsPrefix held.taken holds.taken (text_of last.doc) → Saved (text_of last.doc) last.doc → SavesPart depth opened.doc (devices coming taken held) (devices left given holds)
+    saves_part wrote saved = record { last = last.doc; summary = s; answers = answers_all; wrote = wrote; saved = saved }
+
+    -- the writer of the saved text failed
+    pub ends_saving : AppendsPrefix held.taken holds.taken (text_of last.doc) → Saved (text_of last.doc) last.doc → holds.failed ≡ true
+        → Ends fault.Save bytes depth (devices coming taken held) (devices left given holds)
+    ends_saving wrote saved failed = (opened.doc, opens, saves_part wrote saved, failed)
+
+    -- memory was refused in saving
+    pub ends_saved_part : AppendsPrefix held.taken holds.taken (text_of last.doc) → Saved (text_of last.doc) last.doc
+        → Ends fault.OutOfMemory bytes depth (devices coming taken held) (devices left given holds)
+    ends_saved_part wrote saved = inr (opened.doc, opens, inr (saves_part wrote saved))

@@ -1,15 +1,22 @@
 -- Steps that follow one another, and what stands where one of them failed.
-use Rattle.std.proofs.Common.{Result, Ok, Err, OnErr, ◌≡◌, ℕ, ◌+◌, take, length, List, [], ◌∷◌, ◌++◌, Option, refl, sym, ap, ap₂, subst, ◌∙◌, arith, append_assoc, append-nil, inl, inr, MatchBool, Bool, true, false, cond, ◌==◌}
-use Rattle.std.proofs.lemmas.List.{take_all}
-use Rattle.std.specs.Io.KnownBytes.{Keeps}
+use Rattle.std.proofs.Common.{Result, Ok, Err, OnErr, ◌≡◌, ◌≢◌, ℕ, ◌+◌, ◌<◌, take, drop, get_or, length, List, [], ◌∷◌, ◌++◌, Option, None, Some, refl, sym, ap, ap₂, subst, ◌∙◌, arith, append_assoc, append-nil, inl, inr, ◌⊎◌, MatchBool, Bool, true, false, cond, ◌==◌}
+use Rattle.std.proofs.lemmas.List.{take_all, take-append-drop, drop_more}
+use Rattle.std.specs.Io.KnownBytes.{Appends, Keeps}
 use Rattle.std.proofs.KnownBytes.{Appends-nil}
 use Rattle.ring_machine.specs.Document.{Document}
+use Rattle.ring_machine.specs.Command.{Show}
+use Rattle.undo_ring.specs.Commands.{command_of}
 use Rattle.undo_ring.specs.Edited.{Edited, machine_of}
+use Rattle.undo_ring.specs.declared.command.Command.{Command}
+use Rattle.undo_ring.specs.declared.command.Command.TheVariants as command
+use Rattle.script_lines.specs.declared.lines.Line.{Line}
+use Rattle.script_lines.specs.declared.lines.Line.TheVariants as said
+use Rattle.script_lines.proofs.CommandLemmas.{not_empty}
 use Rattle.device_io.specs.Devices.{AppendsPrefix}
-use Rattle.device_io.proofs.DeviceLemmas.{Appends-none}
-use Rattle.script_runner.specs.Runs.{Meaning, reply_text, state_after, answered_by, refused_by}
-use Rattle.script_runner.specs.Replies.{RepliedLine}
-use Rattle.script_runner.specs.Progress.{Progress, KeptMeans, LineStep, ByteStep, Feeds, PutsPart, FeedsPart, Told}
+use Rattle.device_io.proofs.DeviceLemmas.{Appends-none, Appends-more}
+use Rattle.script_runner.specs.Runs.{Meaning, Asked, reply_text, state_after, answered_by, refused_by, ShowsSaved}
+use Rattle.script_runner.specs.Replies.{RepliedLine, IsShownSaved, meaning_of_said}
+use Rattle.script_runner.specs.Progress.{Progress, KeptMeans, LineStep, ByteStep, Feeds, IsReplyFront, PutsPart, IsPartAt, FeedsPart, Told}
 use Rattle.script_runner.specs.Finish.{Finishes, PutsLast, Counts}
 use Rattle.script_runner.specs.declared.runner.Summary.{Summary}
 use Rattle.script_runner.proofs.SendLemmas.{put_kept}
@@ -29,15 +36,16 @@ put_part ended p old new e over line m ed es eo el k h =
 
 -- the kept line is answered, of an editor as it was and is
 pub answered_line : (was is : Edited) (ended : Bool) (p q : Progress) (over : Bool) (line : List ℕ) (m : Meaning) (text : List ℕ) (refuses : Bool)
-    → p.depth ≡ was.depth → p.state ≡ machine_of was → p.over ≡ over → p.line ≡ line → KeptMeans over ended line m → RepliedLine was is m text refuses
+    → p.depth ≡ was.depth → p.state ≡ machine_of was → p.over ≡ over → p.line ≡ line → KeptMeans over ended line m → RepliedLine was is m text refuses → ShowsSaved (machine_of was) m
     → q.depth ≡ is.depth → q.state ≡ machine_of is → q.line ≡ [] → q.over ≡ false → q.answered ≡ p.answered + answered_by m → q.refused ≡ p.refused + cond refuses 1 0
     → LineStep ended p text q
-answered_line was is ended p q over line m text refuses ed es eo el k r qd qs ql qo qa qr =
+answered_line was is ended p q over line m text refuses ed es eo el k r shows qd qs ql qo qa qr =
     let kept : KeptMeans p.over ended p.line m = rw (eo, el) k in (
       m,
       kept,
       record {
         told = r.told ∙ ap₂ (λ n s. reply_text n s m) (sym ed) (sym es);
+        shown = subst (λ s. ShowsSaved s m) (sym es) shows;
         after = qs ∙ r.stands ∙ ap₂ (λ n s. state_after n s m) (sym ed) (sym es);
         depth = qd ∙ r.depth ∙ sym ed;
         line = ql;
@@ -47,6 +55,30 @@ answered_line was is ended p q over line m text refuses ed es eo el k r qd qs ql
       },
     )
 
+-- a command is no question for the document
+not_show : (c : Command) → Asked (command_of c) ≡ Asked Show → ⊥
+not_show (command.Move p q) e = cc
+not_show (command.Insert a b q) e = cc
+not_show (command.Remove p) e = cc
+not_show (command.Thin t) e = cc
+not_show (command.Split n name path) e = cc
+not_show (command.Merge n m) e = cc
+not_show (command.Rename n name) e = cc
+not_show (command.Delete n) e = cc
+not_show (command.Area n) e = cc
+not_show (command.At p) e = cc
+not_show (command.Neighbours n) e = cc
+
+-- what is shown of a document is saved whole
+pub shows : (e : Edited) (l : Option Line) → IsShownSaved e.map.doc l → ShowsSaved (machine_of e) (meaning_of_said l)
+shows e None h = λ same. absurd cc
+shows e (Some said.Skip) h = λ same. absurd cc
+shows e (Some (said.Rings n)) h = λ same. absurd cc
+shows e (Some said.Count) h = λ same. absurd cc
+shows e (Some said.Document) h = λ same. h
+shows e (Some said.Undo) h = λ same. absurd cc
+shows e (Some (said.Edit c)) h = λ same. absurd (not_show c same)
+
 -- nothing was put
 pub put_nothing : (ended : Bool) (p : Progress) (a : Option (List ℕ)) → PutsPart ended p a a
 put_nothing ended p a = ([], Appends-nil a, inl refl)
@@ -55,8 +87,34 @@ put_nothing ended p a = ([], Appends-nil a, inl refl)
 pub fed_line : (p q : Progress) (b : ℕ) (text : List ℕ) → b ≡ 10 → LineStep true (record p { bytes = p.bytes + 1 }) text q → q.bytes ≡ p.bytes + 1 → ByteStep p b text q
 fed_line p q b text e s n =
     let (m, k, a) = s in
-    let step : LineStep true p text q = (m, k, record { told = a.told; after = a.after; depth = a.depth; line = a.line; over = a.over; answered = a.answered; refused = a.refused }) in
+    let step : LineStep true p text q = (m, k, record { told = a.told; shown = a.shown; after = a.after; depth = a.depth; line = a.line; over = a.over; answered = a.answered; refused = a.refused }) in
     subst (λ c. ByteStep p c text q) (sym e) (step, n)
+
+-- of the reply to the line that this line feed ends
+pub put_at_feed : (p q : Progress) (b : ℕ) (old new : Option (List ℕ)) → b ≡ 10 → q ≡ record p { bytes = p.bytes + 1 } → PutsPart true q old new → Told old new (IsPartAt b p)
+put_at_feed p q b old new e same h =
+    let (part, put, is) = subst (λ (r : Progress). PutsPart true r old new) same h in
+    (part, put, by part is)
+  where
+    by : (part : List ℕ) → (part ≡ []) ⊎ IsReplyFront true p part → IsPartAt b p part
+    by part (inl none) = inl none
+    by part (inr some) = inr (e, some)
+
+-- at the byte with this number no more was put than a part
+pub feeds_part : (old mid new : Option (List ℕ)) (p q : Progress) (bs : List ℕ) (i : ℕ) (before part : List ℕ) → i < length bs → Feeds p (take i bs) before q → IsPartAt (get_or bs i 0) q part
+    → Appends old mid before → Appends mid new part → FeedsPart old new p bs
+feeds_part old mid new p q bs i before part within fed is sent put = record {
+  front = take i bs;
+  byte = get_or bs i 0;
+  rest = drop (i + 1) bs;
+  mid = q;
+  before = before;
+  part = part;
+  whole = sym (take-append-drop i bs) ∙ ap (λ t. take i bs ++ t) (drop_more bs i 0 within);
+  fed = fed;
+  is = is;
+  put = Appends-more old mid new before part sent put;
+}
 
 -- one more byte
 pub Feeds-more : (bs : List ℕ) (p q r : Progress) (s t : List ℕ) (b : ℕ) → Feeds p bs s q → ByteStep q b t r → Feeds p (bs ++ b ∷ []) (s ++ t) r
@@ -79,12 +137,22 @@ Feeds-append (x ∷ bs) cs p q r s t h k =
 pub put_none : (p : Progress) (a b : Option (List ℕ)) → Keeps a b → PutsLast p a b
 put_none p a b k = ([], Appends-none a b k, inl refl)
 
-pub put_last : (p q : Progress) (a b c : Option (List ℕ)) → Told a b (λ text. LineStep false p text q) → Keeps b c → PutsLast p a c
-put_last p q a b c h k =
+pub put_last : (p q : Progress) (a b c : Option (List ℕ)) → (length p.line == 0) ≡ false → Told a b (λ text. LineStep false p text q) → Keeps b c → PutsLast p a c
+put_last p q a b c some h k =
     let (text, put, step) = h in
     let (m, means, done) = step in
     let whole : take (length text) (reply_text p.depth p.state m) ≡ text = ap (take (length text)) (sym done.told) ∙ take_all (length text) text (omega arith) in
-    (text, put_kept a b c text put k, inr (m, length text, means, sym whole))
+    (text, put_kept a b c text put k, inr (not_empty p.line some, (m, length text, means, sym whole)))
+
+-- some of the reply to the line, which is not empty
+pub put_some : (p : Progress) (a b : Option (List ℕ)) → (length p.line == 0) ≡ false → PutsPart false p a b → PutsLast p a b
+put_some p a b some h =
+    let (part, put, is) = h in
+    (part, put, by part is)
+  where
+    by : (part : List ℕ) → (part ≡ []) ⊎ IsReplyFront false p part → (part ≡ []) ⊎ ((p.line ≢ []) × IsReplyFront false p part)
+    by part (inl none) = inl none
+    by part (inr front) = inr (not_empty p.line some, front)
 
 last_none : (p : Progress) (t : Bool) → t ≡ true → MatchBool t ((let none : List ℕ = [] in none ≡ []) × (p ≡ p)) (LineStep false p [] p)
 last_none p t e = subst (λ b. MatchBool b ((let none : List ℕ = [] in none ≡ []) × (p ≡ p)) (LineStep false p [] p)) (sym e) (refl, refl)

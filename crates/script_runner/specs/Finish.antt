@@ -1,7 +1,7 @@
 -- The end of a script.
-use Rattle.std.specs.Prelude.{◌≡◌, ℕ, List, [], length, ◌==◌, MatchBool, false, Option}
+use Rattle.std.specs.Prelude.{◌≡◌, ◌≢◌, ℕ, List, [], length, ◌==◌, MatchBool, false, Option, ◌⊎◌}
 use Rattle.ring_machine.specs.Document.{Document}
-use Rattle.script_runner.specs.Progress.{Progress, LineStep, Told, IsPartReply}
+use Rattle.script_runner.specs.Progress.{Progress, LineStep, Told, IsReplyFront}
 use Rattle.script_runner.specs.declared.runner.Summary.{Summary}
 
 -- a kept line is answered, as the last
@@ -17,6 +17,7 @@ pub record Counts (p : Progress) (s : Summary) : Type 0 where
 abbrev pub Finishes : Progress → List ℕ → Summary → Document → Type 0
 Finishes p text s last = (q : Progress) × LastStep p text q × Counts q s × (last ≡ q.state.doc)
 
--- some of the reply to the last line was put
+-- nothing was put, or some of the reply to the last line, which is not empty
 abbrev pub PutsLast : Progress → Option (List ℕ) → Option (List ℕ) → Type 0
-PutsLast p old new = Told old new (IsPartReply false p)
+PutsLast p old new =
+    Told old new (λ part. (part ≡ []) ⊎ ((p.line ≢ []) × IsReplyFront false p part))

@@ -1,9 +1,9 @@
 -- What a runner keeps between two bytes of a script, and what one more byte does.
-use Rattle.std.specs.Prelude.{◌≡◌, ℕ, ◌+◌, ◌<◌, ◌≤◌, ◌==◌, List, [], ◌∷◌, ◌++◌, length, take, nat_lt, Bool, true, false, not, ◌||◌, if◌then◌else◌, Option, MatchBool, ◌⊎◌}
+use Rattle.std.specs.Prelude.{◌≡◌, ℕ, ◌+◌, ◌≤◌, ◌==◌, List, [], ◌∷◌, ◌++◌, length, take, nat_lt, Bool, true, false, not, ◌||◌, if◌then◌else◌, Option, MatchBool, ◌⊎◌}
 use Rattle.std.specs.Io.KnownBytes.{Appends}
 use Rattle.ring_machine.specs.Document.{Document}
 use Rattle.ring_machine.specs.Machine.{State}
-use Rattle.script_runner.specs.Runs.{ScriptLine, ended_line, open_line, Meaning, Bad, Means, reply_text, state_after, answered_by, refused_by, opened_state}
+use Rattle.script_runner.specs.Runs.{ScriptLine, ended_line, open_line, Meaning, Bad, Means, reply_text, state_after, answered_by, refused_by, ShowsSaved, opened_state}
 
 -- the machine's state and how many changes it keeps at most, the bytes of the line so far, whether more than are kept came, and the counts
 pub record Progress : Type 0 where
@@ -44,6 +44,7 @@ KeptMeans over ended line m = MatchBool over (m ≡ Bad) (Means (line_at ended l
 -- the kept line, of this meaning, is answered
 pub record IsAnswered (p : Progress) (m : Meaning) (text : List ℕ) (q : Progress) : Type 0 where
   pub told : text ≡ reply_text p.depth p.state m
+  pub shown : ShowsSaved p.state m
   pub after : q.state ≡ state_after p.depth p.state m
   pub depth : q.depth ≡ p.depth
   pub line : q.line ≡ []
@@ -79,18 +80,29 @@ Feeds p (b ∷ bs) text q =
 abbrev pub Told : Option (List ℕ) → Option (List ℕ) → (List ℕ → Type 0) → Type 0
 Told old new P = (text : List ℕ) × Appends old new text × P text
 
--- nothing, or the front of the reply to the kept line
-abbrev pub IsPartReply : Bool → Progress → List ℕ → Type 0
-IsPartReply ended p part =
-    (part ≡ []) ⊎ ((m : Meaning) × (k : ℕ) × KeptMeans p.over ended p.line m
-    × (part ≡ take k (reply_text p.depth p.state m)))
+-- the front of the reply to the kept line
+abbrev pub IsReplyFront : Bool → Progress → List ℕ → Type 0
+IsReplyFront ended p part =
+    (m : Meaning) × (k : ℕ) × KeptMeans p.over ended p.line m
+    × (part ≡ take k (reply_text p.depth p.state m))
 
--- some of the reply to the kept line was put
+-- nothing was put, or some of the reply to the kept line
 abbrev pub PutsPart : Bool → Progress → Option (List ℕ) → Option (List ℕ) → Type 0
-PutsPart ended p old new = Told old new (IsPartReply ended p)
+PutsPart ended p old new = Told old new (λ part. (part ≡ []) ⊎ IsReplyFront ended p part)
 
--- the first bytes were fed, and some of the reply to the line that the next byte ends was put
-abbrev pub FeedsPart : Option (List ℕ) → Option (List ℕ) → Progress → List ℕ → Type 0
-FeedsPart old new p bs =
-    (n : ℕ) × (mid : Progress) × (before part : List ℕ) × (n < length bs)
-    × Feeds p (take n bs) before mid × IsPartReply true mid part × Appends old new (before ++ part)
+-- nothing, or, where this byte is a line feed, the front of the reply to the line that it ends
+abbrev pub IsPartAt : ℕ → Progress → List ℕ → Type 0
+IsPartAt b p part = (part ≡ []) ⊎ ((b ≡ 10) × IsReplyFront true p part)
+
+-- the first bytes were fed, and then a byte of which no more was put than that
+pub record FeedsPart (old new : Option (List ℕ)) (p : Progress) (bs : List ℕ) : Type 0 where
+  pub front : List ℕ
+  pub byte : ℕ
+  pub rest : List ℕ
+  pub mid : Progress
+  pub before : List ℕ
+  pub part : List ℕ
+  pub whole : bs ≡ front ++ byte ∷ rest
+  pub fed : Feeds p front before mid
+  pub is : IsPartAt byte mid part
+  pub put : Appends old new (before ++ part)

@@ -5,11 +5,14 @@ use Rattle.ring_machine.specs.Command.{Command}
 use Rattle.ring_machine.specs.Machine.{step}
 use Rattle.undo_ring.specs.Answers.{refusal_of}
 use Rattle.undo_ring.specs.Edited.{Edited, machine_of}
+use Rattle.map_text.specs.Text.{text_of}
+use Rattle.map_text.specs.Saved.{Saved}
 use Rattle.script_runner.specs.Answers.{answer_text, refusal_text}
 use Rattle.script_runner.specs.Runs.{Meaning, Bad, meaning_of, reply_text, state_after, refused_by, refusals}
 use Rattle.script_lines.specs.Commands.{says_of}
 use Rattle.arc_store.specs.declared.fault.EditFault.{EditFault}
 use Rattle.script_lines.specs.declared.lines.Line.{Line}
+use Rattle.script_lines.specs.declared.lines.Line.TheVariants as said
 use Rattle.topo_writer.specs.declared.sending.WriteFault.{WriteFault}
 use Rattle.topo_writer.specs.declared.sending.WriteFault.TheVariants as write
 use Rattle.script_runner.specs.declared.stop.Stop.{Stop}
@@ -40,6 +43,16 @@ IsShown d c old new refuses = (e : Edited) → e.map.doc ≡ d → Replied e e c
 abbrev pub meaning_of_said : Option Line → Meaning
 meaning_of_said None = Bad
 meaning_of_said (Some l) = meaning_of (says_of l)
+
+-- a line that asks to see the document shows a text that means it, and has each border once
+abbrev pub IsShownSaved : Document → Option Line → Type 0
+IsShownSaved d None = Unit {0}
+IsShownSaved d (Some said.Skip) = Unit {0}
+IsShownSaved d (Some (said.Rings n)) = Unit {0}
+IsShownSaved d (Some said.Count) = Unit {0}
+IsShownSaved d (Some said.Document) = Saved (text_of d) d
+IsShownSaved d (Some said.Undo) = Unit {0}
+IsShownSaved d (Some (said.Edit c)) = Unit {0}
 
 -- what stops a runner where the text of a map was not written whole
 abbrev pub stop_of : WriteFault → Stop

@@ -3,8 +3,10 @@ use Rattle.std.specs.Prelude.{◌≡◌, ◌≢◌, ℕ, ◌+◌, ◌≤◌, ◌
 use Rattle.std.specs.List.{flat_map}
 use Rattle.ring_machine.specs.Document.{Document}
 use Rattle.ring_machine.specs.Parts.{features}
-use Rattle.ring_machine.specs.Command.{Command, Answer, Refused}
+use Rattle.ring_machine.specs.Command.{Command, Show, Answer, Refused}
 use Rattle.ring_machine.specs.Machine.{State, step}
+use Rattle.map_text.specs.Text.{text_of}
+use Rattle.map_text.specs.Saved.{Saved}
 use Rattle.script_lines.specs.Lines.{Says}
 use Rattle.script_runner.specs.Answers.{answer_text}
 
@@ -117,6 +119,14 @@ answered (m ∷ ms) = answered_by m + answered ms
 abbrev pub refused : ℕ → State → List Meaning → ℕ
 refused depth st [] = 0
 refused depth st (m ∷ ms) = refused_by depth st m + refused depth (state_after depth st m) ms
+
+-- where a line asks to see the document, the text of it means it, and has each border once
+abbrev pub ShowsSaved : State → Meaning → Type 0
+ShowsSaved st m = m ≡ Asked Show → Saved (text_of st.doc) st.doc
+
+abbrev pub AllShowSaved : ℕ → State → List Meaning → Type 0
+AllShowSaved depth st [] = Unit {0}
+AllShowSaved depth st (m ∷ ms) = ShowsSaved st m × AllShowSaved depth (state_after depth st m) ms
 
 -- opened: the next number is that of the features, and there is no history
 abbrev pub opened_state : Document → State

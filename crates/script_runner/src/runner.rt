@@ -7,7 +7,7 @@ ghost use Rattle.script_runner.specs.Replies.{meaning_of_said};
 ghost use Rattle.script_lines.specs.Commands.{SaysSound};
 ghost use Rattle.ring_machine.specs.Parts.{features};
 ghost use Rattle.script_runner.specs.Progress.{KeptMeans, LineStep, ByteStep, Feeds, FeedsPart};
-ghost use Rattle.script_runner.specs.Progress.{PutsPart, Told, start};
+ghost use Rattle.script_runner.specs.Progress.{PutsPart, IsPartAt, Told, start};
 
 use crate::sending::send_reply;
 use crate::stop::{OutOfMemory, Stop};
@@ -152,7 +152,8 @@ impl<'a, A: Allocator + Copy> Runner<'a, A> {
         ensures ok { OnOk result (Told (W.taken out.old) (W.taken out.new)
             (λ text. ByteStep self.old byte text self.new)) }
         ensures bytes { OnOk result (self.new.bytes ≡ self.old.bytes + 1) }
-        ensures cut { OnErr result (PutsPart true self.old (W.taken out.old) (W.taken out.new)) }
+        ensures cut { OnErr result (Told (W.taken out.old) (W.taken out.new)
+            (IsPartAt byte self.old)) }
         ensures works { OnOk result (W.has_failed out.new ≡ false) }
         ensures failed { result ≡ Err Stop.Write → W.has_failed out.new ≡ true }
     {
@@ -191,6 +192,7 @@ impl<'a, A: Allocator + Copy> Runner<'a, A> {
     fn flush<W: Sink>(self, out: &mut W) -> Result<(Summary, Editor<'a, GridIndex<A>, A>), Stop>
         requires { W.has_failed out.old ≡ false }
         ensures kept { Keeps (W.taken out.old) (W.taken out.new) }
+        ensures sent { OnOk result (W.is_flushed out.new ≡ true) }
         ensures ends { IfOk result
             (λ done. Counts self.entry done.0 × (done.1.map.doc ≡ self.entry.state.doc)) }
         ensures works { OnOk result (W.has_failed out.new ≡ false) }
@@ -220,6 +222,7 @@ impl<'a, A: Allocator + Copy> Runner<'a, A> {
         ensures ok { IfOk result (λ done. Told (W.taken out.old) (W.taken out.new)
             (λ text. Finishes self.entry text done.0 done.1.map.doc)) }
         ensures cut { OnErr result (PutsLast self.entry (W.taken out.old) (W.taken out.new)) }
+        ensures sent { OnOk result (W.is_flushed out.new ≡ true) }
         ensures works { OnOk result (W.has_failed out.new ≡ false) }
         ensures failed { result ≡ Err Stop.Write → W.has_failed out.new ≡ true }
     {

@@ -1,12 +1,13 @@
 ghost use Rattle.std.specs.Prelude.{◌≡◌, ◌≤◌, [], length, false, true, OnOk, OnErr, IfOk, IfErr, Err};
 ghost use Rattle.ring_machine.specs.Parts.{features};
-ghost use Rattle.std.specs.Io.KnownBytes.{Appends, IsAtEnd};
+ghost use Rattle.std.specs.Io.KnownBytes.{Appends};
 ghost use Rattle.device_io.specs.Devices.{AppendsPrefix};
 ghost use Rattle.map_text.specs.Text.{text_of};
 ghost use Rattle.map_text.specs.Saved.{Saved};
 ghost use Rattle.topo_writer.specs.declared.sending.WriteFault.TheVariants.{Device};
-ghost use Rattle.script_runner.specs.Outcome.{AnswersAll, Completes, Ends, Halts};
-ghost use Rattle.script_runner.specs.Outcome.{OpensAs, IsOpenEnd, IsBuildEnd};
+ghost use Rattle.script_runner.specs.Devices.{reader_of, writer_of, devices_of};
+ghost use Rattle.script_runner.specs.Outcome.{OpensAs, Completes, Ends};
+ghost use Rattle.script_runner.specs.Ended.{Answers, Halts, IsOpenEnd, IsBuildEnd, cells_for};
 
 use crate::fault::RunFault;
 use crate::runner::{Runner, Summary};
@@ -48,6 +49,7 @@ fn open<'a, A: Allocator + Copy>(
 ) -> Result<Map<'a, GridIndex<A>, A>, RunFault<'a>>
     ensures opened { IfOk result (λ map. OpensAs bytes.now map.doc) }
     ensures numbered { IfOk result (λ map. map.next ≡ length (features map.doc)) }
+    ensures cells { IfOk result (λ map. map.cells ≡ cells_for bytes.now map.doc) }
     ensures refused { IfErr result (λ fault. IsOpenEnd fault bytes.now) }
 {
     let raw = match read(alloc, heap, bytes) {
@@ -78,12 +80,12 @@ fn answer_script<'a, A: Allocator + Copy, R: Source, W: Sink>(
     requires fresh { editor.past ≡ [] }
     requires reader { R.has_failed script.old ≡ false }
     requires writer { W.has_failed out.old ≡ false }
-    ensures done { IfOk result (λ done. AnswersAll editor.entry.depth editor.entry.map.doc
-        done.1.map.doc (R.coming script.old) (R.coming script.new) (W.taken out.old)
-        (W.taken out.new) done.0) }
-    ensures end { OnOk result (IsAtEnd (R.coming script.new)) }
+    ensures done { IfOk result (λ done. Answers editor.entry.depth editor.entry.map.doc
+        done.1.map.doc (reader_of R.Source script.old) (reader_of R.Source script.new)
+        (writer_of W.Sink out.old) (writer_of W.Sink out.new) done.0) }
     ensures halted { IfErr result (λ halt. Halts halt editor.entry.depth editor.entry.map.doc
-        (R.coming script.old) (R.coming script.new) (W.taken out.old) (W.taken out.new)) }
+        (reader_of R.Source script.old) (reader_of R.Source script.new)
+        (writer_of W.Sink out.old) (writer_of W.Sink out.new)) }
     ensures write { result ≡ Err Halt.Write → W.has_failed out.new ≡ true }
 {
     let mut runner = Runner::new(alloc, heap, editor);
@@ -123,6 +125,7 @@ fn save<A: Allocator + Copy, V: Sink>(
     requires { V.has_failed saved.old ≡ false }
     ensures ok { OnOk result
         (Appends (V.taken saved.old) (V.taken saved.new) (text_of map.now.doc)) }
+    ensures sent { OnOk result (V.is_flushed saved.new ≡ true) }
     ensures err { OnErr result
         (AppendsPrefix (V.taken saved.old) (V.taken saved.new) (text_of map.now.doc)) }
     ensures device { result ≡ Err Device → V.has_failed saved.new ≡ true }
@@ -156,15 +159,13 @@ pub fn run<'a, A: Allocator + Copy, R: Source, W: Sink, V: Sink>(
     requires reader { R.has_failed script.old ≡ false }
     requires writer { W.has_failed out.old ≡ false }
     requires saver { V.has_failed saved.old ≡ false }
-    ensures done { IfOk result (λ summary. Completes map.now depth (R.coming script.old)
-        (R.coming script.new) (W.taken out.old) (W.taken out.new) (V.taken saved.old)
-        (V.taken saved.new) summary) }
-    ensures end { OnOk result (IsAtEnd (R.coming script.new)) }
-    ensures fault { IfErr result (λ fault. Ends fault map.now depth (R.coming script.old)
-        (R.coming script.new) (W.taken out.old) (W.taken out.new) (V.taken saved.old)
-        (V.taken saved.new)) }
-    ensures write { result ≡ Err RunFault.Write → W.has_failed out.new ≡ true }
-    ensures save { result ≡ Err RunFault.Save → V.has_failed saved.new ≡ true }
+    ensures done { IfOk result (λ summary. Completes map.now depth
+        (devices_of R.Source W.Sink V.Sink script.old out.old saved.old)
+        (devices_of R.Source W.Sink V.Sink script.new out.new saved.new)
+        summary) }
+    ensures fault { IfErr result (λ fault. Ends fault map.now depth
+        (devices_of R.Source W.Sink V.Sink script.old out.old saved.old)
+        (devices_of R.Source W.Sink V.Sink script.new out.new saved.new)) }
 {
     let opened = match open(alloc, heap, map) {
         Ok(opened) => opened,

@@ -3,10 +3,11 @@ ghost use Rattle.std.specs.Prelude.{◌≡◌, ◌++◌, codes, false, true, Err
 ghost use Rattle.std.specs.Io.KnownBytes.{Appends};
 ghost use Rattle.device_io.specs.Devices.{AppendsPrefix};
 ghost use Rattle.map_text.specs.Text.{text_of};
+ghost use Rattle.map_text.specs.Saved.{Saved};
 ghost use Rattle.undo_ring.specs.Edited.{machine_of};
 ghost use Rattle.script_runner.specs.Runs.{reply_text};
 ghost use Rattle.script_runner.specs.Progress.{Told};
-ghost use Rattle.script_runner.specs.Replies.{RepliedLine, meaning_of_said};
+ghost use Rattle.script_runner.specs.Replies.{RepliedLine, IsShownSaved, meaning_of_said};
 ghost use Rattle.script_lines.specs.Commands.{SaysSound};
 
 use crate::questions::reply_to_count;
@@ -43,6 +44,7 @@ fn send_document<A: Allocator + Copy, W: Sink>(
         (AppendsPrefix (W.taken out.old) (W.taken out.new) (text_of map.now.doc ++ codes "\n")) }
     ensures works { OnOk result (W.has_failed out.new ≡ false) }
     ensures failed { result ≡ Err Stop.Write → W.has_failed out.new ≡ true }
+    ensures saved { Saved (text_of map.now.doc) map.now.doc }
 {
     write(alloc, map, out)?;
     put_all(out, b"\n")?;
@@ -63,6 +65,7 @@ pub(crate) fn send_reply<A: Allocator + Copy, W: Sink>(
         (λ text. RepliedLine editor.old editor.new (meaning_of_said said) text refuses)) }
     ensures cut { OnErr result (AppendsPrefix (W.taken out.old) (W.taken out.new)
         (reply_text editor.old.depth (machine_of editor.old) (meaning_of_said said))) }
+    ensures shown { OnOk result (IsShownSaved editor.old.map.doc said) }
     ensures works { OnOk result (W.has_failed out.new ≡ false) }
     ensures failed { result ≡ Err Stop.Write → W.has_failed out.new ≡ true }
 {

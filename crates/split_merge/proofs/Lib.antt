@@ -1,5 +1,6 @@
 pub mod FirstRefusal
 pub mod SplitConditions
+pub mod Late
 pub mod RingConditions
 pub mod MergeConditions
 pub mod PathSegments

@@ -1,4 +1,4 @@
-ghost use Rattle.std.specs.Prelude.{◌≡◌, ◌≤◌, ◌+◌, ◌+ℤ◌, length, [], ◌∷◌, Some, None, OnOk, OnErr, IfOk, IfErr};
+ghost use Rattle.std.specs.Prelude.{◌≡◌, ◌≤◌, ◌+◌, ◌+ℤ◌, length, [], ◌∷◌, Some, None, OnOk, OnErr, IfOk, IfErr, IsTrue};
 ghost use Rattle.std.specs.List.{list_any};
 ghost use Rattle.ring_machine.specs.Cut.{path_of, cut, is_cut_by};
 ghost use Rattle.ring_machine.specs.Parts.{feature};
@@ -12,6 +12,7 @@ ghost use Rattle.local_planarity.specs.Tests.{most_for};
 ghost use Rattle.arc_store.specs.Faults.{Refuses};
 ghost use Rattle.arc_store.specs.Recorded.{IsRecorded};
 ghost use Rattle.split_merge.specs.Conditions.{place_refusals, early_refusals};
+ghost use Rattle.split_merge.specs.Untested.{is_early};
 ghost use Rattle.map_text.specs.Strings.{string_text};
 
 use crate::id_text::json_string;
@@ -103,6 +104,8 @@ fn split_now<'a, I: SegIndex, A: Allocator + Copy>(
         (first_of (split_refusals map.old.doc map.old.next f (string_text id.now)
         (path_of positions.now)))) }
     ensures unchanged { OnErr result (map.new ≡ record map.old { tests = map.new.tests }) }
+    ensures untested { IfErr result
+        (λ fault. IsTrue (is_early fault) → map.new.tests ≡ map.old.tests) }
     ensures few { map.new.tests ≤ map.old.tests + most_for (times_by map.old.cells) map.old.doc
         (cut map.old.doc f (string_text id.now) (path_of positions.now) map.old.next) }
     ensures cells { map.new.cells ≡ map.old.cells }
@@ -145,6 +148,7 @@ pub fn split<'a, I: SegIndex, A: Allocator + Copy>(
     ensures still { OnErr result (map.new.next ≡ map.old.next) }
     ensures still_placed { OnErr result (map.new.places ≡ map.old.places) }
     ensures none { OnErr result (map.new.last ≡ None) }
+    ensures untested { IfErr result (λ fault. IsTrue (is_early fault) → map.new.tests ≡ 0) }
     ensures few { map.new.tests ≤ most_for (times_by map.old.cells) map.old.doc
         (cut map.old.doc f (string_text id) (path_of path) map.old.next) }
     ensures cells { map.new.cells ≡ map.old.cells }

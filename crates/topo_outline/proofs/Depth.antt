@@ -2,7 +2,7 @@
 use Rattle.std.proofs.Common.{◌≡◌, ◌≢◌, ℕ, zero, suc, ◌-◌, List, [], ◌∷◌, ◌++◌, refl, sym, ap, ◌∙◌, append_assoc, sub-one, true, false}
 use Rattle.std.specs.Prelude.{Result, Ok, Err, codes}
 use Rattle.std.proofs.lemmas.List.{append-nil}
-use Rattle.json_spans.specs.Parts.{Node}
+use Rattle.json_spans.specs.Nodes.{Node}
 use Rattle.json_spans.specs.Walk.{items}
 use Rattle.topo_outline.specs.declared.words.Word.TheVariants as word
 use Rattle.topo_outline.specs.declared.words.Geometry.{Geometry}
@@ -10,7 +10,9 @@ use Rattle.topo_outline.specs.declared.members.Owner.TheVariants as owner
 use Rattle.topo_outline.specs.declared.fault.OpenFault.{OpenFault}
 use Rattle.topo_outline.specs.Faults.{Fault, too_deep, ◌>>=◌, demand}
 use Rattle.topo_outline.specs.Gives.{Fails}
-use Rattle.topo_outline.specs.Shape.{is_list, EntryNode, Piece, starts, ends, members_of, type_of, single, head, is_collection, member_that, is_object, wrong, geometry, each_joined}
+use Rattle.topo_outline.specs.Members.{EntryNode, head}
+use Rattle.topo_outline.specs.Layers.{Piece, starts, ends}
+use Rattle.topo_outline.specs.Shape.{is_list, members_of, type_of, single, is_collection, member_that, is_object, wrong, geometry, each_joined}
 use Rattle.topo_outline.proofs.Walking.{with_front, carry}
 
 abbrev pub inside : EntryNode → ℕ → Node → Result (List Piece) Fault

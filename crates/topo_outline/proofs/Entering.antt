@@ -1,16 +1,19 @@
 -- The names of an object are tested in order exactly if no two stand for one text.
-use Rattle.std.proofs.Common.{◌≡◌, not, List, [], ◌∷◌, ◌++◌, ℕ, Bool, true, false, refl, sym, ◌∙◌, true≢false, bytes_eq}
+use Rattle.std.proofs.Common.{◌≡◌, not, List, [], ◌∷◌, ◌++◌, ℕ, Bool, true, false, refl, sym, ◌∙◌, subst, true≢false, bytes_eq}
 use Rattle.std.specs.Prelude.{Ok, Option, Some, None}
 use Rattle.std.specs.List.{list_any, IsDistinct, AllByRecursion}
 use Rattle.std.proofs.lemmas.List.Folds.{list_any-append}
 use Rattle.std.proofs.lemmas.Slice.Eq.{bytes_eq-Decides}
 use Rattle.std.proofs.lemmas.Map.Made.{AllPairs-from_IsDistinct, IsDistinct-from_AllPairs}
-use Rattle.json_spans.specs.Parts.{Node}
+use Rattle.json_spans.specs.Nodes.{Node}
 use Rattle.json_spans.specs.Walk.{members}
 use Rattle.json_spans.specs.Decoded.{decoded}
+use Rattle.json_spans.proofs.Told.{members_told}
 use Rattle.topo_outline.specs.Faults.{Fault, duplicate, demand}
-use Rattle.topo_outline.specs.Shape.{EntryNode, entry_of, named, name_text, text_from, unquoted, members_of, is_object}
-use Rattle.topo_outline.specs.IsOutline.{Entries, no_entry, entry, HasEntries}
+use Rattle.topo_outline.specs.Members.{EntryNode, entry_of}
+use Rattle.topo_outline.specs.Shape.{named, name_text, text_from, unquoted, members_of, is_object}
+use Rattle.topo_outline.specs.IsOutline.{Entries, no_entry, entry, HasEntries, NestsAtMost}
+use Rattle.topo_outline.proofs.Levels.{object_here}
 use Rattle.topo_outline.proofs.Steps.{step, demanded, same_ok, neither}
 
 -- none of the texts is one of those seen
@@ -89,10 +92,12 @@ none_seen : (ts : List (List ℕ)) → Unseen [] ts
 none_seen [] = tt
 none_seen (t ∷ ts) = (refl, none_seen ts)
 
-pub object_means : (n : Node) (es : List EntryNode) → is_object n ≡ true → members_of n ≡ Ok es → HasEntries n es
-object_means n es object h =
+pub object_means : (k : ℕ) (n : Node) (es : List EntryNode) → NestsAtMost k n → is_object n ≡ true → members_of n ≡ Ok es → HasEntries n es
+object_means k n es nests object h =
     let all = named_means [] (members n) es h in
-    record { names = all.names; object = object; entries = all.entries; differ = AllPairs-from_IsDistinct bytes_eq-Decides all.names all.distinct }
+    record { members = members n; names = all.names; object = object_here k n nests object; entries = all.entries; differ = AllPairs-from_IsDistinct bytes_eq-Decides all.names all.distinct }
 
 pub object_gives : {n : Node} {es : List EntryNode} → HasEntries n es → members_of n ≡ Ok es
-object_gives o = named_gives o.entries [] (none_seen o.names) (IsDistinct-from_AllPairs bytes_eq-Decides o.names o.differ)
+object_gives {es = es} o =
+    subst (λ ms. named [] ms ≡ Ok es) (members_told o.object)
+    (named_gives o.entries [] (none_seen o.names) (IsDistinct-from_AllPairs bytes_eq-Decides o.names o.differ))

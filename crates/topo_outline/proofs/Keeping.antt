@@ -3,18 +3,20 @@ use Rattle.std.proofs.Common.{◌≡◌, ◌≢◌, ℕ, List, [], ◌∷◌, �
 use Rattle.std.specs.Prelude.{Option, Some, None, option_map, filter}
 use Rattle.std.specs.List.{AllByRecursion, AllPairs, AllZip}
 use Rattle.std.proofs.lemmas.List.Kept.{AllPairs-filter}
-use Rattle.json_spans.specs.Parts.{Node}
+use Rattle.json_spans.specs.Nodes.{Node}
 use Rattle.json_spans.specs.Inside.{IsText, IsValue}
+use Rattle.json_spans.proofs.Told.{member_values}
 use Rattle.ring_machine.specs.Document.{Text}
 use Rattle.topo_outline.specs.declared.words.Word.{Word}
 use Rattle.topo_outline.specs.declared.words.Word.TheVariants as word
 use Rattle.topo_outline.specs.declared.members.Owner.{Owner}
 use Rattle.topo_outline.specs.declared.members.Owner.TheVariants as owner
 use Rattle.topo_outline.specs.Words.{word_of}
-use Rattle.topo_outline.specs.Shape.{EntryNode, entry_of, member, is_known, kept, kept_text, text_of, head, Piece, starts, ends, leaf, text, LayerText, OutlineText}
+use Rattle.topo_outline.specs.Members.{EntryNode, entry_of, member, is_known, kept, kept_text, text_of, head}
+use Rattle.topo_outline.specs.Layers.{Piece, starts, ends, leaf, text, LayerText, OutlineText}
 use Rattle.topo_outline.specs.IsOutline.{Entries, no_entry, entry, HasEntries, NestsAtMost, IsTransform, no_transform, null_transform, transform, IsGeometry, null_geometry, point, multi_point, polygon, multi_polygon, collection, AreGeometries, no_geometry, geometry, AreLayers, no_layer, layer, IsOutline}
 use Rattle.topo_outline.specs.Kept.{IsJson, IsName, IfThere, IsKeptMember, AreKeptMembers, IsKeptHead, IsKeptGeometry, IsKeptTransform, owner_of}
-use Rattle.topo_outline.proofs.Levels.{AllNest, object_parts, object_nests, list_nests, value_nests}
+use Rattle.topo_outline.proofs.Levels.{AllNest, object_nests, list_nests, value_nests}
 
 -- ---- members
 
@@ -38,10 +40,9 @@ each_kept o k (entry {m = m} {t = t} {ts = ts} {es = es} is rest) h =
     by true e r = r
     by false e r = (record { named = record { string = h.0.0; says = is }; unknown = e; value = (k, h.0.1) }, r)
 
-are_kept : (o : Owner) (k : ℕ) (n : Node) (es : List EntryNode) → NestsAtMost k n → HasEntries n es
-    → AreKeptMembers o (kept o es)
-are_kept o k n es nests h =
-    let (j, less, parts) = object_parts k n nests h.object in
+are_kept : (o : Owner) (n : Node) (es : List EntryNode) → HasEntries n es → AreKeptMembers o (kept o es)
+are_kept o n es h =
+    let (j, parts) = member_values h.object in
     record {
       names = filter (is_unknown o) h.names;
       each = each_kept o j h.entries parts;
@@ -59,7 +60,7 @@ head_kept : (o : Owner) (k : ℕ) (n : Node) (es : List EntryNode) → NestsAtMo
     → IsKeptHead o (head o es)
 head_kept o k n es nests h =
     let (j, less, all) = object_nests k n es nests h in
-    record { id = text_kept j word.Id es all; properties = text_kept j word.Properties es all; members = are_kept o k n es nests h }
+    record { id = text_kept j word.Id es all; properties = text_kept j word.Properties es all; members = are_kept o n es h }
 
 -- ---- geometries
 
@@ -144,12 +145,12 @@ outline_keeps k root o nests h =
     let (j, less, all) = object_nests k root h.entries nests h.of_root in
     let objects = value_nests j word.Objects h.entries h.objects all h.has_objects in
     let (i, fewer, inner) = object_nests j h.objects h.named objects h.of_objects in
-    let (m, lesser, parts) = object_parts j h.objects objects h.of_objects.object in
+    let (m, parts) = member_values h.of_objects.object in
     record {
       transform = transform_kept h.transform j (λ n e. value_nests j word.Transform h.entries n all e);
       layer_names = h.of_objects.names;
       layers_named = layers_named h.layers h.of_objects.names (are_names m h.of_objects.entries parts);
       layers_differ = h.of_objects.differ;
       pieces = layers_keep h.layers i inner;
-      members = rw h.members (are_kept owner.Topology k root h.entries nests h.of_root);
+      members = rw h.members (are_kept owner.Topology root h.entries h.of_root);
     }

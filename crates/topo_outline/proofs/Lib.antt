@@ -5,6 +5,7 @@ pub mod Placing
 pub mod Steps
 pub mod Entering
 pub mod Typing
+pub mod Values
 pub mod Levels
 pub mod Keeping
 pub mod KeptRings
@@ -13,3 +14,5 @@ pub mod Nesting
 pub mod Shaped
 pub mod Promised
 pub mod Copied
+pub mod LeafArcs
+pub mod OneOutline

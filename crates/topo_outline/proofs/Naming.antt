@@ -7,13 +7,14 @@ use Rattle.std.proofs.Math.Bool.{or_comm}
 use Rattle.std.proofs.lemmas.Cmp.{nat_list_eq_equiv}
 use Rattle.std.proofs.lemmas.List.{append-nil, drop_all}
 use Rattle.std.proofs.lemmas.List.Recursion.{or_push}
-use Rattle.json_spans.specs.Parts.{Node}
+use Rattle.json_spans.specs.Nodes.{Node}
 use Rattle.topo_outline.specs.declared.words.Word.{Word}
 use Rattle.topo_outline.specs.declared.members.Owner.{Owner}
 use Rattle.topo_outline.specs.declared.entries.Entry.{Entry}
 use Rattle.topo_outline.specs.Faults.{Fault, duplicate}
 use Rattle.ring_machine.specs.Document.{Member}
-use Rattle.topo_outline.specs.Shape.{EntryNode, named, name_text, unquoted, code, member, kept, kept_text, is_known}
+use Rattle.topo_outline.specs.Members.{EntryNode, code, member, kept, kept_text, is_known}
+use Rattle.topo_outline.specs.Shape.{named, name_text, unquoted}
 use Rattle.topo_outline.specs.Words.{word_of}
 use Rattle.topo_outline.specs.Views.{view_entry}
 use Rattle.topo_outline.specs.Gives.{Fails}

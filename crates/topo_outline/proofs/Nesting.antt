@@ -2,8 +2,10 @@
 use Rattle.std.proofs.Common.{arith, ◌≤◌, ◌≡◌, if◌then◌else◌, ◌⊎◌, inl, inr, ℕ, zero, suc, List, [], ◌∷◌, ◌++◌, Bool, true, false, refl, subst, codes}
 use Rattle.std.specs.Prelude.{Result, Ok, Err, Some}
 use Rattle.std.specs.List.{AllByRecursion}
-use Rattle.json_spans.specs.Parts.{Node}
+use Rattle.json_spans.specs.Nodes.{Node}
+use Rattle.json_spans.specs.Inside.{IsListOf}
 use Rattle.json_spans.specs.Walk.{items}
+use Rattle.json_spans.proofs.Told.{items_told}
 use Rattle.ring_machine.specs.Document.{Form}
 use Rattle.ring_machine.specs.Document as form
 use Rattle.topo_outline.specs.declared.words.Word.TheVariants as word
@@ -12,11 +14,13 @@ use Rattle.topo_outline.specs.declared.words.Geometry.TheVariants as geo
 use Rattle.topo_outline.specs.declared.members.Owner.TheVariants as owner
 use Rattle.topo_outline.specs.Words.{geometry_of}
 use Rattle.topo_outline.specs.Faults.{Fault, too_deep, ◌>>=◌}
-use Rattle.topo_outline.specs.Shape.{is_list, is_object, EntryNode, Piece, starts, ends, leaf, head, are_rings, wrong, members_of, member_that, type_of, with_rings, single, is_collection, shaped, each_joined, geometry}
-use Rattle.topo_outline.specs.IsOutline.{NestsAtMost, HasEntries, value_at, HasType, IsGeometry, AreGeometries, null_geometry, polygon, multi_polygon, point, multi_point, collection, no_geometry}
+use Rattle.topo_outline.specs.Members.{EntryNode, head}
+use Rattle.topo_outline.specs.Layers.{Piece, starts, ends, leaf}
+use Rattle.topo_outline.specs.Shape.{is_list, is_object, are_rings, wrong, members_of, member_that, type_of, with_rings, single, is_collection, shaped, each_joined, geometry}
+use Rattle.topo_outline.specs.IsOutline.{NestsAtMost, HasEntries, value_at, HasType, AreLists, AreListsOfLists, IsGeometry, AreGeometries, null_geometry, polygon, multi_polygon, point, multi_point, collection, no_geometry}
 use Rattle.topo_outline.specs.IsOutline as shape
 use Rattle.topo_outline.proofs.Depth.{inside, list_of}
-use Rattle.topo_outline.proofs.Levels.{object_nests, list_nests, value_nests}
+use Rattle.topo_outline.proofs.Levels.{AllNest, object_nests, list_nests, value_nests, list_here, lists_here, lists_of_lists_here, is_an_object, is_a_list, are_lists_tested, are_lists_of_lists_tested}
 use Rattle.topo_outline.proofs.Steps.{step, demanded, same_ok}
 use Rattle.topo_outline.proofs.Entering.{object_means, object_gives}
 use Rattle.topo_outline.proofs.Typing.{member_at, value_of_member, good_member, member_is_good, IsOfType, null_type, polygon_type, multi_polygon_type, collection_type, point_type, multi_point_type, topology_type, other_type, type_means, type_gives, null_gives}
@@ -36,25 +40,37 @@ record IsCollection (n : Node) (group : List EntryNode → EntryNode → Result 
 abbrev Shaped : Node → (List EntryNode → EntryNode → Result (List Piece) Fault) → List Piece → Type 0
 Shaped n group ps = IsGeometry n ps ⊎ IsCollection n group ps
 
-rings_mean : (f : Form) (es : List EntryNode) (p : Piece) → with_rings f es ≡ Ok p → (a : Node) × (value_at word.Arcs es ≡ Some a) × (are_rings f a ≡ true) × (leaf f (head owner.Rings es) a ≡ p)
-rings_mean f es p h =
+-- what `arcs` is, by the form
+abbrev pub AreArcs : Form → Node → Type 0
+AreArcs form.Polygon n = AreLists n
+AreArcs form.MultiPolygon n = AreListsOfLists n
+AreArcs form.Null n = Unit {0}
+
+rings_here : (f : Form) (k : ℕ) (n : Node) → NestsAtMost k n → are_rings f n ≡ true → AreArcs f n
+rings_here form.Polygon k n nests h = lists_here k n nests h
+rings_here form.MultiPolygon k n nests h = lists_of_lists_here k n nests h
+rings_here form.Null k n nests h = tt
+
+rings_mean : (j : ℕ) (f : Form) (es : List EntryNode) (p : Piece) → AllNest j es → with_rings f es ≡ Ok p → (a : Node) × (value_at word.Arcs es ≡ Some a) × AreArcs f a × (leaf f (head owner.Rings es) a ≡ p)
+rings_mean j f es p all h =
     step (member_that (are_rings f) (codes "arcs") word.Arcs es) _ h λ m found last.
     let (there, right) = good_member (are_rings f) (codes "arcs") word.Arcs es m found in
-    (m.value, value_of_member word.Arcs es m there, right, same_ok last)
+    let at_arcs = value_of_member word.Arcs es m there in
+    (m.value, at_arcs, rings_here f j m.value (value_nests j word.Arcs es m.value all at_arcs) right, same_ok last)
 
-single_means : (n : Node) (es : List EntryNode) (g : Geometry) (m : EntryNode) (p : Piece) → HasEntries n es → IsOfType es g → single g m n es ≡ Ok p → IsGeometry n (p ∷ [])
-single_means n es geo.Null m p o (null_type {v = v} at_type e) h = rw (← same_ok h) (null_geometry o at_type e)
-single_means n es geo.Polygon m p o (polygon_type t) h =
-    let (a, at_arcs, right, same) = rings_mean form.Polygon es p h in
+single_means : (j : ℕ) (n : Node) (es : List EntryNode) (g : Geometry) (m : EntryNode) (p : Piece) → AllNest j es → HasEntries n es → IsOfType es g → single g m n es ≡ Ok p → IsGeometry n (p ∷ [])
+single_means j n es geo.Null m p all o (null_type {v = v} at_type e) h = rw (← same_ok h) (null_geometry o at_type e)
+single_means j n es geo.Polygon m p all o (polygon_type t) h =
+    let (a, at_arcs, right, same) = rings_mean j form.Polygon es p all h in
     rw (← same) (polygon o t at_arcs right)
-single_means n es geo.MultiPolygon m p o (multi_polygon_type t) h =
-    let (a, at_arcs, right, same) = rings_mean form.MultiPolygon es p h in
+single_means j n es geo.MultiPolygon m p all o (multi_polygon_type t) h =
+    let (a, at_arcs, right, same) = rings_mean j form.MultiPolygon es p all h in
     rw (← same) (multi_polygon o t at_arcs right)
-single_means n es geo.Point m p o (point_type t) h = rw (← same_ok h) (point o t)
-single_means n es geo.Point m p o (multi_point_type t) h = rw (← same_ok h) (multi_point o t)
-single_means n es geo.Collection m p o (collection_type t) h = absurd cc
-single_means n es geo.Topology m p o (topology_type t) h = absurd cc
-single_means n es geo.Other m p o other_type h = absurd cc
+single_means j n es geo.Point m p all o (point_type t) h = rw (← same_ok h) (point o t)
+single_means j n es geo.Point m p all o (multi_point_type t) h = rw (← same_ok h) (multi_point o t)
+single_means j n es geo.Collection m p all o (collection_type t) h = absurd cc
+single_means j n es geo.Topology m p all o (topology_type t) h = absurd cc
+single_means j n es geo.Other m p all o other_type h = absurd cc
 
 collection_named : (es : List EntryNode) (g : Geometry) → is_collection g ≡ true → IsOfType es g → HasType es (codes "GeometryCollection")
 collection_named es geo.Collection c (collection_type t) = t
@@ -66,28 +82,34 @@ collection_named es geo.Point c (multi_point_type t) = absurd cc
 collection_named es geo.Topology c (topology_type t) = absurd cc
 collection_named es geo.Other c other_type = absurd cc
 
-branch_means : (n : Node) (es : List EntryNode) (g : Geometry) (m : EntryNode) (group : List EntryNode → EntryNode → Result (List Piece) Fault) (ps : List Piece) (b : Bool) → is_collection g ≡ b → HasEntries n es → IsOfType es g → (if b then (list_of es >>= group es) else (single g m n es >>= λ p. Ok (p ∷ []))) ≡ Ok ps → Shaped n group ps
-branch_means n es g m group ps true c o t h =
+branch_means : (j : ℕ) (n : Node) (es : List EntryNode) (g : Geometry) (m : EntryNode) (group : List EntryNode → EntryNode → Result (List Piece) Fault) (ps : List Piece) (b : Bool) → AllNest j es → is_collection g ≡ b → HasEntries n es → IsOfType es g → (if b then (list_of es >>= group es) else (single g m n es >>= λ p. Ok (p ∷ []))) ≡ Ok ps → Shaped n group ps
+branch_means j n es g m group ps true all c o t h =
     step (list_of es) (group es) h λ list found last.
     let (there, right) = good_member is_list (codes "geometries") word.Geometries es list found in
     inr (record { entries = es; list = list; object = o; named = collection_named es g c t; has_list = value_of_member word.Geometries es list there; is_one = right; pieces = last })
-branch_means n es g m group ps false c o t h =
+branch_means j n es g m group ps false all c o t h =
     step (single g m n es) (λ q. Ok (q ∷ [])) h λ p is last.
-    inl (rw (← same_ok last) (single_means n es g m p o t is))
+    inl (rw (← same_ok last) (single_means j n es g m p all o t is))
 
-shaped_means : (n : Node) (group : List EntryNode → EntryNode → Result (List Piece) Fault) (ps : List Piece) → is_object n ≡ true → shaped n group ≡ Ok ps → Shaped n group ps
-shaped_means n group ps object h =
+shaped_means : (k : ℕ) (n : Node) (group : List EntryNode → EntryNode → Result (List Piece) Fault) (ps : List Piece) → NestsAtMost k n → is_object n ≡ true → shaped n group ≡ Ok ps → Shaped n group ps
+shaped_means k n group ps nests object h =
     step (members_of n) _ h λ es entered more.
     step (type_of es) _ more λ g is last.
-    branch_means n es g.0 g.1 group ps (is_collection g.0) refl (object_means n es object entered) (type_means es g.0 g.1 is) last
+    let o = object_means k n es nests object entered in
+    let (j, less, all) = object_nests k n es nests o in
+    branch_means j n es g.0 g.1 group ps (is_collection g.0) all refl o (type_means j es g.0 g.1 all is) last
 
-joined_mean : (d : ℕ) (list : EntryNode) → ((n : Node) (ps : List Piece) → is_object n ≡ true → geometry d n ≡ Ok ps → IsGeometry n ps) → (ns : List Node) (ps : List Piece) → each_joined (inside list d) ns ≡ Ok ps → AreGeometries ns ps
-joined_mean d list means [] ps h = rw (← same_ok h) no_geometry
-joined_mean d list means (n ∷ ns) ps h =
+-- whatever pieces the walk answers for a value, as far as it goes down, it is a geometry with these
+abbrev Answers : ℕ → Type 0
+Answers d = (k : ℕ) (n : Node) (ps : List Piece) → NestsAtMost k n → is_object n ≡ true → geometry d n ≡ Ok ps → IsGeometry n ps
+
+joined_mean : (d k : ℕ) (list : EntryNode) → Answers d → (ns : List Node) (ps : List Piece) → AllByRecursion (NestsAtMost k) ns → each_joined (inside list d) ns ≡ Ok ps → AreGeometries ns ps
+joined_mean d k list means [] ps nests h = rw (← same_ok h) no_geometry
+joined_mean d k list means (n ∷ ns) ps nests h =
     step (inside list d n) _ h λ xs first more.
     let (object, one) = demanded (is_object n) (wrong list) (geometry d n) first in
     step (each_joined (inside list d) ns) _ more λ ys others last.
-    rw (← same_ok last) (shape.geometry (means n xs object one) (joined_mean d list means ns ys others))
+    rw (← same_ok last) (shape.geometry (means k n xs nests.0 object one) (joined_mean d k list means ns ys nests.1 others))
 
 abbrev group : ℕ → List EntryNode → EntryNode → Result (List Piece) Fault
 group d es list = each_joined (inside list d) (items list.value) >>= λ ps. Ok (starts (head owner.Collection es) ∷ ps ++ ends ∷ [])
@@ -96,26 +118,30 @@ flat : (n : Node) (f : Fault) (ps : List Piece) → Shaped n (λ es list. Err f)
 flat n f ps (inl g) = g
 flat n f ps (inr c) = let no : Err f ≡ Ok ps = c.pieces in absurd cc
 
-deeper : (d : ℕ) → ((n : Node) (ps : List Piece) → is_object n ≡ true → geometry d n ≡ Ok ps → IsGeometry n ps) → (n : Node) (ps : List Piece) → Shaped n (group d) ps → IsGeometry n ps
-deeper d means n ps (inl g) = g
-deeper d means n ps (inr c) =
+deeper : (d k : ℕ) → Answers d → (n : Node) (ps : List Piece) → NestsAtMost k n → Shaped n (group d) ps → IsGeometry n ps
+deeper d k means n ps nests (inl g) = g
+deeper d k means n ps nests (inr c) =
     step (each_joined (inside c.list d) (items c.list.value)) (λ rs. Ok (starts (head owner.Collection c.entries) ∷ rs ++ ends ∷ [])) c.pieces λ qs inner last.
-    rw (← same_ok last) (collection c.object c.named c.has_list c.is_one (joined_mean d c.list means (items c.list.value) qs inner))
+    let (j, less, values) = object_nests k n c.entries nests c.object in
+    let list = value_nests j word.Geometries c.entries c.list.value values c.has_list in
+    let listed = list_here j c.list.value list c.is_one in
+    let (i, fewer, all) = list_nests j c.list.value list listed in
+    rw (← same_ok last) (collection c.object c.named c.has_list listed (joined_mean d i c.list means (items c.list.value) qs all inner))
 
-pub geometry_means : (d : ℕ) (n : Node) (ps : List Piece) → is_object n ≡ true → geometry d n ≡ Ok ps → IsGeometry n ps
+pub geometry_means : (d : ℕ) → Answers d
 unfolding geometry
-geometry_means zero n ps object h = flat n (too_deep n.at_byte) ps (shaped_means n (λ es list. Err (too_deep n.at_byte)) ps object h)
-geometry_means (suc d) n ps object h = deeper d (geometry_means d) n ps (shaped_means n (group d) ps object h)
+geometry_means zero k n ps nests object h = flat n (too_deep n.at_byte) ps (shaped_means k n (λ es list. Err (too_deep n.at_byte)) ps nests object h)
+geometry_means (suc d) k n ps nests object h = deeper d k (geometry_means d) n ps nests (shaped_means k n (group d) ps nests object h)
 
 -- ---- what is answered for a geometry
 
 pub geometry_is_object : {n : Node} {ps : List Piece} → IsGeometry n ps → is_object n ≡ true
-geometry_is_object (null_geometry o a e) = o.object
-geometry_is_object (point o t) = o.object
-geometry_is_object (multi_point o t) = o.object
-geometry_is_object (polygon o t a r) = o.object
-geometry_is_object (multi_polygon o t a r) = o.object
-geometry_is_object (collection o t a r gs) = o.object
+geometry_is_object (null_geometry o a e) = is_an_object o.object
+geometry_is_object (point o t) = is_an_object o.object
+geometry_is_object (multi_point o t) = is_an_object o.object
+geometry_is_object (polygon o t a r) = is_an_object o.object
+geometry_is_object (multi_polygon o t a r) = is_an_object o.object
+geometry_is_object (collection o t a r gs) = is_an_object o.object
 
 shaped_single : (d : ℕ) (n : Node) (es : List EntryNode) (g : Geometry) (m : EntryNode) (p : Piece) → members_of n ≡ Ok es → type_of es ≡ Ok (g, m) → is_collection g ≡ false → single g m n es ≡ Ok p → geometry d n ≡ Ok (p ∷ [])
 unfolding geometry
@@ -147,11 +173,11 @@ named_group {n = n} {list = list} {es = es} d ps o t at_list right gives =
     shaped_group d n es m k ps (object_gives o) is (member_is_good is_list (codes "geometries") word.Geometries es k found (rw same right)) (rw same (gives k))
 
 -- the items of a collection's list have two levels less
-two_less : (k d : ℕ) (n list : Node) (es : List EntryNode) → NestsAtMost k n → k ≤ d → HasEntries n es → value_at word.Geometries es ≡ Some list → is_list list ≡ true → (j e : ℕ) × (d ≡ suc e) × (j ≤ e) × AllByRecursion (NestsAtMost j) (items list)
-two_less k zero n list es nests le o at_list is_one =
+two_less : (k d : ℕ) (n list : Node) (es : List EntryNode) (ns : List Node) → NestsAtMost k n → k ≤ d → HasEntries n es → value_at word.Geometries es ≡ Some list → IsListOf list ns → (j e : ℕ) × (d ≡ suc e) × (j ≤ e) × AllByRecursion (NestsAtMost j) ns
+two_less k zero n list es ns nests le o at_list is_one =
     let (i, less, values) = object_nests k n es nests o in
     absurd (omega arith)
-two_less k (suc e) n list es nests le o at_list is_one =
+two_less k (suc e) n list es ns nests le o at_list is_one =
     let (i, less, values) = object_nests k n es nests o in
     let (j, lesser, all) = list_nests i list (value_nests i word.Geometries es list values at_list) is_one in
     (j, e, refl, omega arith, all)
@@ -165,11 +191,11 @@ mutual
       shaped_single d n es geo.Null m _ (object_gives o) is refl refl
   geometry_gives (point o t) k d nests le = named_single (codes "Point") d _ o t refl (λ m. refl)
   geometry_gives (multi_point o t) k d nests le = named_single (codes "MultiPoint") d _ o t refl (λ m. refl)
-  geometry_gives (polygon {arcs = arcs} {es = es} o t a r) k d nests le = named_single (codes "Polygon") d _ o t refl (λ m. rings_give form.Polygon es arcs a r)
-  geometry_gives (multi_polygon {arcs = arcs} {es = es} o t a r) k d nests le = named_single (codes "MultiPolygon") d _ o t refl (λ m. rings_give form.MultiPolygon es arcs a r)
-  geometry_gives (collection {n = n} {list = list} {es = es} {ps = ps} o t a r gs) k d nests le =
-      let (j, e, deep, less, all) = two_less k d n list es nests le o a r in
-      rw deep (named_group e ps o t a r (λ m. geometries_give gs j e all less m))
+  geometry_gives (polygon {arcs = arcs} {es = es} o t a r) k d nests le = named_single (codes "Polygon") d _ o t refl (λ m. rings_give form.Polygon es arcs a (are_lists_tested arcs r))
+  geometry_gives (multi_polygon {arcs = arcs} {es = es} o t a r) k d nests le = named_single (codes "MultiPolygon") d _ o t refl (λ m. rings_give form.MultiPolygon es arcs a (are_lists_of_lists_tested arcs r))
+  geometry_gives (collection {n = n} {list = list} {es = es} {items = ns} {ps = ps} o t a r gs) k d nests le =
+      let (j, e, deep, less, all) = two_less k d n list es ns nests le o a r in
+      rw deep (named_group e ps o t a (is_a_list r) (λ m. subst (λ ms. each_joined (inside m e) ms ≡ Ok ps) (items_told r) (geometries_give gs j e all less m)))
 
   geometries_give : {ns : List Node} {ps : List Piece} → AreGeometries ns ps → (k d : ℕ) → AllByRecursion (NestsAtMost k) ns → k ≤ d → (m : EntryNode) → each_joined (inside m d) ns ≡ Ok ps
   geometries_give no_geometry k d all le m = refl

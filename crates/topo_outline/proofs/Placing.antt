@@ -1,11 +1,11 @@
 -- The features in the order of the text, as the loops go over them.
 use Rattle.std.proofs.Common.{◌≡◌, ℕ, suc, ◌+◌, ◌<◌, ◌≤◌, List, ◌∷◌, ◌++◌, length, get_or, drop, map, refl, sym, ap, ◌∙◌, append_assoc, add-one, drop-cons}
 use Rattle.std.proofs.lemmas.List.{append-nil, drop_all}
-use Rattle.json_spans.specs.Parts.{Node}
+use Rattle.json_spans.specs.Nodes.{Node}
 use Rattle.ring_machine.specs.Document.{Form}
 use Rattle.topo_outline.specs.declared.document.Item.{Item}
 use Rattle.topo_outline.specs.declared.document.RawLayer.{RawLayer}
-use Rattle.topo_outline.specs.Outline.{leaf_of, at_most_one, leaves_in, leaves}
+use Rattle.topo_outline.specs.Layers.{leaf_of, at_most_one, leaves_in, leaves}
 use Rattle.topo_outline.specs.Views.{view_item, view_layer}
 
 tail_at : {A : Type 0} (a : A) (xs : List A) (i : ℕ) → i < length xs → a ≡ get_or xs i a → drop i xs ≡ a ∷ drop (i + 1) xs

@@ -1,17 +1,17 @@
 -- What is answered for a root, and what a fault says of it.
 use Rattle.std.proofs.Common.{◌≡◌, ◌≢◌, Bool, true, false, refl, IfOk, IfErr}
 use Rattle.std.specs.Prelude.{Result, Ok, Err}
-use Rattle.json_spans.specs.Parts.{Node}
+use Rattle.json_spans.specs.Nodes.{Node}
 use Rattle.topo_outline.specs.declared.fault.Limit.TheVariants as limit
 use Rattle.topo_outline.specs.declared.fault.OpenFault.{OpenFault}
 use Rattle.topo_outline.specs.declared.fault.OpenFault.TheVariants as open_fault
 use Rattle.topo_outline.specs.declared.shape.Outline.{Outline}
 use Rattle.topo_outline.specs.Gives.{Fails, Gives}
-use Rattle.topo_outline.specs.Shape.{OutlineText}
-use Rattle.topo_outline.specs.Outline.{few, outline}
+use Rattle.topo_outline.specs.Layers.{OutlineText, few}
+use Rattle.topo_outline.specs.Outline.{outline}
 use Rattle.topo_outline.specs.OutlineView.{view_outline}
-use Rattle.topo_outline.specs.IsOutline.{IsOutline, HasNoOutline, NestsAtMost}
-use Rattle.topo_outline.proofs.Shaped.{outline_means, outline_gives}
+use Rattle.topo_outline.specs.IsOutline.{HasOutline, HasNoOutline, NestsAtMost}
+use Rattle.topo_outline.proofs.Shaped.{outline_means, outline_few, outline_gives}
 
 -- beside an answer that is defined the code may only lack memory
 lacks_memory : (f : OpenFault) (o : OutlineText) → Fails f (Ok o) → f ≡ open_fault.OutOfMemory
@@ -21,12 +21,12 @@ lacks_memory (open_fault.Conflict s t) o h = absurd h
 lacks_memory (open_fault.TooLarge limit.Bytes) o h = absurd h
 lacks_memory _ o h = absurd cc
 
-pub opened : {A : Type 0} (root : Node) (r : Result (Outline A) OpenFault) → Gives view_outline r (outline root) → IfOk r (λ o. IsOutline root (view_outline o))
-opened root (Ok o) h = (outline_means root (view_outline o) h).0
+pub opened : {A : Type 0} (root : Node) (r : Result (Outline A) OpenFault) → Gives view_outline r (outline root) → IfOk r (λ o. HasOutline root (view_outline o))
+opened root (Ok o) h = λ k nests. outline_means k root (view_outline o) nests h
 opened root (Err f) h = tt
 
 pub few_features : {A : Type 0} (root : Node) (r : Result (Outline A) OpenFault) → Gives view_outline r (outline root) → IfOk r (λ o. few (view_outline o).layers ≡ true)
-few_features root (Ok o) h = (outline_means root (view_outline o) h).1
+few_features root (Ok o) h = outline_few root (view_outline o) h
 few_features root (Err f) h = tt
 
 none : (root : Node) (f : OpenFault) → Fails f (outline root) → f ≢ open_fault.OutOfMemory → NestsAtMost 100 root → HasNoOutline root

@@ -1,13 +1,17 @@
 -- An outline is answered exactly if it is that of the topology, and has few features.
-use Rattle.std.proofs.Common.{arith, ◌≤◌, ◌≡◌, ◌&&◌, ℕ, List, [], ◌∷◌, true, refl, ap, codes}
+use Rattle.std.proofs.Common.{arith, ◌≤◌, ◌≡◌, ◌&&◌, ℕ, List, [], ◌∷◌, true, refl, sym, ap, ap₂, subst, codes}
 use Rattle.std.specs.Prelude.{Ok, Option, Some, None, option_map}
-use Rattle.json_spans.specs.Parts.{Node}
+use Rattle.json_spans.specs.Nodes.{Node}
+use Rattle.json_spans.specs.Inside.{IsListOf}
 use Rattle.json_spans.specs.Walk.{items}
+use Rattle.json_spans.proofs.Grouped.{number_kind}
+use Rattle.json_spans.proofs.Told.{items_told, number_told, text_told, null_told, text_kind, null_kind}
 use Rattle.json_spans.specs.Kinds.{kind_of}
 use Rattle.json_spans.specs.Decoded.{decoded}
 use Rattle.json_spans.specs.declared.kinds.Kind.{Kind}
 use Rattle.json_spans.specs.declared.kinds.Kind.TheVariants as kind
 use Rattle.ring_machine.specs.Document.{Text}
+use Rattle.topo_outline.specs.declared.words.Word.{Word}
 use Rattle.topo_outline.specs.declared.words.Word.TheVariants as word
 use Rattle.topo_outline.specs.declared.words.Geometry.{Geometry}
 use Rattle.topo_outline.specs.declared.words.Geometry.TheVariants as geo
@@ -15,11 +19,13 @@ use Rattle.topo_outline.specs.declared.fault.Limit.TheVariants as limit
 use Rattle.topo_outline.specs.declared.members.Owner.TheVariants as owner
 use Rattle.topo_outline.specs.Words.{geometry_of}
 use Rattle.topo_outline.specs.Faults.{not_topology, too_large, ◌>>=◌, each}
-use Rattle.topo_outline.specs.Shape.{is_list, is_object, EntryNode, member, members_of, member_that, wrong, is_number, two_numbers, are_two_numbers, is_transform, transform_value, transform_from, is_topology_word, says_topology, is_type_text, is_topology, is_kind_object, LayerText, layer, layers, OutlineText, geometry, kept}
-use Rattle.topo_outline.specs.Outline.{few, outline_text, outlined, outline}
+use Rattle.topo_outline.specs.Members.{EntryNode, member, kept}
+use Rattle.topo_outline.specs.Layers.{LayerText, OutlineText, few}
+use Rattle.topo_outline.specs.Shape.{is_list, is_object, members_of, member_that, wrong, is_number, two_numbers, are_two_numbers, is_transform, transform_value, transform_from, is_topology_word, says_topology, is_type_text, is_topology, is_kind_object, layer, layers, geometry}
+use Rattle.topo_outline.specs.Outline.{outline_text, outlined, outline}
 use Rattle.topo_outline.specs.IsOutline.{NestsAtMost, HasEntries, value_at, HasType, AreTwoNumbers, IsGeometry, IsTransform, no_transform, null_transform, AreLayers, no_layer, IsOutline}
 use Rattle.topo_outline.specs.IsOutline as shape
-use Rattle.topo_outline.proofs.Levels.{AllNest, object_nests, value_nests}
+use Rattle.topo_outline.proofs.Levels.{AllNest, object_nests, list_nests, value_nests, list_here, is_an_object, is_a_list}
 use Rattle.topo_outline.proofs.Steps.{step, demanded, same_ok, both_true}
 use Rattle.topo_outline.proofs.Entering.{object_means, object_gives}
 use Rattle.topo_outline.proofs.Typing.{member_at, value_of_member, good_member, member_is_good, Says, topology, says}
@@ -35,22 +41,28 @@ number_means kind.Text h = absurd cc
 number_means kind.List h = absurd cc
 number_means kind.Object h = absurd cc
 
-two_mean : (n : Node) (ns : List Node) → items n ≡ ns → is_list n ≡ true → two_numbers ns ≡ true → AreTwoNumbers n
-two_mean n [] e list h = absurd cc
-two_mean n (x ∷ []) e list h = absurd cc
-two_mean n (x ∷ y ∷ []) e list h =
+two_mean : (k : ℕ) (n : Node) (ns : List Node) → NestsAtMost k n → IsListOf n ns → two_numbers ns ≡ true → AreTwoNumbers n
+two_mean k n [] nests l h = absurd cc
+two_mean k n (x ∷ []) nests l h = absurd cc
+two_mean k n (x ∷ y ∷ []) nests l h =
     let (first, second) = both_true (is_number (kind_of x.bytes)) (is_number (kind_of y.bytes)) h in
-    record { x = x; y = y; list = list; two = e; x_number = number_means _ first; y_number = number_means _ second }
-two_mean n (x ∷ y ∷ z ∷ ns) e list h = absurd cc
+    let (j, less, all) = list_nests k n nests l in
+    record { x = x; y = y; two = l; x_number = number_told all.0 (number_means _ first); y_number = number_told all.1.0 (number_means _ second) }
+two_mean k n (x ∷ y ∷ z ∷ ns) nests l h = absurd cc
 
-numbers_mean : (o : Option EntryNode) → are_two_numbers o ≡ true → (v : Node) × (option_map (λ m. m.value) o ≡ Some v) × AreTwoNumbers v
-numbers_mean None h = absurd cc
-numbers_mean (Some m) h =
-    let (list, two) = both_true (is_list m.value) (two_numbers (items m.value)) h in
-    (m.value, refl, two_mean m.value (items m.value) refl list two)
+numbers_mean : (k : ℕ) (w : Word) (es : List EntryNode) → AllNest k es → are_two_numbers (member w es) ≡ true → (v : Node) × (value_at w es ≡ Some v) × AreTwoNumbers v
+numbers_mean k w es all h = by (member w es) refl h
+  where
+    by : (o : Option EntryNode) → member w es ≡ o → are_two_numbers o ≡ true → (v : Node) × (value_at w es ≡ Some v) × AreTwoNumbers v
+    by None e h = absurd cc
+    by (Some m) e h =
+        let (list, two) = both_true (is_list m.value) (two_numbers (items m.value)) h in
+        let there = value_of_member w es m e in
+        let nests = value_nests k w es m.value all there in
+        (m.value, there, two_mean k m.value (items m.value) nests (list_here k m.value nests list) two)
 
 two_give : (v : Node) → AreTwoNumbers v → (is_list v && two_numbers (items v)) ≡ true
-two_give v t = rw (t.list, t.two, t.x_number, t.y_number) refl
+two_give v t = ap₂ (λ a b. a && b) (is_a_list t.two) (subst (λ ns. two_numbers ns ≡ true) (items_told t.two) (ap₂ (λ a b. is_number a && is_number b) (number_kind t.x_number) (number_kind t.y_number)))
 
 numbers_give : (o : Option EntryNode) (v : Node) → option_map (λ m. m.value) o ≡ Some v → AreTwoNumbers v → are_two_numbers o ≡ true
 numbers_give None v e t = absurd cc
@@ -67,45 +79,50 @@ object_of_kind kind.Text h = absurd cc
 object_of_kind kind.List h = absurd cc
 object_of_kind kind.Number h = absurd cc
 
-value_means : (m : EntryNode) (k : Kind) (t : Option Text) → kind_of m.value.bytes ≡ k → transform_value m k ≡ Ok t → IsTransform (Some m.value) t
-value_means m kind.Null t e h = rw (← same_ok h) (null_transform e)
-value_means m kind.Object t e h =
+value_means : (j : ℕ) (m : EntryNode) (k : Kind) (t : Option Text) → NestsAtMost j m.value → kind_of m.value.bytes ≡ k → transform_value m k ≡ Ok t → IsTransform (Some m.value) t
+value_means j m kind.Null t nests e h = rw (← same_ok h) (null_transform (null_told nests e))
+value_means j m kind.Object t nests e h =
     step (members_of m.value) _ h λ es entered tested.
     let (right, last) = demanded (is_transform es) (wrong m) (Ok (Some m.value.bytes)) tested in
     let (scales, translates) = both_true (are_two_numbers (member word.Scale es)) (are_two_numbers (member word.Translate es)) right in
-    let (scale, at_scale, two_scales) = numbers_mean (member word.Scale es) scales in
-    let (translate, at_translate, two_translates) = numbers_mean (member word.Translate es) translates in
-    rw (← same_ok last) (shape.transform (object_means m.value es (kind_is_object m.value e) entered) at_scale two_scales at_translate two_translates)
-value_means m kind.Bool t e h = absurd cc
-value_means m kind.Text t e h = absurd cc
-value_means m kind.List t e h = absurd cc
-value_means m kind.Number t e h = absurd cc
+    let o = object_means j m.value es nests (kind_is_object m.value e) entered in
+    let (i, less, all) = object_nests j m.value es nests o in
+    let (scale, at_scale, two_scales) = numbers_mean i word.Scale es all scales in
+    let (translate, at_translate, two_translates) = numbers_mean i word.Translate es all translates in
+    rw (← same_ok last) (shape.transform o at_scale two_scales at_translate two_translates)
+value_means j m kind.Bool t nests e h = absurd cc
+value_means j m kind.Text t nests e h = absurd cc
+value_means j m kind.List t nests e h = absurd cc
+value_means j m kind.Number t nests e h = absurd cc
 
-transform_means : (o : Option EntryNode) (t : Option Text) → transform_from o ≡ Ok t → IsTransform (option_map (λ m. m.value) o) t
-transform_means None t h = rw (← same_ok h) no_transform
-transform_means (Some m) t h = value_means m (kind_of m.value.bytes) t refl h
+transform_means : (j : ℕ) (es : List EntryNode) (t : Option Text) → AllNest j es → transform_from (member word.Transform es) ≡ Ok t → IsTransform (value_at word.Transform es) t
+transform_means j es t all h = by (member word.Transform es) refl h
+  where
+    by : (o : Option EntryNode) → member word.Transform es ≡ o → transform_from o ≡ Ok t → IsTransform (option_map (λ m. m.value) o) t
+    by None e h = rw (← same_ok h) no_transform
+    by (Some m) e h = value_means j m (kind_of m.value.bytes) t (value_nests j word.Transform es m.value all (value_of_member word.Transform es m e)) refl h
 
-transform_gives : {v : Option Node} {t : Option Text} → IsTransform v t → (o : Option EntryNode) → option_map (λ m. m.value) o ≡ v → transform_from o ≡ Ok t
+pub transform_gives : {v : Option Node} {t : Option Text} → IsTransform v t → (o : Option EntryNode) → option_map (λ m. m.value) o ≡ v → transform_from o ≡ Ok t
 transform_gives no_transform None e = refl
 transform_gives no_transform (Some m) e = absurd cc
 transform_gives (null_transform k) None e = absurd cc
-transform_gives (null_transform {n = n} k) (Some m) e = let same : m.value ≡ n = cc in rw (same, k) refl
+transform_gives (null_transform {n = n} k) (Some m) e = let same : m.value ≡ n = cc in rw (same, null_kind k) refl
 transform_gives (shape.transform a b c d f) None e = absurd cc
 transform_gives (shape.transform {n = n} {scale = s} {translate = r} {es = es} o at_scale scales at_translate translates) (Some m) e =
     let same : m.value ≡ n = cc in
-    rw (same, object_of_kind (kind_of n.bytes) o.object, object_gives o, numbers_give (member word.Scale es) s at_scale scales, numbers_give (member word.Translate es) r at_translate translates) refl
+    rw (same, object_of_kind (kind_of n.bytes) (is_an_object o.object), object_gives o, numbers_give (member word.Scale es) s at_scale scales, numbers_give (member word.Translate es) r at_translate translates) refl
 
 -- ---- the layers
 
-layers_mean : (ms : List EntryNode) (ls : List LayerText) → each layer ms ≡ Ok ls → AreLayers ms ls
+layers_mean : (k : ℕ) (ms : List EntryNode) (ls : List LayerText) → AllNest k ms → each layer ms ≡ Ok ls → AreLayers ms ls
 unfolding layer
-layers_mean [] ls h = rw (← same_ok h) no_layer
-layers_mean (m ∷ ms) ls h =
+layers_mean k [] ls nests h = rw (← same_ok h) no_layer
+layers_mean k (m ∷ ms) ls nests h =
     step (layer m) _ h λ l one more.
     step (each layer ms) _ more λ rest others last.
     let (object, inner) = demanded (is_object m.value) (wrong m) (geometry 100 m.value >>= λ ps. Ok (record { name = m.name.bytes; pieces = ps })) one in
     step (geometry 100 m.value) _ inner λ ps pieces made.
-    rw (← same_ok last, ← same_ok made) (shape.layer (geometry_means 100 m.value ps object pieces) (layers_mean ms rest others))
+    rw (← same_ok last, ← same_ok made) (shape.layer (geometry_means 100 k m.value ps nests.0 object pieces) (layers_mean k ms rest nests.1 others))
 
 layers_give : {ms : List EntryNode} {ls : List LayerText} (k : ℕ) → AreLayers ms ls → AllNest k ms → k ≤ 100 → each layer ms ≡ Ok ls
 unfolding layer
@@ -114,13 +131,13 @@ layers_give k (shape.layer g gs) nests le = rw (geometry_is_object g, geometry_g
 
 -- ---- the member `type`
 
-text_kind : (k : Kind) → is_type_text k ≡ true → k ≡ kind.Text
-text_kind kind.Text h = refl
-text_kind kind.Null h = absurd cc
-text_kind kind.Bool h = absurd cc
-text_kind kind.Number h = absurd cc
-text_kind kind.List h = absurd cc
-text_kind kind.Object h = absurd cc
+text_kind_is : (k : Kind) → is_type_text k ≡ true → k ≡ kind.Text
+text_kind_is kind.Text h = refl
+text_kind_is kind.Null h = absurd cc
+text_kind_is kind.Bool h = absurd cc
+text_kind_is kind.Number h = absurd cc
+text_kind_is kind.List h = absurd cc
+text_kind_is kind.Object h = absurd cc
 
 topology_text : (t : List ℕ) (g : Geometry) → Says t g → is_topology_word g ≡ true → t ≡ codes "Topology"
 topology_text t geo.Topology (topology e) h = e
@@ -135,22 +152,26 @@ topology_said : (o : Option (List ℕ)) → says_topology o ≡ true → o ≡ S
 topology_said None h = absurd cc
 topology_said (Some t) h = ap (λ (u : List ℕ). Some u) (topology_text t (geometry_of t) (says t) h)
 
-topology_means : (es : List EntryNode) (o : Option EntryNode) → member word.Type es ≡ o → is_topology o ≡ true → HasType es (codes "Topology")
-topology_means es None found h = absurd cc
-topology_means es (Some m) found h =
-    let (string, said) = both_true (is_type_text (kind_of m.value.bytes)) (says_topology (decoded m.value.bytes)) h in
-    record { value = m.value; there = rw found refl; string = text_kind _ string; says = topology_said _ said }
+topology_means : (j : ℕ) (es : List EntryNode) → AllNest j es → is_topology (member word.Type es) ≡ true → HasType es (codes "Topology")
+topology_means j es all h = by (member word.Type es) refl h
+  where
+    by : (o : Option EntryNode) → member word.Type es ≡ o → is_topology o ≡ true → HasType es (codes "Topology")
+    by None found h = absurd cc
+    by (Some m) found h =
+        let (string, said) = both_true (is_type_text (kind_of m.value.bytes)) (says_topology (decoded m.value.bytes)) h in
+        let there = value_of_member word.Type es m found in
+        record { value = m.value; there = there; string = text_told (value_nests j word.Type es m.value all there) (text_kind_is _ string); says = topology_said _ said }
 
 topology_gives : (es : List EntryNode) → HasType es (codes "Topology") → is_topology (member word.Type es) ≡ true
 unfolding geometry_of
 topology_gives es h =
     let (m, found, same) = member_at word.Type es h.value h.there in
-    rw (found, same, h.string, h.says) refl
+    rw (found, same, text_kind h.string, h.says) refl
 
 -- ---- the topology
 
-outlined_means : (root : Node) (es : List EntryNode) (o : OutlineText) → HasEntries root es → HasType es (codes "Topology") → outlined es ≡ Ok o → IsOutline root o × (few o.layers ≡ true)
-outlined_means root es o object typed h =
+outlined_means : (k : ℕ) (root : Node) (es : List EntryNode) (o : OutlineText) → AllNest k es → HasEntries root es → HasType es (codes "Topology") → outlined es ≡ Ok o → IsOutline root o
+outlined_means k root es o nests object typed h =
     step (transform_from (member word.Transform es)) _ h λ t transformed more.
     step (member_that is_object (codes "objects") word.Objects es) _ more λ m found most.
     step (member_that is_list (codes "arcs") word.Arcs es) _ most λ a found_arcs rest.
@@ -159,30 +180,47 @@ outlined_means root es o object typed h =
     step (members_of m.value) (each layer) layered λ named entered one_by_one.
     let (there, is_one) = good_member is_object (codes "objects") word.Objects es m found in
     let (arcs_there, is_arcs) = good_member is_list (codes "arcs") word.Arcs es a found_arcs in
-    rw (← same_ok made) (
-      record {
-        entries = es;
-        objects = m.value;
-        named = named;
-        of_root = object;
-        topology = typed;
-        transform = transform_means (member word.Transform es) t transformed;
-        has_objects = value_of_member word.Objects es m there;
-        of_objects = object_means m.value named is_one entered;
-        layers = layers_mean named ls one_by_one;
-        has_arcs = value_of_member word.Arcs es a arcs_there;
-        are_arcs = is_arcs;
-        members = refl;
-      },
-      small,
-    )
+    let at_objects = value_of_member word.Objects es m there in
+    let at_arcs = value_of_member word.Arcs es a arcs_there in
+    let inside = value_nests k word.Objects es m.value nests at_objects in
+    let o = object_means k m.value named inside is_one entered in
+    let (j, less, all) = object_nests k m.value named inside o in
+    rw (← same_ok made) (record {
+      entries = es;
+      objects = m.value;
+      named = named;
+      of_root = object;
+      topology = typed;
+      transform = transform_means k es t nests transformed;
+      has_objects = at_objects;
+      of_objects = o;
+      layers = layers_mean j named ls all one_by_one;
+      has_arcs = at_arcs;
+      are_arcs = (items a.value, list_here k a.value (value_nests k word.Arcs es a.value nests at_arcs) is_arcs);
+      members = refl;
+    })
 
-pub outline_means : (root : Node) (o : OutlineText) → outline root ≡ Ok o → IsOutline root o × (few o.layers ≡ true)
-outline_means root o h =
+pub outline_means : (k : ℕ) (root : Node) (o : OutlineText) → NestsAtMost k root → outline root ≡ Ok o → IsOutline root o
+outline_means k root o nests h =
     let (object, more) = demanded (is_object root) not_topology _ h in
     step (members_of root) _ more λ es entered most.
     let (right, last) = demanded (is_topology (member word.Type es)) not_topology (outlined es) most in
-    outlined_means root es o (object_means root es object entered) (topology_means es (member word.Type es) refl right) last
+    let of_root = object_means k root es nests object entered in
+    let (j, less, all) = object_nests k root es nests of_root in
+    outlined_means j root es o all of_root (topology_means j es all right) last
+
+-- an outline that is answered has few features
+pub outline_few : (root : Node) (o : OutlineText) → outline root ≡ Ok o → few o.layers ≡ true
+outline_few root o h =
+    let (object, more) = demanded (is_object root) not_topology _ h in
+    step (members_of root) _ more λ es entered most.
+    let (right, last) = demanded (is_topology (member word.Type es)) not_topology (outlined es) most in
+    step (transform_from (member word.Transform es)) _ last λ t transformed rest.
+    step (member_that is_object (codes "objects") word.Objects es) _ rest λ m found further.
+    step (member_that is_list (codes "arcs") word.Arcs es) _ further λ a found_arcs left.
+    step (layers m.value) _ left λ ls layered limit_tested.
+    let (small, made) = demanded (few ls) (too_large limit.Features) (Ok (outline_text t ls a.value es)) limit_tested in
+    rw (← same_ok made) small
 
 layers_of_object : {n : Node} {es : List EntryNode} {ls : List LayerText} (k : ℕ) → HasEntries n es → AreLayers es ls → NestsAtMost k n → k ≤ 100 → layers n ≡ Ok ls
 layers_of_object {n = n} {es = es} k o l nests le =
@@ -197,10 +235,10 @@ outline_gives root o nests s small =
     let (k, less, all) = object_nests 100 root s.entries nests s.of_root in
     let (m, found, same) = member_at word.Objects s.entries s.objects s.has_objects in
     let (a, found_arcs, same_arcs) = member_at word.Arcs s.entries o.arcs s.has_arcs in
-    rw (s.of_root.object, object_gives s.of_root, topology_gives s.entries s.topology) (
+    rw (is_an_object s.of_root.object, object_gives s.of_root, topology_gives s.entries s.topology) (
     outlined_gives s.entries o m a
     (transform_gives s.transform (member word.Transform s.entries) refl)
-    (member_is_good is_object (codes "objects") word.Objects s.entries m found (rw same s.of_objects.object))
-    (member_is_good is_list (codes "arcs") word.Arcs s.entries a found_arcs (rw same_arcs s.are_arcs))
+    (member_is_good is_object (codes "objects") word.Objects s.entries m found (rw same (is_an_object s.of_objects.object)))
+    (member_is_good is_list (codes "arcs") word.Arcs s.entries a found_arcs (rw same_arcs (is_a_list s.are_arcs.1)))
     (rw same (layers_of_object k s.of_objects s.layers (value_nests k word.Objects s.entries s.objects all s.has_objects) (omega arith)))
     same_arcs small s.members)

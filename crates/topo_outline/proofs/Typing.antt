@@ -2,19 +2,23 @@
 use Rattle.std.proofs.Common.{◌≡◌, ◌||◌, if◌then◌else◌, List, ℕ, Bool, true, false, refl, ap, codes}
 use Rattle.std.specs.Prelude.{Ok, Option, Some, None, option_map}
 use Rattle.std.proofs.lemmas.Slice.Eq.{bytes_eq-Decides}
-use Rattle.json_spans.specs.Parts.{Node}
+use Rattle.json_spans.specs.Nodes.{Node}
+use Rattle.json_spans.specs.Inside.{IsText, IsNull}
 use Rattle.json_spans.specs.Kinds.{kind_of}
 use Rattle.json_spans.specs.Decoded.{decoded}
 use Rattle.json_spans.specs.declared.kinds.Kind.{Kind}
 use Rattle.json_spans.specs.declared.kinds.Kind.TheVariants as kind
+use Rattle.json_spans.proofs.Told.{text_told, null_told, text_kind, null_kind}
 use Rattle.topo_outline.specs.declared.words.Word.{Word}
 use Rattle.topo_outline.specs.declared.words.Word.TheVariants as word
 use Rattle.topo_outline.specs.declared.words.Geometry.{Geometry}
 use Rattle.topo_outline.specs.declared.words.Geometry.TheVariants as geo
 use Rattle.topo_outline.specs.Words.{geometry_of}
-use Rattle.topo_outline.specs.Shape.{EntryNode, member, there, wrong, member_that, text_from, type_text, type_of}
-use Rattle.topo_outline.specs.IsOutline.{value_at, HasType}
+use Rattle.topo_outline.specs.Members.{EntryNode, member}
+use Rattle.topo_outline.specs.Shape.{there, wrong, member_that, text_from, type_text, type_of}
+use Rattle.topo_outline.specs.IsOutline.{value_at, HasType, NestsAtMost}
 use Rattle.topo_outline.proofs.Steps.{step, demanded, same_ok}
+use Rattle.topo_outline.proofs.Levels.{AllNest, value_nests}
 use Rattle.topo_outline.proofs.Entering.{text_is}
 
 -- ---- members
@@ -76,7 +80,7 @@ says t =
 
 -- what the member `type` says of an object with these members
 pub data IsOfType (es : List EntryNode) : Geometry → Type 0 where
-  null_type : {v : Node} → value_at word.Type es ≡ Some v → kind_of v.bytes ≡ kind.Null → IsOfType es geo.Null
+  null_type : {v : Node} → value_at word.Type es ≡ Some v → IsNull v.bytes → IsOfType es geo.Null
   polygon_type : HasType es (codes "Polygon") → IsOfType es geo.Polygon
   multi_polygon_type : HasType es (codes "MultiPolygon") → IsOfType es geo.MultiPolygon
   collection_type : HasType es (codes "GeometryCollection") → IsOfType es geo.Collection
@@ -85,7 +89,7 @@ pub data IsOfType (es : List EntryNode) : Geometry → Type 0 where
   topology_type : HasType es (codes "Topology") → IsOfType es geo.Topology
   other_type : IsOfType es geo.Other
 
-typed : (es : List EntryNode) (v : Node) (t : List ℕ) (g : Geometry) → value_at word.Type es ≡ Some v → kind_of v.bytes ≡ kind.Text → decoded v.bytes ≡ Some t → Says t g → IsOfType es g
+typed : (es : List EntryNode) (v : Node) (t : List ℕ) (g : Geometry) → value_at word.Type es ≡ Some v → IsText v.bytes → decoded v.bytes ≡ Some t → Says t g → IsOfType es g
 typed es v t g m k d (polygon e) = polygon_type (record { value = v; there = m; string = k; says = rw e at d })
 typed es v t g m k d (multi_polygon e) = multi_polygon_type (record { value = v; there = m; string = k; says = rw e at d })
 typed es v t g m k d (collection e) = collection_type (record { value = v; there = m; string = k; says = rw e at d })
@@ -94,25 +98,26 @@ typed es v t g m k d (multi_point e) = multi_point_type (record { value = v; the
 typed es v t g m k d (topology e) = topology_type (record { value = v; there = m; string = k; says = rw e at d })
 typed es v t g m k d other = other_type
 
-typed_text : (es : List EntryNode) (m : EntryNode) (g : Geometry) (k : Kind) → member word.Type es ≡ Some m → kind_of m.value.bytes ≡ k → type_text m k ≡ Ok g → IsOfType es g
-typed_text es m g kind.Null found e h =
+typed_text : (j : ℕ) (es : List EntryNode) (m : EntryNode) (g : Geometry) (k : Kind) → NestsAtMost j m.value → member word.Type es ≡ Some m → kind_of m.value.bytes ≡ k → type_text m k ≡ Ok g → IsOfType es g
+typed_text j es m g kind.Null nests found e h =
     let same : geo.Null ≡ g = same_ok h in
-    rw (← same) (null_type {v = m.value} (rw found refl) e)
-typed_text es m g kind.Text found e h =
+    rw (← same) (null_type {v = m.value} (rw found refl) (null_told nests e))
+typed_text j es m g kind.Text nests found e h =
     step (text_from (wrong m) (decoded m.value.bytes)) _ h λ t says_it last.
     let same : geometry_of t ≡ g = same_ok last in
-    rw (← same) (typed es m.value t (geometry_of t) (rw found refl) e (text_is _ _ says_it) (says t))
-typed_text es m g kind.Bool found e h = absurd cc
-typed_text es m g kind.Number found e h = absurd cc
-typed_text es m g kind.List found e h = absurd cc
-typed_text es m g kind.Object found e h = absurd cc
+    rw (← same) (typed es m.value t (geometry_of t) (rw found refl) (text_told nests e) (text_is _ _ says_it) (says t))
+typed_text j es m g kind.Bool nests found e h = absurd cc
+typed_text j es m g kind.Number nests found e h = absurd cc
+typed_text j es m g kind.List nests found e h = absurd cc
+typed_text j es m g kind.Object nests found e h = absurd cc
 
-pub type_means : (es : List EntryNode) (g : Geometry) (m : EntryNode) → type_of es ≡ Ok (g, m) → IsOfType es g
-type_means es g m h =
+pub type_means : (j : ℕ) (es : List EntryNode) (g : Geometry) (m : EntryNode) → AllNest j es → type_of es ≡ Ok (g, m) → IsOfType es g
+type_means j es g m all h =
     step (there (codes "type") (member word.Type es)) _ h λ k found read.
     step (type_text k (kind_of k.value.bytes)) _ read λ f said last.
+    let at_type = is_there _ _ found in
     let same : (f, k) ≡ (g, m) = same_ok last in
-    rw (← ap (λ (p : Geometry × EntryNode). p.0) same) (typed_text es k f (kind_of k.value.bytes) (is_there _ _ found) refl said)
+    rw (← ap (λ (p : Geometry × EntryNode). p.0) same) (typed_text j es k f (kind_of k.value.bytes) (value_nests j word.Type es k.value all (value_of_member word.Type es k at_type)) at_type refl said)
 
 type_at : (es : List EntryNode) (m : EntryNode) (t : List ℕ) → member word.Type es ≡ Some m → kind_of m.value.bytes ≡ kind.Text → decoded m.value.bytes ≡ Some t → type_of es ≡ Ok (geometry_of t, m)
 type_at es m t found k d = rw (found, k, d) refl
@@ -123,9 +128,9 @@ null_at es m found k = rw (found, k) refl
 pub type_gives : (es : List EntryNode) (t : List ℕ) → HasType es t → (m : EntryNode) × (type_of es ≡ Ok (geometry_of t, m))
 type_gives es t h =
     let (m, found, same) = member_at word.Type es h.value h.there in
-    (m, type_at es m t found (rw same h.string) (rw same h.says))
+    (m, type_at es m t found (rw same (text_kind h.string)) (rw same h.says))
 
-pub null_gives : (es : List EntryNode) (v : Node) → value_at word.Type es ≡ Some v → kind_of v.bytes ≡ kind.Null → (m : EntryNode) × (type_of es ≡ Ok (geo.Null, m))
+pub null_gives : (es : List EntryNode) (v : Node) → value_at word.Type es ≡ Some v → IsNull v.bytes → (m : EntryNode) × (type_of es ≡ Ok (geo.Null, m))
 null_gives es v h k =
     let (m, found, same) = member_at word.Type es v h in
-    (m, null_at es m found (rw same k))
+    (m, null_at es m found (rw same (null_kind k)))

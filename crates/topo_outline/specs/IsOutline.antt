@@ -1,19 +1,16 @@
--- What the outline of a topology is, by cases, with no order of faults.
-use Rattle.std.specs.Prelude.{◌≡◌, ◌≢◌, ℕ, List, [], ◌∷◌, ◌++◌, true, false, codes, Option, Some, None, option_map}
+-- What the outline of a topology is, by the grammar of JSON and with no order of faults.
+use Rattle.std.specs.Prelude.{◌≡◌, ◌≢◌, ℕ, List, [], ◌∷◌, ◌++◌, false, codes, Option, Some, None, option_map}
 use Rattle.std.specs.List.{AllPairs}
-use Rattle.json_spans.specs.Parts.{Node}
-use Rattle.json_spans.specs.Walk.{items, members}
-use Rattle.json_spans.specs.Inside.{IsValue}
-use Rattle.json_spans.specs.Kinds.{kind_of}
+use Rattle.json_spans.specs.Nodes.{Node}
+use Rattle.json_spans.specs.Inside.{IsValue, IsText, IsNumber, IsNull, IsListOf, IsObjectOf, IsList, IsListWith}
 use Rattle.json_spans.specs.Decoded.{decoded}
-use Rattle.json_spans.specs.declared.kinds.Kind.TheVariants as kind
 use Rattle.ring_machine.specs.Document.{Text}
 use Rattle.ring_machine.specs.Document as form
 use Rattle.topo_outline.specs.declared.words.Word.{Word}
 use Rattle.topo_outline.specs.declared.words.Word.TheVariants as word
 use Rattle.topo_outline.specs.declared.members.Owner.TheVariants as owner
-use Rattle.topo_outline.specs.Shape.{is_list, is_object, EntryNode, entry_of, member, kept, head, Piece, starts, ends, leaf, text, are_lists, are_lists_of_lists, LayerText, OutlineText}
-use Rattle.topo_outline.specs.Outline.{few}
+use Rattle.topo_outline.specs.Members.{EntryNode, entry_of, member, kept, head}
+use Rattle.topo_outline.specs.Layers.{Piece, starts, ends, leaf, text, LayerText, OutlineText, few}
 
 -- ---- objects
 
@@ -26,9 +23,10 @@ pub data Entries : List (Node × Node) → List (List ℕ) → List EntryNode �
 
 -- an object with these members, of whose names no two stand for one text (RFC 8259, 4)
 pub record HasEntries (n : Node) (es : List EntryNode) : Type 0 where
+  pub members : List (Node × Node)
   pub names : List (List ℕ)
-  pub object : is_object n ≡ true
-  pub entries : Entries (members n) names es
+  pub object : IsObjectOf n members
+  pub entries : Entries members names es
   pub differ : AllPairs (λ t u. t ≢ u) names
 
 -- the value of the member with this name
@@ -39,7 +37,7 @@ value_at w es = option_map (λ m. m.value) (member w es)
 pub record HasType (es : List EntryNode) (name : List ℕ) : Type 0 where
   pub value : Node
   pub there : value_at word.Type es ≡ Some value
-  pub string : kind_of value.bytes ≡ kind.Text
+  pub string : IsText value.bytes
   pub says : decoded value.bytes ≡ Some name
 
 -- ---- the transform
@@ -48,16 +46,15 @@ pub record HasType (es : List EntryNode) (name : List ℕ) : Type 0 where
 pub record AreTwoNumbers (n : Node) : Type 0 where
   pub x : Node
   pub y : Node
-  pub list : is_list n ≡ true
-  pub two : items n ≡ x ∷ y ∷ []
-  pub x_number : kind_of x.bytes ≡ kind.Number
-  pub y_number : kind_of y.bytes ≡ kind.Number
+  pub two : IsListOf n (x ∷ y ∷ [])
+  pub x_number : IsNumber x.bytes
+  pub y_number : IsNumber y.bytes
 
 -- no transform, null, or the text of an object whose `scale` and `translate` are two numbers each
 -- (TopoJSON 1.0, 2.1.2)
 pub data IsTransform : Option Node → Option Text → Type 0 where
   no_transform : IsTransform None None
-  null_transform : {n : Node} → kind_of n.bytes ≡ kind.Null → IsTransform (Some n) None
+  null_transform : {n : Node} → IsNull n.bytes → IsTransform (Some n) None
   transform : {n scale translate : Node} {es : List EntryNode} →
       HasEntries n es →
       value_at word.Scale es ≡ Some scale → AreTwoNumbers scale →
@@ -66,12 +63,20 @@ pub data IsTransform : Option Node → Option Text → Type 0 where
 
 -- ---- geometries
 
+-- a polygon's arcs: a list of rings, each a list (TopoJSON 1.0, 2.2.5)
+abbrev pub AreLists : Node → Type 0
+AreLists n = IsListWith IsList n
+
+-- the arcs of several polygons (TopoJSON 1.0, 2.2.6)
+abbrev pub AreListsOfLists : Node → Type 0
+AreListsOfLists n = IsListWith AreLists n
+
 mutual
   -- a geometry object, and its pieces in the order of the text (TopoJSON 1.0, 2.2)
   pub data IsGeometry : Node → List Piece → Type 0 where
     -- an object without geometry: a feature without polygons
     null_geometry : {n value : Node} {es : List EntryNode} →
-        HasEntries n es → value_at word.Type es ≡ Some value → kind_of value.bytes ≡ kind.Null →
+        HasEntries n es → value_at word.Type es ≡ Some value → IsNull value.bytes →
         IsGeometry n (leaf form.Null (head owner.Null es) n ∷ [])
     -- 2.2.1 and 2.2.2: the whole text is kept
     point : {n : Node} {es : List EntryNode} →
@@ -80,21 +85,21 @@ mutual
     multi_point : {n : Node} {es : List EntryNode} →
         HasEntries n es → HasType es (codes "MultiPoint") →
         IsGeometry n (text n.bytes ∷ [])
-    -- 2.2.5: `arcs` is a list of rings, each a list
+    -- 2.2.5
     polygon : {n arcs : Node} {es : List EntryNode} →
         HasEntries n es → HasType es (codes "Polygon") →
-        value_at word.Arcs es ≡ Some arcs → are_lists arcs ≡ true →
+        value_at word.Arcs es ≡ Some arcs → AreLists arcs →
         IsGeometry n (leaf form.Polygon (head owner.Rings es) arcs ∷ [])
-    -- 2.2.6: `arcs` is a list of polygons, each a list of rings
+    -- 2.2.6
     multi_polygon : {n arcs : Node} {es : List EntryNode} →
         HasEntries n es → HasType es (codes "MultiPolygon") →
-        value_at word.Arcs es ≡ Some arcs → are_lists_of_lists arcs ≡ true →
+        value_at word.Arcs es ≡ Some arcs → AreListsOfLists arcs →
         IsGeometry n (leaf form.MultiPolygon (head owner.Rings es) arcs ∷ [])
     -- 2.2.7: `geometries` is a list of geometry objects
-    collection : {n list : Node} {es : List EntryNode} {ps : List Piece} →
+    collection : {n list : Node} {es : List EntryNode} {items : List Node} {ps : List Piece} →
         HasEntries n es → HasType es (codes "GeometryCollection") →
-        value_at word.Geometries es ≡ Some list → is_list list ≡ true →
-        AreGeometries (items list) ps →
+        value_at word.Geometries es ≡ Some list → IsListOf list items →
+        AreGeometries items ps →
         IsGeometry n (starts (head owner.Collection es) ∷ ps ++ ends ∷ [])
 
   -- geometry objects one after another, and their pieces joined
@@ -124,8 +129,12 @@ pub record IsOutline (root : Node) (o : OutlineText) : Type 0 where
   pub of_objects : HasEntries objects named
   pub layers : AreLayers named o.layers
   pub has_arcs : value_at word.Arcs entries ≡ Some o.arcs
-  pub are_arcs : is_list o.arcs ≡ true
+  pub are_arcs : IsList o.arcs
   pub members : o.members ≡ kept owner.Topology entries
+
+-- if a value stands there, it is a topology with this outline
+abbrev pub HasOutline : Node → OutlineText → Type 0
+HasOutline root o = (levels : ℕ) → IsValue levels root.bytes → IsOutline root o
 
 -- what stands there is no topology with at most 200,000 features
 abbrev pub HasNoOutline : Node → Type 0

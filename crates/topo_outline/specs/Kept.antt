@@ -8,7 +8,8 @@ use Rattle.ring_machine.specs.Document as form
 use Rattle.topo_outline.specs.declared.members.Owner.{Owner}
 use Rattle.topo_outline.specs.declared.members.Owner.TheVariants as owner
 use Rattle.topo_outline.specs.Words.{word_of}
-use Rattle.topo_outline.specs.Shape.{is_known, text}
+use Rattle.topo_outline.specs.Members.{is_known}
+use Rattle.topo_outline.specs.Layers.{text}
 use Rattle.topo_outline.specs.IsOutline.{IsTransform, IsGeometry}
 
 -- a JSON value, however deep (RFC 8259, 3)

@@ -1,6 +1,8 @@
 pub mod Words
 pub mod Faults
 pub mod Gives
+pub mod Members
+pub mod Layers
 pub mod Shape
 pub mod Outline
 pub mod IsOutline

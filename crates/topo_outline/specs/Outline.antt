@@ -1,32 +1,16 @@
--- The outline of a topology: its shape, and what its features are.
-use Rattle.std.specs.Prelude.{List, [], ◌∷◌, ◌++◌, length, Bool, nat_le, codes, Option, Some, None, Result, Ok}
-use Rattle.json_spans.specs.Parts.{Node}
+-- The outline of a topology, or the first fault of its shape.
+use Rattle.std.specs.Prelude.{List, codes, Option, Result, Ok}
+use Rattle.json_spans.specs.Nodes.{Node}
 use Rattle.topo_outline.specs.declared.fault.Limit.TheVariants as limit
-use Rattle.ring_machine.specs.Document.{Text, Form}
+use Rattle.ring_machine.specs.Document.{Text}
 use Rattle.topo_outline.specs.declared.words.Word.TheVariants as word
 use Rattle.topo_outline.specs.declared.members.Owner.TheVariants as owner
 use Rattle.topo_outline.specs.Faults.{Fault, not_topology, too_large, ◌>>=◌, demand}
-use Rattle.topo_outline.specs.Shape.{EntryNode, LayerText, OutlineText, Piece, starts, ends, leaf, text, members_of, member, member_that, is_list, is_object, is_topology, transform_from, layers, kept}
-
--- a feature's form, and where its arcs stand
-abbrev pub leaf_of : Piece → Option (Form × Node)
-leaf_of (starts h) = None
-leaf_of ends = None
-leaf_of (leaf f h n) = Some (f, n)
-leaf_of (text t) = None
-
-abbrev pub at_most_one : {A : Type 0} → Option A → List A
-at_most_one None = []
-at_most_one (Some a) = a ∷ []
-
--- the features in the order of the text
-unfoldable pub leaves_in : List Piece → List (Form × Node)
-leaves_in [] = []
-leaves_in (p ∷ ps) = at_most_one (leaf_of p) ++ leaves_in ps
-
-unfoldable pub leaves : List LayerText → List (Form × Node)
-leaves [] = []
-leaves (l ∷ ls) = leaves_in l.pieces ++ leaves ls
+use Rattle.topo_outline.specs.Members.{EntryNode, member, kept}
+use Rattle.topo_outline.specs.Layers.{LayerText, OutlineText}
+pub use Rattle.topo_outline.specs.Layers.{leaf_of, at_most_one, few}
+unfoldable pub use Rattle.topo_outline.specs.Layers.{leaves_in, leaves}
+use Rattle.topo_outline.specs.Shape.{members_of, member_that, is_list, is_object, is_topology, transform_from, layers}
 
 -- the outline of a topology with these members
 abbrev pub outline_text : Option Text → List LayerText → Node → List EntryNode → OutlineText
@@ -36,10 +20,6 @@ outline_text t ls arcs' ms = record {
   arcs = arcs';
   members = kept owner.Topology ms;
 }
-
--- at most 200,000 features
-abbrev pub few : List LayerText → Bool
-few ls = nat_le (length (leaves ls)) 200000
 
 abbrev pub limited : OutlineText → Result OutlineText Fault
 limited o = demand (few o.layers) (too_large limit.Features) (Ok o)

@@ -2,8 +2,7 @@
 use Rattle.std.specs.Prelude.{◌≡◌, map, option_map}
 use Rattle.json_spans.specs.Left.{node}
 use Rattle.topo_outline.specs.declared.shape.Outline.{Outline}
-use Rattle.topo_outline.specs.Shape.{OutlineText}
-use Rattle.topo_outline.specs.Outline.{leaves}
+use Rattle.topo_outline.specs.Layers.{OutlineText, leaves}
 use Rattle.topo_outline.specs.Views.{view_layer, view_kept, view_place}
 
 abbrev pub view_outline : {A : Type 0} → Outline A → OutlineText

@@ -1,14 +1,14 @@
 -- The shape of a topology: its names, its transform, its layers of geometries depth first.
-use Rattle.std.specs.Prelude.{ℕ, zero, suc, ◌-◌, ◌==◌, ◌&&◌, List, [], ◌∷◌, ◌++◌, length, take, drop, map, filter, Bool, true, false, not, if◌then◌else◌, codes, Option, Some, None, option_map, Result, Ok, Err, find}
+use Rattle.std.specs.Prelude.{ℕ, zero, suc, ◌-◌, ◌&&◌, List, [], ◌∷◌, ◌++◌, length, take, drop, Bool, true, false, not, if◌then◌else◌, codes, Option, Some, None, Result, Ok, Err}
 use Rattle.std.specs.List.{list_any, list_all}
 use Rattle.std.specs.Str.{bytes_eq}
-use Rattle.json_spans.specs.Parts.{Node}
+use Rattle.json_spans.specs.Nodes.{Node}
 use Rattle.json_spans.specs.Walk.{items, members}
 use Rattle.json_spans.specs.Kinds.{kind_of}
 use Rattle.json_spans.specs.Decoded.{decoded}
 use Rattle.json_spans.specs.declared.kinds.Kind.{Kind}
 use Rattle.json_spans.specs.declared.kinds.Kind.TheVariants as kind
-use Rattle.ring_machine.specs.Document.{Text, Form, Head, Member}
+use Rattle.ring_machine.specs.Document.{Text, Form}
 use Rattle.ring_machine.specs.Document as form
 use Rattle.topo_outline.specs.declared.words.Word.{Word}
 use Rattle.topo_outline.specs.declared.words.Word.TheVariants as word
@@ -16,7 +16,9 @@ use Rattle.topo_outline.specs.declared.words.Geometry.{Geometry}
 use Rattle.topo_outline.specs.declared.words.Geometry.TheVariants as geo
 use Rattle.topo_outline.specs.declared.members.Owner.{Owner}
 use Rattle.topo_outline.specs.declared.members.Owner.TheVariants as owner
-use Rattle.topo_outline.specs.Words.{word_of, geometry_of}
+use Rattle.topo_outline.specs.Words.{geometry_of}
+pub use Rattle.topo_outline.specs.Members.{EntryNode, entry_of, code, member, is_known, kept_text, kept, text_of, head}
+pub use Rattle.topo_outline.specs.Layers.{Piece, starts, ends, leaf, text, LayerText, OutlineText}
 use Rattle.topo_outline.specs.Faults.{Fault, too_deep, bad_member, duplicate, unsupported, ◌>>=◌, each, demand}
 
 -- ---- the kinds of values
@@ -37,12 +39,6 @@ is_object n = is_kind_object (kind_of n.bytes)
 
 -- ---- names
 
--- a member of an object (RFC 8259, 4): what its decoded name says, its name and its value
-pub record EntryNode : Type 0 where
-  pub word : Word
-  pub name : Node
-  pub value : Node
-
 -- a string's token without its quotes
 abbrev pub unquoted : List ℕ → List ℕ
 unquoted xs = take (length xs - 1 - 1) (drop 1 xs)
@@ -54,9 +50,6 @@ text_from f (Some t) = Ok t
 -- the text that a name stands for (RFC 8259, 7)
 abbrev pub name_text : Node → Result (List ℕ) Fault
 name_text n = text_from (bad_member (unquoted n.bytes)) (decoded n.bytes)
-
-abbrev pub entry_of : List ℕ → Node × Node → EntryNode
-entry_of t m = record { word = word_of t; name = m.0; value = m.1 }
 
 -- the members in order, each tested against the texts of those before it
 unfoldable pub named : List (List ℕ) → List (Node × Node) → Result (List EntryNode) Fault
@@ -70,24 +63,6 @@ named seen (m ∷ ms) = do
 -- the members, where their decoded names differ
 abbrev pub members_of : Node → Result (List EntryNode) Fault
 members_of n = named [] (members n)
-
--- the place of a word in the list of words
-abbrev pub code : Word → ℕ
-code word.Type = 0
-code word.Transform = 1
-code word.Objects = 2
-code word.Arcs = 3
-code word.Geometries = 4
-code word.Id = 5
-code word.Properties = 6
-code word.Bbox = 7
-code word.Scale = 8
-code word.Translate = 9
-code word.Other = 10
-
--- the member with this name
-abbrev pub member : Word → List EntryNode → Option EntryNode
-member w ms = find (λ m. code m.word == code w) ms
 
 -- a wrong member is named as it stands
 abbrev pub wrong : EntryNode → Fault
@@ -110,50 +85,7 @@ member_that good expected w ms = do
   m ← named_member expected w ms
   member_if (good m.value) m
 
--- ---- kept members
-
--- known to the reader, or a bounding box, which is dropped (TopoJSON 1.0, 3)
-abbrev pub is_known : Owner → Word → Bool
-is_known o word.Type = true
-is_known o word.Bbox = true
-is_known owner.Topology word.Transform = true
-is_known owner.Topology word.Objects = true
-is_known owner.Topology word.Arcs = true
-is_known owner.Rings word.Arcs = true
-is_known owner.Collection word.Geometries = true
-is_known owner.Rings word.Id = true
-is_known owner.Rings word.Properties = true
-is_known owner.Collection word.Id = true
-is_known owner.Collection word.Properties = true
-is_known owner.Null word.Id = true
-is_known owner.Null word.Properties = true
-is_known _ _ = false
-
-abbrev pub kept_text : EntryNode → Member
-kept_text m = record { name = m.name.bytes; value = m.value.bytes }
-
--- every other member is kept, in order
-abbrev pub kept : Owner → List EntryNode → List Member
-kept o ms = map kept_text (filter (λ m. not (is_known o m.word)) ms)
-
-abbrev pub text_of : Word → List EntryNode → Option Text
-text_of w ms = option_map (λ m. m.value.bytes) (member w ms)
-
-abbrev pub head : Owner → List EntryNode → Head
-head o ms = record {
-  id = text_of word.Id ms;
-  properties = text_of word.Properties ms;
-  members = kept o ms;
-}
-
 -- ---- geometries
-
--- a collection stands from its start to the end that belongs to it (TopoJSON 1.0, 2.2.7)
-pub data Piece : Type 0 where
-  starts : Head → Piece
-  ends : Piece
-  leaf : Form → Head → Node → Piece
-  text : Text → Piece
 
 -- a polygon's arcs: a list of rings (TopoJSON 1.0, 2.2.5)
 abbrev pub are_lists : Node → Bool
@@ -228,11 +160,6 @@ geometry (suc d) n = shaped n (λ ms list. do
 
 -- ---- layers
 
--- a named geometry of `objects` (TopoJSON 1.0, 2.1.5)
-pub record LayerText : Type 0 where
-  pub name : Text
-  pub pieces : List Piece
-
 unfoldable pub layer : EntryNode → Result LayerText Fault
 layer m = demand (is_object m.value) (wrong m) (do
   ps ← geometry 100 m.value
@@ -291,10 +218,3 @@ abbrev pub is_topology : Option EntryNode → Bool
 is_topology None = false
 is_topology (Some m) =
     is_type_text (kind_of m.value.bytes) && says_topology (decoded m.value.bytes)
-
--- a topology's text, where `arcs` is the list of its arcs
-pub record OutlineText : Type 0 where
-  pub transform : Option Text
-  pub layers : List LayerText
-  pub arcs : Node
-  pub members : List Member

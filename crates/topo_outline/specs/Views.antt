@@ -1,7 +1,7 @@
 -- What the code holds, as the definitions see it.
 use Rattle.std.specs.Prelude.{map, option_map}
 use Rattle.json_spans.specs.Left.{node}
-use Rattle.json_spans.specs.Parts.{Node}
+use Rattle.json_spans.specs.Nodes.{Node}
 use Rattle.ring_machine.specs.Document.{Form, Polygon, MultiPolygon, Null, Head, Member}
 use Rattle.topo_outline.specs.declared.entries.Entry.{Entry}
 use Rattle.topo_outline.specs.declared.document.Form.{Form as CodeForm}
@@ -12,7 +12,8 @@ use Rattle.topo_outline.specs.declared.document.Item.{Item}
 use Rattle.topo_outline.specs.declared.document.Item.TheVariants as item
 use Rattle.topo_outline.specs.declared.document.RawLayer.{RawLayer}
 use Rattle.topo_outline.specs.declared.places.Place.{Place}
-use Rattle.topo_outline.specs.Shape.{EntryNode, Piece, starts, ends, leaf, text, LayerText}
+use Rattle.topo_outline.specs.Members.{EntryNode}
+use Rattle.topo_outline.specs.Layers.{Piece, starts, ends, leaf, text, LayerText}
 
 -- the form in the definitions
 abbrev pub form_of : CodeForm → Form

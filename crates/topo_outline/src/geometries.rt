@@ -3,7 +3,9 @@ ghost use Rattle.std.specs.Prelude.{◌≡◌, ◌++◌, [], ◌∷◌, map, OnO
 ghost use Rattle.json_spans.specs.Left.{node};
 ghost use Rattle.json_spans.specs.Kinds.{kind_of};
 ghost use Rattle.topo_outline.specs.Gives.{Gives, Appends};
-ghost use Rattle.topo_outline.specs.Shape.{type_text, type_of, are_lists, are_lists_of_lists, are_rings, member_that, with_rings, leaf, head, single, is_object, is_collection, geometry};
+ghost use Rattle.topo_outline.specs.Members.{head};
+ghost use Rattle.topo_outline.specs.Layers.{leaf};
+ghost use Rattle.topo_outline.specs.Shape.{type_text, type_of, are_lists, are_lists_of_lists, are_rings, member_that, with_rings, single, is_object, is_collection, geometry};
 ghost use Rattle.topo_outline.specs.Views.{form_of, view_entry, view_item};
 
 use crate::document::{Form, Item, RawFeature};

@@ -4,7 +4,8 @@ ghost use Rattle.std.specs.BTreeSet.{contains_text};
 ghost use Rattle.std.specs.Str.{bytes_eq};
 ghost use Rattle.json_spans.specs.Left.{node};
 ghost use Rattle.topo_outline.specs.Gives.{Gives};
-ghost use Rattle.topo_outline.specs.Shape.{unquoted, name_text, members_of, code, member, named_member, member_if, member_that, is_list, is_object, is_known, kept, text_of, head};
+ghost use Rattle.topo_outline.specs.Members.{code, member, is_known, kept, text_of, head};
+ghost use Rattle.topo_outline.specs.Shape.{unquoted, name_text, members_of, named_member, member_if, member_that, is_list, is_object};
 ghost use Rattle.topo_outline.specs.Views.{view_entry, view_kept, view_head};
 
 use crate::document::{Head, KeptMember};

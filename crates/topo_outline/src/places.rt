@@ -1,6 +1,6 @@
 // The features of the layers, in the order of the text.
 ghost use Rattle.std.specs.Prelude.{◌≡◌, ◌++◌, map, OnOk, IfOk, option_map};
-ghost use Rattle.topo_outline.specs.Outline.{leaf_of, leaves, leaves_in, at_most_one};
+ghost use Rattle.topo_outline.specs.Layers.{leaf_of, leaves, leaves_in, at_most_one};
 ghost use Rattle.topo_outline.specs.Views.{view_item, view_layer, view_place};
 
 use crate::document::{Form, Item, RawLayer};

@@ -6,9 +6,11 @@ ghost use Rattle.json_spans.specs.Kinds.{kind_of};
 ghost use Rattle.json_spans.specs.Decoded.{decoded};
 ghost use Rattle.topo_outline.specs.Gives.{Gives};
 ghost use Rattle.topo_outline.specs.Faults.{each, demand, not_topology};
-ghost use Rattle.topo_outline.specs.Shape.{is_list, is_topology_word, says_topology, is_topology, member, two_numbers, are_two_numbers, is_transform, transform_value, transform_from, layer, layers};
-ghost use Rattle.topo_outline.specs.Outline.{outline_text, few, limited, outlined, outline};
-ghost use Rattle.topo_outline.specs.IsOutline.{IsOutline, HasNoOutline, NestsAtMost};
+ghost use Rattle.topo_outline.specs.Members.{member};
+ghost use Rattle.topo_outline.specs.Shape.{is_list, is_topology_word, says_topology, is_topology, two_numbers, are_two_numbers, is_transform, transform_value, transform_from, layer, layers};
+ghost use Rattle.topo_outline.specs.Layers.{few};
+ghost use Rattle.topo_outline.specs.Outline.{outline_text, limited, outlined, outline};
+ghost use Rattle.topo_outline.specs.IsOutline.{HasOutline, HasNoOutline, NestsAtMost};
 ghost use Rattle.topo_outline.specs.OutlineView.{view_outline, IsPlaced};
 ghost use Rattle.topo_outline.specs.Views.{view_entry, view_layer, view_place};
 
@@ -289,7 +291,7 @@ pub fn read_outline<'a, A: Allocator + Copy>(
     heap: Global,
     root: Span<'a>,
 ) -> Result<Outline<'a, A>, OpenFault<'a>>
-    ensures opened { IfOk result (λ o. IsOutline (node root.entry) (view_outline o)) }
+    ensures opened { IfOk result (λ o. HasOutline (node root.entry) (view_outline o)) }
     ensures few { IfOk result (λ o. few (view_outline o).layers ≡ true) }
     ensures refused { IfErr result (λ f.
         f ≢ OpenFault.OutOfMemory → NestsAtMost 100 (node root.entry) →

@@ -1,12 +1,22 @@
--- What arcs, indexes and rings mean, worked out.
-use Rattle.std.proofs.Common.{ℕ, List, [], ◌∷◌, codes, true, false, refl}
-use Rattle.json_spans.specs.Parts.{Node, parts_from, part_len}
-use Rattle.json_spans.specs.Whole.{value_from}
+-- What arcs, indexes and rings mean, and what means nothing, worked out.
+use Rattle.std.proofs.Common.{◌≡◌, ℕ, List, [], ◌∷◌, codes, true, false, refl, pos, negsuc, ℤ, ap, sym, ◌∙◌}
+use Rattle.json_spans.specs.Nodes.{Node}
+use Rattle.json_spans.specs.Parts.{parts_from, part_len}
+use Rattle.json_spans.specs.Whole.{value_from, IsWhole}
+use Rattle.json_spans.specs.Kinds.{kind_of}
+use Rattle.json_spans.specs.Machine.{run, verdict, good}
+use Rattle.json_spans.proofs.Sound.{verdict_json}
+use Rattle.json_spans.proofs.Grouped.{root_value, padded_root}
+use Rattle.json_spans.proofs.Meant.{means, whole_meant}
+use Rattle.json_spans.proofs.Told.{object_kind}
+use Rattle.ring_machine.specs.Document.{Document}
 use Rattle.ring_machine.proofs.Worked.{at, under}
+use Rattle.topo_outline.specs.IsOutline.{NestsAtMost}
 use Rattle.topo_reader.specs.Positions.{position, positions, arc}
-use Rattle.topo_reader.specs.Indexes.{Arc}
+use Rattle.topo_reader.specs.Arcs.{Arc}
+use Rattle.topo_reader.specs.Opening.{root_of}
 use Rattle.topo_reader.specs.Rings.{meet_from, ends, squeezed, all_of, first_repeat, ring_of}
-use Rattle.topo_reader.specs.Reads.{IsArc, IsUse, forward, backward, IsRing}
+use Rattle.topo_reader.specs.Reads.{IsArc, IsUse, forward, backward, IsRing, Reads}
 use Rattle.topo_reader.proofs.MeaningOfArcs.{is_arc}
 use Rattle.topo_reader.proofs.MeaningOfRings.{ring_meant}
 
@@ -14,15 +24,27 @@ use Rattle.topo_reader.proofs.MeaningOfRings.{ring_meant}
 abbrev value : List ℕ → Node
 value bytes = record { at_byte = 0; bytes = bytes }
 
+-- what the scan takes is JSON
+is_value : (bytes : List ℕ) → verdict bytes ≡ good → NestsAtMost 100 (root_of bytes)
+is_value bytes e = root_value 100 bytes (verdict_json bytes e)
+
+-- ---- arcs
+
+two_pairs : NestsAtMost 100 (value (codes "[[1,2],[3,-1]]"))
+unfolding run
+two_pairs = is_value (codes "[[1,2],[3,-1]]") refl
+
 -- with deltas (1, 2) and (3, -1) lead to (4, 1)
 sums : IsArc true (value (codes "[[1,2],[3,-1]]")) (at 1 2 ∷ at 4 1 ∷ [])
 unfolding parts_from part_len value_from position positions arc
-sums = is_arc true (value (codes "[[1,2],[3,-1]]")) (at 1 2 ∷ at 4 1 ∷ []) refl
+sums = is_arc 100 true (value (codes "[[1,2],[3,-1]]")) (at 1 2 ∷ at 4 1 ∷ []) two_pairs refl
 
 -- without they are positions
 pairs : IsArc false (value (codes "[[1,2],[3,-1]]")) (at 1 2 ∷ under 3 1 ∷ [])
 unfolding parts_from part_len value_from position positions arc
-pairs = is_arc false (value (codes "[[1,2],[3,-1]]")) (at 1 2 ∷ under 3 1 ∷ []) refl
+pairs = is_arc 100 false (value (codes "[[1,2],[3,-1]]")) (at 1 2 ∷ under 3 1 ∷ []) two_pairs refl
+
+-- ---- indexes
 
 abbrev there_and_on : List Arc
 there_and_on = (at 4 0 ∷ at 0 0 ∷ []) ∷ (at 4 0 ∷ at 4 4 ∷ at 4 4 ∷ at 0 0 ∷ []) ∷ []
@@ -30,15 +52,40 @@ there_and_on = (at 4 0 ∷ at 0 0 ∷ []) ∷ (at 4 0 ∷ at 4 4 ∷ at 4 4 ∷ 
 -- 1 names the second arc
 second : IsUse there_and_on (value (codes "1")) (at 4 0 ∷ at 4 4 ∷ at 4 4 ∷ at 0 0 ∷ [])
 unfolding value_from
-second = forward {i = 1} refl refl
+second = forward {i = 1} (whole_meant (codes "1") (pos 1) refl) refl
+
+-- and so does 1.0
+second_again : IsUse there_and_on (value (codes "1.0")) (at 4 0 ∷ at 4 4 ∷ at 4 4 ∷ at 0 0 ∷ [])
+unfolding value_from
+second_again = forward {i = 1} (whole_meant (codes "1.0") (pos 1) refl) refl
 
 -- -1 names the first one in reverse
 first_reversed : IsUse there_and_on (value (codes "-1")) (at 0 0 ∷ at 4 0 ∷ [])
 unfolding value_from
-first_reversed = backward {i = 0} {a = at 4 0 ∷ at 0 0 ∷ []} refl refl
+first_reversed = backward {i = 0} {a = at 4 0 ∷ at 0 0 ∷ []} (whole_meant (codes "-1") (negsuc 0) refl) refl
+
+-- 1e0 names none
+not_whole : (z : ℤ) → ¬ IsWhole (codes "1e0") z
+unfolding value_from
+not_whole z = means (codes "1e0") z
+
+no_exponent : (a : Arc) → ¬ IsUse there_and_on (value (codes "1e0")) a
+no_exponent a (forward w e) = not_whole _ w
+no_exponent a (backward w e) = not_whole _ w
+
+-- ---- rings
 
 -- the ring of [1, -1]: three corners, begun at the least one
 ring : IsRing ((at 4 0 ∷ at 4 4 ∷ at 4 4 ∷ at 0 0 ∷ []) ∷ (at 0 0 ∷ at 4 0 ∷ []) ∷ [])
     (at 0 0 ∷ at 4 0 ∷ at 4 4 ∷ [])
 unfolding meet_from ends squeezed all_of first_repeat ring_of
 ring = ring_meant (record { feature = 0; polygon = 0; ring = 0 }) _ _ refl
+
+-- ---- whole texts
+
+-- a list is no topology, whatever stands in it
+no_list : (d : Document) → ¬ Reads (codes " [1] ") d
+no_list d r =
+    let same : kind_of (root_of (codes " [1] ")).bytes ≡ kind_of r.root.bytes = ap (λ n. kind_of n.bytes) (sym (padded_root r.json)) in
+    let no = same ∙ object_kind r.topology.of_root.object in
+    absurd cc

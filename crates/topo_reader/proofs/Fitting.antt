@@ -5,13 +5,12 @@ use Rattle.std.specs.List.{list_all, AllZip, flat_map, filter_map}
 use Rattle.std.proofs.lemmas.List.Folds.{list_all-append}
 use Rattle.std.proofs.lemmas.Option.{unwrap_or-slice_get}
 use Rattle.std.proofs.lemmas.Slice.Zip.{AllZip-long}
-use Rattle.json_spans.specs.Parts.{Node}
+use Rattle.json_spans.specs.Nodes.{Node}
 use Rattle.ring_machine.specs.Document.{Form, Polygon, MultiPolygon, Null, Head}
 use Rattle.ring_machine.specs.Parts.{feature_of}
 use Rattle.ring_machine.specs.WellFormed.{fits_form}
-use Rattle.topo_outline.specs.Shape.{LayerText, Piece, starts, ends, leaf, text}
-use Rattle.topo_outline.specs.Outline.{leaves_in, leaves}
-use Rattle.topo_reader.specs.Indexes.{Arc}
+use Rattle.topo_outline.specs.Layers.{LayerText, Piece, starts, ends, leaf, text, leaves_in, leaves}
+use Rattle.topo_reader.specs.Arcs.{Arc}
 use Rattle.topo_reader.specs.Document.{Polygons, polygons_at, numbered, items_from, layers_from}
 use Rattle.topo_reader.specs.Reads.{GeometryUses, IsRing, AreRings}
 

@@ -1,15 +1,14 @@
 -- What was read is well formed.
 use Rattle.std.proofs.Common.{◌≡◌, ℕ, suc, ◌+◌, refl, sym, ap, List, [], ◌∷◌, length}
 use Rattle.std.specs.List.{AllZip, flat_map, filter_map}
-use Rattle.json_spans.specs.Parts.{Node}
+use Rattle.json_spans.specs.Nodes.{Node}
 use Rattle.ring_machine.specs.Document.{Feature, Item, Layer}
 use Rattle.ring_machine.specs.Parts.{feature_of}
 use Rattle.ring_machine.specs.WellFormed.{WellFormed}
 use Rattle.ring_machine.proofs.Numbered.{AreNumbered, numbered-append, numbered_distinct}
-use Rattle.topo_outline.specs.Shape.{LayerText, Piece, starts, ends, leaf, text, OutlineText}
-use Rattle.topo_outline.specs.Outline.{leaves_in, leaves}
+use Rattle.topo_outline.specs.Layers.{LayerText, Piece, starts, ends, leaf, text, OutlineText, leaves_in, leaves}
 use Rattle.topo_outline.specs.IsOutline.{IsOutline}
-use Rattle.topo_reader.specs.Indexes.{Arc}
+use Rattle.topo_reader.specs.Arcs.{Arc}
 use Rattle.topo_reader.specs.Document.{Polygons, items_from, layers_from, document_of}
 use Rattle.topo_reader.specs.Reads.{GeometryUses, AreRings}
 use Rattle.topo_reader.proofs.Bracketed.{each_geometry}

@@ -1,9 +1,8 @@
 -- What was read has texts that opening would keep.
 use Rattle.std.proofs.Common.{ℕ, ◌+◌, List, [], ◌∷◌, length}
 use Rattle.std.specs.List.{AllByRecursion, AllZip}
-use Rattle.json_spans.specs.Parts.{Node}
-use Rattle.topo_outline.specs.Shape.{LayerText, Piece, starts, ends, leaf, text, OutlineText}
-use Rattle.topo_outline.specs.Outline.{leaves_in}
+use Rattle.json_spans.specs.Nodes.{Node}
+use Rattle.topo_outline.specs.Layers.{LayerText, Piece, starts, ends, leaf, text, OutlineText, leaves_in}
 use Rattle.topo_outline.specs.IsOutline.{IsOutline, NestsAtMost}
 use Rattle.topo_outline.specs.Kept.{IsName, KeepsItem, KeepsTexts}
 use Rattle.topo_outline.proofs.Keeping.{KeepsPiece, outline_keeps}

@@ -18,6 +18,7 @@ pub mod Formed
 pub mod Keeping
 pub mod Meant
 pub mod OfRings
+pub mod OneReading
 pub mod Leaves
 pub mod Widening
 pub mod Boxed

@@ -11,7 +11,7 @@ use Rattle.ring_machine.specs.Ring.{canonical}
 use Rattle.ring_machine.proofs.Order.{and_both, position_eq-true, position_eq-refl}
 use Rattle.topo_outline.specs.declared.fault.RingAt.{RingAt}
 use Rattle.topo_outline.specs.Faults.{arcs_do_not_meet, ring_short, demand}
-use Rattle.topo_reader.specs.Indexes.{Arc}
+use Rattle.topo_reader.specs.Arcs.{Arc}
 use Rattle.topo_reader.specs.Rings.{is_at, first_of, last_of, meet_from, ends, meet, unless, squeezed, last_after, front, all_of, joined, first_repeat, distinct, ring_of, polygon_of, feature_of, all_rings}
 use Rattle.topo_reader.specs.Document.{Polygons}
 use Rattle.topo_reader.specs.Reads.{Leads, Chain, there, along, Once, none, last, same, next, IsRing, AreRings}

@@ -1,28 +1,35 @@
 -- What a text means is what opening it gives, in both directions.
-use Rattle.std.proofs.Common.{◌≡◌, ◌≢◌, ℕ, ◌≤◌, List, length, refl, sym, ap, ◌∙◌, subst}
-use Rattle.std.specs.Prelude.{Result, Ok, Err, IfOk, IfErr, nat_le, is_some}
+use Rattle.std.proofs.Common.{◌≡◌, ◌≢◌, ℕ, ◌≤◌, List, length, refl, sym, ap, ◌∙◌, subst, arith}
+use Rattle.std.specs.Prelude.{Bool, Result, Ok, Err, IfOk, IfErr, nat_le, is_some}
 use Rattle.std.specs.List.{AllZip}
+use Rattle.std.proofs.lemmas.Slice.Zip.{AllZip-long}
 use Rattle.json_spans.specs.Grammar.{Json}
-use Rattle.json_spans.specs.Parts.{Node}
+use Rattle.json_spans.specs.Nodes.{Node}
 use Rattle.ring_machine.specs.Document.{Document}
 use Rattle.topo_outline.specs.declared.fault.Limit.TheVariants as limit
 use Rattle.topo_outline.specs.declared.fault.OpenFault.{OpenFault}
 use Rattle.topo_outline.specs.declared.fault.OpenFault.TheVariants as open_fault
 use Rattle.topo_outline.specs.Faults.{Fault, too_large, ◌>>=◌, each, demand}
 use Rattle.topo_outline.specs.Gives.{Fails, Gives}
-use Rattle.topo_outline.specs.Shape.{OutlineText}
-use Rattle.topo_outline.specs.Outline.{leaves, outline}
+use Rattle.topo_outline.specs.declared.words.Word.TheVariants as word
+use Rattle.topo_outline.specs.Layers.{OutlineText, leaves}
+use Rattle.topo_outline.specs.Outline.{outline}
+use Rattle.topo_outline.specs.IsOutline.{IsOutline}
 use Rattle.topo_reader.specs.Positions.{arcs}
-use Rattle.topo_reader.specs.Indexes.{Arc, uses_of}
+use Rattle.topo_reader.specs.Arcs.{Arc}
+use Rattle.topo_reader.specs.Indexes.{uses_of}
 use Rattle.topo_reader.specs.Sizes.{size}
 use Rattle.topo_reader.specs.Rings.{all_rings}
 use Rattle.topo_reader.specs.Document.{Polygons, Opened, document_of}
 use Rattle.topo_reader.specs.Opening.{polygons_read, opening, root_of, Opens}
-use Rattle.topo_reader.specs.Reads.{AreArcs, GeometryUses, AreRings, Reads, Fits}
-use Rattle.json_spans.proofs.Grouped.{root_value}
-use Rattle.topo_outline.proofs.Shaped.{outline_means, outline_gives}
+use Rattle.topo_reader.specs.Reads.{IsArc, AreArcs, GeometryUses, AreRings, Reads, Fits}
+use Rattle.json_spans.proofs.Grouped.{root_value, root_padded, padded_root}
+use Rattle.json_spans.proofs.Sized.{padded_short, list_count}
+use Rattle.topo_outline.proofs.Values.{value_short}
+use Rattle.topo_outline.proofs.LeafArcs.{HasArcs, leaves_have_arcs}
+use Rattle.topo_outline.proofs.Shaped.{outline_means, outline_few, outline_gives}
 use Rattle.topo_reader.proofs.MeaningOfArcs.{arcs_of, are_arcs}
-use Rattle.topo_reader.proofs.MeaningOfUses.{uses_are, are_uses}
+use Rattle.topo_reader.proofs.MeaningOfUses.{AreFew, uses_are, are_uses}
 use Rattle.topo_reader.proofs.MeaningOfRings.{rings_of, are_rings}
 use Rattle.topo_reader.proofs.Steps.{at_least, at_most, bind_ok, demand_ok, ok_same, each_of, of_each}
 
@@ -31,27 +38,34 @@ made shape ps = record { transform = shape.transform; layers = shape.layers; mem
 
 -- ---- what is meant is read
 
+-- a text has fewer arcs than bytes
+few_arcs : (root : Node) (shape : OutlineText) (delta : Bool) (found : List Arc) → IsOutline root shape → AreArcs delta shape.arcs found → length found ≤ length root.bytes
+few_arcs root shape delta found o a =
+    omega (arith, AllZip-long (IsArc delta) a.0 found a.2, list_count a.1, value_short word.Arcs shape.arcs o.of_root o.has_arcs)
+
 polygons_of : (shape : OutlineText) (found : List Arc) (uses : List (List (List (List Arc)))) (polygons : List Polygons) →
-    AreArcs (is_some shape.transform) shape.arcs found → AllZip (GeometryUses found) (leaves shape.layers) uses → AllZip AreRings uses polygons → size uses ≤ 4000000 →
+    AreFew found → AreArcs (is_some shape.transform) shape.arcs found → AllZip (GeometryUses found) (leaves shape.layers) uses → AllZip AreRings uses polygons → size uses ≤ 4000000 →
     polygons_read shape ≡ Ok polygons
-polygons_of shape found uses polygons a u r small = rw (
+polygons_of shape found uses polygons few a u r small = rw (
   arcs_of (is_some shape.transform) shape.arcs found a,
-  each_of (GeometryUses found) (uses_of found) (uses_are found) (leaves shape.layers) uses u,
+  each_of (GeometryUses found) (uses_of found) (uses_are found few) (leaves shape.layers) uses u,
   at_least (size uses) 4000000 small,
   rings_of uses polygons r,
 ) refl
 
 -- a reading within the limits is what opening gives
 pub opens : (bytes : List ℕ) (d : Document) (r : Reads bytes d) → Fits r → (o : Opened) × Opens bytes o × (document_of o ≡ d)
-opens bytes d r f = (
-  made r.shape r.polygons,
-  record {
-    short = f.short;
-    json = f.flat;
-    opens = rw (outline_gives (root_of bytes) r.shape (root_value 100 bytes f.flat) r.topology (at_least (length (leaves r.shape.layers)) 200000 f.few), polygons_of r.shape r.arcs r.uses r.polygons r.arcs_are r.uses_are r.rings_are f.small) refl;
-  },
-  sym r.document,
-)
+opens bytes d r f =
+    let few : AreFew r.arcs = omega (arith, few_arcs r.root r.shape (is_some r.shape.transform) r.arcs r.topology r.arcs_are, padded_short r.json, f.short) in
+    let topology : IsOutline (root_of bytes) r.shape = subst (λ n. IsOutline n r.shape) (padded_root r.json) r.topology in (
+      made r.shape r.polygons,
+      record {
+        short = f.short;
+        json = f.flat;
+        opens = rw (outline_gives (root_of bytes) r.shape (root_value 100 bytes f.flat) topology (at_least (length (leaves r.shape.layers)) 200000 f.few), polygons_of r.shape r.arcs r.uses r.polygons few r.arcs_are r.uses_are r.rings_are f.small) refl;
+      },
+      sym r.document,
+    )
 
 -- ---- what is read is meant
 
@@ -62,24 +76,25 @@ IsRead bytes d = (reading : Reads bytes d) × Fits reading
 -- the polygons that were read are meant
 made_read : (bytes : List ℕ) (shape : OutlineText) (ps : List Polygons) → length bytes ≤ 67108864 → Json 100 bytes → outline (root_of bytes) ≡ Ok shape → polygons_read shape ≡ Ok ps → IsRead bytes (document_of (made shape ps))
 made_read bytes shape ps short text e h =
-    let means = outline_means (root_of bytes) shape e in
+    let topology = outline_means 100 (root_of bytes) shape (root_value 100 bytes text) e in
     let found = bind_ok (arcs (is_some shape.transform) shape.arcs) (λ (found : List Arc). each (uses_of found) (leaves shape.layers) >>= λ uses. demand (nat_le (size uses) 4000000) (too_large limit.Positions) (all_rings uses)) ps h in
     let uses = bind_ok (each (uses_of found.0) (leaves shape.layers)) (λ (uses : List (List (List (List Arc)))). demand (nat_le (size uses) 4000000) (too_large limit.Positions) (all_rings uses)) ps found.2 in
     let fits = demand_ok (nat_le (size uses.0) 4000000) (too_large limit.Positions) (all_rings uses.0) ps uses.2 in (
       record {
         levels = 100;
-        json = text;
+        root = root_of bytes;
+        json = root_padded 100 bytes text;
         shape = shape;
         arcs = found.0;
         uses = uses.0;
         polygons = ps;
-        topology = means.0;
-        arcs_are = are_arcs (is_some shape.transform) shape.arcs found.0 found.1;
-        uses_are = of_each (GeometryUses found.0) (uses_of found.0) (are_uses found.0) (leaves shape.layers) uses.0 uses.1;
+        topology = topology;
+        arcs_are = are_arcs (is_some shape.transform) shape.arcs found.0 topology.are_arcs found.1;
+        uses_are = of_each HasArcs (GeometryUses found.0) (uses_of found.0) (λ g us right is. are_uses found.0 g us right is) (leaves shape.layers) uses.0 (leaves_have_arcs (root_of bytes) shape topology) uses.1;
         rings_are = are_rings uses.0 ps fits.1;
         document = refl;
       },
-      record { short = short; flat = text; few = at_most (length (leaves shape.layers)) 200000 means.1; small = at_most (size uses.0) 4000000 fits.0 },
+      record { short = short; flat = text; few = at_most (length (leaves shape.layers)) 200000 (outline_few (root_of bytes) shape e); small = at_most (size uses.0) 4000000 fits.0 },
     )
 
 -- what opens is a reading within the limits

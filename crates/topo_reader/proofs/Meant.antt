@@ -1,10 +1,10 @@
 -- What bytes mean is well formed, and its texts are ones that opening would keep.
 use Rattle.std.proofs.Common.{ℕ, List, sym, subst}
-use Rattle.json_spans.proofs.Grouped.{root_value}
+use Rattle.json_spans.specs.Inside.{IsValue}
+use Rattle.json_spans.proofs.Grouped.{padded_value}
 use Rattle.ring_machine.specs.Document.{Document}
 use Rattle.ring_machine.specs.WellFormed.{WellFormed}
 use Rattle.topo_outline.specs.Kept.{KeepsTexts}
-use Rattle.topo_reader.specs.Opening.{root_of}
 use Rattle.topo_reader.specs.Reads.{Reads}
 use Rattle.topo_reader.proofs.Formed.{read_formed}
 use Rattle.topo_reader.proofs.Keeping.{read_keeps}
@@ -12,9 +12,9 @@ use Rattle.topo_reader.proofs.Keeping.{read_keeps}
 pub meant_formed : (bytes : List ℕ) (d : Document) → Reads bytes d → WellFormed d
 meant_formed bytes d r =
     subst WellFormed (sym r.document)
-    (read_formed (root_of bytes) r.shape r.arcs r.uses r.polygons r.topology r.uses_are r.rings_are)
+    (read_formed r.root r.shape r.arcs r.uses r.polygons r.topology r.uses_are r.rings_are)
 
 pub meant_keeps : (bytes : List ℕ) (d : Document) → Reads bytes d → KeepsTexts d
 meant_keeps bytes d r =
     subst KeepsTexts (sym r.document)
-    (read_keeps r.levels (root_of bytes) r.shape r.polygons (root_value r.levels bytes r.json) r.topology)
+    (read_keeps r.levels r.root r.shape r.polygons (padded_value {A = IsValue r.levels} 0 bytes r.root r.json) r.topology)

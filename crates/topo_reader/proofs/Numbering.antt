@@ -12,8 +12,7 @@ use Rattle.grid_geometry.specs.Position.{Position}
 use Rattle.ring_machine.specs.Document.{ItemOf, LayerOf}
 use Rattle.ring_machine.specs.Parts.{feature_of, rings_of}
 use Rattle.ring_machine.proofs.Order.{and_both}
-use Rattle.topo_outline.specs.Shape.{LayerText, Piece, starts, ends, leaf, text}
-use Rattle.topo_outline.specs.Outline.{leaves_in, leaves}
+use Rattle.topo_outline.specs.Layers.{LayerText, Piece, starts, ends, leaf, text, leaves_in, leaves}
 use Rattle.topo_reader.specs.Document.{Polygons, polygons_at, items_from, layers_from}
 
 module _ {R : Type 0} where

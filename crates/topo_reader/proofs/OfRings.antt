@@ -10,18 +10,19 @@ use Rattle.ring_machine.specs.Parts.{rings, size}
 use Rattle.ring_machine.specs.WellFormed.{WellFormed}
 use Rattle.ring_machine.proofs.Canonical.{canonical_parts}
 use Rattle.ring_machine.proofs.StaysRing.{canonical_is_ring}
-use Rattle.json_spans.specs.Parts.{Node}
+use Rattle.json_spans.specs.Nodes.{Node}
 use Rattle.topo_outline.specs.Faults.{Fault, arcs_do_not_meet, ring_short, too_large, ◌>>=◌, each, each_at, demand}
 use Rattle.topo_outline.specs.Gives.{Gives}
-use Rattle.topo_outline.specs.Shape.{OutlineText}
+use Rattle.topo_outline.specs.Layers.{OutlineText, leaves}
 use Rattle.topo_outline.specs.Kept.{KeepsTexts}
-use Rattle.topo_outline.specs.Outline.{leaves, outline}
-use Rattle.topo_outline.proofs.Shaped.{outline_means}
+use Rattle.topo_outline.specs.Outline.{outline}
+use Rattle.topo_outline.proofs.Shaped.{outline_few}
 use Rattle.topo_outline.specs.declared.fault.RingAt.{RingAt}
 use Rattle.topo_outline.specs.declared.fault.Limit.TheVariants as limit
 use Rattle.topo_outline.specs.declared.fault.OpenFault.{OpenFault}
 use Rattle.topo_reader.specs.Positions.{arcs}
-use Rattle.topo_reader.specs.Indexes.{Arc, uses_of}
+use Rattle.topo_reader.specs.Arcs.{Arc}
+use Rattle.topo_reader.specs.Indexes.{uses_of}
 use Rattle.topo_reader.specs.Sizes as sizes
 use Rattle.topo_reader.specs.Rings.{unless, is_at, meet, squeezed, all_of, joined, first_repeat, distinct, ring_of, polygon_of, feature_of, all_rings}
 use Rattle.topo_reader.specs.Document.{Polygons, Opened, document_of, IsOfRings}
@@ -128,7 +129,7 @@ whole n shape ps e h =
     let uses = bind_ok (each (uses_of found.0) (leaves shape.layers)) (λ (uses : List (List (List (List Arc)))). demand (nat_le (sizes.size uses) 4000000) (too_large limit.Positions) (all_rings uses)) ps found.2 in
     let fits = demand_ok (nat_le (sizes.size uses.0) 4000000) (too_large limit.Positions) (all_rings uses.0) ps uses.2 in
     let good = all_good uses.0 ps fits.1 in
-    (at_most (length (leaves shape.layers)) 200000 (outline_means n shape e).1, good.2 ∙ each_length (uses_of found.0) (leaves shape.layers) uses.0 uses.1, good.0, omega (arith, good.1, at_most (sizes.size uses.0) 4000000 fits.0))
+    (at_most (length (leaves shape.layers)) 200000 (outline_few n shape e), good.2 ∙ each_length (uses_of found.0) (leaves shape.layers) uses.0 uses.1, good.0, omega (arith, good.1, at_most (sizes.size uses.0) 4000000 fits.0))
 
 abbrev made : OutlineText → List Polygons → Opened
 made shape ps = record { transform = shape.transform; layers = shape.layers; members = shape.members; polygons = ps }

@@ -1,7 +1,7 @@
 -- Steps that went well, one after another.
 use Rattle.std.proofs.Common.{◌≡◌, ℕ, ◌+◌, ◌≤◌, arith, Bool, true, false, List, [], ◌∷◌, refl, subst}
 use Rattle.std.specs.Prelude.{Result, Ok, Err, nat_le}
-use Rattle.std.specs.List.{AllZip}
+use Rattle.std.specs.List.{AllByRecursion, AllZip}
 use Rattle.topo_outline.specs.Faults.{Fault, ◌>>=◌, each, each_at, demand}
 
 pub bind_ok : {A B : Type 0} (r : Result A Fault) (f : A → Result B Fault) (b : B) → (r >>= f) ≡ Ok b → (a : A) × (r ≡ Ok a) × (f a ≡ Ok b)
@@ -29,12 +29,13 @@ each_of R f one [] (y ∷ ys) h = absurd h
 each_of R f one (x ∷ xs) [] h = absurd h
 each_of R f one (x ∷ xs) (y ∷ ys) h = rw (one x y h.0, each_of R f one xs ys h.1) refl
 
-pub of_each : {A B : Type 0} (R : A → B → Type 0) (f : A → Result B Fault) → ((a : A) (b : B) → f a ≡ Ok b → R a b) → (xs : List A) (ys : List B) → each f xs ≡ Ok ys → AllZip R xs ys
-of_each R f one [] ys h = subst (λ zs. AllZip R [] zs) (ok_same [] ys h) tt
-of_each {B = B} R f one (x ∷ xs) ys h =
+-- and each is what it is read from, where what is asked of that holds
+pub of_each : {A B : Type 0} (Q : A → Type 0) (R : A → B → Type 0) (f : A → Result B Fault) → ((a : A) (b : B) → Q a → f a ≡ Ok b → R a b) → (xs : List A) (ys : List B) → AllByRecursion Q xs → each f xs ≡ Ok ys → AllZip R xs ys
+of_each Q R f one [] ys q h = subst (λ zs. AllZip R [] zs) (ok_same [] ys h) tt
+of_each {B = B} Q R f one (x ∷ xs) ys q h =
     let first = bind_ok (f x) (λ (b : B). each f xs >>= λ bs. Ok (b ∷ bs)) ys h in
     let rest = bind_ok (each f xs) (λ (bs : List B). Ok (first.0 ∷ bs)) ys first.2 in
-    subst (λ zs. AllZip R (x ∷ xs) zs) (ok_same (first.0 ∷ rest.0) ys rest.2) (one x first.0 first.1, of_each R f one xs rest.0 rest.1)
+    subst (λ zs. AllZip R (x ∷ xs) zs) (ok_same (first.0 ∷ rest.0) ys rest.2) (one x first.0 q.0 first.1, of_each Q R f one xs rest.0 q.1 rest.1)
 
 pub each_at_of : {A B : Type 0} (R : A → B → Type 0) (f : ℕ → A → Result B Fault) → ((i : ℕ) (a : A) (b : B) → R a b → f i a ≡ Ok b) → (i : ℕ) (xs : List A) (ys : List B) → AllZip R xs ys → each_at f i xs ≡ Ok ys
 each_at_of R f one i [] [] h = refl

@@ -2,7 +2,7 @@
 use Rattle.std.proofs.Common.{◌≡◌, List, [], ◌∷◌, ◌++◌, refl, sym, ◌∙◌}
 use Rattle.std.specs.Prelude.{ℤ, Bool, Result, Ok}
 use Rattle.std.proofs.lemmas.List.{append-nil}
-use Rattle.json_spans.specs.Parts.{Node}
+use Rattle.json_spans.specs.Nodes.{Node}
 use Rattle.grid_geometry.specs.Position.{Position}
 use Rattle.topo_outline.specs.Gives.{Fails}
 use Rattle.topo_outline.specs.declared.fault.OpenFault.{OpenFault}

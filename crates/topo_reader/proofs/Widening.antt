@@ -9,8 +9,7 @@ use Rattle.std.proofs.lemmas.List.Sums.{fold-append}
 use Rattle.grid_geometry.specs.Position.{Position}
 use Rattle.grid_geometry.specs.Segment.{Box}
 use Rattle.ring_machine.specs.Parts.{positions}
-use Rattle.topo_outline.specs.Shape.{LayerText}
-use Rattle.topo_outline.specs.Outline.{leaves}
+use Rattle.topo_outline.specs.Layers.{LayerText, leaves}
 use Rattle.topo_reader.specs.Document.{Polygons, Opened, document_of}
 use Rattle.topo_reader.specs.Extent.{box_with, widened, extent_of}
 use Rattle.topo_reader.proofs.Joining.{tail_at}

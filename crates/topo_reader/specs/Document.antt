@@ -6,9 +6,8 @@ use Rattle.ring_machine.specs.Ring.{is_ring}
 use Rattle.ring_machine.specs.Document.{Text, Form, Member, Head, FeatureOf, ItemOf, Open, Close, Leaf, Kept, LayerOf, Document}
 use Rattle.ring_machine.specs.Parts.{rings, size}
 use Rattle.ring_machine.specs.WellFormed.{WellFormed}
-use Rattle.topo_outline.specs.Shape.{Piece, starts, ends, leaf, text, LayerText}
+use Rattle.topo_outline.specs.Layers.{Piece, starts, ends, leaf, text, LayerText, leaves_in, leaves}
 use Rattle.topo_outline.specs.Kept.{KeepsTexts}
-use Rattle.topo_outline.specs.Outline.{leaves_in, leaves}
 
 -- the polygons of one feature: an outer ring and its holes each (RFC 7946, 3.1.6)
 abbrev pub Polygons : Type 0

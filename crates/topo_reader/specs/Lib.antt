@@ -1,3 +1,4 @@
+pub mod Arcs
 pub mod Positions
 pub mod Indexes
 pub mod Uses

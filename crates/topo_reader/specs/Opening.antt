@@ -3,7 +3,7 @@
 use Rattle.std.specs.Prelude.{◌≡◌, ℕ, ◌<◌, ◌≤◌, ◌⊎◌, List, length, nat_le, Some, is_some, Result, Ok, Err}
 use Rattle.ring_machine.specs.Planar.{first_pair}
 use Rattle.json_spans.specs.Grammar.{Json}
-use Rattle.json_spans.specs.Parts.{Node}
+use Rattle.json_spans.specs.Nodes.{Node}
 use Rattle.json_spans.specs.Machine.{verdict}
 use Rattle.json_spans.specs.Machine as verdicts
 use Rattle.json_spans.specs.Trimmed.{trimmed}
@@ -11,8 +11,8 @@ use Rattle.topo_outline.specs.declared.fault.Limit.TheVariants as limit
 use Rattle.topo_outline.specs.declared.fault.OpenFault.{OpenFault}
 use Rattle.topo_outline.specs.declared.fault.OpenFault.TheVariants as fault
 use Rattle.topo_outline.specs.Faults.{Fault, too_deep, not_topology, bad_member, duplicate, unsupported, not_whole, out_of_range, bad_position, bad_arc_index, arcs_do_not_meet, ring_short, ring_repeats, too_large, ◌>>=◌, each, demand}
-use Rattle.topo_outline.specs.Shape.{OutlineText}
-use Rattle.topo_outline.specs.Outline.{leaves, outline}
+use Rattle.topo_outline.specs.Layers.{OutlineText, leaves}
+use Rattle.topo_outline.specs.Outline.{outline}
 use Rattle.topo_reader.specs.Positions.{arcs}
 use Rattle.topo_reader.specs.Indexes.{uses_of}
 use Rattle.topo_reader.specs.Sizes.{size}

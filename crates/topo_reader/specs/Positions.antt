@@ -1,11 +1,12 @@
 -- The positions of the arcs: the first fault in the order of the text, or all of them.
-use Rattle.std.specs.Prelude.{ℕ, ◌&&◌, ℤ, pos, ◌+ℤ◌, unsigned_abs, List, [], ◌∷◌, Bool, true, false, nat_le, if◌then◌else◌, Option, Some, None, Result, Ok, Err}
-use Rattle.json_spans.specs.Parts.{Node}
+use Rattle.std.specs.Prelude.{ℕ, ◌&&◌, ℤ, ◌+ℤ◌, unsigned_abs, List, [], ◌∷◌, Bool, true, false, nat_le, if◌then◌else◌, Option, Some, None, Result, Ok, Err}
+use Rattle.json_spans.specs.Nodes.{Node}
 use Rattle.json_spans.specs.Walk.{items}
 use Rattle.json_spans.specs.Whole.{whole_of}
 use Rattle.json_spans.specs.declared.number.NotWhole.{NotWhole}
 use Rattle.json_spans.specs.declared.number.NotWhole.TheVariants.{Form, Huge}
 use Rattle.grid_geometry.specs.Position.{Position}
+pub use Rattle.topo_reader.specs.Arcs.{origin}
 use Rattle.topo_outline.specs.Shape.{is_list}
 use Rattle.topo_outline.specs.Faults.{Fault, not_whole, out_of_range, bad_position, ◌>>=◌, each}
 
@@ -48,9 +49,6 @@ pair before place (Some p) = pair_of before p.0 p.1
 unfoldable pub position : Position → Node → Result Position Fault
 position before n =
     if is_list n then pair before n.at_byte (two_of (items n)) else Err (bad_position n.at_byte)
-
-abbrev pub origin : Position
-origin = record { x = pos 0; y = pos 0 }
 
 -- with deltas each position is the sum of the pairs so far (TopoJSON 1.0, 2.1.2)
 abbrev pub before_next : Bool → Position → Position

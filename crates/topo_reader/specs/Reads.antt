@@ -1,38 +1,33 @@
--- What a text means as a topology, with sums and joined lists, and with no order of faults.
-use Rattle.std.specs.Prelude.{◌≡◌, ◌≢◌, ℕ, ℤ, pos, negsuc, ◌+ℤ◌, ◌≤◌, List, [], ◌∷◌, ◌++◌, length, flat_map, reverse, slice_get, unsigned_abs, AllPairs, Bool, true, false, Some, is_some, Ok}
+-- What a text means as a topology, by the grammar of JSON, with sums and joined lists, and with no
+-- order of faults.
+use Rattle.std.specs.Prelude.{◌≡◌, ◌≢◌, ℕ, ℤ, pos, negsuc, ◌+ℤ◌, ◌≤◌, List, [], ◌∷◌, ◌++◌, length, flat_map, reverse, slice_get, AllPairs, Bool, true, false, Some, is_some}
 use Rattle.std.specs.List.{AllZip}
 use Rattle.json_spans.specs.Grammar.{Json}
-use Rattle.json_spans.specs.Parts.{Node}
-use Rattle.json_spans.specs.Walk.{items}
-use Rattle.json_spans.specs.Whole.{whole_of}
-use Rattle.grid_geometry.specs.Position.{Position}
+use Rattle.json_spans.specs.Nodes.{Node}
+use Rattle.json_spans.specs.Inside.{IsValue, Padded, IsListOf, IsListFor}
+use Rattle.json_spans.specs.Whole.{IsWhole}
+use Rattle.grid_geometry.specs.Position.{Position, position, InRange}
 use Rattle.ring_machine.specs.Ring.{canonical}
 use Rattle.ring_machine.specs.Document.{Form, Polygon, MultiPolygon, Null, Document}
-use Rattle.topo_outline.specs.Shape.{is_list, OutlineText}
-use Rattle.topo_outline.specs.Outline.{leaves}
+use Rattle.topo_outline.specs.Layers.{OutlineText, leaves}
 use Rattle.topo_outline.specs.IsOutline.{IsOutline}
-use Rattle.topo_reader.specs.Positions.{origin}
-use Rattle.topo_reader.specs.Indexes.{Arc}
+use Rattle.topo_reader.specs.Arcs.{Arc, origin}
 use Rattle.topo_reader.specs.Sizes.{size}
 use Rattle.topo_reader.specs.Document.{Polygons, document_of}
-use Rattle.topo_reader.specs.Opening.{root_of}
 
 -- ---- arcs (TopoJSON 1.0, 2.1.1 to 2.1.3)
 
--- the node is a pair of whole numbers, and p the sum of the position before it and the pair;
--- coordinates reach to 10^12
+-- the node is a pair of whole numbers, and p the sum of the position before it and the pair
 pub record IsSum (before : Position) (n : Node) (p : Position) : Type 0 where
   pub first : Node
   pub second : Node
   pub x : ℤ
   pub y : ℤ
-  pub list : is_list n ≡ true
-  pub two : items n ≡ first ∷ second ∷ []
-  pub x_is : whole_of first.bytes ≡ Ok x
-  pub y_is : whole_of second.bytes ≡ Ok y
-  pub sum : p ≡ record { x = before.x +ℤ x; y = before.y +ℤ y }
-  pub x_within : unsigned_abs p.x ≤ 1000000000000
-  pub y_within : unsigned_abs p.y ≤ 1000000000000
+  pub two : IsListOf n (first ∷ second ∷ [])
+  pub x_is : IsWhole first.bytes x
+  pub y_is : IsWhole second.bytes y
+  pub sum : p ≡ position (before.x +ℤ x) (before.y +ℤ y)
+  pub in_range : InRange p
 
 -- each position is the sum of the pairs so far
 pub data Sums : Position → List Node → List Position → Type 0 where
@@ -47,29 +42,30 @@ ArePositions false ns ps = AllZip (IsSum origin) ns ps
 
 -- the node is a list of two positions or more
 pub record IsArc (delta : Bool) (n : Node) (ps : List Position) : Type 0 where
-  pub list : is_list n ≡ true
-  pub positions : ArePositions delta (items n) ps
+  pub items : List Node
+  pub list : IsListOf n items
+  pub positions : ArePositions delta items ps
   pub long : 2 ≤ length ps
 
--- the items of the node mean these arcs
+-- the node is a list of these arcs
 abbrev pub AreArcs : Bool → Node → List Arc → Type 0
-AreArcs delta n found = AllZip (IsArc delta) (items n) found
+AreArcs delta n found = IsListFor (IsArc delta) n found
 
 -- ---- arc indexes (TopoJSON 1.0, 2.1.4)
 
 -- the node is a whole number: i names arc i, and -1 - i names arc i in reverse
 pub data IsUse (arcs : List Arc) (n : Node) : Arc → Type 0 where
   forward : {i : ℕ} {a : Arc} →
-      whole_of n.bytes ≡ Ok (pos i) → slice_get arcs i ≡ Some a → IsUse arcs n a
+      IsWhole n.bytes (pos i) → slice_get arcs i ≡ Some a → IsUse arcs n a
   backward : {i : ℕ} {a : Arc} →
-      whole_of n.bytes ≡ Ok (negsuc i) → slice_get arcs i ≡ Some a → IsUse arcs n (reverse a)
+      IsWhole n.bytes (negsuc i) → slice_get arcs i ≡ Some a → IsUse arcs n (reverse a)
 
 -- a ring uses the arcs that its items name, and a polygon those of its rings
 abbrev pub RingUses : List Arc → Node → List Arc → Type 0
-RingUses arcs n uses = AllZip (IsUse arcs) (items n) uses
+RingUses arcs n uses = IsListFor (IsUse arcs) n uses
 
 abbrev pub PolygonUses : List Arc → Node → List (List Arc) → Type 0
-PolygonUses arcs n rings = AllZip (RingUses arcs) (items n) rings
+PolygonUses arcs n rings = IsListFor (RingUses arcs) n rings
 
 -- the arcs that a geometry's `arcs` name: one polygon, several, or none, by its form
 -- (TopoJSON 1.0, 2.2.5 and 2.2.6)
@@ -77,7 +73,7 @@ abbrev pub GeometryUses : List Arc → Form × Node → List (List (List Arc)) �
 GeometryUses arcs (Null, n) polygons = polygons ≡ []
 GeometryUses arcs (Polygon, n) polygons =
     (rings : List (List Arc)) × PolygonUses arcs n rings × (polygons ≡ rings ∷ [])
-GeometryUses arcs (MultiPolygon, n) polygons = AllZip (PolygonUses arcs) (items n) polygons
+GeometryUses arcs (MultiPolygon, n) polygons = IsListFor (PolygonUses arcs) n polygons
 
 -- ---- rings (TopoJSON 1.0, 2.1.4; RFC 7946, 3.1.6)
 
@@ -120,15 +116,16 @@ AreRings uses polygons = AllZip (AllZip IsRing) uses polygons
 
 -- ---- the topology (TopoJSON 1.0, 2.1)
 
--- the bytes are a JSON text that means the document
+-- the bytes are a value with space round it (RFC 8259, 2), and the value means the document
 pub record Reads (bytes : List ℕ) (d : Document) : Type 0 where
   pub levels : ℕ
-  pub json : Json levels bytes
+  pub root : Node
+  pub json : Padded (IsValue levels) 0 bytes root
   pub shape : OutlineText
   pub arcs : List Arc
   pub uses : List (List (List (List Arc)))
   pub polygons : List Polygons
-  pub topology : IsOutline (root_of bytes) shape
+  pub topology : IsOutline root shape
   pub arcs_are : AreArcs (is_some shape.transform) shape.arcs arcs
   pub uses_are : AllZip (GeometryUses arcs) (leaves shape.layers) uses
   pub rings_are : AllZip AreRings uses polygons

@@ -1,6 +1,6 @@
 -- The lengths of the arcs, added over all rings that use them.
 use Rattle.std.specs.Prelude.{ℕ, List, length, sum_by}
-use Rattle.topo_reader.specs.Indexes.{Arc}
+use Rattle.topo_reader.specs.Arcs.{Arc}
 
 abbrev pub ring_size : List Arc → ℕ
 ring_size uses = sum_by length uses

@@ -2,7 +2,7 @@
 use Rattle.std.specs.Prelude.{List, map, flat_map, reverse, if◌then◌else◌, Vec}
 use Rattle.grid_geometry.specs.Position.{Position}
 use Rattle.topo_reader.specs.declared.indexes.Use.{Use}
-use Rattle.topo_reader.specs.Indexes.{Arc}
+use Rattle.topo_reader.specs.Arcs.{Arc}
 
 abbrev pub arc_of : Use → Arc
 arc_of u = if u.reversed then reverse u.arc.now else u.arc.now

@@ -3,7 +3,8 @@ ghost use Rattle.std.specs.Prelude.{◌≡◌, map, option_map, IfOk, ◌≤◌,
 ghost use Rattle.json_spans.specs.Left.{node};
 ghost use Rattle.json_spans.specs.Walk.{items};
 ghost use Rattle.topo_outline.specs.Gives.{Gives};
-ghost use Rattle.topo_reader.specs.Positions.{coordinate, position, positions, is_within, two_of, pair_of, before_next, origin, has_two, arc, arcs};
+ghost use Rattle.topo_reader.specs.Arcs.{origin};
+ghost use Rattle.topo_reader.specs.Positions.{coordinate, position, positions, is_within, two_of, pair_of, before_next, has_two, arc, arcs};
 
 use grid_geometry::Pos;
 use json_spans::{Kind, NotWhole, Span, at, items, kind, whole};

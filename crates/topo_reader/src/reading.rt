@@ -93,6 +93,8 @@ pub fn read<'a, A: Allocator + Copy>(
     ensures places { IfErr result (λ fault. IsPlace bytes.now fault) }
     ensures reads { IfOk result (λ raw.
         (reading : Reads bytes.now (document_of (view_raw raw))) × Fits reading) }
+    ensures only { IfOk result (λ raw. (d : Document) → Reads bytes.now d →
+        d ≡ document_of (view_raw raw)) }
     ensures unread { IfErr result (λ fault. fault ≢ OpenFault.OutOfMemory →
         ¬ ((d : Document) × (reading : Reads bytes.now d) × Fits reading)) }
 {

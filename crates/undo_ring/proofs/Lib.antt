@@ -1,2 +1,4 @@
 pub mod MapAnswers
 pub mod Recording
+pub mod StepSides
+pub mod SidesKept

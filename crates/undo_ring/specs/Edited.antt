@@ -1,7 +1,7 @@
 -- An editor as its callers see it, and what its calls make of it.
 use Rattle.std.specs.Prelude.{ℕ, ℤ, ◌≡◌, ◌≢◌, ◌⊎◌, List, [], None, MatchOption}
 use Rattle.ring_machine.specs.Document.{Document}
-use Rattle.ring_machine.specs.Command.{Command, Thin, Undo, Refusal, Done, Refused}
+use Rattle.ring_machine.specs.Command.{Command, Move, Insert, Remove, Thin, Undo, Refusal, Done, Refused}
 use Rattle.ring_machine.specs.Command as machine
 use Rattle.ring_machine.specs.Machine.{State, step, changed}
 use Rattle.ring_machine.specs.Thin.{IsThinnedPart}
@@ -26,6 +26,14 @@ machine_of e = record { doc = e.map.doc; next = e.map.next; past = e.past }
 -- a map with no history
 abbrev pub begun : MapState → ℕ → Edited
 begun m depth = record { map = record m { last = None }; past = []; depth = depth }
+
+-- the command moves, inserts or removes a vertex, or thins
+abbrev pub EditsVertices : Command → Type 0
+EditsVertices (Move p q) = Unit {0}
+EditsVertices (Insert a b q) = Unit {0}
+EditsVertices (Remove p) = Unit {0}
+EditsVertices (Thin t) = Unit {0}
+EditsVertices _ = ⊥
 
 -- what no call changes: how many changes are kept, and the frame of the cells of the index
 pub record StaysMade (old new : Edited) : Type 0 where

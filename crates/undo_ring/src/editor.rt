@@ -1,6 +1,7 @@
 ghost use Rattle.std.specs.Prelude.{◌≡◌, ◌≤◌, OnOk, IfOk, IfErr};
+ghost use Rattle.ring_machine.specs.Sides.{KeepsSides};
 ghost use Rattle.undo_ring.specs.Commands.{command_of, IsSound};
-ghost use Rattle.undo_ring.specs.Edited.{begun, Applies, Fails, IsUndone, StaysDone};
+ghost use Rattle.undo_ring.specs.Edited.{begun, Applies, EditsVertices, Fails, IsUndone, StaysDone};
 ghost use Rattle.undo_ring.specs.Trails.{kept};
 
 use crate::answer::Answer;
@@ -87,13 +88,16 @@ impl<'a, I: SegIndex, A: Allocator + Copy> Editor<'a, I, A> {
 
     /// Answers a command: it is a step of the machine. An edit that is not refused is one change, a
     /// thinning where it left something out. A refusal changes nothing but the count of tests. Want
-    /// of memory may stop a thinning on the way: what was left out so far is one change then.
+    /// of memory may stop a thinning on the way: what was left out so far is one change then. An edit
+    /// of vertices leaves every position on its side of every ring.
     pub fn apply(&mut self, command: Command) -> Result<Answer<A>, EditFault>
         requires { IsSound command }
         ensures applied { IfOk result
             (λ answer. Applies self.old self.new (command_of command) answer) }
         ensures failed { IfErr result
             (λ fault. Fails fault self.old self.new (command_of command)) }
+        ensures sides { EditsVertices (command_of command)
+            → KeepsSides self.old.map.doc self.new.map.doc }
     {
         let _ = self.held.next_number(); // it tells where features stand
         let answer = answer(self.alloc, &mut self.held, command);

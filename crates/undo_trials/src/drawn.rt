@@ -5,7 +5,6 @@ use crate::drawing::{Drawn, drawn_command};
 use crate::edits::check_path;
 use crate::maps::editor_of;
 use crate::trail::{Trail, give, take_all_back, take_back};
-use crate::written::written;
 use segment_index::GridIndex;
 use std::alloc::Global;
 use std::process::Abort;
@@ -97,18 +96,18 @@ impl Tally {
 }
 
 /// Draws a command and gives it to the editor.
-fn draw_one<R: Abort>(
+fn draw_one<'a, R: Abort>(
     rt: &R,
     alloc: Global,
-    editor: &mut Editor<'_, GridIndex>,
+    editor: &mut Editor<'a, GridIndex>,
     drawn: &mut Drawn,
-    trail: &mut Trail,
+    trail: &mut Trail<'a>,
     tally: &mut Tally,
 ) -> Result<(), Fail> {
     let command = drawn_command(rt, alloc, editor.map(), drawn)?;
     check_path(rt, &command);
     let kind = kind_of(&command);
-    if give(rt, alloc, alloc, editor, command, trail)? {
+    if give(rt, alloc, editor, command, trail)? {
         tally.count(kind);
     } else {
         tally.refused = tally.refused.wrapping_add(1);
@@ -117,18 +116,18 @@ fn draw_one<R: Abort>(
 }
 
 /// Draws commands, of which about each fourth is an undo.
-fn draw<R: Abort>(
+fn draw<'a, R: Abort>(
     rt: &R,
     alloc: Global,
-    editor: &mut Editor<'_, GridIndex>,
+    editor: &mut Editor<'a, GridIndex>,
     drawn: &mut Drawn,
-    trail: &mut Trail,
+    trail: &mut Trail<'a>,
     tally: &mut Tally,
 ) -> Result<(), Fail> {
     for _ in 0..COUNT {
         if drawn.below(4) > 0 {
             draw_one(rt, alloc, editor, drawn, trail, tally)?;
-        } else if take_back(rt, alloc, alloc, editor, trail) {
+        } else if take_back(rt, alloc, editor, trail) {
             tally.undos = tally.undos.wrapping_add(1);
         }
     }
@@ -136,7 +135,7 @@ fn draw<R: Abort>(
 }
 
 /// There are changes of each kind, and some were too old to be kept.
-fn are_many<R: Abort>(rt: &R, tally: Tally, trail: &Trail) {
+fn are_many<R: Abort>(rt: &R, tally: Tally, trail: &Trail<'_>) {
     let dropped = trail.dropped;
     assert!(rt; 100 < tally.undos && 50 < tally.refused, "{tally:?}");
     assert!(rt; 20 < tally.moves && 20 < tally.insertions, "{tally:?}");
@@ -147,16 +146,16 @@ fn are_many<R: Abort>(rt: &R, tally: Tally, trail: &Trail) {
 }
 
 /// Draws commands on the map, and then takes back as many changes as are kept.
-fn draw_and_take_back<R: Abort>(
+fn draw_and_take_back<'a, R: Abort>(
     rt: &R,
     alloc: Global,
-    editor: &mut Editor<'_, GridIndex>,
-    trail: &mut Trail,
+    editor: &mut Editor<'a, GridIndex>,
+    trail: &mut Trail<'a>,
 ) -> Result<(), Fail> {
     let (mut drawn, mut tally) = (Drawn::new(1), nothing());
     draw(rt, alloc, editor, &mut drawn, trail, &mut tally)?;
     are_many(rt, tally, trail);
-    take_all_back(rt, alloc, alloc, editor, trail);
+    take_all_back(rt, alloc, editor, trail);
     Ok(())
 }
 
@@ -166,7 +165,7 @@ fn draw_on<R: Abort>(
     alloc: Global,
     editor: &mut Editor<'_, GridIndex>,
 ) -> Result<(), Fail> {
-    let mut trail = Trail::new(alloc, written(rt, alloc, alloc, editor.map()), DEPTH);
+    let mut trail = Trail::new(alloc, editor.map(), DEPTH)?;
     let ended = draw_and_take_back(rt, alloc, editor, &mut trail);
     drop(trail);
     ended

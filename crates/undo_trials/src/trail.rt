@@ -1,95 +1,121 @@
-// The texts of a map from before its newest changes, beside an editor that keeps as many.
+// Copies of the map from before its newest changes, beside an editor that keeps as many changes.
 ghost use Rattle.undo_ring.specs.Commands.{IsSound};
 
 use crate::edits::is_change;
-use crate::written::{is_as_opened, is_written, written};
-use segment_index::SegIndex;
-use std::alloc::{AllocError, Allocator, Global};
+use crate::written::{counts_of, is_as_opened, is_written, written};
+use arc_store::Map;
+use segment_index::GridIndex;
+use std::alloc::{AllocError, Global};
 use std::mem;
 use std::process::Abort;
 use std::test::Fail;
-use undo_ring::{Command, Editor, UndoFault};
+use undo_ring::{Answer, Command, Editor, UndoFault};
 
-/// The texts, the newest one last.
+/// The copies, the newest one last.
 #[derive(Drop)]
-pub(crate) struct Trail {
-    /// The text of the map as it is.
-    now: Vec<u8>,
-    texts: Vec<Vec<u8>>,
-    /// How many texts are kept at most.
+pub(crate) struct Trail<'a> {
+    /// The map as it is.
+    now: Map<'a, GridIndex>,
+    copies: Vec<Map<'a, GridIndex>>,
+    /// How many copies are kept at most.
     depth: usize,
-    /// How many texts were too old.
+    /// How many copies were too old.
     pub(crate) dropped: usize,
 }
 
-impl Trail {
-    /// No text yet but that of the map as it is.
-    pub(crate) fn new(alloc: Global, now: Vec<u8>, depth: usize) -> Trail {
-        Trail {
-            now,
-            texts: Vec::new(alloc),
+impl<'a> Trail<'a> {
+    /// No copy yet but that of the map as it is.
+    pub(crate) fn new(
+        alloc: Global,
+        map: &Map<'a, GridIndex>,
+        depth: usize,
+    ) -> Result<Trail<'a>, AllocError> {
+        Ok(Trail {
+            now: map.copy()?,
+            copies: Vec::new(alloc),
             depth,
             dropped: 0,
-        }
+        })
     }
 
-    /// How many texts there are.
+    /// How many copies there are.
     pub(crate) fn len(&self) -> usize {
-        self.texts.len()
+        self.copies.len()
     }
 
-    /// Keeps the text from before a change, which made this one.
-    fn keep(&mut self, now: Vec<u8>) -> Result<(), AllocError> {
-        let before = mem::replace(&mut self.now, now);
-        self.texts.push(before)?;
-        if self.depth < self.texts.len() {
-            let oldest = self.texts.remove(0);
+    /// Keeps the copy from before a change, which made this map.
+    fn keep(&mut self, map: &Map<'a, GridIndex>) -> Result<(), AllocError> {
+        let before = mem::replace(&mut self.now, map.copy()?);
+        self.copies.push(before)?;
+        if self.depth < self.copies.len() {
+            let oldest = self.copies.remove(0);
             drop(oldest);
             self.dropped = self.dropped.wrapping_add(1);
         }
         Ok(())
     }
 
-    /// Whether there is a text from before the newest change, which is then that of the map.
+    /// Whether there is a copy from before the newest change, which is then that of the map.
     fn step_back(&mut self) -> bool {
-        let Some(text) = self.texts.pop() else {
+        let Some(copy) = self.copies.pop() else {
             return false;
         };
-        self.now = text;
+        self.now = copy;
         true
+    }
+
+    /// The map is written as the copy of it, and tells the same counts.
+    fn compare<R: Abort>(&self, rt: &R, alloc: Global, map: &Map<'a, GridIndex>) {
+        let text = written(rt, alloc, alloc, &self.now);
+        let is_same = is_written(rt, alloc, alloc, map, text.as_slice());
+        drop(text);
+        assert!(rt; is_same);
+        assert_eq!(rt; counts_of(map), counts_of(&self.now));
     }
 }
 
-/// Gives the command to the editor, and keeps the text from before where it was a change. Gives whether
-/// it was one; where it was none, and yet changed the map, the next undo leads to another text.
-pub(crate) fn give<R: Abort, I: SegIndex, A: Allocator + Copy>(
+/// The next number after this answer, where it was `next` before.
+fn next_after(answer: &Answer, next: u32) -> u32 {
+    match answer {
+        Answer::Made(_) => next.wrapping_add(1),
+        _ => next,
+    }
+}
+
+/// Gives the command to the editor, and keeps the copy from before where it was a change; where it was
+/// none the map is the same. Gives whether it was a change.
+pub(crate) fn give<'a, R: Abort>(
     rt: &R,
     alloc: Global,
-    calm: A,
-    editor: &mut Editor<'_, I, A>,
+    editor: &mut Editor<'a, GridIndex>,
     command: Command,
-    trail: &mut Trail,
+    trail: &mut Trail<'a>,
 ) -> Result<bool, Fail>
     requires { IsSound command }
 {
-    let is_changed = match editor.apply(command) {
-        Ok(answer) => is_change(&answer),
-        Err(_) => false,
+    let next = editor.map().next_number();
+    let (is_changed, next) = match editor.apply(command) {
+        Ok(answer) => (is_change(&answer), next_after(&answer, next)),
+        Err(_) => (false, next),
     };
     if is_changed {
-        trail.keep(written(rt, alloc, calm, editor.map()))?;
+        trail.keep(editor.map())?;
+    } else {
+        trail.compare(rt, alloc, editor.map());
     }
+    assert_eq!(rt; editor.map().next_number(), next);
     Ok(is_changed)
 }
 
-/// Takes the newest change back: the map is written as before it. Gives whether there was one.
-pub(crate) fn take_back<R: Abort, I: SegIndex, A: Allocator + Copy>(
+/// Takes the newest change back: the map is as the copy from before it, and its next number stays.
+/// Gives whether there was one.
+pub(crate) fn take_back<'a, R: Abort>(
     rt: &R,
     alloc: Global,
-    calm: A,
-    editor: &mut Editor<'_, I, A>,
-    trail: &mut Trail,
+    editor: &mut Editor<'a, GridIndex>,
+    trail: &mut Trail<'a>,
 ) -> bool {
+    let next = editor.map().next_number();
     let undone = editor.undo();
     let is_kept = trail.step_back();
     if is_kept {
@@ -98,23 +124,30 @@ pub(crate) fn take_back<R: Abort, I: SegIndex, A: Allocator + Copy>(
     } else {
         assert_eq!(rt; undone, Err(UndoFault::NothingToUndo));
     }
-    assert!(rt; is_written(rt, alloc, calm, editor.map(), trail.now.as_slice()));
+    trail.compare(rt, alloc, editor.map());
+    assert_eq!(rt; editor.map().next_number(), next);
     is_kept
+}
+
+/// The map stands as if it had been opened from its text.
+fn is_as_written<R: Abort>(rt: &R, alloc: Global, map: &Map<'_, GridIndex>) {
+    let text = written(rt, alloc, alloc, map);
+    is_as_opened(rt, alloc, map, text.as_slice());
+    drop(text);
 }
 
 /// Takes back every change that is kept. Each time the map stands as if it had been opened from its
 /// text.
-pub(crate) fn take_all_back<R: Abort, I: SegIndex, A: Allocator + Copy>(
+pub(crate) fn take_all_back<'a, R: Abort>(
     rt: &R,
     alloc: Global,
-    calm: A,
-    editor: &mut Editor<'_, I, A>,
-    trail: &mut Trail,
+    editor: &mut Editor<'a, GridIndex>,
+    trail: &mut Trail<'a>,
 ) {
     let count = trail.len();
     for _ in 0..count {
-        assert!(rt; take_back(rt, alloc, calm, editor, trail));
-        is_as_opened(rt, alloc, editor.map(), trail.now.as_slice());
+        assert!(rt; take_back(rt, alloc, editor, trail));
+        is_as_written(rt, alloc, editor.map());
     }
-    assert!(rt; !take_back(rt, alloc, calm, editor, trail));
+    assert!(rt; !take_back(rt, alloc, editor, trail));
 }

@@ -4,7 +4,6 @@ ghost use Rattle.std.specs.Prelude.{◌≤◌};
 use crate::edits::{EACH_KIND, Edit, check_path, command_of};
 use crate::maps::{SQUARES, TWO_SQUARES, editor_of};
 use crate::trail::{Trail, give, take_all_back};
-use crate::written::written;
 use segment_index::GridIndex;
 use std::alloc::Global;
 use std::process::Abort;
@@ -12,31 +11,31 @@ use std::test::Fail;
 use undo_ring::Editor;
 
 /// Gives an edit to the editor, which accepts it.
-fn give_edit<R: Abort>(
+fn give_edit<'a, R: Abort>(
     rt: &R,
     alloc: Global,
-    editor: &mut Editor<'_, GridIndex>,
+    editor: &mut Editor<'a, GridIndex>,
     edit: Edit,
-    trail: &mut Trail,
+    trail: &mut Trail<'a>,
 ) -> Result<(), Fail> {
     let command = command_of(rt, alloc, edit)?;
     check_path(rt, &command);
-    assert!(rt; give(rt, alloc, alloc, editor, command, trail)?, "{edit:?}");
+    assert!(rt; give(rt, alloc, editor, command, trail)?, "{edit:?}");
     Ok(())
 }
 
 /// Gives the edits to the editor, which accepts them, and then takes back as many as are kept.
-fn give_and_take_back<R: Abort>(
+fn give_and_take_back<'a, R: Abort>(
     rt: &R,
     alloc: Global,
-    editor: &mut Editor<'_, GridIndex>,
+    editor: &mut Editor<'a, GridIndex>,
     edits: &[Edit],
-    trail: &mut Trail,
+    trail: &mut Trail<'a>,
 ) -> Result<(), Fail> {
     for edit in edits {
         give_edit(rt, alloc, editor, *edit, trail)?;
     }
-    take_all_back(rt, alloc, alloc, editor, trail);
+    take_all_back(rt, alloc, editor, trail);
     Ok(())
 }
 
@@ -48,7 +47,7 @@ fn come_and_go_in<R: Abort>(
     depth: usize,
     edits: &[Edit],
 ) -> Result<usize, Fail> {
-    let mut trail = Trail::new(alloc, written(rt, alloc, alloc, editor.map()), depth);
+    let mut trail = Trail::new(alloc, editor.map(), depth)?;
     let ended = give_and_take_back(rt, alloc, editor, edits, &mut trail);
     let dropped = trail.dropped;
     drop(trail);

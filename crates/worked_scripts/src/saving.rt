@@ -136,7 +136,7 @@ fn saved_twice(rt: HostRuntime) -> Result<(), Fail> {
 }
 
 /// The script of the runs whose writers fail.
-const SCRIPT: &[u8] = b"area 0\ndocument\nmove 10 10 12 12\ndocument";
+const SCRIPT: &[u8] = b"area 0\nrename 0 \"Z\"\nmove 10 10 12 12\ndocument\nundo\ndocument\nundo 1";
 
 /// After the answers' writer failed, it has a front of the answers, and nothing is saved.
 #[test]
@@ -171,11 +171,12 @@ fn answers_whose_writer_fails(rt: HostRuntime) -> Result<(), Fail> {
     Ok(())
 }
 
-/// After the saved map's writer failed, all answers stand, and it has a front of the text.
+/// After the saved map's writer failed, all answers stand, and it has a front of the text: all of it
+/// where the last call failed, which flushes.
 #[test]
 fn a_saved_map_whose_writer_fails(rt: HostRuntime) -> Result<(), Fail> {
     let whole = texts_of(rt.alloc(), TWO_SQUARES.as_bytes(), SCRIPT)?;
-    let mut done = false;
+    let (mut done, mut was_whole) = (false, false);
     for calls in 0..100u64 {
         let mut source = FromReader::new(SCRIPT);
         let mut sink = ToWriter::new(Vec::new(rt.alloc()));
@@ -196,9 +197,10 @@ fn a_saved_map_whose_writer_fails(rt: HostRuntime) -> Result<(), Fail> {
         } else {
             assert!(rt; !done && matches!(outcome, Err(RunFault::Save)));
             assert!(rt; whole.saved.as_str().as_bytes().starts_with(text));
+            was_whole = text.len() == whole.saved.as_str().len();
         }
         assert_eq!(rt; sink.writer.as_slice(), whole.answers.as_str().as_bytes());
     }
-    assert!(rt; done);
+    assert!(rt; done && was_whole);
     Ok(())
 }

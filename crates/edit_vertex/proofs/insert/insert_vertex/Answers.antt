@@ -1,7 +1,9 @@
 use Rattle.std.proofs.Common.{◌≡◌, ◌≤◌, ◌+◌, true, None, ap, ◌∙◌, subst, arith}
 use Rattle.std.specs.Prelude.{OnOk, OnErr, IfErr}
 use Rattle.ring_machine.specs.Refusals.{first_of, insert_refusals}
+use Rattle.ring_machine.specs.Sides.{KeepsSides}
 use Rattle.ring_machine.specs.Vertices.{ins}
+use Rattle.ring_machine.proofs.Accepted.{inserted}
 use Rattle.segment_index.specs.Times.{times_by}
 use Rattle.local_planarity.specs.Tests.{most_for}
 use Rattle.arc_store.specs.Faults.{Refuses}
@@ -10,6 +12,7 @@ use Rattle.edit_vertex.specs.Untested.{is_early}
 use Rattle.edit_records.specs.Records.{Inserted}
 use Rattle.edit_records.proofs.InsertedFits.{insert-recorded}
 use Rattle.edit_vertex.proofs.Recording.{recorded_by}
+use Rattle.edit_vertex.proofs.SidesKept.{kept_by}
 use Rattle.edit_vertex.proofs.insert.insert_vertex.Goals as goal
 
 -- the beginning of an edit changes the count of tests, and forgets what took the last one back
@@ -20,6 +23,12 @@ returns-clause-accepted g c =
 pub returns-clause-inserted : goal.returns-clause-inserted
 returns-clause-inserted g c =
     subst (λ d. OnOk c.insert_now.result (c.insert_now.new.map.doc ≡ ins d c.args.a c.args.b c.args.q)) (ap (λ (s : State). s.doc) c.begin_edit.ensures.begun) c.insert_now.ensures.inserted
+
+pub returns-clause-sides : goal.returns-clause-sides
+returns-clause-sides g c =
+    let d = c.begin_edit.new.self.doc in
+    subst (λ before. OnOk c.insert_now.result (KeepsSides before c.insert_now.new.map.doc)) (ap (λ (s : State). s.doc) c.begin_edit.ensures.begun)
+    (kept_by c.insert_now.result d (ins d c.args.a c.args.b c.args.q) c.insert_now.new.map.doc (λ accepted. (inserted d c.args.a c.args.b c.args.q c.begin_edit.ensures.proper accepted).1) c.insert_now.ensures.accepted c.insert_now.ensures.inserted)
 
 pub returns-clause-refused : goal.returns-clause-refused
 returns-clause-refused g c =

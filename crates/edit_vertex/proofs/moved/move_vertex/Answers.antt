@@ -1,7 +1,9 @@
 use Rattle.std.proofs.Common.{◌≡◌, ◌≤◌, ◌+◌, true, None, ap, ◌∙◌, subst, arith}
 use Rattle.std.specs.Prelude.{OnOk, OnErr, IfErr}
 use Rattle.ring_machine.specs.Refusals.{first_of, move_refusals}
+use Rattle.ring_machine.specs.Sides.{KeepsSides}
 use Rattle.ring_machine.specs.Vertices.{put}
+use Rattle.ring_machine.proofs.Accepted.{moved}
 use Rattle.segment_index.specs.Times.{times_by}
 use Rattle.local_planarity.specs.Tests.{most_for_move}
 use Rattle.arc_store.specs.Faults.{Refuses}
@@ -10,6 +12,7 @@ use Rattle.edit_vertex.specs.Untested.{is_early}
 use Rattle.edit_records.specs.Records.{Moved}
 use Rattle.edit_records.proofs.Recorded.{move-recorded}
 use Rattle.edit_vertex.proofs.Recording.{recorded_by}
+use Rattle.edit_vertex.proofs.SidesKept.{kept_by}
 use Rattle.edit_vertex.proofs.moved.move_vertex.Goals as goal
 
 -- the beginning of an edit changes the count of tests, and forgets what took the last one back
@@ -20,6 +23,12 @@ returns-clause-accepted g c =
 pub returns-clause-moved : goal.returns-clause-moved
 returns-clause-moved g c =
     subst (λ d. OnOk c.move_now.result (c.move_now.new.map.doc ≡ put d c.args.p c.args.q)) (ap (λ (s : State). s.doc) c.begin_edit.ensures.begun) c.move_now.ensures.moved
+
+pub returns-clause-sides : goal.returns-clause-sides
+returns-clause-sides g c =
+    let d = c.begin_edit.new.self.doc in
+    subst (λ before. OnOk c.move_now.result (KeepsSides before c.move_now.new.map.doc)) (ap (λ (s : State). s.doc) c.begin_edit.ensures.begun)
+    (kept_by c.move_now.result d (put d c.args.p c.args.q) c.move_now.new.map.doc (λ accepted. (moved d c.args.p c.args.q c.begin_edit.ensures.proper accepted).1) c.move_now.ensures.accepted c.move_now.ensures.moved)
 
 pub returns-clause-refused : goal.returns-clause-refused
 returns-clause-refused g c =

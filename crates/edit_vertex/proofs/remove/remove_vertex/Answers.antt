@@ -1,13 +1,16 @@
 use Rattle.std.proofs.Common.{◌≡◌, ◌≤◌, ◌+◌, true, None, ap, ◌∙◌, subst, arith}
 use Rattle.std.specs.Prelude.{OnOk, OnErr, IfErr}
 use Rattle.ring_machine.specs.Refusals.{first_of, remove_refusals}
+use Rattle.ring_machine.specs.Sides.{KeepsSides}
 use Rattle.ring_machine.specs.Vertices.{del}
+use Rattle.ring_machine.proofs.Accepted.{removed}
 use Rattle.segment_index.specs.Times.{times_by}
 use Rattle.local_planarity.specs.Tests.{most_for}
 use Rattle.arc_store.specs.Faults.{Refuses}
 use Rattle.arc_store.specs.State.{State}
 use Rattle.edit_vertex.specs.Untested.{is_early}
 use Rattle.edit_vertex.proofs.Recording.{removal_recorded}
+use Rattle.edit_vertex.proofs.SidesKept.{kept_by}
 use Rattle.edit_vertex.proofs.remove.remove_vertex.Goals as goal
 
 -- the beginning of an edit changes the count of tests, and forgets what took the last one back
@@ -18,6 +21,12 @@ returns-clause-accepted g c =
 pub returns-clause-removed : goal.returns-clause-removed
 returns-clause-removed g c =
     subst (λ d. OnOk c.remove_now.result (c.remove_now.new.map.doc ≡ del d c.args.p)) (ap (λ (s : State). s.doc) c.begin_edit.ensures.begun) c.remove_now.ensures.removed
+
+pub returns-clause-sides : goal.returns-clause-sides
+returns-clause-sides g c =
+    let d = c.begin_edit.new.self.doc in
+    subst (λ before. OnOk c.remove_now.result (KeepsSides before c.remove_now.new.map.doc)) (ap (λ (s : State). s.doc) c.begin_edit.ensures.begun)
+    (kept_by c.remove_now.result d (del d c.args.p) c.remove_now.new.map.doc (λ accepted. (removed d c.args.p c.begin_edit.ensures.proper accepted).1) c.remove_now.ensures.accepted c.remove_now.ensures.removed)
 
 pub returns-clause-refused : goal.returns-clause-refused
 returns-clause-refused g c =

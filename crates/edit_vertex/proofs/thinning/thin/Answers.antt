@@ -4,12 +4,16 @@ use Rattle.std.proofs.lemmas.Int.{ints}
 use Rattle.std.specs.List.{fold}
 use Rattle.std.proofs.lemmas.Grind.{common_steps}
 use Rattle.std.proofs.lemmas.List.{take_all}
+use Rattle.ring_machine.specs.Planar.{Proper}
 use Rattle.ring_machine.specs.Query.{vertices}
+use Rattle.ring_machine.specs.Sides.{KeepsSides}
 use Rattle.ring_machine.specs.Thin.{Thinning, thin_at, thinned}
+use Rattle.ring_machine.proofs.Accepted.{thinned-keeps}
 use Rattle.segment_index.specs.Times.{times_by}
 use Rattle.arc_store.specs.State.{State}
 use Rattle.edit_vertex.specs.Tested.{most_at, most_over, most_for_thin}
 use Rattle.edit_vertex.proofs.Passing.{with_count, most_more, most_part}
+use Rattle.edit_vertex.proofs.SidesKept.{same_keeps, part_keeps}
 use Rattle.edit_vertex.proofs.ThinKept.{IsCount, none_left, thinning_kept, one_counted, as_counted}
 use Rattle.edit_vertex.proofs.thinning.thin.Goals as goal
 use Rattle.edit_vertex.proofs.thinning.thin.Goals.{in-Ok-true, in-Ok-false}
@@ -36,6 +40,22 @@ returns-clause-thinned g c =
     let old = ap (λ (s : State). s.doc) c.begin_edit.ensures.begun in
     let all = c.as_slice-ascending.ensures.value ∙ c.in_ok-vertices.ensures ∙ ap vertices old in
     sym (ap (λ (s : Thinning). s.doc) c.loop-p.invariant.so_far) ∙ ap (λ t. (fold (thin_at t) (with_count c.args.map.now.doc 0) (take c.loop-p.p-index c.as_slice-ascending.result.now)).doc) same ∙ ap (λ ps. (fold (thin_at c.args.t) (with_count c.args.map.now.doc 0) ps).doc) (take_all c.loop-p.p-index c.as_slice-ascending.result.now c.loop-p-test.false ∙ all)
+
+-- ---- sides
+
+pub returns-in_err-vertices-clause-sides : goal.returns-in_err-vertices-clause-sides
+returns-in_err-vertices-clause-sides g c =
+    subst (KeepsSides c.args.map.now.doc) (sym (ap (λ (s : State). s.doc) c.begin_edit.ensures.begun)) (same_keeps c.args.map.now.doc)
+
+pub returns-in-Err-clause-sides : goal.returns-in-Err-clause-sides
+returns-in-Err-clause-sides g c =
+    let proper = subst Proper (ap (λ (s : State). s.doc) c.begin_edit.ensures.begun) c.begin_edit.ensures.proper in
+    part_keeps c.args.t c.args.map.now.doc c.thin_at.new.map.doc proper (returns-in-Err-clause-part g c)
+
+pub returns-clause-sides : goal.returns-clause-sides
+returns-clause-sides g c =
+    let proper = subst Proper (ap (λ (s : State). s.doc) c.begin_edit.ensures.begun) c.begin_edit.ensures.proper in
+    subst (KeepsSides c.args.map.now.doc) (sym (returns-clause-thinned g c)) (thinned-keeps c.args.map.now.doc c.args.t proper).sides
 
 -- ---- the pass
 

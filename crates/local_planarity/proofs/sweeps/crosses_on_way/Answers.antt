@@ -1,10 +1,12 @@
-use Rattle.std.proofs.Common.{ap, ◌∙◌, ◌≡◌, length, arith, subst}
+use Rattle.std.proofs.Common.{ap, ◌∙◌, ◌≡◌, arith, subst}
 use Rattle.std.specs.List.{list_any}
 use Rattle.grid_geometry.specs.Segment.{segment}
 use Rattle.grid_geometry.specs.Conflict.{conflict}
 use Rattle.segment_index.specs.Times.{times_by}
 use Rattle.local_planarity.specs.declared.leaving.Leaving.TheVariants.{EndingAt}
 use Rattle.local_planarity.specs.Near.{IsNear}
+use Rattle.local_planarity.specs.Pairs.{tests_to_conflict}
+use Rattle.local_planarity.proofs.Counts.{tests_to_conflict-le}
 use Rattle.local_planarity.proofs.Sweeping.{crosses_is}
 use Rattle.local_planarity.proofs.Nearby.{near_few, held_has}
 use Rattle.local_planarity.proofs.sweeps.crosses_on_way.Goals as goal
@@ -20,5 +22,5 @@ returns-in_ok-near-in-Some g c =
     c.conflicts_with.ensures.some ∙ ap (λ z. list_any (conflict c.in-Some.way) z) c.as_slice.ensures.value ∙ ap (λ s. list_any (conflict s) near) c.in-Some.ensures.some in
     record {
       crosses = λ ss e. crosses_is held times c.args.p way near ss c.conflicts_with.result there is e;
-      few = λ ss e. omega (arith, c.conflicts_with.ensures.few, ap length c.as_slice.ensures.value, near_few held times (EndingAt c.args.p) way near ss there (held_has held (EndingAt c.args.p) ss e));
+      few = λ ss e. omega (arith, c.conflicts_with.ensures.few, ap (tests_to_conflict c.in-Some.way) c.as_slice.ensures.value, tests_to_conflict-le c.in-Some.way near, near_few held times (EndingAt c.args.p) way near ss there (held_has held (EndingAt c.args.p) ss e));
     }

@@ -1,53 +1,88 @@
-use Rattle.std.proofs.Common.{◌+◌, ◌++◌, [], ◌∙◌, ap, refl, Err, take, drop, rules, arith, length, ◌≡◌, ◌≤◌}
+use Rattle.std.proofs.Common.{◌+◌, ◌++◌, [], ◌∙◌, ap, refl, Err, take, drop, rules, arith, length, ◌≡◌, ◌≤◌, ℕ}
 use Rattle.std.proofs.KnownBytes.{Consumes-nil, Appends-nil}
+use Rattle.script_runner.specs.Devices.{reader_of, writer_of, devices}
 use Rattle.script_runner.specs.Progress.{Progress}
 use Rattle.device_io.proofs.DeviceLemmas.{Appends-more}
 use Rattle.script_runner.proofs.StepLemmas.{Feeds-append}
-use Rattle.script_runner.proofs.RunLemmas.{lines_kept, all_answered, end_read, part_at_end, part_in_piece, piece_came, whole_came, past_limit, fed_length, lines_in_piece}
+use Rattle.script_runner.proofs.RunLemmas.{lines_kept, all_answered, end_read, part_at_end, part_in_piece, piece_came, whole_came, past_limit, fed_length, lines_in_piece, piece_fits, rest_fits}
 use Rattle.std.proofs.lemmas.List.{length-take-le}
 use Rattle.script_runner.proofs.running.answer_script.Goals as goal
 
 pub returns-in-Err-clause-halted : goal.returns-in-Err-clause-halted
-returns-in-Err-clause-halted g c =
+returns-in-Err-clause-halted g c = λ held.
     let (read, text, came, put, fed, counted) = c.loop-n.invariant.so_far in
-    lines_kept c.args.editor.depth c.args.editor.map.doc read text c.loop-n.runner _ _ _ _ _ fed came c.in-Err.ensures.err put
+    lines_kept c.args.editor.depth c.args.editor.map.doc
+    (devices (reader_of g.R.Source c.args.script.now) (writer_of g.W.Sink c.args.out.now) held)
+    (devices (reader_of g.R.Source c.get.new.self) (writer_of g.W.Sink c.loop-n.out) held)
+    read text c.loop-n.runner (g.R.Source.coming c.loop-n.script) fed came c.in-Err.ensures.err c.in-Err.ensures.failed put
 
 pub returns-in-Ok-finish-clause-done : goal.returns-in-Ok-finish-clause-done
-returns-in-Ok-finish-clause-done g c =
+returns-in-Ok-finish-clause-done g c = λ held holds.
     let (read, text, came, put, fed, counted) = c.loop-n.invariant.so_far in
-    all_answered c.args.editor.depth c.args.editor.map.doc c.in-Ok-finish.done.1.map.doc read text c.loop-n.runner c.in-Ok-finish.done.0 _ _ _ _ _ fed (end_read _ _ _ read c.get.new.room c.in-Ok.n c.if-n-eq0.true came c.in-Ok.ensures.ok) put c.in-Ok-finish.ensures.ok
+    let within : length read ≤ 1073741824 = omega arith in
+    all_answered c.args.editor.depth c.args.editor.map.doc c.in-Ok-finish.done.1.map.doc
+    (devices (reader_of g.R.Source c.args.script.now) (writer_of g.W.Sink c.args.out.now) held)
+    (devices (reader_of g.R.Source c.get.new.self) (writer_of g.W.Sink c.finish.new.out) holds)
+    read text c.loop-n.runner c.in-Ok-finish.done.0 (g.W.Sink.taken c.loop-n.out) fed
+    (end_read _ _ _ read c.get.new.room c.in-Ok.n c.if-n-eq0.true came c.in-Ok.ensures.ok)
+    (c.in-Ok.ensures.end c.if-n-eq0.true (omega (arith, c.get.auto.room))) within put c.in-Ok-finish.ensures.ok c.in-Ok-finish.ensures.sent
 
 pub returns-in-Err-Write-clause-halted : goal.returns-in-Err-Write-clause-halted
-returns-in-Err-Write-clause-halted g c =
+returns-in-Err-Write-clause-halted g c = λ held.
     let (read, text, came, put, fed, counted) = c.loop-n.invariant.so_far in
-    part_at_end c.args.editor.depth c.args.editor.map.doc read text c.loop-n.runner _ _ _ _ _ fed (end_read _ _ _ read c.get.new.room c.in-Ok.n c.if-n-eq0.true came c.in-Ok.ensures.ok) put c.in-Err-Write.ensures.cut
+    part_at_end c.args.editor.depth c.args.editor.map.doc
+    (devices (reader_of g.R.Source c.args.script.now) (writer_of g.W.Sink c.args.out.now) held)
+    (devices (reader_of g.R.Source c.get.new.self) (writer_of g.W.Sink c.finish.new.out) held)
+    read text c.loop-n.runner (g.W.Sink.taken c.loop-n.out) fed
+    (end_read _ _ _ read c.get.new.room c.in-Ok.n c.if-n-eq0.true came c.in-Ok.ensures.ok)
+    (c.in-Ok.ensures.end c.if-n-eq0.true (omega (arith, c.get.auto.room))) put c.in-Err-Write.ensures.cut
 
 pub returns-in-Err-OutOfMemory-clause-halted : goal.returns-in-Err-OutOfMemory-clause-halted
-returns-in-Err-OutOfMemory-clause-halted g c =
+returns-in-Err-OutOfMemory-clause-halted g c = λ held.
     let (read, text, came, put, fed, counted) = c.loop-n.invariant.so_far in
-    part_at_end c.args.editor.depth c.args.editor.map.doc read text c.loop-n.runner _ _ _ _ _ fed (end_read _ _ _ read c.get.new.room c.in-Ok.n c.if-n-eq0.true came c.in-Ok.ensures.ok) put c.in-Err-OutOfMemory.ensures.cut
+    part_at_end c.args.editor.depth c.args.editor.map.doc
+    (devices (reader_of g.R.Source c.args.script.now) (writer_of g.W.Sink c.args.out.now) held)
+    (devices (reader_of g.R.Source c.get.new.self) (writer_of g.W.Sink c.finish.new.out) held)
+    read text c.loop-n.runner (g.W.Sink.taken c.loop-n.out) fed
+    (end_read _ _ _ read c.get.new.room c.in-Ok.n c.if-n-eq0.true came c.in-Ok.ensures.ok)
+    (c.in-Ok.ensures.end c.if-n-eq0.true (omega (arith, c.get.auto.room))) put c.in-Err-OutOfMemory.ensures.cut
 
 pub returns-in-Err-Write-feed-clause-halted : goal.returns-in-Err-Write-feed-clause-halted
-returns-in-Err-Write-feed-clause-halted g c =
+returns-in-Err-Write-feed-clause-halted g c = λ held.
     let (read, text, came, put, fed, counted) = c.loop-n.invariant.so_far in
     let within : c.min-taken.result ≤ c.in-Ok.n = omega arith in
-    part_in_piece c.args.editor.depth c.args.editor.map.doc read text (take c.min-taken.result c.get.new.room) (drop c.min-taken.result (take c.in-Ok.n c.get.new.room)) c.loop-n.runner _ _ _ _ _ fed
-    (piece_came _ _ _ read c.get.new.room c.in-Ok.n c.min-taken.result within came c.in-Ok.ensures.ok) put c.in-Err-Write-feed.ensures.cut
+    let whole : length c.get.new.room ≡ 4096 = omega (arith, c.get.auto.room) in
+    part_in_piece c.args.editor.depth c.args.editor.map.doc
+    (devices (reader_of g.R.Source c.args.script.now) (writer_of g.W.Sink c.args.out.now) held)
+    (devices (reader_of g.R.Source c.get.new.self) (writer_of g.W.Sink c.feed.new.out) held)
+    read text (take c.min-taken.result c.get.new.room) (drop c.min-taken.result (take c.in-Ok.n c.get.new.room)) c.loop-n.runner (g.W.Sink.taken c.loop-n.out) fed
+    (piece_came _ _ _ read c.get.new.room c.in-Ok.n c.min-taken.result within came c.in-Ok.ensures.ok)
+    (piece_fits c.get.new.room c.in-Ok.n c.min-taken.result whole c.in-Ok.ensures.within within) put c.in-Err-Write-feed.ensures.cut
 
 pub returns-in-Err-OutOfMemory-feed-clause-halted : goal.returns-in-Err-OutOfMemory-feed-clause-halted
-returns-in-Err-OutOfMemory-feed-clause-halted g c =
+returns-in-Err-OutOfMemory-feed-clause-halted g c = λ held.
     let (read, text, came, put, fed, counted) = c.loop-n.invariant.so_far in
     let within : c.min-taken.result ≤ c.in-Ok.n = omega arith in
-    part_in_piece c.args.editor.depth c.args.editor.map.doc read text (take c.min-taken.result c.get.new.room) (drop c.min-taken.result (take c.in-Ok.n c.get.new.room)) c.loop-n.runner _ _ _ _ _ fed
-    (piece_came _ _ _ read c.get.new.room c.in-Ok.n c.min-taken.result within came c.in-Ok.ensures.ok) put c.in-Err-OutOfMemory-feed.ensures.cut
+    let whole : length c.get.new.room ≡ 4096 = omega (arith, c.get.auto.room) in
+    part_in_piece c.args.editor.depth c.args.editor.map.doc
+    (devices (reader_of g.R.Source c.args.script.now) (writer_of g.W.Sink c.args.out.now) held)
+    (devices (reader_of g.R.Source c.get.new.self) (writer_of g.W.Sink c.feed.new.out) held)
+    read text (take c.min-taken.result c.get.new.room) (drop c.min-taken.result (take c.in-Ok.n c.get.new.room)) c.loop-n.runner (g.W.Sink.taken c.loop-n.out) fed
+    (piece_came _ _ _ read c.get.new.room c.in-Ok.n c.min-taken.result within came c.in-Ok.ensures.ok)
+    (piece_fits c.get.new.room c.in-Ok.n c.min-taken.result whole c.in-Ok.ensures.within within) put c.in-Err-OutOfMemory-feed.ensures.cut
 
 pub returns-then-taken-n-clause-halted : goal.returns-then-taken-n-clause-halted
-returns-then-taken-n-clause-halted g c =
+returns-then-taken-n-clause-halted g c = λ held.
     let (read, text, came, put, fed, counted) = c.loop-n.invariant.so_far in
     let (new, put_new, fed_new) = c.in-Ok-feed.ensures.ok in
     let within : c.min-taken.result ≤ c.in-Ok.n = omega arith in
-    lines_in_piece c.args.editor.depth c.args.editor.map.doc read text (take c.min-taken.result c.get.new.room) (drop c.min-taken.result (take c.in-Ok.n c.get.new.room)) new c.loop-n.runner c.feed.new.self _ _ _ _ _ fed
-    (piece_came _ _ _ read c.get.new.room c.in-Ok.n c.min-taken.result within came c.in-Ok.ensures.ok) put put_new fed_new
+    let whole : length c.get.new.room ≡ 4096 = omega (arith, c.get.auto.room) in
+    lines_in_piece c.args.editor.depth c.args.editor.map.doc
+    (devices (reader_of g.R.Source c.args.script.now) (writer_of g.W.Sink c.args.out.now) held)
+    (devices (reader_of g.R.Source c.get.new.self) (writer_of g.W.Sink c.feed.new.out) held)
+    read text (take c.min-taken.result c.get.new.room) (drop c.min-taken.result (take c.in-Ok.n c.get.new.room)) new c.loop-n.runner c.feed.new.self (g.W.Sink.taken c.loop-n.out) fed
+    (piece_came _ _ _ read c.get.new.room c.in-Ok.n c.min-taken.result within came c.in-Ok.ensures.ok)
+    (rest_fits c.get.new.room c.in-Ok.n c.min-taken.result whole c.in-Ok.ensures.within) put put_new fed_new
     (past_limit read c.get.new.room c.in-Ok.n c.min-taken.result c.loop-n.left c.in-Ok.ensures.within c.min-taken.ensures c.if-taken-n.true counted)
 
 pub loop-n-preserved : goal.loop-n-preserved
@@ -81,6 +116,3 @@ loop-n-init g c = record {
 
 pub returns-in-Err-Write-feed-clause-write : goal.returns-in-Err-Write-feed-clause-write
 returns-in-Err-Write-feed-clause-write g c = λ _. c.feed.ensures.failed (c.in-Err-Write-feed.is ∙ ap Err c.in-Err-Write-feed.field-0-is)
-
-pub returns-in-Ok-finish-clause-end : goal.returns-in-Ok-finish-clause-end
-returns-in-Ok-finish-clause-end g c = c.in-Ok.ensures.end c.if-n-eq0.true (omega (arith, c.get.auto.room))

@@ -9,6 +9,7 @@ returns-in-Err g c =
     record {
       opened = tt;
       numbered = tt;
+      cells = tt;
       refused = (c.in-Err.ensures.refused, unlike, not_read c.args.bytes.now (c.in-Err.ensures.unread unlike));
     }
 

@@ -1,24 +1,50 @@
-use Rattle.std.proofs.Common.{inr}
-use Rattle.script_runner.proofs.RunLemmas.{completes, saves_part}
+use Rattle.std.proofs.Common.{Err, ap, ◌∙◌}
+use Rattle.script_runner.specs.Devices.{reader_of, writer_of, devices_of}
+use Rattle.script_runner.proofs.OpenLemmas.{ends_unopened}
+use Rattle.script_runner.proofs.RunLemmas.{ends_lines, ends_part, ends_unsaved, completes, ends_saving, ends_saved_part}
 use Rattle.script_runner.proofs.running.run.Goals as goal
 
 pub returns-in-Ok-save-clause-done : goal.returns-in-Ok-save-clause-done
 returns-in-Ok-save-clause-done g c =
-    completes c.args.map.now c.args.depth c.in-Ok.opened c.in-Ok-new.editor c.in-Ok-answer_script.done.1.map c.map.result.now _ _ _ _ _ _ c.in-Ok-answer_script.done.0
-    c.in-Ok-new.ensures.made c.map.ensures c.in-Ok-answer_script.ensures.done c.in-Ok.ensures.opened c.in-Ok-save.ensures.ok c.in-Ok-save.ensures.saved
+    completes c.args.map.now c.args.depth c.in-Ok.opened c.in-Ok-new.editor c.in-Ok-new.ensures.made c.in-Ok.ensures.opened
+    (reader_of g.R.Source c.args.script.now) (reader_of g.R.Source c.answer_script.new.script) (writer_of g.W.Sink c.args.out.now) (writer_of g.W.Sink c.answer_script.new.out)
+    c.in-Ok-answer_script.done.1.map c.map.result.now (writer_of g.V.Sink c.args.saved.now) (writer_of g.V.Sink c.save.new.saved) c.in-Ok-answer_script.done.0
+    c.map.ensures c.in-Ok-answer_script.ensures.done c.in-Ok-save.ensures.ok c.in-Ok-save.ensures.sent c.in-Ok-save.ensures.saved
 
 pub returns-in-Err-Device-clause-fault : goal.returns-in-Err-Device-clause-fault
-returns-in-Err-Device-clause-fault g c = (
-  c.in-Ok.opened.doc,
-  c.in-Ok.ensures.opened,
-  saves_part c.args.map.now c.args.depth c.in-Ok.opened c.in-Ok-new.editor c.in-Ok-answer_script.done.1.map c.map.result.now _ _ _ _ _ _ c.in-Ok-answer_script.done.0
-      c.in-Ok-new.ensures.made c.map.ensures c.in-Ok-answer_script.ensures.done c.in-Err-Device.ensures.err c.in-Err-Device.ensures.saved,
-)
+returns-in-Err-Device-clause-fault g c =
+    ends_saving c.args.map.now c.args.depth c.in-Ok.opened c.in-Ok-new.editor c.in-Ok-new.ensures.made c.in-Ok.ensures.opened
+    (reader_of g.R.Source c.args.script.now) (reader_of g.R.Source c.answer_script.new.script) (writer_of g.W.Sink c.args.out.now) (writer_of g.W.Sink c.answer_script.new.out)
+    c.in-Ok-answer_script.done.1.map c.map.result.now (writer_of g.V.Sink c.args.saved.now) (writer_of g.V.Sink c.save.new.saved) c.in-Ok-answer_script.done.0
+    c.map.ensures c.in-Ok-answer_script.ensures.done c.in-Err-Device.ensures.err c.in-Err-Device.ensures.saved
+    (c.save.ensures.device (c.in-Err-Device.is ∙ ap Err c.in-Err-Device.field-0-is))
 
 pub returns-clause-fault : goal.returns-clause-fault
-returns-clause-fault g c = inr (
-  c.in-Ok.opened.doc,
-  c.in-Ok.ensures.opened,
-  inr (saves_part c.args.map.now c.args.depth c.in-Ok.opened c.in-Ok-new.editor c.in-Ok-answer_script.done.1.map c.map.result.now _ _ _ _ _ _ c.in-Ok-answer_script.done.0
-      c.in-Ok-new.ensures.made c.map.ensures c.in-Ok-answer_script.ensures.done c.in-Err-OutOfMemory-save.ensures.err c.in-Err-OutOfMemory-save.ensures.saved),
-)
+returns-clause-fault g c =
+    ends_saved_part c.args.map.now c.args.depth c.in-Ok.opened c.in-Ok-new.editor c.in-Ok-new.ensures.made c.in-Ok.ensures.opened
+    (reader_of g.R.Source c.args.script.now) (reader_of g.R.Source c.answer_script.new.script) (writer_of g.W.Sink c.args.out.now) (writer_of g.W.Sink c.answer_script.new.out)
+    c.in-Ok-answer_script.done.1.map c.map.result.now (writer_of g.V.Sink c.args.saved.now) (writer_of g.V.Sink c.save.new.saved) c.in-Ok-answer_script.done.0
+    c.map.ensures c.in-Ok-answer_script.ensures.done c.in-Err-OutOfMemory-save.ensures.err c.in-Err-OutOfMemory-save.ensures.saved
+
+pub returns-in-Err-Read-clause-fault : goal.returns-in-Err-Read-clause-fault
+returns-in-Err-Read-clause-fault g c =
+    ends_lines c.args.map.now c.args.depth c.in-Ok.opened c.in-Ok-new.editor c.in-Ok-new.ensures.made c.in-Ok.ensures.opened
+    (reader_of g.R.Source c.args.script.now) (reader_of g.R.Source c.answer_script.new.script) (writer_of g.W.Sink c.args.out.now) (writer_of g.W.Sink c.answer_script.new.out)
+    (rw c.in-Err-Read.field-0-is at c.in-Err-Read.ensures.halted) (writer_of g.V.Sink c.args.saved.now)
+
+pub returns-in-Err-Write-clause-fault : goal.returns-in-Err-Write-clause-fault
+returns-in-Err-Write-clause-fault g c =
+    ends_part c.args.map.now c.args.depth c.in-Ok.opened c.in-Ok-new.editor c.in-Ok-new.ensures.made c.in-Ok.ensures.opened
+    (reader_of g.R.Source c.args.script.now) (reader_of g.R.Source c.answer_script.new.script) (writer_of g.W.Sink c.args.out.now) (writer_of g.W.Sink c.answer_script.new.out)
+    (rw c.in-Err-Write.field-0-is at c.in-Err-Write.ensures.halted) (c.answer_script.ensures.write (c.in-Err-Write.is ∙ ap Err c.in-Err-Write.field-0-is))
+    (writer_of g.V.Sink c.args.saved.now)
+
+pub returns-in-Err-OutOfMemory-clause-fault : goal.returns-in-Err-OutOfMemory-clause-fault
+returns-in-Err-OutOfMemory-clause-fault g c =
+    ends_unsaved c.args.map.now c.args.depth c.in-Ok.opened c.in-Ok-new.editor c.in-Ok-new.ensures.made c.in-Ok.ensures.opened
+    (reader_of g.R.Source c.args.script.now) (reader_of g.R.Source c.answer_script.new.script) (writer_of g.W.Sink c.args.out.now) (writer_of g.W.Sink c.answer_script.new.out)
+    (rw c.in-Err-OutOfMemory.field-0-is at c.in-Err-OutOfMemory.ensures.halted) (writer_of g.V.Sink c.args.saved.now)
+
+pub returns-in-Err-clause-fault : goal.returns-in-Err-clause-fault
+returns-in-Err-clause-fault g c =
+    ends_unopened c.in-Err.fault c.args.map.now c.args.depth (devices_of g.R.Source g.W.Sink g.V.Sink c.args.script.now c.args.out.now c.args.saved.now) c.in-Err.ensures.refused

@@ -1,4 +1,4 @@
-use Rattle.std.proofs.Common.{◌≡◌, ◌≤◌, ◌+◌, None, sym, ap, ◌∙◌, subst, length, arith}
+use Rattle.std.proofs.Common.{◌≡◌, ◌≤◌, ◌+◌, true, None, sym, ap, ◌∙◌, subst, length, arith}
 use Rattle.std.specs.Prelude.{OnOk, IfOk, IfErr, ◌+ℤ◌}
 use Rattle.ring_machine.specs.Cut.{path_of, cut}
 use Rattle.ring_machine.specs.Query.{area_of}
@@ -8,6 +8,7 @@ use Rattle.local_planarity.specs.Tests.{most_for}
 use Rattle.arc_store.specs.Faults.{Refuses}
 use Rattle.arc_store.specs.State.{State}
 use Rattle.map_text.specs.Strings.{string_text}
+use Rattle.split_merge.specs.Untested.{is_early}
 use Rattle.split_merge.proofs.SplitConditions.{areas_add_up}
 use Rattle.split_merge.proofs.Recording.{split_recorded}
 use Rattle.split_merge.proofs.splitting.split.Goals as goal
@@ -39,6 +40,10 @@ returns-clause-refused g c =
     let m = c.args.map.now in
     subst (λ ps. IfErr c.split_now.result (λ fault. Refuses fault (first_of (split_refusals m.doc m.next c.args.f (string_text c.args.id) (path_of ps))))) (c.as_slice.ensures.value ∙ c.path.view_is)
     (subst (λ (s : State). IfErr c.split_now.result (λ fault. Refuses fault (first_of (split_refusals s.doc s.next c.args.f (string_text c.args.id) (path_of c.as_slice.result.now))))) c.begin_edit.ensures.begun c.split_now.ensures.refused)
+
+pub returns-clause-untested : goal.returns-clause-untested
+returns-clause-untested g c =
+    subst (λ n. IfErr c.split_now.result (λ fault. is_early fault ≡ true → c.split_now.new.map.tests ≡ n)) (ap (λ (s : State). s.tests) c.begin_edit.ensures.begun) c.split_now.ensures.untested
 
 pub returns-clause-few : goal.returns-clause-few
 returns-clause-few g c =

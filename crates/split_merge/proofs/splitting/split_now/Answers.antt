@@ -1,13 +1,16 @@
-use Rattle.std.proofs.Common.{◌≡◌, ◌≤◌, ◌+◌, None, sym, subst}
+use Rattle.std.proofs.Common.{◌≡◌, ◌≤◌, ◌+◌, true, None, sym, subst}
 use Rattle.std.specs.Prelude.{OnOk, IfErr}
+use Rattle.std.proofs.lemmas.Result.{IfErr-weaker}
 use Rattle.ring_machine.specs.Cut.{path_of, cut}
 use Rattle.ring_machine.specs.Refusals.{first_of, split_refusals}
 use Rattle.segment_index.specs.Times.{times_by}
 use Rattle.local_planarity.specs.Tests.{most_for}
 use Rattle.arc_store.specs.Faults.{Refuses}
 use Rattle.split_merge.specs.Conditions.{early_refusals}
+use Rattle.split_merge.specs.Untested.{is_early}
 use Rattle.map_text.specs.Strings.{string_text}
 use Rattle.split_merge.proofs.FirstRefusal.{refuses_first}
+use Rattle.split_merge.proofs.Late.{split_late, not_early}
 use Rattle.split_merge.proofs.SplitConditions.{late_refusals, split_groups, passed}
 use Rattle.split_merge.proofs.splitting.split_now.Goals as goal
 
@@ -63,3 +66,12 @@ pub returns-clause-few : goal.returns-clause-few
 returns-clause-few g c =
     let s = c.args.map.now in
     subst (λ t. c.raw_split.new.self.tests ≤ s.tests + most_for (times_by s.cells) s.doc (cut s.doc c.args.f t (path_of c.args.positions.now) s.next)) c.in_ok-text.ensures.text c.raw_split.ensures.few
+
+pub returns-clause-untested : goal.returns-clause-untested
+returns-clause-untested g c =
+    let s = c.args.map.now in
+    let id = string_text c.args.id.now in
+    let path = path_of c.args.positions.now in
+    IfErr-weaker c.raw_split.result (λ fault. Refuses fault (first_of (split_refusals s.doc s.next c.args.f id path))) (λ fault. is_early fault ≡ true → c.raw_split.new.self.tests ≡ s.tests)
+    (λ fault h. not_early fault (split_late s.doc s.next c.args.f id path c.in_default.ensures.accepted fault h))
+    (returns-clause-refused g c)

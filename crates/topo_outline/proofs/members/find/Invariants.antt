@@ -1,5 +1,5 @@
 use Rattle.std.proofs.Common.{◌≡◌, map, drop}
-use Rattle.topo_outline.specs.Shape.{member}
+use Rattle.topo_outline.specs.Members.{member}
 use Rattle.topo_outline.specs.Views.{view_entry}
 use Rattle.topo_outline.proofs.members.find.Given as goal
 

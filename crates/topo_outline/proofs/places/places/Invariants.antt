@@ -1,5 +1,5 @@
 use Rattle.std.proofs.Common.{◌≡◌, map, drop, ◌++◌}
-use Rattle.topo_outline.specs.Outline.{leaves}
+use Rattle.topo_outline.specs.Layers.{leaves}
 use Rattle.topo_outline.specs.Views.{view_layer, view_place}
 use Rattle.topo_outline.proofs.places.places.Given as goal
 

@@ -1,7 +1,8 @@
 use Rattle.std.proofs.Common.{◌≡◌}
 use Rattle.json_spans.specs.Left.{node}
 use Rattle.json_spans.specs.Walk.{items, items_left}
-use Rattle.topo_reader.specs.Positions.{positions, origin}
+use Rattle.topo_reader.specs.Arcs.{origin}
+use Rattle.topo_reader.specs.Positions.{positions}
 use Rattle.topo_outline.proofs.Walking.{with_front}
 use Rattle.topo_reader.proofs.arcs.positions.Given as goal
 

@@ -1,5 +1,5 @@
 use Rattle.std.proofs.Common.{◌≡◌, ◌-◌, drop, length, map}
-use Rattle.topo_outline.specs.Outline.{leaves_in}
+use Rattle.topo_outline.specs.Layers.{leaves_in}
 use Rattle.topo_outline.specs.Views.{view_item}
 use Rattle.topo_reader.proofs.extent.less_items.Given as goal
 

@@ -3,6 +3,7 @@ use Rattle.json_spans.specs.Left.{node}
 use Rattle.topo_reader.specs.DocumentView.{view_raw}
 use Rattle.topo_reader.proofs.MeaningOfText.{gives_read, gives_unread}
 use Rattle.topo_reader.proofs.OfRings.{gives_of_rings}
+use Rattle.topo_reader.proofs.OneReading.{gives_only}
 use Rattle.topo_reader.proofs.reading.read.Goals as goal
 
 pub returns-in-Ok-clause-reads : goal.returns-in-Ok-clause-reads
@@ -13,3 +14,6 @@ returns-in-Ok-clause-of_rings g c = gives_of_rings view_raw c.args.bytes.now c.o
 
 pub returns-in-Ok-clause-unread : goal.returns-in-Ok-clause-unread
 returns-in-Ok-clause-unread g c = gives_unread view_raw c.args.bytes.now c.opened.result (node c.span.result) (ap node c.span.ensures ∙ c.in-Ok.ensures.span) c.opened.ensures
+
+pub returns-in-Ok-clause-only : goal.returns-in-Ok-clause-only
+returns-in-Ok-clause-only g c = gives_only view_raw c.args.bytes.now c.opened.result (returns-in-Ok-clause-reads g c)

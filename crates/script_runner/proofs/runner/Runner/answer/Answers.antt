@@ -1,6 +1,6 @@
 use Rattle.std.proofs.Common.{refl, sym, ap, ap₂, ◌∙◌, ◌+◌}
 use Rattle.script_runner.specs.Replies.{meaning_of_said}
-use Rattle.script_runner.proofs.StepLemmas.{on_part, put_part, put_nothing, answered_line}
+use Rattle.script_runner.proofs.StepLemmas.{on_part, put_part, put_nothing, answered_line, shows}
 use Rattle.script_runner.proofs.runner.Runner.answer.Goals as goal
 
 pub returns-in_err-refuses-clause-cut : goal.returns-in_err-refuses-clause-cut
@@ -22,7 +22,7 @@ returns-clause-ok g c =
       put,
       answered_line c.self.inside.editor c.send_reply.new.editor c.args.ended c.args.self.now _ c.self.inside.over c.as_slice.result.now (meaning_of_said c.in_ok-said.said) text c.in_ok-refuses.refuses
           (ap (λ p. p.depth) (sym c.self.view_is)) (ap (λ p. p.state) (sym c.self.view_is)) (ap (λ p. p.over) (sym c.self.view_is)) (ap (λ p. p.line) (sym c.self.view_is) ∙ sym c.as_slice.ensures.value)
-          c.in_ok-said.ensures.means replied refl refl c.clear.ensures.items refl
+          c.in_ok-said.ensures.means replied (shows c.self.inside.editor c.in_ok-said.said c.in_ok-refuses.ensures.shown) refl refl c.clear.ensures.items refl
           (ap₂ (λ a b. a + b) (ap (λ p. p.answered) c.self.view_is) (c.one_if.ensures ∙ c.is_answered-counts.ensures))
           (ap₂ (λ a b. a + b) (ap (λ p. p.refused) c.self.view_is) c.one_if-2.ensures),
     )

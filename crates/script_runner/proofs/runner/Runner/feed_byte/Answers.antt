@@ -1,11 +1,13 @@
-use Rattle.std.proofs.Common.{true}
-use Rattle.script_runner.proofs.StepLemmas.{on_part, fed_line}
+use Rattle.std.proofs.Common.{ap, ◌+◌}
+use Rattle.script_runner.specs.Progress.{Progress}
+use Rattle.script_runner.proofs.StepLemmas.{OnErr-by, put_at_feed, fed_line}
 use Rattle.script_runner.proofs.runner.Runner.feed_byte.Goals as goal
 
 pub returns-in_err-answer-clause-cut : goal.returns-in_err-answer-clause-cut
 returns-in_err-answer-clause-cut g c =
-    on_part c.from_residual.result (g.W.Sink.taken c.args.out.now) (g.W.Sink.taken c.answer.new.out) true c.args.self.now
-    (rw (← c.self.view_is) c.in_err-answer.ensures.cut)
+    OnErr-by c.from_residual.result
+    (put_at_feed c.args.self.now _ c.args.byte (g.W.Sink.taken c.args.out.now) (g.W.Sink.taken c.answer.new.out) c.if-byte-eq10.true
+    (ap (λ (p : Progress). record p { bytes = p.bytes + 1 }) c.self.view_is) c.in_err-answer.ensures.cut)
 
 pub returns-in_ok-answer-clause-ok : goal.returns-in_ok-answer-clause-ok
 returns-in_ok-answer-clause-ok g c =

@@ -1,6 +1,6 @@
 use Rattle.std.proofs.Common.{◌∙◌, ◌==◌, length, sym, ap}
 use Rattle.std.proofs.lemmas.Result.{IfOk-weaker}
-use Rattle.script_runner.proofs.StepLemmas.{on_last, put_last, put_none, finished_none, finished_line}
+use Rattle.script_runner.proofs.StepLemmas.{on_last, put_last, put_none, put_some, finished_none, finished_line}
 use Rattle.script_runner.proofs.runner.Runner.finish.Goals as goal
 
 pub returns-then-is_empty-clause-ok : goal.returns-then-is_empty-clause-ok
@@ -24,4 +24,12 @@ returns-clause-ok g c =
 pub returns-clause-cut : goal.returns-clause-cut
 returns-clause-cut g c =
     on_last c.flush-2.result (g.W.Sink.taken c.args.out.now) (g.W.Sink.taken c.flush-2.new.out) c.args.self
-    (put_last c.args.self c.answer.new.self (g.W.Sink.taken c.args.out.now) (g.W.Sink.taken c.answer.new.out) (g.W.Sink.taken c.flush-2.new.out) c.in_ok-answer.ensures.ok c.flush-2.ensures.kept)
+    (put_last c.args.self c.answer.new.self (g.W.Sink.taken c.args.out.now) (g.W.Sink.taken c.answer.new.out) (g.W.Sink.taken c.flush-2.new.out)
+    (ap (λ p. length p.line == 0) (sym c.self.view_is) ∙ ap (λ l. length l == 0) (sym c.as_slice.ensures.value) ∙ sym c.is_empty.ensures ∙ c.if-is_empty.false) c.in_ok-answer.ensures.ok c.flush-2.ensures.kept)
+
+pub returns-in_err-answer-clause-cut : goal.returns-in_err-answer-clause-cut
+returns-in_err-answer-clause-cut g c =
+    on_last c.from_residual.result (g.W.Sink.taken c.args.out.now) (g.W.Sink.taken c.answer.new.out) c.args.self
+    (put_some c.args.self (g.W.Sink.taken c.args.out.now) (g.W.Sink.taken c.answer.new.out)
+    (ap (λ p. length p.line == 0) (sym c.self.view_is) ∙ ap (λ l. length l == 0) (sym c.as_slice.ensures.value) ∙ sym c.is_empty.ensures ∙ c.if-is_empty.false)
+    c.in_err-answer.ensures.cut)

@@ -1,0 +1,139 @@
+#!/usr/bin/env python3
+"""Runs the built program border_edit to each of its ends, and looks at FILE before and after.
+
+The tests of the crate call what stands below `main`. Here the program itself is called: with words, on
+files, on devices that are full, and with little memory. Compared are the status, the answers, what
+stands on standard error, and what FILE holds at the end.
+
+The program has to stand already (`rt ci` leaves it); another one can be named. There is one line for
+each end that differs; the status is 0 where none does.
+"""
+import argparse
+import collections
+import os
+import pathlib
+import resource
+import subprocess
+import sys
+import tempfile
+
+TOP = pathlib.Path(__file__).resolve().parent.parent
+DATA = TOP / "crates/border_edit/data"
+
+# What FILE holds before, and what it is to hold at the end: that, or the saved map.
+BEFORE = "what was saved before\n" * 100
+KEPT, SAVED = "kept", "saved"
+
+# What stands on standard error, or standard output, where its text is not fixed: something.
+SOME = object()
+
+Row = collections.namedtuple("Row", "what words status answers said file output memory", defaults=(None, None))
+
+FILES = {
+    "squares.json": (DATA / "two_squares.json").read_text(),
+    "accepted.txt": "move 10 10 12 12\narea 0\n",
+    "refused.txt": "move 1 1 2 2\narea 0\n",
+    "bad.txt": "mend 1 1\n",
+    "cut.json": "{",
+    "long.txt": "document\n" * 100,
+    "undone.txt": "move 0 0 1 1\nmove 10 10 12 12\nundo\nundo\n",
+}
+
+
+def ends():
+    """The ends of the program."""
+    def words(map_file, script, out="saved.json", *more):
+        return [map_file, script, "--out", out, *more]
+
+    yield Row("accepted", words("squares.json", "accepted.txt"), 0, "ok\n240\n", "", SAVED)
+    yield Row("refused", words("squares.json", "refused.txt"), 1, "refused no vertex\n200\n", "", SAVED)
+    yield Row("bad line", words("squares.json", "bad.txt"), 1, "bad line\n", "", SAVED)
+    yield Row("not opened", words("cut.json", "accepted.txt"), 2, "", "open: not json at 1\n", KEPT)
+    yield Row("no map", words("none.json", "accepted.txt"), 3, "", "map fault\n", KEPT)
+    yield Row("a folder as map", words(".", "accepted.txt"), 3, "", "map fault\n", KEPT)
+    yield Row("no script", words("squares.json", "none.txt"), 3, "", "script fault\n", KEPT)
+    yield Row("a folder as script", words("squares.json", "."), 3, "", "script fault\n", KEPT)
+    yield Row("no map and no script", words("none.json", "none.txt"), 3, "", "map fault\n", KEPT)
+    yield Row("no script, bad map", words("cut.json", "none.txt"), 3, "", "script fault\n", KEPT)
+    for script in "accepted.txt", "refused.txt", "bad.txt", "long.txt":
+        full = words("squares.json", script)
+        yield Row(f"full output, {script}", full, 3, None, "write fault\n", KEPT, output="/dev/full")
+    for script, answers in ("accepted.txt", "ok\n240\n"), ("refused.txt", "refused no vertex\n200\n"):
+        for out in "/dev/full", "none/saved.json", ".":
+            yield Row(f"{out}, {script}", words("squares.json", script, out), 3, answers, "save fault\n", KEPT)
+    large = words("large.json", "accepted.txt")
+    yield Row("large map", large, 2, "", "open: too large bytes\n", KEPT)
+    yield Row("large map, little memory", large, 3, "", "out of memory\n", KEPT, memory=50_000_000)
+    one, two = (words("squares.json", "undone.txt", "saved.json", "--undo", number) for number in "12")
+    yield Row("one change kept", one, 1, "ok\n" * 3 + "refused nothing to undo\n", "", SAVED)
+    yield Row("two changes kept", two, 0, "ok\n" * 4, "", SAVED)
+    more = words("squares.json", "accepted.txt", "saved.json", "more")
+    for wrong in [], ["squares.json"], ["squares.json", "accepted.txt"], more:
+        yield Row(f"usage {wrong}", wrong, 64, "", SOME, KEPT)
+    for number in "0", "1001", "-1", "two", "":
+        wrong = words("squares.json", "accepted.txt", "saved.json", "--undo", number)
+        yield Row(f"--undo {number!r}", wrong, 64, "", SOME, KEPT)
+    yield Row("help", ["--help"], 0, SOME, "", KEPT)
+
+
+def put_files(folder):
+    for name, text in FILES.items():
+        (folder / name).write_text(text)
+    (folder / "saved.json").write_text(BEFORE)
+    with open(folder / "large.json", "wb") as large:
+        large.truncate(67_108_865 + 100)
+
+
+def differs(wanted, text):
+    return not text if wanted is SOME else wanted is not None and text != wanted
+
+
+def file_ended(folder):
+    text = (folder / "saved.json").read_text()
+    if text == BEFORE:
+        return KEPT
+    return SAVED if text.startswith('{"type":"Topology"') and text.endswith("]}") else text
+
+
+def faults(program, row):
+    """What differs of an end, or None."""
+    def limit():
+        if row.memory:
+            resource.setrlimit(resource.RLIMIT_AS, (row.memory, row.memory))
+
+    with tempfile.TemporaryDirectory() as name:
+        folder = pathlib.Path(name)
+        put_files(folder)
+        with open(row.output or folder / "answers", "wb") as output:
+            how = {"stdin": subprocess.DEVNULL, "stdout": output, "stderr": subprocess.PIPE}
+            ran = subprocess.run([program, *row.words], cwd=folder, preexec_fn=limit, timeout=60, **how)
+        answers = None if row.output else (folder / "answers").read_text()
+        said, file = ran.stderr.decode(), file_ended(folder)
+        if ran.returncode != row.status:
+            return f"status {ran.returncode}, and not {row.status}: {said}"
+        if differs(row.answers, answers):
+            return f"answers {answers!r}"
+        if differs(row.said, said):
+            return f"on standard error {said!r}"
+        if file != row.file:
+            return f"FILE is {file!r:.60}, and not {row.file}"
+    return None
+
+
+def main():
+    words = argparse.ArgumentParser(description=__doc__.split("\n", 1)[0])
+    words.add_argument("program", nargs="?", default=str(TOP / "crates/border_edit/out/border_edit"))
+    program = os.path.abspath(words.parse_args().program)
+    count = wrong = 0
+    for row in ends():
+        count += 1
+        fault = faults(program, row)
+        if fault:
+            wrong += 1
+            print(f"{row.what}: {fault}")
+    print(f"{count} ends, {wrong} differ")
+    return 1 if wrong else 0
+
+
+if __name__ == "__main__":
+    sys.exit(main())

@@ -1,0 +1,51 @@
+-- What the steps of a run leave, for the proof of the run alone.
+use Rattle.std.specs.Prelude.{◌≡◌, ◌≢◌, ℕ, ◌/◌, List, length, Option, Some}
+use Rattle.ring_machine.specs.Document.{Document}
+use Rattle.ring_machine.specs.Parts.{positions}
+use Rattle.topo_reader.specs.Opening.{IsFault}
+use Rattle.topo_reader.specs.Extent.{extent_of}
+use Rattle.segment_index.specs.Frames.{Frame, frame_with, side_for}
+use Rattle.topo_outline.specs.declared.fault.OpenFault.TheVariants as opening
+use Rattle.arc_store.specs.declared.fault.BuildFault.{BuildFault}
+use Rattle.arc_store.specs.declared.fault.BuildFault.TheVariants as build
+use Rattle.script_runner.specs.Devices.{Reader, Writer, devices}
+use Rattle.script_runner.specs.Outcome.{IsUnopened, AnswersAll, AnswersLines, AnswersPart}
+use Rattle.script_runner.specs.declared.runner.Summary.{Summary}
+use Rattle.script_runner.specs.declared.fault.RunFault.{RunFault}
+use Rattle.script_runner.specs.declared.fault.RunFault.TheVariants as fault
+use Rattle.script_runner.specs.declared.stop.Halt.{Halt}
+use Rattle.script_runner.specs.declared.stop.Halt.TheVariants as halt
+
+-- a script was answered, from the reader `coming` and into the writer `taken` as they were before,
+-- whatever is saved besides
+abbrev pub Answers : ℕ → Document → Document → Reader → Reader → Writer → Writer → Summary → Type 0
+Answers depth d e coming left taken given summary =
+    (held holds : Writer)
+    → AnswersAll depth d e (devices coming taken held) (devices left given holds) summary
+
+-- how far the answers came where the answering ended early
+abbrev pub Halts : Halt → ℕ → Document → Reader → Reader → Writer → Writer → Type 0
+Halts halt.Read depth d coming left taken given =
+    (held : Writer) → AnswersLines depth d (devices coming taken held) (devices left given held)
+Halts halt.Write depth d coming left taken given =
+    (held : Writer) → AnswersPart depth d (devices coming taken held) (devices left given held)
+Halts halt.OutOfMemory depth d coming left taken given =
+    (held : Writer) → AnswersPart depth d (devices coming taken held) (devices left given held)
+
+-- the cells of the index that a map is opened over: they cover the extent of the document, and there
+-- are as many of them as the bytes of the map ask for
+abbrev pub cells_for : List ℕ → Document → Option Frame
+cells_for bytes d = Some (frame_with (side_for (length bytes / 24)) (extent_of (positions d)))
+
+-- why a map was not opened, want of memory apart
+abbrev pub IsOpenEnd : RunFault → List ℕ → Type 0
+IsOpenEnd (fault.Open f) bytes = IsFault bytes f × (f ≢ opening.OutOfMemory) × IsUnopened bytes
+IsOpenEnd fault.Read bytes = ⊥
+IsOpenEnd fault.Write bytes = ⊥
+IsOpenEnd fault.Save bytes = ⊥
+IsOpenEnd fault.OutOfMemory bytes = Unit {0}
+
+-- the end of a run whose map was not built
+abbrev pub IsBuildEnd : BuildFault → RunFault → Type 0
+IsBuildEnd (build.Conflict s t) end = end ≡ fault.Open (opening.Conflict s t)
+IsBuildEnd build.OutOfMemory end = end ≡ fault.OutOfMemory

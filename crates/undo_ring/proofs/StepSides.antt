@@ -1,0 +1,48 @@
+-- A step of the machine that edits vertices leaves every position on its side of every ring.
+use Rattle.std.proofs.Common.{◌≡◌, ℕ, ℤ, Bool, true, false, refl, sym, subst, cond, List, Option, None, Some}
+use Rattle.std.specs.Prelude.{◌==◌}
+use Rattle.ring_machine.specs.Planar.{Proper}
+use Rattle.ring_machine.specs.Vertices.{put, ins, del}
+use Rattle.ring_machine.specs.Sides.{KeepsSides}
+use Rattle.ring_machine.specs.Thin.{thinned}
+use Rattle.ring_machine.specs.Refusals.{first_of, move_refusals, insert_refusals, remove_refusals}
+use Rattle.ring_machine.specs.Command.{Command, Move, Insert, Remove, Thin, Refusal, Answer, Done, Thinned, Refused}
+use Rattle.ring_machine.specs.Machine.{State, step, edit, changed, thin_step}
+use Rattle.ring_machine.proofs.Accepted.{moved, inserted, removed, thinned-keeps}
+use Rattle.ring_machine.proofs.Steps.{step-move, step-insert, step-remove, step-thin}
+use Rattle.edit_vertex.proofs.SidesKept.{same_keeps}
+use Rattle.undo_ring.specs.Edited.{EditsVertices}
+
+module _ (depth : ℕ) (st : State) (proper : Proper st.doc) where
+  abbrev Keeps : Answer × State → Type 0
+  Keeps r = KeepsSides st.doc r.1.doc
+
+  -- an edit that may be refused
+  edit_keeps : (rs : List (Option Refusal)) (a : Answer) (after : State)
+      → (first_of rs ≡ None → KeepsSides st.doc after.doc) → Keeps (edit st rs a after)
+  edit_keeps rs a after accepted = by (first_of rs) refl
+    where
+      by : (o : Option Refusal) → first_of rs ≡ o → Keeps (edit st rs a after)
+      by None e = let done : edit st rs a after ≡ (a, after) = rw e refl in subst Keeps (sym done) (accepted e)
+      by (Some r) e = let stays : edit st rs a after ≡ (Refused r, st) = rw e refl in subst Keeps (sym stays) (same_keeps st.doc)
+
+  thin_keeps : (t : ℤ) → Keeps (thin_step depth st t)
+  thin_keeps t = by ((thinned t st.doc).removed == 0)
+    where
+      by : (none : Bool)
+          → Keeps (cond none (Thinned 0, st) (Thinned (thinned t st.doc).removed, changed depth st (thinned t st.doc).doc))
+      by true = same_keeps st.doc
+      by false = (thinned-keeps st.doc t proper).sides
+
+  pub step_keeps : (c : Command) → EditsVertices c → Keeps (step depth st c)
+  step_keeps (Move p q) edits =
+      subst Keeps (sym (step-move depth st p q))
+      (edit_keeps (move_refusals st.doc p q) Done (changed depth st (put st.doc p q)) (λ h. (moved st.doc p q proper h).1))
+  step_keeps (Insert a b q) edits =
+      subst Keeps (sym (step-insert depth st a b q))
+      (edit_keeps (insert_refusals st.doc a b q) Done (changed depth st (ins st.doc a b q)) (λ h. (inserted st.doc a b q proper h).1))
+  step_keeps (Remove p) edits =
+      subst Keeps (sym (step-remove depth st p))
+      (edit_keeps (remove_refusals st.doc p) Done (changed depth st (del st.doc p)) (λ h. (removed st.doc p proper h).1))
+  step_keeps (Thin t) edits = subst Keeps (sym (step-thin depth st t)) (thin_keeps t)
+  step_keeps c edits = absurd edits
