@@ -9,6 +9,12 @@ use Rattle.arc_store.specs.Outcomes.{Edits, IsSameMap, edit_begun}
 use Rattle.arc_store.specs.State.{State}
 use Rattle.arc_store.specs.declared.fault.EditFault.{EditFault}
 
+kept_made : {R : Type 0} (result : Result R EditFault) (reached new : State)
+    → OnOk result (IsSameMap reached new) → OnOk result (IsSameMap (record reached { last = new.last }) new)
+kept_made (Ok value) reached new made =
+    made ∙ ap (λ l. record reached { tests = new.tests; last = l }) (sym (ap (λ (s : State). s.last) made))
+kept_made (Err fault) reached new made = tt
+
 module _ {R : Type 0} {old new reached : State} {refusal : Option Refusal} where
   pub is_made : {value : R} → refusal ≡ None → IsSameMap reached new
       → Edits old new (Ok value) refusal reached
@@ -37,25 +43,19 @@ module _ {R : Type 0} {old new reached : State} {refusal : Option Refusal} where
   holds_made P (Ok value) edits law = subst P (sym edits.made) (law edits.accepted)
   holds_made P (Err fault) edits law = tt
 
-  kept_made : (result : Result R EditFault) → OnOk result (IsSameMap reached new)
-      → OnOk result (IsSameMap (record reached { last = new.last }) new)
-  kept_made (Ok value) made =
-      made ∙ ap (λ l. record reached { tests = new.tests; last = l }) (sym (ap (λ (s : State). s.last) made))
-  kept_made (Err fault) made = tt
-
   -- whatever was tested before it, and whatever takes it back
   pub keeps_last : {n : ℕ} (result : Result R EditFault) → Edits old new result refusal reached
       → Edits old new result refusal (record reached { tests = n; last = new.last })
   keeps_last result edits = record {
     accepted = edits.accepted;
-    made = kept_made result edits.made;
+    made = kept_made result reached new edits.made;
     refused = edits.refused;
     unchanged = edits.unchanged;
   }
 
 -- an edit has begun, and nothing was done since
-pub just_begun : {old now : State} → now ≡ edit_begun old → IsSameMap (edit_begun old) now
-just_begun {old = old} begins =
+pub just_begun : (old : State) {now : State} → now ≡ edit_begun old → IsSameMap (edit_begun old) now
+just_begun old begins =
     begins ∙ ap (λ n. record (edit_begun old) { tests = n }) (sym (ap (λ (s : State). s.tests) begins))
 
 -- the document is another, and this takes the edit back

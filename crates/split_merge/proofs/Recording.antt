@@ -41,7 +41,7 @@ SplitsAlong n id path old new r =
     Edits old new r (first_of (split_refusals old.doc old.next n id path)) (split_map old n id path)
 
 -- in an edit that has begun
-module _ {old new : State} (held : IsHeld old.places old.next old.doc) where
+module _ (old new : State) (held : IsHeld old.places old.next old.doc) where
   pub delete_recorded : {R : Type 0} {refusal : Option Refusal} (r : Result R EditFault) (n : ℕ)
       → has_feature old.doc n ≡ true
       → Edits old new r refusal (record old { doc = take_out old.doc n; last = new.last })

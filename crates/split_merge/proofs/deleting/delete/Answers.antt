@@ -15,7 +15,7 @@ returns-then-not-has_feature-clause-edits g c =
     is_refused
     (subst (λ (s : State). first_of (feature_refusals s.doc c.args.f) ≡ Some NoFeature) c.begin_edit.ensures.begun
     (missing c.begin_edit.new.self.doc c.args.f (sym c.has_feature.ensures ∙ c.if-not-has_feature.true)))
-    (just_begun c.begin_edit.ensures.begun)
+    (just_begun c.args.map.now c.begin_edit.ensures.begun)
 
 -- the beginning of an edit leaves the document as it is
 pub returns-clause-edits : goal.returns-clause-edits
@@ -27,4 +27,4 @@ returns-clause-edits g c =
 pub returns-clause-recorded : goal.returns-clause-recorded
 returns-clause-recorded g c =
     subst (λ (s : State). OnOk c.raw_delete.result (IsRecorded s c.raw_delete.new.self)) c.begin_edit.ensures.begun
-    (delete_recorded c.begin_edit.ensures.held c.raw_delete.result c.args.f (sym c.has_feature.ensures ∙ c.if-not-has_feature.false) c.raw_delete.ensures.edits c.raw_delete.ensures.recorded)
+    (delete_recorded c.begin_edit.new.self c.raw_delete.new.self c.begin_edit.ensures.held c.raw_delete.result c.args.f (sym c.has_feature.ensures ∙ c.if-not-has_feature.false) c.raw_delete.ensures.edits c.raw_delete.ensures.recorded)

@@ -29,4 +29,4 @@ returns-clause-areas g c =
 pub returns-clause-recorded : goal.returns-clause-recorded
 returns-clause-recorded g c =
     subst (λ (s : State). OnOk c.merge_now.result (IsRecorded s c.merge_now.new.map)) c.begin_edit.ensures.begun
-    (merge_recorded c.begin_edit.ensures.held c.merge_now.result c.args.f c.args.g c.merge_now.ensures.edits)
+    (merge_recorded c.begin_edit.new.self c.merge_now.new.map c.begin_edit.ensures.held c.merge_now.result c.args.f c.args.g c.merge_now.ensures.edits)

@@ -16,16 +16,16 @@ returns-then-not-has_feature-clause-edits g c =
     is_refused
     (subst (λ (s : State). first_of (feature_refusals s.doc c.args.f) ≡ Some NoFeature) c.begin_edit.ensures.begun
     (missing c.begin_edit.new.self.doc c.args.f (sym c.has_feature.ensures ∙ c.if-not-has_feature.true)))
-    (just_begun c.begin_edit.ensures.begun)
+    (just_begun c.args.map.now c.begin_edit.ensures.begun)
 
 pub returns-in_err-text-clause-edits : goal.returns-in_err-text-clause-edits
 returns-in_err-text-clause-edits g c =
-    hands_on OutOfMemory c.from_residual-in_err-text.result c.from_residual-in_err-text.ensures.1 tt (just_begun c.begin_edit.ensures.begun)
+    hands_on OutOfMemory c.from_residual-in_err-text.result c.from_residual-in_err-text.ensures.1 tt (just_begun c.args.map.now c.begin_edit.ensures.begun)
 
 -- the beginning of an edit leaves the document as it is, and the text is the JSON string of the id
 pub returns-clause-edits : goal.returns-clause-edits
 returns-clause-edits g c =
-    let is = rename_recorded c.begin_edit.ensures.held c.args.f c.in_ok-text.text.items (sym c.has_feature.ensures ∙ c.if-not-has_feature.false) c.raw_rename.ensures.renamed in
+    let is = rename_recorded c.begin_edit.new.self c.raw_rename.new.self c.begin_edit.ensures.held c.args.f c.in_ok-text.text.items (sym c.has_feature.ensures ∙ c.if-not-has_feature.false) c.raw_rename.ensures.renamed in
     let m = c.args.map.now in
     let new = c.raw_rename.new.self in
     keeps_last (Ok tt)
@@ -34,5 +34,5 @@ returns-clause-edits g c =
 
 pub returns-clause-recorded : goal.returns-clause-recorded
 returns-clause-recorded g c =
-    let is = rename_recorded c.begin_edit.ensures.held c.args.f c.in_ok-text.text.items (sym c.has_feature.ensures ∙ c.if-not-has_feature.false) c.raw_rename.ensures.renamed in
+    let is = rename_recorded c.begin_edit.new.self c.raw_rename.new.self c.begin_edit.ensures.held c.args.f c.in_ok-text.text.items (sym c.has_feature.ensures ∙ c.if-not-has_feature.false) c.raw_rename.ensures.renamed in
     subst (λ (s : State). IsRecorded s c.raw_rename.new.self) c.begin_edit.ensures.begun is.recorded

@@ -57,4 +57,4 @@ returns-clause-areas g c =
 pub returns-clause-recorded : goal.returns-clause-recorded
 returns-clause-recorded g c =
     subst (λ (s : State). OnOk c.split_now.result (IsRecorded s c.split_now.new.map)) c.begin_edit.ensures.begun
-    (split_recorded c.begin_edit.ensures.held c.split_now.result c.args.f (string_text c.args.id) (path_of c.as_slice.result.now) c.split_now.ensures.edits)
+    (split_recorded c.begin_edit.new.self c.split_now.new.map c.begin_edit.ensures.held c.split_now.result c.args.f (string_text c.args.id) (path_of c.as_slice.result.now) c.split_now.ensures.edits)
