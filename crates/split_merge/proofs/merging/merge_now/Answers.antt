@@ -33,4 +33,10 @@ raw_merge-requires g c =
     ∙ c.in_default-check_outlines.ensures.accepted
 
 pub returns-clause-edits : goal.returns-clause-edits
-returns-clause-edits g c = with_refusal (sym (raw_merge-requires g c)) c.raw_merge.ensures.edits
+returns-clause-edits g c =
+    let d = c.args.map.now.doc in
+    with_refusal
+    (sym (ap first_of (merge_groups d c.args.f c.args.g)
+    ∙ second_group (pair_refusals d c.args.f c.args.g) (outline_refusals d c.args.f c.args.g) c.in_default.ensures.accepted
+    ∙ c.in_default-check_outlines.ensures.accepted))
+    c.raw_merge.ensures.edits

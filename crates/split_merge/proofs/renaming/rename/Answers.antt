@@ -20,7 +20,7 @@ returns-then-not-has_feature-clause-edits g c =
 
 pub returns-in_err-text-clause-edits : goal.returns-in_err-text-clause-edits
 returns-in_err-text-clause-edits g c =
-    hands_on OutOfMemory c.from_residual-in_err-text.result c.from_residual-in_err-text.ensures.1 tt (just_begun c.args.map.now c.begin_edit.ensures.begun)
+    hands_on OutOfMemory c.from_residual.result c.from_residual.ensures.1 tt (just_begun c.args.map.now c.begin_edit.ensures.begun)
 
 -- the beginning of an edit leaves the document as it is, and the text is the JSON string of the id
 pub returns-clause-edits : goal.returns-clause-edits
