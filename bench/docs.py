@@ -3,9 +3,9 @@
 
     links    each relative link names a file that is there, and a heading of it where it names one
     sizes    no page of docs/ has over 250 lines, or a line over 120 columns but in a table or a block of code
-    runs     each block that begins with ```sh run, in README.md and docs/TUTORIAL.md, is run at the top of a fresh
-             clone of the last commit, those of a page one after another, and prints what the next ```text block
-             before another one holds; its status is 0 or 1 where there is none
+    runs     each block that begins with ```sh run, in README.md, docs/TUTORIAL.md and docs/TESTED.md, is run
+             at the top of a fresh clone of the last commit, one after another, and prints what the next ```text
+             block before another one holds; its status is 0 or 1 where there is none
 
 A block's `./run` is the program that is named, or else the clone's own ./run. That one builds an unproved program
 for each block, which takes a minute each, and tells so in lines that are left out here.
@@ -22,7 +22,7 @@ import tempfile
 
 TOP = pathlib.Path(__file__).resolve().parent.parent
 MOST_LINES, MOST_COLUMNS = 250, 120
-TYPED = ["README.md", "docs/TUTORIAL.md"]
+TYPED = ["README.md", "docs/TUTORIAL.md", "docs/TESTED.md"]
 # What ./run and `rt try` say of themselves.
 NOTICE = re.compile(r"^(run: |checked: |run=)")
 
