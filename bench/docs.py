@@ -4,8 +4,8 @@
     links    each relative link names a file that is there, and a heading of it where it names one
     sizes    no page of docs/ has over 250 lines, or a line over 120 columns but in a table or a block of code
     runs     each block that begins with ```sh run, in README.md, docs/TUTORIAL.md and docs/TESTED.md, is run
-             at the top of a fresh clone of the last commit, one after another, and prints what the next ```text
-             block before another one holds; its status is 0 or 1 where there is none
+             at the top of a fresh clone of the last commit, one after another, and prints what the block after it
+             holds, where that begins with ```text; else its status is 0 or 1
 
 A block's `./run` is the program that is named, or else the clone's own ./run. That one builds an unproved program
 for each block, which takes a minute each, and tells so in lines that are left out here.
@@ -25,6 +25,8 @@ MOST_LINES, MOST_COLUMNS = 250, 120
 TYPED = ["README.md", "docs/TUTORIAL.md", "docs/TESTED.md"]
 # What ./run and `rt try` say of themselves.
 NOTICE = re.compile(r"^(run: |checked: |run=)")
+# The first words of a block of code, and its text.
+BLOCK = re.compile(r"^```(.*)\n((?:.*\n)*?)```$", re.M)
 
 
 def pages():
@@ -72,19 +74,11 @@ def size_faults(page):
 
 def typed(page):
     """The blocks of a page that are typed: the line of each, its text, and what it is to print, or None."""
-    found = []
-    for number, line, block in parts(page.read_text()):
-        if line == "```sh run":
-            found.append([number, "", None])
-        elif line == "```text" and found and found[-1][2] is None:
-            found[-1][2] = ""
-        elif block == "sh run":
-            found[-1][1] += line + "\n"
-        elif block == "text" and found and not found[-1][3:]:
-            found[-1][2] += line + "\n"
-        elif line == "```" and found and found[-1][2] is not None:
-            found[-1][3:] = ["whole"]
-    return [tuple(it[:3]) for it in found]
+    text = page.read_text()
+    found = [(text.count("\n", 0, it.start()) + 1, *it.groups()) for it in BLOCK.finditer(text)]
+    for (number, head, block), (_, head_after, after) in zip(found, [*found[1:], (0, "", "")]):
+        if head == "sh run":
+            yield number, block, after if head_after == "text" else None
 
 
 def run_faults(page, folder, program):
@@ -113,7 +107,7 @@ def main():
             clone = pathlib.Path(folder, "clone")
             subprocess.run(["git", "clone", "-q", TOP, clone], check=True)
             for name in TYPED:
-                runs += len(typed(clone / name))
+                runs += len(list(typed(clone / name)))
                 faults += [f"{name}:{fault}" for fault in run_faults(clone / name, clone, program)]
     for fault in faults:
         print(fault)
