@@ -14,8 +14,8 @@ beside it one by Rattle's own compiler, which is not measured here.
 The reference is bench/reference, a plain C++ program that opens maps with the same tests, answers the same lines and
 saves the same text, written for speed, with nothing proved. It is built by `g++ -O2` into bench/out where the compiler is
 there; else a line says that it is not, and no ratio is told. It is given each script that the program was given, piece by
-piece; the ratio is the program's number over the reference's, of seconds, of rates or of memory. It knows no `insert`,
-`remove`, `thin` and `undo`, so measures of these have no ratio.
+piece, in the same run of this script; the ratio is the program's number over the reference's, of seconds, of rates or of
+memory.
 
 For each map there is one line a measure:
 
@@ -46,8 +46,8 @@ For each map there is one line a measure:
     work      with --instructions alone: the processor's instructions for a split or a merge, for a deletion, for a move
               and for its undo, beside opening and saving, and how often each asks memory for what its last cache has
               not; counted by valgrind, which has the same counts whatever else the machine does
-    answers   whether the reference had the same answers in all these scripts, and in one more with lines of all kinds that
-              it knows, many of them refused, and saved the same text after each
+    answers   whether the reference had the same answers in all these scripts, and in one more with lines of all kinds, many
+              of them refused, and saved the same text after each
 
 Seconds are processor seconds of the program, its own and the system's for it (`bytes` alone is on the wall clock). Lines
 a second are timed inside one run, without opening and saving: the script comes through a pipe, and a piece of it is over

@@ -119,11 +119,12 @@ def changes_of(drawn, rand):
 
 
 def mixed_lines(drawn, rand):
-    """Lines of all kinds that the reference knows, of which many are refused: moves along a segment and beyond, also onto
-    other vertices, cuts of features that were cut before, features joined with any others, and questions at vertices."""
-    lines, count = ["count"], 2 * drawn.features
-    ask = of_positions(drawn, rand)
-    for _ in range(MIXED if drawn.segments else 0):
+    """Lines of all kinds, of which many are refused: moves along a segment and beyond, also onto other vertices, cuts of
+    features that were cut before, features joined with any others, undos, and questions at vertices."""
+    if not drawn.segments or not drawn.features:
+        return ["count", "document"]
+    lines, count, ask = ["count"], 2 * drawn.features, of_positions(drawn, rand)
+    for n in range(MIXED):
         (a, b), (c, d) = rand.choice(drawn.segments)
         part = rand.choice((0.1, 0.5, 1, 1.5, 4))
         x, y = a + round(part * (c - a)), b + round(part * (d - b))
@@ -131,12 +132,15 @@ def mixed_lines(drawn, rand):
         lines += rand.choice((
             [f"move {a} {b} {x} {y}", f"move {a} {b} {x + rand.randrange(9)} {y}"],
             [f"move {a} {b} {a + d - b} {b + c - a}", f"at {a} {b}"],
+            [f"insert {a} {b} {c} {d} {x + rand.randrange(9)} {y}", f"remove {a} {b}", f"remove {c} {d}"],
             [split_line(cut), f"merge {cut.feature} {rand.randrange(count)}"],
             [split_line(cut), f"neighbours {cut.feature}", f"area {rand.randrange(count)}"],
-            [f"merge {rand.randrange(count)} {cut.feature}", ask()],
-            [f"neighbours {rand.randrange(count)}", f"area {cut.feature}", f"at {x} {y}"],
+            [f"merge {rand.randrange(count)} {cut.feature}", "undo", ask()],
+            [f"neighbours {rand.randrange(count)}", f"area {cut.feature}", f"at {x} {y}", f"rings {cut.feature}"],
+            [f"delete {rand.randrange(count)}", f'rename {rand.randrange(count)} "new"', "undo", "undo"],
         ))
-    return [*lines, *(f"rename {n} \"new\"" for n in range(3)), *(f"delete {n}" for n in range(0, count, 7)), "count", "document"]
+        lines += ["thin 1000000"] if n == MIXED // 2 else []
+    return [*lines, *(f"delete {n}" for n in range(0, count, 7)), "undo", "undo", "count", "document"]
 
 
 # ---- lines that are accepted

@@ -20,8 +20,9 @@ DELETING, MOST_DELETED = 8, 100
 COUNTED = 800
 # What takes less than this, in seconds, is too short for the clock.
 SHORTEST = 1e-5
-# A thinning that leaves out what it can.
+# A thinning that leaves out what it can, and the words for a run that keeps as many changes as can be kept.
 WHOLE_THIN = "thin 8000000000000000000000000"
+KEEPING = ("--undo", str(KEPT))
 
 # What was measured of the program, in which unit, the same of the reference or None, and what else there is to say.
 Measured = collections.namedtuple("Measured", "value unit own note")
@@ -44,11 +45,15 @@ class Both:
 
     @contextlib.contextmanager
     def session(self, map_, *more):
-        """A session of the program, of which the reference is given the pieces too, but where changes are kept."""
+        """A session of the program, of which the reference is given the pieces too."""
         with self.program.session(map_.path, *more) as session:
             yield session
-        if self.reference and not more:
-            session.own = self.reference.given(map_.path, session)
+        if self.reference:
+            session.own = self.reference.given(map_.path, session, *more)
+
+    def each(self, take):
+        """What `take` gives of the program and of the reference."""
+        return take(self.program), take(self.reference) if self.reference else None
 
     def least(self, take):
         """The least of several times of the program and of the reference; `take` is given the one or the other."""
@@ -173,7 +178,7 @@ def measure_deletes(both, map_, numbers):
     return Measured(middle(each), "/s", own, note)
 
 
-# ---- memory
+# ---- memory and undos
 
 def measure_memory(both, map_, drawn):
     lines = [f"at {x} {y}" for x, y in drawn.vertices[:8]]
@@ -183,57 +188,57 @@ def measure_memory(both, map_, drawn):
             session.seconds(lines)
             return session.peak() / 1e6
 
-    value = peak(both.program)
-    own = peak(both.reference) if both.reference else None
+    value, own = both.each(peak)
     return Measured(value, "MB", own, f"{1e6 * value / map_.path.stat().st_size:.1f} bytes a byte of the map")
 
 
 def measure_kept(both, map_, lines):
     """The most memory with these changes kept."""
-    with keeping(both, map_) as session:
-        before = session.peak()
-        session.seconds(lines)
-        peak = session.peak()
-    return Measured(peak / 1e6, "MB", None, f"{(peak - before) / 1e6:.1f} MB more than before, {len(lines)} changes")
+    def peaks(runner):
+        with runner.session(map_.path, *KEEPING) as session:
+            before = session.peak()
+            session.seconds(lines)
+            return before, session.peak()
 
-
-# ---- undos
-
-def keeping(both, map_):
-    """A run that keeps as many changes as can be kept."""
-    return both.session(map_, "--undo", str(KEPT))
+    (before, peak), own = both.each(peaks)
+    note = f"{(peak - before) / 1e6:.1f} MB more than before, {len(lines)} changes"
+    return Measured(peak / 1e6, "MB", own[1] / 1e6 if own else None, note)
 
 
 def made_and_undone(both, map_, lines):
-    """The seconds that these changes take, and those that as many undos take, the middle ones; and the answers."""
-    made, back = [], []
-    with keeping(both, map_) as session:
+    """A session in which these changes are made, and then all of them taken back, several times."""
+    with both.session(map_, *KEEPING) as session:
         for _ in range(PIECES_TIMED):
-            made.append(session.seconds(lines))
-            back.append(session.seconds(["undo"] * len(lines)))
-    if min(middle(made), middle(back)) < SHORTEST:
+            session.seconds(lines)
+            session.seconds(["undo"] * len(lines))
+    if min(map(middle, (session.spent[::2], session.spent[1::2]))) < SHORTEST:
         raise Failed("it is too short to be timed")
-    return middle(made), middle(back), session.answers
+    return session
+
+
+def undone(session, count, what):
+    """Undos a second, of so many things, and how many were made a second."""
+    made, own_made = of_both(session, lambda some: count / middle(some.spent[::2]))
+    back, own = of_both(session, lambda some: count / middle(some.spent[1::2]))
+    beside = f" (reference {own_made:.1f}, ratio {made / own_made:.2f})" if own else ""
+    return Measured(back, "/s", own, f"{made:.1f} /s made{beside}, {PIECES_TIMED} times {count} {what}")
 
 
 def measure_undos(both, map_, lines):
-    """These changes are made, and then all of them taken back, several times."""
     good = accepted_of(both.program, map_, lines)
-    made, back, _ = made_and_undone(both, map_, good)
-    return Measured(len(good) / back, "/s", None, f"{len(good) / made:.1f} /s made, {PIECES_TIMED} times {len(good)} changes")
+    return undone(made_and_undone(both, map_, good), len(good), "changes")
 
 
 def measure_thinned(both, map_):
-    made, back, answers = made_and_undone(both, map_, [WHOLE_THIN])
-    count = int(answers[0].removeprefix("ok "))
-    return Measured(count / back, "/s", None, f"{count / made:.1f} /s left out, {PIECES_TIMED} times {count} vertices")
+    session = made_and_undone(both, map_, [WHOLE_THIN])
+    return undone(session, int(session.answers[0].removeprefix("ok ")), "vertices")
 
 
 # ---- instructions
 
 def counted(counter, path, lines, before):
     """The instructions and the misses of each of these lines, beside those of a run without them."""
-    counter.accepted(path, lines, "--undo", str(KEPT))
+    counter.accepted(path, lines, *KEEPING)
     after = counter.last()
     return after, Count(*((one - other) / len(lines) for one, other in zip(after, before)))
 
@@ -250,7 +255,7 @@ def measure_work(both, counter, map_, drawn, changes):
     _, of_edit = counted(counter, map_.path, splits, whole)
     _, of_deletion = counted(counter, map_.path, changes["deleted"], opening)
     moved, of_move = counted(counter, map_.path, moves, whole)
-    counter.accepted(map_.path, moves + ["undo"] * len(moves), "--undo", str(KEPT))
+    counter.accepted(map_.path, moves + ["undo"] * len(moves), *KEEPING)
     of_undo = Count(*((after - before) / len(moves) for after, before in zip(counter.last(), moved)))
     each = {"a split or merge": of_edit, "a deletion": of_deletion, "a move": of_move, "its undo": of_undo}
     return "; ".join(f"{count.instructions:9.0f} {what}, {count.misses:.0f} misses" for what, count in each.items())

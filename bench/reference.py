@@ -1,8 +1,8 @@
 """Builds the reference, a plain C++ program for the same work, and runs it on what the program was given.
 
-The reference (bench/reference) opens maps with all tests, answers the lines of KNOWN, and saves; its faults of opening have
-no places. It is a yardstick for speed, and has to give the same answers and to save the same text: where it does not, the
-one or the other is wrong.
+The reference (bench/reference) opens maps with all tests, answers all lines, and saves; its faults of opening have no places.
+It is a yardstick for speed, and has to give the same answers and to save the same text: where it does not, the one or the
+other is wrong.
 """
 import filecmp
 import pathlib
@@ -14,9 +14,7 @@ from running import Failed, Runner, why
 TOP = pathlib.Path(__file__).resolve().parent.parent
 SOURCES = TOP / "bench" / "reference"
 BUILT = TOP / "bench" / "out" / "reference"
-COMPILER = ["g++", "-std=c++17", "-O2", "-Wall", "-Wextra"]
-# The lines that the reference knows.
-KNOWN = {"move", "split", "merge", "rename", "delete", "area", "rings", "at", "neighbours", "count", "document"}
+COMPILER = ["g++", "-std=c++17", "-O2", "-static", "-Wall", "-Wextra"]
 
 
 def built():
@@ -35,11 +33,6 @@ def built():
     return BUILT
 
 
-def is_known(pieces):
-    """Whether the reference knows all of these lines."""
-    return all(line.split(" ", 1)[0] in KNOWN for lines in pieces for line in lines)
-
-
 class Reference(Runner):
     """Runs the reference on what the program was given, and keeps what differs."""
 
@@ -48,12 +41,10 @@ class Reference(Runner):
         self.scripts = self.answers = 0
         self.differing = []
 
-    def given(self, path, session):
-        """A session of the reference with the pieces of one of the program; None where it does not know a line or fails."""
-        if not is_known(session.pieces):
-            return None
+    def given(self, path, session, *more):
+        """A session of the reference with the pieces of one of the program; None where it fails."""
         try:
-            with self.session(path) as own:
+            with self.session(path, *more) as own:
                 for lines in session.pieces:
                     own.seconds(lines)
         except Failed as reason:

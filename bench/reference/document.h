@@ -71,6 +71,21 @@ struct Document {
         features[feature] = {NONE, {}};
         feature_count--;
     }
+    // Puts a feature back without its rings, with its item as it was: the links of an item that was taken out last say where
+    // it stood.
+    void put_back(uint32_t feature, uint32_t item, const Item& it) {
+        bool was_out = !has(feature);
+        Item now = items[item];
+        items[item] = it;
+        if (was_out) {
+            features[feature].item = item;
+            feature_count++;
+            if (it.parent != NONE) put_behind(item, it.parent, it.before);
+        } else {
+            items[item].before = now.before;
+            items[item].after = now.after;
+        }
+    }
     uint32_t add_feature(uint32_t item) {
         features.push_back({item, {}});
         feature_count++;

@@ -254,6 +254,43 @@ public:
         }
     }
 
+    // Puts a vertex at a position that has none into a segment, in every ring that has it.
+    void put_into(uint32_t edge, Position p) {
+        segments_->take_out(entry(edge));
+        uint32_t vertex = vertex_at(p), far = edges[edge].ends[1];
+        edges[edge].ends[1] = vertex;
+        vertices[far].segments.drop(edge);
+        vertices[vertex].segments.push(edge);
+        segments_->put(entry(edge));
+        uint32_t fresh = dart_between(vertex, far) >> 1;
+        for (uint32_t ring : edges[edge].rings) {
+            edges[fresh].rings.push(ring);
+            std::vector<Dart>& darts = rings[ring].darts;
+            auto at = std::find_if(darts.begin(), darts.end(), [&](Dart dart) { return dart >> 1 == edge; });
+            bool goes_back = *at & 1;
+            darts.insert(at + !goes_back, 2 * fresh + goes_back);
+            widen(rings[ring].polygon, p);
+        }
+    }
+
+    // Leaves a vertex of two segments out of every ring: one of them goes on to the end of the other.
+    void take_from_between(uint32_t vertex) {
+        uint32_t kept = vertices[vertex].segments.begin()[0], gone = vertices[vertex].segments.begin()[1];
+        uint32_t far = other_end(gone, vertex);
+        for (uint32_t ring : edges[gone].rings) {
+            std::vector<Dart>& darts = rings[ring].darts;
+            darts.erase(std::find_if(darts.begin(), darts.end(), [&](Dart dart) { return dart >> 1 == gone; }));
+        }
+        segments_->take_out(entry(kept));
+        segments_->take_out(entry(gone));
+        edges[kept].ends[edges[kept].ends[1] == vertex] = far;
+        vertices[far].segments.replace(gone, kept);
+        table_.drop(vertices.all(), at(vertex));
+        vertices.drop(vertex);
+        edges.drop(gone);
+        segments_->put(entry(kept));
+    }
+
     // Whether a ring has the vertex.
     bool has(uint32_t ring, uint32_t vertex) const {
         for (uint32_t edge : vertices[vertex].segments)

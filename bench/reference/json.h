@@ -19,13 +19,13 @@ class Scanner {
 
     [[noreturn]] static void fail() { throw Fault("not json"); }
     static bool is_digit(unsigned char c) { return unsigned(c - '0') < 10; }
-    unsigned char now() const { return at_ < end_ ? *at_ : 0; }
+    unsigned char now() const { return *at_; }
     std::string_view since(const unsigned char* start) const {
         return {reinterpret_cast<const char*>(start), size_t(at_ - start)};
     }
 
     void space() {
-        while (at_ < end_ && (*at_ == ' ' || *at_ == '\n' || *at_ == '\t' || *at_ == '\r')) at_++;
+        while (*at_ <= ' ' && (*at_ == ' ' || *at_ == '\n' || *at_ == '\t' || *at_ == '\r')) at_++;
     }
     void expect(unsigned char c) {
         if (now() != c) fail();
@@ -56,17 +56,17 @@ class Scanner {
     void wide_character() {
         unsigned char c = *at_;
         int more = c >= 0xC2 && c <= 0xDF ? 1 : (c & 0xF0) == 0xE0 ? 2 : c >= 0xF0 && c <= 0xF4 ? 3 : 0;
-        if (!more || end_ - at_ <= more) fail();
+        if (!more) fail();
         unsigned char least = c == 0xE0 ? 0xA0 : c == 0xF0 ? 0x90 : 0x80, most = c == 0xED ? 0x9F : c == 0xF4 ? 0x8F : 0xBF;
         if (at_[1] < least || at_[1] > most) fail();
-        for (int i = 2; i <= more; i++)
+        for (int i = 2; i <= more; i++)  // a zero behind the text is no such byte either
             if ((at_[i] & 0xC0) != 0x80) fail();
         at_ += more + 1;
     }
     void escape() {
         at_++;
         unsigned char c = now();
-        if (!c || std::string_view("\"\\/bfnrtu").find(char(c)) == std::string_view::npos) fail();
+        if (std::string_view("\"\\/bfnrtu").find(char(c)) == std::string_view::npos) fail();
         at_++;
         for (int i = 0; c == 'u' && i < 4; i++, at_++)
             if (!is_digit(now()) && unsigned((now() | 32) - 'a') >= 6) fail();
@@ -74,7 +74,7 @@ class Scanner {
     void string() {
         expect('"');
         while (true) {
-            while (at_ < end_ && *at_ >= 0x20 && *at_ < 0x80 && *at_ != '"' && *at_ != '\\') at_++;
+            while (*at_ >= 0x20 && *at_ < 0x80 && *at_ != '"' && *at_ != '\\') at_++;
             if (now() == '"') break;
             if (now() == '\\') escape();
             else if (now() >= 0x80) wide_character();
@@ -103,6 +103,7 @@ class Scanner {
     }
 
 public:
+    // A text behind which a zero stands, or a value that was tested.
     explicit Scanner(std::string_view text)
         : at_(reinterpret_cast<const unsigned char*>(text.data())), end_(at_ + text.size()) {}
 

@@ -1,11 +1,11 @@
 // A reference for border_edit: the same work with the same answers, written for speed, and nothing of it proved.
 //
-//     reference MAP SCRIPT --out FILE
+//     reference MAP SCRIPT --out FILE [--undo N]
 //
-// opens a topology of docs/FORMATS.md with all tests of opening, answers the lines `move`, `split`, `merge`, `rename`, `delete`,
-// `area`, `rings`, `at`, `neighbours`, `count` and `document`, and saves the map, each border once. It knows no `insert`,
-// `remove`, `thin` and `undo`, so it keeps no changes, and its faults have no places. All tests are in whole numbers.
+// opens a topology of docs/FORMATS.md with all tests of opening, answers all lines of a script, keeping N changes, and saves the
+// map, each border once. Its faults of opening have no places. All tests are in whole numbers.
 #include <cstdio>
+#include <cstdlib>
 #include <cstring>
 
 #include <fcntl.h>
@@ -46,8 +46,8 @@ static void write_all(int file, std::string_view text, const char* fault) {
 }
 
 // Answers each line as it comes; whether all were accepted.
-static bool answer_script(const char* path, Document& document) {
-    Answers answers(document);
+static bool answer_script(const char* path, Document& document, size_t depth) {
+    Answers answers(document, depth);
     std::string held, said;
     static char piece[PIECE];
     int file = open(path, O_RDONLY);
@@ -77,14 +77,15 @@ static void save(const char* path, Document& document) {
 }
 
 int main(int count, char** words) {
-    if (count != 5 || std::strcmp(words[3], "--out")) return std::fputs("usage: reference MAP SCRIPT --out FILE\n", stderr), 64;
+    int depth = count == 7 && !std::strcmp(words[5], "--undo") ? std::atoi(words[6]) : 100;
+    if ((count != 5 && count != 7) || std::strcmp(words[3], "--out") || depth < 1 || depth > 1000)
+        return std::fputs("usage: reference MAP SCRIPT --out FILE [--undo N]\n", stderr), 64;
     static Document document;
     try {
         document.map = read_file(words[1]);
         Reader(document).open();
-        bool is_accepted = answer_script(words[2], document);
+        bool is_accepted = answer_script(words[2], document, size_t(depth));
         save(words[4], document);
-        std::fflush(stdout);
         _exit(is_accepted ? 0 : 1);
     } catch (const Fault& fault) {
         return std::fprintf(stderr, "open: %s\n", fault.what()), 2;

@@ -1,7 +1,7 @@
 // The lines that ask.
 #pragma once
 
-#include "edits.h"
+#include "refusals.h"
 
 class Questions {
     const Document& document_;

@@ -1,98 +1,65 @@
-// The lines that change a map: each is refused by the first condition that fails, and then changes nothing.
+// The lines that change features: each is refused by the first condition that fails, and then changes nothing.
 #pragma once
 
-#include <numeric>
+#include "history.h"
+#include "refusals.h"
 
-#include "document.h"
-
-struct Refusal {
-    std::string why;
-};
-
-inline void refuse_if(bool holds, const char* why) {
-    if (holds) throw Refusal{why};
-}
-
-inline std::string text_of(Wide number) {
-    std::string digits;
-    bool is_negative = number < 0;
-    for (unsigned __int128 rest = is_negative ? -number : number; rest || digits.empty(); rest /= 10) digits += char('0' + int(rest % 10));
-    if (is_negative) digits += '-';
-    std::reverse(digits.begin(), digits.end());
-    return digits;
-}
-
-inline std::string text_of(const Segment& s) {
-    return std::to_string(s.low.x) + ' ' + std::to_string(s.low.y) + ' ' + std::to_string(s.high.x) + ' ' + std::to_string(s.high.y);
-}
-
-// The least pair of segments in conflict of those that are met.
-class Conflicts {
-    std::optional<std::pair<Segment, Segment>> least_;
-
-public:
-    void test(const Segment& s, const Segment& t) {
-        if (!do_meet(box_of(s), box_of(t)) || !do_conflict(s, t)) return;
-        std::pair<Segment, Segment> pair = s < t ? std::pair(s, t) : std::pair(t, s);
-        if (!least_ || pair < *least_) least_ = pair;
-    }
-    void test_among(const std::vector<Segment>& added) {
-        for (size_t i = 0; i < added.size(); i++)
-            for (size_t k = 0; k < i; k++) test(added[i], added[k]);
-    }
-    void refuse() const {
-        if (least_) throw Refusal{"conflict " + text_of(least_->first) + " / " + text_of(least_->second)};
-    }
-};
-
-class Editor {
+class FeatureEditor {
     static constexpr size_t MOST_NUMBERS = 200'000, MOST_POSITIONS = 4'000'000;
 
     Document& document_;
     Graph& graph_;
-    // Room that is used again from line to line.
-    std::vector<Segment> near_, added_;
-    std::vector<Position> around_;
+    History& history_;
 
     void need_feature(uint64_t number) const { refuse_if(!document_.has(number), "no feature"); }
 
-    // ---- moving
+    // ---- keeping features as they were
 
-    // Gathers the segments with a box that meets all that a move passes over, but for those at the vertex.
-    void look_around(uint32_t vertex, Position to) {
-        Position from = graph_.at(vertex);
-        Box all = box_of(from, to);
-        near_.clear(), added_.clear(), around_.clear();
-        for (uint32_t edge : graph_.vertices[vertex].segments) {
-            Position a = graph_.at(graph_.other_end(edge, vertex));
-            around_.push_back(a);
-            added_.push_back(segment_between(a, to));
-            grow(all, a);
+    Before as_it_is(uint64_t number) {
+        const Feature& feature = document_.features[number];
+        Before before{uint32_t(number), document_.items[feature.item], feature.item, {}};
+        for (uint32_t polygon : feature.polygons) {
+            before.shape.emplace_back();
+            for (uint32_t ring : graph_.polygons[polygon].rings) before.shape.back().push_back(positions_of(ring));
         }
-        graph_.each_segment(all, [&](uint32_t edge) {
-            const Edge& e = graph_.edges[edge];
-            if (e.ends[0] != vertex && e.ends[1] != vertex) near_.push_back(graph_.segment(edge));
-        });
+        return before;
     }
 
-    // Whether a triangle holds another vertex of the map than its first two corners. Each neighbour of the vertex that is
-    // moved is asked for by itself, since it need be no end of a segment beside those at the vertex.
-    bool sweeps(Position a, Position from, Position to) const {
-        auto is_swept = [&](Position p) { return p != a && p != from && does_hold(a, from, to, p); };
-        for (const Segment& s : near_)
-            if (is_swept(s.low) || is_swept(s.high)) return true;
-        return std::any_of(around_.begin(), around_.end(), is_swept);
+    std::vector<Position> positions_of(uint32_t ring) const {
+        std::vector<Position> positions;
+        positions.reserve(graph_.rings[ring].darts.size());
+        for (Dart dart : graph_.rings[ring].darts) positions.push_back(graph_.from(dart));
+        return positions;
     }
 
-    void test_move(Position from, Position to) const {
-        Conflicts conflicts;
-        for (const Segment& one : added_)
-            for (const Segment& other : near_) conflicts.test(one, other);
-        conflicts.test_among(added_);
-        conflicts.refuse();
-        Segment way = segment_between(from, to);
-        for (const Segment& s : near_) refuse_if(do_conflict(way, s), "sweeps");
-        for (Position a : around_) refuse_if(sweeps(a, from, to), "sweeps");
+    // Takes the rings of a feature out of the graph.
+    void clear(uint32_t number) {
+        for (uint32_t polygon : document_.features[number].polygons) {
+            graph_.hide(polygon);
+            for (uint32_t ring : graph_.polygons[polygon].rings) {
+                std::vector<Dart> darts = std::move(graph_.rings[ring].darts);
+                document_.positions -= darts.size();
+                for (Dart dart : darts) graph_.give_up(ring, dart);
+                graph_.rings.drop(ring);
+            }
+            graph_.polygons.drop(polygon);
+        }
+        document_.features[number].polygons.clear();
+    }
+
+    void lay(const Before& before) {
+        for (const std::vector<std::vector<Position>>& rings : before.shape) {
+            uint32_t polygon = graph_.polygons.add(Polygon{before.number, {}, NOTHING});
+            for (std::vector<Position> positions : rings) {
+                positions.push_back(positions.front());
+                uint32_t ring = graph_.rings.add(Ring{polygon, darts_along(positions)});
+                document_.positions += graph_.rings[ring].darts.size();
+                graph_.use(ring);
+                graph_.polygons[polygon].rings.push_back(ring);
+            }
+            graph_.show(polygon);
+            document_.features[before.number].polygons.push_back(polygon);
+        }
     }
 
     // ---- splitting
@@ -117,16 +84,16 @@ class Editor {
     void test_path(const std::vector<Position>& path) {
         refuse_repeated(path);
         for (size_t i = 1; i + 1 < path.size(); i++) refuse_if(graph_.vertex(path[i]) != NONE, "occupied");
-        added_.clear();
+        std::vector<Segment> added;
         for (size_t i = 1; i < path.size(); i++) {
             uint32_t a = graph_.vertex(path[i - 1]), b = graph_.vertex(path[i]);
             refuse_if(a != NONE && b != NONE && graph_.edge_between(a, b) != NONE, "segment exists");
-            added_.push_back(segment_between(path[i - 1], path[i]));
+            added.push_back(segment_between(path[i - 1], path[i]));
         }
         Conflicts conflicts;
-        for (const Segment& one : added_)
+        for (const Segment& one : added)
             graph_.each_segment(box_of(one), [&](uint32_t edge) { conflicts.test(one, graph_.segment(edge)); });
-        conflicts.test_among(added_);
+        conflicts.test_among(added);
         conflicts.refuse();
     }
 
@@ -305,16 +272,7 @@ class Editor {
     }
 
 public:
-    explicit Editor(Document& document) : document_(document), graph_(document.graph) {}
-
-    void move(Position from, Position to) {
-        uint32_t vertex = graph_.vertex(from);
-        refuse_if(vertex == NONE, "no vertex");
-        refuse_if(graph_.vertex(to) != NONE, "occupied");
-        look_around(vertex, to);
-        test_move(from, to);
-        graph_.move(vertex, to);
-    }
+    FeatureEditor(Document& document, History& history) : document_(document), graph_(document.graph), history_(history) {}
 
     // The number of the new feature.
     uint32_t split(uint64_t feature, std::string_view id, const std::vector<Position>& path) {
@@ -336,7 +294,10 @@ public:
         const std::vector<uint32_t>& rings = graph_.polygons[polygon].rings;
         std::vector<bool> stays(rings.size(), true);
         for (size_t i = 1; i < rings.size(); i++) stays[i] = goes_with(rings[i], part_one, sorted);
-        uint32_t number = cut_off(feature, id);
+        Change change;
+        change.features.push_back(as_it_is(feature));
+        uint32_t number = change.made = cut_off(feature, id);
+        history_.keep(std::move(change));
         uint32_t fresh = graph_.polygons.add(Polygon{number, {}, NOTHING});
         document_.features[number].polygons = {fresh};
         document_.positions += more;
@@ -359,6 +320,10 @@ public:
         bool is_reversed = is_along(other_ring, ring[at]);
         bool do_turn_alike = (graph_.area(ring) >= 0) == (graph_.area(other_ring) >= 0);
         refuse_if(common == ring.size() || is_reversed == do_turn_alike, "same side");
+        Change change;
+        change.features.push_back(as_it_is(feature));
+        change.features.push_back(as_it_is(other_feature));
+        history_.keep(std::move(change));
         document_.positions -= 2 * common;
         join(polygon, gone, rest_of(ring, is_common), rest_of(other_ring, is_common_there), is_reversed, is_common);
         document_.take_out_feature(uint32_t(other_feature));
@@ -366,21 +331,32 @@ public:
 
     void rename(uint64_t feature, std::string_view id) {
         need_feature(feature);
+        Change change;
+        change.features.push_back(as_it_is(feature));
+        history_.keep(std::move(change));
         document_.item_of(uint32_t(feature)).id = kept_text(id);
     }
 
     void remove_feature(uint64_t feature) {
         need_feature(feature);
-        for (uint32_t polygon : document_.features[feature].polygons) {
-            graph_.hide(polygon);
-            for (uint32_t ring : graph_.polygons[polygon].rings) {
-                std::vector<Dart> darts = std::move(graph_.rings[ring].darts);
-                document_.positions -= darts.size();
-                for (Dart dart : darts) graph_.give_up(ring, dart);
-                graph_.rings.drop(ring);
-            }
-            graph_.polygons.drop(polygon);
-        }
+        Change change;
+        change.features.push_back(as_it_is(feature));
+        history_.keep(std::move(change));
+        clear(uint32_t(feature));
         document_.take_out_feature(uint32_t(feature));
+    }
+
+    // Puts features back as they were, and takes out what the change made.
+    void take_back(const Change& change) {
+        if (change.made != NONE) {
+            clear(change.made);
+            document_.take_out_feature(change.made);
+        }
+        for (const Before& before : change.features)
+            if (document_.has(before.number)) clear(before.number);
+        for (const Before& before : change.features) {
+            document_.put_back(before.number, before.item_number, before.item);
+            lay(before);
+        }
     }
 };
