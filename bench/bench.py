@@ -55,8 +55,8 @@ once the program has read all of it and waits for more. The rate is the middle o
 A measure that fails says `failed`, and why; a map or a program that is not there has a line that says so.
 
 At the end come maps that are hard for an index of segments, in a table for each size of --hard, each beside bricks of
-about as many segments: how long it is opened, how many times as long as bricks, how many times as long as a map of the same
-kind with half the segments (`doubling`), and moves a second, and of how many times as many as in bricks.
+about as many segments: the seconds to open it, how many times as long as bricks that is, how many times as long as a map of
+the same kind with half as many segments (`doubling`), the moves a second, and how many times as many as in bricks that is.
 
     outlier     bricks, and one triangle far from them
     clusters    rings in up to a thousand clusters with much room between them
@@ -113,7 +113,8 @@ def options_given():
     add("--seconds", type=float, default=5,
         help="about how long a run of edits or queries may take beside opening (%(default)s)")
     add("--no-reference", action="store_true", help="measure the program alone")
-    add("--instructions", action="store_true", help="count instructions too, by valgrind, some fifty times as slow as a run")
+    add("--instructions", action="store_true",
+        help="count instructions too, by valgrind, some fifty times as slow as a run")
     add("--limit", type=float, default=300, help="seconds after which a run is ended and has failed (%(default)s)")
     add("--seed", type=int, default=1, help="of the maps made and of what is drawn (%(default)s)")
     return parser.parse_args()

@@ -5,14 +5,16 @@ some twice as long to open where there are twice as many segments. What costs th
 long.
 """
 import collections
+import math
 
 from drawing import draw
 from maps import KINDS, apart, made_map
 from measures import measure_moves
 from running import Failed
 
-# Of the program or of the reference: seconds to open a map and one with half the segments, and moves a second.
-Speed = collections.namedtuple("Speed", "open half moves")
+# Of the program or of the reference: seconds to open a map, how many times as long as one with half the segments, and moves
+# a second.
+Speed = collections.namedtuple("Speed", "open doubling moves")
 HEAD = f"{'':20} {'segments':>9} {'open s':>9} {'x bricks':>9} {'doubling':>9} {'moves /s':>11} {'of bricks':>9}"
 
 
@@ -21,21 +23,31 @@ def segments_of(both, map_):
     return int(both.program.accepted(map_.path, ["count"]).out.split()[-1])
 
 
+def doubling(times, segments):
+    """How many times as long a map is opened that has twice as many segments, by the times of two maps."""
+    return 2 ** (math.log(times[0] / times[1]) / math.log(segments[0] / segments[1]))
+
+
 def speeds_of(options, both, kind, size):
-    """The speeds of the program and of the reference on maps of a kind, the second None where there is none."""
-    half, map_ = made_map(kind, size // 2, options.seed), made_map(kind, size, options.seed)
+    """How many segments a map of a kind has, and the speeds of the program and of the reference on it, the second None
+    where there is none."""
+    map_, half = (made_map(kind, n, options.seed) for n in (size, size // 2))
+    segments = [segments_of(both, it) for it in (map_, half)]
+    if segments[0] == segments[1]:
+        raise Failed("it is so small that the map of half its size has as many segments")
     opened = [both.least(lambda runner: runner.opened(it.path).seconds) for it in (map_, half)]
     moves = measure_moves(both, map_, apart(draw, map_.path, options.seed).vertices, options.seconds)
-    program = Speed(opened[0][0], opened[1][0], moves.value)
-    own = Speed(opened[0][1], opened[1][1], moves.own)
-    return segments_of(both, map_), program, own if all(own) else None
+    program, own = (
+        Speed(times[0], doubling(times, segments), rate) if all(times) and rate else None
+        for times, rate in zip(zip(*opened), (moves.value, moves.own))
+    )
+    return segments[0], program, own
 
 
 def row(name, segments, speed, bricks):
     """What stands in the table of one map, beside bricks where they were measured."""
     beside = [f"{speed.open / bricks.open:9.2f}", f"{speed.moves / bricks.moves:9.2f}"] if bricks else [" " * 9] * 2
-    doubling = speed.open / speed.half
-    return f"{name:20} {segments:9} {speed.open:9.4f} {beside[0]} {doubling:9.2f} {speed.moves:11.1f} {beside[1]}"
+    return f"{name:20} {segments:9} {speed.open:9.4f} {beside[0]} {speed.doubling:9.2f} {speed.moves:11.1f} {beside[1]}"
 
 
 def measure_hard(options, both, size):
@@ -53,7 +65,8 @@ def measure_hard(options, both, size):
         print(row(kind, segments, speed, bricks), flush=True)
         if own:
             print(row("  reference", segments, own, own_bricks), flush=True)
-            print(f"{'  ratio':20} {'':9} {speed.open / own.open:9.2f} {'':9} {'':9} {speed.moves / own.moves:11.2f}", flush=True)
+            ratio = f"{speed.open / own.open:9.2f} {'':9} {'':9} {speed.moves / own.moves:11.2f}"
+            print(f"{'  ratio':20} {'':9} {ratio}", flush=True)
     if both.reference:
         print(f"{'answers':20} {both.reference.said()}", flush=True)
 

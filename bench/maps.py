@@ -23,8 +23,8 @@ REACH = 1_000_000_000
 SMALL_REACH = 1_000_000
 # Positions of a round ring, and how many clusters of rings there are at most.
 ROUND, CLUSTERS = 64, 1000
-# The greatest cell of a map of mixed sizes, which has a diamond with segments of half its size, and how many sizes there are,
-# each a quarter of the one before; the least segments are from 2^7 to 2^8 long in each direction.
+# The greatest cell of a map of mixed sizes, which has a diamond with segments of half its size, and how many sizes there
+# are, each a quarter of the one before; the least segments are almost 2^8 long in each direction.
 GREATEST, SIZES = 2**31, 12
 # How many diamonds a feature has.
 DIAMONDS = 4
@@ -158,7 +158,8 @@ def comb_and_rings(segments, rand):
     """A ring of long teeth with half the segments, and beside it small rings with the others."""
     side = max(1, round((segments / 2 / ROUND) ** 0.5))
     step = REACH // side
-    rings = [round_ring(step * i - 2 * REACH, step * k + step // 2, 2 * step // 5) for i in range(side) for k in range(side)]
+    places = [(step * i - 2 * REACH, step * k + step // 2) for i in range(side) for k in range(side)]
+    rings = [round_ring(x, y, 2 * step // 5) for x, y in places]
     return apart_from_all([comb_ring(max(1, segments // 4 - 1), rand), *rings])
 
 

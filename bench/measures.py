@@ -279,8 +279,8 @@ class Table:
 
 
 def compare_all_kinds(both, map_, drawn, rand):
-    """Gives the program and the reference lines of all kinds, refused ones too, and says whether all scripts of this map had
-    the same answers, and all maps saved after them the same text."""
+    """Gives the program and the reference lines of all kinds, refused ones too, and says whether all scripts of this map
+    had the same answers, and all maps saved after them the same text."""
     if not both.reference:
         raise Failed("there is no reference to compare with")
     lines = mixed_lines(drawn, rand)

@@ -1,8 +1,8 @@
 """Builds the reference, a plain C++ program for the same work, and runs it on what the program was given.
 
-The reference (bench/reference) opens maps with all tests, answers all lines, and saves; its faults of opening have no places.
-It is a yardstick for speed, and has to give the same answers and to save the same text: where it does not, the one or the
-other is wrong.
+The reference (bench/reference) opens maps with all tests, answers all lines, and saves; its faults of opening have no
+places. It is a yardstick for speed, and has to give the same answers and to save the same text: where it does not, the
+one or the other is wrong.
 """
 import filecmp
 import pathlib
@@ -67,7 +67,8 @@ class Reference(Runner):
         self.answers += len(answers)
         differs = next((n for n, (a, b) in enumerate(zip(answers, own)) if a != b), None)
         if differs is not None:
-            self.differing.append(f"{lines[differs]!r}: {answers[differs]!r:.200}, and by the reference {own[differs]!r:.200}")
+            told = f"{answers[differs]!r:.200}, and by the reference {own[differs]!r:.200}"
+            self.differing.append(f"{lines[differs]!r}: {told}")
         elif len(answers) != len(own):
             self.differing.append(f"{len(answers)} answers, and by the reference {len(own)}")
         elif not filecmp.cmp(saved, self.saved, shallow=False):

@@ -154,7 +154,8 @@ class BoxIndex {
         return {uint64_t(b.west + b.east), uint64_t(b.south + b.north), shift_x_, shift_y_};
     }
     Trees::Way way_in_extent(const Box& b) const {
-        return {uint64_t(b.west + b.east - 2 * extent_.west), uint64_t(b.south + b.north - 2 * extent_.south), bits_, bits_};
+        int64_t x = b.west + b.east - 2 * extent_.west, y = b.south + b.north - 2 * extent_.south;
+        return {uint64_t(x), uint64_t(y), bits_, bits_};
     }
     static Trees::Way way_outside(const Box& b) {
         return {uint64_t(b.west + b.east + REACH), uint64_t(b.south + b.north + REACH), REACH_BITS, REACH_BITS};
@@ -169,10 +170,10 @@ class BoxIndex {
     void each_in_cells(const Cells& c, const Box& asked, Visit& visit) const {
         for (int64_t r = c.south; r <= c.north; r++)
             for (int64_t k = c.west; k <= c.east; k++) {
-                // An entry is given from one cell alone, that of the least corner that it has in common with the box asked for.
+                // An entry is given from one cell alone: that of the least corner of what it has in common with the box.
                 auto once = [&](const Entry& entry) {
-                    if (column(std::max(asked.west, entry.box.west)) == k && row(std::max(asked.south, entry.box.south)) == r)
-                        visit(entry);
+                    int64_t west = std::max(asked.west, entry.box.west), south = std::max(asked.south, entry.box.south);
+                    if (column(west) == k && row(south) == r) visit(entry);
                 };
                 trees_.each(cells_[r * columns_ + k], asked, once);
             }
@@ -184,8 +185,9 @@ class BoxIndex {
         for (int64_t r = c.south >> BLOCK; r <= c.north >> BLOCK; r++)
             for (int64_t k = c.west >> BLOCK; k <= c.east >> BLOCK; k++)
                 if (filled_[r * block_columns_ + k]) {
-                    Cells part{std::max(c.west, k * size), std::max(c.south, r * size), std::min(c.east, (k + 1) * size - 1),
-                               std::min(c.north, (r + 1) * size - 1)};
+                    int64_t east = (k + 1) * size - 1, north = (r + 1) * size - 1;
+                    Cells part{std::max(c.west, k * size), std::max(c.south, r * size), std::min(c.east, east),
+                               std::min(c.north, north)};
                     each_in_cells(part, asked, visit);
                 }
     }

@@ -71,8 +71,8 @@ struct Document {
         features[feature] = {NONE, {}};
         feature_count--;
     }
-    // Puts a feature back without its rings, with its item as it was: the links of an item that was taken out last say where
-    // it stood.
+    // Puts a feature back without its rings, with its item as it was: the links of an item that was taken out last say
+    // where it stood.
     void put_back(uint32_t feature, uint32_t item, const Item& it) {
         bool was_out = !has(feature);
         Item now = items[item];

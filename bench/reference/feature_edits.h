@@ -64,6 +64,14 @@ class FeatureEditor {
 
     // ---- splitting
 
+    // An outer ring parted at the ends of a path: both ways along it, what the first way closes with the path, and how many
+    // positions the map has more.
+    struct Parted {
+        std::vector<Dart> first, second;
+        std::vector<Position> part_one;
+        size_t more;
+    };
+
     // The polygon whose outer ring has both vertices, and whose holes have neither.
     uint32_t polygon_with(uint64_t feature, uint32_t a, uint32_t b) const {
         if (a == NONE || b == NONE) return NONE;
@@ -138,6 +146,33 @@ class FeatureEditor {
         return odd;
     }
 
+    Parted parted_by(uint32_t polygon, const std::vector<Position>& path) const {
+        const std::vector<Dart>& ring = graph_.rings[graph_.polygons[polygon].rings[0]].darts;
+        size_t from = place_of(ring, graph_.vertex(path.front())), to = place_of(ring, graph_.vertex(path.back()));
+        Parted it;
+        it.first = stretch(ring, from, to);
+        it.second = stretch(ring, to, from);
+        it.part_one = part_of(it.first, path, true);
+        std::vector<Position> part_two = part_of(it.second, path, false);
+        int side = sign(graph_.area(ring));
+        refuse_if(sign(area(it.part_one)) != side || sign(area(part_two)) != side, "wrong side");
+        it.more = it.part_one.size() + part_two.size() - ring.size();
+        bool is_large = document_.features.size() >= MOST_NUMBERS || document_.positions + it.more > MOST_POSITIONS;
+        refuse_if(is_large, "too large");
+        return it;
+    }
+
+    // Which rings of a polygon stay with the part that the outer one becomes.
+    std::vector<bool> staying(uint32_t polygon, const std::vector<Position>& part) const {
+        const std::vector<uint32_t>& rings = graph_.polygons[polygon].rings;
+        std::vector<bool> stays(rings.size(), true);
+        if (rings.size() == 1) return stays;
+        std::vector<Position> sorted = part;
+        std::sort(sorted.begin(), sorted.end());
+        for (size_t i = 1; i < rings.size(); i++) stays[i] = goes_with(rings[i], part, sorted);
+        return stays;
+    }
+
     // Whether a hole goes with a part: all of it is of the part, or the least other position is inside.
     bool goes_with(uint32_t hole, const std::vector<Position>& part, const std::vector<Position>& sorted) const {
         std::optional<Position> least;
@@ -168,27 +203,28 @@ class FeatureEditor {
 
     std::string_view kept_text(std::string_view text) { return document_.texts.emplace_back(text); }
 
-    // Parts the rings of a polygon in two.
-    void part(uint32_t polygon, uint32_t fresh, std::vector<Dart> first, std::vector<Dart> second, const std::vector<Dart>& path,
-              const std::vector<bool>& stays) {
-        graph_.hide(polygon);
-        uint32_t outer = graph_.polygons[polygon].rings[0];
+    // Parts an outer ring in two, of which the second becomes a ring of another polygon.
+    void part_ring(uint32_t outer, uint32_t fresh, Parted&& it, const std::vector<Dart>& path) {
         uint32_t other = graph_.rings.add(Ring{fresh, {}});
-        for (Dart dart : second) graph_.edges[dart >> 1].rings.replace(outer, other);
-        for (Dart dart : path) graph_.edges[dart >> 1].rings.push(outer), graph_.edges[dart >> 1].rings.push(other);
-        for (size_t i = path.size(); i-- > 0;) first.push_back(path[i] ^ 1);
-        second.insert(second.end(), path.begin(), path.end());
-        graph_.rings[outer].darts = std::move(first);
-        graph_.rings[other].darts = std::move(second);
-        std::vector<uint32_t> holes = std::move(graph_.polygons[polygon].rings);
-        graph_.polygons[polygon].rings = {outer};
+        for (Dart dart : it.second) graph_.edges[dart >> 1].rings.replace(outer, other);
+        for (Dart dart : path)
+            for (uint32_t ring : {outer, other}) graph_.edges[dart >> 1].rings.push(ring);
+        for (size_t i = path.size(); i-- > 0;) it.first.push_back(path[i] ^ 1);
+        it.second.insert(it.second.end(), path.begin(), path.end());
+        graph_.rings[outer].darts = std::move(it.first);
+        graph_.rings[other].darts = std::move(it.second);
         graph_.polygons[fresh].rings = {other};
-        for (size_t i = 1; i < holes.size(); i++) {
-            graph_.rings[holes[i]].polygon = stays[i] ? polygon : fresh;
-            graph_.polygons[graph_.rings[holes[i]].polygon].rings.push_back(holes[i]);
+    }
+
+    // Gives each hole to the part that it goes with.
+    void part_holes(uint32_t polygon, uint32_t fresh, const std::vector<bool>& stays) {
+        std::vector<uint32_t> rings = std::move(graph_.polygons[polygon].rings);
+        graph_.polygons[polygon].rings = {rings[0]};
+        for (size_t i = 1; i < rings.size(); i++) {
+            uint32_t to = stays[i] ? polygon : fresh;
+            graph_.rings[rings[i]].polygon = to;
+            graph_.polygons[to].rings.push_back(rings[i]);
         }
-        graph_.show(polygon);
-        graph_.show(fresh);
     }
 
     // ---- merging
@@ -217,58 +253,56 @@ class FeatureEditor {
         const std::vector<Dart>& darts = graph_.rings[ring].darts;
         std::optional<Position> least;
         for (size_t i = 0; i < darts.size(); i++) {
-            if (is_common[i] || is_common[i ? i - 1 : darts.size() - 1]) continue;
             uint32_t vertex = graph_.origin(darts[i]);
-            if (graph_.is_junction(vertex) && graph_.has(other, vertex) && (!least || graph_.at(vertex) < *least)) least = graph_.at(vertex);
+            if (is_common[i] || is_common[i ? i - 1 : darts.size() - 1] || !graph_.is_junction(vertex)) continue;
+            if (graph_.has(other, vertex) && (!least || graph_.at(vertex) < *least)) least = graph_.at(vertex);
         }
-        if (least) throw Refusal{"common else " + std::to_string(least->x) + ' ' + std::to_string(least->y)};
+        if (least) throw Refusal{"common else " + text_of(*least)};
     }
 
-    // Whether the other ring passes the segment of a dart in the same direction.
-    static bool is_along(const std::vector<Dart>& other, Dart dart) {
+    // Whether the other ring passes the common segments in the same direction.
+    static bool is_along(const std::vector<Dart>& ring, const std::vector<bool>& is_common, const std::vector<Dart>& other) {
+        Dart dart = ring[size_t(std::find(is_common.begin(), is_common.end(), true) - is_common.begin())];
         return *std::find_if(other.begin(), other.end(), [&](Dart d) { return d >> 1 == dart >> 1; }) == dart;
     }
 
-    // The first place behind a run of those that are marked.
-    static size_t behind_run(const std::vector<bool>& is_marked) {
-        size_t at = 0;
-        while (is_marked[at] || !is_marked[at ? at - 1 : is_marked.size() - 1]) at++;
-        return at;
-    }
-
-    // The darts of a ring that are not marked, which follow each other.
+    // The darts of a ring that are not marked, from behind the run of those that are.
     static std::vector<Dart> rest_of(const std::vector<Dart>& ring, const std::vector<bool>& is_marked) {
+        auto next = [&](size_t at) { return at + 1 == ring.size() ? 0 : at + 1; };
+        size_t at = 0;
+        while (!is_marked[at] || is_marked[next(at)]) at++;
         std::vector<Dart> rest;
-        for (size_t at = behind_run(is_marked); !is_marked[at]; at = at + 1 == ring.size() ? 0 : at + 1) rest.push_back(ring[at]);
+        for (at = next(at); !is_marked[at]; at = next(at)) rest.push_back(ring[at]);
         return rest;
     }
 
-    void join(uint32_t polygon, uint32_t gone, std::vector<Dart> rest, std::vector<Dart> other_rest, bool is_reversed,
-              const std::vector<bool>& is_common) {
-        graph_.hide(polygon);
-        graph_.hide(gone);
-        uint32_t outer = graph_.polygons[polygon].rings[0], other = graph_.polygons[gone].rings[0];
+    static void reverse(std::vector<Dart>& darts) {
+        std::reverse(darts.begin(), darts.end());
+        for (Dart& dart : darts) dart ^= 1;
+    }
+
+    // Joins a ring to an outer one, along the darts of that one that are marked.
+    void join_rings(uint32_t outer, uint32_t other, const std::vector<bool>& is_common, bool is_reversed) {
+        std::vector<Dart> ring = std::move(graph_.rings[outer].darts), rest = rest_of(ring, is_common);
+        std::vector<Dart> other_rest = rest_of(graph_.rings[other].darts, common_with(other, outer));
         for (Dart dart : other_rest) graph_.edges[dart >> 1].rings.replace(other, outer);
-        for (size_t i = 0; i < is_common.size(); i++)
+        for (size_t i = 0; i < ring.size(); i++)
             if (is_common[i]) {
-                Dart dart = graph_.rings[outer].darts[i];
-                graph_.edges[dart >> 1].rings.drop(other);
-                graph_.give_up(outer, dart);
+                graph_.edges[ring[i] >> 1].rings.drop(other);
+                graph_.give_up(outer, ring[i]);
             }
-        if (is_reversed) {
-            std::reverse(other_rest.begin(), other_rest.end());
-            for (Dart& dart : other_rest) dart ^= 1;
-        }
+        if (is_reversed) reverse(other_rest);
         rest.insert(rest.end(), other_rest.begin(), other_rest.end());
         graph_.rings[outer].darts = std::move(rest);
         graph_.rings.drop(other);
-        std::vector<uint32_t>& kept = graph_.polygons[polygon].rings;
-        for (size_t i = 1; i < graph_.polygons[gone].rings.size(); i++) {
-            kept.push_back(graph_.polygons[gone].rings[i]);
-            graph_.rings[kept.back()].polygon = polygon;
+    }
+
+    void join_holes(uint32_t polygon, uint32_t gone) {
+        const std::vector<uint32_t>& rings = graph_.polygons[gone].rings;
+        for (size_t i = 1; i < rings.size(); i++) {
+            graph_.polygons[polygon].rings.push_back(rings[i]);
+            graph_.rings[rings[i]].polygon = polygon;
         }
-        graph_.polygons.drop(gone);
-        graph_.show(polygon);
     }
 
 public:
@@ -278,30 +312,23 @@ public:
     uint32_t split(uint64_t feature, std::string_view id, const std::vector<Position>& path) {
         need_feature(feature);
         refuse_if(document_.item_of(uint32_t(feature)).parent == NONE, "no collection");
-        uint32_t a = graph_.vertex(path.front()), b = graph_.vertex(path.back()), polygon = polygon_with(feature, a, b);
+        uint32_t polygon = polygon_with(feature, graph_.vertex(path.front()), graph_.vertex(path.back()));
         refuse_if(polygon == NONE, "not on outer ring");
         test_path(path);
-        const std::vector<Dart>& ring = graph_.rings[graph_.polygons[polygon].rings[0]].darts;
-        size_t from = place_of(ring, a), to = place_of(ring, b);
-        std::vector<Dart> first = stretch(ring, from, to), second = stretch(ring, to, from);
-        std::vector<Position> part_one = part_of(first, path, true), part_two = part_of(second, path, false);
-        int side = sign(graph_.area(ring));
-        refuse_if(sign(area(part_one)) != side || sign(area(part_two)) != side, "wrong side");
-        size_t more = part_one.size() + part_two.size() - ring.size();
-        refuse_if(document_.features.size() >= MOST_NUMBERS || document_.positions + more > MOST_POSITIONS, "too large");
-        std::vector<Position> sorted = part_one;
-        std::sort(sorted.begin(), sorted.end());
-        const std::vector<uint32_t>& rings = graph_.polygons[polygon].rings;
-        std::vector<bool> stays(rings.size(), true);
-        for (size_t i = 1; i < rings.size(); i++) stays[i] = goes_with(rings[i], part_one, sorted);
+        Parted parted = parted_by(polygon, path);
+        std::vector<bool> stays = staying(polygon, parted.part_one);
         Change change;
         change.features.push_back(as_it_is(feature));
         uint32_t number = change.made = cut_off(feature, id);
         history_.keep(std::move(change));
         uint32_t fresh = graph_.polygons.add(Polygon{number, {}, NOTHING});
         document_.features[number].polygons = {fresh};
-        document_.positions += more;
-        part(polygon, fresh, std::move(first), std::move(second), darts_along(path), stays);
+        document_.positions += parted.more;
+        graph_.hide(polygon);
+        part_ring(graph_.polygons[polygon].rings[0], fresh, std::move(parted), darts_along(path));
+        part_holes(polygon, fresh, stays);
+        graph_.show(polygon);
+        graph_.show(fresh);
         return number;
     }
 
@@ -310,22 +337,25 @@ public:
         refuse_if(feature == other_feature, "same feature");
         uint32_t polygon = only_polygon(feature), gone = only_polygon(other_feature);
         uint32_t outer = graph_.polygons[polygon].rings[0], other = graph_.polygons[gone].rings[0];
-        std::vector<bool> is_common = common_with(outer, other), is_common_there = common_with(other, outer);
-        const std::vector<Dart>&ring = graph_.rings[outer].darts, &other_ring = graph_.rings[other].darts;
+        std::vector<bool> is_common = common_with(outer, other);
         size_t common = size_t(std::count(is_common.begin(), is_common.end(), true)), runs = runs_of(is_common);
         refuse_if(common == 0, "not neighbours");
         if (runs > 1) throw Refusal{"runs " + std::to_string(runs)};
         refuse_common_else(outer, other, is_common);
-        size_t at = size_t(std::find(is_common.begin(), is_common.end(), true) - is_common.begin());
-        bool is_reversed = is_along(other_ring, ring[at]);
+        const std::vector<Dart>&ring = graph_.rings[outer].darts, &other_ring = graph_.rings[other].darts;
+        bool is_reversed = is_along(ring, is_common, other_ring);
         bool do_turn_alike = (graph_.area(ring) >= 0) == (graph_.area(other_ring) >= 0);
         refuse_if(common == ring.size() || is_reversed == do_turn_alike, "same side");
         Change change;
-        change.features.push_back(as_it_is(feature));
-        change.features.push_back(as_it_is(other_feature));
+        for (uint64_t number : {feature, other_feature}) change.features.push_back(as_it_is(number));
         history_.keep(std::move(change));
         document_.positions -= 2 * common;
-        join(polygon, gone, rest_of(ring, is_common), rest_of(other_ring, is_common_there), is_reversed, is_common);
+        graph_.hide(polygon);
+        graph_.hide(gone);
+        join_rings(outer, other, is_common, is_reversed);
+        join_holes(polygon, gone);
+        graph_.polygons.drop(gone);
+        graph_.show(polygon);
         document_.take_out_feature(uint32_t(other_feature));
     }
 

@@ -2,8 +2,8 @@
 //
 //     reference MAP SCRIPT --out FILE [--undo N]
 //
-// opens a topology of docs/FORMATS.md with all tests of opening, answers all lines of a script, keeping N changes, and saves the
-// map, each border once. Its faults of opening have no places. All tests are in whole numbers.
+// opens a topology of docs/FORMATS.md with all tests of opening, answers all lines of a script, keeping N changes, and
+// saves the map, each border once. Its faults of opening have no places. All tests are in whole numbers.
 #include <cstdio>
 #include <cstdlib>
 #include <cstring>

@@ -96,7 +96,8 @@ public:
     }
 
     std::string count() const {
-        return "features " + std::to_string(document_.feature_count) + " vertices " + std::to_string(graph_.vertex_count()) +
-               " segments " + std::to_string(graph_.edges.count());
+        std::string features = "features " + std::to_string(document_.feature_count);
+        std::string vertices = " vertices " + std::to_string(graph_.vertex_count());
+        return features + vertices + " segments " + std::to_string(graph_.edges.count());
     }
 };

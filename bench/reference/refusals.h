@@ -14,14 +14,17 @@ inline void refuse_if(bool holds, const char* why) {
 inline std::string text_of(Wide number) {
     std::string digits;
     bool is_negative = number < 0;
-    for (unsigned __int128 rest = is_negative ? -number : number; rest || digits.empty(); rest /= 10) digits += char('0' + int(rest % 10));
+    unsigned __int128 rest = is_negative ? -number : number;
+    for (; rest || digits.empty(); rest /= 10) digits += char('0' + int(rest % 10));
     if (is_negative) digits += '-';
     std::reverse(digits.begin(), digits.end());
     return digits;
 }
 
+inline std::string text_of(Position p) { return std::to_string(p.x) + ' ' + std::to_string(p.y); }
+
 inline std::string text_of(const Segment& s) {
-    return std::to_string(s.low.x) + ' ' + std::to_string(s.low.y) + ' ' + std::to_string(s.high.x) + ' ' + std::to_string(s.high.y);
+    return text_of(s.low) + ' ' + text_of(s.high);
 }
 
 // The least pair of segments in conflict of those that are met.

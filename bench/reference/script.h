@@ -47,7 +47,8 @@ public:
         std::string_view text = word();
         bool is_negative = text[0] == '-';
         std::string_view digits = text.substr(is_negative);
-        if (digits.empty() || digits.size() > longest || (digits[0] == '0' && (digits.size() > 1 || is_negative))) throw BadLine();
+        if (digits.empty() || digits.size() > longest) throw BadLine();
+        if (digits[0] == '0' && (digits.size() > 1 || is_negative)) throw BadLine();
         Number n = 0;
         for (char c : digits) {
             if (c < '0' || c > '9') throw BadLine();
@@ -170,7 +171,11 @@ class Answers {
 public:
     // Answers lines on a document, keeping so many changes.
     Answers(Document& document, size_t depth)
-        : document_(document), history_(depth), vertices_(document, history_), features_(document, history_), questions_(document) {}
+        : document_(document),
+          history_(depth),
+          vertices_(document, history_),
+          features_(document, history_),
+          questions_(document) {}
 
     bool are_all_accepted() const { return are_all_accepted_; }
 
