@@ -45,7 +45,8 @@ For each map there is one line a measure:
     of thin   and with one thinning with the greatest bound kept
     work      with --instructions alone: the processor's instructions for a split or a merge, for a deletion, for a move
               and for its undo, beside opening and saving, and how often each asks memory for what its last cache has
-              not; counted by valgrind, which has the same counts whatever else the machine does
+              not; counted by valgrind, which has the same counts whatever else the machine does; the ratio is that of
+              the instructions
     answers   whether the reference had the same answers in all these scripts, and in one more with lines of all kinds, many
               of them refused, and saved the same text after each
 

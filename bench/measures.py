@@ -14,6 +14,8 @@ from running import Count, Counter, Failed, why
 PIECES_TIMED = 5
 LEAST_PIECE = 0.02
 MOST_LINES = 2_000_000
+# How many seconds of runs are enough where the least counts, and how many runs there are at most.
+ENOUGH, MOST_RUNS = 0.5, 40
 # The seconds that maps are deleted for, and the most of them.
 DELETING, MOST_DELETED = 8, 100
 # How many splits and merges have their instructions counted.
@@ -72,12 +74,12 @@ def middle(rates):
 
 
 def least(take):
-    """The least of the seconds that `take` gives; what is slow is done once or twice."""
+    """The least of the seconds that `take` gives: what is slow is done once or twice, what is short many times."""
     best, spent = float("inf"), 0.0
-    for _ in range(5):
+    for n in range(MOST_RUNS):
         seconds = take()
         best, spent = min(best, seconds), spent + seconds
-        if spent > 5:
+        if spent > (ENOUGH if n + 1 >= PIECES_TIMED else 10 * ENOUGH):
             break
     return best
 
@@ -243,22 +245,37 @@ def counted(counter, path, lines, before):
     return after, Count(*((one - other) / len(lines) for one, other in zip(after, before)))
 
 
-def measure_work(both, counter, map_, drawn, changes):
+def counts_of(counter, path, scripts):
+    """The counts of an edit of each kind."""
+    counter.opened(path)
+    opening = counter.last()
+    counter.accepted(path, [])
+    whole = counter.last()
+    moves = scripts["moves"]
+    _, of_edit = counted(counter, path, scripts["splits"], whole)
+    _, of_deletion = counted(counter, path, scripts["deletions"], opening)
+    moved, of_move = counted(counter, path, moves, whole)
+    counter.accepted(path, moves + ["undo"] * len(moves), *KEEPING)
+    of_undo = Count(*((after - before) / len(moves) for after, before in zip(counter.last(), moved)))
+    return {"a split or merge": of_edit, "a deletion": of_deletion, "a move": of_move, "its undo": of_undo}
+
+
+def count_text(what, count, own):
+    """The counts of one kind of edit, beside those of the reference."""
+    beside = f" (reference {own.instructions:.0f}, ratio {count.instructions / own.instructions:.2f})" if own else ""
+    return f"{count.instructions:9.0f} {what}{beside}, {count.misses:.0f} misses"
+
+
+def measure_work(both, map_, drawn, changes):
     if not shutil.which("valgrind"):
         raise Failed("valgrind is not there")
-    counter.opened(map_.path)
-    opening = counter.last()
-    counter.accepted(map_.path, [])
-    whole = counter.last()
-    splits = Splits(counter, map_.path, drawn.features, drawn.cuts).script(COUNTED)
-    moves = accepted_of(both.program, map_, changes["moved"])
-    _, of_edit = counted(counter, map_.path, splits, whole)
-    _, of_deletion = counted(counter, map_.path, changes["deleted"], opening)
-    moved, of_move = counted(counter, map_.path, moves, whole)
-    counter.accepted(map_.path, moves + ["undo"] * len(moves), *KEEPING)
-    of_undo = Count(*((after - before) / len(moves) for after, before in zip(counter.last(), moved)))
-    each = {"a split or merge": of_edit, "a deletion": of_deletion, "a move": of_move, "its undo": of_undo}
-    return "; ".join(f"{count.instructions:9.0f} {what}, {count.misses:.0f} misses" for what, count in each.items())
+    scripts = {
+        "splits": Splits(both.program, map_.path, drawn.features, drawn.cuts).script(COUNTED),
+        "moves": accepted_of(both.program, map_, changes["moved"]),
+        "deletions": changes["deleted"],
+    }
+    counts, own = both.each(lambda runner: counts_of(Counter(*runner.words, runner.limit, runner.folder), map_.path, scripts))
+    return "; ".join(count_text(what, count, own and own[what]) for what, count in counts.items())
 
 
 # ---- all of a map
@@ -345,7 +362,6 @@ def measure(options, both, map_):
     changes = changes_of(drawn, random.Random(options.seed))
     measure_undoing(table, both, changes)
     if options.instructions:
-        counter = Counter(options.program, options.limit, both.program.folder)
-        table.line("work", lambda: measure_work(both, counter, map_, drawn, changes))
+        table.line("work", lambda: measure_work(both, map_, drawn, changes))
     if both.reference:
         table.line("answers", lambda: compare_all_kinds(both, map_, drawn, random.Random(options.seed)))
