@@ -14,7 +14,7 @@ from running import Failed, Runner, why
 TOP = pathlib.Path(__file__).resolve().parent.parent
 SOURCES = TOP / "bench" / "reference"
 BUILT = TOP / "bench" / "out" / "reference"
-COMPILER = ["g++", "-std=c++17", "-O2", "-static", "-Wall", "-Wextra"]
+COMPILER = ["g++", "-std=c++17", "-O2", "-static-pie", "-Wall", "-Wextra"]
 
 
 def built():

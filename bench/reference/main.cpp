@@ -76,20 +76,25 @@ static void save(const char* path, Document& document) {
     close(file);
 }
 
-int main(int count, char** words) {
-    int depth = count == 7 && !std::strcmp(words[5], "--undo") ? std::atoi(words[6]) : 100;
-    if ((count != 5 && count != 7) || std::strcmp(words[3], "--out") || depth < 1 || depth > 1000)
-        return std::fputs("usage: reference MAP SCRIPT --out FILE [--undo N]\n", stderr), 64;
+static int run(const char* map, const char* script, const char* saved, size_t depth) {
     static Document document;
     try {
-        document.map = read_file(words[1]);
+        document.map = read_file(map);
         Reader(document).open();
-        bool is_accepted = answer_script(words[2], document, size_t(depth));
-        save(words[4], document);
-        _exit(is_accepted ? 0 : 1);
+        bool is_accepted = answer_script(script, document, depth);
+        save(saved, document);
+        return is_accepted ? 0 : 1;
     } catch (const Fault& fault) {
         return std::fprintf(stderr, "open: %s\n", fault.what()), 2;
     } catch (const DeviceFault& fault) {
         return std::fprintf(stderr, "%s\n", fault.what), 3;
     }
+}
+
+int main(int count, char** words) {
+    int depth = count == 7 && !std::strcmp(words[5], "--undo") ? std::atoi(words[6]) : 100;
+    if ((count != 5 && count != 7) || std::strcmp(words[3], "--out") || depth < 1 || depth > 1000)
+        return std::fputs("usage: reference MAP SCRIPT --out FILE [--undo N]\n", stderr), 64;
+    // The system takes back all memory at once.
+    _exit(run(words[1], words[2], words[4], size_t(depth)));
 }
