@@ -9,7 +9,7 @@ import math
 
 from drawing import draw
 from maps import KINDS, apart, made_map
-from measures import measure_moves
+from measures import measure_moves, opened
 from running import Failed
 
 # Of the program or of the reference: seconds to open a map, how many times as long as one with half the segments, and moves
@@ -35,11 +35,11 @@ def speeds_of(options, both, kind, size):
     segments = [segments_of(both, it) for it in (map_, half)]
     if segments[0] == segments[1]:
         raise Failed("it is so small that the map of half its size has as many segments")
-    opened = [both.least(lambda runner: runner.opened(it.path).seconds) for it in (map_, half)]
+    times = both.least(opened(map_), opened(half))
     moves = measure_moves(both, map_, apart(draw, map_.path, options.seed).vertices, options.seconds)
     program, own = (
-        Speed(times[0], doubling(times, segments), rate) if all(times) and rate else None
-        for times, rate in zip(zip(*opened), (moves.value, moves.own))
+        Speed(each[0], doubling(each, segments), rate) if all(each) and rate else None
+        for each, rate in zip(zip(*times), (moves.value, moves.own))
     )
     return segments[0], program, own
 

@@ -14,8 +14,8 @@ from running import Count, Counter, Failed, why
 PIECES_TIMED = 5
 LEAST_PIECE = 0.02
 MOST_LINES = 2_000_000
-# How many seconds of runs are enough where the least counts, and how many runs there are at most.
-ENOUGH, MOST_RUNS = 0.5, 40
+# How many seconds of runs are enough where the least counts, how many runs there are at most, and what is no time.
+ENOUGH, MOST_RUNS, NEVER = 1, 40, float("inf")
 # The seconds that maps are deleted for, and the most of them.
 DELETING, MOST_DELETED = 8, 100
 # How many splits and merges have their instructions counted.
@@ -57,15 +57,15 @@ class Both:
         """What `take` gives of the program and of the reference."""
         return take(self.program), take(self.reference) if self.reference else None
 
-    def least(self, take):
-        """The least of several times of the program and of the reference; `take` is given the one or the other."""
-        own = None
+    def least(self, *takes):
+        """Of each of these, which are given the one or the other to run, the least of several times of the program, and of
+        the reference or None; all in turn, so that what else the machine does is the same for all."""
+        runs = [lambda take=take: take(self.program) for take in takes]
         if self.reference:
-            try:
-                own = least(lambda: take(self.reference))
-            except Failed as reason:
-                self.reference.differing.append(f"the reference: {reason}")
-        return least(lambda: take(self.program)), own
+            runs += [lambda take=take: self.reference.tried(take) for take in takes]
+        best = least(runs)
+        own = [seconds if seconds < NEVER else None for seconds in best[len(takes) :]] or [None] * len(takes)
+        return list(zip(best, own))
 
 
 def middle(rates):
@@ -73,13 +73,12 @@ def middle(rates):
     return sorted(rates)[len(rates) // 2]
 
 
-def least(take):
-    """The least of the seconds that `take` gives: what is slow is done once or twice, what is short many times."""
-    best, spent = float("inf"), 0.0
+def least(runs):
+    """The least of the seconds that each of these gives: what is slow is done once or twice, what is short many times."""
+    best, start = [NEVER] * len(runs), time.perf_counter()
     for n in range(MOST_RUNS):
-        seconds = take()
-        best, spent = min(best, seconds), spent + seconds
-        if spent > (ENOUGH if n + 1 >= PIECES_TIMED else 10 * ENOUGH):
+        best = [min(seconds, run()) for seconds, run in zip(best, runs)]
+        if time.perf_counter() - start > (ENOUGH if n + 1 >= PIECES_TIMED else 10 * ENOUGH):
             break
     return best
 
@@ -97,7 +96,7 @@ def measure_bytes(map_):
         map_.path.read_bytes()
         return time.perf_counter() - start
 
-    return Measured(least(take), "s", None, "on the wall clock")
+    return Measured(least([take])[0], "s", None, "on the wall clock")
 
 
 def measure_scan(both, map_):
@@ -110,7 +109,7 @@ def measure_scan(both, map_):
             raise Failed(why(done))
         return done.seconds
 
-    seconds, own = both.least(take)
+    [(seconds, own)] = both.least(take)
     size = listed.stat().st_size / 1e6
     listed.unlink()
     return Measured(seconds, "s", own, f"{size / seconds:.1f} MB/s")
@@ -308,10 +307,14 @@ def compare_all_kinds(both, map_, drawn, rand):
     return both.reference.said()
 
 
+def opened(map_):
+    """Takes the seconds to open a map."""
+    return lambda runner: runner.opened(map_.path).seconds
+
+
 def opened_and_saved(both, map_):
     """The seconds to open a map, and those to open and save it, each of the program and of the reference."""
-    opening = both.least(lambda runner: runner.opened(map_.path).seconds)
-    return opening, both.least(lambda runner: runner.accepted(map_.path, []).seconds)
+    return both.least(opened(map_), lambda runner: runner.accepted(map_.path, []).seconds)
 
 
 def measure_edits(table, options, both, drawn):

@@ -53,6 +53,14 @@ class Reference(Runner):
         self.compare([line for lines in session.pieces for line in lines], session.answers, own.answers, session.saved)
         return own
 
+    def tried(self, take):
+        """The seconds that `take` gives of the reference; no time where it fails."""
+        try:
+            return take(self)
+        except Failed as reason:
+            self.differing.append(str(reason))
+            return float("inf")
+
     def run_too(self, path, lines, done, saved):
         """Runs a script of the program, some lines of which may be refused, and compares what came of it."""
         own = self.run(path, lines)
