@@ -78,7 +78,7 @@ def least(runs):
     best, start = [NEVER] * len(runs), time.perf_counter()
     for n in range(MOST_RUNS):
         best = [min(seconds, run()) for seconds, run in zip(best, runs)]
-        if time.perf_counter() - start > (ENOUGH if n + 1 >= PIECES_TIMED else 10 * ENOUGH):
+        if time.perf_counter() - start > (ENOUGH if n + 1 >= PIECES_TIMED else 20 * ENOUGH):
             break
     return best
 
@@ -125,8 +125,12 @@ def measure_save(both, opening, whole):
     seconds = whole[0] - opening[0]
     if seconds <= 0:
         raise Failed("saving takes no time beside opening")
-    own = whole[1] - opening[1] if whole[1] and opening[1] else 0
-    return Measured(seconds, "s", own if own > 0 else None, f"{size:.2f} MB, {size / seconds:.1f} MB/s")
+    own, note = None, f"{size:.2f} MB, {size / seconds:.1f} MB/s"
+    if whole[1] and opening[1] and whole[1] > opening[1]:
+        own = whole[1] - opening[1]
+    elif both.reference:
+        note += "; that of the reference takes no time beside opening"
+    return Measured(seconds, "s", own, note)
 
 
 # ---- lines a second
