@@ -13,7 +13,8 @@ struct Entry {
 };
 
 // Trees over one store of nodes. A tree is the index of its root, and 0 while it is bare. A box goes down its way, which
-// is the bits of its middle from the greatest on, in turn in x and y, and stays in the first node with room.
+// is the bits of its middle from the greatest on, in turn in x and y, then those of its size, and stays in the first node
+// with room.
 class Trees {
     static constexpr uint32_t ROOM = 4;
 
@@ -56,13 +57,16 @@ class Trees {
     }
 
 public:
-    // The way of a box through a tree over a region: the sums of its ends, from some bit on.
+    // The way of a box through a tree over a region: the sums of its ends, from some bit on, and its size.
     struct Way {
-        uint64_t x, y;
-        int bits_x, bits_y;
+        uint64_t x, y, size;
+        int bits_x, bits_y, bits_size = 42;
+
+        Way(int64_t x, int64_t y, const Box& b, int bits_x, int bits_y)
+            : x(uint64_t(x)), y(uint64_t(y)), size(uint64_t(b.east - b.west + b.north - b.south)), bits_x(bits_x), bits_y(bits_y) {}
 
         bool next() {
-            if (bits_x < 0 && bits_y < 0) return false;
+            if (bits_x < 0 && bits_y < 0) return bits_size >= 0 && size >> bits_size-- & 1;
             bool takes_x = bits_x >= bits_y;
             int bit = takes_x ? bits_x-- : bits_y--;
             return (takes_x ? x : y) >> bit & 1;
@@ -115,8 +119,9 @@ public:
             const Node& node = nodes_[at];
             for (uint32_t i = 0; i < node.count; i++)
                 if (do_meet(node.entries[i].box, asked)) visit(node.entries[i]);
-            if (node.sides[0]) each(node.sides[0], asked, visit);
-            at = node.sides[1];
+            if (node.sides[1]) each(node.sides[1], asked, visit);
+            // Where no bits are left the way goes on over this side, so a long one takes no stack.
+            at = node.sides[0];
         }
     }
 };
@@ -151,14 +156,14 @@ class BoxIndex {
     uint32_t& filled(int64_t column, int64_t row) { return filled_[(row >> BLOCK) * block_columns_ + (column >> BLOCK)]; }
 
     Trees::Way way_in_cell(const Box& b) const {
-        return {uint64_t(b.west + b.east), uint64_t(b.south + b.north), shift_x_, shift_y_};
+        return {b.west + b.east, b.south + b.north, b, shift_x_, shift_y_};
     }
     Trees::Way way_in_extent(const Box& b) const {
         int64_t x = b.west + b.east - 2 * extent_.west, y = b.south + b.north - 2 * extent_.south;
-        return {uint64_t(x), uint64_t(y), bits_, bits_};
+        return {x, y, b, bits_, bits_};
     }
     static Trees::Way way_outside(const Box& b) {
-        return {uint64_t(b.west + b.east + REACH), uint64_t(b.south + b.north + REACH), REACH_BITS, REACH_BITS};
+        return {b.west + b.east + REACH, b.south + b.north + REACH, b, REACH_BITS, REACH_BITS};
     }
 
     bool is_outside(const Box& b) const {
