@@ -1,4 +1,5 @@
 pub mod Accepted
+pub mod Outcomes
 pub mod StateKept
 pub mod PutBack
 pub mod ThinnedBack

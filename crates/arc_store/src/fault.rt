@@ -48,8 +48,7 @@ pub enum EditFault {
     TooLarge,
     /// Two segments would be in conflict: the least such pair, s the lesser one.
     Conflict { s: Seg, t: Seg },
-    /// A part of the polygon would lie outside of it: the signed areas of both parts do not have the
-    /// sign of its own.
+    /// The signed areas of the two parts of the cut polygon do not both have the sign of its own.
     WrongSide,
     /// A feature cannot be merged with itself.
     SameFeature,
@@ -63,7 +62,8 @@ pub enum EditFault {
     CommonElse { pos: Pos },
     /// The areas of both features lie on the same side of their run.
     SameSide,
-    /// An edge would sweep over a position, or the vertex over a segment.
+    /// A triangle that an edge would pass over holds another position, or the way of the moved vertex
+    /// conflicts with a segment.
     Sweeps,
     /// There was no memory. Nothing was changed but the count of tests.
     OutOfMemory,

@@ -1,8 +1,8 @@
-ghost use Rattle.std.specs.Prelude.{◌≡◌, true, [], ◌∷◌, Some, OnOk, OnErr, IfErr};
+ghost use Rattle.std.specs.Prelude.{◌≡◌, true, [], ◌∷◌, Some, None, OnOk};
 ghost use Rattle.ring_machine.specs.Join.{take_out};
 ghost use Rattle.ring_machine.specs.Parts.{feature, has_feature};
 ghost use Rattle.edit_records.specs.Records as made;
-ghost use Rattle.arc_store.specs.declared.fault.EditFault.TheVariants.{OutOfMemory};
+ghost use Rattle.arc_store.specs.Outcomes.{Edits};
 
 use crate::edit_record::Record;
 use crate::fault::EditFault;
@@ -16,16 +16,11 @@ impl<'a, I: SegIndex, A: Allocator + Copy> Map<'a, I, A> {
     /// empty collection (TopoJSON 1.0, 2.2.7). A number that no feature has changes nothing. Fails
     /// for want of memory alone, and then changes nothing.
     pub fn raw_delete(&mut self, n: u32) -> Result<(), EditFault>
-        ensures deleted { OnOk result (self.new.doc ≡ take_out self.old.doc n) }
+        ensures edits { Edits self.old self.new result None
+            (record self.old { doc = take_out self.old.doc n; last = self.new.last }) }
         ensures recorded { OnOk result (has_feature self.old.doc n ≡ true
             → self.new.last ≡ Some (made.Exchanged ((n, feature self.old.doc n) ∷ []))) }
-        ensures memory { IfErr result (λ fault. fault ≡ OutOfMemory) }
-        ensures unchanged { OnErr result (self.new.doc ≡ self.old.doc) }
-        ensures still { OnErr result (self.new.last ≡ self.old.last) }
-        ensures next { self.new.next ≡ self.old.next }
-        ensures places { self.new.places ≡ self.old.places }
         ensures tests { self.new.tests ≡ self.old.tests }
-        ensures cells { self.new.cells ≡ self.old.cells }
     {
         if !self.has_feature(n) {
             return Ok(());

@@ -12,6 +12,7 @@ ghost use Rattle.local_planarity.specs.Tests.{most_for, most_tests};
 ghost use Rattle.local_planarity.specs.declared.leaving.Leaving.TheVariants.{One};
 ghost use Rattle.arc_store.specs.Edits.{IsInsertable, IsPlaceable};
 ghost use Rattle.arc_store.specs.Faults.{Refuses};
+ghost use Rattle.arc_store.specs.Outcomes.{Edits};
 ghost use Rattle.vertex_changes.specs.Planned as planned;
 
 use crate::edit_record::Record;
@@ -67,18 +68,11 @@ impl<'a, I: SegIndex, A: Allocator + Copy> Map<'a, I, A> {
         requires segment { is_segment self.old.doc (segment a b) ≡ true }
         requires free { is_vertex self.old.doc q ≡ false }
         requires small { size (ins self.old.doc a b q) ≤ 4000000 }
-        ensures accepted { OnOk result (first_of (insert_refusals self.old.doc a b q) ≡ None) }
-        ensures inserted { OnOk result (self.new.doc ≡ ins self.old.doc a b q) }
-        ensures recorded { OnOk result (self.new.last ≡ Some (made.Inserted q)) }
-        ensures refused { IfErr result
-            (λ fault. Refuses fault (first_of (insert_refusals self.old.doc a b q))) }
-        ensures unchanged { OnErr result (self.new.doc ≡ self.old.doc) }
-        ensures still { OnErr result (self.new.last ≡ self.old.last) }
-        ensures next { self.new.next ≡ self.old.next }
-        ensures places { self.new.places ≡ self.old.places }
+        ensures edits { Edits self.old self.new result
+            (first_of (insert_refusals self.old.doc a b q))
+            (record self.old { doc = ins self.old.doc a b q; last = Some (made.Inserted q) }) }
         ensures few { self.new.tests ≤ self.old.tests
             + most_for (times_by self.old.cells) self.old.doc (ins self.old.doc a b q) }
-        ensures cells { self.new.cells ≡ self.old.cells }
     {
         let parting = read_parting(self.alloc, &self.vertices, a, b, q)?;
         let (ends, before) = (parting.ends, parting.before);

@@ -1,9 +1,9 @@
-ghost use Rattle.std.specs.Prelude.{◌≡◌, [], ◌∷◌, Some, None, OnOk, OnErr, IfErr};
+ghost use Rattle.std.specs.Prelude.{◌≡◌, [], ◌∷◌, Some, None};
 ghost use Rattle.ring_machine.specs.Join.{join};
 ghost use Rattle.ring_machine.specs.Parts.{feature};
 ghost use Rattle.ring_machine.specs.Refusals.{first_of, merge_refusals, feature_at};
 ghost use Rattle.edit_records.specs.Records as made;
-ghost use Rattle.arc_store.specs.declared.fault.EditFault.TheVariants.{OutOfMemory};
+ghost use Rattle.arc_store.specs.Outcomes.{Edits};
 
 use crate::edit_record::Record;
 use crate::fault::EditFault;
@@ -19,17 +19,12 @@ impl<'a, I: SegIndex, A: Allocator + Copy> Map<'a, I, A> {
     /// want of memory alone, and then changes nothing.
     pub fn raw_merge(&mut self, n: u32, g: u32) -> Result<(), EditFault>
         requires { first_of (merge_refusals self.old.doc n g) ≡ None }
-        ensures merged { OnOk result
-            (self.new.doc ≡ join self.old.doc n (feature_at self.old.doc g)) }
-        ensures recorded { OnOk result (self.new.last ≡ Some (made.Exchanged
-            ((n, feature self.old.doc n) ∷ (g, feature self.old.doc g) ∷ []))) }
-        ensures memory { IfErr result (λ fault. fault ≡ OutOfMemory) }
-        ensures unchanged { OnErr result (self.new.doc ≡ self.old.doc) }
-        ensures still { OnErr result (self.new.last ≡ self.old.last) }
-        ensures next { self.new.next ≡ self.old.next }
-        ensures places { self.new.places ≡ self.old.places }
+        ensures edits { Edits self.old self.new result None (record self.old {
+          doc = join self.old.doc n (feature_at self.old.doc g);
+          last = Some (made.Exchanged
+              ((n, feature self.old.doc n) ∷ (g, feature self.old.doc g) ∷ []));
+        }) }
         ensures tests { self.new.tests ≡ self.old.tests }
-        ensures cells { self.new.cells ≡ self.old.cells }
     {
         let ones = self.polygons(n)?;
         let others = self.polygons(g)?;

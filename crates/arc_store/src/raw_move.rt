@@ -1,5 +1,5 @@
-ghost use Rattle.std.specs.Prelude.{◌≡◌, ◌≢◌, ◌≤◌, ◌+◌, ◌||◌, true, false, List, Some, None};
-ghost use Rattle.std.specs.Prelude.{OnOk, OnErr, IfOk, IfErr};
+ghost use Rattle.std.specs.Prelude.{◌≡◌, ◌≢◌, ◌≤◌, ◌+◌, ◌||◌, true, false, List, Some};
+ghost use Rattle.std.specs.Prelude.{OnOk, OnErr, IfOk};
 ghost use Rattle.std.specs.List.{list_any};
 ghost use Rattle.grid_geometry.specs.Segment.{Segment, segment};
 ghost use Rattle.ring_machine.specs.Document.{Document};
@@ -12,7 +12,7 @@ ghost use Rattle.segment_index.specs.Times.{times_by};
 ghost use Rattle.local_planarity.specs.Edits.{IsHeld};
 ghost use Rattle.local_planarity.specs.Tests.{most_for_move, most_given};
 ghost use Rattle.arc_store.specs.Edits.{IsMovable};
-ghost use Rattle.arc_store.specs.Faults.{Refuses};
+ghost use Rattle.arc_store.specs.Outcomes.{Edits};
 ghost use Rattle.feature_exchange.specs.Holds.{IsIndexed};
 
 use crate::edit_record::Record;
@@ -56,18 +56,11 @@ impl<'a, I: SegIndex, A: Allocator + Copy> Map<'a, I, A> {
     pub fn raw_move(&mut self, p: Pos, q: Pos) -> Result<(), EditFault>
         requires vertex { is_vertex self.old.doc p ≡ true }
         requires free { is_vertex self.old.doc q ≡ false }
-        ensures accepted { OnOk result (first_of (move_refusals self.old.doc p q) ≡ None) }
-        ensures moved { OnOk result (self.new.doc ≡ put self.old.doc p q) }
-        ensures recorded { OnOk result (self.new.last ≡ Some (made.Moved p q)) }
-        ensures refused { IfErr result
-            (λ fault. Refuses fault (first_of (move_refusals self.old.doc p q))) }
-        ensures unchanged { OnErr result (self.new.doc ≡ self.old.doc) }
-        ensures still { OnErr result (self.new.last ≡ self.old.last) }
-        ensures next { self.new.next ≡ self.old.next }
-        ensures places { self.new.places ≡ self.old.places }
+        ensures edits { Edits self.old self.new result
+            (first_of (move_refusals self.old.doc p q))
+            (record self.old { doc = put self.old.doc p q; last = Some (made.Moved p q) }) }
         ensures few { self.new.tests ≤ self.old.tests
             + most_for_move (times_by self.old.cells) self.old.doc p q }
-        ensures cells { self.new.cells ≡ self.old.cells }
     {
         let moving = read_moving(self.alloc, &self.vertices, &self.borders, p, q)?;
         let around = moving.around.as_slice();

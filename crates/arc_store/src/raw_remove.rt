@@ -12,6 +12,7 @@ ghost use Rattle.local_planarity.specs.Tests.{most_for, most_tests};
 ghost use Rattle.local_planarity.specs.declared.leaving.Leaving.TheVariants.{EndingAt};
 ghost use Rattle.arc_store.specs.Edits.{IsLeavable, IsRemovable};
 ghost use Rattle.arc_store.specs.Faults.{Refuses};
+ghost use Rattle.arc_store.specs.Outcomes.{Edits};
 ghost use Rattle.arc_store.specs.Recorded.{removal_seen, IsLeftOut};
 
 use crate::edit_record::Record;
@@ -61,13 +62,10 @@ impl<'a, I: SegIndex, A: Allocator + Copy> Map<'a, I, A> {
         requires inner { is_junction self.old.doc p ≡ false }
         requires long { are_long self.old.doc p ≡ true }
         requires unjoined { is_bridged self.old.doc p ≡ false }
-        ensures accepted { OnOk result (first_of (remove_refusals self.old.doc p) ≡ None) }
-        ensures removed { OnOk result (self.new.doc ≡ del self.old.doc p) }
+        ensures edits { Edits self.old self.new result
+            (first_of (remove_refusals self.old.doc p))
+            (record self.old { doc = del self.old.doc p }) }
         ensures left { IfOk result (λ r. IsLeftOut self.old.doc p (removal_seen r)) }
-        ensures refused { IfErr result
-            (λ fault. Refuses fault (first_of (remove_refusals self.old.doc p))) }
-        ensures unchanged { OnErr result (self.new.doc ≡ self.old.doc) }
-        ensures kept { self.new ≡ record self.old { doc = self.new.doc; tests = self.new.tests } }
         ensures few { self.new.tests ≤ self.old.tests
             + most_for (times_by self.old.cells) self.old.doc (del self.old.doc p) }
     {
@@ -95,19 +93,13 @@ impl<'a, I: SegIndex, A: Allocator + Copy> Map<'a, I, A> {
         requires inner { is_junction self.old.doc p ≡ false }
         requires long { are_long self.old.doc p ≡ true }
         requires unjoined { is_bridged self.old.doc p ≡ false }
-        ensures accepted { OnOk result (first_of (remove_refusals self.old.doc p) ≡ None) }
-        ensures removed { OnOk result (self.new.doc ≡ del self.old.doc p) }
+        ensures edits { Edits self.old self.new result
+            (first_of (remove_refusals self.old.doc p))
+            (record self.old { doc = del self.old.doc p; last = self.new.last }) }
         ensures recorded { OnOk result ((r : made.Removal)
             × (self.new.last ≡ Some (made.Removed r)) × IsLeftOut self.old.doc p r) }
-        ensures refused { IfErr result
-            (λ fault. Refuses fault (first_of (remove_refusals self.old.doc p))) }
-        ensures unchanged { OnErr result (self.new.doc ≡ self.old.doc) }
-        ensures still { OnErr result (self.new.last ≡ self.old.last) }
-        ensures next { self.new.next ≡ self.old.next }
-        ensures places { self.new.places ≡ self.old.places }
         ensures few { self.new.tests ≤ self.old.tests
             + most_for (times_by self.old.cells) self.old.doc (del self.old.doc p) }
-        ensures cells { self.new.cells ≡ self.old.cells }
     {
         let removal = self.remove_tested(p)?;
         self.last = Some(Record::Removed(removal));

@@ -1,18 +1,16 @@
-ghost use Rattle.std.specs.Prelude.{◌≡◌, ◌≤◌, ◌<◌, ◌+◌, ℕ, true, false, List, [], ◌∷◌, Some, None, map, length};
+ghost use Rattle.std.specs.Prelude.{◌≡◌, ◌≤◌, ◌<◌, ◌+◌, ℕ, true, false, List, None, map, length};
 ghost use Rattle.std.specs.Prelude.{IfOk, OnOk, OnErr, IfErr, IsTrue};
 ghost use Rattle.std.specs.List.{list_any};
 ghost use Rattle.grid_geometry.specs.Ring.{links};
 ghost use Rattle.grid_geometry.specs.Segment.{Segment};
 ghost use Rattle.ring_machine.specs.Cut.{cut, path_of, is_cut_by};
 ghost use Rattle.ring_machine.specs.Document.{Document, Text};
-ghost use Rattle.ring_machine.specs.Parts.{feature, has_feature, is_vertex};
+ghost use Rattle.ring_machine.specs.Parts.{has_feature, is_vertex};
 ghost use Rattle.ring_machine.specs.Planar.{Proper};
 ghost use Rattle.ring_machine.specs.Refusals.{first_of, split_refusals, feature_at, is_layer};
 ghost use Rattle.ring_machine.specs.Refusals.{positions_of, is_path_segment};
 ghost use Rattle.ring_machine.specs.Ring.{is_distinct, segment_of};
 ghost use Rattle.ring_machine.specs.WellFormed.{WellFormed};
-ghost use Rattle.edit_records.specs.Places.{grown};
-ghost use Rattle.edit_records.specs.Records as made;
 ghost use Rattle.topo_outline.specs.Kept.{IsJson};
 ghost use Rattle.ring_parts.specs.Seen.{path_seen, rings_seen, outer_length};
 ghost use Rattle.segment_index.specs.Times.{times_by};
@@ -20,6 +18,7 @@ ghost use Rattle.local_planarity.specs.Edits.{AreApart, IsAfter};
 ghost use Rattle.local_planarity.specs.Tests.{most_for, most_tests};
 ghost use Rattle.local_planarity.specs.declared.leaving.Leaving.TheVariants.{Nothing};
 ghost use Rattle.arc_store.specs.Faults.{Refuses};
+ghost use Rattle.arc_store.specs.Outcomes.{Edits, split_map};
 ghost use Rattle.arc_store.specs.Splits.{IsCuttable, IsFound, IsTested, has_room};
 
 use crate::edit_record::Record;
@@ -166,12 +165,8 @@ impl<'a, I: SegIndex, A: Allocator + Copy> Map<'a, I, A> {
         requires accepted { first_of
             (split_refusals self.old.doc self.old.next n id.items (path_seen path.now)) ≡ None }
         ensures number { IfOk result (λ made. made ≡ self.old.next) }
-        ensures split { OnOk result (self.new ≡ record self.old {
-          doc = cut self.old.doc n id.items (path_seen path.now) self.old.next;
-          next = self.old.next + 1;
-          places = grown n self.old.next self.old.places;
-          last = Some (made.Exchanged ((n, feature self.old.doc n) ∷ (self.old.next, None) ∷ []));
-        }) }
+        ensures split { OnOk result
+            (self.new ≡ split_map self.old n id.items (path_seen path.now)) }
         ensures unchanged { OnErr result (self.new ≡ self.old) }
     {
         let FirstCut {
@@ -207,23 +202,13 @@ impl<'a, I: SegIndex, A: Allocator + Copy> Map<'a, I, A> {
         requires different { is_distinct (positions_of (path_of positions.now)) ≡ true }
         requires free { list_any (is_vertex self.old.doc) (path_of positions.now).inner ≡ false }
         requires new { is_path_segment self.old.doc (path_of positions.now) ≡ false }
-        ensures accepted { OnOk result
-            (first_of (split_refusals self.old.doc self.old.next n id.items (path_of positions.now))
-            ≡ None) }
+        ensures edits { Edits self.old self.new result
+            (first_of (split_refusals self.old.doc self.old.next n id.items (path_of positions.now)))
+            (split_map self.old n id.items (path_of positions.now)) }
         ensures number { IfOk result (λ made. made ≡ self.old.next) }
-        ensures split { OnOk result (self.new.doc
-            ≡ cut self.old.doc n id.items (path_of positions.now) self.old.next) }
-        ensures next { OnOk result (self.new.next ≡ self.old.next + 1) }
-        ensures places { OnOk result (self.new.places ≡ grown n self.old.next self.old.places) }
-        ensures recorded { OnOk result (self.new.last ≡ Some (made.Exchanged
-            ((n, feature self.old.doc n) ∷ (self.old.next, None) ∷ []))) }
-        ensures refused { IfErr result (λ fault. Refuses fault (first_of
-            (split_refusals self.old.doc self.old.next n id.items (path_of positions.now)))) }
-        ensures unchanged { OnErr result (self.new ≡ record self.old { tests = self.new.tests }) }
         ensures few { self.new.tests ≤ self.old.tests
             + most_for (times_by self.old.cells) self.old.doc
             (cut self.old.doc n id.items (path_of positions.now) self.old.next) }
-        ensures cells { self.new.cells ≡ self.old.cells }
     {
         let Some(path) = Path::new(positions) else {
             return Err(EditFault::NotOnOuterRing);

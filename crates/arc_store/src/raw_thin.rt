@@ -5,7 +5,7 @@ ghost use Rattle.ring_machine.specs.Vertices.{del, is_junction};
 ghost use Rattle.edit_records.specs.Records as made;
 ghost use Rattle.segment_index.specs.Times.{times_by};
 ghost use Rattle.local_planarity.specs.Tests.{most_for};
-ghost use Rattle.arc_store.specs.Faults.{Refuses};
+ghost use Rattle.arc_store.specs.Outcomes.{Edits};
 ghost use Rattle.arc_store.specs.Recorded.{IsLeftOut, IsThinning, left_out, thinned};
 
 use crate::edit_record::Record;
@@ -49,20 +49,14 @@ impl<'a, I: SegIndex, A: Allocator + Copy> Map<'a, I, A> {
         requires long { are_long self.old.doc p ≡ true }
         requires unjoined { is_bridged self.old.doc p ≡ false }
         requires thinning { IsThinning self.old.last }
-        ensures accepted { OnOk result (first_of (remove_refusals self.old.doc p) ≡ None) }
-        ensures removed { OnOk result (self.new.doc ≡ del self.old.doc p) }
+        ensures edits { Edits self.old self.new result
+            (first_of (remove_refusals self.old.doc p))
+            (record self.old { doc = del self.old.doc p; last = self.new.last }) }
         ensures recorded { OnOk result ((r : made.Removal)
             × (self.new.last ≡ Some (made.Thinned (r ∷ left_out self.old.last)))
             × IsLeftOut self.old.doc p r) }
-        ensures refused { IfErr result
-            (λ fault. Refuses fault (first_of (remove_refusals self.old.doc p))) }
-        ensures unchanged { OnErr result (self.new.doc ≡ self.old.doc) }
-        ensures still { OnErr result (self.new.last ≡ self.old.last) }
-        ensures next { self.new.next ≡ self.old.next }
-        ensures places { self.new.places ≡ self.old.places }
         ensures few { self.new.tests ≤ self.old.tests
             + most_for (times_by self.old.cells) self.old.doc (del self.old.doc p) }
-        ensures cells { self.new.cells ≡ self.old.cells }
     {
         let mut removals = self.take_thinned();
         if removals.reserve(1).is_err() {

@@ -10,10 +10,10 @@ use Rattle.segment_index.specs.Times.{times_by}
 use Rattle.local_planarity.specs.Tests.{most_for}
 use Rattle.edit_vertex.specs.Tested.{most_for_thin}
 
--- of two squares with a common side, in a list: a corner goes, and its segment is tested against
--- six; then one of the other square, against five; no segment comes for what can't go from a
+-- of two squares with a common side, without cells: a corner goes, and its segment is tested against
+-- five; then one of the other square, against five; no segment comes for what can't go from a
 -- triangle
-two_corners : most_for_thin (times_by None) (pos 100) M ≡ 11
+two_corners : most_for_thin (times_by None) (pos 100) M ≡ 10
 unfolding most_for_thin most_for remove_refusals first_pair remove_sweeps conflict cross is_within is_on are_split orientation
 two_corners = refl
 

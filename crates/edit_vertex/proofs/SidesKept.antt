@@ -2,7 +2,7 @@
 -- number of removals, one after the other.
 use Rattle.std.proofs.Common.{◌≡◌, ℕ, ℤ, Bool, true, false, refl, sym, ap, ◌∙◌, subst, cond, List, [], ◌∷◌}
 use Rattle.std.proofs.Common.{◌++◌, take, Option, None, Some}
-use Rattle.std.specs.Prelude.{OnOk, Result, Ok, Err, not, ◌&&◌}
+use Rattle.std.specs.Prelude.{not, ◌&&◌}
 use Rattle.std.specs.List.{fold, filter}
 use Rattle.std.specs.Option.{option_and_then}
 use Rattle.std.proofs.lemmas.Bool.{false≢true}
@@ -25,13 +25,6 @@ use Rattle.ring_machine.proofs.Members.{any_in, in_any, in_filter, in_mapped, in
 use Rattle.ring_machine.proofs.Neighbours.{has-in, in-has}
 use Rattle.ring_machine.proofs.RingsOf.{rings-in_rings}
 use Rattle.ring_machine.proofs.SidesKept.{ring_at-mapped}
-
--- what an accepted edit keeps, of the document that it gave
-pub kept_by : {A E P : Type 0} (result : Result A E) (before after new : Document)
-    → (P → KeepsSides before after) → OnOk result P → OnOk result (new ≡ after)
-    → OnOk result (KeepsSides before new)
-kept_by (Ok x) before after new law accepted is = subst (KeepsSides before) (sym is) (law accepted)
-kept_by (Err fault) before after new law accepted is = tt
 
 some_same : (s r : List Position) → Some s ≡ Some r → s ≡ r
 some_same s r e = cc

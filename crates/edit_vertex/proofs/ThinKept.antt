@@ -17,12 +17,12 @@ use Rattle.ring_machine.proofs.Members.{in_contains}
 use Rattle.edit_records.specs.Places.{LayerTree}
 use Rattle.edit_records.specs.Records.{Record, Removal, Thinned, back, put_back, AreRemoved, IsHeld, Takes}
 use Rattle.edit_records.proofs.RemovedFits.{thin-begun, thin-more}
+use Rattle.arc_store.specs.Outcomes.{IsSameMap, edit_begun}
 use Rattle.arc_store.specs.State.{State}
 use Rattle.arc_store.specs.Spots.{users}
 use Rattle.arc_store.specs.Recorded.{IsLeftOut, IsThinning, left_out}
 use Rattle.edit_vertex.specs.Kept.{IsThinnedFrom, IsThinRecorded}
 use Rattle.edit_vertex.proofs.Inserting.{segment_used, size_grown}
-use Rattle.edit_vertex.proofs.Recording.{begun}
 
 -- ---- the document changes
 
@@ -51,20 +51,18 @@ abbrev Kept : Document → List LayerTree → ℕ → Document → Option Record
 Kept start trees next d last = Takes trees next start d (Thinned (left_out last))
 
 pub left_one : (start : Document) (old new : State) (p : Position)
-    → IsHeld old.places old.next old.doc → new.next ≡ old.next → new.places ≡ old.places
-    → first_of (remove_refusals old.doc p) ≡ None → new.doc ≡ del old.doc p
+    → IsHeld old.places old.next old.doc → first_of (remove_refusals old.doc p) ≡ None
+    → IsSameMap (record old { doc = del old.doc p; last = new.last }) new
     → (r : Removal) × (new.last ≡ Some (Thinned (r ∷ left_out old.last))) × IsLeftOut old.doc p r
     → IsThinnedFrom start old → IsThinnedFrom start new
-left_one start old new p held next places accepted is made from =
+left_one start old new p held accepted is made from =
     let r = made.0 in
     let left = made.2 in
     let rs = left_out old.last in
     let more = thin-more old.places old.next start old.doc rs held from.takes p r.a r.b accepted left.apart (λ s i. left.between s (in_contains (around old.doc p) s i)) in
     let by_at = subst (λ at. Takes old.places old.next start (del old.doc p) (Thinned (record { at = at; a = r.a; b = r.b } ∷ rs))) (sym left.at) more in
-    let by_doc = subst (λ d. Takes old.places old.next start d (Thinned (r ∷ rs))) (sym is) by_at in
-    let by_next = subst (λ n. Takes old.places n start new.doc (Thinned (r ∷ rs))) (sym next) by_doc in
-    let takes = subst (λ trees. Takes trees new.next start new.doc (Thinned (r ∷ rs))) (sym places) by_next in
-    let proper = subst Proper (sym is) (removed old.doc p held.map.proper accepted).0 in
+    let takes = subst (λ (s : State). Takes s.places s.next start s.doc (Thinned (r ∷ rs))) (sym is) by_at in
+    let proper = subst (λ (s : State). Proper s.doc) (sym is) (removed old.doc p held.map.proper accepted).0 in
     record {
       thinning = subst IsThinning (sym made.1) tt;
       takes = subst (λ last. Kept start new.places new.next new.doc last) (sym made.1) takes;
@@ -73,24 +71,15 @@ left_one start old new p held next places accepted is made from =
     }
 
 -- nothing more is left out
-pub left_as_is : (start : Document) (old new : State) → new.next ≡ old.next
-    → new.places ≡ old.places → new.doc ≡ old.doc → new.last ≡ old.last
+pub left_as_is : (start : Document) (old new : State) → IsSameMap old new
     → IsThinnedFrom start old → IsThinnedFrom start new
-left_as_is start old new next places is last from =
-    let by_doc = subst (λ d. Kept start old.places old.next d old.last) (sym is) from.takes in
-    let by_next = subst (λ n. Kept start old.places n new.doc old.last) (sym next) by_doc in
-    let by_places = subst (λ trees. Kept start trees new.next new.doc old.last) (sym places) by_next in
-    let changed = subst (λ d. MatchOption old.last (d ≡ start) (λ _. d ≢ start)) (sym is) from.changed in
-    record {
-      thinning = subst IsThinning (sym last) from.thinning;
-      takes = subst (λ o. Kept start new.places new.next new.doc o) (sym last) by_places;
-      changed = subst (λ o. MatchOption o (new.doc ≡ start) (λ _. new.doc ≢ start)) (sym last) changed;
-    }
+left_as_is start old new is from =
+    subst (IsThinnedFrom start) (sym is) (record { thinning = from.thinning; takes = from.takes; changed = from.changed })
 
 -- ---- the whole pass
 
 -- nothing was left out yet
-pub none_left : (old now : State) → now ≡ begun old → IsHeld now.places now.next now.doc
+pub none_left : (old now : State) → now ≡ edit_begun old → IsHeld now.places now.next now.doc
     → IsThinnedFrom old.doc now
 none_left old now begins held =
     let none : now.last ≡ None = ap (λ (s : State). s.last) begins in

@@ -1,4 +1,4 @@
-ghost use Rattle.std.specs.Prelude.{◌≡◌, ◌≤◌, ◌+◌, Some, None, OnOk, OnErr, IfErr, IsTrue};
+ghost use Rattle.std.specs.Prelude.{◌≡◌, ◌≤◌, ◌+◌, Some, OnOk, IfErr, IsTrue};
 ghost use Rattle.ring_machine.specs.Planar.{Proper};
 ghost use Rattle.ring_machine.specs.Refusals.{first_of, insert_refusals};
 ghost use Rattle.ring_machine.specs.Sides.{KeepsSides};
@@ -6,7 +6,7 @@ ghost use Rattle.ring_machine.specs.Vertices.{ins};
 ghost use Rattle.edit_records.specs.Records as made;
 ghost use Rattle.segment_index.specs.Times.{times_by};
 ghost use Rattle.local_planarity.specs.Tests.{most_for};
-ghost use Rattle.arc_store.specs.Faults.{Refuses};
+ghost use Rattle.arc_store.specs.Outcomes.{Edits, edit_begun};
 ghost use Rattle.arc_store.specs.Recorded.{IsRecorded};
 ghost use Rattle.edit_vertex.specs.Untested.{is_early};
 
@@ -26,20 +26,12 @@ fn insert_now<'a, I: SegIndex, A: Allocator + Copy>(
     q: Pos,
 ) -> Result<(), EditFault>
     requires proper { Proper map.old.doc }
-    ensures accepted { OnOk result (first_of (insert_refusals map.old.doc a b q) ≡ None) }
-    ensures inserted { OnOk result (map.new.doc ≡ ins map.old.doc a b q) }
-    ensures recorded { OnOk result (map.new.last ≡ Some (made.Inserted q)) }
-    ensures refused { IfErr result
-        (λ fault. Refuses fault (first_of (insert_refusals map.old.doc a b q))) }
-    ensures unchanged { OnErr result (map.new.doc ≡ map.old.doc) }
-    ensures still { OnErr result (map.new.last ≡ map.old.last) }
+    ensures edits { Edits map.old map.new result (first_of (insert_refusals map.old.doc a b q))
+        (record map.old { doc = ins map.old.doc a b q; last = Some (made.Inserted q) }) }
     ensures untested { IfErr result
         (λ fault. IsTrue (is_early fault) → map.new.tests ≡ map.old.tests) }
-    ensures next { map.new.next ≡ map.old.next }
-    ensures places { map.new.places ≡ map.old.places }
     ensures few { map.new.tests ≤ map.old.tests
         + most_for (times_by map.old.cells) map.old.doc (ins map.old.doc a b q) }
-    ensures cells { map.new.cells ≡ map.old.cells }
 {
     let Some(s) = Seg::new(a, b) else {
         return Err(EditFault::NoSegment);
@@ -65,20 +57,14 @@ pub fn insert_vertex<'a, I: SegIndex, A: Allocator + Copy>(
     b: Pos,
     q: Pos,
 ) -> Result<(), EditFault>
-    ensures accepted { OnOk result (first_of (insert_refusals map.old.doc a b q) ≡ None) }
-    ensures inserted { OnOk result (map.new.doc ≡ ins map.old.doc a b q) }
+    ensures edits { Edits (edit_begun map.old) map.new result
+        (first_of (insert_refusals map.old.doc a b q))
+        (record map.old { doc = ins map.old.doc a b q; last = map.new.last }) }
     ensures sides { OnOk result (KeepsSides map.old.doc map.new.doc) }
     ensures recorded { OnOk result (IsRecorded map.old map.new) }
-    ensures refused { IfErr result
-        (λ fault. Refuses fault (first_of (insert_refusals map.old.doc a b q))) }
-    ensures unchanged { OnErr result (map.new.doc ≡ map.old.doc) }
-    ensures none { OnErr result (map.new.last ≡ None) }
     ensures untested { IfErr result (λ fault. IsTrue (is_early fault) → map.new.tests ≡ 0) }
-    ensures next { map.new.next ≡ map.old.next }
-    ensures places { map.new.places ≡ map.old.places }
     ensures few { map.new.tests
         ≤ most_for (times_by map.old.cells) map.old.doc (ins map.old.doc a b q) }
-    ensures cells { map.new.cells ≡ map.old.cells }
 {
     map.begin_edit();
     insert_now(map, a, b, q)

@@ -1,4 +1,4 @@
-ghost use Rattle.std.specs.Prelude.{◌≡◌, ◌≢◌, ◌≤◌, ◌+◌, Some, None, OnOk, OnErr, IfErr, IsTrue};
+ghost use Rattle.std.specs.Prelude.{◌≡◌, ◌≢◌, ◌≤◌, ◌+◌, Some, OnOk, IfErr, IsTrue};
 ghost use Rattle.grid_geometry.specs.Segment.{segment};
 ghost use Rattle.ring_machine.specs.Parts.{is_segment};
 ghost use Rattle.ring_machine.specs.Planar.{Proper};
@@ -10,6 +10,7 @@ ghost use Rattle.edit_records.specs.Records.{IsInserted};
 ghost use Rattle.segment_index.specs.Times.{times_by};
 ghost use Rattle.local_planarity.specs.Tests.{most_for};
 ghost use Rattle.arc_store.specs.Faults.{Refuses};
+ghost use Rattle.arc_store.specs.Outcomes.{Edits, edit_begun};
 ghost use Rattle.arc_store.specs.Recorded.{IsLeftOut, IsRecorded};
 ghost use Rattle.edit_vertex.specs.Untested.{is_early};
 
@@ -65,21 +66,14 @@ fn remove_now<'a, I: SegIndex, A: Allocator + Copy>(
     p: Pos,
 ) -> Result<(), EditFault>
     requires proper { Proper map.old.doc }
-    ensures accepted { OnOk result (first_of (remove_refusals map.old.doc p) ≡ None) }
-    ensures removed { OnOk result (map.new.doc ≡ del map.old.doc p) }
+    ensures edits { Edits map.old map.new result (first_of (remove_refusals map.old.doc p))
+        (record map.old { doc = del map.old.doc p; last = map.new.last }) }
     ensures recorded { OnOk result ((r : made.Removal)
         × (map.new.last ≡ Some (made.Removed r)) × IsLeftOut map.old.doc p r) }
-    ensures refused { IfErr result
-        (λ fault. Refuses fault (first_of (remove_refusals map.old.doc p))) }
-    ensures unchanged { OnErr result (map.new.doc ≡ map.old.doc) }
-    ensures still { OnErr result (map.new.last ≡ map.old.last) }
     ensures untested { IfErr result
         (λ fault. IsTrue (is_early fault) → map.new.tests ≡ map.old.tests) }
-    ensures next { map.new.next ≡ map.old.next }
-    ensures places { map.new.places ≡ map.old.places }
     ensures few { map.new.tests ≤ map.old.tests
         + most_for (times_by map.old.cells) map.old.doc (del map.old.doc p) }
-    ensures cells { map.new.cells ≡ map.old.cells }
 {
     if let Err(fault) = check_removal(map, p) {
         return Err(fault);
@@ -92,20 +86,14 @@ pub fn remove_vertex<'a, I: SegIndex, A: Allocator + Copy>(
     map: &mut Map<'a, I, A>,
     p: Pos,
 ) -> Result<(), EditFault>
-    ensures accepted { OnOk result (first_of (remove_refusals map.old.doc p) ≡ None) }
-    ensures removed { OnOk result (map.new.doc ≡ del map.old.doc p) }
+    ensures edits { Edits (edit_begun map.old) map.new result
+        (first_of (remove_refusals map.old.doc p))
+        (record map.old { doc = del map.old.doc p; last = map.new.last }) }
     ensures sides { OnOk result (KeepsSides map.old.doc map.new.doc) }
     ensures recorded { OnOk result (IsRecorded map.old map.new) }
-    ensures refused { IfErr result
-        (λ fault. Refuses fault (first_of (remove_refusals map.old.doc p))) }
-    ensures unchanged { OnErr result (map.new.doc ≡ map.old.doc) }
-    ensures none { OnErr result (map.new.last ≡ None) }
     ensures untested { IfErr result (λ fault. IsTrue (is_early fault) → map.new.tests ≡ 0) }
-    ensures next { map.new.next ≡ map.old.next }
-    ensures places { map.new.places ≡ map.old.places }
     ensures few { map.new.tests
         ≤ most_for (times_by map.old.cells) map.old.doc (del map.old.doc p) }
-    ensures cells { map.new.cells ≡ map.old.cells }
 {
     map.begin_edit();
     remove_now(map, p)

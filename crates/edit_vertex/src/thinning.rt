@@ -11,7 +11,7 @@ ghost use Rattle.ring_machine.specs.Vertices.{del, is_junction};
 ghost use Rattle.edit_records.specs.Records as made;
 ghost use Rattle.segment_index.specs.Times.{times_by};
 ghost use Rattle.local_planarity.specs.Tests.{most_for};
-ghost use Rattle.arc_store.specs.Faults.{Refuses};
+ghost use Rattle.arc_store.specs.Outcomes.{Edits};
 ghost use Rattle.arc_store.specs.Recorded.{IsLeftOut, IsThinning, left_out};
 ghost use Rattle.edit_vertex.specs.Kept.{IsThinnedFrom, IsThinRecorded};
 ghost use Rattle.edit_vertex.specs.Tested.{most_at, most_for_thin};
@@ -53,20 +53,13 @@ fn thin_now<'a, I: SegIndex, A: Allocator + Copy>(
 ) -> Result<(), EditFault>
     requires proper { Proper map.old.doc }
     requires thinning { IsThinning map.old.last }
-    ensures accepted { OnOk result (first_of (remove_refusals map.old.doc p) ≡ None) }
-    ensures removed { OnOk result (map.new.doc ≡ del map.old.doc p) }
+    ensures edits { Edits map.old map.new result (first_of (remove_refusals map.old.doc p))
+        (record map.old { doc = del map.old.doc p; last = map.new.last }) }
     ensures recorded { OnOk result ((r : made.Removal)
         × (map.new.last ≡ Some (made.Thinned (r ∷ left_out map.old.last)))
         × IsLeftOut map.old.doc p r) }
-    ensures refused { IfErr result
-        (λ fault. Refuses fault (first_of (remove_refusals map.old.doc p))) }
-    ensures unchanged { OnErr result (map.new.doc ≡ map.old.doc) }
-    ensures still { OnErr result (map.new.last ≡ map.old.last) }
-    ensures next { map.new.next ≡ map.old.next }
-    ensures places { map.new.places ≡ map.old.places }
     ensures few { map.new.tests ≤ map.old.tests
         + most_for (times_by map.old.cells) map.old.doc (del map.old.doc p) }
-    ensures cells { map.new.cells ≡ map.old.cells }
 {
     if let Err(fault) = check_removal(map, p) {
         return Err(fault);

@@ -97,8 +97,9 @@ moved_corner : added M (put M (at 10 10) (at 12 12))
     ≡ (segment (at 12 12) (at 20 10) ∷ segment (at 0 10) (at 12 12) ∷ segment (at 10 0) (at 12 12) ∷ [])
 moved_corner = refl
 
--- in a list each of them against seven candidates, three pairs, and the way against seven
-in_a_list : most_for_move (times_by None) M (at 10 10) (at 12 12) ≡ 31
+-- without cells four, four and five of the seven segments have a box that meets theirs; three pairs;
+-- and the box of the way meets three
+in_a_list : most_for_move (times_by None) M (at 10 10) (at 12 12) ≡ 19
 unfolding most_for_move most_for
 in_a_list = refl
 
@@ -115,9 +116,9 @@ in_a_grid = refl
 corner_gone : added M (del M (at 0 0)) ≡ (segment (at 0 10) (at 10 0) ∷ [])
 corner_gone = refl
 
-six_left : most_for (times_by None) M (del M (at 0 0)) ≡ 6
+five_left : most_for (times_by None) M (del M (at 0 0)) ≡ 5
 unfolding most_for
-six_left = refl
+five_left = refl
 
 ten_in_cells : most_for (times_by (Some tens)) M (del M (at 0 0)) ≡ 10
 unfolding most_for line

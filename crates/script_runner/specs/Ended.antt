@@ -1,10 +1,7 @@
 -- What the steps of a run leave, for the proof of the run alone.
-use Rattle.std.specs.Prelude.{◌≡◌, ◌≢◌, ℕ, ◌/◌, List, length, Option, Some}
+use Rattle.std.specs.Prelude.{◌≡◌, ◌≢◌, ℕ, List}
 use Rattle.ring_machine.specs.Document.{Document}
-use Rattle.ring_machine.specs.Parts.{positions}
 use Rattle.topo_reader.specs.Opening.{IsFault}
-use Rattle.topo_reader.specs.Extent.{extent_of}
-use Rattle.segment_index.specs.Frames.{Frame, frame_with, side_for}
 use Rattle.topo_outline.specs.declared.fault.OpenFault.TheVariants as opening
 use Rattle.arc_store.specs.declared.fault.BuildFault.{BuildFault}
 use Rattle.arc_store.specs.declared.fault.BuildFault.TheVariants as build
@@ -31,11 +28,6 @@ Halts halt.Write depth d coming left taken given =
     (held : Writer) → AnswersPart depth d (devices coming taken held) (devices left given held)
 Halts halt.OutOfMemory depth d coming left taken given =
     (held : Writer) → AnswersPart depth d (devices coming taken held) (devices left given held)
-
--- the cells of the index that a map is opened over: they cover the extent of the document, and there
--- are as many of them as the bytes of the map ask for
-abbrev pub cells_for : List ℕ → Document → Option Frame
-cells_for bytes d = Some (frame_with (side_for (length bytes / 24)) (extent_of (positions d)))
 
 -- why a map was not opened, want of memory apart
 abbrev pub IsOpenEnd : RunFault → List ℕ → Type 0

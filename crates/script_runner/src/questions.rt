@@ -7,7 +7,7 @@ ghost use Rattle.script_runner.specs.Replies.{IsShown};
 use crate::stop::OutOfMemory;
 use crate::texts::push_number;
 use arc_store::Map;
-use segment_index::GridIndex;
+use segment_index::TreeIndex;
 use std::alloc::Allocator;
 
 /// Appends how many features, vertices and segments there are.
@@ -31,7 +31,7 @@ fn push_counts<A: Allocator + Copy>(
 
 /// Appends the counts of the map. Answers that it was not refused.
 pub(crate) fn reply_to_count<A: Allocator + Copy>(
-    map: &Map<'_, GridIndex<A>, A>,
+    map: &Map<'_, TreeIndex<A>, A>,
     text: &mut Vec<u8, A>,
 ) -> Result<bool, OutOfMemory>
     ensures { IfOk result (λ refuses.

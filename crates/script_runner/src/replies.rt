@@ -13,7 +13,7 @@ use arc_store::EditFault;
 use grid_geometry::{Pos, Seg};
 use itoa::Integer;
 use point_queries::{At, Numbers};
-use segment_index::GridIndex;
+use segment_index::TreeIndex;
 use std::alloc::Allocator;
 use undo_ring::{Answer, Command, Editor, UndoFault};
 
@@ -143,7 +143,7 @@ fn push_answer<A: Allocator + Copy>(
 
 /// Answers a command. Answers whether it was refused.
 pub(crate) fn reply_to<A: Allocator + Copy>(
-    editor: &mut Editor<'_, GridIndex<A>, A>,
+    editor: &mut Editor<'_, TreeIndex<A>, A>,
     command: Command,
     text: &mut Vec<u8, A>,
 ) -> Result<bool, OutOfMemory>
@@ -165,7 +165,7 @@ pub(crate) fn reply_to<A: Allocator + Copy>(
 
 /// Takes the newest change back. Answers whether it was refused.
 pub(crate) fn reply_to_undo<A: Allocator + Copy>(
-    editor: &mut Editor<'_, GridIndex<A>, A>,
+    editor: &mut Editor<'_, TreeIndex<A>, A>,
     text: &mut Vec<u8, A>,
 ) -> Result<bool, OutOfMemory>
     ensures { IfOk result (λ refuses.

@@ -8,7 +8,7 @@ ghost use Rattle.script_runner.specs.Replies.{IsShown};
 
 use crate::stop::OutOfMemory;
 use arc_store::{Map, RingIter};
-use segment_index::GridIndex;
+use segment_index::TreeIndex;
 use std::alloc::Allocator;
 use topo_writer::{push_comma, push_pair};
 
@@ -31,7 +31,7 @@ fn push_positions<A: Allocator + Copy>(
 
 /// Appends a ring from its least position on; an empty list where there is no such ring.
 fn push_ring<A: Allocator + Copy>(
-    map: &Map<'_, GridIndex<A>, A>,
+    map: &Map<'_, TreeIndex<A>, A>,
     f: u32,
     polygon: usize,
     ring: usize,
@@ -52,7 +52,7 @@ fn push_ring<A: Allocator + Copy>(
 
 /// Appends a polygon with so many rings, the outer ring first.
 fn push_polygon<A: Allocator + Copy>(
-    map: &Map<'_, GridIndex<A>, A>,
+    map: &Map<'_, TreeIndex<A>, A>,
     f: u32,
     polygon: usize,
     rings: usize,
@@ -73,7 +73,7 @@ fn push_polygon<A: Allocator + Copy>(
 
 /// Appends the polygons of a feature. Answers whether it was refused.
 pub(crate) fn reply_to_rings<A: Allocator + Copy>(
-    map: &Map<'_, GridIndex<A>, A>,
+    map: &Map<'_, TreeIndex<A>, A>,
     f: u32,
     text: &mut Vec<u8, A>,
 ) -> Result<bool, OutOfMemory>

@@ -13,7 +13,7 @@ use crate::sending::send_reply;
 use crate::stop::{OutOfMemory, Stop};
 use device_io::Sink;
 use script_lines::{Line, LineFault, parse_line};
-use segment_index::GridIndex;
+use segment_index::TreeIndex;
 use std::alloc::{Allocator, Global};
 use std::marker::Model;
 use undo_ring::Editor;
@@ -76,7 +76,7 @@ pub struct Summary {
 pub(crate) struct Runner<'a, A: Allocator + Copy> {
     /// Holds the id and the path of a line while it is answered.
     heap: Global,
-    editor: Editor<'a, GridIndex<A>, A>,
+    editor: Editor<'a, TreeIndex<A>, A>,
     line: Vec<u8, A>,
     over: bool,
     answered: u64,
@@ -106,7 +106,7 @@ impl<'a, A: Allocator + Copy> Model for Runner<'a, A> {
 
 impl<'a, A: Allocator + Copy> Runner<'a, A> {
     /// Nothing was fed.
-    pub(crate) fn new(alloc: A, heap: Global, editor: Editor<'a, GridIndex<A>, A>) -> Self
+    pub(crate) fn new(alloc: A, heap: Global, editor: Editor<'a, TreeIndex<A>, A>) -> Self
         requires numbered { editor.map.next ≡ length (features editor.map.doc) }
         requires fresh { editor.past ≡ [] }
         ensures { result ≡ start editor.entry.depth editor.entry.map.doc }
@@ -189,7 +189,7 @@ impl<'a, A: Allocator + Copy> Runner<'a, A> {
     ghost use Rattle.script_runner.specs.Finish.{Finishes, PutsLast, Counts};
 
     /// Sends the answers on, and answers the counts and the map with its history.
-    fn flush<W: Sink>(self, out: &mut W) -> Result<(Summary, Editor<'a, GridIndex<A>, A>), Stop>
+    fn flush<W: Sink>(self, out: &mut W) -> Result<(Summary, Editor<'a, TreeIndex<A>, A>), Stop>
         requires { W.has_failed out.old ≡ false }
         ensures kept { Keeps (W.taken out.old) (W.taken out.new) }
         ensures sent { OnOk result (W.is_flushed out.new ≡ true) }
@@ -216,7 +216,7 @@ impl<'a, A: Allocator + Copy> Runner<'a, A> {
     pub(crate) fn finish<W: Sink>(
         mut self,
         out: &mut W,
-    ) -> Result<(Summary, Editor<'a, GridIndex<A>, A>), Stop>
+    ) -> Result<(Summary, Editor<'a, TreeIndex<A>, A>), Stop>
         requires works { W.has_failed out.old ≡ false }
         requires bytes { self.bytes < 2 ^ 63 }
         ensures ok { IfOk result (λ done. Told (W.taken out.old) (W.taken out.new)

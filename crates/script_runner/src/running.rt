@@ -1,4 +1,4 @@
-ghost use Rattle.std.specs.Prelude.{◌≡◌, ◌≤◌, [], length, false, true, OnOk, OnErr, IfOk, IfErr, Err};
+ghost use Rattle.std.specs.Prelude.{◌≡◌, ◌≤◌, [], length, false, true, OnOk, OnErr, IfOk, IfErr, Err, None};
 ghost use Rattle.ring_machine.specs.Parts.{features};
 ghost use Rattle.std.specs.Io.KnownBytes.{Appends};
 ghost use Rattle.device_io.specs.Devices.{AppendsPrefix};
@@ -7,14 +7,14 @@ ghost use Rattle.map_text.specs.Saved.{Saved};
 ghost use Rattle.topo_writer.specs.declared.sending.WriteFault.TheVariants.{Device};
 ghost use Rattle.script_runner.specs.Devices.{reader_of, writer_of, devices_of};
 ghost use Rattle.script_runner.specs.Outcome.{OpensAs, Completes, Ends};
-ghost use Rattle.script_runner.specs.Ended.{Answers, Halts, IsOpenEnd, IsBuildEnd, cells_for};
+ghost use Rattle.script_runner.specs.Ended.{Answers, Halts, IsOpenEnd, IsBuildEnd};
 
 use crate::fault::RunFault;
 use crate::runner::{Runner, Summary};
 use crate::stop::{Halt, Stop};
 use arc_store::{BuildFault, Map};
 use device_io::{Sink, Source};
-use segment_index::GridIndex;
+use segment_index::TreeIndex;
 use std::alloc::{Allocator, Global};
 use topo_outline::OpenFault;
 use topo_reader::read;
@@ -27,10 +27,6 @@ const MAX_SCRIPT: usize = 1_073_741_824;
 /// The most bytes that are read at once.
 const PIECE: usize = 4096;
 
-/// About how many bytes of a map stand for a segment. How many segments it has is not counted before
-/// it is built, and the cells of the index need no more than a guess.
-const BYTES_PER_SEGMENT: usize = 24;
-
 /// The end of a run whose map has segments in conflict, or no memory.
 fn not_built<'a>(fault: BuildFault) -> RunFault<'a>
     ensures { IsBuildEnd fault result }
@@ -41,15 +37,16 @@ fn not_built<'a>(fault: BuildFault) -> RunFault<'a>
     }
 }
 
-/// Opens a map, where no two of its segments conflict.
+/// Opens a map, where no two of its segments conflict. Its index has no cells, so that the bound on
+/// the tests of an edit counts pairs of segments whose boxes meet, each once.
 fn open<'a, A: Allocator + Copy>(
     alloc: A,
     heap: Global,
     bytes: &'a [u8],
-) -> Result<Map<'a, GridIndex<A>, A>, RunFault<'a>>
+) -> Result<Map<'a, TreeIndex<A>, A>, RunFault<'a>>
     ensures opened { IfOk result (λ map. OpensAs bytes.now map.doc) }
     ensures numbered { IfOk result (λ map. map.next ≡ length (features map.doc)) }
-    ensures cells { IfOk result (λ map. map.cells ≡ cells_for bytes.now map.doc) }
+    ensures cells { IfOk result (λ map. map.cells ≡ None) }
     ensures refused { IfErr result (λ fault. IsOpenEnd fault bytes.now) }
 {
     let raw = match read(alloc, heap, bytes) {
@@ -57,10 +54,7 @@ fn open<'a, A: Allocator + Copy>(
         Err(OpenFault::OutOfMemory) => return Err(RunFault::OutOfMemory),
         Err(fault) => return Err(RunFault::Open(fault)),
     };
-    let segments = bytes.len() / BYTES_PER_SEGMENT;
-    let Ok(index) = GridIndex::for_count(alloc, raw.extent(), segments) else {
-        return Err(RunFault::OutOfMemory);
-    };
+    let index = TreeIndex::new(alloc, raw.extent());
     match Map::build(alloc, raw, index) {
         Ok(map) => Ok(map),
         Err(fault) => Err(not_built(fault)),
@@ -72,10 +66,10 @@ fn open<'a, A: Allocator + Copy>(
 fn answer_script<'a, A: Allocator + Copy, R: Source, W: Sink>(
     alloc: A,
     heap: Global,
-    editor: Editor<'a, GridIndex<A>, A>,
+    editor: Editor<'a, TreeIndex<A>, A>,
     script: &mut R,
     out: &mut W,
-) -> Result<(Summary, Editor<'a, GridIndex<A>, A>), Halt>
+) -> Result<(Summary, Editor<'a, TreeIndex<A>, A>), Halt>
     requires numbered { editor.map.next ≡ length (features editor.map.doc) }
     requires fresh { editor.past ≡ [] }
     requires reader { R.has_failed script.old ≡ false }
@@ -119,7 +113,7 @@ fn answer_script<'a, A: Allocator + Copy, R: Source, W: Sink>(
 /// Writes the text of a map, and sends it on.
 fn save<A: Allocator + Copy, V: Sink>(
     alloc: A,
-    map: &Map<'_, GridIndex<A>, A>,
+    map: &Map<'_, TreeIndex<A>, A>,
     saved: &mut V,
 ) -> Result<(), WriteFault>
     requires { V.has_failed saved.old ≡ false }

@@ -17,7 +17,7 @@ use crate::stop::{OutOfMemory, Stop};
 use arc_store::Map;
 use device_io::{Sink, put_all};
 use script_lines::Line;
-use segment_index::GridIndex;
+use segment_index::TreeIndex;
 use std::alloc::Allocator;
 use topo_writer::write;
 use undo_ring::Editor;
@@ -34,7 +34,7 @@ fn push_bad_line<A: Allocator + Copy>(text: &mut Vec<u8, A>) -> Result<bool, Out
 /// Sends the text of the map, with a line feed.
 fn send_document<A: Allocator + Copy, W: Sink>(
     alloc: A,
-    map: &Map<'_, GridIndex<A>, A>,
+    map: &Map<'_, TreeIndex<A>, A>,
     out: &mut W,
 ) -> Result<(), Stop>
     requires { W.has_failed out.old ≡ false }
@@ -55,7 +55,7 @@ fn send_document<A: Allocator + Copy, W: Sink>(
 /// where it says nothing that is taken. Answers whether it was refused.
 pub(crate) fn send_reply<A: Allocator + Copy, W: Sink>(
     alloc: A,
-    editor: &mut Editor<'_, GridIndex<A>, A>,
+    editor: &mut Editor<'_, TreeIndex<A>, A>,
     said: Option<Line>,
     out: &mut W,
 ) -> Result<bool, Stop>

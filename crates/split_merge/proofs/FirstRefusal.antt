@@ -1,7 +1,5 @@
 -- The first refusal of two groups of conditions, the one after the other.
 use Rattle.std.proofs.Common.{◌≡◌, ◌++◌, Bool, true, false, refl, sym, subst, List, [], ◌∷◌, Option, None, Some}
-use Rattle.std.specs.Prelude.{Result, IfErr}
-use Rattle.std.proofs.lemmas.Result.{IfErr-weaker}
 use Rattle.ring_machine.specs.Command.{Refusal}
 use Rattle.ring_machine.specs.Refusals.{◌unless◌, first_of}
 use Rattle.arc_store.specs.Faults.{Refuses}
@@ -27,12 +25,6 @@ pub memory : (fault : EditFault) (refusal : Option Refusal) → Refuses fault No
     → Refuses fault refusal
 memory edit.OutOfMemory refusal h = tt
 memory fault refusal h = absurd cc
-
--- so is a fault that is nothing else
-pub out_of_memory : {T : Type 0} (r : Result T EditFault) (refusal : Option Refusal)
-    → IfErr r (λ fault. fault ≡ edit.OutOfMemory) → IfErr r (λ fault. Refuses fault refusal)
-out_of_memory r refusal h =
-    IfErr-weaker r (λ fault. fault ≡ edit.OutOfMemory) (λ fault. Refuses fault refusal) (λ fault e. subst (λ f. Refuses f refusal) (sym e) tt) h
 
 -- a fault that the first group gives is one of both
 pub refuses_first : (fault : EditFault) (xs ys : List (Option Refusal)) → Refuses fault (first_of xs)

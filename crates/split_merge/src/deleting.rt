@@ -1,7 +1,7 @@
-ghost use Rattle.std.specs.Prelude.{◌≡◌, None, OnOk, OnErr, IfErr};
+ghost use Rattle.std.specs.Prelude.{◌≡◌, OnOk};
 ghost use Rattle.ring_machine.specs.Join.{take_out};
 ghost use Rattle.ring_machine.specs.Refusals.{first_of, feature_refusals};
-ghost use Rattle.arc_store.specs.Faults.{Refuses};
+ghost use Rattle.arc_store.specs.Outcomes.{Edits, edit_begun};
 ghost use Rattle.arc_store.specs.Recorded.{IsRecorded};
 
 use arc_store::{EditFault, Map};
@@ -15,17 +15,11 @@ pub fn delete<'a, I: SegIndex, A: Allocator + Copy>(
     map: &mut Map<'a, I, A>,
     f: u32,
 ) -> Result<(), EditFault>
-    ensures accepted { OnOk result (first_of (feature_refusals map.old.doc f) ≡ None) }
-    ensures deleted { OnOk result (map.new.doc ≡ take_out map.old.doc f) }
+    ensures edits { Edits (edit_begun map.old) map.new result
+        (first_of (feature_refusals map.old.doc f))
+        (record map.old { doc = take_out map.old.doc f; last = map.new.last }) }
     ensures recorded { OnOk result (IsRecorded map.old map.new) }
-    ensures refused { IfErr result
-        (λ fault. Refuses fault (first_of (feature_refusals map.old.doc f))) }
-    ensures unchanged { OnErr result (map.new.doc ≡ map.old.doc) }
-    ensures none { OnErr result (map.new.last ≡ None) }
-    ensures next { map.new.next ≡ map.old.next }
-    ensures places { map.new.places ≡ map.old.places }
     ensures untested { map.new.tests ≡ 0 }
-    ensures cells { map.new.cells ≡ map.old.cells }
 {
     map.begin_edit();
     if !map.has_feature(f) {

@@ -1,10 +1,11 @@
-ghost use Rattle.std.specs.Prelude.{◌≡◌, ◌≤◌, ◌+ℤ◌, [], ◌∷◌, Some, None, OnOk, OnErr, IfErr};
+ghost use Rattle.std.specs.Prelude.{◌≡◌, ◌≤◌, ◌+ℤ◌, [], ◌∷◌, Some, None, OnOk, IfErr};
 ghost use Rattle.ring_machine.specs.Join.{join};
 ghost use Rattle.ring_machine.specs.Parts.{feature, size};
 ghost use Rattle.ring_machine.specs.Query.{area_of};
 ghost use Rattle.ring_machine.specs.Refusals.{first_of, merge_refusals, feature_at};
 ghost use Rattle.edit_records.specs.Records as made;
 ghost use Rattle.arc_store.specs.Faults.{Refuses};
+ghost use Rattle.arc_store.specs.Outcomes.{Edits, edit_begun};
 ghost use Rattle.arc_store.specs.Recorded.{IsRecorded};
 ghost use Rattle.split_merge.specs.Conditions.{pair_refusals, outline_refusals};
 
@@ -58,18 +59,13 @@ fn merge_now<'a, I: SegIndex, A: Allocator + Copy>(
     g: u32,
 ) -> Result<(), EditFault>
     requires { size map.old.doc ≤ 4000000 }
-    ensures accepted { OnOk result (first_of (merge_refusals map.old.doc f g) ≡ None) }
-    ensures merged { OnOk result (map.new.doc ≡ join map.old.doc f (feature_at map.old.doc g)) }
-    ensures recorded { OnOk result (map.new.last ≡ Some (made.Exchanged
-        ((f, feature map.old.doc f) ∷ (g, feature map.old.doc g) ∷ []))) }
-    ensures refused { IfErr result
-        (λ fault. Refuses fault (first_of (merge_refusals map.old.doc f g))) }
-    ensures unchanged { OnErr result (map.new.doc ≡ map.old.doc) }
-    ensures still { OnErr result (map.new.last ≡ map.old.last) }
-    ensures next { map.new.next ≡ map.old.next }
-    ensures places { map.new.places ≡ map.old.places }
+    ensures edits { Edits map.old map.new result (first_of (merge_refusals map.old.doc f g))
+        (record map.old {
+          doc = join map.old.doc f (feature_at map.old.doc g);
+          last = Some (made.Exchanged
+              ((f, feature map.old.doc f) ∷ (g, feature map.old.doc g) ∷ []));
+        }) }
     ensures untested { map.new.tests ≡ map.old.tests }
-    ensures cells { map.new.cells ≡ map.old.cells }
 {
     if let Err(fault) = check_pair(map, f, g) {
         return Err(fault);
@@ -88,20 +84,17 @@ pub fn merge<'a, I: SegIndex, A: Allocator + Copy>(
     f: u32,
     g: u32,
 ) -> Result<(), EditFault>
-    ensures accepted { OnOk result (first_of (merge_refusals map.old.doc f g) ≡ None) }
-    ensures merged { OnOk result (map.new.doc ≡ join map.old.doc f (feature_at map.old.doc g)) }
+    ensures edits { Edits (edit_begun map.old) map.new result
+        (first_of (merge_refusals map.old.doc f g))
+        (record map.old {
+          doc = join map.old.doc f (feature_at map.old.doc g);
+          last = map.new.last;
+        }) }
     ensures areas { OnOk result
         (area_of (feature_at map.new.doc f)
         ≡ area_of (feature_at map.old.doc f) +ℤ area_of (feature_at map.old.doc g)) }
     ensures recorded { OnOk result (IsRecorded map.old map.new) }
-    ensures refused { IfErr result
-        (λ fault. Refuses fault (first_of (merge_refusals map.old.doc f g))) }
-    ensures unchanged { OnErr result (map.new.doc ≡ map.old.doc) }
-    ensures none { OnErr result (map.new.last ≡ None) }
-    ensures next { map.new.next ≡ map.old.next }
-    ensures places { map.new.places ≡ map.old.places }
     ensures untested { map.new.tests ≡ 0 }
-    ensures cells { map.new.cells ≡ map.old.cells }
 {
     map.begin_edit();
     let _ = map.frame(); // it tells how many positions a map has at most

@@ -1,7 +1,7 @@
-ghost use Rattle.std.specs.Prelude.{◌≡◌, None, OnOk, OnErr, IfErr};
+ghost use Rattle.std.specs.Prelude.{◌≡◌, OnOk};
 ghost use Rattle.ring_machine.specs.Machine.{renamed};
 ghost use Rattle.ring_machine.specs.Refusals.{first_of, feature_refusals};
-ghost use Rattle.arc_store.specs.Faults.{Refuses};
+ghost use Rattle.arc_store.specs.Outcomes.{Edits, edit_begun};
 ghost use Rattle.arc_store.specs.Recorded.{IsRecorded};
 ghost use Rattle.map_text.specs.Strings.{string_text};
 
@@ -16,17 +16,11 @@ pub fn rename<'a, I: SegIndex, A: Allocator + Copy>(
     f: u32,
     id: IdText<A>,
 ) -> Result<(), EditFault>
-    ensures accepted { OnOk result (first_of (feature_refusals map.old.doc f) ≡ None) }
-    ensures renamed { OnOk result (map.new.doc ≡ renamed map.old.doc f (string_text id)) }
+    ensures edits { Edits (edit_begun map.old) map.new result
+        (first_of (feature_refusals map.old.doc f))
+        (record map.old { doc = renamed map.old.doc f (string_text id); last = map.new.last }) }
     ensures recorded { OnOk result (IsRecorded map.old map.new) }
-    ensures refused { IfErr result
-        (λ fault. Refuses fault (first_of (feature_refusals map.old.doc f))) }
-    ensures unchanged { OnErr result (map.new.doc ≡ map.old.doc) }
-    ensures none { OnErr result (map.new.last ≡ None) }
-    ensures next { map.new.next ≡ map.old.next }
-    ensures places { map.new.places ≡ map.old.places }
     ensures untested { map.new.tests ≡ 0 }
-    ensures cells { map.new.cells ≡ map.old.cells }
 {
     map.begin_edit();
     if !map.has_feature(f) {

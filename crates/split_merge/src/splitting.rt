@@ -1,15 +1,13 @@
-ghost use Rattle.std.specs.Prelude.{◌≡◌, ◌≤◌, ◌+◌, ◌+ℤ◌, length, [], ◌∷◌, Some, None, OnOk, OnErr, IfOk, IfErr, IsTrue};
+ghost use Rattle.std.specs.Prelude.{◌≡◌, ◌≤◌, ◌+◌, ◌+ℤ◌, length, None, OnOk, IfOk, IfErr, IsTrue};
 ghost use Rattle.std.specs.List.{list_any};
 ghost use Rattle.ring_machine.specs.Cut.{path_of, cut, is_cut_by};
-ghost use Rattle.ring_machine.specs.Parts.{feature};
 ghost use Rattle.ring_machine.specs.Query.{area_of};
 ghost use Rattle.ring_machine.specs.Refusals.{first_of, split_refusals, feature_at};
-ghost use Rattle.edit_records.specs.Places.{grown};
-ghost use Rattle.edit_records.specs.Records as made;
 ghost use Rattle.ring_parts.specs.Seen.{path_seen};
 ghost use Rattle.segment_index.specs.Times.{times_by};
 ghost use Rattle.local_planarity.specs.Tests.{most_for};
 ghost use Rattle.arc_store.specs.Faults.{Refuses};
+ghost use Rattle.arc_store.specs.Outcomes.{Edits, edit_begun, split_map};
 ghost use Rattle.arc_store.specs.Recorded.{IsRecorded};
 ghost use Rattle.split_merge.specs.Conditions.{place_refusals, early_refusals};
 ghost use Rattle.split_merge.specs.Untested.{is_early};
@@ -90,25 +88,15 @@ fn split_now<'a, I: SegIndex, A: Allocator + Copy>(
 ) -> Result<u32, EditFault>
     requires long { 2 ≤ length positions.now }
     requires short { length positions.now ≤ 256 }
-    ensures accepted { OnOk result
+    ensures edits { Edits map.old map.new result
         (first_of (split_refusals map.old.doc map.old.next f (string_text id.now)
-        (path_of positions.now)) ≡ None) }
+        (path_of positions.now)))
+        (split_map map.old f (string_text id.now) (path_of positions.now)) }
     ensures made { IfOk result (λ made. made ≡ map.old.next) }
-    ensures split { OnOk result
-        (map.new.doc ≡ cut map.old.doc f (string_text id.now) (path_of positions.now) map.old.next) }
-    ensures next { OnOk result (map.new.next ≡ map.old.next + 1) }
-    ensures places { OnOk result (map.new.places ≡ grown f map.old.next map.old.places) }
-    ensures recorded { OnOk result (map.new.last ≡ Some (made.Exchanged
-        ((f, feature map.old.doc f) ∷ (map.old.next, None) ∷ []))) }
-    ensures refused { IfErr result (λ fault. Refuses fault
-        (first_of (split_refusals map.old.doc map.old.next f (string_text id.now)
-        (path_of positions.now)))) }
-    ensures unchanged { OnErr result (map.new ≡ record map.old { tests = map.new.tests }) }
     ensures untested { IfErr result
         (λ fault. IsTrue (is_early fault) → map.new.tests ≡ map.old.tests) }
     ensures few { map.new.tests ≤ map.old.tests + most_for (times_by map.old.cells) map.old.doc
         (cut map.old.doc f (string_text id.now) (path_of positions.now) map.old.next) }
-    ensures cells { map.new.cells ≡ map.old.cells }
 {
     if let Err(fault) = check_split(map, f, positions) {
         return Err(fault);
@@ -130,28 +118,17 @@ pub fn split<'a, I: SegIndex, A: Allocator + Copy>(
 ) -> Result<u32, EditFault>
     requires long { 2 ≤ length path }
     requires short { length path ≤ 256 }
-    ensures accepted { OnOk result
-        (first_of (split_refusals map.old.doc map.old.next f (string_text id) (path_of path))
-        ≡ None) }
+    ensures edits { Edits (edit_begun map.old) map.new result
+        (first_of (split_refusals map.old.doc map.old.next f (string_text id) (path_of path)))
+        (record (split_map map.old f (string_text id) (path_of path)) { last = map.new.last }) }
     ensures made { IfOk result (λ made. made ≡ map.old.next) }
-    ensures split { OnOk result
-        (map.new.doc ≡ cut map.old.doc f (string_text id) (path_of path) map.old.next) }
-    ensures next { OnOk result (map.new.next ≡ map.old.next + 1) }
     ensures recorded { OnOk result (IsRecorded map.old map.new) }
-    ensures places { OnOk result (map.new.places ≡ grown f map.old.next map.old.places) }
     ensures areas { IfOk result (λ made.
         area_of (feature_at map.new.doc f) +ℤ area_of (feature_at map.new.doc made)
         ≡ area_of (feature_at map.old.doc f)) }
-    ensures refused { IfErr result (λ fault. Refuses fault
-        (first_of (split_refusals map.old.doc map.old.next f (string_text id) (path_of path)))) }
-    ensures unchanged { OnErr result (map.new.doc ≡ map.old.doc) }
-    ensures still { OnErr result (map.new.next ≡ map.old.next) }
-    ensures still_placed { OnErr result (map.new.places ≡ map.old.places) }
-    ensures none { OnErr result (map.new.last ≡ None) }
     ensures untested { IfErr result (λ fault. IsTrue (is_early fault) → map.new.tests ≡ 0) }
     ensures few { map.new.tests ≤ most_for (times_by map.old.cells) map.old.doc
         (cut map.old.doc f (string_text id) (path_of path) map.old.next) }
-    ensures cells { map.new.cells ≡ map.old.cells }
 {
     map.begin_edit();
     let _ = map.frame(); // it tells that the document is well formed

@@ -7,7 +7,7 @@ use Rattle.grid_geometry.specs.Position.{Position}
 use Rattle.ring_machine.specs.Document.{Document}
 use Rattle.ring_machine.specs.Parts.{has_feature}
 use Rattle.ring_machine.specs.Vertices.{put, ins, del, is_junction}
-use Rattle.ring_machine.specs.Cut.{path_of, cut}
+use Rattle.ring_machine.specs.Cut.{path_of}
 use Rattle.ring_machine.specs.Join.{join, take_out}
 use Rattle.ring_machine.specs.Thin.{Thinning, IsThinnedPart, is_flat, without, thin_at, thinned}
 use Rattle.ring_machine.specs.Query.{area_of, inside_at, border_at, neighbours_of, vertices}
@@ -17,8 +17,8 @@ use Rattle.ring_machine.specs.Command as machine
 use Rattle.ring_machine.specs.Machine.{State, step, edit, changed, query, renamed, split_state}
 use Rattle.ring_machine.proofs.Steps.{step-move, step-insert, step-remove, step-thin, step-split, step-merge, step-rename, step-delete}
 use Rattle.map_text.specs.Strings.{string_text}
-use Rattle.edit_records.specs.Places.{grown}
 use Rattle.edit_records.specs.Records.{Record, Takes}
+use Rattle.arc_store.specs.Outcomes.{Edits, IsSameMap, edit_begun, split_map}
 use Rattle.arc_store.specs.Recorded.{IsRecorded}
 use Rattle.arc_store.specs.State.{State as MapState}
 use Rattle.arc_store.specs.Faults.{Refuses}
@@ -27,7 +27,7 @@ use Rattle.arc_store.specs.declared.fault.EditFault.TheVariants.{NoFeature, NoVe
 use Rattle.point_queries.specs.declared.numbers.At.{At as AtFound}
 use Rattle.edit_vertex.specs.Kept.{IsThinRecorded}
 use Rattle.undo_ring.specs.Answers.{answer_of}
-use Rattle.undo_ring.specs.Answered.{with_past, past_after, is_change, IsSameMap, StaysPlaced, IsGrown, Keeps, AcceptsOn, RefusesOn, StopsOn, FailsOn, AnswersMap, done_of, made_of}
+use Rattle.undo_ring.specs.Answered.{with_past, past_after, is_change, StaysPlaced, IsGrown, Keeps, AcceptsOn, RefusesOn, StopsOn, FailsOn, AnswersMap, done_of, made_of}
 use Rattle.undo_ring.specs.declared.answer.Answer.{Answer}
 use Rattle.undo_ring.specs.declared.answer.Answer.TheVariants as told
 
@@ -99,78 +99,85 @@ refused old new c rs a after steps fault f same =
 
 -- ---- an edit
 
-module _ (A : Type 0) (old new : MapState) (taken : old.last ≡ None) (placed : StaysPlaced old new) (cells : new.cells ≡ old.cells) where
-  edited : (c : Command) (rs : List (Option Refusal)) (e : Document) → IsEdit old c rs machine.Done (λ depth st. changed depth st e)
-      → (outcome : Result (Unit {0}) EditFault) → OnOk outcome (first_of rs ≡ None) → OnOk outcome (new.doc ≡ e) → IfErr outcome (λ fault. Refuses fault (first_of rs))
-      → OnErr outcome (new.doc ≡ old.doc) → OnOk outcome (IsRecorded old new) → OnErr outcome (new.last ≡ None) → AnswersMap {A = A} old new c (done_of outcome)
-  edited c rs e steps (Ok done) none is refuses same recorded unmade = record {
-    steps = λ depth past.
-        ap₂ (λ d n. let st : State = record { doc = d; next = n; past = take depth (old.doc ∷ past) } in (machine.Done, st)) is placed.next
-        ∙ sym (steps depth past ∙ edit-none (with_past old past) (changed depth (with_past old past) e) rs machine.Done none);
-    cells = cells;
-    kept = (recorded, inl placed);
-  }
-  edited c rs e steps (Err fault) none is refuses same recorded unmade =
-      refused old new c rs machine.Done (λ depth st. changed depth st e) steps fault refuses (same_map old new same placed cells (unmade ∙ sym taken))
+module _ (A : Type 0) (old new : MapState) (taken : old.last ≡ None) where
+  -- nothing was to be taken back before
+  as_it_was : IsSameMap (edit_begun old) new → IsSameMap old new
+  as_it_was same = same ∙ ap (λ o. record old { tests = new.tests; last = o }) (sym taken)
 
-  pub move_answered : (p q : Position) (outcome : Result (Unit {0}) EditFault) → OnOk outcome (first_of (move_refusals old.doc p q) ≡ None) → OnOk outcome (new.doc ≡ put old.doc p q) → IfErr outcome (λ fault. Refuses fault (first_of (move_refusals old.doc p q)))
-      → OnErr outcome (new.doc ≡ old.doc) → OnOk outcome (IsRecorded old new) → OnErr outcome (new.last ≡ None) → AnswersMap {A = A} old new (Move p q) (done_of outcome)
+  -- the document is another
+  abbrev IsMade : Result (Unit {0}) EditFault → List (Option Refusal) → Document → Type 0
+  IsMade outcome rs e =
+      Edits (edit_begun old) new outcome (first_of rs) (record old { doc = e; last = new.last })
+
+  edited : (c : Command) (rs : List (Option Refusal)) (e : Document) → IsEdit old c rs machine.Done (λ depth st. changed depth st e)
+      → (outcome : Result (Unit {0}) EditFault) → IsMade outcome rs e → OnOk outcome (IsRecorded old new) → AnswersMap {A = A} old new c (done_of outcome)
+  edited c rs e steps (Ok done) edits recorded = record {
+    steps = λ depth past.
+        ap (λ (m : MapState). (machine.Done, with_past m (take depth (old.doc ∷ past)))) edits.made
+        ∙ sym (steps depth past ∙ edit-none (with_past old past) (changed depth (with_past old past) e) rs machine.Done edits.accepted);
+    cells = ap (λ (m : MapState). m.cells) edits.made;
+    kept = (recorded, inl (record { next = ap (λ (m : MapState). m.next) edits.made; places = ap (λ (m : MapState). m.places) edits.made }));
+  }
+  edited c rs e steps (Err fault) edits recorded =
+      refused old new c rs machine.Done (λ depth st. changed depth st e) steps fault edits.refused (as_it_was edits.unchanged)
+
+  pub move_answered : (p q : Position) (outcome : Result (Unit {0}) EditFault) → IsMade outcome (move_refusals old.doc p q) (put old.doc p q)
+      → OnOk outcome (IsRecorded old new) → AnswersMap {A = A} old new (Move p q) (done_of outcome)
   move_answered p q = edited (Move p q) (move_refusals old.doc p q) (put old.doc p q) (λ depth past. step-move depth (with_past old past) p q)
 
-  pub insert_answered : (a b q : Position) (outcome : Result (Unit {0}) EditFault) → OnOk outcome (first_of (insert_refusals old.doc a b q) ≡ None) → OnOk outcome (new.doc ≡ ins old.doc a b q) → IfErr outcome (λ fault. Refuses fault (first_of (insert_refusals old.doc a b q)))
-      → OnErr outcome (new.doc ≡ old.doc) → OnOk outcome (IsRecorded old new) → OnErr outcome (new.last ≡ None) → AnswersMap {A = A} old new (Insert a b q) (done_of outcome)
+  pub insert_answered : (a b q : Position) (outcome : Result (Unit {0}) EditFault) → IsMade outcome (insert_refusals old.doc a b q) (ins old.doc a b q)
+      → OnOk outcome (IsRecorded old new) → AnswersMap {A = A} old new (Insert a b q) (done_of outcome)
   insert_answered a b q = edited (Insert a b q) (insert_refusals old.doc a b q) (ins old.doc a b q) (λ depth past. step-insert depth (with_past old past) a b q)
 
-  pub remove_answered : (p : Position) (outcome : Result (Unit {0}) EditFault) → OnOk outcome (first_of (remove_refusals old.doc p) ≡ None) → OnOk outcome (new.doc ≡ del old.doc p) → IfErr outcome (λ fault. Refuses fault (first_of (remove_refusals old.doc p)))
-      → OnErr outcome (new.doc ≡ old.doc) → OnOk outcome (IsRecorded old new) → OnErr outcome (new.last ≡ None) → AnswersMap {A = A} old new (Remove p) (done_of outcome)
+  pub remove_answered : (p : Position) (outcome : Result (Unit {0}) EditFault) → IsMade outcome (remove_refusals old.doc p) (del old.doc p)
+      → OnOk outcome (IsRecorded old new) → AnswersMap {A = A} old new (Remove p) (done_of outcome)
   remove_answered p = edited (Remove p) (remove_refusals old.doc p) (del old.doc p) (λ depth past. step-remove depth (with_past old past) p)
 
-  pub merge_answered : (f g : ℕ) (outcome : Result (Unit {0}) EditFault) → OnOk outcome (first_of (merge_refusals old.doc f g) ≡ None) → OnOk outcome (new.doc ≡ join old.doc f (feature_at old.doc g)) → IfErr outcome (λ fault. Refuses fault (first_of (merge_refusals old.doc f g)))
-      → OnErr outcome (new.doc ≡ old.doc) → OnOk outcome (IsRecorded old new) → OnErr outcome (new.last ≡ None) → AnswersMap {A = A} old new (Merge f g) (done_of outcome)
+  pub merge_answered : (f g : ℕ) (outcome : Result (Unit {0}) EditFault) → IsMade outcome (merge_refusals old.doc f g) (join old.doc f (feature_at old.doc g))
+      → OnOk outcome (IsRecorded old new) → AnswersMap {A = A} old new (Merge f g) (done_of outcome)
   merge_answered f g = edited (Merge f g) (merge_refusals old.doc f g) (join old.doc f (feature_at old.doc g)) (λ depth past. step-merge depth (with_past old past) f g)
 
-  pub delete_answered : (f : ℕ) (outcome : Result (Unit {0}) EditFault) → OnOk outcome (first_of (feature_refusals old.doc f) ≡ None) → OnOk outcome (new.doc ≡ take_out old.doc f) → IfErr outcome (λ fault. Refuses fault (first_of (feature_refusals old.doc f)))
-      → OnErr outcome (new.doc ≡ old.doc) → OnOk outcome (IsRecorded old new) → OnErr outcome (new.last ≡ None) → AnswersMap {A = A} old new (Delete f) (done_of outcome)
+  pub delete_answered : (f : ℕ) (outcome : Result (Unit {0}) EditFault) → IsMade outcome (feature_refusals old.doc f) (take_out old.doc f)
+      → OnOk outcome (IsRecorded old new) → AnswersMap {A = A} old new (Delete f) (done_of outcome)
   delete_answered f = edited (Delete f) (feature_refusals old.doc f) (take_out old.doc f) (λ depth past. step-delete depth (with_past old past) f)
 
   -- of an id as the call has it
-  pub rename_answered : (f : ℕ) (name copy : List ℕ) → copy ≡ name → (outcome : Result (Unit {0}) EditFault) → OnOk outcome (first_of (feature_refusals old.doc f) ≡ None)
-      → OnOk outcome (new.doc ≡ renamed old.doc f (string_text copy)) → IfErr outcome (λ fault. Refuses fault (first_of (feature_refusals old.doc f)))
-      → OnErr outcome (new.doc ≡ old.doc) → OnOk outcome (IsRecorded old new) → OnErr outcome (new.last ≡ None) → AnswersMap {A = A} old new (Rename f (string_text name)) (done_of outcome)
-  rename_answered f name copy e outcome none is refuses same recorded unmade =
+  pub rename_answered : (f : ℕ) (name copy : List ℕ) → copy ≡ name → (outcome : Result (Unit {0}) EditFault)
+      → IsMade outcome (feature_refusals old.doc f) (renamed old.doc f (string_text copy))
+      → OnOk outcome (IsRecorded old new) → AnswersMap {A = A} old new (Rename f (string_text name)) (done_of outcome)
+  rename_answered f name copy e outcome edits recorded =
       subst (λ z. AnswersMap {A = A} old new (Rename f (string_text z)) (done_of outcome)) e
-      (edited (Rename f (string_text copy)) (feature_refusals old.doc f) (renamed old.doc f (string_text copy)) (λ depth past. step-rename depth (with_past old past) f (string_text copy)) outcome none is refuses same recorded unmade)
+      (edited (Rename f (string_text copy)) (feature_refusals old.doc f) (renamed old.doc f (string_text copy)) (λ depth past. step-rename depth (with_past old past) f (string_text copy)) outcome edits recorded)
 
--- ---- a split
+  -- ---- a split
 
-module _ (A : Type 0) (old new : MapState) (taken : old.last ≡ None) (cells : new.cells ≡ old.cells) (f : ℕ) (id : List ℕ) (path : List Position) where
-  split_by : (outcome : Result ℕ EditFault) → OnOk outcome (first_of (split_refusals old.doc old.next f id (path_of path)) ≡ None) → IfOk outcome (λ made. made ≡ old.next)
-      → OnOk outcome (new.doc ≡ cut old.doc f id (path_of path) old.next) → OnOk outcome (new.next ≡ old.next + 1) → IfErr outcome (λ fault. Refuses fault (first_of (split_refusals old.doc old.next f id (path_of path))))
-      → OnErr outcome (new.doc ≡ old.doc) → OnErr outcome (new.next ≡ old.next) → OnOk outcome (new.places ≡ grown f old.next old.places) → OnErr outcome (new.places ≡ old.places)
-      → OnOk outcome (IsRecorded old new) → OnErr outcome (new.last ≡ None) → AnswersMap {A = A} old new (Split f id path) (made_of outcome)
-  split_by (Ok made) none number is next refuses same still places stay recorded unmade = record {
+  -- the feature is cut, and the number is the next one
+  abbrev IsCut : Result ℕ EditFault → ℕ → List ℕ → List Position → Type 0
+  IsCut outcome f id path =
+      Edits (edit_begun old) new outcome (first_of (split_refusals old.doc old.next f id (path_of path)))
+      (record (split_map old f id (path_of path)) { last = new.last })
+
+  split_by : (f : ℕ) (id : List ℕ) (path : List Position) (outcome : Result ℕ EditFault) → IsCut outcome f id path
+      → IfOk outcome (λ made. made ≡ old.next) → OnOk outcome (IsRecorded old new) → AnswersMap {A = A} old new (Split f id path) (made_of outcome)
+  split_by f id path (Ok made) edits number recorded = record {
     steps = λ depth past.
-        ap (λ k. (machine.Made k, with_past new (take depth (old.doc ∷ past)))) number
-        ∙ ap₂ (λ d n. let st : State = record { doc = d; next = n; past = take depth (old.doc ∷ past) } in (machine.Made old.next, st)) is next
+        ap₂ (λ (k : ℕ) (m : MapState). (machine.Made k, with_past m (take depth (old.doc ∷ past)))) number edits.made
         ∙ sym (step-split depth (with_past old past) f id path
-        ∙ edit-none (with_past old past) (split_state depth (with_past old past) f id path) (split_refusals old.doc old.next f id (path_of path)) (machine.Made old.next) none);
-    cells = cells;
-    kept = (recorded, inr (record { after = f; next = next; places = places }));
+        ∙ edit-none (with_past old past) (split_state depth (with_past old past) f id path) (split_refusals old.doc old.next f id (path_of path)) (machine.Made old.next) edits.accepted);
+    cells = ap (λ (m : MapState). m.cells) edits.made;
+    kept = (recorded, inr (record { after = f; next = ap (λ (m : MapState). m.next) edits.made; places = ap (λ (m : MapState). m.places) edits.made }));
   }
-  split_by (Err fault) none number is next refuses same still places stay recorded unmade =
+  split_by f id path (Err fault) edits number recorded =
       refused old new (Split f id path) (split_refusals old.doc old.next f id (path_of path)) (machine.Made old.next) (λ depth st. split_state depth st f id path)
-      (λ depth past. step-split depth (with_past old past) f id path) fault refuses (same_map old new same (record { next = still; places = stay }) cells (unmade ∙ sym taken))
+      (λ depth past. step-split depth (with_past old past) f id path) fault edits.refused (as_it_was edits.unchanged)
 
--- of an id and a path as the call has them
-pub split_answered : (A : Type 0) (old new : MapState) → old.last ≡ None → new.cells ≡ old.cells → (f : ℕ) (name : List ℕ) (path : List Position) (copy : List ℕ) (copied : List Position) → copy ≡ name → copied ≡ path
-    → (outcome : Result ℕ EditFault) → OnOk outcome (first_of (split_refusals old.doc old.next f (string_text copy) (path_of copied)) ≡ None) → IfOk outcome (λ made. made ≡ old.next)
-    → OnOk outcome (new.doc ≡ cut old.doc f (string_text copy) (path_of copied) old.next) → OnOk outcome (new.next ≡ old.next + 1)
-    → IfErr outcome (λ fault. Refuses fault (first_of (split_refusals old.doc old.next f (string_text copy) (path_of copied))))
-    → OnErr outcome (new.doc ≡ old.doc) → OnErr outcome (new.next ≡ old.next) → OnOk outcome (new.places ≡ grown f old.next old.places) → OnErr outcome (new.places ≡ old.places)
-    → OnOk outcome (IsRecorded old new) → OnErr outcome (new.last ≡ None) → AnswersMap {A = A} old new (Split f (string_text name) path) (made_of outcome)
-split_answered A old new taken cells f name path copy copied e h outcome none number is next refuses same still places stay recorded unmade =
-    subst (λ z. AnswersMap {A = A} old new (Split f (string_text name) z) (made_of outcome)) h
-    (subst (λ z. AnswersMap {A = A} old new (Split f (string_text z) copied) (made_of outcome)) e (split_by A old new taken cells f (string_text copy) copied outcome none number is next refuses same still places stay recorded unmade))
+  -- of an id and a path as the call has them
+  pub split_answered : (f : ℕ) (name : List ℕ) (path : List Position) (copy : List ℕ) (copied : List Position) → copy ≡ name → copied ≡ path
+      → (outcome : Result ℕ EditFault) → IsCut outcome f (string_text copy) copied → IfOk outcome (λ made. made ≡ old.next)
+      → OnOk outcome (IsRecorded old new) → AnswersMap {A = A} old new (Split f (string_text name) path) (made_of outcome)
+  split_answered f name path copy copied e h outcome edits number recorded =
+      subst (λ z. AnswersMap {A = A} old new (Split f (string_text name) z) (made_of outcome)) h
+      (subst (λ z. AnswersMap {A = A} old new (Split f (string_text z) copied) (made_of outcome)) e (split_by f (string_text copy) copied outcome edits number recorded))
 
 -- ---- a pass of thinning
 

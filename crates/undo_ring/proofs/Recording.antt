@@ -19,7 +19,8 @@ use Rattle.arc_store.specs.Recorded.{IsRecorded}
 use Rattle.arc_store.specs.State.{State as MapState}
 use Rattle.arc_store.specs.declared.fault.EditFault.{EditFault}
 use Rattle.undo_ring.specs.Answers.{answer_of, refusal_of}
-use Rattle.undo_ring.specs.Answered.{with_past, is_change, past_after, IsSameMap, StaysPlaced, IsGrown, Keeps, AcceptsOn, RefusesOn, StopsOn, FailsOn, AnswersMap}
+use Rattle.arc_store.specs.Outcomes.{IsSameMap}
+use Rattle.undo_ring.specs.Answered.{with_past, is_change, past_after, StaysPlaced, IsGrown, Keeps, AcceptsOn, RefusesOn, StopsOn, FailsOn, AnswersMap}
 use Rattle.undo_ring.specs.Edited.{Edited, machine_of, IsSame, Applies, Refuses, LacksMemory, IsCutShort, Fails, IsUndone}
 use Rattle.undo_ring.specs.Trails.{IsTrail, kept, edited_by}
 use Rattle.undo_ring.specs.declared.answer.Answer.{Answer}

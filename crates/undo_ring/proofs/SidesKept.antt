@@ -9,7 +9,8 @@ use Rattle.arc_store.specs.State.{State as MapState}
 use Rattle.arc_store.specs.declared.fault.EditFault.{EditFault}
 use Rattle.edit_vertex.proofs.SidesKept.{same_keeps, part_keeps}
 use Rattle.undo_ring.specs.Answers.{refusal_of}
-use Rattle.undo_ring.specs.Answered.{with_past, IsSameMap, StopsOn, RefusesOn, FailsOn, AnswersMap}
+use Rattle.arc_store.specs.Outcomes.{IsSameMap}
+use Rattle.undo_ring.specs.Answered.{with_past, StopsOn, RefusesOn, FailsOn, AnswersMap}
 use Rattle.undo_ring.specs.Edited.{EditsVertices}
 use Rattle.undo_ring.specs.declared.answer.Answer.{Answer}
 use Rattle.undo_ring.proofs.StepSides.{step_keeps}

@@ -5,6 +5,7 @@ use Rattle.ring_machine.specs.Command.{Command, Thin, Refusal, Refused}
 use Rattle.ring_machine.specs.Machine.{State, step}
 use Rattle.ring_machine.specs.Thin.{IsThinnedPart}
 use Rattle.edit_records.specs.Places.{grown}
+use Rattle.arc_store.specs.Outcomes.{IsSameMap}
 use Rattle.arc_store.specs.Recorded.{IsRecorded}
 use Rattle.arc_store.specs.State.{State as MapState}
 use Rattle.arc_store.specs.declared.fault.EditFault.{EditFault}
@@ -29,9 +30,6 @@ is_change (told.Neighbours ns) = false
 -- the history after this answer, where the document was d
 abbrev pub past_after : {A : Type 0} → Answer A → ℕ → Document → List Document → List Document
 past_after answer depth d past = if is_change answer then take depth (d ∷ past) else past
-
-abbrev pub IsSameMap : MapState → MapState → Type 0
-IsSameMap old new = new ≡ record old { tests = new.tests }
 
 -- the next number stays, and so do the places of all numbers
 pub record StaysPlaced (old new : MapState) : Type 0 where

@@ -63,7 +63,7 @@ pub fn read_parting<A: Allocator + Copy>(
 
 /// Puts a vertex at q between two that are joined, in the tables of vertices and of borders. Where
 /// that fails for want of memory both are as they were.
-pub fn put_between<A: Allocator + Copy>(
+fn put_between<A: Allocator + Copy>(
     vertices: &mut Vertices<A>,
     borders: &mut Borders<A>,
     a: VertexKey,

@@ -1,67 +1,42 @@
-use Rattle.std.proofs.Common.{◌≡◌, ◌≤◌, ◌+◌, true, None, ap, ◌∙◌, subst, arith}
-use Rattle.std.specs.Prelude.{OnOk, OnErr, IfErr}
+use Rattle.std.proofs.Common.{◌≡◌, ◌≤◌, ◌+◌, true, Some, refl, ap, subst, arith}
+use Rattle.std.specs.Prelude.{OnOk, IfErr}
 use Rattle.ring_machine.specs.Refusals.{first_of, move_refusals}
 use Rattle.ring_machine.specs.Sides.{KeepsSides}
 use Rattle.ring_machine.specs.Vertices.{put}
 use Rattle.ring_machine.proofs.Accepted.{moved}
 use Rattle.segment_index.specs.Times.{times_by}
 use Rattle.local_planarity.specs.Tests.{most_for_move}
-use Rattle.arc_store.specs.Faults.{Refuses}
+use Rattle.arc_store.specs.Outcomes.{Edits}
+use Rattle.arc_store.specs.Recorded.{IsRecorded}
 use Rattle.arc_store.specs.State.{State}
+use Rattle.arc_store.proofs.Outcomes.{holds_made, keeps_last}
 use Rattle.edit_vertex.specs.Untested.{is_early}
 use Rattle.edit_records.specs.Records.{Moved}
 use Rattle.edit_records.proofs.Recorded.{move-recorded}
-use Rattle.edit_vertex.proofs.Recording.{recorded_by}
-use Rattle.edit_vertex.proofs.SidesKept.{kept_by}
 use Rattle.edit_vertex.proofs.moved.move_vertex.Goals as goal
 
 -- the beginning of an edit changes the count of tests, and forgets what took the last one back
-pub returns-clause-accepted : goal.returns-clause-accepted
-returns-clause-accepted g c =
-    subst (λ d. OnOk c.move_now.result (first_of (move_refusals d c.args.p c.args.q) ≡ None)) (ap (λ (s : State). s.doc) c.begin_edit.ensures.begun) c.move_now.ensures.accepted
-
-pub returns-clause-moved : goal.returns-clause-moved
-returns-clause-moved g c =
-    subst (λ d. OnOk c.move_now.result (c.move_now.new.map.doc ≡ put d c.args.p c.args.q)) (ap (λ (s : State). s.doc) c.begin_edit.ensures.begun) c.move_now.ensures.moved
+pub returns-clause-edits : goal.returns-clause-edits
+returns-clause-edits g c =
+    keeps_last c.move_now.result
+    (subst (λ (s : State). Edits s c.move_now.new.map c.move_now.result (first_of (move_refusals s.doc c.args.p c.args.q)) (record s { doc = put s.doc c.args.p c.args.q; last = Some (Moved c.args.p c.args.q) })) c.begin_edit.ensures.begun c.move_now.ensures.edits)
 
 pub returns-clause-sides : goal.returns-clause-sides
 returns-clause-sides g c =
-    let d = c.begin_edit.new.self.doc in
-    subst (λ before. OnOk c.move_now.result (KeepsSides before c.move_now.new.map.doc)) (ap (λ (s : State). s.doc) c.begin_edit.ensures.begun)
-    (kept_by c.move_now.result d (put d c.args.p c.args.q) c.move_now.new.map.doc (λ accepted. (moved d c.args.p c.args.q c.begin_edit.ensures.proper accepted).1) c.move_now.ensures.accepted c.move_now.ensures.moved)
+    let now = c.begin_edit.new.self in
+    subst (λ (s : State). OnOk c.move_now.result (KeepsSides s.doc c.move_now.new.map.doc)) c.begin_edit.ensures.begun
+    (holds_made (λ (s : State). KeepsSides now.doc s.doc) c.move_now.result c.move_now.ensures.edits (λ none. (moved now.doc c.args.p c.args.q c.begin_edit.ensures.proper none).1))
 
-pub returns-clause-refused : goal.returns-clause-refused
-returns-clause-refused g c =
-    subst (λ d. IfErr c.move_now.result (λ fault. Refuses fault (first_of (move_refusals d c.args.p c.args.q)))) (ap (λ (s : State). s.doc) c.begin_edit.ensures.begun) c.move_now.ensures.refused
-
-pub returns-clause-unchanged : goal.returns-clause-unchanged
-returns-clause-unchanged g c =
-    subst (λ d. OnErr c.move_now.result (c.move_now.new.map.doc ≡ d)) (ap (λ (s : State). s.doc) c.begin_edit.ensures.begun) c.move_now.ensures.unchanged
+pub returns-clause-recorded : goal.returns-clause-recorded
+returns-clause-recorded g c =
+    let now = c.begin_edit.new.self in
+    subst (λ (s : State). OnOk c.move_now.result (IsRecorded s c.move_now.new.map)) c.begin_edit.ensures.begun
+    (holds_made (IsRecorded now) c.move_now.result c.move_now.ensures.edits (λ none. (Moved c.args.p c.args.q, refl, move-recorded now.places now.next now.doc c.begin_edit.ensures.held c.args.p c.args.q none)))
 
 pub returns-clause-untested : goal.returns-clause-untested
 returns-clause-untested g c =
     subst (λ n. IfErr c.move_now.result (λ fault. is_early fault ≡ true → c.move_now.new.map.tests ≡ n)) (ap (λ (s : State). s.tests) c.begin_edit.ensures.begun) c.move_now.ensures.untested
 
-pub returns-clause-next : goal.returns-clause-next
-returns-clause-next g c = c.move_now.ensures.next ∙ ap (λ (s : State). s.next) c.begin_edit.ensures.begun
-
 pub returns-clause-few : goal.returns-clause-few
 returns-clause-few g c =
     omega (arith, subst (λ (s : State). c.move_now.new.map.tests ≤ s.tests + most_for_move (times_by s.cells) s.doc c.args.p c.args.q) c.begin_edit.ensures.begun c.move_now.ensures.few)
-
-pub returns-clause-cells : goal.returns-clause-cells
-returns-clause-cells g c = c.move_now.ensures.cells ∙ ap (λ (s : State). s.cells) c.begin_edit.ensures.begun
-
-pub returns-clause-recorded : goal.returns-clause-recorded
-returns-clause-recorded g c =
-    let now = c.begin_edit.new.self in
-    recorded_by c.args.map.now c.begin_edit.new.self c.move_now.new.map c.begin_edit.ensures.begun c.move_now.ensures.next c.move_now.ensures.places c.move_now.result (put now.doc c.args.p c.args.q) (Moved c.args.p c.args.q)
-    (move-recorded now.places now.next now.doc c.begin_edit.ensures.held c.args.p c.args.q)
-    c.move_now.ensures.accepted c.move_now.ensures.recorded c.move_now.ensures.moved
-
-pub returns-clause-none : goal.returns-clause-none
-returns-clause-none g c =
-    subst (λ last. OnErr c.move_now.result (c.move_now.new.map.last ≡ last)) (ap (λ (s : State). s.last) c.begin_edit.ensures.begun) c.move_now.ensures.still
-
-pub returns-clause-places : goal.returns-clause-places
-returns-clause-places g c = c.move_now.ensures.places ∙ ap (λ (s : State). s.places) c.begin_edit.ensures.begun

@@ -12,4 +12,4 @@ returns-clause-untested g c =
     let leavable = c.in_default.ensures.leavable in
     IfErr-weaker c.raw_remove.result (λ fault. Refuses fault (first_of (remove_refusals c.args.map.now.doc c.args.p))) (λ fault. is_early fault ≡ true → c.raw_remove.new.self.tests ≡ c.args.map.now.tests)
     (λ fault r. not_early fault (remove_late c.args.map.now.doc c.args.p leavable.vertex leavable.inner leavable.long leavable.unjoined fault r))
-    c.raw_remove.ensures.refused
+    c.raw_remove.ensures.edits.refused

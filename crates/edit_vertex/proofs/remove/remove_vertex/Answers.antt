@@ -1,62 +1,40 @@
-use Rattle.std.proofs.Common.{◌≡◌, ◌≤◌, ◌+◌, true, None, ap, ◌∙◌, subst, arith}
-use Rattle.std.specs.Prelude.{OnOk, OnErr, IfErr}
+use Rattle.std.proofs.Common.{◌≡◌, ◌≤◌, ◌+◌, true, ap, subst, arith}
+use Rattle.std.specs.Prelude.{OnOk, IfErr}
 use Rattle.ring_machine.specs.Refusals.{first_of, remove_refusals}
 use Rattle.ring_machine.specs.Sides.{KeepsSides}
 use Rattle.ring_machine.specs.Vertices.{del}
 use Rattle.ring_machine.proofs.Accepted.{removed}
 use Rattle.segment_index.specs.Times.{times_by}
 use Rattle.local_planarity.specs.Tests.{most_for}
-use Rattle.arc_store.specs.Faults.{Refuses}
+use Rattle.arc_store.specs.Outcomes.{Edits}
+use Rattle.arc_store.specs.Recorded.{IsRecorded}
 use Rattle.arc_store.specs.State.{State}
+use Rattle.arc_store.proofs.Outcomes.{holds_made, keeps_last}
 use Rattle.edit_vertex.specs.Untested.{is_early}
 use Rattle.edit_vertex.proofs.Recording.{removal_recorded}
-use Rattle.edit_vertex.proofs.SidesKept.{kept_by}
 use Rattle.edit_vertex.proofs.remove.remove_vertex.Goals as goal
 
 -- the beginning of an edit changes the count of tests, and forgets what took the last one back
-pub returns-clause-accepted : goal.returns-clause-accepted
-returns-clause-accepted g c =
-    subst (λ d. OnOk c.remove_now.result (first_of (remove_refusals d c.args.p) ≡ None)) (ap (λ (s : State). s.doc) c.begin_edit.ensures.begun) c.remove_now.ensures.accepted
-
-pub returns-clause-removed : goal.returns-clause-removed
-returns-clause-removed g c =
-    subst (λ d. OnOk c.remove_now.result (c.remove_now.new.map.doc ≡ del d c.args.p)) (ap (λ (s : State). s.doc) c.begin_edit.ensures.begun) c.remove_now.ensures.removed
+pub returns-clause-edits : goal.returns-clause-edits
+returns-clause-edits g c =
+    keeps_last c.remove_now.result
+    (subst (λ (s : State). Edits s c.remove_now.new.map c.remove_now.result (first_of (remove_refusals s.doc c.args.p)) (record s { doc = del s.doc c.args.p; last = c.remove_now.new.map.last })) c.begin_edit.ensures.begun c.remove_now.ensures.edits)
 
 pub returns-clause-sides : goal.returns-clause-sides
 returns-clause-sides g c =
-    let d = c.begin_edit.new.self.doc in
-    subst (λ before. OnOk c.remove_now.result (KeepsSides before c.remove_now.new.map.doc)) (ap (λ (s : State). s.doc) c.begin_edit.ensures.begun)
-    (kept_by c.remove_now.result d (del d c.args.p) c.remove_now.new.map.doc (λ accepted. (removed d c.args.p c.begin_edit.ensures.proper accepted).1) c.remove_now.ensures.accepted c.remove_now.ensures.removed)
+    let now = c.begin_edit.new.self in
+    subst (λ (s : State). OnOk c.remove_now.result (KeepsSides s.doc c.remove_now.new.map.doc)) c.begin_edit.ensures.begun
+    (holds_made (λ (s : State). KeepsSides now.doc s.doc) c.remove_now.result c.remove_now.ensures.edits (λ none. (removed now.doc c.args.p c.begin_edit.ensures.proper none).1))
 
-pub returns-clause-refused : goal.returns-clause-refused
-returns-clause-refused g c =
-    subst (λ d. IfErr c.remove_now.result (λ fault. Refuses fault (first_of (remove_refusals d c.args.p)))) (ap (λ (s : State). s.doc) c.begin_edit.ensures.begun) c.remove_now.ensures.refused
-
-pub returns-clause-unchanged : goal.returns-clause-unchanged
-returns-clause-unchanged g c =
-    subst (λ d. OnErr c.remove_now.result (c.remove_now.new.map.doc ≡ d)) (ap (λ (s : State). s.doc) c.begin_edit.ensures.begun) c.remove_now.ensures.unchanged
+pub returns-clause-recorded : goal.returns-clause-recorded
+returns-clause-recorded g c =
+    subst (λ (s : State). OnOk c.remove_now.result (IsRecorded s c.remove_now.new.map)) c.begin_edit.ensures.begun
+    (removal_recorded c.remove_now.result c.args.p c.begin_edit.ensures.held c.remove_now.ensures.edits c.remove_now.ensures.recorded)
 
 pub returns-clause-untested : goal.returns-clause-untested
 returns-clause-untested g c =
     subst (λ n. IfErr c.remove_now.result (λ fault. is_early fault ≡ true → c.remove_now.new.map.tests ≡ n)) (ap (λ (s : State). s.tests) c.begin_edit.ensures.begun) c.remove_now.ensures.untested
 
-pub returns-clause-next : goal.returns-clause-next
-returns-clause-next g c = c.remove_now.ensures.next ∙ ap (λ (s : State). s.next) c.begin_edit.ensures.begun
-
 pub returns-clause-few : goal.returns-clause-few
 returns-clause-few g c =
     omega (arith, subst (λ (s : State). c.remove_now.new.map.tests ≤ s.tests + most_for (times_by s.cells) s.doc (del s.doc c.args.p)) c.begin_edit.ensures.begun c.remove_now.ensures.few)
-
-pub returns-clause-cells : goal.returns-clause-cells
-returns-clause-cells g c = c.remove_now.ensures.cells ∙ ap (λ (s : State). s.cells) c.begin_edit.ensures.begun
-
-pub returns-clause-recorded : goal.returns-clause-recorded
-returns-clause-recorded g c =
-    removal_recorded c.args.map.now c.begin_edit.new.self c.remove_now.new.map c.begin_edit.ensures.begun c.remove_now.ensures.next c.remove_now.ensures.places c.remove_now.result c.args.p c.begin_edit.ensures.held c.remove_now.ensures.accepted c.remove_now.ensures.recorded c.remove_now.ensures.removed
-
-pub returns-clause-none : goal.returns-clause-none
-returns-clause-none g c =
-    subst (λ last. OnErr c.remove_now.result (c.remove_now.new.map.last ≡ last)) (ap (λ (s : State). s.last) c.begin_edit.ensures.begun) c.remove_now.ensures.still
-
-pub returns-clause-places : goal.returns-clause-places
-returns-clause-places g c = c.remove_now.ensures.places ∙ ap (λ (s : State). s.places) c.begin_edit.ensures.begun

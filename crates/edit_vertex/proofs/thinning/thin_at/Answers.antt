@@ -5,6 +5,7 @@ use Rattle.std.proofs.lemmas.Bool.{false≢true}
 use Rattle.ring_machine.specs.Planar.{Proper}
 use Rattle.ring_machine.proofs.Accepted.{removed}
 use Rattle.segment_index.specs.Times.{times_by}
+use Rattle.arc_store.specs.State.{State}
 use Rattle.edit_vertex.proofs.Passing.{is_thin, thin_gone, thin_refused, thin_passed, most_thin}
 use Rattle.edit_vertex.proofs.ThinKept.{left_one, left_as_is}
 use Rattle.edit_vertex.proofs.thinning.thin_at.Goals as goal
@@ -17,31 +18,42 @@ returns-then-not-is_thin-clause-thinned g c = λ n.
 pub returns-in-Ok-clause-thinned : goal.returns-in-Ok-clause-thinned
 returns-in-Ok-clause-thinned g c = λ n.
     let same : to_z w128 (of_z w128 c.args.t) ≡ c.args.t = omega (arith, ints) in
-    thin_gone c.args.t c.args.map.now.doc c.args.p n (ap (λ t. is_thin t c.args.map.now.doc c.args.p) (sym same) ∙ sym c.is_thin.ensures ∙ c.if-not-is_thin.false) c.in-Ok.ensures.accepted c.thin_now.new.map.doc c.in-Ok.ensures.removed
+    let made = c.in-Ok.ensures.edits.made in
+    thin_gone c.args.t c.args.map.now.doc c.args.p n (ap (λ t. is_thin t c.args.map.now.doc c.args.p) (sym same) ∙ sym c.is_thin.ensures ∙ c.if-not-is_thin.false) c.in-Ok.ensures.edits.accepted c.thin_now.new.map.doc (ap (λ (s : State). s.doc) made)
 
 pub returns-in-Ok-clause-proper : goal.returns-in-Ok-clause-proper
 returns-in-Ok-clause-proper g c =
-    subst Proper (sym c.in-Ok.ensures.removed) (removed c.args.map.now.doc c.args.p c.requires.proper c.in-Ok.ensures.accepted).0
+    subst (λ (s : State). Proper s.doc) (sym c.in-Ok.ensures.edits.made) (removed c.args.map.now.doc c.args.p c.requires.proper c.in-Ok.ensures.edits.accepted).0
 
 pub returns-in-Ok-clause-recorded : goal.returns-in-Ok-clause-recorded
 returns-in-Ok-clause-recorded g c = λ start.
-    left_one start c.args.map.now c.thin_now.new.map c.args.p c.next_number.ensures.held c.in-Ok.ensures.next c.in-Ok.ensures.places c.in-Ok.ensures.accepted c.in-Ok.ensures.removed c.in-Ok.ensures.recorded
+    left_one start c.args.map.now c.thin_now.new.map c.args.p c.next_number.ensures.held c.in-Ok.ensures.edits.accepted c.in-Ok.ensures.edits.made c.in-Ok.ensures.recorded
+
+pub returns-in-Ok-clause-next : goal.returns-in-Ok-clause-next
+returns-in-Ok-clause-next g c = ap (λ (s : State). s.next) c.in-Ok.ensures.edits.made
+
+pub returns-in-Ok-clause-places : goal.returns-in-Ok-clause-places
+returns-in-Ok-clause-places g c = ap (λ (s : State). s.places) c.in-Ok.ensures.edits.made
+
+pub returns-in-Ok-clause-cells : goal.returns-in-Ok-clause-cells
+returns-in-Ok-clause-cells g c = ap (λ (s : State). s.cells) c.in-Ok.ensures.edits.made
 
 pub returns-in_default : goal.returns-in_default
 returns-in_default g c =
     let same : to_z w128 (of_z w128 c.args.t) ≡ c.args.t = omega (arith, ints) in
+    let still = c.in-Err.ensures.edits.unchanged in
     record {
-      thinned = λ n. thin_refused c.args.t c.args.map.now.doc c.args.p n (ap (λ t. is_thin t c.args.map.now.doc c.args.p) (sym same) ∙ sym c.is_thin.ensures ∙ c.if-not-is_thin.false) c.in-Err.fault c.in-Err.ensures.refused c.in_default.not-OutOfMemory c.thin_now.new.map.doc c.in-Err.ensures.unchanged;
+      thinned = λ n. thin_refused c.args.t c.args.map.now.doc c.args.p n (ap (λ t. is_thin t c.args.map.now.doc c.args.p) (sym same) ∙ sym c.is_thin.ensures ∙ c.if-not-is_thin.false) c.in-Err.fault c.in-Err.ensures.edits.refused c.in_default.not-OutOfMemory c.thin_now.new.map.doc (ap (λ (s : State). s.doc) still);
       unchanged = tt;
-      proper = subst Proper (sym c.in-Err.ensures.unchanged) c.requires.proper;
-      recorded = λ start. left_as_is start c.args.map.now c.thin_now.new.map c.in-Err.ensures.next c.in-Err.ensures.places c.in-Err.ensures.unchanged c.in-Err.ensures.still;
+      proper = subst (λ (s : State). Proper s.doc) (sym still) c.requires.proper;
+      recorded = λ start. left_as_is start c.args.map.now c.thin_now.new.map still;
       gone = λ e. absurd (false≢true e);
-      stays = λ _. c.in-Err.ensures.still;
+      stays = λ _. ap (λ (s : State). s.last) still;
       still = tt;
-      next = c.in-Err.ensures.next;
-      places = c.in-Err.ensures.places;
+      next = ap (λ (s : State). s.next) still;
+      places = ap (λ (s : State). s.places) still;
       few = omega (arith, c.in-Err.ensures.few, most_thin (times_by c.args.map.now.cells) c.args.t c.args.map.now.doc c.args.p (ap (λ t. is_thin t c.args.map.now.doc c.args.p) (sym same) ∙ sym c.is_thin.ensures ∙ c.if-not-is_thin.false));
-      cells = c.in-Err.ensures.cells;
+      cells = ap (λ (s : State). s.cells) still;
     }
 
 pub returns-in-Ok-clause-few : goal.returns-in-Ok-clause-few

@@ -1,19 +1,32 @@
-use Rattle.std.proofs.Common.{ap, subst}
+use Rattle.std.proofs.Common.{Some, ap, subst}
 use Rattle.std.specs.Prelude.{OnOk, ◌≡◌, ◌+ℤ◌}
+use Rattle.std.proofs.lemmas.Result.{on_ok_weaker}
+use Rattle.ring_machine.specs.Join.{join}
 use Rattle.ring_machine.specs.Query.{area_of}
-use Rattle.ring_machine.specs.Refusals.{feature_at}
+use Rattle.ring_machine.specs.Refusals.{first_of, merge_refusals, feature_at}
+use Rattle.edit_records.specs.Records.{Exchanged}
+use Rattle.edit_records.proofs.ExchangesBack.{merged}
+use Rattle.arc_store.specs.Outcomes.{Edits}
+use Rattle.arc_store.specs.Recorded.{IsRecorded}
 use Rattle.arc_store.specs.State.{State}
+use Rattle.arc_store.proofs.Outcomes.{keeps_last}
 use Rattle.split_merge.proofs.MergeConditions.{areas_added}
 use Rattle.split_merge.proofs.Recording.{merge_recorded}
 use Rattle.split_merge.proofs.merging.merge.Goals as goal
 
 -- the beginning of an edit leaves the document as it is
+pub returns-clause-edits : goal.returns-clause-edits
+returns-clause-edits g c =
+    keeps_last c.merge_now.result
+    (subst (λ (s : State). Edits s c.merge_now.new.map c.merge_now.result (first_of (merge_refusals s.doc c.args.f c.args.g)) (record s { doc = join s.doc c.args.f (feature_at s.doc c.args.g); last = Some (Exchanged (merged s.doc c.args.f c.args.g)) })) c.begin_edit.ensures.begun c.merge_now.ensures.edits)
+
 pub returns-clause-areas : goal.returns-clause-areas
 returns-clause-areas g c =
-    subst (λ d. OnOk c.merge_now.result (area_of (feature_at c.merge_now.new.map.doc c.args.f) ≡ area_of (feature_at d c.args.f) +ℤ area_of (feature_at d c.args.g))) (ap (λ (s : State). s.doc) c.begin_edit.ensures.begun)
-    (areas_added c.merge_now.result c.begin_edit.new.self.doc c.merge_now.new.map.doc c.args.f c.args.g c.begin_edit.ensures.proper c.merge_now.ensures.accepted c.merge_now.ensures.merged)
+    subst (λ (s : State). OnOk c.merge_now.result (area_of (feature_at c.merge_now.new.map.doc c.args.f) ≡ area_of (feature_at s.doc c.args.f) +ℤ area_of (feature_at s.doc c.args.g))) c.begin_edit.ensures.begun
+    (areas_added c.merge_now.result c.begin_edit.new.self.doc c.merge_now.new.map.doc c.args.f c.args.g c.begin_edit.ensures.proper c.merge_now.ensures.edits.accepted
+    (on_ok_weaker c.merge_now.result (λ made. ap (λ (s : State). s.doc) made) c.merge_now.ensures.edits.made))
 
 pub returns-clause-recorded : goal.returns-clause-recorded
 returns-clause-recorded g c =
-    merge_recorded c.args.map.now c.begin_edit.new.self c.merge_now.new.map c.begin_edit.ensures.begun c.begin_edit.ensures.held c.merge_now.result c.args.f c.args.g
-    c.merge_now.ensures.accepted c.merge_now.ensures.merged c.merge_now.ensures.recorded c.merge_now.ensures.next c.merge_now.ensures.places
+    subst (λ (s : State). OnOk c.merge_now.result (IsRecorded s c.merge_now.new.map)) c.begin_edit.ensures.begun
+    (merge_recorded c.begin_edit.new.self c.merge_now.new.map c.begin_edit.ensures.held c.merge_now.result c.args.f c.args.g c.merge_now.ensures.edits)

@@ -1,26 +1,29 @@
-use Rattle.std.proofs.Common.{◌≡◌, ◌≤◌, ◌+◌, true, None, sym, subst}
-use Rattle.std.specs.Prelude.{OnOk, IfErr}
+use Rattle.std.proofs.Common.{◌≡◌, ◌≤◌, ◌+◌, true, refl, sym, subst}
 use Rattle.std.proofs.lemmas.Result.{IfErr-weaker}
 use Rattle.ring_machine.specs.Cut.{path_of, cut}
 use Rattle.ring_machine.specs.Refusals.{first_of, split_refusals}
 use Rattle.segment_index.specs.Times.{times_by}
 use Rattle.local_planarity.specs.Tests.{most_for}
 use Rattle.arc_store.specs.Faults.{Refuses}
+use Rattle.arc_store.proofs.Outcomes.{is_refused}
 use Rattle.split_merge.specs.Conditions.{early_refusals}
 use Rattle.split_merge.specs.Untested.{is_early}
 use Rattle.map_text.specs.Strings.{string_text}
 use Rattle.split_merge.proofs.FirstRefusal.{refuses_first}
+use Rattle.split_merge.proofs.Recording.{SplitsAlong}
 use Rattle.split_merge.proofs.Late.{split_late, not_early}
 use Rattle.split_merge.proofs.SplitConditions.{late_refusals, split_groups, passed}
 use Rattle.split_merge.proofs.splitting.split_now.Goals as goal
 
-pub returns-in-Err-clause-refused : goal.returns-in-Err-clause-refused
-returns-in-Err-clause-refused g c =
+pub returns-in-Err-clause-edits : goal.returns-in-Err-clause-edits
+returns-in-Err-clause-edits g c =
     let s = c.args.map.now in
     let id = string_text c.args.id.now in
     let path = path_of c.args.positions.now in
-    subst (λ rs. Refuses c.in-Err.fault (first_of rs)) (sym (split_groups s.doc s.next c.args.f id path))
-    (refuses_first c.in-Err.fault (early_refusals s.doc c.args.f path) (late_refusals s.doc s.next c.args.f id path) c.in-Err.ensures.refused)
+    is_refused
+    (subst (λ rs. Refuses c.in-Err.fault (first_of rs)) (sym (split_groups s.doc s.next c.args.f id path))
+    (refuses_first c.in-Err.fault (early_refusals s.doc c.args.f path) (late_refusals s.doc s.next c.args.f id path) c.in-Err.ensures.refused))
+    refl
 
 pub raw_split-requires-clause-there : goal.raw_split-requires-clause-there
 raw_split-requires-clause-there g c =
@@ -47,20 +50,9 @@ raw_split-requires-clause-new g c =
     (passed c.args.map.now.doc c.args.f (path_of c.args.positions.now) c.in_default.ensures.accepted).new
 
 -- the text is the JSON string of the id
-pub returns-clause-accepted : goal.returns-clause-accepted
-returns-clause-accepted g c =
-    let s = c.args.map.now in
-    subst (λ t. OnOk c.raw_split.result (first_of (split_refusals s.doc s.next c.args.f t (path_of c.args.positions.now)) ≡ None)) c.in_ok-text.ensures.text c.raw_split.ensures.accepted
-
-pub returns-clause-split : goal.returns-clause-split
-returns-clause-split g c =
-    let s = c.args.map.now in
-    subst (λ t. OnOk c.raw_split.result (c.raw_split.new.self.doc ≡ cut s.doc c.args.f t (path_of c.args.positions.now) s.next)) c.in_ok-text.ensures.text c.raw_split.ensures.split
-
-pub returns-clause-refused : goal.returns-clause-refused
-returns-clause-refused g c =
-    let s = c.args.map.now in
-    subst (λ t. IfErr c.raw_split.result (λ fault. Refuses fault (first_of (split_refusals s.doc s.next c.args.f t (path_of c.args.positions.now))))) c.in_ok-text.ensures.text c.raw_split.ensures.refused
+pub returns-clause-edits : goal.returns-clause-edits
+returns-clause-edits g c =
+    subst (λ t. SplitsAlong c.args.f t (path_of c.args.positions.now) c.args.map.now c.raw_split.new.self c.raw_split.result) c.in_ok-text.ensures.text c.raw_split.ensures.edits
 
 pub returns-clause-few : goal.returns-clause-few
 returns-clause-few g c =
@@ -74,4 +66,4 @@ returns-clause-untested g c =
     let path = path_of c.args.positions.now in
     IfErr-weaker c.raw_split.result (λ fault. Refuses fault (first_of (split_refusals s.doc s.next c.args.f id path))) (λ fault. is_early fault ≡ true → c.raw_split.new.self.tests ≡ s.tests)
     (λ fault h. not_early fault (split_late s.doc s.next c.args.f id path c.in_default.ensures.accepted fault h))
-    (returns-clause-refused g c)
+    (returns-clause-edits g c).refused

@@ -9,27 +9,27 @@ use Rattle.undo_ring.proofs.answering.answer.Goals as goal
 pub returns-in-Move : goal.returns-in-Move
 returns-in-Move g c =
     rw c.in-Move.is (subst (AnswersMap c.args.map.now c.move_vertex.new.map (Move c.in-Move.from c.in-Move.to)) (sym c.done.ensures)
-    (move_answered _ c.args.map.now c.move_vertex.new.map c.requires.taken (record { next = c.move_vertex.ensures.next; places = c.move_vertex.ensures.places }) c.move_vertex.ensures.cells c.in-Move.from c.in-Move.to c.move_vertex.result c.move_vertex.ensures.accepted c.move_vertex.ensures.moved c.move_vertex.ensures.refused c.move_vertex.ensures.unchanged c.move_vertex.ensures.recorded c.move_vertex.ensures.none))
+    (move_answered _ c.args.map.now c.move_vertex.new.map c.requires.taken c.in-Move.from c.in-Move.to c.move_vertex.result c.move_vertex.ensures.edits c.move_vertex.ensures.recorded))
 
 pub returns-in-Insert : goal.returns-in-Insert
 returns-in-Insert g c =
     rw c.in-Insert.is (subst (AnswersMap c.args.map.now c.insert_vertex.new.map (Insert c.in-Insert.a c.in-Insert.b c.in-Insert.new)) (sym c.done-in-Insert.ensures)
-    (insert_answered _ c.args.map.now c.insert_vertex.new.map c.requires.taken (record { next = c.insert_vertex.ensures.next; places = c.insert_vertex.ensures.places }) c.insert_vertex.ensures.cells c.in-Insert.a c.in-Insert.b c.in-Insert.new c.insert_vertex.result c.insert_vertex.ensures.accepted c.insert_vertex.ensures.inserted c.insert_vertex.ensures.refused c.insert_vertex.ensures.unchanged c.insert_vertex.ensures.recorded c.insert_vertex.ensures.none))
+    (insert_answered _ c.args.map.now c.insert_vertex.new.map c.requires.taken c.in-Insert.a c.in-Insert.b c.in-Insert.new c.insert_vertex.result c.insert_vertex.ensures.edits c.insert_vertex.ensures.recorded))
 
 pub returns-in-Remove : goal.returns-in-Remove
 returns-in-Remove g c =
     rw c.in-Remove.is (subst (AnswersMap c.args.map.now c.remove_vertex.new.map (Remove c.in-Remove.vertex)) (sym c.done-in-Remove.ensures)
-    (remove_answered _ c.args.map.now c.remove_vertex.new.map c.requires.taken (record { next = c.remove_vertex.ensures.next; places = c.remove_vertex.ensures.places }) c.remove_vertex.ensures.cells c.in-Remove.vertex c.remove_vertex.result c.remove_vertex.ensures.accepted c.remove_vertex.ensures.removed c.remove_vertex.ensures.refused c.remove_vertex.ensures.unchanged c.remove_vertex.ensures.recorded c.remove_vertex.ensures.none))
+    (remove_answered _ c.args.map.now c.remove_vertex.new.map c.requires.taken c.in-Remove.vertex c.remove_vertex.result c.remove_vertex.ensures.edits c.remove_vertex.ensures.recorded))
 
 pub returns-in-Merge : goal.returns-in-Merge
 returns-in-Merge g c =
     rw c.in-Merge.is (subst (AnswersMap c.args.map.now c.merge.new.map (Merge c.in-Merge.stays c.in-Merge.goes)) (sym c.done-in-Merge.ensures)
-    (merge_answered _ c.args.map.now c.merge.new.map c.requires.taken (record { next = c.merge.ensures.next; places = c.merge.ensures.places }) c.merge.ensures.cells c.in-Merge.stays c.in-Merge.goes c.merge.result c.merge.ensures.accepted c.merge.ensures.merged c.merge.ensures.refused c.merge.ensures.unchanged c.merge.ensures.recorded c.merge.ensures.none))
+    (merge_answered _ c.args.map.now c.merge.new.map c.requires.taken c.in-Merge.stays c.in-Merge.goes c.merge.result c.merge.ensures.edits c.merge.ensures.recorded))
 
 pub returns-in-Delete : goal.returns-in-Delete
 returns-in-Delete g c =
     rw c.in-Delete.is (subst (AnswersMap c.args.map.now c.delete.new.map (Delete c.in-Delete.feature)) (sym c.done-in-Delete.ensures)
-    (delete_answered _ c.args.map.now c.delete.new.map c.requires.taken (record { next = c.delete.ensures.next; places = c.delete.ensures.places }) c.delete.ensures.cells c.in-Delete.feature c.delete.result c.delete.ensures.accepted c.delete.ensures.deleted c.delete.ensures.refused c.delete.ensures.unchanged c.delete.ensures.recorded c.delete.ensures.none))
+    (delete_answered _ c.args.map.now c.delete.new.map c.requires.taken c.in-Delete.feature c.delete.result c.delete.ensures.edits c.delete.ensures.recorded))
 
 pub returns-in-Thin : goal.returns-in-Thin
 returns-in-Thin g c =

@@ -8,5 +8,5 @@ use Rattle.undo_ring.proofs.answering.cut.Goals as goal
 pub returns : goal.returns
 returns g c =
     subst (AnswersMap c.args.map.now c.split.new.map (Split c.args.feature (string_text c.args.id.now) c.args.path.now)) (sym c.made.ensures)
-    (split_answered _ c.args.map.now c.split.new.map c.requires.taken c.split.ensures.cells c.args.feature c.args.id.now c.args.path.now c.in-Ok.id c.in-Ok-path_in.path c.in-Ok.ensures c.in-Ok-path_in.ensures
-    c.split.result c.split.ensures.accepted c.split.ensures.made c.split.ensures.split c.split.ensures.next c.split.ensures.refused c.split.ensures.unchanged c.split.ensures.still c.split.ensures.places c.split.ensures.still_placed c.split.ensures.recorded c.split.ensures.none)
+    (split_answered _ c.args.map.now c.split.new.map c.requires.taken c.args.feature c.args.id.now c.args.path.now c.in-Ok.id c.in-Ok-path_in.path c.in-Ok.ensures c.in-Ok-path_in.ensures
+    c.split.result c.split.ensures.edits c.split.ensures.made c.split.ensures.recorded)

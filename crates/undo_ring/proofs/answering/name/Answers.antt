@@ -8,5 +8,5 @@ use Rattle.undo_ring.proofs.answering.name.Goals as goal
 pub returns : goal.returns
 returns g c =
     subst (AnswersMap c.args.map.now c.rename.new.map (Rename c.args.feature (string_text c.args.id.now))) (sym c.done.ensures)
-    (rename_answered _ c.args.map.now c.rename.new.map c.requires (record { next = c.rename.ensures.next; places = c.rename.ensures.places }) c.rename.ensures.cells c.args.feature c.args.id.now c.in-Ok.id c.in-Ok.ensures
-    c.rename.result c.rename.ensures.accepted c.rename.ensures.renamed c.rename.ensures.refused c.rename.ensures.unchanged c.rename.ensures.recorded c.rename.ensures.none)
+    (rename_answered _ c.args.map.now c.rename.new.map c.requires c.args.feature c.args.id.now c.in-Ok.id c.in-Ok.ensures
+    c.rename.result c.rename.ensures.edits c.rename.ensures.recorded)

@@ -1,14 +1,18 @@
-use Rattle.std.proofs.Common.{sym, subst, ap, ◌∙◌, arith}
+use Rattle.std.proofs.Common.{◌≡◌, refl, sym, subst, ap, ◌∙◌, None, arith}
+use Rattle.ring_machine.specs.Refusals.{first_of, insert_refusals}
 use Rattle.ring_machine.specs.Vertices.{ins}
 use Rattle.segment_index.specs.Candidates.{AreSingle}
 use Rattle.feature_exchange.specs.Stored.{stored, document_of}
 use Rattle.vertex_changes.specs.Planned.{AreNew}
+use Rattle.arc_store.specs.Faults.{Refuses}
 use Rattle.arc_store.specs.State.{State}
 use Rattle.arc_store.proofs.Accepted.{insert_may}
 use Rattle.arc_store.proofs.Indexed.{indexed_apart}
 use Rattle.arc_store.proofs.InsertPlan.{first_key, second_key, insert_off, insert_new, insert_single}
 use Rattle.arc_store.proofs.InsertPlan.{insert_unjoined, insertable, doc_inserted, size_grows, kept_inserted}
 use Rattle.feature_exchange.proofs.SegmentBound.{segments_bound}
+use Rattle.arc_store.proofs.Outcomes.{is_made, hands_on}
+use Rattle.arc_store.proofs.StateKept.{tested, with_record}
 use Rattle.arc_store.proofs.Tested.{inserted_few}
 use Rattle.arc_store.proofs.map.Map.raw_insert.Goals as goal
 
@@ -85,8 +89,19 @@ invariant_of-self-2 g c =
     kept_inserted m.frame m.borders c.put_in.new.borders m.vertices c.put_in.new.vertices (g.I.SegIndex.held m.index) (g.I.SegIndex.held c.put_in.new.index) m.positions m.segments c.self.invariant p.ends.0 p.ends.1 c.args.a c.args.b c.args.q r.first r.second may c.in_ok-rings.ensures.put c.in_ok-rings.rings c.in_ok-rings.ensures.rings
     p.before c.as_slice-after.result.now r.goes (c.as_slice-after.ensures.value ∙ r.comes) c.in_ok-rings.ensures.exchanged
 
-pub returns-clause-inserted : goal.returns-clause-inserted
-returns-clause-inserted g c =
+-- ---- what the edit makes
+
+pub returns-in_err-test_insert-clause-edits : goal.returns-in_err-test_insert-clause-edits
+returns-in_err-test_insert-clause-edits g c =
+    let m = c.self.inside in
+    let s = stored m.frame m.borders m.vertices in
+    let asked = insertable s (g.I.SegIndex.held m.index) c.self.invariant.holds c.args.a c.args.b c.args.q (rw (← c.self.view_is) at c.requires.segment) (rw (← c.self.view_is) at c.requires.free) (rw (← c.self.view_is) at c.requires.small) in
+    hands_on c.in_err-test_insert.field-0.0 c.from_residual-in_err-test_insert.result c.from_residual-in_err-test_insert.ensures.1
+    (subst (λ (z : State). Refuses c.in_err-test_insert.field-0.0 (first_of (insert_refusals z.doc c.args.a c.args.b c.args.q))) c.self.view_is (c.in_err-test_insert.ensures.refused (document_of s) asked))
+    (tested c.self.invariant c.self.view_is m.borders m.vertices (g.I.SegIndex.cells m.index) c.test_insert.new.tests refl refl refl)
+
+pub returns-clause-edits : goal.returns-clause-edits
+returns-clause-edits g c =
     let m = c.self.inside in
     let p = c.in_ok-parting.parting in
     let r = c.in_ok-parting.ensures.read in
@@ -94,23 +109,13 @@ returns-clause-inserted g c =
     let free = rw (← c.self.view_is) at c.requires.free in
     let small = rw (← c.self.view_is) at c.requires.small in
     let s = stored m.frame m.borders m.vertices in
-    let may = insert_may (document_of s) c.args.a c.args.b c.args.q c.requires.apart small (c.in_ok-test_insert.ensures.accepted (document_of s) (insertable s (g.I.SegIndex.held m.index) c.self.invariant.holds c.args.a c.args.b c.args.q border free small)) in
-    ap (λ (s : State). s.doc) c.keep.ensures
-    ∙ doc_inserted m.frame m.borders c.put_in.new.borders m.vertices c.put_in.new.vertices (g.I.SegIndex.held m.index) (g.I.SegIndex.held c.put_in.new.index) m.positions m.segments c.self.invariant p.ends.0 p.ends.1 c.args.a c.args.b c.args.q r.first r.second may c.in_ok-rings.ensures.put
-    ∙ ap (λ z. ins z.doc c.args.a c.args.b c.args.q) c.self.view_is
-
-pub returns-clause-recorded : goal.returns-clause-recorded
-returns-clause-recorded g c = ap (λ (s : State). s.last) c.keep.ensures
-
-pub returns-clause-next : goal.returns-clause-next
-returns-clause-next g c = ap (λ (s : State). s.next) c.keep.ensures ∙ ap (λ (s : State). s.next) c.self.view_is
-
-pub returns-clause-places : goal.returns-clause-places
-returns-clause-places g c = ap (λ (s : State). s.places) c.keep.ensures ∙ ap (λ (s : State). s.places) c.self.view_is
-
-pub returns-clause-cells : goal.returns-clause-cells
-returns-clause-cells g c =
-    ap (λ (s : State). s.cells) c.keep.ensures ∙ c.put_in.ensures.cells ∙ ap (λ (s : State). s.cells) c.self.view_is
+    let none = c.in_ok-test_insert.ensures.accepted (document_of s) (insertable s (g.I.SegIndex.held m.index) c.self.invariant.holds c.args.a c.args.b c.args.q border free small) in
+    let may = insert_may (document_of s) c.args.a c.args.b c.args.q c.requires.apart small none in
+    is_made (subst (λ (z : State). first_of (insert_refusals z.doc c.args.a c.args.b c.args.q) ≡ None) c.self.view_is none)
+    (with_record c.self.invariant c.self.view_is c.put_in.new.borders c.put_in.new.vertices (g.I.SegIndex.cells c.put_in.new.index)
+    (doc_inserted m.frame m.borders c.put_in.new.borders m.vertices c.put_in.new.vertices (g.I.SegIndex.held m.index) (g.I.SegIndex.held c.put_in.new.index) m.positions m.segments c.self.invariant p.ends.0 p.ends.1 c.args.a c.args.b c.args.q r.first r.second may c.in_ok-rings.ensures.put
+    ∙ ap (λ z. ins z.doc c.args.a c.args.b c.args.q) c.self.view_is)
+    c.put_in.ensures.cells c.keep.ensures)
 
 -- ---- the tests
 

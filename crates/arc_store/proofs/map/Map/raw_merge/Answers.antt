@@ -6,10 +6,10 @@ use Rattle.edit_records.specs.Records.{IsMap}
 use Rattle.topo_outline.specs.Kept.{KeepsTexts}
 use Rattle.feature_exchange.specs.Changed.{seen}
 use Rattle.arc_store.specs.Exchanged.{asked_document, with_polygons}
-use Rattle.arc_store.specs.State.{State}
 use Rattle.arc_store.proofs.ChangesCounted.{seen_two, two_apart}
 use Rattle.arc_store.proofs.ChangesRecorded.{record_kept}
 use Rattle.arc_store.proofs.MergePlan as plan
+use Rattle.arc_store.proofs.Outcomes.{is_made, with_last}
 use Rattle.arc_store.proofs.PolygonsSeen.{first_seen}
 use Rattle.arc_store.proofs.map.Map.raw_merge.Goals as goal
 
@@ -92,8 +92,8 @@ exchange-requires-clause-texts g c =
     (polygons_seen ones) (polygons_seen others) c.in_ok-ones.ensures c.in_ok-others.ensures (rings_seen c.as_slice.result.now) (rings_seen c.as_slice-2.result.now) made
     one other c.in_ok-rings.ensures)
 
-pub returns-clause-merged : goal.returns-clause-merged
-returns-clause-merged g c =
+pub returns-clause-edits : goal.returns-clause-edits
+returns-clause-edits g c =
     let st = c.args.self.now in
     let d = st.doc in
     let ones = c.in_ok-ones.ones.items in
@@ -105,19 +105,13 @@ returns-clause-merged g c =
     seen_two c.in_ok-joined.joined (record { number = c.args.g; was = None }) (c.args.n, Some (with_polygons d c.args.n (made ∷ []))) (c.args.g, None)
     c.as_mut_slice.result.now (c.as_mut_slice.ensures.value ∙ c.in_ok-changes.ensures)
     (c.in_ok-joined.ensures ∙ ap (λ z. (c.args.n, Some (with_polygons d c.args.n (polygons_seen z))) ∷ []) c.in_ok-one_polygon.ensures) refl in
-    ap (λ (s : State). s.doc) (c.self-2.view_is ∙ c.in_ok-exchange.ensures.exchanged) ∙ ap (λ z. asked_document None z st) asked
+    let v = c.in_ok-changes.changes in
+    is_made refl
+    (with_last st (c.self-2.view_is ∙ c.in_ok-exchange.ensures.exchanged)
+    (ap (λ z. asked_document None z st) asked
     ∙ plan.merge_is d c.args.n c.args.g c.requires st.places st.next c.next_number.ensures.placed c.next_number.ensures.held.map c.next_number.ensures.keeps
     (polygons_seen ones) (polygons_seen others) c.in_ok-ones.ensures c.in_ok-others.ensures (rings_seen c.as_slice.result.now) (rings_seen c.as_slice-2.result.now) made
-    one other c.in_ok-rings.ensures
-
-pub returns-clause-recorded : goal.returns-clause-recorded
-returns-clause-recorded g c =
-    let d = c.args.self.now.doc in
-    let v = c.in_ok-changes.changes in
-    let made = rings_seen c.in_ok-rings.rings.items in
-    let asked : seen c.as_mut_slice.result.now ≡ (c.args.n, Some (with_polygons d c.args.n (made ∷ []))) ∷ (c.args.g, None) ∷ [] =
-    seen_two c.in_ok-joined.joined (record { number = c.args.g; was = None }) (c.args.n, Some (with_polygons d c.args.n (made ∷ []))) (c.args.g, None)
-    c.as_mut_slice.result.now (c.as_mut_slice.ensures.value ∙ c.in_ok-changes.ensures)
-    (c.in_ok-joined.ensures ∙ ap (λ z. (c.args.n, Some (with_polygons d c.args.n (polygons_seen z))) ∷ []) c.in_ok-one_polygon.ensures) refl in
-    record_kept d v.items c.as_mut_slice.result.now c.exchange.new.changes v.len v.ok.0 c.as_mut_slice.ensures.value c.in_ok-exchange.ensures.had
-    ((c.args.n, Some (with_polygons d c.args.n (made ∷ []))) ∷ (c.args.g, None) ∷ []) asked
+    one other c.in_ok-rings.ensures)
+    (record_kept d v.items c.as_mut_slice.result.now c.exchange.new.changes v.len v.ok.0 c.as_mut_slice.ensures.value c.in_ok-exchange.ensures.had
+    ((c.args.n, Some (with_polygons d c.args.n (made ∷ []))) ∷ (c.args.g, None) ∷ []) asked)
+    refl)

@@ -1,6 +1,5 @@
-use Rattle.std.proofs.Common.{◌∙◌, sym, ap, subst, [], ◌∷◌}
+use Rattle.std.proofs.Common.{◌∙◌, refl, sym, ap, subst, [], ◌∷◌}
 use Rattle.std.specs.Prelude.{not}
-use Rattle.std.proofs.lemmas.Result.{err_from_is_err_and}
 use Rattle.ring_machine.specs.Parts.{is_vertex}
 use Rattle.ring_machine.specs.Command.{Sweeps}
 use Rattle.ring_machine.specs.Refusals.{first_of, ◌unless◌}
@@ -11,6 +10,8 @@ use Rattle.arc_store.specs.State.{State}
 use Rattle.arc_store.proofs.Accepted.{move_may}
 use Rattle.arc_store.proofs.MovePlan.{held_apart, move_conflicts, move_decided}
 use Rattle.arc_store.proofs.MovePlan.{has_moving, plan_new, plan_single, plan_held, plan_once, document_after, kept_after}
+use Rattle.arc_store.proofs.Outcomes.{is_made, is_refused, hands_on}
+use Rattle.arc_store.proofs.StateKept.{tested, with_record}
 use Rattle.arc_store.proofs.Tested.{conflicts_few, sweeps_few}
 use Rattle.arc_store.proofs.map.Map.raw_move.Goals as goal
 
@@ -23,24 +24,6 @@ read_moving-requires g c =
 pub test_planar-requires : goal.test_planar-requires
 test_planar-requires g c =
     held_apart (stored c.self.inside.frame c.self.inside.borders c.self.inside.vertices) (g.I.SegIndex.held c.self.inside.index) c.self.invariant.holds
-
-pub returns-in_err-test_planar-clause-refused : goal.returns-in_err-test_planar-clause-refused
-returns-in_err-test_planar-clause-refused g c =
-    let m = c.in_ok-moving.moving in
-    let r = c.in_ok-moving.ensures.read in
-    let e = err_from_is_err_and c.from_residual-in_err-test_planar.result c.from_residual-in_err-test_planar.ensures.1 in
-    rw (e.1, e.2)
-    (move_conflicts (stored c.self.inside.frame c.self.inside.borders c.self.inside.vertices) (g.I.SegIndex.held c.self.inside.index) c.self.invariant.holds c.args.self.now.doc (ap (λ z. z.doc) c.self.view_is) m.key c.args.p c.args.q r.here c.requires.vertex c.requires.free m.around.items r.all c.as_slice-after.result.now
-    (c.as_slice-after.ensures.value ∙ r.comes) c.in_err-test_planar.field-0.0 c.in_err-test_planar.ensures.refused)
-
-pub returns-then-branch-clause-refused : goal.returns-then-branch-clause-refused
-returns-then-branch-clause-refused g c =
-    let m = c.in_ok-moving.moving in
-    let r = c.in_ok-moving.ensures.read in
-    move_decided (stored c.self.inside.frame c.self.inside.borders c.self.inside.vertices) (g.I.SegIndex.held c.self.inside.index) c.self.invariant.holds c.args.self.now.doc (ap (λ z. z.doc) c.self.view_is) m.key c.args.p c.args.q r.here c.requires.vertex c.requires.free m.around.items r.all c.as_slice-after.result.now
-    (c.as_slice-after.ensures.value ∙ r.comes)
-    c.as_slice-around.result.now c.as_slice-around.ensures.value c.in_ok-sweeps.field-0 c.in_ok-test_planar.ensures.apart c.in_ok-sweeps.ensures.sweeps
-    ∙ ap (λ z. first_of ((Sweeps unless not z) ∷ [])) c.if-branch.true
 
 pub shift-requires-clause-new : goal.shift-requires-clause-new
 shift-requires-clause-new g c =
@@ -83,32 +66,40 @@ invariant_of-self-2 g c =
     m.around.items r.all c.as_slice-after.result.now c.as_slice-before.result.now (c.as_slice-after.ensures.value ∙ r.comes) (c.as_slice-before.ensures.value ∙ r.goes)
     c.shift.ensures.moved c.shift.ensures.exchanged c.shift.ensures.vertices c.shift.ensures.index
 
-pub returns-clause-accepted : goal.returns-clause-accepted
-returns-clause-accepted g c =
+-- ---- what the edit makes
+
+pub returns-in_err-test_planar-clause-edits : goal.returns-in_err-test_planar-clause-edits
+returns-in_err-test_planar-clause-edits g c =
     let m = c.in_ok-moving.moving in
     let r = c.in_ok-moving.ensures.read in
-    move_decided (stored c.self.inside.frame c.self.inside.borders c.self.inside.vertices) (g.I.SegIndex.held c.self.inside.index) c.self.invariant.holds c.args.self.now.doc (ap (λ z. z.doc) c.self.view_is) m.key c.args.p c.args.q r.here c.requires.vertex c.requires.free m.around.items r.all c.as_slice-after.result.now
+    hands_on c.in_err-test_planar.field-0.0 c.from_residual-in_err-test_planar.result c.from_residual-in_err-test_planar.ensures.1
+    (move_conflicts (stored c.self.inside.frame c.self.inside.borders c.self.inside.vertices) (g.I.SegIndex.held c.self.inside.index) c.self.invariant.holds c.args.self.now.doc (ap (λ z. z.doc) c.self.view_is) m.key c.args.p c.args.q r.here c.requires.vertex c.requires.free m.around.items r.all c.as_slice-after.result.now
+    (c.as_slice-after.ensures.value ∙ r.comes) c.in_err-test_planar.field-0.0 c.in_err-test_planar.ensures.refused)
+    (tested c.self.invariant c.self.view_is c.self.inside.borders c.self.inside.vertices (g.I.SegIndex.cells c.self.inside.index) c.test_planar.new.tests refl refl refl)
+
+pub returns-then-branch-clause-edits : goal.returns-then-branch-clause-edits
+returns-then-branch-clause-edits g c =
+    let m = c.in_ok-moving.moving in
+    let r = c.in_ok-moving.ensures.read in
+    is_refused
+    (move_decided (stored c.self.inside.frame c.self.inside.borders c.self.inside.vertices) (g.I.SegIndex.held c.self.inside.index) c.self.invariant.holds c.args.self.now.doc (ap (λ z. z.doc) c.self.view_is) m.key c.args.p c.args.q r.here c.requires.vertex c.requires.free m.around.items r.all c.as_slice-after.result.now
     (c.as_slice-after.ensures.value ∙ r.comes)
     c.as_slice-around.result.now c.as_slice-around.ensures.value c.in_ok-sweeps.field-0 c.in_ok-test_planar.ensures.apart c.in_ok-sweeps.ensures.sweeps
-    ∙ ap (λ z. first_of ((Sweeps unless not z) ∷ [])) c.if-branch.false
+    ∙ ap (λ z. first_of ((Sweeps unless not z) ∷ [])) c.if-branch.true)
+    (tested c.self.invariant c.self.view_is c.self.inside.borders c.self.inside.vertices (g.I.SegIndex.cells c.self.inside.index) c.sweeps.new.tests refl refl refl)
 
-pub returns-clause-moved : goal.returns-clause-moved
-returns-clause-moved g c =
-    ap (λ (s : State). s.doc) c.keep.ensures
-    ∙ document_after c.self.inside.frame c.self.inside.borders c.self.inside.vertices c.shift.new.vertices c.self.invariant.holds.whole c.args.self.now.doc (ap (λ z. z.doc) c.self.view_is) c.in_ok-moving.moving.key c.args.p c.args.q c.in_ok-moving.ensures.read.here c.requires.free c.in_ok-shift.ensures.moved
-
-pub returns-clause-recorded : goal.returns-clause-recorded
-returns-clause-recorded g c = ap (λ (s : State). s.last) c.keep.ensures
-
-pub returns-clause-next : goal.returns-clause-next
-returns-clause-next g c = ap (λ (s : State). s.next) c.keep.ensures ∙ ap (λ (s : State). s.next) c.self.view_is
-
-pub returns-clause-places : goal.returns-clause-places
-returns-clause-places g c = ap (λ (s : State). s.places) c.keep.ensures ∙ ap (λ (s : State). s.places) c.self.view_is
-
-pub returns-clause-cells : goal.returns-clause-cells
-returns-clause-cells g c =
-    ap (λ (s : State). s.cells) c.keep.ensures ∙ c.shift.ensures.cells ∙ ap (λ (s : State). s.cells) c.self.view_is
+pub returns-clause-edits : goal.returns-clause-edits
+returns-clause-edits g c =
+    let m = c.in_ok-moving.moving in
+    let r = c.in_ok-moving.ensures.read in
+    is_made
+    (move_decided (stored c.self.inside.frame c.self.inside.borders c.self.inside.vertices) (g.I.SegIndex.held c.self.inside.index) c.self.invariant.holds c.args.self.now.doc (ap (λ z. z.doc) c.self.view_is) m.key c.args.p c.args.q r.here c.requires.vertex c.requires.free m.around.items r.all c.as_slice-after.result.now
+    (c.as_slice-after.ensures.value ∙ r.comes)
+    c.as_slice-around.result.now c.as_slice-around.ensures.value c.in_ok-sweeps.field-0 c.in_ok-test_planar.ensures.apart c.in_ok-sweeps.ensures.sweeps
+    ∙ ap (λ z. first_of ((Sweeps unless not z) ∷ [])) c.if-branch.false)
+    (with_record c.self.invariant c.self.view_is c.self.inside.borders c.shift.new.vertices (g.I.SegIndex.cells c.shift.new.index)
+    (document_after c.self.inside.frame c.self.inside.borders c.self.inside.vertices c.shift.new.vertices c.self.invariant.holds.whole c.args.self.now.doc (ap (λ z. z.doc) c.self.view_is) m.key c.args.p c.args.q r.here c.requires.free c.in_ok-shift.ensures.moved)
+    c.shift.ensures.cells c.keep.ensures)
 
 -- ---- how many tests
 

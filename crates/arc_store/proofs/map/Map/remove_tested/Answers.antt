@@ -1,14 +1,18 @@
-use Rattle.std.proofs.Common.{◌∙◌, ap, arith, subst, sym}
-use Rattle.std.proofs.lemmas.Result.{err_from_is_err_and}
+use Rattle.std.proofs.Common.{◌≡◌, ◌∙◌, refl, ap, arith, subst, sym, None}
 use Rattle.grid_geometry.specs.Segment.{Segment}
 use Rattle.ring_machine.specs.Parts.{is_vertex}
-use Rattle.ring_machine.specs.Vertices.{is_junction}
+use Rattle.ring_machine.specs.Refusals.{first_of, remove_refusals}
+use Rattle.ring_machine.specs.Vertices.{del, is_junction}
 use Rattle.feature_exchange.specs.Stored.{stored, document_of}
+use Rattle.arc_store.specs.Faults.{Refuses}
 use Rattle.arc_store.specs.Recorded.{IsLeftOut}
+use Rattle.arc_store.specs.State.{State}
 use Rattle.arc_store.proofs.Accepted.{remove_may}
 use Rattle.arc_store.proofs.Indexed.{indexed_apart}
 use Rattle.arc_store.proofs.LeftOut.{found_left}
+use Rattle.arc_store.proofs.Outcomes.{is_made, hands_on}
 use Rattle.arc_store.proofs.RemovePlan.{has_bridging, found, found_planned, not_joined, three_apart, taken}
+use Rattle.arc_store.proofs.StateKept.{tested, with_document_tested}
 use Rattle.arc_store.proofs.Tested.{removed_few}
 use Rattle.arc_store.proofs.map.Map.remove_tested.Goals as goal
 
@@ -24,14 +28,6 @@ pub test_remove-requires : goal.test_remove-requires
 test_remove-requires g c = record {
   apart = indexed_apart (document_of (stored c.self.inside.frame c.self.inside.borders c.self.inside.vertices)) (g.I.SegIndex.held c.self.inside.index) c.self.invariant.holds.indexed c.self.invariant.holds.proper;
 }
-
-pub returns-in_err-test_remove-clause-refused : goal.returns-in_err-test_remove-clause-refused
-returns-in_err-test_remove-clause-refused g c =
-    let r = c.in_ok-bridging.ensures.read in
-    let f = found c.self.invariant (ap (λ z. z.doc) c.self.view_is) r.here r.two c.requires.inner c.requires.long c.requires.unjoined in
-    let plan = found_planned f r.a r.b r.first r.second c.in_ok-bridging.bridging.after c.as_slice-before.result.now r.comes (c.as_slice-before.ensures.value ∙ r.goes) in
-    let e = err_from_is_err_and c.from_residual-in_err-test_remove.result c.from_residual-in_err-test_remove.ensures.1 in
-    rw (e.1, e.2, ← c.self.view_is) (c.in_err-test_remove.ensures.refused (document_of (stored c.self.inside.frame c.self.inside.borders c.self.inside.vertices)) plan.removable)
 
 -- ---- the tables
 
@@ -98,21 +94,32 @@ invariant_of-self-2 g c =
     let may = remove_may (document_of s) c.args.p (c.in_ok-test_remove.ensures.accepted (document_of s) plan.removable) in
     rw c.in_ok-rings.ensures.rings (taken f r.first r.second r.comes (c.as_slice-before.ensures.value ∙ r.goes) may c.in_ok-rings.ensures.taken (g.I.SegIndex.held c.take_out.new.index) c.in_ok-rings.ensures.exchanged).kept
 
-pub returns-clause-accepted : goal.returns-clause-accepted
-returns-clause-accepted g c =
-    let r = c.in_ok-bridging.ensures.read in
-    let f = found c.self.invariant (ap (λ z. z.doc) c.self.view_is) r.here r.two c.requires.inner c.requires.long c.requires.unjoined in
-    let plan = found_planned f r.a r.b r.first r.second c.in_ok-bridging.bridging.after c.as_slice-before.result.now r.comes (c.as_slice-before.ensures.value ∙ r.goes) in
-    rw (← c.self.view_is) (c.in_ok-test_remove.ensures.accepted (document_of (stored c.self.inside.frame c.self.inside.borders c.self.inside.vertices)) plan.removable)
+-- ---- what the edit makes
 
-pub returns-clause-removed : goal.returns-clause-removed
-returns-clause-removed g c =
+pub returns-in_err-test_remove-clause-edits : goal.returns-in_err-test_remove-clause-edits
+returns-in_err-test_remove-clause-edits g c =
+    let m = c.self.inside in
     let r = c.in_ok-bridging.ensures.read in
     let f = found c.self.invariant (ap (λ z. z.doc) c.self.view_is) r.here r.two c.requires.inner c.requires.long c.requires.unjoined in
     let plan = found_planned f r.a r.b r.first r.second c.in_ok-bridging.bridging.after c.as_slice-before.result.now r.comes (c.as_slice-before.ensures.value ∙ r.goes) in
-    let s = stored c.self.inside.frame c.self.inside.borders c.self.inside.vertices in
-    let may = remove_may (document_of s) c.args.p (c.in_ok-test_remove.ensures.accepted (document_of s) plan.removable) in
-    rw (← c.self.view_is) (taken f r.first r.second r.comes (c.as_slice-before.ensures.value ∙ r.goes) may c.in_ok-rings.ensures.taken (g.I.SegIndex.held c.take_out.new.index) c.in_ok-rings.ensures.exchanged).doc
+    hands_on c.in_err-test_remove.field-0.0 c.from_residual-in_err-test_remove.result c.from_residual-in_err-test_remove.ensures.1
+    (subst (λ (z : State). Refuses c.in_err-test_remove.field-0.0 (first_of (remove_refusals z.doc c.args.p))) c.self.view_is (c.in_err-test_remove.ensures.refused (document_of (stored m.frame m.borders m.vertices)) plan.removable))
+    (tested c.self.invariant c.self.view_is m.borders m.vertices (g.I.SegIndex.cells m.index) c.test_remove.new.tests refl refl refl)
+
+pub returns-clause-edits : goal.returns-clause-edits
+returns-clause-edits g c =
+    let m = c.self.inside in
+    let r = c.in_ok-bridging.ensures.read in
+    let f = found c.self.invariant (ap (λ z. z.doc) c.self.view_is) r.here r.two c.requires.inner c.requires.long c.requires.unjoined in
+    let plan = found_planned f r.a r.b r.first r.second c.in_ok-bridging.bridging.after c.as_slice-before.result.now r.comes (c.as_slice-before.ensures.value ∙ r.goes) in
+    let s = stored m.frame m.borders m.vertices in
+    let none = c.in_ok-test_remove.ensures.accepted (document_of s) plan.removable in
+    let may = remove_may (document_of s) c.args.p none in
+    is_made (subst (λ (z : State). first_of (remove_refusals z.doc c.args.p) ≡ None) c.self.view_is none)
+    (with_document_tested c.self.invariant c.self.view_is c.take_out.new.borders c.take_out.new.vertices (g.I.SegIndex.cells c.take_out.new.index) c.test_remove.new.tests
+    ((taken f r.first r.second r.comes (c.as_slice-before.ensures.value ∙ r.goes) may c.in_ok-rings.ensures.taken (g.I.SegIndex.held c.take_out.new.index) c.in_ok-rings.ensures.exchanged).doc
+    ∙ ap (λ z. del z.doc c.args.p) c.self.view_is)
+    c.take_out.ensures.cells)
 
 pub returns-clause-left : goal.returns-clause-left
 returns-clause-left g c =
