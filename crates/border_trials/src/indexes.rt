@@ -3,7 +3,7 @@ ghost use Rattle.std.specs.FinSet as set;
 
 use grid_geometry::{Pos, Rect, Seg};
 use linked_list_allocator::LocalHeap;
-use segment_index::{GridIndex, ListIndex, SegIndex, TreeIndex};
+use segment_index::{GridIndex, ListIndex, SegIndex};
 use std::alloc::{AllocError, Global};
 use std::process::Abort;
 use std::test::Fail;
@@ -61,7 +61,6 @@ fn a_segment_is_given_until_it_is_discarded(rt: HostRuntime) -> Result<(), Fail>
     let s = seg(&rt, (0, 0), (10, 10));
     let asked = rect(&rt, (10, 10), (20, 20));
     gives_once(&rt, rt.alloc(), ListIndex::new(rt.alloc()), s, asked)?;
-    gives_once(&rt, rt.alloc(), TreeIndex::new(rt.alloc(), None), s, asked)?;
     let grid = GridIndex::new(rt.alloc(), None)?;
     gives_once(&rt, rt.alloc(), grid, s, asked)
 }
@@ -78,75 +77,7 @@ fn segments_outside_the_extent_are_given(rt: HostRuntime) -> Result<(), Fail> {
         let s = seg(&rt, p, q);
         let grid = GridIndex::new(rt.alloc(), Some(extent))?;
         gives_once(&rt, rt.alloc(), grid, s, s.rect())?;
-        let tree = TreeIndex::new(rt.alloc(), Some(extent));
-        gives_once(&rt, rt.alloc(), tree, s, s.rect())?;
     }
-    Ok(())
-}
-
-/// The segment number k of some small ones near 0 0, long ones, and small ones far away.
-fn drawn<R: Abort>(rt: &R, k: i64) -> Seg {
-    let x = k * 7919 % 1000;
-    let y = k * 104729 % 1009;
-    match k % 8 {
-        0 => seg(rt, (x - 500, y), (x + 100_000, y - 1000)),
-        1 => seg(rt, (REACH - x, y - REACH), (REACH - x - 3, y - REACH + 1)),
-        _ => seg(rt, (x, y), (x + 1 + k % 5, y - k % 7)),
-    }
-}
-
-/// Whether two indexes give the same segments for a box, the order left aside.
-fn give_alike<R: Abort, I: SegIndex, J: SegIndex>(
-    rt: &R,
-    alloc: Global,
-    one: &I,
-    other: &J,
-    asked: Rect,
-) -> Result<usize, Fail> {
-    let mut a = given(alloc, one, asked)?;
-    let mut b = given(alloc, other, asked)?;
-    a.sort_unstable();
-    b.sort_unstable();
-    assert!(rt; a.as_slice() == b.as_slice());
-    Ok(a.len())
-}
-
-// nodes of one, two and more levels, in the window and outside it
-#[test]
-#[tactic(auto, using(segment_index::proofs::Singles::contains_none))]
-fn a_tree_gives_what_a_list_gives(rt: HostRuntime) -> Result<(), Fail> {
-    let all = rect(&rt, (-REACH, -REACH), (REACH, REACH));
-    let mut list = ListIndex::new(rt.alloc());
-    let mut tree = TreeIndex::new(rt.alloc(), Some(rect(&rt, (0, 0), (1000, 1000))));
-    for k in 0..1500i64 {
-        let s = drawn(&rt, k);
-        if given(rt.alloc(), &list, s.rect())?.contains(&s) {
-            continue;
-        }
-        list.add(s)?;
-        tree.add(s)?;
-    }
-    let copied = tree.copy()?;
-    let mut found = 0;
-    for k in 0..200i64 {
-        let s = drawn(&rt, 3 * k);
-        found += give_alike(&rt, rt.alloc(), &list, &copied, s.rect())?;
-    }
-    assert!(rt; found > 200);
-    assert!(rt; give_alike(&rt, rt.alloc(), &list, &tree, all)? > 1000);
-    for k in 0..1000i64 {
-        let s = drawn(&rt, k);
-        if given(rt.alloc(), &tree, s.rect())?.contains(&s) {
-            list.discard(s);
-            tree.discard(s);
-        }
-    }
-    for k in 0..200i64 {
-        let s = drawn(&rt, 5 * k + 700);
-        let _ = give_alike(&rt, rt.alloc(), &list, &tree, s.rect())?;
-    }
-    let left = give_alike(&rt, rt.alloc(), &list, &tree, all)?;
-    assert!(rt; left > 100 && left < 1000);
     Ok(())
 }
 
@@ -260,16 +191,6 @@ fn an_add_refused_leaves_nothing(rt: HostRuntime) -> Result<(), Fail> {
     assert!(rt; refused >= 16 && refused < 40);
     let heap = LocalHeap::new(rt.alloc(), HEAP)?;
     assert!(rt; add_is_refused(&rt, rt.alloc(), &heap, ListIndex::new(&heap), 0)?);
-    // two sides and a list
-    refused = 0;
-    for room in 0..40usize {
-        let heap = LocalHeap::new(rt.alloc(), HEAP)?;
-        let tree = TreeIndex::new(&heap, None);
-        if add_is_refused(&rt, rt.alloc(), &heap, tree, 64 * room)? {
-            refused = room + 1;
-        }
-    }
-    assert!(rt; refused >= 3 && refused < 40);
     Ok(())
 }
 
