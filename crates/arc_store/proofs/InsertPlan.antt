@@ -23,11 +23,11 @@ use Rattle.shared_arcs.specs.Joined.{Joined}
 use Rattle.arc_tables.specs.Rings.{Rings, users_of}
 use Rattle.map_frame.specs.Framed.{Framed}
 use Rattle.arc_store.specs.Edits.{IsInsertable, IsPlaceable}
-use Rattle.vertex_changes.specs.Changes.{PutBetween}
+use Rattle.ring_store.specs.Changes.{PutBetween}
 use Rattle.feature_exchange.specs.Holds.{IsIndexed, Holds}
 use Rattle.arc_store.specs.Kept.{IsKept}
 use Rattle.feature_exchange.specs.Stored.{stored, Stored, document_of}
-use Rattle.vertex_changes.specs.Planned.{AreNew, Exchanges, spokes}
+use Rattle.ring_store.specs.Planned.{AreNew, Exchanges, spokes}
 use Rattle.arc_store.proofs.Around.{come_over, none_joined}
 use Rattle.feature_exchange.proofs.Base.{vertex_key}
 use Rattle.arc_store.proofs.SegmentCounts.{as_many}

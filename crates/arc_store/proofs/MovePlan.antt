@@ -34,19 +34,19 @@ use Rattle.arc_store.specs.declared.fault.EditFault.{EditFault}
 use Rattle.arc_store.specs.declared.fault.EditFault.TheVariants as edit
 use Rattle.map_frame.specs.Framed.{Framed}
 use Rattle.arc_store.specs.Edits.{IsMovable}
-use Rattle.vertex_changes.specs.Changes.{HasMoving}
+use Rattle.ring_store.specs.Changes.{HasMoving}
 use Rattle.arc_store.specs.Faults.{Refuses}
 use Rattle.feature_exchange.specs.Stored.{Stored, document_of, stored}
 use Rattle.feature_exchange.specs.Holds.{IsWhole, IsIndexed, Holds}
 use Rattle.arc_store.specs.Kept.{IsKept}
-use Rattle.vertex_changes.specs.Planned.{AreAround, AreNew, Exchanges, spokes}
+use Rattle.ring_store.specs.Planned.{AreAround, AreNew, Exchanges, spokes}
 use Rattle.ring_machine.proofs.Members.{any_in, in_contains}
 use Rattle.map_opening.proofs.Places.{place_is}
 use Rattle.feature_exchange.proofs.Base.{joined_kept, joined_apart, segments_to, segments_at, vertex_key}
 use Rattle.feature_exchange.proofs.Base.{sweeps_by_joined}
 use Rattle.map_opening.proofs.SegmentLists.{has-eq}
 use Rattle.arc_store.proofs.Indexed.{indexed_ends, indexed_only, indexed_has}
-use Rattle.vertex_changes.proofs.Planned.{any_at}
+use Rattle.ring_store.proofs.Planned.{any_at}
 use Rattle.arc_store.proofs.Insertions.{any_mapped}
 use Rattle.arc_store.proofs.Moved.{segments_to_single, not_there, added_new, added_single}
 use Rattle.arc_store.proofs.Moved.{indexed_moved, reindexed, holds_moved, size_moved, document_moved}

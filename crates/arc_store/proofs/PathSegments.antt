@@ -22,7 +22,7 @@ use Rattle.segment_index.specs.Candidates.{SegmentSet, AreSingle, segment_is, ha
 use Rattle.segment_index.proofs.Singles.{same_segment, times-none}
 use Rattle.ring_parts.proofs.WaySegments.{segments_along}
 use Rattle.feature_exchange.specs.Holds.{IsIndexed}
-use Rattle.vertex_changes.specs.Planned.{AreNew}
+use Rattle.ring_store.specs.Planned.{AreNew}
 
 link_ends : (ps : List Position) (e : Edge) → In e (links ps) → In e.0 ps × In e.1 ps
 link_ends [] e h = absurd h

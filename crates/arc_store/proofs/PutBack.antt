@@ -20,8 +20,8 @@ use Rattle.segment_index.specs.Candidates.{AreSingle, segment_is, has, times_in}
 use Rattle.segment_index.proofs.Singles.{same_segment, times-none}
 use Rattle.map_opening.proofs.SegmentLists.{segment_is-eq, has-eq}
 use Rattle.feature_exchange.proofs.Ends.{two_ends, end_of_two}
-use Rattle.vertex_changes.specs.Many.{comings, goings}
-use Rattle.vertex_changes.specs.declared.removal.Removal.{Removal}
+use Rattle.ring_store.specs.Many.{comings, goings}
+use Rattle.ring_store.specs.declared.removal.Removal.{Removal}
 use Rattle.arc_store.specs.Recorded.{removal_seen}
 use Rattle.arc_store.proofs.Indexed.{end_vertex, vertex_end}
 use Rattle.arc_store.proofs.Insertions.{Comes, border_ends, not_segment, over_segments, segments_come, segments_ins}

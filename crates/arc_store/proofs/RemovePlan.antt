@@ -26,11 +26,11 @@ use Rattle.shared_arcs.specs.Joined.{Joined, AreNeighbours}
 use Rattle.arc_tables.specs.Rings.{Rings, users_of}
 use Rattle.map_frame.specs.Framed.{Framed}
 use Rattle.arc_store.specs.Edits.{IsLeavable, IsRemovable}
-use Rattle.vertex_changes.specs.Changes.{HasBridging, TakenOut}
+use Rattle.ring_store.specs.Changes.{HasBridging, TakenOut}
 use Rattle.feature_exchange.specs.Holds.{IsWhole, IsIndexed, Holds}
 use Rattle.arc_store.specs.Kept.{IsKept}
 use Rattle.feature_exchange.specs.Stored.{stored, Stored, document_of}
-use Rattle.vertex_changes.specs.Planned.{AreNew, Exchanges, spokes}
+use Rattle.ring_store.specs.Planned.{AreNew, Exchanges, spokes}
 use Rattle.arc_store.proofs.Around.{AreTwo, bridged_two, segments_two, sweeps_two, unbridged_two}
 use Rattle.arc_store.proofs.Around.{two_apart, neighbours_none, neighbours_one, neighbours_more}
 use Rattle.map_opening.proofs.Places.{IsKept as IsPlaced, place_is}

@@ -11,7 +11,7 @@ use Rattle.ring_machine.specs.Query.{distinct_segments}
 use Rattle.segment_index.specs.Candidates.{SegmentSet, AreAmong, AreSingle, segment_is, has, times_in}
 use Rattle.segment_index.proofs.Singles.{segment_total, same_sets, is-itself, has-is}
 use Rattle.feature_exchange.specs.Holds.{IsIndexed}
-use Rattle.vertex_changes.specs.Planned.{AreNew, Gains, Exchanges}
+use Rattle.ring_store.specs.Planned.{AreNew, Gains, Exchanges}
 use Rattle.map_opening.proofs.SegmentLists.{has-eq, or_nothing, has_all, single_all}
 
 or_swap : (a b c : Bool) → (a || (b || c)) ≡ (b || (a || c))

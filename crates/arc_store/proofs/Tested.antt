@@ -28,7 +28,7 @@ use Rattle.feature_exchange.specs.Holds.{IsIndexed}
 use Rattle.edit_records.specs.Records.{Record}
 use Rattle.arc_store.specs.Kept.{IsKept, state_of}
 use Rattle.feature_exchange.specs.Stored.{stored, document_of}
-use Rattle.vertex_changes.specs.Planned.{AreAround, AreNew, spokes}
+use Rattle.ring_store.specs.Planned.{AreAround, AreNew, spokes}
 use Rattle.arc_store.specs.State.{State}
 use Rattle.arc_store.proofs.Indexed.{indexed_has}
 use Rattle.arc_store.proofs.InsertPlan.{insertable, insert_new, insert_single, one_single}

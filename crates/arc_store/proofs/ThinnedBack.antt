@@ -28,9 +28,9 @@ use Rattle.edit_records.specs.Records.{IsRemoved}
 use Rattle.feature_exchange.specs.Stored.{Stored, stored, document_of}
 use Rattle.feature_exchange.specs.Holds.{IsWhole, IsIndexed}
 use Rattle.feature_exchange.proofs.Base.{vertex_key, key_vertex}
-use Rattle.vertex_changes.specs.Many.{ArePlaceable, comings, goings, AreKeyed, ArePutBack}
-use Rattle.vertex_changes.specs.Planned.{AreNew, Exchanges}
-use Rattle.vertex_changes.specs.declared.removal.Removal.{Removal}
+use Rattle.ring_store.specs.Many.{ArePlaceable, comings, goings, AreKeyed, ArePutBack}
+use Rattle.ring_store.specs.Planned.{AreNew, Exchanges}
+use Rattle.ring_store.specs.declared.removal.Removal.{Removal}
 use Rattle.arc_store.specs.Edits.{IsPlaceable}
 use Rattle.arc_store.specs.Kept.{IsKept}
 use Rattle.arc_store.specs.Recorded.{removal_seen}

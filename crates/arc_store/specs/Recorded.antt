@@ -7,7 +7,7 @@ use Rattle.ring_machine.specs.Vertices.{around}
 use Rattle.edit_records.specs.Records as machine
 use Rattle.edit_records.specs.Records.{Takes}
 use Rattle.feature_exchange.specs.Changed.{seen}
-use Rattle.vertex_changes.specs.declared.removal.Removal.{Removal}
+use Rattle.ring_store.specs.declared.removal.Removal.{Removal}
 use Rattle.arc_store.specs.State.{State}
 use Rattle.arc_store.specs.declared.edit_record.Record.{Record}
 use Rattle.arc_store.specs.declared.edit_record.Record.TheVariants.{Moved, Inserted, Removed, Thinned, Renamed, Exchanged}

@@ -3,7 +3,7 @@ use feature_exchange::Change;
 use grid_geometry::Pos;
 use map_frame::Id;
 use std::alloc::{Allocator, Global};
-use vertex_changes::Removal;
+use ring_store::Removal;
 
 /// What an edit changed: with it the map can be given the document that it had before.
 #[derive(Drop)]

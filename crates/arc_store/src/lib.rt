@@ -40,4 +40,4 @@ pub use map::Map;
 pub use map_frame::{FeatureView, FrameView, ItemIter, ItemView, RingName};
 pub use path::Path;
 pub use spot::Spot;
-pub use vertex_changes::Removal;
+pub use ring_store::Removal;

@@ -13,7 +13,7 @@ ghost use Rattle.local_planarity.specs.declared.leaving.Leaving.TheVariants.{One
 ghost use Rattle.arc_store.specs.Edits.{IsInsertable, IsPlaceable};
 ghost use Rattle.arc_store.specs.Faults.{Refuses};
 ghost use Rattle.arc_store.specs.Outcomes.{Edits};
-ghost use Rattle.vertex_changes.specs.Planned as planned;
+ghost use Rattle.ring_store.specs.Planned as planned;
 
 use crate::edit_record::Record;
 use crate::fault::EditFault;
@@ -23,7 +23,7 @@ use grid_geometry::{Pos, Seg};
 use local_planarity::{Leaving, TestCount, holds_other};
 use segment_index::SegIndex;
 use std::alloc::{AllocError, Allocator};
-use vertex_changes::{put_in, read_parting};
+use ring_store::{put_in, read_parting};
 
 /// Tests that nothing stands in the way of q between the ends of a segment, which goes while the
 /// added ones come.

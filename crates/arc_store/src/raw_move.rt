@@ -23,7 +23,7 @@ use grid_geometry::Pos;
 use local_planarity::{Leaving, TestCount, crosses_on_way, holds_other};
 use segment_index::SegIndex;
 use std::alloc::{AllocError, Allocator};
-use vertex_changes::{read_moving, shift};
+use ring_store::{read_moving, shift};
 
 /// Whether the edge to one of these sweeps over a position when p moves to q, or p itself passes
 /// over a segment.

@@ -23,7 +23,7 @@ use grid_geometry::{Pos, Seg};
 use local_planarity::{Leaving, TestCount, holds_other};
 use segment_index::SegIndex;
 use std::alloc::{AllocError, Allocator};
-use vertex_changes::{Removal, read_bridging, take_out};
+use ring_store::{Removal, read_bridging, take_out};
 
 /// Tests that p may go from between the ends of a segment.
 fn test_remove<I: SegIndex, A: Allocator + Copy>(

@@ -14,7 +14,7 @@ use crate::map::Map;
 use grid_geometry::Pos;
 use segment_index::SegIndex;
 use std::alloc::Allocator;
-use vertex_changes::Removal;
+use ring_store::Removal;
 
 impl<'a, I: SegIndex, A: Allocator + Copy> Map<'a, I, A> {
     /// Hands out the vertices that the edit has left out so far.

@@ -17,7 +17,7 @@ use grid_geometry::Pos;
 use map_frame::Id;
 use segment_index::SegIndex;
 use std::alloc::{AllocError, Allocator};
-use vertex_changes::{Removal, put_all};
+use ring_store::{Removal, put_all};
 
 impl<'a, I: SegIndex, A: Allocator + Copy> Map<'a, I, A> {
     /// The vertex that moved stands at `from` again.

@@ -23,14 +23,13 @@ use Rattle.edit_records.specs.Records.{IsMap}
 use Rattle.segment_index.specs.Candidates.{SegmentSet}
 use Rattle.feature_exchange.specs.Changed.{feature_seen, seen}
 use Rattle.feature_exchange.specs.Holds.{Holds}
-use Rattle.feature_exchange.specs.Laying.{asked, asked_rings, polygons_in, length_of}
+use Rattle.feature_exchange.specs.Laying.{asked, asked_rings, polygons_in}
 use Rattle.feature_exchange.specs.Ready.{rings_in, coming, FitsForm, all_numbered, had, all_had}
 use Rattle.map_frame.specs.Texts.{with_texts, texts_of}
 use Rattle.feature_exchange.specs.Stored.{Stored}
 use Rattle.feature_exchange.specs.declared.change.Change.{Change}
 use Rattle.feature_exchange.specs.declared.change.WholeFeature.{WholeFeature}
 use Rattle.feature_exchange.proofs.Placed.{numbers, HavePlaces, came_in, coming_size}
-use Rattle.feature_exchange.proofs.Whole.{segments_few}
 
 -- ---- lists
 
@@ -108,25 +107,10 @@ module _ {A : Type 0} where
           all_true is_ring (flat_map asked_rings cs) (λ ring i.
           all_in is_ring (rings (exchanged trees (seen cs) d)) ring map_is.proper.are_rings (asked_in ring i))
 
-      pub asked_size : length_of (flat_map asked_rings cs) ≤ 4000000
-      asked_size =
-          omega (
-            arith,
-            ap (sum_by length) (seen_coming cs),
-            coming_size trees (seen cs) d (seen_own cs) seen_apart seen_places,
-            map_is.small,
-          )
-
       pub asked_fit : (c : ℕ × Option Feature) → In c (seen cs) → FitsForm c.1
       asked_fit c i f e =
           all_in fits_form (features (exchanged trees (seen cs) d)) f map_is.formed.forms
           (came_in trees (seen cs) d (seen_own cs) seen_apart seen_places c i f e)
-
--- with the segments that an index holds they are few
-pub asked_few : {A : Type 0} (s : Stored) (held : SegmentSet) → Holds s held → (cs : List (Change A))
-    → length_of (flat_map asked_rings cs) ≤ 4000000 → (segments : ℕ) → segments ≡ set_of.len held
-    → segments + length_of (flat_map asked_rings cs) ≤ 8000000
-asked_few s held h cs few segments counted = omega (arith, counted, segments_few s held h, few)
 
 -- ---- numbers in the place of rings
 

@@ -27,7 +27,7 @@ use Rattle.edit_records.proofs.ExchangesSeen.{exchanged-rings}
 use Rattle.segment_index.specs.Candidates.{SegmentSet}
 use Rattle.topo_outline.specs.Kept.{KeepsTexts}
 use Rattle.topo_outline.proofs.KeptRings.{keeps-before_rings}
-use Rattle.ring_exchange.specs.Laid.{ring_at}
+use Rattle.ring_store.specs.Laid.{ring_at}
 use Rattle.feature_exchange.specs.Changed.{seen}
 use Rattle.feature_exchange.specs.Holds.{Holds}
 use Rattle.feature_exchange.specs.Laying.{asked_rings}

@@ -14,10 +14,10 @@ use Rattle.ring_machine.proofs.Members.{contains_in, in_contains}
 use Rattle.topo_outline.specs.Kept.{KeepsTexts}
 use Rattle.segment_index.specs.Candidates.{SegmentSet}
 use Rattle.map_opening.proofs.AddedRings.{same_map}
-use Rattle.ring_exchange.specs.Laid.{AreAdded, AreGone, KeepsPlaces, ring_at}
-use Rattle.ring_exchange.specs.Standing.{Stands}
-use Rattle.ring_exchange.proofs.Numbered.{contained_or}
-use Rattle.ring_exchange.proofs.Staying.{ring_at-stays}
+use Rattle.ring_store.specs.Laid.{AreAdded, AreGone, KeepsPlaces, ring_at}
+use Rattle.ring_store.specs.Standing.{Stands}
+use Rattle.ring_store.proofs.Numbered.{contained_or}
+use Rattle.ring_store.proofs.Staying.{ring_at-stays}
 use Rattle.feature_exchange.specs.Holds.{Holds}
 use Rattle.feature_exchange.specs.Stored.{Stored, ring_under, document_of}
 use Rattle.feature_exchange.proofs.Changes.{Changes}

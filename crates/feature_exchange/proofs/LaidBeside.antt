@@ -12,11 +12,11 @@ use Rattle.vertex_index.specs.Placement.{Placement}
 use Rattle.segment_index.specs.Candidates.{SegmentSet}
 use Rattle.arc_tables.specs.Rings.{Rings, edges}
 use Rattle.map_opening.proofs.AddedRings.{same_map}
-use Rattle.ring_exchange.specs.Laid.{numbers_of, ring_at, AreThere, AreAdded, KeepsPlaces}
-use Rattle.ring_exchange.specs.Standing.{Stands}
-use Rattle.ring_exchange.specs.declared.laid.LaidRing.{LaidRing}
-use Rattle.ring_exchange.proofs.Series.{number_there, there_still, there_none, added_first}
-use Rattle.ring_exchange.proofs.Staying.{added_twice, ring_at-stays}
+use Rattle.ring_store.specs.Laid.{numbers_of, ring_at, AreThere, AreAdded, KeepsPlaces}
+use Rattle.ring_store.specs.Standing.{Stands}
+use Rattle.ring_store.specs.declared.laid.LaidRing.{LaidRing}
+use Rattle.ring_store.proofs.Series.{number_there, there_still, there_none, added_first}
+use Rattle.ring_store.proofs.Staying.{added_twice, ring_at-stays}
 use Rattle.feature_exchange.specs.Laying.{AreLaid}
 
 module _ {A : Type 0} where

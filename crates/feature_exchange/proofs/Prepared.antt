@@ -14,7 +14,7 @@ use Rattle.arc_tables.specs.Rings.{Rings}
 use Rattle.map_frame.specs.Naming.{IsOf}
 use Rattle.map_opening.specs.Laying.{feature_numbers}
 use Rattle.segment_index.specs.Candidates.{SegmentSet}
-use Rattle.ring_exchange.specs.Laid.{AreAdded}
+use Rattle.ring_store.specs.Laid.{AreAdded}
 use Rattle.feature_exchange.specs.Changed.{seen}
 use Rattle.feature_exchange.specs.Holds.{Holds}
 use Rattle.feature_exchange.specs.Ready.{coming, IsReady, FitsForm, all_numbered}

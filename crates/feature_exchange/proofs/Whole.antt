@@ -17,7 +17,7 @@ use Rattle.segment_index.specs.Candidates.{SegmentSet, segment_is, has}
 use Rattle.segment_index.proofs.Singles.{segment_total, same_sets}
 use Rattle.map_opening.proofs.KeyRings.{times_edge, edge_times}
 use Rattle.map_opening.proofs.SegmentLists.{has-eq}
-use Rattle.ring_exchange.specs.Standing.{IsSide, Stands}
+use Rattle.ring_store.specs.Standing.{IsSide, Stands}
 use Rattle.feature_exchange.specs.Holds.{IsWhole, Holds}
 use Rattle.feature_exchange.specs.Stored.{Stored, document_of}
 use Rattle.feature_exchange.proofs.Base.{segment_between, segment_iff}

@@ -6,8 +6,9 @@ use Rattle.grid_geometry.specs.Position.{Position}
 use Rattle.vertex_index.specs.Placement.{Placement}
 use Rattle.arc_tables.specs.Rings.{Rings}
 use Rattle.ring_parts.specs.Seen.{polygons_seen}
-use Rattle.ring_exchange.specs.Laid.{numbers_of, ring_at, AreThere, AreAdded, KeepsPlaces}
-use Rattle.ring_exchange.specs.declared.laid.LaidRing.{LaidRing}
+use Rattle.ring_store.specs.Laid.{numbers_of, ring_at, AreThere, AreAdded, KeepsPlaces}
+use Rattle.ring_store.specs.declared.laid.LaidRing.{LaidRing}
+use Rattle.ring_store.specs.declared.tables.RingTables.{RingTables}
 use Rattle.feature_exchange.specs.declared.change.Change.{Change}
 use Rattle.feature_exchange.specs.declared.change.WholeFeature.{WholeFeature}
 
@@ -22,9 +23,10 @@ pub record AreLaid {A : Type 0} (p : Placement) (m : Rings) (laid : List (LaidRi
   pub stands : (r : ℕ) → IsTrue (table.contains_key m r) → IsTrue (table.contains_key n r)
   pub still : (r : ℕ) → IsTrue (table.contains_key m r) → ring_at q n r ≡ ring_at p m r
 
--- the positions of some rings
-abbrev pub length_of : List (List Position) → ℕ
-length_of rings = sum_by length rings
+-- the same of tables
+abbrev pub LaysMore : {I A : Type 0} → RingTables I A → List (LaidRing A) → RingTables I A
+    → List (LaidRing A) → Type 0
+LaysMore t laid u more = AreLaid t.vertices t.borders laid u.vertices u.borders more
 
 module _ {A : Type 0} where
   abbrev pub polygons_in : Option (WholeFeature A) → List (List (List Position))

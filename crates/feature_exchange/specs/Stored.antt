@@ -10,6 +10,7 @@ use Rattle.vertex_index.specs.Placement.{Placement, place}
 use Rattle.arc_tables.specs.Ways.{Edge}
 use Rattle.arc_tables.specs.Rings.{Rings, begins}
 use Rattle.map_frame.specs.Framed.{Framed}
+use Rattle.ring_store.specs.declared.tables.RingTables.{RingTables}
 
 -- what is kept
 pub record Stored : Type 0 where
@@ -20,6 +21,10 @@ pub record Stored : Type 0 where
 -- what is kept with this frame
 abbrev pub stored : Framed → Rings → Placement → Stored
 stored frame rings places = record { frame = frame.doc; rings = rings; places = places }
+
+-- what is kept with this frame in these tables
+abbrev pub stored_in : {I A : Type 0} → Framed → RingTables I A → Stored
+stored_in frame tables = stored frame tables.borders tables.vertices
 
 -- the positions of a ring with these edges, in order
 abbrev pub positions_along : Placement → List Edge → List Position

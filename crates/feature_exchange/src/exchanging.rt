@@ -1,8 +1,7 @@
 // Features given to numbers, each in the place of its number.
-ghost use Rattle.std.specs.Prelude.{◌≡◌, ◌≤◌, ◌<◌, ◌+◌, ◌∷◌, [], ℕ, None, Some, length, map, slice_index_or, slice_set};
+ghost use Rattle.std.specs.Prelude.{◌≡◌, ◌<◌, ◌∷◌, [], ℕ, None, Some, length, map, slice_index_or, slice_set};
 ghost use Rattle.std.specs.Prelude.{IsTrue, IfOk, IfSome, OnOk, OnErr, Contains};
 ghost use Rattle.std.specs.List.{list_all, flat_map, AllByRecursion};
-ghost use Rattle.std.specs.FinSet as set;
 ghost use Rattle.ring_machine.specs.Parts.{feature};
 ghost use Rattle.ring_machine.specs.Refusals.{feature_at};
 ghost use Rattle.ring_machine.specs.Ring.{is_ring};
@@ -11,14 +10,14 @@ ghost use Rattle.edit_records.specs.Places.{exchanged, had_before};
 ghost use Rattle.edit_records.specs.Records.{IsMap};
 ghost use Rattle.map_frame.specs.Naming.{IsOf};
 ghost use Rattle.map_opening.specs.Laying.{feature_numbers};
-ghost use Rattle.ring_exchange.specs.Laid.{numbers_of, ring_at, AreThere};
-ghost use Rattle.ring_exchange.specs.Standing.{Stands};
+ghost use Rattle.ring_store.specs.Laid.{numbers_of};
+ghost use Rattle.ring_store.specs.Tables.{AreStanding, ring_in};
 ghost use Rattle.topo_outline.specs.Kept.{KeepsTexts};
 ghost use Rattle.feature_exchange.specs.Changed.{seen, changed_as, frame_after, next_after, MayGrow};
 ghost use Rattle.feature_exchange.specs.Holds.{Holds};
-ghost use Rattle.feature_exchange.specs.Laying.{AreLaid, length_of, asked, asked_rings};
+ghost use Rattle.feature_exchange.specs.Laying.{LaysMore, asked, asked_rings};
 ghost use Rattle.feature_exchange.specs.Ready.{IsReady, numbered, all_numbered, change_had, all_had, put_in};
-ghost use Rattle.feature_exchange.specs.Stored.{stored, document_of};
+ghost use Rattle.feature_exchange.specs.Stored.{stored_in, document_of};
 ghost use Rattle.feature_exchange.specs.declared.change.Change.{Change};
 
 use crate::change::{Change, WholeFeature};
@@ -27,12 +26,10 @@ use crate::numbers::{laid_numbers, push_features};
 use crate::reading::read_features;
 use grid_geometry::Pos;
 use map_frame::Frame;
-use ring_exchange::{LaidRing, gather_rings, take_out_rings};
+use ring_store::{LaidRing, RingTables, gather_rings, take_out_rings};
 use segment_index::SegIndex;
-use shared_arcs::Borders;
 use std::alloc::{AllocError, Allocator};
 use std::mem;
-use vertex_index::Vertices;
 
 /// Gives a number its feature, whose rings have these numbers, and keeps what it had, with these
 /// polygons. Takes no memory.
@@ -143,59 +140,51 @@ fn make_room<'a, A: Allocator + Copy>(
 /// new number comes directly after it first; afterwards `changes` holds what the numbers had before.
 /// Fails for want of memory alone, and then changes nothing.
 pub fn exchange_features<'a, I: SegIndex, A: Allocator + Copy>(
-    alloc: A,
     frame: &mut Frame<'a, A>,
-    vertices: &mut Vertices<A>,
-    borders: &mut Borders<A>,
-    index: &mut I,
-    segments: &mut usize,
+    tables: &mut RingTables<I, A>,
     after: Option<u32>,
     changes: &mut [Change<'a, A>],
 ) -> Result<(), AllocError>
-    requires holds { Holds (stored frame.old borders.old vertices.old) (I.held index.old) }
-    requires counted { segments.old ≡ set.len (I.held index.old) }
+    requires holds { Holds (stored_in frame.old tables.old) tables.old.index.held }
     requires apart { IsTrue (are_distinct (map (λ c. c.number) changes.old)) }
     requires below { AllByRecursion (λ c. c.number < next_after after frame.old) changes.old }
     requires grows { IfSome after
-        (MayGrow (document_of (stored frame.old borders.old vertices.old)) frame.old.next) }
+        (MayGrow (document_of (stored_in frame.old tables.old)) frame.old.next) }
     requires map { IsMap (changed_as after frame.old changes.old
-        (document_of (stored frame.old borders.old vertices.old))) }
+        (document_of (stored_in frame.old tables.old))) }
     requires texts { KeepsTexts (changed_as after frame.old changes.old
-        (document_of (stored frame.old borders.old vertices.old))) }
-    ensures exchanged { OnOk result (document_of (stored frame.new borders.new vertices.new)
+        (document_of (stored_in frame.old tables.old))) }
+    ensures exchanged { OnOk result (document_of (stored_in frame.new tables.new)
         ≡ changed_as after frame.old changes.old
-        (document_of (stored frame.old borders.old vertices.old))) }
+        (document_of (stored_in frame.old tables.old))) }
     ensures had { OnOk result (seen changes.new
-        ≡ had_before (document_of (stored frame.old borders.old vertices.old)) (seen changes.old)) }
+        ≡ had_before (document_of (stored_in frame.old tables.old)) (seen changes.old)) }
     ensures next { OnOk result (frame.new.next ≡ next_after after frame.old) }
     ensures places { OnOk result (frame.new.places ≡ (frame_after after frame.old).places) }
-    ensures unchanged { OnErr result (document_of (stored frame.new borders.new vertices.new)
-        ≡ document_of (stored frame.old borders.old vertices.old)) }
+    ensures unchanged { OnErr result (document_of (stored_in frame.new tables.new)
+        ≡ document_of (stored_in frame.old tables.old)) }
     ensures next_still { OnErr result (frame.new.next ≡ frame.old.next) }
     ensures places_still { OnErr result (frame.new.places ≡ frame.old.places) }
     ensures changes_still { OnErr result (changes.new ≡ changes.old) }
-    ensures holds { Holds (stored frame.new borders.new vertices.new) (I.held index.new) }
-    ensures counted { segments.new ≡ set.len (I.held index.new) }
-    ensures cells { I.cells index.new ≡ I.cells index.old }
+    ensures holds { Holds (stored_in frame.new tables.new) tables.new.index.held }
+    ensures cells { tables.new.index.cells ≡ tables.old.index.cells }
 {
     // where numbers stand, before anything is laid
     let _ = frame.next();
-    let read = read_features(alloc, frame, vertices, borders, changes)?;
-    let mut numbers = Vec::new(alloc);
+    let read = read_features(frame, tables, changes)?;
+    let mut numbers = Vec::new(tables.alloc);
     push_features(frame, changes, &mut numbers)?;
-    let gone = gather_rings(alloc, borders, numbers.as_slice())?;
-    let mut laid = Vec::new(alloc);
-    match lay_ready(
-        alloc, frame, vertices, borders, index, segments, after, changes, &mut laid,
-    ) {
+    let gone = gather_rings(tables.alloc, &tables.borders, numbers.as_slice())?;
+    let mut laid = Vec::new(tables.alloc);
+    match lay_ready(frame, tables, after, changes, &mut laid) {
         Ok(came) => {
             let _ = frame.next();
             exchange_each(frame, changes, read, came);
-            take_out_rings(vertices, borders, index, segments, gone.as_slice());
+            take_out_rings(tables, gone.as_slice());
             Ok(())
         }
         Err(e) => {
-            take_out_rings(vertices, borders, index, segments, laid.as_slice());
+            take_out_rings(tables, laid.as_slice());
             Err(e)
         }
     }
@@ -204,42 +193,35 @@ pub fn exchange_features<'a, I: SegIndex, A: Allocator + Copy>(
 /// Lays the rings of the features that are to come, and makes room for them in the frame. Where that
 /// fails for want of memory, some of them are laid.
 fn lay_ready<'a, I: SegIndex, A: Allocator + Copy>(
-    alloc: A,
     frame: &mut Frame<'a, A>,
-    vertices: &mut Vertices<A>,
-    borders: &mut Borders<A>,
-    index: &mut I,
-    segments: &mut usize,
+    tables: &mut RingTables<I, A>,
     after: Option<u32>,
     changes: &[Change<'a, A>],
     laid: &mut Vec<LaidRing<A>, A>,
 ) -> Result<Vec<Vec<Vec<usize, A>, A>, A>, AllocError>
     requires grows { IfSome after (MayGrow frame.old.doc frame.old.next) }
-    requires stands { Stands vertices.old borders.old (I.held index.old) }
+    requires stand { AreStanding tables.old }
     requires rings { IsTrue (list_all is_ring (flat_map asked_rings changes.now)) }
     requires none { laid.old.items ≡ [] }
-    requires counted { segments.old ≡ set.len (I.held index.old) }
-    requires small { segments.old + length_of (flat_map asked_rings changes.now) ≤ 8000000 }
-    ensures stands { Stands vertices.new borders.new (I.held index.new) }
-    ensures laid { AreLaid vertices.old borders.old [] vertices.new borders.new laid.new.items }
+    ensures stand { AreStanding tables.new }
+    ensures laid { LaysMore tables.old [] tables.new laid.new.items }
     ensures numbers { IfOk result (λ lists. numbers_of laid.new.items
         ≡ flat_map (λ l. flat_map (λ p. p) (feature_numbers l)) lists.items) }
     ensures at { IfOk result (λ lists. map
-        (λ l. map (map (ring_at vertices.new borders.new)) (feature_numbers l)) lists.items
+        (λ l. map (map (ring_in tables.new)) (feature_numbers l)) lists.items
         ≡ map asked changes.now) }
     ensures ok { OnOk result (frame.new
         ≡ record (frame_after after frame.old) { room = frame.new.room }) }
     ensures room { OnOk result ((r : ℕ) → IsOf (numbers_of laid.new.items) r
         → r < frame.new.room) }
     ensures err { OnErr result (frame.new ≡ record frame.old { room = frame.new.room }) }
-    ensures counted { segments.new ≡ set.len (I.held index.new) }
-    ensures cells { I.cells index.new ≡ I.cells index.old }
+    ensures cells { tables.new.index.cells ≡ tables.old.index.cells }
 {
-    let lists = match lay_features(alloc, vertices, borders, index, segments, changes, laid) {
+    let lists = match lay_features(tables, changes, laid) {
         Ok(lists) => lists,
         Err(e) => return Err(e),
     };
-    match make_room(alloc, frame, after, laid.as_slice()) {
+    match make_room(tables.alloc, frame, after, laid.as_slice()) {
         Ok(()) => Ok(lists),
         Err(e) => Err(e),
     }

@@ -7,14 +7,15 @@ ghost use Rattle.map_opening.specs.Laying.{polygon_numbers};
 ghost use Rattle.ring_parts.specs.Seen.{rings_seen, polygons_seen};
 ghost use Rattle.vertex_index.specs.Placement.{place};
 ghost use Rattle.feature_exchange.specs.Holds.{IsWhole};
-ghost use Rattle.feature_exchange.specs.Stored.{stored, document_of};
+ghost use Rattle.feature_exchange.specs.Stored.{stored_in, document_of};
 ghost use Rattle.feature_exchange.specs.Along.{AlongVertices, ring_in};
 
 use crate::change::Change;
 use grid_geometry::Pos;
 use map_frame::Frame;
 use ring_parts::canonical;
-use shared_arcs::Borders;
+use ring_store::RingTables;
+use segment_index::SegIndex;
 use std::alloc::{AllocError, Allocator};
 use vertex_index::{VertexKey, Vertices};
 
@@ -35,58 +36,52 @@ pub(crate) fn positions_under<A: Allocator + Copy>(
 }
 
 /// The ring with a number, from its least position on. Fails for want of memory alone.
-fn ring_positions<A: Allocator + Copy>(
-    alloc: A,
-    vertices: &Vertices<A>,
-    borders: &Borders<A>,
+fn ring_positions<I: SegIndex, A: Allocator + Copy>(
+    tables: &RingTables<I, A>,
     r: usize,
 ) -> Result<Vec<Pos, A>, AllocError>
-    requires held { table.contains_key borders.now r ≡ true }
-    requires along { AlongVertices vertices.now borders.now }
-    ensures { IfOk result (λ ring. ring.items ≡ ring_in vertices.now borders.now r) }
+    requires held { table.contains_key tables.now.borders r ≡ true }
+    requires along { AlongVertices tables.now.vertices tables.now.borders }
+    ensures { IfOk result (λ ring. ring.items ≡ ring_in tables.now.vertices tables.now.borders r) }
 {
-    let mut keys = Vec::new(alloc);
-    borders.push_keys(r, &mut keys)?;
-    let found = positions_under(alloc, vertices, keys.as_slice())?;
-    canonical(alloc, found.as_slice())
+    let mut keys = Vec::new(tables.alloc);
+    tables.borders.push_keys(r, &mut keys)?;
+    let found = positions_under(tables.alloc, &tables.vertices, keys.as_slice())?;
+    canonical(tables.alloc, found.as_slice())
 }
 
 /// The rings with these numbers, in order. Fails for want of memory alone.
-fn polygon_positions<A: Allocator + Copy>(
-    alloc: A,
-    vertices: &Vertices<A>,
-    borders: &Borders<A>,
+fn polygon_positions<I: SegIndex, A: Allocator + Copy>(
+    tables: &RingTables<I, A>,
     rings: &[usize],
 ) -> Result<Vec<Vec<Pos, A>, A>, AllocError>
-    requires held { (r : ℕ) → Contains rings.now r → table.contains_key borders.now r ≡ true }
-    requires along { AlongVertices vertices.now borders.now }
+    requires held { (r : ℕ) → Contains rings.now r → table.contains_key tables.now.borders r ≡ true }
+    requires along { AlongVertices tables.now.vertices tables.now.borders }
     ensures { IfOk result (λ polygon. rings_seen polygon.items
-        ≡ map (ring_in vertices.now borders.now) rings.now) }
+        ≡ map (ring_in tables.now.vertices tables.now.borders) rings.now) }
 {
-    let mut polygon = Vec::new(alloc);
+    let mut polygon = Vec::new(tables.alloc);
     for r in rings {
-        let ring = ring_positions(alloc, vertices, borders, *r)?;
+        let ring = ring_positions(tables, *r)?;
         polygon.push(ring)?;
     }
     Ok(polygon)
 }
 
 /// The rings of these polygons, in order. Fails for want of memory alone.
-pub(crate) fn feature_positions<A: Allocator + Copy>(
-    alloc: A,
-    vertices: &Vertices<A>,
-    borders: &Borders<A>,
+pub(crate) fn feature_positions<I: SegIndex, A: Allocator + Copy>(
+    tables: &RingTables<I, A>,
     polygons: &[Vec<usize, A>],
 ) -> Result<Vec<Vec<Vec<Pos, A>, A>, A>, AllocError>
     requires held { (r : ℕ) → Contains (flat_map polygon_numbers polygons.now) r
-        → table.contains_key borders.now r ≡ true }
-    requires along { AlongVertices vertices.now borders.now }
+        → table.contains_key tables.now.borders r ≡ true }
+    requires along { AlongVertices tables.now.vertices tables.now.borders }
     ensures { IfOk result (λ found. polygons_seen found.items
-        ≡ map (map (ring_in vertices.now borders.now)) (map polygon_numbers polygons.now)) }
+        ≡ map (map (ring_in tables.now.vertices tables.now.borders)) (map polygon_numbers polygons.now)) }
 {
-    let mut found = Vec::new(alloc);
+    let mut found = Vec::new(tables.alloc);
     for rings in polygons {
-        let polygon = polygon_positions(alloc, vertices, borders, rings.as_slice())?;
+        let polygon = polygon_positions(tables, rings.as_slice())?;
         found.push(polygon)?;
     }
     Ok(found)
@@ -94,39 +89,35 @@ pub(crate) fn feature_positions<A: Allocator + Copy>(
 
 /// The polygons of feature `n` of these tables, each ring as its positions from the least one on, the
 /// outer ring first; none where no feature has the number. Fails for want of memory alone.
-pub fn read_polygons<'a, A: Allocator + Copy>(
-    alloc: A,
+pub fn read_polygons<'a, I: SegIndex, A: Allocator + Copy>(
     frame: &Frame<'a, A>,
-    vertices: &Vertices<A>,
-    borders: &Borders<A>,
+    tables: &RingTables<I, A>,
     n: u32,
 ) -> Result<Vec<Vec<Vec<Pos, A>, A>, A>, AllocError>
-    requires { IsWhole (stored frame.now borders.now vertices.now) }
+    requires { IsWhole (stored_in frame.now tables.now) }
     ensures { IfOk result (λ found. polygons_seen found.items
-        ≡ (feature_at (document_of (stored frame.now borders.now vertices.now)) n).polygons) }
+        ≡ (feature_at (document_of (stored_in frame.now tables.now)) n).polygons) }
 {
     match frame.polygons(n) {
-        Some(polygons) => feature_positions(alloc, vertices, borders, polygons),
-        None => Ok(Vec::new(alloc)),
+        Some(polygons) => feature_positions(tables, polygons),
+        None => Ok(Vec::new(tables.alloc)),
     }
 }
 
 /// The polygons that these numbers have. Fails for want of memory alone.
-pub(crate) fn read_features<'a, A: Allocator + Copy>(
-    alloc: A,
+pub(crate) fn read_features<'a, I: SegIndex, A: Allocator + Copy>(
     frame: &Frame<'a, A>,
-    vertices: &Vertices<A>,
-    borders: &Borders<A>,
+    tables: &RingTables<I, A>,
     changes: &[Change<'a, A>],
 ) -> Result<Vec<Vec<Vec<Vec<Pos, A>, A>, A>, A>, AllocError>
-    requires { IsWhole (stored frame.now borders.now vertices.now) }
+    requires { IsWhole (stored_in frame.now tables.now) }
     ensures { IfOk result (λ found. map (λ p. polygons_seen p.items) found.items
-        ≡ map (λ c. (feature_at (document_of (stored frame.now borders.now vertices.now))
+        ≡ map (λ c. (feature_at (document_of (stored_in frame.now tables.now))
         c.number).polygons) changes.now) }
 {
-    let mut found = Vec::new(alloc);
+    let mut found = Vec::new(tables.alloc);
     for change in changes {
-        found.push(read_polygons(alloc, frame, vertices, borders, change.number)?)?;
+        found.push(read_polygons(frame, tables, change.number)?)?;
     }
     Ok(found)
 }

@@ -10,14 +10,16 @@ ghost use Rattle.arc_tables.specs.Rings.{begins};
 ghost use Rattle.map_opening.specs.Laying.{polygon_numbers};
 ghost use Rattle.feature_exchange.specs.Along.{AreAlong};
 ghost use Rattle.feature_exchange.specs.Holds.{IsWhole};
-ghost use Rattle.feature_exchange.specs.Stored.{stored, document_of, edges_under};
+ghost use Rattle.feature_exchange.specs.Stored.{stored_in, document_of, edges_under};
 
 use crate::reading::positions_under;
 use grid_geometry::Pos;
 use map_frame::Frame;
+use ring_store::RingTables;
+use segment_index::SegIndex;
 use shared_arcs::Borders;
 use std::alloc::{AllocError, Allocator};
-use vertex_index::{VertexKey, Vertices};
+use vertex_index::VertexKey;
 
 /// Appends the keys of these rings. Fails for want of memory alone.
 fn push_polygon_keys<A: Allocator + Copy>(
@@ -83,19 +85,17 @@ fn sort_once<A: Allocator + Copy>(found: &mut Vec<Pos, A>)
 
 /// The positions of all vertices of these tables, ascending, each once. Walks the map. Fails for want
 /// of memory alone.
-pub fn read_vertices<'a, A: Allocator + Copy>(
-    alloc: A,
+pub fn read_vertices<'a, I: SegIndex, A: Allocator + Copy>(
     frame: &Frame<'a, A>,
-    vertices: &Vertices<A>,
-    borders: &Borders<A>,
+    tables: &RingTables<I, A>,
 ) -> Result<Vec<Pos, A>, AllocError>
-    requires whole { IsWhole (stored frame.now borders.now vertices.now) }
+    requires whole { IsWhole (stored_in frame.now tables.now) }
     requires distinct { IsTrue (are_distinct (map (λ f. f.number) (features frame.now.doc))) }
     ensures { IfOk result (λ found. found.items
-        ≡ query.vertices (document_of (stored frame.now borders.now vertices.now))) }
+        ≡ query.vertices (document_of (stored_in frame.now tables.now))) }
 {
-    let keys = all_keys(alloc, borders, frame)?;
-    let mut found = positions_under(alloc, vertices, keys.as_slice())?;
+    let keys = all_keys(tables.alloc, &tables.borders, frame)?;
+    let mut found = positions_under(tables.alloc, &tables.vertices, keys.as_slice())?;
     sort_once(&mut found);
     Ok(found)
 }

@@ -4,12 +4,12 @@ ghost use Rattle.std.specs.List.{list_all, sum_by};
 ghost use Rattle.std.specs.FinSet as set;
 ghost use Rattle.grid_geometry.specs.Position.{position};
 ghost use Rattle.ring_machine.specs.Ring.{is_ring};
-ghost use Rattle.ring_exchange.specs.Laid.{AreThere};
-ghost use Rattle.ring_exchange.specs.Standing.{Stands};
+ghost use Rattle.ring_store.specs.Laid.{AreThere};
+ghost use Rattle.ring_store.specs.Standing.{Stands};
 
 use grid_geometry::Pos;
 use refusing_allocator::Refusing;
-use ring_exchange::{LaidRing, gather_rings, lay_rings, take_out_rings};
+use ring_store::{LaidRing, gather_rings, lay_rings, take_out_rings};
 use segment_index::ListIndex;
 use shared_arcs::Borders;
 use std::alloc::{AllocError, Allocator, Global};

@@ -1,20 +1,20 @@
 use Rattle.std.proofs.Common.{ap, ◌∙◌}
-use Rattle.ring_exchange.specs.Laid.{numbers_of}
-use Rattle.ring_exchange.proofs.Series.{back_again}
+use Rattle.ring_store.specs.Laid.{numbers_of}
+use Rattle.ring_store.proofs.Series.{back_again}
 use Rattle.feature_exchange.proofs.LaidBeside.{laid_more, laid_as}
 use Rattle.feature_exchange.proofs.laying.lay_polygon.Goals as goal
 
 pub returns-in-Ok-append_laid-clause-laid : goal.returns-in-Ok-append_laid-clause-laid
 returns-in-Ok-append_laid-clause-laid g c =
-    laid_more c.args.vertices.now c.lay_rings.new.vertices c.args.borders.now c.lay_rings.new.borders (g.I.SegIndex.held c.args.index.now) (g.I.SegIndex.held c.lay_rings.new.index)
-    c.args.laid.now.items c.in-Ok.came.items c.append_laid.new.laid.items c.requires.stands c.lay_rings.ensures.stands c.in-Ok.ensures.there c.in-Ok.ensures.added c.lay_rings.ensures.kept
+    laid_more c.args.tables.now.vertices c.lay_rings.new.tables.vertices c.args.tables.now.borders c.lay_rings.new.tables.borders c.args.tables.now.index.held c.lay_rings.new.tables.index.held
+    c.args.laid.now.items c.in-Ok.came.items c.append_laid.new.laid.items c.requires.stand c.lay_rings.ensures.stand c.in-Ok.ensures.there c.in-Ok.ensures.added c.lay_rings.ensures.kept
     c.in-Ok-append_laid.ensures.appended
 
 pub returns-clause-laid : goal.returns-clause-laid
 returns-clause-laid g c =
-    let back = back_again c.args.vertices.now c.lay_rings.new.vertices c.take_out_rings.new.vertices c.args.borders.now c.lay_rings.new.borders c.take_out_rings.new.borders
-    (g.I.SegIndex.held c.args.index.now) (g.I.SegIndex.held c.take_out_rings.new.index) (numbers_of c.in-Ok.came.items) (numbers_of c.as_slice.result.now)
-    c.requires.stands c.take_out_rings.ensures.stands c.in-Ok.ensures.added (ap numbers_of (c.as_slice.ensures.value ∙ c.in-Err-append_laid.ensures.still)) c.take_out_rings.ensures.gone
+    let back = back_again c.args.tables.now.vertices c.lay_rings.new.tables.vertices c.take_out_rings.new.tables.vertices c.args.tables.now.borders c.lay_rings.new.tables.borders c.take_out_rings.new.tables.borders
+    c.args.tables.now.index.held c.take_out_rings.new.tables.index.held (numbers_of c.in-Ok.came.items) (numbers_of c.as_slice.result.now)
+    c.requires.stand c.take_out_rings.ensures.stand c.in-Ok.ensures.added (ap numbers_of (c.as_slice.ensures.value ∙ c.in-Err-append_laid.ensures.still)) c.take_out_rings.ensures.gone
     c.lay_rings.ensures.kept c.take_out_rings.ensures.places in
-    laid_as c.args.vertices.now c.args.borders.now c.args.laid.now.items c.take_out_rings.new.vertices c.take_out_rings.new.borders c.append_laid.new.laid.items
+    laid_as c.args.tables.now.vertices c.args.tables.now.borders c.args.laid.now.items c.take_out_rings.new.tables.vertices c.take_out_rings.new.tables.borders c.append_laid.new.laid.items
     back.1 back.0 c.in-Err-append_laid.ensures.err

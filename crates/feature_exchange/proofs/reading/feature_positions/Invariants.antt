@@ -8,4 +8,4 @@ use Rattle.feature_exchange.proofs.reading.feature_positions.Given as goal
 abbrev pub invariant-loop-rings : goal.invariant-loop-rings
 invariant-loop-rings g l =
     polygons_seen l.found.items
-    ≡ map (map (ring_in l.vertices l.borders)) (map polygon_numbers (take l.rings-index l.polygons))
+    ≡ map (map (ring_in l.tables.vertices l.tables.borders)) (map polygon_numbers (take l.rings-index l.polygons))

@@ -8,4 +8,4 @@ use Rattle.feature_exchange.proofs.reading.read_features.Given as goal
 abbrev pub invariant-loop-change : goal.invariant-loop-change
 invariant-loop-change g l =
     map (λ p. polygons_seen p.items) l.found.items
-    ≡ map (λ c. (feature_at (document_of (stored l.frame l.borders l.vertices)) c.number).polygons) (take l.change-index l.changes)
+    ≡ map (λ c. (feature_at (document_of (stored l.frame l.tables.borders l.tables.vertices)) c.number).polygons) (take l.change-index l.changes)

@@ -10,10 +10,10 @@ all_keys-requires-clause-held g c = λ r h. (c.requires.whole.named r).0 h
 
 pub positions_under-requires : goal.positions_under-requires
 positions_under-requires g c =
-    subst (λ ks. (k : ℕ) → Contains ks k → table.contains_key c.args.vertices.now k ≡ true) (sym c.as_slice.ensures.value)
-    (keys_placed (stored c.args.frame.now c.args.borders.now c.args.vertices.now) c.requires.whole c.in_ok-keys.keys.items c.in_ok-keys.ensures)
+    subst (λ ks. (k : ℕ) → Contains ks k → table.contains_key c.args.tables.now.vertices k ≡ true) (sym c.as_slice.ensures.value)
+    (keys_placed (stored c.args.frame.now c.args.tables.now.borders c.args.tables.now.vertices) c.requires.whole c.in_ok-keys.keys.items c.in_ok-keys.ensures)
 
 pub returns : goal.returns
 returns g c =
-    vertices_found (stored c.args.frame.now c.args.borders.now c.args.vertices.now) c.requires.whole c.in_ok-keys.keys.items c.in_ok-keys.ensures c.in_ok-found.found.items c.sort_once.new.found.items
-    (c.in_ok-found.ensures ∙ ap (map (place c.args.vertices.now)) c.as_slice.ensures.value) c.sort_once.ensures
+    vertices_found (stored c.args.frame.now c.args.tables.now.borders c.args.tables.now.vertices) c.requires.whole c.in_ok-keys.keys.items c.in_ok-keys.ensures c.in_ok-found.found.items c.sort_once.new.found.items
+    (c.in_ok-found.ensures ∙ ap (map (place c.args.tables.now.vertices)) c.as_slice.ensures.value) c.sort_once.ensures

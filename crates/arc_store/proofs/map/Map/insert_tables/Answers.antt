@@ -4,7 +4,7 @@ use Rattle.ring_machine.specs.Vertices.{ins}
 use Rattle.segment_index.specs.Candidates.{AreSingle}
 use Rattle.feature_exchange.specs.Stored.{stored, document_of}
 use Rattle.arc_store.specs.Edits.{IsPlaceable}
-use Rattle.vertex_changes.specs.Planned.{AreNew}
+use Rattle.ring_store.specs.Planned.{AreNew}
 use Rattle.arc_store.specs.State.{State}
 use Rattle.arc_store.proofs.InsertPlan.{first_key, second_key, insert_off, insert_new, insert_single}
 use Rattle.arc_store.proofs.InsertPlan.{insert_unjoined, doc_inserted, size_grows, kept_inserted}

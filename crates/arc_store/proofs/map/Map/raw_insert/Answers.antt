@@ -3,7 +3,7 @@ use Rattle.ring_machine.specs.Refusals.{first_of, insert_refusals}
 use Rattle.ring_machine.specs.Vertices.{ins}
 use Rattle.segment_index.specs.Candidates.{AreSingle}
 use Rattle.feature_exchange.specs.Stored.{stored, document_of}
-use Rattle.vertex_changes.specs.Planned.{AreNew}
+use Rattle.ring_store.specs.Planned.{AreNew}
 use Rattle.arc_store.specs.Faults.{Refuses}
 use Rattle.arc_store.specs.State.{State}
 use Rattle.arc_store.proofs.Accepted.{insert_may}

@@ -1,7 +1,0 @@
-use Rattle.std.proofs.Common.{inl, refl, ◌∙◌}
-use Rattle.ring_exchange.proofs.Visited.{used_visited}
-use Rattle.ring_exchange.proofs.lonely.remove_unused.Goals as goal
-
-pub returns-else-uses_along-eq0 : goal.returns-else-uses_along-eq0
-returns-else-uses_along-eq0 g c =
-    inl (used_visited c.args.borders.now c.requires.round c.args.k c.args.next (λ e. c.if-uses_along-eq0.false (c.uses_along.ensures ∙ e)), refl)

@@ -1,0 +1,61 @@
+-- The positions around a vertex, from the list of what is joined to it.
+use Rattle.std.proofs.Common.{◌≡◌, ◌<◌, ℕ, true, sym, ap, ◌∙◌, subst, List, [], ◌++◌, map, length}
+use Rattle.std.proofs.Common.{get_or, Contains, Bool, false, refl, ◌≢◌, ◌∷◌, inl, inr, Some}
+use Rattle.std.specs.FinMap as table
+use Rattle.grid_geometry.specs.Position.{Position}
+use Rattle.vertex_index.specs.Placement.{Placement, place}
+use Rattle.arc_tables.specs.Rings.{Rings}
+use Rattle.shared_arcs.specs.Joined.{Joined, AreNeighbours}
+use Rattle.shared_arcs.specs.declared.around.Neighbours.TheVariants.{Two}
+use Rattle.map_opening.proofs.Places.{place_is}
+use Rattle.shared_arcs.specs.Listing.{ListsJoined}
+use Rattle.ring_machine.specs.Ring.{has}
+use Rattle.ring_machine.proofs.First.{In}
+use Rattle.ring_machine.proofs.Members.{in_mapped, in_contains}
+use Rattle.ring_machine.proofs.Neighbours.{has-in}
+use Rattle.ring_store.specs.Planned.{ArePlaced, AreAround}
+use Rattle.ring_store.proofs.Planned.{all_different}
+
+module _ (places : Placement) (m : Rings) (k : ℕ) (old new : List ℕ) (lists : ListsJoined m k old new) (none : old ≡ []) where
+  all_new : new ≡ lists.found
+  all_new = lists.appended ∙ ap (λ z. z ++ lists.found) none
+
+  -- each of them is kept
+  pub key_placed : ArePlaced places m k → (i x : ℕ) → i < length new → x ≡ get_or new i x
+      → table.contains_key places x ≡ true
+  key_placed placed i x l e =
+      placed x ((lists.all x).0 (subst (λ z. Contains z x) all_new (i, l, sym e)))
+
+  pub around_is : (around : List Position) → around ≡ map (place places) new
+      → AreAround places m k around
+  around_is around e = record {
+    keys = lists.found;
+    joined = lists.all;
+    once = all_different lists.found lists.once;
+    are = e ∙ ap (map (place places)) all_new;
+  }
+
+-- a position that none of them has
+pub not_around : (places : Placement) (m : Rings) (k : ℕ) (around : List Position)
+    → AreAround places m k around → (p : Position)
+    → ((x : ℕ) → Joined m k x → place places x ≢ p) → has around p ≡ false
+not_around places m k around r p differ = by (has around p) refl
+  where
+    by : (b : Bool) → has around p ≡ b → has around p ≡ false
+    by false e = e
+    by true e =
+        let x = in_mapped (place places) p r.keys (subst (In p) r.are (has-in p around e)) in
+        absurd (differ x.0 ((r.joined x.0).0 (in_contains r.keys x.0 x.1)) x.2)
+
+-- a position that neither of two has
+pub off_two : (places : Placement) (m : Rings) (k i j : ℕ) → AreNeighbours m k (Two i j)
+    → (p : Position) → ((x : ℕ) → Joined m k x → place places x ≢ p) → (a b : Position)
+    → table.get places i ≡ Some a → table.get places j ≡ Some b → has (a ∷ b ∷ []) p ≡ false
+off_two places m k i j two p differ a b first second = by (has (a ∷ b ∷ []) p) refl
+  where
+    by : (c : Bool) → has (a ∷ b ∷ []) p ≡ c → has (a ∷ b ∷ []) p ≡ false
+    by false e = e
+    by true e = absurd (elim (has-in p (a ∷ b ∷ []) e) [
+      | inl n ↦ differ i ((two.1 i).1 (inl refl)) (place_is places i a first ∙ n)
+      | inr n ↦ elim n [ inl o ↦ differ j ((two.1 j).1 (inr refl)) (place_is places j b second ∙ o) | inr o ↦ o ]
+    ])

@@ -1,0 +1,13 @@
+use Rattle.std.proofs.Common.{◌≤◌, ◌+◌, take, length}
+use Rattle.std.specs.Prelude.{vec_len, vec_capacity}
+use Rattle.vertex_index.specs.Placement.{AreDistinct}
+use Rattle.ring_store.proofs.Keys.{IsRead}
+use Rattle.ring_store.proofs.keying.key_ring.Given as goal
+
+-- the positions so far
+abbrev pub invariant-loop-p : goal.invariant-loop-p
+invariant-loop-p g l = record {
+  read : IsRead l.initial.vertices l.vertices l.keys.items (take l.p-index l.ring);
+  distinct : AreDistinct l.vertices;
+  room : vec_len l.keys + length l.ring ≤ vec_capacity l.keys + l.p-index;
+}

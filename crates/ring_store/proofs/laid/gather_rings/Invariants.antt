@@ -1,0 +1,12 @@
+use Rattle.std.proofs.Common.{◌≡◌, take, map, Some}
+use Rattle.std.specs.FinMap as table
+use Rattle.arc_tables.specs.Rings.{edges}
+use Rattle.ring_store.specs.Laid.{numbers_of}
+use Rattle.ring_store.proofs.laid.gather_rings.Given as goal
+
+-- the rings so far
+abbrev pub invariant-loop-number : goal.invariant-loop-number
+invariant-loop-number g l = record {
+  numbers : numbers_of l.laid.items ≡ take l.number-index l.numbers;
+  along : map (λ y. table.get l.borders y.number) l.laid.items ≡ map (λ y. Some (edges y.keys.items)) l.laid.items;
+}

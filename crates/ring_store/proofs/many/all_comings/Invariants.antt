@@ -1,0 +1,7 @@
+use Rattle.std.proofs.Common.{◌≡◌, take}
+use Rattle.ring_store.specs.Many.{comings}
+use Rattle.ring_store.proofs.many.all_comings.Given as goal
+
+-- the segments so far
+abbrev pub invariant-loop-r : goal.invariant-loop-r
+invariant-loop-r g l = l.segments.items ≡ comings (take l.r-index l.removals)

@@ -1,0 +1,7 @@
+use Rattle.std.proofs.Common.{◌≡◌, take}
+use Rattle.ring_store.specs.Many.{goings}
+use Rattle.ring_store.proofs.many.all_goings.Given as goal
+
+-- the segments so far
+abbrev pub invariant-loop-r : goal.invariant-loop-r
+invariant-loop-r g l = l.segments.items ≡ goings (take l.r-index l.removals)

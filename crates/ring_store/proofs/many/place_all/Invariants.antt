@@ -1,0 +1,12 @@
+use Rattle.std.proofs.Common.{◌≤◌, ◌+◌, length, take, drop}
+use Rattle.std.specs.Prelude.{vec_len, vec_capacity}
+use Rattle.ring_store.specs.Many.{ArePlaceable, AreKeyed}
+use Rattle.ring_store.proofs.many.place_all.Given as goal
+
+-- so many are placed, and the others can be
+abbrev pub invariant-loop-r : goal.invariant-loop-r
+invariant-loop-r g l = record {
+  keyed : AreKeyed l.fn.vertices (take l.r-index l.removals) l.placed.items l.vertices;
+  left : ArePlaceable l.vertices (drop l.r-index l.removals);
+  room : vec_len l.placed + length l.removals ≤ vec_capacity l.placed + l.r-index;
+}

@@ -1,0 +1,40 @@
+-- Rings that were laid, or are to be taken out.
+use Rattle.std.specs.Prelude.{ℕ, ◌≡◌, List, [], map, Some, None, Contains, unwrap_or, IsTrue}
+use Rattle.std.specs.FinMap as table
+use Rattle.grid_geometry.specs.Position.{Position}
+use Rattle.ring_machine.specs.WellFormed.{are_distinct}
+use Rattle.vertex_index.specs.Placement.{Placement, place}
+use Rattle.arc_tables.specs.Ways.{Edge}
+use Rattle.arc_tables.specs.Rings.{Rings, begins, edges}
+use Rattle.ring_store.specs.declared.laid.LaidRing.{LaidRing}
+
+-- the positions of the ring with this number, from its first key on
+abbrev pub ring_at : Placement → Rings → ℕ → List Position
+ring_at places rings r = map (place places) (begins (unwrap_or (table.get rings r) []))
+
+-- rings came under these numbers, which differ and had none; those that stood are as they were
+pub record AreAdded (old new : Rings) (numbers : List ℕ) : Type 0 where
+  pub free : (r : ℕ) → Contains numbers r → table.get old r ≡ None
+  pub different : IsTrue (are_distinct numbers)
+  pub kept : (r : ℕ) (es : List Edge) → table.get old r ≡ Some es → table.get new r ≡ Some es
+  pub others : (r : ℕ) → ¬ (Contains numbers r) → table.get new r ≡ table.get old r
+
+-- the rings with these numbers are gone, and the others are as they were
+pub record AreGone (old new : Rings) (numbers : List ℕ) : Type 0 where
+  pub gone : (r : ℕ) → Contains numbers r → table.get new r ≡ None
+  pub others : (r : ℕ) → ¬ (Contains numbers r) → table.get new r ≡ table.get old r
+
+-- each vertex of the old map is where it was
+abbrev pub KeepsPlaces : Placement → Placement → Type 0
+KeepsPlaces old new = (k : ℕ) (p : Position) → table.get old k ≡ Some p → table.get new k ≡ Some p
+
+module _ {A : Type 0} where
+  -- the numbers of these rings
+  abbrev pub numbers_of : List (LaidRing A) → List ℕ
+  numbers_of laid = map (λ (l : LaidRing A). l.number) laid
+
+  -- each of these rings stands under its number, along its keys, and none is there twice
+  pub record AreThere (rings : Rings) (laid : List (LaidRing A)) : Type 0 where
+    pub along : map (λ (l : LaidRing A). table.get rings l.number) laid
+        ≡ map (λ (l : LaidRing A). Some (edges l.keys.items)) laid
+    pub different : IsTrue (are_distinct (numbers_of laid))

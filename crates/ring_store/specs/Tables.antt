@@ -1,0 +1,15 @@
+-- The tables of the rings of a map.
+use Rattle.std.specs.Prelude.{ℕ, List}
+use Rattle.grid_geometry.specs.Position.{Position}
+use Rattle.ring_store.specs.Laid.{ring_at}
+use Rattle.ring_store.specs.Standing.{Stands}
+use Rattle.ring_store.specs.declared.tables.RingTables.{RingTables}
+
+module _ {I A : Type 0} where
+  -- the tables belong together
+  abbrev pub AreStanding : RingTables I A → Type 0
+  AreStanding t = Stands t.vertices t.borders t.index.held
+
+  -- the positions of the ring with this number, from its first key on
+  abbrev pub ring_in : RingTables I A → ℕ → List Position
+  ring_in t r = ring_at t.vertices t.borders r

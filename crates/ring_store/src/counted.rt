@@ -1,0 +1,86 @@
+//! An index that knows how many segments it holds.
+ghost use Rattle.std.specs.Prelude.{◌≡◌, IfOk};
+ghost use Rattle.std.specs.FinSet as set;
+ghost use Rattle.segment_index.specs.Frames.{Frame};
+ghost use Rattle.segment_index.specs.Candidates.{SegmentSet};
+
+use grid_geometry::{Rect, Seg};
+use segment_index::SegIndex;
+use std::alloc::{AllocError, Allocator};
+use std::marker::Model;
+
+/// An index of segments, and how many it holds.
+#[derive(Drop)]
+pub struct Counted<I: SegIndex> {
+    index: I,
+    count: usize,
+}
+
+impl<I: SegIndex> Model for Counted<I> {
+    ghost use Rattle.ring_store.specs.Counted.{Indexed, indexed_code};
+
+    ghost Value = { Indexed };
+
+    ghost coded = { indexed_code };
+
+    ghost view = { λ c. record { held = I.held c.index; cells = I.cells c.index } };
+
+    ghost use Rattle.std.specs.Prelude.{◌≡◌};
+    ghost use Rattle.std.specs.FinSet as set;
+
+    ghost invariant = { λ c. c.count ≡ set.len (I.held c.index) };
+}
+
+impl<I: SegIndex> Counted<I> {
+    /// An index that holds so many segments.
+    pub fn new(index: I, count: usize) -> Self
+        requires { count ≡ set.len (I.held index) }
+        ensures held { result.held ≡ I.held index }
+        ensures cells { result.cells ≡ I.cells index }
+    {
+        Counted { index, count }
+    }
+
+    /// How many segments it holds.
+    pub fn len(&self) -> usize
+        ensures { result ≡ set.len self.now.held }
+    {
+        self.count
+    }
+}
+
+impl<I: SegIndex> SegIndex for Counted<I> {
+    ghost held = { λ c. c.held };
+
+    ghost cells = { λ c. c.cells };
+
+    fn add(&mut self, s: Seg) -> Result<(), AllocError> {
+        let Some(count) = self.count.checked_add(1) else {
+            return Err(AllocError);
+        };
+        self.index.add(s)?;
+        self.count = count;
+        Ok(())
+    }
+
+    fn discard(&mut self, s: Seg) {
+        self.index.discard(s);
+        self.count -= 1;
+    }
+
+    fn candidates<B: Allocator>(
+        &self,
+        rect: Rect,
+        out: &mut Vec<Seg, B>,
+    ) -> Result<(), AllocError> {
+        self.index.candidates(rect, out)
+    }
+
+    fn copy(&self) -> Result<Self, AllocError> {
+        let index = self.index.copy()?;
+        Ok(Counted {
+            index,
+            count: self.count,
+        })
+    }
+}

@@ -1,0 +1,35 @@
+//! The rings of a map: a vertex under a key at each position, each border once along the keys, and
+//! the segments in an index. Rings are laid into them and taken out, and vertices move, come between
+//! two that are joined, go from between two, and come back.
+//!
+//! A call costs what its rings are long, or what stands around its vertex, and what a look into arcs
+//! and cells costs; it never goes through the whole map. It tests nothing. Only want of memory makes
+//! one fail, and then nothing has changed.
+#![tactic(auto)]
+
+mod around;
+mod bridging;
+mod counted;
+mod keying;
+mod laid;
+mod laying;
+mod lonely;
+mod many;
+mod moving;
+mod parting;
+mod removal;
+mod segments;
+mod sides;
+mod tables;
+mod taking;
+
+pub use bridging::{Bridging, read_bridging, take_out};
+pub use counted::Counted;
+pub use laid::{LaidRing, gather_rings};
+pub use laying::lay_rings;
+pub use many::put_all;
+pub use moving::{Moving, read_moving, shift};
+pub use parting::{Parting, put_in, read_parting};
+pub use removal::Removal;
+pub use tables::RingTables;
+pub use taking::take_out_rings;

@@ -1,0 +1,19 @@
+use crate::counted::Counted;
+use segment_index::SegIndex;
+use shared_arcs::Borders;
+use std::alloc::{Allocator, Global};
+use vertex_index::Vertices;
+
+/// The rings of a map, in three tables that belong together: a vertex under a key at each position,
+/// each border once along the keys, and the segments in an index.
+#[derive(Drop)]
+pub struct RingTables<I: SegIndex, A: Allocator + Copy = Global> {
+    /// Where the tables, and what is read of them, take their memory.
+    pub alloc: A,
+    /// A vertex at each position.
+    pub vertices: Vertices<A>,
+    /// The rings along the vertices.
+    pub borders: Borders<A>,
+    /// The segments of the rings, each once.
+    pub index: Counted<I>,
+}

@@ -1,7 +1,0 @@
-use Rattle.std.proofs.Common.{◌≡◌, take, map}
-use Rattle.vertex_index.specs.Placement.{place}
-use Rattle.vertex_changes.proofs.around.positions_around.Given as goal
-
--- the positions so far
-abbrev pub invariant-loop-x : goal.invariant-loop-x
-invariant-loop-x g l = l.around.items ≡ map (place l.vertices) (take l.x-index l.x-items)

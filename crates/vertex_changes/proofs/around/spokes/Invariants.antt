@@ -1,7 +1,0 @@
-use Rattle.std.proofs.Common.{◌≡◌, take}
-use Rattle.vertex_changes.specs.Planned.{spokes}
-use Rattle.vertex_changes.proofs.around.spokes.Given as goal
-
--- the segments so far
-abbrev pub invariant-loop-x : goal.invariant-loop-x
-invariant-loop-x g l = l.segments.items ≡ spokes l.p (take l.x-index l.around)

@@ -1,7 +1,0 @@
-use Rattle.std.proofs.Common.{◌≡◌, take}
-use Rattle.vertex_changes.specs.Many.{comings}
-use Rattle.vertex_changes.proofs.many.all_comings.Given as goal
-
--- the segments so far
-abbrev pub invariant-loop-r : goal.invariant-loop-r
-invariant-loop-r g l = l.segments.items ≡ comings (take l.r-index l.removals)

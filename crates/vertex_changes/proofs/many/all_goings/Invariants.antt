@@ -1,7 +1,0 @@
-use Rattle.std.proofs.Common.{◌≡◌, take}
-use Rattle.vertex_changes.specs.Many.{goings}
-use Rattle.vertex_changes.proofs.many.all_goings.Given as goal
-
--- the segments so far
-abbrev pub invariant-loop-r : goal.invariant-loop-r
-invariant-loop-r g l = l.segments.items ≡ goings (take l.r-index l.removals)
