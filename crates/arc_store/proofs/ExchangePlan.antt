@@ -26,8 +26,8 @@ use Rattle.arc_store.specs.State.{State}
 use Rattle.arc_store.proofs.ChangesCounted.{weights_asked, sizes_after, had_few, below_seen, apart_numbers}
 use Rattle.arc_store.proofs.PlacedMap.{placed-in_rings, fills_after}
 
-module _ {A : Type 0} {frame : Framed} {rings : Rings} {places : Placement} {held : SegmentSet} {positions segments : ℕ}
-    (kept : IsKept frame rings places held positions segments) {l : ℕ} {cells : Option GridFrame} {o : Option Record} {now : State}
+module _ {A : Type 0} {frame : Framed} {rings : Rings} {places : Placement} {held : SegmentSet} {positions : ℕ}
+    (kept : IsKept frame rings places held positions) {l : ℕ} {cells : Option GridFrame} {o : Option Record} {now : State}
     (is : state_of frame rings places l cells o ≡ now) (placed : ArePlaced frame.places frame.next frame.doc)
     (after : Option ℕ) (cs : List (Change A)) (apart : are_distinct (map (λ c. c.0) (seen cs)) ≡ true)
     (below : AllByRecursion (λ c. c.0 < number_after after now.next) (seen cs))

@@ -1,7 +1,6 @@
 -- What is kept when features were exchanged.
 use Rattle.std.proofs.Common.{◌≡◌, ◌≤◌, ℕ, ◌+◌, ◌-◌, refl, sym, ap, ◌∙◌, subst, Option, None, Some, is_some}
 use Rattle.std.proofs.Common.{List, length, arith}
-use Rattle.std.specs.FinSet as set
 use Rattle.std.specs.List.{sum_by}
 use Rattle.grid_geometry.specs.Position.{Position}
 use Rattle.ring_machine.specs.Document.{Document, Feature, Text}
@@ -29,28 +28,19 @@ use Rattle.edit_records.specs.Records.{Record}
 use Rattle.arc_store.specs.Kept.{IsKept, state_of}
 use Rattle.arc_store.specs.State.{State}
 use Rattle.ring_parts.proofs.CountedFew.{counted_flat}
-use Rattle.arc_store.proofs.SegmentCounts.{indexed_len}
 
-module _ {frame : Framed} {rings : Rings} {places : Placement} {held : SegmentSet} {positions segments : ℕ} where
+module _ {frame : Framed} {rings : Rings} {places : Placement} {held : SegmentSet} {positions : ℕ} where
   pub kept_so : Holds (stored frame rings places) held → positions ≡ size (document_of (stored frame rings places))
-      → segments ≡ set.len held → IsKept frame rings places held positions segments
-  kept_so h sized counted = record {
-    holds = h;
-    sized = sized;
-    single = counted ∙ sym (indexed_len (document_of (stored frame rings places)) held h.indexed);
-  }
+      → IsKept frame rings places held positions
+  kept_so h sized = record { holds = h; sized = sized }
 
   -- where the document is another one, of so many positions
   pub kept_as : (d : Document) → Holds (stored frame rings places) held
       → document_of (stored frame rings places) ≡ d → positions ≡ size d
-      → segments ≡ set.len held → IsKept frame rings places held positions segments
-  kept_as d h is sized counted = kept_so h (sized ∙ ap size (sym is)) counted
+      → IsKept frame rings places held positions
+  kept_as d h is sized = kept_so h (sized ∙ ap size (sym is))
 
-  -- as many segments as the index holds
-  pub counted_by : IsKept frame rings places held positions segments → segments ≡ set.len held
-  counted_by k = k.single ∙ indexed_len (document_of (stored frame rings places)) held k.holds.indexed
-
-  module _ (kept : IsKept frame rings places held positions segments) {l : ℕ} {cells : Option GridFrame} {o : Option Record} {now : State} (is : state_of frame rings places l cells o ≡ now) where
+  module _ (kept : IsKept frame rings places held positions) {l : ℕ} {cells : Option GridFrame} {o : Option Record} {now : State} (is : state_of frame rings places l cells o ≡ now) where
     -- the document is the one that is seen
     pub seen_doc : document_of (stored frame rings places) ≡ now.doc
     seen_doc = ap (λ (z : State). z.doc) is
@@ -86,8 +76,8 @@ gone_size d formed n = by (feature d n) refl
     by (Some f) e =
         omega (arith, counted_flat length f.polygons, size-take_out_at d n f (feature_stands d formed n f e))
 
-module _ {frame : Framed} {rings : Rings} {places : Placement} {held : SegmentSet} {positions segments : ℕ}
-    (kept : IsKept frame rings places held positions segments) (n : ℕ) (polygons : List (List (List Position)))
+module _ {frame : Framed} {rings : Rings} {places : Placement} {held : SegmentSet} {positions : ℕ}
+    (kept : IsKept frame rings places held positions) (n : ℕ) (polygons : List (List (List Position)))
     (read : polygons ≡ (feature_at (document_of (stored frame rings places)) n).polygons) where
   gone_law : size (take_out (document_of (stored frame rings places)) n) + sum_by (sum_by length) polygons ≡ positions
   gone_law = omega (
@@ -109,12 +99,11 @@ module _ {frame : Framed} {rings : Rings} {places : Placement} {held : SegmentSe
 
 -- ---- a feature that gets another id
 
-module _ {frame : Framed} {rings : Rings} {places : Placement} {held : SegmentSet} {positions segments : ℕ}
-    (kept : IsKept frame rings places held positions segments) (n : ℕ) (id : Text) (json : IsJson id) where
-  pub kept_renamed : IsKept (record frame { doc = renamed frame.doc n id }) rings places held positions segments
+module _ {frame : Framed} {rings : Rings} {places : Placement} {held : SegmentSet} {positions : ℕ}
+    (kept : IsKept frame rings places held positions) (n : ℕ) (id : Text) (json : IsJson id) where
+  pub kept_renamed : IsKept (record frame { doc = renamed frame.doc n id }) rings places held positions
   kept_renamed =
       kept_as (renamed (document_of (stored frame rings places)) n id)
       (renamed_holds (stored frame rings places) n id held json kept.holds)
       (named_document (stored frame rings places) n (Some id))
       (kept.sized ∙ sym (size-renamed (document_of (stored frame rings places)) n id))
-      (counted_by kept)

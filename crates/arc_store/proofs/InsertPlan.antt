@@ -30,7 +30,6 @@ use Rattle.feature_exchange.specs.Stored.{stored, Stored, document_of}
 use Rattle.ring_store.specs.Planned.{AreNew, Exchanges, spokes}
 use Rattle.arc_store.proofs.Around.{come_over, none_joined}
 use Rattle.feature_exchange.proofs.Base.{vertex_key}
-use Rattle.arc_store.proofs.SegmentCounts.{as_many}
 use Rattle.feature_exchange.proofs.Ends.{two_ends}
 use Rattle.arc_store.proofs.Indexed.{end_vertex}
 use Rattle.arc_store.proofs.Inserted.{Insertion, document_inserted, reindexed_inserted}
@@ -126,15 +125,10 @@ module _ (s : Stored) (held : SegmentSet) (h : Holds s held) (a b q : Position) 
           reindexed_inserted s rings j k n a b q h.whole h.proper i held held' h.indexed (λ t.
           e t ∙ ap (λ z. (set.contains held t || has_segment z t) && not (has_segment (segment a b ∷ []) t)) spokes_are)
 
-      -- one segment more
-      pub insert_count : length (distinct_segments (ins (document_of s) a b q)) ≡ length (distinct_segments (document_of s)) + 1
-      insert_count =
-          omega (arith, as_many (document_of s) (ins (document_of s) a b q) held held' (spokes q (a ∷ b ∷ [])) (segment a b ∷ []) h.indexed insert_indexed insert_single insert_new (one_single (segment a b)) border_among e)
-
 -- ---- the map
 
 -- an insertion keeps what is true of the tables
-module _ (frame : Framed) (rings rings' : Rings) (places places' : Placement) (held held' : SegmentSet) (positions segments : ℕ) (h : IsKept frame rings places held positions segments) (j k : ℕ) (a b q : Position) (first : table.get places j ≡ Some a) (second : table.get places k ≡ Some b)
+module _ (frame : Framed) (rings rings' : Rings) (places places' : Placement) (held held' : SegmentSet) (positions : ℕ) (h : IsKept frame rings places held positions) (j k : ℕ) (a b q : Position) (first : table.get places j ≡ Some a) (second : table.get places k ≡ Some b)
     (may : IsPlaceable (document_of (stored frame rings places)) a b q) (put : PutBetween places places' rings rings' j k q) where
   abbrev was : Stored
   was = stored frame rings places
@@ -155,14 +149,12 @@ module _ (frame : Framed) (rings rings' : Rings) (places places' : Placement) (h
 
     pub kept_inserted : (before : Segment) (after : List Segment) → before ≡ segment a b
         → after ≡ spokes q (a ∷ b ∷ []) → Exchanges held after (before ∷ []) held'
-        → IsKept frame rings' places' held' (positions + count) (segments + 1)
+        → IsKept frame rings' places' held' (positions + count)
     kept_inserted before after goes comes e =
         let e' : Exchanges held (spokes q (a ∷ b ∷ [])) (segment a b ∷ []) held' = λ t.
         e t ∙ ap₂ (λ x y. (set.contains held t || has_segment x t) && not (has_segment (y ∷ []) t)) comes goes in
         let x = insert_indexed was held h.holds a b q may.border may.free j k first second rings' put.key held' insertion e' in
-        subst (λ z. IsKept frame rings' z held' (positions + count) (segments + 1)) (sym put.placed) (record {
+        subst (λ z. IsKept frame rings' z held' (positions + count)) (sym put.placed) (record {
           holds = holds_inserted was held held' rings' j k put.key a b q h.holds insertion x;
           sized = sym size_grows ∙ sym (ap size (document_inserted was rings' j k put.key a b q h.holds.whole h.holds.proper insertion));
-          single = ap (λ z. z + 1) h.single ∙ sym (insert_count was held h.holds a b q may.border may.free j k first second rings' put.key held' insertion e')
-              ∙ sym (ap (λ d. length (distinct_segments d)) (document_inserted was rings' j k put.key a b q h.holds.whole h.holds.proper insertion));
         })

@@ -27,8 +27,8 @@ ends_apart t h e =
 
 -- the segment that comes is all that stood around p
 pub found_left : {frame : Framed} {rings : Rings} {places : Placement} {held : SegmentSet}
-    {positions segments : ℕ} {p : Position} {m j k : ℕ} {x y : Position} {after : Segment} {doc : Document}
-    → IsFound frame rings places held positions segments p m j k
+    {positions : ℕ} {p : Position} {m j k : ℕ} {x y : Position} {after : Segment} {doc : Document}
+    → IsFound frame rings places held positions p m j k
     → document_of (stored frame rings places) ≡ doc → table.get places j ≡ Some x
     → table.get places k ≡ Some y → after ≡ segment x y
     → IsLeftOut doc p (record { at = p; a = after.lo; b = after.hi })

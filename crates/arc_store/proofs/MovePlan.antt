@@ -36,7 +36,8 @@ use Rattle.map_frame.specs.Framed.{Framed}
 use Rattle.arc_store.specs.Edits.{IsMovable}
 use Rattle.ring_store.specs.Changes.{HasMoving}
 use Rattle.arc_store.specs.Faults.{Refuses}
-use Rattle.feature_exchange.specs.Stored.{Stored, document_of, stored}
+use Rattle.ring_store.specs.declared.tables.RingTables.{RingTables}
+use Rattle.feature_exchange.specs.Stored.{Stored, document_of, stored, stored_in}
 use Rattle.feature_exchange.specs.Holds.{IsWhole, IsIndexed, Holds}
 use Rattle.arc_store.specs.Kept.{IsKept}
 use Rattle.ring_store.specs.Planned.{AreAround, AreNew, Exchanges, spokes}
@@ -50,7 +51,6 @@ use Rattle.ring_store.proofs.Planned.{any_at}
 use Rattle.arc_store.proofs.Insertions.{any_mapped}
 use Rattle.arc_store.proofs.Moved.{segments_to_single, not_there, added_new, added_single}
 use Rattle.arc_store.proofs.Moved.{indexed_moved, reindexed, holds_moved, size_moved, document_moved}
-use Rattle.arc_store.proofs.SegmentCounts.{as_many}
 
 -- ---- what stands around a vertex
 
@@ -113,33 +113,21 @@ module _ (s : Stored) (held : SegmentSet) (h : Holds s held) (k : ℕ) (p q : Po
       reindexed s h.whole k p q at free r.keys r.joined held held' h.indexed (λ t.
       e t ∙ ap₂ (λ y z. (set.contains held t || has_segment y t) && not (has_segment z t)) (spokes_are q) (spokes_are p))
 
-  -- there are as many segments
-  plan_count : (held' : SegmentSet) → Exchanges held (spokes q around) (spokes p around) held'
-      → length (distinct_segments (put (document_of s) p q)) ≡ length (distinct_segments (document_of s))
-  plan_count held' e =
-      omega (
-        arith,
-        as_many (document_of s) (put (document_of s) p q) held held' (spokes q around) (spokes p around) h.indexed (plan_indexed held' e) plan_single plan_new plan_once plan_held e,
-        length-map around (λ x. segment x q),
-        length-map around (λ x. segment x p),
-      )
-
 -- ---- the map
 
 -- a move keeps what is true of the tables
 kept_moved : (frame : Framed) (rings : Rings) (places : Placement) (held held' : SegmentSet)
-    (size_kept single : ℕ) → IsKept frame rings places held size_kept single
+    (size_kept : ℕ) → IsKept frame rings places held size_kept
     → (k : ℕ) (p q : Position) → table.get places k ≡ Some p
     → IsMovable (document_of (stored frame rings places)) p q
     → (around : List Position) → AreAround places rings k around
     → Exchanges held (spokes q around) (spokes p around) held'
-    → IsKept frame rings (table.insert places k q) held' size_kept single
-kept_moved frame rings places held held' size_kept single h k p q at may around r e =
+    → IsKept frame rings (table.insert places k q) held' size_kept
+kept_moved frame rings places held held' size_kept h k p q at may around r e =
     let s = stored frame rings places in
     record {
       holds = holds_moved s held held' k p q h.holds at may (plan_indexed s held h.holds k p q at may.free around r held' e);
       sized = h.sized ∙ sym (size_moved s h.holds.whole k p q at may.free);
-      single = h.single ∙ sym (ap (λ d. length (distinct_segments d)) (document_moved s h.holds.whole k p q at may.free) ∙ plan_count s held h.holds k p q at may.free around r held' e);
     }
 
 -- ---- refusals
@@ -235,28 +223,27 @@ module _ (s : Stored) (held : SegmentSet) (h : Holds s held) (d : Document) (is 
 -- ---- the map after the last call of a move
 
 -- the document is the moved one
-pub document_after : (frame : Framed) (rings : Rings) (places places' : Placement)
-    → IsWhole (stored frame rings places) → (d : Document)
-    → document_of (stored frame rings places) ≡ d → (k : ℕ) (p q : Position)
-    → table.get places k ≡ Some p → is_vertex d q ≡ false → places' ≡ table.insert places k q
-    → document_of (stored frame rings places') ≡ put d p q
-document_after frame rings places places' w d is k p q at free moved =
-    ap (λ z. document_of (stored frame rings z)) moved
-    ∙ document_moved (stored frame rings places) w k p q at (ap (λ z. is_vertex z q) is ∙ free) ∙ ap (λ z. put z p q) is
+pub document_after : {I A : Type 0} (frame : Framed) (t u : RingTables I A) → IsWhole (stored_in frame t) → (d : Document)
+    → document_of (stored_in frame t) ≡ d → (k : ℕ) (p q : Position)
+    → table.get t.vertices k ≡ Some p → is_vertex d q ≡ false → u.borders ≡ t.borders → u.vertices ≡ table.insert t.vertices k q
+    → document_of (stored_in frame u) ≡ put d p q
+document_after frame t u w d is k p q at free same moved =
+    ap₂ (λ y z. document_of (stored frame y z)) same moved
+    ∙ document_moved (stored_in frame t) w k p q at (ap (λ z. is_vertex z q) is ∙ free) ∙ ap (λ z. put z p q) is
 
 -- what is true of the tables stays, whether the call fails or not
-pub kept_after : {X E : Type 0} (result : Result X E) (frame : Framed) (rings : Rings)
-    (places places' : Placement) (held held' : SegmentSet) (size_kept single : ℕ)
-    → IsKept frame rings places held size_kept single → (d : Document)
-    → document_of (stored frame rings places) ≡ d → (k : ℕ) (p q : Position)
-    → table.get places k ≡ Some p → IsMovable d p q
-    → (around : List Position) → AreAround places rings k around
+pub kept_after : {X E I A : Type 0} (result : Result X E) (frame : Framed) (t u : RingTables I A) (size_kept : ℕ)
+    → IsKept frame t.borders t.vertices t.index.held size_kept → (d : Document)
+    → document_of (stored_in frame t) ≡ d → (k : ℕ) (p q : Position)
+    → table.get t.vertices k ≡ Some p → IsMovable d p q
+    → (around : List Position) → AreAround t.vertices t.borders k around
     → (added gone : List Segment) → added ≡ spokes q around → gone ≡ spokes p around
-    → OnOk result (places' ≡ table.insert places k q) → OnOk result (Exchanges held added gone held')
-    → OnErr result (places' ≡ places) → OnErr result (held' ≡ held)
-    → IsKept frame rings places' held' size_kept single
-kept_after (Ok x) frame rings places places' held held' size_kept single h d is k p q at may around r added gone comes goes moved exchanged same unchanged =
-    subst (λ z. IsKept frame rings z held' size_kept single) (sym moved) (kept_moved frame rings places held held' size_kept single h k p q at (subst (λ z. IsMovable z p q) (sym is) may) around r
-    (λ t. exchanged t ∙ ap₂ (λ y z. (set.contains held t || has_segment y t) && not (has_segment z t)) comes goes))
-kept_after (Err e) frame rings places places' held held' size_kept single h d is k p q at may around r added gone comes goes moved exchanged same unchanged =
-    subst (λ z. IsKept frame rings z held' size_kept single) (sym same) (subst (λ z. IsKept frame rings places z size_kept single) (sym unchanged) h)
+    → OnOk result (u.vertices ≡ table.insert t.vertices k q) → OnOk result (Exchanges t.index.held added gone u.index.held)
+    → u.borders ≡ t.borders → OnErr result (u ≡ t)
+    → IsKept frame u.borders u.vertices u.index.held size_kept
+kept_after (Ok x) frame t u size_kept h d is k p q at may around r added gone comes goes moved exchanged same unchanged =
+    subst (λ b. IsKept frame b u.vertices u.index.held size_kept) (sym same)
+    (subst (λ z. IsKept frame t.borders z u.index.held size_kept) (sym moved) (kept_moved frame t.borders t.vertices t.index.held u.index.held size_kept h k p q at (subst (λ z. IsMovable z p q) (sym is) may) around r
+    (λ s. exchanged s ∙ ap₂ (λ y z. (set.contains t.index.held s || has_segment y s) && not (has_segment z s)) comes goes)))
+kept_after (Err e) frame t u size_kept h d is k p q at may around r added gone comes goes moved exchanged same unchanged =
+    subst (λ z. IsKept frame z.borders z.vertices z.index.held size_kept) (sym unchanged) h

@@ -13,10 +13,10 @@ use Rattle.feature_exchange.specs.Stored.{Stored, stored, document_of}
 use Rattle.feature_exchange.proofs.Renaming.{rings-named, named_document, named_holds}
 use Rattle.arc_store.specs.Kept.{IsKept, state_of}
 use Rattle.arc_store.specs.State.{State}
-use Rattle.arc_store.proofs.FeaturesKept.{kept_as, counted_by}
+use Rattle.arc_store.proofs.FeaturesKept.{kept_as}
 
-module _ {frame : Framed} {rings : Rings} {places : Placement} {held : SegmentSet} {positions segments : ℕ}
-    (kept : IsKept frame rings places held positions segments) {l : ℕ} {cells : Option GridFrame} {o : Option Record} {now : State}
+module _ {frame : Framed} {rings : Rings} {places : Placement} {held : SegmentSet} {positions : ℕ}
+    (kept : IsKept frame rings places held positions) {l : ℕ} {cells : Option GridFrame} {o : Option Record} {now : State}
     (is : state_of frame rings places l cells o ≡ now) (n : ℕ) (id : Option Text) where
   abbrev was : Stored
   was = stored frame rings places
@@ -26,14 +26,13 @@ module _ {frame : Framed} {rings : Rings} {places : Placement} {held : SegmentSe
 
   module _ (frame' : Framed) (named : frame' ≡ record frame { doc = with_id frame.doc n id }) where
     pub kept_named : IsMap (with_id now.doc n id) → KeepsTexts (with_id now.doc n id)
-        → IsKept frame' rings places held positions segments
+        → IsKept frame' rings places held positions
     kept_named m keeps =
-        subst (λ f. IsKept f rings places held positions segments) (sym named)
+        subst (λ f. IsKept f rings places held positions) (sym named)
         (kept_as (with_id (document_of was) n id)
         (named_holds was n id held (subst IsMap there m) (subst KeepsTexts there keeps) kept.holds)
         (named_document was n id)
-        (kept.sized ∙ sym (ap (sum_by length) (rings-named n id (document_of was))))
-        (counted_by kept))
+        (kept.sized ∙ sym (ap (sum_by length) (rings-named n id (document_of was)))))
 
     pub state_named : state_of frame' rings places l cells o ≡ record now { doc = with_id now.doc n id }
     state_named =

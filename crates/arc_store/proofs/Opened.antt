@@ -2,7 +2,8 @@
 use Rattle.std.proofs.Common.{◌≡◌, ◌≤◌, ℕ, true, refl, sym, ap, ap₂, ◌∙◌, subst, map, List, [], ◌∷◌}
 use Rattle.std.proofs.Common.{length, get_or, drop, arith, inl, inr, Option, Some, None, Contains, is_some, option_map}
 use Rattle.std.specs.Prelude.{unwrap_or, Vec}
-use Rattle.std.specs.List.{list_all, list_any, flat_map, fold, sum_by}
+use Rattle.std.specs.List.{list_all, list_any, flat_map, sum_by}
+use Rattle.std.specs.FinSet as set
 use Rattle.std.specs.FinMap as table
 use Rattle.std.proofs.lemmas.List.{length-map, take_all}
 use Rattle.grid_geometry.specs.Position.{Position}
@@ -44,6 +45,7 @@ use Rattle.feature_exchange.specs.Stored.{stored, Stored, positions_along, ring_
 use Rattle.arc_store.proofs.FramedDocument.{read_framed}
 use Rattle.arc_store.proofs.FrameReads.{feature_count-in_rings}
 use Rattle.map_opening.proofs.SegmentLists.{has-eq}
+use Rattle.arc_store.proofs.SegmentCounts.{list_len}
 use Rattle.map_opening.proofs.KeyedRings.{ring_keyed, round_keyed, size_keyed, segments_keyed}
 use Rattle.map_opening.proofs.KeyRings.{begins_round}
 use Rattle.map_opening.proofs.LaidSegments.{goes_round}
@@ -211,6 +213,10 @@ module _ {A : Type 0} (raw : RawDoc A) (h : IsOfRings (view_raw raw))
         ap all_segments opened_document ∙ ap (flat_map segments) (read_rings o h)
         ∙ segments_keyed places o.polygons keyed w.keys
 
+    -- the index holds as many segments as are different
+    pub laid_single : count ≡ set.len held
+    laid_single = w.filled.different ∙ list_len (segments_along places (all_rings keyed)) held (λ t. sym (w.filled.held t))
+
     opened_indexed : IsIndexed (document_of opened) held
     opened_indexed t =
         sym (w.filled.held t) ∙ has-eq (segments_along places (all_rings keyed)) t
@@ -269,10 +275,8 @@ module _ {A : Type 0} (raw : RawDoc A) (h : IsOfRings (view_raw raw))
           feature_count-in_rings (ring_under (stored framed m places)) framed.doc
           ∙ ap (λ d. length (features d)) is ∙ layers_length 0 numbers o.layers ∙ sym opened_counted
 
-      pub map_kept : first ≡ None → IsKept framed m places held positions count
+      pub map_kept : first ≡ None → IsKept framed m places held positions
       map_kept none = record {
         holds = subst (λ d. Holds (record { frame = d; rings = m; places = places }) held) (sym is) (opened_holds none);
         sized = w.size ∙ sym opened_size ∙ ap (λ d. size (document_of (record { frame = d; rings = m; places = places }))) (sym is);
-        single = w.filled.different ∙ ap (λ ss. length (fold add_segment [] ss)) (sym opened_segments)
-            ∙ ap (λ d. length (distinct_segments (document_of (record { frame = d; rings = m; places = places })))) (sym is);
       }

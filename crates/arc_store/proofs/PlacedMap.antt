@@ -47,8 +47,8 @@ later_new trees next d h m later = by (has_place trees m) refl
     by false e = has_feature-found d m ∙ ap is_some (fills-nowhere trees d h.fills m e)
     by true e = absurd (let l = h.known m e in omega (arith, l))
 
-module _ {frame : Framed} {rings : Rings} {places : Placement} {held : SegmentSet} {positions segments : ℕ}
-    (kept : IsKept frame rings places held positions segments) {l : ℕ} {cells : Option GridFrame} {o : Option Record} {now : State}
+module _ {frame : Framed} {rings : Rings} {places : Placement} {held : SegmentSet} {positions : ℕ}
+    (kept : IsKept frame rings places held positions) {l : ℕ} {cells : Option GridFrame} {o : Option Record} {now : State}
     (is : state_of frame rings places l cells o ≡ now) where
   pub placed_seen : ArePlaced frame.places frame.next frame.doc → ArePlaced now.places now.next now.doc
   placed_seen h =

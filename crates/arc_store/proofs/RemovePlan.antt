@@ -36,7 +36,6 @@ use Rattle.arc_store.proofs.Around.{two_apart, neighbours_none, neighbours_one, 
 use Rattle.map_opening.proofs.Places.{IsKept as IsPlaced, place_is}
 use Rattle.feature_exchange.proofs.Base.{joined_kept, joined_apart, joined_back, vertex_key}
 use Rattle.feature_exchange.proofs.Base.{joined_segment, one_to, key_vertex}
-use Rattle.arc_store.proofs.SegmentCounts.{as_many}
 use Rattle.arc_store.proofs.InsertPlan.{one_single, two_single}
 use Rattle.ring_machine.proofs.Members.{any_in}
 use Rattle.arc_store.proofs.Removed.{Removing, without_vertex, document_removed, reindexed_removed}
@@ -193,17 +192,12 @@ module _ (s : Stored) (held : SegmentSet) (h : Holds s held) (m j k : ℕ) (p : 
     remove_indexed : IsIndexed (del (document_of s) p) held'
     remove_indexed = reindexed_removed s rings m j k p h.whole h.proper i held held' h.indexed e
 
-    -- one segment less
-    remove_count : length (distinct_segments (del (document_of s) p)) + 1 ≡ length (distinct_segments (document_of s))
-    remove_count =
-        omega (arith, as_many (document_of s) (del (document_of s) p) held held' (segment a b ∷ []) (spokes p (a ∷ b ∷ [])) h.indexed remove_indexed (one_single (segment a b)) bridge_news remove_single remove_held e)
-
 -- ---- the map
 
 -- p is the position of m, which has two neighbours and may go, in a map that is kept
 pub record IsFound (frame : Framed) (rings : Rings) (places : Placement) (held : SegmentSet)
-    (positions segments : ℕ) (p : Position) (m j k : ℕ) : Type 0 where
-  pub kept : IsKept frame rings places held positions segments
+    (positions : ℕ) (p : Position) (m j k : ℕ) : Type 0 where
+  pub kept : IsKept frame rings places held positions
   pub here : table.get places m ≡ Some p
   pub two : AreTwo (stored frame rings places) m j k
   pub inner : is_junction (document_of (stored frame rings places)) p ≡ false
@@ -212,12 +206,12 @@ pub record IsFound (frame : Framed) (rings : Rings) (places : Placement) (held :
 
 -- as the map's callers see it
 pub found : {frame : Framed} {rings : Rings} {places : Placement} {held : SegmentSet}
-    {positions segments : ℕ} {p : Position} {m j k : ℕ} {doc : Document}
-    → IsKept frame rings places held positions segments
+    {positions : ℕ} {p : Position} {m j k : ℕ} {doc : Document}
+    → IsKept frame rings places held positions
     → document_of (stored frame rings places) ≡ doc → table.get places m ≡ Some p
     → AreTwo (stored frame rings places) m j k → is_junction doc p ≡ false → are_long doc p ≡ true
     → is_bridged doc p ≡ false
-    → IsFound frame rings places held positions segments p m j k
+    → IsFound frame rings places held positions p m j k
 found {p = p} kept is here two inner long unjoined = record {
   kept = kept;
   here = here;
@@ -227,7 +221,7 @@ found {p = p} kept is here two inner long unjoined = record {
   unjoined = ap (λ d. is_bridged d p) is ∙ unjoined;
 }
 
-module _ {frame : Framed} {rings : Rings} {places : Placement} {held : SegmentSet} {positions segments : ℕ} {p : Position} {m j k : ℕ} (f : IsFound frame rings places held positions segments p m j k) where
+module _ {frame : Framed} {rings : Rings} {places : Placement} {held : SegmentSet} {positions : ℕ} {p : Position} {m j k : ℕ} (f : IsFound frame rings places held positions p m j k) where
   -- both neighbours have positions
   pub first_there : IsPlaced places j
   first_there =
@@ -263,16 +257,15 @@ module _ {frame : Framed} {rings : Rings} {places : Placement} {held : SegmentSe
 
 -- what a removal leaves
 pub record IsTaken (frame : Framed) (rings rings' : Rings) (places places' : Placement)
-    (held' : SegmentSet) (positions segments : ℕ) (p : Position) (m k : ℕ) : Type 0 where
+    (held' : SegmentSet) (positions : ℕ) (p : Position) (m k : ℕ) : Type 0 where
   -- the document is the one without p
   pub doc : document_of (stored frame rings' places') ≡ del (document_of (stored frame rings places)) p
-  -- there were positions and a segment to go
+  -- there were positions to go
   pub positions_there : users_of rings m k ≤ positions
-  pub segment_there : 1 ≤ segments
   -- what is true of the tables stayed true
-  pub kept : IsKept frame rings' places' held' (positions - users_of rings m k) (segments - 1)
+  pub kept : IsKept frame rings' places' held' (positions - users_of rings m k)
 
-module _ {frame : Framed} {rings rings' : Rings} {places places' : Placement} {held : SegmentSet} {positions segments : ℕ} {p : Position} {m j k : ℕ} (f : IsFound frame rings places held positions segments p m j k) (out : TakenOut places places' rings rings' m k) (may : IsLeavable (document_of (stored frame rings places)) p) where
+module _ {frame : Framed} {rings rings' : Rings} {places places' : Placement} {held : SegmentSet} {positions : ℕ} {p : Position} {m j k : ℕ} (f : IsFound frame rings places held positions p m j k) (out : TakenOut places places' rings rings' m k) (may : IsLeavable (document_of (stored frame rings places)) p) where
   removing : Removing (stored frame rings places) rings' m j k p
   removing = record { here = f.here; two = f.two; edited = out.edited; may = may }
 
@@ -290,43 +283,32 @@ module _ {frame : Framed} {rings rings' : Rings} {places places' : Placement} {h
       )
 
   module _ (held' : SegmentSet) (e : Exchanges held (segment (place places j) (place places k) ∷ []) (spokes p (place places j ∷ place places k ∷ [])) held') where
-    segments_shrink : segments ≡ length (distinct_segments (del (document_of (stored frame rings places)) p)) + 1
-    segments_shrink =
-        omega (
-          arith,
-          f.kept.single,
-          remove_count (stored frame rings places) held f.kept.holds m j k p f.here f.two f.unjoined rings' held' removing e,
-        )
-
-    kept_removed : IsKept frame rings' places' held' (positions - users_of rings m k) (segments - 1)
+    kept_removed : IsKept frame rings' places' held' (positions - users_of rings m k)
     kept_removed =
         let shrunk : positions - users_of rings m k ≡ size (del (document_of (stored frame rings places)) p) = omega (arith, size_shrinks) in
-        let fewer : segments - 1 ≡ length (distinct_segments (del (document_of (stored frame rings places)) p)) = omega (arith, segments_shrink) in
-        subst (λ z. IsKept frame rings' z held' (positions - users_of rings m k) (segments - 1)) (sym out.placed) (record {
+        subst (λ z. IsKept frame rings' z held' (positions - users_of rings m k)) (sym out.placed) (record {
           holds = holds_removed (stored frame rings places) held held' rings' m j k p f.kept.holds removing
               (remove_indexed (stored frame rings places) held f.kept.holds m j k p f.here f.two f.unjoined rings' held' removing e);
           sized = shrunk ∙ sym (ap size is_removed);
-          single = fewer ∙ sym (ap (λ d. length (distinct_segments d)) is_removed);
         })
 
-    is_taken : IsTaken frame rings rings' places places' held' positions segments p m k
+    is_taken : IsTaken frame rings rings' places places' held' positions p m k
     is_taken = record {
       doc = ap (λ z. document_of (stored frame rings' z)) out.placed ∙ is_removed;
       positions_there = omega (arith, size_shrinks);
-      segment_there = omega (arith, segments_shrink);
       kept = kept_removed;
     }
 
 -- the tables and the index changed
 pub taken : {frame : Framed} {rings rings' : Rings} {places places' : Placement}
-    {held : SegmentSet} {positions segments : ℕ} {p : Position} {m j k : ℕ} {x y : Position}
+    {held : SegmentSet} {positions : ℕ} {p : Position} {m j k : ℕ} {x y : Position}
     {after : Segment} {before : List Segment}
-    → IsFound frame rings places held positions segments p m j k
+    → IsFound frame rings places held positions p m j k
     → table.get places j ≡ Some x → table.get places k ≡ Some y → after ≡ segment x y
     → before ≡ spokes p (x ∷ y ∷ [])
     → IsLeavable (document_of (stored frame rings places)) p
     → TakenOut places places' rings rings' m k
     → (held' : SegmentSet) → Exchanges held (after ∷ []) before held'
-    → IsTaken frame rings rings' places places' held' positions segments p m k
+    → IsTaken frame rings rings' places places' held' positions p m k
 taken {frame = frame} {rings = rings} {places = places} {x = x} {y = y} {after = after} {before = before} f first second comes goes may out held' e =
     is_taken f out may held' (found_exchange f x y first second after before comes goes held' e)

@@ -15,8 +15,8 @@ use Rattle.arc_store.specs.Kept.{IsKept, state_of}
 use Rattle.arc_store.specs.State.{State}
 use Rattle.arc_store.proofs.NamedBack.{state_named}
 
-module _ {frame : Framed} {rings : Rings} {places : Placement} {held : SegmentSet} {positions segments : ℕ}
-    (kept : IsKept frame rings places held positions segments) {l : ℕ} {cells : Option GridFrame} {o : Option Record} {now : State}
+module _ {frame : Framed} {rings : Rings} {places : Placement} {held : SegmentSet} {positions : ℕ}
+    (kept : IsKept frame rings places held positions) {l : ℕ} {cells : Option GridFrame} {o : Option Record} {now : State}
     (is : state_of frame rings places l cells o ≡ now) (n : ℕ) where
   -- the feature has the id that it has in the frame
   pub id_there : (was : Option Text) → ((g : FeatureOf ℕ) → feature frame.doc n ≡ Some g → was ≡ g.id)

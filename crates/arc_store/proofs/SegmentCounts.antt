@@ -3,15 +3,16 @@ use Rattle.std.proofs.Common.{◌≡◌, ◌≤◌, ◌+◌, ℕ, Bool, true, fa
 use Rattle.std.proofs.Common.{List, [], ◌∷◌, length, ◌||◌, ◌&&◌, arith, leb}
 use Rattle.std.specs.Prelude.{not}
 use Rattle.std.specs.FinSet as set
+use Rattle.std.specs.List.{fold}
 use Rattle.std.proofs.lemmas.Bool.{false≢true}
 use Rattle.grid_geometry.specs.Segment.{Segment, segment_cmp}
 use Rattle.ring_machine.specs.Document.{Document}
 use Rattle.ring_machine.specs.Parts.{all_segments}
-use Rattle.ring_machine.specs.Query.{distinct_segments}
-use Rattle.segment_index.specs.Candidates.{SegmentSet, AreAmong, AreSingle, segment_is, has, times_in}
+use Rattle.ring_machine.specs.Query.{add_segment, distinct_segments}
+use Rattle.segment_index.specs.Candidates.{SegmentSet, AreSingle, segment_is, has, times_in}
 use Rattle.segment_index.proofs.Singles.{segment_total, same_sets, is-itself, has-is}
 use Rattle.feature_exchange.specs.Holds.{IsIndexed}
-use Rattle.ring_store.specs.Planned.{AreNew, Gains, Exchanges}
+use Rattle.ring_store.specs.Planned.{AreNew, Gains}
 use Rattle.map_opening.proofs.SegmentLists.{has-eq, or_nothing, has_all, single_all}
 
 or_swap : (a b c : Bool) → (a || (b || c)) ≡ (b || (a || c))
@@ -75,66 +76,24 @@ pub len_gains : (old new : SegmentSet) (xs : List Segment) → AreSingle xs → 
 len_gains old new xs single free h =
     ap set.len (same_sets new (gained old xs) (λ t. h t ∙ sym (contains_gained old xs t))) ∙ len_gained old xs single free
 
--- each that goes was held, or comes
-abbrev pub AreThere : SegmentSet → List Segment → List Segment → Type 0
-AreThere held added gone =
-    (t : Segment) → has gone t ≡ true → (set.contains held t || has added t) ≡ true
-
--- as many more as came, and as many less as went
-pub len_exchanges : (old new : SegmentSet) (added gone : List Segment) → AreSingle added
-    → AreNew old added → AreSingle gone → AreThere old added gone → Exchanges old added gone new
-    → set.len new + length gone ≡ set.len old + length added
-len_exchanges old new added gone single free once among h =
-    sym (len_gains new (gained old added) gone once went back) ∙ len_gained old added single free
-  where
-    none : (m : Bool) → (m && false) ≡ false
-    none true = refl
-    none false = refl
-
-    went : AreNew new gone
-    went t e = h t ∙ ap (λ b. (set.contains old t || has added t) && not b) e ∙ none (set.contains old t || has added t)
-
-    by : (t : Segment) (m b : Bool) → has gone t ≡ b → (b ≡ true → m ≡ true)
-        → m ≡ ((m && not b) || b)
-    by t true true e i = refl
-    by t true false e i = refl
-    by t false true e i = i refl
-    by t false false e i = refl
-
-    back : Gains new gone (gained old added)
-    back t =
-        contains_gained old added t
-        ∙ by t (set.contains old t || has added t) (has gone t) refl (among t)
-        ∙ ap (λ b. b || has gone t) (sym (h t))
-
 -- ---- the segments of a document, each once
+
+-- an index of these segments holds as many
+pub list_len : (ss : List Segment) (held : SegmentSet) → ((t : Segment) → set.contains held t ≡ has ss t)
+    → length (fold add_segment [] ss) ≡ set.len held
+list_len ss held h =
+    omega (
+      arith,
+      len_gains set.empty held (fold add_segment [] ss) (single_all [] ss (λ t. omega arith)) (λ t e. set.contains-empty segment_cmp t) is,
+      set.len-empty segment_cmp,
+    )
+  where
+    is : Gains set.empty (fold add_segment [] ss) held
+    is t =
+        h t ∙ sym (has_all [] ss t)
+        ∙ ap (λ b. b || has (fold add_segment [] ss) t) (sym (set.contains-empty segment_cmp t))
 
 -- an index of the document's segments holds as many
 pub indexed_len : (d : Document) (held : SegmentSet) → IsIndexed d held
     → length (distinct_segments d) ≡ set.len held
-indexed_len d held h =
-    omega (
-      arith,
-      len_gains set.empty held (distinct_segments d) (single_all [] (all_segments d) (λ t. omega arith)) (λ t e. set.contains-empty segment_cmp t) is,
-      set.len-empty segment_cmp,
-    )
-  where
-    is : Gains set.empty (distinct_segments d) held
-    is t =
-        h t ∙ sym (has-eq (all_segments d) t) ∙ sym (has_all [] (all_segments d) t)
-        ∙ ap (λ b. b || has (distinct_segments d) t) (sym (set.contains-empty segment_cmp t))
-
--- documents whose indexes hold as many segments have as many
-pub as_many_there : (c d : Document) (held held' : SegmentSet) (added gone : List Segment)
-    → IsIndexed c held → IsIndexed d held' → AreSingle added → AreNew held added → AreSingle gone
-    → AreThere held added gone → Exchanges held added gone held'
-    → length (distinct_segments d) + length gone ≡ length (distinct_segments c) + length added
-as_many_there c d held held' added gone i j single free once among h =
-    omega (arith, indexed_len c held i, indexed_len d held' j, len_exchanges held held' added gone single free once among h)
-
-pub as_many : (c d : Document) (held held' : SegmentSet) (added gone : List Segment)
-    → IsIndexed c held → IsIndexed d held' → AreSingle added → AreNew held added → AreSingle gone
-    → AreAmong held gone → Exchanges held added gone held'
-    → length (distinct_segments d) + length gone ≡ length (distinct_segments c) + length added
-as_many c d held held' added gone i j single free once among h =
-    as_many_there c d held held' added gone i j single free once (λ t e. ap (λ b. b || has added t) (among t e)) h
+indexed_len d held h = list_len (all_segments d) held (λ t. h t ∙ sym (has-eq (all_segments d) t))

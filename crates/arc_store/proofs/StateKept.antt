@@ -12,8 +12,8 @@ use Rattle.arc_store.specs.Kept.{IsKept, state_of}
 use Rattle.arc_store.specs.Outcomes.{IsSameMap}
 use Rattle.arc_store.specs.State.{State}
 
-module _ {frame : Framed} {rings : Rings} {places : Placement} {held : SegmentSet} {positions segments : ℕ}
-    (kept : IsKept frame rings places held positions segments) {l : ℕ} {cells : Option GridFrame} {o : Option Record} {now : State}
+module _ {frame : Framed} {rings : Rings} {places : Placement} {held : SegmentSet} {positions : ℕ}
+    (kept : IsKept frame rings places held positions) {l : ℕ} {cells : Option GridFrame} {o : Option Record} {now : State}
     (is : state_of frame rings places l cells o ≡ now) (rings' : Rings) (places' : Placement) (cells' : Option GridFrame) where
   -- another document
   pub with_document : {d : Document} → document_of (stored frame rings' places') ≡ d → cells' ≡ cells

@@ -97,7 +97,7 @@ new_one held x new t h = by (segment_is t x) refl h
     by true e k = ap (set.contains held) (same_segment t x e) ∙ new
     by false e k = absurd (false≢true k)
 
-module _ {frame : Framed} {rings : Rings} {places : Placement} {held : SegmentSet} {positions segments : ℕ} (kept : IsKept frame rings places held positions segments) {l : ℕ} {cells : Option GridFrame} {o : Option Record} {now : State} (is : state_of frame rings places l cells o ≡ now) where
+module _ {frame : Framed} {rings : Rings} {places : Placement} {held : SegmentSet} {positions : ℕ} (kept : IsKept frame rings places held positions) {l : ℕ} {cells : Option GridFrame} {o : Option Record} {now : State} (is : state_of frame rings places l cells o ≡ now) where
   abbrev doc : Document
   doc = document_of (stored frame rings places)
 

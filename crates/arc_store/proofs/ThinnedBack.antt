@@ -39,7 +39,6 @@ use Rattle.arc_store.proofs.PutBack.{with_one, with_all, AreOut, vertex_stays, v
 use Rattle.arc_store.proofs.PutBack.{comings_new, comings_single, goings_there, goings_single, segments_back}
 use Rattle.arc_store.proofs.PutBack.{length_comings, length_goings, true_of_all}
 use Rattle.arc_store.proofs.RingUsers.{users_same}
-use Rattle.arc_store.proofs.SegmentCounts.{as_many_there}
 
 -- ---- a map with each value changed
 
@@ -184,7 +183,7 @@ back_again s (r ∷ rs) (p ∷ ps) rings places w proper h k e =
 
 -- ---- the map
 
-module _ (frame : Framed) (rings : Rings) (places : Placement) (held : SegmentSet) (positions segments : ℕ) (m : IsKept frame rings places held positions segments) (rs : List Removal) (h : AreOut (document_of (stored frame rings places)) rs) where
+module _ (frame : Framed) (rings : Rings) (places : Placement) (held : SegmentSet) (positions : ℕ) (m : IsKept frame rings places held positions) (rs : List Removal) (h : AreOut (document_of (stored frame rings places)) rs) where
   abbrev was : Stored
   was = stored frame rings places
 
@@ -229,17 +228,7 @@ module _ (frame : Framed) (rings : Rings) (places : Placement) (held : SegmentSe
           x t ∙ ap (λ b. (b || has (comings rs) t) && not (has (goings rs) t)) (m.holds.indexed t)
           ∙ sym (segments_back (document_of was) rs h t)
 
-      count_again : length (distinct_segments (with_all (document_of was) rs)) ≡ segments + length rs
-      count_again =
-          omega (
-            arith,
-            as_many_there (document_of was) (with_all (document_of was) rs) held held' (comings rs) (goings rs) m.holds.indexed indexed_again all_come_once all_new all_go_once all_there x,
-            length_comings rs,
-            length_goings rs,
-            m.single,
-          )
-
-      pub kept_again : IsKept frame rings' places' held' (positions + n) (segments + length rs)
+      pub kept_again : IsKept frame rings' places' held' (positions + n)
       kept_again = record {
         holds = record {
           whole = again.whole;
@@ -250,5 +239,4 @@ module _ (frame : Framed) (rings : Rings) (places : Placement) (held : SegmentSe
           indexed = subst (λ d. IsIndexed d held') (sym document_again) indexed_again;
         };
         sized = sym size_again ∙ sym (ap size document_again);
-        single = sym count_again ∙ sym (ap (λ d. length (distinct_segments d)) document_again);
       }

@@ -1,8 +1,7 @@
 -- A map's tables as its callers see them, and what is true of them.
-use Rattle.std.specs.Prelude.{ℕ, ◌≡◌, length, Option}
+use Rattle.std.specs.Prelude.{ℕ, ◌≡◌, Option}
 use Rattle.edit_records.specs.Records.{Record}
 use Rattle.ring_machine.specs.Parts.{size}
-use Rattle.ring_machine.specs.Query.{distinct_segments}
 use Rattle.segment_index.specs.Candidates.{SegmentSet}
 use Rattle.segment_index.specs.Frames.{Frame as GridFrame}
 use Rattle.vertex_index.specs.Placement.{Placement}
@@ -25,7 +24,6 @@ state_of frame rings places tests cells last = record {
 
 -- what is true of the tables of every map
 pub record IsKept (frame : Framed) (rings : Rings) (places : Placement) (held : SegmentSet)
-    (positions segments : ℕ) : Type 0 where
+    (positions : ℕ) : Type 0 where
   pub holds : Holds (stored frame rings places) held
   pub sized : positions ≡ size (document_of (stored frame rings places))
-  pub single : segments ≡ length (distinct_segments (document_of (stored frame rings places)))

@@ -11,6 +11,7 @@ use crate::map::Map;
 use local_planarity::TestCount;
 use map_frame::Frame;
 use map_opening::lay;
+use ring_store::{Counted, RingTables};
 use segment_index::SegIndex;
 use std::alloc::Allocator;
 use topo_reader::RawDoc;
@@ -41,15 +42,17 @@ impl<'a, I: SegIndex, A: Allocator + Copy> Map<'a, I, A> {
             return Err(BuildFault::Conflict { s, t });
         }
         let frame = Frame::build(alloc, transform, layers, members, laid.numbers)?;
-        Ok(Map {
+        let rings = RingTables {
             alloc,
-            frame,
             vertices: laid.vertices,
             borders: laid.borders,
-            index: laid.index,
+            index: Counted::new(laid.index, laid.segments),
+        };
+        Ok(Map {
+            frame,
+            rings,
             tests: TestCount::new(),
             positions: laid.positions,
-            segments: laid.segments,
             last: None,
         })
     }

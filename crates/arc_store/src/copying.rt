@@ -12,18 +12,12 @@ impl<'a, I: SegIndex, A: Allocator + Copy> Map<'a, I, A> {
         ensures { IfOk result (λ copy. copy ≡ record self.now { last = None }) }
     {
         let frame = self.frame.copy()?;
-        let vertices = self.vertices.copy()?;
-        let borders = self.borders.copy()?;
-        let index = self.index.copy()?;
+        let rings = self.rings.copy()?;
         Ok(Map {
-            alloc: self.alloc,
             frame,
-            vertices,
-            borders,
-            index,
+            rings,
             tests: self.tests,
             positions: self.positions,
-            segments: self.segments,
             last: None,
         })
     }

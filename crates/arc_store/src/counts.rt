@@ -22,14 +22,14 @@ impl<'a, I: SegIndex, A: Allocator + Copy> Map<'a, I, A> {
     pub fn vertex_count(&self) -> usize
         ensures { result ≡ length (vertices self.now.doc) }
     {
-        self.vertices.len()
+        self.rings.vertices.len()
     }
 
     /// How many segments there are, each counted once.
     pub fn segment_count(&self) -> usize
         ensures { result ≡ length (distinct_segments self.now.doc) }
     {
-        self.segments
+        self.rings.index.len()
     }
 
     /// How many positions the rings have, each ring counted for itself.
@@ -63,6 +63,6 @@ impl<'a, I: SegIndex, A: Allocator + Copy> Map<'a, I, A> {
     pub fn has_vertex(&self, p: Pos) -> bool
         ensures { result ≡ is_vertex self.now.doc p }
     {
-        self.vertices.key_of(p).is_some()
+        self.rings.vertices.key_of(p).is_some()
     }
 }

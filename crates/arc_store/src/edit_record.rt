@@ -2,8 +2,8 @@
 use feature_exchange::Change;
 use grid_geometry::Pos;
 use map_frame::Id;
-use std::alloc::{Allocator, Global};
 use ring_store::Removal;
+use std::alloc::{Allocator, Global};
 
 /// What an edit changed: with it the map can be given the document that it had before.
 #[derive(Drop)]

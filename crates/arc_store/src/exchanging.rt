@@ -52,7 +52,7 @@ impl<'a, I: SegIndex, A: Allocator + Copy> Map<'a, I, A> {
         let Some(texts) = self.frame.texts(n)? else {
             unreachable!()
         };
-        let polygons = one_polygon(self.alloc, rings)?;
+        let polygons = one_polygon(self.rings.alloc, rings)?;
         Ok(Change {
             number,
             was: Some(WholeFeature {
@@ -83,11 +83,7 @@ impl<'a, I: SegIndex, A: Allocator + Copy> Map<'a, I, A> {
     {
         let _ = self.frame.next(); // it tells where numbers stand
         let came = count_changes(changes);
-        let (frame, vertices, borders) = (&mut self.frame, &mut self.vertices, &mut self.borders);
-        let (index, segments) = (&mut self.index, &mut self.segments);
-        match exchange_features(
-            self.alloc, frame, vertices, borders, index, segments, after, changes,
-        ) {
+        match exchange_features(&mut self.frame, &mut self.rings, after, changes) {
             Ok(()) => {}
             Err(e) => return Err(e),
         }

@@ -23,7 +23,7 @@ impl<'a, I: SegIndex, A: Allocator + Copy> Map<'a, I, A> {
         ensures range { AllByRecursion (AllByRecursion InRange) (rings self.now.doc) }
         ensures small { size self.now.doc ≤ 4000000 }
     {
-        let _ = self.vertices.len(); // it tells that the positions are in range
+        let _ = self.rings.vertices.len(); // it tells that the positions are in range
         self.frame.view()
     }
 

@@ -39,5 +39,5 @@ pub use ids::IdText;
 pub use map::Map;
 pub use map_frame::{FeatureView, FrameView, ItemIter, ItemView, RingName};
 pub use path::Path;
-pub use spot::Spot;
 pub use ring_store::Removal;
+pub use spot::Spot;

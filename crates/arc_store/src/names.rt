@@ -34,8 +34,11 @@ impl<'a, I: SegIndex, A: Allocator + Copy> Map<'a, I, A> {
     pub fn uses(&self, s: Seg) -> usize
         ensures { result ≡ length (users self.now.doc s) }
     {
-        match (self.vertices.key_of(s.lo), self.vertices.key_of(s.hi)) {
-            (Some(a), Some(b)) => self.borders.uses(a, b),
+        match (
+            self.rings.vertices.key_of(s.lo),
+            self.rings.vertices.key_of(s.hi),
+        ) {
+            (Some(a), Some(b)) => self.rings.borders.uses(a, b),
             _ => 0,
         }
     }
@@ -50,11 +53,12 @@ impl<'a, I: SegIndex, A: Allocator + Copy> Map<'a, I, A> {
     ) -> Result<(), AllocError>
         ensures { OnOk result (ListsRings self.now.doc (segment a b) out.old.items out.new.items) }
     {
-        let (Some(a), Some(b)) = (self.vertices.key_of(a), self.vertices.key_of(b)) else {
+        let (Some(a), Some(b)) = (self.rings.vertices.key_of(a), self.rings.vertices.key_of(b))
+        else {
             return Ok(());
         };
-        let mut numbers = Vec::new(self.alloc);
-        self.borders.push_users(a, b, &mut numbers)?;
+        let mut numbers = Vec::new(self.rings.alloc);
+        self.rings.borders.push_users(a, b, &mut numbers)?;
         push_names(&self.frame, numbers.as_slice(), out)?;
         Ok(())
     }

@@ -20,7 +20,7 @@ impl<'a, I: SegIndex, A: Allocator + Copy> Map<'a, I, A> {
         ensures near { OnOk result (ListsNear self.now.doc rect out.old.items out.new.items) }
         ensures distinct { IsTrue (are_distinct (map (λ f. f.number) (features self.now.doc))) }
     {
-        match self.index.candidates(rect, out) {
+        match self.rings.index.candidates(rect, out) {
             Ok(()) => Ok(()),
             Err(e) => Err(e),
         }

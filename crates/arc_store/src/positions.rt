@@ -17,7 +17,7 @@ impl<'a, I: SegIndex, A: Allocator + Copy> Map<'a, I, A> {
         ensures { IfOk result
             (λ found. polygons_seen found.items ≡ (feature_at self.now.doc n).polygons) }
     {
-        read_polygons(self.alloc, &self.frame, &self.vertices, &self.borders, n)
+        read_polygons(&self.frame, &self.rings, n)
     }
 
     /// The positions of a ring, from the least one on: of the feature with this number the polygon
@@ -27,13 +27,13 @@ impl<'a, I: SegIndex, A: Allocator + Copy> Map<'a, I, A> {
         ensures { result ≡ ring_at self.now.doc n polygon ring }
     {
         let number = self.frame.ring(n, polygon, ring)?;
-        RingIter::begin(self.borders.keys(number)?, &self.vertices)
+        RingIter::begin(self.rings.borders.keys(number)?, &self.rings.vertices)
     }
 
     /// The positions of all vertices, ascending, each once. Walks the map.
     pub fn vertices(&self) -> Result<Vec<Pos, A>, AllocError>
         ensures { IfOk result (λ found. found.items ≡ vertices self.now.doc) }
     {
-        read_vertices(self.alloc, &self.frame, &self.vertices, &self.borders)
+        read_vertices(&self.frame, &self.rings)
     }
 }

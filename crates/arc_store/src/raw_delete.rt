@@ -30,7 +30,7 @@ impl<'a, I: SegIndex, A: Allocator + Copy> Map<'a, I, A> {
             number: n,
             was: None,
         };
-        let mut changes = one_change(self.alloc, gone)?;
+        let mut changes = one_change(self.rings.alloc, gone)?;
         self.exchange(None, changes.as_mut_slice())?;
         self.last = Some(Record::Exchanged(changes));
         Ok(())

@@ -21,9 +21,9 @@ use crate::map::Map;
 use crate::plan::test_planar;
 use grid_geometry::{Pos, Seg};
 use local_planarity::{Leaving, TestCount, holds_other};
+use ring_store::{put_in, read_parting};
 use segment_index::SegIndex;
 use std::alloc::{AllocError, Allocator};
-use ring_store::{put_in, read_parting};
 
 /// Tests that nothing stands in the way of q between the ends of a segment, which goes while the
 /// added ones come.
@@ -74,15 +74,13 @@ impl<'a, I: SegIndex, A: Allocator + Copy> Map<'a, I, A> {
         ensures few { self.new.tests ≤ self.old.tests
             + most_for (times_by self.old.cells) self.old.doc (ins self.old.doc a b q) }
     {
-        let parting = read_parting(self.alloc, &self.vertices, a, b, q)?;
+        let parting = read_parting(&self.rings, a, b, q)?;
         let (ends, before) = (parting.ends, parting.before);
         let after = parting.after.as_slice();
-        let (index, tests) = (&self.index, &mut self.tests);
-        test_insert(self.alloc, index, before, (a, b), q, after, tests)?;
-        let (vertices, borders) = (&mut self.vertices, &mut self.borders);
-        let rings = put_in(vertices, borders, &mut self.index, ends, q, before, after)?;
+        let (index, tests) = (&self.rings.index, &mut self.tests);
+        test_insert(self.rings.alloc, index, before, (a, b), q, after, tests)?;
+        let rings = put_in(&mut self.rings, ends, q, before, after)?;
         self.positions += rings;
-        self.segments += 1;
         self.keep(Record::Inserted(q));
         Ok(())
     }
@@ -95,13 +93,11 @@ impl<'a, I: SegIndex, A: Allocator + Copy> Map<'a, I, A> {
         ensures inserted { OnOk result (self.new ≡ record self.old { doc = ins self.old.doc a b q }) }
         ensures unchanged { OnErr result (self.new ≡ self.old) }
     {
-        let parting = read_parting(self.alloc, &self.vertices, a, b, q)?;
+        let parting = read_parting(&self.rings, a, b, q)?;
         let (ends, before) = (parting.ends, parting.before);
         let after = parting.after.as_slice();
-        let (vertices, borders) = (&mut self.vertices, &mut self.borders);
-        let rings = put_in(vertices, borders, &mut self.index, ends, q, before, after)?;
+        let rings = put_in(&mut self.rings, ends, q, before, after)?;
         self.positions += rings;
-        self.segments += 1;
         Ok(())
     }
 }

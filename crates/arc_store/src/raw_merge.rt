@@ -28,14 +28,14 @@ impl<'a, I: SegIndex, A: Allocator + Copy> Map<'a, I, A> {
     {
         let ones = self.polygons(n)?;
         let others = self.polygons(g)?;
-        let rings = join_polygons(self.alloc, ones[0].as_slice(), others[0].as_slice())?;
+        let rings = join_polygons(self.rings.alloc, ones[0].as_slice(), others[0].as_slice())?;
         let _ = self.next_number();
-        let joined = self.with_polygons(n, one_polygon(self.alloc, rings)?)?;
+        let joined = self.with_polygons(n, one_polygon(self.rings.alloc, rings)?)?;
         let gone = Change {
             number: g,
             was: None,
         };
-        let mut changes = two_changes(self.alloc, joined, gone)?;
+        let mut changes = two_changes(self.rings.alloc, joined, gone)?;
         self.exchange(None, changes.as_mut_slice())?;
         self.last = Some(Record::Exchanged(changes));
         Ok(())

@@ -21,9 +21,9 @@ use crate::map::Map;
 use crate::plan::test_planar;
 use grid_geometry::Pos;
 use local_planarity::{Leaving, TestCount, crosses_on_way, holds_other};
+use ring_store::{read_moving, shift};
 use segment_index::SegIndex;
 use std::alloc::{AllocError, Allocator};
-use ring_store::{read_moving, shift};
 
 /// Whether the edge to one of these sweeps over a position when p moves to q, or p itself passes
 /// over a segment.
@@ -62,16 +62,28 @@ impl<'a, I: SegIndex, A: Allocator + Copy> Map<'a, I, A> {
         ensures few { self.new.tests ≤ self.old.tests
             + most_for_move (times_by self.old.cells) self.old.doc p q }
     {
-        let moving = read_moving(self.alloc, &self.vertices, &self.borders, p, q)?;
+        let moving = read_moving(&self.rings, p, q)?;
         let around = moving.around.as_slice();
         let (before, after) = (moving.before.as_slice(), moving.after.as_slice());
         let leaving = Leaving::EndingAt(p);
-        test_planar(self.alloc, &self.index, leaving, after, &mut self.tests)?;
-        if sweeps(self.alloc, &self.index, around, p, q, &mut self.tests)? {
+        test_planar(
+            self.rings.alloc,
+            &self.rings.index,
+            leaving,
+            after,
+            &mut self.tests,
+        )?;
+        if sweeps(
+            self.rings.alloc,
+            &self.rings.index,
+            around,
+            p,
+            q,
+            &mut self.tests,
+        )? {
             return Err(EditFault::Sweeps);
         }
-        let (vertices, index) = (&mut self.vertices, &mut self.index);
-        shift(vertices, index, moving.key, q, before, after)?;
+        shift(&mut self.rings, moving.key, q, before, after)?;
         self.keep(Record::Moved { from: p, to: q });
         Ok(())
     }
@@ -84,10 +96,9 @@ impl<'a, I: SegIndex, A: Allocator + Copy> Map<'a, I, A> {
         ensures moved { OnOk result (self.new ≡ record self.old { doc = put self.old.doc p q }) }
         ensures unchanged { OnErr result (self.new ≡ self.old) }
     {
-        let moving = read_moving(self.alloc, &self.vertices, &self.borders, p, q)?;
+        let moving = read_moving(&self.rings, p, q)?;
         let (before, after) = (moving.before.as_slice(), moving.after.as_slice());
-        let (vertices, index) = (&mut self.vertices, &mut self.index);
-        shift(vertices, index, moving.key, q, before, after)?;
+        shift(&mut self.rings, moving.key, q, before, after)?;
         Ok(())
     }
 }

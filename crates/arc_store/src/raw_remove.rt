@@ -21,9 +21,9 @@ use crate::map::Map;
 use crate::plan::test_planar;
 use grid_geometry::{Pos, Seg};
 use local_planarity::{Leaving, TestCount, holds_other};
+use ring_store::{Removal, read_bridging, take_out};
 use segment_index::SegIndex;
 use std::alloc::{AllocError, Allocator};
-use ring_store::{Removal, read_bridging, take_out};
 
 /// Tests that p may go from between the ends of a segment.
 fn test_remove<I: SegIndex, A: Allocator + Copy>(
@@ -69,14 +69,18 @@ impl<'a, I: SegIndex, A: Allocator + Copy> Map<'a, I, A> {
         ensures few { self.new.tests ≤ self.old.tests
             + most_for (times_by self.old.cells) self.old.doc (del self.old.doc p) }
     {
-        let bridging = read_bridging(self.alloc, &self.vertices, &self.borders, p)?;
+        let bridging = read_bridging(&self.rings, p)?;
         let (k, ends, after) = (bridging.key, bridging.ends, bridging.after);
         let before = bridging.before.as_slice();
-        test_remove(self.alloc, &self.index, p, after, &mut self.tests)?;
-        let (vertices, borders) = (&mut self.vertices, &mut self.borders);
-        let rings = take_out(vertices, borders, &mut self.index, k, ends, before, after)?;
+        test_remove(
+            self.rings.alloc,
+            &self.rings.index,
+            p,
+            after,
+            &mut self.tests,
+        )?;
+        let rings = take_out(&mut self.rings, k, ends, before, after)?;
         self.positions -= rings;
-        self.segments -= 1;
         Ok(Removal {
             at: p,
             a: after.lo,
@@ -114,13 +118,11 @@ impl<'a, I: SegIndex, A: Allocator + Copy> Map<'a, I, A> {
         ensures removed { OnOk result (self.new ≡ record self.old { doc = del self.old.doc p }) }
         ensures unchanged { OnErr result (self.new ≡ self.old) }
     {
-        let bridging = read_bridging(self.alloc, &self.vertices, &self.borders, p)?;
+        let bridging = read_bridging(&self.rings, p)?;
         let (k, ends, after) = (bridging.key, bridging.ends, bridging.after);
         let before = bridging.before.as_slice();
-        let (vertices, borders) = (&mut self.vertices, &mut self.borders);
-        let rings = take_out(vertices, borders, &mut self.index, k, ends, before, after)?;
+        let rings = take_out(&mut self.rings, k, ends, before, after)?;
         self.positions -= rings;
-        self.segments -= 1;
         Ok(())
     }
 }

@@ -109,7 +109,7 @@ impl<'a, I: SegIndex, A: Allocator + Copy> Map<'a, I, A> {
         let Some(place) = first_cut(path, others.as_slice()) else {
             unreachable!()
         };
-        let rings = mem::replace(&mut others[place], Vec::new(self.alloc));
+        let rings = mem::replace(&mut others[place], Vec::new(self.rings.alloc));
         Ok(FirstCut {
             place,
             rings,
@@ -139,12 +139,12 @@ impl<'a, I: SegIndex, A: Allocator + Copy> Map<'a, I, A> {
             + most_for (times_by self.old.cells) self.old.doc
             (cut self.old.doc n id (path_seen path.now) self.old.next) }
     {
-        let added = way_segments(self.alloc, positions)?;
+        let added = way_segments(self.rings.alloc, positions)?;
         let added = added.as_slice();
         let room = has_room(self.frame.next(), self.positions, path.inner.len());
         let polygon = found.rings.as_slice();
-        let (index, tests) = (&self.index, &mut self.tests);
-        match test_split(self.alloc, index, path, polygon, added, room, tests) {
+        let (index, tests) = (&self.rings.index, &mut self.tests);
+        match test_split(self.rings.alloc, index, path, polygon, added, room, tests) {
             Ok(()) => Ok(()),
             Err(fault) => Err(fault),
         }
@@ -174,12 +174,12 @@ impl<'a, I: SegIndex, A: Allocator + Copy> Map<'a, I, A> {
             rings,
             mut others,
         } = found;
-        let (first, second) = both_parts(self.alloc, path, rings.as_slice())?;
+        let (first, second) = both_parts(self.rings.alloc, path, rings.as_slice())?;
         others[place] = first;
         let number = self.next_number();
         let kept = self.with_polygons(n, others)?;
         let part = self.part_of(n, number, id, second)?;
-        let mut changes = two_changes(self.alloc, kept, part)?;
+        let mut changes = two_changes(self.rings.alloc, kept, part)?;
         self.exchange(Some(n), changes.as_mut_slice())?;
         self.last = Some(Record::Exchanged(changes));
         Ok(number)

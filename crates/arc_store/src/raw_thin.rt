@@ -12,9 +12,9 @@ use crate::edit_record::Record;
 use crate::fault::EditFault;
 use crate::map::Map;
 use grid_geometry::Pos;
+use ring_store::Removal;
 use segment_index::SegIndex;
 use std::alloc::Allocator;
-use ring_store::Removal;
 
 impl<'a, I: SegIndex, A: Allocator + Copy> Map<'a, I, A> {
     /// Hands out the vertices that the edit has left out so far.
@@ -25,8 +25,8 @@ impl<'a, I: SegIndex, A: Allocator + Copy> Map<'a, I, A> {
     {
         match self.last.take() {
             Some(Record::Thinned(removals)) => removals,
-            Some(_other) => Vec::new(self.alloc),
-            None => Vec::new(self.alloc),
+            Some(_other) => Vec::new(self.rings.alloc),
+            None => Vec::new(self.rings.alloc),
         }
     }
 

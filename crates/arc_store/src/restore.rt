@@ -15,9 +15,9 @@ use crate::map::Map;
 use feature_exchange::Change;
 use grid_geometry::Pos;
 use map_frame::Id;
+use ring_store::{Removal, put_all};
 use segment_index::SegIndex;
 use std::alloc::{AllocError, Allocator};
-use ring_store::{Removal, put_all};
 
 impl<'a, I: SegIndex, A: Allocator + Copy> Map<'a, I, A> {
     /// The vertex that moved stands at `from` again.
@@ -69,10 +69,8 @@ impl<'a, I: SegIndex, A: Allocator + Copy> Map<'a, I, A> {
         }) }
         ensures unchanged { OnErr result (self.new ≡ self.old) }
     {
-        let (vertices, borders) = (&mut self.vertices, &mut self.borders);
-        let count = put_all(self.alloc, vertices, borders, &mut self.index, removals)?;
+        let count = put_all(&mut self.rings, removals)?;
         self.positions += count;
-        self.segments += removals.len();
         Ok(())
     }
 

@@ -47,12 +47,12 @@ impl<'a, I: SegIndex, A: Allocator + Copy> Map<'a, I, A> {
     pub fn spot(&self, p: Pos) -> Option<Spot>
         ensures { IsSpot self.now.doc p result }
     {
-        let k = self.vertices.key_of(p)?;
-        let Neighbours::Two(a, b) = self.borders.neighbours(k) else {
+        let k = self.rings.vertices.key_of(p)?;
+        let Neighbours::Two(a, b) = self.rings.borders.neighbours(k) else {
             return Some(Spot::Junction);
         };
-        let shortest = self.borders.shortest(k)?;
-        Some(between(&self.vertices, a, b, shortest))
+        let shortest = self.rings.borders.shortest(k)?;
+        Some(between(&self.rings.vertices, a, b, shortest))
     }
 
     /// Whether borders meet at a position: a vertex that has different neighbours at two of its
@@ -60,10 +60,10 @@ impl<'a, I: SegIndex, A: Allocator + Copy> Map<'a, I, A> {
     pub fn is_junction(&self, p: Pos) -> bool
         ensures { result ≡ is_junction self.now.doc p }
     {
-        let Some(k) = self.vertices.key_of(p) else {
+        let Some(k) = self.rings.vertices.key_of(p) else {
             return false;
         };
-        match self.borders.neighbours(k) {
+        match self.rings.borders.neighbours(k) {
             Neighbours::Two(..) => false,
             _ => true,
         }

@@ -23,7 +23,7 @@ use Rattle.edit_records.specs.Records.{IsMap}
 use Rattle.segment_index.specs.Candidates.{SegmentSet}
 use Rattle.feature_exchange.specs.Changed.{feature_seen, seen}
 use Rattle.feature_exchange.specs.Holds.{Holds}
-use Rattle.feature_exchange.specs.Laying.{asked, asked_rings, polygons_in}
+use Rattle.feature_exchange.specs.Laying.{asked, asked_rings, polygons_in, length_of}
 use Rattle.feature_exchange.specs.Ready.{rings_in, coming, FitsForm, all_numbered, had, all_had}
 use Rattle.map_frame.specs.Texts.{with_texts, texts_of}
 use Rattle.feature_exchange.specs.Stored.{Stored}
@@ -106,6 +106,15 @@ module _ {A : Type 0} where
       asked_are_rings =
           all_true is_ring (flat_map asked_rings cs) (λ ring i.
           all_in is_ring (rings (exchanged trees (seen cs) d)) ring map_is.proper.are_rings (asked_in ring i))
+
+      pub asked_size : length_of (flat_map asked_rings cs) ≤ 4000000
+      asked_size =
+          omega (
+            arith,
+            ap (sum_by length) (seen_coming cs),
+            coming_size trees (seen cs) d (seen_own cs) seen_apart seen_places,
+            map_is.small,
+          )
 
       pub asked_fit : (c : ℕ × Option Feature) → In c (seen cs) → FitsForm c.1
       asked_fit c i f e =

@@ -27,14 +27,14 @@ use Rattle.ring_store.specs.declared.laid.LaidRing.{LaidRing}
 use Rattle.ring_store.proofs.Series.{number_there, there_none, added_first}
 use Rattle.feature_exchange.specs.Changed.{seen, changed_as, places_after, next_after, frame_after, MayGrow}
 use Rattle.feature_exchange.specs.Holds.{Holds}
-use Rattle.feature_exchange.specs.Laying.{AreLaid, asked_rings}
+use Rattle.feature_exchange.specs.Laying.{AreLaid, asked_rings, length_of}
 use Rattle.feature_exchange.specs.Ready.{coming, IsReady, FitsForm, all_numbered, put_in}
 use Rattle.map_frame.specs.Framed.{Framed}
 use Rattle.map_frame.specs.Placed.{ArePlaced}
 use Rattle.feature_exchange.specs.Stored.{stored, Stored, ring_under, document_of}
 use Rattle.feature_exchange.specs.Under.{rings_under}
 use Rattle.feature_exchange.specs.declared.change.Change.{Change}
-use Rattle.feature_exchange.proofs.Asked.{AreFor, asked_are_rings, asked_fit, for_coming, for_numbers}
+use Rattle.feature_exchange.proofs.Asked.{AreFor, asked_are_rings, asked_size, asked_fit, for_coming, for_numbers}
 use Rattle.feature_exchange.proofs.ExchangedFeatures.{exchanged_document, exchanged_map}
 use Rattle.feature_exchange.proofs.Exchanges.{Exchanged}
 use Rattle.feature_exchange.proofs.PlacesAfter.{places_come}
@@ -67,6 +67,10 @@ module _ {A : Type 0} (frame : Framed) (b : Rings) (v : Placement) (placed : Are
   pub whole_rings : list_all is_ring (flat_map asked_rings cs) ≡ true
   whole_rings =
       asked_are_rings (places_after after frame) (next_after after frame) cs comes below apart (document_of (stored frame b v)) map_is
+
+  pub whole_size : length_of (flat_map asked_rings cs) ≤ 4000000
+  whole_size =
+      asked_size (places_after after frame) (next_after after frame) cs comes below apart (document_of (stored frame b v)) map_is
 
   whole_fit : (c : ℕ × Option Feature) → In c (seen cs) → FitsForm c.1
   whole_fit =

@@ -28,6 +28,10 @@ abbrev pub LaysMore : {I A : Type 0} → RingTables I A → List (LaidRing A) �
     → List (LaidRing A) → Type 0
 LaysMore t laid u more = AreLaid t.vertices t.borders laid u.vertices u.borders more
 
+-- the positions of some rings
+abbrev pub length_of : List (List Position) → ℕ
+length_of rings = sum_by length rings
+
 module _ {A : Type 0} where
   abbrev pub polygons_in : Option (WholeFeature A) → List (List (List Position))
   polygons_in None = []

@@ -1,7 +1,9 @@
+ghost use Rattle.std.specs.Prelude.{◌≡◌, IfOk};
+
 use crate::counted::Counted;
 use segment_index::SegIndex;
 use shared_arcs::Borders;
-use std::alloc::{Allocator, Global};
+use std::alloc::{AllocError, Allocator, Global};
 use vertex_index::Vertices;
 
 /// The rings of a map, in three tables that belong together: a vertex under a key at each position,
@@ -16,4 +18,21 @@ pub struct RingTables<I: SegIndex, A: Allocator + Copy = Global> {
     pub borders: Borders<A>,
     /// The segments of the rings, each once.
     pub index: Counted<I>,
+}
+
+impl<I: SegIndex, A: Allocator + Copy> RingTables<I, A> {
+    /// The same tables, in memory of the same allocator. Fails for want of memory alone.
+    pub fn copy(&self) -> Result<RingTables<I, A>, AllocError>
+        ensures { IfOk result (λ copy. copy ≡ self.now) }
+    {
+        let vertices = self.vertices.copy()?;
+        let borders = self.borders.copy()?;
+        let index = self.index.copy()?;
+        Ok(RingTables {
+            alloc: self.alloc,
+            vertices,
+            borders,
+            index,
+        })
+    }
 }

@@ -4,7 +4,8 @@ use Rattle.ring_machine.specs.Ring.{is_ring}
 use Rattle.topo_reader.specs.DocumentView.{view_raw}
 use Rattle.topo_reader.specs.Uses.{feature_positions}
 use Rattle.map_opening.specs.Keyed.{all_rings}
-use Rattle.arc_store.proofs.Opened.{read_are_rings, read_small, laid_stands, opened_pair}
+use Rattle.arc_store.specs.Kept.{IsKept}
+use Rattle.arc_store.proofs.Opened.{read_are_rings, read_small, laid_stands, laid_single, opened_pair}
 use Rattle.arc_store.proofs.Opened.{map_document, map_proper, map_features, map_kept}
 use Rattle.arc_store.proofs.map.Map.build.Goals as goal
 
@@ -32,10 +33,15 @@ build-requires g c = record {
   stands = laid_stands c.args.raw c.requires.rings c.as_slice.ensures.value c.in_ok-laid.laid.numbers c.in_ok-laid.ensures.laid;
 }
 
+pub new-requires : goal.new-requires
+new-requires g c =
+    laid_single c.args.raw c.requires.rings c.as_slice.ensures.value c.in_ok-laid.laid.numbers c.in_ok-laid.ensures.laid
+
 pub invariant_of-result : goal.invariant_of-result
 invariant_of-result g c =
-    map_kept c.args.raw c.requires.rings c.as_slice.ensures.value c.in_ok-laid.laid.numbers c.in_ok-laid.ensures.laid
-    c.in_ok-frame.frame c.in_ok-frame.ensures.doc (none_is c.in_ok-laid.laid.first c.in_default.not-Some)
+    subst (λ h. IsKept c.in_ok-frame.frame c.in_ok-laid.laid.borders c.in_ok-laid.laid.vertices h c.in_ok-laid.laid.positions) (sym c.new.ensures.held)
+    (map_kept c.args.raw c.requires.rings c.as_slice.ensures.value c.in_ok-laid.laid.numbers c.in_ok-laid.ensures.laid
+    c.in_ok-frame.frame c.in_ok-frame.ensures.doc (none_is c.in_ok-laid.laid.first c.in_default.not-Some))
 
 pub returns-clause-built : goal.returns-clause-built
 returns-clause-built g c =

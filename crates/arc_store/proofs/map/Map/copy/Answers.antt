@@ -3,11 +3,8 @@ use Rattle.arc_store.specs.State.{State}
 use Rattle.arc_store.proofs.map.Map.copy.Goals as goal
 
 pub invariant_of-result : goal.invariant_of-result
-invariant_of-result g c =
-    rw (c.in_ok-frame.ensures, c.in_ok-vertices.ensures, c.in_ok-borders.ensures, c.in_ok-index.ensures.held)
-    c.self.invariant
+invariant_of-result g c = rw (c.in_ok-frame.ensures, c.in_ok-rings.ensures) c.self.invariant
 
 pub returns : goal.returns
 returns g c =
-    rw (c.in_ok-frame.ensures, c.in_ok-vertices.ensures, c.in_ok-borders.ensures, c.in_ok-index.ensures.cells)
-    (ap (λ (s : State). record s { last = None }) c.self.view_is)
+    rw (c.in_ok-frame.ensures, c.in_ok-rings.ensures) (ap (λ (s : State). record s { last = None }) c.self.view_is)

@@ -5,16 +5,13 @@ use Rattle.feature_exchange.specs.Changed.{seen, changed_as}
 use Rattle.feature_exchange.specs.Stored.{stored, document_of}
 use Rattle.arc_store.proofs.ExchangePlan.{apart_tables, below_tables, map_tables, texts_tables, came_few}
 use Rattle.arc_store.proofs.ExchangePlan.{gone_few, gone_bounded, positions_after, state_after}
-use Rattle.arc_store.proofs.FeaturesKept.{kept_as, counted_by}
+use Rattle.arc_store.proofs.FeaturesKept.{kept_as}
 use Rattle.arc_store.proofs.map.Map.exchange.Goals as goal
 
 pub count_changes-came-requires : goal.count_changes-came-requires
 count_changes-came-requires g c =
     let few = came_few c.self.invariant c.self.view_is c.next.ensures.placed c.args.after c.args.changes.now c.requires.apart c.requires.below c.requires.grows c.requires.map in
     omega (arith, few)
-
-pub exchange_features-requires-clause-counted : goal.exchange_features-requires-clause-counted
-exchange_features-requires-clause-counted g c = counted_by c.self.invariant
 
 pub exchange_features-requires-clause-apart : goal.exchange_features-requires-clause-apart
 exchange_features-requires-clause-apart g c =
@@ -36,11 +33,11 @@ exchange_features-requires-clause-texts g c =
 pub invariant_of-self : goal.invariant_of-self
 invariant_of-self g c =
     let m = c.self.inside in
-    kept_as (document_of (stored m.frame m.borders m.vertices)) c.exchange_features.ensures.holds c.in-Err.ensures.unchanged c.self.invariant.sized c.exchange_features.ensures.counted
+    kept_as (document_of (stored m.frame m.rings.borders m.rings.vertices)) c.exchange_features.ensures.holds c.in-Err.ensures.unchanged c.self.invariant.sized
 
 pub count_changes-gone-requires : goal.count_changes-gone-requires
 count_changes-gone-requires g c =
-    let doc = document_of (stored c.self.inside.frame c.self.inside.borders c.self.inside.vertices) in
+    let doc = document_of (stored c.self.inside.frame c.self.inside.rings.borders c.self.inside.rings.vertices) in
     let had : weights (seen c.exchange_features.new.changes) ≡ weights (had_before doc (seen c.args.changes.now)) =
     ap weights c.in-Ok.ensures.had in
     let few = gone_bounded c.self.invariant c.self.view_is c.next.ensures.placed c.args.after c.args.changes.now c.requires.apart c.requires.below c.requires.grows c.requires.map c.exchange_features.new.frame c.next-2.ensures.placed c.in-Ok.ensures.next c.in-Ok.ensures.places in
@@ -53,7 +50,7 @@ overflow_add-self g c =
 
 pub overflow_sub-self : goal.overflow_sub-self
 overflow_sub-self g c =
-    let doc = document_of (stored c.self.inside.frame c.self.inside.borders c.self.inside.vertices) in
+    let doc = document_of (stored c.self.inside.frame c.self.inside.rings.borders c.self.inside.rings.vertices) in
     let had : weights (seen c.exchange_features.new.changes) ≡ weights (had_before doc (seen c.args.changes.now)) =
     ap weights c.in-Ok.ensures.had in
     let few = gone_few c.self.invariant c.self.view_is c.next.ensures.placed c.args.after c.args.changes.now c.requires.apart c.requires.below c.requires.grows c.requires.map c.exchange_features.new.frame c.next-2.ensures.placed c.in-Ok.ensures.next c.in-Ok.ensures.places in
@@ -61,19 +58,19 @@ overflow_sub-self g c =
 
 pub invariant_of-self-2 : goal.invariant_of-self-2
 invariant_of-self-2 g c =
-    let doc = document_of (stored c.self.inside.frame c.self.inside.borders c.self.inside.vertices) in
+    let doc = document_of (stored c.self.inside.frame c.self.inside.rings.borders c.self.inside.rings.vertices) in
     let had : weights (seen c.exchange_features.new.changes) ≡ weights (had_before doc (seen c.args.changes.now)) =
     ap weights c.in-Ok.ensures.had in
     kept_as (changed_as c.args.after c.self.inside.frame c.args.changes.now doc) c.exchange_features.ensures.holds c.in-Ok.ensures.exchanged
     (positions_after c.self.invariant c.self.view_is c.next.ensures.placed c.args.after c.args.changes.now c.requires.apart c.requires.below c.requires.grows c.requires.map c.exchange_features.new.frame c.next-2.ensures.placed c.in-Ok.ensures.next c.in-Ok.ensures.places
     c.count_changes-came.result c.count_changes-gone.result c.count_changes-came.ensures (c.count_changes-gone.ensures ∙ had))
-    c.exchange_features.ensures.counted
 
 pub returns-clause-exchanged : goal.returns-clause-exchanged
 returns-clause-exchanged g c =
-    let m = c.exchange_features.new in
+    let frame = c.exchange_features.new.frame in
+    let tables = c.exchange_features.new.tables in
     state_after c.self.invariant c.self.view_is c.next.ensures.placed c.args.after c.args.changes.now c.requires.apart c.requires.below c.requires.grows c.requires.map c.exchange_features.new.frame c.next-2.ensures.placed c.in-Ok.ensures.next c.in-Ok.ensures.places
-    (document_of (stored m.frame m.borders m.vertices)) c.self.inside.tests (g.I.SegIndex.cells m.index)
+    (document_of (stored frame tables.borders tables.vertices)) c.self.inside.tests tables.index.cells
     c.in-Ok.ensures.exchanged refl c.exchange_features.ensures.cells
 
 pub returns-clause-had : goal.returns-clause-had

@@ -12,7 +12,7 @@ returns-clause-shown g c =
     let m = c.self.inside in
     let n = c.args.n in
     c.feature.ensures
-    ∙ sym (feature_shown (ring_under (stored m.frame m.borders m.vertices)) m.frame.doc n)
+    ∙ sym (feature_shown (ring_under (stored m.frame m.rings.borders m.rings.vertices)) m.frame.doc n)
     ∙ ap (λ s. option_map shown (feature s.doc n)) c.self.view_is
 
 pub returns-clause-small : goal.returns-clause-small
@@ -21,6 +21,6 @@ returns-clause-small g c = subst (λ s. size s.doc ≤ 4000000) c.self.view_is c
 pub returns-clause-distinct : goal.returns-clause-distinct
 returns-clause-distinct g c =
     let m = c.self.inside in
-    let s = stored m.frame m.borders m.vertices in
+    let s = stored m.frame m.rings.borders m.rings.vertices in
     subst (λ z. are_distinct (map (λ f. f.number) (features z.doc)) ≡ true) c.self.view_is
     (formed-in_rings (ring_under s) s.frame c.self.invariant.holds.formed).numbers

@@ -8,5 +8,5 @@ pub returns : goal.returns
 returns g c =
     let m = c.self.inside in
     c.feature_count.ensures
-    ∙ sym (feature_count-in_rings (ring_under (stored m.frame m.borders m.vertices)) m.frame.doc)
+    ∙ sym (feature_count-in_rings (ring_under (stored m.frame m.rings.borders m.rings.vertices)) m.frame.doc)
     ∙ ap (λ s. length (features s.doc)) c.self.view_is

@@ -8,5 +8,5 @@ pub returns : goal.returns
 returns g c =
     let m = c.self.inside in
     c.has_feature.ensures
-    ∙ sym (has_feature-in_rings (ring_under (stored m.frame m.borders m.vertices)) m.frame.doc c.args.n)
+    ∙ sym (has_feature-in_rings (ring_under (stored m.frame m.rings.borders m.rings.vertices)) m.frame.doc c.args.n)
     ∙ ap (λ s. has_feature s.doc c.args.n) c.self.view_is

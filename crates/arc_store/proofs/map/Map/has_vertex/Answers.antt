@@ -8,5 +8,5 @@ pub returns : goal.returns
 returns g c =
     let m = c.self.inside in
     c.is_some.ensures
-    ∙ found_vertex (stored m.frame m.borders m.vertices) c.self.invariant.holds.whole c.args.p c.key_of.result c.key_of.ensures.found c.key_of.ensures.absent
+    ∙ found_vertex (stored m.frame m.rings.borders m.rings.vertices) c.self.invariant.holds.whole c.args.p c.key_of.result c.key_of.ensures.found c.key_of.ensures.absent
     ∙ ap (λ s. is_vertex s.doc c.args.p) c.self.view_is

@@ -9,20 +9,20 @@ use Rattle.arc_store.proofs.map.Map.is_junction.Goals as goal
 pub returns-in_default : goal.returns-in_default
 returns-in_default g c =
     let m = c.self.inside in
-    let s = stored m.frame m.borders m.vertices in
+    let s = stored m.frame m.rings.borders m.rings.vertices in
     sym (without.no_vertex (document_of s) c.args.p (no_vertex s c.self.invariant.holds.whole c.args.p c.in_default.ensures.absent))
     ∙ ap (λ z. is_junction z.doc c.args.p) c.self.view_is
 
 pub returns-in-Two : goal.returns-in-Two
 returns-in-Two g c =
     let m = c.self.inside in
-    let s = stored m.frame m.borders m.vertices in
+    let s = stored m.frame m.rings.borders m.rings.vertices in
     sym (two_between s c.self.invariant.holds.whole c.in-Some.k c.args.p c.in-Some.ensures.found c.in-Two.field-0 c.in-Two.field-1 c.in-Two.ensures).inner
     ∙ ap (λ z. is_junction z.doc c.args.p) c.self.view_is
 
 pub returns-in_default-neighbours : goal.returns-in_default-neighbours
 returns-in_default-neighbours g c =
     let m = c.self.inside in
-    let s = stored m.frame m.borders m.vertices in
+    let s = stored m.frame m.rings.borders m.rings.vertices in
     let h = spot_junction s c.self.invariant.holds.whole c.in-Some.k c.args.p c.in-Some.ensures.found c.neighbours.result c.neighbours.ensures c.in_default-neighbours.not-Two in
     sym h.1 ∙ ap (λ z. is_junction z.doc c.args.p) c.self.view_is

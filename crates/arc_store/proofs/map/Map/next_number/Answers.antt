@@ -8,7 +8,7 @@ use Rattle.arc_store.proofs.map.Map.next_number.Goals as goal
 pub returns-clause-below : goal.returns-clause-below
 returns-clause-below g c = λ k h.
     let m = c.self.inside in
-    let of = ring_under (stored m.frame m.borders m.vertices) in
+    let of = ring_under (stored m.frame m.rings.borders m.rings.vertices) in
     sym (ap (λ s. feature s.doc k) c.self.view_is)
     ∙ feature-in_rings of m.frame.doc k
     ∙ ap (option_map (in_feature of)) (c.next.ensures.below k (subst (λ n. n ≤ k) (sym (ap (λ s. s.next) c.self.view_is)) h))

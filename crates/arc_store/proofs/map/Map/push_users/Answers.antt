@@ -14,9 +14,9 @@ push_names-requires g c =
     let numbers = c.push_users.new.out.items in
     let a = c.in-Some-Some.a in
     let b = c.in-Some-Some.b in
-    let l : ListsUsers m.borders a b [] numbers = subst (λ z. ListsUsers m.borders a b z numbers) c.new-numbers.ensures.items c.in_ok-push_users.ensures in
+    let l : ListsUsers m.rings.borders a b [] numbers = subst (λ z. ListsUsers m.rings.borders a b z numbers) c.new-numbers.ensures.items c.in_ok-push_users.ensures in
     subst (λ z. (r : ℕ) → Contains z r → (name : RingName) × (number_at m.frame.doc name ≡ Some r)) (sym c.as_slice.ensures.value)
-    (listed_names m.frame m.borders m.vertices v.holds.whole a b c.args.a c.args.b c.in-Some-Some.ensures.found c.in-Some-Some.ensures'.found v.holds.formed.numbers numbers l)
+    (listed_names m.frame m.rings.borders m.rings.vertices v.holds.whole a b c.args.a c.args.b c.in-Some-Some.ensures.found c.in-Some-Some.ensures'.found v.holds.formed.numbers numbers l)
 
 pub returns : goal.returns
 returns g c =
@@ -27,10 +27,10 @@ returns g c =
     let numbers = c.push_users.new.out.items in
     let a = c.in-Some-Some.a in
     let b = c.in-Some-Some.b in
-    let l : ListsUsers m.borders a b [] numbers = subst (λ z. ListsUsers m.borders a b z numbers) c.new-numbers.ensures.items c.in_ok-push_users.ensures in
+    let l : ListsUsers m.rings.borders a b [] numbers = subst (λ z. ListsUsers m.rings.borders a b z numbers) c.new-numbers.ensures.items c.in_ok-push_users.ensures in
     let names : ListsNames m.frame.doc numbers old new = subst (λ z. ListsNames m.frame.doc z old new) c.as_slice.ensures.value c.in_ok-push_names.ensures in
     subst (λ z. ListsRings z.doc (segment c.args.a c.args.b) old new) c.self.view_is
-    (rings_listed m.frame m.borders m.vertices v.holds.whole a b c.args.a c.args.b c.in-Some-Some.ensures.found c.in-Some-Some.ensures'.found numbers l old new names)
+    (rings_listed m.frame m.rings.borders m.rings.vertices v.holds.whole a b c.args.a c.args.b c.in-Some-Some.ensures.found c.in-Some-Some.ensures'.found numbers l old new names)
 
 pub returns-in_default : goal.returns-in_default
 returns-in_default g c =
@@ -38,7 +38,7 @@ returns-in_default g c =
     let v = c.self.invariant in
     let old = c.args.out.now.items in
     subst (λ z. ListsRings z.doc (segment c.args.a c.args.b) old old) c.self.view_is
-    (none_to m.frame m.borders m.vertices v.holds.whole c.args.a c.args.b c.key_of-2.result c.in_default.is-1 c.key_of-2.ensures.absent old)
+    (none_to m.frame m.rings.borders m.rings.vertices v.holds.whole c.args.a c.args.b c.key_of-2.result c.in_default.is-1 c.key_of-2.ensures.absent old)
 
 pub returns-in_default-2 : goal.returns-in_default-2
 returns-in_default-2 g c =
@@ -46,4 +46,4 @@ returns-in_default-2 g c =
     let v = c.self.invariant in
     let old = c.args.out.now.items in
     subst (λ z. ListsRings z.doc (segment c.args.a c.args.b) old old) c.self.view_is
-    (none_from m.frame m.borders m.vertices v.holds.whole c.args.a c.args.b c.key_of.result c.in_default.is-0 c.key_of.ensures.absent old)
+    (none_from m.frame m.rings.borders m.rings.vertices v.holds.whole c.args.a c.args.b c.key_of.result c.in_default.is-0 c.key_of.ensures.absent old)

@@ -1,7 +1,6 @@
 use Rattle.std.proofs.Common.{sym, subst, ap, ◌∙◌, arith}
 use Rattle.std.proofs.lemmas.Result.{err_from_is_err_and}
 use Rattle.feature_exchange.specs.Stored.{stored, document_of}
-use Rattle.feature_exchange.proofs.SegmentBound.{segments_bound}
 use Rattle.arc_store.specs.State.{State}
 use Rattle.arc_store.proofs.Around.{none_joined}
 use Rattle.arc_store.proofs.PutBack.{AreOut, with_all}
@@ -13,49 +12,49 @@ use Rattle.arc_store.proofs.map.Map.put_back_all.Goals as goal
 pub put_all-requires-clause-placeable : goal.put_all-requires-clause-placeable
 put_all-requires-clause-placeable g c =
     let m = c.self.inside in
-    all_placeable m.frame m.borders m.vertices (g.I.SegIndex.held m.index) m.positions m.segments c.self.invariant c.args.removals.now
+    all_placeable m.frame m.rings.borders m.rings.vertices m.rings.index.held m.positions c.self.invariant c.args.removals.now
     (subst (λ (z : State). AreOut z.doc c.args.removals.now) (sym c.self.view_is) c.requires.fits)
 
 pub put_all-requires-clause-unjoined : goal.put_all-requires-clause-unjoined
 put_all-requires-clause-unjoined g c =
     let m = c.self.inside in
-    λ k x e. none_joined (stored m.frame m.borders m.vertices) c.self.invariant.holds.whole k e x
+    λ k x e. none_joined (stored m.frame m.rings.borders m.rings.vertices) c.self.invariant.holds.whole k e x
 
 pub put_all-requires-clause-few : goal.put_all-requires-clause-few
 put_all-requires-clause-few g c =
     let m = c.self.inside in
-    few_gained m.frame m.borders m.vertices (g.I.SegIndex.held m.index) m.positions m.segments c.self.invariant c.args.removals.now
+    few_gained m.frame m.rings.borders m.rings.vertices m.rings.index.held m.positions c.self.invariant c.args.removals.now
     (subst (λ (z : State). AreOut z.doc c.args.removals.now) (sym c.self.view_is) c.requires.fits)
 
 pub put_all-requires-clause-new : goal.put_all-requires-clause-new
 put_all-requires-clause-new g c =
     let m = c.self.inside in
-    all_new m.frame m.borders m.vertices (g.I.SegIndex.held m.index) m.positions m.segments c.self.invariant c.args.removals.now
+    all_new m.frame m.rings.borders m.rings.vertices m.rings.index.held m.positions c.self.invariant c.args.removals.now
     (subst (λ (z : State). AreOut z.doc c.args.removals.now) (sym c.self.view_is) c.requires.fits)
 
 pub put_all-requires-clause-comings_once : goal.put_all-requires-clause-comings_once
 put_all-requires-clause-comings_once g c =
     let m = c.self.inside in
-    all_come_once m.frame m.borders m.vertices (g.I.SegIndex.held m.index) m.positions m.segments c.self.invariant c.args.removals.now
+    all_come_once m.frame m.rings.borders m.rings.vertices m.rings.index.held m.positions c.self.invariant c.args.removals.now
     (subst (λ (z : State). AreOut z.doc c.args.removals.now) (sym c.self.view_is) c.requires.fits)
 
 pub put_all-requires-clause-held : goal.put_all-requires-clause-held
 put_all-requires-clause-held g c =
     let m = c.self.inside in
-    all_there m.frame m.borders m.vertices (g.I.SegIndex.held m.index) m.positions m.segments c.self.invariant c.args.removals.now
+    all_there m.frame m.rings.borders m.rings.vertices m.rings.index.held m.positions c.self.invariant c.args.removals.now
     (subst (λ (z : State). AreOut z.doc c.args.removals.now) (sym c.self.view_is) c.requires.fits)
 
 pub put_all-requires-clause-goings_once : goal.put_all-requires-clause-goings_once
 put_all-requires-clause-goings_once g c =
     let m = c.self.inside in
-    all_go_once m.frame m.borders m.vertices (g.I.SegIndex.held m.index) m.positions m.segments c.self.invariant c.args.removals.now
+    all_go_once m.frame m.rings.borders m.rings.vertices m.rings.index.held m.positions c.self.invariant c.args.removals.now
     (subst (λ (z : State). AreOut z.doc c.args.removals.now) (sym c.self.view_is) c.requires.fits)
 
 pub returns-in_err-count-clause-unchanged : goal.returns-in_err-count-clause-unchanged
 returns-in_err-count-clause-unchanged g c =
     let e = err_from_is_err_and c.from_residual.result c.from_residual.ensures.1 in
     rw e.1
-    (same_tables c.self.invariant c.self.view_is c.put_all.new.borders c.put_all.new.vertices (g.I.SegIndex.cells c.put_all.new.index) c.in_err-count.ensures.borders c.in_err-count.ensures.vertices c.put_all.ensures.cells)
+    (same_tables c.self.invariant c.self.view_is c.put_all.new.tables.borders c.put_all.new.tables.vertices c.put_all.new.tables.index.cells (ap (λ t. t.borders) c.in_err-count.ensures.unchanged) (ap (λ t. t.vertices) c.in_err-count.ensures.unchanged) c.put_all.ensures.cells)
 
 pub overflow_add-self : goal.overflow_add-self
 overflow_add-self g c =
@@ -63,28 +62,21 @@ overflow_add-self g c =
     let h = subst (λ (z : State). AreOut z.doc c.args.removals.now) (sym c.self.view_is) c.requires.fits in
     omega (
       arith,
-      small_again m.frame m.borders m.vertices (g.I.SegIndex.held m.index) m.positions m.segments c.self.invariant c.args.removals.now h,
-      size_again m.frame m.borders m.vertices (g.I.SegIndex.held m.index) m.positions m.segments c.self.invariant c.args.removals.now h c.put_all.new.borders c.put_all.new.vertices c.in_ok-count.count c.in_ok-count.ensures.put,
+      small_again m.frame m.rings.borders m.rings.vertices m.rings.index.held m.positions c.self.invariant c.args.removals.now h,
+      size_again m.frame m.rings.borders m.rings.vertices m.rings.index.held m.positions c.self.invariant c.args.removals.now h c.put_all.new.tables.borders c.put_all.new.tables.vertices c.in_ok-count.count c.in_ok-count.ensures.put,
     )
-
-pub overflow_add-self-2 : goal.overflow_add-self-2
-overflow_add-self-2 g c =
-    let m = c.self.inside in
-    let h = subst (λ (z : State). AreOut z.doc c.args.removals.now) (sym c.self.view_is) c.requires.fits in
-    let k = kept_again m.frame m.borders m.vertices (g.I.SegIndex.held m.index) m.positions m.segments c.self.invariant c.args.removals.now h c.put_all.new.borders c.put_all.new.vertices c.in_ok-count.count c.in_ok-count.ensures.put (g.I.SegIndex.held c.put_all.new.index) c.in_ok-count.ensures.exchanged in
-    omega (arith, k.single, k.holds.small, segments_bound (document_of (stored m.frame c.put_all.new.borders c.put_all.new.vertices)))
 
 pub invariant_of-self-2 : goal.invariant_of-self-2
 invariant_of-self-2 g c =
     let m = c.self.inside in
     let h = subst (λ (z : State). AreOut z.doc c.args.removals.now) (sym c.self.view_is) c.requires.fits in
-    kept_again m.frame m.borders m.vertices (g.I.SegIndex.held m.index) m.positions m.segments c.self.invariant c.args.removals.now h c.put_all.new.borders c.put_all.new.vertices c.in_ok-count.count c.in_ok-count.ensures.put (g.I.SegIndex.held c.put_all.new.index) c.in_ok-count.ensures.exchanged
+    kept_again m.frame m.rings.borders m.rings.vertices m.rings.index.held m.positions c.self.invariant c.args.removals.now h c.put_all.new.tables.borders c.put_all.new.tables.vertices c.in_ok-count.count c.in_ok-count.ensures.put c.put_all.new.tables.index.held c.in_ok-count.ensures.exchanged
 
 pub returns-clause-put : goal.returns-clause-put
 returns-clause-put g c =
     let m = c.self.inside in
     let h = subst (λ (z : State). AreOut z.doc c.args.removals.now) (sym c.self.view_is) c.requires.fits in
-    with_document c.self.invariant c.self.view_is c.put_all.new.borders c.put_all.new.vertices (g.I.SegIndex.cells c.put_all.new.index)
-    (document_again m.frame m.borders m.vertices (g.I.SegIndex.held m.index) m.positions m.segments c.self.invariant c.args.removals.now h c.put_all.new.borders c.put_all.new.vertices c.in_ok-count.count c.in_ok-count.ensures.put
+    with_document c.self.invariant c.self.view_is c.put_all.new.tables.borders c.put_all.new.tables.vertices c.put_all.new.tables.index.cells
+    (document_again m.frame m.rings.borders m.rings.vertices m.rings.index.held m.positions c.self.invariant c.args.removals.now h c.put_all.new.tables.borders c.put_all.new.tables.vertices c.in_ok-count.count c.in_ok-count.ensures.put
     ∙ ap (λ (z : State). with_all z.doc c.args.removals.now) c.self.view_is)
     c.put_all.ensures.cells

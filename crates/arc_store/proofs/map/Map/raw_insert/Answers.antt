@@ -10,7 +10,6 @@ use Rattle.arc_store.proofs.Accepted.{insert_may}
 use Rattle.arc_store.proofs.Indexed.{indexed_apart}
 use Rattle.arc_store.proofs.InsertPlan.{first_key, second_key, insert_off, insert_new, insert_single}
 use Rattle.arc_store.proofs.InsertPlan.{insert_unjoined, insertable, doc_inserted, size_grows, kept_inserted}
-use Rattle.feature_exchange.proofs.SegmentBound.{segments_bound}
 use Rattle.arc_store.proofs.Outcomes.{is_made, hands_on}
 use Rattle.arc_store.proofs.StateKept.{tested, with_record}
 use Rattle.arc_store.proofs.Tested.{inserted_few}
@@ -19,41 +18,41 @@ use Rattle.arc_store.proofs.map.Map.raw_insert.Goals as goal
 pub read_parting-requires-clause-first : goal.read_parting-requires-clause-first
 read_parting-requires-clause-first g c =
     let m = c.self.inside in
-    first_key (stored m.frame m.borders m.vertices) (g.I.SegIndex.held m.index) c.self.invariant.holds c.args.a c.args.b c.args.q (rw (← c.self.view_is) at c.requires.segment) (rw (← c.self.view_is) at c.requires.free)
+    first_key (stored m.frame m.rings.borders m.rings.vertices) m.rings.index.held c.self.invariant.holds c.args.a c.args.b c.args.q (rw (← c.self.view_is) at c.requires.segment) (rw (← c.self.view_is) at c.requires.free)
 
 pub read_parting-requires-clause-second : goal.read_parting-requires-clause-second
 read_parting-requires-clause-second g c =
     let m = c.self.inside in
-    second_key (stored m.frame m.borders m.vertices) (g.I.SegIndex.held m.index) c.self.invariant.holds c.args.a c.args.b c.args.q (rw (← c.self.view_is) at c.requires.segment) (rw (← c.self.view_is) at c.requires.free)
+    second_key (stored m.frame m.rings.borders m.rings.vertices) m.rings.index.held c.self.invariant.holds c.args.a c.args.b c.args.q (rw (← c.self.view_is) at c.requires.segment) (rw (← c.self.view_is) at c.requires.free)
 
 pub read_parting-requires-clause-apart : goal.read_parting-requires-clause-apart
 read_parting-requires-clause-apart g c =
     let m = c.self.inside in
-    insert_off (stored m.frame m.borders m.vertices) (g.I.SegIndex.held m.index) c.self.invariant.holds c.args.a c.args.b c.args.q (rw (← c.self.view_is) at c.requires.segment) (rw (← c.self.view_is) at c.requires.free)
+    insert_off (stored m.frame m.rings.borders m.rings.vertices) m.rings.index.held c.self.invariant.holds c.args.a c.args.b c.args.q (rw (← c.self.view_is) at c.requires.segment) (rw (← c.self.view_is) at c.requires.free)
 
 pub test_insert-requires-clause-apart : goal.test_insert-requires-clause-apart
 test_insert-requires-clause-apart g c =
     let m = c.self.inside in
-    indexed_apart (document_of (stored m.frame m.borders m.vertices)) (g.I.SegIndex.held m.index) c.self.invariant.holds.indexed c.self.invariant.holds.proper
+    indexed_apart (document_of (stored m.frame m.rings.borders m.rings.vertices)) m.rings.index.held c.self.invariant.holds.indexed c.self.invariant.holds.proper
 
 pub put_in-requires-clause-unjoined : goal.put_in-requires-clause-unjoined
 put_in-requires-clause-unjoined g c =
     let m = c.self.inside in
     let p = c.in_ok-parting.parting in
     let r = c.in_ok-parting.ensures.read in
-    insert_unjoined (stored m.frame m.borders m.vertices) (g.I.SegIndex.held m.index) c.self.invariant.holds c.args.a c.args.b c.args.q (rw (← c.self.view_is) at c.requires.segment) (rw (← c.self.view_is) at c.requires.free) p.ends.0 p.ends.1 r.first r.second
+    insert_unjoined (stored m.frame m.rings.borders m.rings.vertices) m.rings.index.held c.self.invariant.holds c.args.a c.args.b c.args.q (rw (← c.self.view_is) at c.requires.segment) (rw (← c.self.view_is) at c.requires.free) p.ends.0 p.ends.1 r.first r.second
 
 pub put_in-requires-clause-new : goal.put_in-requires-clause-new
 put_in-requires-clause-new g c =
     let m = c.self.inside in
-    subst (AreNew (g.I.SegIndex.held m.index)) (sym (c.as_slice-after.ensures.value ∙ c.in_ok-parting.ensures.read.comes))
-    (insert_new (stored m.frame m.borders m.vertices) (g.I.SegIndex.held m.index) c.self.invariant.holds c.args.a c.args.b c.args.q (rw (← c.self.view_is) at c.requires.segment) (rw (← c.self.view_is) at c.requires.free))
+    subst (AreNew m.rings.index.held) (sym (c.as_slice-after.ensures.value ∙ c.in_ok-parting.ensures.read.comes))
+    (insert_new (stored m.frame m.rings.borders m.rings.vertices) m.rings.index.held c.self.invariant.holds c.args.a c.args.b c.args.q (rw (← c.self.view_is) at c.requires.segment) (rw (← c.self.view_is) at c.requires.free))
 
 pub put_in-requires-clause-single : goal.put_in-requires-clause-single
 put_in-requires-clause-single g c =
     let m = c.self.inside in
     subst AreSingle (sym (c.as_slice-after.ensures.value ∙ c.in_ok-parting.ensures.read.comes))
-    (insert_single (stored m.frame m.borders m.vertices) (g.I.SegIndex.held m.index) c.self.invariant.holds c.args.a c.args.b c.args.q (rw (← c.self.view_is) at c.requires.segment) (rw (← c.self.view_is) at c.requires.free))
+    (insert_single (stored m.frame m.rings.borders m.rings.vertices) m.rings.index.held c.self.invariant.holds c.args.a c.args.b c.args.q (rw (← c.self.view_is) at c.requires.segment) (rw (← c.self.view_is) at c.requires.free))
 
 pub overflow_add-self : goal.overflow_add-self
 overflow_add-self g c =
@@ -63,18 +62,13 @@ overflow_add-self g c =
     let border = rw (← c.self.view_is) at c.requires.segment in
     let free = rw (← c.self.view_is) at c.requires.free in
     let small = rw (← c.self.view_is) at c.requires.small in
-    let s = stored m.frame m.borders m.vertices in
-    let may = insert_may (document_of s) c.args.a c.args.b c.args.q c.requires.apart small (c.in_ok-test_insert.ensures.accepted (document_of s) (insertable s (g.I.SegIndex.held m.index) c.self.invariant.holds c.args.a c.args.b c.args.q border free small)) in
+    let s = stored m.frame m.rings.borders m.rings.vertices in
+    let may = insert_may (document_of s) c.args.a c.args.b c.args.q c.requires.apart small (c.in_ok-test_insert.ensures.accepted (document_of s) (insertable s m.rings.index.held c.self.invariant.holds c.args.a c.args.b c.args.q border free small)) in
     omega (
       arith,
       may.small,
-      size_grows m.frame m.borders c.put_in.new.borders m.vertices c.put_in.new.vertices (g.I.SegIndex.held m.index) (g.I.SegIndex.held c.put_in.new.index) m.positions m.segments c.self.invariant p.ends.0 p.ends.1 c.args.a c.args.b c.args.q r.first r.second may c.in_ok-rings.ensures.put c.in_ok-rings.rings c.in_ok-rings.ensures.rings,
+      size_grows m.frame m.rings.borders c.put_in.new.tables.borders m.rings.vertices c.put_in.new.tables.vertices m.rings.index.held c.put_in.new.tables.index.held m.positions c.self.invariant p.ends.0 p.ends.1 c.args.a c.args.b c.args.q r.first r.second may c.in_ok-rings.ensures.put c.in_ok-rings.rings c.in_ok-rings.ensures.rings,
     )
-
-pub overflow_add-self-2 : goal.overflow_add-self-2
-overflow_add-self-2 g c =
-    let m = c.self.inside in
-    omega (arith, c.self.invariant.single, c.self.invariant.holds.small, segments_bound (document_of (stored m.frame m.borders m.vertices)))
 
 pub invariant_of-self-2 : goal.invariant_of-self-2
 invariant_of-self-2 g c =
@@ -84,9 +78,9 @@ invariant_of-self-2 g c =
     let border = rw (← c.self.view_is) at c.requires.segment in
     let free = rw (← c.self.view_is) at c.requires.free in
     let small = rw (← c.self.view_is) at c.requires.small in
-    let s = stored m.frame m.borders m.vertices in
-    let may = insert_may (document_of s) c.args.a c.args.b c.args.q c.requires.apart small (c.in_ok-test_insert.ensures.accepted (document_of s) (insertable s (g.I.SegIndex.held m.index) c.self.invariant.holds c.args.a c.args.b c.args.q border free small)) in
-    kept_inserted m.frame m.borders c.put_in.new.borders m.vertices c.put_in.new.vertices (g.I.SegIndex.held m.index) (g.I.SegIndex.held c.put_in.new.index) m.positions m.segments c.self.invariant p.ends.0 p.ends.1 c.args.a c.args.b c.args.q r.first r.second may c.in_ok-rings.ensures.put c.in_ok-rings.rings c.in_ok-rings.ensures.rings
+    let s = stored m.frame m.rings.borders m.rings.vertices in
+    let may = insert_may (document_of s) c.args.a c.args.b c.args.q c.requires.apart small (c.in_ok-test_insert.ensures.accepted (document_of s) (insertable s m.rings.index.held c.self.invariant.holds c.args.a c.args.b c.args.q border free small)) in
+    kept_inserted m.frame m.rings.borders c.put_in.new.tables.borders m.rings.vertices c.put_in.new.tables.vertices m.rings.index.held c.put_in.new.tables.index.held m.positions c.self.invariant p.ends.0 p.ends.1 c.args.a c.args.b c.args.q r.first r.second may c.in_ok-rings.ensures.put c.in_ok-rings.rings c.in_ok-rings.ensures.rings
     p.before c.as_slice-after.result.now r.goes (c.as_slice-after.ensures.value ∙ r.comes) c.in_ok-rings.ensures.exchanged
 
 -- ---- what the edit makes
@@ -94,11 +88,11 @@ invariant_of-self-2 g c =
 pub returns-in_err-test_insert-clause-edits : goal.returns-in_err-test_insert-clause-edits
 returns-in_err-test_insert-clause-edits g c =
     let m = c.self.inside in
-    let s = stored m.frame m.borders m.vertices in
-    let asked = insertable s (g.I.SegIndex.held m.index) c.self.invariant.holds c.args.a c.args.b c.args.q (rw (← c.self.view_is) at c.requires.segment) (rw (← c.self.view_is) at c.requires.free) (rw (← c.self.view_is) at c.requires.small) in
+    let s = stored m.frame m.rings.borders m.rings.vertices in
+    let asked = insertable s m.rings.index.held c.self.invariant.holds c.args.a c.args.b c.args.q (rw (← c.self.view_is) at c.requires.segment) (rw (← c.self.view_is) at c.requires.free) (rw (← c.self.view_is) at c.requires.small) in
     hands_on c.in_err-test_insert.field-0.0 c.from_residual-in_err-test_insert.result c.from_residual-in_err-test_insert.ensures.1
     (subst (λ (z : State). Refuses c.in_err-test_insert.field-0.0 (first_of (insert_refusals z.doc c.args.a c.args.b c.args.q))) c.self.view_is (c.in_err-test_insert.ensures.refused (document_of s) asked))
-    (tested c.self.invariant c.self.view_is m.borders m.vertices (g.I.SegIndex.cells m.index) c.test_insert.new.tests refl refl refl)
+    (tested c.self.invariant c.self.view_is m.rings.borders m.rings.vertices m.rings.index.cells c.test_insert.new.tests refl refl refl)
 
 pub returns-clause-edits : goal.returns-clause-edits
 returns-clause-edits g c =
@@ -108,12 +102,12 @@ returns-clause-edits g c =
     let border = rw (← c.self.view_is) at c.requires.segment in
     let free = rw (← c.self.view_is) at c.requires.free in
     let small = rw (← c.self.view_is) at c.requires.small in
-    let s = stored m.frame m.borders m.vertices in
-    let none = c.in_ok-test_insert.ensures.accepted (document_of s) (insertable s (g.I.SegIndex.held m.index) c.self.invariant.holds c.args.a c.args.b c.args.q border free small) in
+    let s = stored m.frame m.rings.borders m.rings.vertices in
+    let none = c.in_ok-test_insert.ensures.accepted (document_of s) (insertable s m.rings.index.held c.self.invariant.holds c.args.a c.args.b c.args.q border free small) in
     let may = insert_may (document_of s) c.args.a c.args.b c.args.q c.requires.apart small none in
     is_made (subst (λ (z : State). first_of (insert_refusals z.doc c.args.a c.args.b c.args.q) ≡ None) c.self.view_is none)
-    (with_record c.self.invariant c.self.view_is c.put_in.new.borders c.put_in.new.vertices (g.I.SegIndex.cells c.put_in.new.index)
-    (doc_inserted m.frame m.borders c.put_in.new.borders m.vertices c.put_in.new.vertices (g.I.SegIndex.held m.index) (g.I.SegIndex.held c.put_in.new.index) m.positions m.segments c.self.invariant p.ends.0 p.ends.1 c.args.a c.args.b c.args.q r.first r.second may c.in_ok-rings.ensures.put
+    (with_record c.self.invariant c.self.view_is c.put_in.new.tables.borders c.put_in.new.tables.vertices c.put_in.new.tables.index.cells
+    (doc_inserted m.frame m.rings.borders c.put_in.new.tables.borders m.rings.vertices c.put_in.new.tables.vertices m.rings.index.held c.put_in.new.tables.index.held m.positions c.self.invariant p.ends.0 p.ends.1 c.args.a c.args.b c.args.q r.first r.second may c.in_ok-rings.ensures.put
     ∙ ap (λ z. ins z.doc c.args.a c.args.b c.args.q) c.self.view_is)
     c.put_in.ensures.cells c.keep.ensures)
 

@@ -7,6 +7,7 @@ use Rattle.segment_index.specs.Candidates.{AreAmong, AreSingle}
 use Rattle.feature_exchange.specs.Stored.{stored}
 use Rattle.ring_store.specs.Planned.{AreNew}
 use Rattle.arc_store.specs.State.{State}
+use Rattle.arc_store.specs.declared.fault.EditFault.TheVariants as fault
 use Rattle.arc_store.proofs.Accepted.{move_may}
 use Rattle.arc_store.proofs.MovePlan.{held_apart, move_conflicts, move_decided}
 use Rattle.arc_store.proofs.MovePlan.{has_moving, plan_new, plan_single, plan_held, plan_once, document_after, kept_after}
@@ -17,54 +18,54 @@ use Rattle.arc_store.proofs.map.Map.raw_move.Goals as goal
 
 pub read_moving-requires : goal.read_moving-requires
 read_moving-requires g c =
-    has_moving (stored c.self.inside.frame c.self.inside.borders c.self.inside.vertices) c.self.invariant.holds.whole c.args.p c.args.q
+    has_moving (stored c.self.inside.frame c.self.inside.rings.borders c.self.inside.rings.vertices) c.self.invariant.holds.whole c.args.p c.args.q
     (ap (λ z. is_vertex z.doc c.args.p) c.self.view_is ∙ c.requires.vertex)
     (ap (λ z. is_vertex z.doc c.args.q) c.self.view_is ∙ c.requires.free)
 
 pub test_planar-requires : goal.test_planar-requires
 test_planar-requires g c =
-    held_apart (stored c.self.inside.frame c.self.inside.borders c.self.inside.vertices) (g.I.SegIndex.held c.self.inside.index) c.self.invariant.holds
+    held_apart (stored c.self.inside.frame c.self.inside.rings.borders c.self.inside.rings.vertices) c.self.inside.rings.index.held c.self.invariant.holds
 
 pub shift-requires-clause-new : goal.shift-requires-clause-new
 shift-requires-clause-new g c =
     let m = c.in_ok-moving.moving in
     let r = c.in_ok-moving.ensures.read in
-    subst (AreNew (g.I.SegIndex.held c.self.inside.index)) (sym (c.as_slice-after.ensures.value ∙ r.comes))
-    (plan_new (stored c.self.inside.frame c.self.inside.borders c.self.inside.vertices) (g.I.SegIndex.held c.self.inside.index) c.self.invariant.holds m.key c.args.p c.args.q r.here (ap (λ z. is_vertex z.doc c.args.q) c.self.view_is ∙ c.requires.free) m.around.items r.all)
+    subst (AreNew c.self.inside.rings.index.held) (sym (c.as_slice-after.ensures.value ∙ r.comes))
+    (plan_new (stored c.self.inside.frame c.self.inside.rings.borders c.self.inside.rings.vertices) c.self.inside.rings.index.held c.self.invariant.holds m.key c.args.p c.args.q r.here (ap (λ z. is_vertex z.doc c.args.q) c.self.view_is ∙ c.requires.free) m.around.items r.all)
 
 pub shift-requires-clause-after_once : goal.shift-requires-clause-after_once
 shift-requires-clause-after_once g c =
     let m = c.in_ok-moving.moving in
     let r = c.in_ok-moving.ensures.read in
     subst AreSingle (sym (c.as_slice-after.ensures.value ∙ r.comes))
-    (plan_single (stored c.self.inside.frame c.self.inside.borders c.self.inside.vertices) (g.I.SegIndex.held c.self.inside.index) c.self.invariant.holds m.key c.args.p c.args.q r.here (ap (λ z. is_vertex z.doc c.args.q) c.self.view_is ∙ c.requires.free) m.around.items r.all)
+    (plan_single (stored c.self.inside.frame c.self.inside.rings.borders c.self.inside.rings.vertices) c.self.inside.rings.index.held c.self.invariant.holds m.key c.args.p c.args.q r.here (ap (λ z. is_vertex z.doc c.args.q) c.self.view_is ∙ c.requires.free) m.around.items r.all)
 
 pub shift-requires-clause-held : goal.shift-requires-clause-held
 shift-requires-clause-held g c =
     let m = c.in_ok-moving.moving in
     let r = c.in_ok-moving.ensures.read in
-    subst (AreAmong (g.I.SegIndex.held c.self.inside.index)) (sym (c.as_slice-before.ensures.value ∙ r.goes))
-    (plan_held (stored c.self.inside.frame c.self.inside.borders c.self.inside.vertices) (g.I.SegIndex.held c.self.inside.index) c.self.invariant.holds m.key c.args.p c.args.q r.here (ap (λ z. is_vertex z.doc c.args.q) c.self.view_is ∙ c.requires.free) m.around.items r.all)
+    subst (AreAmong c.self.inside.rings.index.held) (sym (c.as_slice-before.ensures.value ∙ r.goes))
+    (plan_held (stored c.self.inside.frame c.self.inside.rings.borders c.self.inside.rings.vertices) c.self.inside.rings.index.held c.self.invariant.holds m.key c.args.p c.args.q r.here (ap (λ z. is_vertex z.doc c.args.q) c.self.view_is ∙ c.requires.free) m.around.items r.all)
 
 pub shift-requires-clause-before_once : goal.shift-requires-clause-before_once
 shift-requires-clause-before_once g c =
     let m = c.in_ok-moving.moving in
     let r = c.in_ok-moving.ensures.read in
     subst AreSingle (sym (c.as_slice-before.ensures.value ∙ r.goes))
-    (plan_once (stored c.self.inside.frame c.self.inside.borders c.self.inside.vertices) (g.I.SegIndex.held c.self.inside.index) c.self.invariant.holds m.key c.args.p c.args.q r.here (ap (λ z. is_vertex z.doc c.args.q) c.self.view_is ∙ c.requires.free) m.around.items r.all)
+    (plan_once (stored c.self.inside.frame c.self.inside.rings.borders c.self.inside.rings.vertices) c.self.inside.rings.index.held c.self.invariant.holds m.key c.args.p c.args.q r.here (ap (λ z. is_vertex z.doc c.args.q) c.self.view_is ∙ c.requires.free) m.around.items r.all)
 
 pub invariant_of-self-2 : goal.invariant_of-self-2
 invariant_of-self-2 g c =
     let m = c.in_ok-moving.moving in
     let r = c.in_ok-moving.ensures.read in
-    kept_after c.shift.result c.self.inside.frame c.self.inside.borders c.self.inside.vertices c.shift.new.vertices (g.I.SegIndex.held c.self.inside.index) (g.I.SegIndex.held c.shift.new.index) c.self.inside.positions c.self.inside.segments c.self.invariant c.args.self.now.doc (ap (λ z. z.doc) c.self.view_is) m.key c.args.p c.args.q r.here
+    kept_after c.shift.result c.self.inside.frame c.self.inside.rings c.shift.new.tables c.self.inside.positions c.self.invariant c.args.self.now.doc (ap (λ z. z.doc) c.self.view_is) m.key c.args.p c.args.q r.here
     (move_may c.args.self.now.doc c.args.p c.args.q
-    (move_decided (stored c.self.inside.frame c.self.inside.borders c.self.inside.vertices) (g.I.SegIndex.held c.self.inside.index) c.self.invariant.holds c.args.self.now.doc (ap (λ z. z.doc) c.self.view_is) m.key c.args.p c.args.q r.here c.requires.vertex c.requires.free m.around.items r.all c.as_slice-after.result.now
+    (move_decided (stored c.self.inside.frame c.self.inside.rings.borders c.self.inside.rings.vertices) c.self.inside.rings.index.held c.self.invariant.holds c.args.self.now.doc (ap (λ z. z.doc) c.self.view_is) m.key c.args.p c.args.q r.here c.requires.vertex c.requires.free m.around.items r.all c.as_slice-after.result.now
     (c.as_slice-after.ensures.value ∙ r.comes)
     c.as_slice-around.result.now c.as_slice-around.ensures.value c.in_ok-sweeps.field-0 c.in_ok-test_planar.ensures.apart c.in_ok-sweeps.ensures.sweeps
     ∙ ap (λ z. first_of ((Sweeps unless not z) ∷ [])) c.if-branch.false))
     m.around.items r.all c.as_slice-after.result.now c.as_slice-before.result.now (c.as_slice-after.ensures.value ∙ r.comes) (c.as_slice-before.ensures.value ∙ r.goes)
-    c.shift.ensures.moved c.shift.ensures.exchanged c.shift.ensures.vertices c.shift.ensures.index
+    c.shift.ensures.moved c.shift.ensures.exchanged c.shift.ensures.borders c.shift.ensures.unchanged
 
 -- ---- what the edit makes
 
@@ -73,32 +74,37 @@ returns-in_err-test_planar-clause-edits g c =
     let m = c.in_ok-moving.moving in
     let r = c.in_ok-moving.ensures.read in
     hands_on c.in_err-test_planar.field-0.0 c.from_residual-in_err-test_planar.result c.from_residual-in_err-test_planar.ensures.1
-    (move_conflicts (stored c.self.inside.frame c.self.inside.borders c.self.inside.vertices) (g.I.SegIndex.held c.self.inside.index) c.self.invariant.holds c.args.self.now.doc (ap (λ z. z.doc) c.self.view_is) m.key c.args.p c.args.q r.here c.requires.vertex c.requires.free m.around.items r.all c.as_slice-after.result.now
+    (move_conflicts (stored c.self.inside.frame c.self.inside.rings.borders c.self.inside.rings.vertices) c.self.inside.rings.index.held c.self.invariant.holds c.args.self.now.doc (ap (λ z. z.doc) c.self.view_is) m.key c.args.p c.args.q r.here c.requires.vertex c.requires.free m.around.items r.all c.as_slice-after.result.now
     (c.as_slice-after.ensures.value ∙ r.comes) c.in_err-test_planar.field-0.0 c.in_err-test_planar.ensures.refused)
-    (tested c.self.invariant c.self.view_is c.self.inside.borders c.self.inside.vertices (g.I.SegIndex.cells c.self.inside.index) c.test_planar.new.tests refl refl refl)
+    (tested c.self.invariant c.self.view_is c.self.inside.rings.borders c.self.inside.rings.vertices c.self.inside.rings.index.cells c.test_planar.new.tests refl refl refl)
 
 pub returns-then-branch-clause-edits : goal.returns-then-branch-clause-edits
 returns-then-branch-clause-edits g c =
     let m = c.in_ok-moving.moving in
     let r = c.in_ok-moving.ensures.read in
     is_refused
-    (move_decided (stored c.self.inside.frame c.self.inside.borders c.self.inside.vertices) (g.I.SegIndex.held c.self.inside.index) c.self.invariant.holds c.args.self.now.doc (ap (λ z. z.doc) c.self.view_is) m.key c.args.p c.args.q r.here c.requires.vertex c.requires.free m.around.items r.all c.as_slice-after.result.now
+    (move_decided (stored c.self.inside.frame c.self.inside.rings.borders c.self.inside.rings.vertices) c.self.inside.rings.index.held c.self.invariant.holds c.args.self.now.doc (ap (λ z. z.doc) c.self.view_is) m.key c.args.p c.args.q r.here c.requires.vertex c.requires.free m.around.items r.all c.as_slice-after.result.now
     (c.as_slice-after.ensures.value ∙ r.comes)
     c.as_slice-around.result.now c.as_slice-around.ensures.value c.in_ok-sweeps.field-0 c.in_ok-test_planar.ensures.apart c.in_ok-sweeps.ensures.sweeps
     ∙ ap (λ z. first_of ((Sweeps unless not z) ∷ [])) c.if-branch.true)
-    (tested c.self.invariant c.self.view_is c.self.inside.borders c.self.inside.vertices (g.I.SegIndex.cells c.self.inside.index) c.sweeps.new.tests refl refl refl)
+    (tested c.self.invariant c.self.view_is c.self.inside.rings.borders c.self.inside.rings.vertices c.self.inside.rings.index.cells c.sweeps.new.tests refl refl refl)
+
+pub returns-in_err-shift-clause-edits : goal.returns-in_err-shift-clause-edits
+returns-in_err-shift-clause-edits g c =
+    hands_on fault.OutOfMemory c.from_residual-in_err-shift.result c.from_residual-in_err-shift.ensures.1 tt
+    (tested c.self.invariant c.self.view_is c.shift.new.tables.borders c.shift.new.tables.vertices c.shift.new.tables.index.cells c.sweeps.new.tests c.shift.ensures.borders (ap (λ t. t.vertices) c.in_err-shift.ensures.unchanged) c.shift.ensures.cells)
 
 pub returns-clause-edits : goal.returns-clause-edits
 returns-clause-edits g c =
     let m = c.in_ok-moving.moving in
     let r = c.in_ok-moving.ensures.read in
     is_made
-    (move_decided (stored c.self.inside.frame c.self.inside.borders c.self.inside.vertices) (g.I.SegIndex.held c.self.inside.index) c.self.invariant.holds c.args.self.now.doc (ap (λ z. z.doc) c.self.view_is) m.key c.args.p c.args.q r.here c.requires.vertex c.requires.free m.around.items r.all c.as_slice-after.result.now
+    (move_decided (stored c.self.inside.frame c.self.inside.rings.borders c.self.inside.rings.vertices) c.self.inside.rings.index.held c.self.invariant.holds c.args.self.now.doc (ap (λ z. z.doc) c.self.view_is) m.key c.args.p c.args.q r.here c.requires.vertex c.requires.free m.around.items r.all c.as_slice-after.result.now
     (c.as_slice-after.ensures.value ∙ r.comes)
     c.as_slice-around.result.now c.as_slice-around.ensures.value c.in_ok-sweeps.field-0 c.in_ok-test_planar.ensures.apart c.in_ok-sweeps.ensures.sweeps
     ∙ ap (λ z. first_of ((Sweeps unless not z) ∷ [])) c.if-branch.false)
-    (with_record c.self.invariant c.self.view_is c.self.inside.borders c.shift.new.vertices (g.I.SegIndex.cells c.shift.new.index)
-    (document_after c.self.inside.frame c.self.inside.borders c.self.inside.vertices c.shift.new.vertices c.self.invariant.holds.whole c.args.self.now.doc (ap (λ z. z.doc) c.self.view_is) m.key c.args.p c.args.q r.here c.requires.free c.in_ok-shift.ensures.moved)
+    (with_record c.self.invariant c.self.view_is c.shift.new.tables.borders c.shift.new.tables.vertices c.shift.new.tables.index.cells
+    (document_after c.self.inside.frame c.self.inside.rings c.shift.new.tables c.self.invariant.holds.whole c.args.self.now.doc (ap (λ z. z.doc) c.self.view_is) m.key c.args.p c.args.q r.here c.requires.free c.shift.ensures.borders c.in_ok-shift.ensures.moved)
     c.shift.ensures.cells c.keep.ensures)
 
 -- ---- how many tests

@@ -14,7 +14,7 @@ invariant_of-self g c =
     let m = c.self.inside in
     let is : c.rename-id.new.self ≡ record m.frame { doc = renamed m.frame.doc c.args.n c.args.id.items } =
     c.rename-id.ensures.renamed ∙ ap (λ z. record m.frame { doc = with_id m.frame.doc c.args.n z }) c.given.ensures in
-    subst (λ (f : Framed). IsKept f m.borders m.vertices (g.I.SegIndex.held m.index) m.positions m.segments) (sym is)
+    subst (λ (f : Framed). IsKept f m.rings.borders m.rings.vertices m.rings.index.held m.positions) (sym is)
     (kept_renamed c.self.invariant c.args.n c.args.id.items c.requires.text)
 
 pub returns-then-has_feature-clause-renamed : goal.returns-then-has_feature-clause-renamed

@@ -11,7 +11,7 @@ use Rattle.arc_store.proofs.map.Map.remove_tables.Goals as goal
 
 pub read_bridging-requires : goal.read_bridging-requires
 read_bridging-requires g c =
-    has_bridging (stored c.self.inside.frame c.self.inside.borders c.self.inside.vertices) c.self.invariant.holds.whole c.args.p
+    has_bridging (stored c.self.inside.frame c.self.inside.rings.borders c.self.inside.rings.vertices) c.self.invariant.holds.whole c.args.p
     (ap (λ z. is_vertex z.doc c.args.p) c.self.view_is ∙ c.requires.leavable.vertex)
     (ap (λ z. is_junction z.doc c.args.p) c.self.view_is ∙ c.requires.leavable.inner)
 
@@ -57,30 +57,23 @@ overflow_sub-self g c =
     let r = c.in_ok-bridging.ensures.read in
     let f = found c.self.invariant (ap (λ z. z.doc) c.self.view_is) r.here r.two c.requires.leavable.inner c.requires.leavable.long c.requires.leavable.unjoined in
     let may = subst (λ (z : State). IsLeavable z.doc c.args.p) (sym c.self.view_is) c.requires.leavable in
-    let t = taken f r.first r.second r.comes (c.as_slice-before.ensures.value ∙ r.goes) may c.in_ok-rings.ensures.taken (g.I.SegIndex.held c.take_out.new.index) c.in_ok-rings.ensures.exchanged in
+    let t = taken f r.first r.second r.comes (c.as_slice-before.ensures.value ∙ r.goes) may c.in_ok-rings.ensures.taken c.take_out.new.tables.index.held c.in_ok-rings.ensures.exchanged in
     omega (arith, t.positions_there, c.in_ok-rings.ensures.rings)
-
-pub overflow_sub-self-2 : goal.overflow_sub-self-2
-overflow_sub-self-2 g c =
-    let r = c.in_ok-bridging.ensures.read in
-    let f = found c.self.invariant (ap (λ z. z.doc) c.self.view_is) r.here r.two c.requires.leavable.inner c.requires.leavable.long c.requires.leavable.unjoined in
-    let may = subst (λ (z : State). IsLeavable z.doc c.args.p) (sym c.self.view_is) c.requires.leavable in
-    (taken f r.first r.second r.comes (c.as_slice-before.ensures.value ∙ r.goes) may c.in_ok-rings.ensures.taken (g.I.SegIndex.held c.take_out.new.index) c.in_ok-rings.ensures.exchanged).segment_there
 
 pub invariant_of-self-2 : goal.invariant_of-self-2
 invariant_of-self-2 g c =
     let r = c.in_ok-bridging.ensures.read in
     let f = found c.self.invariant (ap (λ z. z.doc) c.self.view_is) r.here r.two c.requires.leavable.inner c.requires.leavable.long c.requires.leavable.unjoined in
     let may = subst (λ (z : State). IsLeavable z.doc c.args.p) (sym c.self.view_is) c.requires.leavable in
-    rw c.in_ok-rings.ensures.rings (taken f r.first r.second r.comes (c.as_slice-before.ensures.value ∙ r.goes) may c.in_ok-rings.ensures.taken (g.I.SegIndex.held c.take_out.new.index) c.in_ok-rings.ensures.exchanged).kept
+    rw c.in_ok-rings.ensures.rings (taken f r.first r.second r.comes (c.as_slice-before.ensures.value ∙ r.goes) may c.in_ok-rings.ensures.taken c.take_out.new.tables.index.held c.in_ok-rings.ensures.exchanged).kept
 
 pub returns-clause-removed : goal.returns-clause-removed
 returns-clause-removed g c =
     let r = c.in_ok-bridging.ensures.read in
     let f = found c.self.invariant (ap (λ z. z.doc) c.self.view_is) r.here r.two c.requires.leavable.inner c.requires.leavable.long c.requires.leavable.unjoined in
     let may = subst (λ (z : State). IsLeavable z.doc c.args.p) (sym c.self.view_is) c.requires.leavable in
-    with_document c.self.invariant c.self.view_is c.take_out.new.borders c.take_out.new.vertices (g.I.SegIndex.cells c.take_out.new.index)
-    ((taken f r.first r.second r.comes (c.as_slice-before.ensures.value ∙ r.goes) may c.in_ok-rings.ensures.taken (g.I.SegIndex.held c.take_out.new.index) c.in_ok-rings.ensures.exchanged).doc
+    with_document c.self.invariant c.self.view_is c.take_out.new.tables.borders c.take_out.new.tables.vertices c.take_out.new.tables.index.cells
+    ((taken f r.first r.second r.comes (c.as_slice-before.ensures.value ∙ r.goes) may c.in_ok-rings.ensures.taken c.take_out.new.tables.index.held c.in_ok-rings.ensures.exchanged).doc
     ∙ ap (λ z. del z.doc c.args.p) c.self.view_is)
     c.take_out.ensures.cells
 
@@ -88,4 +81,4 @@ pub returns-in_err-rings-clause-unchanged : goal.returns-in_err-rings-clause-unc
 returns-in_err-rings-clause-unchanged g c =
     let e = err_from_is_err_and c.from_residual-in_err-rings.result c.from_residual-in_err-rings.ensures.1 in
     rw e.1
-    (same_tables c.self.invariant c.self.view_is c.take_out.new.borders c.take_out.new.vertices (g.I.SegIndex.cells c.take_out.new.index) c.in_err-rings.ensures.borders c.in_err-rings.ensures.vertices c.take_out.ensures.cells)
+    (same_tables c.self.invariant c.self.view_is c.take_out.new.tables.borders c.take_out.new.tables.vertices c.take_out.new.tables.index.cells (ap (λ t. t.borders) c.in_err-rings.ensures.unchanged) (ap (λ t. t.vertices) c.in_err-rings.ensures.unchanged) c.take_out.ensures.cells)

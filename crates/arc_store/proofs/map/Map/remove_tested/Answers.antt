@@ -7,6 +7,7 @@ use Rattle.feature_exchange.specs.Stored.{stored, document_of}
 use Rattle.arc_store.specs.Faults.{Refuses}
 use Rattle.arc_store.specs.Recorded.{IsLeftOut}
 use Rattle.arc_store.specs.State.{State}
+use Rattle.arc_store.specs.declared.fault.EditFault.TheVariants as fault
 use Rattle.arc_store.proofs.Accepted.{remove_may}
 use Rattle.arc_store.proofs.Indexed.{indexed_apart}
 use Rattle.arc_store.proofs.LeftOut.{found_left}
@@ -18,7 +19,7 @@ use Rattle.arc_store.proofs.map.Map.remove_tested.Goals as goal
 
 pub read_bridging-requires : goal.read_bridging-requires
 read_bridging-requires g c =
-    has_bridging (stored c.self.inside.frame c.self.inside.borders c.self.inside.vertices) c.self.invariant.holds.whole c.args.p
+    has_bridging (stored c.self.inside.frame c.self.inside.rings.borders c.self.inside.rings.vertices) c.self.invariant.holds.whole c.args.p
     (ap (λ z. is_vertex z.doc c.args.p) c.self.view_is ∙ c.requires.vertex)
     (ap (λ z. is_junction z.doc c.args.p) c.self.view_is ∙ c.requires.inner)
 
@@ -26,7 +27,7 @@ read_bridging-requires g c =
 
 pub test_remove-requires : goal.test_remove-requires
 test_remove-requires g c = record {
-  apart = indexed_apart (document_of (stored c.self.inside.frame c.self.inside.borders c.self.inside.vertices)) (g.I.SegIndex.held c.self.inside.index) c.self.invariant.holds.indexed c.self.invariant.holds.proper;
+  apart = indexed_apart (document_of (stored c.self.inside.frame c.self.inside.rings.borders c.self.inside.rings.vertices)) c.self.inside.rings.index.held c.self.invariant.holds.indexed c.self.invariant.holds.proper;
 }
 
 -- ---- the tables
@@ -71,28 +72,19 @@ overflow_sub-self g c =
     let r = c.in_ok-bridging.ensures.read in
     let f = found c.self.invariant (ap (λ z. z.doc) c.self.view_is) r.here r.two c.requires.inner c.requires.long c.requires.unjoined in
     let plan = found_planned f r.a r.b r.first r.second c.in_ok-bridging.bridging.after c.as_slice-before.result.now r.comes (c.as_slice-before.ensures.value ∙ r.goes) in
-    let s = stored c.self.inside.frame c.self.inside.borders c.self.inside.vertices in
+    let s = stored c.self.inside.frame c.self.inside.rings.borders c.self.inside.rings.vertices in
     let may = remove_may (document_of s) c.args.p (c.in_ok-test_remove.ensures.accepted (document_of s) plan.removable) in
-    let t = taken f r.first r.second r.comes (c.as_slice-before.ensures.value ∙ r.goes) may c.in_ok-rings.ensures.taken (g.I.SegIndex.held c.take_out.new.index) c.in_ok-rings.ensures.exchanged in
+    let t = taken f r.first r.second r.comes (c.as_slice-before.ensures.value ∙ r.goes) may c.in_ok-rings.ensures.taken c.take_out.new.tables.index.held c.in_ok-rings.ensures.exchanged in
     omega (arith, t.positions_there, c.in_ok-rings.ensures.rings)
-
-pub overflow_sub-self-2 : goal.overflow_sub-self-2
-overflow_sub-self-2 g c =
-    let r = c.in_ok-bridging.ensures.read in
-    let f = found c.self.invariant (ap (λ z. z.doc) c.self.view_is) r.here r.two c.requires.inner c.requires.long c.requires.unjoined in
-    let plan = found_planned f r.a r.b r.first r.second c.in_ok-bridging.bridging.after c.as_slice-before.result.now r.comes (c.as_slice-before.ensures.value ∙ r.goes) in
-    let s = stored c.self.inside.frame c.self.inside.borders c.self.inside.vertices in
-    let may = remove_may (document_of s) c.args.p (c.in_ok-test_remove.ensures.accepted (document_of s) plan.removable) in
-    (taken f r.first r.second r.comes (c.as_slice-before.ensures.value ∙ r.goes) may c.in_ok-rings.ensures.taken (g.I.SegIndex.held c.take_out.new.index) c.in_ok-rings.ensures.exchanged).segment_there
 
 pub invariant_of-self-2 : goal.invariant_of-self-2
 invariant_of-self-2 g c =
     let r = c.in_ok-bridging.ensures.read in
     let f = found c.self.invariant (ap (λ z. z.doc) c.self.view_is) r.here r.two c.requires.inner c.requires.long c.requires.unjoined in
     let plan = found_planned f r.a r.b r.first r.second c.in_ok-bridging.bridging.after c.as_slice-before.result.now r.comes (c.as_slice-before.ensures.value ∙ r.goes) in
-    let s = stored c.self.inside.frame c.self.inside.borders c.self.inside.vertices in
+    let s = stored c.self.inside.frame c.self.inside.rings.borders c.self.inside.rings.vertices in
     let may = remove_may (document_of s) c.args.p (c.in_ok-test_remove.ensures.accepted (document_of s) plan.removable) in
-    rw c.in_ok-rings.ensures.rings (taken f r.first r.second r.comes (c.as_slice-before.ensures.value ∙ r.goes) may c.in_ok-rings.ensures.taken (g.I.SegIndex.held c.take_out.new.index) c.in_ok-rings.ensures.exchanged).kept
+    rw c.in_ok-rings.ensures.rings (taken f r.first r.second r.comes (c.as_slice-before.ensures.value ∙ r.goes) may c.in_ok-rings.ensures.taken c.take_out.new.tables.index.held c.in_ok-rings.ensures.exchanged).kept
 
 -- ---- what the edit makes
 
@@ -103,8 +95,8 @@ returns-in_err-test_remove-clause-edits g c =
     let f = found c.self.invariant (ap (λ z. z.doc) c.self.view_is) r.here r.two c.requires.inner c.requires.long c.requires.unjoined in
     let plan = found_planned f r.a r.b r.first r.second c.in_ok-bridging.bridging.after c.as_slice-before.result.now r.comes (c.as_slice-before.ensures.value ∙ r.goes) in
     hands_on c.in_err-test_remove.field-0.0 c.from_residual-in_err-test_remove.result c.from_residual-in_err-test_remove.ensures.1
-    (subst (λ (z : State). Refuses c.in_err-test_remove.field-0.0 (first_of (remove_refusals z.doc c.args.p))) c.self.view_is (c.in_err-test_remove.ensures.refused (document_of (stored m.frame m.borders m.vertices)) plan.removable))
-    (tested c.self.invariant c.self.view_is m.borders m.vertices (g.I.SegIndex.cells m.index) c.test_remove.new.tests refl refl refl)
+    (subst (λ (z : State). Refuses c.in_err-test_remove.field-0.0 (first_of (remove_refusals z.doc c.args.p))) c.self.view_is (c.in_err-test_remove.ensures.refused (document_of (stored m.frame m.rings.borders m.rings.vertices)) plan.removable))
+    (tested c.self.invariant c.self.view_is m.rings.borders m.rings.vertices m.rings.index.cells c.test_remove.new.tests refl refl refl)
 
 pub returns-clause-edits : goal.returns-clause-edits
 returns-clause-edits g c =
@@ -112,12 +104,12 @@ returns-clause-edits g c =
     let r = c.in_ok-bridging.ensures.read in
     let f = found c.self.invariant (ap (λ z. z.doc) c.self.view_is) r.here r.two c.requires.inner c.requires.long c.requires.unjoined in
     let plan = found_planned f r.a r.b r.first r.second c.in_ok-bridging.bridging.after c.as_slice-before.result.now r.comes (c.as_slice-before.ensures.value ∙ r.goes) in
-    let s = stored m.frame m.borders m.vertices in
+    let s = stored m.frame m.rings.borders m.rings.vertices in
     let none = c.in_ok-test_remove.ensures.accepted (document_of s) plan.removable in
     let may = remove_may (document_of s) c.args.p none in
     is_made (subst (λ (z : State). first_of (remove_refusals z.doc c.args.p) ≡ None) c.self.view_is none)
-    (with_document_tested c.self.invariant c.self.view_is c.take_out.new.borders c.take_out.new.vertices (g.I.SegIndex.cells c.take_out.new.index) c.test_remove.new.tests
-    ((taken f r.first r.second r.comes (c.as_slice-before.ensures.value ∙ r.goes) may c.in_ok-rings.ensures.taken (g.I.SegIndex.held c.take_out.new.index) c.in_ok-rings.ensures.exchanged).doc
+    (with_document_tested c.self.invariant c.self.view_is c.take_out.new.tables.borders c.take_out.new.tables.vertices c.take_out.new.tables.index.cells c.test_remove.new.tests
+    ((taken f r.first r.second r.comes (c.as_slice-before.ensures.value ∙ r.goes) may c.in_ok-rings.ensures.taken c.take_out.new.tables.index.held c.in_ok-rings.ensures.exchanged).doc
     ∙ ap (λ z. del z.doc c.args.p) c.self.view_is)
     c.take_out.ensures.cells)
 
@@ -136,6 +128,12 @@ returns-in_err-test_remove-clause-few g c =
     let f = found c.self.invariant (ap (λ z. z.doc) c.self.view_is) r.here r.two c.requires.inner c.requires.long c.requires.unjoined in
     let plan = found_planned f r.a r.b r.first r.second c.in_ok-bridging.bridging.after c.as_slice-before.result.now r.comes (c.as_slice-before.ensures.value ∙ r.goes) in
     removed_few c.self.invariant c.self.view_is c.args.p c.in_ok-bridging.bridging.after c.as_slice-before.result.now plan c.test_remove.new.tests c.test_remove.ensures.few
+
+pub returns-in_err-rings-clause-edits : goal.returns-in_err-rings-clause-edits
+returns-in_err-rings-clause-edits g c =
+    hands_on fault.OutOfMemory c.from_residual-in_err-rings.result c.from_residual-in_err-rings.ensures.1 tt
+    (tested c.self.invariant c.self.view_is c.take_out.new.tables.borders c.take_out.new.tables.vertices c.take_out.new.tables.index.cells c.test_remove.new.tests
+    (ap (λ t. t.borders) c.in_err-rings.ensures.unchanged) (ap (λ t. t.vertices) c.in_err-rings.ensures.unchanged) c.take_out.ensures.cells)
 
 pub returns-in_err-rings-clause-few : goal.returns-in_err-rings-clause-few
 returns-in_err-rings-clause-few g c =

@@ -13,36 +13,36 @@ pub returns-in_err-k : goal.returns-in_err-k
 returns-in_err-k g c =
     let m = c.self.inside in
     subst (IsSpot c.args.self.now.doc c.args.p) (sym c.from_residual.ensures)
-    (sym (ap (λ s. is_vertex s.doc c.args.p) c.self.view_is) ∙ no_vertex (stored m.frame m.borders m.vertices) c.self.invariant.holds.whole c.args.p c.in_err-k.ensures.absent)
+    (sym (ap (λ s. is_vertex s.doc c.args.p) c.self.view_is) ∙ no_vertex (stored m.frame m.rings.borders m.rings.vertices) c.self.invariant.holds.whole c.args.p c.in_err-k.ensures.absent)
 
 pub returns-in_default : goal.returns-in_default
 returns-in_default g c =
     let m = c.self.inside in
-    let h = spot_junction (stored m.frame m.borders m.vertices) c.self.invariant.holds.whole c.in_ok-k.k c.args.p c.in_ok-k.ensures.found c.neighbours.result c.neighbours.ensures c.in_default.not-Two in
+    let h = spot_junction (stored m.frame m.rings.borders m.rings.vertices) c.self.invariant.holds.whole c.in_ok-k.k c.args.p c.in_ok-k.ensures.found c.neighbours.result c.neighbours.ensures c.in_default.not-Two in
     (sym (ap (λ s. is_vertex s.doc c.args.p) c.self.view_is) ∙ h.0, sym (ap (λ s. is_junction s.doc c.args.p) c.self.view_is) ∙ h.1)
 
 -- some ring passes a vertex
 pub returns-in_err-shortest : goal.returns-in_err-shortest
 returns-in_err-shortest g c =
     let m = c.self.inside in
-    absurd (two_pass (stored m.frame m.borders m.vertices) c.self.invariant.holds.whole c.in_ok-k.k c.args.p c.in_ok-k.ensures.found c.in-Two.a c.in-Two.b c.in-Two.ensures c.in_err-shortest.ensures.none)
+    absurd (two_pass (stored m.frame m.rings.borders m.rings.vertices) c.self.invariant.holds.whole c.in_ok-k.k c.args.p c.in_ok-k.ensures.found c.in-Two.a c.in-Two.b c.in-Two.ensures c.in_err-shortest.ensures.none)
 
 pub between-requires-clause-first : goal.between-requires-clause-first
 between-requires-clause-first g c =
     let m = c.self.inside in
-    (two_kept (stored m.frame m.borders m.vertices) c.self.invariant.holds.whole c.in_ok-k.k c.args.p c.in_ok-k.ensures.found c.in-Two.a c.in-Two.b c.in-Two.ensures).0
+    (two_kept (stored m.frame m.rings.borders m.rings.vertices) c.self.invariant.holds.whole c.in_ok-k.k c.args.p c.in_ok-k.ensures.found c.in-Two.a c.in-Two.b c.in-Two.ensures).0
 
 pub between-requires-clause-second : goal.between-requires-clause-second
 between-requires-clause-second g c =
     let m = c.self.inside in
-    (two_kept (stored m.frame m.borders m.vertices) c.self.invariant.holds.whole c.in_ok-k.k c.args.p c.in_ok-k.ensures.found c.in-Two.a c.in-Two.b c.in-Two.ensures).1
+    (two_kept (stored m.frame m.rings.borders m.rings.vertices) c.self.invariant.holds.whole c.in_ok-k.k c.args.p c.in_ok-k.ensures.found c.in-Two.a c.in-Two.b c.in-Two.ensures).1
 
 pub returns : goal.returns
 returns g c =
     let m = c.self.inside in
-    let s = stored m.frame m.borders m.vertices in
+    let s = stored m.frame m.rings.borders m.rings.vertices in
     let w = c.self.invariant.holds.whole in
-    let t = segment (place m.vertices c.in-Two.a) (place m.vertices c.in-Two.b) in
+    let t = segment (place m.rings.vertices c.in-Two.a) (place m.rings.vertices c.in-Two.b) in
     let between = two_between s w c.in_ok-k.k c.args.p c.in_ok-k.ensures.found c.in-Two.a c.in-Two.b c.in-Two.ensures in
     let shortest = shortest_read s w c.in_ok-k.k c.args.p c.in_ok-k.ensures.found c.self.invariant.holds.small c.in_ok-shortest.shortest _ (omega arith) c.in_ok-shortest.ensures.some c.in_ok-shortest.ensures.least in
     subst (λ z. IsSpot c.args.self.now.doc c.args.p (Some z)) (sym c.between.ensures)

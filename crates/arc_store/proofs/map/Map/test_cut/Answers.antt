@@ -21,7 +21,7 @@ has_room-room-requires-clause-short g c =
 pub test_split-requires-clause-apart : goal.test_split-requires-clause-apart
 test_split-requires-clause-apart g c =
     let m = c.self.inside in
-    indexed_apart (document_of (stored m.frame m.borders m.vertices)) (g.I.SegIndex.held m.index) c.self.invariant.holds.indexed c.self.invariant.holds.proper
+    indexed_apart (document_of (stored m.frame m.rings.borders m.rings.vertices)) m.rings.index.held c.self.invariant.holds.indexed c.self.invariant.holds.proper
 
 pub test_split-requires-clause-short : goal.test_split-requires-clause-short
 test_split-requires-clause-short g c =

@@ -8,5 +8,5 @@ pub returns : goal.returns
 returns g c =
     let m = c.self.inside in
     c.len.ensures.len
-    ∙ vertices_counted (stored m.frame m.borders m.vertices) c.self.invariant.holds.whole
+    ∙ vertices_counted (stored m.frame m.rings.borders m.rings.vertices) c.self.invariant.holds.whole
     ∙ ap (λ s. length (vertices s.doc)) c.self.view_is
