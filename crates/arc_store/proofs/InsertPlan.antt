@@ -1,6 +1,6 @@
 -- The plan of an insertion between two vertices: what comes and goes, and what is kept.
 use Rattle.std.proofs.Common.{◌≡◌, ◌≤◌, ◌+◌, ℕ, Bool, true, false, refl, sym, ap, ap₂, ◌∙◌}
-use Rattle.std.proofs.Common.{subst, cond, List, [], ◌∷◌, length, ◌||◌, ◌&&◌, inl, inr, arith, Some}
+use Rattle.std.proofs.Common.{subst, cond, List, [], ◌∷◌, ◌||◌, ◌&&◌, inl, inr, arith, Some}
 use Rattle.std.proofs.Common.{None}
 use Rattle.std.specs.Prelude.{not}
 use Rattle.std.specs.FinMap as table
@@ -11,7 +11,6 @@ use Rattle.grid_geometry.specs.Segment.{Segment, segment, segment_eq}
 use Rattle.grid_geometry.proofs.Conflicts.{segment-comm}
 use Rattle.ring_machine.specs.Ring.{has}
 use Rattle.ring_machine.specs.Parts.{size, is_vertex, is_segment}
-use Rattle.ring_machine.specs.Query.{distinct_segments}
 use Rattle.ring_machine.specs.Vertices.{ins}
 use Rattle.ring_machine.proofs.First.{In}
 use Rattle.ring_machine.proofs.Neighbours.{has-in}

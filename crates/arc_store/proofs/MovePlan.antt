@@ -1,12 +1,11 @@
 -- The plan of a move: what stands around the vertex, what comes and goes, and when it is refused.
 use Rattle.std.proofs.Common.{◌≡◌, ◌<◌, ◌+◌, ℕ, Bool, true, false, sym, ap, ap₂, ◌∙◌}
-use Rattle.std.proofs.Common.{subst, List, [], ◌∷◌, map, length, take, get_or, ◌||◌, ◌&&◌, arith, Some, None, Option}
+use Rattle.std.proofs.Common.{subst, List, [], ◌∷◌, map, length, take, get_or, ◌||◌, ◌&&◌, Some, None, Option}
 use Rattle.std.proofs.Common.{Result, Ok, Err, OnOk, OnErr}
 use Rattle.std.specs.Prelude.{not}
 use Rattle.std.specs.List.{list_any}
 use Rattle.std.specs.FinMap as table
 use Rattle.std.specs.FinSet as set
-use Rattle.std.proofs.lemmas.List.{length-map}
 use Rattle.std.proofs.lemmas.List.Folds.{list_any_more}
 use Rattle.std.proofs.lemmas.Simd.{map-map}
 use Rattle.grid_geometry.specs.Conflict.{conflict}
@@ -18,7 +17,6 @@ use Rattle.ring_machine.specs.Document.{Document}
 use Rattle.ring_machine.specs.Command.{Refusal, NoVertex, Occupied, Sweeps}
 use Rattle.ring_machine.specs.Parts.{is_vertex, is_segment, positions, all_segments}
 use Rattle.ring_machine.specs.Planar.{least_conflict, first_pair}
-use Rattle.ring_machine.specs.Query.{distinct_segments}
 use Rattle.ring_machine.specs.Refusals.{first_of, conflict_of, move_refusals, ◌unless◌}
 use Rattle.ring_machine.specs.Sweep.{crosses_on_way, edge_sweeps, move_sweeps}
 use Rattle.ring_machine.specs.Vertices.{put}

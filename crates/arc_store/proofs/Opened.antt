@@ -11,7 +11,6 @@ use Rattle.grid_geometry.specs.Segment.{Segment, segment_eq}
 use Rattle.ring_machine.specs.Ring.{canonical, is_ring, segments}
 use Rattle.ring_machine.specs.Parts.{rings, size, features, all_segments}
 use Rattle.ring_machine.specs.Planar.{Proper, first_pair, least_conflict}
-use Rattle.ring_machine.specs.Query.{add_segment, distinct_segments}
 use Rattle.ring_machine.specs.Document.{DocumentOf}
 use Rattle.ring_machine.specs.WellFormed.{are_distinct, WellFormed}
 use Rattle.ring_machine.proofs.First.{In}

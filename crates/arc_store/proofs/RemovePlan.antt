@@ -1,6 +1,6 @@
 -- The plan of a removal from between two vertices: what comes and goes, and what is kept.
 use Rattle.std.proofs.Common.{◌≡◌, ◌≤◌, ◌+◌, ◌-◌, ℕ, Bool, true, false, refl, sym, ap, ap₂, ◌∙◌}
-use Rattle.std.proofs.Common.{subst, List, [], ◌∷◌, length, inl, inr, arith, Some}
+use Rattle.std.proofs.Common.{subst, List, [], ◌∷◌, inl, inr, arith, Some}
 use Rattle.std.specs.FinMap as table
 use Rattle.std.specs.FinSet as set
 use Rattle.std.proofs.lemmas.Bool.{false≢true}
@@ -9,7 +9,6 @@ use Rattle.grid_geometry.specs.Segment.{Segment, segment, segment_eq}
 use Rattle.ring_machine.specs.Ring.{has}
 use Rattle.ring_machine.specs.Document.{Document}
 use Rattle.ring_machine.specs.Parts.{size, is_segment, is_vertex}
-use Rattle.ring_machine.specs.Query.{distinct_segments}
 use Rattle.ring_machine.specs.Refusals.{are_long, is_bridged}
 use Rattle.ring_machine.specs.Vertices.{del, is_junction}
 use Rattle.ring_machine.proofs.First.{In}
@@ -36,7 +35,7 @@ use Rattle.arc_store.proofs.Around.{two_apart, neighbours_none, neighbours_one, 
 use Rattle.map_opening.proofs.Places.{IsKept as IsPlaced, place_is}
 use Rattle.feature_exchange.proofs.Base.{joined_kept, joined_apart, joined_back, vertex_key}
 use Rattle.feature_exchange.proofs.Base.{joined_segment, one_to, key_vertex}
-use Rattle.arc_store.proofs.InsertPlan.{one_single, two_single}
+use Rattle.arc_store.proofs.InsertPlan.{two_single}
 use Rattle.ring_machine.proofs.Members.{any_in}
 use Rattle.arc_store.proofs.Removed.{Removing, without_vertex, document_removed, reindexed_removed}
 use Rattle.arc_store.proofs.Removed.{holds_removed, size_removed}

@@ -1,7 +1,6 @@
 -- How many segments an index holds, and a document has.
 use Rattle.std.proofs.Common.{◌≡◌, ◌≤◌, ◌+◌, ℕ, Bool, true, false, refl, sym, ap, ap₂, ◌∙◌, cond}
-use Rattle.std.proofs.Common.{List, [], ◌∷◌, length, ◌||◌, ◌&&◌, arith, leb}
-use Rattle.std.specs.Prelude.{not}
+use Rattle.std.proofs.Common.{List, [], ◌∷◌, length, ◌||◌, arith, leb}
 use Rattle.std.specs.FinSet as set
 use Rattle.std.specs.List.{fold}
 use Rattle.std.proofs.lemmas.Bool.{false≢true}

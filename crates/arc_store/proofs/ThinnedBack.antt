@@ -1,6 +1,6 @@
 -- Vertices put back at once: the tables mean the document with each of them put back in turn.
 use Rattle.std.proofs.Common.{◌≡◌, ◌≢◌, ◌≤◌, ◌<◌, ◌^◌, ◌+◌, ◌↔◌, ℕ, Bool, true, false, refl, sym, ap, ap₂}
-use Rattle.std.proofs.Common.{◌∙◌, subst, cond, List, [], ◌∷◌, map, length, ◌||◌, ◌&&◌, inl, inr, arith}
+use Rattle.std.proofs.Common.{◌∙◌, subst, cond, List, [], ◌∷◌, map, ◌||◌, ◌&&◌, inl, inr, arith}
 use Rattle.std.proofs.Common.{Option, Some, None, is_some}
 use Rattle.std.specs.Prelude.{not, option_map, T}
 use Rattle.std.specs.FinMap as table
@@ -15,7 +15,6 @@ use Rattle.grid_geometry.specs.Segment.{Segment}
 use Rattle.ring_machine.specs.Document.{Document}
 use Rattle.ring_machine.specs.Parts.{size, is_vertex}
 use Rattle.ring_machine.specs.Planar.{Proper}
-use Rattle.ring_machine.specs.Query.{distinct_segments}
 use Rattle.vertex_index.specs.Placement.{Placement, IsOccupied}
 use Rattle.vertex_index.proofs.PlacementLemmas.{get-inserted}
 use Rattle.segment_index.specs.Candidates.{SegmentSet, AreSingle, has}
@@ -37,7 +36,7 @@ use Rattle.arc_store.specs.Recorded.{removal_seen}
 use Rattle.arc_store.proofs.Inserted.{Insertion, with_vertex, document_inserted, whole_inserted, size_inserted}
 use Rattle.arc_store.proofs.PutBack.{with_one, with_all, AreOut, vertex_stays, vertex_new, vertex_came, border_there}
 use Rattle.arc_store.proofs.PutBack.{comings_new, comings_single, goings_there, goings_single, segments_back}
-use Rattle.arc_store.proofs.PutBack.{length_comings, length_goings, true_of_all}
+use Rattle.arc_store.proofs.PutBack.{true_of_all}
 use Rattle.arc_store.proofs.RingUsers.{users_same}
 
 -- ---- a map with each value changed

@@ -65,22 +65,9 @@ impl<'a, I: SegIndex, A: Allocator + Copy> Map<'a, I, A> {
         let moving = read_moving(&self.rings, p, q)?;
         let around = moving.around.as_slice();
         let (before, after) = (moving.before.as_slice(), moving.after.as_slice());
-        let leaving = Leaving::EndingAt(p);
-        test_planar(
-            self.rings.alloc,
-            &self.rings.index,
-            leaving,
-            after,
-            &mut self.tests,
-        )?;
-        if sweeps(
-            self.rings.alloc,
-            &self.rings.index,
-            around,
-            p,
-            q,
-            &mut self.tests,
-        )? {
+        let (alloc, index) = (self.rings.alloc, &self.rings.index);
+        test_planar(alloc, index, Leaving::EndingAt(p), after, &mut self.tests)?;
+        if sweeps(alloc, index, around, p, q, &mut self.tests)? {
             return Err(EditFault::Sweeps);
         }
         shift(&mut self.rings, moving.key, q, before, after)?;

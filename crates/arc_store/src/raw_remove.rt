@@ -72,13 +72,8 @@ impl<'a, I: SegIndex, A: Allocator + Copy> Map<'a, I, A> {
         let bridging = read_bridging(&self.rings, p)?;
         let (k, ends, after) = (bridging.key, bridging.ends, bridging.after);
         let before = bridging.before.as_slice();
-        test_remove(
-            self.rings.alloc,
-            &self.rings.index,
-            p,
-            after,
-            &mut self.tests,
-        )?;
+        let (index, tests) = (&self.rings.index, &mut self.tests);
+        test_remove(self.rings.alloc, index, p, after, tests)?;
         let rings = take_out(&mut self.rings, k, ends, before, after)?;
         self.positions -= rings;
         Ok(Removal {

@@ -1,10 +1,9 @@
 -- Features that are asked for, with ring numbers in the place of rings: the same numbers, the same
 -- texts, and rings of the same shape.
-use Rattle.std.proofs.Common.{◌≡◌, ◌≤◌, ◌<◌, ◌+◌, ◌&&◌, ℕ, Bool, true, refl, sym, ap, ap₂, ◌∙◌, subst, List}
+use Rattle.std.proofs.Common.{◌≡◌, ◌≤◌, ◌<◌, ◌&&◌, ℕ, Bool, true, refl, sym, ap, ap₂, ◌∙◌, subst, List}
 use Rattle.std.proofs.Common.{[], ◌∷◌, ◌++◌, map, length, inl, inr, Option, Some, None, option_map, arith, get_or, drop}
 use Rattle.std.specs.Prelude.{Vec, ◌==◌}
 use Rattle.std.specs.List.{flat_map, list_all, sum_by, AllByRecursion}
-use Rattle.std.specs.FinSet as set_of
 use Rattle.std.proofs.lemmas.List.{length-map, map-append}
 use Rattle.grid_geometry.specs.Position.{Position}
 use Rattle.ring_machine.specs.Document.{Feature, FeatureOf, DocumentOf, Document, Form, Polygon, MultiPolygon, Null}
@@ -20,13 +19,10 @@ use Rattle.ring_parts.specs.Seen.{polygons_seen}
 use Rattle.map_opening.specs.Laying.{feature_numbers}
 use Rattle.edit_records.specs.Places.{LayerTree, has_place, exchanged, AreNumbered, with_changed, had_before}
 use Rattle.edit_records.specs.Records.{IsMap}
-use Rattle.segment_index.specs.Candidates.{SegmentSet}
 use Rattle.feature_exchange.specs.Changed.{feature_seen, seen}
-use Rattle.feature_exchange.specs.Holds.{Holds}
 use Rattle.feature_exchange.specs.Laying.{asked, asked_rings, polygons_in, length_of}
 use Rattle.feature_exchange.specs.Ready.{rings_in, coming, FitsForm, all_numbered, had, all_had}
 use Rattle.map_frame.specs.Texts.{with_texts, texts_of}
-use Rattle.feature_exchange.specs.Stored.{Stored}
 use Rattle.feature_exchange.specs.declared.change.Change.{Change}
 use Rattle.feature_exchange.specs.declared.change.WholeFeature.{WholeFeature}
 use Rattle.feature_exchange.proofs.Placed.{numbers, HavePlaces, came_in, coming_size}

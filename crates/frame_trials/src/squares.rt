@@ -1,15 +1,14 @@
 //! Two squares with a common side, laid and taken out, and laid where memory is refused.
-ghost use Rattle.std.specs.Prelude.{◌≡◌, ◌≤◌, IfOk, IsTrue, length, map};
-ghost use Rattle.std.specs.List.{list_all, sum_by};
-ghost use Rattle.std.specs.FinSet as set;
+ghost use Rattle.std.specs.Prelude.{◌≡◌, IfOk, IsTrue, map};
+ghost use Rattle.std.specs.List.{list_all};
 ghost use Rattle.grid_geometry.specs.Position.{position};
 ghost use Rattle.ring_machine.specs.Ring.{is_ring};
 ghost use Rattle.ring_store.specs.Laid.{AreThere};
-ghost use Rattle.ring_store.specs.Standing.{Stands};
+ghost use Rattle.ring_store.specs.Tables.{AreStanding};
 
 use grid_geometry::Pos;
 use refusing_allocator::Refusing;
-use ring_store::{LaidRing, gather_rings, lay_rings, take_out_rings};
+use ring_store::{Counted, LaidRing, RingTables, gather_rings, lay_rings, take_out_rings};
 use segment_index::ListIndex;
 use shared_arcs::Borders;
 use std::alloc::{AllocError, Allocator, Global};
@@ -32,10 +31,8 @@ fn two_squares<R: Abort, A: Allocator + Copy>(
     rt: &R,
     alloc: A,
 ) -> Result<Vec<Vec<Pos, A>, A>, AllocError>
-    ensures rings { IfOk result
+    ensures { IfOk result
         (λ rings. IsTrue (list_all is_ring (map (λ ring. ring.items) rings.items))) }
-    ensures few { IfOk result
-        (λ rings. sum_by length (map (λ ring. ring.items) rings.items) ≤ 8) }
 {
     let corner = at(rt, 10, 0);
     let above = at(rt, 10, 10);
@@ -49,59 +46,44 @@ fn two_squares<R: Abort, A: Allocator + Copy>(
 
 /// The tables of a map, and the rings that were laid.
 #[derive(Drop)]
-struct Tables<A: Allocator + Copy = Global> {
-    vertices: Vertices<A>,
-    borders: Borders<A>,
-    index: ListIndex<A>,
-    segments: usize,
+struct Squares<A: Allocator + Copy = Global> {
+    tables: RingTables<ListIndex<A>, A>,
     rings: Vec<LaidRing<A>, A>,
 }
 
-impl<A: Allocator + Copy> Tables<A> {
+impl<A: Allocator + Copy> Squares<A> {
     /// No ring.
     fn new(alloc: A) -> Self
-        ensures stands { Stands result.vertices result.borders result.index }
-        ensures counted { result.segments ≡ set.len result.index }
+        ensures { AreStanding result.tables }
     {
-        Tables {
-            vertices: Vertices::new(alloc),
-            borders: Borders::new(alloc),
-            index: ListIndex::new(alloc),
-            segments: 0,
+        Squares {
+            tables: RingTables {
+                alloc,
+                vertices: Vertices::new(alloc),
+                borders: Borders::new(alloc),
+                index: Counted::new(ListIndex::new(alloc), 0),
+            },
             rings: Vec::new(alloc),
         }
     }
 
-    /// Lays rings, of which there are few.
-    fn lay<R: Abort>(&mut self, rt: &R, alloc: A, rings: &[Vec<Pos, A>]) -> Result<(), AllocError>
-        requires stands { Stands self.old.vertices self.old.borders self.old.index }
-        requires counted { self.old.segments ≡ set.len self.old.index }
+    /// Lays rings.
+    fn lay(&mut self, rings: &[Vec<Pos, A>]) -> Result<(), AllocError>
+        requires stand { AreStanding self.old.tables }
         requires rings { IsTrue (list_all is_ring (map (λ ring. ring.items) rings.now)) }
-        requires few { sum_by length (map (λ ring. ring.items) rings.now) ≤ 8 }
-        ensures stands { Stands self.new.vertices self.new.borders self.new.index }
-        ensures counted { self.new.segments ≡ set.len self.new.index }
+        ensures { AreStanding self.new.tables }
     {
-        assert!(rt; self.segments < 100);
-        self.rings = lay_rings(
-            alloc,
-            &mut self.vertices,
-            &mut self.borders,
-            &mut self.index,
-            &mut self.segments,
-            rings,
-        )?;
+        self.rings = lay_rings(&mut self.tables, rings)?;
         Ok(())
     }
 
     /// Lays both squares.
     fn lay_squares<R: Abort>(&mut self, rt: &R, alloc: A) -> Result<(), AllocError>
-        requires stands { Stands self.old.vertices self.old.borders self.old.index }
-        requires counted { self.old.segments ≡ set.len self.old.index }
-        ensures stands { Stands self.new.vertices self.new.borders self.new.index }
-        ensures counted { self.new.segments ≡ set.len self.new.index }
+        requires { AreStanding self.old.tables }
+        ensures { AreStanding self.new.tables }
     {
         let rings = two_squares(rt, alloc)?;
-        let laid = self.lay(rt, alloc, rings.as_slice());
+        let laid = self.lay(rings.as_slice());
         drop(rings);
         laid
     }
@@ -113,99 +95,94 @@ impl<A: Allocator + Copy> Tables<A> {
         alloc: A,
         number: usize,
     ) -> Result<Vec<LaidRing<A>, A>, AllocError>
-        requires { Stands self.now.vertices self.now.borders self.now.index }
-        ensures { IfOk result (λ laid. AreThere self.now.borders laid.items) }
+        requires { AreStanding self.now.tables }
+        ensures { IfOk result (λ laid. AreThere self.now.tables.borders laid.items) }
     {
-        assert!(rt; self.borders.holds(number));
-        gather_rings(alloc, &self.borders, &[number])
+        assert!(rt; self.tables.borders.holds(number));
+        gather_rings(alloc, &self.tables.borders, &[number])
     }
 
     /// Takes out the ring with a number, which stands.
     fn take_out<R: Abort>(&mut self, rt: &R, alloc: A, number: usize) -> Result<(), AllocError>
-        requires stands { Stands self.old.vertices self.old.borders self.old.index }
-        requires counted { self.old.segments ≡ set.len self.old.index }
-        ensures stands { Stands self.new.vertices self.new.borders self.new.index }
-        ensures counted { self.new.segments ≡ set.len self.new.index }
+        requires { AreStanding self.old.tables }
+        ensures { AreStanding self.new.tables }
     {
         let rings = self.gather(rt, alloc, number)?;
-        take_out_rings(
-            &mut self.vertices,
-            &mut self.borders,
-            &mut self.index,
-            &mut self.segments,
-            rings.as_slice(),
-        );
+        take_out_rings(&mut self.tables, rings.as_slice());
         Ok(())
     }
 
     /// The key of the vertex at a position, which stands.
     fn key<R: Abort>(&self, rt: &R, x: i64, y: i64) -> VertexKey {
-        self.vertices
+        self.tables
+            .vertices
             .key_of(at(rt, x, y))
             .expect(rt, "a vertex stands there")
     }
 
     /// How many rings, vertices and segments there are.
     fn counts(&self) -> (usize, usize, usize) {
-        (self.rings.len(), self.vertices.len(), self.segments)
+        (
+            self.rings.len(),
+            self.tables.vertices.len(),
+            self.tables.index.len(),
+        )
     }
 }
 
 /// Lays both squares, and counts how often their sides are used.
-fn share_a_side<R: Abort>(rt: &R, alloc: Global, tables: &mut Tables) -> Result<(), AllocError>
-    requires stands { Stands tables.old.vertices tables.old.borders tables.old.index }
-    requires counted { tables.old.segments ≡ set.len tables.old.index }
+fn share_a_side<R: Abort>(rt: &R, alloc: Global, squares: &mut Squares) -> Result<(), AllocError>
+    requires { AreStanding squares.old.tables }
 {
-    tables.lay_squares(rt, alloc)?;
-    assert!(rt; tables.counts() == (2, 6, 7));
-    let (corner, above) = (tables.key(rt, 10, 0), tables.key(rt, 10, 10));
-    let origin = tables.key(rt, 0, 0);
-    assert!(rt; tables.borders.uses(corner, above) == 2);
-    assert!(rt; tables.borders.uses(corner, origin) == 1);
-    assert!(rt; tables.borders.uses(origin, above) == 0);
+    squares.lay_squares(rt, alloc)?;
+    assert!(rt; squares.counts() == (2, 6, 7));
+    let (corner, above) = (squares.key(rt, 10, 0), squares.key(rt, 10, 10));
+    let origin = squares.key(rt, 0, 0);
+    assert!(rt; squares.tables.borders.uses(corner, above) == 2);
+    assert!(rt; squares.tables.borders.uses(corner, origin) == 1);
+    assert!(rt; squares.tables.borders.uses(origin, above) == 0);
     Ok(())
 }
 
 #[test]
 fn squares_share_a_side(rt: HostRuntime) -> Result<(), Fail> {
-    let mut tables = Tables::new(rt.alloc());
-    let shared = share_a_side(&rt, rt.alloc(), &mut tables);
-    drop(tables);
+    let mut squares = Squares::new(rt.alloc());
+    let shared = share_a_side(&rt, rt.alloc(), &mut squares);
+    drop(squares);
     Ok(shared?)
 }
 
 /// The numbers of the two rings that were laid.
-fn numbers<R: Abort>(rt: &R, tables: &Tables) -> (usize, usize) {
-    let [left, right] = tables.rings.as_slice() else {
+fn numbers<R: Abort>(rt: &R, squares: &Squares) -> (usize, usize) {
+    let [left, right] = squares.rings.as_slice() else {
         panic!(rt; "two rings");
     };
     (left.number, right.number)
 }
 
 /// There is one ring, the right square with this number.
-fn see_right<R: Abort>(rt: &R, tables: &Tables, laid: &[LaidRing], number: usize) {
+fn see_right<R: Abort>(rt: &R, squares: &Squares, laid: &[LaidRing], number: usize) {
     let [ring] = laid else {
         panic!(rt; "one ring");
     };
     let want = [
-        tables.key(rt, 10, 0),
-        tables.key(rt, 20, 0),
-        tables.key(rt, 20, 10),
-        tables.key(rt, 10, 10),
+        squares.key(rt, 10, 0),
+        squares.key(rt, 20, 0),
+        squares.key(rt, 20, 10),
+        squares.key(rt, 10, 10),
     ];
     assert!(rt; ring.number == number);
     assert!(rt; ring.keys.as_slice() == want.as_slice());
 }
 
 /// Lays both squares, and gathers the right one.
-fn gather_right<R: Abort>(rt: &R, alloc: Global, tables: &mut Tables) -> Result<(), AllocError>
-    requires stands { Stands tables.old.vertices tables.old.borders tables.old.index }
-    requires counted { tables.old.segments ≡ set.len tables.old.index }
+fn gather_right<R: Abort>(rt: &R, alloc: Global, squares: &mut Squares) -> Result<(), AllocError>
+    requires { AreStanding squares.old.tables }
 {
-    tables.lay_squares(rt, alloc)?;
-    let (_, right) = numbers(rt, tables);
-    let laid = tables.gather(rt, alloc, right)?;
-    see_right(rt, tables, laid.as_slice(), right);
+    squares.lay_squares(rt, alloc)?;
+    let (_, right) = numbers(rt, squares);
+    let laid = squares.gather(rt, alloc, right)?;
+    see_right(rt, squares, laid.as_slice(), right);
     drop(laid);
     Ok(())
 }
@@ -213,40 +190,39 @@ fn gather_right<R: Abort>(rt: &R, alloc: Global, tables: &mut Tables) -> Result<
 // in the order in which they were given, each from its first position on
 #[test]
 fn rings_are_gathered_by_number(rt: HostRuntime) -> Result<(), Fail> {
-    let mut tables = Tables::new(rt.alloc());
-    let gathered = gather_right(&rt, rt.alloc(), &mut tables);
-    drop(tables);
+    let mut squares = Squares::new(rt.alloc());
+    let gathered = gather_right(&rt, rt.alloc(), &mut squares);
+    drop(squares);
     Ok(gathered?)
 }
 
 /// The right square stands alone.
-fn see_right_alone<R: Abort>(rt: &R, tables: &Tables) {
-    assert!(rt; (tables.vertices.len(), tables.segments) == (4, 4));
-    assert!(rt; tables.vertices.key_of(at(rt, 0, 0)).is_none());
-    let (corner, above) = (tables.key(rt, 10, 0), tables.key(rt, 10, 10));
-    assert!(rt; tables.borders.uses(corner, above) == 1);
+fn see_right_alone<R: Abort>(rt: &R, squares: &Squares) {
+    assert!(rt; (squares.tables.vertices.len(), squares.tables.index.len()) == (4, 4));
+    assert!(rt; squares.tables.vertices.key_of(at(rt, 0, 0)).is_none());
+    let (corner, above) = (squares.key(rt, 10, 0), squares.key(rt, 10, 10));
+    assert!(rt; squares.tables.borders.uses(corner, above) == 1);
 }
 
 /// Lays both squares, and takes out the left one and then the right one.
-fn take_both_out<R: Abort>(rt: &R, alloc: Global, tables: &mut Tables) -> Result<(), AllocError>
-    requires stands { Stands tables.old.vertices tables.old.borders tables.old.index }
-    requires counted { tables.old.segments ≡ set.len tables.old.index }
+fn take_both_out<R: Abort>(rt: &R, alloc: Global, squares: &mut Squares) -> Result<(), AllocError>
+    requires { AreStanding squares.old.tables }
 {
-    tables.lay_squares(rt, alloc)?;
-    let (left, right) = numbers(rt, tables);
-    tables.take_out(rt, alloc, left)?;
-    see_right_alone(rt, tables);
-    tables.take_out(rt, alloc, right)?;
-    assert!(rt; (tables.vertices.len(), tables.segments) == (0, 0));
+    squares.lay_squares(rt, alloc)?;
+    let (left, right) = numbers(rt, squares);
+    squares.take_out(rt, alloc, left)?;
+    see_right_alone(rt, squares);
+    squares.take_out(rt, alloc, right)?;
+    assert!(rt; (squares.tables.vertices.len(), squares.tables.index.len()) == (0, 0));
     Ok(())
 }
 
 // the other square keeps its sides and corners, until it goes too
 #[test]
 fn squares_taken_out(rt: HostRuntime) -> Result<(), Fail> {
-    let mut tables = Tables::new(rt.alloc());
-    let taken = take_both_out(&rt, rt.alloc(), &mut tables);
-    drop(tables);
+    let mut squares = Squares::new(rt.alloc());
+    let taken = take_both_out(&rt, rt.alloc(), &mut squares);
+    drop(squares);
     Ok(taken?)
 }
 
@@ -254,21 +230,19 @@ fn squares_taken_out(rt: HostRuntime) -> Result<(), Fail> {
 fn lay_again<R: Abort, A: Allocator + Copy>(
     rt: &R,
     alloc: A,
-    tables: &mut Tables<A>,
+    squares: &mut Squares<A>,
     rings: &[Vec<Pos, A>],
     growth: u64,
 ) -> Result<bool, AllocError>
-    requires stands { Stands tables.old.vertices tables.old.borders tables.old.index }
-    requires counted { tables.old.segments ≡ set.len tables.old.index }
+    requires stand { AreStanding squares.old.tables }
     requires rings { IsTrue (list_all is_ring (map (λ ring. ring.items) rings.now)) }
-    requires few { sum_by length (map (λ ring. ring.items) rings.now) ≤ 8 }
 {
-    let refused = tables.lay(rt, alloc, rings).is_err();
+    let refused = squares.lay(rings).is_err();
     if refused {
-        assert!(rt; tables.counts() == (0, 0, 0), "growth {growth}");
-        tables.lay(rt, alloc, rings)?;
+        assert!(rt; squares.counts() == (0, 0, 0), "growth {growth}");
+        squares.lay(rings)?;
     }
-    assert!(rt; tables.counts() == (2, 6, 7), "growth {growth}");
+    assert!(rt; squares.counts() == (2, 6, 7), "growth {growth}");
     Ok(refused)
 }
 
@@ -280,11 +254,10 @@ fn lay_in_new<R: Abort, A: Allocator + Copy>(
     growth: u64,
 ) -> Result<bool, AllocError>
     requires rings { IsTrue (list_all is_ring (map (λ ring. ring.items) rings.now)) }
-    requires few { sum_by length (map (λ ring. ring.items) rings.now) ≤ 8 }
 {
-    let mut tables = Tables::new(alloc);
-    let laid = lay_again(rt, alloc, &mut tables, rings, growth);
-    drop(tables);
+    let mut squares = Squares::new(alloc);
+    let laid = lay_again(rt, alloc, &mut squares, rings, growth);
+    drop(squares);
     laid
 }
 

@@ -1,4 +1,4 @@
-use Rattle.std.proofs.Common.{◌≡◌, true, map, take, refl, sym, ap, subst}
+use Rattle.std.proofs.Common.{◌≡◌, true, map, take, refl, sym, subst}
 use Rattle.std.specs.List.{flat_map, list_all}
 use Rattle.ring_machine.specs.Ring.{is_ring}
 use Rattle.map_opening.specs.Laying.{feature_numbers}

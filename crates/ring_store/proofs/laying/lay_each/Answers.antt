@@ -1,13 +1,10 @@
-use Rattle.std.proofs.Common.{◌+◌, ◌∙◌, refl, ap, take, map, length, arith}
+use Rattle.std.proofs.Common.{◌+◌, ◌∙◌, refl, ap, take, map, arith}
 use Rattle.std.proofs.lemmas.List.{take_all}
-use Rattle.std.specs.List.{sum_by}
-use Rattle.std.proofs.lemmas.List.Sums.{sum_by_more}
 use Rattle.vertex_index.specs.Placement.{place}
 use Rattle.ring_machine.specs.Ring.{is_ring}
 use Rattle.ring_machine.proofs.Members.{contains_in}
 use Rattle.ring_machine.proofs.Neighbours.{all_in}
-use Rattle.map_opening.proofs.Counted.{sum_by-map}
-use Rattle.map_opening.proofs.LaidLists.{at_contains, room}
+use Rattle.map_opening.proofs.LaidLists.{at_contains}
 use Rattle.map_opening.proofs.Pushed.{map_more}
 use Rattle.ring_store.proofs.Series.{there_none, added_first, there_more, added_more, at_more}
 use Rattle.ring_store.proofs.laying.lay_each.Goals as goal

@@ -1,6 +1,5 @@
 use Rattle.std.proofs.Common.{◌≡◌, ◌≤◌, ◌+◌, take, length, map, vec_len}
 use Rattle.std.specs.Prelude.{vec_capacity}
-use Rattle.std.specs.List.{sum_by}
 use Rattle.vertex_index.specs.Placement.{place}
 use Rattle.ring_store.specs.Laid.{numbers_of, AreThere, AreAdded, KeepsPlaces}
 use Rattle.ring_store.specs.Standing.{Stands}

@@ -1,4 +1,4 @@
-use Rattle.std.proofs.Common.{◌≡◌, ◌≤◌, ◌+◌, take}
+use Rattle.std.proofs.Common.{◌≡◌, take}
 use Rattle.arc_tables.specs.Rings.{edges}
 use Rattle.ring_store.specs.Steps.{HoldsWith}
 use Rattle.ring_store.proofs.sides.add_sides.Given as goal

@@ -1,6 +1,6 @@
 use Rattle.std.proofs.Common.{sym, subst, ap, ◌∙◌, arith}
 use Rattle.std.proofs.lemmas.Result.{err_from_is_err_and}
-use Rattle.feature_exchange.specs.Stored.{stored, document_of}
+use Rattle.feature_exchange.specs.Stored.{stored}
 use Rattle.arc_store.specs.State.{State}
 use Rattle.arc_store.proofs.Around.{none_joined}
 use Rattle.arc_store.proofs.PutBack.{AreOut, with_all}
