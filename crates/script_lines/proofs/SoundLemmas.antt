@@ -9,9 +9,7 @@ use Rattle.script_lines.specs.declared.lines.Line.{Line}
 use Rattle.script_lines.specs.declared.lines.Line.TheVariants as said
 
 asked_sound : (text : List ℕ) (c : Command) → Asks text (command_of c) → IsSound c
-asked_sound text (line.Split n name path) h =
-    let (words, e, w) = h in
-    (w.along.least, w.along.most)
+asked_sound text (line.Split n name path) h = (h.asked.1.least, h.asked.1.most)
 asked_sound text (line.Move p q) h = tt
 asked_sound text (line.Insert a b q) h = tt
 asked_sound text (line.Remove p) h = tt

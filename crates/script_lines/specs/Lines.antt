@@ -1,5 +1,5 @@
 -- What a line of a script asks.
-use Rattle.std.specs.Prelude.{◌≡◌, ℕ, ℤ, pos, ◌<◌, ◌≤◌, ◌^◌, ◌==◌, List, [], ◌∷◌, ◌++◌, length, Bool, true, codes, Option, None, Some, IsTrue, IsUtf8}
+use Rattle.std.specs.Prelude.{◌≡◌, ℕ, ℤ, pos, negsuc, ◌<◌, ◌≤◌, ◌^◌, ◌==◌, List, [], ◌∷◌, ◌++◌, length, Bool, true, codes, Option, None, Some, IsTrue, IsUtf8}
 use Rattle.std.specs.Fmt.{signed_decimal}
 use Rattle.std.specs.List.{AllByRecursion, flat_map}
 use Rattle.grid_geometry.specs.Position.{Position, InRange}
@@ -40,45 +40,64 @@ pub record IsPath (path : List Position) : Type 0 where
   pub most : length path ≤ 256
   pub in_range : AllByRecursion InRange path
 
--- behind `rename`: the number of a feature, and a JSON string that gives the id
-pub record AreNaming (words : List ℕ) (n : ℕ) (id : Text) : Type 0 where
+-- the words are these positions and no more, each of the grid
+abbrev pub ArePositions : List ℕ → List Position → Type 0
+ArePositions words ps = (words ≡ spaced_path ps) × AllByRecursion InRange ps
+
+-- the words are the numbers of these features and no more
+abbrev pub AreFeatures : List ℕ → List ℕ → Type 0
+AreFeatures words ns =
+    (words ≡ flat_map (λ n. spaced (pos n)) ns) × AllByRecursion (λ n. n < 2 ^ 32) ns
+
+-- the words are the number of a feature, a JSON string that gives the id, and the rest
+pub record AreNaming (words : List ℕ) (n : ℕ) (id : Text) (rest : List ℕ) : Type 0 where
   pub token : Text
-  pub whole : words ≡ spaced (pos n) ++ spaced_token token
+  pub whole : words ≡ spaced (pos n) ++ (spaced_token token ++ rest)
   pub number : n < 2 ^ 32
   pub gives : Gives token id
 
--- behind `split`: the number of a feature, a JSON string that gives the id of the new one, a path
-pub record AreCutting (words : List ℕ) (n : ℕ) (id : Text) (path : List Position) : Type 0 where
-  pub token : Text
-  pub whole : words ≡ spaced (pos n) ++ (spaced_token token ++ spaced_path path)
-  pub number : n < 2 ^ 32
-  pub gives : Gives token id
-  pub along : IsPath path
+-- the word that the line of a command begins with
+abbrev pub word_of : Command → List ℕ
+word_of (Move p q) = codes "move"
+word_of (Insert a b q) = codes "insert"
+word_of (Remove p) = codes "remove"
+word_of (Thin t) = codes "thin"
+word_of (Split n id path) = codes "split"
+word_of (Merge n m) = codes "merge"
+word_of (Rename n id) = codes "rename"
+word_of (Delete n) = codes "delete"
+word_of Undo = codes "undo"
+word_of (Area n) = codes "area"
+word_of (At p) = codes "at"
+word_of (Neighbours n) = codes "neighbours"
+word_of (Rings n) = codes "rings"
+word_of Count = codes "count"
+word_of Show = codes "document"
 
--- the line asks for the command: its words, with exactly one space between two of them
-abbrev pub Asks : List ℕ → Command → Type 0
-Asks line (Move p q) =
-    (line ≡ codes "move" ++ (spaced_position p ++ spaced_position q)) × (InRange p × InRange q)
-Asks line (Insert a b q) =
-    (line ≡ codes "insert" ++ (spaced_position a ++ (spaced_position b ++ spaced_position q)))
-    × (InRange a × InRange b × InRange q)
-Asks line (Remove p) = (line ≡ codes "remove" ++ spaced_position p) × InRange p
-Asks line (Thin (pos t)) = (line ≡ codes "thin" ++ spaced (pos t)) × (t ≤ most_bound)
-Asks line (Split n id path) =
-    (words : List ℕ) × (line ≡ codes "split" ++ words) × AreCutting words n id path
-Asks line (Merge n m) =
-    (line ≡ codes "merge" ++ (spaced (pos n) ++ spaced (pos m))) × ((n < 2 ^ 32) × (m < 2 ^ 32))
-Asks line (Rename n id) =
-    (words : List ℕ) × (line ≡ codes "rename" ++ words) × AreNaming words n id
-Asks line (Delete n) = (line ≡ codes "delete" ++ spaced (pos n)) × (n < 2 ^ 32)
-Asks line Undo = line ≡ codes "undo"
-Asks line (Area n) = (line ≡ codes "area" ++ spaced (pos n)) × (n < 2 ^ 32)
-Asks line (At p) = (line ≡ codes "at" ++ spaced_position p) × InRange p
-Asks line (Neighbours n) = (line ≡ codes "neighbours" ++ spaced (pos n)) × (n < 2 ^ 32)
-Asks line (Rings n) = (line ≡ codes "rings" ++ spaced (pos n)) × (n < 2 ^ 32)
-Asks line Count = line ≡ codes "count"
-Asks line Show = line ≡ codes "document"
-Asks line _ = ⊥
+-- what stands behind the word, with exactly one space before each word
+abbrev pub AskedWith : List ℕ → Command → Type 0
+AskedWith tail (Move p q) = ArePositions tail (p ∷ q ∷ [])
+AskedWith tail (Insert a b q) = ArePositions tail (a ∷ b ∷ q ∷ [])
+AskedWith tail (Remove p) = ArePositions tail (p ∷ [])
+AskedWith tail (Thin (pos t)) = (tail ≡ spaced (pos t)) × (t ≤ most_bound)
+AskedWith tail (Thin (negsuc t)) = ⊥
+AskedWith tail (Split n id path) = AreNaming tail n id (spaced_path path) × IsPath path
+AskedWith tail (Merge n m) = AreFeatures tail (n ∷ m ∷ [])
+AskedWith tail (Rename n id) = AreNaming tail n id []
+AskedWith tail (Delete n) = AreFeatures tail (n ∷ [])
+AskedWith tail Undo = tail ≡ []
+AskedWith tail (Area n) = AreFeatures tail (n ∷ [])
+AskedWith tail (At p) = ArePositions tail (p ∷ [])
+AskedWith tail (Neighbours n) = AreFeatures tail (n ∷ [])
+AskedWith tail (Rings n) = AreFeatures tail (n ∷ [])
+AskedWith tail Count = tail ≡ []
+AskedWith tail Show = tail ≡ []
+
+-- the line asks for the command
+pub record Asks (line : List ℕ) (c : Command) : Type 0 where
+  pub tail : List ℕ
+  pub whole : line ≡ word_of c ++ tail
+  pub asked : AskedWith tail c
 
 -- an empty line, or a comment
 abbrev pub is_comment : List ℕ → Bool

@@ -1,19 +1,18 @@
-ghost use Rattle.std.specs.Prelude.{◌≡◌, ◌++◌, List, ℕ, codes, MatchOption, MatchResult, IfOk, IsSomeAnd, pos, ◌<◌, ◌^◌, IsUtf8, IsTrue, ◌↔◌, Option, Some, None};
-ghost use Rattle.grid_geometry.specs.Position.{Position};
-ghost use Rattle.ring_machine.specs.Command.{Command as Asked};
-ghost use Rattle.script_lines.specs.Lines.{Says, Asks, is_comment};
-ghost use Rattle.script_lines.specs.Commands.{says_of, IsRefused, IsPositionTail, IsFeatureTail};
-ghost use Rattle.script_lines.specs.Commands.{IsMoveTail, IsInsertTail, IsRemoveTail, IsThinTail};
-ghost use Rattle.script_lines.specs.Commands.{IsSplitTail, IsMergeTail, IsRenameTail, IsDeleteTail};
-ghost use Rattle.script_lines.specs.Commands.{IsUndoTail, IsAreaTail, IsAtTail, IsNeighboursTail};
-ghost use Rattle.script_lines.specs.Commands.{IsRingsTail, IsCountTail, IsDocumentTail};
+ghost use Rattle.std.specs.Prelude.{◌≡◌, ◌∷◌, [], IfOk, IsTrue, IsUtf8, ◌↔◌, MatchResult, Option};
+ghost use Rattle.std.specs.Prelude.{Some, None};
+ghost use Rattle.map_text.specs.Strings.{string_text};
+ghost use Rattle.ring_machine.specs.Command.{Split as Cut, Rename as Name, Thin as Thinning};
+ghost use Rattle.script_lines.specs.Lines.{ArePositions, AreFeatures, AskedWith, Asks, Says};
+ghost use Rattle.script_lines.specs.Lines.{is_comment};
+ghost use Rattle.script_lines.specs.Commands.{Finds, FindsCommand, says_of, IsRefused};
 
 use crate::ids::id_of;
 use crate::lines::{Line, LineFault};
-use crate::paths::{is_path, read_path};
+use crate::paths::read_path;
 use crate::words::{
     behind, spaced_feature, spaced_position, spaced_token, split_word, wide_number,
 };
+use arc_store::{IdText, Path};
 use grid_geometry::Pos;
 use std::alloc::{AllocError, Global};
 use std::str;
@@ -26,52 +25,9 @@ const MAX_BOUND: u128 = 8_000_000_000_000_000_000_000_000;
 /// The most bytes of a line.
 const MAX_LINE: usize = 8192;
 
-/// The move that stands behind the word `move`.
-fn move_behind(tail: &[u8]) -> Option<Line>
-    ensures { MatchOption result
-        ((c : Asked) → ¬ IsMoveTail tail.now c)
-        (λ line. IsSomeAnd (says_of line) (IsMoveTail tail.now)) }
-{
-    let Some(from) = spaced_position(tail) else {
-        return None;
-    };
-    let Some(to) = spaced_position(from.1) else {
-        return None;
-    };
-    if to.1.is_empty() {
-        Some(Line::Edit(Command::Move(from.0, to.0)))
-    } else {
-        None
-    }
-}
-
-/// The new vertex that stands behind the word `insert`.
-fn insert_behind(tail: &[u8]) -> Option<Line>
-    ensures { MatchOption result
-        ((c : Asked) → ¬ IsInsertTail tail.now c)
-        (λ line. IsSomeAnd (says_of line) (IsInsertTail tail.now)) }
-{
-    let Some(a) = spaced_position(tail) else {
-        return None;
-    };
-    let Some(b) = spaced_position(a.1) else {
-        return None;
-    };
-    let Some(new) = spaced_position(b.1) else {
-        return None;
-    };
-    if new.1.is_empty() {
-        Some(Line::Edit(Command::Insert(a.0, b.0, new.0)))
-    } else {
-        None
-    }
-}
-
-/// The position that stands behind a word, with nothing behind it.
+/// The position that stands behind a word.
 fn position_behind(tail: &[u8]) -> Option<Pos>
-    ensures { MatchOption result
-        ((p : Position) → ¬ IsPositionTail tail.now p)
-        (λ p. IsPositionTail tail.now p) }
+    ensures { Finds result (λ p. ArePositions tail.now (p ∷ [])) }
 {
     let Some(position) = spaced_position(tail) else {
         return None;
@@ -83,23 +39,35 @@ fn position_behind(tail: &[u8]) -> Option<Pos>
     }
 }
 
-/// The removal that stands behind the word `remove`.
-fn remove_behind(tail: &[u8]) -> Option<Line>
-    ensures { MatchOption result
-        ((c : Asked) → ¬ IsRemoveTail tail.now c)
-        (λ line. IsSomeAnd (says_of line) (IsRemoveTail tail.now)) }
+/// The two positions that stand behind a word.
+fn pair_behind(tail: &[u8]) -> Option<(Pos, Pos)>
+    ensures { Finds result (λ pair. ArePositions tail.now (pair.0 ∷ pair.1 ∷ [])) }
 {
-    match position_behind(tail) {
-        Some(vertex) => Some(Line::Edit(Command::Remove(vertex))),
+    let Some(first) = spaced_position(tail) else {
+        return None;
+    };
+    match position_behind(first.1) {
+        Some(second) => Some((first.0, second)),
         None => None,
     }
 }
 
-/// The thinning that stands behind the word `thin`.
-fn thin_behind(tail: &[u8]) -> Option<Line>
-    ensures { MatchOption result
-        ((c : Asked) → ¬ IsThinTail tail.now c)
-        (λ line. IsSomeAnd (says_of line) (IsThinTail tail.now)) }
+/// The three positions that stand behind a word.
+fn triple_behind(tail: &[u8]) -> Option<(Pos, Pos, Pos)>
+    ensures { Finds result (λ all. ArePositions tail.now (all.0 ∷ all.1 ∷ all.2 ∷ [])) }
+{
+    let Some(first) = spaced_position(tail) else {
+        return None;
+    };
+    match pair_behind(first.1) {
+        Some(others) => Some((first.0, others.0, others.1)),
+        None => None,
+    }
+}
+
+/// The bound of a thinning that stands behind a word.
+fn bound_behind(tail: &[u8]) -> Option<i128>
+    ensures { Finds result (λ t. AskedWith tail.now (Thinning t)) }
 {
     let Some(word) = behind(b" ", tail) else {
         return None;
@@ -108,7 +76,7 @@ fn thin_behind(tail: &[u8]) -> Option<Line>
         return None;
     };
     if bound <= MAX_BOUND {
-        Some(Line::Edit(Command::Thin(bound as i128)))
+        Some(bound as i128)
     } else {
         None
     }
@@ -116,9 +84,7 @@ fn thin_behind(tail: &[u8]) -> Option<Line>
 
 /// The number of a feature that stands behind a word.
 fn feature_behind(tail: &[u8]) -> Option<u32>
-    ensures { MatchOption result
-        ((n : ℕ) → ¬ IsFeatureTail tail.now n)
-        (λ n. IsFeatureTail tail.now n) }
+    ensures { Finds result (λ n. AreFeatures tail.now (n ∷ [])) }
 {
     let Some((feature, end)) = spaced_feature(tail) else {
         return None;
@@ -126,39 +92,24 @@ fn feature_behind(tail: &[u8]) -> Option<u32>
     if end.is_empty() { Some(feature) } else { None }
 }
 
-/// The merging that stands behind the word `merge`.
-fn merge_behind(tail: &[u8]) -> Option<Line>
-    ensures { MatchOption result
-        ((c : Asked) → ¬ IsMergeTail tail.now c)
-        (λ line. IsSomeAnd (says_of line) (IsMergeTail tail.now)) }
+/// The numbers of two features that stand behind a word.
+fn features_behind(tail: &[u8]) -> Option<(u32, u32)>
+    ensures { Finds result (λ both. AreFeatures tail.now (both.0 ∷ both.1 ∷ [])) }
 {
-    let Some((stays, rest)) = spaced_feature(tail) else {
+    let Some((first, rest)) = spaced_feature(tail) else {
         return None;
     };
     match feature_behind(rest) {
-        Some(goes) => Some(Line::Edit(Command::Merge(stays, goes))),
+        Some(second) => Some((first, second)),
         None => None,
     }
 }
 
-/// The deletion that stands behind the word `delete`.
-fn delete_behind(tail: &[u8]) -> Option<Line>
-    ensures { MatchOption result
-        ((c : Asked) → ¬ IsDeleteTail tail.now c)
-        (λ line. IsSomeAnd (says_of line) (IsDeleteTail tail.now)) }
-{
-    match feature_behind(tail) {
-        Some(feature) => Some(Line::Edit(Command::Delete(feature))),
-        None => None,
-    }
-}
-
-/// The new id that stands behind the word `rename`.
-#[tactic(auto, using(crate::proofs::CommandLemmas::rename_found))]
-fn rename_behind(heap: Global, tail: &[u8]) -> Result<Option<Line>, AllocError>
-    ensures { IfOk result (λ found. MatchOption found
-        ((c : Asked) → ¬ IsRenameTail tail.now c)
-        (λ line. IsSomeAnd (says_of line) (IsRenameTail tail.now))) }
+/// The number of a feature and its new id that stand behind a word.
+#[tactic(auto, using(crate::proofs::CommandLemmas::renamed))]
+fn naming_behind(heap: Global, tail: &[u8]) -> Result<Option<(u32, IdText)>, AllocError>
+    ensures { IfOk result (λ found. Finds found
+        (λ parts. AskedWith tail.now (Name parts.0 (string_text parts.1)))) }
 {
     let Some((feature, words)) = spaced_feature(tail) else {
         return Ok(None);
@@ -170,17 +121,16 @@ fn rename_behind(heap: Global, tail: &[u8]) -> Result<Option<Line>, AllocError>
         return Ok(None);
     }
     match id_of(heap, token)? {
-        Some(id) => Ok(Some(Line::Edit(Command::Rename(feature, id)))),
+        Some(id) => Ok(Some((feature, id))),
         None => Ok(None),
     }
 }
 
-/// The cut that stands behind the word `split`.
-#[tactic(auto, using(crate::proofs::CommandLemmas::split_found))]
-fn split_behind(heap: Global, tail: &[u8]) -> Result<Option<Line>, AllocError>
-    ensures { IfOk result (λ found. MatchOption found
-        ((c : Asked) → ¬ IsSplitTail tail.now c)
-        (λ line. IsSomeAnd (says_of line) (IsSplitTail tail.now))) }
+/// The number of a feature, the id of the new one and the path that stand behind a word.
+#[tactic(auto, using(crate::proofs::CommandLemmas::cut))]
+fn cut_behind(heap: Global, tail: &[u8]) -> Result<Option<(u32, IdText, Path)>, AllocError>
+    ensures { IfOk result (λ found. Finds found
+        (λ parts. AskedWith tail.now (Cut parts.0 (string_text parts.1) parts.2))) }
 {
     let Some((feature, words)) = spaced_feature(tail) else {
         return Ok(None);
@@ -188,142 +138,50 @@ fn split_behind(heap: Global, tail: &[u8]) -> Result<Option<Line>, AllocError>
     let Some((token, positions)) = spaced_token(words) else {
         return Ok(None);
     };
-    if !is_path(positions) {
+    let Some(id) = id_of(heap, token)? else {
         return Ok(None);
-    }
-    match id_of(heap, token)? {
-        Some(id) => {
-            let path = read_path(heap, positions)?;
-            Ok(Some(Line::Edit(Command::Split(feature, id, path))))
-        }
+    };
+    match read_path(heap, positions)? {
+        Some(path) => Ok(Some((feature, id, path))),
         None => Ok(None),
-    }
-}
-
-/// The taking back, where nothing stands behind the word `undo`.
-fn undo_behind(tail: &[u8]) -> Option<Line>
-    ensures { MatchOption result
-        ((c : Asked) → ¬ IsUndoTail tail.now c)
-        (λ line. IsSomeAnd (says_of line) (IsUndoTail tail.now)) }
-{
-    if tail.is_empty() {
-        Some(Line::Undo)
-    } else {
-        None
-    }
-}
-
-/// The question for an area that stands behind the word `area`.
-fn area_behind(tail: &[u8]) -> Option<Line>
-    ensures { MatchOption result
-        ((c : Asked) → ¬ IsAreaTail tail.now c)
-        (λ line. IsSomeAnd (says_of line) (IsAreaTail tail.now)) }
-{
-    match feature_behind(tail) {
-        Some(feature) => Some(Line::Edit(Command::Area(feature))),
-        None => None,
-    }
-}
-
-/// The question for a position that stands behind the word `at`.
-fn at_behind(tail: &[u8]) -> Option<Line>
-    ensures { MatchOption result
-        ((c : Asked) → ¬ IsAtTail tail.now c)
-        (λ line. IsSomeAnd (says_of line) (IsAtTail tail.now)) }
-{
-    match position_behind(tail) {
-        Some(position) => Some(Line::Edit(Command::At(position))),
-        None => None,
-    }
-}
-
-/// The question for neighbours that stands behind the word `neighbours`.
-fn neighbours_behind(tail: &[u8]) -> Option<Line>
-    ensures { MatchOption result
-        ((c : Asked) → ¬ IsNeighboursTail tail.now c)
-        (λ line. IsSomeAnd (says_of line) (IsNeighboursTail tail.now)) }
-{
-    match feature_behind(tail) {
-        Some(feature) => Some(Line::Edit(Command::Neighbours(feature))),
-        None => None,
-    }
-}
-
-/// The question for rings that stands behind the word `rings`.
-fn rings_behind(tail: &[u8]) -> Option<Line>
-    ensures { MatchOption result
-        ((c : Asked) → ¬ IsRingsTail tail.now c)
-        (λ line. IsSomeAnd (says_of line) (IsRingsTail tail.now)) }
-{
-    match feature_behind(tail) {
-        Some(feature) => Some(Line::Rings(feature)),
-        None => None,
-    }
-}
-
-/// The question for the counts, where nothing stands behind the word `count`.
-fn count_behind(tail: &[u8]) -> Option<Line>
-    ensures { MatchOption result
-        ((c : Asked) → ¬ IsCountTail tail.now c)
-        (λ line. IsSomeAnd (says_of line) (IsCountTail tail.now)) }
-{
-    if tail.is_empty() {
-        Some(Line::Count)
-    } else {
-        None
-    }
-}
-
-/// The question for the text of the map, where nothing stands behind the word `document`.
-fn document_behind(tail: &[u8]) -> Option<Line>
-    ensures { MatchOption result
-        ((c : Asked) → ¬ IsDocumentTail tail.now c)
-        (λ line. IsSomeAnd (says_of line) (IsDocumentTail tail.now)) }
-{
-    if tail.is_empty() {
-        Some(Line::Document)
-    } else {
-        None
     }
 }
 
 /// What a line asks for by its word.
 fn by_word(heap: Global, line: &[u8]) -> Result<Option<Line>, AllocError>
-    ensures { IfOk result (λ found. MatchOption found
-        ((c : Asked) → ¬ Asks line.now c)
-        (λ said. IsSomeAnd (says_of said) (Asks line.now))) }
+    ensures { IfOk result (λ found. FindsCommand found (Asks line.now)) }
 {
     let (word, tail) = split_word(line);
     if word == b"move".as_slice() {
-        Ok(move_behind(tail))
+        Ok(pair_behind(tail).map(|(p, q)| Line::Edit(Command::Move(p, q))))
     } else if word == b"insert".as_slice() {
-        Ok(insert_behind(tail))
+        Ok(triple_behind(tail).map(|(a, b, q)| Line::Edit(Command::Insert(a, b, q))))
     } else if word == b"remove".as_slice() {
-        Ok(remove_behind(tail))
+        Ok(position_behind(tail).map(|p| Line::Edit(Command::Remove(p))))
     } else if word == b"thin".as_slice() {
-        Ok(thin_behind(tail))
+        Ok(bound_behind(tail).map(|t| Line::Edit(Command::Thin(t))))
     } else if word == b"split".as_slice() {
-        split_behind(heap, tail)
+        Ok(cut_behind(heap, tail)?.map(|(f, id, path)| Line::Edit(Command::Split(f, id, path))))
     } else if word == b"merge".as_slice() {
-        Ok(merge_behind(tail))
+        Ok(features_behind(tail).map(|(f, g)| Line::Edit(Command::Merge(f, g))))
     } else if word == b"rename".as_slice() {
-        rename_behind(heap, tail)
+        Ok(naming_behind(heap, tail)?.map(|(f, id)| Line::Edit(Command::Rename(f, id))))
     } else if word == b"delete".as_slice() {
-        Ok(delete_behind(tail))
-    } else if word == b"undo".as_slice() {
-        Ok(undo_behind(tail))
+        Ok(feature_behind(tail).map(|f| Line::Edit(Command::Delete(f))))
+    } else if line == b"undo".as_slice() {
+        Ok(Some(Line::Undo))
     } else if word == b"area".as_slice() {
-        Ok(area_behind(tail))
+        Ok(feature_behind(tail).map(|f| Line::Edit(Command::Area(f))))
     } else if word == b"at".as_slice() {
-        Ok(at_behind(tail))
+        Ok(position_behind(tail).map(|p| Line::Edit(Command::At(p))))
     } else if word == b"neighbours".as_slice() {
-        Ok(neighbours_behind(tail))
+        Ok(feature_behind(tail).map(|f| Line::Edit(Command::Neighbours(f))))
     } else if word == b"rings".as_slice() {
-        Ok(rings_behind(tail))
-    } else if word == b"count".as_slice() {
-        Ok(count_behind(tail))
-    } else if word == b"document".as_slice() {
-        Ok(document_behind(tail))
+        Ok(feature_behind(tail).map(Line::Rings))
+    } else if line == b"count".as_slice() {
+        Ok(Some(Line::Count))
+    } else if line == b"document".as_slice() {
+        Ok(Some(Line::Document))
     } else {
         Ok(None)
     }

@@ -1,78 +1,65 @@
-use Rattle.std.proofs.Common.{◌≡◌, codes, rules}
-use Rattle.script_lines.proofs.CommandLemmas.{arm_move, arm_insert, arm_remove, arm_thin, arm_split, arm_merge, arm_rename, arm_delete, arm_undo, arm_area, arm_at, arm_neighbours, arm_rings, arm_count, arm_document}
+use Rattle.std.proofs.Common.{refl, codes, rules}
+use Rattle.undo_ring.specs.declared.command.Command.TheVariants as command
+use Rattle.script_lines.specs.declared.lines.Line.TheVariants as said
+use Rattle.script_lines.proofs.CommandLemmas.{arm, row_move, row_insert, row_remove, row_thin, row_split, row_merge, row_rename, row_delete, row_area, row_at, row_neighbours, row_rings}
 use Rattle.script_lines.proofs.parsing.by_word.Goals as goal
 
 pub returns-then-eq : goal.returns-then-eq
 returns-then-eq c =
-    let is : c.split_word.result.0.now ≡ codes "move" = search rules in
-    arm_move c.args.line.now c.split_word.result.0.now c.split_word.result.1.now c.split_word.ensures.word c.split_word.ensures.rest c.move_behind.result is c.move_behind.ensures
+    arm c.args.line.now c.split_word.result.0.now c.split_word.result.1.now c.split_word.ensures.word c.split_word.ensures.rest (codes "move") _
+    (λ pair. said.Edit (command.Move pair.0 pair.1)) (row_move c.split_word.result.1.now) (λ pair h. (refl, h)) c.pair_behind.result c.map.result (search rules) c.pair_behind.ensures c.map.ensures.cases
 
 pub returns-then-eq-2 : goal.returns-then-eq-2
 returns-then-eq-2 c =
-    let is : c.split_word.result.0.now ≡ codes "insert" = search rules in
-    arm_insert c.args.line.now c.split_word.result.0.now c.split_word.result.1.now c.split_word.ensures.word c.split_word.ensures.rest c.insert_behind.result is c.insert_behind.ensures
+    arm c.args.line.now c.split_word.result.0.now c.split_word.result.1.now c.split_word.ensures.word c.split_word.ensures.rest (codes "insert") _
+    (λ all. said.Edit (command.Insert all.0 all.1 all.2)) (row_insert c.split_word.result.1.now) (λ all h. (refl, h)) c.triple_behind.result c.map-then-eq-2.result (search rules) c.triple_behind.ensures c.map-then-eq-2.ensures.cases
 
 pub returns-then-eq-3 : goal.returns-then-eq-3
 returns-then-eq-3 c =
-    let is : c.split_word.result.0.now ≡ codes "remove" = search rules in
-    arm_remove c.args.line.now c.split_word.result.0.now c.split_word.result.1.now c.split_word.ensures.word c.split_word.ensures.rest c.remove_behind.result is c.remove_behind.ensures
+    arm c.args.line.now c.split_word.result.0.now c.split_word.result.1.now c.split_word.ensures.word c.split_word.ensures.rest (codes "remove") _
+    (λ p. said.Edit (command.Remove p)) (row_remove c.split_word.result.1.now) (λ p h. (refl, h)) c.position_behind.result c.map-then-eq-3.result (search rules) c.position_behind.ensures c.map-then-eq-3.ensures.cases
 
 pub returns-then-eq-4 : goal.returns-then-eq-4
 returns-then-eq-4 c =
-    let is : c.split_word.result.0.now ≡ codes "thin" = search rules in
-    arm_thin c.args.line.now c.split_word.result.0.now c.split_word.result.1.now c.split_word.ensures.word c.split_word.ensures.rest c.thin_behind.result is c.thin_behind.ensures
+    arm c.args.line.now c.split_word.result.0.now c.split_word.result.1.now c.split_word.ensures.word c.split_word.ensures.rest (codes "thin") _
+    (λ t. said.Edit (command.Thin t)) (row_thin c.split_word.result.1.now) (λ t h. (refl, h)) c.bound_behind.result c.map-then-eq-4.result (search rules) c.bound_behind.ensures c.map-then-eq-4.ensures.cases
 
 pub returns-then-eq-5 : goal.returns-then-eq-5
 returns-then-eq-5 c =
-    let is : c.split_word.result.0.now ≡ codes "split" = search rules in
-    arm_split c.args.line.now c.split_word.result.0.now c.split_word.result.1.now c.split_word.ensures.word c.split_word.ensures.rest c.split_behind.result is c.split_behind.ensures
+    arm c.args.line.now c.split_word.result.0.now c.split_word.result.1.now c.split_word.ensures.word c.split_word.ensures.rest (codes "split") _
+    (λ parts. said.Edit (command.Split parts.0 parts.1 parts.2)) (row_split c.split_word.result.1.now) (λ parts h. (refl, h)) c.in_ok-cut_behind.value c.map-then-eq-5.result (search rules) c.in_ok-cut_behind.ensures c.map-then-eq-5.ensures.cases
 
 pub returns-then-eq-6 : goal.returns-then-eq-6
 returns-then-eq-6 c =
-    let is : c.split_word.result.0.now ≡ codes "merge" = search rules in
-    arm_merge c.args.line.now c.split_word.result.0.now c.split_word.result.1.now c.split_word.ensures.word c.split_word.ensures.rest c.merge_behind.result is c.merge_behind.ensures
+    arm c.args.line.now c.split_word.result.0.now c.split_word.result.1.now c.split_word.ensures.word c.split_word.ensures.rest (codes "merge") _
+    (λ both. said.Edit (command.Merge both.0 both.1)) (row_merge c.split_word.result.1.now) (λ both h. (refl, h)) c.features_behind.result c.map-then-eq-6.result (search rules) c.features_behind.ensures c.map-then-eq-6.ensures.cases
 
 pub returns-then-eq-7 : goal.returns-then-eq-7
 returns-then-eq-7 c =
-    let is : c.split_word.result.0.now ≡ codes "rename" = search rules in
-    arm_rename c.args.line.now c.split_word.result.0.now c.split_word.result.1.now c.split_word.ensures.word c.split_word.ensures.rest c.rename_behind.result is c.rename_behind.ensures
+    arm c.args.line.now c.split_word.result.0.now c.split_word.result.1.now c.split_word.ensures.word c.split_word.ensures.rest (codes "rename") _
+    (λ parts. said.Edit (command.Rename parts.0 parts.1)) (row_rename c.split_word.result.1.now) (λ parts h. (refl, h)) c.in_ok-naming_behind.value c.map-then-eq-7.result (search rules) c.in_ok-naming_behind.ensures c.map-then-eq-7.ensures.cases
 
 pub returns-then-eq-8 : goal.returns-then-eq-8
 returns-then-eq-8 c =
-    let is : c.split_word.result.0.now ≡ codes "delete" = search rules in
-    arm_delete c.args.line.now c.split_word.result.0.now c.split_word.result.1.now c.split_word.ensures.word c.split_word.ensures.rest c.delete_behind.result is c.delete_behind.ensures
-
-pub returns-then-eq-9 : goal.returns-then-eq-9
-returns-then-eq-9 c =
-    let is : c.split_word.result.0.now ≡ codes "undo" = search rules in
-    arm_undo c.args.line.now c.split_word.result.0.now c.split_word.result.1.now c.split_word.ensures.word c.split_word.ensures.rest c.undo_behind.result is c.undo_behind.ensures
+    arm c.args.line.now c.split_word.result.0.now c.split_word.result.1.now c.split_word.ensures.word c.split_word.ensures.rest (codes "delete") _
+    (λ n. said.Edit (command.Delete n)) (row_delete c.split_word.result.1.now) (λ n h. (refl, h)) c.feature_behind.result c.map-then-eq-8.result (search rules) c.feature_behind.ensures c.map-then-eq-8.ensures.cases
 
 pub returns-then-eq-10 : goal.returns-then-eq-10
 returns-then-eq-10 c =
-    let is : c.split_word.result.0.now ≡ codes "area" = search rules in
-    arm_area c.args.line.now c.split_word.result.0.now c.split_word.result.1.now c.split_word.ensures.word c.split_word.ensures.rest c.area_behind.result is c.area_behind.ensures
+    arm c.args.line.now c.split_word.result.0.now c.split_word.result.1.now c.split_word.ensures.word c.split_word.ensures.rest (codes "area") _
+    (λ n. said.Edit (command.Area n)) (row_area c.split_word.result.1.now) (λ n h. (refl, h)) c.feature_behind-then-eq-10.result c.map-then-eq-10.result (search rules) c.feature_behind-then-eq-10.ensures c.map-then-eq-10.ensures.cases
 
 pub returns-then-eq-11 : goal.returns-then-eq-11
 returns-then-eq-11 c =
-    let is : c.split_word.result.0.now ≡ codes "at" = search rules in
-    arm_at c.args.line.now c.split_word.result.0.now c.split_word.result.1.now c.split_word.ensures.word c.split_word.ensures.rest c.at_behind.result is c.at_behind.ensures
+    arm c.args.line.now c.split_word.result.0.now c.split_word.result.1.now c.split_word.ensures.word c.split_word.ensures.rest (codes "at") _
+    (λ p. said.Edit (command.At p)) (row_at c.split_word.result.1.now) (λ p h. (refl, h)) c.position_behind-then-eq-11.result c.map-then-eq-11.result (search rules) c.position_behind-then-eq-11.ensures c.map-then-eq-11.ensures.cases
 
 pub returns-then-eq-12 : goal.returns-then-eq-12
 returns-then-eq-12 c =
-    let is : c.split_word.result.0.now ≡ codes "neighbours" = search rules in
-    arm_neighbours c.args.line.now c.split_word.result.0.now c.split_word.result.1.now c.split_word.ensures.word c.split_word.ensures.rest c.neighbours_behind.result is c.neighbours_behind.ensures
+    arm c.args.line.now c.split_word.result.0.now c.split_word.result.1.now c.split_word.ensures.word c.split_word.ensures.rest (codes "neighbours") _
+    (λ n. said.Edit (command.Neighbours n)) (row_neighbours c.split_word.result.1.now) (λ n h. (refl, h)) c.feature_behind-then-eq-12.result c.map-then-eq-12.result (search rules) c.feature_behind-then-eq-12.ensures c.map-then-eq-12.ensures.cases
 
 pub returns-then-eq-13 : goal.returns-then-eq-13
 returns-then-eq-13 c =
-    let is : c.split_word.result.0.now ≡ codes "rings" = search rules in
-    arm_rings c.args.line.now c.split_word.result.0.now c.split_word.result.1.now c.split_word.ensures.word c.split_word.ensures.rest c.rings_behind.result is c.rings_behind.ensures
-
-pub returns-then-eq-14 : goal.returns-then-eq-14
-returns-then-eq-14 c =
-    let is : c.split_word.result.0.now ≡ codes "count" = search rules in
-    arm_count c.args.line.now c.split_word.result.0.now c.split_word.result.1.now c.split_word.ensures.word c.split_word.ensures.rest c.count_behind.result is c.count_behind.ensures
-
-pub returns-then-eq-15 : goal.returns-then-eq-15
-returns-then-eq-15 c =
-    let is : c.split_word.result.0.now ≡ codes "document" = search rules in
-    arm_document c.args.line.now c.split_word.result.0.now c.split_word.result.1.now c.split_word.ensures.word c.split_word.ensures.rest c.document_behind.result is c.document_behind.ensures
+    arm c.args.line.now c.split_word.result.0.now c.split_word.result.1.now c.split_word.ensures.word c.split_word.ensures.rest (codes "rings") _
+    (λ n. said.Rings n) (row_rings c.split_word.result.1.now) (λ n h. (refl, h)) c.feature_behind-then-eq-13.result c.map-then-eq-13.result (search rules) c.feature_behind-then-eq-13.ensures c.map-then-eq-13.ensures.cases

@@ -1,0 +1,14 @@
+use Rattle.std.proofs.Common.{sym, ◌∙◌, [], rules, subst}
+use Rattle.map_text.specs.Strings.{string_text}
+use Rattle.script_lines.specs.Lines.{spaced_path}
+use Rattle.script_lines.proofs.TokenLemmas.{path_unmarked}
+use Rattle.script_lines.proofs.CommandLemmas.{naming_none, naming_no_token, naming_rest, naming_no_name}
+use Rattle.script_lines.proofs.parsing.cut_behind.Goals as goal
+
+pub returns-in_default : goal.returns-in_default
+returns-in_default c = λ x w. naming_none c.args.tail.now x.0 (string_text x.1) (spaced_path x.2) c.in_default.ensures w.0
+
+pub returns-in_default-spaced_token : goal.returns-in_default-spaced_token
+returns-in_default-spaced_token c = λ x w.
+    naming_no_token c.args.tail.now c.in-Some.words.now c.in-Some.feature c.in-Some.ensures x.0 (string_text x.1) (spaced_path x.2) (path_unmarked x.2 w.1.in_range)
+    c.in_default-spaced_token.ensures w.0

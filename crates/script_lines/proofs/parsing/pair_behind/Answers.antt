@@ -1,0 +1,13 @@
+use Rattle.std.proofs.Common.{[], ◌∷◌}
+use Rattle.script_lines.proofs.CommandLemmas.{positions_none, positions_rest, positions_more}
+use Rattle.script_lines.proofs.parsing.pair_behind.Goals as goal
+
+pub returns-in_default : goal.returns-in_default
+returns-in_default c = λ x h. positions_none c.args.tail.now x.0 (x.1 ∷ []) c.in_default.ensures h
+
+pub returns-in-Some-position_behind : goal.returns-in-Some-position_behind
+returns-in-Some-position_behind c =
+    positions_more c.args.tail.now c.in-Some.first.1.now c.in-Some.first.0 (c.in-Some-position_behind.second ∷ []) c.in-Some.ensures c.in-Some-position_behind.ensures
+
+pub returns-in-None : goal.returns-in-None
+returns-in-None c = λ x h. c.in-None.ensures x.1 (positions_rest c.args.tail.now c.in-Some.first.1.now c.in-Some.first.0 x.0 (x.1 ∷ []) c.in-Some.ensures h)
