@@ -1,4 +1,4 @@
-use Rattle.std.proofs.Common.{sym, ◌∙◌, [], rules, subst}
+use Rattle.std.proofs.Common.{rules, subst}
 use Rattle.map_text.specs.Strings.{string_text}
 use Rattle.script_lines.specs.Commands.{Finds}
 use Rattle.script_lines.specs.Lines.{spaced_path}

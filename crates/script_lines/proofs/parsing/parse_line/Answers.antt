@@ -1,6 +1,6 @@
 use Rattle.std.proofs.Common.{rules, arith, length, ◌≤◌}
 use Rattle.script_lines.specs.Commands.{says_of}
-use Rattle.script_lines.proofs.CommandLemmas.{said_utf8, said_asked, says_nothing, too_long}
+use Rattle.script_lines.proofs.CommandLemmas.{said_utf8, said_asked}
 use Rattle.script_lines.proofs.parsing.parse_line.Goals as goal
 
 pub returns-in_default : goal.returns-in_default
