@@ -1,6 +1,6 @@
 // Classes of bytes.
 ghost use Rattle.std.specs.Prelude.{◌≡◌};
-ghost use Rattle.json_spans.specs.Bytes.{is_space, is_digit, is_hex, is_escape, is_tail, is_nonzero, is_e, is_sign, is_ascii, is_two, is_three, is_four, is_tail_e0, is_tail_ed, is_tail_f0, is_tail_f4};
+ghost use Rattle.json_spans.specs.Bytes.{is_space, is_digit, is_hex, is_escape, is_tail, is_nonzero, is_e, is_sign, is_ascii, is_unescaped, is_two, is_three, is_four, is_tail_e0, is_tail_ed, is_tail_f0, is_tail_f4};
 
 pub(crate) fn is_space(x: u8) -> bool
     ensures { result ≡ is_space x }
@@ -48,6 +48,12 @@ pub(crate) fn is_ascii(x: u8) -> bool
     ensures { result ≡ is_ascii x }
 {
     b' ' <= x && x <= 0x7f && x != b'"' && x != b'\\'
+}
+
+pub(crate) fn is_unescaped(x: u8) -> bool
+    ensures { result ≡ is_unescaped x }
+{
+    b' ' <= x && x != b'"' && x != b'\\'
 }
 
 // The first of two, three and four bytes, where the second may be any tail.
