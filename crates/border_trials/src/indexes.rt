@@ -1,9 +1,11 @@
-ghost use Rattle.std.specs.Prelude.{◌≡◌};
+ghost use Rattle.std.specs.Prelude.{◌≡◌, IfOk, OnOk, [], true};
 ghost use Rattle.std.specs.FinSet as set;
+ghost use Rattle.segment_index.specs.Candidates.{Gives};
+ghost use Rattle.segment_index.specs.Times.{times_by};
 
 use grid_geometry::{Pos, Rect, Seg};
 use linked_list_allocator::LocalHeap;
-use segment_index::{GridIndex, ListIndex, SegIndex};
+use segment_index::{GridIndex, ListIndex, SegIndex, TreeIndex};
 use std::alloc::{AllocError, Global};
 use std::process::Abort;
 use std::test::Fail;
@@ -27,7 +29,10 @@ fn rect<R: Abort>(rt: &R, least: (i64, i64), most: (i64, i64)) -> Rect {
 }
 
 /// What an index gives for a box.
-fn given<I: SegIndex>(alloc: Global, index: &I, rect: Rect) -> Result<Vec<Seg>, AllocError> {
+fn given<I: SegIndex>(alloc: Global, index: &I, rect: Rect) -> Result<Vec<Seg>, AllocError>
+    ensures { IfOk result
+        (λ out. Gives (I.held index.now) (times_by (I.cells index.now)) rect [] out.items true) }
+{
     let mut out = Vec::new(alloc);
     index.candidates(rect, &mut out)?;
     Ok(out)
@@ -61,6 +66,7 @@ fn a_segment_is_given_until_it_is_discarded(rt: HostRuntime) -> Result<(), Fail>
     let s = seg(&rt, (0, 0), (10, 10));
     let asked = rect(&rt, (10, 10), (20, 20));
     gives_once(&rt, rt.alloc(), ListIndex::new(rt.alloc()), s, asked)?;
+    gives_once(&rt, rt.alloc(), TreeIndex::new(rt.alloc(), None), s, asked)?;
     let grid = GridIndex::new(rt.alloc(), None)?;
     gives_once(&rt, rt.alloc(), grid, s, asked)
 }
@@ -77,7 +83,117 @@ fn segments_outside_the_extent_are_given(rt: HostRuntime) -> Result<(), Fail> {
         let s = seg(&rt, p, q);
         let grid = GridIndex::new(rt.alloc(), Some(extent))?;
         gives_once(&rt, rt.alloc(), grid, s, s.rect())?;
+        let tree = TreeIndex::new(rt.alloc(), Some(extent));
+        gives_once(&rt, rt.alloc(), tree, s, s.rect())?;
     }
+    Ok(())
+}
+
+/// The segment number k of some small ones near 0 0, long ones, and small ones far away.
+fn drawn<R: Abort>(rt: &R, k: u16) -> Seg {
+    let k = i64::from(k);
+    let x = k * 7919 % 1000;
+    let y = k * 104_729 % 1009;
+    match k % 8 {
+        0 => seg(rt, (x - 500, y), (x + 100_000, y - 1000)),
+        1 => seg(rt, (REACH - x, y - REACH), (REACH - x - 3, y - REACH + 1)),
+        _ => seg(rt, (x, y), (x + 1 + k % 5, y - k % 7)),
+    }
+}
+
+/// Whether an index holds a segment.
+fn is_held<I: SegIndex>(alloc: Global, index: &I, s: Seg) -> Result<bool, AllocError>
+    ensures { IfOk result (λ found. found ≡ set.contains (I.held index.now) s) }
+{
+    Ok(given(alloc, index, s.rect())?.as_slice().contains(&s))
+}
+
+/// Adds the first n drawn segments to two indexes that hold the same ones.
+fn add_drawn<R: Abort, I: SegIndex, J: SegIndex>(
+    rt: &R,
+    alloc: Global,
+    list: &mut I,
+    tree: &mut J,
+    n: u16,
+) -> Result<(), Fail>
+    requires { I.held list.old ≡ J.held tree.old }
+    ensures { OnOk result (I.held list.new ≡ J.held tree.new) }
+{
+    for k in 0..n {
+        let s = drawn(rt, k);
+        if !is_held(alloc, list, s)? {
+            list.add(s)?;
+            tree.add(s)?;
+        }
+    }
+    Ok(())
+}
+
+/// Takes the first n drawn segments out of two indexes that hold the same ones.
+fn discard_drawn<R: Abort, I: SegIndex, J: SegIndex>(
+    rt: &R,
+    alloc: Global,
+    list: &mut I,
+    tree: &mut J,
+    n: u16,
+) -> Result<(), Fail>
+    requires { I.held list.old ≡ J.held tree.old }
+{
+    for k in 0..n {
+        let s = drawn(rt, k);
+        if is_held(alloc, tree, s)? {
+            list.discard(s);
+            tree.discard(s);
+        }
+    }
+    Ok(())
+}
+
+/// How many segments two indexes give for a box, which are the same, the order left aside.
+fn give_alike<R: Abort, I: SegIndex, J: SegIndex>(
+    rt: &R,
+    alloc: Global,
+    one: &I,
+    other: &J,
+    asked: Rect,
+) -> Result<usize, Fail> {
+    let mut a = given(alloc, one, asked)?;
+    let mut b = given(alloc, other, asked)?;
+    a.sort_unstable();
+    b.sort_unstable();
+    assert!(rt; a.as_slice() == b.as_slice());
+    Ok(a.len())
+}
+
+/// Compares two indexes at the boxes of the first n drawn segments.
+fn compare<R: Abort, I: SegIndex, J: SegIndex>(
+    rt: &R,
+    alloc: Global,
+    list: &I,
+    tree: &J,
+    n: u16,
+) -> Result<(), Fail> {
+    for k in 0..n {
+        let _ = give_alike(rt, alloc, list, tree, drawn(rt, k).rect())?;
+    }
+    Ok(())
+}
+
+// nodes of one, two and more levels, in the window and outside it
+#[test]
+fn a_tree_gives_what_a_list_gives(rt: HostRuntime) -> Result<(), Fail> {
+    let alloc = rt.alloc();
+    let all = rect(&rt, (-REACH, -REACH), (REACH, REACH));
+    let mut list = ListIndex::new(alloc);
+    let mut tree = TreeIndex::new(alloc, Some(rect(&rt, (0, 0), (1000, 1000))));
+    add_drawn(&rt, alloc, &mut list, &mut tree, 1500)?;
+    let copied = tree.copy()?;
+    compare(&rt, alloc, &list, &copied, 300)?;
+    assert!(rt; give_alike(&rt, alloc, &list, &copied, all)? > 1000);
+    discard_drawn(&rt, alloc, &mut list, &mut tree, 1000)?;
+    compare(&rt, alloc, &list, &tree, 1200)?;
+    let left = give_alike(&rt, alloc, &list, &tree, all)?;
+    assert!(rt; left > 100 && left < 1000);
     Ok(())
 }
 

@@ -1,0 +1,103 @@
+//! An example: a map is edited from code, without a script. Two squares have a side in common. The
+//! upper corner that both have is moved; a move that would lead one border across another is refused;
+//! the first move is taken back; and the map is printed as TopoJSON, the common side once.
+#![tactic(auto)]
+
+ghost use Rattle.std.specs.Prelude.{IfSome};
+ghost use Rattle.undo_ring.specs.Commands.{IsSound};
+
+use arc_store::{EditFault, Map};
+use device_io::ToWriter;
+use grid_geometry::Pos;
+use segment_index::TreeIndex;
+use std::alloc::{AllocError, Global};
+use std::process::ExitCode;
+use std::str;
+use topo_reader::read;
+use topo_writer::write;
+use undo_ring::{Answer, Command, Editor};
+
+const SQUARES: &str =
+    "{\"type\":\"Topology\",\"objects\":{\"land\":{\"type\":\"GeometryCollection\",\
+\"geometries\":[{\"type\":\"Polygon\",\"id\":\"A\",\"arcs\":[[0,1]]},\
+{\"type\":\"Polygon\",\"id\":\"B\",\"arcs\":[[-1,2]]}]}},\"arcs\":[[[10,0],[10,10]],\
+[[10,10],[0,10],[0,0],[10,0]],[[10,0],[20,0],[20,10],[10,10]]]}";
+
+/// How many changes can be taken back.
+const DEPTH: usize = 10;
+
+/// An editor whose map is found through a tree, in the memory of the program.
+type MapEditor<'a> = Editor<'a, TreeIndex<Global>, Global>;
+
+/// An editor of the map of a text; `None` where the map does not open.
+fn opened(alloc: Global, text: &[u8]) -> Option<MapEditor<'_>> {
+    let Ok(raw) = read(alloc, alloc, text) else {
+        return None;
+    };
+    let index = TreeIndex::new(alloc, raw.extent());
+    let Ok(map) = Map::build(alloc, raw, index) else {
+        return None;
+    };
+    Editor::new(alloc, map, DEPTH).ok()
+}
+
+/// The command that moves a vertex; `None` where a coordinate is out of range.
+fn moving(from: (i64, i64), to: (i64, i64)) -> Option<Command>
+    ensures { IfSome result IsSound }
+{
+    Some(Command::Move(Pos::new(from.0, from.1)?, Pos::new(to.0, to.1)?))
+}
+
+/// What an editor says of a command.
+fn told(alloc: Global, said: Result<Answer, EditFault>) -> Result<String, AllocError> {
+    match said {
+        Ok(Answer::Area(twice)) => format!(in alloc; "twice the area is {twice}"),
+        Ok(_) => String::from_str(alloc, "done"),
+        Err(EditFault::Conflict { s, t }) => format!(in alloc;
+            "refused, as {s} and {t} would meet"
+        ),
+        Err(fault) => format!(in alloc; "refused: {fault:?}"),
+    }
+}
+
+/// The map as TopoJSON; `None` where there is no memory.
+fn written(alloc: Global, editor: &MapEditor<'_>) -> Option<Vec<u8>> {
+    let mut out = ToWriter::new(Vec::new(alloc));
+    write(alloc, editor.map(), &mut out).ok()?;
+    Some(out.writer)
+}
+
+/// Gives an editor a command, and prints what it says; `None` where that fails.
+fn give(rt: &HostRuntime, editor: &mut MapEditor<'_>, command: Command) -> Option<()>
+    requires { IsSound command }
+{
+    let said = told(rt.alloc(), editor.apply(command)).ok()?;
+    println!(rt; "{said}").ok()
+}
+
+/// Prints the map; `None` where that fails.
+fn show(rt: &HostRuntime, editor: &MapEditor<'_>) -> Option<()> {
+    let text = written(rt.alloc(), editor)?;
+    let text = str::from_utf8(text.as_slice()).ok()?;
+    println!(rt; "{text}").ok()
+}
+
+/// Runs the example; `None` where memory is wanting or nothing can be printed.
+fn run(rt: &HostRuntime) -> Option<()> {
+    let mut editor = opened(rt.alloc(), SQUARES.as_bytes())?;
+    give(rt, &mut editor, Command::Area(0))?;
+    give(rt, &mut editor, moving((10, 10), (12, 12))?)?;
+    give(rt, &mut editor, Command::Area(0))?;
+    give(rt, &mut editor, moving((0, 0), (15, 5))?)?;
+    if editor.undo().is_ok() {
+        println!(rt; "taken back").ok()?;
+    }
+    show(rt, &editor)
+}
+
+fn main(rt: HostRuntime) -> ExitCode {
+    match run(&rt) {
+        Some(()) => ExitCode::from(0),
+        None => ExitCode::from(1),
+    }
+}
