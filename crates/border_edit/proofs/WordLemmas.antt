@@ -35,3 +35,9 @@ pub depth_is : (a : App) (m : ArgMatches) (words : List (List ℕ)) (id key : Li
     → IsDepth (option_map (λ s. s.now) given) n → IsDepth (text_of id words) n
 depth_is a m words id key given n is has same read depth =
     subst (λ (o : Option (List ℕ)). IsDepth o n) (read_text a m words id key given is has same read) depth
+
+pub refused_is : (a : App) (m : ArgMatches) (words : List (List ℕ)) (id key : List ℕ) (given : Option (Bor (List ℕ))) (copy : Option (List ℕ))
+    → a ≡ program → HasMatchesOf a words m → key ≡ id → option_map (λ s. s.now) given ≡ first_value (found_of m) key
+    → copy ≡ option_map (λ s. s.now) given → copy ≡ text_of id words
+refused_is a m words id key given copy is has same read copied =
+    copied ∙ read_text a m words id key given is has same read

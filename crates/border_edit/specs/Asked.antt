@@ -4,7 +4,8 @@ use Rattle.std.specs.Str.Parse.{IsNumeral, digits_value, without_leading_plus}
 use Rattle.clap.specs.Words.{App, Rule, new_app, new_rule, with_rule, first_of, matches_of}
 use Rattle.clap.specs.declared.builder.action.ArgAction.TheVariants.{Set}
 
--- MAP and SCRIPT stand in their places, and --out FILE is required too; --undo N is not
+-- MAP and SCRIPT stand in their places, and --out FILE is required too; --undo N and --refused FILE2
+-- are not
 abbrev pub map_rule : Rule
 map_rule = record (new_rule (codes "MAP")) { required = true; action = Some Set }
 
@@ -26,10 +27,21 @@ undo_rule = record (new_rule (codes "undo")) {
   action = Some Set;
 }
 
+abbrev pub refused_rule : Rule
+refused_rule = record (new_rule (codes "refused")) {
+  long = Some (codes "refused");
+  value_names = 1;
+  action = Some Set;
+}
+
+-- a program that tells its version
+abbrev pub with_version : App → App
+with_version a = record a { top = record a.top { has_version = true } }
+
 abbrev pub program : App
 program =
-    with_rule (with_rule (with_rule (with_rule (new_app (codes "border_edit")) map_rule)
-    script_rule) out_rule) undo_rule
+    with_rule (with_rule (with_rule (with_rule (with_rule (with_version (new_app (codes "border_edit")))
+    map_rule) script_rule) out_rule) undo_rule) refused_rule
 
 -- the value that clap finds for an argument among the words, the program's name first
 abbrev pub text_of : List ℕ → List (List ℕ) → Option (List ℕ)

@@ -5,9 +5,10 @@ ghost use Rattle.clap.specs.Words.{app_of};
 ghost use Rattle.border_edit.specs.Asked.{program, text_of, IsDepth};
 
 use crate::asked::Words;
+use crate::help::{ABOUT, LINES, VERSION};
 use clap::error::ErrorKind;
 use clap::{Arg, ArgAction, Command};
-use std::alloc::Global;
+use std::alloc::{AllocError, Global};
 
 /// How many changes can be taken back where the words say nothing of it.
 const DEPTH: usize = 100;
@@ -24,7 +25,7 @@ fn command<'a>(alloc: Global) -> Result<Command<'a>, clap::Error>
         .required(true)
         .action(ArgAction::Set);
     let script = Arg::new(alloc, "SCRIPT")
-        .help("The script of editing commands, one a line")
+        .help("The script of editing commands, one a line; - is standard input")
         .required(true)
         .action(ArgAction::Set);
     let out = Arg::new(alloc, "out")
@@ -38,14 +39,20 @@ fn command<'a>(alloc: Global) -> Result<Command<'a>, clap::Error>
         .value_name("N")
         .help("How many changes can be taken back, from 1 to 1000; 100 if absent")
         .action(ArgAction::Set);
+    let refused = Arg::new(alloc, "refused")
+        .long("refused")
+        .value_name("FILE2")
+        .help("The file that each refused or bad line is written in, with its number and answer")
+        .action(ArgAction::Set);
     let command = Command::new(alloc, "border_edit")
-        .about(
-            "Edits the shared borders of a TopoJSON map by a script, and prints an answer a line",
-        )
+        .about(ABOUT)
+        .version(VERSION)
+        .after_help(LINES)
         .arg(map)?
         .arg(script)?
         .arg(out)?
-        .arg(undo)?;
+        .arg(undo)?
+        .arg(refused)?;
     Ok(command)
 }
 
@@ -64,7 +71,22 @@ fn depth_of(given: Option<&str>) -> Option<usize>
     }
 }
 
-/// Reads the words, the program's name first. A request for help is an error here too.
+/// A copy of a text, where there is one.
+fn copied(alloc: Global, given: Option<&str>) -> Result<Option<String>, AllocError>
+    ensures { IfOk result (λ copy.
+        option_map string_bytes copy ≡ option_map (λ text. text.now) given.entry) }
+{
+    match given {
+        Some(text) => {
+            let copy = String::from_str(alloc, text)?;
+            Ok(Some(copy))
+        }
+        None => Ok(None),
+    }
+}
+
+/// Reads the words, the program's name first. A request for help, or for the version, is an error
+/// here too.
 pub(crate) fn words(alloc: Global, given: &[String]) -> Result<Words, clap::Error>
     ensures map { IfOk result (λ words. string_bytes words.map
         ≡ unwrap_or (text_of (codes "MAP") (map string_bytes given.now)) []) }
@@ -74,6 +96,8 @@ pub(crate) fn words(alloc: Global, given: &[String]) -> Result<Words, clap::Erro
         ≡ unwrap_or (text_of (codes "out") (map string_bytes given.now)) []) }
     ensures depth { IfOk result (λ words.
         IsDepth (text_of (codes "undo") (map string_bytes given.now)) words.depth) }
+    ensures refused { IfOk result (λ words. option_map string_bytes words.refused
+        ≡ text_of (codes "refused") (map string_bytes given.now)) }
 {
     let mut command = command(alloc)?;
     let matches = command.try_get_matches_from_mut(given)?;
@@ -87,5 +111,6 @@ pub(crate) fn words(alloc: Global, given: &[String]) -> Result<Words, clap::Erro
         script: String::from_str(alloc, matches.get_str("SCRIPT").unwrap_or(""))?,
         out: String::from_str(alloc, matches.get_str("out").unwrap_or(""))?,
         depth,
+        refused: copied(alloc, matches.get_str("refused"))?,
     })
 }

@@ -1,14 +1,31 @@
 //! How the program ends: with which status, with what in FILE, and with which line on standard error.
-ghost use Rattle.std.specs.Prelude.{◌≡◌, None, Some, option_map, OnOk, OnErr, IfErr, IsSomeAnd};
+ghost use Rattle.std.specs.Prelude.{◌≡◌, None, Some, Err, true, false, option_map, OnOk, OnErr, IfErr, IsSomeAnd};
 ghost use Rattle.std.specs.IoError.{error_kind};
 ghost use Rattle.border_edit.specs.Status.{status_of};
 ghost use Rattle.border_edit.specs.Stops.{stop_status};
-ghost use Rattle.border_edit.specs.Endings.{Tells, stop_line, unsaved_line};
+ghost use Rattle.border_edit.specs.Endings.{Tells, stop_line, unsaved_line, unlisted_line};
+ghost use Rattle.script_runner.specs.declared.fault.RunFault.TheVariants.{OutOfMemory};
 
 use crate::diagnostic::Diagnostic;
 use crate::stop::{Stop, status};
 use script_runner::{RunFault, Summary};
 use std::io::Error;
+
+/// What a run came to whose script and refusals were kept: where there was no memory to keep them, the
+/// run ended for that.
+pub fn unless_short<'a>(
+    outcome: Result<Summary, RunFault<'a>>,
+    is_short: bool,
+) -> Result<Summary, RunFault<'a>>
+    ensures short { is_short ≡ true → result ≡ Err OutOfMemory }
+    ensures whole { is_short ≡ false → result ≡ outcome }
+{
+    if is_short {
+        Err(RunFault::OutOfMemory)
+    } else {
+        outcome
+    }
+}
 
 /// How the program ends.
 #[derive(Clone, Copy, Debug)]
@@ -62,6 +79,17 @@ impl<'a> Ending<'a> {
         }
     }
 
+    /// The same ending, with a fault of a file that was to be written.
+    fn with_fault(self, line: Diagnostic<'a>) -> Ending<'a>
+        ensures { result ≡ record self.entry { status = 3; line = Some line } }
+    {
+        Ending {
+            status: 3,
+            file: self.file,
+            line: Some(line),
+        }
+    }
+
     /// The ending once FILE was written, or could not be, whatever the answers were.
     pub fn once_written(self, written: Result<(), Error>) -> Ending<'a>
         ensures written { OnOk written (result ≡ self.entry) }
@@ -70,11 +98,19 @@ impl<'a> Ending<'a> {
     {
         match written {
             Ok(()) => self,
-            Err(error) => Ending {
-                status: 3,
-                file: self.file,
-                line: Some(Diagnostic::unsaved(error)),
-            },
+            Err(error) => self.with_fault(Diagnostic::unsaved(error)),
+        }
+    }
+
+    /// The ending once FILE2 was written too, or could not be. FILE holds the map in both cases.
+    pub fn once_listed(self, listed: Result<(), Error>) -> Ending<'a>
+        ensures listed { OnOk listed (result ≡ self.entry) }
+        ensures status { OnErr listed (result.status ≡ 3) }
+        ensures told { IfErr listed (λ error. result.line ≡ Some (unlisted_line (error_kind error))) }
+    {
+        match listed {
+            Ok(()) => self,
+            Err(error) => self.with_fault(Diagnostic::unlisted(error)),
         }
     }
 }

@@ -7,6 +7,11 @@ mod command_line;
 mod diagnostic;
 mod editing;
 mod ending;
+mod help;
+mod kept_script;
+mod listing;
+mod noted_answers;
+mod notes;
 mod stop;
 
 use asked::Words;
@@ -32,7 +37,8 @@ fn main(rt: HostRuntime) -> ExitCode {
         Ok(words) => edit(&rt, &words, rt.stdout(), &mut rt.stderr()),
         Err(stop) => {
             if let Stop::Words(error) = &stop {
-                // Help goes to standard output, and what is wrong with the words to standard error.
+                // Help and the version go to standard output, and what is wrong with the words to standard
+                // error.
                 let _ = error.print(&rt);
             }
             end(Ending::of_stop(&stop), &mut rt.stderr())
