@@ -23,11 +23,9 @@ const BEFORE: &str =
 
 /// The squares, the second with a text that is kept: it has a line feed, and what could end an object
 /// or a string stands inside a string.
-const NOTED: &str = concat!(
-    r#"{"type":"Topology","objects":{"land":{"type":"GeometryCollection","geometries":[{"type":"Polygon","id":"A","arcs":[[0,1]]},{"type":"Polygon","id":"B","properties":{"note":"#,
-    "\n",
-    r#""}]\"}\\","more":"{["},"arcs":[[2,-1]]}]}},"arcs":[[[10,0],[10,10]],[[10,10],[0,10],[0,0],[10,0]],[[10,0],[20,0],[20,10],[10,10]]]}"#
-);
+const NOTED: &str =
+    r#"{"type":"Topology","objects":{"land":{"type":"GeometryCollection","geometries":[{"type":"Polygon","id":"A","arcs":[[0,1]]},{"type":"Polygon","id":"B","properties":{"note":
+"}]\"}\\","more":"{["},"arcs":[[2,-1]]}]}},"arcs":[[[10,0],[10,10]],[[10,10],[0,10],[0,0],[10,0]],[[10,0],[20,0],[20,10],[10,10]]]}"#;
 
 /// A script with lines that have no answer, lines that are refused and lines that are bad.
 const MIXED: &str =

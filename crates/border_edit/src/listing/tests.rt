@@ -1,19 +1,15 @@
 //! Which line of a script each refusal is listed with.
-ghost use Rattle.std.specs.Prelude.{◌≡◌, false};
-
 use super::list_refused;
 use crate::notes::Notes;
 use std::alloc::Global;
 use std::test::Fail;
 
-/// What is listed of a script with these answers, which come in pieces of so many bytes.
-fn list_of(alloc: Global, script: &[u8], answers: &[u8], piece: usize) -> Result<Vec<u8>, Fail>
-    requires { 0 < piece }
-{
+/// What is listed of a script with these answers, which come in two pieces.
+fn list_of(alloc: Global, script: &[u8], answers: &[u8]) -> Result<Vec<u8>, Fail> {
     let mut notes = Notes::new(alloc);
-    for piece in answers.chunks(piece) {
-        notes.take(piece)?;
-    }
+    let (front, back) = answers.split_at(answers.len() / 2);
+    notes.take(front)?;
+    notes.take(back)?;
     let mut list = Vec::new(alloc);
     list_refused(alloc, script, notes.refusals(), &mut list)?;
     Ok(list)
@@ -53,10 +49,8 @@ fn each_refusal_stands_with_its_line(rt: HostRuntime) -> Result<(), Fail> {
         ),
     ];
     for (script, answers, text) in rows {
-        for piece in [1, 3, 1000] {
-            let list = list_of(rt.alloc(), script, answers, piece)?;
-            assert_eq!(rt; list.as_slice(), text, "{script:?}");
-        }
+        let list = list_of(rt.alloc(), script, answers)?;
+        assert_eq!(rt; list.as_slice(), text, "{script:?}");
     }
     Ok(())
 }
@@ -68,24 +62,23 @@ fn comment(alloc: Global, length: usize, ending: &[u8]) -> Result<Vec<u8>, Fail>
     Ok(line)
 }
 
-/// A comment is skipped up to 8,192 bytes, its carriage return among them, and a longer one is bad.
+/// A comment is skipped up to 8,192 bytes, its carriage return among them, and a longer one is bad. Beside
+/// the line twelve bytes are listed.
 #[test]
 fn a_long_line_is_cut(rt: HostRuntime) -> Result<(), Fail> {
     let rows = [
-        (8192, b"\n".as_slice(), 2),
-        (8191, b"\r\n", 2),
-        (8192, b"\r\n", 1),
-        (8193, b"\n", 1),
-        (9000, b"\n", 1),
+        (8192, b"\n".as_slice(), b'2', 13),
+        (8191, b"\r\n", b'2', 13),
+        (8192, b"\r\n", b'1', 8204),
+        (8193, b"\n", b'1', 8204),
+        (9000, b"\n", b'1', 8204),
     ];
-    for (length, ending, number) in rows {
+    for (length, ending, number, listed) in rows {
         let mut script = comment(rt.alloc(), length, ending)?;
         script.extend_from_slice(b"x\n")?;
-        let list = list_of(rt.alloc(), script.as_slice(), b"bad line\n", 1000)?;
-        let kept = if number == 1 { length.min(8192) } else { 1 };
-        // A number of one digit, the answer, and three bytes between and behind them.
-        assert_eq!(rt; list.len(), 1 + 8 + 3 + kept, "{length}");
-        assert_eq!(rt; list.first().copied(), Some(b'0' + number), "{length}");
+        let list = list_of(rt.alloc(), script.as_slice(), b"bad line\n")?;
+        assert_eq!(rt; list.len(), listed, "{length}");
+        assert_eq!(rt; list.first().copied(), Some(number), "{length}");
     }
     Ok(())
 }
