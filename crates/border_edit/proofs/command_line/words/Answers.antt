@@ -25,4 +25,4 @@ returns-clause-depth c =
 pub returns-clause-refused : goal.returns-clause-refused
 returns-clause-refused c =
     refused_is _ c.in_ok-matches.matches _ (codes "refused") _ c.get_str-5.result _
-    c.in_ok-command.ensures c.in_ok-matches.ensures.ok.2 (search rules) c.get_str-5.ensures c.in_ok-copied.ensures.ok
+    c.in_ok-command.ensures c.in_ok-matches.ensures.ok.2 (search rules) c.get_str-5.ensures c.in_ok-copied.ensures
