@@ -2,7 +2,7 @@
 ghost use Rattle.std.specs.Prelude.{◌≡◌, false};
 
 use crate::asked::Words;
-use crate::ending::{Ending, unless_short};
+use crate::ending::Ending;
 use crate::kept_script::KeptScript;
 use crate::listing::list_refused;
 use crate::noted_answers::NotedAnswers;
@@ -113,8 +113,8 @@ fn run_listed<R: Source + Drop, W: Sink + Drop, E: Write>(
         &mut answers,
         &mut saved,
     );
-    let outcome = unless_short(outcome, script.is_short() || answers.is_short());
     let ending = Ending::of_run(&outcome, saved.writer.as_slice());
+    let ending = ending.unless_short(script.is_short() || answers.is_short());
     let ending = save(rt, ending, words.out.as_str());
     let ending = list(rt, ending, path, script.kept(), answers.refusals());
     end(ending, errors)

@@ -1,31 +1,14 @@
 //! How the program ends: with which status, with what in FILE, and with which line on standard error.
-ghost use Rattle.std.specs.Prelude.{◌≡◌, None, Some, Err, true, false, option_map, OnOk, OnErr, IfErr, IsSomeAnd};
+ghost use Rattle.std.specs.Prelude.{◌≡◌, None, Some, true, false, option_map, OnOk, OnErr, IfErr, IsSomeAnd};
 ghost use Rattle.std.specs.IoError.{error_kind};
 ghost use Rattle.border_edit.specs.Status.{status_of};
 ghost use Rattle.border_edit.specs.Stops.{stop_status};
 ghost use Rattle.border_edit.specs.Endings.{Tells, stop_line, unsaved_line, unlisted_line};
-ghost use Rattle.script_runner.specs.declared.fault.RunFault.TheVariants.{OutOfMemory};
 
 use crate::diagnostic::Diagnostic;
 use crate::stop::{Stop, status};
 use script_runner::{RunFault, Summary};
 use std::io::Error;
-
-/// What a run came to whose script and refusals were kept: where there was no memory to keep them, the
-/// run ended for that.
-pub fn unless_short<'a>(
-    outcome: Result<Summary, RunFault<'a>>,
-    is_short: bool,
-) -> Result<Summary, RunFault<'a>>
-    ensures short { is_short ≡ true → result ≡ Err OutOfMemory }
-    ensures whole { is_short ≡ false → result ≡ outcome }
-{
-    if is_short {
-        Err(RunFault::OutOfMemory)
-    } else {
-        outcome
-    }
-}
 
 /// How the program ends.
 #[derive(Clone, Copy, Debug)]
@@ -57,6 +40,25 @@ impl<'a> Ending<'a> {
             status: status(outcome),
             file,
             line,
+        }
+    }
+
+    /// The ending where the script and its refusals were kept: where there was no memory to keep them, the
+    /// run ended for that, and FILE stays as it is.
+    pub fn unless_short(self, is_short: bool) -> Ending<'a>
+        ensures whole { is_short ≡ false → result ≡ self.entry }
+        ensures status { is_short ≡ true → result.status ≡ 3 }
+        ensures kept { is_short ≡ true → result.file ≡ None }
+        ensures told { is_short ≡ true → result.line ≡ Some Diagnostic.NoMemory }
+    {
+        if is_short {
+            Ending {
+                status: 3,
+                file: None,
+                line: Some(Diagnostic::NoMemory),
+            }
+        } else {
+            self
         }
     }
 
