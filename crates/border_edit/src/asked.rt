@@ -14,6 +14,8 @@ pub struct Words {
     pub depth: usize,
     /// The path of the file that the refused lines are written in.
     pub refused: Option<String>,
+    /// Whether standard error, where it is a terminal, is told what is begun.
+    pub progress: bool,
     ghost least: { 1 ≤ depth },
     ghost most: { depth ≤ 1000 },
 }

@@ -1,8 +1,8 @@
 //! The words of the program.
-ghost use Rattle.std.specs.Prelude.{◌≡◌, ◌≤◌, ℕ, [], map, codes, string_bytes, unwrap_or};
-ghost use Rattle.std.specs.Prelude.{option_map, IfOk, MatchOption};
+ghost use Rattle.std.specs.Prelude.{◌≡◌, ◌≢◌, ◌≤◌, ◌↔◌, ℕ, [], Some, map, codes, string_bytes, unwrap_or};
+ghost use Rattle.std.specs.Prelude.{option_map, IfOk, IsTrue, MatchOption};
 ghost use Rattle.clap.specs.Words.{app_of};
-ghost use Rattle.border_edit.specs.Asked.{program, text_of, IsDepth};
+ghost use Rattle.border_edit.specs.Asked.{program, text_of, flag_of, IsDepth, IsFlag};
 
 use crate::asked::Words;
 use crate::help::{ABOUT, LINES, VERSION};
@@ -44,6 +44,10 @@ fn command<'a>(alloc: Global) -> Result<Command<'a>, clap::Error>
         .value_name("FILE2")
         .help("The file that each refused or bad line is written in, with its number and answer")
         .action(ArgAction::Set);
+    let progress = Arg::new(alloc, "progress")
+        .long("progress")
+        .help("Tell on standard error, where that is a terminal, what is begun")
+        .action(ArgAction::SetTrue);
     let command = Command::new(alloc, "border_edit")
         .about(ABOUT)
         .version(VERSION)
@@ -52,7 +56,8 @@ fn command<'a>(alloc: Global) -> Result<Command<'a>, clap::Error>
         .arg(script)?
         .arg(out)?
         .arg(undo)?
-        .arg(refused)?;
+        .arg(refused)?
+        .arg(progress)?;
     Ok(command)
 }
 
@@ -85,8 +90,18 @@ fn copied(alloc: Global, given: Option<&str>) -> Result<Option<String>, AllocErr
     }
 }
 
+/// Whether FILE2 is given, and is FILE: their paths are the same text.
+fn is_file(refused: Option<&str>, out: &str) -> bool
+    ensures { IsTrue result ↔ (option_map (λ text. text.now) refused.entry ≡ Some out.now) }
+{
+    match refused {
+        Some(path) => path == out,
+        None => false,
+    }
+}
+
 /// Reads the words, the program's name first. A request for help, or for the version, is an error
-/// here too.
+/// here too, and so are words that name one path for FILE and FILE2.
 pub(crate) fn words(alloc: Global, given: &[String]) -> Result<Words, clap::Error>
     ensures map { IfOk result (λ words. string_bytes words.map
         ≡ unwrap_or (text_of (codes "MAP") (map string_bytes given.now)) []) }
@@ -98,6 +113,10 @@ pub(crate) fn words(alloc: Global, given: &[String]) -> Result<Words, clap::Erro
         IsDepth (text_of (codes "undo") (map string_bytes given.now)) words.depth) }
     ensures refused { IfOk result (λ words. option_map string_bytes words.refused
         ≡ text_of (codes "refused") (map string_bytes given.now)) }
+    ensures apart { IfOk result (λ words.
+        option_map string_bytes words.refused ≢ Some (string_bytes words.out)) }
+    ensures progress { IfOk result (λ words.
+        IsFlag (flag_of (codes "progress") (map string_bytes given.now)) words.progress) }
 {
     let mut command = command(alloc)?;
     let matches = command.try_get_matches_from_mut(given)?;
@@ -105,12 +124,19 @@ pub(crate) fn words(alloc: Global, given: &[String]) -> Result<Words, clap::Erro
         let message = "--undo takes a whole number from 1 to 1000";
         return Err(command.error(ErrorKind::ValueValidation, message)?);
     };
-    // A parse gives the first three, since they are required.
+    // A parse gives MAP, SCRIPT and FILE, since they are required.
+    let out = matches.get_str("out").unwrap_or("");
+    let refused = matches.get_str("refused");
+    if is_file(refused, out) {
+        let message = "--out and --refused name the same file";
+        return Err(command.error(ErrorKind::ArgumentConflict, message)?);
+    }
     Ok(Words {
         map: String::from_str(alloc, matches.get_str("MAP").unwrap_or(""))?,
         script: String::from_str(alloc, matches.get_str("SCRIPT").unwrap_or(""))?,
-        out: String::from_str(alloc, matches.get_str("out").unwrap_or(""))?,
+        out: String::from_str(alloc, out)?,
         depth,
-        refused: copied(alloc, matches.get_str("refused"))?,
+        refused: copied(alloc, refused)?,
+        progress: matches.get_flag("progress"),
     })
 }

@@ -30,6 +30,13 @@ fn map_bytes(rt: &HostRuntime, path: &str) -> Result<Vec<u8>, Stop> {
     Ok(bytes)
 }
 
+/// Tells what is begun, and with which file, where the words ask for it.
+fn tell<E: Write>(words: &Words, begun: &str, path: &str, errors: &mut E) {
+    if words.progress {
+        let _ = writeln!(errors, "{begun} {path}");
+    }
+}
+
 /// Says the line of an ending, and answers its status.
 pub(crate) fn end<E: Write>(ending: Ending<'_>, errors: &mut E) -> u8 {
     if let Some(line) = ending.line {
@@ -39,11 +46,18 @@ pub(crate) fn end<E: Write>(ending: Ending<'_>, errors: &mut E) -> u8 {
 }
 
 /// Writes FILE where the ending has something for it.
-fn save<'a>(rt: &HostRuntime, ending: Ending<'a>, file: &str) -> Ending<'a> {
-    match ending.file {
-        Some(text) => ending.once_written(fs::write(rt, file, text)),
-        None => ending,
-    }
+fn save<'a, E: Write>(
+    rt: &HostRuntime,
+    words: &Words,
+    ending: Ending<'a>,
+    errors: &mut E,
+) -> Ending<'a> {
+    let Some(text) = ending.file else {
+        return ending;
+    };
+    let file = words.out.as_str();
+    tell(words, "saving", file, errors);
+    ending.once_written(fs::write(rt, file, text))
 }
 
 /// Writes the refused lines of a script in FILE2.
@@ -84,7 +98,7 @@ fn run_script<R: Source, W: Sink, E: Write>(
     let mut saved = ToWriter::new(Vec::new(alloc));
     let outcome = run(alloc, alloc, map, script, words.depth, answers, &mut saved);
     let ending = Ending::of_run(&outcome, saved.writer.as_slice());
-    end(save(rt, ending, words.out.as_str()), errors)
+    end(save(rt, words, ending, errors), errors)
 }
 
 /// The same, and writes the refused lines in FILE2 where FILE was written.
@@ -115,7 +129,7 @@ fn run_listed<R: Source + Drop, W: Sink + Drop, E: Write>(
     );
     let ending = Ending::of_run(&outcome, saved.writer.as_slice());
     let ending = ending.unless_short(script.is_short() || answers.is_short());
-    let ending = save(rt, ending, words.out.as_str());
+    let ending = save(rt, words, ending, errors);
     let ending = list(rt, ending, path, script.kept(), answers.refusals());
     end(ending, errors)
 }
@@ -147,6 +161,7 @@ fn edit_files<W: Write + Drop, E: Write>(
     answers: W,
     errors: &mut E,
 ) -> Result<u8, Stop> {
+    tell(words, "opening", words.map.as_str(), errors);
     let map = map_bytes(rt, words.map.as_str())?;
     if words.script.as_str() == STANDARD_INPUT {
         return edit_by(rt, words, map.as_slice(), rt.stdin(), answers, errors);

@@ -41,6 +41,7 @@ fn a_map_a_script_and_a_file_are_taken(rt: HostRuntime) -> Result<(), Fail> {
         assert_eq!(rt; words.out.as_str(), "saved.json");
         assert_eq!(rt; words.depth, 100);
         assert!(rt; words.refused.is_none());
+        assert!(rt; !words.progress);
     }
     Ok(())
 }
@@ -70,7 +71,7 @@ fn the_depth_of_undo_is_taken(rt: HostRuntime) -> Result<(), Fail> {
 }
 
 #[test]
-fn standard_input_and_a_list_are_taken(rt: HostRuntime) -> Result<(), Fail> {
+fn standard_input_a_list_and_progress_are_taken(rt: HostRuntime) -> Result<(), Fail> {
     let table = [
         [
             "border_edit",
@@ -80,14 +81,23 @@ fn standard_input_and_a_list_are_taken(rt: HostRuntime) -> Result<(), Fail> {
             "f",
             "--refused",
             "list.txt",
+            "--progress",
         ]
         .as_slice(),
-        &["border_edit", "--refused=list.txt", "m", "-", "--out=f"],
+        &[
+            "border_edit",
+            "--progress",
+            "--refused=list.txt",
+            "m",
+            "-",
+            "--out=f",
+        ],
     ];
     for line in table {
         let given = given(rt.alloc(), line)?;
         let words = words(rt.alloc(), given.as_slice())?;
         assert_eq!(rt; words.script.as_str(), "-");
+        assert!(rt; words.progress);
         match &words.refused {
             Some(list) => assert_eq!(rt; list.as_str(), "list.txt"),
             None => assert!(rt; false, "{line:?}"),
@@ -152,6 +162,11 @@ fn all_other_words_stop_the_program(rt: HostRuntime) -> Result<(), Fail> {
                 "--refused",
                 "b",
             ],
+            64,
+        ),
+        // FILE2 is FILE.
+        (
+            &["border_edit", "m", "s", "--out", "f", "--refused", "f"],
             64,
         ),
         (&["border_edit", "--help"], 0),

@@ -128,6 +128,7 @@ fn words(alloc: Global, folder: &str, files: [&str; 3]) -> Result<Words, AllocEr
         out: path(alloc, folder, out)?,
         depth: 100,
         refused: None,
+        progress: false,
     })
 }
 
@@ -340,6 +341,37 @@ fn as_many_changes_are_kept_as_the_words_say(rt: HostRuntime) -> Result<(), Fail
     holds(&rt, &rt, folder.as_str(), "saved.json", SQUARES)?;
     words.depth = 1;
     assert_eq!(rt; edit(&rt, &words, unread(rt.alloc()), &mut errors), 1);
+    fs::remove_dir_all(&rt, folder.as_str())?;
+    Ok(())
+}
+
+/// Where the words ask for it, what is begun is told before it is done or fails, and the rest is as ever.
+fn told(rt: &HostRuntime, test: &impl Abort, folder: &str) -> Result<(), Fail> {
+    let opening = format!(in rt.alloc(); "opening {folder}/")?;
+    let opening = opening.as_str();
+    let saving = format!(in rt.alloc(); "saving {folder}/out.json\n")?;
+    let saving = saving.as_str();
+    let rows = [
+        ("squares.json", 1, saving),
+        ("cut.json", 2, "open: not json at 1\n"),
+        ("missing.json", 3, "map fault\n"),
+    ];
+    for (map, status, said) in rows {
+        let mut words = words(rt.alloc(), folder, [map, "refused.txt", "out.json"])?;
+        words.progress = true;
+        let said = format!(in rt.alloc(); "{opening}{map}\n{said}")?;
+        let mut errors: Vec<u8> = Vec::new(rt.alloc());
+        let ended = edit(rt, &words, unread(rt.alloc()), &mut errors);
+        assert_eq!(test; ended, status, "{map}");
+        assert_eq!(test; errors.as_slice(), said.as_bytes(), "{map}");
+    }
+    holds(rt, test, folder, "out.json", MOVED)
+}
+
+#[test]
+fn what_is_begun_is_told(rt: HostRuntime) -> Result<(), Fail> {
+    let folder = new_folder(&rt, "told")?;
+    told(&rt, &rt, folder.as_str())?;
     fs::remove_dir_all(&rt, folder.as_str())?;
     Ok(())
 }
