@@ -2,16 +2,19 @@
 """Runs the built program border_edit to each of its ends, and looks at FILE before and after.
 
 The tests of the crate call what stands below `main`. Here the program itself is called: with words, on
-files, on devices that are full, and with little memory. Compared are the status, the answers, what
-stands on standard error, and what FILE holds at the end, and FILE2 where one is named.
+files, on devices that are full, with little memory, and with a terminal as standard error. Compared are
+the status, the answers, what stands on standard error, and what FILE holds at the end, and FILE2 where
+one is named.
 
 The program has to stand already (`rt ci` leaves it); another one can be named. There is one line for
 each end that differs; the status is 0 where none does.
 """
 import argparse
 import collections
+import contextlib
 import os
 import pathlib
+import pty
 import re
 import resource
 import subprocess
@@ -32,7 +35,7 @@ VERSION = "border_edit " + re.search('VERSION: &str = "(.*)"', HELP).group(1) + 
 # What stands on standard error, or standard output, where its text is not fixed: something.
 SOME = object()
 
-Row = collections.namedtuple("Row", "what words status answers said file output memory given listed", defaults=(None,) * 4)
+Row = collections.namedtuple("Row", "what words status answers said file output memory given listed terminal", defaults=(None,) * 5)
 
 FILES = {
     "squares.json": (DATA / "two_squares.json").read_text(),
@@ -100,6 +103,16 @@ def ends():
         for list_file in ".", "none/list.txt":
             yield Row(f"{list_file}, {script}", listing(script, list_file), 3, SOME, "refused fault\n", SAVED)
     yield Row("a full list", listing("mixed.txt", "/dev/full"), 3, SOME, "refused fault\n", SAVED)
+    yield Row("one FILE for both", listing("mixed.txt", "saved.json"), 64, "", SOME, KEPT)
+
+    progress = words("squares.json", "refused.txt", "saved.json", "--progress")
+    answers, opening, saving = "refused no vertex\n200\n", "opening squares.json\n", "saving saved.json\n"
+    yield Row("progress", progress, 1, answers, opening + saving, SAVED, terminal=True)
+    yield Row("progress to no terminal", progress, 1, answers, "", SAVED)
+    yield Row("no progress", progress[:-1], 1, answers, "", SAVED, terminal=True)
+    unopened = words("cut.json", "refused.txt", "saved.json", "--progress")
+    said = "opening cut.json\nopen: not json at 1\n"
+    yield Row("progress, not opened", unopened, 2, "", said, KEPT, terminal=True)
 
 
 def put_files(folder):
@@ -122,23 +135,44 @@ def file_ended(folder):
     return SAVED if text.startswith('{"type":"Topology"') and text.endswith("]}") else text
 
 
-def faults(program, row):
-    """What differs of an end, or None."""
+def shown(terminal):
+    """What a terminal was sent, once nothing writes to it; it puts a carriage return before each line feed."""
+    pieces = []
+    with open(terminal, "rb", buffering=0) as sent, contextlib.suppress(OSError):  # the end is an error on Linux
+        while piece := sent.read(1 << 16):
+            pieces.append(piece)
+    return b"".join(pieces).decode().replace("\r\n", "\n")
+
+
+def ran(program, row, folder):
+    """The status of a run, and what stands on standard error: a pipe, or a terminal."""
     def limit():
         if row.memory:
             resource.setrlimit(resource.RLIMIT_AS, (row.memory, row.memory))
 
+    how = {"input": FILES[row.given].encode() if row.given else b"", "cwd": folder, "timeout": 60, "preexec_fn": limit}
+    with open(row.output or folder / "answers", "wb") as output:
+        if not row.terminal:
+            done = subprocess.run([program, *row.words], stdout=output, stderr=subprocess.PIPE, **how)
+            return done.returncode, done.stderr.decode()
+        ours, theirs = pty.openpty()
+        try:
+            done = subprocess.run([program, *row.words], stdout=output, stderr=theirs, **how)
+        finally:
+            os.close(theirs)
+        return done.returncode, shown(ours)
+
+
+def faults(program, row):
+    """What differs of an end, or None."""
     with tempfile.TemporaryDirectory() as name:
         folder = pathlib.Path(name)
         put_files(folder)
-        given = FILES[row.given].encode() if row.given else b""
-        with open(row.output or folder / "answers", "wb") as output:
-            how = {"input": given, "stdout": output, "stderr": subprocess.PIPE}
-            ran = subprocess.run([program, *row.words], cwd=folder, preexec_fn=limit, timeout=60, **how)
+        status, said = ran(program, row, folder)
         answers = None if row.output else (folder / "answers").read_text()
-        said, file, listed = ran.stderr.decode(), file_ended(folder), (folder / "list.txt").read_text()
-        if ran.returncode != row.status:
-            return f"status {ran.returncode}, and not {row.status}: {said}"
+        file, listed = file_ended(folder), (folder / "list.txt").read_text()
+        if status != row.status:
+            return f"status {status}, and not {row.status}: {said}"
         if differs(row.answers, answers):
             return f"answers {answers!r}"
         if differs(row.said, said):
