@@ -2,6 +2,8 @@
 """Checks README.md, the pages of docs/, and what they say that is typed.
 
     links    each relative link names a file that is there, and a heading of it where it names one
+    lines    `--help` and docs/FORMATS.md list the same lines of a script, and they begin with the words that
+             crates/script_lines takes
     sizes    no page of docs/ has over 250 lines, or a line over 120 columns but in a table or a block of code
     runs     each block that begins with ```sh run, in README.md, docs/TUTORIAL.md and docs/TESTED.md, is run
              at the top of a fresh clone of the last commit, one after another, and prints what the block after it
@@ -72,6 +74,21 @@ def size_faults(page):
             yield f"{number}: {len(line)} columns"
 
 
+def line_faults():
+    """Where the lists of the lines of a script differ."""
+    def found(pattern, name):
+        return re.findall(pattern, (TOP / name).read_text(), re.M)
+
+    table = (TOP / "docs/FORMATS.md").read_text().split("\n| Line | Answer | What it does |\n", 1)[1].split("\n\n", 1)[0]
+    told = [line for row in table.splitlines()[1:] for line in re.findall("`([^`]*)`", row.split("|")[1])]
+    helped = found(r"^  ([a-z]\S*(?: \S+)*) {2,}\S", "crates/border_edit/src/help.rt")
+    taken = found(r'(?:word|line) == b"(\w+)"', "crates/script_lines/src/parsing.rt")
+    if helped != told:
+        yield f"help.rt has the lines {helped}, and docs/FORMATS.md {told}"
+    if sorted(taken) != sorted(line.split()[0] for line in told):
+        yield f"parsing.rt takes the words {taken}, and docs/FORMATS.md has the lines {told}"
+
+
 def typed(page):
     """The blocks of a page that are typed: the line of each, its text, and what it is to print, or None."""
     text = page.read_text()
@@ -100,6 +117,7 @@ def main():
     options = words.parse_args()
     faults = [f"{page.relative_to(TOP)}:{fault}" for page in pages() for fault in link_faults(page)]
     faults += [f"{page.relative_to(TOP)}:{fault}" for page in pages() if page.parent.name == "docs" for fault in size_faults(page)]
+    faults += line_faults()
     runs = 0
     if not options.no_runs:
         program = options.program and str(pathlib.Path(options.program).resolve())

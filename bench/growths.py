@@ -6,12 +6,14 @@ refused under the whole program, one call a run: also those for the words, for t
 decoded from the map and from a line. Such a run ends with status 3 and `out of memory`, a front of the
 answers, and FILE as it was; or with `save fault` and all answers, where the saved text found no room; or,
 where the growth was not needed, as it would have ended. The script has an edit of each kind, as many
-undos, and questions.
+undos, and questions. So it is with `--refused` and two lines more that are refused, where the run may also
+end so when FILE holds the map and FILE2 a front of the list.
 
 It needs the C compiler `cc`, for the few lines that stand before the C library. The program has to stand
 already (`rt ci` leaves it); another one can be named. The status is 0 where each run ended so.
 """
 import argparse
+import collections
 import os
 import pathlib
 import re
@@ -28,6 +30,9 @@ EDITS = [
 ]
 QUESTIONS = ["at 5 5", "neighbours 0", "area 1", "rings 0", "count", "document"]
 SCRIPT = "\n".join(EDITS + ["undo"] * len(EDITS) + QUESTIONS)
+# Two lines that are refused, and what is listed of them behind that script.
+REFUSED = "\nmend\nmove 900 900 1 1"
+LISTED = "21\tbad line\tmend\n22\trefused no vertex\tmove 900 900 1 1\n"
 BEFORE = "what was saved before\n"
 # More than the growths of the run.
 MANY = 100_000
@@ -66,13 +71,50 @@ def compiled(folder):
     return library
 
 
-def run(program, folder, more):
-    """The status, the answers, what stands on standard error, and what FILE holds."""
-    out = folder / "saved.json"
+End = collections.namedtuple("End", "status answers said file listed")
+
+
+def run(program, folder, more, is_listed):
+    """The status, the answers, what stands on standard error, and what FILE and FILE2 hold."""
+    out, listed, script = folder / "saved.json", folder / "list.txt", folder / "script.txt"
     out.write_text(BEFORE)
-    words = [program, folder / "squares.json", folder / "script.txt", "--out", out]
+    listed.write_text(BEFORE)
+    script.write_text(SCRIPT + REFUSED if is_listed else SCRIPT)
+    words = [program, folder / "squares.json", script, "--out", out]
+    words += ["--refused", listed] if is_listed else []
     ran = subprocess.run(words, capture_output=True, text=True, timeout=60, env={**os.environ, **more})
-    return ran.returncode, ran.stdout, ran.stderr, out.read_text()
+    return End(ran.returncode, ran.stdout, ran.stderr, out.read_text(), listed.read_text())
+
+
+def is_wanting(done, whole, is_listed):
+    """Whether a run ended as one for want of memory is to end."""
+    if done.status != 3 or not whole.answers.startswith(done.answers):
+        return False
+    is_all = done.answers == whole.answers
+    if done.file == BEFORE:
+        return done.listed == BEFORE and (done.said == "out of memory\n" or done.said == "save fault\n" and is_all)
+    is_front = done.listed == BEFORE or whole.listed.startswith(done.listed)
+    return is_listed and is_all and done.said == "out of memory\n" and done.file == whole.file and is_front
+
+
+def tried(program, folder, library, is_listed):
+    """How many growths were refused, how many runs ended for want of memory, and how many ended wrongly."""
+    whole = run(program, folder, {}, is_listed)
+    refused = re.findall("^(?:refused|bad line).*", whole.answers, re.M)
+    if (whole.status, len(refused), whole.listed) != ((1, 2, LISTED) if is_listed else (0, 0, BEFORE)):
+        print(f"the script is not answered: {whole}")
+        return 0, 0, 1
+    wrong = wanting = 0
+    for nth in range(1, MANY):
+        done = run(program, folder, {"LD_PRELOAD": str(library), "REFUSED": str(nth)}, is_listed)
+        if done.status == 100:  # there are fewer growths
+            break
+        if is_wanting(done, whole, is_listed):
+            wanting += 1
+        elif done != whole:
+            wrong += 1
+            print(f"growth {nth}: {done}")
+    return nth - 1, wanting, wrong
 
 
 def main():
@@ -85,24 +127,11 @@ def main():
     with tempfile.TemporaryDirectory() as name:
         folder = pathlib.Path(name)
         shutil.copy(MAP, folder / "squares.json")
-        (folder / "script.txt").write_text(SCRIPT)
-        library, whole = compiled(folder), run(program, folder, {})
-        if whole[0] != 0 or re.search("^(refused|bad line)", whole[1], re.M):
-            print(f"the script is not answered: {whole}")
-            return 1
-        wrong = wanting = 0
-        for nth in range(1, MANY):
-            done = run(program, folder, {"LD_PRELOAD": str(library), "REFUSED": str(nth)})
-            if done[0] == 100:  # there are fewer growths
-                break
-            said = done[2] == "out of memory\n" or done[2] == "save fault\n" and done[1] == whole[1]
-            is_wanting = done[0] == 3 and whole[1].startswith(done[1]) and said and done[3] == BEFORE
-            wanting += is_wanting
-            if not is_wanting and done != whole:
-                wrong += 1
-                print(f"growth {nth}: {done}")
-    print(f"{nth - 1} growths refused, {wanting} runs ended for want of memory, {wrong} wrong")
-    return 1 if wrong or not wanting else 0
+        library = compiled(folder)
+        tries = [tried(program, folder, library, is_listed) for is_listed in (False, True)]
+    growths, wanting, wrong = (sum(counts) for counts in zip(*tries))
+    print(f"{growths} growths refused, {wanting} runs ended for want of memory, {wrong} wrong")
+    return 1 if wrong or not all(wanting for _, wanting, _ in tries) else 0
 
 
 if __name__ == "__main__":

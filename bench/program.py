@@ -2,16 +2,20 @@
 """Runs the built program border_edit to each of its ends, and looks at FILE before and after.
 
 The tests of the crate call what stands below `main`. Here the program itself is called: with words, on
-files, on devices that are full, and with little memory. Compared are the status, the answers, what
-stands on standard error, and what FILE holds at the end.
+files, on devices that are full, with little memory, and with a terminal as standard error. Compared are
+the status, the answers, what stands on standard error, and what FILE holds at the end, and FILE2 where
+one is named.
 
 The program has to stand already (`rt ci` leaves it); another one can be named. There is one line for
 each end that differs; the status is 0 where none does.
 """
 import argparse
 import collections
+import contextlib
 import os
 import pathlib
+import pty
+import re
 import resource
 import subprocess
 import sys
@@ -24,10 +28,14 @@ DATA = TOP / "crates/border_edit/data"
 BEFORE = "what was saved before\n" * 100
 KEPT, SAVED = "kept", "saved"
 
+# What `--version` prints.
+HELP = (TOP / "crates/border_edit/src/help.rt").read_text()
+VERSION = "border_edit " + re.search('VERSION: &str = "(.*)"', HELP).group(1) + "\n"
+
 # What stands on standard error, or standard output, where its text is not fixed: something.
 SOME = object()
 
-Row = collections.namedtuple("Row", "what words status answers said file output memory", defaults=(None, None))
+Row = collections.namedtuple("Row", "what words status answers said file output memory given listed terminal", defaults=(None,) * 5)
 
 FILES = {
     "squares.json": (DATA / "two_squares.json").read_text(),
@@ -37,7 +45,10 @@ FILES = {
     "cut.json": "{",
     "long.txt": "document\n" * 100,
     "undone.txt": "move 0 0 1 1\nmove 10 10 12 12\nundo\nundo\n",
+    "mixed.txt": "# corners\r\n\nmove 1 1 2 2\r\ndocument\narea 0\n\r\n mend\narea 9",
 }
+# What is listed of mixed.txt.
+LISTED = "3\trefused no vertex\tmove 1 1 2 2\n7\tbad line\t mend\n8\trefused no feature\tarea 9\n"
 
 
 def ends():
@@ -74,12 +85,41 @@ def ends():
         wrong = words("squares.json", "accepted.txt", "saved.json", "--undo", number)
         yield Row(f"--undo {number!r}", wrong, 64, "", SOME, KEPT)
     yield Row("help", ["--help"], 0, SOME, "", KEPT)
+    yield Row("version", ["--version"], 0, VERSION, "", KEPT)
+    for script, answers in ("accepted.txt", "ok\n240\n"), ("refused.txt", "refused no vertex\n200\n"):
+        status = 1 if "refused" in answers else 0
+        yield Row(f"piped {script}", words("squares.json", "-"), status, answers, "", SAVED, given=script)
+    yield Row("an empty pipe", words("squares.json", "-"), 0, "", "", SAVED)
+
+    def listing(script, list_file="list.txt", out="saved.json"):
+        return words("squares.json", script, out, "--refused", list_file)
+
+    yield Row("listed", listing("mixed.txt"), 1, SOME, "", SAVED, listed=LISTED)
+    yield Row("listed, piped", listing("-"), 1, SOME, "", SAVED, given="mixed.txt", listed=LISTED)
+    yield Row("nothing to list", listing("accepted.txt"), 0, "ok\n240\n", "", SAVED, listed="")
+    yield Row("not opened, nothing listed", ["cut.json", *listing("mixed.txt")[1:]], 2, "", "open: not json at 1\n", KEPT, listed=BEFORE)
+    yield Row("no FILE, nothing listed", listing("mixed.txt", out="."), 3, SOME, "save fault\n", KEPT, listed=BEFORE)
+    for script in "accepted.txt", "mixed.txt":
+        for list_file in ".", "none/list.txt":
+            yield Row(f"{list_file}, {script}", listing(script, list_file), 3, SOME, "refused fault\n", SAVED)
+    yield Row("a full list", listing("mixed.txt", "/dev/full"), 3, SOME, "refused fault\n", SAVED)
+    yield Row("one FILE for both", listing("mixed.txt", "saved.json"), 64, "", SOME, KEPT)
+
+    progress = words("squares.json", "refused.txt", "saved.json", "--progress")
+    answers, opening, saving = "refused no vertex\n200\n", "opening squares.json\n", "saving saved.json\n"
+    yield Row("progress", progress, 1, answers, opening + saving, SAVED, terminal=True)
+    yield Row("progress to no terminal", progress, 1, answers, "", SAVED)
+    yield Row("no progress", progress[:-1], 1, answers, "", SAVED, terminal=True)
+    unopened = words("cut.json", "refused.txt", "saved.json", "--progress")
+    said = "opening cut.json\nopen: not json at 1\n"
+    yield Row("progress, not opened", unopened, 2, "", said, KEPT, terminal=True)
 
 
 def put_files(folder):
     for name, text in FILES.items():
         (folder / name).write_text(text)
     (folder / "saved.json").write_text(BEFORE)
+    (folder / "list.txt").write_text(BEFORE)
     with open(folder / "large.json", "wb") as large:
         large.truncate(67_108_865 + 100)
 
@@ -95,28 +135,52 @@ def file_ended(folder):
     return SAVED if text.startswith('{"type":"Topology"') and text.endswith("]}") else text
 
 
-def faults(program, row):
-    """What differs of an end, or None."""
+def shown(terminal):
+    """What a terminal was sent, once nothing writes to it; it puts a carriage return before each line feed."""
+    pieces = []
+    with open(terminal, "rb", buffering=0) as sent, contextlib.suppress(OSError):  # the end is an error on Linux
+        while piece := sent.read(1 << 16):
+            pieces.append(piece)
+    return b"".join(pieces).decode().replace("\r\n", "\n")
+
+
+def ran(program, row, folder):
+    """The status of a run, and what stands on standard error: a pipe, or a terminal."""
     def limit():
         if row.memory:
             resource.setrlimit(resource.RLIMIT_AS, (row.memory, row.memory))
 
+    how = {"input": FILES[row.given].encode() if row.given else b"", "cwd": folder, "timeout": 60, "preexec_fn": limit}
+    with open(row.output or folder / "answers", "wb") as output:
+        if not row.terminal:
+            done = subprocess.run([program, *row.words], stdout=output, stderr=subprocess.PIPE, **how)
+            return done.returncode, done.stderr.decode()
+        ours, theirs = pty.openpty()
+        try:
+            done = subprocess.run([program, *row.words], stdout=output, stderr=theirs, **how)
+        finally:
+            os.close(theirs)
+        return done.returncode, shown(ours)
+
+
+def faults(program, row):
+    """What differs of an end, or None."""
     with tempfile.TemporaryDirectory() as name:
         folder = pathlib.Path(name)
         put_files(folder)
-        with open(row.output or folder / "answers", "wb") as output:
-            how = {"stdin": subprocess.DEVNULL, "stdout": output, "stderr": subprocess.PIPE}
-            ran = subprocess.run([program, *row.words], cwd=folder, preexec_fn=limit, timeout=60, **how)
+        status, said = ran(program, row, folder)
         answers = None if row.output else (folder / "answers").read_text()
-        said, file = ran.stderr.decode(), file_ended(folder)
-        if ran.returncode != row.status:
-            return f"status {ran.returncode}, and not {row.status}: {said}"
+        file, listed = file_ended(folder), (folder / "list.txt").read_text()
+        if status != row.status:
+            return f"status {status}, and not {row.status}: {said}"
         if differs(row.answers, answers):
             return f"answers {answers!r}"
         if differs(row.said, said):
             return f"on standard error {said!r}"
         if file != row.file:
             return f"FILE is {file!r:.60}, and not {row.file}"
+        if listed != (BEFORE if row.listed is None else row.listed):
+            return f"FILE2 is {listed!r:.60}"
     return None
 
 

@@ -1,10 +1,11 @@
 -- What the words of the program ask for, as clap reads them.
-use Rattle.std.specs.Prelude.{◌≡◌, ℕ, ◌≤◌, true, List, Option, Some, None, codes}
+use Rattle.std.specs.Prelude.{◌≡◌, ℕ, ◌≤◌, Bool, true, false, List, Option, Some, None, codes}
 use Rattle.std.specs.Str.Parse.{IsNumeral, digits_value, without_leading_plus}
-use Rattle.clap.specs.Words.{App, Rule, new_app, new_rule, with_rule, first_of, matches_of}
-use Rattle.clap.specs.declared.builder.action.ArgAction.TheVariants.{Set}
+use Rattle.clap.specs.Words.{App, Rule, new_app, new_rule, with_rule, first_of, one_of, matches_of}
+use Rattle.clap.specs.declared.builder.action.ArgAction.TheVariants.{Set, SetTrue}
 
--- MAP and SCRIPT stand in their places, and --out FILE is required too; --undo N is not
+-- MAP and SCRIPT stand in their places, and --out FILE is required too; --undo N, --refused FILE2 and
+-- --progress are not
 abbrev pub map_rule : Rule
 map_rule = record (new_rule (codes "MAP")) { required = true; action = Some Set }
 
@@ -26,14 +27,40 @@ undo_rule = record (new_rule (codes "undo")) {
   action = Some Set;
 }
 
+abbrev pub refused_rule : Rule
+refused_rule = record (new_rule (codes "refused")) {
+  long = Some (codes "refused");
+  value_names = 1;
+  action = Some Set;
+}
+
+abbrev pub progress_rule : Rule
+progress_rule = record (new_rule (codes "progress")) {
+  long = Some (codes "progress");
+  action = Some SetTrue;
+}
+
+-- a program that tells its version
+abbrev pub with_version : App → App
+with_version a = record a { top = record a.top { has_version = true } }
+
 abbrev pub program : App
 program =
-    with_rule (with_rule (with_rule (with_rule (new_app (codes "border_edit")) map_rule)
-    script_rule) out_rule) undo_rule
+    with_rule (with_rule (with_rule (with_rule (with_rule (with_rule (with_version (new_app (codes "border_edit")))
+    map_rule) script_rule) out_rule) undo_rule) refused_rule) progress_rule
 
 -- the value that clap finds for an argument among the words, the program's name first
 abbrev pub text_of : List ℕ → List (List ℕ) → Option (List ℕ)
 text_of id words = first_of id (matches_of program words)
+
+-- what clap reads a flag as among the words
+abbrev pub flag_of : List ℕ → List (List ℕ) → Option (List ℕ)
+flag_of id words = one_of id (matches_of program words)
+
+-- a flag is on where it is read as true, and off where it is read as false, or as nothing
+abbrev pub IsFlag : Option (List ℕ) → Bool → Type 0
+IsFlag None on = on ≡ false
+IsFlag (Some text) on = (text ≡ codes "true" → on ≡ true) × (text ≡ codes "false" → on ≡ false)
 
 -- how many changes can be taken back: what the value of --undo says, digits that perhaps stand behind
 -- a plus, and 100 where there is none

@@ -6,7 +6,7 @@ use Rattle.topo_outline.specs.declared.fault.OpenFault.{OpenFault}
 use Rattle.script_runner.specs.declared.fault.RunFault.{RunFault}
 use Rattle.script_runner.specs.declared.fault.RunFault.TheVariants as fault
 use Rattle.border_edit.specs.declared.diagnostic.Diagnostic.{Diagnostic}
-use Rattle.border_edit.specs.declared.diagnostic.Diagnostic.TheVariants.{Open, Map, Script, Write, Save, NoMemory}
+use Rattle.border_edit.specs.declared.diagnostic.Diagnostic.TheVariants.{Open, Map, Script, Write, Save, Refused, NoMemory}
 use Rattle.border_edit.specs.declared.stop.Stop.{Stop}
 use Rattle.border_edit.specs.declared.stop.Stop.TheVariants as stop
 
@@ -30,10 +30,19 @@ stop_line stop.Map = Some Map
 stop_line stop.Script = Some Script
 stop_line stop.NoMemory = Some NoMemory
 
--- what is told where FILE could not be written, by the kind of the error
+-- what is told where a file could not be written, by the kind of the error: a refused growth, or else
+-- the line of the file
+abbrev pub unwritten_line : ErrorKind → Diagnostic → Diagnostic
+unwritten_line kind.OutOfMemory line = NoMemory
+unwritten_line k line = line
+
+-- what is told where FILE could not be written
 abbrev pub unsaved_line : ErrorKind → Diagnostic
-unsaved_line kind.OutOfMemory = NoMemory
-unsaved_line k = Save
+unsaved_line k = unwritten_line k Save
+
+-- what is told where FILE2 could not be written
+abbrev pub unlisted_line : ErrorKind → Diagnostic
+unlisted_line k = unwritten_line k Refused
 
 -- the text of a line; of a map's fault, which stands behind `open: `, nothing is said
 abbrev pub line_text : Diagnostic → Option (List ℕ)
@@ -42,4 +51,5 @@ line_text Map = Some (codes "map fault")
 line_text Script = Some (codes "script fault")
 line_text Write = Some (codes "write fault")
 line_text Save = Some (codes "save fault")
+line_text Refused = Some (codes "refused fault")
 line_text NoMemory = Some (codes "out of memory")

@@ -6,12 +6,16 @@ ghost use Rattle.std.specs.Prelude.{◌≤◌};
 pub struct Words {
     /// The path of the map.
     pub map: String,
-    /// The path of the script.
+    /// The path of the script; `-` is standard input.
     pub script: String,
     /// The path of the file that the map is saved in.
     pub out: String,
     /// How many changes can be taken back.
     pub depth: usize,
+    /// The path of the file that the refused lines are written in.
+    pub refused: Option<String>,
+    /// Whether standard error, where it is a terminal, is told what is begun.
+    pub progress: bool,
     ghost least: { 1 ≤ depth },
     ghost most: { depth ≤ 1000 },
 }

@@ -20,12 +20,14 @@ pub enum Diagnostic<'a> {
     Write,
     /// The map can't be saved, or FILE not be written: `save fault`.
     Save,
+    /// The refused lines can't be written in FILE2: `refused fault`.
+    Refused,
     /// A growth was refused: `out of memory`.
     NoMemory,
 }
 
 impl<'a> Diagnostic<'a> {
-    ghost use Rattle.border_edit.specs.Endings.{Tells, unsaved_line};
+    ghost use Rattle.border_edit.specs.Endings.{Tells, unwritten_line, unsaved_line, unlisted_line};
 
     /// The line that tells a fault of a run.
     pub fn of_fault(fault: &'a RunFault<'a>) -> Diagnostic<'a>
@@ -40,14 +42,28 @@ impl<'a> Diagnostic<'a> {
         }
     }
 
+    /// Why a file could not be written: a refused growth, or else what the file's own line says.
+    fn unwritten(error: Error, line: Diagnostic<'a>) -> Diagnostic<'a>
+        ensures { result ≡ unwritten_line (error_kind error) line }
+    {
+        match error.kind() {
+            ErrorKind::OutOfMemory => Diagnostic::NoMemory,
+            _ => line,
+        }
+    }
+
     /// Why FILE could not be written: a refused growth, or else FILE itself.
     pub fn unsaved(error: Error) -> Diagnostic<'a>
         ensures { result ≡ unsaved_line (error_kind error) }
     {
-        match error.kind() {
-            ErrorKind::OutOfMemory => Diagnostic::NoMemory,
-            _ => Diagnostic::Save,
-        }
+        Diagnostic::unwritten(error, Diagnostic::Save)
+    }
+
+    /// Why FILE2 could not be written: a refused growth, or else FILE2 itself.
+    pub fn unlisted(error: Error) -> Diagnostic<'a>
+        ensures { result ≡ unlisted_line (error_kind error) }
+    {
+        Diagnostic::unwritten(error, Diagnostic::Refused)
     }
 }
 
@@ -63,6 +79,7 @@ impl<'a> fmt::Display for Diagnostic<'a> {
             Diagnostic::Script => f.write_str("script fault"),
             Diagnostic::Write => f.write_str("write fault"),
             Diagnostic::Save => f.write_str("save fault"),
+            Diagnostic::Refused => f.write_str("refused fault"),
             Diagnostic::NoMemory => f.write_str("out of memory"),
         }
     }

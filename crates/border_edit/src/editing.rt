@@ -1,12 +1,21 @@
 //! The files of the program: what is read, what is written, and in which order.
+ghost use Rattle.std.specs.Prelude.{◌≡◌, false};
+
 use crate::asked::Words;
 use crate::ending::Ending;
+use crate::kept_script::KeptScript;
+use crate::listing::list_refused;
+use crate::noted_answers::NotedAnswers;
+use crate::notes::Refusal;
 use crate::stop::Stop;
-use device_io::{FromReader, ToWriter};
+use device_io::{FromReader, Sink, Source, ToWriter};
 use script_runner::run;
 use std::fs;
 use std::fs::File;
-use std::io::{BufWriter, Read, Write};
+use std::io::{BufWriter, Read, Result as IoResult, Write};
+
+/// The SCRIPT that is standard input.
+const STANDARD_INPUT: &str = "-";
 
 /// One byte more than a map may have, so that a longer one is found too large.
 const READ_AT_MOST: u64 = 67_108_865;
@@ -21,6 +30,13 @@ fn map_bytes(rt: &HostRuntime, path: &str) -> Result<Vec<u8>, Stop> {
     Ok(bytes)
 }
 
+/// Tells what is begun, and with which file, where the words ask for it.
+fn tell<E: Write>(words: &Words, begun: &str, path: &str, errors: &mut E) {
+    if words.progress {
+        let _ = writeln!(errors, "{begun} {path}");
+    }
+}
+
 /// Says the line of an ending, and answers its status.
 pub(crate) fn end<E: Write>(ending: Ending<'_>, errors: &mut E) -> u8 {
     if let Some(line) = ending.line {
@@ -29,12 +45,113 @@ pub(crate) fn end<E: Write>(ending: Ending<'_>, errors: &mut E) -> u8 {
     ending.status
 }
 
-/// Writes FILE where the ending has something for it, says the line, and answers the status.
-fn end_with_file<E: Write>(rt: &HostRuntime, ending: Ending<'_>, file: &str, errors: &mut E) -> u8 {
-    match ending.file {
-        Some(text) => end(ending.once_written(fs::write(rt, file, text)), errors),
-        None => end(ending, errors),
+/// Writes FILE where the ending has something for it.
+fn save<'a, E: Write>(
+    rt: &HostRuntime,
+    words: &Words,
+    ending: Ending<'a>,
+    errors: &mut E,
+) -> Ending<'a> {
+    let Some(text) = ending.file else {
+        return ending;
+    };
+    let file = words.out.as_str();
+    tell(words, "saving", file, errors);
+    ending.once_written(fs::write(rt, file, text))
+}
+
+/// Writes the refused lines of a script in FILE2.
+fn write_list(rt: &HostRuntime, path: &str, script: &[u8], refusals: &[Refusal]) -> IoResult<()> {
+    let file = File::create(rt, path)?;
+    let mut list = BufWriter::new(rt.alloc(), file)?;
+    list_refused(rt.alloc(), script, refusals, &mut list)?;
+    list.flush()
+}
+
+/// Writes FILE2 where FILE was written.
+fn list<'a>(
+    rt: &HostRuntime,
+    ending: Ending<'a>,
+    path: &str,
+    script: &[u8],
+    refusals: &[Refusal],
+) -> Ending<'a> {
+    if ending.line.is_some() {
+        return ending;
     }
+    ending.once_listed(write_list(rt, path, script, refusals))
+}
+
+/// Runs a script on the bytes of a map, and writes FILE.
+fn run_script<R: Source, W: Sink, E: Write>(
+    rt: &HostRuntime,
+    words: &Words,
+    map: &[u8],
+    script: &mut R,
+    answers: &mut W,
+    errors: &mut E,
+) -> u8
+    requires reader { R.has_failed script.old ≡ false }
+    requires writer { W.has_failed answers.old ≡ false }
+{
+    let alloc = rt.alloc();
+    let mut saved = ToWriter::new(Vec::new(alloc));
+    let outcome = run(alloc, alloc, map, script, words.depth, answers, &mut saved);
+    let ending = Ending::of_run(&outcome, saved.writer.as_slice());
+    end(save(rt, words, ending, errors), errors)
+}
+
+/// The same, and writes the refused lines in FILE2 where FILE was written.
+fn run_listed<R: Source + Drop, W: Sink + Drop, E: Write>(
+    rt: &HostRuntime,
+    words: &Words,
+    map: &[u8],
+    script: R,
+    answers: W,
+    path: &str,
+    errors: &mut E,
+) -> u8
+    requires reader { R.has_failed script ≡ false }
+    requires writer { W.has_failed answers ≡ false }
+{
+    let alloc = rt.alloc();
+    let mut script = KeptScript::new(alloc, script);
+    let mut answers = NotedAnswers::new(alloc, answers);
+    let mut saved = ToWriter::new(Vec::new(alloc));
+    let outcome = run(
+        alloc,
+        alloc,
+        map,
+        &mut script,
+        words.depth,
+        &mut answers,
+        &mut saved,
+    );
+    let ending = Ending::of_run(&outcome, saved.writer.as_slice());
+    let ending = ending.unless_short(script.is_short() || answers.is_short());
+    let ending = save(rt, words, ending, errors);
+    let ending = list(rt, ending, path, script.kept(), answers.refusals());
+    end(ending, errors)
+}
+
+/// Runs a script that comes from a reader.
+fn edit_by<R: Read + Drop, W: Write + Drop, E: Write>(
+    rt: &HostRuntime,
+    words: &Words,
+    map: &[u8],
+    script: R,
+    answers: W,
+    errors: &mut E,
+) -> Result<u8, Stop> {
+    // Standard output sends on each piece at once, and an answer is a short one.
+    let answers = BufWriter::new(rt.alloc(), answers).map_err(|_| Stop::NoMemory)?;
+    let mut source = FromReader::new(script);
+    let mut sink = ToWriter::new(answers);
+    let status = match &words.refused {
+        Some(path) => run_listed(rt, words, map, source, sink, path.as_str(), errors),
+        None => run_script(rt, words, map, &mut source, &mut sink, errors),
+    };
+    Ok(status)
 }
 
 /// Reads MAP, opens SCRIPT, runs it, and ends as the run did.
@@ -44,30 +161,18 @@ fn edit_files<W: Write + Drop, E: Write>(
     answers: W,
     errors: &mut E,
 ) -> Result<u8, Stop> {
-    let alloc = rt.alloc();
+    tell(words, "opening", words.map.as_str(), errors);
     let map = map_bytes(rt, words.map.as_str())?;
+    if words.script.as_str() == STANDARD_INPUT {
+        return edit_by(rt, words, map.as_slice(), rt.stdin(), answers, errors);
+    }
     let script = File::open(rt, words.script.as_str()).map_err(|e| Stop::of_file(e, Stop::Script))?;
-    // Standard output sends on each piece at once, and an answer is a short one.
-    let answers = BufWriter::new(alloc, answers).map_err(|_| Stop::NoMemory)?;
-    let mut source = FromReader::new(script);
-    let mut sink = ToWriter::new(answers);
-    let mut saved = ToWriter::new(Vec::new(alloc));
-    let outcome = run(
-        alloc,
-        alloc,
-        map.as_slice(),
-        &mut source,
-        words.depth,
-        &mut sink,
-        &mut saved,
-    );
-    let ending = Ending::of_run(&outcome, saved.writer.as_slice());
-    Ok(end_with_file(rt, ending, words.out.as_str(), errors))
+    edit_by(rt, words, map.as_slice(), script, answers, errors)
 }
 
 /// Runs a script on a map as the words ask, and saves the map where the whole script was answered.
 /// Answers the status that the program ends with; the answers and the line that says why it ends go
-/// to these two writers. Faults are found in this order: MAP, opening SCRIPT, the run, FILE.
+/// to these two writers. Faults are found in this order: MAP, opening SCRIPT, the run, FILE, FILE2.
 pub(crate) fn edit<W: Write + Drop, E: Write>(
     rt: &HostRuntime,
     words: &Words,

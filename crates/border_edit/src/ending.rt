@@ -1,9 +1,9 @@
 //! How the program ends: with which status, with what in FILE, and with which line on standard error.
-ghost use Rattle.std.specs.Prelude.{◌≡◌, None, Some, option_map, OnOk, OnErr, IfErr, IsSomeAnd};
+ghost use Rattle.std.specs.Prelude.{◌≡◌, None, Some, true, false, option_map, OnOk, OnErr, IfErr, IsSomeAnd};
 ghost use Rattle.std.specs.IoError.{error_kind};
 ghost use Rattle.border_edit.specs.Status.{status_of};
 ghost use Rattle.border_edit.specs.Stops.{stop_status};
-ghost use Rattle.border_edit.specs.Endings.{Tells, stop_line, unsaved_line};
+ghost use Rattle.border_edit.specs.Endings.{Tells, stop_line, unsaved_line, unlisted_line};
 
 use crate::diagnostic::Diagnostic;
 use crate::stop::{Stop, status};
@@ -43,6 +43,25 @@ impl<'a> Ending<'a> {
         }
     }
 
+    /// The ending where the script and its refusals were kept: where there was no memory to keep them, the
+    /// run ended for that, and FILE stays as it is.
+    pub fn unless_short(self, is_short: bool) -> Ending<'a>
+        ensures whole { is_short ≡ false → result ≡ self.entry }
+        ensures status { is_short ≡ true → result.status ≡ 3 }
+        ensures kept { is_short ≡ true → result.file ≡ None }
+        ensures told { is_short ≡ true → result.line ≡ Some Diagnostic.NoMemory }
+    {
+        if is_short {
+            Ending {
+                status: 3,
+                file: None,
+                line: Some(Diagnostic::NoMemory),
+            }
+        } else {
+            self
+        }
+    }
+
     /// The ending where no script was run. What clap says of the words is no line of the program's.
     pub fn of_stop(stop: &'a Stop) -> Ending<'a>
         ensures status { result.status ≡ stop_status stop.now }
@@ -62,6 +81,17 @@ impl<'a> Ending<'a> {
         }
     }
 
+    /// The same ending, with a fault of a file that was to be written.
+    fn with_fault(self, line: Diagnostic<'a>) -> Ending<'a>
+        ensures { result ≡ record self.entry { status = 3; line = Some line } }
+    {
+        Ending {
+            status: 3,
+            file: self.file,
+            line: Some(line),
+        }
+    }
+
     /// The ending once FILE was written, or could not be, whatever the answers were.
     pub fn once_written(self, written: Result<(), Error>) -> Ending<'a>
         ensures written { OnOk written (result ≡ self.entry) }
@@ -70,11 +100,19 @@ impl<'a> Ending<'a> {
     {
         match written {
             Ok(()) => self,
-            Err(error) => Ending {
-                status: 3,
-                file: self.file,
-                line: Some(Diagnostic::unsaved(error)),
-            },
+            Err(error) => self.with_fault(Diagnostic::unsaved(error)),
+        }
+    }
+
+    /// The ending once FILE2 was written too, or could not be. FILE holds the map in both cases.
+    pub fn once_listed(self, listed: Result<(), Error>) -> Ending<'a>
+        ensures listed { OnOk listed (result ≡ self.entry) }
+        ensures status { OnErr listed (result.status ≡ 3) }
+        ensures told { IfErr listed (λ error. result.line ≡ Some (unlisted_line (error_kind error))) }
+    {
+        match listed {
+            Ok(()) => self,
+            Err(error) => self.with_fault(Diagnostic::unlisted(error)),
         }
     }
 }

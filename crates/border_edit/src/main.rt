@@ -7,6 +7,11 @@ mod command_line;
 mod diagnostic;
 mod editing;
 mod ending;
+mod help;
+mod kept_script;
+mod listing;
+mod noted_answers;
+mod notes;
 mod stop;
 
 use asked::Words;
@@ -14,6 +19,7 @@ use command_line::words;
 use editing::{edit, end};
 use ending::Ending;
 use std::env;
+use std::io::IsTerminal;
 use std::process::ExitCode;
 use stop::Stop;
 
@@ -29,10 +35,15 @@ fn words_given(rt: &HostRuntime) -> Result<Words, Stop> {
 
 fn main(rt: HostRuntime) -> ExitCode {
     let status = match words_given(&rt) {
-        Ok(words) => edit(&rt, &words, rt.stdout(), &mut rt.stderr()),
+        Ok(mut words) => {
+            let mut errors = rt.stderr();
+            words.progress = words.progress && errors.is_terminal();
+            edit(&rt, &words, rt.stdout(), &mut errors)
+        }
         Err(stop) => {
             if let Stop::Words(error) = &stop {
-                // Help goes to standard output, and what is wrong with the words to standard error.
+                // Help and the version go to standard output, and what is wrong with the words to standard
+                // error.
                 let _ = error.print(&rt);
             }
             end(Ending::of_stop(&stop), &mut rt.stderr())

@@ -40,6 +40,8 @@ fn a_map_a_script_and_a_file_are_taken(rt: HostRuntime) -> Result<(), Fail> {
         assert_eq!(rt; words.script.as_str(), "script.txt");
         assert_eq!(rt; words.out.as_str(), "saved.json");
         assert_eq!(rt; words.depth, 100);
+        assert!(rt; words.refused.is_none());
+        assert!(rt; !words.progress);
     }
     Ok(())
 }
@@ -64,6 +66,42 @@ fn the_depth_of_undo_is_taken(rt: HostRuntime) -> Result<(), Fail> {
         assert_eq!(rt; words.script.as_str(), "s");
         assert_eq!(rt; words.out.as_str(), "f");
         assert_eq!(rt; words.depth, depth);
+    }
+    Ok(())
+}
+
+#[test]
+fn standard_input_a_list_and_progress_are_taken(rt: HostRuntime) -> Result<(), Fail> {
+    let table = [
+        [
+            "border_edit",
+            "m",
+            "-",
+            "--out",
+            "f",
+            "--refused",
+            "list.txt",
+            "--progress",
+        ]
+        .as_slice(),
+        &[
+            "border_edit",
+            "--progress",
+            "--refused=list.txt",
+            "m",
+            "-",
+            "--out=f",
+        ],
+    ];
+    for line in table {
+        let given = given(rt.alloc(), line)?;
+        let words = words(rt.alloc(), given.as_slice())?;
+        assert_eq!(rt; words.script.as_str(), "-");
+        assert!(rt; words.progress);
+        match &words.refused {
+            Some(list) => assert_eq!(rt; list.as_str(), "list.txt"),
+            None => assert!(rt; false, "{line:?}"),
+        }
     }
     Ok(())
 }
@@ -111,7 +149,28 @@ fn all_other_words_stop_the_program(rt: HostRuntime) -> Result<(), Fail> {
         ),
         (&["border_edit", "m", "s", "--out", "f", "--undo", ""], 64),
         (&["border_edit", "m", "s", "--undo", "2"], 64),
+        (&["border_edit", "m", "s", "--out", "f", "--refused"], 64),
+        (
+            &[
+                "border_edit",
+                "m",
+                "s",
+                "--out",
+                "f",
+                "--refused",
+                "a",
+                "--refused",
+                "b",
+            ],
+            64,
+        ),
+        // FILE2 is FILE.
+        (
+            &["border_edit", "m", "s", "--out", "f", "--refused", "f"],
+            64,
+        ),
         (&["border_edit", "--help"], 0),
+        (&["border_edit", "--version"], 0),
         (&["border_edit", "map.json", "-h"], 0),
     ];
     for (line, status) in table {

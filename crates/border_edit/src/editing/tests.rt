@@ -1,5 +1,5 @@
 //! What the program reads of real files, and what FILE holds once it has ended.
-use super::{edit, map_bytes};
+use super::{edit, edit_by, map_bytes};
 use crate::asked::Words;
 use std::alloc::{AllocError, Global};
 use std::fs::File;
@@ -20,6 +20,20 @@ const MOVED: &str =
 /// it would show.
 const BEFORE: &str =
     r#"{"type":"Topology","objects":{"land":{"type":"GeometryCollection","geometries":[{"type":"Polygon","id":"A","arcs":[[0]]},{"type":"Polygon","id":"B","arcs":[[1]]},{"type":"Polygon","id":"C","arcs":[[2]]}]}},"arcs":[[[0,0],[10,0],[10,10],[0,10],[0,0]],[[20,0],[30,0],[30,10],[20,10],[20,0]],[[40,0],[50,0],[50,10],[40,10],[40,0]]],"bbox":[0,0,50,10]}"#;
+
+/// The squares, the second with a text that is kept: it has a line feed, and what could end an object
+/// or a string stands inside a string.
+const NOTED: &str =
+    r#"{"type":"Topology","objects":{"land":{"type":"GeometryCollection","geometries":[{"type":"Polygon","id":"A","arcs":[[0,1]]},{"type":"Polygon","id":"B","properties":{"note":
+"}]\"}\\","more":"{["},"arcs":[[2,-1]]}]}},"arcs":[[[10,0],[10,10]],[[10,10],[0,10],[0,0],[10,0]],[[10,0],[20,0],[20,10],[10,10]]]}"#;
+
+/// A script with lines that have no answer, lines that are refused and lines that are bad.
+const MIXED: &str =
+    "# corners\r\n\nmove 1 1 2 2\r\ndocument\narea 0\n\r\n mend\t\narea 9\n# end\nrename 0 C";
+
+/// What is listed of that script, line by line.
+const LISTED: &str =
+    "3\trefused no vertex\tmove 1 1 2 2\n7\tbad line\t mend\t\n8\trefused no feature\tarea 9\n10\tbad line\trename 0 C\n";
 
 /// A writer that always fails.
 #[derive(Drop)]
@@ -84,6 +98,8 @@ fn put_files(rt: &HostRuntime, folder: &str) -> Result<(), Fail> {
         ("refused.txt", "move 10 10 12 12\nmove 1 1 2 2\n"),
         ("bad.txt", "mend 10 10\n"),
         ("undone.txt", "move 0 0 1 1\nmove 10 10 12 12\nundo\nundo\n"),
+        ("mixed.txt", MIXED),
+        ("noted.json", NOTED),
         ("saved.json", BEFORE),
     ];
     for (name, text) in files {
@@ -111,6 +127,8 @@ fn words(alloc: Global, folder: &str, files: [&str; 3]) -> Result<Words, AllocEr
         script: path(alloc, folder, script)?,
         out: path(alloc, folder, out)?,
         depth: 100,
+        refused: None,
+        progress: false,
     })
 }
 
@@ -323,6 +341,155 @@ fn as_many_changes_are_kept_as_the_words_say(rt: HostRuntime) -> Result<(), Fail
     holds(&rt, &rt, folder.as_str(), "saved.json", SQUARES)?;
     words.depth = 1;
     assert_eq!(rt; edit(&rt, &words, unread(rt.alloc()), &mut errors), 1);
+    fs::remove_dir_all(&rt, folder.as_str())?;
+    Ok(())
+}
+
+/// Where the words ask for it, what is begun is told before it is done or fails, and the rest is as ever.
+fn told(rt: &HostRuntime, test: &impl Abort, folder: &str) -> Result<(), Fail> {
+    let opening = format!(in rt.alloc(); "opening {folder}/")?;
+    let opening = opening.as_str();
+    let saving = format!(in rt.alloc(); "saving {folder}/out.json\n")?;
+    let saving = saving.as_str();
+    let rows = [
+        ("squares.json", 1, saving),
+        ("cut.json", 2, "open: not json at 1\n"),
+        ("missing.json", 3, "map fault\n"),
+    ];
+    for (map, status, said) in rows {
+        let mut words = words(rt.alloc(), folder, [map, "refused.txt", "out.json"])?;
+        words.progress = true;
+        let said = format!(in rt.alloc(); "{opening}{map}\n{said}")?;
+        let mut errors: Vec<u8> = Vec::new(rt.alloc());
+        let ended = edit(rt, &words, unread(rt.alloc()), &mut errors);
+        assert_eq!(test; ended, status, "{map}");
+        assert_eq!(test; errors.as_slice(), said.as_bytes(), "{map}");
+    }
+    holds(rt, test, folder, "out.json", MOVED)
+}
+
+#[test]
+fn what_is_begun_is_told(rt: HostRuntime) -> Result<(), Fail> {
+    let folder = new_folder(&rt, "told")?;
+    told(&rt, &rt, folder.as_str())?;
+    fs::remove_dir_all(&rt, folder.as_str())?;
+    Ok(())
+}
+
+/// Runs files of a folder, MAP, SCRIPT, FILE and FILE2, and looks at the end.
+fn ends_listed<W: Write + Drop>(
+    rt: &HostRuntime,
+    test: &impl Abort,
+    folder: &str,
+    files: [&str; 4],
+    answers: W,
+    (status, said): (u8, &str),
+) -> Result<(), Fail> {
+    let [map, script, out, list] = files;
+    let mut words = words(rt.alloc(), folder, [map, script, out])?;
+    words.refused = Some(path(rt.alloc(), folder, list)?);
+    let mut errors: Vec<u8> = Vec::new(rt.alloc());
+    let ended = edit(rt, &words, answers, &mut errors);
+    assert_eq!(test; ended, status, "{files:?}");
+    assert_eq!(test; errors.as_slice(), said.as_bytes(), "{files:?}");
+    Ok(())
+}
+
+/// Each refused line stands in FILE2, and no other, also where a text of several lines is an answer.
+fn listed(rt: &HostRuntime, test: &impl Abort, folder: &str) -> Result<(), Fail> {
+    let rows = [
+        ("squares.json", "accepted.txt", 0, ""),
+        (
+            "squares.json",
+            "refused.txt",
+            1,
+            "2\trefused no vertex\tmove 1 1 2 2\n",
+        ),
+        ("squares.json", "bad.txt", 1, "1\tbad line\tmend 10 10\n"),
+        ("squares.json", "mixed.txt", 1, LISTED),
+        ("noted.json", "mixed.txt", 1, LISTED),
+    ];
+    for (map, script, status, text) in rows {
+        for list in ["saved.json", "made.txt"] {
+            put(rt, folder, "saved.json", BEFORE)?;
+            let files = [map, script, "out.json", list];
+            ends_listed(rt, test, folder, files, unread(rt.alloc()), (status, ""))?;
+            holds(rt, test, folder, list, text)?;
+        }
+    }
+    holds(rt, test, folder, "out.json", NOTED)
+}
+
+#[test]
+fn refused_lines_are_listed(rt: HostRuntime) -> Result<(), Fail> {
+    let folder = new_folder(&rt, "listed")?;
+    listed(&rt, &rt, folder.as_str())?;
+    fs::remove_dir_all(&rt, folder.as_str())?;
+    Ok(())
+}
+
+/// After a fault FILE2 is as it was; one that can't be written is a fault, and FILE holds the map.
+fn list_faults(rt: &HostRuntime, test: &impl Abort, folder: &str) -> Result<(), Fail> {
+    let rows = [
+        (
+            "cut.json",
+            "refused.txt",
+            "out.json",
+            2,
+            "open: not json at 1\n",
+        ),
+        ("squares.json", ".", "out.json", 3, "script fault\n"),
+        ("squares.json", "refused.txt", ".", 3, "save fault\n"),
+    ];
+    for (map, script, out, status, said) in rows {
+        let files = [map, script, out, "saved.json"];
+        ends_listed(rt, test, folder, files, unread(rt.alloc()), (status, said))?;
+        holds(rt, test, folder, "saved.json", BEFORE)?;
+    }
+    let files = ["squares.json", "refused.txt", "out.json", "saved.json"];
+    ends_listed(rt, test, folder, files, Broken, (3, "write fault\n"))?;
+    holds(rt, test, folder, "saved.json", BEFORE)?;
+    for script in ["accepted.txt", "refused.txt"] {
+        put(rt, folder, "out.json", BEFORE)?;
+        let files = ["squares.json", script, "out.json", "."];
+        let said = "refused fault\n";
+        ends_listed(rt, test, folder, files, unread(rt.alloc()), (3, said))?;
+        holds(rt, test, folder, "out.json", MOVED)?;
+    }
+    Ok(())
+}
+
+#[test]
+fn a_list_that_cannot_be_written_is_a_fault(rt: HostRuntime) -> Result<(), Fail> {
+    let folder = new_folder(&rt, "list_faults")?;
+    list_faults(&rt, &rt, folder.as_str())?;
+    fs::remove_dir_all(&rt, folder.as_str())?;
+    Ok(())
+}
+
+/// A script that comes from a reader is answered, and its refused lines are listed.
+fn piped(rt: &HostRuntime, test: &impl Abort, folder: &str) -> Result<(), Fail> {
+    let mut words = words(rt.alloc(), folder, ["squares.json", "-", "out.json"])?;
+    words.refused = Some(path(rt.alloc(), folder, "list.txt")?);
+    let mut errors: Vec<u8> = Vec::new(rt.alloc());
+    let ended = edit_by(
+        rt,
+        &words,
+        SQUARES.as_bytes(),
+        MIXED.as_bytes(),
+        unread(rt.alloc()),
+        &mut errors,
+    );
+    assert_eq!(test; ended.ok(), Some(1));
+    assert_eq!(test; errors.as_slice(), b"".as_slice());
+    holds(rt, test, folder, "list.txt", LISTED)?;
+    holds(rt, test, folder, "out.json", SQUARES)
+}
+
+#[test]
+fn a_script_comes_from_a_reader(rt: HostRuntime) -> Result<(), Fail> {
+    let folder = new_folder(&rt, "piped")?;
+    piped(&rt, &rt, folder.as_str())?;
     fs::remove_dir_all(&rt, folder.as_str())?;
     Ok(())
 }

@@ -1,5 +1,5 @@
 use Rattle.std.proofs.Common.{rules, codes}
-use Rattle.border_edit.proofs.WordLemmas.{word_is, depth_is}
+use Rattle.border_edit.proofs.WordLemmas.{word_is, depth_is, refused_is}
 use Rattle.border_edit.proofs.command_line.words.Goals as goal
 
 pub returns-clause-map : goal.returns-clause-map
@@ -21,3 +21,8 @@ pub returns-clause-depth : goal.returns-clause-depth
 returns-clause-depth c =
     depth_is _ c.in_ok-matches.matches _ (codes "undo") _ c.get_str.result _
     c.in_ok-command.ensures c.in_ok-matches.ensures.ok.2 (search rules) c.get_str.ensures c.in-Some.ensures
+
+pub returns-clause-refused : goal.returns-clause-refused
+returns-clause-refused c =
+    refused_is _ c.in_ok-matches.matches _ (codes "refused") _ c.get_str-5.result _
+    c.in_ok-command.ensures c.in_ok-matches.ensures.ok.2 (search rules) c.get_str-5.ensures c.in_ok-copied.ensures
