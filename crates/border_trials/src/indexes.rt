@@ -105,7 +105,8 @@ fn drawn<R: Abort>(rt: &R, k: u16) -> Seg {
 fn is_held<I: SegIndex>(alloc: Global, index: &I, s: Seg) -> Result<bool, AllocError>
     ensures { IfOk result (λ found. found ≡ set.contains (I.held index.now) s) }
 {
-    Ok(given(alloc, index, s.rect())?.as_slice().contains(&s))
+    let near = given(alloc, index, s.rect())?;
+    Ok(near.as_slice().contains(&s))
 }
 
 /// Adds the first n drawn segments to two indexes that hold the same ones.

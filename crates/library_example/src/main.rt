@@ -53,10 +53,11 @@ fn told(alloc: Global, said: Result<Answer, EditFault>) -> Result<String, AllocE
     match said {
         Ok(Answer::Area(twice)) => format!(in alloc; "twice the area is {twice}"),
         Ok(_) => String::from_str(alloc, "done"),
-        Err(EditFault::Conflict { s, t }) => format!(in alloc;
-            "refused, as {s} and {t} would meet"
+        Err(EditFault::Conflict { .. }) => String::from_str(
+            alloc,
+            "refused: two borders would meet",
         ),
-        Err(fault) => format!(in alloc; "refused: {fault:?}"),
+        Err(_) => String::from_str(alloc, "refused"),
     }
 }
 

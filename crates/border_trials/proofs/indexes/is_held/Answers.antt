@@ -11,5 +11,5 @@ returns g c =
     let held = g.I.SegIndex.held c.args.index.now in
     let times = times_by (g.I.SegIndex.cells c.args.index.now) in
     c.contains.ensures.value ∙ ap (list_any (λ t. segment_eq t c.args.s)) c.as_slice.ensures.value
-    ∙ held_near held times c.args.s [] c.given.result.items refl
-    (subst (λ r. Gives held times r [] c.given.result.items true) c.rect.ensures c.in_ok-given.ensures)
+    ∙ held_near held times c.args.s [] c.in_ok-near.near.items refl
+    (subst (λ r. Gives held times r [] c.in_ok-near.near.items true) c.rect.ensures c.in_ok-near.ensures)
