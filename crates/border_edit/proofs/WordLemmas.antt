@@ -1,7 +1,7 @@
 -- What clap found among the words is what the words ask for.
 use Rattle.std.proofs.Common.{◌≡◌, ℕ, ap, subst, ◌∙◌, refl, sym, Bool, true, false, List, [], Option, Some, None, option_map}
 use Rattle.std.specs.Borrow.{Bor}
-use Rattle.std.specs.Prelude.{unwrap_or, codes}
+use Rattle.std.specs.Prelude.{◌≢◌, unwrap_or, codes, MatchBool}
 use Rattle.clap.specs.Words.{App, HasMatchesOf, first_of, first_value, found_of, is_simple, matches_of, one_of, one_text}
 use Rattle.clap.specs.declared.parser.matches.ArgMatches.{ArgMatches}
 use Rattle.clap.proofs.WalkLemmas.{first_value-rows, one_text-rows}
@@ -42,23 +42,25 @@ pub refused_is : (a : App) (m : ArgMatches) (words : List (List ℕ)) (id key : 
 refused_is a m words id key given copy is has same read copied =
     copied ∙ read_text a m words id key given is has same read
 
--- a path that was copied is another path's as the texts are
-pub copies_apart : (given : Option (Bor (List ℕ))) (word : Bor (List ℕ)) (copy : Option (List ℕ)) (bytes : List ℕ)
-    → (option_map (λ s. s.now) given ≡ Some word.now → ⊥) → copy ≡ option_map (λ s. s.now) given → bytes ≡ word.now → copy ≡ Some bytes → ⊥
-copies_apart given word copy bytes apart copied same equal =
-    apart (sym copied ∙ (equal ∙ ap (λ (b : List ℕ). Some b) same))
+-- paths that are not the same are not the same once they are copied
+pub copies_apart : (given : Option (Bor (List ℕ))) (word : Bor (List ℕ)) (copy : Option (List ℕ)) (bytes : List ℕ) (is_same : Bool)
+    → MatchBool is_same (option_map (λ s. s.now) given ≡ Some word.now) (option_map (λ s. s.now) given ≢ Some word.now) → is_same ≡ false
+    → copy ≡ option_map (λ s. s.now) given → bytes ≡ word.now → copy ≢ Some bytes
+copies_apart given word copy bytes is_same told apart copied same equal =
+    subst (λ (b : Bool). MatchBool b (option_map (λ s. s.now) given ≡ Some word.now) (option_map (λ s. s.now) given ≢ Some word.now)) apart told
+    (sym copied ∙ (equal ∙ ap (λ (b : List ℕ). Some b) same))
 
 -- a flag is on as its value is read
 flag_read : (read : Option (List ℕ)) (on : Bool) → (read ≡ None → on ≡ false) → (read ≡ Some (codes "true") → on ≡ true)
     → (read ≡ Some (codes "false") → on ≡ false) → IsFlag read on
-flag_read None on none yes no = none refl
-flag_read (Some text) on none yes no = (λ e. yes (ap (λ (t : List ℕ). Some t) e), λ e. no (ap (λ (t : List ℕ). Some t) e))
+flag_read None on none on_true on_false = none refl
+flag_read (Some text) on none on_true on_false = (λ e. on_true (ap (λ (t : List ℕ). Some t) e), λ e. on_false (ap (λ (t : List ℕ). Some t) e))
 
 pub flag_is : (a : App) (m : ArgMatches) (words : List (List ℕ)) (id key : List ℕ) (on : Bool)
     → a ≡ program → HasMatchesOf a words m → key ≡ id → (one_text (found_of m) key ≡ None → on ≡ false)
     → (one_text (found_of m) key ≡ Some (codes "true") → on ≡ true) → (one_text (found_of m) key ≡ Some (codes "false") → on ≡ false)
     → IsFlag (flag_of id words) on
-flag_is a m words id key on is has same none yes no =
+flag_is a m words id key on is has same none on_true on_false =
     subst (λ (o : Option (List ℕ)). IsFlag o on)
     (ap (one_text (found_of m)) same ∙ (one_text-rows (found_of m) id ∙ ap (one_of id) ((has (ap is_simple is)).0 ∙ ap (λ (z : App). matches_of z words) is)))
-    (flag_read (one_text (found_of m) key) on none yes no)
+    (flag_read (one_text (found_of m) key) on none on_true on_false)

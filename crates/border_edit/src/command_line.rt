@@ -1,6 +1,6 @@
 //! The words of the program.
-ghost use Rattle.std.specs.Prelude.{◌≡◌, ◌≢◌, ◌≤◌, ◌↔◌, ℕ, [], Some, map, codes, string_bytes, unwrap_or};
-ghost use Rattle.std.specs.Prelude.{option_map, IfOk, IsTrue, MatchOption};
+ghost use Rattle.std.specs.Prelude.{◌≡◌, ◌≢◌, ◌≤◌, ℕ, [], Some, map, codes, string_bytes, unwrap_or};
+ghost use Rattle.std.specs.Prelude.{option_map, IfOk, MatchBool, MatchOption};
 ghost use Rattle.clap.specs.Words.{app_of};
 ghost use Rattle.border_edit.specs.Asked.{program, text_of, flag_of, IsDepth, IsFlag};
 
@@ -92,7 +92,9 @@ fn copied(alloc: Global, given: Option<&str>) -> Result<Option<String>, AllocErr
 
 /// Whether FILE2 is given, and is FILE: their paths are the same text.
 fn is_file(refused: Option<&str>, out: &str) -> bool
-    ensures { IsTrue result ↔ (option_map (λ text. text.now) refused.entry ≡ Some out.now) }
+    ensures { MatchBool result
+        (option_map (λ text. text.now) refused.entry ≡ Some out.now)
+        (option_map (λ text. text.now) refused.entry ≢ Some out.now) }
 {
     match refused {
         Some(path) => path == out,

@@ -44,7 +44,7 @@ impl<'a> Diagnostic<'a> {
 
     /// Why a file could not be written: a refused growth, or else what the file's own line says.
     fn unwritten(error: Error, line: Diagnostic<'a>) -> Diagnostic<'a>
-        ensures { result ≡ unwritten_line (error_kind error) line }
+        ensures { result ≡ unwritten_line (error_kind error) line.entry }
     {
         match error.kind() {
             ErrorKind::OutOfMemory => Diagnostic::NoMemory,

@@ -83,7 +83,7 @@ impl<'a> Ending<'a> {
 
     /// The same ending, with a fault of a file that was to be written.
     fn with_fault(self, line: Diagnostic<'a>) -> Ending<'a>
-        ensures { result ≡ record self.entry { status = 3; line = Some line } }
+        ensures { result ≡ record self.entry { status = 3; line = Some line.entry } }
     {
         Ending {
             status: 3,
