@@ -34,7 +34,9 @@ impl<W> NotedAnswers<W> {
     }
 
     /// The refusals among the answers, in order.
-    pub fn refusals(&self) -> &[Refusal] {
+    pub fn refusals(&self) -> &[Refusal]
+        ensures { result.now ≡ self.now.notes.refusals.items }
+    {
         self.notes.refusals()
     }
 

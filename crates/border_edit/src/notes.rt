@@ -1,4 +1,6 @@
 //! Which answers are refusals, seen byte by byte.
+ghost use Rattle.std.specs.Prelude.{◌≡◌, []};
+
 use std::alloc::{AllocError, Global};
 use std::mem;
 
@@ -89,7 +91,9 @@ pub struct Notes {
 
 impl Notes {
     /// No answer has begun.
-    pub fn new(alloc: Global) -> Notes {
+    pub fn new(alloc: Global) -> Notes
+        ensures { result.refusals.items ≡ [] }
+    {
         Notes {
             alloc,
             place: Place::Start,
@@ -100,7 +104,9 @@ impl Notes {
     }
 
     /// The refusals that have ended, in order.
-    pub fn refusals(&self) -> &[Refusal] {
+    pub fn refusals(&self) -> &[Refusal]
+        ensures { result.now ≡ self.now.refusals.items }
+    {
         self.refusals.as_slice()
     }
 
@@ -122,7 +128,7 @@ impl Notes {
     }
 
     /// Takes the next bytes of the answers. After an error the refusals are not all of them.
-    pub fn take(&mut self, piece: &[u8]) -> Result<(), AllocError> {
+    pub(crate) fn take(&mut self, piece: &[u8]) -> Result<(), AllocError> {
         for byte in piece {
             self.take_byte(*byte)?;
         }
