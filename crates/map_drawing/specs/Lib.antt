@@ -1,0 +1,4 @@
+pub mod Windows
+pub mod Paths
+pub mod Missing
+pub mod Areas
