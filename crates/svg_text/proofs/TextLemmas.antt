@@ -8,8 +8,8 @@ use Rattle.svg_text.specs.Escaping.{none, plain, reference, ampersand, less, gre
 
 -- a choice has what both of its sides have
 by_test : (t : Bool) (x y : List ℕ) (P : List ℕ → Type 0) → (t ≡ true → P x) → (t ≡ false → P y) → P (if t then x else y)
-by_test true x y P yes no = yes refl
-by_test false x y P yes no = no refl
+by_test true x y P one other = one refl
+by_test false x y P one other = other refl
 
 -- a byte of a character beyond ASCII means itself
 high : (b : ℕ) → 127 < b → IsPlain b
@@ -23,12 +23,12 @@ high b h = record {
 }
 
 tab_or_line : (b : ℕ) → is_control b ≡ false → b < 32 → (b ≡ 9) ⊎ (b ≡ 10)
-tab_or_line b no low =
+tab_or_line b fine low =
     elim (eqb_tells b 9) [
       | inl tab ↦ inl tab.1
       | inr not_tab ↦ elim (eqb_tells b 10) [
           | inl line ↦ inr line.1
-          | inr not_line ↦ let bad : true ≡ false = rw (lt-ltb b 32 low, not_tab.0, not_line.0) at no in absurd (cc)
+          | inr not_line ↦ let bad : true ≡ false = rw (lt-ltb b 32 low, not_tab.0, not_line.0) at fine in absurd (cc)
         ]
     ]
 
@@ -43,13 +43,13 @@ text_byte b bs rest =
     by_test (b == 13) _ _ P (λ _. reference return rest) (λ _.
     by_test (is_control b) _ _ P
     (λ _. plain (high 239 (lit< tt)) (plain (high 191 (lit< tt)) (plain (high 189 (lit< tt)) rest)))
-    (λ no. plain (record {
+    (λ fine. plain (record {
       no_ampersand = eqb-false b 38 n38;
       no_less = eqb-false b 60 n60;
       no_greater = eqb-false b 62 n62;
       no_quote = eqb-false b 34 n34;
       no_apostrophe = eqb-false b 39 n39;
-      no_control = tab_or_line b no;
+      no_control = tab_or_line b fine;
     }) rest)))))))
 
 text_behind : (first second b : ℕ) (bs : List ℕ) → IsText bs → IsText (escaped_behind first second b ++ bs)

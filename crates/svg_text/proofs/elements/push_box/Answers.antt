@@ -1,0 +1,7 @@
+use Rattle.svg_text.proofs.Appending.{then}
+use Rattle.svg_text.proofs.elements.push_box.Goals as goal
+
+pub returns : goal.returns
+returns g c =
+    let all = then c.in_ok-extend_from_slice.ensures.items (then c.in_ok-push_pair.ensures c.in_ok-extend_from_slice-2.ensures.items) in
+    all
