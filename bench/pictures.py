@@ -26,8 +26,8 @@ PICTURES = TOP / "docs/pictures"
 SQUARES = """move 10 10 12 12
 split 0 "C" 0 0 12 12
 """
-COLUMBUS = """move 532622 382902 545000 395000
-rename 5 "5 <new>"
+COLUMBUS = r"""move 532622 382902 545000 395000
+rename 5 "<five> & \"5\""
 merge 30 35
 delete 9
 """
