@@ -1,2 +1,1 @@
 pub mod TextLemmas
-pub mod Appending

@@ -1,7 +1,10 @@
-use Rattle.svg_text.proofs.Appending.{then}
+use Rattle.std.proofs.Common.{append_assoc}
 use Rattle.svg_text.proofs.elements.open_view.Goals as goal
 
 pub returns : goal.returns
 returns g c =
-    let all = then c.in_ok-extend_from_slice.ensures.items (then c.in_ok-push_place.ensures (then c.in_ok-push_box.ensures c.in_ok-extend_from_slice-2.ensures.items)) in
-    all
+    let e0 = c.in_ok-extend_from_slice.ensures.items in
+    let e1 = c.in_ok-push_place.ensures in
+    let e2 = c.in_ok-push_box.ensures in
+    let e3 = c.in_ok-extend_from_slice-2.ensures.items in
+    simp (e3, e2, e1, e0, append_assoc)

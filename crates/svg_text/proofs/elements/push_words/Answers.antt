@@ -1,7 +1,14 @@
-use Rattle.svg_text.proofs.Appending.{then}
+use Rattle.std.proofs.Common.{append_assoc}
 use Rattle.svg_text.proofs.elements.push_words.Goals as goal
 
 pub returns : goal.returns
 returns g c =
-    let all = then c.in_ok-extend_from_slice.ensures.items (then c.in_ok-extend_from_slice-2.ensures.items (then c.in_ok-extend_from_slice-3.ensures.items (then c.in_ok-push_attribute.ensures (then c.in_ok-push_attribute-2.ensures (then c.in_ok-extend_from_slice-4.ensures.items (then c.in_ok-push_escaped.ensures.escaped c.in_ok-extend_from_slice-5.ensures.items)))))) in
-    all
+    let e0 = c.in_ok-extend_from_slice.ensures.items in
+    let e1 = c.in_ok-extend_from_slice-2.ensures.items in
+    let e2 = c.in_ok-extend_from_slice-3.ensures.items in
+    let e3 = c.in_ok-push_attribute.ensures in
+    let e4 = c.in_ok-push_attribute-2.ensures in
+    let e5 = c.in_ok-extend_from_slice-4.ensures.items in
+    let e6 = c.in_ok-push_escaped.ensures.escaped in
+    let e7 = c.in_ok-extend_from_slice-5.ensures.items in
+    simp (e7, e6, e5, e4, e3, e2, e1, e0, append_assoc)
