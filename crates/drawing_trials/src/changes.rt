@@ -40,8 +40,18 @@ fn changed_features_are_filled_and_listed(rt: HostRuntime) -> Result<(), Fail> {
 #[test]
 fn where_nothing_was_changed_nothing_is_marked(rt: HostRuntime) -> Result<(), Fail> {
     let text = change(rt.alloc(), BEFORE, BEFORE, ALL)?;
-    assert!(rt; has(text.as_slice(), r#"<path class="gone" stroke-width="3" stroke-dasharray="7" d=""/>"#));
-    assert!(rt; has(text.as_slice(), r#"<path class="new" stroke-width="3" d=""/>"#));
+    assert!(rt;
+        has(
+            text.as_slice(),
+            r#"<path class="gone" stroke-width="3" stroke-dasharray="7" d=""/>"#
+        )
+    );
+    assert!(rt;
+        has(
+            text.as_slice(),
+            r#"<path class="new" stroke-width="3" d=""/>"#
+        )
+    );
     assert!(rt; !has(text.as_slice(), r#"<path class="changed""#));
     assert!(rt; has(text.as_slice(), ">no feature</text>"));
     Ok(())

@@ -12,6 +12,7 @@ const SQUARES: &str =
 
 /// A unit of the grid whose id is still to come, before and behind it.
 const BEFORE_ID: &str = r#"{"type":"Topology","objects":{"a":{"type":"Polygon","id":"#;
+
 const BEHIND_ID: &str = r#","arcs":[[0]]}},"arcs":[[[0,0],[1,0],[0,1],[0,0]]]}"#;
 
 #[test]
@@ -40,7 +41,12 @@ fn a_part_is_drawn_with_the_features_that_meet_it(rt: HostRuntime) -> Result<(),
     };
     let text = picture(rt.alloc(), SQUARES, view, None)?;
     assert!(rt; has(text.as_slice(), r#"viewBox="0 0 4 4""#));
-    assert!(rt; has(text.as_slice(), r#"d="M -8 -8 2 -8 2 2 -8 2z"><title>#1</title>"#));
+    assert!(rt;
+        has(
+            text.as_slice(),
+            r#"d="M -8 -8 2 -8 2 2 -8 2z"><title>#1</title>"#
+        )
+    );
     assert!(rt; !has(text.as_slice(), "<title>A</title>"));
     assert!(rt; !has(text.as_slice(), r#"class="name""#));
     Ok(())
@@ -53,15 +59,30 @@ fn ids_are_written_in_the_features(rt: HostRuntime) -> Result<(), Fail> {
         has_ids: true,
     };
     let text = picture(rt.alloc(), SQUARES, view, None)?;
-    assert!(rt; has(text.as_slice(), r#"<text class="name" x="281" y="285">A</text>"#));
-    assert!(rt; has(text.as_slice(), r#"<text class="name" x="718" y="285">#1</text>"#));
+    assert!(rt;
+        has(
+            text.as_slice(),
+            r#"<text class="name" x="281" y="285">A</text>"#
+        )
+    );
+    assert!(rt;
+        has(
+            text.as_slice(),
+            r#"<text class="name" x="718" y="285">#1</text>"#
+        )
+    );
     Ok(())
 }
 
 #[test]
 fn a_conflict_is_marked(rt: HostRuntime) -> Result<(), Fail> {
     let text = picture(rt.alloc(), SQUARES, ALL, Some(conflict(&rt)))?;
-    assert!(rt; has(text.as_slice(), r#"<path class="conflict" stroke-width="3" d="M 1 1 11 11M 1 11 11 1"/>"#));
+    assert!(rt;
+        has(
+            text.as_slice(),
+            r#"<path class="conflict" stroke-width="3" d="M 1 1 11 11M 1 11 11 1"/>"#
+        )
+    );
     assert!(rt; has(text.as_slice(), "conflict 0 0 10 10 / 0 10 10 0</text>"));
     assert!(rt; has(text.as_slice(), "<circle cx=\"281\" cy=\"281\" r=\"14\"/>"));
     Ok(())

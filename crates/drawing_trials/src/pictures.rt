@@ -41,12 +41,7 @@ pub(crate) fn picture(
 }
 
 /// The picture of what an edit did.
-pub(crate) fn change(
-    heap: Global,
-    before: &str,
-    after: &str,
-    view: View,
-) -> Result<Vec<u8>, Fail> {
+pub(crate) fn change(heap: Global, before: &str, after: &str, view: View) -> Result<Vec<u8>, Fail> {
     let mut text = Vec::new(heap);
     let before = read(heap, heap, before.as_bytes())?;
     let after = read(heap, heap, after.as_bytes())?;
