@@ -1,9 +1,13 @@
-use Rattle.std.proofs.Common.{append_assoc}
+use Rattle.std.specs.Prelude.{codes}
+use Rattle.std.specs.Fmt.{signed_decimal}
+use Rattle.svg_text.proofs.Appending.{three, whole}
 use Rattle.svg_text.proofs.elements.open_turned.Goals as goal
 
 pub returns : goal.returns
 returns g c =
-    let e0 = c.in_ok-extend_from_slice.ensures.items in
-    let e1 = c.in_ok-push_number.ensures in
-    let e2 = c.in_ok-extend_from_slice-2.ensures.items in
-    simp (e2, e1, e0, append_assoc)
+    let begun = c.extend_from_slice.new.self.items in
+    let moved = c.push_number.new.text.items in
+    three c.args.text.now.items (codes "<g transform=\"translate(0 ") (signed_decimal c.args.height) (codes ") scale(1 -1)\">\n") begun moved c.extend_from_slice-2.new.self.items
+    c.in_ok-extend_from_slice.ensures.items
+    (whole signed_decimal begun moved c.args.height c.ranges.height c.in_ok-push_number.ensures)
+    c.in_ok-extend_from_slice-2.ensures.items
