@@ -24,12 +24,13 @@ fn ring_area(ring: &[Pos]) -> Option<i128>
 fn rings_area<A: Allocator + Copy>(rings: &[Vec<Pos, A>]) -> Option<i128>
     ensures { IfSome result (λ area. area ≡ polygon_area (map positions_of rings.now)) }
 {
-    let Some((outer, holes)) = rings.split_first() else {
+    let [outer, holes @ ..] = rings else {
         return Some(0);
     };
     let mut area = ring_area(outer.as_slice())?;
     for hole in holes {
-        area = area.checked_sub(ring_area(hole.as_slice())?)?;
+        let part = ring_area(hole.as_slice())?;
+        area = area.checked_sub(part)?;
     }
     Some(area)
 }
@@ -41,7 +42,8 @@ pub(crate) fn area<A: Allocator + Copy>(polygons: &[Vec<Vec<Pos, A>, A>]) -> Opt
 {
     let mut area: i128 = 0;
     for rings in polygons {
-        area = area.checked_add(rings_area(rings.as_slice())?)?;
+        let part = rings_area(rings.as_slice())?;
+        area = area.checked_add(part)?;
     }
     Some(area)
 }

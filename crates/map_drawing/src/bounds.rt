@@ -1,9 +1,7 @@
-// The least and the greatest coordinates of rings.
+// The least and the greatest coordinates.
 ghost use Rattle.std.specs.Prelude.{◌≡◌, ◌≤◌, ◌≤ℤ◌, unsigned_abs};
-ghost use Rattle.map_drawing.specs.Windows.{Includes};
 
 use grid_geometry::Pos;
-use std::alloc::Allocator;
 
 /// The least and the greatest coordinates of some positions.
 #[derive(Clone, Copy, Debug, PartialEq, Eq)]
@@ -24,7 +22,29 @@ pub struct Bounds {
     pub ghost upward: { y0 ≤ℤ y1 },
 }
 
+/// The lesser of two coordinates.
+fn lesser(a: i64, b: i64) -> i64
+    requires first { unsigned_abs a ≤ 1000000000000 }
+    requires second { unsigned_abs b ≤ 1000000000000 }
+    ensures low { (result ≤ℤ a) × (result ≤ℤ b) }
+    ensures range { unsigned_abs result ≤ 1000000000000 }
+{
+    if a < b { a } else { b }
+}
+
+/// The greater of two coordinates.
+fn greater(a: i64, b: i64) -> i64
+    requires first { unsigned_abs a ≤ 1000000000000 }
+    requires second { unsigned_abs b ≤ 1000000000000 }
+    ensures high { (a ≤ℤ result) × (b ≤ℤ result) }
+    ensures range { unsigned_abs result ≤ 1000000000000 }
+{
+    if a < b { b } else { a }
+}
+
 impl Bounds {
+    ghost use Rattle.map_drawing.specs.Windows.{Includes};
+
     /// Those of one position.
     pub fn of(pos: Pos) -> Bounds
         ensures { Includes result pos }
@@ -44,54 +64,22 @@ impl Bounds {
         ensures most { (self.x1 ≤ℤ result.x1) × (self.y1 ≤ℤ result.y1) }
     {
         Bounds {
-            x0: self.x0.min(pos.x()),
-            y0: self.y0.min(pos.y()),
-            x1: self.x1.max(pos.x()),
-            y1: self.y1.max(pos.y()),
+            x0: lesser(self.x0, pos.x()),
+            y0: lesser(self.y0, pos.y()),
+            x1: greater(self.x1, pos.x()),
+            y1: greater(self.y1, pos.y()),
         }
     }
 
     /// The position in their middle.
     pub(crate) fn middle(&self) -> Option<Pos> {
-        Pos::new((self.x0 + self.x1) / 2, (self.y0 + self.y1) / 2)
+        self.middle_with(self)
     }
-}
 
-/// Bounds with a position more, or those of it alone.
-fn widened(before: Option<Bounds>, pos: Pos) -> Bounds {
-    match before {
-        None => Bounds::of(pos),
-        Some(bounds) => bounds.with(pos),
+    /// The position in the middle of what they have in common with others.
+    pub(crate) fn middle_with(&self, others: &Bounds) -> Option<Pos> {
+        let x = greater(self.x0, others.x0) + lesser(self.x1, others.x1);
+        let y = greater(self.y0, others.y0) + lesser(self.y1, others.y1);
+        Pos::new(x / 2, y / 2)
     }
-}
-
-fn with_ring(before: Option<Bounds>, ring: &[Pos]) -> Option<Bounds> {
-    let mut bounds = before;
-    for pos in ring {
-        bounds = Some(widened(bounds, *pos));
-    }
-    bounds
-}
-
-fn with_rings<A: Allocator + Copy>(
-    before: Option<Bounds>,
-    rings: &[Vec<Pos, A>],
-) -> Option<Bounds> {
-    let mut bounds = before;
-    for ring in rings {
-        bounds = with_ring(bounds, ring.as_slice());
-    }
-    bounds
-}
-
-/// Bounds with those of polygons; none where no ring was met.
-pub(crate) fn with_polygons<A: Allocator + Copy>(
-    before: Option<Bounds>,
-    polygons: &[Vec<Vec<Pos, A>, A>],
-) -> Option<Bounds> {
-    let mut bounds = before;
-    for rings in polygons {
-        bounds = with_rings(bounds, rings.as_slice());
-    }
-    bounds
 }

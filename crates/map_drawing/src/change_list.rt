@@ -1,5 +1,5 @@
 // The list of what an edit changed.
-ghost use Rattle.std.specs.Prelude.{◌≤◌, ◌≤ℤ◌, pos, unsigned_abs};
+ghost use Rattle.std.specs.Prelude.{◌≤◌, ◌≤ℤ◌, pos};
 
 use crate::areas::area;
 use crate::changes::Change;
@@ -22,32 +22,39 @@ const BEFORE: i64 = 720;
 
 const AFTER: i64 = 980;
 
-/// How many lines the list has, with its head.
-pub(crate) fn rows_of<A: Allocator + Copy>(changes: &[Change<'_, A>]) -> i64
+/// How many of so many changes are listed.
+fn listed(changes: usize) -> usize
+    ensures some { result ≤ changes }
+    ensures most { result ≤ 100 }
+{
+    if changes < MOST_CHANGES {
+        changes
+    } else {
+        MOST_CHANGES
+    }
+}
+
+/// How many lines the list of so many changes has, with its head.
+pub(crate) fn rows_of(changes: usize) -> i64
     ensures { (pos 2 ≤ℤ result) × (result ≤ℤ pos 103) }
 {
-    let listed = changes.len().min(MOST_CHANGES) as i64;
-    let others = if listed == 0 || changes.len() > MOST_CHANGES {
-        1
+    let rows = listed(changes) as i64 + 2;
+    if changes == 0 || MOST_CHANGES < changes {
+        rows + 1
     } else {
-        0
-    };
-    2 + listed + others
+        rows
+    }
 }
 
 /// Appends a line that says what the colours mean.
-fn push_legend<A: Allocator>(text: &mut Vec<u8, A>, y: i64) -> Result<(), AllocError>
-    requires { unsigned_abs y ≤ 100000 }
-{
+fn push_legend<A: Allocator>(text: &mut Vec<u8, A>, y: i64) -> Result<(), AllocError> {
     push_words(text, "gone", DONE, y, "borders gone (dashed)".as_bytes())?;
     push_words(text, "new", 220, y, "borders new".as_bytes())?;
     push_words(text, "plain", 360, y, "changed features filled".as_bytes())
 }
 
 /// Appends the heads of the columns.
-fn push_head<A: Allocator>(text: &mut Vec<u8, A>, y: i64) -> Result<(), AllocError>
-    requires { unsigned_abs y ≤ 100000 }
-{
+fn push_head<A: Allocator>(text: &mut Vec<u8, A>, y: i64) -> Result<(), AllocError> {
     push_words(text, "head", DONE, y, "edit".as_bytes())?;
     push_words(text, "head", FEATURE, y, "feature".as_bytes())?;
     push_words(
@@ -146,7 +153,7 @@ pub(crate) fn push_list<A: Allocator + Copy>(
     push_legend(text, top)?;
     push_head(text, top + ROW)?;
     let mut y = top + 2 * ROW;
-    for change in &changes[..changes.len().min(MOST_CHANGES)] {
+    for change in &changes[..listed(changes.len())] {
         push_change(alloc, heap, text, y, change)?;
         y += ROW;
     }

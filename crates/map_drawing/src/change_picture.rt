@@ -90,11 +90,11 @@ fn push_changed_borders<A: Allocator + Copy>(
 /// A feature is changed where the other map has none with the same `id` and the same rings. `heap`
 /// holds decoded ids; `alloc` all else. An error says that a growth was refused, and then nothing is
 /// said of the text.
-pub fn draw_change<A: Allocator + Copy>(
+pub fn draw_change<'m, A: Allocator + Copy>(
     alloc: A,
     heap: Global,
-    before: &RawDoc<'_, A>,
-    after: &RawDoc<'_, A>,
+    before: &'m RawDoc<'m, A>,
+    after: &'m RawDoc<'m, A>,
     view: View,
     conflict: Option<Conflict>,
     text: &mut Vec<u8, A>,
@@ -110,7 +110,7 @@ pub fn draw_change<A: Allocator + Copy>(
     open_picture(
         text,
         WIDTH,
-        bottom + ROW * (rows_of(list.as_slice()) + 1) + MARGIN,
+        bottom + ROW * (rows_of(list.len()) + 1) + MARGIN,
     )?;
     text.extend_from_slice(prelude().as_bytes())?;
     open_map(text, &layout)?;

@@ -100,11 +100,11 @@ pub(crate) fn changes<'r, A: Allocator + Copy>(
             break;
         };
         match change {
-            Change::Gone(_) => i += 1,
-            Change::New(_) => j += 1,
+            Change::Gone(_) => i = i.saturating_add(1),
+            Change::New(_) => j = j.saturating_add(1),
             Change::Altered { .. } => {
-                i += 1;
-                j += 1;
+                i = i.saturating_add(1);
+                j = j.saturating_add(1);
             }
         }
         changes.push(change)?;

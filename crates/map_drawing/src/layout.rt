@@ -30,14 +30,45 @@ pub(crate) struct Layout {
     ghost down: { (pos 1 ≤ℤ place.height) × (place.height ≤ℤ pos 720) },
 }
 
+/// A part as often as a room is wide.
+fn scaled(part: i64, room: i64) -> i64
+    requires part { unsigned_abs part ≤ 9000000000000 }
+    requires room { unsigned_abs room ≤ 960 }
+    ensures { unsigned_abs result ≤ 9000000000000000 }
+{
+    part * room
+}
+
+/// How often a whole is in a part.
+fn quotient(part: i64, whole: i64) -> i64
+    requires { pos 1 ≤ℤ whole }
+    ensures { unsigned_abs result ≤ unsigned_abs part }
+{
+    part / whole
+}
+
 /// So much of a room as a part is of a whole.
 fn share(part: i64, room: i64, whole: i64) -> i64
     requires part { unsigned_abs part ≤ 9000000000000 }
-    requires room { (pos 0 ≤ℤ room) × (room ≤ℤ pos 960) }
+    requires room { unsigned_abs room ≤ 960 }
     requires whole { pos 1 ≤ℤ whole }
     ensures { unsigned_abs result ≤ 9000000000000000 }
 {
-    part * room / whole
+    quotient(scaled(part, room), whole)
+}
+
+/// An extent in the picture, at least a unit.
+fn extent(extent: i64, most: i64) -> i64
+    requires { (pos 1 ≤ℤ most) × (most ≤ℤ pos 960) }
+    ensures { (pos 1 ≤ℤ result) × (result ≤ℤ most) }
+{
+    if extent < 1 {
+        1
+    } else if most < extent {
+        most
+    } else {
+        extent
+    }
 }
 
 impl Layout {
@@ -51,13 +82,12 @@ impl Layout {
                     x: MARGIN,
                     y: MARGIN,
                     width: MOST_ACROSS,
-                    height: high.max(1).min(MOST_DOWN),
+                    height: extent(high, MOST_DOWN),
                 },
             };
         }
-        let width = share(window.width, MOST_DOWN, window.height)
-            .max(1)
-            .min(MOST_ACROSS);
+        let wide = share(window.width, MOST_DOWN, window.height);
+        let width = extent(wide, MOST_ACROSS);
         Layout {
             window,
             place: Place {
@@ -88,7 +118,8 @@ impl Layout {
     pub(crate) fn line(&self) -> i64
         ensures { (pos 1 ≤ℤ result) × (result ≤ℤ pos 4000000000000) }
     {
-        (self.window.width / self.place.width).max(1)
+        let line = quotient(self.window.width, self.place.width);
+        if line < 1 { 1 } else { line }
     }
 
     /// Whether a grid unit is wider than a thin line: then lines are as wide as in the picture.

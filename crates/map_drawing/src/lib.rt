@@ -10,6 +10,7 @@ mod bounds;
 mod change_list;
 mod change_picture;
 mod changes;
+mod extents;
 mod layout;
 mod map_picture;
 mod marks;

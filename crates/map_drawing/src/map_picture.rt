@@ -1,4 +1,8 @@
 // The picture of a map.
+ghost use Rattle.std.specs.Prelude.{◌≡◌, None, IfSome};
+ghost use Rattle.grid_geometry.specs.Position.{Position};
+ghost use Rattle.map_drawing.specs.Windows.{IsShown, IsWithin};
+
 use crate::bounds::Bounds;
 use crate::layout::{Layout, MARGIN, WIDTH};
 use crate::marks::{Conflict, push_circle, push_conflict, push_fault};
@@ -40,16 +44,13 @@ impl Look {
 pub(crate) const ROW: i64 = 20;
 
 /// The part that a view shows: what it asks for, else all, and of a map with no ring a unit.
-pub(crate) fn window_of(view: View, bounds: Option<Bounds>) -> Window {
-    match (view.part, bounds) {
-        (Some(window), _) => window,
-        (None, Some(bounds)) => Window::around(bounds),
-        (None, None) => Window {
-            x: 0,
-            y: 0,
-            width: 1,
-            height: 1,
-        },
+pub(crate) fn window_of(view: View, bounds: Option<Bounds>) -> Window
+    ensures part { IfSome view.part (λ part. result ≡ part) }
+    ensures all { view.part ≡ None → (p : Position) → IsWithin bounds p → IsShown result p }
+{
+    match view.part {
+        Some(window) => window,
+        None => Window::of(bounds),
     }
 }
 
@@ -86,9 +87,11 @@ pub(crate) fn push_shape<A: Allocator + Copy>(
     shape: &Shape<'_, A>,
     look: Look,
 ) -> Result<(), AllocError> {
-    match shape.bounds() {
-        Some(bounds) if window.meets(&bounds) => {}
-        _ => return Ok(()),
+    let Some(bounds) = shape.bounds() else {
+        return Ok(());
+    };
+    if !window.meets(&bounds) {
+        return Ok(());
     }
     text.extend_from_slice(b"<path class=\"")?;
     text.extend_from_slice(look.class().as_bytes())?;

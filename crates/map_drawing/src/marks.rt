@@ -1,6 +1,5 @@
 // What is drawn over the borders, and the words below them.
-ghost use Rattle.std.specs.Prelude.{◌≤◌, ◌≤ℤ◌, pos, unsigned_abs};
-
+use crate::bounds::Bounds;
 use crate::layout::Layout;
 use crate::paths::push_segment;
 use grid_geometry::{Pos, Seg};
@@ -20,11 +19,9 @@ pub struct Conflict {
 impl Conflict {
     /// The position in the middle of what the boxes of both have in common.
     fn middle(&self) -> Option<Pos> {
-        let first = self.first.rect();
-        let second = self.second.rect();
-        let x = first.x0.max(second.x0) + first.x1.min(second.x1);
-        let y = first.y0.max(second.y0) + first.y1.min(second.y1);
-        Pos::new(x / 2, y / 2)
+        let first = Bounds::of(self.first.lo).with(self.first.hi);
+        let second = Bounds::of(self.second.lo).with(self.second.hi);
+        first.middle_with(&second)
     }
 }
 

@@ -1,5 +1,10 @@
 // The features of a map, as they are drawn.
-use crate::bounds::{Bounds, with_polygons};
+ghost use Rattle.std.specs.List.{All};
+ghost use Rattle.grid_geometry.specs.Position.{Position};
+ghost use Rattle.map_drawing.specs.Windows.{IsWithin, AreWithin};
+
+use crate::bounds::Bounds;
+use crate::extents::with_polygons;
 use crate::window::Window;
 use grid_geometry::Pos;
 use std::alloc::{AllocError, Allocator};
@@ -41,7 +46,9 @@ impl<'r, A: Allocator + Copy> Shape<'r, A> {
     }
 
     /// The least and the greatest coordinates of its rings.
-    pub(crate) fn bounds(&self) -> Option<Bounds> {
+    pub(crate) fn bounds(&self) -> Option<Bounds>
+        ensures { AreWithin result self.now.polygons.now }
+    {
         with_polygons(None, self.polygons)
     }
 }
@@ -83,7 +90,10 @@ pub(crate) fn shapes<'r, A: Allocator + Copy>(
 pub(crate) fn bounds_of<A: Allocator + Copy>(
     before: Option<Bounds>,
     shapes: &[Shape<'_, A>],
-) -> Option<Bounds> {
+) -> Option<Bounds>
+    ensures new { All (λ shape. AreWithin result shape.polygons.now) shapes.now }
+    ensures kept { (p : Position) → IsWithin before p → IsWithin result p }
+{
     let mut bounds = before;
     for shape in shapes {
         bounds = with_polygons(bounds, shape.polygons);

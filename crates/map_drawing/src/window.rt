@@ -1,7 +1,5 @@
 // The part of the grid that is drawn.
 ghost use Rattle.std.specs.Prelude.{◌≡◌, ◌≤◌, ◌≤ℤ◌, ◌-ℤ◌, ◌+ℤ◌, ◌↔◌, pos, unsigned_abs, int_le, ◌&&◌, IsTrue};
-ghost use Rattle.grid_geometry.specs.Position.{InRange, position};
-ghost use Rattle.map_drawing.specs.Windows.{IsShown};
 
 use crate::bounds::Bounds;
 use grid_geometry::Pos;
@@ -23,15 +21,23 @@ pub struct Window {
     pub ghost upward: { (pos 1 ≤ℤ height) × (height ≤ℤ pos 4000000000000) },
 }
 
-/// The margin beside so many units.
-fn margin(extent: i64) -> i64
-    requires { (pos 0 ≤ℤ extent) × (extent ≤ℤ pos 2000000000000) }
+/// The margin beside what is so many units wide and high.
+fn margin(across: i64, upward: i64) -> i64
+    requires across { (pos 0 ≤ℤ across) × (across ≤ℤ pos 2000000000000) }
+    requires upward { (pos 0 ≤ℤ upward) × (upward ≤ℤ pos 2000000000000) }
     ensures { (pos 1 ≤ℤ result) × (result ≤ℤ pos 100000000000) }
 {
-    extent / 40 + 1
+    if across < upward {
+        upward / 40 + 1
+    } else {
+        across / 40 + 1
+    }
 }
 
 impl Window {
+    ghost use Rattle.grid_geometry.specs.Position.{Position};
+    ghost use Rattle.map_drawing.specs.Windows.{IsShown, IsWithin};
+
     /// All of these bounds, with a margin.
     pub fn around(bounds: Bounds) -> Window
         ensures left { result.x ≤ℤ bounds.x0 }
@@ -39,12 +45,29 @@ impl Window {
         ensures lower { result.y ≤ℤ bounds.y0 }
         ensures upper { bounds.y1 ≤ℤ (result.y +ℤ result.height) }
     {
-        let margin = margin((bounds.x1 - bounds.x0).max(bounds.y1 - bounds.y0));
+        let across = bounds.x1 - bounds.x0;
+        let upward = bounds.y1 - bounds.y0;
+        let margin = margin(across, upward);
         Window {
             x: bounds.x0 - margin,
             y: bounds.y0 - margin,
-            width: bounds.x1 - bounds.x0 + 2 * margin,
-            height: bounds.y1 - bounds.y0 + 2 * margin,
+            width: across + 2 * margin,
+            height: upward + 2 * margin,
+        }
+    }
+
+    /// All of these bounds, with a margin; a unit where there are none.
+    pub(crate) fn of(bounds: Option<Bounds>) -> Window
+        ensures { (p : Position) → IsWithin bounds p → IsShown result p }
+    {
+        match bounds {
+            Some(bounds) => Window::around(bounds),
+            None => Window {
+                x: 0,
+                y: 0,
+                width: 1,
+                height: 1,
+            },
         }
     }
 

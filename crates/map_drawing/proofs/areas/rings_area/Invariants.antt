@@ -1,11 +1,10 @@
-use Rattle.std.proofs.Common.{◌≡◌, ◌-ℤ◌, drop, map}
+use Rattle.std.proofs.Common.{◌≡◌, ◌-ℤ◌, take, map}
 use Rattle.std.specs.List.{fold}
-use Rattle.ring_machine.specs.Query.{absolute_area, polygon_area}
+use Rattle.ring_machine.specs.Query.{absolute_area}
 use Rattle.topo_reader.specs.Uses.{positions_of}
 use Rattle.map_drawing.proofs.areas.rings_area.Given as goal
 
--- less the holes that are left it is the polygon's area
+-- the area less the holes so far
 abbrev pub invariant-loop-hole : goal.invariant-loop-hole
 invariant-loop-hole g l =
-    fold (λ so_far hole. so_far -ℤ absolute_area hole) l.area (map positions_of (drop l.hole-index l.holes))
-    ≡ polygon_area (map positions_of l.rings)
+    l.area ≡ fold (λ so_far hole. so_far -ℤ absolute_area hole) l.initial.area (map positions_of (take l.hole-index l.holes))
