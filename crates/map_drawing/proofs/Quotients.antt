@@ -27,3 +27,8 @@ product_fits a b h k = fits_signed_mul w64 a b 9000000000000 960 h k (omega arit
 
 pub product_small : (a b : ℤ) → unsigned_abs a ≤ 9000000000000 → unsigned_abs b ≤ 960 → unsigned_abs (a *ℤ b) ≤ 9000000000000000
 product_small a b h k = omega (arith, unsigned_abs-mul a b, mul-le-mul h k)
+
+-- what the code's product is
+pub product_is : (a b : ℤ) → FitsSigned w64 a → FitsSigned w64 b → unsigned_abs a ≤ 9000000000000 → unsigned_abs b ≤ 960
+    → to_z w64 (of_z w64 (to_z w64 (of_z w64 a) *ℤ to_z w64 (of_z w64 b))) ≡ a *ℤ b
+product_is a b f g h k = let both = product_fits a b h k in simp to_z-of_z

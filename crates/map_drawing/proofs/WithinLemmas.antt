@@ -6,7 +6,9 @@ use Rattle.std.proofs.lemmas.Int.{ints}
 use Rattle.std.proofs.lemmas.List.Elements.{All-more}
 use Rattle.grid_geometry.specs.Position.{Position}
 use Rattle.map_drawing.specs.declared.bounds.Bounds.{Bounds}
+use Rattle.map_drawing.specs.declared.shapes.Shape.{Shape}
 use Rattle.map_drawing.specs.declared.window.Window.{Window}
+use Rattle.map_drawing.specs.Shapes.{ShapeIn}
 use Rattle.map_drawing.specs.Windows.{Includes, IsShown, IsWithin, RingIn, RingsIn, AreWithin}
 
 pub all_so : {X : Type 0} (P Q : X → Type 0) → ((x : X) → P x → Q x) → (xs : List X) → All P xs → All Q xs
@@ -29,6 +31,9 @@ rings_stay old new w p h = all_so (RingIn old) (RingIn new) (ring_stays old new 
 
 pub polygons_stay : {A : Type 0} (old new : Option Bounds) → Wider old new → (ps : List (Vec (Vec Position A) A)) → AreWithin old ps → AreWithin new ps
 polygons_stay old new w ps h = all_so (RingsIn old) (RingsIn new) (rings_stay old new w) ps h
+
+pub shape_stays : {A : Type 0} (old new : Option Bounds) → Wider old new → (s : Shape A) → ShapeIn old s → ShapeIn new s
+shape_stays old new w s h = polygons_stay old new w s.polygons.now h
 
 -- a window about bounds shows what they have
 pub shown_around : (b : Bounds) (w : Window) (p : Position) → w.x ≤ℤ b.x0 → b.x1 ≤ℤ (w.x +ℤ w.width) → w.y ≤ℤ b.y0 → b.y1 ≤ℤ (w.y +ℤ w.height)

@@ -2,3 +2,4 @@ pub mod Windows
 pub mod Paths
 pub mod Missing
 pub mod Areas
+pub mod Shapes

@@ -2,6 +2,7 @@
 ghost use Rattle.std.specs.List.{All};
 ghost use Rattle.grid_geometry.specs.Position.{Position};
 ghost use Rattle.map_drawing.specs.Windows.{IsWithin, AreWithin};
+ghost use Rattle.map_drawing.specs.Shapes.{ShapeIn};
 
 use crate::bounds::Bounds;
 use crate::extents::with_polygons;
@@ -91,7 +92,7 @@ pub(crate) fn bounds_of<A: Allocator + Copy>(
     before: Option<Bounds>,
     shapes: &[Shape<'_, A>],
 ) -> Option<Bounds>
-    ensures new { All (λ shape. AreWithin result shape.polygons.now) shapes.now }
+    ensures new { All (ShapeIn result) shapes.now }
     ensures kept { (p : Position) → IsWithin before p → IsWithin result p }
 {
     let mut bounds = before;

@@ -20,3 +20,6 @@ loop-rings-preserved g c =
 
 pub returns-clause-new : goal.returns-clause-new
 returns-clause-new g c = subst (AreWithin c.loop-rings.bounds) (take_all c.loop-rings.rings-index c.args.polygons.now c.loop-rings-test.false) c.loop-rings.invariant.new
+
+pub returns-clause-kept : goal.returns-clause-kept
+returns-clause-kept g c = c.loop-rings.invariant.kept

@@ -16,3 +16,6 @@ loop-pos-preserved c = record {
 
 pub returns-clause-new : goal.returns-clause-new
 returns-clause-new c = subst (All (IsWithin c.loop-pos.bounds)) (take_all c.loop-pos.pos-index c.args.ring.now c.loop-pos-test.false) c.loop-pos.invariant.new
+
+pub returns-clause-kept : goal.returns-clause-kept
+returns-clause-kept c = c.loop-pos.invariant.kept

@@ -20,3 +20,6 @@ loop-ring-preserved g c =
 
 pub returns-clause-new : goal.returns-clause-new
 returns-clause-new g c = subst (All (RingIn c.loop-ring.bounds)) (take_all c.loop-ring.ring-index c.args.rings.now c.loop-ring-test.false) c.loop-ring.invariant.new
+
+pub returns-clause-kept : goal.returns-clause-kept
+returns-clause-kept g c = c.loop-ring.invariant.kept
