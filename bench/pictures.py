@@ -4,8 +4,9 @@
 The pictures are made by the built programs border_edit and border_show (`rt ci` leaves them); others
 can be named. Then `--maps N` maps with drawn ids are drawn too, alone and as what an edit did. Each
 picture has to be well-formed XML with whole numbers alone, in which each feature's title is what a
-model here makes of its id, and the same bytes again when it is drawn again. There is one line for
-each that is not; the status is 0 where all are.
+model here makes of its id, and the same bytes again when it is drawn again. Damaged, deep and huge
+maps have to end with the fault that border_edit has for them, or, where it names a conflict, with a
+picture that names it. There is one line for each that is wrong; the status is 0 where none is.
 """
 import argparse
 import json
@@ -148,6 +149,47 @@ def draw_maps(show, count, seed):
     return wrong
 
 
+def hostile_maps(draw):
+    """Maps that are damaged, deep or huge, and one with a conflict."""
+    whole = (EXAMPLES / "squares.json").read_bytes()
+    yield b""
+    yield b"[" * 200
+    deep = b'{"type":"GeometryCollection","geometries":[' * 200 + b"]}" * 200
+    yield b'{"type":"Topology","objects":{"a":' + deep + b'},"arcs":[]}'
+    yield b" " * 67_108_865
+    yield whole + b" " * (67_108_864 - len(whole))
+    yield whole.replace(b"[10,10]", b"[-5,15]").replace(b"[0,10]", b"[25,5]")
+    for _ in range(200):
+        at = draw.randrange(len(whole))
+        yield whole[:at]
+        yield whole[:at] + bytes([draw.randrange(256)]) + whole[at + 1:]
+
+
+def ending(program, *words):
+    ran = subprocess.run([program, *map(str, words)], stdout=subprocess.PIPE, stderr=subprocess.PIPE, timeout=60)
+    return ran.returncode, ran.stderr.decode()
+
+
+def draw_hostile(edit, show, seed):
+    """How many of the hostile maps do not end as in the editor."""
+    wrong = 0
+    with tempfile.TemporaryDirectory() as name:
+        folder = pathlib.Path(name)
+        (folder / "none.txt").write_text("")
+        for number, bytes_ in enumerate(hostile_maps(random.Random(seed))):
+            (folder / "map.json").write_bytes(bytes_)
+            edited = ending(edit, folder / "map.json", folder / "none.txt", "--out", folder / "saved.json")
+            shown_ = ending(show, folder / "map.json", "--out", folder / "map.svg")
+            conflict = edited[1].startswith("open: conflict ")
+            if shown_ != ((0, "") if conflict else edited):
+                wrong += 1
+                print(f"hostile map {number}: {shown_}, and not {edited}")
+            elif conflict and edited[1][len("open: "):].strip() not in (folder / "map.svg").read_text():
+                wrong += 1
+                print(f"hostile map {number}: the conflict is not named")
+    return wrong
+
+
 def main():
     words = argparse.ArgumentParser(description=__doc__.split("\n", 1)[0])
     words.add_argument("--edit", default=str(TOP / "crates/border_edit/out/border_edit"))
@@ -159,7 +201,7 @@ def main():
     edit, show = os.path.abspath(asked.edit), os.path.abspath(asked.show)
     if not asked.no_pictures:
         make_pictures(edit, show)
-    wrong = draw_maps(show, asked.maps, asked.seed)
+    wrong = draw_maps(show, asked.maps, asked.seed) + (draw_hostile(edit, show, asked.seed) if asked.maps else 0)
     for picture in sorted(PICTURES.glob("*.svg")) if not asked.no_pictures else []:
         root = xml.dom.minidom.parse(str(picture)).documentElement
         if not is_whole(root):
