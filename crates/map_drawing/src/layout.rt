@@ -1,6 +1,7 @@
 // Where a window lies in the picture.
 ghost use Rattle.std.specs.Prelude.{◌≡◌, ◌≤◌, ◌≤ℤ◌, pos, unsigned_abs};
 
+use crate::quotients::quotient;
 use crate::window::Window;
 use grid_geometry::Pos;
 use svg_text::Place;
@@ -37,14 +38,6 @@ fn scaled(part: i64, room: i64) -> i64
     ensures { unsigned_abs result ≤ 9000000000000000 }
 {
     part * room
-}
-
-/// How often a whole is in a part.
-fn quotient(part: i64, whole: i64) -> i64
-    requires { pos 1 ≤ℤ whole }
-    ensures { unsigned_abs result ≤ unsigned_abs part }
-{
-    part / whole
 }
 
 /// So much of a room as a part is of a whole.
@@ -91,7 +84,7 @@ impl Layout {
         Layout {
             window,
             place: Place {
-                x: MARGIN + (MOST_ACROSS - width) / 2,
+                x: MARGIN + quotient(MOST_ACROSS - width, 2),
                 y: MARGIN,
                 width,
                 height: MOST_DOWN,

@@ -16,6 +16,7 @@ mod map_picture;
 mod marks;
 mod names;
 mod paths;
+mod quotients;
 mod segments;
 mod shapes;
 mod sorted;

@@ -2,6 +2,7 @@
 ghost use Rattle.std.specs.Prelude.{◌≡◌, ◌≤◌, ◌≤ℤ◌, ◌-ℤ◌, ◌+ℤ◌, ◌↔◌, pos, unsigned_abs, int_le, ◌&&◌, IsTrue};
 
 use crate::bounds::Bounds;
+use crate::quotients::quotient;
 use grid_geometry::Pos;
 
 /// The part of the grid that is drawn: from its least corner so many units across and up.
@@ -21,6 +22,15 @@ pub struct Window {
     pub ghost upward: { (pos 1 ≤ℤ height) × (height ≤ℤ pos 4000000000000) },
 }
 
+/// A fortieth of so many units, and one more.
+fn fortieth(extent: i64) -> i64
+    requires least { pos 0 ≤ℤ extent }
+    requires most { extent ≤ℤ pos 2000000000000 }
+    ensures { (pos 1 ≤ℤ result) × (result ≤ℤ pos 100000000000) }
+{
+    quotient(extent, 40) + 1
+}
+
 /// The margin beside what is so many units wide and high.
 fn margin(across: i64, upward: i64) -> i64
     requires across { (pos 0 ≤ℤ across) × (across ≤ℤ pos 2000000000000) }
@@ -28,9 +38,9 @@ fn margin(across: i64, upward: i64) -> i64
     ensures { (pos 1 ≤ℤ result) × (result ≤ℤ pos 100000000000) }
 {
     if across < upward {
-        upward / 40 + 1
+        fortieth(upward)
     } else {
-        across / 40 + 1
+        fortieth(across)
     }
 }
 
@@ -79,8 +89,8 @@ impl Window {
         ensures upward { result.height ≡ width }
     {
         Window {
-            x: middle.x() - width / 2,
-            y: middle.y() - width / 2,
+            x: middle.x() - quotient(width, 2),
+            y: middle.y() - quotient(width, 2),
             width,
             height: width,
         }
