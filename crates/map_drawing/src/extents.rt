@@ -29,10 +29,7 @@ fn with_ring(before: Option<Bounds>, ring: &[Pos]) -> Option<Bounds>
     bounds
 }
 
-fn with_rings<A: Allocator + Copy>(
-    before: Option<Bounds>,
-    rings: &[Vec<Pos, A>],
-) -> Option<Bounds>
+fn with_rings<A: Allocator + Copy>(before: Option<Bounds>, rings: &[Vec<Pos, A>]) -> Option<Bounds>
     ensures new { All (RingIn result) rings.now }
     ensures kept { (p : Position) → IsWithin before p → IsWithin result p }
 {
