@@ -27,9 +27,9 @@ tab_or_line b fine low =
     elim (eqb_tells b 9) [
       | inl tab ↦ inl tab.1
       | inr not_tab ↦ elim (eqb_tells b 10) [
-          | inl line ↦ inr line.1
-          | inr not_line ↦ let bad : true ≡ false = rw (lt-ltb b 32 low, not_tab.0, not_line.0) at fine in absurd (cc)
-        ]
+        | inl line ↦ inr line.1
+        | inr not_line ↦ let bad : true ≡ false = rw (lt-ltb b 32 low, not_tab.0, not_line.0) at fine in absurd (cc)
+      ]
     ]
 
 text_byte : (b : ℕ) (bs : List ℕ) → IsText bs → IsText (escaped_byte b ++ bs)
