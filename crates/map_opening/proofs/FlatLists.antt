@@ -1,0 +1,62 @@
+-- Rings that are moved into one list, and numbers that are put into lists again.
+use Rattle.std.proofs.Common.{◌≡◌, ◌≤◌, ◌+◌, ◌-◌, ℕ, refl, sym, ap, ap₂, ◌∙◌, List, [], ◌∷◌, ◌++◌, map, length, take, drop, arith}
+use Rattle.std.proofs.Common.{append-nil, append_assoc}
+use Rattle.std.specs.Prelude.{Vec}
+use Rattle.std.specs.List.{sum, sum_by}
+use Rattle.std.proofs.lemmas.List.{length-append, length-map, map-append, drop-drop, take-append-drop}
+use Rattle.std.proofs.lemmas.List.Concat.{flat_map-append}
+use Rattle.std.proofs.lemmas.List.Sums.{sum_by-cons}
+use Rattle.grid_geometry.specs.Position.{Position}
+use Rattle.ring_parts.specs.Seen.{rings_seen, polygons_seen}
+use Rattle.map_opening.specs.Flat.{joined, all_rings, shape_of, ring_count, IsFlat, lists_seen, numbers_seen, features_seen}
+
+-- ---- moved out of lists
+
+-- what was taken off the front came to the end
+pub moved : {B : Type 0} (now was part left before all : List B) → now ≡ was ++ part → before ≡ part ++ left
+    → was ++ before ≡ all → now ++ left ≡ all
+moved now was part left before all e f h =
+    ap (λ z. z ++ left) e ∙ append_assoc was part left ∙ ap (λ z. was ++ z) (sym f) ∙ h
+
+-- nothing is left
+pub nothing_left : {B : Type 0} (xs : List B) (n : ℕ) → n ≡ length xs → n ≡ 0 → xs ≡ []
+nothing_left [] n e z = refl
+nothing_left (x ∷ xs) n e z = absurd (omega arith)
+
+pub all_moved : {B : Type 0} (now left all : List B) → left ≡ [] → now ++ left ≡ all → now ≡ all
+all_moved now left all e h = sym (append-nil now) ∙ ap (λ z. now ++ z) (sym e) ∙ h
+
+-- ---- put into lists again
+
+-- the next numbers are put into a list
+pub joined_next : (lists : List (List ℕ)) (lists' : List (List ℕ)) (list numbers all : List ℕ) (next count : ℕ)
+    → lists' ≡ lists ++ list ∷ [] → list ≡ take count (drop next numbers)
+    → joined lists ++ drop next numbers ≡ all → joined lists' ++ drop (next + count) numbers ≡ all
+joined_next lists lists' list numbers all next count e f h =
+    ap (λ z. joined z ++ drop (next + count) numbers) e
+    ∙ ap (λ z. z ++ drop (next + count) numbers) (flat_map-append (λ xs. xs) lists (list ∷ []) ∙ ap (λ z. joined lists ++ z) (append-nil list))
+    ∙ append_assoc (joined lists) list (drop (next + count) numbers)
+    ∙ ap (λ z. joined lists ++ z) (ap₂ (λ y z. y ++ z) f (sym (drop-drop count next numbers)) ∙ take-append-drop count (drop next numbers))
+    ∙ h
+
+-- and the next lists into a feature
+pub all_next : (features features' : List (List (List ℕ))) (lists : List (List ℕ)) (numbers : List ℕ) (next next' : ℕ)
+    → features' ≡ features ++ lists ∷ [] → joined lists ++ drop next' numbers ≡ drop next numbers
+    → all_rings features ++ drop next numbers ≡ numbers → all_rings features' ++ drop next' numbers ≡ numbers
+all_next features features' lists numbers next next' e f h =
+    ap (λ z. all_rings z ++ drop next' numbers) e
+    ∙ ap (λ z. z ++ drop next' numbers) (flat_map-append joined features (lists ∷ []) ∙ ap (λ z. all_rings features ++ z) (append-nil (joined lists)))
+    ∙ append_assoc (all_rings features) (joined lists) (drop next' numbers)
+    ∙ ap (λ z. all_rings features ++ z) f ∙ h
+
+-- ---- how many rings there are
+
+length-joined : {R : Type 0} (polygons : List (List R)) → length (joined polygons) ≡ sum (map length polygons)
+length-joined [] = refl
+length-joined (rings ∷ polygons) =
+    omega (arith, length-append rings (joined polygons), length-joined polygons, sum_by-cons (λ n. n) (length rings) (map length polygons))
+
+pub length-all_rings : {R : Type 0} (features : List (List (List R))) → length (all_rings features) ≡ ring_count (shape_of features)
+length-all_rings [] = refl
+length-all_rings (polygons ∷ features) =
+    omega (arith, length-append (joined polygons) (all_rings features), length-joined polygons, length-all_rings features, sum_by-cons sum (map length polygons) (shape_of features))
