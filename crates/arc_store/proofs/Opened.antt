@@ -32,7 +32,8 @@ use Rattle.arc_tables.specs.Ways.{Edge}
 use Rattle.arc_tables.specs.Rings.{begins}
 use Rattle.ring_store.specs.Tables.{ring_in}
 use Rattle.ring_store.specs.declared.tables.RingTables.{RingTables}
-use Rattle.map_opening.specs.Flat.{all_rings, ring_count, IsFlat, numbers_seen}
+use Rattle.map_opening.specs.Flat.{all_rings, shape_of, ring_count, IsFlat, lists_seen, numbers_seen}
+use Rattle.ring_parts.specs.Seen.{rings_seen}
 use Rattle.map_opening.specs.Opened.{AreOpened}
 use Rattle.map_opening.proofs.FlatLists.{length-all_rings}
 use Rattle.map_opening.proofs.NestedLists.{put_again}
@@ -63,47 +64,50 @@ ring_there places None h = absurd (false≢true h)
 
 -- ---- what was read
 
-module _ (o : read.Opened) (h : IsOfRings o) (given : List (List Position)) (shape : List (List ℕ))
-    (flat : IsFlat o.polygons shape given) where
-  read_rings : rings (read.document_of o) ≡ given
+module _ {A : Type 0} (raw : RawDoc A) (h : IsOfRings (view_raw raw)) {given all : List (Vec Position A)} {shape : List (Vec ℕ A)}
+    (same : given ≡ all) (flat : IsFlat (view_raw raw).polygons (lists_seen shape) (rings_seen all)) where
+  read_rings : rings (read.document_of (view_raw raw)) ≡ rings_seen given
   read_rings =
+      let o = view_raw raw in
       rings_document o.polygons o.layers ∙ ap all_rings (take_all (length (leaves o.layers)) o.polygons (omega (arith, h.counted)))
-      ∙ flat.all
+      ∙ flat.all ∙ ap rings_seen (sym same)
 
-  pub read_are_rings : list_all is_ring given ≡ true
+  pub read_are_rings : list_all is_ring (rings_seen given) ≡ true
   read_are_rings = ap (list_all is_ring) (sym read_rings) ∙ h.are_rings
 
-  pub read_small : sum_by length given ≤ 4000000
+  pub read_small : sum_by length (rings_seen given) ≤ 4000000
   read_small = omega (arith, ap (sum_by length) read_rings, h.small)
 
--- there are as many numbers as rings of this shape
-pub numbers_fit : {I A : Type 0} (polygons : List (List (List (List Position)))) (given : List (List Position)) (shape : List (List ℕ))
-    (numbers : List ℕ) (t : RingTables I A) (first : Option (Segment × Segment)) (positions : ℕ) → IsFlat polygons shape given
-    → AreOpened given numbers t first positions → ring_count shape ≡ length numbers
-numbers_fit polygons given shape numbers t first positions flat opened =
-    ap ring_count (sym flat.alike) ∙ sym (length-all_rings polygons) ∙ ap length flat.all
-    ∙ ap length (sym opened.at) ∙ length-map numbers (ring_in t)
+  module _ {I : Type 0} {numbers : List ℕ} {t : RingTables I A} {first : Option (Segment × Segment)} {positions : ℕ}
+      (opened : AreOpened (rings_seen given) numbers t first positions) where
+    -- the first pair of what was read
+    pub opened_pair : first_pair (read.document_of (view_raw raw)) ≡ first
+    unfolding first_pair
+    opened_pair = ap (λ z. least_conflict (flat_map segments z)) read_rings ∙ opened.first
 
--- the first pair of what was read
-pub opened_pair : {I A : Type 0} (o : read.Opened) → IsOfRings o → (given : List (List Position)) (shape : List (List ℕ))
-    (numbers : List ℕ) (t : RingTables I A) (first : Option (Segment × Segment)) (positions : ℕ) → IsFlat o.polygons shape given
-    → AreOpened given numbers t first positions → first_pair (read.document_of o) ≡ first
-unfolding first_pair
-opened_pair o h given shape numbers t first positions flat opened =
-    ap (λ z. least_conflict (flat_map segments z)) (read_rings o h given shape flat) ∙ opened.first
+    -- there are as many numbers as rings of the shape
+    pub numbers_fit : {shape' : List (Vec ℕ A)} {numbers' : List ℕ} → numbers' ≡ numbers → shape' ≡ shape
+        → ring_count (lists_seen shape') ≡ length numbers'
+    numbers_fit e f =
+        ap (λ z. ring_count (lists_seen z)) f ∙ ap ring_count (sym flat.alike) ∙ sym (length-all_rings (view_raw raw).polygons)
+        ∙ ap length (flat.all ∙ ap rings_seen (sym same) ∙ sym opened.at) ∙ length-map numbers (ring_in t) ∙ ap length (sym e)
 
-module _ {I A : Type 0} (raw : RawDoc A) (h : IsOfRings (view_raw raw)) (given : List (List Position)) (shape : List (List ℕ))
-    (numbers : List ℕ) (t : RingTables I A) (first : Option (Segment × Segment)) (positions : ℕ)
-    (flat : IsFlat (view_raw raw).polygons shape given) (opened : AreOpened given numbers t first positions)
-    (polygons : List (Vec (Vec ℕ A) A)) (again : IsFlat (numbers_seen polygons) shape numbers) where
+module _ {I A : Type 0} (raw : RawDoc A) (h : IsOfRings (view_raw raw)) {given all : List (Vec Position A)} {shape shape' : List (Vec ℕ A)}
+    (same : given ≡ all) (flat : IsFlat (view_raw raw).polygons (lists_seen shape) (rings_seen all))
+    {numbers numbers' : List ℕ} {t : RingTables I A} {first : Option (Segment × Segment)} {positions : ℕ}
+    (opened : AreOpened (rings_seen given) numbers t first positions) {polygons : List (Vec (Vec ℕ A) A)}
+    (same_numbers : numbers' ≡ numbers) (same_shape : shape' ≡ shape) (again : IsFlat (numbers_seen polygons) (lists_seen shape') numbers') where
   abbrev o : read.Opened
   o = view_raw raw
+
+  alike : shape_of (numbers_seen polygons) ≡ shape_of o.polygons
+  alike = again.alike ∙ ap lists_seen same_shape ∙ sym flat.alike
 
   -- each feature has as many polygons of numbers as were read
   numbers_alike : map (λ n. length n.items) polygons ≡ map (λ f. length f.items) raw.polygons.items
   numbers_alike =
       sym (lengths_of feature_numbers (λ n. length n.items) (λ n. length-map n.items polygon_numbers) polygons)
-      ∙ sym (counts length (numbers_seen polygons)) ∙ ap (map length) (again.alike ∙ sym flat.alike) ∙ counts length o.polygons
+      ∙ sym (counts length (numbers_seen polygons)) ∙ ap (map length) alike ∙ counts length o.polygons
       ∙ lengths_of feature_positions (λ f. length f.items) (λ f. length-map f.items polygon_positions) raw.polygons.items
 
   pub opened_stands : CanStand (option_map (λ t. t.now) raw.transform) raw.layers.items (map view_kept raw.members.items) polygons
@@ -120,21 +124,23 @@ module _ {I A : Type 0} (raw : RawDoc A) (h : IsOfRings (view_raw raw)) (given :
   opened_document : document_of opened_map ≡ read.document_of o
   opened_document =
       read_framed (ring_under opened_map) o (numbers_seen polygons)
-      (put_again (ring_under opened_map) o.polygons (numbers_seen polygons) shape given numbers flat again
-      (sym (map-map canonical (ring_in t) numbers) ∙ ap (map canonical) opened.at ∙ all_canonical given (read_are_rings o h given shape flat)))
+      (put_again (ring_under opened_map) o.polygons (numbers_seen polygons) alike
+      (ap (map (ring_under opened_map)) (again.all ∙ same_numbers) ∙ sym (map-map canonical (ring_in t) numbers)
+      ∙ ap (map canonical) opened.at ∙ all_canonical (rings_seen given) (read_are_rings raw h same flat)
+      ∙ ap rings_seen same ∙ sym flat.all))
 
   opened_rings : rings read_frame ≡ numbers
   opened_rings =
       rings_document (numbers_seen polygons) o.layers
       ∙ ap (λ (ps : List (List (List ℕ))). all_rings ps) (take_all (length (leaves o.layers)) (numbers_seen polygons) (omega (arith, opened_stands.counted, length-map polygons (feature_numbers {A = A}))))
-      ∙ again.all
+      ∙ again.all ∙ same_numbers
 
   -- a ring stands under each number
   number_there : (r : ℕ) → Contains numbers r → is_some (table.get t.borders r) ≡ true
   number_there r c =
       ring_there t.vertices (table.get t.borders r)
       (all_in is_ring (map (ring_in t) numbers) (ring_in t r)
-      (ap (list_all is_ring) opened.at ∙ read_are_rings o h given shape flat)
+      (ap (list_all is_ring) opened.at ∙ read_are_rings raw h same flat)
       (in-map (ring_in t) r numbers (contains_in numbers r c)))
 
   opened_holds : first ≡ None → Holds opened_map t.index.held
@@ -146,12 +152,12 @@ module _ {I A : Type 0} (raw : RawDoc A) (h : IsOfRings (view_raw raw)) (given :
       (keeps-before_rings (ring_under opened_map) read_frame (subst KeepsTexts (sym opened_document) h.keeps))
       (subst Proper (sym opened_document) (record {
         are_rings = h.are_rings;
-        apart = opened_pair o h given shape numbers t first positions flat opened ∙ none;
+        apart = opened_pair raw h same flat opened ∙ none;
       }))
       (subst (λ d. size d ≤ 4000000) (sym opened_document) h.small)
 
   opened_size : positions ≡ size (document_of opened_map)
-  opened_size = opened.size ∙ ap (sum_by length) (sym (read_rings o h given shape flat)) ∙ ap size (sym opened_document)
+  opened_size = opened.size ∙ ap (sum_by length) (sym (read_rings raw h same flat)) ∙ ap size (sym opened_document)
 
   -- ---- the map
 
@@ -171,3 +177,6 @@ module _ {I A : Type 0} (raw : RawDoc A) (h : IsOfRings (view_raw raw)) (given :
       holds = subst (λ d. Holds (record { frame = d; rings = t.borders; places = t.vertices }) t.index.held) (sym is) (opened_holds none);
       sized = opened_size ∙ ap (λ d. size (document_of (record { frame = d; rings = t.borders; places = t.vertices }))) (sym is);
     }
+
+    pub map_proper : first ≡ None → Proper (document_of (stored_in framed t))
+    map_proper none = (map_kept none).holds.proper

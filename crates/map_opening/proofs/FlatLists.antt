@@ -1,9 +1,10 @@
 -- Rings that are moved into one list, and numbers that are put into lists again.
 use Rattle.std.proofs.Common.{◌≡◌, ◌≤◌, ◌+◌, ◌-◌, ℕ, refl, sym, ap, ap₂, ◌∙◌, List, [], ◌∷◌, ◌++◌, map, length, take, drop, arith}
 use Rattle.std.proofs.Common.{append-nil, append_assoc}
-use Rattle.std.specs.Prelude.{Vec}
+use Rattle.std.specs.Prelude.{slice_range}
 use Rattle.std.specs.List.{sum, sum_by}
-use Rattle.std.proofs.lemmas.List.{length-append, length-map, map-append, drop-drop, take-append-drop}
+use Rattle.std.proofs.lemmas.List.{length-append}
+use Rattle.std.proofs.lemmas.List.Folds.{drop_split}
 use Rattle.std.proofs.lemmas.List.Concat.{flat_map-append}
 use Rattle.std.proofs.lemmas.List.Sums.{sum_by-cons}
 use Rattle.grid_geometry.specs.Position.{Position}
@@ -29,15 +30,14 @@ all_moved now left all e h = sym (append-nil now) ∙ ap (λ z. now ++ z) (sym e
 -- ---- put into lists again
 
 -- the next numbers are put into a list
-pub joined_next : (lists : List (List ℕ)) (lists' : List (List ℕ)) (list numbers all : List ℕ) (next count : ℕ)
-    → lists' ≡ lists ++ list ∷ [] → list ≡ take count (drop next numbers)
-    → joined lists ++ drop next numbers ≡ all → joined lists' ++ drop (next + count) numbers ≡ all
-joined_next lists lists' list numbers all next count e f h =
-    ap (λ z. joined z ++ drop (next + count) numbers) e
-    ∙ ap (λ z. z ++ drop (next + count) numbers) (flat_map-append (λ xs. xs) lists (list ∷ []) ∙ ap (λ z. joined lists ++ z) (append-nil list))
-    ∙ append_assoc (joined lists) list (drop (next + count) numbers)
-    ∙ ap (λ z. joined lists ++ z) (ap₂ (λ y z. y ++ z) f (sym (drop-drop count next numbers)) ∙ take-append-drop count (drop next numbers))
-    ∙ h
+pub joined_next : (lists lists' : List (List ℕ)) (list numbers all : List ℕ) (next end : ℕ) → lists' ≡ lists ++ list ∷ []
+    → list ≡ slice_range numbers next end → next ≤ end → joined lists ++ drop next numbers ≡ all
+    → joined lists' ++ drop end numbers ≡ all
+joined_next lists lists' list numbers all next end e f l h =
+    ap (λ z. joined z ++ drop end numbers) e
+    ∙ ap (λ z. z ++ drop end numbers) (flat_map-append (λ xs. xs) lists (list ∷ []) ∙ ap (λ z. joined lists ++ z) (append-nil list))
+    ∙ append_assoc (joined lists) list (drop end numbers)
+    ∙ ap (λ z. joined lists ++ z) (ap (λ z. z ++ drop end numbers) f ∙ sym (drop_split numbers next end l)) ∙ h
 
 -- and the next lists into a feature
 pub all_next : (features features' : List (List (List ℕ))) (lists : List (List ℕ)) (numbers : List ℕ) (next next' : ℕ)

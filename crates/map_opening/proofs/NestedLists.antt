@@ -1,8 +1,8 @@
 -- Lists of lists of lists, and all that stands in them.
 use Rattle.std.proofs.Common.{◌≡◌, refl, sym, ap, ap₂, ◌∙◌, List, [], ◌∷◌, ◌++◌, map, length}
-use Rattle.std.proofs.Common.{ℕ, get_or, drop, arith}
+use Rattle.std.proofs.Common.{get_or, drop, arith}
 use Rattle.std.proofs.lemmas.List.{length-map, map-append, map-id, length-append}
-use Rattle.map_opening.specs.Flat.{joined, all_rings, shape_of, IsFlat}
+use Rattle.map_opening.specs.Flat.{joined, all_rings, shape_of}
 
 parts : {A : Type 0} (xs ys us vs : List A) → length xs ≡ length ys → xs ++ us ≡ ys ++ vs
     → (xs ≡ ys) × (us ≡ vs)
@@ -58,10 +58,7 @@ module _ {A C : Type 0} (f : A → C) where
       ∙ ap (λ (m : List (List C) → List (List C)). map m xs) (λ i l. map-id l i) ∙ map-id xs
 
   -- features of one shape are the same where their rings are
-  pub put_again : (features : List (List (List C))) (again : List (List (List A))) (shape : List (List ℕ))
-      (rings : List C) (numbers : List A) → IsFlat features shape rings → IsFlat again shape numbers
-      → map f numbers ≡ rings → map (map (map f)) again ≡ features
-  put_again features again shape rings numbers flat same e =
-      same_features f (λ x. x) again features (same.alike ∙ sym flat.alike)
-      (ap (map f) same.all ∙ e ∙ sym flat.all ∙ sym (map-id (all_rings features)))
-      ∙ mapped_itself features
+  pub put_again : (features : List (List (List C))) (again : List (List (List A))) → shape_of again ≡ shape_of features
+      → map f (all_rings again) ≡ all_rings features → map (map (map f)) again ≡ features
+  put_again features again alike e =
+      same_features f (λ x. x) again features alike (e ∙ sym (map-id (all_rings features))) ∙ mapped_itself features
