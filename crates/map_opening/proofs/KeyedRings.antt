@@ -15,16 +15,12 @@ use Rattle.ring_machine.proofs.Neighbours.{in-map, in-flat_map, all_in}
 use Rattle.ring_machine.proofs.StaysProper.{ring_long, ring_distinct}
 use Rattle.vertex_index.specs.Placement.{Placement, AreDistinct, place}
 use Rattle.ring_store.specs.Round.{IsRound}
-use Rattle.ring_store.proofs.KeyedLists.{AreRead}
+use Rattle.ring_store.proofs.KeyedLists.{AreRead, keyed_at}
 use Rattle.ring_store.proofs.Places.{keys_distinct}
 use Rattle.map_opening.specs.Keyed.{all_keys, IsKeyed}
 use Rattle.map_opening.specs.Laying.{segments_along}
 
 -- ---- keys that were put in an empty table
-
--- the positions under keys
-abbrev pub ring_at : Placement → List ℕ → List Position
-ring_at places keys = map (place places) keys
 
 none_there : (places : Placement) → places ≡ table.empty → (k : ℕ) → is_some (table.get places k) ≡ true → ⊥
 none_there places e k h =
@@ -34,14 +30,14 @@ pub none_distinct : (places : Placement) → places ≡ table.empty → AreDisti
 none_distinct places e j k p a b = absurd (none_there places e j (ap is_some a))
 
 pub none_read : (places : Placement) (keyed : List (List ℕ)) → keyed ≡ []
-    → AreRead ring_at (λ keys. keys) places places keyed []
-none_read places keyed e = subst (λ z. AreRead ring_at (λ keys. keys) places places z []) (sym e) (record {
+    → AreRead keyed_at (λ keys. keys) places places keyed []
+none_read places keyed e = subst (λ z. AreRead keyed_at (λ keys. keys) places places z []) (sym e) (record {
   read = refl;
   put = record { kept = λ k q h. h; placed = λ k c. absurd (omega (arith, c.1)); passed = λ k c. inl c };
 })
 
 pub read_keyed : (old places : Placement) (keyed : List (List ℕ)) (rings : List (List Position))
-    → old ≡ table.empty → AreRead ring_at (λ keys. keys) old places keyed rings
+    → old ≡ table.empty → AreRead keyed_at (λ keys. keys) old places keyed rings
     → IsKeyed places rings keyed
 read_keyed old places keyed rings e h = record {
   at = h.read;

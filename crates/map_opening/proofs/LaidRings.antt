@@ -72,5 +72,5 @@ laid_more rings rings' numbers keyed r keys vacant put laid =
 pub along_more : (places : Placement) (keyed : List (List ℕ)) (keys : List ℕ)
     → segments_along places keyed ++ segments (map (place places) keys) ≡ segments_along places (keyed ++ keys ∷ [])
 along_more places keyed keys =
-    let of = λ (ks : List ℕ). segments (map (place places) ks) in
-    ap (λ z. segments_along places keyed ++ z) (sym (append-nil (of keys))) ∙ sym (flat_map-append of keyed (keys ∷ []))
+    let along = λ (ks : List ℕ). segments (map (place places) ks) in
+    ap (λ z. segments_along places keyed ++ z) (sym (append-nil (along keys))) ∙ sym (flat_map-append along keyed (keys ∷ []))

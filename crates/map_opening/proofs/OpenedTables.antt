@@ -48,9 +48,9 @@ module _ (places : Placement) (rings : List (List Position)) (keyed : List (List
   -- the positions of the ring with each number
   pub rings_at : map (ring_at places m) numbers ≡ rings
   rings_at =
-      let of = λ (o : Option (List Edge)). map (place places) (begins (unwrap_or o [])) in
-      sym (map-map of (table.get m) numbers) ∙ ap (map of) l.along ∙ map-map of (λ ks. Some (edges ks)) keyed
-      ∙ same_map (λ ks. of (Some (edges ks))) (map (place places)) keyed (λ ks i. ap (map (place places)) (begins_edges ks))
+      let shown = λ (o : Option (List Edge)). map (place places) (begins (unwrap_or o [])) in
+      sym (map-map shown (table.get m) numbers) ∙ ap (map shown) l.along ∙ map-map shown (λ ks. Some (edges ks)) keyed
+      ∙ same_map (λ ks. shown (Some (edges ks))) (map (place places)) keyed (λ ks i. ap (map (place places)) (begins_edges ks))
       ∙ k.at
 
   module _ (are : list_all is_ring rings ≡ true) (held : SegmentSet) (h : IsHeld held (segments_along places keyed)) where

@@ -118,5 +118,9 @@ pub place_stays : Stays place (λ k. k ∷ [])
 place_stays b c s k t =
     place_is c k (place b k) (s k (place b k) (kept_place b k (t k (one k))))
 
-pub ring_stays : Stays (λ places ks. map (place places) ks) (λ keys. keys)
+-- the positions under keys
+abbrev pub keyed_at : Placement → List ℕ → List Position
+keyed_at places keys = map (place places) keys
+
+pub ring_stays : Stays keyed_at (λ keys. keys)
 ring_stays b c s ks t = stays_lists place (λ k. k ∷ []) place_stays b c s ks (λ k i. t k (subst (λ z. Contains z k) (singles ks) i))

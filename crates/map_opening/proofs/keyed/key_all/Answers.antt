@@ -5,11 +5,11 @@ use Rattle.ring_machine.proofs.Members.{contains_in}
 use Rattle.ring_machine.proofs.Neighbours.{all_in}
 use Rattle.ring_machine.proofs.StaysProper.{ring_distinct}
 use Rattle.ring_parts.specs.Seen.{rings_seen}
-use Rattle.ring_store.proofs.KeyedLists.{read_next, ring_stays}
+use Rattle.ring_store.proofs.KeyedLists.{read_next, keyed_at, ring_stays}
 use Rattle.ring_store.proofs.Pushed.{at_contains, map_more, map_pushed}
 use Rattle.map_opening.specs.Flat.{lists_seen}
 use Rattle.map_opening.specs.Keyed.{IsKeyed}
-use Rattle.map_opening.proofs.KeyedRings.{ring_at, none_distinct, none_read, read_keyed}
+use Rattle.map_opening.proofs.KeyedRings.{none_distinct, none_read, read_keyed}
 use Rattle.map_opening.proofs.keyed.key_all.Goals as goal
 
 pub loop-ring-init : goal.loop-ring-init
@@ -27,7 +27,7 @@ key_ring-requires-clause-different g c =
 
 pub loop-ring-preserved : goal.loop-ring-preserved
 loop-ring-preserved g c = record {
-  read = read_next ring_at (λ keys. keys) ring_stays c.args.vertices.now c.loop-ring.vertices c.key_ring.new.vertices
+  read = read_next keyed_at (λ keys. keys) ring_stays c.args.vertices.now c.loop-ring.vertices c.key_ring.new.vertices
       (lists_seen c.loop-ring.keyed.items) (lists_seen c.push.new.self.items)
       (rings_seen (take c.loop-ring.ring-index c.args.rings.now)) (rings_seen (take (c.loop-ring.ring-index + 1) c.args.rings.now))
       c.key_ring.new.keys.items c.ring-item.result.items
