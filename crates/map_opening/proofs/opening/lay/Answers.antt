@@ -8,14 +8,14 @@ use Rattle.vertex_index.specs.Placement.{AreDistinct}
 use Rattle.ring_parts.specs.Seen.{rings_seen}
 use Rattle.map_opening.specs.Flat.{lists_seen}
 use Rattle.map_opening.specs.Keyed.{IsKeyed}
-use Rattle.map_opening.specs.Laying.{AreLaid}
+use Rattle.map_opening.specs.Laying.{IsLaid, AreLaid}
 use Rattle.map_opening.proofs.KeyedRings.{round_keyed, size_keyed, segments_keyed}
 use Rattle.map_opening.proofs.LaidRings.{laid_none, filled_none}
 use Rattle.map_opening.proofs.OpenedTables.{rings_at, laid_stands}
 use Rattle.map_opening.proofs.opening.lay.Goals as goal
 
-pub new-requires : goal.new-requires
-new-requires g c = sym (ap set.len c.requires.empty ∙ set.len-empty segment_cmp)
+pub new-index-requires : goal.new-index-requires
+new-index-requires g c = sym (ap set.len c.requires.empty ∙ set.len-empty segment_cmp)
 
 pub lay_all-requires-clause-round : goal.lay_all-requires-clause-round
 lay_all-requires-clause-round g c = λ keys i.
@@ -33,8 +33,9 @@ lay_all-requires-clause-small g c =
 
 pub lay_all-requires-clause-none : goal.lay_all-requires-clause-none
 lay_all-requires-clause-none g c = record {
-  laid = subst (λ z. _) refl (laid_none c.mark_junctions.new.borders (c.mark_junctions.ensures ∙ c.new-borders.ensures));
-  filled = filled_none _ (c.new.ensures.held ∙ c.requires.empty);
+  laid = subst (λ z. IsLaid c.mark_junctions.new.borders z []) (sym c.new.ensures.items)
+      (laid_none c.mark_junctions.new.borders (c.mark_junctions.ensures ∙ c.new-borders.ensures));
+  filled = filled_none c.new-index.result.held (c.new-index.ensures.held ∙ c.requires.empty);
   size = refl;
 }
 
