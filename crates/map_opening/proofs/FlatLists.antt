@@ -1,15 +1,13 @@
 -- Rings that are moved into one list, and numbers that are put into lists again.
-use Rattle.std.proofs.Common.{◌≡◌, ◌≤◌, ◌+◌, ◌-◌, ℕ, refl, sym, ap, ap₂, ◌∙◌, List, [], ◌∷◌, ◌++◌, map, length, take, drop, arith}
+use Rattle.std.proofs.Common.{◌≡◌, ◌≤◌, ◌+◌, ◌-◌, ℕ, refl, sym, ap, ◌∙◌, List, [], ◌∷◌, ◌++◌, map, length, drop, arith}
 use Rattle.std.proofs.Common.{append-nil, append_assoc}
 use Rattle.std.specs.Prelude.{slice_range}
-use Rattle.std.specs.List.{sum, sum_by}
+use Rattle.std.specs.List.{sum}
 use Rattle.std.proofs.lemmas.List.{length-append}
 use Rattle.std.proofs.lemmas.List.Folds.{drop_split}
 use Rattle.std.proofs.lemmas.List.Concat.{flat_map-append}
 use Rattle.std.proofs.lemmas.List.Sums.{sum_by-cons}
-use Rattle.grid_geometry.specs.Position.{Position}
-use Rattle.ring_parts.specs.Seen.{rings_seen, polygons_seen}
-use Rattle.map_opening.specs.Flat.{joined, all_rings, shape_of, ring_count, IsFlat, lists_seen, numbers_seen, features_seen}
+use Rattle.map_opening.specs.Flat.{joined, all_rings, shape_of, ring_count}
 
 -- ---- moved out of lists
 

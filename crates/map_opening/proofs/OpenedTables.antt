@@ -1,9 +1,9 @@
 -- Rings that are laid along the keys of what was read: their tables stand, and hold what was read.
-use Rattle.std.proofs.Common.{◌≡◌, ℕ, true, refl, sym, ap, ◌∙◌, subst, List, [], ◌∷◌, map, Some, is_some, Option}
-use Rattle.std.specs.Prelude.{Contains, IsTrue, unwrap_or}
+use Rattle.std.proofs.Common.{◌≡◌, ℕ, true, sym, ap, ◌∙◌, subst, List, [], map, Some, is_some, Option}
+use Rattle.std.specs.Prelude.{Contains, unwrap_or}
 use Rattle.std.specs.FinMap as table
 use Rattle.std.specs.FinSet as set
-use Rattle.std.specs.List.{list_all, flat_map}
+use Rattle.std.specs.List.{list_all}
 use Rattle.std.proofs.lemmas.Simd.{map-map}
 use Rattle.grid_geometry.specs.Position.{Position}
 use Rattle.grid_geometry.specs.Segment.{Segment, segment}

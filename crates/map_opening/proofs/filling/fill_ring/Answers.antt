@@ -1,7 +1,5 @@
-use Rattle.std.proofs.Common.{◌≡◌, ◌<◌, ◌≢◌, ◌++◌, ◌∷◌, [], ◌∙◌, refl, ap, subst, length, take, get_or, arith}
-use Rattle.grid_geometry.specs.Segment.{segment}
+use Rattle.std.proofs.Common.{◌++◌, ◌∷◌, [], ◌∙◌, refl, subst, take, arith}
 use Rattle.arc_tables.specs.Rings.{edges}
-use Rattle.vertex_index.specs.Placement.{place}
 use Rattle.ring_store.specs.Steps.{sides}
 use Rattle.ring_store.proofs.Edges.{length-edges, edge_joins}
 use Rattle.map_opening.specs.Laying.{IsFilled}

@@ -1,7 +1,7 @@
-use Rattle.std.proofs.Common.{◌≡◌, ◌≤◌, ◌+◌, ◌++◌, ◌∷◌, [], ◌∙◌, sym, ap, ap₂, map, length, take, drop, arith}
+use Rattle.std.proofs.Common.{◌+◌, ◌++◌, ◌∷◌, [], ◌∙◌, sym, ap, ap₂, map, length, drop, arith}
 use Rattle.std.specs.List.{sum}
 use Rattle.std.proofs.lemmas.List.{map_push, take_all}
-use Rattle.std.proofs.lemmas.List.Sums.{sum_by_more, sum_by_more_le}
+use Rattle.std.proofs.lemmas.List.Sums.{sum_by_more}
 use Rattle.ring_store.proofs.Pushed.{taken}
 use Rattle.map_opening.specs.Flat.{joined, lists_seen}
 use Rattle.map_opening.proofs.FlatLists.{joined_next}

@@ -1,4 +1,4 @@
-use Rattle.std.proofs.Common.{◌++◌, ◌∷◌, [], ◌∙◌, sym, subst, length, arith}
+use Rattle.std.proofs.Common.{◌++◌, ◌∷◌, [], sym, subst, length, arith}
 use Rattle.std.proofs.lemmas.List.Sums.{sum_by_push}
 use Rattle.map_opening.specs.Laying.{IsLaid, IsFilled}
 use Rattle.map_opening.proofs.LaidRings.{laid_more, along_more}

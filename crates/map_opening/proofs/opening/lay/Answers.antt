@@ -1,4 +1,4 @@
-use Rattle.std.proofs.Common.{◌≡◌, ◌∙◌, refl, sym, ap, subst, [], Contains, length, arith}
+use Rattle.std.proofs.Common.{◌∙◌, refl, sym, ap, subst, [], Contains, length, arith}
 use Rattle.std.specs.FinSet as set
 use Rattle.std.specs.List.{sum_by}
 use Rattle.grid_geometry.specs.Segment.{segment_cmp}
