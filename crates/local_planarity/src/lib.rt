@@ -4,6 +4,7 @@
 
 mod conflicts;
 mod count;
+mod filled;
 mod leaving;
 mod near;
 mod pairs;
@@ -12,7 +13,8 @@ mod sweeps;
 #[cfg(test)]
 mod tests;
 
-pub use conflicts::{first_conflict, first_with};
+pub use conflicts::first_conflict;
 pub use count::TestCount;
+pub use filled::fill;
 pub use leaving::Leaving;
 pub use sweeps::{crosses_on_way, holds_other};

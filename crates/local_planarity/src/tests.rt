@@ -1,10 +1,9 @@
 //! Edits of squares, over both indexes.
 ghost use Rattle.std.specs.Prelude.{◌≡◌, IfOk};
 ghost use Rattle.std.specs.FinSet as set;
-ghost use Rattle.segment_index.specs.Candidates.{has};
 ghost use Rattle.local_planarity.specs.Edits.{AreApart};
 
-use crate::{Leaving, TestCount, crosses_on_way, first_conflict, first_with, holds_other};
+use crate::{Leaving, TestCount, crosses_on_way, fill, first_conflict, holds_other};
 use grid_geometry::{Pos, Rect, Seg};
 use refusing_allocator::Refusing;
 use segment_index::{GridIndex, ListIndex, SegIndex};
@@ -59,13 +58,6 @@ fn row(alloc: Global) -> Result<Vec<(i64, i64)>, AllocError> {
     Ok(corners)
 }
 
-/// Whether a segment is among these.
-fn holds(segments: &[Seg], s: Seg) -> bool
-    ensures { result ≡ has segments.now s }
-{
-    segments.contains(&s)
-}
-
 /// An empty index filled with segments, each once. No two of them conflict.
 fn filled<R: Abort, I: SegIndex>(
     rt: &R,
@@ -76,14 +68,12 @@ fn filled<R: Abort, I: SegIndex>(
     requires { I.held index ≡ set.empty }
     ensures { IfOk result (λ r. AreApart (I.held r)) }
 {
+    let mut first = None;
     let mut tests = TestCount::new();
-    for (at, s) in segments.iter().enumerate() {
-        if !holds(&segments[..at], *s) {
-            let first = first_with(alloc, &index, *s, None, &mut tests)?;
-            assert!(rt; first.is_none());
-            index.add(*s)?;
-        }
+    for s in segments {
+        fill(alloc, &mut index, *s, &mut first, &mut tests)?;
     }
+    assert!(rt; first.is_none());
     Ok(index)
 }
 
@@ -299,28 +289,28 @@ fn a_triangle_holds_the_ends_on_its_border(rt: HostRuntime) -> Result<(), Fail> 
     Ok(())
 }
 
-/// Opens a map of three segments through one position, the first of which is held already.
-#[tactic(auto, using(segment_index::proofs::Singles::contains_none))]
+/// Opens a map of three segments through one position, one of which comes twice.
 fn open_crossing<R: Abort, I: SegIndex, A: Allocator + Copy>(
     rt: &R,
     alloc: A,
     mut index: I,
-) -> Result<(), AllocError>
-    requires { I.held index ≡ set.empty }
-{
+) -> Result<(), AllocError> {
     let rising = seg(rt, (0, 0), (10, 10));
     let falling = seg(rt, (0, 10), (10, 0));
     let level = seg(rt, (0, 5), (10, 5));
+    let mut first = None;
     let mut tests = TestCount::new();
-    index.add(rising)?;
-    let first = first_with(alloc, &index, falling, None, &mut tests)?;
+    fill(alloc, &mut index, rising, &mut first, &mut tests)?;
+    assert_eq!(rt; first, None);
+    fill(alloc, &mut index, falling, &mut first, &mut tests)?;
     assert_eq!(rt; first, Some((rising, falling)));
-    assert!(rt; tests.count() >= 1);
-    let next = first_with(alloc, &index, level, first, &mut tests)?;
-    assert_eq!(rt; next, Some((rising, level)));
-    let last = first_with(alloc, &index, falling, next, &mut tests)?;
-    assert_eq!(rt; last, Some((rising, level)));
-    assert!(rt; tests.count() >= 3);
+    fill(alloc, &mut index, level, &mut first, &mut tests)?;
+    assert_eq!(rt; first, Some((rising, level)));
+    let tested = tests.count();
+    assert!(rt; tested >= 3);
+    fill(alloc, &mut index, falling, &mut first, &mut tests)?;
+    assert_eq!(rt; first, Some((rising, level)));
+    assert_eq!(rt; tests.count(), tested);
     Ok(())
 }
 

@@ -1,7 +1,8 @@
-use Rattle.std.proofs.Common.{take}
-use Rattle.local_planarity.proofs.Filling.{Filled}
+use Rattle.std.proofs.Common.{List}
+use Rattle.grid_geometry.specs.Segment.{Segment}
+use Rattle.local_planarity.specs.Edits.{IsFilled}
 use Rattle.local_planarity.proofs.tests.filled.Given as goal
 
--- the index holds the segments so far, of which no two conflict
-abbrev pub invariant-loop-at : goal.invariant-loop-at
-invariant-loop-at g l = Filled (g.I.SegIndex.held l.index) (take l.at l.segments)
+-- the index holds some segments, and the first pair is theirs
+abbrev pub invariant-loop-s : goal.invariant-loop-s
+invariant-loop-s g l = (ss : List Segment) × IsFilled (g.I.SegIndex.held l.index) l.first ss
