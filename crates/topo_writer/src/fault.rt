@@ -1,10 +1,8 @@
-//! What is sent to a device.
-ghost use Rattle.std.specs.Prelude.{◌≡◌, [], false, true, OnOk, OnErr};
-ghost use Rattle.std.specs.Io.KnownBytes.{Appends};
-ghost use Rattle.device_io.specs.Devices.{AppendsPrefix};
+//! Why a text was not written.
+ghost use Rattle.std.specs.Prelude.{◌≡◌};
 
-use device_io::{Failed, Sink, put_all};
-use std::alloc::{AllocError, Allocator};
+use device_io::Failed;
+use std::alloc::AllocError;
 use thiserror::Error;
 
 /// Why a text was not written whole.
@@ -19,8 +17,7 @@ pub enum WriteFault {
 }
 
 impl From<AllocError> for WriteFault {
-    ghost use Rattle.std.specs.Prelude.{◌≡◌};
-    ghost use Rattle.topo_writer.specs.declared.sending.WriteFault.TheVariants.{OutOfMemory};
+    ghost use Rattle.topo_writer.specs.declared.fault.WriteFault.TheVariants.{OutOfMemory};
 
     ghost from_gives = { λ _ e. e ≡ OutOfMemory };
 
@@ -30,29 +27,11 @@ impl From<AllocError> for WriteFault {
 }
 
 impl From<Failed> for WriteFault {
-    ghost use Rattle.std.specs.Prelude.{◌≡◌};
-    ghost use Rattle.topo_writer.specs.declared.sending.WriteFault.TheVariants.{Device};
+    ghost use Rattle.topo_writer.specs.declared.fault.WriteFault.TheVariants.{Device};
 
     ghost from_gives = { λ _ e. e ≡ Device };
 
     fn from(_e: Failed) -> WriteFault {
         WriteFault::Device
     }
-}
-
-/// Sends what stands in the buffer, and empties it.
-pub(crate) fn flush<A: Allocator + Copy, W: Sink>(
-    text: &mut Vec<u8, A>,
-    out: &mut W,
-) -> Result<(), Failed>
-    requires { W.has_failed out.old ≡ false }
-    ensures empty { OnOk result (text.new.items ≡ []) }
-    ensures ok { OnOk result (Appends (W.taken out.old) (W.taken out.new) text.old.items) }
-    ensures works { OnOk result (W.has_failed out.new ≡ false) }
-    ensures err { OnErr result (AppendsPrefix (W.taken out.old) (W.taken out.new) text.old.items) }
-    ensures failed { OnErr result (W.has_failed out.new ≡ true) }
-{
-    put_all(out, text.as_slice())?;
-    text.clear();
-    Ok(())
 }
