@@ -4,7 +4,6 @@ use Rattle.std.proofs.Common.{◌++◌, map, Some, None, is_some, inl, append-ni
 use Rattle.std.specs.Prelude.{◌==◌, IsTrue}
 use Rattle.std.specs.Ordering.{nat_cmp}
 use Rattle.std.specs.FinMap as table
-use Rattle.std.specs.FinSet as set
 use Rattle.std.proofs.lemmas.Bool.{false≢true}
 use Rattle.std.proofs.lemmas.Bool.Decides.{Decides-eqb}
 use Rattle.std.proofs.lemmas.List.{map-append}
@@ -14,11 +13,9 @@ use Rattle.ring_machine.proofs.First.{In, in_left, in_right}
 use Rattle.ring_machine.proofs.Members.{contains_in, in_contains, in_mapped}
 use Rattle.ring_machine.proofs.Neighbours.{in-map}
 use Rattle.vertex_index.specs.Placement.{Placement, place}
-use Rattle.segment_index.specs.Candidates.{SegmentSet}
-use Rattle.segment_index.proofs.Singles.{contains_none}
 use Rattle.arc_tables.specs.Rings.{Rings, edges}
 use Rattle.ring_store.proofs.AddedRings.{distinct_more, same_map, ring_here, ring_other}
-use Rattle.map_opening.specs.Laying.{IsFilled, IsLaid, segments_along}
+use Rattle.map_opening.specs.Laying.{IsLaid, segments_along}
 
 -- ---- none yet
 
@@ -28,9 +25,6 @@ laid_none m e = record {
   only = λ r h. absurd (false≢true (sym (ap (λ z. table.contains_key z r) e ∙ ap is_some (table.get-empty nat_cmp r)) ∙ h));
   once = refl;
 }
-
-pub filled_none : (held : SegmentSet) → held ≡ set.empty → IsFilled held None []
-filled_none held e = record { held = λ t. sym (contains_none held t e); first = refl }
 
 -- ---- one more
 

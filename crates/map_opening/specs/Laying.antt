@@ -1,25 +1,18 @@
 -- Rings that are laid along keys: which of them stand so far, and what an index has of them.
-use Rattle.std.specs.Prelude.{ℕ, ◌≡◌, List, map, length, Option, Some, IsTrue, Contains}
+use Rattle.std.specs.Prelude.{ℕ, ◌≡◌, List, map, length, Some, IsTrue, Contains}
 use Rattle.std.specs.FinMap as table
 use Rattle.std.specs.List.{flat_map, sum_by}
 use Rattle.grid_geometry.specs.Segment.{Segment}
-use Rattle.ring_machine.specs.Planar.{least_conflict}
 use Rattle.ring_machine.specs.Ring.{segments}
 use Rattle.ring_machine.specs.WellFormed.{are_distinct}
 use Rattle.vertex_index.specs.Placement.{Placement, place}
-use Rattle.segment_index.specs.Candidates.{SegmentSet}
 use Rattle.arc_tables.specs.Rings.{Rings, edges}
-use Rattle.local_planarity.specs.Edits.{IsHeld}
+use Rattle.local_planarity.specs.Edits.{IsFilled}
 use Rattle.map_opening.specs.declared.opened.OpenedRings.{OpenedRings}
 
 -- the segments of the rings along these keys, as often as they stand there
 abbrev pub segments_along : Placement → List (List ℕ) → List Segment
 segments_along places keyed = flat_map (λ keys. segments (map (place places) keys)) keyed
-
--- the index holds these segments, and the first pair is theirs
-pub record IsFilled (index : SegmentSet) (pair : Option (Segment × Segment)) (ss : List Segment) : Type 0 where
-  pub held : IsHeld index ss
-  pub first : least_conflict ss ≡ pair
 
 -- the rings with these numbers go along these keys, and no other ring is there
 pub record IsLaid (rings : Rings) (numbers : List ℕ) (keyed : List (List ℕ)) : Type 0 where

@@ -2,7 +2,7 @@ use Rattle.std.proofs.Common.{◌++◌, ◌∷◌, [], ◌∙◌, refl, subst, t
 use Rattle.arc_tables.specs.Rings.{edges}
 use Rattle.ring_store.specs.Steps.{sides}
 use Rattle.ring_store.proofs.Edges.{length-edges, edge_joins}
-use Rattle.map_opening.specs.Laying.{IsFilled}
+use Rattle.local_planarity.specs.Edits.{IsFilled}
 use Rattle.map_opening.proofs.FilledLists.{sides_none, sides_more, sides_all}
 use Rattle.map_opening.proofs.filling.fill_ring.Goals as goal
 

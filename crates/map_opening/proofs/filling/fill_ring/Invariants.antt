@@ -2,7 +2,7 @@ use Rattle.std.proofs.Common.{◌≡◌, List, ◌++◌, take}
 use Rattle.grid_geometry.specs.Segment.{Segment}
 use Rattle.arc_tables.specs.Rings.{edges}
 use Rattle.ring_store.specs.Steps.{sides}
-use Rattle.map_opening.specs.Laying.{IsFilled}
+use Rattle.local_planarity.specs.Edits.{IsFilled}
 use Rattle.map_opening.proofs.filling.fill_ring.Given as goal
 
 -- the segments of the edges so far are held

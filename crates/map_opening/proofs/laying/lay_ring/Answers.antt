@@ -1,6 +1,7 @@
 use Rattle.std.proofs.Common.{◌++◌, ◌∷◌, [], sym, subst, length, arith}
 use Rattle.std.proofs.lemmas.List.Sums.{sum_by_push}
-use Rattle.map_opening.specs.Laying.{IsLaid, IsFilled}
+use Rattle.local_planarity.specs.Edits.{IsFilled}
+use Rattle.map_opening.specs.Laying.{IsLaid}
 use Rattle.map_opening.proofs.LaidRings.{laid_more, along_more}
 use Rattle.map_opening.proofs.laying.lay_ring.Goals as goal
 

@@ -10,7 +10,8 @@ use Rattle.map_opening.specs.Flat.{lists_seen}
 use Rattle.map_opening.specs.Keyed.{IsKeyed}
 use Rattle.map_opening.specs.Laying.{IsLaid, AreLaid}
 use Rattle.map_opening.proofs.KeyedRings.{round_keyed, size_keyed, segments_keyed}
-use Rattle.map_opening.proofs.LaidRings.{laid_none, filled_none}
+use Rattle.local_planarity.proofs.Filling.{filled_none}
+use Rattle.map_opening.proofs.LaidRings.{laid_none}
 use Rattle.map_opening.proofs.OpenedTables.{rings_at, laid_stands}
 use Rattle.map_opening.proofs.opening.lay.Goals as goal
 
@@ -47,7 +48,7 @@ returns-clause-opened g c =
     let keys : IsKeyed o.tables.vertices rings keyed = subst (λ places. IsKeyed places rings keyed) (sym c.in_ok-lay_all.ensures.vertices) c.in_ok-keyed.ensures.keyed in
     let all : AreLaid keyed o = subst (λ z. AreLaid (lists_seen z) o) c.as_slice-2.ensures.value c.in_ok-lay_all.ensures.laid in
     record {
-      stand = laid_stands o.tables.vertices rings keyed keys o.tables.borders o.numbers.items all.laid c.requires.rings o.tables.index.held all.filled.held
+      stand = laid_stands o.tables.vertices rings keyed keys o.tables.borders o.numbers.items all.laid c.requires.rings o.tables.index.held all.filled.are_held
           (subst AreDistinct (sym c.in_ok-lay_all.ensures.vertices) c.key_all.ensures.distinct);
       at = rings_at o.tables.vertices rings keyed keys o.tables.borders o.numbers.items all.laid;
       only = all.laid.only;
