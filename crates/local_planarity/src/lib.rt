@@ -10,8 +10,6 @@ mod near;
 mod pairs;
 mod span;
 mod sweeps;
-#[cfg(test)]
-mod tests;
 
 pub use conflicts::first_conflict;
 pub use count::TestCount;

@@ -1,10 +1,10 @@
-//! Edits of squares, over both indexes.
+// Edits of squares, over both indexes.
 ghost use Rattle.std.specs.Prelude.{◌≡◌, IfOk};
 ghost use Rattle.std.specs.FinSet as set;
 ghost use Rattle.local_planarity.specs.Edits.{AreApart};
 
-use crate::{Leaving, TestCount, crosses_on_way, fill, first_conflict, holds_other};
 use grid_geometry::{Pos, Rect, Seg};
+use local_planarity::{Leaving, TestCount, crosses_on_way, fill, first_conflict, holds_other};
 use refusing_allocator::Refusing;
 use segment_index::{GridIndex, ListIndex, SegIndex};
 use std::alloc::{AllocError, Allocator, Global};

@@ -1,7 +1,7 @@
-//! What a device answers over writers and readers of std, and over ones that fail.
+// What a device answers over writers and readers of std, and over ones that fail.
 ghost use Rattle.std.specs.Prelude.{◌≡◌, false};
 
-use super::{FailAt, Failed, FromReader, Sink, Source, ToWriter, put_all};
+use device_io::{FailAt, Failed, FromReader, Sink, Source, ToWriter, put_all};
 use std::io::{BufWriter, Error, ErrorKind, Read, Result as IoResult, Write};
 use std::test::Fail;
 

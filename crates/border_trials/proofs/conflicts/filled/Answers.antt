@@ -1,7 +1,7 @@
 use Rattle.std.proofs.Common.{◌≡◌, false, [], ◌∷◌, ◌++◌, Option, None, Some}
 use Rattle.std.specs.Option.{is_some}
 use Rattle.local_planarity.proofs.Filling.{filled_none, filled_apart}
-use Rattle.local_planarity.proofs.tests.filled.Goals as goal
+use Rattle.border_trials.proofs.conflicts.filled.Goals as goal
 
 pub loop-s-init : goal.loop-s-init
 loop-s-init g c = ([], filled_none (g.I.SegIndex.held c.args.index) c.requires)

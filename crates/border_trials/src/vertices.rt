@@ -1,10 +1,10 @@
-//! A key through the changes of its vertex, and calls that are refused memory.
-use super::{AddFault, ShiftFault, VertexKey, Vertices};
+// A key through the changes of its vertex, and calls that are refused memory.
 use grid_geometry::Pos;
 use refusing_allocator::Refusing;
 use std::alloc::{Allocator, Global};
 use std::process::Abort;
 use std::test::Fail;
+use vertex_index::{AddFault, ShiftFault, VertexKey, Vertices};
 
 /// More than the growths of any run below.
 const MANY: u64 = 100;
