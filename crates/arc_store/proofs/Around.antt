@@ -30,7 +30,7 @@ use Rattle.arc_tables.specs.Rings.{begins}
 use Rattle.vertex_index.specs.Placement.{place}
 use Rattle.feature_exchange.specs.Stored.{Stored, positions_along, document_of}
 use Rattle.feature_exchange.specs.Holds.{IsWhole}
-use Rattle.map_opening.proofs.Places.{IsKept, place_is, place_kept, one_key}
+use Rattle.ring_store.proofs.Places.{IsKept, place_is, place_kept, one_key}
 use Rattle.feature_exchange.proofs.Base.{joined_apart, Laid, ring_laid, begin_kept}
 use Rattle.feature_exchange.proofs.Base.{segment_between, joined_back}
 use Rattle.feature_exchange.proofs.Base.{key_vertex, document_ring, laid_ring, joined_at, joined_kept}
@@ -38,8 +38,8 @@ use Rattle.feature_exchange.proofs.Base.{joined_around, joined_segment, joined_d
 use Rattle.feature_exchange.proofs.Ends.{two_positions, end_is, end_of_two}
 use Rattle.arc_store.proofs.Insertions.{AreRings, Comes, segments_come}
 use Rattle.ring_machine.proofs.Members.{any_in, in_mapped}
-use Rattle.map_opening.proofs.KeyRings.{length-canonical, times_edge, edge_times, edge_ends}
-use Rattle.map_opening.proofs.KeyRings.{in_canonical, of_canonical}
+use Rattle.ring_store.proofs.KeyRings.{length-canonical, times_edge, edge_times, edge_ends}
+use Rattle.ring_store.proofs.KeyRings.{in_canonical, of_canonical}
 use Rattle.arc_store.proofs.Removals.{segments_del, HasSides, begun_there, spot_is, spot_of}
 use Rattle.arc_store.proofs.Removals.{all_equal_in, no_junction, around_is, around_has, bridged_by}
 use Rattle.arc_store.proofs.Removals.{sweeps_by, flat_by}

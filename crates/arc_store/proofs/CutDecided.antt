@@ -21,7 +21,7 @@ use Rattle.ring_machine.proofs.Steps.{first_pair-is}
 use Rattle.segment_index.specs.Candidates.{SegmentSet, has as among}
 use Rattle.local_planarity.specs.Edits.{IsAfter}
 use Rattle.local_planarity.specs.declared.leaving.Leaving.TheVariants.{Nothing}
-use Rattle.map_opening.proofs.SegmentLists.{has-eq, or_nothing}
+use Rattle.ring_store.proofs.SegmentLists.{has-eq, or_nothing}
 use Rattle.feature_exchange.specs.Holds.{IsIndexed}
 use Rattle.arc_store.specs.declared.fault.EditFault.{EditFault}
 use Rattle.arc_store.specs.Faults.{Refuses}

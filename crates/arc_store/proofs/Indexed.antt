@@ -21,7 +21,7 @@ use Rattle.ring_machine.proofs.RingSegments.{segment_eq-true}
 use Rattle.ring_machine.proofs.StaysProper.{edges_start}
 use Rattle.segment_index.specs.Candidates.{SegmentSet, has}
 use Rattle.feature_exchange.specs.Holds.{IsIndexed}
-use Rattle.map_opening.proofs.SegmentLists.{has-eq}
+use Rattle.ring_store.proofs.SegmentLists.{has-eq}
 use Rattle.ring_machine.proofs.Members.{in_mapped, in_flat, any_in, in_any, same_answer}
 use Rattle.feature_exchange.proofs.Ends.{end_is, end_of_two}
 

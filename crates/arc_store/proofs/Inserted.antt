@@ -31,22 +31,21 @@ use Rattle.shared_arcs.specs.Joined.{Joined}
 use Rattle.arc_tables.specs.Edited.{over, through}
 use Rattle.vertex_index.specs.Placement.{place}
 use Rattle.feature_exchange.specs.Stored.{Stored, positions_along, ring_under, document_of}
-use Rattle.map_opening.specs.Laying.{GoesRound}
+use Rattle.ring_store.specs.Round.{GoesRound}
 use Rattle.feature_exchange.specs.Holds.{Visits, IsWhole, IsIndexed, Holds}
-use Rattle.map_opening.proofs.SegmentLists.{has-eq}
+use Rattle.ring_store.proofs.SegmentLists.{has-eq}
 use Rattle.ring_machine.proofs.Members.{contains_in, in_contains, in_mapped, in_flat}
 use Rattle.arc_store.specs.Edits.{IsPlaceable}
 use Rattle.arc_store.proofs.Around.{segment_joined, come_over}
 use Rattle.arc_store.proofs.Insertions.{Comes, segments_ins}
 use Rattle.arc_store.proofs.Numbers.{users_of, size_over}
-use Rattle.map_opening.proofs.Places.{IsKept, place_is, place_kept, one_key}
+use Rattle.ring_store.proofs.Places.{IsKept, place_is, place_kept, one_key, place_alike, insert_other}
 use Rattle.feature_exchange.proofs.Base.{ring_under_is, begin_kept, framed, key_vertex}
-use Rattle.map_opening.proofs.KeyRings.{laid, edge_ends, ends_is_seg, times_edge}
+use Rattle.ring_store.proofs.KeyRings.{laid, edge_ends, ends_is_seg, times_edge}
 use Rattle.arc_store.proofs.KeyWays.{edited_along, edited_way, over_keeps, round_way, round_of_way}
 use Rattle.arc_store.proofs.KeyWays.{seg_same}
 use Rattle.arc_store.proofs.RingEdits.{ring_pivot}
 use Rattle.ring_machine.proofs.Members.{is_some-mapped, mapped_there}
-use Rattle.map_opening.proofs.Places.{place_alike, insert_other}
 
 -- ---- one ring
 

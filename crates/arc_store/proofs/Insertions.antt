@@ -25,11 +25,11 @@ use Rattle.ring_machine.proofs.RingsOf.{rings-in_rings}
 use Rattle.ring_machine.proofs.StaysProper.{ring_distinct, edges_start}
 use Rattle.ring_machine.proofs.StaysRing.{AtMostOne}
 use Rattle.arc_tables.specs.Ways.{one}
-use Rattle.map_opening.proofs.Counted.{sum_by-map, sum_more}
+use Rattle.ring_store.proofs.Sums.{sum_by-map, sum_more}
 use Rattle.feature_exchange.proofs.Ends.{two_positions, two_ends, end_of_two}
 use Rattle.arc_store.proofs.Indexed.{end_vertex}
 use Rattle.ring_machine.proofs.Members.{any_alike}
-use Rattle.map_opening.proofs.KeyRings.{length-canonical}
+use Rattle.ring_store.proofs.KeyRings.{length-canonical}
 use Rattle.arc_store.proofs.RingEdits.{edges_turned, canonical_rotated}
 
 -- ---- the segments of a ring

@@ -25,7 +25,7 @@ use Rattle.ring_machine.proofs.Passed.{pass_all}
 use Rattle.ring_machine.proofs.StaysFormed.{formed-take_out}
 use Rattle.ring_machine.proofs.StaysProper.{edges_start}
 use Rattle.ring_machine.proofs.Without.{feature-take_out_other, size-take_out_at, size-instead_at}
-use Rattle.map_opening.proofs.KeyRings.{length-canonical}
+use Rattle.ring_store.proofs.KeyRings.{length-canonical}
 use Rattle.edit_records.specs.Places.{LayerTree, Fills, AreFormed, exchanged}
 use Rattle.edit_records.proofs.ExchangesMade.{join-made, feature-own}
 use Rattle.map_frame.specs.Texts.{texts_of, with_texts}

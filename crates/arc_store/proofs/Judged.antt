@@ -26,7 +26,7 @@ use Rattle.arc_store.specs.Edits.{IsInsertable}
 use Rattle.arc_store.specs.Faults.{Refuses}
 use Rattle.feature_exchange.specs.Holds.{IsIndexed}
 use Rattle.ring_store.specs.Planned.{spokes}
-use Rattle.map_opening.proofs.SegmentLists.{has-eq}
+use Rattle.ring_store.proofs.SegmentLists.{has-eq}
 use Rattle.arc_store.proofs.Indexed.{indexed_ends, indexed_only}
 use Rattle.arc_store.proofs.Insertions.{segments_ins}
 use Rattle.ring_machine.proofs.RingSegments.{segment_eq-sym}

@@ -23,10 +23,10 @@ use Rattle.ring_machine.proofs.StaysProper.{ring_long, ring_distinct}
 use Rattle.arc_tables.specs.Ways.{Edge, links, is_seg}
 use Rattle.arc_tables.specs.Rings.{begins, edges}
 use Rattle.arc_tables.specs.Edited.{over, drawn, onto}
-use Rattle.map_opening.specs.Laying.{GoesRound}
+use Rattle.ring_store.specs.Round.{GoesRound}
 use Rattle.arc_store.proofs.RingEdits.{distinct_turned}
 use Rattle.ring_machine.proofs.Members.{same_answer}
-use Rattle.map_opening.proofs.KeyRings.{length-canonical, laid, edges_round, is_seg_ends, ends_is_seg}
+use Rattle.ring_store.proofs.KeyRings.{length-canonical, laid, edges_round, is_seg_ends, ends_is_seg}
 
 -- ---- ways
 

@@ -14,7 +14,7 @@ use Rattle.vertex_index.specs.Placement.{Placement, place}
 use Rattle.segment_index.specs.Candidates.{SegmentSet}
 use Rattle.arc_tables.specs.Rings.{Rings}
 use Rattle.map_frame.specs.Framed.{Framed}
-use Rattle.map_opening.proofs.Places.{place_is}
+use Rattle.ring_store.proofs.Places.{place_is}
 use Rattle.feature_exchange.specs.Stored.{stored, document_of}
 use Rattle.arc_store.specs.Recorded.{IsLeftOut}
 use Rattle.arc_store.proofs.Around.{around_two, bridge_two}

@@ -40,10 +40,10 @@ use Rattle.feature_exchange.specs.Holds.{IsWhole, IsIndexed, Holds}
 use Rattle.arc_store.specs.Kept.{IsKept}
 use Rattle.ring_store.specs.Planned.{AreAround, AreNew, Exchanges, spokes}
 use Rattle.ring_machine.proofs.Members.{any_in, in_contains}
-use Rattle.map_opening.proofs.Places.{place_is}
+use Rattle.ring_store.proofs.Places.{place_is}
 use Rattle.feature_exchange.proofs.Base.{joined_kept, joined_apart, segments_to, segments_at, vertex_key}
 use Rattle.feature_exchange.proofs.Base.{sweeps_by_joined}
-use Rattle.map_opening.proofs.SegmentLists.{has-eq}
+use Rattle.ring_store.proofs.SegmentLists.{has-eq}
 use Rattle.arc_store.proofs.Indexed.{indexed_ends, indexed_only, indexed_has}
 use Rattle.ring_store.proofs.Planned.{any_at}
 use Rattle.arc_store.proofs.Insertions.{any_mapped}

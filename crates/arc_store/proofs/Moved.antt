@@ -42,14 +42,13 @@ use Rattle.feature_exchange.specs.Stored.{Stored, positions_along, ring_under, d
 use Rattle.feature_exchange.specs.Holds.{Visits, IsWhole, IsIndexed, Holds}
 use Rattle.ring_machine.proofs.Members.{contains_in, in_contains, in_mapped, any_in, in_any, same_answer}
 use Rattle.feature_exchange.proofs.Ends.{two_positions, end_of_two, two_ends}
-use Rattle.map_opening.proofs.KeyRings.{in_canonical, length-canonical, has_key}
-use Rattle.map_opening.proofs.Places.{insert_other}
-use Rattle.map_opening.proofs.Places.{IsKept, place_is, kept_place, place_kept, one_key}
+use Rattle.ring_store.proofs.KeyRings.{in_canonical, length-canonical, has_key}
+use Rattle.ring_store.proofs.Places.{insert_other, IsKept, place_is, kept_place, place_kept, one_key}
 use Rattle.feature_exchange.proofs.Base.{joined_back, framed, ring_laid, key_vertex}
 use Rattle.feature_exchange.proofs.Base.{begin_kept, positions_distinct, positions_long, ring_under_is}
 use Rattle.feature_exchange.proofs.Base.{segment_between, joined_segment, joined_kept, joined_differ}
 use Rattle.feature_exchange.proofs.Base.{AreJoined, segments_to, segments_at, one_to}
-use Rattle.map_opening.proofs.SegmentLists.{has-eq}
+use Rattle.ring_store.proofs.SegmentLists.{has-eq}
 use Rattle.arc_store.specs.Edits.{IsMovable}
 use Rattle.arc_store.proofs.Indexed.{end_vertex}
 

@@ -31,7 +31,7 @@ use Rattle.feature_exchange.specs.Stored.{stored, Stored, document_of, ring_unde
 use Rattle.arc_store.specs.Named.{ListsNames, RingHas, AreOnce, ListsRings}
 use Rattle.arc_store.specs.Spots.{users}
 use Rattle.feature_exchange.proofs.Base.{framed, rings_are}
-use Rattle.map_opening.proofs.Places.{place_is, place_kept}
+use Rattle.ring_store.proofs.Places.{place_is, place_kept}
 use Rattle.feature_exchange.proofs.Ends.{segment_ends}
 use Rattle.arc_store.proofs.FrameNames.{name_there, number_there, one_name}
 use Rattle.arc_store.proofs.FrameReads.{ring-in_rings}

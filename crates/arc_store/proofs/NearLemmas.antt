@@ -7,7 +7,7 @@ use Rattle.ring_machine.proofs.RingSegments.{segment_eq-true}
 use Rattle.segment_index.specs.Candidates.{SegmentSet, Gives}
 use Rattle.feature_exchange.specs.Holds.{IsIndexed}
 use Rattle.arc_store.specs.Near.{ListsNear}
-use Rattle.map_opening.proofs.SegmentLists.{has-eq}
+use Rattle.ring_store.proofs.SegmentLists.{has-eq}
 use Rattle.ring_machine.proofs.Members.{any_in, in_any, contains_in, in_contains}
 
 pub near_listed : (d : Document) (held : SegmentSet) (times : Segment → Box → ℕ) (rect : Box)

@@ -16,12 +16,12 @@ use Rattle.arc_tables.specs.Ways.{Edge, is_seg, times}
 use Rattle.vertex_index.specs.Placement.{place}
 use Rattle.feature_exchange.specs.Stored.{Stored, positions_along, edges_under, ring_under, document_of}
 use Rattle.feature_exchange.specs.Holds.{IsWhole}
-use Rattle.map_opening.proofs.Places.{place_is, place_kept, IsKept, one_key}
+use Rattle.ring_store.proofs.Places.{place_is, place_kept, IsKept, one_key}
 use Rattle.feature_exchange.proofs.Base.{document_ring, begin_kept, framed, ring_under_is, rings_are}
-use Rattle.map_opening.proofs.Counted.{filter-mapped}
+use Rattle.ring_store.proofs.Sums.{filter-mapped}
 use Rattle.arc_store.proofs.Insertions.{size_ins, has_segment, has_segment_by, any_mapped}
-use Rattle.map_opening.proofs.KeyRings.{laid, edges_round, edge_ends, times_edge, edge_times}
-use Rattle.map_opening.proofs.KeyRings.{is_seg_ends, ends_is_seg}
+use Rattle.ring_store.proofs.KeyRings.{laid, edges_round, edge_ends, times_edge, edge_times}
+use Rattle.ring_store.proofs.KeyRings.{is_seg_ends, ends_is_seg}
 use Rattle.arc_store.proofs.KeyWays.{seg_same}
 use Rattle.ring_machine.proofs.Members.{any_in, in_any}
 use Rattle.arc_store.proofs.Removals.{any_alike_in}

@@ -18,7 +18,7 @@ use Rattle.ring_machine.proofs.RingSegments.{segment_eq-true}
 use Rattle.edit_records.specs.Records.{put_back, IsMap, IsRemoved, AreRemoved}
 use Rattle.segment_index.specs.Candidates.{AreSingle, segment_is, has, times_in}
 use Rattle.segment_index.proofs.Singles.{same_segment, times-none}
-use Rattle.map_opening.proofs.SegmentLists.{segment_is-eq, has-eq}
+use Rattle.ring_store.proofs.SegmentLists.{segment_is-eq, has-eq}
 use Rattle.feature_exchange.proofs.Ends.{two_ends, end_of_two}
 use Rattle.ring_store.specs.Many.{comings, goings}
 use Rattle.ring_store.specs.declared.removal.Removal.{Removal}

@@ -16,7 +16,7 @@ use Rattle.vertex_index.specs.Placement.{place}
 use Rattle.feature_exchange.specs.Stored.{Stored, document_of}
 use Rattle.feature_exchange.specs.Holds.{IsWhole}
 use Rattle.arc_store.specs.Spots.{users}
-use Rattle.map_opening.proofs.Places.{place_is, place_kept, kept_place}
+use Rattle.ring_store.proofs.Places.{place_is, place_kept, kept_place}
 use Rattle.feature_exchange.proofs.Base.{key_vertex, vertex_key, segment_between, joined_kept}
 use Rattle.feature_exchange.proofs.Ends.{segment_ends}
 use Rattle.arc_store.proofs.Insertions.{has_segment, is_segment_by}

@@ -21,7 +21,7 @@ use Rattle.local_planarity.specs.declared.leaving.Leaving.TheVariants.{EndingAt}
 use Rattle.arc_store.specs.declared.fault.EditFault.{EditFault}
 use Rattle.arc_store.specs.Edits.{IsRemovable}
 use Rattle.arc_store.specs.Faults.{Refuses}
-use Rattle.map_opening.proofs.SegmentLists.{has-eq}
+use Rattle.ring_store.proofs.SegmentLists.{has-eq}
 use Rattle.arc_store.proofs.MovePlan.{refuses_first}
 use Rattle.arc_store.proofs.Judged.{ends_of}
 

@@ -32,11 +32,11 @@ use Rattle.ring_machine.proofs.RingsOf.{rings-in_rings}
 use Rattle.ring_machine.proofs.Spots.{Rotated}
 use Rattle.ring_machine.proofs.StaysProper.{ring_distinct, ring_long}
 use Rattle.arc_tables.specs.Ways.{one}
-use Rattle.map_opening.proofs.Counted.{sum_by-map, sum_more}
+use Rattle.ring_store.proofs.Sums.{sum_by-map, sum_more}
 use Rattle.feature_exchange.proofs.Ends.{two_ends, end_of_two}
 use Rattle.arc_store.proofs.Insertions.{AreRings, has_segment, has_segment_by, is_segment_by}
 use Rattle.arc_store.proofs.Insertions.{any_mapped, any_parts}
-use Rattle.map_opening.proofs.KeyRings.{length-canonical, beside_edges}
+use Rattle.ring_store.proofs.KeyRings.{length-canonical, beside_edges}
 use Rattle.ring_machine.proofs.Members.{any_in, in_any, same_answer, in_mapped, in_flat, in_filter}
 use Rattle.arc_store.proofs.RingEdits.{edges_turned, edge_turned, canonical_rotated, canonical_ring}
 use Rattle.arc_store.proofs.RingEdits.{BegunAt, begun_at, edge_back, rest_lacks, next_differs}

@@ -32,7 +32,7 @@ use Rattle.feature_exchange.specs.Stored.{stored, Stored, document_of}
 use Rattle.ring_store.specs.Planned.{AreNew, Exchanges, spokes}
 use Rattle.arc_store.proofs.Around.{AreTwo, bridged_two, segments_two, sweeps_two, unbridged_two}
 use Rattle.arc_store.proofs.Around.{two_apart, neighbours_none, neighbours_one, neighbours_more}
-use Rattle.map_opening.proofs.Places.{IsKept as IsPlaced, place_is}
+use Rattle.ring_store.proofs.Places.{IsKept as IsPlaced, place_is}
 use Rattle.feature_exchange.proofs.Base.{joined_kept, joined_apart, joined_back, vertex_key}
 use Rattle.feature_exchange.proofs.Base.{joined_segment, one_to, key_vertex}
 use Rattle.arc_store.proofs.InsertPlan.{two_single}

@@ -37,28 +37,28 @@ use Rattle.shared_arcs.specs.Joined.{Joined}
 use Rattle.arc_tables.specs.Edited.{onto, drawn, collapsed}
 use Rattle.vertex_index.specs.Placement.{place}
 use Rattle.feature_exchange.specs.Stored.{Stored, positions_along, edges_under, ring_under, document_of}
-use Rattle.map_opening.specs.Laying.{GoesRound}
+use Rattle.ring_store.specs.Round.{GoesRound}
 use Rattle.feature_exchange.specs.Holds.{IsWhole, IsIndexed, Holds}
-use Rattle.map_opening.proofs.SegmentLists.{has-eq}
+use Rattle.ring_store.proofs.SegmentLists.{has-eq}
 use Rattle.ring_machine.proofs.Members.{in_any, contains_in, in_contains, in_mapped, in_flat}
 use Rattle.ring_machine.proofs.Members.{same_answer, is_some-mapped, mapped_there}
 use Rattle.arc_store.specs.Edits.{IsLeavable}
 use Rattle.arc_store.proofs.Around.{AreTwo, two_ways, bridged_two, segments_two, bridge_two}
-use Rattle.map_opening.proofs.Counted.{filter-mapped}
+use Rattle.ring_store.proofs.Sums.{filter-mapped}
 use Rattle.feature_exchange.proofs.Ends.{two_ends}
 use Rattle.arc_store.proofs.Insertions.{has_segment, has_segment_by}
 use Rattle.arc_store.proofs.Numbers.{users_of, framed_has}
 use Rattle.arc_store.proofs.Removals.{segments_off, size_del}
-use Rattle.map_opening.proofs.Places.{IsKept, place_is, place_kept, one_key}
+use Rattle.ring_store.proofs.Places.{IsKept, place_is, place_kept, one_key}
 use Rattle.feature_exchange.proofs.Base.{AreJoined, segments_at, document_ring, rings_are}
 use Rattle.feature_exchange.proofs.Base.{ring_under_is, begin_kept, framed}
 use Rattle.feature_exchange.proofs.Base.{ring_is_ring, joined_kept, joined_differ}
-use Rattle.map_opening.proofs.KeyRings.{laid, edge_ends, edge_apart, is_seg_ends, ends_is_seg}
-use Rattle.map_opening.proofs.KeyRings.{in_canonical, of_canonical}
+use Rattle.ring_store.proofs.KeyRings.{laid, edge_ends, edge_apart, is_seg_ends, ends_is_seg}
+use Rattle.ring_store.proofs.KeyRings.{in_canonical, of_canonical}
 use Rattle.arc_store.proofs.KeyWays.{edited_along, edited_way, drawn_keeps, round_way, round_of_way}
 use Rattle.arc_store.proofs.RingEdits.{ring_pivot, canonical_ring, begun_at, edge_on, edge_back}
 use Rattle.arc_store.proofs.RingEdits.{beside_next, beside_last}
-use Rattle.map_opening.proofs.Places.{place_alike, remove_here, remove_other}
+use Rattle.ring_store.proofs.Places.{place_alike, remove_here, remove_other}
 
 -- ---- one ring
 

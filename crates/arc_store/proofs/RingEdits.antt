@@ -18,7 +18,7 @@ use Rattle.ring_machine.proofs.Removal.{not_true, NextTo, second, last, Beside}
 use Rattle.ring_machine.proofs.StaysProper.{ring_distinct}
 use Rattle.ring_machine.proofs.StaysRing.{distinct_swap}
 use Rattle.ring_machine.proofs.Members.{in_swap}
-use Rattle.map_opening.proofs.KeyRings.{edges_swap}
+use Rattle.ring_store.proofs.KeyRings.{edges_swap}
 
 -- ---- the canonical ring only turns
 

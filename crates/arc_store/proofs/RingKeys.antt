@@ -15,7 +15,7 @@ use Rattle.ring_machine.proofs.RingsOf.{rings-in_rings}
 use Rattle.vertex_index.specs.Placement.{place}
 use Rattle.arc_tables.specs.Rings.{begins}
 use Rattle.arc_tables.specs.Ways.{Edge}
-use Rattle.map_opening.proofs.KeyRings.{length-canonical, begins_round}
+use Rattle.ring_store.proofs.KeyRings.{length-canonical, begins_round}
 use Rattle.feature_exchange.specs.Holds.{IsWhole}
 use Rattle.feature_exchange.specs.Stored.{Stored, document_of, ring_under}
 

@@ -22,7 +22,7 @@ use Rattle.arc_tables.specs.Ways.{one}
 use Rattle.arc_tables.specs.Rings as shared
 use Rattle.feature_exchange.specs.Holds.{IsWhole}
 use Rattle.feature_exchange.specs.Stored.{Stored}
-use Rattle.map_opening.proofs.KeyRings.{has_key}
+use Rattle.ring_store.proofs.KeyRings.{has_key}
 use Rattle.ring_machine.proofs.Members.{contains_in, in_contains, in_filter, in_any}
 use Rattle.arc_store.proofs.Numbers.{users_of}
 

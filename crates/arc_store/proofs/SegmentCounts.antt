@@ -12,7 +12,7 @@ use Rattle.segment_index.specs.Candidates.{SegmentSet, AreSingle, segment_is, ha
 use Rattle.segment_index.proofs.Singles.{segment_total, same_sets, is-itself, has-is}
 use Rattle.feature_exchange.specs.Holds.{IsIndexed}
 use Rattle.ring_store.specs.Planned.{AreNew, Gains}
-use Rattle.map_opening.proofs.SegmentLists.{has-eq, or_nothing, has_all, single_all}
+use Rattle.ring_store.proofs.SegmentLists.{has-eq, or_nothing, has_all, single_all}
 
 or_swap : (a b c : Bool) → (a || (b || c)) ≡ (b || (a || c))
 or_swap true true c = refl
@@ -78,7 +78,7 @@ len_gains old new xs single free h =
 -- ---- the segments of a document, each once
 
 -- an index of these segments holds as many
-pub list_len : (ss : List Segment) (held : SegmentSet) → ((t : Segment) → set.contains held t ≡ has ss t)
+list_len : (ss : List Segment) (held : SegmentSet) → ((t : Segment) → set.contains held t ≡ has ss t)
     → length (fold add_segment [] ss) ≡ set.len held
 list_len ss held h =
     omega (

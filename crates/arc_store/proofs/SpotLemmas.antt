@@ -22,7 +22,7 @@ use Rattle.feature_exchange.specs.Holds.{IsWhole}
 use Rattle.arc_store.specs.Spots.{IsBetween, IsShortest}
 use Rattle.arc_store.proofs.Around.{is_there, two_no_junction, around_two, bridge_two, neighbours_none}
 use Rattle.arc_store.proofs.Around.{neighbours_one, neighbours_more, ring_length, passes_has, has_passes}
-use Rattle.map_opening.proofs.Places.{IsKept}
+use Rattle.ring_store.proofs.Places.{IsKept}
 use Rattle.feature_exchange.proofs.Base.{joined_kept, laid_ring, ring_laid}
 use Rattle.ring_machine.proofs.Members.{contains_in, in_contains}
 use Rattle.arc_store.proofs.Reading.{ends_make}

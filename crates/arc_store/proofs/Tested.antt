@@ -36,7 +36,7 @@ use Rattle.arc_store.proofs.Judged.{insert_passed}
 use Rattle.arc_store.proofs.MovePlan.{plan_after, plan_new, plan_single}
 use Rattle.arc_store.proofs.RemovalJudged.{remove_after}
 use Rattle.arc_store.proofs.RemovePlan.{IsPlanned}
-use Rattle.map_opening.proofs.SegmentLists.{has_all}
+use Rattle.ring_store.proofs.SegmentLists.{has_all}
 
 -- the segments of a document, each once, are its segments
 has_distinct : (d : Document) (t : Segment) → has (distinct_segments d) t ≡ has (all_segments d) t

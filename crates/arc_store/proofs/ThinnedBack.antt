@@ -22,7 +22,7 @@ use Rattle.arc_tables.specs.declared.batch.Put.{Put}
 use Rattle.arc_tables.specs.Edited.{through, throughs, gained}
 use Rattle.arc_tables.specs.Rings.{Rings}
 use Rattle.map_frame.specs.Framed.{Framed}
-use Rattle.map_opening.proofs.Places.{insert_other}
+use Rattle.ring_store.proofs.Places.{insert_other}
 use Rattle.edit_records.specs.Records.{IsRemoved}
 use Rattle.feature_exchange.specs.Stored.{Stored, stored, document_of}
 use Rattle.feature_exchange.specs.Holds.{IsWhole, IsIndexed}

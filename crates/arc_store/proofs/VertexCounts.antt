@@ -25,8 +25,8 @@ use Rattle.ring_machine.proofs.Order.{and_both}
 use Rattle.ring_machine.proofs.Removal.{none_parts, not_true}
 use Rattle.ring_machine.proofs.SortedOnce.{Rising, position_total, ties}
 use Rattle.vertex_index.specs.Placement.{place}
-use Rattle.map_opening.proofs.KeyRings.{has_key}
-use Rattle.map_opening.proofs.Places.{kept_place, place_is, place_kept, distinct_places, IsKept}
+use Rattle.ring_store.proofs.KeyRings.{has_key}
+use Rattle.ring_store.proofs.Places.{kept_place, place_is, place_kept, distinct_places, IsKept}
 use Rattle.feature_exchange.specs.Holds.{IsWhole}
 use Rattle.feature_exchange.specs.Stored.{Stored, document_of}
 use Rattle.feature_exchange.proofs.Base.{key_vertex, vertex_key}

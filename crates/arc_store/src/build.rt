@@ -10,8 +10,7 @@ use crate::fault::BuildFault;
 use crate::map::Map;
 use local_planarity::TestCount;
 use map_frame::Frame;
-use map_opening::lay;
-use ring_store::{Counted, RingTables};
+use map_opening::{flattened, lay, regrouped};
 use segment_index::SegIndex;
 use std::alloc::Allocator;
 use topo_reader::RawDoc;
@@ -37,22 +36,18 @@ impl<'a, I: SegIndex, A: Allocator + Copy> Map<'a, I, A> {
             members,
             polygons,
         } = raw;
-        let laid = lay(alloc, index, polygons.as_slice())?;
-        if let Some((s, t)) = laid.first {
+        let flat = flattened(alloc, polygons)?;
+        let opened = lay(alloc, index, flat.rings.as_slice())?;
+        if let Some((s, t)) = opened.first {
             return Err(BuildFault::Conflict { s, t });
         }
-        let frame = Frame::build(alloc, transform, layers, members, laid.numbers)?;
-        let rings = RingTables {
-            alloc,
-            vertices: laid.vertices,
-            borders: laid.borders,
-            index: Counted::new(laid.index, laid.segments),
-        };
+        let numbers = regrouped(alloc, opened.numbers.as_slice(), flat.shape.as_slice())?;
+        let frame = Frame::build(alloc, transform, layers, members, numbers)?;
         Ok(Map {
             frame,
-            rings,
+            rings: opened.tables,
             tests: TestCount::new(),
-            positions: laid.positions,
+            positions: opened.positions,
             last: None,
         })
     }

@@ -3,6 +3,8 @@
 #![tactic(auto)]
 
 #[cfg(test)]
+mod conflicts;
+#[cfg(test)]
 mod cuts;
 #[cfg(test)]
 mod indexes;
@@ -12,3 +14,5 @@ mod refused_calls;
 mod shared;
 #[cfg(test)]
 mod squares;
+#[cfg(test)]
+mod vertices;

@@ -16,7 +16,7 @@ use Rattle.ring_machine.proofs.Found.{feature_in, feature-in_rings}
 use Rattle.ring_machine.proofs.Members.{in_mapped, in_flat}
 use Rattle.ring_machine.proofs.Neighbours.{all_in, in-flat_map}
 use Rattle.ring_parts.specs.Seen.{polygons_seen}
-use Rattle.map_opening.specs.Laying.{feature_numbers}
+use Rattle.map_frame.specs.Numbers.{feature_numbers}
 use Rattle.edit_records.specs.Places.{LayerTree, has_place, exchanged, AreNumbered, with_changed, had_before}
 use Rattle.edit_records.specs.Records.{IsMap}
 use Rattle.feature_exchange.specs.Changed.{feature_seen, seen}

@@ -32,16 +32,15 @@ use Rattle.arc_tables.specs.Ways.{Edge}
 use Rattle.arc_tables.specs.Rings.{begins}
 use Rattle.shared_arcs.specs.Joined.{Joined}
 use Rattle.feature_exchange.specs.Stored.{Stored, positions_along, ring_under, document_of}
-use Rattle.map_opening.specs.Laying.{GoesRound}
-use Rattle.map_opening.proofs.Places.{IsKept, place_is, kept_place, place_kept, one_key}
-use Rattle.map_opening.proofs.Places.{distinct_places}
+use Rattle.ring_store.specs.Round.{GoesRound}
+use Rattle.ring_store.proofs.Places.{IsKept, place_is, kept_place, place_kept, one_key, distinct_places}
 use Rattle.feature_exchange.specs.Holds.{IsWhole}
 use Rattle.ring_machine.proofs.Members.{contains_in, in_contains, in_mapped, in_flat, in_filter, any_in}
 use Rattle.ring_machine.proofs.Members.{in_any, same_answer, there}
 use Rattle.feature_exchange.proofs.Ends.{segment_ends, end_of_two, two_ends}
-use Rattle.map_opening.proofs.KeyRings.{edge_of_canonical, edge_in_canonical, in_canonical}
-use Rattle.map_opening.proofs.KeyRings.{of_canonical, laid, begins_round, edges_round, edge_ends}
-use Rattle.map_opening.proofs.KeyRings.{edge_apart, times_edge, edge_times, beside_edges}
+use Rattle.ring_store.proofs.KeyRings.{edge_of_canonical, edge_in_canonical, in_canonical}
+use Rattle.ring_store.proofs.KeyRings.{of_canonical, laid, begins_round, edges_round, edge_ends}
+use Rattle.ring_store.proofs.KeyRings.{edge_apart, times_edge, edge_times, beside_edges}
 
 -- ---- what a ring of the document was made of
 

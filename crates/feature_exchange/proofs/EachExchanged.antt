@@ -12,7 +12,7 @@ use Rattle.ring_machine.specs.WellFormed.{fits_form}
 use Rattle.ring_machine.proofs.First.{In}
 use Rattle.ring_machine.proofs.Members.{in_contains}
 use Rattle.map_frame.specs.Naming.{IsOf}
-use Rattle.map_opening.specs.Laying.{feature_numbers, polygon_numbers}
+use Rattle.map_frame.specs.Numbers.{feature_numbers, polygon_numbers}
 use Rattle.edit_records.specs.Places.{exchanged, exchanged_features}
 use Rattle.edit_records.proofs.ExchangesMade.{exchanged-append, exchanged-feature}
 use Rattle.edit_records.proofs.PlacesBack.{filled-agree}

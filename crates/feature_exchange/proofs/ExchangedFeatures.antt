@@ -19,8 +19,8 @@ use Rattle.ring_machine.proofs.Members.{in_flat}
 use Rattle.ring_machine.proofs.Neighbours.{all_in, in-flat_map, in-map, none_in}
 use Rattle.ring_machine.proofs.Order.{and_both}
 use Rattle.ring_machine.proofs.OtherRings.{in_feature-agrees}
-use Rattle.map_opening.specs.Laying.{feature_numbers}
-use Rattle.map_opening.proofs.AddedRings.{same_map}
+use Rattle.map_frame.specs.Numbers.{feature_numbers}
+use Rattle.ring_store.proofs.AddedRings.{same_map}
 use Rattle.edit_records.specs.Places.{exchanged, is_exchanged}
 use Rattle.edit_records.specs.Records.{IsMap}
 use Rattle.edit_records.proofs.ExchangesSeen.{exchanged-rings}

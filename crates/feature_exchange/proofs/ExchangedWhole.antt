@@ -16,7 +16,7 @@ use Rattle.ring_machine.specs.Parts as parts_of
 use Rattle.vertex_index.specs.Placement.{Placement}
 use Rattle.arc_tables.specs.Rings.{Rings}
 use Rattle.map_frame.specs.Naming.{IsOf}
-use Rattle.map_opening.specs.Laying.{feature_numbers}
+use Rattle.map_frame.specs.Numbers.{feature_numbers}
 use Rattle.edit_records.specs.Places.{has_place, exchanged}
 use Rattle.edit_records.specs.Records.{IsMap}
 use Rattle.segment_index.specs.Candidates.{SegmentSet}

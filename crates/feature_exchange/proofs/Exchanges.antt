@@ -13,7 +13,7 @@ use Rattle.ring_machine.proofs.First.{In}
 use Rattle.ring_machine.proofs.Members.{contains_in, in_contains}
 use Rattle.topo_outline.specs.Kept.{KeepsTexts}
 use Rattle.segment_index.specs.Candidates.{SegmentSet}
-use Rattle.map_opening.proofs.AddedRings.{same_map}
+use Rattle.ring_store.proofs.AddedRings.{same_map}
 use Rattle.ring_store.specs.Laid.{AreAdded, AreGone, KeepsPlaces, ring_at}
 use Rattle.ring_store.specs.Standing.{Stands}
 use Rattle.ring_store.proofs.Numbered.{contained_or}

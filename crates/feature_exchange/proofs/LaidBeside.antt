@@ -11,7 +11,7 @@ use Rattle.ring_machine.proofs.Members.{in_contains, there}
 use Rattle.vertex_index.specs.Placement.{Placement}
 use Rattle.segment_index.specs.Candidates.{SegmentSet}
 use Rattle.arc_tables.specs.Rings.{Rings, edges}
-use Rattle.map_opening.proofs.AddedRings.{same_map}
+use Rattle.ring_store.proofs.AddedRings.{same_map}
 use Rattle.ring_store.specs.Laid.{numbers_of, ring_at, AreThere, AreAdded, KeepsPlaces}
 use Rattle.ring_store.specs.Standing.{Stands}
 use Rattle.ring_store.specs.declared.laid.LaidRing.{LaidRing}

@@ -8,7 +8,7 @@ use Rattle.grid_geometry.specs.Position.{Position}
 use Rattle.ring_machine.proofs.First.{In, in_right}
 use Rattle.ring_machine.proofs.Neighbours.{all_in, in-flat_map}
 use Rattle.ring_machine.proofs.SortedOnce.{in_at}
-use Rattle.map_opening.proofs.AddedRings.{same_map}
+use Rattle.ring_store.proofs.AddedRings.{same_map}
 use Rattle.ring_store.specs.Laid.{numbers_of, AreThere}
 use Rattle.ring_store.specs.Tables.{AreStanding, ring_in}
 use Rattle.ring_store.specs.declared.laid.LaidRing.{LaidRing}

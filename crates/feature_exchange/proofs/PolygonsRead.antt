@@ -11,7 +11,7 @@ use Rattle.ring_machine.proofs.Found.{feature-in_rings}
 use Rattle.ring_machine.proofs.Members.{contains_in, there}
 use Rattle.arc_tables.specs.Rings.{Rings, begins}
 use Rattle.arc_tables.specs.Ways.{Edge}
-use Rattle.map_opening.specs.Laying.{polygon_numbers}
+use Rattle.map_frame.specs.Numbers.{polygon_numbers}
 use Rattle.feature_exchange.specs.Holds.{IsWhole}
 use Rattle.feature_exchange.specs.Stored.{Stored, document_of, edges_under, ring_under}
 use Rattle.feature_exchange.specs.Along.{AlongVertices, ring_in}

@@ -12,7 +12,7 @@ use Rattle.ring_machine.proofs.First.{In}
 use Rattle.ring_machine.proofs.Members.{contains_in, in_contains}
 use Rattle.arc_tables.specs.Rings.{Rings}
 use Rattle.map_frame.specs.Naming.{IsOf}
-use Rattle.map_opening.specs.Laying.{feature_numbers}
+use Rattle.map_frame.specs.Numbers.{feature_numbers}
 use Rattle.segment_index.specs.Candidates.{SegmentSet}
 use Rattle.ring_store.specs.Laid.{AreAdded}
 use Rattle.feature_exchange.specs.Changed.{seen}

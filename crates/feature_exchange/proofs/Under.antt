@@ -12,7 +12,7 @@ use Rattle.ring_machine.proofs.Found.{distinct_parts, feature_in, feature_stands
 use Rattle.ring_machine.proofs.Found.{feature_found, feature-in_rings}
 use Rattle.ring_machine.proofs.Instead.{rings_at}
 use Rattle.ring_machine.proofs.Neighbours.{in-flat_map}
-use Rattle.map_opening.specs.Laying.{polygon_numbers}
+use Rattle.map_frame.specs.Numbers.{polygon_numbers}
 use Rattle.map_frame.proofs.NamedOnce.{one_owner}
 use Rattle.feature_exchange.specs.Under.{polygons_of, rings_under}
 

@@ -13,7 +13,7 @@ use Rattle.ring_machine.proofs.RingsOf.{rings-in_rings}
 use Rattle.ring_machine.proofs.SortedOnce.{Rising, same_rising, all_rise, in_all, all_in}
 use Rattle.vertex_index.specs.Placement.{Placement, place}
 use Rattle.arc_tables.specs.Rings.{begins}
-use Rattle.map_opening.proofs.KeyRings.{in_canonical, of_canonical}
+use Rattle.ring_store.proofs.KeyRings.{in_canonical, of_canonical}
 use Rattle.feature_exchange.specs.Along.{AreAlong}
 use Rattle.feature_exchange.specs.Holds.{IsWhole}
 use Rattle.feature_exchange.specs.Stored.{Stored, edges_under, positions_along, ring_under, document_of}

@@ -15,8 +15,8 @@ use Rattle.topo_outline.specs.Kept.{KeepsTexts}
 use Rattle.vertex_index.specs.Placement.{place}
 use Rattle.segment_index.specs.Candidates.{SegmentSet, segment_is, has}
 use Rattle.segment_index.proofs.Singles.{segment_total, same_sets}
-use Rattle.map_opening.proofs.KeyRings.{times_edge, edge_times}
-use Rattle.map_opening.proofs.SegmentLists.{has-eq}
+use Rattle.ring_store.proofs.KeyRings.{times_edge, edge_times}
+use Rattle.ring_store.proofs.SegmentLists.{has-eq}
 use Rattle.ring_store.specs.Standing.{IsSide, Stands}
 use Rattle.feature_exchange.specs.Holds.{IsWhole, Holds}
 use Rattle.feature_exchange.specs.Stored.{Stored, document_of}

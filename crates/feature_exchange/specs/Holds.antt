@@ -12,7 +12,7 @@ use Rattle.vertex_index.specs.Placement.{AreDistinct}
 use Rattle.segment_index.specs.Candidates.{SegmentSet}
 use Rattle.arc_tables.specs.Ways.{Edge}
 use Rattle.arc_tables.specs.Rings.{begins}
-use Rattle.map_opening.specs.Laying.{GoesRound}
+use Rattle.ring_store.specs.Round.{GoesRound}
 use Rattle.feature_exchange.specs.Stored.{Stored, document_of}
 
 -- an edge of ring r begins at the vertex with key k

@@ -6,7 +6,7 @@ use Rattle.ring_machine.specs.Document.{FeatureOf, DocumentOf}
 use Rattle.ring_machine.specs.Parts.{feature, rings, rings_of}
 use Rattle.ring_machine.specs.WellFormed.{are_distinct, fits_form}
 use Rattle.edit_records.specs.Places.{AreNumbered, exchanged}
-use Rattle.map_opening.specs.Laying.{feature_numbers}
+use Rattle.map_frame.specs.Numbers.{feature_numbers}
 use Rattle.map_frame.specs.Framed.{Framed}
 use Rattle.map_frame.specs.Texts.{texts_of, with_texts}
 use Rattle.map_frame.specs.Placed.{ArePlaced}

@@ -9,7 +9,7 @@ ghost use Rattle.ring_machine.specs.WellFormed.{are_distinct};
 ghost use Rattle.edit_records.specs.Places.{exchanged, had_before};
 ghost use Rattle.edit_records.specs.Records.{IsMap};
 ghost use Rattle.map_frame.specs.Naming.{IsOf};
-ghost use Rattle.map_opening.specs.Laying.{feature_numbers};
+ghost use Rattle.map_frame.specs.Numbers.{feature_numbers};
 ghost use Rattle.ring_store.specs.Laid.{numbers_of};
 ghost use Rattle.ring_store.specs.Tables.{AreStanding, ring_in};
 ghost use Rattle.topo_outline.specs.Kept.{KeepsTexts};

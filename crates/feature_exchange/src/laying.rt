@@ -2,7 +2,7 @@
 ghost use Rattle.std.specs.Prelude.{◌≡◌, ◌++◌, map, IsTrue, IfOk, OnOk, OnErr};
 ghost use Rattle.std.specs.List.{list_all, flat_map};
 ghost use Rattle.ring_machine.specs.Ring.{is_ring};
-ghost use Rattle.map_opening.specs.Laying.{polygon_numbers, feature_numbers};
+ghost use Rattle.map_frame.specs.Numbers.{polygon_numbers, feature_numbers};
 ghost use Rattle.ring_parts.specs.Seen.{rings_seen, polygons_seen};
 ghost use Rattle.ring_store.specs.Laid.{numbers_of, AreThere};
 ghost use Rattle.ring_store.specs.Tables.{AreStanding, ring_in};

@@ -1,7 +1,7 @@
 // The numbers of rings: of those that a feature has, and of those that were laid.
 ghost use Rattle.std.specs.Prelude.{◌≡◌, ◌++◌, IfOk, OnOk};
 ghost use Rattle.std.specs.List.{flat_map};
-ghost use Rattle.map_opening.specs.Laying.{polygon_numbers};
+ghost use Rattle.map_frame.specs.Numbers.{polygon_numbers};
 ghost use Rattle.ring_store.specs.Laid.{numbers_of};
 ghost use Rattle.feature_exchange.specs.Under.{rings_under};
 

@@ -3,7 +3,7 @@ ghost use Rattle.std.specs.Prelude.{◌≡◌, ℕ, true, map, Contains, IfOk};
 ghost use Rattle.std.specs.FinMap as table;
 ghost use Rattle.std.specs.List.{flat_map};
 ghost use Rattle.ring_machine.specs.Refusals.{feature_at};
-ghost use Rattle.map_opening.specs.Laying.{polygon_numbers};
+ghost use Rattle.map_frame.specs.Numbers.{polygon_numbers};
 ghost use Rattle.ring_parts.specs.Seen.{rings_seen, polygons_seen};
 ghost use Rattle.vertex_index.specs.Placement.{place};
 ghost use Rattle.feature_exchange.specs.Holds.{IsWhole};

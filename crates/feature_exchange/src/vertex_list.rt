@@ -7,7 +7,7 @@ ghost use Rattle.ring_machine.specs.Query as query;
 ghost use Rattle.ring_machine.specs.Query.{add_position};
 ghost use Rattle.ring_machine.specs.WellFormed.{are_distinct};
 ghost use Rattle.arc_tables.specs.Rings.{begins};
-ghost use Rattle.map_opening.specs.Laying.{polygon_numbers};
+ghost use Rattle.map_frame.specs.Numbers.{polygon_numbers};
 ghost use Rattle.feature_exchange.specs.Along.{AreAlong};
 ghost use Rattle.feature_exchange.specs.Holds.{IsWhole};
 ghost use Rattle.feature_exchange.specs.Stored.{stored_in, document_of, edges_under};

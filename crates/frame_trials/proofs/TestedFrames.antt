@@ -12,7 +12,7 @@ use Rattle.topo_outline.specs.Outline.{leaves}
 use Rattle.topo_outline.specs.Views.{view_layer}
 use Rattle.topo_outline.specs.declared.document.RawLayer.{RawLayer}
 use Rattle.topo_reader.proofs.Numbering.{rings_document, rings_within}
-use Rattle.map_opening.specs.Laying.{feature_numbers, polygon_numbers}
+use Rattle.map_frame.specs.Numbers.{feature_numbers, polygon_numbers}
 use Rattle.map_frame.specs.Naming.{IsOf}
 use Rattle.map_frame.specs.Opened.{CanStand, opened}
 use Rattle.map_frame.specs.Texts.{Texts, with_texts}

@@ -3,7 +3,7 @@ ghost use Rattle.std.specs.Prelude.{ℕ, ◌≡◌, ◌<◌, ◌∷◌, [], map,
 ghost use Rattle.ring_machine.specs.Document.{FeatureOf, Polygon};
 ghost use Rattle.ring_machine.specs.Parts.{feature, rings};
 ghost use Rattle.ring_machine.specs.WellFormed.{are_distinct};
-ghost use Rattle.map_opening.specs.Laying.{feature_numbers};
+ghost use Rattle.map_frame.specs.Numbers.{feature_numbers};
 
 use map_frame::{FeatureTexts, Frame, Id, ItemView};
 use refusing_allocator::Refusing;

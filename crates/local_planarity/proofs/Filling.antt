@@ -1,61 +1,92 @@
--- An index that is filled segment by segment, where no two conflict: what a caller knows after each.
-use Rattle.std.proofs.Common.{◌≡◌, ℕ, ◌+◌, ◌<◌, Bool, true, false, refl, sym, ap, ◌∙◌, List, ◌∷◌, length, take, get_or, ◌||◌, Option, None}
+-- An index that is filled segment by segment: one segment more, be it new or held before.
+use Rattle.std.proofs.Common.{◌≡◌, ℕ, ℤ, int_le, Bool, true, false, refl, sym, ap, ◌∙◌, List, [], ◌∷◌, ◌++◌, ◌||◌, ◌&&◌, Option, None, arith, Result, Ok, Err, OnOk}
 use Rattle.std.specs.FinSet as set
+use Rattle.std.specs.Int.{int_min, int_max}
 use Rattle.std.specs.List.{list_any}
-use Rattle.std.proofs.lemmas.List.Folds.{list_any_more}
-use Rattle.grid_geometry.specs.Segment.{Segment, segment_eq}
+use Rattle.std.proofs.lemmas.List.Folds.{list_any-append}
+use Rattle.std.proofs.lemmas.Int.{ints, clamps}
+use Rattle.grid_geometry.specs.Segment.{Segment, Box, box_of, boxes_meet, segment_eq}
 use Rattle.ring_machine.specs.Planar.{least_conflict}
+use Rattle.ring_machine.proofs.Members.{same_answer}
 use Rattle.segment_index.specs.Candidates.{SegmentSet, has, segment_is}
 use Rattle.segment_index.proofs.Singles.{same_segment, segment_total, segment_eq-is, contains_none}
-use Rattle.local_planarity.specs.Edits.{IsHeld, AreApart}
+use Rattle.local_planarity.specs.declared.leaving.Leaving.TheVariants.{Nothing}
+use Rattle.local_planarity.specs.Edits.{IsFilled, IsHeld, AreApart, stays}
+use Rattle.local_planarity.specs.Near.{IsNear}
 use Rattle.local_planarity.proofs.Least.{same_least_conflict, apart_if_none}
+use Rattle.local_planarity.proofs.Nearby.{stays_all}
+
+-- what holds where there is a value holds there in another form
+pub on_ok : {X E P Q : Type 0} (r : Result X E) → (P → Q) → OnOk r P → OnOk r Q
+on_ok (Ok x) f p = f p
+on_ok (Err e) f p = p
 
 -- whether a list has a segment, as `contains` tells
 pub contained : (ss : List Segment) (s : Segment) → list_any (λ t. segment_eq t s) ss ≡ has ss s
 contained ss s = λ i. list_any (λ t. segment_eq-is s t i) ss
 
--- an index holds these segments, and no two of them conflict
-pub record Filled (held : SegmentSet) (ss : List Segment) : Type 0 where
-  pub are_held : IsHeld held ss
-  pub apart : least_conflict ss ≡ None
+all_four : (a b c d : Bool) → a ≡ true → b ≡ true → c ≡ true → d ≡ true
+    → ((a && b) && (c && d)) ≡ true
+all_four a b c d p q r s = rw (p, q, r, s) refl
 
-pub filled_none : (held : SegmentSet) (ss : List Segment) → held ≡ set.empty → Filled held (take 0 ss)
-filled_none held ss e = record { are_held = λ t. sym (contains_none held t e); apart = refl }
+meets_itself : (s : Segment) → boxes_meet (box_of s) (box_of s) ≡ true
+meets_itself s = all_four _ _ _ _ (side s.lo.x s.hi.x) (side s.lo.x s.hi.x) (side s.lo.y s.hi.y) (side s.lo.y s.hi.y)
+  where
+    side : (a b : ℤ) → int_le (int_min a b) (int_max a b) ≡ true
+    side a b = grind (arith, ints, clamps)
 
-pub filled_apart : (held : SegmentSet) (ss : List Segment) → Filled held ss → AreApart held
-filled_apart held ss f = apart_if_none held ss f.are_held f.apart
+-- a segment is held where it is near itself
+pub held_near : (held : SegmentSet) (times : Segment → Box → ℕ) (s : Segment) (near : List Segment)
+    → IsNear held times Nothing s near → list_any (λ t. segment_eq t s) near ≡ set.contains held s
+held_near held times s near n =
+    contained near s ∙ same_answer (has near s) (set.contains held s)
+    (λ h. sym (stays_all held s) ∙ n.among s h)
+    (λ h. n.covers s (stays_all held s ∙ h) (meets_itself s))
 
-or_comm : (a b : Bool) → (a || b) ≡ (b || a)
-or_comm true true = refl
-or_comm true false = refl
-or_comm false true = refl
-or_comm false false = refl
+or_turned : (a b : Bool) → (a || (b || false)) ≡ (b || a)
+or_turned true true = refl
+or_turned true false = refl
+or_turned false true = refl
+or_turned false false = refl
 
-one_more : (ss : List Segment) (k : ℕ) (s t : Segment) → k < length ss → s ≡ get_or ss k s → has (take (k + 1) ss) t ≡ (segment_is t s || has (take k ss) t)
-one_more ss k s t l here = list_any_more (segment_is t) ss k s l ∙ ap (λ z. has (take k ss) t || segment_is t z) (sym here) ∙ or_comm (has (take k ss) t) (segment_is t s)
+one_more : (ss : List Segment) (s t : Segment) → has (ss ++ s ∷ []) t ≡ (segment_is t s || has ss t)
+one_more ss s t = list_any-append (segment_is t) ss (s ∷ []) ∙ or_turned (has ss t) (segment_is t s)
 
--- a segment that was there before
-pub filled_again : (held : SegmentSet) (ss : List Segment) (k : ℕ) (s : Segment) → k < length ss → s ≡ get_or ss k s → has (take k ss) s ≡ true → Filled held (take k ss) → Filled held (take (k + 1) ss)
-filled_again held ss k s l here old f = record {
+pub filled_none : (held : SegmentSet) → held ≡ set.empty → IsFilled held None []
+filled_none held e = record { are_held = λ t. sym (contains_none held t e); first = refl }
+
+-- a segment that is held already
+pub filled_same : (held : SegmentSet) (first : Option (Segment × Segment)) (s : Segment)
+    (ss : List Segment) → set.contains held s ≡ true → IsFilled held first ss
+    → IsFilled held first (ss ++ s ∷ [])
+filled_same held first s ss there f = record {
   are_held = λ t. as_before t ∙ f.are_held t;
-  apart = same_least_conflict (take (k + 1) ss) (take k ss) as_before ∙ f.apart;
+  first = same_least_conflict (ss ++ s ∷ []) ss as_before ∙ f.first;
 }
   where
-    by : (t : Segment) (b : Bool) → segment_is t s ≡ b → (b || has (take k ss) t) ≡ has (take k ss) t
-    by t true e = sym (ap (has (take k ss)) (same_segment t s e) ∙ old)
+    known : has ss s ≡ true
+    known = f.are_held s ∙ there
+
+    by : (t : Segment) (b : Bool) → segment_is t s ≡ b → (b || has ss t) ≡ has ss t
+    by t true e = sym (ap (has ss) (same_segment t s e) ∙ known)
     by t false e = refl
 
-    as_before : (t : Segment) → has (take (k + 1) ss) t ≡ has (take k ss) t
-    as_before t = one_more ss k s t l here ∙ by t (segment_is t s) refl
+    as_before : (t : Segment) → has (ss ++ s ∷ []) t ≡ has ss t
+    as_before t = one_more ss s t ∙ by t (segment_is t s) refl
 
--- a new one, with which there is still no pair
-pub filled_further : (old new : SegmentSet) (ss : List Segment) (k : ℕ) (s : Segment) (r : Option (Segment × Segment)) → k < length ss → s ≡ get_or ss k s → Filled old (take k ss)
-    → new ≡ set.insert old s → least_conflict (s ∷ take k ss) ≡ r → r ≡ None → Filled new (take (k + 1) ss)
-filled_further old new ss k s r l here f put is none = record {
-  are_held = λ t. one_more ss k s t l here ∙ ap (λ b. segment_is t s || b) (f.are_held t) ∙ sym (ap (λ h. set.contains h t) put ∙ set.contains-insert segment_total old s t);
-  apart = same_least_conflict (take (k + 1) ss) (s ∷ take k ss) (λ t. one_more ss k s t l here) ∙ is ∙ none;
+-- a new one, with the least pair that there is with it
+pub filled_more : (held held' : SegmentSet) (first pair : Option (Segment × Segment)) (s : Segment)
+    (ss : List Segment) → held' ≡ set.insert held s
+    → (IsHeld held ss → least_conflict ss ≡ first → least_conflict (s ∷ ss) ≡ pair)
+    → IsFilled held first ss → IsFilled held' pair (ss ++ s ∷ [])
+filled_more held held' first pair s ss put is f = record {
+  are_held = λ t.
+      one_more ss s t ∙ ap (λ b. segment_is t s || b) (f.are_held t)
+      ∙ sym (ap (λ h. set.contains h t) put ∙ set.contains-insert segment_total held s t);
+  first = same_least_conflict (ss ++ s ∷ []) (s ∷ ss) (one_more ss s) ∙ is f.are_held f.first;
 }
 
--- a new one is not held
-pub filled_new : (held : SegmentSet) (ss : List Segment) (s : Segment) → has ss s ≡ false → Filled held ss → set.contains held s ≡ false
-filled_new held ss s out f = sym (f.are_held s) ∙ out
+-- where there is no pair, no two held segments conflict
+pub filled_apart : (held : SegmentSet) (first : Option (Segment × Segment)) (ss : List Segment) → IsFilled held first ss
+    → first ≡ None → AreApart held
+filled_apart held first ss f none = apart_if_none held ss f.are_held (f.first ∙ none)

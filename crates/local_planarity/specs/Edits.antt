@@ -1,9 +1,10 @@
 -- Which segments are there before and after an edit.
-use Rattle.std.specs.Prelude.{◌≡◌, Bool, true, false, not, ◌&&◌, ◌||◌, List}
+use Rattle.std.specs.Prelude.{◌≡◌, Bool, true, false, not, ◌&&◌, ◌||◌, List, Option}
 use Rattle.std.specs.FinSet as set
 use Rattle.grid_geometry.specs.Position.{Position}
 use Rattle.grid_geometry.specs.Segment.{Segment, segment_eq, is_end}
 use Rattle.grid_geometry.specs.Conflict.{conflict}
+use Rattle.ring_machine.specs.Planar.{least_conflict}
 use Rattle.ring_machine.specs.Ring as machine
 use Rattle.segment_index.specs.Candidates.{SegmentSet, AreSingle, has}
 use Rattle.local_planarity.specs.declared.leaving.Leaving.{Leaving}
@@ -27,6 +28,11 @@ AreApart held =
 -- the list has exactly the held segments
 abbrev pub IsHeld : SegmentSet → List Segment → Type 0
 IsHeld held ss = (s : Segment) → has ss s ≡ set.contains held s
+
+-- an index holds these segments, and this is the least pair of them in conflict
+pub record IsFilled (held : SegmentSet) (pair : Option (Segment × Segment)) (ss : List Segment) : Type 0 where
+  pub are_held : IsHeld held ss
+  pub first : least_conflict ss ≡ pair
 
 -- the list has exactly the held segments that do not leave, and the added ones
 abbrev pub IsAfter : SegmentSet → Leaving → List Segment → List Segment → Type 0

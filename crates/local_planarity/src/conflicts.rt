@@ -1,10 +1,10 @@
 //! The first pair of segments in conflict.
-ghost use Rattle.std.specs.Prelude.{◌≡◌, ◌+◌, ◌≤◌, ◌∷◌, List, IfOk, OnOk, min};
+ghost use Rattle.std.specs.Prelude.{◌≡◌, ◌+◌, ◌≤◌, List, IfOk, OnOk, min};
 ghost use Rattle.grid_geometry.specs.Segment.{Segment};
 ghost use Rattle.ring_machine.specs.Planar.{least_conflict};
 ghost use Rattle.segment_index.specs.Times.{times_by};
-ghost use Rattle.local_planarity.specs.Edits.{AreApart, AreStaying, IsAfter, IsHeld};
-ghost use Rattle.local_planarity.specs.Tests.{fewest_tests, most_given, most_tests};
+ghost use Rattle.local_planarity.specs.Edits.{AreApart, AreStaying, IsAfter};
+ghost use Rattle.local_planarity.specs.Tests.{fewest_tests, most_tests};
 
 use crate::count::TestCount;
 use crate::leaving::Leaving;
@@ -39,22 +39,4 @@ pub fn first_conflict<I: SegIndex, A: Allocator + Copy>(
         first = first_against(*s, &added[..at], first, tests);
     }
     Ok(first)
-}
-
-/// The least of a known pair, the first of the held segments, and of the pairs in conflict of s
-/// with these: for opening a map, segment by segment. Fails only for want of memory.
-pub fn first_with<I: SegIndex, A: Allocator + Copy>(
-    alloc: A,
-    index: &I,
-    s: Seg,
-    first: Option<(Seg, Seg)>,
-    tests: &mut TestCount,
-) -> Result<Option<(Seg, Seg)>, AllocError>
-    ensures first { IfOk result (λ pair. (ss : List Segment) → IsHeld (I.held index.now) ss
-        → least_conflict ss ≡ first → least_conflict (s ∷ ss) ≡ pair) }
-    ensures few { (ss : List Segment) → IsHeld (I.held index.now) ss
-        → tests.new ≤ tests.old + most_given (times_by (I.cells index.now)) ss s }
-{
-    let near = staying_near(alloc, index, &Leaving::Nothing, s)?;
-    Ok(first_against(s, near.as_slice(), first, tests))
 }

@@ -4,15 +4,15 @@
 
 mod conflicts;
 mod count;
+mod filled;
 mod leaving;
 mod near;
 mod pairs;
 mod span;
 mod sweeps;
-#[cfg(test)]
-mod tests;
 
-pub use conflicts::{first_conflict, first_with};
+pub use conflicts::first_conflict;
 pub use count::TestCount;
+pub use filled::fill;
 pub use leaving::Leaving;
 pub use sweeps::{crosses_on_way, holds_other};

@@ -9,7 +9,7 @@ use Rattle.std.proofs.lemmas.List.{map-append, take_more}
 use Rattle.ring_machine.specs.Document.{Polygon, MultiPolygon, Null}
 use Rattle.ring_machine.specs.Parts.{feature_of}
 use Rattle.ring_machine.specs.WellFormed.{is_inner, is_geometry, fits_form, are_distinct}
-use Rattle.map_opening.specs.Laying.{polygon_numbers, feature_numbers}
+use Rattle.map_frame.specs.Numbers.{polygon_numbers, feature_numbers}
 use Rattle.topo_outline.specs.Outline.{leaves_in}
 use Rattle.topo_outline.specs.Shape.{LayerText, Piece, starts, ends, leaf, text}
 use Rattle.topo_outline.specs.Views.{view_kept, view_layer}

@@ -11,7 +11,7 @@ use Rattle.ring_machine.specs.WellFormed.{is_inner, is_geometry}
 use Rattle.ring_machine.proofs.First.{In}
 use Rattle.ring_machine.proofs.Members.{in_contains}
 use Rattle.ring_machine.proofs.Order.{and_both}
-use Rattle.map_opening.specs.Laying.{feature_numbers}
+use Rattle.map_frame.specs.Numbers.{feature_numbers}
 use Rattle.topo_outline.specs.Shape.{Piece}
 use Rattle.topo_outline.specs.Views.{form_of, view_head, view_item}
 use Rattle.topo_outline.specs.Views as read

@@ -9,7 +9,7 @@ use Rattle.ring_machine.specs.Document.{DocumentOf, LayerOf}
 use Rattle.ring_machine.specs.Join.{empty_collection}
 use Rattle.ring_machine.specs.Parts.{features}
 use Rattle.ring_machine.specs.WellFormed.{WellFormed}
-use Rattle.map_opening.specs.Laying.{feature_numbers}
+use Rattle.map_frame.specs.Numbers.{feature_numbers}
 use Rattle.topo_outline.specs.Views.{view_kept}
 use Rattle.topo_outline.specs.Views as read
 use Rattle.topo_outline.specs.declared.document.RawLayer.{RawLayer}

@@ -11,7 +11,7 @@ use Rattle.ring_machine.specs.Parts.{features}
 use Rattle.ring_machine.specs.WellFormed.{WellFormed, are_distinct}
 use Rattle.topo_outline.proofs.Copied.{copied_map}
 use Rattle.topo_outline.specs.Views.{view_kept}
-use Rattle.map_opening.specs.Laying.{polygon_numbers}
+use Rattle.map_frame.specs.Numbers.{polygon_numbers}
 use Rattle.map_frame.specs.declared.feature.Feature.{Feature}
 use Rattle.map_frame.specs.declared.layers.Slot.{Slot}
 use Rattle.map_frame.specs.declared.layers.Slot.TheVariants as slot

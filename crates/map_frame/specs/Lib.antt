@@ -7,6 +7,7 @@ pub mod Kept
 pub mod Live
 pub mod Named
 pub mod Naming
+pub mod Numbers
 pub mod Opened
 pub mod Placed
 pub mod Readers

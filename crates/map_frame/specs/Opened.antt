@@ -6,7 +6,7 @@ use Rattle.topo_outline.specs.Outline.{leaves}
 use Rattle.topo_outline.specs.Views.{view_layer}
 use Rattle.topo_outline.specs.declared.document.RawLayer.{RawLayer}
 use Rattle.topo_reader.specs.Document.{layers_from}
-use Rattle.map_opening.specs.Laying.{feature_numbers}
+use Rattle.map_frame.specs.Numbers.{feature_numbers}
 use Rattle.ring_machine.specs.Document.{Text, Member}
 
 module _ {A : Type 0} where

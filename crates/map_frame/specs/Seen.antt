@@ -5,7 +5,7 @@ use Rattle.ring_machine.specs.Document.{FeatureOf, ItemOf, Open, Close, Leaf, Ke
 use Rattle.edit_records.specs.Places.{Place, Begins, Ends, Text_of, Number, Tree, Alone, Places, LayerTree}
 use Rattle.edit_records.specs.Places.{or_empty}
 use Rattle.topo_outline.specs.Views.{view_head, view_kept}
-use Rattle.map_opening.specs.Laying.{feature_numbers}
+use Rattle.map_frame.specs.Numbers.{feature_numbers}
 use Rattle.map_frame.specs.declared.feature.Feature.{Feature}
 use Rattle.map_frame.specs.declared.layers.Slot.{Slot}
 use Rattle.map_frame.specs.declared.layers.Slot.TheVariants as slot

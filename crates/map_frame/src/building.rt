@@ -2,7 +2,7 @@
 ghost use Rattle.std.specs.Prelude.{◌≡◌, ◌+◌, ◌<◌, ◌≤◌, List, Option, [], ◌∷◌, length, map, option_map, IfOk};
 ghost use Rattle.std.specs.List.{flat_map};
 ghost use Rattle.std.specs.Vec.Iter.{into_iter_items};
-ghost use Rattle.map_opening.specs.Laying.{feature_numbers};
+ghost use Rattle.map_frame.specs.Numbers.{feature_numbers};
 ghost use Rattle.topo_outline.specs.Outline.{leaves_in, leaves};
 ghost use Rattle.topo_outline.specs.Views.{view_item, view_kept, view_layer};
 ghost use Rattle.ring_machine.specs.Join.{empty_collection};

@@ -1,7 +1,7 @@
 // By a ring's number where it stands.
 ghost use Rattle.std.specs.Prelude.{◌≡◌, ◌<◌, ◌≤◌, ℕ, length, map, Some, OnOk, IfOk, slice_get};
 ghost use Rattle.std.specs.List.{flat_map};
-ghost use Rattle.map_opening.specs.Laying.{polygon_numbers, feature_numbers};
+ghost use Rattle.map_frame.specs.Numbers.{polygon_numbers, feature_numbers};
 ghost use Rattle.map_frame.specs.Naming.{Gain, Loss, SameNames, IsOf, HasRoom, AllNamed};
 ghost use Rattle.map_frame.specs.Readers.{element};
 

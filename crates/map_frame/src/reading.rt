@@ -3,7 +3,7 @@ ghost use Rattle.std.specs.Prelude.{◌≡◌, ◌≢◌, ◌≤◌, ℕ, map, l
 ghost use Rattle.ring_machine.specs.Parts.{feature, features, has_feature};
 ghost use Rattle.ring_machine.specs.Refusals.{is_layer};
 ghost use Rattle.topo_outline.specs.Views.{form_of, view_kept};
-ghost use Rattle.map_opening.specs.Laying.{polygon_numbers};
+ghost use Rattle.map_frame.specs.Numbers.{polygon_numbers};
 ghost use Rattle.map_frame.specs.Live.{live};
 ghost use Rattle.map_frame.specs.Named.{number_at};
 ghost use Rattle.map_frame.specs.Readers.{shown, ring_at};

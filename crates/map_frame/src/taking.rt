@@ -4,7 +4,7 @@ ghost use Rattle.std.specs.List.{flat_map};
 ghost use Rattle.edit_records.specs.Places.{exchanged};
 ghost use Rattle.ring_machine.specs.Parts.{feature, rings};
 ghost use Rattle.ring_machine.specs.WellFormed.{are_distinct, fits_form};
-ghost use Rattle.map_opening.specs.Laying.{polygon_numbers, feature_numbers};
+ghost use Rattle.map_frame.specs.Numbers.{polygon_numbers, feature_numbers};
 ghost use Rattle.map_frame.specs.Kept.{IsFramed};
 ghost use Rattle.map_frame.specs.Naming.{HasRoom, IsOf};
 ghost use Rattle.map_frame.specs.Seen.{framed, doc_of};

@@ -1,13 +1,6 @@
-pub mod Pushed
-pub mod Counted
-pub mod KeyRings
-pub mod Places
-pub mod SegmentLists
 pub mod NestedLists
-pub mod KeyedLists
 pub mod KeyedRings
 pub mod FilledLists
-pub mod LaidSegments
-pub mod AddedRings
-pub mod LaidLists
-pub mod LaidFirst
+pub mod LaidRings
+pub mod OpenedTables
+pub mod FlatLists

@@ -1,13 +1,8 @@
 -- Lists of lists of lists, and all that stands in them.
 use Rattle.std.proofs.Common.{◌≡◌, refl, sym, ap, ap₂, ◌∙◌, List, [], ◌∷◌, ◌++◌, map, length}
 use Rattle.std.proofs.Common.{get_or, drop, arith}
-use Rattle.std.specs.List.{flat_map}
-use Rattle.std.proofs.lemmas.List.{length-map, map-append, length-append}
-use Rattle.map_opening.specs.Keyed.{all_rings}
-
--- all that stands in lists
-abbrev joined : {A : Type 0} → List (List A) → List A
-joined xss = flat_map (λ xs. xs) xss
+use Rattle.std.proofs.lemmas.List.{length-map, map-append, map-id, length-append}
+use Rattle.map_opening.specs.Flat.{joined, all_rings, shape_of}
 
 parts : {A : Type 0} (xs ys us vs : List A) → length xs ≡ length ys → xs ++ us ≡ ys ++ vs
     → (xs ≡ ys) × (us ≡ vs)
@@ -26,20 +21,6 @@ as_long (xs ∷ xss) [] l = absurd (omega (arith, ap length l))
 as_long (xs ∷ xss) (ys ∷ yss) l =
     omega (arith, length-append xs (joined xss), length-append ys (joined yss), ap (λ z. get_or z 0 0) l, as_long xss yss (ap (drop 1) l))
 
--- ---- what is changed in its place
-
-joined-mapped : {A B : Type 0} (f : A → B) (xss : List (List A))
-    → joined (map (map f) xss) ≡ map f (joined xss)
-joined-mapped f [] = refl
-joined-mapped f (xs ∷ xss) = ap (λ z. map f xs ++ z) (joined-mapped f xss) ∙ sym (map-append f xs (joined xss))
-
-pub all_rings-mapped : {A B : Type 0} (f : A → B) (features : List (List (List A)))
-    → all_rings (map (map (map f)) features) ≡ map f (all_rings features)
-all_rings-mapped f [] = refl
-all_rings-mapped f (ps ∷ features) =
-    ap₂ (λ y z. y ++ z) (joined-mapped f ps) (all_rings-mapped f features)
-    ∙ sym (map-append f (joined ps) (all_rings features))
-
 -- ---- lists of one shape
 
 module _ {A B C : Type 0} (f : A → C) (g : B → C) where
@@ -55,8 +36,8 @@ module _ {A B C : Type 0} (f : A → C) (g : B → C) where
       ap₂ (λ a b. a ∷ b) k.0 (same_polygons xss yss (ap (drop 1) l) k.1)
 
   -- lists of one shape in which the same stands are the same
-  pub same_features : (xs : List (List (List A))) (ys : List (List (List B)))
-      → map (map length) xs ≡ map (map length) ys
+  same_features : (xs : List (List (List A))) (ys : List (List (List B)))
+      → shape_of xs ≡ shape_of ys
       → map f (all_rings xs) ≡ map g (all_rings ys) → map (map (map f)) xs ≡ map (map (map g)) ys
   same_features [] [] l e = refl
   same_features [] (y ∷ ys) l e = absurd (omega (arith, ap length l))
@@ -67,3 +48,17 @@ module _ {A B C : Type 0} (f : A → C) (g : B → C) where
       (length-map (joined x) f ∙ as_long x y first ∙ sym (length-map (joined y) g))
       (sym (map-append f (joined x) (all_rings xs)) ∙ e ∙ map-append g (joined y) (all_rings ys)) in
       ap₂ (λ a b. a ∷ b) (same_polygons x y first k.0) (same_features xs ys (ap (drop 1) l) k.1)
+
+-- ---- made flat, and put into lists again
+
+module _ {A C : Type 0} (f : A → C) where
+  mapped_itself : (xs : List (List (List C))) → map (map (map (λ x. x))) xs ≡ xs
+  mapped_itself xs =
+      ap (λ (m : List C → List C). map (map m) xs) (λ i l. map-id l i)
+      ∙ ap (λ (m : List (List C) → List (List C)). map m xs) (λ i l. map-id l i) ∙ map-id xs
+
+  -- features of one shape are the same where their rings are
+  pub put_again : (features : List (List (List C))) (again : List (List (List A))) → shape_of again ≡ shape_of features
+      → map f (all_rings again) ≡ all_rings features → map (map (map f)) again ≡ features
+  put_again features again alike e =
+      same_features f (λ x. x) again features alike (e ∙ sym (map-id (all_rings features))) ∙ mapped_itself features

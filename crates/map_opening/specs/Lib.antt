@@ -1,3 +1,4 @@
+pub mod Flat
 pub mod Keyed
-pub mod LaidOut
 pub mod Laying
+pub mod Opened

@@ -83,45 +83,17 @@ fn see_ring<A: Allocator + Copy>(
     see(borders, around, a, k, *first)
 }
 
-/// The rings of a polygon are seen.
-fn see_polygon<A: Allocator + Copy>(
-    borders: &mut Borders<A>,
-    around: &mut Vec<Seen, A>,
-    polygon: &[Vec<VertexKey, A>],
-) -> Result<(), AllocError>
-    ensures { borders.new ≡ borders.old }
-{
-    for ring in polygon {
-        see_ring(borders, around, ring.as_slice())?;
-    }
-    Ok(())
-}
-
-/// The rings of a feature are seen.
-fn see_feature<A: Allocator + Copy>(
-    borders: &mut Borders<A>,
-    around: &mut Vec<Seen, A>,
-    polygons: &[Vec<Vec<VertexKey, A>, A>],
-) -> Result<(), AllocError>
-    ensures { borders.new ≡ borders.old }
-{
-    for polygon in polygons {
-        see_polygon(borders, around, polygon.as_slice())?;
-    }
-    Ok(())
-}
-
 /// Borders end at each vertex that has different neighbours in two rings. No ring changes.
 pub(crate) fn mark_junctions<A: Allocator + Copy>(
     alloc: A,
     borders: &mut Borders<A>,
-    features: &[Vec<Vec<Vec<VertexKey, A>, A>, A>],
+    rings: &[Vec<VertexKey, A>],
 ) -> Result<(), AllocError>
     ensures { borders.new ≡ borders.old }
 {
     let mut around = Vec::new(alloc);
-    for polygons in features {
-        see_feature(borders, &mut around, polygons.as_slice())?;
+    for ring in rings {
+        see_ring(borders, &mut around, ring.as_slice())?;
     }
     Ok(())
 }

@@ -7,7 +7,7 @@ use Rattle.vertex_index.specs.Placement.{Placement, place}
 use Rattle.arc_tables.specs.Rings.{Rings}
 use Rattle.shared_arcs.specs.Joined.{Joined, AreNeighbours}
 use Rattle.shared_arcs.specs.declared.around.Neighbours.TheVariants.{Two}
-use Rattle.map_opening.proofs.Places.{place_is}
+use Rattle.ring_store.proofs.Places.{place_is}
 use Rattle.shared_arcs.specs.Listing.{ListsJoined}
 use Rattle.ring_machine.specs.Ring.{has}
 use Rattle.ring_machine.proofs.First.{In}

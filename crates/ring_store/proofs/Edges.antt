@@ -20,10 +20,10 @@ use Rattle.ring_machine.proofs.StaysRing.{AtMostOne}
 use Rattle.vertex_index.specs.Placement.{Placement, AreDistinct, place}
 use Rattle.arc_tables.specs.Ways.{Edge, links}
 use Rattle.arc_tables.specs.Rings.{edges, begins}
-use Rattle.map_opening.specs.Laying.{GoesRound, IsRound}
-use Rattle.map_opening.proofs.KeyRings.{begins_edges, begins_round, edges_round, edge_apart, edge_ends, laid}
-use Rattle.map_opening.proofs.LaidSegments.{goes_round}
-use Rattle.map_opening.proofs.Places.{IsKept, distinct_places}
+use Rattle.ring_store.specs.Round.{GoesRound, IsRound}
+use Rattle.ring_store.proofs.KeyRings.{begins_edges, begins_round, edges_round, edge_apart, edge_ends, laid}
+use Rattle.ring_store.proofs.KeyRings.{goes_round}
+use Rattle.ring_store.proofs.Places.{IsKept, distinct_places}
 use Rattle.ring_store.specs.Steps.{sides}
 
 -- ---- the edge at a place
@@ -92,6 +92,27 @@ round_keys places ks g h =
       placed = h;
     }
 
+-- ---- the edges of a ring's keys
+
+module _ (places : Placement) (ks : List ℕ) (r : IsRound places ks) where
+  -- the edges between positions
+  pub laid_edges : geometry.edges (map (place places) ks) ≡ map (laid (place places)) (edges ks)
+  laid_edges =
+      ap (λ z. geometry.edges (map (place places) z)) (sym (begins_edges ks))
+      ∙ edges_round (place places) (edges ks) (goes_round places ks r)
+
+  -- an edge goes from one vertex to another
+  pub edge_joins : (at : ℕ) (e : Edge) → at < length (edges ks) → e ≡ get_or (edges ks) at e
+      → IsKept places e.0 × IsKept places e.1 × (e.0 ≢ e.1)
+  edge_joins at e l here =
+      let i : In e (edges ks) = contains_in (edges ks) e (at, l, sym here) in
+      let g = goes_round places ks r in
+      let ends = edge_ends (edges ks) g e i in (
+        r.placed e.0 (in_contains ks e.0 (subst (In e.0) (begins_edges ks) ends.0)),
+        r.placed e.1 (in_contains ks e.1 (subst (In e.1) (begins_edges ks) ends.1)),
+        edge_apart (edges ks) g e i,
+      )
+
 -- ---- each segment once
 
 -- a test that one edge at most passes fails before an edge that passes
@@ -110,12 +131,6 @@ once_round s (x ∷ y ∷ []) l d = absurd (omega (arith, l))
 once_round s (x ∷ y ∷ z ∷ ps) l d = (x, ring_once s x y z ps d)
 
 module _ (places : Placement) (distinct : AreDistinct places) (ks : List ℕ) (r : IsRound places ks) where
-  -- the edges between positions
-  laid_edges : geometry.edges (map (place places) ks) ≡ map (laid (place places)) (edges ks)
-  laid_edges =
-      ap (λ z. geometry.edges (map (place places) z)) (sym (begins_edges ks))
-      ∙ edges_round (place places) (edges ks) (goes_round places ks r)
-
   -- none of the edges before one has its segment
   pub side_once : (at : ℕ) (e : Edge) → at < length (edges ks) → e ≡ get_or (edges ks) at e
       → Contains (sides places (take at (edges ks))) (segment (place places e.0) (place places e.1)) → ⊥
@@ -127,18 +142,6 @@ module _ (places : Placement) (distinct : AreDistinct places) (ks : List ℕ) (r
       let once = once_round s (map (place places) ks) (omega (arith, r.long, length-map ks (place places)))
       (distinct_places places distinct ks (λ k i. r.placed k (in_contains ks k i)) r.different) in
       none_before (is_of s) once.0 (map (laid (place places)) (take at (edges ks))) (laid (place places) e) (map (laid (place places)) (drop (at + 1) (edges ks)))
-      (subst (AtMostOne (is_of s) once.0) (laid_edges ∙ ap (map (laid (place places))) parts ∙ map-append (laid (place places)) (take at (edges ks)) (e ∷ drop (at + 1) (edges ks))) once.1)
+      (subst (AtMostOne (is_of s) once.0) (laid_edges places ks r ∙ ap (map (laid (place places))) parts ∙ map-append (laid (place places)) (take at (edges ks)) (e ∷ drop (at + 1) (edges ks))) once.1)
       (segment_ordered.eq-refl s) (laid (place places) f.0) (in-map (laid (place places)) f.0 (take at (edges ks)) f.1)
       (ap (segment_eq (segment (place places f.0.0) (place places f.0.1))) (sym f.2) ∙ segment_ordered.eq-refl (segment (place places f.0.0) (place places f.0.1)))
-
-  -- an edge goes from one vertex to another
-  pub edge_joins : (at : ℕ) (e : Edge) → at < length (edges ks) → e ≡ get_or (edges ks) at e
-      → IsKept places e.0 × IsKept places e.1 × (e.0 ≢ e.1)
-  edge_joins at e l here =
-      let i : In e (edges ks) = contains_in (edges ks) e (at, l, sym here) in
-      let g = goes_round places ks r in
-      let ends = edge_ends (edges ks) g e i in (
-        r.placed e.0 (in_contains ks e.0 (subst (In e.0) (begins_edges ks) ends.0)),
-        r.placed e.1 (in_contains ks e.1 (subst (In e.1) (begins_edges ks) ends.1)),
-        edge_apart (edges ks) g e i,
-      )

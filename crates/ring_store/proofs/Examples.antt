@@ -7,7 +7,7 @@ use native.Mathlib.Decide.{ℕ_discrete}
 use Rattle.grid_geometry.specs.Position.{Position, position, position_eq}
 use Rattle.grid_geometry.specs.Segment.{segment}
 use Rattle.vertex_index.specs.Placement.{Placement, IsOccupied}
-use Rattle.map_opening.proofs.Places.{insert_other}
+use Rattle.ring_store.proofs.Places.{insert_other}
 use Rattle.ring_store.specs.declared.removal.Removal.{Removal}
 use Rattle.ring_store.specs.Many.{ArePlaceable, comings, goings}
 use Rattle.ring_store.proofs.PuttingBack.{insert_here}

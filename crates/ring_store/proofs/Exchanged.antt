@@ -18,12 +18,11 @@ use Rattle.segment_index.specs.Candidates.{SegmentSet}
 use Rattle.segment_index.proofs.Singles.{same_sets}
 use Rattle.arc_tables.specs.Ways.{Edge}
 use Rattle.arc_tables.specs.Rings.{Rings, begins, edges}
-use Rattle.map_opening.specs.Keyed.{ArePut}
-use Rattle.map_opening.specs.Laying.{IsRound, GoesRound}
-use Rattle.map_opening.proofs.AddedRings.{ring_here}
-use Rattle.map_opening.proofs.KeyRings.{begins_edges}
-use Rattle.map_opening.proofs.LaidSegments.{goes_round}
-use Rattle.map_opening.proofs.Places.{IsKept, kept_place}
+use Rattle.ring_store.specs.Keyed.{ArePut}
+use Rattle.ring_store.specs.Round.{IsRound, GoesRound}
+use Rattle.ring_store.proofs.AddedRings.{ring_here}
+use Rattle.ring_store.proofs.KeyRings.{begins_edges, goes_round}
+use Rattle.ring_store.proofs.Places.{IsKept, kept_place}
 use Rattle.ring_store.specs.Standing.{IsVisited, IsSide, Stands}
 use Rattle.ring_store.specs.Steps.{AllRound, AreKeyed, HoldsWith, LeavesVisited, sides}
 use Rattle.ring_store.proofs.Edges.{length-edges, round_keys}

@@ -13,11 +13,10 @@ use Rattle.ring_machine.proofs.Removal.{none_parts, not_true}
 use Rattle.ring_machine.proofs.StaysProper.{ring_long}
 use Rattle.vertex_index.specs.Placement.{Placement, AreDistinct, place}
 use Rattle.vertex_index.proofs.PlacementLemmas.{get-inserted}
-use Rattle.map_opening.specs.Keyed.{ArePut}
-use Rattle.map_opening.specs.Laying.{IsRound}
-use Rattle.map_opening.proofs.KeyedRings.{keys_distinct}
-use Rattle.map_opening.proofs.KeyedLists.{AreRead, singles}
-use Rattle.map_opening.proofs.Places.{insert_other}
+use Rattle.ring_store.specs.Keyed.{ArePut}
+use Rattle.ring_store.specs.Round.{IsRound}
+use Rattle.ring_store.proofs.Places.{keys_distinct, insert_other}
+use Rattle.ring_store.proofs.KeyedLists.{AreRead, singles}
 
 -- ---- a position that comes in
 

@@ -1,3 +1,10 @@
+pub mod Pushed
+pub mod Sums
+pub mod KeyRings
+pub mod Places
+pub mod SegmentLists
+pub mod KeyedLists
+pub mod AddedRings
 pub mod Edges
 pub mod Used
 pub mod CountLemmas

@@ -16,7 +16,7 @@ use Rattle.ring_machine.proofs.Members.{contains_in, in_contains, any_in, in_any
 use Rattle.ring_machine.specs.WellFormed.{are_distinct}
 use Rattle.arc_tables.specs.Ways.{Edge}
 use Rattle.arc_tables.specs.Rings.{Rings, edges}
-use Rattle.map_opening.proofs.Pushed.{map_more}
+use Rattle.ring_store.proofs.Pushed.{map_more}
 use Rattle.ring_store.specs.Laid.{numbers_of, AreThere, AreGone, AreAdded}
 use Rattle.ring_store.specs.declared.laid.LaidRing.{LaidRing}
 use Rattle.ring_store.proofs.Unvisited.{distinct_before}

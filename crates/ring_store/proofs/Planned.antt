@@ -16,7 +16,7 @@ use Rattle.segment_index.proofs.Singles.{segment_total, same_sets, is-itself, ha
 use Rattle.segment_index.proofs.Singles.{times-some, times-push, times-take}
 use Rattle.arc_tables.specs.Stores.{AllDifferent}
 use Rattle.ring_store.specs.Planned.{AreNew, Gains, Drops, Exchanges}
-use Rattle.map_opening.proofs.KeyRings.{has_key}
+use Rattle.ring_store.proofs.KeyRings.{has_key}
 
 -- ---- lists
 

@@ -15,8 +15,8 @@ use Rattle.vertex_index.specs.Placement.{Placement, IsOccupied}
 use Rattle.arc_tables.specs.declared.batch.Put.{Put}
 use Rattle.arc_tables.specs.Edited.{ArePuts}
 use Rattle.arc_tables.proofs.Putting.{taken_last}
-use Rattle.map_opening.proofs.Places.{insert_other}
-use Rattle.map_opening.proofs.Pushed.{taken}
+use Rattle.ring_store.proofs.Places.{insert_other}
+use Rattle.ring_store.proofs.Pushed.{taken}
 use Rattle.ring_store.specs.declared.removal.Removal.{Removal}
 use Rattle.ring_store.specs.Many.{ArePlaceable, AreKeyed}
 use Rattle.ring_store.proofs.TableLemmas.{place_back}

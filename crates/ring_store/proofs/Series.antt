@@ -13,9 +13,9 @@ use Rattle.vertex_index.specs.Placement.{Placement, place}
 use Rattle.segment_index.specs.Candidates.{SegmentSet}
 use Rattle.arc_tables.specs.Ways.{Edge}
 use Rattle.arc_tables.specs.Rings.{Rings, edges, begins}
-use Rattle.map_opening.proofs.AddedRings.{distinct_more, same_map, ring_here, ring_other}
-use Rattle.map_opening.proofs.KeyRings.{begins_edges}
-use Rattle.map_opening.proofs.Places.{place_is, kept_place, IsKept}
+use Rattle.ring_store.proofs.AddedRings.{distinct_more, same_map, ring_here, ring_other}
+use Rattle.ring_store.proofs.KeyRings.{begins_edges}
+use Rattle.ring_store.proofs.Places.{place_is, kept_place, IsKept}
 use Rattle.ring_store.specs.Laid.{numbers_of, AreThere, AreAdded, AreGone, KeepsPlaces, ring_at}
 use Rattle.ring_store.specs.Standing.{Stands}
 use Rattle.ring_store.specs.declared.laid.LaidRing.{LaidRing}

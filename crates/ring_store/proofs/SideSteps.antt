@@ -9,8 +9,8 @@ use Rattle.vertex_index.specs.Placement.{Placement, place}
 use Rattle.segment_index.specs.Candidates.{SegmentSet}
 use Rattle.arc_tables.specs.Ways.{Edge}
 use Rattle.arc_tables.specs.Rings.{Rings, edges, users_of}
-use Rattle.map_opening.specs.Laying.{IsRound}
-use Rattle.map_opening.proofs.Places.{IsKept}
+use Rattle.ring_store.specs.Round.{IsRound}
+use Rattle.ring_store.proofs.Places.{IsKept}
 use Rattle.ring_store.specs.Standing.{IsSide}
 use Rattle.ring_store.specs.Steps.{AreKeyed, HoldsWith, sides}
 use Rattle.ring_store.proofs.Edges.{length-edges, side_once, edge_joins}
@@ -26,7 +26,7 @@ module _ (p : Placement) (m : Rings) (w : AreKeyed p m) (ks : List ℕ) (r : IsR
   one_more = take_more (edges ks) at e within ∙ ap (λ z. take at (edges ks) ++ z ∷ []) (sym here)
 
   pub joins : IsKept p e.0 × IsKept p e.1 × (e.0 ≢ e.1)
-  joins = edge_joins p w.distinct ks r at e within here
+  joins = edge_joins p ks r at e within here
 
   once : Contains (sides p (take at (edges ks))) (segment (place p e.0) (place p e.1)) → ⊥
   once = side_once p w.distinct ks r at e within here

@@ -11,8 +11,8 @@ use Rattle.vertex_index.specs.Placement.{Placement, place}
 use Rattle.segment_index.specs.Candidates.{SegmentSet}
 use Rattle.arc_tables.specs.Ways.{Edge}
 use Rattle.arc_tables.specs.Rings.{Rings, begins}
-use Rattle.map_opening.proofs.AddedRings.{same_map}
-use Rattle.map_opening.proofs.Places.{place_is, kept_place}
+use Rattle.ring_store.proofs.AddedRings.{same_map}
+use Rattle.ring_store.proofs.Places.{place_is, kept_place}
 use Rattle.ring_store.specs.Laid.{AreAdded, KeepsPlaces, ring_at}
 use Rattle.ring_store.specs.Standing.{Stands}
 use Rattle.ring_store.proofs.Numbered.{contained_or}

@@ -13,7 +13,7 @@ use Rattle.vertex_index.specs.Placement.{Placement}
 use Rattle.segment_index.specs.Candidates.{SegmentSet, AreAmong, segment_is, has}
 use Rattle.segment_index.proofs.Singles.{segment_total, remove_inserted}
 use Rattle.ring_store.specs.Planned.{Exchanges, Gains, Drops}
-use Rattle.map_opening.proofs.Places.{insert_other, remove_here, remove_other}
+use Rattle.ring_store.proofs.Places.{insert_other, remove_here, remove_other}
 
 -- a vertex that came in and went again
 pub place_back : (places : Placement) (k : ℕ) (q : Position) → table.get places k ≡ None

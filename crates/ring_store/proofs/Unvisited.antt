@@ -14,8 +14,8 @@ use Rattle.ring_machine.proofs.Order.{and_both}
 use Rattle.ring_machine.proofs.Removal.{not_true}
 use Rattle.vertex_index.specs.Placement.{Placement}
 use Rattle.arc_tables.specs.Rings.{Rings}
-use Rattle.map_opening.proofs.KeyRings.{has_key}
-use Rattle.map_opening.proofs.Places.{remove_here, remove_other}
+use Rattle.ring_store.proofs.KeyRings.{has_key}
+use Rattle.ring_store.proofs.Places.{remove_here, remove_other}
 use Rattle.ring_store.specs.Standing.{IsVisited}
 use Rattle.ring_store.specs.Steps.{LeavesVisited}
 use Rattle.ring_store.proofs.Visited.{none_some}

@@ -18,8 +18,8 @@ use Rattle.vertex_index.specs.Placement.{Placement, place}
 use Rattle.arc_tables.specs.Ways.{Edge, is_seg}
 use Rattle.arc_tables.specs.Rings.{Rings, has_segment, users_of, begins}
 use Rattle.shared_arcs.proofs.CallerLemmas.{unused_apart}
-use Rattle.map_opening.proofs.KeyRings.{is_seg_ends, edge_times, edge_ends}
-use Rattle.map_opening.proofs.Places.{IsKept, one_key}
+use Rattle.ring_store.proofs.KeyRings.{is_seg_ends, edge_times, edge_ends}
+use Rattle.ring_store.proofs.Places.{IsKept, one_key}
 use Rattle.ring_store.specs.Standing.{IsSide}
 use Rattle.ring_store.specs.Steps.{AreKeyed}
 

@@ -17,9 +17,9 @@ use Rattle.arc_tables.specs.Rings.{Rings, begins, users_of}
 use Rattle.shared_arcs.specs.Joined.{Joined, AreNeighbours}
 use Rattle.shared_arcs.specs.declared.around.Neighbours.{Neighbours}
 use Rattle.shared_arcs.specs.declared.around.Neighbours.TheVariants as neighbours
-use Rattle.map_opening.proofs.AddedRings.{ring_other, ring_here}
-use Rattle.map_opening.proofs.KeyRings.{times_edge, edge_times, edge_ends, is_seg_ends}
-use Rattle.map_opening.proofs.Places.{place_alike}
+use Rattle.ring_store.proofs.AddedRings.{ring_other, ring_here}
+use Rattle.ring_store.proofs.KeyRings.{times_edge, edge_times, edge_ends, is_seg_ends}
+use Rattle.ring_store.proofs.Places.{place_alike}
 use Rattle.ring_store.specs.Standing.{IsVisited, IsSide}
 use Rattle.ring_store.specs.Steps.{AllRound}
 use Rattle.ring_store.proofs.Used.{some_user}

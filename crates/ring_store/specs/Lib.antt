@@ -1,8 +1,10 @@
 pub mod Changes
 pub mod Counted
+pub mod Keyed
 pub mod Laid
 pub mod Many
 pub mod Planned
+pub mod Round
 pub mod Standing
 pub mod Steps
 pub mod Tables

@@ -7,7 +7,7 @@ use Rattle.vertex_index.specs.Placement.{Placement, AreDistinct, place}
 use Rattle.segment_index.specs.Candidates.{SegmentSet}
 use Rattle.arc_tables.specs.Ways.{Edge}
 use Rattle.arc_tables.specs.Rings.{Rings, begins}
-use Rattle.map_opening.specs.Laying.{GoesRound}
+use Rattle.ring_store.specs.Round.{GoesRound}
 
 -- some ring has an edge that begins at the vertex with this key
 pub record IsVisited (rings : Rings) (k : ℕ) : Type 0 where

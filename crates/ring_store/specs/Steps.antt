@@ -8,7 +8,7 @@ use Rattle.vertex_index.specs.Placement.{Placement, AreDistinct, place}
 use Rattle.segment_index.specs.Candidates.{SegmentSet}
 use Rattle.arc_tables.specs.Ways.{Edge}
 use Rattle.arc_tables.specs.Rings.{Rings}
-use Rattle.map_opening.specs.Laying.{GoesRound}
+use Rattle.ring_store.specs.Round.{GoesRound}
 use Rattle.ring_store.specs.Standing.{IsVisited, IsSide}
 
 -- each ring goes round

@@ -4,7 +4,7 @@ ghost use Rattle.std.specs.Prelude.{vec_len, vec_capacity};
 ghost use Rattle.ring_machine.specs.Ring.{is_distinct};
 ghost use Rattle.ring_machine.specs.WellFormed.{are_distinct};
 ghost use Rattle.vertex_index.specs.Placement.{AreDistinct, place};
-ghost use Rattle.map_opening.specs.Keyed.{ArePut};
+ghost use Rattle.ring_store.specs.Keyed.{ArePut};
 
 use grid_geometry::Pos;
 use std::alloc::{AllocError, Allocator};
@@ -29,7 +29,7 @@ fn key_at<A: Allocator + Copy>(vertices: &mut Vertices<A>, p: Pos) -> Result<Ver
 
 /// Gathers the keys of different positions, each put where no vertex stands there. Where that fails
 /// for want of memory, the keys of some of them are there.
-pub(crate) fn key_ring<A: Allocator + Copy>(
+pub fn key_ring<A: Allocator + Copy>(
     vertices: &mut Vertices<A>,
     ring: &[Pos],
     keys: &mut Vec<VertexKey, A>,

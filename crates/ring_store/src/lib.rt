@@ -25,11 +25,13 @@ mod taking;
 
 pub use bridging::{Bridging, read_bridging, take_out};
 pub use counted::Counted;
+pub use keying::key_ring;
 pub use laid::{LaidRing, gather_rings};
 pub use laying::lay_rings;
 pub use many::put_all;
 pub use moving::{Moving, read_moving, shift};
 pub use parting::{Parting, put_in, read_parting};
 pub use removal::Removal;
+pub use sides::{edge_at, side};
 pub use tables::RingTables;
 pub use taking::take_out_rings;

@@ -5,7 +5,7 @@ ghost use Rattle.std.specs.FinMap as table;
 ghost use Rattle.grid_geometry.specs.Segment.{segment};
 ghost use Rattle.vertex_index.specs.Placement.{place};
 ghost use Rattle.arc_tables.specs.Rings.{edges};
-ghost use Rattle.map_opening.specs.Laying.{IsRound};
+ghost use Rattle.ring_store.specs.Round.{IsRound};
 ghost use Rattle.ring_store.specs.Steps.{AreKeyed, HoldsWith};
 
 use grid_geometry::Seg;
@@ -15,7 +15,7 @@ use std::alloc::{AllocError, Allocator};
 use vertex_index::{VertexKey, Vertices};
 
 /// The edge that begins at one of a ring's keys.
-pub(crate) fn edge_at(keys: &[VertexKey], at: usize) -> (VertexKey, VertexKey)
+pub fn edge_at(keys: &[VertexKey], at: usize) -> (VertexKey, VertexKey)
     requires { at < length keys.now }
     ensures { result ≡ slice_index_or (edges keys.now) at result }
 {
@@ -28,7 +28,7 @@ pub(crate) fn edge_at(keys: &[VertexKey], at: usize) -> (VertexKey, VertexKey)
 }
 
 /// The segment of two vertices.
-fn side<A: Allocator + Copy>(vertices: &Vertices<A>, a: VertexKey, b: VertexKey) -> Seg
+pub fn side<A: Allocator + Copy>(vertices: &Vertices<A>, a: VertexKey, b: VertexKey) -> Seg
     requires a { IsTrue (table.contains_key vertices.now a) }
     requires b { IsTrue (table.contains_key vertices.now b) }
     requires apart { a ≢ b }

@@ -35,16 +35,16 @@ put_part ended p old new e over line m ed es eo el k h =
     (take n (reply_text e.depth (machine_of e) m), put, inr (m, n, kept, ap₂ (λ z x. take n (reply_text z x m)) (sym ed) (sym es)))
 
 -- the kept line is answered, of an editor as it was and is
-pub answered_line : (was is : Edited) (ended : Bool) (p q : Progress) (over : Bool) (line : List ℕ) (m : Meaning) (text : List ℕ) (refuses : Bool)
-    → p.depth ≡ was.depth → p.state ≡ machine_of was → p.over ≡ over → p.line ≡ line → KeptMeans over ended line m → RepliedLine was is m text refuses → ShowsSaved (machine_of was) m
+pub answered_line : (was is : Edited) (ended : Bool) (p q : Progress) (over : Bool) (line : List ℕ) (m : Meaning) (refuses : Bool)
+    → p.depth ≡ was.depth → p.state ≡ machine_of was → p.over ≡ over → p.line ≡ line → KeptMeans over ended line m → RepliedLine was is m refuses → ShowsSaved (machine_of was) m
     → q.depth ≡ is.depth → q.state ≡ machine_of is → q.line ≡ [] → q.over ≡ false → q.answered ≡ p.answered + answered_by m → q.refused ≡ p.refused + cond refuses 1 0
-    → LineStep ended p text q
-answered_line was is ended p q over line m text refuses ed es eo el k r shows qd qs ql qo qa qr =
+    → LineStep ended p (reply_text was.depth (machine_of was) m) q
+answered_line was is ended p q over line m refuses ed es eo el k r shows qd qs ql qo qa qr =
     let kept : KeptMeans p.over ended p.line m = rw (eo, el) k in (
       m,
       kept,
       record {
-        told = r.told ∙ ap₂ (λ n s. reply_text n s m) (sym ed) (sym es);
+        told = ap₂ (λ n s. reply_text n s m) (sym ed) (sym es);
         shown = subst (λ s. ShowsSaved s m) (sym es) shows;
         after = qs ∙ r.stands ∙ ap₂ (λ n s. state_after n s m) (sym ed) (sym es);
         depth = qd ∙ r.depth ∙ sym ed;

@@ -1,5 +1,5 @@
 -- What the reply to a command is, and what is left after it.
-use Rattle.std.specs.Prelude.{◌≡◌, ℕ, List, ◌++◌, Bool, if◌then◌else◌, Option, None, Some, IsSomeAnd, codes}
+use Rattle.std.specs.Prelude.{◌≡◌, ℕ, List, ◌++◌, Bool, true, false, if◌then◌else◌, Option, None, Some, IsSomeAnd, codes}
 use Rattle.ring_machine.specs.Document.{Document}
 use Rattle.ring_machine.specs.Command.{Command}
 use Rattle.ring_machine.specs.Machine.{step}
@@ -8,13 +8,13 @@ use Rattle.undo_ring.specs.Edited.{Edited, machine_of}
 use Rattle.map_text.specs.Text.{text_of}
 use Rattle.map_text.specs.Saved.{Saved}
 use Rattle.script_runner.specs.Answers.{answer_text, refusal_text}
-use Rattle.script_runner.specs.Runs.{Meaning, Bad, meaning_of, reply_text, state_after, refused_by, refusals}
+use Rattle.script_runner.specs.Runs.{Meaning, Bad, meaning_of, state_after, refused_by, refusals}
 use Rattle.script_lines.specs.Commands.{says_of}
 use Rattle.arc_store.specs.declared.fault.EditFault.{EditFault}
 use Rattle.script_lines.specs.declared.lines.Line.{Line}
 use Rattle.script_lines.specs.declared.lines.Line.TheVariants as said
-use Rattle.topo_writer.specs.declared.sending.WriteFault.{WriteFault}
-use Rattle.topo_writer.specs.declared.sending.WriteFault.TheVariants as write
+use Rattle.topo_writer.specs.declared.fault.WriteFault.{WriteFault}
+use Rattle.topo_writer.specs.declared.fault.WriteFault.TheVariants as write
 use Rattle.script_runner.specs.declared.stop.Stop.{Stop}
 use Rattle.script_runner.specs.declared.stop.Stop.TheVariants as stop
 
@@ -27,10 +27,8 @@ pub record Replied (was is : Edited) (c : Command) (old new : List ℕ) (refuses
   pub depth : is.depth ≡ was.depth
   pub counts : (if refuses then 1 else 0) ≡ refusals (step was.depth (machine_of was) c).0
 
--- the same of a line, its line feed included
-pub record RepliedLine (was is : Edited) (m : Meaning) (text : List ℕ) (refuses : Bool)
-    : Type 0 where
-  pub told : text ≡ reply_text was.depth (machine_of was) m
+-- the line is answered: the state after it is the machine's, and the answer refuses or not
+pub record RepliedLine (was is : Edited) (m : Meaning) (refuses : Bool) : Type 0 where
   pub stands : machine_of is ≡ state_after was.depth (machine_of was) m
   pub depth : is.depth ≡ was.depth
   pub counts : (if refuses then 1 else 0) ≡ refused_by was.depth (machine_of was) m
@@ -58,6 +56,11 @@ IsShownSaved d (Some (said.Edit c)) = Unit {0}
 abbrev pub stop_of : WriteFault → Stop
 stop_of write.Device = stop.Write
 stop_of write.OutOfMemory = stop.OutOfMemory
+
+-- whether what stops a runner is the fault of its writer
+abbrev pub of_writer : Stop → Bool
+of_writer stop.Write = true
+of_writer stop.OutOfMemory = false
 
 -- the refusal's text was appended
 abbrev pub TellsFault : EditFault → List ℕ → List ℕ → Type 0

@@ -1,9 +1,10 @@
 //! What is kept between two bytes of a script.
 ghost use Rattle.std.specs.Prelude.{◌≡◌, ◌≤◌, ◌<◌, ◌+◌, ◌^◌, if◌then◌else◌};
-ghost use Rattle.std.specs.Prelude.{[], length, false, true, OnOk, OnErr, IfOk, Err};
+ghost use Rattle.std.specs.Prelude.{[], length, false, true, OnOk, OnErr, IfOk};
 ghost use Rattle.std.specs.Io.KnownBytes.{Keeps};
+ghost use Rattle.device_io.specs.Sending.{Stands};
 ghost use Rattle.script_runner.specs.Runs.{without_return, answered_by};
-ghost use Rattle.script_runner.specs.Replies.{meaning_of_said};
+ghost use Rattle.script_runner.specs.Replies.{meaning_of_said, of_writer};
 ghost use Rattle.script_lines.specs.Commands.{SaysSound};
 ghost use Rattle.ring_machine.specs.Parts.{features};
 ghost use Rattle.script_runner.specs.Progress.{KeptMeans, LineStep, ByteStep, Feeds, FeedsPart};
@@ -131,8 +132,7 @@ impl<'a, A: Allocator + Copy> Runner<'a, A> {
             (λ text. LineStep ended self.old text self.new)) }
         ensures bytes { OnOk result (self.new.bytes ≡ self.old.bytes) }
         ensures cut { OnErr result (PutsPart ended self.old (W.taken out.old) (W.taken out.new)) }
-        ensures works { OnOk result (W.has_failed out.new ≡ false) }
-        ensures failed { result ≡ Err Stop.Write → W.has_failed out.new ≡ true }
+        ensures stands { Stands W.Sink of_writer out.new result }
     {
         let over = self.over;
         let said = said(self.heap, self.line.as_slice(), over, ended)?;
@@ -154,8 +154,7 @@ impl<'a, A: Allocator + Copy> Runner<'a, A> {
         ensures bytes { OnOk result (self.new.bytes ≡ self.old.bytes + 1) }
         ensures cut { OnErr result (Told (W.taken out.old) (W.taken out.new)
             (IsPartAt byte self.old)) }
-        ensures works { OnOk result (W.has_failed out.new ≡ false) }
-        ensures failed { result ≡ Err Stop.Write → W.has_failed out.new ≡ true }
+        ensures stands { Stands W.Sink of_writer out.new result }
     {
         self.bytes += 1;
         if byte == b'\n' {
@@ -177,8 +176,7 @@ impl<'a, A: Allocator + Copy> Runner<'a, A> {
         ensures bytes { OnOk result (self.new.bytes ≡ self.old.bytes + length piece.now) }
         ensures cut { OnErr result
             (FeedsPart (W.taken out.old) (W.taken out.new) self.old piece.now) }
-        ensures works { OnOk result (W.has_failed out.new ≡ false) }
-        ensures failed { result ≡ Err Stop.Write → W.has_failed out.new ≡ true }
+        ensures stands { Stands W.Sink of_writer out.new result }
     {
         for byte in piece {
             self.feed_byte(*byte, out)?;
@@ -195,8 +193,7 @@ impl<'a, A: Allocator + Copy> Runner<'a, A> {
         ensures sent { OnOk result (W.is_flushed out.new ≡ true) }
         ensures ends { IfOk result
             (λ done. Counts self.entry done.0 × (done.1.map.doc ≡ self.entry.state.doc)) }
-        ensures works { OnOk result (W.has_failed out.new ≡ false) }
-        ensures failed { result ≡ Err Stop.Write → W.has_failed out.new ≡ true }
+        ensures stands { Stands W.Sink of_writer out.new result }
     {
         out.flush()?;
         let Runner {
@@ -223,8 +220,7 @@ impl<'a, A: Allocator + Copy> Runner<'a, A> {
             (λ text. Finishes self.entry text done.0 done.1.map.doc)) }
         ensures cut { OnErr result (PutsLast self.entry (W.taken out.old) (W.taken out.new)) }
         ensures sent { OnOk result (W.is_flushed out.new ≡ true) }
-        ensures works { OnOk result (W.has_failed out.new ≡ false) }
-        ensures failed { result ≡ Err Stop.Write → W.has_failed out.new ≡ true }
+        ensures stands { Stands W.Sink of_writer out.new result }
     {
         if self.line.as_slice().is_empty() {
             return self.flush(out);

@@ -1,10 +1,9 @@
-ghost use Rattle.std.specs.Prelude.{◌≡◌, ◌≤◌, [], length, false, true, OnOk, OnErr, IfOk, IfErr, Err, None};
+ghost use Rattle.std.specs.Prelude.{◌≡◌, ◌≤◌, [], length, false, true, OnOk, IfOk, IfErr, Err, None};
 ghost use Rattle.ring_machine.specs.Parts.{features};
-ghost use Rattle.std.specs.Io.KnownBytes.{Appends};
-ghost use Rattle.device_io.specs.Devices.{AppendsPrefix};
+ghost use Rattle.device_io.specs.Sending.{Sends};
 ghost use Rattle.map_text.specs.Text.{text_of};
 ghost use Rattle.map_text.specs.Saved.{Saved};
-ghost use Rattle.topo_writer.specs.declared.sending.WriteFault.TheVariants.{Device};
+ghost use Rattle.topo_writer.specs.Faults.{of_device};
 ghost use Rattle.script_runner.specs.Devices.{reader_of, writer_of, devices_of};
 ghost use Rattle.script_runner.specs.Outcome.{OpensAs, Completes, Ends};
 ghost use Rattle.script_runner.specs.Ended.{Answers, Halts, IsOpenEnd, IsBuildEnd};
@@ -117,12 +116,8 @@ fn save<A: Allocator + Copy, V: Sink>(
     saved: &mut V,
 ) -> Result<(), WriteFault>
     requires { V.has_failed saved.old ≡ false }
-    ensures ok { OnOk result
-        (Appends (V.taken saved.old) (V.taken saved.new) (text_of map.now.doc)) }
+    ensures sends { Sends V.Sink of_device saved.old saved.new result (text_of map.now.doc) }
     ensures sent { OnOk result (V.is_flushed saved.new ≡ true) }
-    ensures err { OnErr result
-        (AppendsPrefix (V.taken saved.old) (V.taken saved.new) (text_of map.now.doc)) }
-    ensures device { result ≡ Err Device → V.has_failed saved.new ≡ true }
     ensures saved { Saved (text_of map.now.doc) map.now.doc }
 {
     write(alloc, map, saved)?;

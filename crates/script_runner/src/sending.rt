@@ -1,13 +1,11 @@
 // Answers to lines, sent to a writer.
-ghost use Rattle.std.specs.Prelude.{◌≡◌, ◌++◌, codes, false, true, Err, OnOk, OnErr, IfOk};
-ghost use Rattle.std.specs.Io.KnownBytes.{Appends};
-ghost use Rattle.device_io.specs.Devices.{AppendsPrefix};
+ghost use Rattle.std.specs.Prelude.{◌≡◌, ◌++◌, codes, false, true, OnOk, IfOk};
+ghost use Rattle.device_io.specs.Sending.{Sends};
 ghost use Rattle.map_text.specs.Text.{text_of};
 ghost use Rattle.map_text.specs.Saved.{Saved};
 ghost use Rattle.undo_ring.specs.Edited.{machine_of};
 ghost use Rattle.script_runner.specs.Runs.{reply_text};
-ghost use Rattle.script_runner.specs.Progress.{Told};
-ghost use Rattle.script_runner.specs.Replies.{RepliedLine, IsShownSaved, meaning_of_said};
+ghost use Rattle.script_runner.specs.Replies.{RepliedLine, IsShownSaved, meaning_of_said, of_writer};
 ghost use Rattle.script_lines.specs.Commands.{SaysSound};
 
 use crate::questions::reply_to_count;
@@ -38,12 +36,8 @@ fn send_document<A: Allocator + Copy, W: Sink>(
     out: &mut W,
 ) -> Result<(), Stop>
     requires { W.has_failed out.old ≡ false }
-    ensures ok { OnOk result
-        (Appends (W.taken out.old) (W.taken out.new) (text_of map.now.doc ++ codes "\n")) }
-    ensures cut { OnErr result
-        (AppendsPrefix (W.taken out.old) (W.taken out.new) (text_of map.now.doc ++ codes "\n")) }
-    ensures works { OnOk result (W.has_failed out.new ≡ false) }
-    ensures failed { result ≡ Err Stop.Write → W.has_failed out.new ≡ true }
+    ensures sends { Sends W.Sink of_writer out.old out.new result
+        (text_of map.now.doc ++ codes "\n") }
     ensures saved { Saved (text_of map.now.doc) map.now.doc }
 {
     write(alloc, map, out)?;
@@ -61,13 +55,11 @@ pub(crate) fn send_reply<A: Allocator + Copy, W: Sink>(
 ) -> Result<bool, Stop>
     requires sound { SaysSound said }
     requires works { W.has_failed out.old ≡ false }
-    ensures ok { IfOk result (λ refuses. Told (W.taken out.old) (W.taken out.new)
-        (λ text. RepliedLine editor.old editor.new (meaning_of_said said) text refuses)) }
-    ensures cut { OnErr result (AppendsPrefix (W.taken out.old) (W.taken out.new)
-        (reply_text editor.old.depth (machine_of editor.old) (meaning_of_said said))) }
+    ensures sends { Sends W.Sink of_writer out.old out.new result
+        (reply_text editor.old.depth (machine_of editor.old) (meaning_of_said said)) }
+    ensures replied { IfOk result (λ refuses.
+        RepliedLine editor.old editor.new (meaning_of_said said) refuses) }
     ensures shown { OnOk result (IsShownSaved editor.old.map.doc said) }
-    ensures works { OnOk result (W.has_failed out.new ≡ false) }
-    ensures failed { result ≡ Err Stop.Write → W.has_failed out.new ≡ true }
 {
     let mut text = Vec::new(alloc);
     let refuses = match said {

@@ -1,11 +1,11 @@
 -- One item more of a layer.
-use Rattle.std.proofs.Common.{◌≡◌, ℕ, Bool, Option, true, false, refl, sym, ap, ap₂, ◌∙◌, subst, List, [], ◌∷◌, ◌++◌, map, append_assoc}
-use Rattle.std.specs.Io.KnownBytes.{Appends}
+use Rattle.std.proofs.Common.{◌≡◌, ℕ, Bool, true, false, refl, sym, ap, ap₂, ◌∙◌, subst, List, [], ◌∷◌, ◌++◌, map, append_assoc}
 use Rattle.std.specs.List.{flat_map}
 use Rattle.std.proofs.lemmas.List.{append-nil, map-append}
 use Rattle.std.proofs.lemmas.List.Concat.{flat_map-append}
-use Rattle.device_io.specs.Devices.{AppendsPrefix}
-use Rattle.device_io.proofs.DeviceLemmas.{Appends-more}
+use Rattle.device_io.specs.Sending.{Took, TookFront}
+use Rattle.device_io.specs.declared.Sink as sink
+use Rattle.device_io.proofs.SendingLaws.{took_both, took_first, took_second}
 use Rattle.grid_geometry.specs.Position.{Position}
 use Rattle.ring_machine.specs.Document.{Document, Head, Close, Text}
 use Rattle.ring_machine.specs.Vertices.{is_junction}
@@ -18,7 +18,6 @@ use Rattle.topo_writer.proofs.ItemLemmas.{open_both, more_both}
 use Rattle.topo_writer.proofs.Later.{with_pieces-append}
 use Rattle.topo_writer.proofs.Leading.{item_rings-append}
 use Rattle.topo_writer.proofs.OpenedLemmas.{items_both, begin_left}
-use Rattle.topo_writer.proofs.Sent.{prefix_after}
 
 -- ---- the text of one item
 
@@ -89,13 +88,14 @@ module _ (d : Document) (xs : List ShownItem) (s : ShownItem) where
               ∙ ap (λ z. z ++ later) text_more ∙ append_assoc before mine later,
         )
 
-    -- a device after one more item, and after a part of it
-    pub sent_step : (a b c : Option (List ℕ)) → Appends a b before → Appends b c mine → Appends a c (items_text [] false (map (written_at d) one_more))
-    sent_step a b c p q = subst (Appends a c) (sym text_more) (Appends-more a b c before mine p q)
+    -- a sink after one more item, and after a front of it
+    pub sent_step : {W : Type 0} {its : sink.Ghosts W} {a b c : W} → Took its a b before → Took its b c mine
+        → Took its a c (items_text [] false (map (written_at d) one_more))
+    sent_step {its = its} {a = a} {c = c} p q = subst (Took its a c) (sym text_more) (took_both p q)
 
-    pub sent_part : (a b c : Option (List ℕ)) → Appends a b before → AppendsPrefix b c mine
-        → AppendsPrefix a c (items_text [] false (map (written_at d) (xs ++ s ∷ rest)))
-    sent_part a b c p q = subst (AppendsPrefix a c) (sym text_rest.1) (prefix_after a b c before mine text_rest.0 p q)
+    pub sent_part : {W : Type 0} {its : sink.Ghosts W} {failed : Bool} {a b c : W} → Took its a b before → TookFront its failed b c mine
+        → TookFront its failed a c (items_text [] false (map (written_at d) (xs ++ s ∷ rest)))
+    sent_part {its = its} {failed = failed} {a = a} {c = c} p q = subst (TookFront its failed a c) (sym text_rest.1) (took_second p (took_first text_rest.0 q))
 
   pub arcs_step : (start now next : List (List Position))
       → now ≡ with_pieces start (flat_map (pieces (is_junction d)) (item_rings (map (item_at d) xs)))

@@ -1,5 +1,5 @@
 -- The texts of what a map has, by the indexes of the arcs that stand in a table.
-use Rattle.std.specs.Prelude.{ℕ, Bool, List, nat_lt, ◌++◌}
+use Rattle.std.specs.Prelude.{ℕ, Bool, List, nat_lt, ◌+◌, ◌++◌, length, drop}
 use Rattle.grid_geometry.specs.Position.{Position}
 use Rattle.ring_machine.specs.Document.{Document, Feature, Form, Text}
 use Rattle.ring_machine.specs.Vertices.{is_junction}
@@ -20,6 +20,11 @@ module _ {A : Type 0} where
   -- the arcs of the rings that the table named first, so many of them, with commas between them
   abbrev pub first_listed : Bool → Document → Arcs A → ℕ → Text
   first_listed delta d table count = listed_arcs delta (first_arcs d table count)
+
+  -- what the ring with this place adds to them
+  abbrev pub listed_of_ring : Bool → Document → Arcs A → ℕ → Text
+  listed_of_ring delta d table i =
+      drop (length (first_listed delta d table i)) (first_listed delta d table (i + 1))
 
   -- all arcs of the table, with commas between them
   abbrev pub all_listed : Bool → Document → Arcs A → Text

@@ -1,8 +1,6 @@
 //! The items of a layer, sent to a device one after another.
-ghost use Rattle.std.specs.Prelude.{◌≡◌, ℤ, List, ◌++◌, [], ◌∷◌, Some, Err, true, false};
-ghost use Rattle.std.specs.Prelude.{OnOk, OnErr, IfOk};
-ghost use Rattle.std.specs.Io.KnownBytes.{Appends};
-ghost use Rattle.device_io.specs.Devices.{AppendsPrefix};
+ghost use Rattle.std.specs.Prelude.{◌≡◌, ℤ, List, ◌++◌, [], ◌∷◌, Some, true, false, OnOk, IfOk};
+ghost use Rattle.device_io.specs.Sending.{Sends};
 ghost use Rattle.ring_machine.specs.Document.{Close};
 ghost use Rattle.ring_machine.specs.Parts.{feature};
 ghost use Rattle.ring_machine.specs.Planar.{Proper};
@@ -11,19 +9,19 @@ ghost use Rattle.topo_outline.specs.Views.{view_head};
 ghost use Rattle.map_frame.specs.Readers.{Stands};
 ghost use Rattle.map_frame.specs.Shown.{view_item_view};
 ghost use Rattle.map_text.specs.Text.{comma_if, items_text, opening_text};
+ghost use Rattle.topo_writer.specs.Faults.{of_device};
 ghost use Rattle.topo_writer.specs.Items.{feature_at, items_written, leaf_text, open_heads};
 ghost use Rattle.topo_writer.specs.Items.{written, IsThere, ShowsLayer};
 ghost use Rattle.topo_writer.specs.Opened.{more_after, open_after};
 ghost use Rattle.topo_writer.specs.Tables.{FindsArcs, Leads, TakesFeature, TakesItem, TakesItems};
-ghost use Rattle.topo_writer.specs.declared.sending.WriteFault.TheVariants.{Device, OutOfMemory};
 
 use crate::arcs::Arcs;
+use crate::fault::WriteFault;
 use crate::members::{push_closing, push_opening};
-use crate::sending::{WriteFault, flush};
 use crate::shapes::push_feature;
 use crate::texts::push_comma;
 use arc_store::{ItemIter, ItemView, Map};
-use device_io::Sink;
+use device_io::{Sink, put_all};
 use segment_index::SegIndex;
 use std::alloc::{AllocError, Allocator};
 use topo_outline::Head;
@@ -64,7 +62,6 @@ fn push_close<'m, 'a, A: Allocator + Copy>(
 
 /// Appends the feature with this number.
 fn push_leaf<'a, I: SegIndex, A: Allocator + Copy>(
-    alloc: A,
     map: &Map<'a, I, A>,
     arcs: &mut Arcs<A>,
     text: &mut Vec<u8, A>,
@@ -85,7 +82,7 @@ fn push_leaf<'a, I: SegIndex, A: Allocator + Copy>(
         return Ok(());
     };
     push_comma(text, more)?;
-    push_feature(alloc, map, arcs, text, &view, n)?;
+    push_feature(map, arcs, text, &view, n)?;
     Ok(())
 }
 
@@ -104,7 +101,6 @@ fn push_kept_text<A: Allocator + Copy>(
 /// Appends an item into the innermost of these collections, after a comma where something stands
 /// there already. Whether something stands before what follows.
 fn push_item<'m, 'a, I: SegIndex, A: Allocator + Copy>(
-    alloc: A,
     map: &Map<'a, I, A>,
     arcs: &mut Arcs<A>,
     text: &mut Vec<u8, A>,
@@ -135,7 +131,7 @@ fn push_item<'m, 'a, I: SegIndex, A: Allocator + Copy>(
             Ok(true)
         }
         ItemView::Leaf(n) => {
-            push_leaf(alloc, map, arcs, text, more, n)?;
+            push_leaf(map, arcs, text, more, n)?;
             Ok(true)
         }
         ItemView::Kept(kept) => {
@@ -148,7 +144,6 @@ fn push_item<'m, 'a, I: SegIndex, A: Allocator + Copy>(
 /// Sends an item in the innermost of these collections, after a comma where something stands there
 /// already. Whether something stands before what follows.
 fn send_item<'m, 'a, I: SegIndex, A: Allocator + Copy, W: Sink>(
-    alloc: A,
     map: &Map<'a, I, A>,
     arcs: &mut Arcs<A>,
     heads: &mut Vec<&'m Head<'a, A>, A>,
@@ -158,7 +153,6 @@ fn send_item<'m, 'a, I: SegIndex, A: Allocator + Copy, W: Sink>(
     out: &mut W,
 ) -> Result<bool, WriteFault>
     requires working { W.has_failed out.old ≡ false }
-    requires empty { text.old.items ≡ [] }
     requires proper { Proper map.now.doc }
     requires formed { WellFormed map.now.doc }
     requires there { IsThere map.now.doc (view_item_view item) }
@@ -169,24 +163,18 @@ fn send_item<'m, 'a, I: SegIndex, A: Allocator + Copy, W: Sink>(
     ensures heads { OnOk result (open_heads heads.new.items
         ≡ open_after (open_heads heads.old.items) (written map.now.doc item.entry)) }
     ensures more { IfOk result (λ after. after ≡ more_after more (written map.now.doc item.entry)) }
-    ensures empty { OnOk result (text.new.items ≡ []) }
-    ensures ok { OnOk result (Appends (W.taken out.old) (W.taken out.new)
-        (items_text (open_heads heads.old.items) more (written map.now.doc item.entry))) }
-    ensures works { OnOk result (W.has_failed out.new ≡ false) }
-    ensures err { OnErr result (AppendsPrefix (W.taken out.old) (W.taken out.new)
-        (items_text (open_heads heads.old.items) more (written map.now.doc item.entry))) }
-    ensures device { result ≡ Err Device → W.has_failed out.new ≡ true }
-    ensures memory { result ≡ Err OutOfMemory → W.has_failed out.new ≡ false }
+    ensures sends { Sends W.Sink of_device out.old out.new result
+        (items_text (open_heads heads.old.items) more (written map.now.doc item.entry)) }
 {
-    let after = push_item(alloc, map, arcs, text, heads, more, item)?;
-    flush(text, out)?;
+    text.clear();
+    let after = push_item(map, arcs, text, heads, more, item)?;
+    put_all(out, text.as_slice())?;
     Ok(after)
 }
 
 /// Sends the items of a layer of the map, by the indexes of their rings' arcs in the text of the
 /// whole map, one after another. A piece that is no arc yet becomes the next one.
 pub(crate) fn send_items<'m, 'a, I: SegIndex, A: Allocator + Copy, W: Sink>(
-    alloc: A,
     map: &Map<'a, I, A>,
     arcs: &mut Arcs<A>,
     items: ItemIter<'m, 'a, A>,
@@ -194,7 +182,6 @@ pub(crate) fn send_items<'m, 'a, I: SegIndex, A: Allocator + Copy, W: Sink>(
     out: &mut W,
 ) -> Result<(), WriteFault>
     requires working { W.has_failed out.old ≡ false }
-    requires empty { text.old.items ≡ [] }
     requires proper { Proper map.now.doc }
     requires formed { WellFormed map.now.doc }
     requires shows { ShowsLayer map.now.doc items }
@@ -202,19 +189,13 @@ pub(crate) fn send_items<'m, 'a, I: SegIndex, A: Allocator + Copy, W: Sink>(
     requires leads { Leads map.now.doc arcs.old items }
     ensures table { OnOk result (FindsArcs map.now.doc arcs.new) }
     ensures arcs { OnOk result (TakesItems map.now.doc arcs.old arcs.new items.entry) }
-    ensures empty { OnOk result (text.new.items ≡ []) }
-    ensures ok { OnOk result (Appends (W.taken out.old) (W.taken out.new)
-        (items_text [] false (items_written map.now.doc items.entry))) }
-    ensures works { OnOk result (W.has_failed out.new ≡ false) }
-    ensures err { OnErr result (AppendsPrefix (W.taken out.old) (W.taken out.new)
-        (items_text [] false (items_written map.now.doc items.entry))) }
-    ensures device { result ≡ Err Device → W.has_failed out.new ≡ true }
-    ensures memory { result ≡ Err OutOfMemory → W.has_failed out.new ≡ false }
+    ensures sends { Sends W.Sink of_device out.old out.new result
+        (items_text [] false (items_written map.now.doc items.entry)) }
 {
-    let mut heads = Vec::new(alloc);
+    let mut heads = Vec::new(*text.allocator());
     let mut more = false;
     for item in items {
-        more = send_item(alloc, map, arcs, &mut heads, more, item, text, out)?;
+        more = send_item(map, arcs, &mut heads, more, item, text, out)?;
     }
     Ok(())
 }

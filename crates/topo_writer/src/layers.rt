@@ -1,21 +1,19 @@
 //! The layers of a map, sent to a device one after another.
-ghost use Rattle.std.specs.Prelude.{◌≡◌, ◌+◌, ◌<◌, ◌++◌, [], codes, length, nat_lt, false, true};
-ghost use Rattle.std.specs.Prelude.{Err, OnOk, OnErr};
-ghost use Rattle.std.specs.Io.KnownBytes.{Appends};
-ghost use Rattle.device_io.specs.Devices.{AppendsPrefix};
+ghost use Rattle.std.specs.Prelude.{◌≡◌, ◌+◌, ◌<◌, ◌++◌, [], codes, length, nat_lt, false, OnOk};
+ghost use Rattle.device_io.specs.Sending.{Sends};
 ghost use Rattle.map_text.specs.Arcs.{arcs_of};
 ghost use Rattle.map_text.specs.Text.{comma_if};
+ghost use Rattle.topo_writer.specs.Faults.{of_device};
 ghost use Rattle.topo_writer.specs.Sections.{arcs_after, layer_at, layer_text, layers_text};
 ghost use Rattle.topo_writer.specs.Sections.{IsMapFrame};
 ghost use Rattle.topo_writer.specs.Tables.{arcs_in, Finds, FindsArcs};
-ghost use Rattle.topo_writer.specs.declared.sending.WriteFault.TheVariants.{Device, OutOfMemory};
 
 use crate::arcs::Arcs;
+use crate::fault::WriteFault;
 use crate::items::send_items;
-use crate::sending::{WriteFault, flush};
 use crate::texts::push_comma;
 use arc_store::{FrameView, Map};
-use device_io::Sink;
+use device_io::{Sink, put_all};
 use segment_index::SegIndex;
 use std::alloc::{AllocError, Allocator};
 
@@ -36,7 +34,6 @@ fn push_name<A: Allocator + Copy>(
 /// Sends the layer with this number, and a comma where something stands before. A piece that is no
 /// arc yet becomes the next one.
 fn send_layer<'m, 'a, I: SegIndex, A: Allocator + Copy, W: Sink>(
-    alloc: A,
     map: &Map<'a, I, A>,
     frame: &FrameView<'m, 'a, A>,
     i: usize,
@@ -45,21 +42,14 @@ fn send_layer<'m, 'a, I: SegIndex, A: Allocator + Copy, W: Sink>(
     out: &mut W,
 ) -> Result<(), WriteFault>
     requires working { W.has_failed out.old ≡ false }
-    requires empty { text.old.items ≡ [] }
     requires frame { IsMapFrame map.now.doc frame.now }
     requires there { i < length map.now.doc.layers }
     requires table { FindsArcs map.now.doc arcs.old }
     requires arcs { arcs_in map.now.doc arcs.old ≡ arcs_after map.now.doc i }
     ensures table { OnOk result (FindsArcs map.now.doc arcs.new) }
     ensures arcs { OnOk result (arcs_in map.now.doc arcs.new ≡ arcs_after map.now.doc (i + 1)) }
-    ensures empty { OnOk result (text.new.items ≡ []) }
-    ensures ok { OnOk result (Appends (W.taken out.old) (W.taken out.new)
-        (comma_if (nat_lt 0 i) ++ layer_text map.now.doc (layer_at map.now.doc i))) }
-    ensures works { OnOk result (W.has_failed out.new ≡ false) }
-    ensures err { OnErr result (AppendsPrefix (W.taken out.old) (W.taken out.new)
-        (comma_if (nat_lt 0 i) ++ layer_text map.now.doc (layer_at map.now.doc i))) }
-    ensures device { result ≡ Err Device → W.has_failed out.new ≡ true }
-    ensures memory { result ≡ Err OutOfMemory → W.has_failed out.new ≡ false }
+    ensures sends { Sends W.Sink of_device out.old out.new result
+        (comma_if (nat_lt 0 i) ++ layer_text map.now.doc (layer_at map.now.doc i)) }
 {
     let Some(name) = frame.layer_name(i) else {
         return Ok(());
@@ -67,15 +57,15 @@ fn send_layer<'m, 'a, I: SegIndex, A: Allocator + Copy, W: Sink>(
     let Some(items) = frame.items(i) else {
         return Ok(());
     };
+    text.clear();
     push_name(text, i > 0, name)?;
-    flush(text, out)?;
-    send_items(alloc, map, arcs, items, text, out)?;
+    put_all(out, text.as_slice())?;
+    send_items(map, arcs, items, text, out)?;
     Ok(())
 }
 
 /// Sends the layers, with commas between them, and takes their arcs into the table.
 pub(crate) fn send_layers<'m, 'a, I: SegIndex, A: Allocator + Copy, W: Sink>(
-    alloc: A,
     map: &Map<'a, I, A>,
     frame: &FrameView<'m, 'a, A>,
     arcs: &mut Arcs<A>,
@@ -83,23 +73,15 @@ pub(crate) fn send_layers<'m, 'a, I: SegIndex, A: Allocator + Copy, W: Sink>(
     out: &mut W,
 ) -> Result<(), WriteFault>
     requires working { W.has_failed out.old ≡ false }
-    requires empty { text.old.items ≡ [] }
     requires frame { IsMapFrame map.now.doc frame.now }
     requires table { Finds arcs.old [] }
     requires none { arcs.old.rings.items ≡ [] }
     ensures table { OnOk result (FindsArcs map.now.doc arcs.new) }
     ensures arcs { OnOk result (arcs_in map.now.doc arcs.new ≡ arcs_of map.now.doc) }
-    ensures empty { OnOk result (text.new.items ≡ []) }
-    ensures ok { OnOk result (Appends (W.taken out.old) (W.taken out.new)
-        (layers_text map.now.doc)) }
-    ensures works { OnOk result (W.has_failed out.new ≡ false) }
-    ensures err { OnErr result (AppendsPrefix (W.taken out.old) (W.taken out.new)
-        (layers_text map.now.doc)) }
-    ensures device { result ≡ Err Device → W.has_failed out.new ≡ true }
-    ensures memory { result ≡ Err OutOfMemory → W.has_failed out.new ≡ false }
+    ensures sends { Sends W.Sink of_device out.old out.new result (layers_text map.now.doc) }
 {
     for i in 0..frame.layer_count() {
-        send_layer(alloc, map, frame, i, arcs, text, out)?;
+        send_layer(map, frame, i, arcs, text, out)?;
     }
     Ok(())
 }

@@ -5,16 +5,16 @@
 mod arc_section;
 mod arcs;
 mod cutting;
+mod fault;
 mod items;
 mod layers;
 mod members;
 mod rings;
-mod sending;
 mod shapes;
 mod texts;
 mod writing;
 
 pub use arcs::Arcs;
-pub use sending::WriteFault;
+pub use fault::WriteFault;
 pub use texts::{push_comma, push_number, push_pair};
 pub use writing::write;

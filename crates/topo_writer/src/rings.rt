@@ -49,7 +49,6 @@ pub(crate) fn cut_named<'a, I: SegIndex, A: Allocator + Copy>(
 /// Appends a ring of the map by the indexes of its arcs. A piece that is no arc yet becomes the
 /// next one.
 fn push_ring_of<'a, I: SegIndex, A: Allocator + Copy>(
-    alloc: A,
     map: &Map<'a, I, A>,
     arcs: &mut Arcs<A>,
     text: &mut Vec<u8, A>,
@@ -64,6 +63,7 @@ fn push_ring_of<'a, I: SegIndex, A: Allocator + Copy>(
     ensures text { OnOk result (text.new.items
         ≡ text.old.items ++ text_of_ring map.now.doc arcs.new name) }
 {
+    let alloc = *text.allocator();
     let pieces = cut_named(alloc, map, name)?;
     let indexes = arcs.index_all(alloc, pieces.as_slice())?;
     arcs.name_ring(name)?;
@@ -74,7 +74,6 @@ fn push_ring_of<'a, I: SegIndex, A: Allocator + Copy>(
 /// Appends a polygon of the map, which has so many rings, by the indexes of its arcs. A piece that
 /// is no arc yet becomes the next one.
 pub(crate) fn push_polygon_of<'a, I: SegIndex, A: Allocator + Copy>(
-    alloc: A,
     map: &Map<'a, I, A>,
     arcs: &mut Arcs<A>,
     text: &mut Vec<u8, A>,
@@ -100,7 +99,7 @@ pub(crate) fn push_polygon_of<'a, I: SegIndex, A: Allocator + Copy>(
             polygon,
             ring,
         };
-        push_ring_of(alloc, map, arcs, text, name)?;
+        push_ring_of(map, arcs, text, name)?;
     }
     text.extend_from_slice(b"]")?;
     Ok(())

@@ -22,7 +22,6 @@ use topo_outline::Form;
 
 /// Appends the polygons of the feature with this number, with commas between them.
 pub(crate) fn push_polygons_of<'a, I: SegIndex, A: Allocator + Copy>(
-    alloc: A,
     map: &Map<'a, I, A>,
     arcs: &mut Arcs<A>,
     text: &mut Vec<u8, A>,
@@ -41,7 +40,7 @@ pub(crate) fn push_polygons_of<'a, I: SegIndex, A: Allocator + Copy>(
 {
     for polygon in 0..view.polygon_count() {
         push_comma(text, polygon > 0)?;
-        push_polygon_of(alloc, map, arcs, text, n, polygon, view.ring_count(polygon))?;
+        push_polygon_of(map, arcs, text, n, polygon, view.ring_count(polygon))?;
     }
     Ok(())
 }
@@ -49,7 +48,6 @@ pub(crate) fn push_polygons_of<'a, I: SegIndex, A: Allocator + Copy>(
 /// Appends the member `arcs` of the feature with this number, after a comma: its one polygon, or
 /// the list of its polygons, or nothing (TopoJSON 1.0, 2.2).
 fn push_shape<'a, I: SegIndex, A: Allocator + Copy>(
-    alloc: A,
     map: &Map<'a, I, A>,
     arcs: &mut Arcs<A>,
     text: &mut Vec<u8, A>,
@@ -70,11 +68,11 @@ fn push_shape<'a, I: SegIndex, A: Allocator + Copy>(
     match view.form() {
         Form::Polygon => {
             text.extend_from_slice(b",\"arcs\":")?;
-            push_polygon_of(alloc, map, arcs, text, n, 0, view.ring_count(0))?;
+            push_polygon_of(map, arcs, text, n, 0, view.ring_count(0))?;
         }
         Form::MultiPolygon => {
             text.extend_from_slice(b",\"arcs\":[")?;
-            push_polygons_of(alloc, map, arcs, text, view, n)?;
+            push_polygons_of(map, arcs, text, view, n)?;
             text.extend_from_slice(b"]")?;
         }
         Form::Null => {}
@@ -96,7 +94,6 @@ fn type_token(form: Form) -> &'static [u8]
 /// Appends the feature with this number, by the indexes of its rings' arcs. A piece that is no arc
 /// yet becomes the next one.
 pub(crate) fn push_feature<'a, I: SegIndex, A: Allocator + Copy>(
-    alloc: A,
     map: &Map<'a, I, A>,
     arcs: &mut Arcs<A>,
     text: &mut Vec<u8, A>,
@@ -118,7 +115,7 @@ pub(crate) fn push_feature<'a, I: SegIndex, A: Allocator + Copy>(
     text.extend_from_slice(type_token(view.form()))?;
     push_member_if(text, b"\"id\"", view.id())?;
     push_member_if(text, b"\"properties\"", view.properties())?;
-    push_shape(alloc, map, arcs, text, view, n)?;
+    push_shape(map, arcs, text, view, n)?;
     push_kept(text, view.members())?;
     text.extend_from_slice(b"}")?;
     Ok(())

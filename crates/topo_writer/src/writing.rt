@@ -1,18 +1,17 @@
 //! The text of a whole map, sent to a device.
-ghost use Rattle.std.specs.Prelude.{◌≡◌, ◌++◌, [], false, true, map, option_map, Err, OnOk, OnErr};
-ghost use Rattle.std.specs.Io.KnownBytes.{Appends};
-ghost use Rattle.device_io.specs.Devices.{AppendsPrefix};
+ghost use Rattle.std.specs.Prelude.{◌≡◌, ◌++◌, false, map, option_map, OnOk};
+ghost use Rattle.device_io.specs.Sending.{Sends};
 ghost use Rattle.map_text.specs.Saved.{Saved};
 ghost use Rattle.map_text.specs.Text.{text_of};
 ghost use Rattle.topo_outline.specs.Views.{view_kept};
+ghost use Rattle.topo_writer.specs.Faults.{of_device};
 ghost use Rattle.topo_writer.specs.Sections.{begin_text, end_text, IsMapFrame};
-ghost use Rattle.topo_writer.specs.declared.sending.WriteFault.TheVariants.{Device, OutOfMemory};
 
 use crate::arc_section::send_arcs;
 use crate::arcs::Arcs;
+use crate::fault::WriteFault;
 use crate::layers::send_layers;
 use crate::members::{push_kept, push_member_if};
-use crate::sending::{WriteFault, flush};
 use arc_store::{FrameView, Map};
 use device_io::{Sink, put_all};
 use segment_index::SegIndex;
@@ -55,23 +54,19 @@ fn send_map<'m, 'a, I: SegIndex, A: Allocator + Copy, W: Sink>(
 ) -> Result<(), WriteFault>
     requires working { W.has_failed out.old ≡ false }
     requires frame { IsMapFrame map.now.doc frame.now }
-    ensures ok { OnOk result (Appends (W.taken out.old) (W.taken out.new) (text_of map.now.doc)) }
-    ensures works { OnOk result (W.has_failed out.new ≡ false) }
-    ensures err { OnErr result (AppendsPrefix (W.taken out.old) (W.taken out.new)
-        (text_of map.now.doc)) }
-    ensures device { result ≡ Err Device → W.has_failed out.new ≡ true }
-    ensures memory { result ≡ Err OutOfMemory → W.has_failed out.new ≡ false }
+    ensures { Sends W.Sink of_device out.old out.new result (text_of map.now.doc) }
 {
     let mut text = Vec::new(alloc);
     let mut arcs = Arcs::new(alloc);
     push_begin(&mut text, frame.transform())?;
-    flush(&mut text, out)?;
-    send_layers(alloc, map, frame, &mut arcs, &mut text, out)?;
+    put_all(out, text.as_slice())?;
+    send_layers(map, frame, &mut arcs, &mut text, out)?;
     put_all(out, b"},\"arcs\":[")?;
     let delta = frame.transform().is_some();
-    send_arcs(alloc, map, &arcs, delta, &mut text, out)?;
+    send_arcs(map, &arcs, delta, &mut text, out)?;
+    text.clear();
     push_end(&mut text, frame.members())?;
-    flush(&mut text, out)?;
+    put_all(out, text.as_slice())?;
     Ok(())
 }
 
@@ -85,12 +80,7 @@ pub fn write<'a, I: SegIndex, A: Allocator + Copy, W: Sink>(
     out: &mut W,
 ) -> Result<(), WriteFault>
     requires { W.has_failed out.old ≡ false }
-    ensures ok { OnOk result (Appends (W.taken out.old) (W.taken out.new) (text_of map.now.doc)) }
-    ensures works { OnOk result (W.has_failed out.new ≡ false) }
-    ensures err { OnErr result (AppendsPrefix (W.taken out.old) (W.taken out.new)
-        (text_of map.now.doc)) }
-    ensures device { result ≡ Err Device → W.has_failed out.new ≡ true }
-    ensures memory { result ≡ Err OutOfMemory → W.has_failed out.new ≡ false }
+    ensures sends { Sends W.Sink of_device out.old out.new result (text_of map.now.doc) }
     ensures saved { Saved (text_of map.now.doc) map.now.doc }
 {
     let frame = map.frame();

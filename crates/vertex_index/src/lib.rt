@@ -151,6 +151,3 @@ impl<A: Allocator + Copy> Vertices<A> {
         Ok(Vertices { slots, keys })
     }
 }
-
-#[cfg(test)]
-mod tests;

@@ -4,6 +4,8 @@
 #[cfg(test)]
 mod devices;
 #[cfg(test)]
+mod failing_devices;
+#[cfg(test)]
 mod features;
 #[cfg(test)]
 mod lines;

@@ -3,7 +3,7 @@ use Rattle.std.specs.List.{list_any}
 use Rattle.grid_geometry.specs.Segment.{segment_eq}
 use Rattle.segment_index.specs.Candidates.{Gives}
 use Rattle.segment_index.specs.Times.{times_by}
-use Rattle.map_opening.proofs.FilledLists.{held_near}
+use Rattle.local_planarity.proofs.Filling.{held_near}
 use Rattle.border_trials.proofs.indexes.is_held.Goals as goal
 
 pub returns : goal.returns

@@ -1,6 +1,6 @@
 use Rattle.std.proofs.Common.{◌∷◌, [], sym, ap, ◌∙◌, subst}
 use Rattle.std.proofs.lemmas.List.{get_or_read}
-use Rattle.map_opening.specs.Laying.{feature_numbers}
+use Rattle.map_frame.specs.Numbers.{feature_numbers}
 use Rattle.feature_exchange.specs.Ready.{numbered, put_in, IsReady}
 use Rattle.feature_exchange.proofs.exchanging.exchange_at.Goals as goal
 

@@ -1,5 +1,5 @@
 use Rattle.std.proofs.Common.{map, take}
-use Rattle.map_opening.specs.Laying.{polygon_numbers}
+use Rattle.map_frame.specs.Numbers.{polygon_numbers}
 use Rattle.ring_parts.specs.Seen.{polygons_seen}
 use Rattle.feature_exchange.proofs.LaidSoFar.{SoFar}
 use Rattle.feature_exchange.proofs.laying.lay_polygons.Given as goal

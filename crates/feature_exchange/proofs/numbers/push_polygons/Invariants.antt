@@ -1,6 +1,6 @@
 use Rattle.std.proofs.Common.{◌≡◌, ◌++◌, take}
 use Rattle.std.specs.List.{flat_map}
-use Rattle.map_opening.specs.Laying.{polygon_numbers}
+use Rattle.map_frame.specs.Numbers.{polygon_numbers}
 use Rattle.feature_exchange.proofs.numbers.push_polygons.Given as goal
 
 -- the numbers of the polygons so far

@@ -1,6 +1,6 @@
 use Rattle.std.proofs.Common.{◌≡◌, sym, ap, ◌∙◌, subst, map, option_map}
 use Rattle.std.specs.Prelude.{IfOk}
-use Rattle.map_opening.specs.Laying.{polygon_numbers}
+use Rattle.map_frame.specs.Numbers.{polygon_numbers}
 use Rattle.ring_parts.specs.Seen.{polygons_seen}
 use Rattle.feature_exchange.specs.Stored.{stored}
 use Rattle.feature_exchange.proofs.PolygonsRead.{along, numbers_held, polygons_read, no_polygons}

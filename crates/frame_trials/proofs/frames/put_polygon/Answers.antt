@@ -5,7 +5,7 @@ use Rattle.ring_machine.specs.Parts.{rings}
 use Rattle.ring_machine.specs.WellFormed.{are_distinct}
 use Rattle.map_frame.specs.Framed.{Framed}
 use Rattle.map_frame.specs.Texts.{with_texts}
-use Rattle.map_opening.specs.Laying.{feature_numbers}
+use Rattle.map_frame.specs.Numbers.{feature_numbers}
 use Rattle.frame_trials.proofs.RingsPut.{no_feature, not_there, put_once}
 use Rattle.frame_trials.proofs.TestedFrames.{polygon_fits, room_for}
 use Rattle.frame_trials.proofs.frames.put_polygon.Goals as goal

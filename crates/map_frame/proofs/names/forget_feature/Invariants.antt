@@ -1,6 +1,6 @@
 use Rattle.std.proofs.Common.{◌≡◌, ℕ, ◌<◌, length, map, Some}
 use Rattle.std.specs.Prelude.{slice_get}
-use Rattle.map_opening.specs.Laying.{polygon_numbers}
+use Rattle.map_frame.specs.Numbers.{polygon_numbers}
 use Rattle.map_frame.specs.Naming.{Loss}
 use Rattle.map_frame.specs.Readers.{element}
 use Rattle.map_frame.proofs.names.forget_feature.Given as goal

@@ -2,7 +2,7 @@ use Rattle.std.proofs.Common.{◌≡◌, ◌<◌, ◌≤◌, arith, length, map,
 use Rattle.std.specs.Prelude.{slice_get, option_map}
 use Rattle.std.proofs.lemmas.List.{length-map}
 use Rattle.std.proofs.lemmas.Option.{slice_get-map, slice_get_read}
-use Rattle.map_opening.specs.Laying.{feature_numbers, polygon_numbers}
+use Rattle.map_frame.specs.Numbers.{feature_numbers, polygon_numbers}
 use Rattle.map_frame.proofs.BuiltNames.{feature_named, all_named}
 use Rattle.map_frame.proofs.names.name_all.Goals as goal
 

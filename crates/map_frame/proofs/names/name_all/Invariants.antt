@@ -1,5 +1,5 @@
 use Rattle.std.proofs.Common.{◌<◌, map, []}
-use Rattle.map_opening.specs.Laying.{feature_numbers}
+use Rattle.map_frame.specs.Numbers.{feature_numbers}
 use Rattle.map_frame.specs.Naming.{Gain}
 use Rattle.map_frame.proofs.BuiltNames.{OfAll}
 use Rattle.map_frame.proofs.names.name_all.Given as goal

@@ -2,7 +2,7 @@ use Rattle.std.proofs.Common.{◌≡◌, ◌≤◌, arith, length, map, refl, sy
 use Rattle.std.specs.Prelude.{slice_get}
 use Rattle.std.proofs.lemmas.List.{length-map}
 use Rattle.std.proofs.lemmas.Option.{slice_get-map, slice_get_read}
-use Rattle.map_opening.specs.Laying.{polygon_numbers}
+use Rattle.map_frame.specs.Numbers.{polygon_numbers}
 use Rattle.map_frame.specs.Naming.{IsOf}
 use Rattle.map_frame.proofs.BuiltNames.{polygon_named, polygons_named}
 use Rattle.map_frame.proofs.NamedRoom.{of_part}

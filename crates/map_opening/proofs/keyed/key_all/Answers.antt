@@ -1,21 +1,43 @@
-use Rattle.std.proofs.Common.{◌+◌, ◌∙◌, ap, subst, map, take}
+use Rattle.std.proofs.Common.{◌+◌, ◌∙◌, ap, subst, take}
 use Rattle.std.proofs.lemmas.List.{take_all}
-use Rattle.topo_reader.specs.Uses.{feature_positions, polygon_positions}
-use Rattle.map_opening.specs.Keyed.{feature_keys, IsKeyed}
-use Rattle.map_opening.proofs.Pushed.{map_more, map_pushed}
-use Rattle.map_opening.proofs.KeyedLists.{read_next, feature_at, in_feature, feature_stays, read_keyed}
+use Rattle.ring_machine.specs.Ring.{is_ring}
+use Rattle.ring_machine.proofs.Members.{contains_in}
+use Rattle.ring_machine.proofs.Neighbours.{all_in}
+use Rattle.ring_machine.proofs.StaysProper.{ring_distinct}
+use Rattle.ring_parts.specs.Seen.{rings_seen}
+use Rattle.ring_store.proofs.KeyedLists.{read_next, keyed_at, ring_stays}
+use Rattle.ring_store.proofs.Pushed.{at_contains, map_more, map_pushed}
+use Rattle.map_opening.specs.Flat.{lists_seen}
+use Rattle.map_opening.specs.Keyed.{IsKeyed}
+use Rattle.map_opening.proofs.KeyedRings.{none_distinct, none_read, read_keyed}
 use Rattle.map_opening.proofs.keyed.key_all.Goals as goal
 
-pub loop-polygons-preserved : goal.loop-polygons-preserved
-loop-polygons-preserved g c =
-    read_next feature_at in_feature feature_stays c.args.vertices.now c.loop-polygons.vertices c.key_feature.new.vertices (map feature_keys c.loop-polygons.keyed.items) (map feature_keys c.push.new.self.items) (map feature_positions (take c.loop-polygons.polygons-index c.args.features.now)) (map feature_positions (take (c.loop-polygons.polygons-index + 1) c.args.features.now)) (feature_keys c.in_ok-key_feature.field-0) (feature_positions c.polygons-item.result)
-    (map_pushed feature_keys c.loop-polygons.keyed.items c.push.new.self.items c.in_ok-key_feature.field-0 c.in_ok-push.ensures.items)
-    (map_more feature_positions c.args.features.now c.loop-polygons.polygons-index c.polygons-item.result c.loop-polygons-test.true c.polygons-item.is)
-    c.loop-polygons.invariant
-    (c.in_ok-key_feature.ensures.at ∙ ap (map polygon_positions) c.as_slice.ensures.value)
-    c.in_ok-key_feature.ensures.put
+pub loop-ring-init : goal.loop-ring-init
+loop-ring-init g c = record {
+  read = none_read c.args.vertices.now (lists_seen c.new-keyed.result.items) (ap lists_seen c.new-keyed.ensures.items);
+  distinct = none_distinct c.args.vertices.now c.requires.empty;
+}
 
-pub returns : goal.returns
-returns g c =
-    subst (λ z. IsKeyed c.loop-polygons.vertices (map feature_positions z) (map feature_keys c.loop-polygons.keyed.items)) (take_all c.loop-polygons.polygons-index c.args.features.now c.loop-polygons-test.false)
-    (read_keyed c.args.vertices.now c.loop-polygons.vertices (map feature_keys c.loop-polygons.keyed.items) (map feature_positions (take c.loop-polygons.polygons-index c.args.features.now)) c.requires c.loop-polygons.invariant)
+pub key_ring-requires-clause-different : goal.key_ring-requires-clause-different
+key_ring-requires-clause-different g c =
+    ring_distinct c.as_slice.result.now
+    (all_in is_ring (rings_seen c.args.rings.now) c.as_slice.result.now c.requires.rings
+    (contains_in (rings_seen c.args.rings.now) c.as_slice.result.now
+    (at_contains (λ ring. ring.items) c.args.rings.now c.loop-ring.ring-index c.ring-item.result c.as_slice.result.now c.loop-ring-test.true c.ring-item.is c.as_slice.ensures.value)))
+
+pub loop-ring-preserved : goal.loop-ring-preserved
+loop-ring-preserved g c = record {
+  read = read_next keyed_at (λ keys. keys) ring_stays c.args.vertices.now c.loop-ring.vertices c.key_ring.new.vertices
+      (lists_seen c.loop-ring.keyed.items) (lists_seen c.push.new.self.items)
+      (rings_seen (take c.loop-ring.ring-index c.args.rings.now)) (rings_seen (take (c.loop-ring.ring-index + 1) c.args.rings.now))
+      c.key_ring.new.keys.items c.ring-item.result.items
+      (map_pushed (λ keys. keys.items) c.loop-ring.keyed.items c.push.new.self.items c.key_ring.new.keys c.in_ok-push.ensures.items)
+      (map_more (λ ring. ring.items) c.args.rings.now c.loop-ring.ring-index c.ring-item.result c.loop-ring-test.true c.ring-item.is)
+      c.loop-ring.invariant.read (c.in_ok-key_ring.ensures.at ∙ c.as_slice.ensures.value) c.key_ring.ensures.put;
+  distinct = c.key_ring.ensures.distinct;
+}
+
+pub returns-clause-keyed : goal.returns-clause-keyed
+returns-clause-keyed g c =
+    subst (λ z. IsKeyed c.loop-ring.vertices (rings_seen z) (lists_seen c.loop-ring.keyed.items)) (take_all c.loop-ring.ring-index c.args.rings.now c.loop-ring-test.false)
+    (read_keyed c.args.vertices.now c.loop-ring.vertices (lists_seen c.loop-ring.keyed.items) (rings_seen (take c.loop-ring.ring-index c.args.rings.now)) c.requires.empty c.loop-ring.invariant.read)

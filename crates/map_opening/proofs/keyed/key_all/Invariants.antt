@@ -1,10 +1,13 @@
-use Rattle.std.proofs.Common.{map, take}
-use Rattle.topo_reader.specs.Uses.{feature_positions}
-use Rattle.map_opening.specs.Keyed.{feature_keys}
-use Rattle.map_opening.proofs.KeyedLists.{AreRead, feature_at, in_feature}
+use Rattle.std.proofs.Common.{take}
+use Rattle.vertex_index.specs.Placement.{AreDistinct}
+use Rattle.ring_parts.specs.Seen.{rings_seen}
+use Rattle.ring_store.proofs.KeyedLists.{AreRead, keyed_at}
+use Rattle.map_opening.specs.Flat.{lists_seen}
 use Rattle.map_opening.proofs.keyed.key_all.Given as goal
 
--- the features so far
-abbrev pub invariant-loop-polygons : goal.invariant-loop-polygons
-invariant-loop-polygons g l =
-    AreRead feature_at in_feature l.initial.vertices l.vertices (map feature_keys l.keyed.items) (map feature_positions (take l.polygons-index l.features))
+-- the rings so far
+abbrev pub invariant-loop-ring : goal.invariant-loop-ring
+invariant-loop-ring g l = record {
+  read : AreRead keyed_at (λ keys. keys) l.initial.vertices l.vertices (lists_seen l.keyed.items) (rings_seen (take l.ring-index l.rings));
+  distinct : AreDistinct l.vertices;
+}

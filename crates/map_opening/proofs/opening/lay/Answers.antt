@@ -1,42 +1,58 @@
-use Rattle.std.proofs.Common.{sym, ap, ◌∙◌, subst, arith, map, length, [], Contains}
+use Rattle.std.proofs.Common.{◌∙◌, refl, sym, ap, subst, [], Contains, length, arith}
+use Rattle.std.specs.FinSet as set
 use Rattle.std.specs.List.{sum_by}
-use Rattle.topo_reader.specs.Uses.{feature_positions}
-use Rattle.vertex_index.specs.Placement.{AreDistinct}
-use Rattle.vertex_index.proofs.MirrorLemmas.{distinct}
-use Rattle.map_opening.specs.Keyed.{all_rings, feature_keys, IsKeyed}
-use Rattle.map_opening.specs.Laying.{feature_numbers, IsFilled, IsLaid, segments_along}
-use Rattle.map_opening.proofs.KeyedRings.{round_keyed, size_keyed}
-use Rattle.map_opening.proofs.LaidFirst.{laid_none, filled_none}
+use Rattle.grid_geometry.specs.Segment.{segment_cmp}
+use Rattle.ring_machine.specs.Planar.{least_conflict}
 use Rattle.ring_machine.proofs.Members.{contains_in}
+use Rattle.vertex_index.specs.Placement.{AreDistinct}
+use Rattle.ring_parts.specs.Seen.{rings_seen}
+use Rattle.map_opening.specs.Flat.{lists_seen}
+use Rattle.map_opening.specs.Keyed.{IsKeyed}
+use Rattle.map_opening.specs.Laying.{IsLaid, AreLaid}
+use Rattle.map_opening.proofs.KeyedRings.{round_keyed, size_keyed, segments_keyed}
+use Rattle.local_planarity.proofs.Filling.{filled_none}
+use Rattle.map_opening.proofs.LaidRings.{laid_none}
+use Rattle.map_opening.proofs.OpenedTables.{rings_at, laid_stands}
 use Rattle.map_opening.proofs.opening.lay.Goals as goal
+
+pub new-index-requires : goal.new-index-requires
+new-index-requires g c = sym (ap set.len c.requires.empty ∙ set.len-empty segment_cmp)
 
 pub lay_all-requires-clause-round : goal.lay_all-requires-clause-round
 lay_all-requires-clause-round g c = λ keys i.
-    round_keyed c.key_all.new.vertices (map feature_positions c.args.features.now) (map feature_keys c.in_ok-keyed.keyed.items)
-    c.in_ok-keyed.ensures c.requires.rings keys
-    (contains_in (all_rings (map feature_keys c.in_ok-keyed.keyed.items)) keys
-    (subst (λ z. Contains (all_rings (map feature_keys z)) keys) c.as_slice-2.ensures.value i))
+    round_keyed c.key_all.new.vertices (rings_seen c.args.rings.now) (lists_seen c.in_ok-keyed.keyed.items) c.in_ok-keyed.ensures.keyed c.requires.rings keys
+    (contains_in (lists_seen c.in_ok-keyed.keyed.items) keys (subst (λ z. Contains (lists_seen z) keys) c.as_slice-2.ensures.value i))
 
 pub lay_all-requires-clause-small : goal.lay_all-requires-clause-small
 lay_all-requires-clause-small g c =
     omega (
       arith,
       c.requires.small,
-      size_keyed c.key_all.new.vertices (map feature_positions c.args.features.now) (map feature_keys c.in_ok-keyed.keyed.items) c.in_ok-keyed.ensures,
-      ap (λ z. sum_by length (all_rings (map feature_keys z))) c.as_slice-2.ensures.value,
+      size_keyed c.key_all.new.vertices (rings_seen c.args.rings.now) (lists_seen c.in_ok-keyed.keyed.items) c.in_ok-keyed.ensures.keyed,
+      ap (λ z. sum_by length (lists_seen z)) c.as_slice-2.ensures.value,
     )
 
-pub returns-clause-laid : goal.returns-clause-laid
-returns-clause-laid g c =
-    let first = laid_none c.mark_junctions.new.borders (c.mark_junctions.ensures ∙ c.new-borders.ensures) in record {
-      keyed = map feature_keys c.in_ok-keyed.keyed.items;
-      keys = subst (λ places. IsKeyed places (map feature_positions c.args.features.now) (map feature_keys c.in_ok-keyed.keyed.items)) (sym c.in_ok-numbers.ensures.vertices) c.in_ok-keyed.ensures;
-      distinct = subst AreDistinct (sym c.in_ok-numbers.ensures.vertices) (distinct _ _ c.vertices.invariant _ c.vertices.view_is);
-      shape = c.in_ok-numbers.ensures.counted ∙ ap (λ z. map (map length) (map feature_keys z)) c.as_slice-2.ensures.value;
-      laid = subst (λ z. IsLaid c.lay_all.new.self.borders (all_rings (map feature_numbers c.in_ok-numbers.numbers.items)) (all_rings (map feature_keys z))) c.as_slice-2.ensures.value
-          (c.in_ok-numbers.ensures.laid [] [] first);
-      filled = subst (λ z. IsFilled (g.I.SegIndex.held c.lay_all.new.self.index) c.lay_all.new.self.first c.lay_all.new.self.segments (segments_along c.lay_all.new.self.vertices (all_rings (map feature_keys z)))) c.as_slice-2.ensures.value
-          (subst (λ places. IsFilled (g.I.SegIndex.held c.lay_all.new.self.index) c.lay_all.new.self.first c.lay_all.new.self.segments (segments_along places (all_rings (map feature_keys c.as_slice-2.result.now)))) (sym c.in_ok-numbers.ensures.vertices)
-          (c.in_ok-numbers.ensures.filled [] [] first (filled_none (g.I.SegIndex.held c.args.index) c.requires.empty)));
-      size = omega (arith, c.in_ok-numbers.ensures.positions, ap (λ z. sum_by length (all_rings (map feature_keys z))) c.as_slice-2.ensures.value);
+pub lay_all-requires-clause-none : goal.lay_all-requires-clause-none
+lay_all-requires-clause-none g c = record {
+  laid = subst (λ z. IsLaid c.mark_junctions.new.borders z []) (sym c.new.ensures.items)
+      (laid_none c.mark_junctions.new.borders (c.mark_junctions.ensures ∙ c.new-borders.ensures));
+  filled = filled_none c.new-index.result.held (c.new-index.ensures.held ∙ c.requires.empty);
+  size = refl;
+}
+
+pub returns-clause-opened : goal.returns-clause-opened
+returns-clause-opened g c =
+    let rings = rings_seen c.args.rings.now in
+    let keyed = lists_seen c.in_ok-keyed.keyed.items in
+    let o = c.lay_all.new.opened in
+    let keys : IsKeyed o.tables.vertices rings keyed = subst (λ places. IsKeyed places rings keyed) (sym c.in_ok-lay_all.ensures.vertices) c.in_ok-keyed.ensures.keyed in
+    let all : AreLaid keyed o = subst (λ z. AreLaid (lists_seen z) o) c.as_slice-2.ensures.value c.in_ok-lay_all.ensures.laid in
+    record {
+      stand = laid_stands o.tables.vertices rings keyed keys o.tables.borders o.numbers.items all.laid c.requires.rings o.tables.index.held all.filled.are_held
+          (subst AreDistinct (sym c.in_ok-lay_all.ensures.vertices) c.key_all.ensures.distinct);
+      at = rings_at o.tables.vertices rings keyed keys o.tables.borders o.numbers.items all.laid;
+      only = all.laid.only;
+      once = all.laid.once;
+      first = ap least_conflict (segments_keyed o.tables.vertices rings keyed keys) ∙ all.filled.first;
+      size = all.size ∙ sym (size_keyed o.tables.vertices rings keyed keys);
     }

@@ -3,7 +3,7 @@ use Rattle.std.proofs.lemmas.Bool.{false≢true}
 use Rattle.grid_geometry.specs.Segment.{segment}
 use Rattle.grid_geometry.specs.Position.{position_eq}
 use Rattle.ring_machine.proofs.Order.{position_eq-refl}
-use Rattle.map_opening.proofs.Pushed.{map_more}
+use Rattle.ring_store.proofs.Pushed.{map_more}
 use Rattle.ring_store.proofs.Planned.{any_at}
 use Rattle.ring_store.proofs.around.spokes.Goals as goal
 use Rattle.ring_store.proofs.around.spokes.Goals.{in-Some+in_ok-push, in_default}

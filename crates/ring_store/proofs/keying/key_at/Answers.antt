@@ -1,4 +1,4 @@
-use Rattle.map_opening.proofs.KeyedLists.{put_new}
+use Rattle.ring_store.proofs.KeyedLists.{put_new}
 use Rattle.ring_store.proofs.Keys.{distinct_more}
 use Rattle.ring_store.proofs.keying.key_at.Goals as goal
 

@@ -1,8 +1,8 @@
 use Rattle.std.proofs.Common.{◌∷◌, [], ◌++◌, ◌+◌, ◌∙◌, sym, ap, subst, take, arith}
 use Rattle.std.proofs.lemmas.List.{take_all, take_more}
 use Rattle.vertex_index.specs.Placement.{place}
-use Rattle.map_opening.specs.Keyed.{ArePut}
-use Rattle.map_opening.proofs.KeyedLists.{read_next, place_stays}
+use Rattle.ring_store.specs.Keyed.{ArePut}
+use Rattle.ring_store.proofs.KeyedLists.{read_next, place_stays}
 use Rattle.ring_store.proofs.Keys.{read_none, read_put, read_different}
 use Rattle.ring_store.proofs.keying.key_ring.Goals as goal
 

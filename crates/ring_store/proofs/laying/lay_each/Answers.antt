@@ -4,8 +4,7 @@ use Rattle.vertex_index.specs.Placement.{place}
 use Rattle.ring_machine.specs.Ring.{is_ring}
 use Rattle.ring_machine.proofs.Members.{contains_in}
 use Rattle.ring_machine.proofs.Neighbours.{all_in}
-use Rattle.map_opening.proofs.LaidLists.{at_contains}
-use Rattle.map_opening.proofs.Pushed.{map_more}
+use Rattle.ring_store.proofs.Pushed.{at_contains, map_more}
 use Rattle.ring_store.proofs.Series.{there_none, added_first, there_more, added_more, at_more}
 use Rattle.ring_store.proofs.laying.lay_each.Goals as goal
 

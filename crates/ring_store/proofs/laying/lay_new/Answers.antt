@@ -1,7 +1,7 @@
 use Rattle.std.proofs.Common.{◌≡◌, sym, subst}
 use Rattle.std.specs.FinMap as table
 use Rattle.arc_tables.specs.Rings.{edges}
-use Rattle.map_opening.specs.Laying.{IsRound}
+use Rattle.ring_store.specs.Round.{IsRound}
 use Rattle.ring_machine.proofs.StaysProper.{ring_distinct}
 use Rattle.ring_store.proofs.Exchanged.{keyed_with, holds_with, stands_with}
 use Rattle.ring_store.proofs.Keys.{keys_round}

@@ -1,7 +1,8 @@
-use Rattle.std.proofs.Common.{◌+◌, ◌++◌, [], ◌∙◌, ap, refl, Err, take, drop, rules, arith, length, ◌≡◌, ◌≤◌, ℕ}
+use Rattle.std.proofs.Common.{◌+◌, ◌++◌, [], ◌∙◌, ap, refl, take, drop, rules, arith, length, ◌≡◌, ◌≤◌, ℕ}
 use Rattle.std.proofs.KnownBytes.{Consumes-nil, Appends-nil}
 use Rattle.script_runner.specs.Devices.{reader_of, writer_of, devices}
 use Rattle.script_runner.specs.Progress.{Progress}
+use Rattle.script_runner.specs.Replies.{of_writer}
 use Rattle.device_io.proofs.DeviceLemmas.{Appends-more}
 use Rattle.script_runner.proofs.StepLemmas.{Feeds-append}
 use Rattle.script_runner.proofs.RunLemmas.{lines_kept, all_answered, end_read, part_at_end, part_in_piece, piece_came, whole_came, past_limit, fed_length, lines_in_piece, piece_fits, rest_fits}
@@ -115,4 +116,4 @@ loop-n-init g c = record {
 }
 
 pub returns-in-Err-Write-feed-clause-write : goal.returns-in-Err-Write-feed-clause-write
-returns-in-Err-Write-feed-clause-write g c = λ _. c.feed.ensures.failed (c.in-Err-Write-feed.is ∙ ap Err c.in-Err-Write-feed.field-0-is)
+returns-in-Err-Write-feed-clause-write g c = λ _. c.in-Err-Write-feed.ensures.stands ∙ ap of_writer c.in-Err-Write-feed.field-0-is

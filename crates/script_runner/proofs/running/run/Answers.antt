@@ -1,4 +1,5 @@
 use Rattle.std.proofs.Common.{Err, ap, ◌∙◌}
+use Rattle.topo_writer.specs.Faults.{of_device}
 use Rattle.script_runner.specs.Devices.{reader_of, writer_of, devices_of}
 use Rattle.script_runner.proofs.OpenLemmas.{ends_unopened}
 use Rattle.script_runner.proofs.RunLemmas.{ends_lines, ends_part, ends_unsaved, completes, ends_saving, ends_saved_part}
@@ -9,22 +10,22 @@ returns-in-Ok-save-clause-done g c =
     completes c.args.map.now c.args.depth c.in-Ok.opened c.in-Ok-new.editor c.in-Ok-new.ensures.made c.in-Ok.ensures.opened
     (reader_of g.R.Source c.args.script.now) (reader_of g.R.Source c.answer_script.new.script) (writer_of g.W.Sink c.args.out.now) (writer_of g.W.Sink c.answer_script.new.out)
     c.in-Ok-answer_script.done.1.map c.map.result.now (writer_of g.V.Sink c.args.saved.now) (writer_of g.V.Sink c.save.new.saved) c.in-Ok-answer_script.done.0
-    c.map.ensures c.in-Ok-answer_script.ensures.done c.in-Ok-save.ensures.ok c.in-Ok-save.ensures.sent c.in-Ok-save.ensures.saved
+    c.map.ensures c.in-Ok-answer_script.ensures.done c.in-Ok-save.ensures.sends.taken c.in-Ok-save.ensures.sent c.in-Ok-save.ensures.saved
 
 pub returns-in-Err-Device-clause-fault : goal.returns-in-Err-Device-clause-fault
 returns-in-Err-Device-clause-fault g c =
     ends_saving c.args.map.now c.args.depth c.in-Ok.opened c.in-Ok-new.editor c.in-Ok-new.ensures.made c.in-Ok.ensures.opened
     (reader_of g.R.Source c.args.script.now) (reader_of g.R.Source c.answer_script.new.script) (writer_of g.W.Sink c.args.out.now) (writer_of g.W.Sink c.answer_script.new.out)
     c.in-Ok-answer_script.done.1.map c.map.result.now (writer_of g.V.Sink c.args.saved.now) (writer_of g.V.Sink c.save.new.saved) c.in-Ok-answer_script.done.0
-    c.map.ensures c.in-Ok-answer_script.ensures.done c.in-Err-Device.ensures.err c.in-Err-Device.ensures.saved
-    (c.save.ensures.device (c.in-Err-Device.is ∙ ap Err c.in-Err-Device.field-0-is))
+    c.map.ensures c.in-Ok-answer_script.ensures.done c.in-Err-Device.ensures.sends.taken c.in-Err-Device.ensures.saved
+    (c.in-Err-Device.ensures.sends.stands ∙ ap of_device c.in-Err-Device.field-0-is)
 
 pub returns-clause-fault : goal.returns-clause-fault
 returns-clause-fault g c =
     ends_saved_part c.args.map.now c.args.depth c.in-Ok.opened c.in-Ok-new.editor c.in-Ok-new.ensures.made c.in-Ok.ensures.opened
     (reader_of g.R.Source c.args.script.now) (reader_of g.R.Source c.answer_script.new.script) (writer_of g.W.Sink c.args.out.now) (writer_of g.W.Sink c.answer_script.new.out)
     c.in-Ok-answer_script.done.1.map c.map.result.now (writer_of g.V.Sink c.args.saved.now) (writer_of g.V.Sink c.save.new.saved) c.in-Ok-answer_script.done.0
-    c.map.ensures c.in-Ok-answer_script.ensures.done c.in-Err-OutOfMemory-save.ensures.err c.in-Err-OutOfMemory-save.ensures.saved
+    c.map.ensures c.in-Ok-answer_script.ensures.done c.in-Err-OutOfMemory-save.ensures.sends.taken c.in-Err-OutOfMemory-save.ensures.saved
 
 pub returns-in-Err-Read-clause-fault : goal.returns-in-Err-Read-clause-fault
 returns-in-Err-Read-clause-fault g c =

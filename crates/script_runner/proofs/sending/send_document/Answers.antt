@@ -1,19 +1,21 @@
-use Rattle.std.proofs.Common.{codes}
-use Rattle.map_text.specs.Text.{text_of}
-use Rattle.device_io.proofs.DeviceLemmas.{Appends-more}
-use Rattle.script_runner.proofs.StepLemmas.{OnErr-by}
-use Rattle.script_runner.proofs.SendLemmas.{prefix_first, prefix_second}
+use Rattle.std.proofs.Common.{codes, subst}
+use Rattle.device_io.specs.Sending.{TookFront}
+use Rattle.device_io.proofs.SendingLaws.{sends_front, took_both, took_first, took_second}
+use Rattle.script_runner.specs.Replies.{of_writer, stop_of}
+use Rattle.script_runner.specs.declared.stop.Stop.TheVariants.{Write}
+use Rattle.script_runner.proofs.SendLemmas.{stops_alike}
 use Rattle.script_runner.proofs.sending.send_document.Goals as goal
 
-pub returns-in_err-write-clause-cut : goal.returns-in_err-write-clause-cut
-returns-in_err-write-clause-cut g c =
-    OnErr-by c.from_residual.result (prefix_first (g.W.Sink.taken c.args.out.now) (g.W.Sink.taken c.write.new.out) (text_of c.args.map.now.doc) (codes "\n") c.in_err-write.ensures.err)
+pub returns-in_err-write-clause-sends : goal.returns-in_err-write-clause-sends
+returns-in_err-write-clause-sends g c =
+    let fault = c.in_err-write.field-0.0 in
+    sends_front of_writer (stop_of fault) _ c.from_residual.ensures.1
+    (subst (λ b. TookFront g.W.Sink b _ _ _) (stops_alike fault) (took_first (codes "\n") c.in_err-write.ensures.sends))
 
-pub returns-in_err-put_all-clause-cut : goal.returns-in_err-put_all-clause-cut
-returns-in_err-put_all-clause-cut g c =
-    OnErr-by c.from_residual-in_err-put_all.result
-    (prefix_second (g.W.Sink.taken c.args.out.now) (g.W.Sink.taken c.write.new.out) (g.W.Sink.taken c.put_all.new.sink) (text_of c.args.map.now.doc) (codes "\n") c.in_ok-write.ensures.ok c.in_err-put_all.ensures.err)
+pub returns-in_err-put_all-clause-sends : goal.returns-in_err-put_all-clause-sends
+returns-in_err-put_all-clause-sends g c =
+    sends_front of_writer Write _ c.from_residual-in_err-put_all.ensures.1
+    (took_second c.in_ok-write.ensures.sends c.in_err-put_all.ensures)
 
-pub returns-clause-ok : goal.returns-clause-ok
-returns-clause-ok g c =
-    Appends-more (g.W.Sink.taken c.args.out.now) (g.W.Sink.taken c.write.new.out) (g.W.Sink.taken c.put_all.new.sink) (text_of c.args.map.now.doc) (codes "\n") c.in_ok-write.ensures.ok c.in_ok-put_all.ensures.ok
+pub returns-clause-sends : goal.returns-clause-sends
+returns-clause-sends g c = took_both c.in_ok-write.ensures.sends c.in_ok-put_all.ensures

@@ -1,26 +1,21 @@
-use Rattle.std.proofs.Common.{◌≡◌, ℕ, sym, ap, ◌∙◌, subst, inl, refl, List, [], ◌∷◌, ◌++◌, map, append_assoc, append-nil}
-use Rattle.std.proofs.Common.{true, false, Option, Some, None}
-use Rattle.std.specs.Io.KnownBytes.{Appends}
+use Rattle.std.proofs.Common.{◌≡◌, sym, ap, ◌∙◌, subst, inl, refl, [], ◌∷◌, ◌++◌, map, append_assoc, true, false}
 use Rattle.std.specs.List.{flat_map}
 use Rattle.std.proofs.lemmas.List.{map-append}
-use Rattle.device_io.specs.Devices.{AppendsPrefix}
+use Rattle.device_io.specs.Sending.{Took, TookFront}
+use Rattle.device_io.proofs.SendingLaws.{sends_front, took_nothing}
 use Rattle.ring_machine.specs.Vertices.{is_junction}
 use Rattle.ring_machine.proofs.First.{In, in_right}
 use Rattle.map_frame.specs.Shown.{view_item_view}
 use Rattle.map_text.specs.Arcs.{pieces, with_pieces}
 use Rattle.map_text.specs.Text.{items_text}
+use Rattle.topo_writer.specs.Faults.{of_device}
 use Rattle.topo_writer.specs.Items.{item_at, item_rings, items_at, items_written, open_heads, LeadsOn}
 use Rattle.topo_writer.specs.Opened.{is_begin, more_after, open_after}
 use Rattle.topo_writer.specs.Tables.{arcs_in}
 use Rattle.topo_writer.proofs.ItemLemmas.{shown_there, written_begins}
 use Rattle.topo_writer.proofs.ItemSteps.{heads_step, more_step, sent_step, sent_part, arcs_step}
-use Rattle.topo_writer.proofs.SectionLemmas.{on_err}
 use Rattle.topo_writer.proofs.Leading.{leads_first, leads_off}
 use Rattle.topo_writer.proofs.items.send_items.Goals as goal
-
-nothing_sent : (o : Option (List ℕ)) → Appends o o []
-nothing_sent None = tt
-nothing_sent (Some xs) = sym (append-nil xs)
 
 pub loop-item-init : goal.loop-item-init
 loop-item-init g c =
@@ -32,9 +27,7 @@ loop-item-init g c =
       leads = subst (λ z. LeadsOn d (arcs_in d c.args.arcs.now) (items_at d z)) (sym begun) c.requires.leads;
       arcs = refl;
       heads = ap open_heads c.new-heads.ensures.items;
-      empty = c.requires.empty;
-      sent = nothing_sent (g.W.Sink.taken c.args.out.now);
-      works = c.requires.working;
+      took = took_nothing c.requires.working;
       more = refl;
     }
 
@@ -75,11 +68,9 @@ loop-item-preserved g c =
       arcs =
           arcs_step d done s start arcs next l.invariant.arcs c.in_ok-more.ensures.arcs
           ∙ ap (λ z. with_pieces start (flat_map (pieces j) (item_rings (items_at d z)))) (sym seen);
-      empty = c.in_ok-more.ensures.empty;
-      works = c.in_ok-more.ensures.works;
-      sent =
-          subst (λ z. Appends (g.W.Sink.taken c.args.out.now) (g.W.Sink.taken c.send_item.new.out) (items_text [] false (items_written d z))) (sym seen)
-          (sent_step d done s rest begins (open_heads l.heads.items) l.more l.invariant.heads l.invariant.more _ _ _ l.invariant.sent c.in_ok-more.ensures.ok);
+      took =
+          subst (λ z. Took g.W.Sink c.args.out.now c.send_item.new.out (items_text [] false (items_written d z))) (sym seen)
+          (sent_step d done s rest begins (open_heads l.heads.items) l.more l.invariant.heads l.invariant.more l.invariant.took c.in_ok-more.ensures.sends);
       heads =
           heads_step d done s (open_heads l.heads.items) (open_heads c.send_item.new.heads.items) l.invariant.heads c.in_ok-more.ensures.heads
           ∙ ap (λ z. open_after [] (items_written d z)) (sym seen);
@@ -88,18 +79,16 @@ loop-item-preserved g c =
           ∙ ap (λ z. more_after false (items_written d z)) (sym seen);
     }
 
-pub returns-in_err-more-clause-err : goal.returns-in_err-more-clause-err
-returns-in_err-more-clause-err g c =
+pub returns-in_err-more-clause-sends : goal.returns-in_err-more-clause-sends
+returns-in_err-more-clause-sends g c =
     let d = c.args.map.now.doc in
     let l = c.loop-item in
     let done = map view_item_view l.yielded in
     let s = view_item_view c.in-Some.item in
     let rest = c.next.new.self in
-    let o = g.W.Sink.taken c.args.out.now in
-    let e = g.W.Sink.taken c.send_item.new.out in
     let whole : c.args.items ≡ done ++ s ∷ rest = l.invariant.all ∙ ap (λ z. done ++ z) c.in-Some.ensures.steps in
     let begins : is_begin [] (items_written d (done ++ s ∷ rest)) ≡ true =
     ap (λ z. is_begin [] (items_written d z)) (sym whole) ∙ written_begins d c.requires.formed c.args.items c.requires.shows in
-    on_err c.from_residual.result _
-    (subst (λ z. AppendsPrefix o e (items_text [] false (items_written d z))) (sym whole)
-    (sent_part d done s rest begins (open_heads l.heads.items) l.more l.invariant.heads l.invariant.more _ _ _ l.invariant.sent c.in_err-more.ensures.err))
+    sends_front of_device _ _ c.from_residual.ensures.1
+    (subst (λ z. TookFront g.W.Sink _ c.args.out.now c.send_item.new.out (items_text [] false (items_written d z))) (sym whole)
+    (sent_part d done s rest begins (open_heads l.heads.items) l.more l.invariant.heads l.invariant.more l.invariant.took c.in_err-more.ensures.sends))

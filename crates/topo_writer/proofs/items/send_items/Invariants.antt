@@ -1,5 +1,5 @@
 use Rattle.std.proofs.Common.{◌≡◌, ◌++◌, [], map, false}
-use Rattle.std.specs.Io.KnownBytes.{Appends}
+use Rattle.device_io.specs.Sending.{Took}
 use Rattle.map_frame.specs.Shown.{view_item_view}
 use Rattle.map_text.specs.Text.{items_text}
 use Rattle.topo_writer.specs.Items.{items_written, open_heads}
@@ -14,8 +14,6 @@ invariant-loop-item g l = record {
   leads : Leads l.map.doc l.arcs l.item-iterator;
   arcs : TakesItems l.map.doc l.fn.arcs l.arcs (map view_item_view l.yielded);
   heads : open_heads l.heads.items ≡ open_after [] (items_written l.map.doc (map view_item_view l.yielded));
-  empty : l.text.items ≡ [];
-  sent : Appends (g.W.Sink.taken l.fn.out) (g.W.Sink.taken l.out) (items_text [] false (items_written l.map.doc (map view_item_view l.yielded)));
-  works : g.W.Sink.has_failed l.out ≡ false;
+  took : Took g.W.Sink l.fn.out l.out (items_text [] false (items_written l.map.doc (map view_item_view l.yielded)));
   more : l.more ≡ more_after false (items_written l.map.doc (map view_item_view l.yielded));
 }

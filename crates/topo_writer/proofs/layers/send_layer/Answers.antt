@@ -1,13 +1,13 @@
-use Rattle.std.proofs.Common.{ap, subst, ◌++◌, false, []}
-use Rattle.std.specs.Prelude.{codes, nat_lt}
-use Rattle.std.specs.Io.KnownBytes.{Appends}
-use Rattle.device_io.specs.Devices.{AppendsPrefix}
-use Rattle.device_io.proofs.DeviceLemmas.{Appends-more}
+use Rattle.std.proofs.Common.{ap, subst, ◌∙◌, false, []}
+use Rattle.std.specs.Prelude.{nat_lt}
+use Rattle.device_io.specs.Sending.{Took, TookFront}
+use Rattle.device_io.proofs.SendingLaws.{sends_front, took_both, took_first, took_none, took_second}
 use Rattle.map_text.specs.Text.{comma_if, items_text}
+use Rattle.topo_writer.specs.Faults.{of_device}
 use Rattle.topo_writer.specs.Items.{items_at, items_written}
 use Rattle.topo_writer.specs.Tables.{arcs_in}
+use Rattle.topo_writer.specs.declared.fault.WriteFault.TheVariants.{Device, OutOfMemory}
 use Rattle.topo_writer.proofs.LayerLemmas.{arcs_next, items_are, items_out, items_shown, layer_leads, layer_parts, name_shown, shows_layer}
-use Rattle.topo_writer.proofs.SectionLemmas.{front_first, front_second, on_err}
 use Rattle.topo_writer.proofs.Sent.{filled}
 use Rattle.topo_writer.proofs.layers.send_layer.Goals as goal
 
@@ -38,46 +38,37 @@ returns-clause-arcs g c =
     arcs_next d i c.requires.there (arcs_in c.args.map.now.doc c.args.arcs.now) (arcs_in c.args.map.now.doc c.send_items.new.arcs) (items_at d items) c.requires.arcs
     (items_are d frame i items c.requires.frame c.requires.there shown) c.in_ok-send_items.ensures.arcs
 
-pub returns-clause-ok : goal.returns-clause-ok
-returns-clause-ok g c =
-    let o = g.W.Sink.taken c.args.out.now in
-    let e = g.W.Sink.taken c.send_items.new.out in
+pub returns-in_err-put_all-clause-sends : goal.returns-in_err-put_all-clause-sends
+returns-in_err-put_all-clause-sends g c =
     let d = c.args.map.now.doc in
     let i = c.args.i in
     let shown = items_shown d c.args.frame.now i c.in-Some-items.items c.requires.frame c.requires.there c.in-Some-items.ensures in
     let named = name_shown d c.args.frame.now i c.in-Some.name.now c.requires.frame c.requires.there c.in-Some.ensures in
     let out = items_out d c.args.frame.now i c.in-Some-items.items c.requires.frame c.requires.there shown in
-    let begun : Appends o (g.W.Sink.taken c.flush.new.out) (comma_if (nat_lt 0 i) ++ (c.in-Some.name.now ++ codes ":")) =
-    subst (Appends o (g.W.Sink.taken c.flush.new.out)) (filled c.args.text.now.items c.push_name.new.text.items _ c.requires.empty c.in_ok-push_name.ensures) c.in_ok-flush.ensures.ok in
-    subst (Appends o e) (layer_parts d i (comma_if (nat_lt 0 i)) _ _ named (ap (items_text [] false) out))
-    (Appends-more o _ e _ _ begun c.in_ok-send_items.ensures.ok)
+    let whole = layer_parts d i (comma_if (nat_lt 0 i)) _ _ named (ap (items_text [] false) out) in
+    let begin = c.as_slice.ensures.value ∙ filled _ _ _ c.clear.ensures.items c.in_ok-push_name.ensures in
+    sends_front of_device Device _ c.from_residual-in_err-put_all.ensures.1
+    (subst (TookFront g.W.Sink _ _ _) whole (took_first (items_text [] false (items_written d c.in-Some-items.items)) (subst (TookFront g.W.Sink _ _ _) begin c.in_err-put_all.ensures)))
 
-pub returns-in_err-flush-clause-err : goal.returns-in_err-flush-clause-err
-returns-in_err-flush-clause-err g c =
-    let o = g.W.Sink.taken c.args.out.now in
-    let e = g.W.Sink.taken c.flush.new.out in
+pub returns-in_err-send_items-clause-sends : goal.returns-in_err-send_items-clause-sends
+returns-in_err-send_items-clause-sends g c =
     let d = c.args.map.now.doc in
     let i = c.args.i in
     let shown = items_shown d c.args.frame.now i c.in-Some-items.items c.requires.frame c.requires.there c.in-Some-items.ensures in
     let named = name_shown d c.args.frame.now i c.in-Some.name.now c.requires.frame c.requires.there c.in-Some.ensures in
     let out = items_out d c.args.frame.now i c.in-Some-items.items c.requires.frame c.requires.there shown in
-    let part : AppendsPrefix o e (comma_if (nat_lt 0 i) ++ (c.in-Some.name.now ++ codes ":")) =
-    subst (AppendsPrefix o e) (filled c.args.text.now.items c.push_name.new.text.items _ c.requires.empty c.in_ok-push_name.ensures) c.in_err-flush.ensures.err in
-    on_err c.from_residual-in_err-flush.result _
-    (subst (AppendsPrefix o e) (layer_parts d i (comma_if (nat_lt 0 i)) _ _ named (ap (items_text [] false) out))
-    (front_first o e _ (items_text [] false (items_written d c.in-Some-items.items)) part))
+    let whole = layer_parts d i (comma_if (nat_lt 0 i)) _ _ named (ap (items_text [] false) out) in
+    let begin = c.as_slice.ensures.value ∙ filled _ _ _ c.clear.ensures.items c.in_ok-push_name.ensures in
+    sends_front of_device _ _ c.from_residual-in_err-send_items.ensures.1
+    (subst (TookFront g.W.Sink _ _ _) whole (took_second (subst (Took g.W.Sink _ _) begin c.in_ok-put_all.ensures) c.in_err-send_items.ensures.sends))
 
-pub returns-in_err-send_items-clause-err : goal.returns-in_err-send_items-clause-err
-returns-in_err-send_items-clause-err g c =
-    let o = g.W.Sink.taken c.args.out.now in
-    let e = g.W.Sink.taken c.send_items.new.out in
+pub returns-clause-sends : goal.returns-clause-sends
+returns-clause-sends g c =
     let d = c.args.map.now.doc in
     let i = c.args.i in
     let shown = items_shown d c.args.frame.now i c.in-Some-items.items c.requires.frame c.requires.there c.in-Some-items.ensures in
     let named = name_shown d c.args.frame.now i c.in-Some.name.now c.requires.frame c.requires.there c.in-Some.ensures in
     let out = items_out d c.args.frame.now i c.in-Some-items.items c.requires.frame c.requires.there shown in
-    let begun : Appends o (g.W.Sink.taken c.flush.new.out) (comma_if (nat_lt 0 i) ++ (c.in-Some.name.now ++ codes ":")) =
-    subst (Appends o (g.W.Sink.taken c.flush.new.out)) (filled c.args.text.now.items c.push_name.new.text.items _ c.requires.empty c.in_ok-push_name.ensures) c.in_ok-flush.ensures.ok in
-    on_err c.from_residual-in_err-send_items.result _
-    (subst (AppendsPrefix o e) (layer_parts d i (comma_if (nat_lt 0 i)) _ _ named (ap (items_text [] false) out))
-    (front_second o _ e _ _ begun c.in_err-send_items.ensures.err))
+    let whole = layer_parts d i (comma_if (nat_lt 0 i)) _ _ named (ap (items_text [] false) out) in
+    let begin = c.as_slice.ensures.value ∙ filled _ _ _ c.clear.ensures.items c.in_ok-push_name.ensures in
+    subst (Took g.W.Sink _ _) whole (took_both (subst (Took g.W.Sink _ _) begin c.in_ok-put_all.ensures) c.in_ok-send_items.ensures.sends)

@@ -1,20 +1,20 @@
 use Rattle.std.proofs.Common.{◌≡◌, ◌<◌, sym, ap, subst, ◌∙◌, arith, length}
-use Rattle.std.proofs.KnownBytes.{Appends-nil}
+use Rattle.device_io.proofs.SendingLaws.{sends_front, took_nothing}
+use Rattle.topo_writer.specs.Faults.{of_device}
 use Rattle.topo_writer.specs.Named.{arcs_along}
 use Rattle.topo_writer.specs.Sections.{arcs_after, layer_at, layer_text}
 use Rattle.topo_writer.specs.Tables.{Finds}
 use Rattle.topo_writer.proofs.LayerLemmas.{arcs_whole, layer_count, layer_there}
-use Rattle.topo_writer.proofs.SectionLemmas.{on_err}
 use Rattle.topo_writer.proofs.Sent.{sent_step, sent_part}
 use Rattle.topo_writer.proofs.layers.send_layers.Goals as goal
 
-pub returns-in_err-send_layer-clause-err : goal.returns-in_err-send_layer-clause-err
-returns-in_err-send_layer-clause-err g c =
+pub returns-in_err-send_layer-clause-sends : goal.returns-in_err-send_layer-clause-sends
+returns-in_err-send_layer-clause-sends g c =
     let d = c.args.map.now.doc in
     let i = c.loop-i.i in
     let within : i < length d.layers = omega (arith, layer_count d c.args.frame.now c.requires.frame) in
-    on_err c.from_residual.result _
-    (sent_part (layer_text d) d.layers i (layer_at d i) within (layer_there d i within) _ _ _ c.loop-i.invariant.sent c.in_err-send_layer.ensures.err)
+    sends_front of_device _ _ c.from_residual.ensures.1
+    (sent_part (layer_text d) d.layers i (layer_at d i) within (layer_there d i within) c.loop-i.invariant.took c.in_err-send_layer.ensures.sends)
 
 pub loop-i-preserved : goal.loop-i-preserved
 loop-i-preserved g c =
@@ -22,10 +22,7 @@ loop-i-preserved g c =
     let i = c.loop-i.i in
     let within : i < length d.layers = omega (arith, layer_count d c.args.frame.now c.requires.frame) in
     record {
-      sent =
-          sent_step (layer_text d) d.layers i (layer_at d i) within (layer_there d i within) _ _ _ c.loop-i.invariant.sent c.in_ok-send_layer.ensures.ok;
-      empty = c.in_ok-send_layer.ensures.empty;
-      works = c.in_ok-send_layer.ensures.works;
+      took = sent_step (layer_text d) d.layers i (layer_at d i) within (layer_there d i within) c.loop-i.invariant.took c.in_ok-send_layer.ensures.sends;
       table = c.in_ok-send_layer.ensures.table;
       arcs = c.in_ok-send_layer.ensures.arcs;
     }
@@ -38,9 +35,7 @@ returns-clause-arcs g c =
 
 pub loop-i-init : goal.loop-i-init
 loop-i-init g c = record {
-  sent = Appends-nil (g.W.Sink.taken c.args.out.now);
-  empty = c.requires.empty;
-  works = c.requires.working;
+  took = took_nothing c.requires.working;
   table =
       subst (λ r. Finds c.args.arcs.now (arcs_along c.args.map.now.doc r)) (sym c.requires.none)
       c.requires.table;

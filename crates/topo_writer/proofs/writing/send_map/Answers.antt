@@ -1,12 +1,13 @@
-use Rattle.std.proofs.Common.{arith, ap, subst, [], length}
-use Rattle.std.specs.Io.KnownBytes.{Appends}
-use Rattle.device_io.specs.Devices.{AppendsPrefix}
+use Rattle.std.proofs.Common.{arith, ap, subst, sym, [], length}
+use Rattle.device_io.specs.Sending.{Took, TookFront}
+use Rattle.device_io.proofs.SendingLaws.{sends_front, took_both, took_none, took_second}
 use Rattle.ring_machine.specs.Parts.{rings}
 use Rattle.ring_machine.specs.Vertices.{is_junction}
+use Rattle.topo_writer.specs.Faults.{of_device}
 use Rattle.topo_writer.specs.Tables.{arcs_in}
+use Rattle.topo_writer.specs.declared.fault.WriteFault.TheVariants.{Device, OutOfMemory}
 use Rattle.topo_writer.proofs.LaterParts.{rings_few}
-use Rattle.topo_writer.proofs.SectionLemmas.{all_sent, at_arcs, at_begin, at_end, at_layers, at_middle, nothing_yet, on_err}
-use Rattle.topo_writer.proofs.Sent.{filled}
+use Rattle.topo_writer.proofs.SectionLemmas.{arcs_are, begin_is, end_is, front_at_arcs, front_at_begin, front_at_end, front_at_layers, front_at_middle, sections_are}
 use Rattle.topo_writer.proofs.writing.send_map.Goals as goal
 
 pub send_arcs-requires-clause-few : goal.send_arcs-requires-clause-few
@@ -20,59 +21,78 @@ send_arcs-requires-clause-few g c =
       ap length c.in_ok-send_layers.ensures.arcs,
     )
 
-pub returns-in_err-flush-clause-err : goal.returns-in_err-flush-clause-err
-returns-in_err-flush-clause-err g c =
-    let begin = filled _ _ _ c.new-text.ensures.items c.in_ok-push_begin.ensures in
-    on_err c.from_residual-in_err-flush.result _
-    (at_begin c.args.map.now.doc c.args.frame.now c.requires.frame _ _ _ c.transform.ensures (subst (AppendsPrefix _ _) begin c.in_err-flush.ensures.err))
+pub returns-in_err-put_all : goal.returns-in_err-put_all
+returns-in_err-put_all g c =
+    let d = c.args.map.now.doc in
+    let begin = begin_is d c.args.frame.now c.requires.frame _ _ _ _ c.transform.ensures c.new-text.ensures.items c.in_ok-push_begin.ensures c.as_slice.ensures.value in
+    sends_front of_device Device _ c.from_residual-in_err-put_all.ensures.1
+    (front_at_begin d (subst (TookFront g.W.Sink _ _ _) begin c.in_err-put_all.ensures))
 
-pub returns-in_err-send_layers-clause-err : goal.returns-in_err-send_layers-clause-err
-returns-in_err-send_layers-clause-err g c =
-    let begun = subst (Appends _ _) (filled _ _ _ c.new-text.ensures.items c.in_ok-push_begin.ensures) c.in_ok-flush.ensures.ok in
-    on_err c.from_residual-in_err-send_layers.result _
-    (at_layers c.args.map.now.doc c.args.frame.now c.requires.frame _ _ _ c.transform.ensures begun
-    _ c.in_err-send_layers.ensures.err)
+pub returns-in_err-send_layers : goal.returns-in_err-send_layers
+returns-in_err-send_layers g c =
+    let d = c.args.map.now.doc in
+    let begin = begin_is d c.args.frame.now c.requires.frame _ _ _ _ c.transform.ensures c.new-text.ensures.items c.in_ok-push_begin.ensures c.as_slice.ensures.value in
+    let begun = subst (Took g.W.Sink _ _) begin c.in_ok-put_all.ensures in
+    sends_front of_device _ _ c.from_residual-in_err-send_layers.ensures.1
+    (front_at_layers d (took_second begun c.in_err-send_layers.ensures.sends))
 
-pub returns-in_err-put_all-clause-err : goal.returns-in_err-put_all-clause-err
-returns-in_err-put_all-clause-err g c =
-    let begun = subst (Appends _ _) (filled _ _ _ c.new-text.ensures.items c.in_ok-push_begin.ensures) c.in_ok-flush.ensures.ok in
-    on_err c.from_residual-in_err-put_all.result _
-    (at_middle c.args.map.now.doc c.args.frame.now c.requires.frame _ _ _ c.transform.ensures begun
-    _ c.in_ok-send_layers.ensures.ok _ c.in_err-put_all.ensures.err)
+pub returns-in_err-put_all-2 : goal.returns-in_err-put_all-2
+returns-in_err-put_all-2 g c =
+    let d = c.args.map.now.doc in
+    let begin = begin_is d c.args.frame.now c.requires.frame _ _ _ _ c.transform.ensures c.new-text.ensures.items c.in_ok-push_begin.ensures c.as_slice.ensures.value in
+    let begun = subst (Took g.W.Sink _ _) begin c.in_ok-put_all.ensures in
+    sends_front of_device Device _ c.from_residual-in_err-put_all-2.ensures.1
+    (front_at_middle d (took_second (took_both begun c.in_ok-send_layers.ensures.sends) c.in_err-put_all-2.ensures))
 
-pub returns-in_err-send_arcs-clause-err : goal.returns-in_err-send_arcs-clause-err
-returns-in_err-send_arcs-clause-err g c =
-    let begun = subst (Appends _ _) (filled _ _ _ c.new-text.ensures.items c.in_ok-push_begin.ensures) c.in_ok-flush.ensures.ok in
-    on_err c.from_residual-in_err-send_arcs.result _
-    (at_arcs c.args.map.now.doc c.args.frame.now c.requires.frame _ _ _ c.transform.ensures begun
-    _ c.in_ok-send_layers.ensures.ok _ c.in_ok-put_all.ensures.ok
-    (arcs_in c.args.map.now.doc c.send_layers.new.arcs) c.in_ok-send_layers.ensures.arcs (λ t. t.now) c.transform-2.result c.transform-2.ensures _ c.is_some-delta.ensures
-    _ c.in_err-send_arcs.ensures.err)
+pub returns-in_err-send_arcs : goal.returns-in_err-send_arcs
+returns-in_err-send_arcs g c =
+    let d = c.args.map.now.doc in
+    let begin = begin_is d c.args.frame.now c.requires.frame _ _ _ _ c.transform.ensures c.new-text.ensures.items c.in_ok-push_begin.ensures c.as_slice.ensures.value in
+    let begun = subst (Took g.W.Sink _ _) begin c.in_ok-put_all.ensures in
+    let between = took_both (took_both begun c.in_ok-send_layers.ensures.sends) c.in_ok-put_all-2.ensures in
+    let arcs =
+    arcs_are d c.args.frame.now c.requires.frame (arcs_in d c.send_layers.new.arcs) c.in_ok-send_layers.ensures.arcs (λ t. t.now) c.transform-2.result c.transform-2.ensures
+    _ c.is_some-delta.ensures in
+    sends_front of_device _ _ c.from_residual-in_err-send_arcs.ensures.1
+    (front_at_arcs d (took_second between (subst (TookFront g.W.Sink _ _ _) arcs c.in_err-send_arcs.ensures)))
 
-pub returns-in_err-push_end-clause-err : goal.returns-in_err-push_end-clause-err
-returns-in_err-push_end-clause-err g c =
-    let begun = subst (Appends _ _) (filled _ _ _ c.new-text.ensures.items c.in_ok-push_begin.ensures) c.in_ok-flush.ensures.ok in
-    on_err c.from_residual-in_err-push_end.result _
-    (at_end c.args.map.now.doc c.args.frame.now c.requires.frame _ _ _ c.transform.ensures begun
-    _ c.in_ok-send_layers.ensures.ok _ c.in_ok-put_all.ensures.ok
-    (arcs_in c.args.map.now.doc c.send_layers.new.arcs) c.in_ok-send_layers.ensures.arcs (λ t. t.now) c.transform-2.result c.transform-2.ensures _ c.is_some-delta.ensures
-    _ c.in_ok-send_arcs.ensures.ok _ c.members.ensures _ (nothing_yet _ _))
+pub returns-in_err-push_end : goal.returns-in_err-push_end
+returns-in_err-push_end g c =
+    let d = c.args.map.now.doc in
+    let begin = begin_is d c.args.frame.now c.requires.frame _ _ _ _ c.transform.ensures c.new-text.ensures.items c.in_ok-push_begin.ensures c.as_slice.ensures.value in
+    let begun = subst (Took g.W.Sink _ _) begin c.in_ok-put_all.ensures in
+    let between = took_both (took_both begun c.in_ok-send_layers.ensures.sends) c.in_ok-put_all-2.ensures in
+    let arcs =
+    arcs_are d c.args.frame.now c.requires.frame (arcs_in d c.send_layers.new.arcs) c.in_ok-send_layers.ensures.arcs (λ t. t.now) c.transform-2.result c.transform-2.ensures
+    _ c.is_some-delta.ensures in
+    let listed = took_both between (subst (Took g.W.Sink _ _) arcs c.in_ok-send_arcs.ensures) in
+    sends_front of_device OutOfMemory _ c.from_residual-in_err-push_end.ensures.1
+    (front_at_end d (took_second listed (took_none listed.works)))
 
-pub returns-in_err-flush-2-clause-err : goal.returns-in_err-flush-2-clause-err
-returns-in_err-flush-2-clause-err g c =
-    let begun = subst (Appends _ _) (filled _ _ _ c.new-text.ensures.items c.in_ok-push_begin.ensures) c.in_ok-flush.ensures.ok in
-    let end = filled _ _ _ c.in_ok-send_arcs.ensures.empty c.in_ok-push_end.ensures in
-    on_err c.from_residual-in_err-flush-2.result _
-    (at_end c.args.map.now.doc c.args.frame.now c.requires.frame _ _ _ c.transform.ensures begun
-    _ c.in_ok-send_layers.ensures.ok _ c.in_ok-put_all.ensures.ok
-    (arcs_in c.args.map.now.doc c.send_layers.new.arcs) c.in_ok-send_layers.ensures.arcs (λ t. t.now) c.transform-2.result c.transform-2.ensures _ c.is_some-delta.ensures
-    _ c.in_ok-send_arcs.ensures.ok _ c.members.ensures _ (subst (AppendsPrefix _ _) end c.in_err-flush-2.ensures.err))
+pub returns-in_err-put_all-3 : goal.returns-in_err-put_all-3
+returns-in_err-put_all-3 g c =
+    let d = c.args.map.now.doc in
+    let begin = begin_is d c.args.frame.now c.requires.frame _ _ _ _ c.transform.ensures c.new-text.ensures.items c.in_ok-push_begin.ensures c.as_slice.ensures.value in
+    let begun = subst (Took g.W.Sink _ _) begin c.in_ok-put_all.ensures in
+    let between = took_both (took_both begun c.in_ok-send_layers.ensures.sends) c.in_ok-put_all-2.ensures in
+    let arcs =
+    arcs_are d c.args.frame.now c.requires.frame (arcs_in d c.send_layers.new.arcs) c.in_ok-send_layers.ensures.arcs (λ t. t.now) c.transform-2.result c.transform-2.ensures
+    _ c.is_some-delta.ensures in
+    let listed = took_both between (subst (Took g.W.Sink _ _) arcs c.in_ok-send_arcs.ensures) in
+    let end = end_is d c.args.frame.now c.requires.frame _ _ _ _ c.members.ensures c.clear.ensures.items c.in_ok-push_end.ensures c.as_slice-2.ensures.value in
+    sends_front of_device Device _ c.from_residual-in_err-put_all-3.ensures.1
+    (front_at_end d (took_second listed (subst (TookFront g.W.Sink _ _ _) end c.in_err-put_all-3.ensures)))
 
-pub returns-clause-ok : goal.returns-clause-ok
-returns-clause-ok g c =
-    let begun = subst (Appends _ _) (filled _ _ _ c.new-text.ensures.items c.in_ok-push_begin.ensures) c.in_ok-flush.ensures.ok in
-    let end = filled _ _ _ c.in_ok-send_arcs.ensures.empty c.in_ok-push_end.ensures in
-    all_sent c.args.map.now.doc c.args.frame.now c.requires.frame _ _ _ c.transform.ensures begun
-    _ c.in_ok-send_layers.ensures.ok _ c.in_ok-put_all.ensures.ok
-    (arcs_in c.args.map.now.doc c.send_layers.new.arcs) c.in_ok-send_layers.ensures.arcs (λ t. t.now) c.transform-2.result c.transform-2.ensures _ c.is_some-delta.ensures
-    _ c.in_ok-send_arcs.ensures.ok _ c.members.ensures _ (subst (Appends _ _) end c.in_ok-flush-2.ensures.ok)
+pub returns : goal.returns
+returns g c =
+    let d = c.args.map.now.doc in
+    let begin = begin_is d c.args.frame.now c.requires.frame _ _ _ _ c.transform.ensures c.new-text.ensures.items c.in_ok-push_begin.ensures c.as_slice.ensures.value in
+    let begun = subst (Took g.W.Sink _ _) begin c.in_ok-put_all.ensures in
+    let between = took_both (took_both begun c.in_ok-send_layers.ensures.sends) c.in_ok-put_all-2.ensures in
+    let arcs =
+    arcs_are d c.args.frame.now c.requires.frame (arcs_in d c.send_layers.new.arcs) c.in_ok-send_layers.ensures.arcs (λ t. t.now) c.transform-2.result c.transform-2.ensures
+    _ c.is_some-delta.ensures in
+    let listed = took_both between (subst (Took g.W.Sink _ _) arcs c.in_ok-send_arcs.ensures) in
+    let end = end_is d c.args.frame.now c.requires.frame _ _ _ _ c.members.ensures c.clear.ensures.items c.in_ok-push_end.ensures c.as_slice-2.ensures.value in
+    subst (Took g.W.Sink _ _) (sym (sections_are d))
+    (took_both listed (subst (Took g.W.Sink _ _) end c.in_ok-put_all-3.ensures))

@@ -1,6 +1,6 @@
 use Rattle.std.proofs.Common.{◌≡◌, ◌∙◌, ap, ap₂, subst, map, []}
 use Rattle.std.specs.Vec.Iter.{into_iter_items}
-use Rattle.map_opening.specs.Laying.{feature_numbers}
+use Rattle.map_frame.specs.Numbers.{feature_numbers}
 use Rattle.map_frame.specs.Building.{progress, AreLayers}
 use Rattle.map_frame.specs.Naming.{AllNamed}
 use Rattle.map_frame.specs.declared.tables.Tables.{Tables}

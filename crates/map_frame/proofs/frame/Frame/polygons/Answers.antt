@@ -1,6 +1,6 @@
 use Rattle.std.proofs.Common.{sym, ap, ◌∙◌, option_map, map, Some}
 use Rattle.ring_machine.specs.Parts.{feature}
-use Rattle.map_opening.specs.Laying.{polygon_numbers}
+use Rattle.map_frame.specs.Numbers.{polygon_numbers}
 use Rattle.map_frame.specs.Live.{live}
 use Rattle.map_frame.specs.Seen.{view_feature}
 use Rattle.map_frame.proofs.ReadFeatures.{feature_is}

@@ -1,7 +1,7 @@
 use Rattle.std.proofs.Common.{refl, sym, ap, ◌∙◌, length, option_map}
 use Rattle.std.proofs.lemmas.Option.{slice_get_past, slice_get_read}
 use Rattle.ring_machine.specs.Parts.{feature}
-use Rattle.map_opening.specs.Laying.{polygon_numbers}
+use Rattle.map_frame.specs.Numbers.{polygon_numbers}
 use Rattle.map_frame.specs.Readers.{element}
 use Rattle.map_frame.proofs.ReadLists.{got, got_none, in_polygons}
 use Rattle.map_frame.proofs.frame.Frame.ring.Goals as goal

@@ -2,7 +2,7 @@ use Rattle.std.proofs.Common.{sym, ap, ◌∙◌, length, option_map}
 use Rattle.std.specs.Prelude.{unwrap_or}
 use Rattle.std.specs.List.{slice_get}
 use Rattle.std.proofs.lemmas.Option.{slice_get-map}
-use Rattle.map_opening.specs.Laying.{polygon_numbers, feature_numbers}
+use Rattle.map_frame.specs.Numbers.{polygon_numbers, feature_numbers}
 use Rattle.map_frame.proofs.ReadLists.{got, got_none}
 use Rattle.map_frame.proofs.reading.FeatureView.ring_count.Goals as goal
 

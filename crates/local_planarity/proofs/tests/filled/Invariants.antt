@@ -1,7 +1,0 @@
-use Rattle.std.proofs.Common.{take}
-use Rattle.local_planarity.proofs.Filling.{Filled}
-use Rattle.local_planarity.proofs.tests.filled.Given as goal
-
--- the index holds the segments so far, of which no two conflict
-abbrev pub invariant-loop-at : goal.invariant-loop-at
-invariant-loop-at g l = Filled (g.I.SegIndex.held l.index) (take l.at l.segments)

@@ -1,6 +1,0 @@
-use Rattle.std.proofs.Common.{◌∙◌}
-use Rattle.local_planarity.proofs.Filling.{contained}
-use Rattle.local_planarity.proofs.tests.holds.Goals as goal
-
-pub returns : goal.returns
-returns c = c.contains.ensures.value ∙ contained c.args.segments.now c.args.s

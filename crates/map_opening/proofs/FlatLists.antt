@@ -1,0 +1,60 @@
+-- Rings that are moved into one list, and numbers that are put into lists again.
+use Rattle.std.proofs.Common.{◌≡◌, ◌≤◌, ◌+◌, ◌-◌, ℕ, refl, sym, ap, ◌∙◌, List, [], ◌∷◌, ◌++◌, map, length, drop, arith}
+use Rattle.std.proofs.Common.{append-nil, append_assoc}
+use Rattle.std.specs.Prelude.{slice_range}
+use Rattle.std.specs.List.{sum}
+use Rattle.std.proofs.lemmas.List.{length-append}
+use Rattle.std.proofs.lemmas.List.Folds.{drop_split}
+use Rattle.std.proofs.lemmas.List.Concat.{flat_map-append}
+use Rattle.std.proofs.lemmas.List.Sums.{sum_by-cons}
+use Rattle.map_opening.specs.Flat.{joined, all_rings, shape_of, ring_count}
+
+-- ---- moved out of lists
+
+-- what was taken off the front came to the end
+pub moved : {B : Type 0} (now was part left before all : List B) → now ≡ was ++ part → before ≡ part ++ left
+    → was ++ before ≡ all → now ++ left ≡ all
+moved now was part left before all e f h =
+    ap (λ z. z ++ left) e ∙ append_assoc was part left ∙ ap (λ z. was ++ z) (sym f) ∙ h
+
+-- nothing is left
+pub nothing_left : {B : Type 0} (xs : List B) (n : ℕ) → n ≡ length xs → n ≡ 0 → xs ≡ []
+nothing_left [] n e z = refl
+nothing_left (x ∷ xs) n e z = absurd (omega arith)
+
+pub all_moved : {B : Type 0} (now left all : List B) → left ≡ [] → now ++ left ≡ all → now ≡ all
+all_moved now left all e h = sym (append-nil now) ∙ ap (λ z. now ++ z) (sym e) ∙ h
+
+-- ---- put into lists again
+
+-- the next numbers are put into a list
+pub joined_next : (lists lists' : List (List ℕ)) (list numbers all : List ℕ) (next end : ℕ) → lists' ≡ lists ++ list ∷ []
+    → list ≡ slice_range numbers next end → next ≤ end → joined lists ++ drop next numbers ≡ all
+    → joined lists' ++ drop end numbers ≡ all
+joined_next lists lists' list numbers all next end e f l h =
+    ap (λ z. joined z ++ drop end numbers) e
+    ∙ ap (λ z. z ++ drop end numbers) (flat_map-append (λ xs. xs) lists (list ∷ []) ∙ ap (λ z. joined lists ++ z) (append-nil list))
+    ∙ append_assoc (joined lists) list (drop end numbers)
+    ∙ ap (λ z. joined lists ++ z) (ap (λ z. z ++ drop end numbers) f ∙ sym (drop_split numbers next end l)) ∙ h
+
+-- and the next lists into a feature
+pub all_next : (features features' : List (List (List ℕ))) (lists : List (List ℕ)) (numbers : List ℕ) (next next' : ℕ)
+    → features' ≡ features ++ lists ∷ [] → joined lists ++ drop next' numbers ≡ drop next numbers
+    → all_rings features ++ drop next numbers ≡ numbers → all_rings features' ++ drop next' numbers ≡ numbers
+all_next features features' lists numbers next next' e f h =
+    ap (λ z. all_rings z ++ drop next' numbers) e
+    ∙ ap (λ z. z ++ drop next' numbers) (flat_map-append joined features (lists ∷ []) ∙ ap (λ z. all_rings features ++ z) (append-nil (joined lists)))
+    ∙ append_assoc (all_rings features) (joined lists) (drop next' numbers)
+    ∙ ap (λ z. all_rings features ++ z) f ∙ h
+
+-- ---- how many rings there are
+
+length-joined : {R : Type 0} (polygons : List (List R)) → length (joined polygons) ≡ sum (map length polygons)
+length-joined [] = refl
+length-joined (rings ∷ polygons) =
+    omega (arith, length-append rings (joined polygons), length-joined polygons, sum_by-cons (λ n. n) (length rings) (map length polygons))
+
+pub length-all_rings : {R : Type 0} (features : List (List (List R))) → length (all_rings features) ≡ ring_count (shape_of features)
+length-all_rings [] = refl
+length-all_rings (polygons ∷ features) =
+    omega (arith, length-append (joined polygons) (all_rings features), length-joined polygons, length-all_rings features, sum_by-cons sum (map length polygons) (shape_of features))

@@ -1,6 +1,0 @@
-use Rattle.std.proofs.Common.{◌≡◌}
-use Rattle.map_opening.proofs.junctions.see_polygon.Given as goal
-
--- no ring has changed
-abbrev pub invariant-loop-ring : goal.invariant-loop-ring
-invariant-loop-ring g l = l.borders ≡ l.initial.borders
