@@ -4,10 +4,11 @@ use crate::stop::Stop;
 use std::alloc::{AllocError, Global};
 use std::test::Fail;
 
-/// Words as the program is given them.
-fn given(alloc: Global, words: &[&str]) -> Result<Vec<String>, AllocError> {
+/// Words as the program is given them, its own name first, from a line with one space between them.
+fn given(alloc: Global, line: &str) -> Result<Vec<String>, AllocError> {
     let mut given = Vec::new(alloc);
-    for word in words {
+    given.push(String::from_str(alloc, "border_edit")?)?;
+    for word in line.split(' ') {
         given.push(String::from_str(alloc, word)?)?;
     }
     Ok(given)
@@ -16,22 +17,9 @@ fn given(alloc: Global, words: &[&str]) -> Result<Vec<String>, AllocError> {
 #[test]
 fn a_map_a_script_and_a_file_are_taken(rt: HostRuntime) -> Result<(), Fail> {
     let table = [
-        [
-            "border_edit",
-            "map.json",
-            "script.txt",
-            "--out",
-            "saved.json",
-        ]
-        .as_slice(),
-        &[
-            "border_edit",
-            "--out",
-            "saved.json",
-            "map.json",
-            "script.txt",
-        ],
-        &["border_edit", "map.json", "--out=saved.json", "script.txt"],
+        "map.json script.txt --out saved.json",
+        "--out saved.json map.json script.txt",
+        "map.json --out=saved.json script.txt",
     ];
     for line in table {
         let given = given(rt.alloc(), line)?;
@@ -49,15 +37,9 @@ fn a_map_a_script_and_a_file_are_taken(rt: HostRuntime) -> Result<(), Fail> {
 #[test]
 fn the_depth_of_undo_is_taken(rt: HostRuntime) -> Result<(), Fail> {
     let table = [
-        (
-            ["border_edit", "m", "s", "--out", "f", "--undo", "2"].as_slice(),
-            2,
-        ),
-        (&["border_edit", "--undo", "1", "m", "s", "--out", "f"], 1),
-        (
-            &["border_edit", "m", "--undo=1000", "s", "--out", "f"],
-            1000,
-        ),
+        ("m s --out f --undo 2", 2),
+        ("--undo 1 m s --out f", 1),
+        ("m --undo=1000 s --out f", 1000),
     ];
     for (line, depth) in table {
         let given = given(rt.alloc(), line)?;
@@ -73,25 +55,8 @@ fn the_depth_of_undo_is_taken(rt: HostRuntime) -> Result<(), Fail> {
 #[test]
 fn standard_input_a_list_and_progress_are_taken(rt: HostRuntime) -> Result<(), Fail> {
     let table = [
-        [
-            "border_edit",
-            "m",
-            "-",
-            "--out",
-            "f",
-            "--refused",
-            "list.txt",
-            "--progress",
-        ]
-        .as_slice(),
-        &[
-            "border_edit",
-            "--progress",
-            "--refused=list.txt",
-            "m",
-            "-",
-            "--out=f",
-        ],
+        "m - --out f --refused list.txt --progress",
+        "--progress --refused=list.txt m - --out=f",
     ];
     for line in table {
         let given = given(rt.alloc(), line)?;
@@ -109,69 +74,27 @@ fn standard_input_a_list_and_progress_are_taken(rt: HostRuntime) -> Result<(), F
 #[test]
 fn all_other_words_stop_the_program(rt: HostRuntime) -> Result<(), Fail> {
     let table = [
-        (["border_edit"].as_slice(), 64),
-        (&["border_edit", "map.json"], 64),
-        (&["border_edit", "map.json", "script.txt"], 64),
-        (&["border_edit", "map.json", "script.txt", "--out"], 64),
-        (&["border_edit", "map.json", "--out", "saved.json"], 64),
-        (
-            &[
-                "border_edit",
-                "map.json",
-                "script.txt",
-                "more",
-                "--out",
-                "saved.json",
-            ],
-            64,
-        ),
-        (
-            &[
-                "border_edit",
-                "--quiet",
-                "map.json",
-                "script.txt",
-                "--out",
-                "saved.json",
-            ],
-            64,
-        ),
-        (&["border_edit", "m", "s", "--out", "f", "--undo"], 64),
-        (&["border_edit", "m", "s", "--out", "f", "--undo", "0"], 64),
-        (
-            &["border_edit", "m", "s", "--out", "f", "--undo", "1001"],
-            64,
-        ),
-        (&["border_edit", "m", "s", "--out", "f", "--undo", "-1"], 64),
-        (
-            &["border_edit", "m", "s", "--out", "f", "--undo", "two"],
-            64,
-        ),
-        (&["border_edit", "m", "s", "--out", "f", "--undo", ""], 64),
-        (&["border_edit", "m", "s", "--undo", "2"], 64),
-        (&["border_edit", "m", "s", "--out", "f", "--refused"], 64),
-        (
-            &[
-                "border_edit",
-                "m",
-                "s",
-                "--out",
-                "f",
-                "--refused",
-                "a",
-                "--refused",
-                "b",
-            ],
-            64,
-        ),
+        ("map.json", 64),
+        ("map.json script.txt", 64),
+        ("map.json script.txt --out", 64),
+        ("map.json --out saved.json", 64),
+        ("map.json script.txt more --out saved.json", 64),
+        ("--quiet map.json script.txt --out saved.json", 64),
+        ("m s --out f --undo", 64),
+        ("m s --out f --undo 0", 64),
+        ("m s --out f --undo 1001", 64),
+        ("m s --out f --undo -1", 64),
+        ("m s --out f --undo two", 64),
+        // The last word has no letters.
+        ("m s --out f --undo ", 64),
+        ("m s --undo 2", 64),
+        ("m s --out f --refused", 64),
+        ("m s --out f --refused a --refused b", 64),
         // FILE2 is FILE.
-        (
-            &["border_edit", "m", "s", "--out", "f", "--refused", "f"],
-            64,
-        ),
-        (&["border_edit", "--help"], 0),
-        (&["border_edit", "--version"], 0),
-        (&["border_edit", "map.json", "-h"], 0),
+        ("m s --out f --refused f", 64),
+        ("--help", 0),
+        ("--version", 0),
+        ("map.json -h", 0),
     ];
     for (line, status) in table {
         let given = given(rt.alloc(), line)?;
@@ -179,6 +102,17 @@ fn all_other_words_stop_the_program(rt: HostRuntime) -> Result<(), Fail> {
             Ok(_) => assert!(rt; false, "{line:?}"),
             Err(error) => assert_eq!(rt; Stop::from(error).status(), status, "{line:?}"),
         }
+    }
+    Ok(())
+}
+
+#[test]
+fn no_words_stop_the_program(rt: HostRuntime) -> Result<(), Fail> {
+    let mut given = Vec::new(rt.alloc());
+    given.push(String::from_str(rt.alloc(), "border_edit")?)?;
+    match words(rt.alloc(), given.as_slice()) {
+        Ok(_) => assert!(rt; false),
+        Err(error) => assert_eq!(rt; Stop::from(error).status(), 64),
     }
     Ok(())
 }
