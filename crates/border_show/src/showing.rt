@@ -5,7 +5,7 @@ ghost use Rattle.topo_reader.specs.DocumentView.{view_raw};
 ghost use Rattle.border_show.specs.Shown.{IsEnd, IsEndOfBoth};
 
 use crate::conflicts::first_conflict;
-use map_drawing::{View, draw_change, draw_map};
+use map_drawing::{Conflict, View, draw_change, draw_map};
 use std::alloc::{AllocError, Allocator, Global};
 use topo_outline::OpenFault;
 use topo_reader::{RawDoc, read};
@@ -46,6 +46,22 @@ fn map_of<'a, A: Allocator + Copy>(
     }
 }
 
+/// The first conflict of the map that the bytes are. They are read anew: a map that is opened is taken
+/// apart.
+fn conflict_of<'a, A: Allocator + Copy>(
+    alloc: A,
+    heap: Global,
+    bytes: &'a [u8],
+) -> Result<Option<Conflict>, ShowFault<'a>>
+    ensures { IfErr result (λ fault. IsEnd fault bytes.now) }
+{
+    let map = match map_of(alloc, heap, bytes) {
+        Ok(map) => map,
+        Err(fault) => return Err(fault),
+    };
+    Ok(first_conflict(alloc, map)?)
+}
+
 /// Appends the picture of a map to `text`.
 pub(crate) fn show_map<'a, A: Allocator + Copy>(
     alloc: A,
@@ -56,11 +72,14 @@ pub(crate) fn show_map<'a, A: Allocator + Copy>(
 ) -> Result<(), ShowFault<'a>>
     ensures { IfErr result (λ fault. IsEnd fault bytes.now) }
 {
+    let conflict = match conflict_of(alloc, heap, bytes) {
+        Ok(conflict) => conflict,
+        Err(fault) => return Err(fault),
+    };
     let map = match map_of(alloc, heap, bytes) {
         Ok(map) => map,
         Err(fault) => return Err(fault),
     };
-    let conflict = first_conflict(alloc, &map)?;
     draw_map(alloc, heap, &map, view, conflict, text)?;
     Ok(())
 }
@@ -80,11 +99,14 @@ pub(crate) fn show_change<'a, A: Allocator + Copy>(
         Ok(map) => map,
         Err(fault) => return Err(fault),
     };
+    let conflict = match conflict_of(alloc, heap, after) {
+        Ok(conflict) => conflict,
+        Err(fault) => return Err(fault),
+    };
     let after = match map_of(alloc, heap, after) {
         Ok(map) => map,
         Err(fault) => return Err(fault),
     };
-    let conflict = first_conflict(alloc, &after)?;
     draw_change(alloc, heap, &before, &after, view, conflict, text)?;
     Ok(())
 }
