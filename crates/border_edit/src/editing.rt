@@ -1,14 +1,8 @@
 //! The files of the program: what is read, what is written, and in which order.
 ghost use Rattle.std.specs.Prelude.{◌≡◌, false};
 
-use crate::asked::Words;
-use crate::ending::Ending;
-use crate::kept_script::KeptScript;
-use crate::listing::list_refused;
-use crate::noted_answers::NotedAnswers;
-use crate::notes::Refusal;
-use crate::stop::Stop;
 use device_io::{FromReader, Sink, Source, ToWriter};
+use edit_program::{Ending, KeptScript, NotedAnswers, Refusal, Stop, Words, list_refused};
 use script_runner::run;
 use std::fs;
 use std::fs::File;

@@ -1,6 +1,6 @@
 //! What the program reads of real files, and what FILE holds once it has ended.
 use super::{Editing, edit, map_bytes};
-use crate::asked::Words;
+use edit_program::Words;
 use std::alloc::{AllocError, Global};
 use std::fs::File;
 use std::io::{Error, ErrorKind, Result as IoResult, Write};

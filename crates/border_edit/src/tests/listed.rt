@@ -1,6 +1,5 @@
 //! Which line of a script each refusal is listed with.
-use super::list_refused;
-use crate::notes::Notes;
+use edit_program::{Notes, list_refused};
 use std::alloc::Global;
 use std::test::Fail;
 

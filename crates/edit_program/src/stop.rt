@@ -1,7 +1,7 @@
 //! What ends the program before a script is run, and the statuses that it ends with.
 ghost use Rattle.std.specs.Prelude.{◌≡◌, ◌≢◌};
 ghost use Rattle.std.specs.IoError.{error_kind};
-ghost use Rattle.border_edit.specs.Status.{status_of};
+ghost use Rattle.edit_program.specs.Status.{status_of};
 
 use clap::error::ErrorKind as Mistake;
 use script_runner::{RunFault, Summary};
@@ -22,7 +22,7 @@ pub enum Stop {
 }
 
 impl Stop {
-    ghost use Rattle.border_edit.specs.Stops.{stop_status};
+    ghost use Rattle.edit_program.specs.Stops.{stop_status};
 
     /// What an error of a file stops for: a refused growth, or else what the file is.
     pub fn of_file(error: Error, file: Stop) -> Stop
@@ -63,7 +63,7 @@ pub fn status(outcome: &Result<Summary, RunFault<'_>>) -> u8
 
 impl From<clap::Error> for Stop {
     ghost use Rattle.std.specs.Prelude.{◌≡◌};
-    ghost use Rattle.border_edit.specs.Stops.{words_stop};
+    ghost use Rattle.edit_program.specs.Stops.{words_stop};
 
     ghost from_gives = { λ error stop. stop ≡ words_stop error };
 
@@ -77,7 +77,7 @@ impl From<clap::Error> for Stop {
 
 impl From<AllocError> for Stop {
     ghost use Rattle.std.specs.Prelude.{◌≡◌};
-    ghost use Rattle.border_edit.specs.declared.stop.Stop.TheVariants.{NoMemory};
+    ghost use Rattle.edit_program.specs.declared.stop.Stop.TheVariants.{NoMemory};
 
     ghost from_gives = { λ _ stop. stop ≡ NoMemory };
 
@@ -88,7 +88,7 @@ impl From<AllocError> for Stop {
 
 impl<T: Drop> From<AllocFailed<T>> for Stop {
     ghost use Rattle.std.specs.Prelude.{◌≡◌};
-    ghost use Rattle.border_edit.specs.declared.stop.Stop.TheVariants.{NoMemory};
+    ghost use Rattle.edit_program.specs.declared.stop.Stop.TheVariants.{NoMemory};
 
     ghost from_gives = { λ _ stop. stop ≡ NoMemory };
 

@@ -1,7 +1,7 @@
 -- What is kept of a script while it is read, and noted of the answers while they are written.
 use Rattle.std.specs.Prelude.{ℕ, List, Bool}
-use Rattle.border_edit.specs.declared.kept_script.KeptScript.{KeptScript}
-use Rattle.border_edit.specs.declared.noted_answers.NotedAnswers.{NotedAnswers}
+use Rattle.edit_program.specs.declared.kept_script.KeptScript.{KeptScript}
+use Rattle.edit_program.specs.declared.noted_answers.NotedAnswers.{NotedAnswers}
 
 -- the source that a kept script comes from
 abbrev pub source_of : {R : Type 0} → KeptScript R → R

@@ -2,7 +2,7 @@
 ghost use Rattle.std.specs.Prelude.{◌≡◌, ◌≢◌, ◌≤◌, ℕ, [], Some, map, codes, string_bytes, unwrap_or};
 ghost use Rattle.std.specs.Prelude.{option_map, IfOk, MatchBool, MatchOption};
 ghost use Rattle.clap.specs.Words.{app_of};
-ghost use Rattle.border_edit.specs.Asked.{program, text_of, flag_of, IsDepth, IsFlag};
+ghost use Rattle.edit_program.specs.Asked.{program, text_of, flag_of, IsDepth, IsFlag};
 
 use crate::asked::Words;
 use crate::help::{ABOUT, LINES, VERSION};
@@ -104,7 +104,7 @@ fn is_file(refused: Option<&str>, out: &str) -> bool
 
 /// Reads the words, the program's name first. A request for help, or for the version, is an error
 /// here too, and so are words that name one path for FILE and FILE2.
-pub(crate) fn words(alloc: Global, given: &[String]) -> Result<Words, clap::Error>
+pub fn words(alloc: Global, given: &[String]) -> Result<Words, clap::Error>
     ensures map { IfOk result (λ words. string_bytes words.map
         ≡ unwrap_or (text_of (codes "MAP") (map string_bytes given.now)) []) }
     ensures script { IfOk result (λ words. string_bytes words.script

@@ -1,6 +1,6 @@
 use Rattle.std.proofs.Common.{rules, codes}
-use Rattle.border_edit.proofs.WordLemmas.{word_is, depth_is, refused_is, copies_apart, flag_is}
-use Rattle.border_edit.proofs.command_line.words.Goals as goal
+use Rattle.edit_program.proofs.WordLemmas.{word_is, depth_is, refused_is, copies_apart, flag_is}
+use Rattle.edit_program.proofs.command_line.words.Goals as goal
 
 pub returns-clause-map : goal.returns-clause-map
 returns-clause-map c =

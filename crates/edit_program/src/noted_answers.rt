@@ -18,7 +18,7 @@ pub struct NotedAnswers<W> {
 }
 
 impl<W> NotedAnswers<W> {
-    ghost use Rattle.border_edit.specs.Keeping.{sink_of, is_cut, fails_alone};
+    ghost use Rattle.edit_program.specs.Keeping.{sink_of, is_cut, fails_alone};
 
     /// A sink over this one, which no answer has gone to.
     pub fn new(alloc: Global, sink: W) -> Self
@@ -73,7 +73,7 @@ impl<W> NotedAnswers<W> {
 }
 
 impl<W: Sink> Sink for NotedAnswers<W> {
-    ghost use Rattle.border_edit.specs.Keeping.{sink_of, is_cut, fails_alone};
+    ghost use Rattle.edit_program.specs.Keeping.{sink_of, is_cut, fails_alone};
 
     ghost taken = { λ s. W.taken (sink_of s) };
 

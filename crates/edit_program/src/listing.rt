@@ -41,7 +41,7 @@ fn list_line<W: Write>(list: &mut W, number: u64, answer: &[u8], line: &[u8]) ->
 
 /// Writes the lines of a script that were refused, each with its number in the script, from 1, and its
 /// answer: `NUMBER<TAB>ANSWER<TAB>LINE<LF>`. Of a line at most 8,192 bytes are written.
-pub(crate) fn list_refused<W: Write>(
+pub fn list_refused<W: Write>(
     heap: Global,
     script: &[u8],
     refusals: &[Refusal],
@@ -65,6 +65,3 @@ pub(crate) fn list_refused<W: Write>(
     }
     Ok(())
 }
-
-#[cfg(test)]
-mod tests;

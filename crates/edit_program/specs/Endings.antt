@@ -5,10 +5,10 @@ use Rattle.std.specs.declared.io.ErrorKind.TheVariants as kind
 use Rattle.topo_outline.specs.declared.fault.OpenFault.{OpenFault}
 use Rattle.script_runner.specs.declared.fault.RunFault.{RunFault}
 use Rattle.script_runner.specs.declared.fault.RunFault.TheVariants as fault
-use Rattle.border_edit.specs.declared.diagnostic.Diagnostic.{Diagnostic}
-use Rattle.border_edit.specs.declared.diagnostic.Diagnostic.TheVariants.{Open, Map, Script, Write, Save, Refused, NoMemory}
-use Rattle.border_edit.specs.declared.stop.Stop.{Stop}
-use Rattle.border_edit.specs.declared.stop.Stop.TheVariants as stop
+use Rattle.edit_program.specs.declared.diagnostic.Diagnostic.{Diagnostic}
+use Rattle.edit_program.specs.declared.diagnostic.Diagnostic.TheVariants.{Open, Map, Script, Write, Save, Refused, NoMemory}
+use Rattle.edit_program.specs.declared.stop.Stop.{Stop}
+use Rattle.edit_program.specs.declared.stop.Stop.TheVariants as stop
 
 -- the line that tells why a map was not opened
 abbrev pub IsOpen : OpenFault → Diagnostic → Type 0

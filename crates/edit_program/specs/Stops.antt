@@ -4,8 +4,8 @@ use Rattle.clap.specs.Values.{kind_of}
 use Rattle.clap.specs.declared.error.Error.{Error}
 use Rattle.clap.specs.declared.error.kind.ErrorKind.{ErrorKind}
 use Rattle.clap.specs.declared.error.kind.ErrorKind.TheVariants.{DisplayHelp, DisplayVersion, OutOfMemory}
-use Rattle.border_edit.specs.declared.stop.Stop.{Stop}
-use Rattle.border_edit.specs.declared.stop.Stop.TheVariants.{Words, Map, Script, NoMemory}
+use Rattle.edit_program.specs.declared.stop.Stop.{Stop}
+use Rattle.edit_program.specs.declared.stop.Stop.TheVariants.{Words, Map, Script, NoMemory}
 
 abbrev stop_by : ErrorKind → Error → Stop
 stop_by OutOfMemory error = NoMemory

@@ -18,7 +18,7 @@ pub struct KeptScript<R> {
 }
 
 impl<R> KeptScript<R> {
-    ghost use Rattle.border_edit.specs.Keeping.{source_of, kept_of, is_short, fails_itself};
+    ghost use Rattle.edit_program.specs.Keeping.{source_of, kept_of, is_short, fails_itself};
 
     /// A source over this one, of which nothing is kept yet.
     pub fn new(alloc: Global, source: R) -> Self
@@ -76,7 +76,7 @@ impl<R> KeptScript<R> {
 }
 
 impl<R: Source> Source for KeptScript<R> {
-    ghost use Rattle.border_edit.specs.Keeping.{source_of, kept_of, is_short, fails_itself};
+    ghost use Rattle.edit_program.specs.Keeping.{source_of, kept_of, is_short, fails_itself};
 
     ghost coming = { λ s. R.coming (source_of s) };
 

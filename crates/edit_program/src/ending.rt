@@ -1,9 +1,9 @@
 //! How the program ends: with which status, with what in FILE, and with which line on standard error.
 ghost use Rattle.std.specs.Prelude.{◌≡◌, None, Some, true, false, option_map, OnOk, OnErr, IfErr, IsSomeAnd};
 ghost use Rattle.std.specs.IoError.{error_kind};
-ghost use Rattle.border_edit.specs.Status.{status_of};
-ghost use Rattle.border_edit.specs.Stops.{stop_status};
-ghost use Rattle.border_edit.specs.Endings.{Tells, stop_line, unsaved_line, unlisted_line};
+ghost use Rattle.edit_program.specs.Status.{status_of};
+ghost use Rattle.edit_program.specs.Stops.{stop_status};
+ghost use Rattle.edit_program.specs.Endings.{Tells, stop_line, unsaved_line, unlisted_line};
 
 use crate::diagnostic::Diagnostic;
 use crate::stop::{Stop, status};

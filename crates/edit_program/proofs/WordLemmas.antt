@@ -5,7 +5,7 @@ use Rattle.std.specs.Prelude.{◌≢◌, unwrap_or, codes, MatchBool}
 use Rattle.clap.specs.Words.{App, HasMatchesOf, first_of, first_value, found_of, is_simple, matches_of, one_of, one_text}
 use Rattle.clap.specs.declared.parser.matches.ArgMatches.{ArgMatches}
 use Rattle.clap.proofs.WalkLemmas.{first_value-rows, one_text-rows}
-use Rattle.border_edit.specs.Asked.{program, text_of, flag_of, IsDepth, IsFlag}
+use Rattle.edit_program.specs.Asked.{program, text_of, flag_of, IsDepth, IsFlag}
 
 -- what an argument was given, as the matches of the program have it
 found_text : (a : App) (m : ArgMatches) (words : List (List ℕ)) (id : List ℕ) → a ≡ program → HasMatchesOf a words m → first_value (found_of m) id ≡ text_of id words

@@ -128,7 +128,7 @@ impl Notes {
     }
 
     /// Takes the next bytes of the answers. After an error the refusals are not all of them.
-    pub(crate) fn take(&mut self, piece: &[u8]) -> Result<(), AllocError> {
+    pub fn take(&mut self, piece: &[u8]) -> Result<(), AllocError> {
         for byte in piece {
             self.take_byte(*byte)?;
         }

@@ -27,7 +27,7 @@ pub enum Diagnostic<'a> {
 }
 
 impl<'a> Diagnostic<'a> {
-    ghost use Rattle.border_edit.specs.Endings.{Tells, unwritten_line, unsaved_line, unlisted_line};
+    ghost use Rattle.edit_program.specs.Endings.{Tells, unwritten_line, unsaved_line, unlisted_line};
 
     /// The line that tells a fault of a run.
     pub fn of_fault(fault: &'a RunFault<'a>) -> Diagnostic<'a>
@@ -68,7 +68,7 @@ impl<'a> Diagnostic<'a> {
 }
 
 impl<'a> fmt::Display for Diagnostic<'a> {
-    ghost use Rattle.border_edit.specs.Endings.{line_text};
+    ghost use Rattle.edit_program.specs.Endings.{line_text};
 
     ghost output = { line_text };
 
