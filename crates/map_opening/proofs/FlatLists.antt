@@ -3,7 +3,7 @@ use Rattle.std.proofs.Common.{◌≡◌, ◌≤◌, ◌+◌, ◌-◌, ℕ, refl,
 use Rattle.std.proofs.Common.{append-nil, append_assoc}
 use Rattle.std.specs.Prelude.{slice_range}
 use Rattle.std.specs.List.{sum}
-use Rattle.std.proofs.lemmas.List.{length-append}
+use Rattle.std.proofs.lemmas.List.{length-append, length-take, length-drop}
 use Rattle.std.proofs.lemmas.List.Folds.{drop_split}
 use Rattle.std.proofs.lemmas.List.Concat.{flat_map-append}
 use Rattle.std.proofs.lemmas.List.Sums.{sum_by-cons}
@@ -26,6 +26,13 @@ pub all_moved : {B : Type 0} (now left all : List B) → left ≡ [] → now ++ 
 all_moved now left all e h = sym (append-nil now) ∙ ap (λ z. now ++ z) (sym e) ∙ h
 
 -- ---- put into lists again
+
+-- so many numbers are taken, where there are as many
+pub length-range : (numbers list : List ℕ) (next n : ℕ) → list ≡ slice_range numbers next (next + n)
+    → next + n ≤ length numbers → length list ≡ n
+length-range numbers list next n e few =
+    ap length e ∙ length-take ((next + n) - next) (drop next numbers)
+    ∙ omega (arith, few, length-drop next numbers)
 
 -- the next numbers are put into a list
 pub joined_next : (lists lists' : List (List ℕ)) (list numbers all : List ℕ) (next end : ℕ) → lists' ≡ lists ++ list ∷ []
