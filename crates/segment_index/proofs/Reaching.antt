@@ -16,11 +16,11 @@ max_last : (a b : ℤ) → a ≤ℤ b → int_max a b ≡ b
 max_last a b h = grind (arith, ints)
 
 -- the lesser end has the least x
-pub least_first : (s : Segment) → IsSegment s → int_min s.lo.x s.hi.x ≡ s.lo.x
+least_first : (s : Segment) → IsSegment s → int_min s.lo.x s.hi.x ≡ s.lo.x
 least_first s h = min_first s.lo.x s.hi.x (first_before s.lo.x s.hi.x s.lo.y s.hi.y h)
 
 -- the greater end has the greatest x
-pub most_last : (s : Segment) → IsSegment s → int_max s.lo.x s.hi.x ≡ s.hi.x
+most_last : (s : Segment) → IsSegment s → int_max s.lo.x s.hi.x ≡ s.hi.x
 most_last s h = max_last s.lo.x s.hi.x (first_before s.lo.x s.hi.x s.lo.y s.hi.y h)
 
 -- a segment that doesn't begin past a box in x has an x of it where it doesn't end before it
