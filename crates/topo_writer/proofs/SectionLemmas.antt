@@ -1,5 +1,5 @@
 -- The sections of a text are the text, and a front of some of them is a front of it.
-use Rattle.std.proofs.Common.{◌≡◌, ℕ, ◌+◌, ◌≤◌, refl, sym, ap, ◌∙◌, subst, List, [], ◌∷◌, ◌++◌, map, append_assoc}
+use Rattle.std.proofs.Common.{◌≡◌, ◌≤◌, refl, sym, ap, ◌∙◌, subst, List, [], ◌∷◌, ◌++◌, map, append_assoc}
 use Rattle.std.proofs.Common.{Bool, Option, Some, None, arith}
 use Rattle.std.specs.Prelude.{codes, is_some, option_map}
 use Rattle.std.specs.List.{AllByRecursion}

@@ -1,7 +1,7 @@
-use Rattle.std.proofs.Common.{arith, refl, subst, sym}
+use Rattle.std.proofs.Common.{arith, subst, sym}
 use Rattle.std.proofs.lemmas.List.{take_all}
 use Rattle.device_io.specs.Sending.{Took, TookFront}
-use Rattle.device_io.proofs.SendingLaws.{sends_front, took_both, took_first, took_nothing, took_second}
+use Rattle.device_io.proofs.SendingLaws.{sends_front, took_both, took_first, took_second}
 use Rattle.topo_writer.specs.Faults.{of_device}
 use Rattle.topo_writer.specs.Named.{arcs_along, listed_arcs}
 use Rattle.topo_writer.proofs.NextArcs.{ring_adds, ring_leaves}

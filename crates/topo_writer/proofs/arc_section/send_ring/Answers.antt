@@ -4,11 +4,10 @@ use Rattle.indexmap.specs.IndexMap.{get}
 use Rattle.ring_machine.specs.Ring.{edge_eq}
 use Rattle.ring_machine.specs.Vertices.{is_junction}
 use Rattle.map_text.specs.Arcs.{pieces}
-use Rattle.device_io.proofs.SendingLaws.{sends_front, took_none}
+use Rattle.device_io.proofs.SendingLaws.{sends_front}
 use Rattle.topo_writer.specs.Faults.{of_device}
 use Rattle.topo_writer.specs.Named.{arcs_along, named_ring}
 use Rattle.topo_writer.specs.Ways.{all_found}
-use Rattle.topo_writer.specs.declared.fault.WriteFault.TheVariants.{OutOfMemory}
 use Rattle.topo_writer.proofs.NamedRings.{along_found, along_next, along_pieces, along_rest}
 use Rattle.topo_writer.proofs.NextArcs.{on_begin, on_end, on_few, on_left, on_part, on_step}
 use Rattle.topo_writer.proofs.ReadRings.{each_place}

@@ -90,5 +90,5 @@ returns-in_err-more-clause-sends g c =
     let begins : is_begin [] (items_written d (done ++ s ∷ rest)) ≡ true =
     ap (λ z. is_begin [] (items_written d z)) (sym whole) ∙ written_begins d c.requires.formed c.args.items c.requires.shows in
     sends_front of_device _ _ c.from_residual.ensures.1
-    (subst (λ z. TookFront g.W.Sink _ c.args.out.now c.send_item.new.out (items_text [] false (items_written d z))) (sym whole)
+    (subst (λ z. TookFront g.W.Sink (of_device c.in_err-more.field-0.0) c.args.out.now c.send_item.new.out (items_text [] false (items_written d z))) (sym whole)
     (sent_part d done s rest begins (open_heads l.heads.items) l.more l.invariant.heads l.invariant.more l.invariant.took c.in_err-more.ensures.sends))

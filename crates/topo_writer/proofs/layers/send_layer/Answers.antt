@@ -38,6 +38,9 @@ returns-clause-arcs g c =
     arcs_next d i c.requires.there (arcs_in c.args.map.now.doc c.args.arcs.now) (arcs_in c.args.map.now.doc c.send_items.new.arcs) (items_at d items) c.requires.arcs
     (items_are d frame i items c.requires.frame c.requires.there shown) c.in_ok-send_items.ensures.arcs
 
+pub returns-in_err-push_name-clause-sends : goal.returns-in_err-push_name-clause-sends
+returns-in_err-push_name-clause-sends g c = sends_front of_device OutOfMemory _ c.from_residual.ensures.1 (took_none c.requires.working)
+
 pub returns-in_err-put_all-clause-sends : goal.returns-in_err-put_all-clause-sends
 returns-in_err-put_all-clause-sends g c =
     let d = c.args.map.now.doc in

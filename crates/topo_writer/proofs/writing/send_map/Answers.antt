@@ -21,6 +21,9 @@ send_arcs-requires-clause-few g c =
       ap length c.in_ok-send_layers.ensures.arcs,
     )
 
+pub returns-in_err-push_begin : goal.returns-in_err-push_begin
+returns-in_err-push_begin g c = sends_front of_device OutOfMemory _ c.from_residual.ensures.1 (took_none c.requires.working)
+
 pub returns-in_err-put_all : goal.returns-in_err-put_all
 returns-in_err-put_all g c =
     let d = c.args.map.now.doc in
