@@ -1,12 +1,15 @@
 -- A ring goes on along an arc as far as both agree.
-use Rattle.std.proofs.Common.{◌≡◌, ℕ, ◌<◌, ◌≤◌, ◌+◌, ◌-◌, false, true, sym, ap, ◌∙◌, subst, List, ◌∷◌, ◌++◌, take, drop, length, get_or, arith, Option, Some, suc, ap₂, add-one, drop-cons, reverse, length-drop}
+use Rattle.std.proofs.Common.{◌≡◌, ℕ, ◌<◌, ◌≤◌, ◌+◌, ◌-◌, false, true, sym, ap, ◌∙◌, subst, List, [], ◌∷◌, ◌++◌, take, drop, length, get_or, arith, Option, Some, Result, Ok, Err, IfOk, OnErr, IsErr, refl, suc, ap₂, add-one, drop-cons, reverse, length-drop}
+use Rattle.std.proofs.lemmas.Bool.{false≢true}
 use Rattle.std.proofs.lemmas.List.{take_more, take-append-drop, reverse-append, length-reverse}
 use Rattle.std.proofs.Math.Seq.{take-add, take-append_seam}
 use Rattle.arc_tables.specs.declared.arc.Arc.{Arc}
 use Rattle.arc_tables.specs.declared.tables.Tables.{Tables}
-use Rattle.arc_tables.specs.Ways.{Store, links, Keeps, Grows, Cuts, Takes}
-use Rattle.arc_tables.specs.Stores.{path_in, EndsAt, store, path_of}
-use Rattle.arc_tables.proofs.Moves.{cut_keeps, take_grows, kept_grows, grows_then, links-append}
+use Rattle.slab.specs.Slab.{get}
+use Rattle.arc_tables.specs.Ways.{Store, links, Keeps, Grows, Cuts, Takes, Starts, IsNew}
+use Rattle.arc_tables.specs.Stores.{path_in, uses_in, EndsAt, Whole, Advances, SameKeys, SamePaths, SameRings, store, path_of}
+use Rattle.arc_tables.proofs.Moves.{cut_keeps, keeps_same, start_grows, take_grows, kept_grows, grows_then, links-append}
+use Rattle.arc_tables.proofs.Segments.{if_ok_map, on_err_map}
 
 module _ {A : Type 0} where
   pub agreed_two : (o : Option (Arc A)) (arc : Arc A) (xs ys : List ℕ) (m : ℕ) → o ≡ Some arc → xs ≡ arc.keys.items → 2 ≤ length (path_in o) → 2 ≤ length ys → take 2 (path_in o) ≡ take 2 ys →
@@ -29,6 +32,35 @@ module _ {A : Type 0} where
   run_grows s t u r i m keys mid same c =
       subst (λ z. Grows r (links z) (store s) (store u)) (mid.path ∙ same)
       (kept_grows r _ (store s) (store t) (store u) mid.keeps (take_grows r i false (store t) (store u) c))
+
+  -- the arc was cut, or nothing changed
+  pub cut_or_not : {E : Type 0} (s t : Tables A) (i at : ℕ) (result : Result ℕ E) → IfOk result (λ n. Cuts i n (take at (path_of s i)) (get_or (path_of s i) at 0) (drop (at + 1) (path_of s i)) (store s) (store t)) →
+      OnErr result ((j : ℕ) → get t.arcs j ≡ get s.arcs j) → OnErr result (t.rings ≡ s.rings) → Keeps (store s) (store t)
+  cut_or_not s t i at (Ok n) c _ _ = cut_keeps i n _ _ _ (store s) (store t) c
+  cut_or_not s t i at (Err e) _ p q = keeps_same (store s) (store t) (λ j. ap path_in (p j)) (λ k. ap (λ z. uses_in (get z k)) q)
+
+  module _ {B E : Type 0} (s t : Tables A) (r : ℕ) (keys : List ℕ) where
+    -- ring r did not go on
+    pub advances_not : (result : Result B E) (count : B → ℕ) → IsErr result → SamePaths s.arcs t.arcs → SameRings s.rings t.rings → Whole t → SameKeys s.rings t.rings → Advances r keys result count s t
+    advances_not (Ok x) count f _ _ _ _ = absurd (false≢true f)
+    advances_not (Err e) count _ p q w h = record { two = tt; within = tt; grown = tt; kept = keeps_same (store s) (store t) p q; whole = w; held = h }
+
+    -- arcs were cut before
+    pub advances_after : (u : Tables A) (result : Result B E) (count : B → ℕ) → Keeps (store s) (store t) → SameKeys s.rings t.rings → Advances r keys result count t u → Advances r keys result count s u
+    advances_after u result count k h a = record {
+      two = a.two;
+      within = a.within;
+      grown = if_ok_map result (λ x. kept_grows r (links (take (count x) keys)) (store s) (store t) (store u) k) a.grown;
+      kept = on_err_map result (λ l. record { same = λ j. l.same j ∙ k.same j; once = λ o. l.once (k.once o) }) a.kept;
+      whole = a.whole;
+      held = λ j. a.held j ∙ h j;
+    }
+
+  -- ring r went on along a new arc, or did not
+  pub advances_new : {E : Type 0} (s t : Tables A) (r a b : ℕ) (result : Result ℕ E) → IfOk result (λ n. Starts r n a b (store s) (store t)) → OnErr result (SamePaths s.arcs t.arcs) → OnErr result (SameRings s.rings t.rings) →
+      Whole t → SameKeys s.rings t.rings → IsNew a b (path_of s) → Advances r (a ∷ b ∷ []) result (λ n. 2) s t
+  advances_new s t r a b (Ok n) c _ _ w h new = record { two = omega arith; within = omega arith; grown = start_grows r n a b (store s) (store t) c new; kept = tt; whole = w; held = h }
+  advances_new s t r a b (Err e) _ p q w h _ = advances_not s t r (a ∷ b ∷ []) (Err e) (λ n. 2) refl p q w h
 
 -- a piece that begins where the ring has come to
 pub links_join : (keys : List ℕ) (at k : ℕ) → 2 ≤ k → at + k ≤ length keys → links (take (at + 1) keys) ++ links (take k (drop at keys)) ≡ links (take (at + (k - 1) + 1) keys)

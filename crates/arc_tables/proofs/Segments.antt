@@ -1,5 +1,5 @@
 -- When an edge is of a segment, and how often a segment stands.
-use Rattle.std.proofs.Common.{◌≡◌, ℕ, ◌+◌, ◌≤◌, Bool, true, false, ◌&&◌, ◌||◌, refl, ap₂, ◌∙◌, List, [], ◌∷◌, ◌⊎◌, inl, inr, arith, Result, Ok, Err, OnOk, OnErr}
+use Rattle.std.proofs.Common.{◌≡◌, ℕ, ◌+◌, ◌≤◌, Bool, true, false, ◌&&◌, ◌||◌, refl, ap₂, ◌∙◌, List, [], ◌∷◌, ◌⊎◌, inl, inr, arith, Result, Ok, Err, IfOk, OnOk, OnErr}
 use Rattle.std.specs.Prelude.{◌==◌}
 use Rattle.std.proofs.lemmas.Bool.{false≢true}
 use Rattle.std.proofs.lemmas.Bool.Decides.{Decides-eqb}
@@ -59,13 +59,20 @@ once_for s t f h = record {
 
 -- ---- answers of a call that may fail
 
+pub if_ok_map : {X E : Type 0} {P Q : X → Type 0} (r : Result X E) → ((x : X) → P x → Q x) → IfOk r P → IfOk r Q
+if_ok_map (Ok x) f p = f x p
+if_ok_map (Err e) f p = tt
+
 pub on_ok_map : {X E : Type 0} {P Q : Type 0} (r : Result X E) → (P → Q) → OnOk r P → OnOk r Q
-on_ok_map (Ok x) f p = f p
-on_ok_map (Err e) f p = tt
+on_ok_map r f p = if_ok_map r (λ x. f) p
 
 pub on_err_map : {X E : Type 0} {P Q : Type 0} (r : Result X E) → (P → Q) → OnErr r P → OnErr r Q
 on_err_map (Ok x) f p = tt
 on_err_map (Err e) f p = f p
+
+pub on_err_of : {X E : Type 0} {P : Type 0} (r : Result X E) → P → OnErr r P
+on_err_of (Ok x) p = tt
+on_err_of (Err e) p = p
 
 pub either_result : {X E : Type 0} {P Q R : Type 0} (r : Result X E) → (P → R) → (Q → R) → OnOk r P → OnErr r Q → R
 either_result (Ok x) f g p q = f p

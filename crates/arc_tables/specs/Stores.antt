@@ -1,6 +1,6 @@
 -- What the tables of arcs, of rings and of vertices hold.
 use Rattle.std.specs.Prelude.{ℕ, ◌≡◌, ◌≢◌, ◌⊎◌, ◌<◌, ◌≤◌, ◌+◌, ◌==◌, not, if◌then◌else◌}
-use Rattle.std.specs.Prelude.{Bool, true, Option, Some, None, is_some, vec_len, vec_capacity}
+use Rattle.std.specs.Prelude.{Bool, true, Option, Some, None, is_some, Result, IfOk, OnErr, vec_len, vec_capacity}
 use Rattle.std.specs.Prelude.{List, [], ◌∷◌, ◌++◌, take, map, filter, Contains, length, get_or}
 use Rattle.std.specs.Option.{option_map_or}
 use Rattle.std.specs.List.{list_any, flat_map, AllByRecursion}
@@ -11,7 +11,7 @@ use Rattle.arc_tables.specs.declared.arc.Ring.{Ring}
 use Rattle.arc_tables.specs.declared.arc.Stand.{Stand}
 use Rattle.arc_tables.specs.declared.arc.NewUses.{NewUses}
 use Rattle.arc_tables.specs.declared.tables.Tables.{Tables}
-use Rattle.arc_tables.specs.Ways.{Store, both_parts, Keeps, OpenAt}
+use Rattle.arc_tables.specs.Ways.{Store, both_parts, links, Grows, Keeps, OpenAt}
 
 -- some use is of the arc
 abbrev pub uses_arc : ℕ → List Use → Bool
@@ -152,6 +152,23 @@ module _ {A : Type 0} where
   pub record EndsAt (old new : Tables A) (i m : ℕ) : Type 0 where
     pub keeps : Keeps (store old) (store new)
     pub path : path_of new i ≡ take m (path_of old i)
+
+  -- the tables belong together, and ring r and arc i are there
+  pub record WholeWith (t : Tables A) (r i : ℕ) : Type 0 where
+    pub whole : Whole t
+    pub ring : ContainsKey t.rings r
+    pub arc : ContainsKey t.arcs i
+
+  -- ring r goes on along the first of these keys, two at least, as many as the result counts, or fails and no ring
+  -- changes; the tables belong together either way
+  pub record Advances {B E : Type 0} (r : ℕ) (keys : List ℕ) (result : Result B E) (count : B → ℕ)
+      (old new : Tables A) : Type 0 where
+    pub two : IfOk result (λ x. 2 ≤ count x)
+    pub within : IfOk result (λ x. count x ≤ length keys)
+    pub grown : IfOk result (λ x. Grows r (links (take (count x) keys)) (store old) (store new))
+    pub kept : OnErr result (Keeps (store old) (store new))
+    pub whole : Whole new
+    pub held : SameKeys old.rings new.rings
 
   -- the arc that is being made, if there is one, ends here
   abbrev pub IsOpen : Tables A → ℕ → Option ℕ → ℕ → Type 0

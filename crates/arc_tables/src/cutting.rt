@@ -164,12 +164,10 @@ impl<A: Allocator + Copy> Tables<A> {
         ensures held { SameKeys self.old.rings self.new.rings }
     {
         let len = self.arcs.get(i).unwrap().keys.len();
-        if m < len {
-            return match self.cut(i, m - 1) {
-                Ok(_) => Ok(()),
-                Err(e) => Err(e),
-            };
+        if len <= m {
+            return Ok(());
         }
+        self.cut(i, m - 1)?;
         Ok(())
     }
 
@@ -187,9 +185,6 @@ impl<A: Allocator + Copy> Tables<A> {
         if at == 0 {
             return Ok(i);
         }
-        match self.cut(i, at) {
-            Ok(n) => Ok(n),
-            Err(e) => Err(e),
-        }
+        self.cut(i, at)
     }
 }

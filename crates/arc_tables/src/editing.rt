@@ -25,7 +25,7 @@ fn put_key<A: Allocator + Copy>(
     requires there { ContainsKey arcs.old i }
     requires within { at ≤ length (path_in (get arcs.old i)) }
     ensures ok { OnOk result (path_in (get arcs.new i) ≡ insert (path_in (get arcs.old i)) at q) }
-    ensures err { OnErr result (path_in (get arcs.new i) ≡ path_in (get arcs.old i)) }
+    ensures err { OnErr result (SamePaths arcs.old arcs.new) }
     ensures others { (j : ℕ) → j ≢ i → get arcs.new j ≡ get arcs.old j }
     ensures users { SameUsers arcs.old arcs.new }
 {
@@ -152,13 +152,11 @@ impl<A: Allocator + Copy> Tables<A> {
         ensures whole { Whole self.new }
         ensures rings { self.new.rings ≡ self.old.rings }
     {
-        match self.find(a, b) {
-            Some(place) => match list_arc(self.alloc, &mut self.stands, q, place.arc) {
-                Ok(()) => put_key(&mut self.arcs, place.arc, place.at + 1, q),
-                Err(e) => Err(e),
-            },
-            None => Ok(()),
-        }
+        let Some(place) = self.find(a, b) else {
+            return Ok(());
+        };
+        list_arc(self.alloc, &mut self.stands, q, place.arc)?;
+        put_key(&mut self.arcs, place.arc, place.at + 1, q)
     }
 
     /// Takes `p` out of the arcs: it moves onto its neighbour `b`. Fails for want of memory alone.
@@ -173,13 +171,9 @@ impl<A: Allocator + Copy> Tables<A> {
         ensures rings { self.new.rings ≡ self.old.rings }
     {
         let among = Vec::from_slice(self.alloc, arcs_at(&self.stands, p))?;
-        match list_arcs(self.alloc, &mut self.stands, b, among.as_slice()) {
-            Ok(()) => {
-                collapse_all(&mut self.arcs, among.as_slice(), p, b);
-                forget_arcs(&mut self.stands, p);
-                Ok(())
-            }
-            Err(e) => Err(e),
-        }
+        list_arcs(self.alloc, &mut self.stands, b, among.as_slice())?;
+        collapse_all(&mut self.arcs, among.as_slice(), p, b);
+        forget_arcs(&mut self.stands, p);
+        Ok(())
     }
 }

@@ -8,7 +8,7 @@ ghost use Rattle.arc_tables.specs.Ways.{Starts, Takes, times, links, Grows, Keep
 ghost use Rattle.arc_tables.specs.Sound.{HoldsOneMore};
 ghost use Rattle.arc_tables.specs.Stores.{path_in, users_in, uses_in, uses_arc, path_of, store};
 ghost use Rattle.arc_tables.specs.Stores.{Whole, Known, SamePaths, SameRings, SameUsers, SameKeys};
-ghost use Rattle.arc_tables.specs.Stores.{GoesOn, Learns, HasRoomFor, IsPlace, IsOpen};
+ghost use Rattle.arc_tables.specs.Stores.{GoesOn, Advances, WholeWith, Learns, HasRoomFor, IsPlace, IsOpen};
 
 use crate::arc::{Arc, Ring, Use};
 use crate::place::{Place, agreed, agreed_back};
@@ -172,9 +172,7 @@ impl<A: Allocator + Copy> Tables<A> {
 
     /// Ring `r` goes on along the whole of arc `i`, or of its reverse.
     fn go_along(&mut self, r: usize, i: usize, back: bool) -> Result<(), AllocError>
-        requires arc_there { ContainsKey self.old.arcs i }
-        requires there { ContainsKey self.old.rings r }
-        requires whole { Whole self.old }
+        requires { WholeWith self.old r i }
         ensures ok { OnOk result (Takes r i back (store self.old) (store self.new)) }
         ensures whole { Whole self.new }
         ensures err { OnErr result (SamePaths self.old.arcs self.new.arcs) }
@@ -192,108 +190,58 @@ impl<A: Allocator + Copy> Tables<A> {
     /// Ring `r` goes on along arc `i` as far as the arc agrees with these keys, and the arc is cut
     /// there.
     fn run(&mut self, r: usize, i: usize, keys: &[VertexKey]) -> Result<usize, AllocError>
-        requires arc_there { ContainsKey self.old.arcs i }
-        requires there { ContainsKey self.old.rings r }
-        requires whole { Whole self.old }
+        requires there { WholeWith self.old r i }
         requires arc_two { 2 ≤ length (path_of self.old i) }
         requires two { 2 ≤ length keys.now }
         requires agrees { take 2 (path_of self.old i) ≡ take 2 keys.now }
-        ensures two { IfOk result (λ m. 2 ≤ m) }
-        ensures within { IfOk result (λ m. m ≤ length keys.now) }
-        ensures ok { IfOk result
-            (λ m. Grows r (links (take m keys.now)) (store self.old) (store self.new)) }
-        ensures err { OnErr result (Keeps (store self.old) (store self.new)) }
-        ensures whole { Whole self.new }
-        ensures held { SameKeys self.old.rings self.new.rings }
+        ensures { Advances r keys.now result (λ m. m) self.old self.new }
     {
         let m = agreed(self.arcs.get(i).unwrap().keys.as_slice(), keys);
         self.end_at(i, m)?;
-        match self.go_along(r, i, false) {
-            Ok(()) => Ok(m),
-            Err(e) => Err(e),
-        }
+        self.go_along(r, i, false)?;
+        Ok(m)
     }
 
     /// Ring `r` goes on along the reverse of arc `i` as far as both agree, and the arc is cut
     /// there.
     fn run_back(&mut self, r: usize, i: usize, keys: &[VertexKey]) -> Result<usize, AllocError>
-        requires arc_there { ContainsKey self.old.arcs i }
-        requires there { ContainsKey self.old.rings r }
-        requires whole { Whole self.old }
+        requires there { WholeWith self.old r i }
         requires arc_two { 2 ≤ length (path_of self.old i) }
         requires two { 2 ≤ length keys.now }
         requires agrees { take 2 (reverse (path_of self.old i)) ≡ take 2 keys.now }
-        ensures two { IfOk result (λ m. 2 ≤ m) }
-        ensures within { IfOk result (λ m. m ≤ length keys.now) }
-        ensures ok { IfOk result
-            (λ m. Grows r (links (take m keys.now)) (store self.old) (store self.new)) }
-        ensures err { OnErr result (Keeps (store self.old) (store self.new)) }
-        ensures whole { Whole self.new }
-        ensures held { SameKeys self.old.rings self.new.rings }
+        ensures { Advances r keys.now result (λ m. m) self.old self.new }
     {
         let path = self.arcs.get(i).unwrap().keys.as_slice();
         let len = path.len();
-        match agreed_back(self.alloc, path, keys) {
-            Ok(m) => match self.begin_at(i, len - m) {
-                Ok(n) => match self.go_along(r, n, true) {
-                    Ok(()) => Ok(m),
-                    Err(e) => Err(e),
-                },
-                Err(e) => Err(e),
-            },
-            Err(e) => Err(e),
-        }
+        let m = agreed_back(self.alloc, path, keys)?;
+        let n = self.begin_at(i, len - m)?;
+        self.go_along(r, n, true)?;
+        Ok(m)
     }
 
     /// Ring `r` goes on along an arc that has the first segment of these keys, as far as both
     /// agree.
     fn go_shared(&mut self, r: usize, place: Place, keys: &[VertexKey]) -> Result<usize, AllocError>
-        requires there { ContainsKey self.old.rings r }
-        requires whole { Whole self.old }
-        requires arc_there { ContainsKey self.old.arcs place.arc }
+        requires there { WholeWith self.old r place.arc }
         requires two { 2 ≤ length keys.now }
         requires place { IsPlace (path_of self.old place.arc) place.at false
             (get_or keys.now 0 0) (get_or keys.now 1 0) }
-        ensures two { IfOk result (λ m. 2 ≤ m) }
-        ensures within { IfOk result (λ m. m ≤ length keys.now) }
-        ensures ok { IfOk result
-            (λ m. Grows r (links (take m keys.now)) (store self.old) (store self.new)) }
-        ensures err { OnErr result (Keeps (store self.old) (store self.new)) }
-        ensures whole { Whole self.new }
-        ensures held { SameKeys self.old.rings self.new.rings }
+        ensures { Advances r keys.now result (λ m. m) self.old self.new }
     {
-        match self.begin_at(place.arc, place.at) {
-            Ok(n) => match self.run(r, n, keys) {
-                Ok(m) => Ok(m),
-                Err(e) => Err(e),
-            },
-            Err(e) => Err(e),
-        }
+        let n = self.begin_at(place.arc, place.at)?;
+        self.run(r, n, keys)
     }
 
     /// Ring `r` goes on along the reverse of an arc, as far as both agree.
     fn go_back(&mut self, r: usize, place: Place, keys: &[VertexKey]) -> Result<usize, AllocError>
-        requires there { ContainsKey self.old.rings r }
-        requires whole { Whole self.old }
-        requires arc_there { ContainsKey self.old.arcs place.arc }
+        requires there { WholeWith self.old r place.arc }
         requires two { 2 ≤ length keys.now }
         requires place { IsPlace (path_of self.old place.arc) place.at true
             (get_or keys.now 0 0) (get_or keys.now 1 0) }
-        ensures two { IfOk result (λ m. 2 ≤ m) }
-        ensures within { IfOk result (λ m. m ≤ length keys.now) }
-        ensures ok { IfOk result
-            (λ m. Grows r (links (take m keys.now)) (store self.old) (store self.new)) }
-        ensures err { OnErr result (Keeps (store self.old) (store self.new)) }
-        ensures whole { Whole self.new }
-        ensures held { SameKeys self.old.rings self.new.rings }
+        ensures { Advances r keys.now result (λ m. m) self.old self.new }
     {
-        match self.end_at(place.arc, place.at + 2) {
-            Ok(()) => match self.run_back(r, place.arc, keys) {
-                Ok(m) => Ok(m),
-                Err(e) => Err(e),
-            },
-            Err(e) => Err(e),
-        }
+        self.end_at(place.arc, place.at + 2)?;
+        self.run_back(r, place.arc, keys)
     }
 
     /// Ring `r` goes on from the first of these keys along a segment that is new.
@@ -309,22 +257,16 @@ impl<A: Allocator + Copy> Tables<A> {
         requires making { IsOpen self.old r making a }
         requires making_there { IfSome making (λ n. ContainsKey self.old.arcs n) }
         requires new { (j : ℕ) → times a b (links (path_of self.old j)) ≡ 0 }
-        ensures ok { OnOk result (Grows r ((a, b) ∷ []) (store self.old) (store self.new)) }
+        ensures advances { Advances r (a ∷ b ∷ []) result (λ n. 2) self.old self.new }
         ensures making { IfOk result (λ n. OpenAt (store self.new) r n b) }
         ensures making_there { IfOk result (λ n. ContainsKey self.new.arcs n) }
-        ensures err { OnErr result (Keeps (store self.old) (store self.new)) }
-        ensures whole { Whole self.new }
-        ensures held { SameKeys self.old.rings self.new.rings }
     {
         match making {
-            Some(n) => match self.extend(n, b) {
-                Ok(()) => Ok(n),
-                Err(e) => Err(e),
-            },
-            None => match self.start(r, a, b) {
-                Ok(n) => Ok(n),
-                Err(e) => Err(e),
-            },
+            Some(n) => {
+                self.extend(n, b)?;
+                Ok(n)
+            }
+            None => self.start(r, a, b),
         }
     }
 
@@ -353,46 +295,29 @@ impl<A: Allocator + Copy> Tables<A> {
         requires two { 2 ≤ length keys.now }
         requires making { IsOpen self.old r making (get_or keys.now 0 0) }
         requires making_there { IfSome making (λ n. ContainsKey self.old.arcs n) }
-        ensures two { IfOk result (λ p. 2 ≤ p.keys) }
-        ensures within { IfOk result (λ p. p.keys ≤ length keys.now) }
-        ensures ok { IfOk result
-            (λ p. Grows r (links (take p.keys keys.now)) (store self.old) (store self.new)) }
+        ensures advances { Advances r keys.now result (λ p. p.keys) self.old self.new }
         ensures making { IfOk result
             (λ p. IsOpen self.new r p.making (get_or keys.now (p.keys - 1) 0)) }
         ensures making_there { IfOk result
             (λ p. IfSome p.making (λ n. ContainsKey self.new.arcs n)) }
-        ensures err { OnErr result (Keeps (store self.old) (store self.new)) }
-        ensures whole { Whole self.new }
-        ensures held { SameKeys self.old.rings self.new.rings }
     {
         let (a, b) = (keys[0], keys[1]);
         match self.find(a, b) {
-            Some(place) => {
-                if place.back {
-                    match self.go_back(r, place, keys) {
-                        Ok(m) => Ok(Piece {
-                            keys: m,
-                            making: None,
-                        }),
-                        Err(e) => Err(e),
-                    }
-                } else {
-                    match self.go_shared(r, place, keys) {
-                        Ok(m) => Ok(Piece {
-                            keys: m,
-                            making: None,
-                        }),
-                        Err(e) => Err(e),
-                    }
-                }
-            }
-            None => match self.go_new(r, making, a, b) {
-                Ok(n) => Ok(Piece {
+            Some(place) if place.back => Ok(Piece {
+                keys: self.go_back(r, place, keys)?,
+                making: None,
+            }),
+            Some(place) => Ok(Piece {
+                keys: self.go_shared(r, place, keys)?,
+                making: None,
+            }),
+            None => {
+                let n = self.go_new(r, making, a, b)?;
+                Ok(Piece {
                     keys: 2,
                     making: self.left_open(n, b),
-                }),
-                Err(e) => Err(e),
-            },
+                })
+            }
         }
     }
 
@@ -410,13 +335,9 @@ impl<A: Allocator + Copy> Tables<A> {
         let mut at = 0usize;
         let mut making = None;
         while at + 1 < keys.len() {
-            match self.go_piece(r, making, &keys[at..]) {
-                Ok(piece) => {
-                    at += piece.keys - 1;
-                    making = piece.making;
-                }
-                Err(e) => return Err(e),
-            }
+            let piece = self.go_piece(r, making, &keys[at..])?;
+            at += piece.keys - 1;
+            making = piece.making;
         }
         Ok(())
     }

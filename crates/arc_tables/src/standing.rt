@@ -38,10 +38,7 @@ pub(crate) fn list_arc<A: Allocator + Copy>(
 {
     reach(alloc, stands, k)?;
     let stand = stands.get_mut(k.index()).unwrap();
-    match include(&mut stand.arcs, n) {
-        Ok(()) => Ok(()),
-        Err(e) => Err(e),
-    }
+    include(&mut stand.arcs, n)
 }
 
 /// Lists arc `n` for each of these vertices.

@@ -1,6 +1,5 @@
-use Rattle.arc_tables.specs.Stores.{store}
-use Rattle.arc_tables.proofs.Moves.{cut_keeps}
+use Rattle.arc_tables.proofs.Running.{cut_or_not}
 use Rattle.arc_tables.proofs.tables.Tables.begin_at.Goals as goal
 
-pub returns-in-Ok-clause-keeps : goal.returns-in-Ok-clause-keeps
-returns-in-Ok-clause-keeps g c = cut_keeps c.args.i c.in-Ok.n _ _ _ (store c.args.self.now) (store c.cut.new.self) c.in-Ok.ensures.ok
+pub returns-clause-keeps : goal.returns-clause-keeps
+returns-clause-keeps g c = cut_or_not c.args.self.now c.cut.new.self c.args.i c.args.at c.cut.result c.cut.ensures.ok c.cut.ensures.err c.cut.ensures.err_rings

@@ -1,20 +1,33 @@
-use Rattle.std.proofs.Common.{ap, subst}
+use Rattle.std.proofs.Common.{ap, subst, arith, is_some}
 use Rattle.slab.specs.Slab.{get}
 use Rattle.arc_tables.specs.Ways.{OpenAt, Store}
 use Rattle.arc_tables.specs.Stores.{path_in, uses_in, store, IsOpen}
-use Rattle.arc_tables.proofs.Moves.{start_grows, extend_grows, open_started, extended}
+use Rattle.arc_tables.proofs.Moves.{extend_grows, open_started, extended}
+use Rattle.arc_tables.proofs.Running.{advances_new}
+use Rattle.arc_tables.proofs.Segments.{if_ok_map}
 use Rattle.arc_tables.proofs.tables.Tables.go_new.Goals as goal
 
-pub returns-in-Ok-clause-ok : goal.returns-in-Ok-clause-ok
-returns-in-Ok-clause-ok g c =
+pub returns-in_ok-extend-in-Some-clause-advances : goal.returns-in_ok-extend-in-Some-clause-advances
+returns-in_ok-extend-in-Some-clause-advances g c =
     let s : Store = store c.args.self.now in
     let t : Store = store c.extend.new.self in
-    let o : OpenAt s c.args.r c.in-Some.n c.args.a = subst (λ m. IsOpen c.args.self.now c.args.r m c.args.a) c.in-Some.is c.requires.making in
-    let e = extended c.args.r c.in-Some.n c.args.a c.args.b s t o c.in-Ok.ensures.ok (λ j f. ap path_in (c.in-Ok.ensures.others j f)) (λ k. ap (λ z. uses_in (get z k)) c.extend.ensures.rings) in
-    extend_grows c.args.r c.in-Some.n o.ps c.args.a c.args.b o.before s t e c.requires.new
+    let n = c.in-Some.n in
+    let rings = c.extend.ensures.rings in
+    let o : OpenAt s c.args.r n c.args.a = subst (λ m. IsOpen c.args.self.now c.args.r m c.args.a) c.in-Some.is c.requires.making in
+    let e = extended c.args.r n c.args.a c.args.b s t o c.in_ok-extend-in-Some.ensures.ok (λ j f. ap path_in (c.extend.ensures.others j f)) (λ k. ap (λ z. uses_in (get z k)) rings) in
+    record {
+      two = omega arith;
+      within = omega arith;
+      grown = extend_grows c.args.r n o.ps c.args.a c.args.b o.before s t e c.requires.new;
+      kept = tt;
+      whole = c.extend.ensures.whole;
+      held = λ k. ap (λ z. is_some (get z k)) rings;
+    }
 
-pub returns-in-Ok-start-clause-ok : goal.returns-in-Ok-start-clause-ok
-returns-in-Ok-start-clause-ok g c = start_grows c.args.r c.in-Ok-start.n c.args.a c.args.b (store c.args.self.now) (store c.start.new.self) c.in-Ok-start.ensures.ok c.requires.new
+pub returns-in-None-clause-advances : goal.returns-in-None-clause-advances
+returns-in-None-clause-advances g c =
+    let a = c.start.ensures in
+    advances_new c.args.self.now c.start.new.self c.args.r c.args.a c.args.b c.start.result a.ok a.err a.err_rings a.whole a.held c.requires.new
 
-pub returns-in-Ok-start-clause-making : goal.returns-in-Ok-start-clause-making
-returns-in-Ok-start-clause-making g c = open_started c.args.r c.in-Ok-start.n c.args.a c.args.b (store c.args.self.now) (store c.start.new.self) c.in-Ok-start.ensures.ok
+pub returns-in-None-clause-making : goal.returns-in-None-clause-making
+returns-in-None-clause-making g c = if_ok_map c.start.result (λ n. open_started c.args.r n c.args.a c.args.b (store c.args.self.now) (store c.start.new.self)) c.start.ensures.ok
