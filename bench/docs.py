@@ -81,7 +81,7 @@ def line_faults():
 
     table = (TOP / "docs/FORMATS.md").read_text().split("\n| Line | Answer | What it does |\n", 1)[1].split("\n\n", 1)[0]
     told = [line for row in table.splitlines()[1:] for line in re.findall("`([^`]*)`", row.split("|")[1])]
-    helped = found(r"^  ([a-z]\S*(?: \S+)*) {2,}\S", "crates/border_edit/src/help.rt")
+    helped = found(r"^  ([a-z]\S*(?: \S+)*) {2,}\S", "crates/edit_program/src/help.rt")
     taken = found(r'(?:word|line) == b"(\w+)"', "crates/script_lines/src/parsing.rt")
     if helped != told:
         yield f"help.rt has the lines {helped}, and docs/FORMATS.md {told}"

@@ -29,7 +29,7 @@ BEFORE = "what was saved before\n" * 100
 KEPT, SAVED = "kept", "saved"
 
 # What `--version` prints.
-HELP = (TOP / "crates/border_edit/src/help.rt").read_text()
+HELP = (TOP / "crates/edit_program/src/help.rt").read_text()
 VERSION = "border_edit " + re.search('VERSION: &str = "(.*)"', HELP).group(1) + "\n"
 
 # What stands on standard error, or standard output, where its text is not fixed: something.

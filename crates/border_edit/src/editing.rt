@@ -1,14 +1,8 @@
 //! The files of the program: what is read, what is written, and in which order.
 ghost use Rattle.std.specs.Prelude.{◌≡◌, false};
 
-use crate::asked::Words;
-use crate::ending::Ending;
-use crate::kept_script::KeptScript;
-use crate::listing::list_refused;
-use crate::noted_answers::NotedAnswers;
-use crate::notes::Refusal;
-use crate::stop::Stop;
 use device_io::{FromReader, Sink, Source, ToWriter};
+use edit_program::{Ending, KeptScript, NotedAnswers, Refusal, Stop, Words, list_refused};
 use script_runner::run;
 use std::fs;
 use std::fs::File;
@@ -82,76 +76,82 @@ fn list<'a>(
     ending.once_listed(write_list(rt, path, script, refusals))
 }
 
-/// Runs a script on the bytes of a map, and writes FILE.
-fn run_script<R: Source, W: Sink, E: Write>(
-    rt: &HostRuntime,
-    words: &Words,
-    map: &[u8],
-    script: &mut R,
-    answers: &mut W,
-    errors: &mut E,
-) -> u8
-    requires reader { R.has_failed script.old ≡ false }
-    requires writer { W.has_failed answers.old ≡ false }
-{
-    let alloc = rt.alloc();
-    let mut saved = ToWriter::new(Vec::new(alloc));
-    let outcome = run(alloc, alloc, map, script, words.depth, answers, &mut saved);
-    let ending = Ending::of_run(&outcome, saved.writer.as_slice());
-    end(save(rt, words, ending, errors), errors)
+/// A map that was read, and what is asked of it.
+#[derive(Clone, Copy)]
+struct Editing<'a> {
+    rt: &'a HostRuntime,
+    words: &'a Words,
+    map: &'a [u8],
 }
 
-/// The same, and writes the refused lines in FILE2 where FILE was written.
-fn run_listed<R: Source + Drop, W: Sink + Drop, E: Write>(
-    rt: &HostRuntime,
-    words: &Words,
-    map: &[u8],
-    script: R,
-    answers: W,
-    path: &str,
-    errors: &mut E,
-) -> u8
-    requires reader { R.has_failed script ≡ false }
-    requires writer { W.has_failed answers ≡ false }
-{
-    let alloc = rt.alloc();
-    let mut script = KeptScript::new(alloc, script);
-    let mut answers = NotedAnswers::new(alloc, answers);
-    let mut saved = ToWriter::new(Vec::new(alloc));
-    let outcome = run(
-        alloc,
-        alloc,
-        map,
-        &mut script,
-        words.depth,
-        &mut answers,
-        &mut saved,
-    );
-    let ending = Ending::of_run(&outcome, saved.writer.as_slice());
-    let ending = ending.unless_short(script.is_short() || answers.is_short());
-    let ending = save(rt, words, ending, errors);
-    let ending = list(rt, ending, path, script.kept(), answers.refusals());
-    end(ending, errors)
-}
+impl Editing<'_> {
+    /// Runs a script on the map, and writes FILE.
+    fn run_script<R: Source, W: Sink, E: Write>(
+        &self,
+        script: &mut R,
+        answers: &mut W,
+        errors: &mut E,
+    ) -> u8
+        requires reader { R.has_failed script.old ≡ false }
+        requires writer { W.has_failed answers.old ≡ false }
+    {
+        let alloc = self.rt.alloc();
+        let mut saved = ToWriter::new(Vec::new(alloc));
+        let depth = self.words.depth;
+        let outcome = run(alloc, alloc, self.map, script, depth, answers, &mut saved);
+        let ending = Ending::of_run(&outcome, saved.writer.as_slice());
+        end(save(self.rt, self.words, ending, errors), errors)
+    }
 
-/// Runs a script that comes from a reader.
-fn edit_by<R: Read + Drop, W: Write + Drop, E: Write>(
-    rt: &HostRuntime,
-    words: &Words,
-    map: &[u8],
-    script: R,
-    answers: W,
-    errors: &mut E,
-) -> Result<u8, Stop> {
-    // Standard output sends on each piece at once, and an answer is a short one.
-    let answers = BufWriter::new(rt.alloc(), answers).map_err(|_| Stop::NoMemory)?;
-    let mut source = FromReader::new(script);
-    let mut sink = ToWriter::new(answers);
-    let status = match &words.refused {
-        Some(path) => run_listed(rt, words, map, source, sink, path.as_str(), errors),
-        None => run_script(rt, words, map, &mut source, &mut sink, errors),
-    };
-    Ok(status)
+    /// The same, and writes the refused lines in FILE2 where FILE was written.
+    fn run_listed<R: Source + Drop, W: Sink + Drop, E: Write>(
+        &self,
+        script: R,
+        answers: W,
+        path: &str,
+        errors: &mut E,
+    ) -> u8
+        requires reader { R.has_failed script ≡ false }
+        requires writer { W.has_failed answers ≡ false }
+    {
+        let alloc = self.rt.alloc();
+        let mut script = KeptScript::new(alloc, script);
+        let mut answers = NotedAnswers::new(alloc, answers);
+        let mut saved = ToWriter::new(Vec::new(alloc));
+        let depth = self.words.depth;
+        let outcome = run(
+            alloc,
+            alloc,
+            self.map,
+            &mut script,
+            depth,
+            &mut answers,
+            &mut saved,
+        );
+        let ending = Ending::of_run(&outcome, saved.writer.as_slice());
+        let ending = ending.unless_short(script.is_short() || answers.is_short());
+        let ending = save(self.rt, self.words, ending, errors);
+        let ending = list(self.rt, ending, path, script.kept(), answers.refusals());
+        end(ending, errors)
+    }
+
+    /// Runs a script that comes from a reader.
+    fn edit_by<R: Read + Drop, W: Write + Drop, E: Write>(
+        &self,
+        script: R,
+        answers: W,
+        errors: &mut E,
+    ) -> Result<u8, Stop> {
+        // Standard output sends on each piece at once, and an answer is a short one.
+        let answers = BufWriter::new(self.rt.alloc(), answers).map_err(|_| Stop::NoMemory)?;
+        let mut source = FromReader::new(script);
+        let mut sink = ToWriter::new(answers);
+        let status = match &self.words.refused {
+            Some(path) => self.run_listed(source, sink, path.as_str(), errors),
+            None => self.run_script(&mut source, &mut sink, errors),
+        };
+        Ok(status)
+    }
 }
 
 /// Reads MAP, opens SCRIPT, runs it, and ends as the run did.
@@ -163,11 +163,13 @@ fn edit_files<W: Write + Drop, E: Write>(
 ) -> Result<u8, Stop> {
     tell(words, "opening", words.map.as_str(), errors);
     let map = map_bytes(rt, words.map.as_str())?;
+    let map = map.as_slice();
+    let editing = Editing { rt, words, map };
     if words.script.as_str() == STANDARD_INPUT {
-        return edit_by(rt, words, map.as_slice(), rt.stdin(), answers, errors);
+        return editing.edit_by(rt.stdin(), answers, errors);
     }
     let script = File::open(rt, words.script.as_str()).map_err(|e| Stop::of_file(e, Stop::Script))?;
-    edit_by(rt, words, map.as_slice(), script, answers, errors)
+    editing.edit_by(script, answers, errors)
 }
 
 /// Runs a script on a map as the words ask, and saves the map where the whole script was answered.

@@ -2,26 +2,13 @@
 //! a line, and the map goes to a file.
 #![tactic(auto)]
 
-mod asked;
-mod command_line;
-mod diagnostic;
 mod editing;
-mod ending;
-mod help;
-mod kept_script;
-mod listing;
-mod noted_answers;
-mod notes;
-mod stop;
 
-use asked::Words;
-use command_line::words;
+use edit_program::{Ending, Stop, Words, words};
 use editing::{edit, end};
-use ending::Ending;
 use std::env;
 use std::io::IsTerminal;
 use std::process::ExitCode;
-use stop::Stop;
 
 /// What the words that the program was called with ask for.
 fn words_given(rt: &HostRuntime) -> Result<Words, Stop> {

@@ -11,7 +11,7 @@ use Rattle.ring_machine.proofs.Members.{same_answer}
 use Rattle.segment_index.specs.Candidates.{SegmentSet, has, segment_is}
 use Rattle.segment_index.proofs.Singles.{same_segment, segment_total, segment_eq-is, contains_none}
 use Rattle.local_planarity.specs.declared.leaving.Leaving.TheVariants.{Nothing}
-use Rattle.local_planarity.specs.Edits.{IsFilled, IsHeld, AreApart, stays}
+use Rattle.local_planarity.specs.Edits.{IsFilled, IsHeld, AreApart}
 use Rattle.local_planarity.specs.Near.{IsNear}
 use Rattle.local_planarity.proofs.Least.{same_least_conflict, apart_if_none}
 use Rattle.local_planarity.proofs.Nearby.{stays_all}

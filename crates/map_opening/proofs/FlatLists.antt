@@ -3,6 +3,8 @@ use Rattle.std.proofs.Common.{◌≡◌, ◌≤◌, ◌+◌, ◌-◌, ℕ, refl,
 use Rattle.std.proofs.Common.{append-nil, append_assoc}
 use Rattle.std.specs.Prelude.{slice_range}
 use Rattle.std.specs.List.{sum}
+use Rattle.std.proofs.Math.ListN.{length-drop}
+use Rattle.std.proofs.Math.Seq.{length-take-le}
 use Rattle.std.proofs.lemmas.List.{length-append}
 use Rattle.std.proofs.lemmas.List.Folds.{drop_split}
 use Rattle.std.proofs.lemmas.List.Concat.{flat_map-append}
@@ -26,6 +28,11 @@ pub all_moved : {B : Type 0} (now left all : List B) → left ≡ [] → now ++ 
 all_moved now left all e h = sym (append-nil now) ∙ ap (λ z. now ++ z) (sym e) ∙ h
 
 -- ---- put into lists again
+
+pub length-part : (xs : List ℕ) (next count : ℕ) → next + count ≤ length xs
+    → length (slice_range xs next (next + count)) ≡ count
+length-part xs next count l =
+    length-take-le (next + count - next) (drop next xs) (omega (arith, l, length-drop next xs)) ∙ omega arith
 
 -- the next numbers are put into a list
 pub joined_next : (lists lists' : List (List ℕ)) (list numbers all : List ℕ) (next end : ℕ) → lists' ≡ lists ++ list ∷ []

@@ -23,9 +23,9 @@ fn move_rings<A: Allocator + Copy>(
     rings: &mut Vec<Vec<Pos, A>, A>,
 ) -> Result<Vec<usize, A>, AllocError>
     ensures rings { OnOk result (rings_seen rings.new.items
-        ≡ rings_seen rings.old.items ++ joined (polygons_seen polygons.entry.items)) }
+        ≡ rings_seen rings.old.items ++ joined (polygons_seen polygons.items)) }
     ensures counts { IfOk result
-        (λ counts. counts.items ≡ map length (polygons_seen polygons.entry.items)) }
+        (λ counts. counts.items ≡ map length (polygons_seen polygons.items)) }
 {
     let mut counts = Vec::new(alloc);
     for polygon in polygons {
@@ -41,7 +41,7 @@ pub fn flattened<A: Allocator + Copy>(
     alloc: A,
     features: Vec<Vec<Vec<Vec<Pos, A>, A>, A>, A>,
 ) -> Result<FlatRings<A>, AllocError>
-    ensures { IfOk result (λ flat. IsFlat (features_seen features.entry.items)
+    ensures { IfOk result (λ flat. IsFlat (features_seen features.items)
         (lists_seen flat.shape.items) (rings_seen flat.rings.items)) }
 {
     let mut rings = Vec::new(alloc);

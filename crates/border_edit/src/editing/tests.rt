@@ -1,6 +1,6 @@
 //! What the program reads of real files, and what FILE holds once it has ended.
-use super::{edit, edit_by, map_bytes};
-use crate::asked::Words;
+use super::{Editing, edit, map_bytes};
+use edit_program::Words;
 use std::alloc::{AllocError, Global};
 use std::fs::File;
 use std::io::{Error, ErrorKind, Result as IoResult, Write};
@@ -472,14 +472,12 @@ fn piped(rt: &HostRuntime, test: &impl Abort, folder: &str) -> Result<(), Fail> 
     let mut words = words(rt.alloc(), folder, ["squares.json", "-", "out.json"])?;
     words.refused = Some(path(rt.alloc(), folder, "list.txt")?);
     let mut errors: Vec<u8> = Vec::new(rt.alloc());
-    let ended = edit_by(
+    let editing = Editing {
         rt,
-        &words,
-        SQUARES.as_bytes(),
-        MIXED.as_bytes(),
-        unread(rt.alloc()),
-        &mut errors,
-    );
+        words: &words,
+        map: SQUARES.as_bytes(),
+    };
+    let ended = editing.edit_by(MIXED.as_bytes(), unread(rt.alloc()), &mut errors);
     assert_eq!(test; ended.ok(), Some(1));
     assert_eq!(test; errors.as_slice(), b"".as_slice());
     holds(rt, test, folder, "list.txt", LISTED)?;

@@ -1,5 +1,4 @@
-use Rattle.std.proofs.Common.{◌≡◌, Bool, sym, ap, ◌∙◌, length, arith}
-use Rattle.std.specs.FinSet as set
+use Rattle.std.proofs.Common.{◌≡◌, sym, ap, ◌∙◌, length, arith}
 use Rattle.std.specs.List.{list_any}
 use Rattle.grid_geometry.specs.Segment.{segment_eq}
 use Rattle.segment_index.specs.Times.{times_by}

@@ -1,10 +1,9 @@
-use Rattle.std.proofs.Common.{◌+◌, ◌++◌, ◌∷◌, [], ◌∙◌, sym, ap, ap₂, map, length, drop, arith}
+use Rattle.std.proofs.Common.{◌+◌, ◌≤◌, ◌++◌, ◌∷◌, [], ◌∙◌, sym, ap, ap₂, map, length, drop, slice_index_or, arith}
 use Rattle.std.specs.List.{sum}
-use Rattle.std.proofs.lemmas.List.{map_push, take_all}
-use Rattle.std.proofs.lemmas.List.Sums.{sum_by_more}
-use Rattle.ring_store.proofs.Pushed.{taken}
+use Rattle.std.proofs.lemmas.List.{map_push, take_all, take_more}
+use Rattle.std.proofs.lemmas.List.Sums.{sum_by_more, sum_by_more_le}
 use Rattle.map_opening.specs.Flat.{joined, lists_seen}
-use Rattle.map_opening.proofs.FlatLists.{joined_next}
+use Rattle.map_opening.proofs.FlatLists.{joined_next, length-part}
 use Rattle.map_opening.proofs.flat.next_lists.Goals as goal
 
 pub loop-count-init : goal.loop-count-init
@@ -16,15 +15,20 @@ loop-count-init g c = record {
 
 pub loop-count-preserved : goal.loop-count-preserved
 loop-count-preserved g c =
+    let counts = c.args.counts.now in
+    let at = c.loop-count.count-index in
+    let count = slice_index_or counts at 0 in
+    let within : c.loop-count.next + count ≤ length c.args.numbers.now
+    = omega (arith, c.requires, c.loop-count.invariant.next, sum_by_more_le (λ n. n) counts at 0 c.loop-count-test.true) in
     let list = c.in_ok-from_slice.field-0 in
     let pushed = ap lists_seen c.in_ok-push.ensures.items ∙ map_push (λ l. l.items) c.loop-count.lists.items list in
     record {
       lists = joined_next (lists_seen c.loop-count.lists.items) (lists_seen c.push.new.self.items) list.items c.args.numbers.now (drop c.args.next.now c.args.numbers.now)
-          c.loop-count.next (c.loop-count.next + c.count-item.result) pushed c.in_ok-from_slice.ensures.items (omega arith) c.loop-count.invariant.lists;
+          c.loop-count.next (c.loop-count.next + count) pushed c.in_ok-from_slice.ensures.items (omega arith) c.loop-count.invariant.lists;
       counts = ap (map length) pushed ∙ map_push length (lists_seen c.loop-count.lists.items) list.items
-          ∙ ap₂ (λ y z. y ++ z ∷ []) c.loop-count.invariant.counts (omega arith)
-          ∙ sym (taken c.args.counts.now c.loop-count.count-index c.count-item.result c.loop-count-test.true c.count-item.is);
-      next = omega (arith, c.loop-count.invariant.next, c.count-item.is, sum_by_more (λ n. n) c.args.counts.now c.loop-count.count-index c.count-item.result c.loop-count-test.true);
+          ∙ ap₂ (λ y z. y ++ z ∷ []) c.loop-count.invariant.counts (ap length c.in_ok-from_slice.ensures.items ∙ length-part c.args.numbers.now c.loop-count.next count within)
+          ∙ sym (take_more counts at 0 c.loop-count-test.true);
+      next = omega (arith, c.loop-count.invariant.next, sum_by_more (λ n. n) counts at 0 c.loop-count-test.true);
     }
 
 pub returns-clause-counts : goal.returns-clause-counts

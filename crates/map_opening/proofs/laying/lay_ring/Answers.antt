@@ -12,5 +12,5 @@ returns-clause-laid g c keyed h = record {
       c.in_ok-number.ensures.new c.in_ok-number.ensures.ok h.laid);
   filled = subst (IsFilled c.fill_ring.new.index.held c.fill_ring.new.first) (along_more c.args.opened.now.tables.vertices keyed c.args.keys.now)
       (c.in_ok-fill_ring.ensures.filled _ h.filled);
-  size = omega (arith, h.size, c.len.ensures, sum_by_push length keyed c.args.keys.now);
+  size = omega (arith, h.size, sum_by_push length keyed c.args.keys.now);
 }

@@ -1,0 +1,215 @@
+#!/usr/bin/env python3
+"""Makes the pictures of docs/pictures from the examples, and draws maps with hostile ids.
+
+The pictures are made by the built programs border_edit and border_show (`rt ci` leaves them); others
+can be named. Then `--maps N` maps with drawn ids are drawn too, alone and as what an edit did. Each
+picture has to be well-formed XML with whole numbers alone, in which each feature's title is what a
+model here makes of its id, and the same bytes again when it is drawn again. Damaged, deep and huge
+maps have to end with the fault that border_edit has for them, or, where it names a conflict, with a
+picture that names it. There is one line for each that is wrong; the status is 0 where none is.
+"""
+import argparse
+import json
+import os
+import pathlib
+import random
+import re
+import subprocess
+import sys
+import tempfile
+import xml.dom.minidom
+
+TOP = pathlib.Path(__file__).resolve().parent.parent
+EXAMPLES = TOP / "examples"
+PICTURES = TOP / "docs/pictures"
+
+# What is done to the examples, a picture each.
+SQUARES = """move 10 10 12 12
+split 0 "C" 0 0 12 12
+"""
+COLUMBUS = r"""move 532622 382902 545000 395000
+rename 5 "<five> & \"5\""
+merge 30 35
+delete 9
+"""
+
+# Pieces of ids: markup, what XML forbids, directions, other scripts, and halves of characters.
+PIECES = ["<", "&", ">", "\"", "'", "]]>", "<![CDATA[", "&lt;", "&#0;", "<!--", "-->", "?>", "</text>", "\0",
+          "\x01", "\x08", "\t", "\n", "\r", "\x0b", "\x1f", "\x7f", "\x85", "\u200f", "\u202e", "\u2066", "\u2028",
+          "\ufdd0", "\ufffe", "\uffff", "\ufffd", "\u05d0\u05d1", "\u0627\u0644", "e\u0301", "\U0001f600",
+          "\U0001ffff", "\U0010ffff", "\ud800", "\udfff", "\\u0041", "a", "Z", "0", " ", "\\"]
+
+# Values that are no string: they are shown as they stand.
+VALUES = ["0", "-12", "1.50", "1e9", "null", "true", "[]", "{\"<\":\"&\"}", "[1,[2,\"'\"]]"]
+
+# What XML 1.0 has no character for (2.2).
+FORBIDDEN = re.compile("[^\t\n\r\x20-\ud7ff\ue000-\ufffd\U00010000-\U0010ffff]")
+
+MOST_BYTES = 48
+
+
+def run(program, *words, status=0):
+    ran = subprocess.run([program, *map(str, words)], stdout=subprocess.PIPE, stderr=subprocess.PIPE, timeout=60)
+    if ran.returncode != status:
+        raise SystemExit(f"{program}: status {ran.returncode}, and not {status}: {ran.stderr.decode()}")
+
+
+def make_pictures(edit, show):
+    """The pictures of docs/pictures."""
+    PICTURES.mkdir(exist_ok=True)
+    with tempfile.TemporaryDirectory() as name:
+        folder = pathlib.Path(name)
+        for example, script in ("squares", SQUARES), ("columbus", COLUMBUS):
+            before, after = EXAMPLES / f"{example}.json", folder / f"{example}.json"
+            (folder / "script.txt").write_text(script)
+            run(edit, before, folder / "script.txt", "--out", after)
+            run(show, before, "--ids", "--out", PICTURES / f"{example}.svg")
+            run(show, before, after, "--ids", "--out", PICTURES / f"{example}_change.svg")
+        part = ["--at", 545000, 395000, 200000]
+        run(show, EXAMPLES / "columbus.json", folder / "columbus.json", *part, "--ids", "--out",
+            PICTURES / "columbus_part.svg")
+        crossed = (EXAMPLES / "squares.json").read_text().replace("[10,10]", "[-5,15]", 1)
+        crossed = crossed.replace("[[10,10],[0,10]", "[[-5,15],[0,10]").replace("[20,10],[10,10]", "[20,10],[-5,15]")
+        (folder / "crossed.json").write_text(crossed)
+        run(show, folder / "crossed.json", "--out", PICTURES / "conflict.svg")
+
+
+def drawn_id(draw):
+    """The text of an id as it stands in a map."""
+    if draw.random() < 0.1:
+        return draw.choice(VALUES)
+    text = "".join(draw.choice(PIECES) for _ in range(draw.randrange(40)))
+    return json.dumps(text, ensure_ascii=draw.random() < 0.5 or bool(re.search("[\ud800-\udfff]", text)))
+
+
+def shown(token):
+    """What is shown of an id, as a reader of XML gives it back."""
+    text = token
+    if token.startswith('"'):
+        text = json.loads(token)
+        if re.search("[\ud800-\udfff]", text):
+            text = token[1:-1]
+    bytes_ = text.encode()
+    if len(bytes_) > MOST_BYTES:
+        text = bytes_[:MOST_BYTES].decode(errors="ignore") + "\u2026"
+    return FORBIDDEN.sub("\ufffd", text)
+
+
+def drawn_map(draw, ids):
+    """The text of a map with a triangle for each id."""
+    arcs, features = [], []
+    for number, token in enumerate(ids):
+        x, y, size = draw.randrange(-50, 50), number * 40, draw.randrange(1, 30)
+        arcs.append([[x, y], [x + size, y], [x, y + size], [x, y]])
+        features.append('{"type":"Polygon","id":%s,"arcs":[[%d]]}' % (token, number))
+    body = '{"type":"GeometryCollection","geometries":[%s]}' % ",".join(features)
+    return '{"type":"Topology","objects":{"a":%s},"arcs":%s}' % (body, json.dumps(arcs))
+
+
+def is_whole(element):
+    """Whether all numbers in the attributes of an element and of those inside are whole."""
+    values = [element.getAttribute(name) for name in ("x", "y", "width", "height", "viewBox", "d", "cx", "cy", "r",
+                                                      "transform", "stroke-width", "stroke-dasharray")]
+    inside = [child for child in element.childNodes if child.nodeType == child.ELEMENT_NODE]
+    return not any(re.search(r"[.eE]", value.replace("scale", "").replace("translate", "")) for value in values) \
+        and all(map(is_whole, inside))
+
+
+def fault_of(bytes_, ids):
+    """What is wrong with a picture, or None."""
+    try:
+        root = xml.dom.minidom.parseString(bytes_).documentElement
+    except Exception as error:
+        return f"not well-formed: {error}"
+    if not is_whole(root):
+        return "a number is not whole"
+    titles = ["".join(node.data for node in title.childNodes) for title in root.getElementsByTagName("title")]
+    wanted = [shown(token) for token in ids]
+    return None if titles == wanted else f"titles {titles!r}, and not {wanted!r}"
+
+
+def draw_maps(show, count, seed):
+    """How many of so many drawn pictures are wrong."""
+    draw, wrong = random.Random(seed), 0
+    with tempfile.TemporaryDirectory() as name:
+        folder = pathlib.Path(name)
+        for number in range(count):
+            ids = [drawn_id(draw) for _ in range(draw.randrange(1, 6))]
+            (folder / "map.json").write_text(drawn_map(draw, ids), encoding="utf-8")
+            (folder / "before.json").write_text(drawn_map(draw, ids[1:]), encoding="utf-8")
+            maps = ["map.json"] if number % 2 else ["before.json", "map.json"]
+            bytes_ = []
+            for out in "one.svg", "two.svg":
+                run(show, *(folder / each for each in maps), "--ids", "--out", folder / out)
+                bytes_.append((folder / out).read_bytes())
+            fault = fault_of(bytes_[0], ids) or (None if bytes_[0] == bytes_[1] else "drawn again it differs")
+            if fault:
+                wrong += 1
+                print(f"map {number}: {fault}")
+    return wrong
+
+
+def hostile_maps(draw):
+    """Maps that are damaged, deep or huge, and one with a conflict."""
+    whole = (EXAMPLES / "squares.json").read_bytes()
+    yield b""
+    yield b"[" * 200
+    deep = b'{"type":"GeometryCollection","geometries":[' * 200 + b"]}" * 200
+    yield b'{"type":"Topology","objects":{"a":' + deep + b'},"arcs":[]}'
+    yield b" " * 67_108_865
+    yield whole + b" " * (67_108_864 - len(whole))
+    yield whole.replace(b"[10,10]", b"[-5,15]").replace(b"[0,10]", b"[25,5]")
+    for _ in range(200):
+        at = draw.randrange(len(whole))
+        yield whole[:at]
+        yield whole[:at] + bytes([draw.randrange(256)]) + whole[at + 1:]
+
+
+def ending(program, *words):
+    ran = subprocess.run([program, *map(str, words)], stdout=subprocess.PIPE, stderr=subprocess.PIPE, timeout=60)
+    return ran.returncode, ran.stderr.decode()
+
+
+def draw_hostile(edit, show, seed):
+    """How many of the hostile maps do not end as in the editor."""
+    wrong = 0
+    with tempfile.TemporaryDirectory() as name:
+        folder = pathlib.Path(name)
+        (folder / "none.txt").write_text("")
+        for number, bytes_ in enumerate(hostile_maps(random.Random(seed))):
+            (folder / "map.json").write_bytes(bytes_)
+            edited = ending(edit, folder / "map.json", folder / "none.txt", "--out", folder / "saved.json")
+            shown_ = ending(show, folder / "map.json", "--out", folder / "map.svg")
+            conflict = edited[1].startswith("open: conflict ")
+            if shown_ != ((0, "") if conflict else edited):
+                wrong += 1
+                print(f"hostile map {number}: {shown_}, and not {edited}")
+            elif conflict and edited[1][len("open: "):].strip() not in (folder / "map.svg").read_text():
+                wrong += 1
+                print(f"hostile map {number}: the conflict is not named")
+    return wrong
+
+
+def main():
+    words = argparse.ArgumentParser(description=__doc__.split("\n", 1)[0])
+    words.add_argument("--edit", default=str(TOP / "crates/border_edit/out/border_edit"))
+    words.add_argument("--show", default=str(TOP / "crates/border_show/out/border_show"))
+    words.add_argument("--maps", type=int, default=0, help="how many maps with hostile ids are drawn")
+    words.add_argument("--seed", type=int, default=1)
+    words.add_argument("--no-pictures", action="store_true", help="leaves docs/pictures as it is")
+    asked = words.parse_args()
+    edit, show = os.path.abspath(asked.edit), os.path.abspath(asked.show)
+    if not asked.no_pictures:
+        make_pictures(edit, show)
+    wrong = draw_maps(show, asked.maps, asked.seed) + (draw_hostile(edit, show, asked.seed) if asked.maps else 0)
+    for picture in sorted(PICTURES.glob("*.svg")) if not asked.no_pictures else []:
+        root = xml.dom.minidom.parse(str(picture)).documentElement
+        if not is_whole(root):
+            wrong += 1
+            print(f"{picture}: a number is not whole")
+    print(f"{asked.maps} drawn maps, {wrong} faults")
+    return 1 if wrong else 0
+
+
+if __name__ == "__main__":
+    sys.exit(main())

@@ -1,0 +1,5 @@
+pub mod Status
+pub mod Stops
+pub mod Endings
+pub mod Shown
+pub mod Conflicts

@@ -1,0 +1,32 @@
+//! The first two segments of a map that meet elsewhere than at their common ends.
+ghost use Rattle.std.specs.Prelude.{◌≡◌, IfOk};
+ghost use Rattle.topo_reader.specs.Document.{document_of, IsOfRings};
+ghost use Rattle.topo_reader.specs.DocumentView.{view_raw};
+ghost use Rattle.ring_machine.specs.Planar.{first_pair};
+ghost use Rattle.border_show.specs.Conflicts.{pair_of};
+
+use arc_store::{BuildFault, Map};
+use map_drawing::Conflict;
+use segment_index::TreeIndex;
+use std::alloc::{AllocError, Allocator};
+use topo_reader::RawDoc;
+
+/// The least pair of segments in conflict, which an editor tells where it does not open the map.
+pub(crate) fn first_conflict<A: Allocator + Copy>(
+    alloc: A,
+    map: RawDoc<'_, A>,
+) -> Result<Option<Conflict>, AllocError>
+    requires { IsOfRings (view_raw map) }
+    ensures { IfOk result (λ conflict. pair_of conflict
+        ≡ first_pair (document_of (view_raw map.entry))) }
+{
+    let index = TreeIndex::new(alloc, map.extent());
+    match Map::build(alloc, map, index) {
+        Ok(_) => Ok(None),
+        Err(BuildFault::Conflict { s, t }) => {
+            let (first, second) = (s, t);
+            Ok(Some(Conflict { first, second }))
+        }
+        Err(BuildFault::OutOfMemory) => Err(AllocError),
+    }
+}

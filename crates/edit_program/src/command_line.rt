@@ -1,0 +1,144 @@
+//! The words of the program.
+ghost use Rattle.std.specs.Prelude.{◌≡◌, ◌≢◌, ◌≤◌, ℕ, [], Some, map, codes, string_bytes, unwrap_or};
+ghost use Rattle.std.specs.Prelude.{option_map, IfOk, MatchBool, MatchOption};
+ghost use Rattle.clap.specs.Words.{app_of};
+ghost use Rattle.edit_program.specs.Asked.{program, text_of, flag_of, IsDepth, IsFlag};
+
+use crate::asked::Words;
+use crate::help::{ABOUT, LINES, VERSION};
+use clap::error::ErrorKind;
+use clap::{Arg, ArgAction, Command};
+use std::alloc::{AllocError, Global};
+
+/// How many changes can be taken back where the words say nothing of it.
+const DEPTH: usize = 100;
+
+/// The most changes that can be taken back.
+const MOST_DEPTH: usize = 1000;
+
+/// The program's words and their help.
+fn command<'a>(alloc: Global) -> Result<Command<'a>, clap::Error>
+    ensures { IfOk result (λ command. app_of command ≡ program) }
+{
+    let map = Arg::new(alloc, "MAP")
+        .help("The TopoJSON topology to open")
+        .required(true)
+        .action(ArgAction::Set);
+    let script = Arg::new(alloc, "SCRIPT")
+        .help("The script of editing commands, one a line; - is standard input")
+        .required(true)
+        .action(ArgAction::Set);
+    let out = Arg::new(alloc, "out")
+        .long("out")
+        .value_name("FILE")
+        .help("The file that the edited map is saved in")
+        .required(true)
+        .action(ArgAction::Set);
+    let undo = Arg::new(alloc, "undo")
+        .long("undo")
+        .value_name("N")
+        .help("How many changes can be taken back, from 1 to 1000; 100 if absent")
+        .action(ArgAction::Set);
+    let refused = Arg::new(alloc, "refused")
+        .long("refused")
+        .value_name("FILE2")
+        .help("The file that each refused or bad line is written in, with its number and answer")
+        .action(ArgAction::Set);
+    let progress = Arg::new(alloc, "progress")
+        .long("progress")
+        .help("Tell on standard error, where that is a terminal, what is begun")
+        .action(ArgAction::SetTrue);
+    let command = Command::new(alloc, "border_edit")
+        .about(ABOUT)
+        .version(VERSION)
+        .after_help(LINES)
+        .arg(map)?
+        .arg(script)?
+        .arg(out)?
+        .arg(undo)?
+        .arg(refused)?
+        .arg(progress)?;
+    Ok(command)
+}
+
+/// How many changes can be taken back, as the value of `--undo` says, or as is usual without one.
+fn depth_of(given: Option<&str>) -> Option<usize>
+    ensures { MatchOption result
+        ((n : ℕ) → ¬ IsDepth (option_map (λ text. text.now) given.entry) n)
+        (λ n. IsDepth (option_map (λ text. text.now) given.entry) n) }
+{
+    let Some(text) = given else {
+        return Some(DEPTH);
+    };
+    match text.parse::<usize>() {
+        Ok(depth) if 1 <= depth && depth <= MOST_DEPTH => Some(depth),
+        _ => None,
+    }
+}
+
+/// A copy of a text, where there is one.
+fn copied(alloc: Global, given: Option<&str>) -> Result<Option<String>, AllocError>
+    ensures { IfOk result (λ copy.
+        option_map string_bytes copy ≡ option_map (λ text. text.now) given.entry) }
+{
+    match given {
+        Some(text) => {
+            let copy = String::from_str(alloc, text)?;
+            Ok(Some(copy))
+        }
+        None => Ok(None),
+    }
+}
+
+/// Whether FILE2 is given, and is FILE: their paths are the same text.
+fn is_file(refused: Option<&str>, out: &str) -> bool
+    ensures { MatchBool result
+        (option_map (λ text. text.now) refused.entry ≡ Some out.now)
+        (option_map (λ text. text.now) refused.entry ≢ Some out.now) }
+{
+    match refused {
+        Some(path) => path == out,
+        None => false,
+    }
+}
+
+/// Reads the words, the program's name first. A request for help, or for the version, is an error
+/// here too, and so are words that name one path for FILE and FILE2.
+pub fn words(alloc: Global, given: &[String]) -> Result<Words, clap::Error>
+    ensures map { IfOk result (λ words. string_bytes words.map
+        ≡ unwrap_or (text_of (codes "MAP") (map string_bytes given.now)) []) }
+    ensures script { IfOk result (λ words. string_bytes words.script
+        ≡ unwrap_or (text_of (codes "SCRIPT") (map string_bytes given.now)) []) }
+    ensures out { IfOk result (λ words. string_bytes words.out
+        ≡ unwrap_or (text_of (codes "out") (map string_bytes given.now)) []) }
+    ensures depth { IfOk result (λ words.
+        IsDepth (text_of (codes "undo") (map string_bytes given.now)) words.depth) }
+    ensures refused { IfOk result (λ words. option_map string_bytes words.refused
+        ≡ text_of (codes "refused") (map string_bytes given.now)) }
+    ensures apart { IfOk result (λ words.
+        option_map string_bytes words.refused ≢ Some (string_bytes words.out)) }
+    ensures progress { IfOk result (λ words.
+        IsFlag (flag_of (codes "progress") (map string_bytes given.now)) words.progress) }
+{
+    let mut command = command(alloc)?;
+    let matches = command.try_get_matches_from_mut(given)?;
+    let Some(depth) = depth_of(matches.get_str("undo")) else {
+        let message = "--undo takes a whole number from 1 to 1000";
+        return Err(command.error(ErrorKind::ValueValidation, message)?);
+    };
+    // A parse gives MAP, SCRIPT and FILE, since they are required.
+    let out = matches.get_str("out").unwrap_or("");
+    let refused = matches.get_str("refused");
+    if is_file(refused, out) {
+        let message = "--out and --refused name the same file";
+        return Err(command.error(ErrorKind::ArgumentConflict, message)?);
+    }
+    Ok(Words {
+        map: String::from_str(alloc, matches.get_str("MAP").unwrap_or(""))?,
+        script: String::from_str(alloc, matches.get_str("SCRIPT").unwrap_or(""))?,
+        out: String::from_str(alloc, out)?,
+        depth,
+        refused: copied(alloc, refused)?,
+        progress: matches.get_flag("progress"),
+    })
+}

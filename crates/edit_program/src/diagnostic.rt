@@ -1,0 +1,86 @@
+//! The lines on standard error that say why the program ends.
+ghost use Rattle.std.specs.Prelude.{◌≡◌};
+ghost use Rattle.std.specs.IoError.{error_kind};
+
+use script_runner::RunFault;
+use std::fmt;
+use std::io::{Error, ErrorKind};
+use topo_outline::OpenFault;
+
+/// The line on standard error that says why the program ends.
+#[derive(Clone, Copy, Debug)]
+pub enum Diagnostic<'a> {
+    /// The map was not opened: `open: ` and its fault.
+    Open(&'a OpenFault<'a>),
+    /// MAP can't be read: `map fault`.
+    Map,
+    /// SCRIPT can't be opened or read: `script fault`.
+    Script,
+    /// The answers can't be written: `write fault`.
+    Write,
+    /// The map can't be saved, or FILE not be written: `save fault`.
+    Save,
+    /// The refused lines can't be written in FILE2: `refused fault`.
+    Refused,
+    /// A growth was refused: `out of memory`.
+    NoMemory,
+}
+
+impl<'a> Diagnostic<'a> {
+    ghost use Rattle.edit_program.specs.Endings.{Tells, unwritten_line, unsaved_line, unlisted_line};
+
+    /// The line that tells a fault of a run.
+    pub fn of_fault(fault: &'a RunFault<'a>) -> Diagnostic<'a>
+        ensures { Tells fault.now result }
+    {
+        match fault {
+            RunFault::Open(fault) => Diagnostic::Open(fault),
+            RunFault::Read => Diagnostic::Script,
+            RunFault::Write => Diagnostic::Write,
+            RunFault::Save => Diagnostic::Save,
+            RunFault::OutOfMemory => Diagnostic::NoMemory,
+        }
+    }
+
+    /// Why a file could not be written: a refused growth, or else what the file's own line says.
+    fn unwritten(error: Error, line: Diagnostic<'a>) -> Diagnostic<'a>
+        ensures { result ≡ unwritten_line (error_kind error) line.entry }
+    {
+        match error.kind() {
+            ErrorKind::OutOfMemory => Diagnostic::NoMemory,
+            _ => line,
+        }
+    }
+
+    /// Why FILE could not be written: a refused growth, or else FILE itself.
+    pub fn unsaved(error: Error) -> Diagnostic<'a>
+        ensures { result ≡ unsaved_line (error_kind error) }
+    {
+        Diagnostic::unwritten(error, Diagnostic::Save)
+    }
+
+    /// Why FILE2 could not be written: a refused growth, or else FILE2 itself.
+    pub fn unlisted(error: Error) -> Diagnostic<'a>
+        ensures { result ≡ unlisted_line (error_kind error) }
+    {
+        Diagnostic::unwritten(error, Diagnostic::Refused)
+    }
+}
+
+impl<'a> fmt::Display for Diagnostic<'a> {
+    ghost use Rattle.edit_program.specs.Endings.{line_text};
+
+    ghost output = { line_text };
+
+    fn fmt<W: fmt::Write>(&self, f: &mut fmt::Formatter<W>) -> fmt::Result {
+        match self {
+            Diagnostic::Open(fault) => write!(f, "open: {fault}"),
+            Diagnostic::Map => f.write_str("map fault"),
+            Diagnostic::Script => f.write_str("script fault"),
+            Diagnostic::Write => f.write_str("write fault"),
+            Diagnostic::Save => f.write_str("save fault"),
+            Diagnostic::Refused => f.write_str("refused fault"),
+            Diagnostic::NoMemory => f.write_str("out of memory"),
+        }
+    }
+}

@@ -1,0 +1,3 @@
+pub mod WithinLemmas
+pub mod MappedLists
+pub mod Quotients

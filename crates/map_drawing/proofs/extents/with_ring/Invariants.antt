@@ -1,0 +1,12 @@
+use Rattle.std.proofs.Common.{take}
+use Rattle.std.specs.List.{All}
+use Rattle.map_drawing.specs.Windows.{IsWithin}
+use Rattle.map_drawing.proofs.WithinLemmas.{Wider}
+use Rattle.map_drawing.proofs.extents.with_ring.Given as goal
+
+-- the bounds have the positions so far
+abbrev pub invariant-loop-pos : goal.invariant-loop-pos
+invariant-loop-pos l = record {
+  new : All (IsWithin l.bounds) (take l.pos-index l.ring);
+  kept : Wider l.fn.before l.bounds;
+}

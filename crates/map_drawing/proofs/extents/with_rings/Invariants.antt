@@ -1,0 +1,12 @@
+use Rattle.std.proofs.Common.{take}
+use Rattle.std.specs.List.{All}
+use Rattle.map_drawing.specs.Windows.{RingIn}
+use Rattle.map_drawing.proofs.WithinLemmas.{Wider}
+use Rattle.map_drawing.proofs.extents.with_rings.Given as goal
+
+-- the bounds have the rings so far
+abbrev pub invariant-loop-ring : goal.invariant-loop-ring
+invariant-loop-ring g l = record {
+  new : All (RingIn l.bounds) (take l.ring-index l.rings);
+  kept : Wider l.fn.before l.bounds;
+}

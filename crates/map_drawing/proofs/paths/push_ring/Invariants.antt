@@ -1,0 +1,9 @@
+use Rattle.std.proofs.Common.{◌≡◌, ◌++◌, take}
+use Rattle.std.specs.Prelude.{codes, flat_map}
+use Rattle.map_drawing.specs.Paths.{point_text}
+use Rattle.map_drawing.proofs.paths.push_ring.Given as goal
+
+-- the positions so far
+abbrev pub invariant-loop-pos : goal.invariant-loop-pos
+invariant-loop-pos g l =
+    l.text.items ≡ (l.fn.text.items ++ codes "M") ++ flat_map (point_text l.window) (take l.pos-index l.ring)

@@ -1,0 +1,12 @@
+use Rattle.std.proofs.Common.{take}
+use Rattle.std.specs.List.{All}
+use Rattle.map_drawing.specs.Shapes.{ShapeIn}
+use Rattle.map_drawing.proofs.WithinLemmas.{Wider}
+use Rattle.map_drawing.proofs.shapes.bounds_of.Given as goal
+
+-- the bounds have the features so far
+abbrev pub invariant-loop-shape : goal.invariant-loop-shape
+invariant-loop-shape g l = record {
+  new : All (ShapeIn l.bounds) (take l.shape-index l.shapes);
+  kept : Wider l.fn.before l.bounds;
+}

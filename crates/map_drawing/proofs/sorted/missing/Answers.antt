@@ -1,0 +1,16 @@
+use Rattle.std.proofs.Common.{◌++◌, ◌∷◌, [], ap, ap₂, ◌∙◌, sym}
+use Rattle.std.specs.Prelude.{not}
+use Rattle.std.specs.List.{list_any}
+use Rattle.std.proofs.lemmas.List.{take_all}
+use Rattle.map_drawing.specs.Missing.{missing_flags}
+use Rattle.map_drawing.proofs.MappedLists.{one_more}
+use Rattle.map_drawing.proofs.sorted.missing.Goals as goal
+
+pub loop-x-preserved : goal.loop-x-preserved
+loop-x-preserved g c =
+    c.in_ok-push.ensures.items ∙ ap₂ (λ fs b. fs ++ not b ∷ []) c.loop-x.invariant c.has_sorted.ensures
+    ∙ sym (one_more (λ x. not (list_any (λ y. g.T.PartialEq.eq y x) c.args.others.now)) c.args.these.now c.loop-x.x-index c.x-item.result c.loop-x-test.true c.x-item.is)
+
+pub returns : goal.returns
+returns g c =
+    c.loop-x.invariant ∙ ap (missing_flags g.T.PartialEq.eq c.args.others.now) (take_all c.loop-x.x-index c.args.these.now c.loop-x-test.false)

@@ -1,0 +1,9 @@
+-- Twice the area of polygons, as the answer to `area` is.
+use Rattle.std.specs.Prelude.{ℤ, pos, ◌+ℤ◌, List}
+use Rattle.std.specs.List.{fold}
+use Rattle.grid_geometry.specs.Position.{Position}
+use Rattle.ring_machine.specs.Query.{polygon_area}
+
+abbrev pub polygons_area : List (List (List Position)) → ℤ
+polygons_area polygons =
+    fold (λ so_far polygon. so_far +ℤ polygon_area polygon) (pos 0) polygons

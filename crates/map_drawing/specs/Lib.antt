@@ -1,0 +1,5 @@
+pub mod Windows
+pub mod Paths
+pub mod Missing
+pub mod Areas
+pub mod Shapes

@@ -1,0 +1,85 @@
+// The least and the greatest coordinates.
+ghost use Rattle.std.specs.Prelude.{◌≡◌, ◌≤◌, ◌≤ℤ◌, unsigned_abs};
+
+use grid_geometry::Pos;
+
+/// The least and the greatest coordinates of some positions.
+#[derive(Clone, Copy, Debug, PartialEq, Eq)]
+pub struct Bounds {
+    /// The least x.
+    pub x0: i64,
+    /// The least y.
+    pub y0: i64,
+    /// The greatest x.
+    pub x1: i64,
+    /// The greatest y.
+    pub y1: i64,
+    pub ghost left: { unsigned_abs x0 ≤ 1000000000000 },
+    pub ghost lower: { unsigned_abs y0 ≤ 1000000000000 },
+    pub ghost right: { unsigned_abs x1 ≤ 1000000000000 },
+    pub ghost upper: { unsigned_abs y1 ≤ 1000000000000 },
+    pub ghost across: { x0 ≤ℤ x1 },
+    pub ghost upward: { y0 ≤ℤ y1 },
+}
+
+/// The lesser of two coordinates.
+fn lesser(a: i64, b: i64) -> i64
+    requires first { unsigned_abs a ≤ 1000000000000 }
+    requires second { unsigned_abs b ≤ 1000000000000 }
+    ensures low { (result ≤ℤ a) × (result ≤ℤ b) }
+    ensures range { unsigned_abs result ≤ 1000000000000 }
+{
+    if a < b { a } else { b }
+}
+
+/// The greater of two coordinates.
+fn greater(a: i64, b: i64) -> i64
+    requires first { unsigned_abs a ≤ 1000000000000 }
+    requires second { unsigned_abs b ≤ 1000000000000 }
+    ensures high { (a ≤ℤ result) × (b ≤ℤ result) }
+    ensures range { unsigned_abs result ≤ 1000000000000 }
+{
+    if a < b { b } else { a }
+}
+
+impl Bounds {
+    ghost use Rattle.map_drawing.specs.Windows.{Includes};
+
+    /// Those of one position.
+    pub fn of(pos: Pos) -> Bounds
+        ensures { Includes result pos }
+    {
+        Bounds {
+            x0: pos.x(),
+            y0: pos.y(),
+            x1: pos.x(),
+            y1: pos.y(),
+        }
+    }
+
+    /// Those of a position more.
+    pub fn with(self, pos: Pos) -> Bounds
+        ensures new { Includes result pos }
+        ensures least { (result.x0 ≤ℤ self.x0) × (result.y0 ≤ℤ self.y0) }
+        ensures most { (self.x1 ≤ℤ result.x1) × (self.y1 ≤ℤ result.y1) }
+    {
+        Bounds {
+            x0: lesser(self.x0, pos.x()),
+            y0: lesser(self.y0, pos.y()),
+            x1: greater(self.x1, pos.x()),
+            y1: greater(self.y1, pos.y()),
+        }
+    }
+
+    /// The position in their middle.
+    pub(crate) fn middle(&self) -> Option<Pos> {
+        self.middle_with(self)
+    }
+
+    /// The position in the middle of what they have in common with others.
+    pub(crate) fn middle_with(&self, others: &Bounds) -> Option<Pos> {
+        let x = greater(self.x0, others.x0) + lesser(self.x1, others.x1);
+        let y = greater(self.y0, others.y0) + lesser(self.y1, others.y1);
+        Pos::new(x / 2, y / 2)
+    }
+}

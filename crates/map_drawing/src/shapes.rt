@@ -1,0 +1,103 @@
+// The features of a map, as they are drawn.
+ghost use Rattle.std.specs.List.{All};
+ghost use Rattle.grid_geometry.specs.Position.{Position};
+ghost use Rattle.map_drawing.specs.Windows.{IsWithin, AreWithin};
+ghost use Rattle.map_drawing.specs.Shapes.{ShapeIn};
+
+use crate::bounds::Bounds;
+use crate::extents::with_polygons;
+use crate::window::Window;
+use grid_geometry::Pos;
+use std::alloc::{AllocError, Allocator};
+use topo_outline::Item;
+use topo_reader::RawDoc;
+
+/// What is drawn of a map, and how.
+#[derive(Clone, Copy, Debug)]
+pub struct View {
+    /// The part that is drawn; all of it where there is none.
+    pub part: Option<Window>,
+    /// Whether ids are written in the features.
+    pub has_ids: bool,
+}
+
+/// A feature as it is drawn.
+#[derive_where(Clone, Copy)]
+pub(crate) struct Shape<'r, A: Allocator + Copy> {
+    /// Its number, in the order of the text.
+    pub(crate) number: usize,
+    /// The text of its `id`.
+    pub(crate) id: Option<&'r [u8]>,
+    /// Its polygons.
+    pub(crate) polygons: &'r [Vec<Vec<Pos, A>, A>],
+}
+
+/// What two features are compared by: their ids, and then their rings.
+pub(crate) type Key<'r, A> = (Option<&'r [u8]>, &'r [Vec<Vec<Pos, A>, A>]);
+
+impl<'r, A: Allocator + Copy> Shape<'r, A> {
+    /// What it is compared by.
+    pub(crate) fn key(&self) -> Key<'r, A> {
+        (self.id, self.polygons)
+    }
+
+    /// A position in the middle of its bounds.
+    pub(crate) fn middle(&self) -> Option<Pos> {
+        self.bounds()?.middle()
+    }
+
+    /// The least and the greatest coordinates of its rings.
+    pub(crate) fn bounds(&self) -> Option<Bounds>
+        ensures { AreWithin result self.now.polygons.now }
+    {
+        with_polygons(None, self.polygons)
+    }
+}
+
+/// Appends the features among the items of a layer.
+fn push_leaves<'r, A: Allocator + Copy>(
+    shapes: &mut Vec<Shape<'r, A>, A>,
+    items: &'r [Item<'_, A>],
+    polygons: &'r [Vec<Vec<Vec<Pos, A>, A>, A>],
+) -> Result<(), AllocError> {
+    for item in items {
+        let number = shapes.len();
+        if let Item::Leaf(feature) = item
+            && let Some(polygons) = polygons.get(number)
+        {
+            shapes.push(Shape {
+                number,
+                id: feature.head.id,
+                polygons: polygons.as_slice(),
+            })?;
+        }
+    }
+    Ok(())
+}
+
+/// The features of a map in the order of its text.
+pub(crate) fn shapes<'r, A: Allocator + Copy>(
+    alloc: A,
+    map: &'r RawDoc<'_, A>,
+) -> Result<Vec<Shape<'r, A>, A>, AllocError> {
+    let mut shapes = Vec::new(alloc);
+    for layer in &map.layers {
+        push_leaves(&mut shapes, layer.items.as_slice(), map.polygons.as_slice())?;
+    }
+    Ok(shapes)
+}
+
+/// The least and the greatest coordinates of features.
+pub(crate) fn bounds_of<A: Allocator + Copy>(
+    before: Option<Bounds>,
+    shapes: &[Shape<'_, A>],
+) -> Option<Bounds>
+    ensures new { All (ShapeIn result) shapes.now }
+    ensures kept { (p : Position) → IsWithin before p → IsWithin result p }
+{
+    let mut bounds = before;
+    for shape in shapes {
+        bounds = with_polygons(bounds, shape.polygons);
+    }
+    bounds
+}

@@ -1,0 +1,26 @@
+// How things look. The two colours of an edit are told apart by the colour-blind too, and what is gone
+// is dashed besides.
+
+/// What both kinds of picture have, before anything is drawn.
+const COMMON: &str = "<style>
+path{fill:#f6f6f2;stroke:#555;fill-rule:evenodd;stroke-linejoin:round}
+path.kept{stroke:#bbb}
+path.changed{fill:#fae8a0;stroke:#bbb}
+path.gone,path.conflict{fill:none;stroke:#d55e00}
+path.new{fill:none;stroke:#0072b2}
+.narrow path{vector-effect:non-scaling-stroke}
+circle{fill:none;stroke:#d55e00;stroke-width:2}
+text{font-family:sans-serif;font-size:13px;fill:#222}
+text.name{font-size:11px;text-anchor:middle;paint-order:stroke;stroke:#fff;stroke-width:3px}
+text.number{text-anchor:end}
+text.head{font-weight:bold}
+text.gone{fill:#a84a00}
+text.new{fill:#005a8c}
+</style>
+<rect width=\"100%\" height=\"100%\" fill=\"#fff\"/>
+";
+
+/// What stands before all that is drawn.
+pub(crate) fn prelude() -> &'static str {
+    COMMON
+}

@@ -1,0 +1,135 @@
+// The part of the grid that is drawn.
+ghost use Rattle.std.specs.Prelude.{◌≡◌, ◌≤◌, ◌≤ℤ◌, ◌-ℤ◌, ◌+ℤ◌, ◌↔◌, pos, unsigned_abs, int_le, ◌&&◌, IsTrue};
+
+use crate::bounds::Bounds;
+use crate::quotients::quotient;
+use grid_geometry::Pos;
+
+/// The part of the grid that is drawn: from its least corner so many units across and up.
+#[derive(Clone, Copy, Debug, PartialEq, Eq)]
+pub struct Window {
+    /// Its least x.
+    pub x: i64,
+    /// Its least y.
+    pub y: i64,
+    /// How wide it is.
+    pub width: i64,
+    /// How high it is.
+    pub height: i64,
+    pub ghost left: { unsigned_abs x ≤ 4000000000000 },
+    pub ghost lower: { unsigned_abs y ≤ 4000000000000 },
+    pub ghost across: { (pos 1 ≤ℤ width) × (width ≤ℤ pos 4000000000000) },
+    pub ghost upward: { (pos 1 ≤ℤ height) × (height ≤ℤ pos 4000000000000) },
+}
+
+/// A fortieth of so many units, and one more.
+fn fortieth(extent: i64) -> i64
+    requires least { pos 0 ≤ℤ extent }
+    requires most { extent ≤ℤ pos 2000000000000 }
+    ensures { (pos 1 ≤ℤ result) × (result ≤ℤ pos 100000000000) }
+{
+    quotient(extent, 40) + 1
+}
+
+/// The margin beside what is so many units wide and high.
+fn margin(across: i64, upward: i64) -> i64
+    requires across { (pos 0 ≤ℤ across) × (across ≤ℤ pos 2000000000000) }
+    requires upward { (pos 0 ≤ℤ upward) × (upward ≤ℤ pos 2000000000000) }
+    ensures { (pos 1 ≤ℤ result) × (result ≤ℤ pos 100000000000) }
+{
+    if across < upward {
+        fortieth(upward)
+    } else {
+        fortieth(across)
+    }
+}
+
+impl Window {
+    ghost use Rattle.grid_geometry.specs.Position.{Position};
+    ghost use Rattle.map_drawing.specs.Windows.{IsShown, IsWithin};
+
+    /// All of these bounds, with a margin.
+    pub fn around(bounds: Bounds) -> Window
+        ensures left { result.x ≤ℤ bounds.x0 }
+        ensures right { bounds.x1 ≤ℤ (result.x +ℤ result.width) }
+        ensures lower { result.y ≤ℤ bounds.y0 }
+        ensures upper { bounds.y1 ≤ℤ (result.y +ℤ result.height) }
+    {
+        let across = bounds.x1 - bounds.x0;
+        let upward = bounds.y1 - bounds.y0;
+        let margin = margin(across, upward);
+        Window {
+            x: bounds.x0 - margin,
+            y: bounds.y0 - margin,
+            width: across + 2 * margin,
+            height: upward + 2 * margin,
+        }
+    }
+
+    /// All of these bounds, with a margin; a unit where there are none.
+    pub(crate) fn of(bounds: Option<Bounds>) -> Window
+        ensures { (p : Position) → IsWithin bounds p → IsShown result p }
+    {
+        match bounds {
+            Some(bounds) => Window::around(bounds),
+            None => Window {
+                x: 0,
+                y: 0,
+                width: 1,
+                height: 1,
+            },
+        }
+    }
+
+    /// A square of this width about a position.
+    pub fn about(middle: Pos, width: i64) -> Window
+        requires least { pos 1 ≤ℤ width }
+        requires most { width ≤ℤ pos 4000000000000 }
+        ensures across { result.width ≡ width }
+        ensures upward { result.height ≡ width }
+    {
+        Window {
+            x: middle.x() - quotient(width, 2),
+            y: middle.y() - quotient(width, 2),
+            width,
+            height: width,
+        }
+    }
+
+    /// Whether bounds have a common point with it.
+    pub(crate) fn meets(&self, bounds: &Bounds) -> bool
+        ensures { result ≡ ((int_le self.now.x bounds.now.x1
+            && int_le bounds.now.x0 (self.now.x +ℤ self.now.width))
+            && (int_le self.now.y bounds.now.y1
+            && int_le bounds.now.y0 (self.now.y +ℤ self.now.height))) }
+    {
+        let across = self.x <= bounds.x1 && bounds.x0 <= self.x + self.width;
+        let upward = self.y <= bounds.y1 && bounds.y0 <= self.y + self.height;
+        across && upward
+    }
+
+    /// How far a position is to the right of its least corner.
+    pub(crate) fn right(&self, pos: Pos) -> i64
+        ensures value { result ≡ pos.x -ℤ self.now.x }
+        ensures bound { unsigned_abs result ≤ 5000000000000 }
+    {
+        pos.x() - self.x
+    }
+
+    /// How far a position is above its least corner.
+    pub(crate) fn up(&self, pos: Pos) -> i64
+        ensures value { result ≡ pos.y -ℤ self.now.y }
+        ensures bound { unsigned_abs result ≤ 5000000000000 }
+    {
+        pos.y() - self.y
+    }
+
+    /// Whether a position is in it.
+    pub(crate) fn has(&self, pos: Pos) -> bool
+        ensures { IsTrue result ↔ IsShown self.now pos }
+    {
+        let across = self.right(pos);
+        let upward = self.up(pos);
+        0 <= across && across <= self.width && 0 <= upward && upward <= self.height
+    }
+}

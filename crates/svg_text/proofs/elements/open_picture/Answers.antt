@@ -1,0 +1,20 @@
+use Rattle.std.specs.Prelude.{codes}
+use Rattle.svg_text.specs.Numbers.{attribute_text}
+use Rattle.svg_text.specs.Elements.{box_text}
+use Rattle.svg_text.proofs.Appending.{five, whole, both_whole}
+use Rattle.svg_text.proofs.elements.open_picture.Goals as goal
+
+pub returns : goal.returns
+returns g c =
+    let begun = c.extend_from_slice.new.self.items in
+    let wide = c.push_attribute.new.text.items in
+    let high = c.push_attribute-2.new.text.items in
+    let boxed = c.push_box.new.text.items in
+    five c.args.text.now.items (codes "<svg xmlns=\"http://www.w3.org/2000/svg\"") (attribute_text (codes "width") c.args.width)
+    (attribute_text (codes "height") c.args.height) (box_text c.args.width c.args.height) (codes ">\n")
+    begun wide high boxed c.extend_from_slice-2.new.self.items
+    c.in_ok-extend_from_slice.ensures.items
+    (whole (attribute_text (codes "width")) begun wide c.args.width c.ranges.width c.in_ok-push_attribute.ensures)
+    (whole (attribute_text (codes "height")) wide high c.args.height c.ranges.height c.in_ok-push_attribute-2.ensures)
+    (both_whole box_text high boxed c.args.width c.args.height c.ranges.width c.ranges.height c.in_ok-push_box.ensures)
+    c.in_ok-extend_from_slice-2.ensures.items

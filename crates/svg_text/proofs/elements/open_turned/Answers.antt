@@ -1,0 +1,13 @@
+use Rattle.std.specs.Prelude.{codes}
+use Rattle.std.specs.Fmt.{signed_decimal}
+use Rattle.svg_text.proofs.Appending.{three, whole}
+use Rattle.svg_text.proofs.elements.open_turned.Goals as goal
+
+pub returns : goal.returns
+returns g c =
+    let begun = c.extend_from_slice.new.self.items in
+    let moved = c.push_number.new.text.items in
+    three c.args.text.now.items (codes "<g transform=\"translate(0 ") (signed_decimal c.args.height) (codes ") scale(1 -1)\">\n") begun moved c.extend_from_slice-2.new.self.items
+    c.in_ok-extend_from_slice.ensures.items
+    (whole signed_decimal begun moved c.args.height c.ranges.height c.in_ok-push_number.ensures)
+    c.in_ok-extend_from_slice-2.ensures.items

@@ -1,0 +1,9 @@
+use Rattle.std.proofs.Common.{◌≡◌, ◌++◌, drop}
+use Rattle.svg_text.specs.Escaping.{escaped, escaped_from}
+use Rattle.svg_text.proofs.escaping.push_escaped.Given as goal
+
+-- what was appended so far, and what the bytes that are left become, are the whole
+abbrev pub invariant-loop-byte : goal.invariant-loop-byte
+invariant-loop-byte g l =
+    l.text.items ++ escaped_from l.first l.second (drop l.byte-index l.bytes)
+    ≡ l.fn.text.items ++ escaped l.bytes

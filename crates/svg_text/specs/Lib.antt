@@ -1,0 +1,3 @@
+pub mod Escaping
+pub mod Numbers
+pub mod Elements

@@ -1,0 +1,16 @@
+//! The text of an SVG picture: whole numbers, escaped text and the few elements of a drawing,
+//! appended to bytes.
+//!
+//! Each function appends a text that its contract names, or fails where a growth is refused, and
+//! then nothing is said of the bytes.
+#![tactic(auto)]
+
+mod elements;
+mod escaping;
+mod numbers;
+
+pub use elements::{
+    Place, close_group, close_picture, open_picture, open_turned, open_view, push_words,
+};
+pub use escaping::push_escaped;
+pub use numbers::{push_attribute, push_number, push_pair};
