@@ -1,3 +1,3 @@
 pub mod WithinLemmas
 pub mod MappedLists
-pub mod Quotients
+pub mod QuotientLemmas
