@@ -70,15 +70,15 @@ impl Window {
     pub(crate) fn of(bounds: Option<Bounds>) -> Window
         ensures { (p : Position) → IsWithin bounds p → IsShown result p }
     {
-        match bounds {
-            Some(bounds) => Window::around(bounds),
-            None => Window {
+        let Some(bounds) = bounds else {
+            return Window {
                 x: 0,
                 y: 0,
                 width: 1,
                 height: 1,
-            },
-        }
+            };
+        };
+        Window::around(bounds)
     }
 
     /// A square of this width about a position.

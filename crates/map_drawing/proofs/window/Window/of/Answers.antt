@@ -1,8 +1,9 @@
-use Rattle.std.proofs.Common.{subst, sym}
+use Rattle.std.proofs.Common.{subst}
 use Rattle.map_drawing.specs.Windows.{IsWithin}
 use Rattle.map_drawing.proofs.WithinLemmas.{shown_around}
 use Rattle.map_drawing.proofs.window.Window.of.Goals as goal
-use Rattle.map_drawing.proofs.window.Window.of.Goals.{in-Some, in-None}
 
 pub returns : goal.returns
-returns c = λ p h. elim c.match-bounds.branch [ in-Some w ↦ ? | in-None w ↦ absurd (subst (λ o. IsWithin o p) w.in-None.is h) ]
+returns c = λ p h.
+    shown_around c.in-Some.bounds c.around.result p c.around.ensures.left c.around.ensures.right c.around.ensures.lower c.around.ensures.upper
+    (subst (λ o. IsWithin o p) c.in-Some.is h)
