@@ -8,12 +8,12 @@ invariant_of-result c = record {
   left = omega (arith, ints, c.args.bounds.left, c.margin-margin.ensures.0, c.margin-margin.ensures.1);
   lower = omega (arith, ints, c.args.bounds.lower, c.margin-margin.ensures.0, c.margin-margin.ensures.1);
   across = (
-      omega (arith, ints, c.args.bounds.left, c.args.bounds.right, c.args.bounds.across, c.margin-margin.ensures.0, c.margin-margin.ensures.1),
-      omega (arith, ints, c.args.bounds.left, c.args.bounds.right, c.args.bounds.across, c.margin-margin.ensures.0, c.margin-margin.ensures.1)
+    omega (arith, ints, c.args.bounds.left, c.args.bounds.right, c.args.bounds.across, c.margin-margin.ensures.0, c.margin-margin.ensures.1),
+    omega (arith, ints, c.args.bounds.left, c.args.bounds.right, c.args.bounds.across, c.margin-margin.ensures.0, c.margin-margin.ensures.1),
   );
   upward = (
-      omega (arith, ints, c.args.bounds.lower, c.args.bounds.upper, c.args.bounds.upward, c.margin-margin.ensures.0, c.margin-margin.ensures.1),
-      omega (arith, ints, c.args.bounds.lower, c.args.bounds.upper, c.args.bounds.upward, c.margin-margin.ensures.0, c.margin-margin.ensures.1)
+    omega (arith, ints, c.args.bounds.lower, c.args.bounds.upper, c.args.bounds.upward, c.margin-margin.ensures.0, c.margin-margin.ensures.1),
+    omega (arith, ints, c.args.bounds.lower, c.args.bounds.upper, c.args.bounds.upward, c.margin-margin.ensures.0, c.margin-margin.ensures.1),
   );
 }
 
