@@ -90,11 +90,11 @@ fn push_changed_borders<A: Allocator + Copy>(
 /// A feature is changed where the other map has none with the same `id` and the same rings. `heap`
 /// holds decoded ids; `alloc` all else. An error says that a growth was refused, and then nothing is
 /// said of the text.
-pub fn draw_change<'m, A: Allocator + Copy>(
+pub fn draw_change<'m, 'a, A: Allocator + Copy>(
     alloc: A,
     heap: Global,
-    before: &'m RawDoc<'m, A>,
-    after: &'m RawDoc<'m, A>,
+    before: &'m RawDoc<'a, A>,
+    after: &'m RawDoc<'a, A>,
     view: View,
     conflict: Option<Conflict>,
     text: &mut Vec<u8, A>,
