@@ -1,3 +1,4 @@
 pub mod WithinLemmas
 pub mod MappedLists
-pub mod Quotients
+pub mod QuotientLemmas
+pub mod WindowLemmas

@@ -35,6 +35,15 @@ polygons_stay old new w ps h = all_so (RingsIn old) (RingsIn new) (rings_stay ol
 pub shape_stays : {A : Type 0} (old new : Option Bounds) → Wider old new → (s : Shape A) → ShapeIn old s → ShapeIn new s
 shape_stays old new w s h = polygons_stay old new w s.polygons.now h
 
+-- bounds that are no narrower have what others have
+pub included_in : (b w : Bounds) (p : Position) → (w.x0 ≤ℤ b.x0) × (w.y0 ≤ℤ b.y0) → (b.x1 ≤ℤ w.x1) × (b.y1 ≤ℤ w.y1) → Includes b p → Includes w p
+included_in b w p least most i = record {
+  left = omega (arith, ints, least.0, i.left);
+  right = omega (arith, ints, most.0, i.right);
+  lower = omega (arith, ints, least.1, i.lower);
+  upper = omega (arith, ints, most.1, i.upper);
+}
+
 -- a window about bounds shows what they have
 pub shown_around : (b : Bounds) (w : Window) (p : Position) → w.x ≤ℤ b.x0 → b.x1 ≤ℤ (w.x +ℤ w.width) → w.y ≤ℤ b.y0 → b.y1 ≤ℤ (w.y +ℤ w.height)
     → Includes b p → IsShown w p

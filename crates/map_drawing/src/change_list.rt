@@ -3,7 +3,7 @@ ghost use Rattle.std.specs.Prelude.{◌≤◌, ◌≤ℤ◌, pos};
 
 use crate::areas::area;
 use crate::changes::Change;
-use crate::map_picture::ROW;
+use crate::layout::ROW;
 use crate::marks::push_count;
 use crate::names::name;
 use crate::shapes::Shape;

@@ -2,9 +2,9 @@
 use crate::bounds::Bounds;
 use crate::change_list::{push_list, rows_of};
 use crate::changes::{changed, changes};
-use crate::layout::{Layout, MARGIN, WIDTH};
-use crate::map_picture::{Look, ROW, close_map, open_map, push_names, push_shape, window_of};
-use crate::marks::{Conflict, Lines, open_lines, push_circle, push_conflict, push_fault};
+use crate::layout::{Layout, MARGIN, ROW, WIDTH};
+use crate::map_picture::{Look, close_map, open_map, push_notes, push_shape, window_of};
+use crate::marks::{Conflict, Lines, open_lines, push_conflict};
 use crate::paths::push_segment;
 use crate::segments::segments;
 use crate::shapes::{Shape, View, bounds_of, shapes};
@@ -90,11 +90,11 @@ fn push_changed_borders<A: Allocator + Copy>(
 /// A feature is changed where the other map has none with the same `id` and the same rings. `heap`
 /// holds decoded ids; `alloc` all else. An error says that a growth was refused, and then nothing is
 /// said of the text.
-pub fn draw_change<'m, A: Allocator + Copy>(
+pub fn draw_change<'m, 'a, A: Allocator + Copy>(
     alloc: A,
     heap: Global,
-    before: &'m RawDoc<'m, A>,
-    after: &'m RawDoc<'m, A>,
+    before: &'m RawDoc<'a, A>,
+    after: &'m RawDoc<'a, A>,
     view: View,
     conflict: Option<Conflict>,
     text: &mut Vec<u8, A>,
@@ -106,12 +106,8 @@ pub fn draw_change<'m, A: Allocator + Copy>(
     let made = changed(alloc, new, old)?;
     let list = changes(alloc, old, gone.as_slice(), new, made.as_slice())?;
     let layout = Layout::new(window_of(view, bounds_of(bounds_of(None, old), new)));
-    let bottom = layout.bottom() + ROW;
-    open_picture(
-        text,
-        WIDTH,
-        bottom + ROW * (rows_of(list.len()) + 1) + MARGIN,
-    )?;
+    let height = layout.first_line() + ROW * (rows_of(list.len()) + 1) + MARGIN;
+    open_picture(text, WIDTH, height)?;
     text.extend_from_slice(prelude().as_bytes())?;
     open_map(text, &layout)?;
     push_shapes(alloc, heap, text, &layout.window, new, made.as_slice())?;
@@ -120,13 +116,15 @@ pub fn draw_change<'m, A: Allocator + Copy>(
         push_conflict(text, &layout, conflict)?;
     }
     close_map(text)?;
-    if view.has_ids {
-        push_names(alloc, heap, text, &layout, new)?;
-    }
-    if let Some(conflict) = &conflict {
-        push_circle(text, &layout, conflict)?;
-        push_fault(alloc, text, bottom, conflict)?;
-    }
-    push_list(alloc, heap, text, bottom + ROW, list.as_slice())?;
+    push_notes(
+        alloc,
+        heap,
+        text,
+        &layout,
+        new,
+        view.has_ids,
+        conflict.as_ref(),
+    )?;
+    push_list(alloc, heap, text, layout.second_line(), list.as_slice())?;
     close_picture(text)
 }

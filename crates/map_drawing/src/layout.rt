@@ -12,6 +12,9 @@ pub(crate) const WIDTH: i64 = 1000;
 /// How far all is from the sides of the picture.
 pub(crate) const MARGIN: i64 = 20;
 
+/// How far a line of words is from the one above it.
+pub(crate) const ROW: i64 = 20;
+
 /// How wide a window may be in the picture.
 const MOST_ACROSS: i64 = 960;
 
@@ -121,9 +124,23 @@ impl Layout {
     }
 
     /// How far from the top of the picture its lower side is.
-    pub(crate) fn bottom(&self) -> i64
+    fn bottom(&self) -> i64
         ensures { (pos 0 ≤ℤ result) × (result ≤ℤ pos 2000) }
     {
         self.place.y + self.place.height
+    }
+
+    /// How far from the top of the picture the first line of words below it is.
+    pub(crate) fn first_line(&self) -> i64
+        ensures { (pos 0 ≤ℤ result) × (result ≤ℤ pos 2020) }
+    {
+        self.bottom() + ROW
+    }
+
+    /// How far from the top of the picture the second line of words below it is.
+    pub(crate) fn second_line(&self) -> i64
+        ensures { (pos 0 ≤ℤ result) × (result ≤ℤ pos 2040) }
+    {
+        self.first_line() + ROW
     }
 }

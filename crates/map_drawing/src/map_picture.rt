@@ -40,9 +40,6 @@ impl Look {
     }
 }
 
-/// How far a line of words is from the one above it.
-pub(crate) const ROW: i64 = 20;
-
 /// The part that a view shows: what it asks for, else all, and of a map with no ring a unit.
 pub(crate) fn window_of(view: View, bounds: Option<Bounds>) -> Window
     ensures part { IfSome view.part (λ part. result ≡ part) }
@@ -128,7 +125,7 @@ fn push_name<A: Allocator + Copy>(
 }
 
 /// Appends the names of features.
-pub(crate) fn push_names<A: Allocator + Copy>(
+fn push_names<A: Allocator + Copy>(
     alloc: A,
     heap: Global,
     text: &mut Vec<u8, A>,
@@ -137,6 +134,27 @@ pub(crate) fn push_names<A: Allocator + Copy>(
 ) -> Result<(), AllocError> {
     for shape in shapes {
         push_name(alloc, heap, text, layout, shape)?;
+    }
+    Ok(())
+}
+
+/// Appends what is written over a map and in the first line below it: the names of features where the
+/// view has them, and what is in conflict.
+pub(crate) fn push_notes<A: Allocator + Copy>(
+    alloc: A,
+    heap: Global,
+    text: &mut Vec<u8, A>,
+    layout: &Layout,
+    shapes: &[Shape<'_, A>],
+    has_ids: bool,
+    conflict: Option<&Conflict>,
+) -> Result<(), AllocError> {
+    if has_ids {
+        push_names(alloc, heap, text, layout, shapes)?;
+    }
+    if let Some(conflict) = conflict {
+        push_circle(text, layout, conflict)?;
+        push_fault(alloc, text, layout.first_line(), conflict)?;
     }
     Ok(())
 }
@@ -169,8 +187,7 @@ pub fn draw_map<A: Allocator + Copy>(
 ) -> Result<(), AllocError> {
     let shapes = shapes(alloc, map)?;
     let layout = Layout::new(window_of(view, bounds_of(None, shapes.as_slice())));
-    let bottom = layout.bottom() + ROW;
-    open_picture(text, WIDTH, bottom + MARGIN)?;
+    open_picture(text, WIDTH, layout.first_line() + MARGIN)?;
     text.extend_from_slice(prelude().as_bytes())?;
     open_map(text, &layout)?;
     push_shapes(alloc, heap, text, &layout.window, shapes.as_slice())?;
@@ -178,12 +195,14 @@ pub fn draw_map<A: Allocator + Copy>(
         push_conflict(text, &layout, conflict)?;
     }
     close_map(text)?;
-    if view.has_ids {
-        push_names(alloc, heap, text, &layout, shapes.as_slice())?;
-    }
-    if let Some(conflict) = &conflict {
-        push_circle(text, &layout, conflict)?;
-        push_fault(alloc, text, bottom, conflict)?;
-    }
+    push_notes(
+        alloc,
+        heap,
+        text,
+        &layout,
+        shapes.as_slice(),
+        view.has_ids,
+        conflict.as_ref(),
+    )?;
     close_picture(text)
 }

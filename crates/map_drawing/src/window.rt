@@ -70,15 +70,15 @@ impl Window {
     pub(crate) fn of(bounds: Option<Bounds>) -> Window
         ensures { (p : Position) → IsWithin bounds p → IsShown result p }
     {
-        match bounds {
-            Some(bounds) => Window::around(bounds),
-            None => Window {
+        let Some(bounds) = bounds else {
+            return Window {
                 x: 0,
                 y: 0,
                 width: 1,
                 height: 1,
-            },
-        }
+            };
+        };
+        Window::around(bounds)
     }
 
     /// A square of this width about a position.
@@ -96,6 +96,22 @@ impl Window {
         }
     }
 
+    /// Whether bounds have an x in common with it.
+    fn meets_across(&self, bounds: &Bounds) -> bool
+        ensures { result ≡ (int_le self.now.x bounds.now.x1
+            && int_le bounds.now.x0 (self.now.x +ℤ self.now.width)) }
+    {
+        self.x <= bounds.x1 && bounds.x0 <= self.x + self.width
+    }
+
+    /// Whether bounds have a y in common with it.
+    fn meets_upward(&self, bounds: &Bounds) -> bool
+        ensures { result ≡ (int_le self.now.y bounds.now.y1
+            && int_le bounds.now.y0 (self.now.y +ℤ self.now.height)) }
+    {
+        self.y <= bounds.y1 && bounds.y0 <= self.y + self.height
+    }
+
     /// Whether bounds have a common point with it.
     pub(crate) fn meets(&self, bounds: &Bounds) -> bool
         ensures { result ≡ ((int_le self.now.x bounds.now.x1
@@ -103,9 +119,7 @@ impl Window {
             && (int_le self.now.y bounds.now.y1
             && int_le bounds.now.y0 (self.now.y +ℤ self.now.height))) }
     {
-        let across = self.x <= bounds.x1 && bounds.x0 <= self.x + self.width;
-        let upward = self.y <= bounds.y1 && bounds.y0 <= self.y + self.height;
-        across && upward
+        self.meets_across(bounds) && self.meets_upward(bounds)
     }
 
     /// How far a position is to the right of its least corner.
@@ -124,12 +138,26 @@ impl Window {
         pos.y() - self.y
     }
 
+    /// Whether a position is in it, as far as x says.
+    fn has_across(&self, pos: Pos) -> bool
+        ensures { IsTrue result ↔ ((self.now.x ≤ℤ pos.x) × (pos.x ≤ℤ (self.now.x +ℤ self.now.width))) }
+    {
+        let across = self.right(pos);
+        0 <= across && across <= self.width
+    }
+
+    /// Whether a position is in it, as far as y says.
+    fn has_upward(&self, pos: Pos) -> bool
+        ensures { IsTrue result ↔ ((self.now.y ≤ℤ pos.y) × (pos.y ≤ℤ (self.now.y +ℤ self.now.height))) }
+    {
+        let upward = self.up(pos);
+        0 <= upward && upward <= self.height
+    }
+
     /// Whether a position is in it.
     pub(crate) fn has(&self, pos: Pos) -> bool
         ensures { IsTrue result ↔ IsShown self.now pos }
     {
-        let across = self.right(pos);
-        let upward = self.up(pos);
-        0 <= across && across <= self.width && 0 <= upward && upward <= self.height
+        self.has_across(pos) && self.has_upward(pos)
     }
 }

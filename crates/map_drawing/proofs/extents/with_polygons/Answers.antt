@@ -10,12 +10,12 @@ loop-rings-init g c = record { new = λ k d l. absurd (omega arith); kept = λ p
 
 pub loop-rings-preserved : goal.loop-rings-preserved
 loop-rings-preserved g c =
-    let new = c.with_rings.result in
+    let new = c.with_rings-bounds.result in
     record {
       new =
-          all_more (RingsIn c.loop-rings.bounds) (RingsIn new) (rings_stay c.loop-rings.bounds new c.with_rings.ensures.kept) c.args.polygons.now c.loop-rings.rings-index c.rings-item.result c.loop-rings-test.true c.rings-item.is c.loop-rings.invariant.new
-          (subst (All (RingIn new)) c.as_slice.ensures.value c.with_rings.ensures.new);
-      kept = λ p h. c.with_rings.ensures.kept p (c.loop-rings.invariant.kept p h);
+          all_more (RingsIn c.loop-rings.bounds) (RingsIn new) (rings_stay c.loop-rings.bounds new c.with_rings-bounds.ensures.kept) c.args.polygons.now c.loop-rings.rings-index c.rings-item.result c.loop-rings-test.true c.rings-item.is c.loop-rings.invariant.new
+          (subst (All (RingIn new)) c.as_slice.ensures.value c.with_rings-bounds.ensures.new);
+      kept = λ p h. c.with_rings-bounds.ensures.kept p (c.loop-rings.invariant.kept p h);
     }
 
 pub returns-clause-new : goal.returns-clause-new

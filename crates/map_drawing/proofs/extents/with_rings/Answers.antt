@@ -10,12 +10,12 @@ loop-ring-init g c = record { new = λ k d l. absurd (omega arith); kept = λ p 
 
 pub loop-ring-preserved : goal.loop-ring-preserved
 loop-ring-preserved g c =
-    let new = c.with_ring.result in
+    let new = c.with_ring-bounds.result in
     record {
       new =
-          all_more (RingIn c.loop-ring.bounds) (RingIn new) (ring_stays c.loop-ring.bounds new c.with_ring.ensures.kept) c.args.rings.now c.loop-ring.ring-index c.ring-item.result c.loop-ring-test.true c.ring-item.is c.loop-ring.invariant.new
-          (subst (All (IsWithin new)) c.as_slice.ensures.value c.with_ring.ensures.new);
-      kept = λ p h. c.with_ring.ensures.kept p (c.loop-ring.invariant.kept p h);
+          all_more (RingIn c.loop-ring.bounds) (RingIn new) (ring_stays c.loop-ring.bounds new c.with_ring-bounds.ensures.kept) c.args.rings.now c.loop-ring.ring-index c.ring-item.result c.loop-ring-test.true c.ring-item.is c.loop-ring.invariant.new
+          (subst (All (IsWithin new)) c.as_slice.ensures.value c.with_ring-bounds.ensures.new);
+      kept = λ p h. c.with_ring-bounds.ensures.kept p (c.loop-ring.invariant.kept p h);
     }
 
 pub returns-clause-new : goal.returns-clause-new

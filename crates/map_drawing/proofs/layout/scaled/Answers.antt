@@ -1,4 +1,4 @@
-use Rattle.map_drawing.proofs.Quotients.{product_is, product_small}
+use Rattle.map_drawing.proofs.QuotientLemmas.{product_is, product_small}
 use Rattle.map_drawing.proofs.layout.scaled.Goals as goal
 
 pub returns : goal.returns

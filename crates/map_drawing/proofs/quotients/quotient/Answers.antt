@@ -1,4 +1,4 @@
-use Rattle.map_drawing.proofs.Quotients.{quotient_size, quotient_small, quotient_sign}
+use Rattle.map_drawing.proofs.QuotientLemmas.{quotient_size, quotient_small, quotient_sign}
 use Rattle.map_drawing.proofs.quotients.quotient.Goals as goal
 
 pub returns-clause-size : goal.returns-clause-size

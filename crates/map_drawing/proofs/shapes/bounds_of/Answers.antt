@@ -10,12 +10,12 @@ loop-shape-init g c = record { new = λ k d l. absurd (omega arith); kept = λ p
 
 pub loop-shape-preserved : goal.loop-shape-preserved
 loop-shape-preserved g c =
-    let new = c.with_polygons.result in
+    let new = c.with_polygons-bounds.result in
     record {
       new =
-          all_more (ShapeIn c.loop-shape.bounds) (ShapeIn new) (shape_stays c.loop-shape.bounds new c.with_polygons.ensures.kept) c.args.shapes.now c.loop-shape.shape-index c.shape-item.result c.loop-shape-test.true c.shape-item.is c.loop-shape.invariant.new
-          c.with_polygons.ensures.new;
-      kept = λ p h. c.with_polygons.ensures.kept p (c.loop-shape.invariant.kept p h);
+          all_more (ShapeIn c.loop-shape.bounds) (ShapeIn new) (shape_stays c.loop-shape.bounds new c.with_polygons-bounds.ensures.kept) c.args.shapes.now c.loop-shape.shape-index c.shape-item.result c.loop-shape-test.true c.shape-item.is c.loop-shape.invariant.new
+          c.with_polygons-bounds.ensures.new;
+      kept = λ p h. c.with_polygons-bounds.ensures.kept p (c.loop-shape.invariant.kept p h);
     }
 
 pub returns-clause-new : goal.returns-clause-new

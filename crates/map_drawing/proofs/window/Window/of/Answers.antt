@@ -3,7 +3,7 @@ use Rattle.map_drawing.specs.Windows.{IsWithin}
 use Rattle.map_drawing.proofs.WithinLemmas.{shown_around}
 use Rattle.map_drawing.proofs.window.Window.of.Goals as goal
 
-pub returns-in-Some : goal.returns-in-Some
-returns-in-Some c = λ p h.
+pub returns : goal.returns
+returns c = λ p h.
     shown_around c.in-Some.bounds c.around.result p c.around.ensures.left c.around.ensures.right c.around.ensures.lower c.around.ensures.upper
     (subst (λ o. IsWithin o p) c.in-Some.is h)
