@@ -5,4 +5,3 @@ pub mod JoinedLemmas
 pub mod AroundLemmas
 pub mod ShortestLemmas
 pub mod CallerLemmas
-pub mod SeenLemmas
