@@ -1,6 +1,7 @@
-use Rattle.std.proofs.Common.{codes, subst}
+use Rattle.std.proofs.Common.{codes, subst, ◌++◌}
 use Rattle.device_io.specs.Sending.{TookFront}
 use Rattle.device_io.proofs.SendingLaws.{sends_front, took_both, took_first, took_second}
+use Rattle.map_text.specs.Text.{text_of}
 use Rattle.script_runner.specs.Replies.{of_writer, stop_of}
 use Rattle.script_runner.specs.declared.stop.Stop.TheVariants.{Write}
 use Rattle.script_runner.proofs.SendLemmas.{stops_alike}
@@ -10,7 +11,8 @@ pub returns-in_err-write-clause-sends : goal.returns-in_err-write-clause-sends
 returns-in_err-write-clause-sends g c =
     let fault = c.in_err-write.field-0.0 in
     sends_front of_writer (stop_of fault) _ c.from_residual.ensures.1
-    (subst (λ b. TookFront g.W.Sink b _ _ _) (stops_alike fault) (took_first (codes "\n") c.in_err-write.ensures.sends))
+    (subst (λ b. TookFront g.W.Sink b c.args.out.now c.write.new.out (text_of c.args.map.now.doc ++ codes "\n")) (stops_alike fault)
+    (took_first (codes "\n") c.in_err-write.ensures.sends))
 
 pub returns-in_err-put_all-clause-sends : goal.returns-in_err-put_all-clause-sends
 returns-in_err-put_all-clause-sends g c =
