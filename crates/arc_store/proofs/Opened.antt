@@ -32,7 +32,7 @@ use Rattle.arc_tables.specs.Ways.{Edge}
 use Rattle.arc_tables.specs.Rings.{begins}
 use Rattle.ring_store.specs.Tables.{ring_in}
 use Rattle.ring_store.specs.declared.tables.RingTables.{RingTables}
-use Rattle.map_opening.specs.Flat.{all_rings, shape_of, ring_count, IsFlat, lists_seen, numbers_seen}
+use Rattle.map_opening.specs.Flat.{all_rings, shape_of, ring_count, IsFlat, numbers_seen}
 use Rattle.ring_parts.specs.Seen.{rings_seen}
 use Rattle.map_opening.specs.Opened.{AreOpened}
 use Rattle.map_opening.proofs.FlatLists.{length-all_rings}
@@ -64,8 +64,8 @@ ring_there places None h = absurd (false≢true h)
 
 -- ---- what was read
 
-module _ {A : Type 0} (raw : RawDoc A) (h : IsOfRings (view_raw raw)) {given all : List (Vec Position A)} {shape : List (Vec ℕ A)}
-    (same : given ≡ all) (flat : IsFlat (view_raw raw).polygons (lists_seen shape) (rings_seen all)) where
+module _ {A : Type 0} (raw : RawDoc A) (h : IsOfRings (view_raw raw)) {given all : List (Vec Position A)} {shape : List (List ℕ)}
+    (same : given ≡ all) (flat : IsFlat (view_raw raw).polygons shape (rings_seen all)) where
   read_rings : rings (read.document_of (view_raw raw)) ≡ rings_seen given
   read_rings =
       let o = view_raw raw in
@@ -86,22 +86,22 @@ module _ {A : Type 0} (raw : RawDoc A) (h : IsOfRings (view_raw raw)) {given all
     opened_pair = ap (λ z. least_conflict (flat_map segments z)) read_rings ∙ opened.first
 
     -- there are as many numbers as rings of the shape
-    pub numbers_fit : {shape' : List (Vec ℕ A)} {numbers' : List ℕ} → numbers' ≡ numbers → shape' ≡ shape
-        → ring_count (lists_seen shape') ≡ length numbers'
+    pub numbers_fit : {shape' : List (List ℕ)} {numbers' : List ℕ} → numbers' ≡ numbers → shape' ≡ shape
+        → ring_count shape' ≡ length numbers'
     numbers_fit e f =
-        ap (λ z. ring_count (lists_seen z)) f ∙ ap ring_count (sym flat.alike) ∙ sym (length-all_rings (view_raw raw).polygons)
+        ap ring_count f ∙ ap ring_count (sym flat.alike) ∙ sym (length-all_rings (view_raw raw).polygons)
         ∙ ap length (flat.all ∙ ap rings_seen (sym same) ∙ sym opened.at) ∙ length-map numbers (ring_in t) ∙ ap length (sym e)
 
-module _ {I A : Type 0} (raw : RawDoc A) (h : IsOfRings (view_raw raw)) {given all : List (Vec Position A)} {shape shape' : List (Vec ℕ A)}
-    (same : given ≡ all) (flat : IsFlat (view_raw raw).polygons (lists_seen shape) (rings_seen all))
+module _ {I A : Type 0} (raw : RawDoc A) (h : IsOfRings (view_raw raw)) {given all : List (Vec Position A)} {shape shape' : List (List ℕ)}
+    (same : given ≡ all) (flat : IsFlat (view_raw raw).polygons shape (rings_seen all))
     {numbers numbers' : List ℕ} {t : RingTables I A} {first : Option (Segment × Segment)} {positions : ℕ}
-    (opened : AreOpened (rings_seen given) numbers t first positions) {polygons : List (Vec (Vec ℕ A) A)}
-    (same_numbers : numbers' ≡ numbers) (same_shape : shape' ≡ shape) (again : IsFlat (numbers_seen polygons) (lists_seen shape') numbers') where
+    (opened : AreOpened (rings_seen given) numbers t first positions) (polygons : List (Vec (Vec ℕ A) A))
+    (same_numbers : numbers' ≡ numbers) (same_shape : shape' ≡ shape) (again : IsFlat (numbers_seen polygons) shape' numbers') where
   abbrev o : read.Opened
   o = view_raw raw
 
   alike : shape_of (numbers_seen polygons) ≡ shape_of o.polygons
-  alike = again.alike ∙ ap lists_seen same_shape ∙ sym flat.alike
+  alike = again.alike ∙ same_shape ∙ sym flat.alike
 
   -- each feature has as many polygons of numbers as were read
   numbers_alike : map (λ n. length n.items) polygons ≡ map (λ f. length f.items) raw.polygons.items
