@@ -8,20 +8,20 @@ ghost use Rattle.border_show.specs.Conflicts.{pair_of};
 use arc_store::{BuildFault, Map};
 use map_drawing::Conflict;
 use segment_index::TreeIndex;
-use std::alloc::{AllocError, Allocator};
+use std::alloc::{AllocError, Global};
 use topo_reader::RawDoc;
 
 /// The least pair of segments in conflict, which an editor tells where it does not open the map.
-pub(crate) fn first_conflict<A: Allocator + Copy>(
-    alloc: A,
-    map: RawDoc<'_, A>,
+pub(crate) fn first_conflict(
+    heap: Global,
+    map: RawDoc<'_, Global>,
 ) -> Result<Option<Conflict>, AllocError>
     requires { IsOfRings (view_raw map) }
     ensures { IfOk result (λ conflict. pair_of conflict
         ≡ first_pair (document_of (view_raw map.entry))) }
 {
-    let index = TreeIndex::new(alloc, map.extent());
-    match Map::build(alloc, map, index) {
+    let index = TreeIndex::new(heap, map.extent());
+    match Map::build(heap, map, index) {
         Ok(_) => Ok(None),
         Err(BuildFault::Conflict { s, t }) => {
             let (first, second) = (s, t);

@@ -48,18 +48,14 @@ fn map_of<'a, A: Allocator + Copy>(
 
 /// The first conflict of the map that the bytes are. They are read anew: a map that is opened is taken
 /// apart.
-fn conflict_of<'a, A: Allocator + Copy>(
-    alloc: A,
-    heap: Global,
-    bytes: &'a [u8],
-) -> Result<Option<Conflict>, ShowFault<'a>>
+fn conflict_of<'a>(heap: Global, bytes: &'a [u8]) -> Result<Option<Conflict>, ShowFault<'a>>
     ensures { IfErr result (λ fault. IsEnd fault bytes.now) }
 {
-    let map = match map_of(alloc, heap, bytes) {
+    let map = match map_of(heap, heap, bytes) {
         Ok(map) => map,
         Err(fault) => return Err(fault),
     };
-    Ok(first_conflict(alloc, map)?)
+    Ok(first_conflict(heap, map)?)
 }
 
 /// Appends the picture of a map to `text`.
@@ -72,7 +68,7 @@ pub(crate) fn show_map<'a, A: Allocator + Copy>(
 ) -> Result<(), ShowFault<'a>>
     ensures { IfErr result (λ fault. IsEnd fault bytes.now) }
 {
-    let conflict = match conflict_of(alloc, heap, bytes) {
+    let conflict = match conflict_of(heap, bytes) {
         Ok(conflict) => conflict,
         Err(fault) => return Err(fault),
     };
@@ -99,7 +95,7 @@ pub(crate) fn show_change<'a, A: Allocator + Copy>(
         Ok(map) => map,
         Err(fault) => return Err(fault),
     };
-    let conflict = match conflict_of(alloc, heap, after) {
+    let conflict = match conflict_of(heap, after) {
         Ok(conflict) => conflict,
         Err(fault) => return Err(fault),
     };
