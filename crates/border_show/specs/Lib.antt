@@ -2,4 +2,3 @@ pub mod Status
 pub mod Stops
 pub mod Endings
 pub mod Shown
-pub mod Conflicts

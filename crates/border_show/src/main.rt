@@ -3,7 +3,6 @@
 
 mod asked;
 mod command_line;
-mod conflicts;
 mod diagnostic;
 mod drawing;
 mod ending;

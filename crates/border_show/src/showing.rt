@@ -4,7 +4,7 @@ ghost use Rattle.topo_reader.specs.Document.{IsOfRings};
 ghost use Rattle.topo_reader.specs.DocumentView.{view_raw};
 ghost use Rattle.border_show.specs.Shown.{IsEnd, IsEndOfBoth};
 
-use crate::conflicts::first_conflict;
+use map_conflict::first_conflict;
 use map_drawing::{Conflict, View, draw_change, draw_map};
 use std::alloc::{AllocError, Allocator, Global};
 use topo_outline::OpenFault;

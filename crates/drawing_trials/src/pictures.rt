@@ -35,16 +35,27 @@ pub(crate) fn picture(
     conflict: Option<Conflict>,
 ) -> Result<Vec<u8>, Fail> {
     let mut text = Vec::new(heap);
-    let map = read(heap, heap, map.as_bytes())?;
+    let Ok(map) = read(heap, heap, map.as_bytes()) else {
+        return Err(Fail::new("the map is not read"));
+    };
     draw_map(heap, heap, &map, view, conflict, &mut text)?;
     Ok(text)
 }
 
 /// The picture of what an edit did.
-pub(crate) fn change(heap: Global, before: &str, after: &str, view: View) -> Result<Vec<u8>, Fail> {
+pub(crate) fn change<'t>(
+    heap: Global,
+    before: &'t str,
+    after: &'t str,
+    view: View,
+) -> Result<Vec<u8>, Fail> {
     let mut text = Vec::new(heap);
-    let before = read(heap, heap, before.as_bytes())?;
-    let after = read(heap, heap, after.as_bytes())?;
+    let Ok(before) = read(heap, heap, before.as_bytes()) else {
+        return Err(Fail::new("the map before is not read"));
+    };
+    let Ok(after) = read(heap, heap, after.as_bytes()) else {
+        return Err(Fail::new("the map after is not read"));
+    };
     draw_change(heap, heap, &before, &after, view, None, &mut text)?;
     Ok(text)
 }

@@ -3,7 +3,7 @@ ghost use Rattle.std.specs.Prelude.{◌≡◌, IfOk};
 ghost use Rattle.topo_reader.specs.Document.{document_of, IsOfRings};
 ghost use Rattle.topo_reader.specs.DocumentView.{view_raw};
 ghost use Rattle.ring_machine.specs.Planar.{first_pair};
-ghost use Rattle.border_show.specs.Conflicts.{pair_of};
+ghost use Rattle.map_conflict.specs.Conflicts.{pair_of};
 
 use arc_store::{BuildFault, Map};
 use map_drawing::Conflict;
@@ -11,22 +11,29 @@ use segment_index::TreeIndex;
 use std::alloc::{AllocError, Global};
 use topo_reader::RawDoc;
 
+/// The conflict for which no map was built.
+fn of_fault(fault: BuildFault) -> Result<Conflict, AllocError>
+    ensures { IfOk result (λ conflict. fault ≡ BuildFault.Conflict conflict.first conflict.second) }
+{
+    match fault {
+        BuildFault::Conflict { s, t } => Ok(Conflict {
+            first: s,
+            second: t,
+        }),
+        BuildFault::OutOfMemory => Err(AllocError),
+    }
+}
+
 /// The least pair of segments in conflict, which an editor tells where it does not open the map.
-pub(crate) fn first_conflict(
-    heap: Global,
-    map: RawDoc<'_, Global>,
-) -> Result<Option<Conflict>, AllocError>
+pub fn first_conflict(heap: Global, map: RawDoc<'_, Global>) -> Result<Option<Conflict>, AllocError>
     requires { IsOfRings (view_raw map) }
     ensures { IfOk result (λ conflict. pair_of conflict
         ≡ first_pair (document_of (view_raw map.entry))) }
 {
     let index = TreeIndex::new(heap, map.extent());
-    match Map::build(heap, map, index) {
-        Ok(_) => Ok(None),
-        Err(BuildFault::Conflict { s, t }) => {
-            let (first, second) = (s, t);
-            Ok(Some(Conflict { first, second }))
-        }
-        Err(BuildFault::OutOfMemory) => Err(AllocError),
+    let fault = Map::build(heap, map, index).err();
+    match fault {
+        None => Ok(None),
+        Some(fault) => Ok(Some(of_fault(fault)?)),
     }
 }
