@@ -23,10 +23,7 @@ TOP = pathlib.Path(__file__).resolve().parent.parent
 EXAMPLES = TOP / "examples"
 PICTURES = TOP / "docs/pictures"
 
-# What is done to the examples, a picture each.
-SQUARES = """move 10 10 12 12
-split 0 "C" 0 0 12 12
-"""
+# What is done to the map of Columbus.
 COLUMBUS = r"""move 532622 382902 545000 395000
 rename 5 "<five> & \"5\""
 merge 30 35
@@ -59,15 +56,13 @@ def make_pictures(edit, show):
     PICTURES.mkdir(exist_ok=True)
     with tempfile.TemporaryDirectory() as name:
         folder = pathlib.Path(name)
-        for example, script in ("squares", SQUARES), ("columbus", COLUMBUS):
-            before, after = EXAMPLES / f"{example}.json", folder / f"{example}.json"
-            (folder / "script.txt").write_text(script)
-            run(edit, before, folder / "script.txt", "--out", after)
-            run(show, before, "--ids", "--out", PICTURES / f"{example}.svg")
-            run(show, before, after, "--ids", "--out", PICTURES / f"{example}_change.svg")
+        before, after = EXAMPLES / "columbus.json", folder / "columbus.json"
+        (folder / "script.txt").write_text(COLUMBUS)
+        run(edit, before, folder / "script.txt", "--out", after)
+        run(show, before, "--ids", "--out", PICTURES / "columbus.svg")
+        run(show, before, after, "--ids", "--out", PICTURES / "columbus_change.svg")
         part = ["--at", 545000, 395000, 200000]
-        run(show, EXAMPLES / "columbus.json", folder / "columbus.json", *part, "--ids", "--out",
-            PICTURES / "columbus_part.svg")
+        run(show, before, after, *part, "--ids", "--out", PICTURES / "columbus_part.svg")
         crossed = (EXAMPLES / "squares.json").read_text().replace("[10,10]", "[-5,15]", 1)
         crossed = crossed.replace("[[10,10],[0,10]", "[[-5,15],[0,10]").replace("[20,10],[10,10]", "[20,10],[-5,15]")
         (folder / "crossed.json").write_text(crossed)
