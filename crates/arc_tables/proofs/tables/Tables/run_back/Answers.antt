@@ -14,5 +14,5 @@ returns g c =
     let m = c.in_ok-m.m in
     let is : c.as_slice-path.result.now ≡ q = c.as_slice-path.ensures.value ∙ ap path_in (sym (ap option_copied c.unwrap.ensures) ∙ c.get.ensures) in
     let grown = run_back_grows (store c.args.self.now) (store c.begin_at.new.self) (store c.go_along.new.self) c.args.r c.in_ok-n.n m q c.args.keys.now c.begin_at.ensures.keeps
-        (c.in_ok-n.ensures.ok ∙ ap (λ z. drop (length z - m) q) is) (omega (arith, c.in_ok-m.ensures.path, ap length is)) (ap (λ z. take m (reverse z)) (sym is) ∙ c.in_ok-m.ensures.same) c.in_ok-go_along.ensures.ok in
+    (c.in_ok-n.ensures.ok ∙ ap (λ z. drop (length z - m) q) is) (omega (arith, c.in_ok-m.ensures.path, ap length is)) (ap (λ z. take m (reverse z)) (sym is) ∙ c.in_ok-m.ensures.same) c.in_ok-go_along.ensures.ok in
     record { two = search rules; within = search rules; grown = grown; kept = tt; whole = search rules; held = search rules }
