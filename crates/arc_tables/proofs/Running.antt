@@ -6,10 +6,9 @@ use Rattle.std.proofs.Math.Seq.{take-add, take-append_seam}
 use Rattle.arc_tables.specs.declared.arc.Arc.{Arc}
 use Rattle.arc_tables.specs.declared.tables.Tables.{Tables}
 use Rattle.slab.specs.Slab.{get}
-use Rattle.arc_tables.specs.Ways.{Store, links, Keeps, Grows, Cuts, Takes, Starts, IsNew}
+use Rattle.arc_tables.specs.Ways.{Edge, Store, links, Keeps, Grows, Spoils, Cuts, Takes, Starts, IsNew}
 use Rattle.arc_tables.specs.Stores.{path_in, uses_in, EndsAt, Whole, Advances, SameKeys, SamePaths, SameRings, store, path_of}
 use Rattle.arc_tables.proofs.Moves.{cut_keeps, keeps_same, start_grows, take_grows, kept_grows, grows_then, links-append}
-use Rattle.arc_tables.proofs.Segments.{if_ok_map, on_err_map}
 
 module _ {A : Type 0} where
   pub agreed_two : (o : Option (Arc A)) (arc : Arc A) (xs ys : List ℕ) (m : ℕ) → o ≡ Some arc → xs ≡ arc.keys.items → 2 ≤ length (path_in o) → 2 ≤ length ys → take 2 (path_in o) ≡ take 2 ys →
@@ -39,28 +38,21 @@ module _ {A : Type 0} where
   cut_or_not s t i at (Ok n) c _ _ = cut_keeps i n _ _ _ (store s) (store t) c
   cut_or_not s t i at (Err e) _ p q = keeps_same (store s) (store t) (λ j. ap path_in (p j)) (λ k. ap (λ z. uses_in (get z k)) q)
 
-  module _ {B E : Type 0} (s t : Tables A) (r : ℕ) (keys : List ℕ) where
-    -- ring r did not go on
-    pub advances_not : (result : Result B E) (count : B → ℕ) → IsErr result → SamePaths s.arcs t.arcs → SameRings s.rings t.rings → Whole t → SameKeys s.rings t.rings → Advances r keys result count s t
-    advances_not (Ok x) count f _ _ _ _ = absurd (false≢true f)
-    advances_not (Err e) count _ p q w h = record { two = tt; within = tt; grown = tt; kept = keeps_same (store s) (store t) p q; whole = w; held = h }
+  -- ring r did not go on
+  pub advances_not : {B E : Type 0} (s t : Tables A) (r : ℕ) (keys : List ℕ) (result : Result B E) (count : B → ℕ) → IsErr result → Keeps (store s) (store t) → Whole t → SameKeys s.rings t.rings → Advances r keys result count s t
+  advances_not s t r keys (Ok x) count f k w h = absurd (false≢true f)
+  advances_not s t r keys (Err e) count f k w h = record { two = tt; within = tt; grown = tt; kept = k; whole = w; held = h }
 
-    -- arcs were cut before
-    pub advances_after : (u : Tables A) (result : Result B E) (count : B → ℕ) → Keeps (store s) (store t) → SameKeys s.rings t.rings → Advances r keys result count t u → Advances r keys result count s u
-    advances_after u result count k h a = record {
-      two = a.two;
-      within = a.within;
-      grown = if_ok_map result (λ x. kept_grows r (links (take (count x) keys)) (store s) (store t) (store u) k) a.grown;
-      kept = on_err_map result (λ l. record { same = λ j. l.same j ∙ k.same j; once = λ o. l.once (k.once o) }) a.kept;
-      whole = a.whole;
-      held = λ j. a.held j ∙ h j;
-    }
+  -- arcs were cut before
+  pub advances_after : {B E : Type 0} (s t u : Tables A) (r : ℕ) (keys : List ℕ) (result : Result B E) (count : B → ℕ) → Keeps (store s) (store t) → SameKeys s.rings t.rings → Advances r keys result count t u → Advances r keys result count s u
+  advances_after s t u r keys (Ok x) count k h a = record { two = a.two; within = a.within; grown = kept_grows r _ (store s) (store t) (store u) k a.grown; kept = tt; whole = a.whole; held = λ j. a.held j ∙ h j }
+  advances_after s t u r keys (Err e) count k h a = advances_not s u r keys (Err e) count refl (record { same = λ j. a.kept.same j ∙ k.same j; once = λ o. a.kept.once (k.once o) }) a.whole (λ j. a.held j ∙ h j)
 
   -- ring r went on along a new arc, or did not
   pub advances_new : {E : Type 0} (s t : Tables A) (r a b : ℕ) (result : Result ℕ E) → IfOk result (λ n. Starts r n a b (store s) (store t)) → OnErr result (SamePaths s.arcs t.arcs) → OnErr result (SameRings s.rings t.rings) →
       Whole t → SameKeys s.rings t.rings → IsNew a b (path_of s) → Advances r (a ∷ b ∷ []) result (λ n. 2) s t
   advances_new s t r a b (Ok n) c _ _ w h new = record { two = omega arith; within = omega arith; grown = start_grows r n a b (store s) (store t) c new; kept = tt; whole = w; held = h }
-  advances_new s t r a b (Err e) _ p q w h _ = advances_not s t r (a ∷ b ∷ []) (Err e) (λ n. 2) refl p q w h
+  advances_new s t r a b (Err e) _ p q w h _ = advances_not s t r (a ∷ b ∷ []) (Err e) (λ n. 2) refl (keeps_same (store s) (store t) p q) w h
 
 -- a piece that begins where the ring has come to
 pub links_join : (keys : List ℕ) (at k : ℕ) → 2 ≤ k → at + k ≤ length keys → links (take (at + 1) keys) ++ links (take k (drop at keys)) ≡ links (take (at + (k - 1) + 1) keys)
@@ -79,6 +71,11 @@ links_join keys at k two l =
 pub lay_more : (keys slice : List ℕ) (at k r : ℕ) (s t u : Store) → slice ≡ drop at keys → 2 ≤ k → at + k ≤ length keys → Grows r (links (take (at + 1) keys)) s t → Grows r (links (take k slice)) t u → Grows r (links (take (at + (k - 1) + 1) keys)) s u
 lay_more keys slice at k r s t u e two l g h =
     subst (λ es. Grows r es s u) (links_join keys at k two l) (grows_then r _ _ s t u g (subst (λ z. Grows r (links (take k z)) t u) e h))
+
+-- the ring went on, and then could not go on further
+pub spoils_on_err : {X E : Type 0} (result : Result X E) (r : ℕ) (es : List Edge) (s t u : Store) → Grows r es s t → Keeps t u → OnErr result (Spoils r s u)
+spoils_on_err (Ok x) r es s t u g k = tt
+spoils_on_err (Err e) r es s t u g k = record { others = λ j f. k.same j ∙ g.others j f; once = λ o. k.once (g.once o) }
 
 -- the last m keys in reverse
 pub reverse-drop : (q : List ℕ) (m : ℕ) → m ≤ length q → reverse (drop (length q - m) q) ≡ take m (reverse q)

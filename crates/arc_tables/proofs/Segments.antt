@@ -70,10 +70,6 @@ pub on_err_map : {X E : Type 0} {P Q : Type 0} (r : Result X E) → (P → Q) �
 on_err_map (Ok x) f p = tt
 on_err_map (Err e) f p = f p
 
-pub on_err_of : {X E : Type 0} {P : Type 0} (r : Result X E) → P → OnErr r P
-on_err_of (Ok x) p = tt
-on_err_of (Err e) p = p
-
 pub either_result : {X E : Type 0} {P Q R : Type 0} (r : Result X E) → (P → R) → (Q → R) → OnOk r P → OnErr r Q → R
 either_result (Ok x) f g p q = f p
 either_result (Err e) f g p q = g q

@@ -15,14 +15,8 @@ returns-in_ok-extend-in-Some-clause-advances g c =
     let rings = c.extend.ensures.rings in
     let o : OpenAt s c.args.r n c.args.a = subst (λ m. IsOpen c.args.self.now c.args.r m c.args.a) c.in-Some.is c.requires.making in
     let e = extended c.args.r n c.args.a c.args.b s t o c.in_ok-extend-in-Some.ensures.ok (λ j f. ap path_in (c.extend.ensures.others j f)) (λ k. ap (λ z. uses_in (get z k)) rings) in
-    record {
-      two = omega arith;
-      within = omega arith;
-      grown = extend_grows c.args.r n o.ps c.args.a c.args.b o.before s t e c.requires.new;
-      kept = tt;
-      whole = c.extend.ensures.whole;
-      held = λ k. ap (λ z. is_some (get z k)) rings;
-    }
+    let grown = extend_grows c.args.r n o.ps c.args.a c.args.b o.before s t e c.requires.new in
+    record { two = omega arith; within = omega arith; grown = grown; kept = tt; whole = c.extend.ensures.whole; held = λ k. ap (λ z. is_some (get z k)) rings }
 
 pub returns-in-None-clause-advances : goal.returns-in-None-clause-advances
 returns-in-None-clause-advances g c =

@@ -1,9 +1,7 @@
 use Rattle.std.proofs.Common.{◌≡◌, ℕ, ◌≤◌, ◌+◌, ◌-◌, List, ap, ◌∙◌, subst, arith, take, drop, length, get_or, take_all, length-drop}
 use Rattle.std.proofs.lemmas.List.{get_or-drop}
-use Rattle.arc_tables.specs.Ways.{Spoils}
 use Rattle.arc_tables.specs.Stores.{store, IsOpen}
-use Rattle.arc_tables.proofs.Segments.{on_err_of}
-use Rattle.arc_tables.proofs.Running.{lay_more}
+use Rattle.arc_tables.proofs.Running.{lay_more, spoils_on_err}
 use Rattle.arc_tables.proofs.tables.Tables.lay.Goals as goal
 
 rest : (k : ℕ) (xs : List ℕ) → take (length xs - k) (drop k xs) ≡ drop k xs
@@ -27,8 +25,4 @@ loop-at-preserved g c =
     }
 
 pub returns-in_err-piece-clause-err : goal.returns-in_err-piece-clause-err
-returns-in_err-piece-clause-err g c =
-    let k = c.in_err-piece.ensures.advances.kept in
-    let l = c.loop-at.invariant.grown in
-    let spoils : Spoils c.args.r (store c.args.self.now) (store c.go_piece.new.self) = record { others = λ j f. k.same j ∙ l.others j f; once = λ o. k.once (l.once o) } in
-    on_err_of c.from_residual.result spoils
+returns-in_err-piece-clause-err g c = spoils_on_err c.from_residual.result c.args.r _ (store c.args.self.now) (store c.loop-at.self) (store c.go_piece.new.self) c.loop-at.invariant.grown c.in_err-piece.ensures.advances.kept
