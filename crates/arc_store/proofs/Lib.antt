@@ -53,3 +53,4 @@ pub mod SplitPlan
 pub mod MergePlan
 mod Examples
 pub mod Ranged
+pub mod MarkedRings

@@ -1,15 +1,17 @@
 -- A map's tables as its callers see them, and what is true of them.
-use Rattle.std.specs.Prelude.{ℕ, ◌≡◌, Option}
+use Rattle.std.specs.Prelude.{ℕ, ◌≡◌, List, Option}
 use Rattle.edit_records.specs.Records.{Record}
 use Rattle.ring_machine.specs.Parts.{size}
 use Rattle.segment_index.specs.Candidates.{SegmentSet}
 use Rattle.segment_index.specs.Frames.{Frame as GridFrame}
 use Rattle.vertex_index.specs.Placement.{Placement}
 use Rattle.arc_tables.specs.Rings.{Rings}
+use Rattle.shared_arcs.specs.declared.around.Neighbours.{Neighbours}
+use Rattle.shared_arcs.specs.Joined.{AreAllNeighbours}
 use Rattle.map_frame.specs.Framed.{Framed}
-use Rattle.feature_exchange.specs.Stored.{stored, document_of}
+use Rattle.feature_exchange.specs.Stored.{Stored, stored, document_of}
 use Rattle.arc_store.specs.State.{State}
-use Rattle.feature_exchange.specs.Holds.{Holds}
+use Rattle.feature_exchange.specs.Holds.{IsWhole, Holds}
 
 -- the map as its callers see it
 abbrev pub state_of : Framed → Rings → Placement → ℕ → Option GridFrame → Option Record → State
@@ -27,3 +29,8 @@ pub record IsKept (frame : Framed) (rings : Rings) (places : Placement) (held : 
     (positions : ℕ) : Type 0 where
   pub holds : Holds (stored frame rings places) held
   pub sized : positions ≡ size (document_of (stored frame rings places))
+
+-- the tables belong together, and the list has what stands around each vertex
+pub record HasAround (s : Stored) (around : List Neighbours) : Type 0 where
+  pub whole : IsWhole s
+  pub neighbours : AreAllNeighbours s.rings around

@@ -23,3 +23,4 @@ pub mod PlacesAfter
 pub mod ExchangedWhole
 pub mod ChangesCounted
 pub mod RingAround
+pub mod MarkedRing

@@ -113,7 +113,7 @@ no_lower_one p ps r h l =
 
 -- ---- from there on, and from the first one on
 
-before_from : (m : Position) (qs : List Position) → before m qs ++ from m qs ≡ qs
+pub before_from : (m : Position) (qs : List Position) → before m qs ++ from m qs ≡ qs
 before_from m [] = refl
 before_from m (q ∷ qs) = by (position_eq q m) (before_from m qs)
   where
@@ -143,7 +143,7 @@ canonical_turned p ps n k e h =
 -- ---- keys
 
 module _ (places : Placement) where
-  at_place : (k : ℕ) (p : Position) → table.get places k ≡ Some p → p ≡ place places k
+  pub at_place : (k : ℕ) (p : Position) → table.get places k ≡ Some p → p ≡ place places k
   at_place k p e = sym (ap (λ o. unwrap_or o (position (pos 0) (pos 0))) e)
 
   map_last : (ys : List ℕ) (k : ℕ) (p : Position) → table.get places k ≡ Some p

@@ -6,3 +6,4 @@ pub mod Changed
 pub mod Laying
 pub mod Ready
 pub mod RingPlaces
+pub mod Marked

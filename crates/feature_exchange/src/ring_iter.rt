@@ -40,7 +40,7 @@ impl<'m, A: Allocator + Copy> Model for RingIter<'m, A> {
 
 /// The place of the first key with the least position, where the first key has this position, and
 /// how many keys there are.
-fn least_place<A: Allocator + Copy>(
+pub(crate) fn least_place<A: Allocator + Copy>(
     first: Pos,
     rest: RingKeys<'_, A>,
     vertices: &Vertices<A>,

@@ -1,0 +1,58 @@
+-- A ring of a kept map, and where borders meet along it.
+use Rattle.std.proofs.Common.{◌≡◌, ℕ, true, sym, ap, ◌∙◌, List, [], get_or, Some, option_map}
+use Rattle.std.proofs.Common.{None as Absent}
+use Rattle.std.specs.Prelude.{unwrap_or}
+use Rattle.std.specs.FinMap as table
+use Rattle.grid_geometry.specs.Position.{Position}
+use Rattle.ring_machine.specs.Vertices.{is_junction}
+use Rattle.ring_machine.proofs.Members.{in_contains}
+use Rattle.ring_machine.specs.Parts.{rings}
+use Rattle.vertex_index.specs.Placement.{place}
+use Rattle.shared_arcs.specs.declared.around.Neighbours.{Neighbours}
+use Rattle.shared_arcs.specs.declared.around.Neighbours.TheVariants.{None, One, Two, More}
+use Rattle.shared_arcs.specs.Joined.{AreNeighbours, AreAllNeighbours}
+use Rattle.map_frame.specs.Readers.{ring_at}
+use Rattle.feature_exchange.specs.Stored.{Stored, document_of, ring_under}
+use Rattle.feature_exchange.specs.Holds.{IsWhole}
+use Rattle.feature_exchange.specs.Marked.{is_meeting, MarksAlong}
+use Rattle.feature_exchange.proofs.PolygonsRead.{along}
+use Rattle.ring_store.proofs.Places.{kept_place}
+use Rattle.arc_store.proofs.Around.{two_no_junction, neighbours_none, neighbours_one, neighbours_more}
+use Rattle.arc_store.proofs.FrameNames.{number_there}
+use Rattle.arc_store.proofs.FrameReads.{ring-in_rings}
+
+module _ (s : Stored) (n polygon ring : ℕ) where
+  -- the ring that stands there
+  pub ring_read : (number : ℕ) → Some number ≡ ring_at s.frame n polygon ring
+      → ring_under s number ≡ unwrap_or (ring_at (document_of s) n polygon ring) []
+  ring_read number e =
+      ap (λ o. unwrap_or (option_map (ring_under s) o) []) e
+      ∙ sym (ap (λ o. unwrap_or o []) (ring-in_rings (ring_under s) s.frame n polygon ring))
+
+  -- and where none does
+  pub no_ring_read : Absent ≡ ring_at s.frame n polygon ring
+      → [] ≡ unwrap_or (ring_at (document_of s) n polygon ring) []
+  no_ring_read e =
+      ap (λ o. unwrap_or (option_map (ring_under s) o) []) e
+      ∙ sym (ap (λ o. unwrap_or o []) (ring-in_rings (ring_under s) s.frame n polygon ring))
+
+module _ (s : Stored) (w : IsWhole s) where
+  -- the frame's rings are held
+  pub number_held : (n polygon ring number : ℕ) → Some number ≡ ring_at s.frame n polygon ring
+      → table.contains_key s.rings number ≡ true
+  number_held n polygon ring number e =
+      (w.named number).0 (in_contains (rings s.frame) number (number_there s.frame (record { feature = n; polygon = polygon; ring = ring }) number (sym e)))
+
+  -- borders meet at a junction
+  meeting : (k : ℕ) (p : Position) → table.get s.places k ≡ Some p → (o : Neighbours)
+      → AreNeighbours s.rings k o → is_meeting o ≡ is_junction (document_of s) p
+  meeting k p here None h = absurd (neighbours_none s w k p here h)
+  meeting k p here (One a) h = absurd (neighbours_one s w k p here a h)
+  meeting k p here (Two a b) h = sym (two_no_junction s w k p here a b h)
+  meeting k p here More h = sym (neighbours_more s w k p here h)
+
+  -- so they meet along each ring where junctions are
+  pub junctions_along : (around : List Neighbours) → AreAllNeighbours s.rings around → (r : ℕ)
+      → MarksAlong s.places s.rings r around (is_junction (document_of s))
+  junctions_along around all r k h =
+      meeting k (place s.places k) (kept_place s.places k (along s w r k h)) (get_or around k None) (all k)

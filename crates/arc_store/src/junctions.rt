@@ -1,0 +1,74 @@
+ghost use Rattle.std.specs.Prelude.{◌≡◌, ◌++◌, [], map, unwrap_or, IfOk, OnOk};
+ghost use Rattle.ring_machine.specs.Vertices.{is_junction};
+ghost use Rattle.map_frame.specs.Readers.{ring_at};
+
+use crate::map::Map;
+use feature_exchange::push_marked_ring;
+use grid_geometry::Pos;
+use map_frame::Frame;
+use ring_store::RingTables;
+use segment_index::SegIndex;
+use shared_arcs::Neighbours;
+use std::alloc::{AllocError, Allocator, Global};
+use std::marker::Model;
+
+/// A map that stays as it is, with its junctions known. It is seen as its document.
+#[derive(Drop)]
+pub struct Junctions<'m, 'a, I: SegIndex, A: Allocator + Copy = Global> {
+    frame: &'m Frame<'a, A>,
+    rings: &'m RingTables<I, A>,
+    /// What stands around each vertex, by the index of its key.
+    around: Vec<Neighbours, A>,
+}
+
+impl<'m, 'a, I: SegIndex, A: Allocator + Copy> Model for Junctions<'m, 'a, I, A> {
+    ghost use Rattle.ring_machine.specs.Document.{Document};
+    ghost use Rattle.feature_exchange.specs.Stored.{stored_in, document_of};
+    ghost use Rattle.arc_store.specs.Kept.{HasAround};
+
+    ghost Value = { Document };
+
+    ghost view = { λ j. document_of (stored_in j.frame.now j.rings.now) };
+
+    ghost invariant = { λ j. HasAround (stored_in j.frame.now j.rings.now) j.around.items };
+}
+
+impl<'m, 'a, I: SegIndex, A: Allocator + Copy> Junctions<'m, 'a, I, A> {
+    /// Appends the positions of a ring, from the least one on, and for each whether borders meet
+    /// there: of the feature with this number the polygon and the ring of these numbers, where the
+    /// outer ring is the first one. Appends nothing where there is no such ring. Fails for want of
+    /// memory alone; some of them may then have been appended.
+    pub fn push_ring(
+        &self,
+        feature: u32,
+        polygon: usize,
+        ring: usize,
+        positions: &mut Vec<Pos, A>,
+        marks: &mut Vec<bool, A>,
+    ) -> Result<(), AllocError>
+        ensures positions { OnOk result (positions.new.items
+            ≡ positions.old.items ++ unwrap_or (ring_at self.now feature polygon ring) []) }
+        ensures marks { OnOk result (marks.new.items ≡ marks.old.items
+            ++ map (is_junction self.now) (unwrap_or (ring_at self.now feature polygon ring) [])) }
+    {
+        let Some(number) = self.frame.ring(feature, polygon, ring) else {
+            return Ok(());
+        };
+        push_marked_ring(self.rings, self.around.as_slice(), number, positions, marks)?;
+        Ok(())
+    }
+}
+
+impl<'a, I: SegIndex, A: Allocator + Copy> Map<'a, I, A> {
+    /// The map with its junctions known. Walks the borders. Fails for want of memory alone.
+    pub fn junctions(&self) -> Result<Junctions<'_, 'a, I, A>, AllocError>
+        ensures { IfOk result (λ j. j ≡ self.now.doc) }
+    {
+        let around = self.rings.borders.all_neighbours()?;
+        Ok(Junctions {
+            frame: &self.frame,
+            rings: &self.rings,
+            around,
+        })
+    }
+}

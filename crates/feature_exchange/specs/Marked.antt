@@ -1,0 +1,24 @@
+-- Along a ring, where borders meet.
+use Rattle.std.specs.Prelude.{ℕ, ◌≡◌, Bool, true, false, List, get_or, Contains}
+use Rattle.grid_geometry.specs.Position.{Position}
+use Rattle.vertex_index.specs.Placement.{Placement, place}
+use Rattle.arc_tables.specs.Rings.{Rings, begins}
+use Rattle.shared_arcs.specs.declared.around.Neighbours.{Neighbours}
+use Rattle.shared_arcs.specs.declared.around.Neighbours.TheVariants.{None, One, Two, More}
+use Rattle.feature_exchange.specs.Stored.{edges_under}
+
+-- a vertex has not exactly two neighbours
+abbrev pub is_meeting : Neighbours → Bool
+is_meeting (Two a b) = false
+is_meeting None = true
+is_meeting (One a) = true
+is_meeting More = true
+
+-- the vertex of a key has not exactly two neighbours, by a list of what stands around each
+abbrev pub meets : List Neighbours → ℕ → Bool
+meets around k = is_meeting (get_or around k None)
+
+-- borders meet at the keys along a ring where their positions are such
+abbrev pub MarksAlong : Placement → Rings → ℕ → List Neighbours → (Position → Bool) → Type 0
+MarksAlong places m r around such =
+    (k : ℕ) → Contains (begins (edges_under m r)) k → meets around k ≡ such (place places k)

@@ -1,0 +1,120 @@
+// The positions of a ring, each with whether borders meet there.
+ghost use Rattle.std.specs.Prelude.{◌≡◌, ◌<◌, ◌≤◌, ◌^◌, ◌++◌, ℕ, Bool, true, map, take, drop, length};
+ghost use Rattle.std.specs.Prelude.{Contains, OnOk};
+ghost use Rattle.std.specs.FinMap as table;
+ghost use Rattle.grid_geometry.specs.Position.{Position};
+ghost use Rattle.ring_machine.specs.Ring.{canonical};
+ghost use Rattle.vertex_index.specs.Placement.{place};
+ghost use Rattle.feature_exchange.specs.Along.{AlongVertices, ring_in};
+ghost use Rattle.feature_exchange.specs.Marked.{meets, MarksAlong};
+
+use crate::ring_iter::least_place;
+use grid_geometry::Pos;
+use ring_store::RingTables;
+use segment_index::SegIndex;
+use shared_arcs::{Neighbours, RingKeys};
+use std::alloc::{AllocError, Allocator};
+use vertex_index::{VertexKey, Vertices};
+
+/// Whether borders meet at the vertex of this key, by what stands around each vertex.
+fn meets(around: &[Neighbours], k: VertexKey) -> bool
+    ensures { result ≡ meets around.now k }
+{
+    match around.get(k.index()) {
+        Some(Neighbours::Two(_, _)) => false,
+        _ => true,
+    }
+}
+
+/// The place of the first key with the least position, 0 where there is no key.
+fn least_start<A: Allocator + Copy>(vertices: &Vertices<A>, mut keys: RingKeys<'_, A>) -> usize
+    requires placed { (k : ℕ) → Contains keys k → table.contains_key vertices.now k ≡ true }
+    requires few { length keys < 2 ^ 64 }
+    ensures within { result ≤ length keys.entry }
+    ensures turned { let ps = map (place vertices.now) keys.entry in
+        canonical ps ≡ drop result ps ++ take result ps }
+{
+    match keys.next() {
+        Some(first) => least_place(vertices.pos(first), keys, vertices).0,
+        None => 0,
+    }
+}
+
+/// Appends the positions under these keys, and for each whether borders meet there. Fails for want
+/// of memory alone.
+fn push_marked<A: Allocator + Copy>(
+    vertices: &Vertices<A>,
+    around: &[Neighbours],
+    keys: &[VertexKey],
+    positions: &mut Vec<Pos, A>,
+    marks: &mut Vec<bool, A>,
+) -> Result<(), AllocError>
+    requires { (k : ℕ) → Contains keys.now k → table.contains_key vertices.now k ≡ true }
+    ensures positions { OnOk result
+        (positions.new.items ≡ positions.old.items ++ map (place vertices.now) keys.now) }
+    ensures marks { OnOk result
+        (marks.new.items ≡ marks.old.items ++ map (meets around.now) keys.now) }
+{
+    for k in keys {
+        positions.push(vertices.pos(*k))?;
+        marks.push(meets(around, *k))?;
+    }
+    Ok(())
+}
+
+/// Appends the positions under the keys from a place on and then under those before it, and for each
+/// whether borders meet there. Fails for want of memory alone.
+fn push_turned<A: Allocator + Copy>(
+    vertices: &Vertices<A>,
+    around: &[Neighbours],
+    keys: &[VertexKey],
+    start: usize,
+    positions: &mut Vec<Pos, A>,
+    marks: &mut Vec<bool, A>,
+) -> Result<(), AllocError>
+    requires placed { (k : ℕ) → Contains keys.now k → table.contains_key vertices.now k ≡ true }
+    requires within { start ≤ length keys.now }
+    ensures positions { let ps = map (place vertices.now) keys.now in OnOk result
+        (positions.new.items ≡ positions.old.items ++ (drop start ps ++ take start ps)) }
+    ensures marks { let bs = map (meets around.now) keys.now in OnOk result
+        (marks.new.items ≡ marks.old.items ++ (drop start bs ++ take start bs)) }
+{
+    push_marked(vertices, around, &keys[start..], positions, marks)?;
+    push_marked(vertices, around, &keys[..start], positions, marks)?;
+    Ok(())
+}
+
+/// Appends the positions of the ring with this number, from its least position on, and for each
+/// whether borders meet there, by what stands around each vertex. Fails for want of memory alone.
+pub fn push_marked_ring<I: SegIndex, A: Allocator + Copy>(
+    tables: &RingTables<I, A>,
+    around: &[Neighbours],
+    r: usize,
+    positions: &mut Vec<Pos, A>,
+    marks: &mut Vec<bool, A>,
+) -> Result<(), AllocError>
+    requires held { table.contains_key tables.now.borders r ≡ true }
+    requires along { AlongVertices tables.now.vertices tables.now.borders }
+    ensures positions { OnOk result (positions.new.items
+        ≡ positions.old.items ++ ring_in tables.now.vertices tables.now.borders r) }
+    ensures marks { OnOk result ((is : Position → Bool)
+        → MarksAlong tables.now.vertices tables.now.borders r around.now is
+        → marks.new.items
+        ≡ marks.old.items ++ map is (ring_in tables.now.vertices tables.now.borders r)) }
+{
+    let mut list = Vec::new(tables.alloc);
+    tables.borders.push_keys(r, &mut list)?;
+    let Some(walk) = tables.borders.keys(r) else {
+        return Ok(());
+    };
+    let start = least_start(&tables.vertices, walk);
+    push_turned(
+        &tables.vertices,
+        around,
+        list.as_slice(),
+        start,
+        positions,
+        marks,
+    )?;
+    Ok(())
+}
