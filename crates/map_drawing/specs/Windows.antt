@@ -1,5 +1,5 @@
 -- The part of the grid that is drawn.
-use Rattle.std.specs.Prelude.{ℤ, ◌≤ℤ◌, ◌+ℤ◌, List, Option, Some, None, Vec}
+use Rattle.std.specs.Prelude.{◌≤ℤ◌, ◌+ℤ◌, List, Option, Some, None, Vec}
 use Rattle.std.specs.List.{All}
 use Rattle.grid_geometry.specs.Position.{Position}
 use Rattle.topo_reader.specs.Uses.{positions_of}
