@@ -10,7 +10,7 @@ use crate::arcs::Arcs;
 use crate::fault::WriteFault;
 use crate::rings::cut_named;
 use crate::texts::push_next;
-use arc_store::Map;
+use arc_store::MarkedMap;
 use device_io::{Sink, put_all};
 use grid_geometry::Pos;
 use segment_index::SegIndex;
@@ -46,7 +46,7 @@ fn send_next<A: Allocator + Copy, W: Sink>(
 /// Sends the arcs that are cut first of the ring with this place among those named, after so many
 /// that are cut of the rings before it. How many have been sent then.
 fn send_ring<'a, I: SegIndex, A: Allocator + Copy, W: Sink>(
-    map: &Map<'a, I, A>,
+    map: &MarkedMap<'_, 'a, I, A>,
     arcs: &Arcs<A>,
     i: usize,
     delta: bool,
@@ -75,7 +75,7 @@ fn send_ring<'a, I: SegIndex, A: Allocator + Copy, W: Sink>(
 
 /// Sends the arcs of the table, with commas between them.
 pub(crate) fn send_arcs<'a, I: SegIndex, A: Allocator + Copy, W: Sink>(
-    map: &Map<'a, I, A>,
+    map: &MarkedMap<'_, 'a, I, A>,
     arcs: &Arcs<A>,
     delta: bool,
     text: &mut Vec<u8, A>,

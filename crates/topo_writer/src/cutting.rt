@@ -1,14 +1,11 @@
 //! Ways and rings, cut at junctions (TopoJSON 1.0, 2.1.3).
-ghost use Rattle.std.specs.Prelude.{◌≡◌, ◌+◌, ◌<◌, ◌≤◌, ◌||◌, ◌++◌, ◌∷◌, [], drop, take, length};
-ghost use Rattle.std.specs.Prelude.{if◌then◌else◌, true, OnOk, IfOk};
-ghost use Rattle.ring_machine.specs.Vertices.{is_junction};
+ghost use Rattle.std.specs.Prelude.{◌≡◌, ◌+◌, ◌<◌, ◌≤◌, ◌||◌, ◌++◌, ◌∷◌, [], map, drop, take, length};
+ghost use Rattle.std.specs.Prelude.{if◌then◌else◌, Bool, List, true, false, get_or, OnOk, IfOk};
+ghost use Rattle.grid_geometry.specs.Position.{Position};
 ghost use Rattle.map_text.specs.Arcs.{begun, pieces};
-ghost use Rattle.topo_writer.specs.Found.{at_place};
 ghost use Rattle.topo_writer.specs.Ways.{is_end, cut_after};
 
-use arc_store::Map;
 use grid_geometry::Pos;
-use segment_index::SegIndex;
 use std::alloc::{AllocError, Allocator, Global};
 use std::marker::Model;
 
@@ -48,13 +45,13 @@ impl<A: Allocator + Copy> Piece<A> {
     }
 }
 
-/// Whether a piece of the way ends at a place.
-fn ends_at<'a, I: SegIndex, A: Allocator + Copy>(map: &Map<'a, I, A>, way: &[Pos], i: usize) -> bool
-    requires { i < length way.now }
-    ensures { result
-        ≡ (is_end (drop (i + 1) way.now) || is_junction map.now.doc (at_place way.now i)) }
+/// Whether a piece of the way, which is marked at its junctions, ends at a place.
+fn ends_at(way: &[Pos], marks: &[bool], i: usize) -> bool
+    requires way { i < length way.now }
+    requires marks { i < length marks.now }
+    ensures { result ≡ (is_end (drop (i + 1) way.now) || get_or marks.now i false) }
 {
-    i + 1 == way.len() || map.is_junction(way[i])
+    i + 1 == way.len() || marks[i]
 }
 
 /// Takes one more position into the piece that is open. It may end there; the next one then begins
@@ -81,34 +78,36 @@ fn go_on<A: Allocator + Copy>(
     Ok(())
 }
 
-/// The pieces of a way.
-fn cut_way<'a, I: SegIndex, A: Allocator + Copy>(
+/// The pieces of a way that is marked at its junctions.
+fn cut_way<A: Allocator + Copy>(
     alloc: A,
-    map: &Map<'a, I, A>,
     way: &[Pos],
+    marks: &[bool],
 ) -> Result<Vec<Piece<A>, A>, AllocError>
-    requires { 2 ≤ length way.now }
-    ensures { IfOk result (λ done. done.items
-        ≡ cut_after (is_junction map.now.doc) (take 1 way.now) (drop 1 way.now)) }
+    requires long { 2 ≤ length way.now }
+    requires marks { length marks.now ≡ length way.now }
+    ensures { IfOk result (λ done. (junction : Position → Bool) → marks.now ≡ map junction way.now
+        → done.items ≡ cut_after junction (take 1 way.now) (drop 1 way.now)) }
 {
     let mut done = Vec::new(alloc);
     let mut piece = Vec::from_slice(alloc, &way[..1])?;
     for i in 1..way.len() {
-        let ends = ends_at(map, way, i);
+        let ends = ends_at(way, marks, i);
         go_on(alloc, &mut done, &mut piece, way[i], ends)?;
     }
     Ok(done)
 }
 
-/// The place of the first junction of a ring; its first place where it has none.
-fn first_junction<'a, I: SegIndex, A: Allocator + Copy>(map: &Map<'a, I, A>, ring: &[Pos]) -> usize
-    requires { 0 < length ring.now }
-    ensures within { result < length ring.now }
-    ensures begun { begun (is_junction map.now.doc) ring.now
-        ≡ drop result ring.now ++ take result ring.now }
+/// The place of the first mark; the first place where there is none.
+fn first_mark(marks: &[bool]) -> usize
+    requires { 0 < length marks.now }
+    ensures within { result < length marks.now }
+    ensures begun { (junction : Position → Bool) (ring : List Position)
+        → marks.now ≡ map junction ring
+        → begun junction ring ≡ drop result ring ++ take result ring }
 {
-    for i in 0..ring.len() {
-        if map.is_junction(ring[i]) {
+    for i in 0..marks.len() {
+        if marks[i] {
             return i;
         }
     }
@@ -116,14 +115,14 @@ fn first_junction<'a, I: SegIndex, A: Allocator + Copy>(map: &Map<'a, I, A>, rin
 }
 
 /// The way round a ring from one of its places, and back to it.
-fn way_round<A: Allocator + Copy>(
+fn way_round<T: Copy, A: Allocator + Copy>(
     alloc: A,
-    ring: &[Pos],
+    ring: &[T],
     start: usize,
-) -> Result<Vec<Pos, A>, AllocError>
+) -> Result<Vec<T, A>, AllocError>
     requires { start < length ring.now }
     ensures { IfOk result (λ way. way.items
-        ≡ (drop start ring.now ++ take start ring.now) ++ at_place ring.now start ∷ []) }
+        ≡ (drop start ring.now ++ take start ring.now) ++ take 1 (drop start ring.now)) }
 {
     let mut way = Vec::from_slice(alloc, &ring[start..])?;
     way.extend_from_slice(&ring[..start])?;
@@ -131,19 +130,21 @@ fn way_round<A: Allocator + Copy>(
     Ok(way)
 }
 
-/// The pieces of a ring, from its first junction on.
-pub(crate) fn cut_ring<'a, I: SegIndex, A: Allocator + Copy>(
+/// The pieces of a ring that is marked at its junctions, from the first of these on.
+pub(crate) fn cut_ring<A: Allocator + Copy>(
     alloc: A,
-    map: &Map<'a, I, A>,
     ring: &[Pos],
+    marks: &[bool],
 ) -> Result<Vec<Piece<A>, A>, AllocError>
-    ensures { IfOk result (λ done. done.items ≡ pieces (is_junction map.now.doc) ring.now) }
+    requires { length marks.now ≡ length ring.now }
+    ensures { IfOk result (λ done. (junction : Position → Bool) → marks.now ≡ map junction ring.now
+        → done.items ≡ pieces junction ring.now) }
 {
     if ring.is_empty() {
         return Ok(Vec::new(alloc));
     }
-    let start = first_junction(map, ring);
+    let start = first_mark(marks);
     let way = way_round(alloc, ring, start)?;
-    let done = cut_way(alloc, map, way.as_slice())?;
-    Ok(done)
+    let marks = way_round(alloc, marks, start)?;
+    cut_way(alloc, way.as_slice(), marks.as_slice())
 }

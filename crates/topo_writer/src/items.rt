@@ -20,7 +20,7 @@ use crate::fault::WriteFault;
 use crate::members::{push_closing, push_opening};
 use crate::shapes::push_feature;
 use crate::texts::push_comma;
-use arc_store::{ItemIter, ItemView, Map};
+use arc_store::{ItemIter, ItemView, MarkedMap};
 use device_io::{Sink, put_all};
 use segment_index::SegIndex;
 use std::alloc::{AllocError, Allocator};
@@ -62,7 +62,7 @@ fn push_close<'m, 'a, A: Allocator + Copy>(
 
 /// Appends the feature with this number.
 fn push_leaf<'a, I: SegIndex, A: Allocator + Copy>(
-    map: &Map<'a, I, A>,
+    map: &MarkedMap<'_, 'a, I, A>,
     arcs: &mut Arcs<A>,
     text: &mut Vec<u8, A>,
     more: bool,
@@ -101,7 +101,7 @@ fn push_kept_text<A: Allocator + Copy>(
 /// Appends an item into the innermost of these collections, after a comma where something stands
 /// there already. Whether something stands before what follows.
 fn push_item<'m, 'a, I: SegIndex, A: Allocator + Copy>(
-    map: &Map<'a, I, A>,
+    map: &MarkedMap<'_, 'a, I, A>,
     arcs: &mut Arcs<A>,
     text: &mut Vec<u8, A>,
     heads: &mut Vec<&'m Head<'a, A>, A>,
@@ -144,7 +144,7 @@ fn push_item<'m, 'a, I: SegIndex, A: Allocator + Copy>(
 /// Sends an item in the innermost of these collections, after a comma where something stands there
 /// already. Whether something stands before what follows.
 fn send_item<'m, 'a, I: SegIndex, A: Allocator + Copy, W: Sink>(
-    map: &Map<'a, I, A>,
+    map: &MarkedMap<'_, 'a, I, A>,
     arcs: &mut Arcs<A>,
     heads: &mut Vec<&'m Head<'a, A>, A>,
     more: bool,
@@ -175,7 +175,7 @@ fn send_item<'m, 'a, I: SegIndex, A: Allocator + Copy, W: Sink>(
 /// Sends the items of a layer of the map, by the indexes of their rings' arcs in the text of the
 /// whole map, one after another. A piece that is no arc yet becomes the next one.
 pub(crate) fn send_items<'m, 'a, I: SegIndex, A: Allocator + Copy, W: Sink>(
-    map: &Map<'a, I, A>,
+    map: &MarkedMap<'_, 'a, I, A>,
     arcs: &mut Arcs<A>,
     items: ItemIter<'m, 'a, A>,
     text: &mut Vec<u8, A>,

@@ -12,7 +12,7 @@ use crate::arcs::Arcs;
 use crate::fault::WriteFault;
 use crate::items::send_items;
 use crate::texts::push_comma;
-use arc_store::{FrameView, Map};
+use arc_store::{FrameView, MarkedMap};
 use device_io::{Sink, put_all};
 use segment_index::SegIndex;
 use std::alloc::{AllocError, Allocator};
@@ -34,7 +34,7 @@ fn push_name<A: Allocator + Copy>(
 /// Sends the layer with this number, and a comma where something stands before. A piece that is no
 /// arc yet becomes the next one.
 fn send_layer<'m, 'a, I: SegIndex, A: Allocator + Copy, W: Sink>(
-    map: &Map<'a, I, A>,
+    map: &MarkedMap<'_, 'a, I, A>,
     frame: &FrameView<'m, 'a, A>,
     i: usize,
     arcs: &mut Arcs<A>,
@@ -66,7 +66,7 @@ fn send_layer<'m, 'a, I: SegIndex, A: Allocator + Copy, W: Sink>(
 
 /// Sends the layers, with commas between them, and takes their arcs into the table.
 pub(crate) fn send_layers<'m, 'a, I: SegIndex, A: Allocator + Copy, W: Sink>(
-    map: &Map<'a, I, A>,
+    map: &MarkedMap<'_, 'a, I, A>,
     frame: &FrameView<'m, 'a, A>,
     arcs: &mut Arcs<A>,
     text: &mut Vec<u8, A>,

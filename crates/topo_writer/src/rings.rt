@@ -11,45 +11,34 @@ ghost use Rattle.topo_writer.specs.Tables.{TakesPolygon, TakesRing};
 use crate::arcs::{Arcs, RingName};
 use crate::cutting::{Piece, cut_ring};
 use crate::texts::{push_comma, push_ring};
-use arc_store::Map;
-use grid_geometry::Pos;
+use arc_store::MarkedMap;
 use segment_index::SegIndex;
 use std::alloc::{AllocError, Allocator};
-
-/// The positions of a ring of the map, from the least one on; none where there is no such ring.
-fn positions_of<'a, I: SegIndex, A: Allocator + Copy>(
-    alloc: A,
-    map: &Map<'a, I, A>,
-    name: RingName,
-) -> Result<Vec<Pos, A>, AllocError>
-    ensures { IfOk result (λ positions. positions.items ≡ named_ring map.now.doc name) }
-{
-    let mut positions = Vec::new(alloc);
-    let Some(ring) = map.ring(name.feature, name.polygon, name.ring) else {
-        return Ok(positions);
-    };
-    for p in ring {
-        positions.push(p)?;
-    }
-    Ok(positions)
-}
 
 /// The pieces of a ring of the map, from its first junction on; none where there is no such ring.
 pub(crate) fn cut_named<'a, I: SegIndex, A: Allocator + Copy>(
     alloc: A,
-    map: &Map<'a, I, A>,
+    map: &MarkedMap<'_, 'a, I, A>,
     name: RingName,
 ) -> Result<Vec<Piece<A>, A>, AllocError>
     ensures { IfOk result (λ done. done.items ≡ named_pieces map.now.doc name) }
 {
-    let positions = positions_of(alloc, map, name)?;
-    cut_ring(alloc, map, positions.as_slice())
+    let mut positions = Vec::new(alloc);
+    let mut marks = Vec::new(alloc);
+    map.push_ring(
+        name.feature,
+        name.polygon,
+        name.ring,
+        &mut positions,
+        &mut marks,
+    )?;
+    cut_ring(alloc, positions.as_slice(), marks.as_slice())
 }
 
 /// Appends a ring of the map by the indexes of its arcs. A piece that is no arc yet becomes the
 /// next one.
 fn push_ring_of<'a, I: SegIndex, A: Allocator + Copy>(
-    map: &Map<'a, I, A>,
+    map: &MarkedMap<'_, 'a, I, A>,
     arcs: &mut Arcs<A>,
     text: &mut Vec<u8, A>,
     name: RingName,
@@ -74,7 +63,7 @@ fn push_ring_of<'a, I: SegIndex, A: Allocator + Copy>(
 /// Appends a polygon of the map, which has so many rings, by the indexes of its arcs. A piece that
 /// is no arc yet becomes the next one.
 pub(crate) fn push_polygon_of<'a, I: SegIndex, A: Allocator + Copy>(
-    map: &Map<'a, I, A>,
+    map: &MarkedMap<'_, 'a, I, A>,
     arcs: &mut Arcs<A>,
     text: &mut Vec<u8, A>,
     n: u32,

@@ -15,14 +15,14 @@ use crate::arcs::Arcs;
 use crate::members::{push_kept, push_member_if};
 use crate::rings::push_polygon_of;
 use crate::texts::push_comma;
-use arc_store::{FeatureView, Map};
+use arc_store::{FeatureView, MarkedMap};
 use segment_index::SegIndex;
 use std::alloc::{AllocError, Allocator};
 use topo_outline::Form;
 
 /// Appends the polygons of the feature with this number, with commas between them.
 pub(crate) fn push_polygons_of<'a, I: SegIndex, A: Allocator + Copy>(
-    map: &Map<'a, I, A>,
+    map: &MarkedMap<'_, 'a, I, A>,
     arcs: &mut Arcs<A>,
     text: &mut Vec<u8, A>,
     view: &FeatureView<'_, 'a, A>,
@@ -48,7 +48,7 @@ pub(crate) fn push_polygons_of<'a, I: SegIndex, A: Allocator + Copy>(
 /// Appends the member `arcs` of the feature with this number, after a comma: its one polygon, or
 /// the list of its polygons, or nothing (TopoJSON 1.0, 2.2).
 fn push_shape<'a, I: SegIndex, A: Allocator + Copy>(
-    map: &Map<'a, I, A>,
+    map: &MarkedMap<'_, 'a, I, A>,
     arcs: &mut Arcs<A>,
     text: &mut Vec<u8, A>,
     view: &FeatureView<'_, 'a, A>,
@@ -94,7 +94,7 @@ fn type_token(form: Form) -> &'static [u8]
 /// Appends the feature with this number, by the indexes of its rings' arcs. A piece that is no arc
 /// yet becomes the next one.
 pub(crate) fn push_feature<'a, I: SegIndex, A: Allocator + Copy>(
-    map: &Map<'a, I, A>,
+    map: &MarkedMap<'_, 'a, I, A>,
     arcs: &mut Arcs<A>,
     text: &mut Vec<u8, A>,
     view: &FeatureView<'_, 'a, A>,

@@ -56,14 +56,15 @@ fn send_map<'m, 'a, I: SegIndex, A: Allocator + Copy, W: Sink>(
     requires frame { IsMapFrame map.now.doc frame.now }
     ensures { Sends W.Sink of_device out.old out.new result (text_of map.now.doc) }
 {
+    let map = map.marked()?;
     let mut text = Vec::new(alloc);
     let mut arcs = Arcs::new(alloc);
     push_begin(&mut text, frame.transform())?;
     put_all(out, text.as_slice())?;
-    send_layers(map, frame, &mut arcs, &mut text, out)?;
+    send_layers(&map, frame, &mut arcs, &mut text, out)?;
     put_all(out, b"},\"arcs\":[")?;
     let delta = frame.transform().is_some();
-    send_arcs(map, &arcs, delta, &mut text, out)?;
+    send_arcs(&map, &arcs, delta, &mut text, out)?;
     text.clear();
     push_end(&mut text, frame.members())?;
     put_all(out, text.as_slice())?;
