@@ -141,14 +141,14 @@ ends_times k x (e ∷ es) h = elim (Contains-append_cases (other_end k e) (other
     here false false a b m = absurd (omega (arith, m.1))
 
 -- an element of a flat_map is one of an element's
-pub in_flat_map : (f : ℕ → List ℕ) (xs : List ℕ) (y : ℕ) → Contains (flat_map f xs) y → (x : ℕ) × Contains xs x × Contains (f x) y
+pub in_flat_map : {X : Type 0} (f : X → List ℕ) (xs : List X) (y : ℕ) → Contains (flat_map f xs) y → (x : X) × Contains xs x × Contains (f x) y
 in_flat_map f [] y h = absurd (omega (arith, h.1))
 in_flat_map f (x ∷ xs) y h = elim (Contains-append_cases (f x) (flat_map f xs) y h) [
   | inl m ↦ (x, (0, omega arith, refl), m)
   | inr m ↦ let k = in_flat_map f xs y m in (k.0, Contains-cons x k.0 xs k.1, k.2)
 ]
 
-pub to_flat_map : (f : ℕ → List ℕ) (xs : List ℕ) (x y : ℕ) → Contains xs x → Contains (f x) y → Contains (flat_map f xs) y
+pub to_flat_map : {X : Type 0} (f : X → List ℕ) (xs : List X) (x : X) (y : ℕ) → Contains xs x → Contains (f x) y → Contains (flat_map f xs) y
 to_flat_map f [] x y m h = absurd (omega (arith, m.1))
 to_flat_map f (z ∷ xs) x y m h = elim (Contains-cons_cases z x xs m) [
   | inl e ↦ Contains-append_left (f z) (flat_map f xs) y (subst (λ w. Contains (f w) y) (sym e) h)

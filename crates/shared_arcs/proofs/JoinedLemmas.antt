@@ -120,14 +120,17 @@ module _ {A : Type 0} where
       to_flat_map (λ i. other_ends k (links (path_of t i))) (stand_at t.stands.items k) f.0 x (listed f.0 k (stands_in k x (path_of t f.0) f.1)) (times_ends k x (links (path_of t f.0)) f.1)
 
   -- so it is seen there which they are
-  pub neighbours_seen : (t : Tables A) (k : ℕ) → EachUsed t → Listed t.arcs t.stands.items → AreNeighbours (rings_of t) k (noted_all None (ends_among (path_of t) (stand_at t.stands.items k) k))
-  neighbours_seen t k used listed = are (noted_all None (ends_at t k)) (sees_alike (Contains (ends_at t k)) (Joined (rings_of t) k) (end_joined t k used) (joined_end t k listed) (noted_all None (ends_at t k)) (sees_list (ends_at t k)))
+  pub neighbours_of : (t : Tables A) (k : ℕ) (ends : List ℕ) → ((x : ℕ) → Contains ends x → Joined (rings_of t) k x) → ((x : ℕ) → Joined (rings_of t) k x → Contains ends x) → AreNeighbours (rings_of t) k (noted_all None ends)
+  neighbours_of t k ends forth back = are (noted_all None ends) (sees_alike (Contains ends) (Joined (rings_of t) k) forth back (noted_all None ends) (sees_list ends))
     where
       are : (n : Neighbours) → Sees (Joined (rings_of t) k) n → AreNeighbours (rings_of t) k n
       are None h = h
       are (One a) h = h
       are (Two a b) h = h
       are More h = record { a = h.0; b = h.1; c = h.2; apart = h.3; joined = h.4 }
+
+  pub neighbours_seen : (t : Tables A) (k : ℕ) → EachUsed t → Listed t.arcs t.stands.items → AreNeighbours (rings_of t) k (noted_all None (ends_among (path_of t) (stand_at t.stands.items k) k))
+  neighbours_seen t k used listed = neighbours_of t k (ends_at t k) (end_joined t k used) (joined_end t k listed)
 
   -- and listed
   pub lists_joined : (t : Tables A) (k : ℕ) (old new : List ℕ) → EachUsed t → Listed t.arcs t.stands.items → new ≡ gathered (length old) old (ends_among (path_of t) (stand_at t.stands.items k) k) → ListsJoined (rings_of t) k old new

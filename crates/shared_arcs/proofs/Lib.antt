@@ -5,3 +5,4 @@ pub mod JoinedLemmas
 pub mod AroundLemmas
 pub mod ShortestLemmas
 pub mod CallerLemmas
+pub mod SeenLemmas

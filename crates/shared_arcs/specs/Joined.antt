@@ -1,5 +1,5 @@
 -- Which vertices the rings join, and the rings at a vertex.
-use Rattle.std.specs.Prelude.{ℕ, ◌≡◌, ◌≢◌, ◌≤◌, ◌⊎◌, ◌↔◌, List, Some}
+use Rattle.std.specs.Prelude.{ℕ, ◌≡◌, ◌≢◌, ◌≤◌, ◌⊎◌, ◌↔◌, List, Some, get_or}
 use Rattle.std.specs.FinMap as rings
 use Rattle.shared_arcs.specs.declared.around.Neighbours.{Neighbours}
 use Rattle.shared_arcs.specs.declared.around.Neighbours.TheVariants.{None, One, Two, More}
@@ -34,3 +34,7 @@ AreNeighbours m k None = (x : ℕ) → ¬ Joined m k x
 AreNeighbours m k (One a) = (x : ℕ) → Joined m k x ↔ (x ≡ a)
 AreNeighbours m k (Two a b) = (a ≢ b) × ((x : ℕ) → Joined m k x ↔ ((x ≡ a) ⊎ (x ≡ b)))
 AreNeighbours m k More = Three m k
+
+-- the list has for each vertex which are joined to it, and ends where no later one has any
+abbrev pub AreAllNeighbours : Rings → List Neighbours → Type 0
+AreAllNeighbours m table = (k : ℕ) → AreNeighbours m k (get_or table k None)

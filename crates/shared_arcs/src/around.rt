@@ -26,7 +26,7 @@ pub enum Neighbours {
 }
 
 /// The neighbours, where `x` is one too.
-fn with_neighbour(seen: Neighbours, x: VertexKey) -> Neighbours
+pub(crate) fn with_neighbour(seen: Neighbours, x: VertexKey) -> Neighbours
     ensures { result ≡ noted seen x }
 {
     match seen {

@@ -2,6 +2,7 @@
 //! have it. Seen as the edges of each ring; where borders are cut can't be seen.
 #![tactic(auto)]
 
+mod all_around;
 mod around;
 mod borders;
 mod joined;

@@ -1,0 +1,15 @@
+use Rattle.std.proofs.Common.{arith, ◌∙◌, ap, get_or, take}
+use Rattle.shared_arcs.specs.declared.around.Neighbours.TheVariants.{None}
+use Rattle.arc_tables.specs.Ways.{Edge, links}
+use Rattle.shared_arcs.specs.Around.{noted_all, other_end, other_ends}
+use Rattle.shared_arcs.proofs.AroundLemmas.{ends_more}
+use Rattle.shared_arcs.proofs.SeenLemmas.{sees_then}
+use Rattle.shared_arcs.proofs.all_around.see_path.Goals as goal
+
+pub loop-at-preserved : goal.loop-at-preserved
+loop-at-preserved g c = λ k.
+    let path = c.args.path.now in
+    let at = c.loop-at.at in
+    let edge : Edge = (c.index-path-at.result, c.index-path-at-in-loop-at.result) in
+    sees_then c.args.table.now.items c.loop-at.table.items c.see_edge.new.table.items (λ j. other_ends j (links (take at path))) (λ j. other_end j edge) c.loop-at.invariant c.in_ok-see_edge.ensures k
+    ∙ ap (noted_all (get_or c.args.table.now.items k None)) (ends_more k path at edge.0 edge.1 (omega arith) (omega arith) c.index-path-at.is c.index-path-at-in-loop-at.is)

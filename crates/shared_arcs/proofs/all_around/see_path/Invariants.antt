@@ -1,0 +1,7 @@
+use Rattle.std.proofs.Common.{take}
+use Rattle.arc_tables.specs.Ways.{links}
+use Rattle.shared_arcs.specs.Around.{other_ends, SeesMore}
+use Rattle.shared_arcs.proofs.all_around.see_path.Given as goal
+
+abbrev pub invariant-loop-at : goal.invariant-loop-at
+invariant-loop-at g l = SeesMore l.fn.table.items l.table.items (λ j. other_ends j (links (take l.at l.path)))

@@ -1,0 +1,14 @@
+use Rattle.std.proofs.Common.{subst}
+use Rattle.shared_arcs.specs.Around.{SeesMore, ends_in}
+use Rattle.slab.specs.Slab.{entries}
+use Rattle.shared_arcs.specs.Joined.{AreAllNeighbours}
+use Rattle.shared_arcs.proofs.JoinedLemmas.{each_used}
+use Rattle.shared_arcs.proofs.SeenLemmas.{all_seen}
+use Rattle.shared_arcs.proofs.borders.Borders.all_neighbours.Goals as goal
+
+pub returns-in-Ok : goal.returns-in-Ok
+returns-in-Ok g c =
+    let t = c.self.inside.tables in
+    let table = c.see_arcs.new.table.items in
+    subst (λ m. AreAllNeighbours m table) c.self.view_is
+    (all_seen t (each_used t c.self.invariant.whole.known) table (subst (λ was. SeesMore was table (λ j. ends_in (entries t.arcs) j)) c.in_ok-table.ensures.items c.in-Ok.ensures))
