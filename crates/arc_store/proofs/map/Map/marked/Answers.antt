@@ -1,6 +1,6 @@
 use Rattle.std.proofs.Common.{ap}
 use Rattle.arc_store.specs.State.{State}
-use Rattle.arc_store.proofs.map.Map.junctions.Goals as goal
+use Rattle.arc_store.proofs.map.Map.marked.Goals as goal
 
 pub invariant_of-result : goal.invariant_of-result
 invariant_of-result g c = record { whole = c.self.invariant.holds.whole; neighbours = c.in_ok-around.ensures }

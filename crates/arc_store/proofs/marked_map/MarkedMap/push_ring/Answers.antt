@@ -7,7 +7,7 @@ use Rattle.feature_exchange.specs.Marked.{MarksAlong}
 use Rattle.feature_exchange.specs.Stored.{stored_in, document_of}
 use Rattle.feature_exchange.proofs.PolygonsRead.{along}
 use Rattle.arc_store.proofs.MarkedRings.{ring_read, no_ring_read, number_held, junctions_along}
-use Rattle.arc_store.proofs.junctions.Junctions.push_ring.Goals as goal
+use Rattle.arc_store.proofs.marked_map.MarkedMap.push_ring.Goals as goal
 
 pub returns-in_default-clause-positions : goal.returns-in_default-clause-positions
 returns-in_default-clause-positions g c =

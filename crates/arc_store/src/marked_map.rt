@@ -1,11 +1,12 @@
-ghost use Rattle.std.specs.Prelude.{◌≡◌, ◌++◌, [], map, unwrap_or, IfOk, OnOk};
+ghost use Rattle.std.specs.Prelude.{◌≡◌, ◌++◌, [], map, option_map, unwrap_or, IfOk, OnOk};
+ghost use Rattle.ring_machine.specs.Parts.{feature};
 ghost use Rattle.ring_machine.specs.Vertices.{is_junction};
-ghost use Rattle.map_frame.specs.Readers.{ring_at};
+ghost use Rattle.map_frame.specs.Readers.{ring_at, shown};
 
 use crate::map::Map;
 use feature_exchange::push_marked_ring;
 use grid_geometry::Pos;
-use map_frame::Frame;
+use map_frame::{FeatureView, Frame};
 use ring_store::RingTables;
 use segment_index::SegIndex;
 use shared_arcs::Neighbours;
@@ -14,26 +15,33 @@ use std::marker::Model;
 
 /// A map that stays as it is, with its junctions known. It is seen as its document.
 #[derive(Drop)]
-pub struct Junctions<'m, 'a, I: SegIndex, A: Allocator + Copy = Global> {
+pub struct MarkedMap<'m, 'a, I: SegIndex, A: Allocator + Copy = Global> {
     frame: &'m Frame<'a, A>,
     rings: &'m RingTables<I, A>,
     /// What stands around each vertex, by the index of its key.
     around: Vec<Neighbours, A>,
 }
 
-impl<'m, 'a, I: SegIndex, A: Allocator + Copy> Model for Junctions<'m, 'a, I, A> {
+impl<'m, 'a, I: SegIndex, A: Allocator + Copy> Model for MarkedMap<'m, 'a, I, A> {
     ghost use Rattle.ring_machine.specs.Document.{Document};
     ghost use Rattle.feature_exchange.specs.Stored.{stored_in, document_of};
     ghost use Rattle.arc_store.specs.Kept.{HasAround};
 
     ghost Value = { Document };
 
-    ghost view = { λ j. document_of (stored_in j.frame.now j.rings.now) };
+    ghost view = { λ m. document_of (stored_in m.frame.now m.rings.now) };
 
-    ghost invariant = { λ j. HasAround (stored_in j.frame.now j.rings.now) j.around.items };
+    ghost invariant = { λ m. HasAround (stored_in m.frame.now m.rings.now) m.around.items };
 }
 
-impl<'m, 'a, I: SegIndex, A: Allocator + Copy> Junctions<'m, 'a, I, A> {
+impl<'m, 'a, I: SegIndex, A: Allocator + Copy> MarkedMap<'m, 'a, I, A> {
+    /// The feature with this number; `None` where no feature has it. Takes no walk and no memory.
+    pub fn feature(&self, n: u32) -> Option<FeatureView<'_, 'a, A>>
+        ensures { result ≡ option_map shown (feature self.now n) }
+    {
+        self.frame.feature(n)
+    }
+
     /// Appends the positions of a ring, from the least one on, and for each whether borders meet
     /// there: of the feature with this number the polygon and the ring of these numbers, where the
     /// outer ring is the first one. Appends nothing where there is no such ring. Fails for want of
@@ -61,11 +69,11 @@ impl<'m, 'a, I: SegIndex, A: Allocator + Copy> Junctions<'m, 'a, I, A> {
 
 impl<'a, I: SegIndex, A: Allocator + Copy> Map<'a, I, A> {
     /// The map with its junctions known. Walks the borders. Fails for want of memory alone.
-    pub fn junctions(&self) -> Result<Junctions<'_, 'a, I, A>, AllocError>
-        ensures { IfOk result (λ j. j ≡ self.now.doc) }
+    pub fn marked(&self) -> Result<MarkedMap<'_, 'a, I, A>, AllocError>
+        ensures { IfOk result (λ m. m ≡ self.now.doc) }
     {
         let around = self.rings.borders.all_neighbours()?;
-        Ok(Junctions {
+        Ok(MarkedMap {
             frame: &self.frame,
             rings: &self.rings,
             around,
