@@ -55,14 +55,14 @@ fn send_ring<'a, I: SegIndex, A: Allocator + Copy, W: Sink>(
     out: &mut W,
 ) -> Result<usize, WriteFault>
     requires working { W.has_failed out.old ≡ false }
-    requires proper { Proper map.now.doc }
-    requires table { FindsArcs map.now.doc arcs.now }
+    requires proper { Proper map.now }
+    requires table { FindsArcs map.now arcs.now }
     requires few { arcs.now.count ≤ 4000000 }
     requires there { i < length arcs.now.rings.items }
-    requires sent { sent ≡ length (first_arcs map.now.doc arcs.now i) }
-    ensures sent { IfOk result (λ after. after ≡ length (first_arcs map.now.doc arcs.now (i + 1))) }
+    requires sent { sent ≡ length (first_arcs map.now arcs.now i) }
+    ensures sent { IfOk result (λ after. after ≡ length (first_arcs map.now arcs.now (i + 1))) }
     ensures sends { Sends W.Sink of_device out.old out.new result
-        (listed_of_ring delta map.now.doc arcs.now i) }
+        (listed_of_ring delta map.now arcs.now i) }
 {
     let pieces = cut_named(*text.allocator(), map, arcs.ring_name(i))?;
     let cut = pieces.as_slice();
@@ -82,11 +82,11 @@ pub(crate) fn send_arcs<'a, I: SegIndex, A: Allocator + Copy, W: Sink>(
     out: &mut W,
 ) -> Result<(), WriteFault>
     requires working { W.has_failed out.old ≡ false }
-    requires proper { Proper map.now.doc }
-    requires table { FindsArcs map.now.doc arcs.now }
+    requires proper { Proper map.now }
+    requires table { FindsArcs map.now arcs.now }
     requires few { arcs.now.count ≤ 4000000 }
     ensures { Sends W.Sink of_device out.old out.new result
-        (all_listed delta map.now.doc arcs.now) }
+        (all_listed delta map.now arcs.now) }
 {
     let mut sent = 0;
     for i in 0..arcs.rings.len() {

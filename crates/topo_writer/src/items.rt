@@ -68,15 +68,15 @@ fn push_leaf<'a, I: SegIndex, A: Allocator + Copy>(
     more: bool,
     n: u32,
 ) -> Result<(), AllocError>
-    requires proper { Proper map.now.doc }
-    requires formed { WellFormed map.now.doc }
-    requires there { feature map.now.doc n ≡ Some (feature_at map.now.doc n) }
-    requires table { FindsArcs map.now.doc arcs.old }
-    requires leads { Leads map.now.doc arcs.old (Stands n ∷ []) }
-    ensures table { OnOk result (FindsArcs map.now.doc arcs.new) }
-    ensures arcs { OnOk result (TakesFeature map.now.doc arcs.old arcs.new n) }
+    requires proper { Proper map.now }
+    requires formed { WellFormed map.now }
+    requires there { feature map.now n ≡ Some (feature_at map.now n) }
+    requires table { FindsArcs map.now arcs.old }
+    requires leads { Leads map.now arcs.old (Stands n ∷ []) }
+    ensures table { OnOk result (FindsArcs map.now arcs.new) }
+    ensures arcs { OnOk result (TakesFeature map.now arcs.old arcs.new n) }
     ensures text { OnOk result (text.new.items
-        ≡ text.old.items ++ (comma_if more ++ leaf_text map.now.doc n)) }
+        ≡ text.old.items ++ (comma_if more ++ leaf_text map.now n)) }
 {
     let Some(view) = map.feature(n) else {
         return Ok(());
@@ -108,18 +108,18 @@ fn push_item<'m, 'a, I: SegIndex, A: Allocator + Copy>(
     more: bool,
     item: ItemView<'m, 'a, A>,
 ) -> Result<bool, AllocError>
-    requires proper { Proper map.now.doc }
-    requires formed { WellFormed map.now.doc }
-    requires there { IsThere map.now.doc (view_item_view item) }
-    requires table { FindsArcs map.now.doc arcs.old }
-    requires leads { Leads map.now.doc arcs.old (view_item_view item ∷ []) }
-    ensures table { OnOk result (FindsArcs map.now.doc arcs.new) }
-    ensures arcs { OnOk result (TakesItem map.now.doc arcs.old arcs.new item.entry) }
+    requires proper { Proper map.now }
+    requires formed { WellFormed map.now }
+    requires there { IsThere map.now (view_item_view item) }
+    requires table { FindsArcs map.now arcs.old }
+    requires leads { Leads map.now arcs.old (view_item_view item ∷ []) }
+    ensures table { OnOk result (FindsArcs map.now arcs.new) }
+    ensures arcs { OnOk result (TakesItem map.now arcs.old arcs.new item.entry) }
     ensures text { OnOk result (text.new.items ≡ text.old.items
-        ++ items_text (open_heads heads.old.items) more (written map.now.doc item.entry)) }
+        ++ items_text (open_heads heads.old.items) more (written map.now item.entry)) }
     ensures heads { OnOk result (open_heads heads.new.items
-        ≡ open_after (open_heads heads.old.items) (written map.now.doc item.entry)) }
-    ensures more { IfOk result (λ after. after ≡ more_after more (written map.now.doc item.entry)) }
+        ≡ open_after (open_heads heads.old.items) (written map.now item.entry)) }
+    ensures more { IfOk result (λ after. after ≡ more_after more (written map.now item.entry)) }
 {
     match item {
         ItemView::Open(head) => {
@@ -153,18 +153,18 @@ fn send_item<'m, 'a, I: SegIndex, A: Allocator + Copy, W: Sink>(
     out: &mut W,
 ) -> Result<bool, WriteFault>
     requires working { W.has_failed out.old ≡ false }
-    requires proper { Proper map.now.doc }
-    requires formed { WellFormed map.now.doc }
-    requires there { IsThere map.now.doc (view_item_view item) }
-    requires table { FindsArcs map.now.doc arcs.old }
-    requires leads { Leads map.now.doc arcs.old (view_item_view item ∷ []) }
-    ensures table { OnOk result (FindsArcs map.now.doc arcs.new) }
-    ensures arcs { OnOk result (TakesItem map.now.doc arcs.old arcs.new item.entry) }
+    requires proper { Proper map.now }
+    requires formed { WellFormed map.now }
+    requires there { IsThere map.now (view_item_view item) }
+    requires table { FindsArcs map.now arcs.old }
+    requires leads { Leads map.now arcs.old (view_item_view item ∷ []) }
+    ensures table { OnOk result (FindsArcs map.now arcs.new) }
+    ensures arcs { OnOk result (TakesItem map.now arcs.old arcs.new item.entry) }
     ensures heads { OnOk result (open_heads heads.new.items
-        ≡ open_after (open_heads heads.old.items) (written map.now.doc item.entry)) }
-    ensures more { IfOk result (λ after. after ≡ more_after more (written map.now.doc item.entry)) }
+        ≡ open_after (open_heads heads.old.items) (written map.now item.entry)) }
+    ensures more { IfOk result (λ after. after ≡ more_after more (written map.now item.entry)) }
     ensures sends { Sends W.Sink of_device out.old out.new result
-        (items_text (open_heads heads.old.items) more (written map.now.doc item.entry)) }
+        (items_text (open_heads heads.old.items) more (written map.now item.entry)) }
 {
     text.clear();
     let after = push_item(map, arcs, text, heads, more, item)?;
@@ -182,15 +182,15 @@ pub(crate) fn send_items<'m, 'a, I: SegIndex, A: Allocator + Copy, W: Sink>(
     out: &mut W,
 ) -> Result<(), WriteFault>
     requires working { W.has_failed out.old ≡ false }
-    requires proper { Proper map.now.doc }
-    requires formed { WellFormed map.now.doc }
-    requires shows { ShowsLayer map.now.doc items }
-    requires table { FindsArcs map.now.doc arcs.old }
-    requires leads { Leads map.now.doc arcs.old items }
-    ensures table { OnOk result (FindsArcs map.now.doc arcs.new) }
-    ensures arcs { OnOk result (TakesItems map.now.doc arcs.old arcs.new items.entry) }
+    requires proper { Proper map.now }
+    requires formed { WellFormed map.now }
+    requires shows { ShowsLayer map.now items }
+    requires table { FindsArcs map.now arcs.old }
+    requires leads { Leads map.now arcs.old items }
+    ensures table { OnOk result (FindsArcs map.now arcs.new) }
+    ensures arcs { OnOk result (TakesItems map.now arcs.old arcs.new items.entry) }
     ensures sends { Sends W.Sink of_device out.old out.new result
-        (items_text [] false (items_written map.now.doc items.entry)) }
+        (items_text [] false (items_written map.now items.entry)) }
 {
     let mut heads = Vec::new(*text.allocator());
     let mut more = false;

@@ -42,14 +42,14 @@ fn send_layer<'m, 'a, I: SegIndex, A: Allocator + Copy, W: Sink>(
     out: &mut W,
 ) -> Result<(), WriteFault>
     requires working { W.has_failed out.old ≡ false }
-    requires frame { IsMapFrame map.now.doc frame.now }
-    requires there { i < length map.now.doc.layers }
-    requires table { FindsArcs map.now.doc arcs.old }
-    requires arcs { arcs_in map.now.doc arcs.old ≡ arcs_after map.now.doc i }
-    ensures table { OnOk result (FindsArcs map.now.doc arcs.new) }
-    ensures arcs { OnOk result (arcs_in map.now.doc arcs.new ≡ arcs_after map.now.doc (i + 1)) }
+    requires frame { IsMapFrame map.now frame.now }
+    requires there { i < length map.now.layers }
+    requires table { FindsArcs map.now arcs.old }
+    requires arcs { arcs_in map.now arcs.old ≡ arcs_after map.now i }
+    ensures table { OnOk result (FindsArcs map.now arcs.new) }
+    ensures arcs { OnOk result (arcs_in map.now arcs.new ≡ arcs_after map.now (i + 1)) }
     ensures sends { Sends W.Sink of_device out.old out.new result
-        (comma_if (nat_lt 0 i) ++ layer_text map.now.doc (layer_at map.now.doc i)) }
+        (comma_if (nat_lt 0 i) ++ layer_text map.now (layer_at map.now i)) }
 {
     let Some(name) = frame.layer_name(i) else {
         return Ok(());
@@ -73,12 +73,12 @@ pub(crate) fn send_layers<'m, 'a, I: SegIndex, A: Allocator + Copy, W: Sink>(
     out: &mut W,
 ) -> Result<(), WriteFault>
     requires working { W.has_failed out.old ≡ false }
-    requires frame { IsMapFrame map.now.doc frame.now }
+    requires frame { IsMapFrame map.now frame.now }
     requires table { Finds arcs.old [] }
     requires none { arcs.old.rings.items ≡ [] }
-    ensures table { OnOk result (FindsArcs map.now.doc arcs.new) }
-    ensures arcs { OnOk result (arcs_in map.now.doc arcs.new ≡ arcs_of map.now.doc) }
-    ensures sends { Sends W.Sink of_device out.old out.new result (layers_text map.now.doc) }
+    ensures table { OnOk result (FindsArcs map.now arcs.new) }
+    ensures arcs { OnOk result (arcs_in map.now arcs.new ≡ arcs_of map.now) }
+    ensures sends { Sends W.Sink of_device out.old out.new result (layers_text map.now) }
 {
     for i in 0..frame.layer_count() {
         send_layer(map, frame, i, arcs, text, out)?;

@@ -21,7 +21,7 @@ pub(crate) fn cut_named<'a, I: SegIndex, A: Allocator + Copy>(
     map: &MarkedMap<'_, 'a, I, A>,
     name: RingName,
 ) -> Result<Vec<Piece<A>, A>, AllocError>
-    ensures { IfOk result (λ done. done.items ≡ named_pieces map.now.doc name) }
+    ensures { IfOk result (λ done. done.items ≡ named_pieces map.now name) }
 {
     let mut positions = Vec::new(alloc);
     let mut marks = Vec::new(alloc);
@@ -43,14 +43,14 @@ fn push_ring_of<'a, I: SegIndex, A: Allocator + Copy>(
     text: &mut Vec<u8, A>,
     name: RingName,
 ) -> Result<(), AllocError>
-    requires proper { Proper map.now.doc }
-    requires there { Contains (rings map.now.doc) (named_ring map.now.doc name) }
-    requires table { FindsArcs map.now.doc arcs.old }
-    requires few { HasRoomForRing map.now.doc arcs.old name }
-    ensures table { OnOk result (FindsArcs map.now.doc arcs.new) }
-    ensures arcs { OnOk result (TakesRing map.now.doc arcs.old arcs.new name) }
+    requires proper { Proper map.now }
+    requires there { Contains (rings map.now) (named_ring map.now name) }
+    requires table { FindsArcs map.now arcs.old }
+    requires few { HasRoomForRing map.now arcs.old name }
+    ensures table { OnOk result (FindsArcs map.now arcs.new) }
+    ensures arcs { OnOk result (TakesRing map.now arcs.old arcs.new name) }
     ensures text { OnOk result (text.new.items
-        ≡ text.old.items ++ text_of_ring map.now.doc arcs.new name) }
+        ≡ text.old.items ++ text_of_ring map.now arcs.new name) }
 {
     let alloc = *text.allocator();
     let pieces = cut_named(alloc, map, name)?;
@@ -70,15 +70,15 @@ pub(crate) fn push_polygon_of<'a, I: SegIndex, A: Allocator + Copy>(
     polygon: usize,
     count: usize,
 ) -> Result<(), AllocError>
-    requires proper { Proper map.now.doc }
-    requires count { count ≡ length (rings_at map.now.doc n polygon) }
-    requires there { AreRings map.now.doc (rings_at map.now.doc n polygon) }
-    requires table { FindsArcs map.now.doc arcs.old }
-    requires few { HasRoom map.now.doc arcs.old (rings_at map.now.doc n polygon) }
-    ensures table { OnOk result (FindsArcs map.now.doc arcs.new) }
-    ensures arcs { OnOk result (TakesPolygon map.now.doc arcs.old arcs.new n polygon) }
+    requires proper { Proper map.now }
+    requires count { count ≡ length (rings_at map.now n polygon) }
+    requires there { AreRings map.now (rings_at map.now n polygon) }
+    requires table { FindsArcs map.now arcs.old }
+    requires few { HasRoom map.now arcs.old (rings_at map.now n polygon) }
+    ensures table { OnOk result (FindsArcs map.now arcs.new) }
+    ensures arcs { OnOk result (TakesPolygon map.now arcs.old arcs.new n polygon) }
     ensures text { OnOk result (text.new.items
-        ≡ text.old.items ++ text_of_polygon map.now.doc arcs.new n polygon) }
+        ≡ text.old.items ++ text_of_polygon map.now arcs.new n polygon) }
 {
     text.extend_from_slice(b"[")?;
     for ring in 0..count {

@@ -28,15 +28,15 @@ pub(crate) fn push_polygons_of<'a, I: SegIndex, A: Allocator + Copy>(
     view: &FeatureView<'_, 'a, A>,
     n: u32,
 ) -> Result<(), AllocError>
-    requires proper { Proper map.now.doc }
-    requires seen { Some view.now ≡ option_map shown (feature map.now.doc n) }
-    requires there { AreRings map.now.doc (all_rings_at map.now.doc n) }
-    requires table { FindsArcs map.now.doc arcs.old }
-    requires few { HasRoom map.now.doc arcs.old (all_rings_at map.now.doc n) }
-    ensures table { OnOk result (FindsArcs map.now.doc arcs.new) }
-    ensures arcs { OnOk result (TakesPolygons map.now.doc arcs.old arcs.new n) }
+    requires proper { Proper map.now }
+    requires seen { Some view.now ≡ option_map shown (feature map.now n) }
+    requires there { AreRings map.now (all_rings_at map.now n) }
+    requires table { FindsArcs map.now arcs.old }
+    requires few { HasRoom map.now arcs.old (all_rings_at map.now n) }
+    ensures table { OnOk result (FindsArcs map.now arcs.new) }
+    ensures arcs { OnOk result (TakesPolygons map.now arcs.old arcs.new n) }
     ensures text { OnOk result (text.new.items
-        ≡ text.old.items ++ text_of_polygons map.now.doc arcs.new n) }
+        ≡ text.old.items ++ text_of_polygons map.now arcs.new n) }
 {
     for polygon in 0..view.polygon_count() {
         push_comma(text, polygon > 0)?;
@@ -54,16 +54,16 @@ fn push_shape<'a, I: SegIndex, A: Allocator + Copy>(
     view: &FeatureView<'_, 'a, A>,
     n: u32,
 ) -> Result<(), AllocError>
-    requires proper { Proper map.now.doc }
-    requires seen { Some view.now ≡ option_map shown (feature map.now.doc n) }
-    requires fits { (f : Feature) → feature map.now.doc n ≡ Some f → fits_form f ≡ true }
-    requires there { AreRings map.now.doc (all_rings_at map.now.doc n) }
-    requires table { FindsArcs map.now.doc arcs.old }
-    requires few { HasRoom map.now.doc arcs.old (all_rings_at map.now.doc n) }
-    ensures table { OnOk result (FindsArcs map.now.doc arcs.new) }
-    ensures arcs { OnOk result (TakesPolygons map.now.doc arcs.old arcs.new n) }
+    requires proper { Proper map.now }
+    requires seen { Some view.now ≡ option_map shown (feature map.now n) }
+    requires fits { (f : Feature) → feature map.now n ≡ Some f → fits_form f ≡ true }
+    requires there { AreRings map.now (all_rings_at map.now n) }
+    requires table { FindsArcs map.now arcs.old }
+    requires few { HasRoom map.now arcs.old (all_rings_at map.now n) }
+    ensures table { OnOk result (FindsArcs map.now arcs.new) }
+    ensures arcs { OnOk result (TakesPolygons map.now arcs.old arcs.new n) }
     ensures text { OnOk result (text.new.items
-        ≡ text.old.items ++ text_of_shape map.now.doc arcs.new view.now.form n) }
+        ≡ text.old.items ++ text_of_shape map.now arcs.new view.now.form n) }
 {
     match view.form() {
         Form::Polygon => {
@@ -100,16 +100,16 @@ pub(crate) fn push_feature<'a, I: SegIndex, A: Allocator + Copy>(
     view: &FeatureView<'_, 'a, A>,
     n: u32,
 ) -> Result<(), AllocError>
-    requires proper { Proper map.now.doc }
-    requires seen { Some view.now ≡ option_map shown (feature map.now.doc n) }
-    requires fits { (f : Feature) → feature map.now.doc n ≡ Some f → fits_form f ≡ true }
-    requires there { AreRings map.now.doc (all_rings_at map.now.doc n) }
-    requires table { FindsArcs map.now.doc arcs.old }
-    requires few { HasRoom map.now.doc arcs.old (all_rings_at map.now.doc n) }
-    ensures table { OnOk result (FindsArcs map.now.doc arcs.new) }
-    ensures arcs { OnOk result (TakesPolygons map.now.doc arcs.old arcs.new n) }
-    ensures text { OnOk result ((f : Feature) → feature map.now.doc n ≡ Some f
-        → text.new.items ≡ text.old.items ++ text_of_feature map.now.doc arcs.new f) }
+    requires proper { Proper map.now }
+    requires seen { Some view.now ≡ option_map shown (feature map.now n) }
+    requires fits { (f : Feature) → feature map.now n ≡ Some f → fits_form f ≡ true }
+    requires there { AreRings map.now (all_rings_at map.now n) }
+    requires table { FindsArcs map.now arcs.old }
+    requires few { HasRoom map.now arcs.old (all_rings_at map.now n) }
+    ensures table { OnOk result (FindsArcs map.now arcs.new) }
+    ensures arcs { OnOk result (TakesPolygons map.now arcs.old arcs.new n) }
+    ensures text { OnOk result ((f : Feature) → feature map.now n ≡ Some f
+        → text.new.items ≡ text.old.items ++ text_of_feature map.now arcs.new f) }
 {
     text.extend_from_slice(b"{\"type\":")?;
     text.extend_from_slice(type_token(view.form()))?;

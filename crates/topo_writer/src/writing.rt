@@ -12,7 +12,7 @@ use crate::arcs::Arcs;
 use crate::fault::WriteFault;
 use crate::layers::send_layers;
 use crate::members::{push_kept, push_member_if};
-use arc_store::{FrameView, Map};
+use arc_store::{FrameView, Map, MarkedMap};
 use device_io::{Sink, put_all};
 use segment_index::SegIndex;
 use std::alloc::{AllocError, Allocator};
@@ -48,23 +48,22 @@ fn push_end<A: Allocator + Copy>(
 /// Sends the text of a map that has this frame.
 fn send_map<'m, 'a, I: SegIndex, A: Allocator + Copy, W: Sink>(
     alloc: A,
-    map: &Map<'a, I, A>,
+    map: &MarkedMap<'_, 'a, I, A>,
     frame: &FrameView<'m, 'a, A>,
     out: &mut W,
 ) -> Result<(), WriteFault>
     requires working { W.has_failed out.old ≡ false }
-    requires frame { IsMapFrame map.now.doc frame.now }
-    ensures { Sends W.Sink of_device out.old out.new result (text_of map.now.doc) }
+    requires frame { IsMapFrame map.now frame.now }
+    ensures { Sends W.Sink of_device out.old out.new result (text_of map.now) }
 {
-    let map = map.marked()?;
     let mut text = Vec::new(alloc);
     let mut arcs = Arcs::new(alloc);
     push_begin(&mut text, frame.transform())?;
     put_all(out, text.as_slice())?;
-    send_layers(&map, frame, &mut arcs, &mut text, out)?;
+    send_layers(map, frame, &mut arcs, &mut text, out)?;
     put_all(out, b"},\"arcs\":[")?;
     let delta = frame.transform().is_some();
-    send_arcs(&map, &arcs, delta, &mut text, out)?;
+    send_arcs(map, &arcs, delta, &mut text, out)?;
     text.clear();
     push_end(&mut text, frame.members())?;
     put_all(out, text.as_slice())?;
@@ -85,5 +84,6 @@ pub fn write<'a, I: SegIndex, A: Allocator + Copy, W: Sink>(
     ensures saved { Saved (text_of map.now.doc) map.now.doc }
 {
     let frame = map.frame();
-    send_map(alloc, map, &frame, out)
+    let marked = map.marked()?;
+    send_map(alloc, &marked, &frame, out)
 }

@@ -6,6 +6,6 @@ use Rattle.topo_writer.proofs.arc_section.send_arcs.Given as goal
 
 abbrev pub invariant-loop-i : goal.invariant-loop-i
 invariant-loop-i g l = record {
-  counts : l.sent ≡ length (first_arcs l.map.doc l.arcs l.i);
-  took : Took g.W.Sink l.fn.out l.out (first_listed l.delta l.map.doc l.arcs l.i);
+  counts : l.sent ≡ length (first_arcs l.map l.arcs l.i);
+  took : Took g.W.Sink l.fn.out l.out (first_listed l.delta l.map l.arcs l.i);
 }

@@ -16,7 +16,7 @@ use Rattle.topo_writer.proofs.arc_section.send_ring.Goals as goal
 
 pub loop-k-init : goal.loop-k-init
 loop-k-init g c =
-    let d = c.args.map.now.doc in
+    let d = c.args.map.now in
     let names = c.args.arcs.now.rings.items in
     let i = c.args.i in
     let name = c.ring_name.result in
@@ -29,7 +29,7 @@ loop-k-init g c =
 
 pub send_next-requires-clause-long : goal.send_next-requires-clause-long
 send_next-requires-clause-long g c =
-    let d = c.args.map.now.doc in
+    let d = c.args.map.now in
     let ps = c.as_slice-cut.result.now in
     let k = c.loop-k.k in
     let l : k < length ps = omega arith in
@@ -40,21 +40,21 @@ send_next-requires-clause-long g c =
 
 pub send_next-requires-clause-few : goal.send_next-requires-clause-few
 send_next-requires-clause-few g c =
-    let rest = along_rest c.args.map.now.doc c.args.arcs.now.rings.items (c.args.i + 1) in
+    let rest = along_rest c.args.map.now c.args.arcs.now.rings.items (c.args.i + 1) in
     let w = on_left _ _ _ _ _ c.loop-k.k c.index-cut-k.result c.index-cut-k.result _ _ _ (omega arith) c.index-cut-k.is c.loop-k.invariant in
     let few = on_few _ _ _ _ _ rest.0 (get edge_eq c.args.arcs.now.starts) c.requires.table.mirrors rest.1 _ _ _ _ _ w in
     omega (arith, c.requires.few, c.requires.table.counts, few)
 
 pub loop-k-preserved : goal.loop-k-preserved
 loop-k-preserved g c =
-    let rest = along_rest c.args.map.now.doc c.args.arcs.now.rings.items (c.args.i + 1) in
+    let rest = along_rest c.args.map.now c.args.arcs.now.rings.items (c.args.i + 1) in
     let w = on_left _ _ _ _ _ c.loop-k.k c.index-cut-k.result c.positions.result.now _ _ _ (omega arith) (c.positions.ensures ∙ c.index-cut-k.is) c.loop-k.invariant in
     on_step _ _ _ _ _ rest.0 (get edge_eq c.args.arcs.now.starts) c.requires.table.mirrors rest.1 _ _ _ _ _ w
     c.in_ok-after.after c.send_next.new.out c.in_ok-after.ensures.next c.in_ok-after.ensures.other
 
 pub returns-in_err-after-clause-sends : goal.returns-in_err-after-clause-sends
 returns-in_err-after-clause-sends g c =
-    let rest = along_rest c.args.map.now.doc c.args.arcs.now.rings.items (c.args.i + 1) in
+    let rest = along_rest c.args.map.now c.args.arcs.now.rings.items (c.args.i + 1) in
     let w = on_left _ _ _ _ _ c.loop-k.k c.index-cut-k.result c.positions.result.now _ _ _ (omega arith) (c.positions.ensures ∙ c.index-cut-k.is) c.loop-k.invariant in
     sends_front of_device _ _ c.from_residual-in_err-after.ensures.1
     (on_part _ _ _ _ _ rest.0 (get edge_eq c.args.arcs.now.starts) c.requires.table.mirrors rest.1 _ _ _ _ _ w

@@ -19,7 +19,7 @@ use Rattle.topo_writer.proofs.items.send_items.Goals as goal
 
 pub loop-item-init : goal.loop-item-init
 loop-item-init g c =
-    let d = c.args.map.now.doc in
+    let d = c.args.map.now in
     let begun = c.into_iter-item-iterator.ensures.into_iter_gives in
     record {
       all = sym begun;
@@ -36,27 +36,27 @@ send_item-requires-clause-there g c =
     let done = map view_item_view c.loop-item.yielded in
     let s = view_item_view c.in-Some.item in
     let whole : c.args.items ≡ done ++ s ∷ c.next.new.self = c.loop-item.invariant.all ∙ ap (λ z. done ++ z) c.in-Some.ensures.steps in
-    shown_there c.args.map.now.doc c.requires.formed c.args.items c.requires.shows s
+    shown_there c.args.map.now c.requires.formed c.args.items c.requires.shows s
     (subst (In s) (sym whole) (in_right s done (s ∷ c.next.new.self) (inl refl)))
 
 pub send_item-requires-clause-leads : goal.send_item-requires-clause-leads
 send_item-requires-clause-leads g c =
-    let d = c.args.map.now.doc in
-    let arcs = arcs_in c.args.map.now.doc c.loop-item.arcs in
+    let d = c.args.map.now in
+    let arcs = arcs_in c.args.map.now c.loop-item.arcs in
     leads_first d arcs (item_at d (view_item_view c.in-Some.item) ∷ []) (items_at d c.next.new.self)
     (subst (λ z. LeadsOn d arcs (items_at d z)) c.in-Some.ensures.steps c.loop-item.invariant.leads)
 
 pub loop-item-preserved : goal.loop-item-preserved
 loop-item-preserved g c =
-    let d = c.args.map.now.doc in
+    let d = c.args.map.now in
     let j = is_junction d in
     let l = c.loop-item in
     let done = map view_item_view l.yielded in
     let s = view_item_view c.in-Some.item in
     let rest = c.next.new.self in
-    let start = arcs_in c.args.map.now.doc c.args.arcs.now in
+    let start = arcs_in c.args.map.now c.args.arcs.now in
     let arcs = arcs_in d l.arcs in
-    let next = arcs_in c.args.map.now.doc c.send_item.new.arcs in
+    let next = arcs_in c.args.map.now c.send_item.new.arcs in
     let seen : map view_item_view (l.yielded ++ c.in-Some.item ∷ []) ≡ done ++ s ∷ [] = map-append view_item_view l.yielded (c.in-Some.item ∷ []) in
     let whole : c.args.items ≡ done ++ s ∷ rest = l.invariant.all ∙ ap (λ z. done ++ z) c.in-Some.ensures.steps in
     let begins : is_begin [] (items_written d (done ++ s ∷ rest)) ≡ true =
@@ -81,7 +81,7 @@ loop-item-preserved g c =
 
 pub returns-in_err-more-clause-sends : goal.returns-in_err-more-clause-sends
 returns-in_err-more-clause-sends g c =
-    let d = c.args.map.now.doc in
+    let d = c.args.map.now in
     let l = c.loop-item in
     let done = map view_item_view l.yielded in
     let s = view_item_view c.in-Some.item in

@@ -13,29 +13,29 @@ use Rattle.topo_writer.proofs.layers.send_layer.Goals as goal
 
 pub send_items-requires-clause-shows : goal.send_items-requires-clause-shows
 send_items-requires-clause-shows g c =
-    let d = c.args.map.now.doc in
+    let d = c.args.map.now in
     let items = c.in-Some-items.items in
     shows_layer d c.args.i items c.requires.there
     (items_shown d c.args.frame.now c.args.i items c.requires.frame c.requires.there c.in-Some-items.ensures)
 
 pub send_items-requires-clause-leads : goal.send_items-requires-clause-leads
 send_items-requires-clause-leads g c =
-    let d = c.args.map.now.doc in
+    let d = c.args.map.now in
     let frame = c.args.frame.now in
     let i = c.args.i in
     let items = c.in-Some-items.items in
     let shown = items_shown d frame i items c.requires.frame c.requires.there c.in-Some-items.ensures in
-    layer_leads d i (arcs_in c.args.map.now.doc c.args.arcs.now) (items_at d items) c.requires.frame.small c.requires.there c.requires.arcs
+    layer_leads d i (arcs_in c.args.map.now c.args.arcs.now) (items_at d items) c.requires.frame.small c.requires.there c.requires.arcs
     (items_are d frame i items c.requires.frame c.requires.there shown)
 
 pub returns-clause-arcs : goal.returns-clause-arcs
 returns-clause-arcs g c =
-    let d = c.args.map.now.doc in
+    let d = c.args.map.now in
     let frame = c.args.frame.now in
     let i = c.args.i in
     let items = c.in-Some-items.items in
     let shown = items_shown d frame i items c.requires.frame c.requires.there c.in-Some-items.ensures in
-    arcs_next d i c.requires.there (arcs_in c.args.map.now.doc c.args.arcs.now) (arcs_in c.args.map.now.doc c.send_items.new.arcs) (items_at d items) c.requires.arcs
+    arcs_next d i c.requires.there (arcs_in c.args.map.now c.args.arcs.now) (arcs_in c.args.map.now c.send_items.new.arcs) (items_at d items) c.requires.arcs
     (items_are d frame i items c.requires.frame c.requires.there shown) c.in_ok-send_items.ensures.arcs
 
 pub returns-in_err-push_name-clause-sends : goal.returns-in_err-push_name-clause-sends
@@ -43,7 +43,7 @@ returns-in_err-push_name-clause-sends g c = sends_front of_device OutOfMemory _ 
 
 pub returns-in_err-put_all-clause-sends : goal.returns-in_err-put_all-clause-sends
 returns-in_err-put_all-clause-sends g c =
-    let d = c.args.map.now.doc in
+    let d = c.args.map.now in
     let i = c.args.i in
     let shown = items_shown d c.args.frame.now i c.in-Some-items.items c.requires.frame c.requires.there c.in-Some-items.ensures in
     let named = name_shown d c.args.frame.now i c.in-Some.name.now c.requires.frame c.requires.there c.in-Some.ensures in
@@ -55,7 +55,7 @@ returns-in_err-put_all-clause-sends g c =
 
 pub returns-in_err-send_items-clause-sends : goal.returns-in_err-send_items-clause-sends
 returns-in_err-send_items-clause-sends g c =
-    let d = c.args.map.now.doc in
+    let d = c.args.map.now in
     let i = c.args.i in
     let shown = items_shown d c.args.frame.now i c.in-Some-items.items c.requires.frame c.requires.there c.in-Some-items.ensures in
     let named = name_shown d c.args.frame.now i c.in-Some.name.now c.requires.frame c.requires.there c.in-Some.ensures in
@@ -67,7 +67,7 @@ returns-in_err-send_items-clause-sends g c =
 
 pub returns-clause-sends : goal.returns-clause-sends
 returns-clause-sends g c =
-    let d = c.args.map.now.doc in
+    let d = c.args.map.now in
     let i = c.args.i in
     let shown = items_shown d c.args.frame.now i c.in-Some-items.items c.requires.frame c.requires.there c.in-Some-items.ensures in
     let named = name_shown d c.args.frame.now i c.in-Some.name.now c.requires.frame c.requires.there c.in-Some.ensures in

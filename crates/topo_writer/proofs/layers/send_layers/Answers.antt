@@ -10,7 +10,7 @@ use Rattle.topo_writer.proofs.layers.send_layers.Goals as goal
 
 pub returns-in_err-send_layer-clause-sends : goal.returns-in_err-send_layer-clause-sends
 returns-in_err-send_layer-clause-sends g c =
-    let d = c.args.map.now.doc in
+    let d = c.args.map.now in
     let i = c.loop-i.i in
     let within : i < length d.layers = omega (arith, layer_count d c.args.frame.now c.requires.frame) in
     sends_front of_device _ _ c.from_residual.ensures.1
@@ -18,7 +18,7 @@ returns-in_err-send_layer-clause-sends g c =
 
 pub loop-i-preserved : goal.loop-i-preserved
 loop-i-preserved g c =
-    let d = c.args.map.now.doc in
+    let d = c.args.map.now in
     let i = c.loop-i.i in
     let within : i < length d.layers = omega (arith, layer_count d c.args.frame.now c.requires.frame) in
     record {
@@ -29,7 +29,7 @@ loop-i-preserved g c =
 
 pub returns-clause-arcs : goal.returns-clause-arcs
 returns-clause-arcs g c =
-    let d = c.args.map.now.doc in
+    let d = c.args.map.now in
     let all : c.loop-i.i ≡ length d.layers = omega (arith, layer_count d c.args.frame.now c.requires.frame) in
     c.loop-i.invariant.arcs ∙ ap (arcs_after d) all ∙ arcs_whole d
 
@@ -37,7 +37,7 @@ pub loop-i-init : goal.loop-i-init
 loop-i-init g c = record {
   took = took_nothing c.requires.working;
   table =
-      subst (λ r. Finds c.args.arcs.now (arcs_along c.args.map.now.doc r)) (sym c.requires.none)
+      subst (λ r. Finds c.args.arcs.now (arcs_along c.args.map.now r)) (sym c.requires.none)
       c.requires.table;
-  arcs = ap (arcs_along c.args.map.now.doc) c.requires.none;
+  arcs = ap (arcs_along c.args.map.now) c.requires.none;
 }

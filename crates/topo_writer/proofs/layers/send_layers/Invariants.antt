@@ -7,7 +7,7 @@ use Rattle.topo_writer.proofs.layers.send_layers.Given as goal
 
 abbrev pub invariant-loop-i : goal.invariant-loop-i
 invariant-loop-i g l = record {
-  took : Took g.W.Sink l.fn.out l.out (commas (map (layer_text l.map.doc) (take l.i l.map.doc.layers)));
-  table : FindsArcs l.map.doc l.arcs;
-  arcs : arcs_in l.map.doc l.arcs ≡ arcs_after l.map.doc l.i;
+  took : Took g.W.Sink l.fn.out l.out (commas (map (layer_text l.map) (take l.i l.map.layers)));
+  table : FindsArcs l.map l.arcs;
+  arcs : arcs_in l.map l.arcs ≡ arcs_after l.map l.i;
 }

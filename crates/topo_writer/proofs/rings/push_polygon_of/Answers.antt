@@ -14,19 +14,19 @@ use Rattle.topo_writer.proofs.rings.push_polygon_of.Goals as goal
 
 pub push_ring_of-requires-clause-there : goal.push_ring_of-requires-clause-there
 push_ring_of-requires-clause-there g c =
-    let rs = rings_at c.args.map.now.doc c.args.n c.args.polygon in
+    let rs = rings_at c.args.map.now c.args.n c.args.polygon in
     let h : c.loop-ring.ring < length rs = omega (arith, c.requires.count) in
-    subst (Contains (rings c.args.map.now.doc)) (sym (ring_is c.args.map.now.doc c.args.n c.args.polygon c.loop-ring.ring))
-    (each_place (Contains (rings c.args.map.now.doc)) rs c.loop-ring.ring [] c.requires.there h)
+    subst (Contains (rings c.args.map.now)) (sym (ring_is c.args.map.now c.args.n c.args.polygon c.loop-ring.ring))
+    (each_place (Contains (rings c.args.map.now)) rs c.loop-ring.ring [] c.requires.there h)
 
 pub push_ring_of-requires-clause-table : goal.push_ring_of-requires-clause-table
 push_ring_of-requires-clause-table g c = c.loop-ring.invariant.table
 
 pub push_ring_of-requires-clause-few : goal.push_ring_of-requires-clause-few
 push_ring_of-requires-clause-few g c =
-    let rs = rings_at c.args.map.now.doc c.args.n c.args.polygon in
+    let rs = rings_at c.args.map.now c.args.n c.args.polygon in
     let h : c.loop-ring.ring < length rs = omega (arith, c.requires.count) in
-    omega (arith, c.loop-ring.invariant.few, sum_by-drop_more length rs c.loop-ring.ring [] h, ap length (ring_is c.args.map.now.doc c.args.n c.args.polygon c.loop-ring.ring))
+    omega (arith, c.loop-ring.invariant.few, sum_by-drop_more length rs c.loop-ring.ring [] h, ap length (ring_is c.args.map.now c.args.n c.args.polygon c.loop-ring.ring))
 
 pub loop-ring-init : goal.loop-ring-init
 loop-ring-init g c = record {
@@ -38,7 +38,7 @@ loop-ring-init g c = record {
 
 pub loop-ring-preserved : goal.loop-ring-preserved
 loop-ring-preserved g c =
-    let d = c.args.map.now.doc in
+    let d = c.args.map.now in
     let rs = rings_at d c.args.n c.args.polygon in
     let i = c.loop-ring.ring in
     let r = positions_at d c.args.n c.args.polygon i in
@@ -59,7 +59,7 @@ loop-ring-preserved g c =
 
 pub returns-clause-text : goal.returns-clause-text
 returns-clause-text g c =
-    let d = c.args.map.now.doc in
+    let d = c.args.map.now in
     let rs = rings_at d c.args.n c.args.polygon in
     let arcs = arcs_in d c.loop-ring.arcs in
     let begun = c.args.text.now.items ++ codes "[" in

@@ -8,8 +8,8 @@ use Rattle.topo_writer.proofs.rings.push_polygon_of.Given as goal
 
 abbrev pub invariant-loop-ring : goal.invariant-loop-ring
 invariant-loop-ring g l = record {
-  table : FindsArcs l.map.doc l.arcs;
-  few : HasRoom l.map.doc l.arcs (drop l.ring (rings_at l.map.doc l.n l.polygon));
-  arcs : TakesRings l.map.doc l.fn.arcs l.arcs (take l.ring (rings_at l.map.doc l.n l.polygon));
-  text : l.text.items ≡ (l.fn.text.items ++ codes "[") ++ written_rings (is_junction l.map.doc) (arcs_in l.map.doc l.arcs) (take l.ring (rings_at l.map.doc l.n l.polygon));
+  table : FindsArcs l.map l.arcs;
+  few : HasRoom l.map l.arcs (drop l.ring (rings_at l.map l.n l.polygon));
+  arcs : TakesRings l.map l.fn.arcs l.arcs (take l.ring (rings_at l.map l.n l.polygon));
+  text : l.text.items ≡ (l.fn.text.items ++ codes "[") ++ written_rings (is_junction l.map) (arcs_in l.map l.arcs) (take l.ring (rings_at l.map l.n l.polygon));
 }

@@ -12,12 +12,12 @@ use Rattle.topo_writer.proofs.rings.push_ring_of.Goals as goal
 
 pub index_all-requires-clause-long : goal.index_all-requires-clause-long
 index_all-requires-clause-long g c =
-    named_long c.args.map.now.doc c.requires.proper c.args.arcs.now.rings.items c.args.name c.requires.there c.as_slice.result.now
+    named_long c.args.map.now c.requires.proper c.args.arcs.now.rings.items c.args.name c.requires.there c.as_slice.result.now
     (c.as_slice.ensures.value ∙ c.in_ok-pieces.ensures)
 
 pub index_all-requires-clause-few : goal.index_all-requires-clause-few
 index_all-requires-clause-few g c =
-    let d = c.args.map.now.doc in
+    let d = c.args.map.now in
     let cut : c.as_slice.result.now ≡ pieces (is_junction d) (named_ring d c.args.name) = c.as_slice.ensures.value ∙ c.in_ok-pieces.ensures in
     omega (
       arith,
@@ -29,7 +29,7 @@ index_all-requires-clause-few g c =
 
 pub returns-clause-table : goal.returns-clause-table
 returns-clause-table g c =
-    let d = c.args.map.now.doc in
+    let d = c.args.map.now in
     let old = c.args.arcs.now.rings.items in
     let new = c.name_ring.new.self.rings.items in
     let name = c.args.name in
@@ -45,7 +45,7 @@ returns-clause-table g c =
 
 pub returns-clause-text : goal.returns-clause-text
 returns-clause-text g c =
-    let d = c.args.map.now.doc in
+    let d = c.args.map.now in
     let old = c.args.arcs.now.rings.items in
     let new = c.name_ring.new.self.rings.items in
     let name = c.args.name in

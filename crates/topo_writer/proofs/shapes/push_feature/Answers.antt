@@ -11,9 +11,9 @@ use Rattle.topo_writer.proofs.shapes.push_feature.Goals as goal
 
 pub returns-clause-text : goal.returns-clause-text
 returns-clause-text g c f e =
-    let d = c.args.map.now.doc in
+    let d = c.args.map.now in
     let j = is_junction d in
-    let arcs = arcs_in c.args.map.now.doc c.push_shape.new.arcs in
+    let arcs = arcs_in c.args.map.now c.push_shape.new.arcs in
     let v : c.args.view.now ≡ shown f = seen_as d c.args.n c.args.view.now f c.requires.seen e in
     let begun = c.extend_from_slice.new.self.items in
     let typed = c.extend_from_slice-2.new.self.items in

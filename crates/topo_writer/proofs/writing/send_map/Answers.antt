@@ -12,7 +12,7 @@ use Rattle.topo_writer.proofs.writing.send_map.Goals as goal
 
 pub send_arcs-requires-clause-few : goal.send_arcs-requires-clause-few
 send_arcs-requires-clause-few g c =
-    let d = c.args.map.now.doc in
+    let d = c.args.map.now in
     omega (
       arith,
       c.requires.frame.small,
@@ -26,14 +26,14 @@ returns-in_err-push_begin g c = sends_front of_device OutOfMemory _ c.from_resid
 
 pub returns-in_err-put_all : goal.returns-in_err-put_all
 returns-in_err-put_all g c =
-    let d = c.args.map.now.doc in
+    let d = c.args.map.now in
     let begin = begin_is d c.args.frame.now c.requires.frame _ _ _ _ c.transform.ensures c.new-text.ensures.items c.in_ok-push_begin.ensures c.as_slice.ensures.value in
     sends_front of_device Device _ c.from_residual-in_err-put_all.ensures.1
     (front_at_begin d (subst (TookFront g.W.Sink _ _ _) begin c.in_err-put_all.ensures))
 
 pub returns-in_err-send_layers : goal.returns-in_err-send_layers
 returns-in_err-send_layers g c =
-    let d = c.args.map.now.doc in
+    let d = c.args.map.now in
     let begin = begin_is d c.args.frame.now c.requires.frame _ _ _ _ c.transform.ensures c.new-text.ensures.items c.in_ok-push_begin.ensures c.as_slice.ensures.value in
     let begun = subst (Took g.W.Sink _ _) begin c.in_ok-put_all.ensures in
     sends_front of_device _ _ c.from_residual-in_err-send_layers.ensures.1
@@ -41,7 +41,7 @@ returns-in_err-send_layers g c =
 
 pub returns-in_err-put_all-2 : goal.returns-in_err-put_all-2
 returns-in_err-put_all-2 g c =
-    let d = c.args.map.now.doc in
+    let d = c.args.map.now in
     let begin = begin_is d c.args.frame.now c.requires.frame _ _ _ _ c.transform.ensures c.new-text.ensures.items c.in_ok-push_begin.ensures c.as_slice.ensures.value in
     let begun = subst (Took g.W.Sink _ _) begin c.in_ok-put_all.ensures in
     sends_front of_device Device _ c.from_residual-in_err-put_all-2.ensures.1
@@ -49,7 +49,7 @@ returns-in_err-put_all-2 g c =
 
 pub returns-in_err-send_arcs : goal.returns-in_err-send_arcs
 returns-in_err-send_arcs g c =
-    let d = c.args.map.now.doc in
+    let d = c.args.map.now in
     let begin = begin_is d c.args.frame.now c.requires.frame _ _ _ _ c.transform.ensures c.new-text.ensures.items c.in_ok-push_begin.ensures c.as_slice.ensures.value in
     let begun = subst (Took g.W.Sink _ _) begin c.in_ok-put_all.ensures in
     let between = took_both (took_both begun c.in_ok-send_layers.ensures.sends) c.in_ok-put_all-2.ensures in
@@ -61,7 +61,7 @@ returns-in_err-send_arcs g c =
 
 pub returns-in_err-push_end : goal.returns-in_err-push_end
 returns-in_err-push_end g c =
-    let d = c.args.map.now.doc in
+    let d = c.args.map.now in
     let begin = begin_is d c.args.frame.now c.requires.frame _ _ _ _ c.transform.ensures c.new-text.ensures.items c.in_ok-push_begin.ensures c.as_slice.ensures.value in
     let begun = subst (Took g.W.Sink _ _) begin c.in_ok-put_all.ensures in
     let between = took_both (took_both begun c.in_ok-send_layers.ensures.sends) c.in_ok-put_all-2.ensures in
@@ -74,7 +74,7 @@ returns-in_err-push_end g c =
 
 pub returns-in_err-put_all-3 : goal.returns-in_err-put_all-3
 returns-in_err-put_all-3 g c =
-    let d = c.args.map.now.doc in
+    let d = c.args.map.now in
     let begin = begin_is d c.args.frame.now c.requires.frame _ _ _ _ c.transform.ensures c.new-text.ensures.items c.in_ok-push_begin.ensures c.as_slice.ensures.value in
     let begun = subst (Took g.W.Sink _ _) begin c.in_ok-put_all.ensures in
     let between = took_both (took_both begun c.in_ok-send_layers.ensures.sends) c.in_ok-put_all-2.ensures in
@@ -88,7 +88,7 @@ returns-in_err-put_all-3 g c =
 
 pub returns : goal.returns
 returns g c =
-    let d = c.args.map.now.doc in
+    let d = c.args.map.now in
     let begin = begin_is d c.args.frame.now c.requires.frame _ _ _ _ c.transform.ensures c.new-text.ensures.items c.in_ok-push_begin.ensures c.as_slice.ensures.value in
     let begun = subst (Took g.W.Sink _ _) begin c.in_ok-put_all.ensures in
     let between = took_both (took_both begun c.in_ok-send_layers.ensures.sends) c.in_ok-put_all-2.ensures in
