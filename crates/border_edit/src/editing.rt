@@ -2,7 +2,8 @@
 ghost use Rattle.std.specs.Prelude.{◌≡◌, false};
 
 use device_io::{FromReader, Sink, Source, ToWriter};
-use edit_program::{Ending, KeptScript, NotedAnswers, Refusal, Stop, Words, list_refused};
+use edit_program::{KeptScript, NotedAnswers, Refusal, Words, ending_of_run, list_refused};
+use program_ends::{Ending, Stop, end, map_bytes};
 use script_runner::run;
 use std::fs;
 use std::fs::File;
@@ -11,32 +12,11 @@ use std::io::{BufWriter, Read, Result as IoResult, Write};
 /// The SCRIPT that is standard input.
 const STANDARD_INPUT: &str = "-";
 
-/// One byte more than a map may have, so that a longer one is found too large.
-const READ_AT_MOST: u64 = 67_108_865;
-
-/// The bytes of a map, whole but for what is over the limit.
-fn map_bytes(rt: &HostRuntime, path: &str) -> Result<Vec<u8>, Stop> {
-    let mut bytes = Vec::new(rt.alloc());
-    let file = File::open(rt, path).map_err(|e| Stop::of_file(e, Stop::Map))?;
-    file.take(READ_AT_MOST)
-        .read_to_end(&mut bytes)
-        .map_err(|e| Stop::of_file(e, Stop::Map))?;
-    Ok(bytes)
-}
-
 /// Tells what is begun, and with which file, where the words ask for it.
 fn tell<E: Write>(words: &Words, begun: &str, path: &str, errors: &mut E) {
     if words.progress {
         let _ = writeln!(errors, "{begun} {path}");
     }
-}
-
-/// Says the line of an ending, and answers its status.
-pub(crate) fn end<E: Write>(ending: Ending<'_>, errors: &mut E) -> u8 {
-    if let Some(line) = ending.line {
-        let _ = writeln!(errors, "{line}");
-    }
-    ending.status
 }
 
 /// Writes FILE where the ending has something for it.
@@ -99,7 +79,7 @@ impl Editing<'_> {
         let mut saved = ToWriter::new(Vec::new(alloc));
         let depth = self.words.depth;
         let outcome = run(alloc, alloc, self.map, script, depth, answers, &mut saved);
-        let ending = Ending::of_run(&outcome, saved.writer.as_slice());
+        let ending = ending_of_run(&outcome, saved.writer.as_slice());
         end(save(self.rt, self.words, ending, errors), errors)
     }
 
@@ -128,7 +108,7 @@ impl Editing<'_> {
             &mut answers,
             &mut saved,
         );
-        let ending = Ending::of_run(&outcome, saved.writer.as_slice());
+        let ending = ending_of_run(&outcome, saved.writer.as_slice());
         let ending = ending.unless_short(script.is_short() || answers.is_short());
         let ending = save(self.rt, self.words, ending, errors);
         let ending = list(self.rt, ending, path, script.kept(), answers.refusals());

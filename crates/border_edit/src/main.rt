@@ -4,18 +4,15 @@
 
 mod editing;
 
-use edit_program::{Ending, Stop, Words, words};
-use editing::{edit, end};
-use std::env;
+use edit_program::{Words, words};
+use editing::edit;
+use program_ends::{Stop, end_stopped, given_words};
 use std::io::IsTerminal;
 use std::process::ExitCode;
 
 /// What the words that the program was called with ask for.
 fn words_given(rt: &HostRuntime) -> Result<Words, Stop> {
-    let mut given = Vec::new(rt.alloc());
-    for word in env::args(rt).map_err(|_| Stop::NoMemory)? {
-        given.push(word)?;
-    }
+    let given = given_words(rt)?;
     let words = words(rt.alloc(), given.as_slice())?;
     Ok(words)
 }
@@ -27,14 +24,7 @@ fn main(rt: HostRuntime) -> ExitCode {
             words.progress = words.progress && errors.is_terminal();
             edit(&rt, &words, rt.stdout(), &mut errors)
         }
-        Err(stop) => {
-            if let Stop::Words(error) = &stop {
-                // Help and the version go to standard output, and what is wrong with the words to standard
-                // error.
-                let _ = error.print(&rt);
-            }
-            end(Ending::of_stop(&stop), &mut rt.stderr())
-        }
+        Err(stop) => end_stopped(&rt, &stop),
     };
     ExitCode::from(status)
 }

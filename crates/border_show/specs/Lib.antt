@@ -1,4 +1,3 @@
 pub mod Status
-pub mod Stops
 pub mod Endings
 pub mod Shown

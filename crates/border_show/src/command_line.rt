@@ -5,6 +5,7 @@ use crate::asked::{Part, Words};
 use clap::error::ErrorKind;
 use clap::{Arg, ArgAction, ArgMatches, Command};
 use grid_geometry::Pos;
+use program_ends::VERSION;
 use std::alloc::{AllocError, Global};
 
 /// The most that a part is wide: twice the grid.
@@ -41,6 +42,7 @@ fn command<'a>(alloc: Global) -> Result<Command<'a>, AllocError> {
         .help("Writes the ids in the features")
         .action(ArgAction::SetTrue);
     Command::new(alloc, "border_show")
+        .version(VERSION)
         .about("Draws a TopoJSON map, or what an edit did to it, as an SVG picture")
         .arg(before)?
         .arg(after)?
@@ -73,7 +75,8 @@ fn copied(alloc: Global, text: Option<&str>) -> Result<Option<String>, AllocErro
     }
 }
 
-/// Reads the words, the program's name first. A request for help is an error here too.
+/// Reads the words, the program's name first. A request for help, or for the version, is an
+/// error here too.
 pub(crate) fn words(alloc: Global, given: &[String]) -> Result<Words, clap::Error> {
     let mut command = command(alloc)?;
     let matches = command.try_get_matches_from_mut(given)?;

@@ -1,33 +1,11 @@
 //! The files of the program: what is read, what is written, and in which order.
 use crate::asked::Words;
-use crate::ending::Ending;
+use crate::ending::ending_of_drawing;
 use crate::showing::{show_change, show_map};
-use crate::stop::Stop;
 use map_drawing::{View, Window};
+use program_ends::{Ending, Stop, end, map_bytes};
 use std::fs;
-use std::fs::File;
-use std::io::{Read, Write};
-
-/// One byte more than a map may have, so that a longer one is found too large.
-const READ_AT_MOST: u64 = 67_108_865;
-
-/// The bytes of a map, whole but for what is over the limit.
-fn map_bytes(rt: &HostRuntime, path: &str) -> Result<Vec<u8>, Stop> {
-    let mut bytes = Vec::new(rt.alloc());
-    let file = File::open(rt, path).map_err(Stop::of_file)?;
-    file.take(READ_AT_MOST)
-        .read_to_end(&mut bytes)
-        .map_err(Stop::of_file)?;
-    Ok(bytes)
-}
-
-/// Says the line of an ending, and answers its status.
-pub(crate) fn end<E: Write>(ending: Ending<'_>, errors: &mut E) -> u8 {
-    if let Some(line) = ending.line {
-        let _ = writeln!(errors, "{line}");
-    }
-    ending.status
-}
+use std::io::Write;
 
 /// Writes FILE where the ending has something for it, says the line, and answers the status.
 fn end_with_file<E: Write>(rt: &HostRuntime, ending: Ending<'_>, file: &str, errors: &mut E) -> u8 {
@@ -55,7 +33,7 @@ fn draw_one<E: Write>(rt: &HostRuntime, words: &Words, errors: &mut E) -> Result
     let map = map_bytes(rt, words.before.as_str())?;
     let mut text = Vec::new(alloc);
     let outcome = show_map(alloc, alloc, map.as_slice(), view_of(words), &mut text);
-    let ending = Ending::of_drawing(&outcome, text.as_slice());
+    let ending = ending_of_drawing(&outcome, text.as_slice());
     Ok(end_with_file(rt, ending, words.out.as_str(), errors))
 }
 
@@ -78,7 +56,7 @@ fn draw_both<E: Write>(
         view_of(words),
         &mut text,
     );
-    let ending = Ending::of_drawing(&outcome, text.as_slice());
+    let ending = ending_of_drawing(&outcome, text.as_slice());
     Ok(end_with_file(rt, ending, words.out.as_str(), errors))
 }
 

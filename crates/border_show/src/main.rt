@@ -3,26 +3,19 @@
 
 mod asked;
 mod command_line;
-mod diagnostic;
 mod drawing;
 mod ending;
 mod showing;
-mod stop;
 
 use asked::Words;
 use command_line::words;
-use drawing::{draw, end};
-use ending::Ending;
-use std::env;
+use drawing::draw;
+use program_ends::{Stop, end_stopped, given_words};
 use std::process::ExitCode;
-use stop::Stop;
 
 /// What the words that the program was called with ask for.
 fn words_given(rt: &HostRuntime) -> Result<Words, Stop> {
-    let mut given = Vec::new(rt.alloc());
-    for word in env::args(rt).map_err(|_| Stop::NoMemory)? {
-        given.push(word)?;
-    }
+    let given = given_words(rt)?;
     let words = words(rt.alloc(), given.as_slice())?;
     Ok(words)
 }
@@ -30,13 +23,7 @@ fn words_given(rt: &HostRuntime) -> Result<Words, Stop> {
 fn main(rt: HostRuntime) -> ExitCode {
     let status = match words_given(&rt) {
         Ok(words) => draw(&rt, &words, &mut rt.stderr()),
-        Err(stop) => {
-            if let Stop::Words(error) = &stop {
-                // Help goes to standard output, and what is wrong with the words to standard error.
-                let _ = error.print(&rt);
-            }
-            end(Ending::of_stop(&stop), &mut rt.stderr())
-        }
+        Err(stop) => end_stopped(&rt, &stop),
     };
     ExitCode::from(status)
 }

@@ -1,19 +1,10 @@
--- The lines on standard error that say why the program ends.
-use Rattle.std.specs.Prelude.{◌≡◌, ℕ, List, Option, Some, None, codes}
-use Rattle.std.specs.declared.io.ErrorKind.{ErrorKind}
-use Rattle.std.specs.declared.io.ErrorKind.TheVariants as kind
-use Rattle.topo_outline.specs.declared.fault.OpenFault.{OpenFault}
+-- The line on standard error that tells a fault of a run.
+use Rattle.std.specs.Prelude.{◌≡◌}
 use Rattle.script_runner.specs.declared.fault.RunFault.{RunFault}
 use Rattle.script_runner.specs.declared.fault.RunFault.TheVariants as fault
-use Rattle.edit_program.specs.declared.diagnostic.Diagnostic.{Diagnostic}
-use Rattle.edit_program.specs.declared.diagnostic.Diagnostic.TheVariants.{Open, Map, Script, Write, Save, Refused, NoMemory}
-use Rattle.edit_program.specs.declared.stop.Stop.{Stop}
-use Rattle.edit_program.specs.declared.stop.Stop.TheVariants as stop
-
--- the line that tells why a map was not opened
-abbrev pub IsOpen : OpenFault → Diagnostic → Type 0
-IsOpen f (Open told) = told.now ≡ f
-IsOpen f line = ⊥
+use Rattle.program_ends.specs.Endings.{IsOpen}
+use Rattle.program_ends.specs.declared.diagnostic.Diagnostic.{Diagnostic}
+use Rattle.program_ends.specs.declared.diagnostic.Diagnostic.TheVariants.{Script, Write, Save, NoMemory}
 
 -- the line tells this fault of a run; a script that can't be read is told as one that can't be opened
 abbrev pub Tells : RunFault → Diagnostic → Type 0
@@ -22,34 +13,3 @@ Tells fault.Read line = line ≡ Script
 Tells fault.Write line = line ≡ Write
 Tells fault.Save line = line ≡ Save
 Tells fault.OutOfMemory line = line ≡ NoMemory
-
--- what is told where no script was run; what clap says of the words is no line of the program's
-abbrev pub stop_line : Stop → Option Diagnostic
-stop_line (stop.Words error) = None
-stop_line stop.Map = Some Map
-stop_line stop.Script = Some Script
-stop_line stop.NoMemory = Some NoMemory
-
--- what is told where a file could not be written, by the kind of the error: a refused growth, or else
--- the line of the file
-abbrev pub unwritten_line : ErrorKind → Diagnostic → Diagnostic
-unwritten_line kind.OutOfMemory line = NoMemory
-unwritten_line k line = line
-
--- what is told where FILE could not be written
-abbrev pub unsaved_line : ErrorKind → Diagnostic
-unsaved_line k = unwritten_line k Save
-
--- what is told where FILE2 could not be written
-abbrev pub unlisted_line : ErrorKind → Diagnostic
-unlisted_line k = unwritten_line k Refused
-
--- the text of a line; of a map's fault, which stands behind `open: `, nothing is said
-abbrev pub line_text : Diagnostic → Option (List ℕ)
-line_text (Open told) = None
-line_text Map = Some (codes "map fault")
-line_text Script = Some (codes "script fault")
-line_text Write = Some (codes "write fault")
-line_text Save = Some (codes "save fault")
-line_text Refused = Some (codes "refused fault")
-line_text NoMemory = Some (codes "out of memory")

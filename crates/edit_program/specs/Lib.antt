@@ -1,5 +1,4 @@
 pub mod Status
-pub mod Stops
 pub mod Endings
 pub mod Asked
 pub mod Keeping

@@ -5,9 +5,10 @@ ghost use Rattle.clap.specs.Words.{app_of};
 ghost use Rattle.edit_program.specs.Asked.{program, text_of, flag_of, IsDepth, IsFlag};
 
 use crate::asked::Words;
-use crate::help::{ABOUT, LINES, VERSION};
+use crate::help::{ABOUT, LINES};
 use clap::error::ErrorKind;
 use clap::{Arg, ArgAction, Command};
+use program_ends::VERSION;
 use std::alloc::{AllocError, Global};
 
 /// How many changes can be taken back where the words say nothing of it.

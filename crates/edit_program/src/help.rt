@@ -1,8 +1,5 @@
 //! What `--help` and `--version` say.
 
-/// The version of the program.
-pub(crate) const VERSION: &str = "1.0.0";
-
 /// What the program does.
 pub(crate) const ABOUT: &str =
     "Edits the shared borders of a TopoJSON map by a script, and prints an answer a line";

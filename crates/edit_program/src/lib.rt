@@ -1,24 +1,20 @@
-//! What the program is without its files: what its words ask for, how it ends, and the list of the lines
+//! What the program is without its files: what its words ask for, how a run ends it, and the list of the lines
 //! of a script that were refused.
 #![tactic(auto)]
 
 mod asked;
 mod command_line;
-mod diagnostic;
 mod ending;
 mod help;
 mod kept_script;
 mod listing;
 mod noted_answers;
 mod notes;
-mod stop;
 
 pub use asked::Words;
 pub use command_line::words;
-pub use diagnostic::Diagnostic;
-pub use ending::Ending;
+pub use ending::ending_of_run;
 pub use kept_script::KeptScript;
 pub use listing::list_refused;
 pub use noted_answers::NotedAnswers;
 pub use notes::{Notes, Refusal};
-pub use stop::{Stop, status};

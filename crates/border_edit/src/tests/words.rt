@@ -1,5 +1,5 @@
 //! What the words of the program are read as.
-use edit_program::{Stop, words};
+use edit_program::words;
 use std::alloc::{AllocError, Global};
 use std::test::Fail;
 

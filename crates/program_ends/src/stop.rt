@@ -1,28 +1,26 @@
-//! What ends the program before a script is run, and the statuses that it ends with.
+//! What ends a program before its work begins, and the statuses that it ends with then.
 ghost use Rattle.std.specs.Prelude.{◌≡◌, ◌≢◌};
 ghost use Rattle.std.specs.IoError.{error_kind};
-ghost use Rattle.edit_program.specs.Status.{status_of};
 
 use clap::error::ErrorKind as Mistake;
-use script_runner::{RunFault, Summary};
 use std::alloc::{AllocError, AllocFailed};
 use std::io::{Error, ErrorKind};
 
-/// What ends the program before a script is run.
+/// What ends a program before its work begins.
 #[derive(Debug, Drop)]
 pub enum Stop {
     /// The words ask for help, or do not parse.
     Words(clap::Error),
-    /// The map can't be read.
+    /// The file of a map can't be read.
     Map,
-    /// The script can't be opened.
+    /// The file of a script can't be opened.
     Script,
     /// A growth was refused.
     NoMemory,
 }
 
 impl Stop {
-    ghost use Rattle.edit_program.specs.Stops.{stop_status};
+    ghost use Rattle.program_ends.specs.Stops.{stop_status};
 
     /// What an error of a file stops for: a refused growth, or else what the file is.
     pub fn of_file(error: Error, file: Stop) -> Stop
@@ -49,21 +47,9 @@ impl Stop {
     }
 }
 
-/// The status that the program ends with after a run.
-pub fn status(outcome: &Result<Summary, RunFault<'_>>) -> u8
-    ensures { result ≡ status_of outcome.now }
-{
-    match outcome {
-        Ok(summary) if summary.refused == 0 => 0,
-        Ok(_) => 1,
-        Err(RunFault::Open(_)) => 2,
-        Err(RunFault::Read | RunFault::Write | RunFault::Save | RunFault::OutOfMemory) => 3,
-    }
-}
-
 impl From<clap::Error> for Stop {
     ghost use Rattle.std.specs.Prelude.{◌≡◌};
-    ghost use Rattle.edit_program.specs.Stops.{words_stop};
+    ghost use Rattle.program_ends.specs.Stops.{words_stop};
 
     ghost from_gives = { λ error stop. stop ≡ words_stop error };
 
@@ -77,7 +63,7 @@ impl From<clap::Error> for Stop {
 
 impl From<AllocError> for Stop {
     ghost use Rattle.std.specs.Prelude.{◌≡◌};
-    ghost use Rattle.edit_program.specs.declared.stop.Stop.TheVariants.{NoMemory};
+    ghost use Rattle.program_ends.specs.declared.stop.Stop.TheVariants.{NoMemory};
 
     ghost from_gives = { λ _ stop. stop ≡ NoMemory };
 
@@ -88,7 +74,7 @@ impl From<AllocError> for Stop {
 
 impl<T: Drop> From<AllocFailed<T>> for Stop {
     ghost use Rattle.std.specs.Prelude.{◌≡◌};
-    ghost use Rattle.edit_program.specs.declared.stop.Stop.TheVariants.{NoMemory};
+    ghost use Rattle.program_ends.specs.declared.stop.Stop.TheVariants.{NoMemory};
 
     ghost from_gives = { λ _ stop. stop ≡ NoMemory };
 

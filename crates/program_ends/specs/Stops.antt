@@ -1,18 +1,11 @@
--- What ends the program before a map is drawn, and the status that it ends with.
+-- What ends a program before its work begins, and the status that it ends with.
 use Rattle.std.specs.Prelude.{ℕ}
-use Rattle.std.specs.declared.io.ErrorKind as io
-use Rattle.std.specs.declared.io.ErrorKind.TheVariants as io_kind
 use Rattle.clap.specs.Values.{kind_of}
 use Rattle.clap.specs.declared.error.Error.{Error}
 use Rattle.clap.specs.declared.error.kind.ErrorKind.{ErrorKind}
 use Rattle.clap.specs.declared.error.kind.ErrorKind.TheVariants.{DisplayHelp, DisplayVersion, OutOfMemory}
-use Rattle.border_show.specs.declared.stop.Stop.{Stop}
-use Rattle.border_show.specs.declared.stop.Stop.TheVariants.{Words, Map, NoMemory}
-
--- an error of a map's file: a refused growth, or else the file itself
-abbrev pub file_stop : io.ErrorKind → Stop
-file_stop io_kind.OutOfMemory = NoMemory
-file_stop kind = Map
+use Rattle.program_ends.specs.declared.stop.Stop.{Stop}
+use Rattle.program_ends.specs.declared.stop.Stop.TheVariants.{Words, Map, Script, NoMemory}
 
 abbrev stop_by : ErrorKind → Error → Stop
 stop_by OutOfMemory error = NoMemory
@@ -32,4 +25,5 @@ words_status kind = 64
 abbrev pub stop_status : Stop → ℕ
 stop_status (Words error) = words_status (kind_of error)
 stop_status Map = 3
+stop_status Script = 3
 stop_status NoMemory = 3

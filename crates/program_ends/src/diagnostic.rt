@@ -1,24 +1,23 @@
-//! The lines on standard error that say why the program ends.
+//! The lines on standard error that say why a program ends.
 ghost use Rattle.std.specs.Prelude.{◌≡◌};
 ghost use Rattle.std.specs.IoError.{error_kind};
 
-use script_runner::RunFault;
 use std::fmt;
 use std::io::{Error, ErrorKind};
 use topo_outline::OpenFault;
 
-/// The line on standard error that says why the program ends.
+/// The line on standard error that says why a program ends.
 #[derive(Clone, Copy, Debug)]
 pub enum Diagnostic<'a> {
-    /// The map was not opened: `open: ` and its fault.
+    /// A map can't be opened or read as a topology: `open: ` and its fault.
     Open(&'a OpenFault<'a>),
-    /// MAP can't be read: `map fault`.
+    /// The file of a map can't be read: `map fault`.
     Map,
-    /// SCRIPT can't be opened or read: `script fault`.
+    /// The file of a script can't be opened or read: `script fault`.
     Script,
     /// The answers can't be written: `write fault`.
     Write,
-    /// The map can't be saved, or FILE not be written: `save fault`.
+    /// What the program makes can't be saved, or FILE not be written: `save fault`.
     Save,
     /// The refused lines can't be written in FILE2: `refused fault`.
     Refused,
@@ -27,20 +26,7 @@ pub enum Diagnostic<'a> {
 }
 
 impl<'a> Diagnostic<'a> {
-    ghost use Rattle.edit_program.specs.Endings.{Tells, unwritten_line, unsaved_line, unlisted_line};
-
-    /// The line that tells a fault of a run.
-    pub fn of_fault(fault: &'a RunFault<'a>) -> Diagnostic<'a>
-        ensures { Tells fault.now result }
-    {
-        match fault {
-            RunFault::Open(fault) => Diagnostic::Open(fault),
-            RunFault::Read => Diagnostic::Script,
-            RunFault::Write => Diagnostic::Write,
-            RunFault::Save => Diagnostic::Save,
-            RunFault::OutOfMemory => Diagnostic::NoMemory,
-        }
-    }
+    ghost use Rattle.program_ends.specs.Endings.{unwritten_line, unsaved_line, unlisted_line};
 
     /// Why a file could not be written: a refused growth, or else what the file's own line says.
     fn unwritten(error: Error, line: Diagnostic<'a>) -> Diagnostic<'a>
@@ -68,7 +54,7 @@ impl<'a> Diagnostic<'a> {
 }
 
 impl<'a> fmt::Display for Diagnostic<'a> {
-    ghost use Rattle.edit_program.specs.Endings.{line_text};
+    ghost use Rattle.program_ends.specs.Endings.{line_text};
 
     ghost output = { line_text };
 

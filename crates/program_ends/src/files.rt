@@ -1,0 +1,45 @@
+//! What each program does beside its own work: its words are given, its map is read, its ending is said.
+use crate::ending::Ending;
+use crate::stop::Stop;
+use std::env;
+use std::fs::File;
+use std::io::{Read, Write};
+
+/// The words that the program was called with, its name first.
+pub fn given_words(rt: &HostRuntime) -> Result<Vec<String>, Stop> {
+    let mut given = Vec::new(rt.alloc());
+    for word in env::args(rt).map_err(|_| Stop::NoMemory)? {
+        given.push(word)?;
+    }
+    Ok(given)
+}
+
+/// One byte more than a map may have, so that a longer one is found too large.
+const READ_AT_MOST: u64 = 67_108_865;
+
+/// The bytes of a map, whole but for what is over the limit.
+pub fn map_bytes(rt: &HostRuntime, path: &str) -> Result<Vec<u8>, Stop> {
+    let mut bytes = Vec::new(rt.alloc());
+    let file = File::open(rt, path).map_err(|e| Stop::of_file(e, Stop::Map))?;
+    file.take(READ_AT_MOST)
+        .read_to_end(&mut bytes)
+        .map_err(|e| Stop::of_file(e, Stop::Map))?;
+    Ok(bytes)
+}
+
+/// Says the line of an ending, and answers its status.
+pub fn end<E: Write>(ending: Ending<'_>, errors: &mut E) -> u8 {
+    if let Some(line) = ending.line {
+        let _ = writeln!(errors, "{line}");
+    }
+    ending.status
+}
+
+/// Says why no work began, and answers the status.
+pub fn end_stopped(rt: &HostRuntime, stop: &Stop) -> u8 {
+    if let Stop::Words(error) = stop {
+        // Help and the version go to standard output, and what is wrong with the words to standard error.
+        let _ = error.print(rt);
+    }
+    end(Ending::of_stop(stop), &mut rt.stderr())
+}

@@ -1,0 +1,16 @@
+//! How the programs end: what stops them before their work, their statuses, and the line on standard
+//! error that says why. Each program has the endings of its own work beside these.
+#![tactic(auto)]
+
+mod diagnostic;
+mod ending;
+mod files;
+mod stop;
+
+pub use diagnostic::Diagnostic;
+pub use ending::Ending;
+pub use files::{end, end_stopped, given_words, map_bytes};
+pub use stop::Stop;
+
+/// The version of the programs.
+pub const VERSION: &str = "1.0.0";
