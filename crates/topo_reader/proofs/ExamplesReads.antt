@@ -15,7 +15,7 @@ use Rattle.topo_outline.specs.IsOutline.{NestsAtMost}
 use Rattle.topo_reader.specs.Positions.{position, positions, arc}
 use Rattle.topo_reader.specs.Arcs.{Arc}
 use Rattle.topo_reader.specs.Opening.{root_of}
-use Rattle.topo_reader.specs.Rings.{meet_from, ends, squeezed, all_of, first_repeat, ring_of}
+use Rattle.topo_reader.specs.Rings.{meet_from, ends, squeezed, all_of, first_repeat, walk_of, ring_of}
 use Rattle.topo_reader.specs.Reads.{IsArc, IsUse, forward, backward, IsRing, Reads}
 use Rattle.topo_reader.proofs.MeaningOfArcs.{is_arc}
 use Rattle.topo_reader.proofs.MeaningOfRings.{ring_meant}
@@ -78,7 +78,7 @@ no_exponent a (backward w e) = not_whole _ w
 -- the ring of [1, -1]: three corners, begun at the least one
 ring : IsRing ((at 4 0 ∷ at 4 4 ∷ at 4 4 ∷ at 0 0 ∷ []) ∷ (at 0 0 ∷ at 4 0 ∷ []) ∷ [])
     (at 0 0 ∷ at 4 0 ∷ at 4 4 ∷ [])
-unfolding meet_from ends squeezed all_of first_repeat ring_of
+unfolding meet_from ends squeezed all_of first_repeat walk_of ring_of
 ring = ring_meant (record { feature = 0; polygon = 0; ring = 0 }) _ _ refl
 
 -- ---- whole texts
