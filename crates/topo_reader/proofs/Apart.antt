@@ -1,11 +1,12 @@
 -- No two neighbours of a walk are equal.
 use Rattle.std.proofs.Common.{◌≡◌, Bool, true, List, [], ◌∷◌, ◌++◌, refl, sym, ap, ap₂, ◌∙◌, subst, ◌&&◌}
-use Rattle.std.specs.Prelude.{not, None}
+use Rattle.std.specs.Prelude.{not}
 use Rattle.std.specs.List.{list_all, flat_map}
 use Rattle.grid_geometry.specs.Position.{Position, position_eq}
 use Rattle.grid_geometry.specs.Ring.{Edge, links}
 use Rattle.topo_reader.specs.Arcs.{Arc}
 use Rattle.topo_reader.specs.Document.{is_walk}
+use Rattle.topo_reader.specs.Rings.{squeezed}
 use Rattle.topo_reader.specs.Reads.{Chain, Once, none, last, same, next, IsWalk, nowhere, around}
 use Rattle.topo_reader.proofs.Repeats.{not_equal}
 use Rattle.topo_reader.proofs.MeaningOfRings.{all_is, begins_with, once_squeezed}
@@ -32,6 +33,7 @@ once_parts (next {p = p} {q = q} {qs = qs} apart o) =
 -- a walk begins where its arcs do
 begins_there : {start : Position} (uses : List Arc) (p : Position) (ps : List Position) → Chain start uses start
     → Once (flat_map (λ a. a) uses) (p ∷ ps) → start ≡ p
+unfolding squeezed
 begins_there [] p ps c o = absurd (nothing (once_squeezed [] (p ∷ ps) o))
   where
     nothing : [] ≡ p ∷ ps → ⊥

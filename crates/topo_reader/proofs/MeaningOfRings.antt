@@ -1,5 +1,5 @@
 -- The walks and rings that arcs mean are those that the reader gives.
-use Rattle.std.proofs.Common.{◌≡◌, ℕ, ◌-◌, Bool, true, false, List, [], ◌∷◌, ◌++◌, length, take, refl, sym, ap, ◌∙◌, subst, arith, length-append}
+use Rattle.std.proofs.Common.{◌≡◌, ℕ, ◌-◌, ◌≤◌, Bool, true, false, List, [], ◌∷◌, ◌++◌, length, take, refl, sym, ap, ◌∙◌, subst, arith, length-append}
 use Rattle.std.specs.Prelude.{Option, Some, None, Ok, nat_le}
 use Rattle.std.specs.List.{AllZip, flat_map}
 use Rattle.std.proofs.lemmas.Bool.{false≢true}
@@ -10,14 +10,14 @@ use Rattle.grid_geometry.specs.Position.{Position, position_eq}
 use Rattle.ring_machine.specs.Ring.{canonical}
 use Rattle.ring_machine.proofs.Order.{and_both, position_eq-true, position_eq-refl}
 use Rattle.topo_outline.specs.declared.fault.RingAt.{RingAt}
-use Rattle.topo_outline.specs.Faults.{arcs_do_not_meet, ring_short, demand}
+use Rattle.topo_outline.specs.Faults.{arcs_do_not_meet, ring_short}
 use Rattle.topo_reader.specs.declared.rings.Closed.{Closed}
 use Rattle.topo_reader.specs.declared.rings.Closed.TheVariants.{Rings, Walks}
 use Rattle.topo_reader.specs.Arcs.{Arc}
 use Rattle.topo_reader.specs.Rings.{is_at, first_of, last_of, meet_from, ends, meet, unless, squeezed, last_after, front, all_of, joined, first_repeat, distinct, simple, walk_of, ring_of, closed_of, polygon_of, feature_of, all_rings}
 use Rattle.topo_reader.specs.Document.{Polygons}
 use Rattle.topo_reader.specs.Reads.{Leads, Chain, there, along, Once, none, last, same, next, IsWalk, nowhere, around, IsRing, IsClosed, AreClosed}
-use Rattle.topo_reader.proofs.Repeats.{none_again, no_repeat, differ, distinct_of, not_equal}
+use Rattle.topo_reader.proofs.Repeats.{none_again, no_repeat, Differ, differ, distinct_of, not_equal}
 use Rattle.topo_reader.proofs.Steps.{at_least, at_most, bind_ok, demand_ok, ok_same, each_at_of, of_each_at}
 
 -- ---- equal neighbours taken once
@@ -177,7 +177,7 @@ closed_once {s = s} {a = a} {as' = as'} c =
 
 -- ---- one walk
 
-walk_read : (at_ring : RingAt) (uses : List Arc) (walk : List Position) → IsWalk uses walk → walk_of at_ring uses ≡ Ok walk
+pub walk_read : (at_ring : RingAt) (uses : List Arc) (walk : List Position) → IsWalk uses walk → walk_of at_ring uses ≡ Ok walk
 unfolding walk_of meet_from ends all_of squeezed
 walk_read at_ring [] [] nowhere = refl
 walk_read at_ring uses walk (around {start = start} c o) =
@@ -201,30 +201,33 @@ walk_meant at_ring uses walk h =
 
 -- ---- one ring
 
-ring_read : (at_ring : RingAt) (uses : List Arc) (ring : List Position) → IsRing uses ring → ring_of at_ring uses ≡ Ok ring
+pub ring_read : (at_ring : RingAt) (uses : List Arc) (ring : List Position) → IsRing uses ring → ring_of at_ring uses ≡ Ok ring
 unfolding ring_of
 ring_read at_ring uses ring r =
     let new : first_repeat [] r.corners ≡ None = no_repeat [] r.corners (distinct_of r.corners r.different, λ q h. absurd (false≢true h)) in
     rw (walk_read at_ring uses r.corners (around r.closed r.once), at_least 3 (length r.corners) r.long, new, r.turned) refl
 
+long_ring : {uses : List Arc} {walk ring : List Position} → IsWalk uses walk → 3 ≤ length walk → Differ walk → ring ≡ canonical walk → IsRing uses ring
+long_ring nowhere long different turned = absurd (omega (arith, long))
+long_ring (around {start = start} {walk = walk} c o) long different turned = record {
+  start = start;
+  corners = walk;
+  closed = c;
+  once = o;
+  long = long;
+  different = different;
+  turned = turned;
+}
+
 -- a walk that is simple is a ring
 simple_ring : (at_ring : RingAt) (uses : List Arc) (walk ring : List Position) → IsWalk uses walk → simple at_ring walk ≡ Ok ring → IsRing uses ring
 simple_ring at_ring uses walk ring w h =
     let long = demand_ok (nat_le 3 (length walk)) (ring_short at_ring) (distinct at_ring walk (first_repeat [] walk)) ring h in
-    by (first_repeat [] walk) refl w (at_most 3 (length walk) long.0) long.1
+    by (first_repeat [] walk) refl (at_most 3 (length walk) long.0) long.1
   where
-    by : (o : Option Position) → first_repeat [] walk ≡ o → IsWalk uses walk → 3 ≤ length walk → distinct at_ring walk o ≡ Ok ring → IsRing uses ring
-    by (Some p) e w' l d = absurd cc
-    by None e nowhere l d = absurd (omega (arith, l))
-    by None e (around {start = start} c o) l d = record {
-      start = start;
-      corners = walk;
-      closed = c;
-      once = o;
-      long = l;
-      different = differ walk (none_again [] walk e).0;
-      turned = sym (ok_same (canonical walk) ring d);
-    }
+    by : (o : Option Position) → first_repeat [] walk ≡ o → 3 ≤ length walk → distinct at_ring walk o ≡ Ok ring → IsRing uses ring
+    by (Some p) e l d = absurd cc
+    by None e l d = long_ring w l (differ walk (none_again [] walk e).0) (sym (ok_same (canonical walk) ring d))
 
 pub ring_meant : (at_ring : RingAt) (uses : List Arc) (ring : List Position) → ring_of at_ring uses ≡ Ok ring → IsRing uses ring
 unfolding ring_of

@@ -4,7 +4,6 @@ use Rattle.std.specs.Prelude.{Some, slice_get, reverse, is_some, Result, Ok, Err
 use Rattle.std.specs.List.{AllZip}
 use Rattle.json_spans.specs.Nodes.{Node}
 use Rattle.json_spans.specs.Inside.{IsValue, IsListOf, IsListFor}
-use Rattle.json_spans.specs.Walk.{items}
 use Rattle.json_spans.specs.Whole.{IsWhole}
 use Rattle.json_spans.proofs.Meant.{one_whole}
 use Rattle.json_spans.proofs.Told.{items_told}
