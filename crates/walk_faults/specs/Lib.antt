@@ -1,0 +1,4 @@
+pub mod Walks
+pub mod Findings
+pub mod Seen
+pub mod Meeting
