@@ -107,7 +107,8 @@ fn push_report<A: Allocator, B: Allocator + Copy>(
         repeats.len(),
         touches.len(),
         crossings.len(),
-    )
+    )?;
+    Ok(())
 }
 
 /// Looks at a map, and appends the report of all that keeps it from opening to `text`, of each kind

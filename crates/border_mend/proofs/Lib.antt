@@ -1,0 +1,3 @@
+pub mod Appending
+pub mod ReportLemmas
+pub mod WordLemmas
