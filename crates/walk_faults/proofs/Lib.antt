@@ -1,0 +1,7 @@
+pub mod Lists
+pub mod Ascending
+pub mod Filled
+pub mod Neighbours
+pub mod Walking
+pub mod Boxes
+pub mod Pairs

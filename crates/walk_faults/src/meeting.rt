@@ -1,7 +1,7 @@
 // The vertices on segments, and the segments that cross.
-ghost use Rattle.std.specs.Prelude.{◌≡◌, ◌<◌, ◌+◌, ◌++◌, List, map, length, IfOk, IfErr, OnOk};
+ghost use Rattle.std.specs.Prelude.{◌≡◌, ◌<◌, ◌+◌, ◌++◌, ◌&&◌, List, map, length, IfOk, IfErr, OnOk};
 ghost use Rattle.grid_geometry.specs.Conflict as geometry;
-ghost use Rattle.grid_geometry.specs.Segment.{Segment};
+ghost use Rattle.grid_geometry.specs.Segment.{Segment, segment_lt};
 ghost use Rattle.walk_faults.specs.Findings.{OnlyIfMany, touch_at, crossing_at};
 ghost use Rattle.walk_faults.specs.Meeting.{AreHeld, touching, crossing};
 ghost use Rattle.walk_faults.specs.Meeting.{touches_among, crossings_among};
@@ -33,6 +33,27 @@ fn within(p: Pos, s: Seg) -> bool
     on(p, s) && !(p == s.lo || p == s.hi)
 }
 
+/// Whether the segment t is after s and crosses it.
+fn crosses_after(s: Seg, t: Seg) -> bool
+    ensures { result ≡ (segment_lt s t && geometry.cross s t) }
+{
+    s < t && cross(s, t)
+}
+
+/// Keeps the segments on which p lies and of which it is no end.
+fn keep_touching<A: Allocator>(segments: &mut Vec<Seg, A>, p: Pos)
+    ensures { segments.new.items ≡ touching p segments.old.items }
+{
+    segments.retain(|t| within(p, *t));
+}
+
+/// Keeps the segments after s that cross it.
+fn keep_crossing<A: Allocator>(segments: &mut Vec<Seg, A>, s: Seg)
+    ensures { segments.new.items ≡ crossing s segments.old.items }
+{
+    segments.retain(|t| crosses_after(s, *t));
+}
+
 /// The held segments on which p lies and of which it is no end, ascending.
 fn touching_at<I: SegIndex, A: Allocator + Copy>(
     alloc: A,
@@ -44,7 +65,7 @@ fn touching_at<I: SegIndex, A: Allocator + Copy>(
 {
     let mut near = Vec::new(alloc);
     index.candidates(box_at(p), &mut near)?;
-    near.retain(|t| within(p, *t));
+    keep_touching(&mut near, p);
     sort_segments(&mut near);
     Ok(near)
 }
@@ -60,7 +81,7 @@ fn crossing_after<I: SegIndex, A: Allocator + Copy>(
 {
     let mut near = Vec::new(alloc);
     index.candidates(s.rect(), &mut near)?;
-    near.retain(|t| s < *t && cross(s, *t));
+    keep_crossing(&mut near, s);
     sort_segments(&mut near);
     Ok(near)
 }

@@ -9,6 +9,7 @@ ghost use Rattle.walk_faults.specs.Seen.{walk_seen};
 
 use crate::bounded::push_at_most;
 use crate::findings::{FindFault, Repeat};
+use crate::gathered::sort_positions;
 use crate::walks::Walk;
 use grid_geometry::Pos;
 use std::alloc::{AllocError, Allocator};
@@ -65,7 +66,7 @@ fn repeated<A: Allocator + Copy>(alloc: A, walk: &[Pos]) -> Result<Vec<Pos, A>, 
     let mut sorted = Vec::from_slice(alloc, walk)?;
     sorted.sort_unstable();
     let mut found = equal_neighbours(alloc, sorted.as_slice())?;
-    found.dedup();
+    sort_positions(&mut found);
     Ok(found)
 }
 

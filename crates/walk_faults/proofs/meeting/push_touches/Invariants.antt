@@ -1,0 +1,7 @@
+use Rattle.std.proofs.Common.{◌≡◌, ◌++◌, map, take}
+use Rattle.walk_faults.specs.Findings.{touch_at}
+use Rattle.walk_faults.proofs.meeting.push_touches.Given as goal
+
+-- those of the segments so far are appended
+abbrev pub invariant-loop-segment : goal.invariant-loop-segment
+invariant-loop-segment g l = l.out.items ≡ l.fn.out.items ++ map (touch_at l.pos) (take l.segment-index l.segments)

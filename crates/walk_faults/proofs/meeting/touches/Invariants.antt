@@ -1,0 +1,9 @@
+use Rattle.std.proofs.Common.{◌≡◌, List, take}
+use Rattle.grid_geometry.specs.Segment.{Segment}
+use Rattle.walk_faults.specs.Meeting.{AreHeld, touches_among}
+use Rattle.walk_faults.proofs.meeting.touches.Given as goal
+
+-- the touches of the vertices so far
+abbrev pub invariant-loop-p : goal.invariant-loop-p
+invariant-loop-p g l =
+    (ss : List Segment) → AreHeld (g.I.SegIndex.held l.index) ss → l.found.items ≡ touches_among (take l.p-index l.vertices) ss
