@@ -5,3 +5,6 @@ pub mod Neighbours
 pub mod Walking
 pub mod Boxes
 pub mod Pairs
+pub mod RingEdges
+pub mod Opening
+mod Examples

@@ -34,17 +34,17 @@ times p ps = count_by (position_eq p) ps
 times-cons : (p q : Position) (ps : List Position) → times p (q ∷ ps) ≡ cond (position_eq p q) 1 0 + times p ps
 times-cons p q ps = sum_by-cons (λ r. cond {A = ℕ} (position_eq p r) 1 0) q ps
 
-times-same : (p q : Position) (ps : List Position) → position_eq p q ≡ true → times p (q ∷ ps) ≡ 1 + times p ps
+pub times-same : (p q : Position) (ps : List Position) → position_eq p q ≡ true → times p (q ∷ ps) ≡ 1 + times p ps
 times-same p q ps e = times-cons p q ps ∙ ap (λ b. cond b 1 0 + times p ps) e
 
-times-other : (p q : Position) (ps : List Position) → position_eq p q ≡ false → times p (q ∷ ps) ≡ times p ps
+pub times-other : (p q : Position) (ps : List Position) → position_eq p q ≡ false → times p (q ∷ ps) ≡ times p ps
 times-other p q ps e = omega (arith, times-cons p q ps, ap (λ b. cond {A = ℕ} b 1 0) e)
 
 at_most_one : (b : Bool) → cond {A = ℕ} b 1 0 ≤ 1
 at_most_one true = omega arith
 at_most_one false = omega arith
 
-times-le : (p q : Position) (ps : List Position) → times p ps ≤ times p (q ∷ ps)
+pub times-le : (p q : Position) (ps : List Position) → times p ps ≤ times p (q ∷ ps)
 times-le p q ps = omega (arith, times-cons p q ps)
 
 pub in_times : (p : Position) (ps : List Position) → In p ps → 1 ≤ times p ps

@@ -37,6 +37,7 @@ each_more f seen xs i x l e =
     ap (λ z. each_at f 0 (map seen z)) (take_more xs i x l ∙ ap (λ z. take i xs ++ z ∷ []) (sym e))
     ∙ ap (each_at f 0) (map-append seen (take i xs) (x ∷ [])) ∙ each_at-append f 0 so_far (seen x ∷ [])
     ∙ ap (λ n. each_at f 0 so_far ++ (f n (seen x) ++ [])) e' ∙ ap (λ z. each_at f 0 so_far ++ z) (append-nil (f i (seen x)))
+
 -- what one element gives comes behind those so far
 pub one_appended : {X Y Z : Type 0} (f : ℕ → Y → List Z) (seen : X → Y) (xs : List X) (i : ℕ) (x : X) (old before after : List Z) → i < length xs → x ≡ get_or xs i x
     → before ≡ old ++ each_at f 0 (map seen (take i xs)) → after ≡ before ++ f i (seen x)
