@@ -1,5 +1,5 @@
 -- The box of a position, and of a segment, meets those of the segments that meet it.
-use Rattle.std.proofs.Common.{◌≡◌, ℤ, Bool, true, false, sym, ◌∙◌, ◌&&◌, int_le, arith}
+use Rattle.std.proofs.Common.{◌≡◌, ℤ, Bool, true, false, ◌&&◌, int_le, arith}
 use Rattle.std.specs.Prelude.{not}
 use Rattle.std.specs.Int.{int_min, int_max}
 use Rattle.std.proofs.lemmas.Bool.{false≢true}

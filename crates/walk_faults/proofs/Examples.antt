@@ -1,5 +1,5 @@
 -- Worked examples: what is found in small maps.
-use Rattle.std.proofs.Common.{◌≡◌, ℕ, Bool, true, false, refl, pos, List, [], ◌∷◌}
+use Rattle.std.proofs.Common.{◌≡◌, ℕ, true, false, refl, pos, List, [], ◌∷◌}
 use Rattle.std.specs.Prelude.{if◌then◌else◌}
 use Rattle.std.specs.List.{fold}
 use Rattle.grid_geometry.specs.Position.{Position, position}
@@ -11,7 +11,7 @@ use Rattle.topo_outline.specs.declared.fault.RingAt.{RingAt}
 use Rattle.walk_faults.specs.declared.findings.Touch.{Touch}
 use Rattle.walk_faults.specs.declared.findings.Crossing.{Crossing}
 use Rattle.walk_faults.specs.Walks.{walks_of}
-use Rattle.walk_faults.specs.Findings.{is_short, is_repeated, repeated, repeat_at, short_walks, all_repeats, all_positions, all_segments, walk_segments, touch_at, crossing_at}
+use Rattle.walk_faults.specs.Findings.{is_short, repeated, repeat_at, short_walks, all_repeats, all_positions, all_segments, walk_segments, touch_at, crossing_at}
 use Rattle.walk_faults.specs.Meeting.{touches_among, crossings_among}
 use Rattle.walk_faults.specs.Opens.{is_closed_ring}
 

@@ -1,5 +1,5 @@
 -- Equal neighbours of ascending positions, and the positions that stand more than once.
-use Rattle.std.proofs.Common.{◌≡◌, ◌≤◌, ◌+◌, ◌<◌, ℕ, zero, suc, Bool, true, false, refl, sym, ap, ◌∙◌, subst, cond, List, [], ◌∷◌, map, get_or, inl, inr, Contains, arith}
+use Rattle.std.proofs.Common.{◌≡◌, ◌≤◌, ◌+◌, ℕ, suc, Bool, true, false, refl, sym, ap, ◌∙◌, subst, cond, List, [], ◌∷◌, map, get_or, inl, inr, Contains, arith}
 use Rattle.std.specs.Prelude.{nat_le}
 use Rattle.std.specs.List.{AllByRecursion, filter, fold, count_by}
 use Rattle.std.specs.List.Sorted.{IsPermutation, IsSorted, IsStrictlySortedBy}
@@ -17,7 +17,7 @@ use Rattle.ring_machine.specs.Query.{add_position}
 use Rattle.ring_machine.proofs.First.{In, filter-in}
 use Rattle.ring_machine.proofs.Members.{contains_in, in_contains, in_filter}
 use Rattle.ring_machine.proofs.Order.{position_eq-true, position_eq-refl, position_lt-trans, position_lt-total}
-use Rattle.ring_machine.proofs.SortedOnce.{Rising, all_rise, in_all, all_in, position_total}
+use Rattle.ring_machine.proofs.SortedOnce.{Rising, all_rise, all_in, position_total}
 use Rattle.walk_faults.specs.Findings.{ListsAll, is_repeated, repeated}
 use Rattle.walk_faults.proofs.Ascending.{same_ascending}
 

@@ -1,5 +1,5 @@
 -- The law that decides: nothing is found exactly where the map opens.
-use Rattle.std.proofs.Common.{◌≡◌, ◌↔◌, ◌≤◌, ◌+◌, ℕ, suc, Bool, true, false, refl, sym, ap, ap₂, ◌∙◌, subst, cond, List, [], ◌∷◌, ◌++◌, map, length, inl, inr, ◌⊎◌, ◌&&◌, ◌||◌, None, Contains, arith}
+use Rattle.std.proofs.Common.{◌≡◌, ◌↔◌, ◌≤◌, ℕ, suc, Bool, true, false, refl, sym, ap, ap₂, ◌∙◌, subst, List, [], ◌∷◌, ◌++◌, map, length, inl, inr, ◌⊎◌, ◌&&◌, ◌||◌, None, arith}
 use Rattle.std.specs.Prelude.{not, nat_le, nat_lt}
 use Rattle.std.specs.List.{filter, flat_map, list_all}
 use Rattle.std.proofs.lemmas.Bool.{false≢true}
@@ -8,7 +8,7 @@ use Rattle.std.proofs.lemmas.List.{map-append}
 use Rattle.grid_geometry.specs.Conflict.{conflict, cross, is_within}
 use Rattle.grid_geometry.specs.Position.{Position, position_eq}
 use Rattle.grid_geometry.specs.Segment.{Segment, segment_lt}
-use Rattle.grid_geometry.proofs.Conflicts.{conflict-comm, conflict-same, cross-same}
+use Rattle.grid_geometry.proofs.Conflicts.{conflict-comm, conflict-same}
 use Rattle.ring_machine.specs.Planar.{least_conflict}
 use Rattle.ring_machine.specs.Ring.{has, is_distinct, segments}
 use Rattle.ring_machine.proofs.First.{In, filter-in, least_conflict_is, least_conflict_unique}
@@ -19,13 +19,11 @@ use Rattle.ring_machine.proofs.Neighbours.{in-map, in-flat_map, in-has, has-in, 
 use Rattle.ring_machine.proofs.Order.{and_both, or_true, or_right, position_eq-true, position_eq-refl}
 use Rattle.ring_machine.proofs.Orders.{segment_ordered}
 use Rattle.ring_machine.proofs.Removal.{not_true}
-use Rattle.topo_outline.specs.declared.fault.RingAt.{RingAt}
 use Rattle.walk_faults.specs.declared.findings.Findings.{Findings}
-use Rattle.walk_faults.specs.declared.findings.Repeat.{Repeat}
 use Rattle.walk_faults.specs.declared.findings.Touch.{Touch}
 use Rattle.walk_faults.specs.declared.findings.Crossing.{Crossing}
 use Rattle.walk_faults.specs.Walks.{Placed, each_at, placed, walks_in_polygon, walks_in_feature, walks_of}
-use Rattle.walk_faults.specs.Findings.{is_short, short_walks, repeated, repeat_at, all_repeats, all_positions, all_segments, walk_segments, IsTouch, IsCrossing, touch_at, crossing_at, touch_cmp, crossing_cmp, ListsAll, AreFindings, Found}
+use Rattle.walk_faults.specs.Findings.{is_short, short_walks, repeated, repeat_at, all_repeats, all_positions, all_segments, walk_segments, IsTouch, IsCrossing, touch_at, crossing_at, Found}
 use Rattle.walk_faults.specs.Opens.{is_closed_ring, all_walks, Opens, IsNothing}
 use Rattle.walk_faults.proofs.Neighbours.{times, in_times, times_in, times-same, times-other, times-le, in_repeated, repeated_in}
 use Rattle.walk_faults.proofs.RingEdges.{ring_segments, segment_ends, vertex_side}

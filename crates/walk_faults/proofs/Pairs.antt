@@ -1,6 +1,6 @@
 -- Lists of pairs, by the first and then by the second: all touches, and all crossings.
-use Rattle.std.proofs.Common.{◌≡◌, true, refl, ap, ap₂, ◌∙◌, subst, List, [], ◌∷◌, ◌++◌, ◌&&◌, map, inl, inr, Contains}
-use Rattle.std.specs.List.{AllByRecursion, filter, flat_map}
+use Rattle.std.proofs.Common.{◌≡◌, refl, ap, ap₂, subst, List, [], ◌∷◌, ◌++◌, ◌&&◌, map, inl, inr, Contains}
+use Rattle.std.specs.List.{flat_map}
 use Rattle.std.specs.List.Sorted.{IsStrictlySortedBy}
 use Rattle.std.specs.Ordering.{ordering_then}
 use Rattle.std.specs.Cmp.{IsTotalOrder, tied_itself}
@@ -16,8 +16,6 @@ use Rattle.ring_machine.proofs.Neighbours.{all_of, in-map, in-flat_map}
 use Rattle.ring_machine.proofs.Order.{and_both}
 use Rattle.ring_machine.proofs.SortedOnce.{in_recursion, position_total}
 use Rattle.segment_index.proofs.Singles.{segment_total}
-use Rattle.walk_faults.specs.declared.findings.Touch.{Touch}
-use Rattle.walk_faults.specs.declared.findings.Crossing.{Crossing}
 use Rattle.walk_faults.specs.Walks.{Placed}
 use Rattle.walk_faults.specs.Findings.{ListsAll, IsTouch, IsCrossing, touch_at, crossing_at, touch_cmp, crossing_cmp, all_positions, all_segments}
 use Rattle.walk_faults.specs.Meeting.{touching, crossing, touches_among, crossings_among}

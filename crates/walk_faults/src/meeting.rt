@@ -1,5 +1,5 @@
 // The vertices on segments, and the segments that cross.
-ghost use Rattle.std.specs.Prelude.{◌≡◌, ◌<◌, ◌+◌, ◌++◌, ◌&&◌, List, map, length, IfOk, IfErr, OnOk};
+ghost use Rattle.std.specs.Prelude.{◌≡◌, ◌<◌, ◌≤◌, ◌+◌, ◌++◌, ◌&&◌, List, map, length, IfOk, IfErr, OnOk};
 ghost use Rattle.grid_geometry.specs.Conflict as geometry;
 ghost use Rattle.grid_geometry.specs.Segment.{Segment, segment_lt};
 ghost use Rattle.walk_faults.specs.Findings.{OnlyIfMany, touch_at, crossing_at};
@@ -94,6 +94,7 @@ fn push_touches<A: Allocator + Copy>(
     most: usize,
 ) -> Result<(), FindFault>
     ensures pushed { OnOk result (out.new.items ≡ out.old.items ++ map (touch_at pos) segments.now) }
+    ensures few { length out.old.items ≤ most → OnOk result (length out.new.items ≤ most) }
     ensures fault { IfErr result (OnlyIfMany (most < length out.old.items + length segments.now)) }
 {
     for segment in segments {
@@ -114,6 +115,7 @@ fn push_crossings<A: Allocator + Copy>(
     most: usize,
 ) -> Result<(), FindFault>
     ensures pushed { OnOk result (out.new.items ≡ out.old.items ++ map (crossing_at first) others.now) }
+    ensures few { length out.old.items ≤ most → OnOk result (length out.new.items ≤ most) }
     ensures fault { IfErr result (OnlyIfMany (most < length out.old.items + length others.now)) }
 {
     for second in others {
@@ -135,6 +137,7 @@ pub(crate) fn touches<I: SegIndex, A: Allocator + Copy>(
 ) -> Result<Vec<Touch, A>, FindFault>
     ensures found { IfOk result (λ found. (ss : List Segment) → AreHeld (I.held index.now) ss
         → found.items ≡ touches_among vertices.now ss) }
+    ensures few { IfOk result (λ found. length found.items ≤ most) }
     ensures fault { IfErr result (λ fault. (ss : List Segment) → AreHeld (I.held index.now) ss
         → OnlyIfMany (most < length (touches_among vertices.now ss)) fault) }
 {
@@ -155,6 +158,7 @@ pub(crate) fn crossings<I: SegIndex, A: Allocator + Copy>(
 ) -> Result<Vec<Crossing, A>, FindFault>
     requires { AreHeld (I.held index.now) segments.now }
     ensures found { IfOk result (λ found. found.items ≡ crossings_among segments.now segments.now) }
+    ensures few { IfOk result (λ found. length found.items ≤ most) }
     ensures fault { IfErr result (OnlyIfMany (most < length (crossings_among segments.now segments.now))) }
 {
     let mut found = Vec::new(alloc);

@@ -26,6 +26,7 @@ pub(crate) fn short<A: Allocator + Copy>(
     most: usize,
 ) -> Result<Vec<RingAt, A>, FindFault>
     ensures found { IfOk result (λ found. found.items ≡ short_walks (map walk_seen walks.now)) }
+    ensures few { IfOk result (λ found. length found.items ≤ most) }
     ensures fault { IfErr result (OnlyIfMany (most < length (short_walks (map walk_seen walks.now)))) }
 {
     let mut found = Vec::new(alloc);
@@ -78,6 +79,7 @@ fn push_repeats<A: Allocator + Copy>(
     most: usize,
 ) -> Result<(), FindFault>
     ensures pushed { OnOk result (out.new.items ≡ out.old.items ++ map (repeat_at ring) positions.now) }
+    ensures few { length out.old.items ≤ most → OnOk result (length out.new.items ≤ most) }
     ensures fault { IfErr result (OnlyIfMany (most < length out.old.items + length positions.now)) }
 {
     for pos in positions {
@@ -93,6 +95,7 @@ pub(crate) fn repeats<A: Allocator + Copy>(
     most: usize,
 ) -> Result<Vec<Repeat, A>, FindFault>
     ensures found { IfOk result (λ found. found.items ≡ all_repeats (map walk_seen walks.now)) }
+    ensures few { IfOk result (λ found. length found.items ≤ most) }
     ensures fault { IfErr result (OnlyIfMany (most < length (all_repeats (map walk_seen walks.now)))) }
 {
     let mut found = Vec::new(alloc);

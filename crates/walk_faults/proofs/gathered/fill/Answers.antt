@@ -1,5 +1,4 @@
-use Rattle.std.proofs.Common.{◌≡◌, ◌∙◌, ap, sym, ◌||◌, take}
-use Rattle.std.specs.FinSet as set
+use Rattle.std.proofs.Common.{◌∙◌, ap}
 use Rattle.std.proofs.lemmas.List.{take_all}
 use Rattle.segment_index.specs.Candidates.{has}
 use Rattle.segment_index.proofs.Singles.{contains_none}

@@ -1,4 +1,4 @@
-use Rattle.std.proofs.Common.{◌≡◌, ◌&&◌, subst, true}
+use Rattle.std.proofs.Common.{◌&&◌, subst, true}
 use Rattle.grid_geometry.specs.Conflict.{cross}
 use Rattle.grid_geometry.specs.Segment.{box_of, segment_lt}
 use Rattle.segment_index.specs.Candidates.{Gives}

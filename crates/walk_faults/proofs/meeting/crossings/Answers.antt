@@ -15,7 +15,7 @@ returns-in_err-push_crossings-clause-fault g c =
     let Many = most < length (crossings_among ss ss) in
     let k = only_where (most < length c.loop-s.found.items + length c.as_slice.result.now) Many c.in_err-push_crossings.field-0.0
     (λ more. flat_past (λ t. map (crossing_at t) (crossing t ss)) ss c.loop-s.s-index s c.loop-s.found.items (length c.as_slice.result.now) most
-    c.loop-s-test.true c.s-item.is c.loop-s.invariant
+    c.loop-s-test.true c.s-item.is c.loop-s.invariant.found
     (ap length (c.as_slice.ensures.value ∙ c.in_ok-near.ensures ss c.requires) ∙ sym (length-map (crossing s ss) (crossing_at s))) more)
     c.in_err-push_crossings.ensures.fault in
     let r = err_from_is_err_and c.from_residual-in_err-push_crossings.result c.from_residual-in_err-push_crossings.ensures.1 in

@@ -19,7 +19,7 @@ returns-in_err-push_touches-clause-fault g c =
     let k : Here c.in_err-push_touches.field-0.0 = λ ss h.
     only_where (most < length c.loop-p.found.items + length c.as_slice.result.now) (most < length (touches_among ps ss)) c.in_err-push_touches.field-0.0
     (λ more. flat_past (λ q. map (touch_at q) (touching q ss)) ps c.loop-p.p-index p c.loop-p.found.items (length c.as_slice.result.now) most
-    c.loop-p-test.true c.p-item.is (c.loop-p.invariant ss h)
+    c.loop-p-test.true c.p-item.is (c.loop-p.invariant.found ss h)
     (ap length (c.as_slice.ensures.value ∙ c.in_ok-near.ensures ss h) ∙ sym (length-map (touching p ss) (touch_at p))) more)
     c.in_err-push_touches.ensures.fault in
     let r = err_from_is_err_and c.from_residual-in_err-push_touches.result c.from_residual-in_err-push_touches.ensures.1 in

@@ -1,4 +1,4 @@
-use Rattle.std.proofs.Common.{◌≡◌, ◌∙◌, ap, sym, subst, Contains}
+use Rattle.std.proofs.Common.{◌∙◌, ap, subst, Contains}
 use Rattle.std.specs.List.Sorted.{IsPermutation}
 use Rattle.grid_geometry.specs.Position.{position_cmp}
 use Rattle.walk_faults.specs.Findings.{ListsAll}

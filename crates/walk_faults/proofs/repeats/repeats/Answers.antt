@@ -14,7 +14,7 @@ returns-in_err-push_repeats-clause-fault g c =
     let Many = most < length (all_repeats (map walk_seen walks)) in
     let k = only_where (most < length c.loop-walk.found.items + length c.as_slice.result.now) Many c.in_err-push_repeats.field-0.0
     (λ more. repeats_past walks c.loop-walk.walk-index w c.loop-walk.found.items (length c.as_slice.result.now) most
-    c.loop-walk-test.true c.walk-item.is c.loop-walk.invariant
+    c.loop-walk-test.true c.walk-item.is c.loop-walk.invariant.found
     (ap length (c.as_slice.ensures.value ∙ c.in_ok-positions.ensures) ∙ sym (length-map (repeated w.positions.now) (repeat_at w.at))) more)
     c.in_err-push_repeats.ensures.fault in
     let r = err_from_is_err_and c.from_residual-in_err-push_repeats.result c.from_residual-in_err-push_repeats.ensures.1 in
