@@ -1,5 +1,5 @@
 -- What keeps a map of walks from being one of rings whose segments meet in common ends alone.
-use Rattle.std.specs.Prelude.{◌≡◌, ◌↔◌, ◌<◌, ◌⊎◌, ℕ, Bool, ◌&&◌, nat_lt, nat_le, List, [], ◌∷◌, map, length}
+use Rattle.std.specs.Prelude.{◌≡◌, ◌↔◌, ◌<◌, ◌≤◌, ◌⊎◌, ℕ, Bool, nat_lt, nat_le, List, [], ◌∷◌, map, length}
 use Rattle.std.specs.Prelude.{Contains, IsTrue, if◌then◌else◌}
 use Rattle.std.specs.List.{filter, flat_map, fold, count_by}
 use Rattle.std.specs.List.Sorted.{IsStrictlySortedBy}
@@ -113,6 +113,13 @@ abbrev pub Found : {A : Type 0} → List (List (List (List Position))) → Findi
 Found polygons findings = AreFindings (walks_of polygons) findings
 
 -- ---- too many
+
+-- of each kind there are no more than so many
+pub record AreAtMost {A : Type 0} (most : ℕ) (findings : Findings A) : Type 0 where
+  pub short : length findings.short.items ≤ most
+  pub repeats : length findings.repeats.items ≤ most
+  pub touches : length findings.touches.items ≤ most
+  pub crossings : length findings.crossings.items ≤ most
 
 -- the list of all that are such has more than so many
 pub record AreMore {X : Type 0} (most : ℕ) (cmp : X → X → Ordering) (Is : X → Type 0)

@@ -2,3 +2,4 @@ pub mod Walks
 pub mod Findings
 pub mod Seen
 pub mod Meeting
+pub mod Opens

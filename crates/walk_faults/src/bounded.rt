@@ -1,5 +1,5 @@
 // Lists with a greatest length.
-ghost use Rattle.std.specs.Prelude.{◌≡◌, ◌≤◌, ◌++◌, ◌∷◌, [], length, OnOk, IfErr};
+ghost use Rattle.std.specs.Prelude.{◌≡◌, ◌≤◌, ◌<◌, ◌++◌, ◌∷◌, [], length, OnOk, IfErr};
 ghost use Rattle.walk_faults.specs.Findings.{OnlyIfMany};
 
 use crate::findings::FindFault;
@@ -12,6 +12,7 @@ pub(crate) fn push_at_most<T: Drop, A: Allocator>(
     most: usize,
 ) -> Result<(), FindFault>
     ensures pushed { OnOk result (out.new.items ≡ out.old.items ++ x ∷ []) }
+    ensures room { OnOk result (length out.old.items < most) }
     ensures fault { IfErr result (OnlyIfMany (most ≤ length out.old.items)) }
 {
     if out.len() >= most {

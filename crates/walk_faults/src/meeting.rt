@@ -1,7 +1,7 @@
 // The vertices on segments, and the segments that cross.
-ghost use Rattle.std.specs.Prelude.{◌≡◌, ◌<◌, ◌+◌, ◌++◌, List, map, length, IfOk, IfErr, OnOk};
+ghost use Rattle.std.specs.Prelude.{◌≡◌, ◌<◌, ◌≤◌, ◌+◌, ◌++◌, ◌&&◌, List, map, length, IfOk, IfErr, OnOk};
 ghost use Rattle.grid_geometry.specs.Conflict as geometry;
-ghost use Rattle.grid_geometry.specs.Segment.{Segment};
+ghost use Rattle.grid_geometry.specs.Segment.{Segment, segment_lt};
 ghost use Rattle.walk_faults.specs.Findings.{OnlyIfMany, touch_at, crossing_at};
 ghost use Rattle.walk_faults.specs.Meeting.{AreHeld, touching, crossing};
 ghost use Rattle.walk_faults.specs.Meeting.{touches_among, crossings_among};
@@ -33,6 +33,27 @@ fn within(p: Pos, s: Seg) -> bool
     on(p, s) && !(p == s.lo || p == s.hi)
 }
 
+/// Whether the segment t is after s and crosses it.
+fn crosses_after(s: Seg, t: Seg) -> bool
+    ensures { result ≡ (segment_lt s t && geometry.cross s t) }
+{
+    s < t && cross(s, t)
+}
+
+/// Keeps the segments on which p lies and of which it is no end.
+fn keep_touching<A: Allocator>(segments: &mut Vec<Seg, A>, p: Pos)
+    ensures { segments.new.items ≡ touching p segments.old.items }
+{
+    segments.retain(|t| within(p, *t));
+}
+
+/// Keeps the segments after s that cross it.
+fn keep_crossing<A: Allocator>(segments: &mut Vec<Seg, A>, s: Seg)
+    ensures { segments.new.items ≡ crossing s segments.old.items }
+{
+    segments.retain(|t| crosses_after(s, *t));
+}
+
 /// The held segments on which p lies and of which it is no end, ascending.
 fn touching_at<I: SegIndex, A: Allocator + Copy>(
     alloc: A,
@@ -44,7 +65,7 @@ fn touching_at<I: SegIndex, A: Allocator + Copy>(
 {
     let mut near = Vec::new(alloc);
     index.candidates(box_at(p), &mut near)?;
-    near.retain(|t| within(p, *t));
+    keep_touching(&mut near, p);
     sort_segments(&mut near);
     Ok(near)
 }
@@ -60,7 +81,7 @@ fn crossing_after<I: SegIndex, A: Allocator + Copy>(
 {
     let mut near = Vec::new(alloc);
     index.candidates(s.rect(), &mut near)?;
-    near.retain(|t| s < *t && cross(s, *t));
+    keep_crossing(&mut near, s);
     sort_segments(&mut near);
     Ok(near)
 }
@@ -73,6 +94,7 @@ fn push_touches<A: Allocator + Copy>(
     most: usize,
 ) -> Result<(), FindFault>
     ensures pushed { OnOk result (out.new.items ≡ out.old.items ++ map (touch_at pos) segments.now) }
+    ensures few { length out.old.items ≤ most → OnOk result (length out.new.items ≤ most) }
     ensures fault { IfErr result (OnlyIfMany (most < length out.old.items + length segments.now)) }
 {
     for segment in segments {
@@ -93,6 +115,7 @@ fn push_crossings<A: Allocator + Copy>(
     most: usize,
 ) -> Result<(), FindFault>
     ensures pushed { OnOk result (out.new.items ≡ out.old.items ++ map (crossing_at first) others.now) }
+    ensures few { length out.old.items ≤ most → OnOk result (length out.new.items ≤ most) }
     ensures fault { IfErr result (OnlyIfMany (most < length out.old.items + length others.now)) }
 {
     for second in others {
@@ -114,6 +137,7 @@ pub(crate) fn touches<I: SegIndex, A: Allocator + Copy>(
 ) -> Result<Vec<Touch, A>, FindFault>
     ensures found { IfOk result (λ found. (ss : List Segment) → AreHeld (I.held index.now) ss
         → found.items ≡ touches_among vertices.now ss) }
+    ensures few { IfOk result (λ found. length found.items ≤ most) }
     ensures fault { IfErr result (λ fault. (ss : List Segment) → AreHeld (I.held index.now) ss
         → OnlyIfMany (most < length (touches_among vertices.now ss)) fault) }
 {
@@ -134,6 +158,7 @@ pub(crate) fn crossings<I: SegIndex, A: Allocator + Copy>(
 ) -> Result<Vec<Crossing, A>, FindFault>
     requires { AreHeld (I.held index.now) segments.now }
     ensures found { IfOk result (λ found. found.items ≡ crossings_among segments.now segments.now) }
+    ensures few { IfOk result (λ found. length found.items ≤ most) }
     ensures fault { IfErr result (OnlyIfMany (most < length (crossings_among segments.now segments.now))) }
 {
     let mut found = Vec::new(alloc);

@@ -9,6 +9,7 @@ ghost use Rattle.walk_faults.specs.Seen.{walk_seen};
 
 use crate::bounded::push_at_most;
 use crate::findings::{FindFault, Repeat};
+use crate::gathered::sort_positions;
 use crate::walks::Walk;
 use grid_geometry::Pos;
 use std::alloc::{AllocError, Allocator};
@@ -25,6 +26,7 @@ pub(crate) fn short<A: Allocator + Copy>(
     most: usize,
 ) -> Result<Vec<RingAt, A>, FindFault>
     ensures found { IfOk result (λ found. found.items ≡ short_walks (map walk_seen walks.now)) }
+    ensures few { IfOk result (λ found. length found.items ≤ most) }
     ensures fault { IfErr result (OnlyIfMany (most < length (short_walks (map walk_seen walks.now)))) }
 {
     let mut found = Vec::new(alloc);
@@ -65,7 +67,7 @@ fn repeated<A: Allocator + Copy>(alloc: A, walk: &[Pos]) -> Result<Vec<Pos, A>, 
     let mut sorted = Vec::from_slice(alloc, walk)?;
     sorted.sort_unstable();
     let mut found = equal_neighbours(alloc, sorted.as_slice())?;
-    found.dedup();
+    sort_positions(&mut found);
     Ok(found)
 }
 
@@ -77,6 +79,7 @@ fn push_repeats<A: Allocator + Copy>(
     most: usize,
 ) -> Result<(), FindFault>
     ensures pushed { OnOk result (out.new.items ≡ out.old.items ++ map (repeat_at ring) positions.now) }
+    ensures few { length out.old.items ≤ most → OnOk result (length out.new.items ≤ most) }
     ensures fault { IfErr result (OnlyIfMany (most < length out.old.items + length positions.now)) }
 {
     for pos in positions {
@@ -92,6 +95,7 @@ pub(crate) fn repeats<A: Allocator + Copy>(
     most: usize,
 ) -> Result<Vec<Repeat, A>, FindFault>
     ensures found { IfOk result (λ found. found.items ≡ all_repeats (map walk_seen walks.now)) }
+    ensures few { IfOk result (λ found. length found.items ≤ most) }
     ensures fault { IfErr result (OnlyIfMany (most < length (all_repeats (map walk_seen walks.now)))) }
 {
     let mut found = Vec::new(alloc);

@@ -1,7 +1,7 @@
 // All that keeps a map from opening.
 ghost use Rattle.std.specs.Prelude.{◌≡◌, IfOk, IfErr};
 ghost use Rattle.std.specs.FinSet as set;
-ghost use Rattle.walk_faults.specs.Findings.{Found, Tells};
+ghost use Rattle.walk_faults.specs.Findings.{Found, AreAtMost, Tells};
 ghost use Rattle.walk_faults.specs.Seen.{features_seen};
 
 use crate::findings::{FindFault, Findings};
@@ -25,6 +25,7 @@ pub(crate) fn find_at_most<I: SegIndex, A: Allocator + Copy>(
 ) -> Result<Findings<A>, FindFault>
     requires empty { I.held index ≡ set.empty }
     ensures found { IfOk result (λ findings. Found (features_seen polygons.now) findings) }
+    ensures few { IfOk result (λ findings. AreAtMost most findings) }
     ensures fault { IfErr result (Tells most (features_seen polygons.now)) }
 {
     let mut index = index;
@@ -54,6 +55,7 @@ pub fn find<I: SegIndex, A: Allocator + Copy>(
 ) -> Result<Findings<A>, FindFault>
     requires empty { I.held index ≡ set.empty }
     ensures found { IfOk result (λ findings. Found (features_seen polygons.now) findings) }
+    ensures few { IfOk result (λ findings. AreAtMost MOST findings) }
     ensures fault { IfErr result (Tells MOST (features_seen polygons.now)) }
 {
     find_at_most(alloc, index, polygons, MOST)
