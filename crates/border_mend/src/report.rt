@@ -1,8 +1,9 @@
 //! The report of what keeps a map from opening.
-ghost use Rattle.std.specs.Prelude.{◌≡◌, ◌++◌, take, flat_map, IfErr, IfOk, OnOk};
+ghost use Rattle.std.specs.Prelude.{◌≡◌, ◌↔◌, ◌++◌, take, flat_map, Ok, IfErr, IfOk, OnOk};
 ghost use Rattle.border_mend.specs.Report.{short_line, repeat_line, touch_line, crossing_line};
 ghost use Rattle.border_mend.specs.Report.{is_clear, opens_line, report_of};
-ghost use Rattle.border_mend.specs.Looking.{Looked, IsEnd};
+ghost use Rattle.border_mend.specs.Looking.{Looked, MapOpens, IsEnd};
+ghost use Rattle.border_mend.specs.Status.{status_of};
 
 use crate::lines::{push_counts, push_crossing, push_repeat, push_short, push_touch};
 use crate::looking::{LookFault, look};
@@ -112,7 +113,8 @@ fn push_report<A: Allocator, B: Allocator + Copy>(
 }
 
 /// Looks at a map, and appends the report of all that keeps it from opening to `text`, of each kind
-/// at most `most` lines. Fails as `look` does, and then `text` may have a part of a report.
+/// at most `most` lines. What is found is answered: nothing, and so the status 0, exactly where the
+/// map opens. Fails as `look` does, and then `text` may have a part of a report.
 pub(crate) fn report_map<'a, A: Allocator + Copy>(
     alloc: A,
     heap: Global,
@@ -121,6 +123,7 @@ pub(crate) fn report_map<'a, A: Allocator + Copy>(
     text: &mut Vec<u8, A>,
 ) -> Result<Findings<A>, LookFault<'a>>
     ensures looked { IfOk result (λ findings. Looked bytes.now findings) }
+    ensures opens { IfOk result (λ findings. status_of (Ok findings) ≡ 0 ↔ MapOpens bytes.now) }
     ensures told { IfOk result (λ findings.
         text.new.items ≡ text.old.items ++ report_of most findings) }
     ensures refused { IfErr result (λ fault. IsEnd fault bytes.now) }
