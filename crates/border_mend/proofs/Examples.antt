@@ -1,14 +1,16 @@
 -- Worked examples: what is reported of small maps.
-use Rattle.std.proofs.Common.{◌≡◌, ℕ, true, false, refl, pos, List, [], ◌∷◌, ◌++◌}
+use Rattle.std.proofs.Common.{◌≡◌, ℕ, Bool, refl, pos, List, [], ◌∷◌}
 use Rattle.std.specs.Prelude.{codes, if◌then◌else◌}
 use Rattle.std.specs.List.{fold}
-use Rattle.grid_geometry.specs.Position.{Position, position}
-use Rattle.grid_geometry.specs.Segment.{Segment, segment, segment_eq, segment_lt}
-use Rattle.ring_machine.specs.Query.{add_position}
+use Rattle.std.specs.Fmt.{digits}
+use Rattle.grid_geometry.specs.Conflict.{cross, is_within}
+use Rattle.grid_geometry.specs.Orientation.{is_on, are_split, orientation}
+use Rattle.grid_geometry.specs.Position.{Position, position, position_lt, position_eq}
+use Rattle.grid_geometry.specs.Segment.{Segment, segment_eq, segment_lt}
 use Rattle.walk_faults.specs.Walks.{walks_of}
 use Rattle.walk_faults.specs.Findings.{short_walks, all_repeats, all_positions, all_segments}
 use Rattle.walk_faults.specs.Meeting.{touches_among, crossings_among}
-use Rattle.border_mend.specs.Report.{report_text, opens_line, counts_line}
+use Rattle.border_mend.specs.Report.{report_text}
 
 abbrev at : ℕ → ℕ → Position
 at x y = position (pos x) (pos y)
@@ -21,19 +23,22 @@ Map = List (List (List (List Position)))
 abbrev feature : List Position → List (List (List Position))
 feature walk = (walk ∷ []) ∷ []
 
--- ascending segments with s in its place, each once
-abbrev add_side : List Segment → Segment → List Segment
-add_side [] s = s ∷ []
-add_side (t ∷ ts) s = if segment_lt s t then (s ∷ t ∷ ts) else (if segment_eq s t then (t ∷ ts) else (t ∷ add_side ts s))
+-- ascending elements with x in its place, each once
+abbrev add : {X : Type 0} → (X → X → Bool) → (X → X → Bool) → List X → X → List X
+add lt eq [] x = x ∷ []
+add lt eq (y ∷ ys) x = if lt x y then (x ∷ y ∷ ys) else (if eq x y then (y ∷ ys) else (y ∷ add lt eq ys x))
+
+abbrev vertices : Map → List Position
+vertices m = fold (add position_lt position_eq) [] (all_positions (walks_of m))
 
 abbrev sides : Map → List Segment
-sides m = fold add_side [] (all_segments (walks_of m))
+sides m = fold (add segment_lt segment_eq) [] (all_segments (walks_of m))
 
 -- the report of a map, of each kind at most so many lines
 abbrev report : ℕ → Map → List ℕ
 report most m =
     report_text most (short_walks (walks_of m)) (all_repeats (walks_of m))
-    (touches_among (fold add_position [] (all_positions (walks_of m))) (sides m)) (crossings_among (sides m) (sides m))
+    (touches_among (vertices m) (sides m)) (crossings_among (sides m) (sides m))
 
 -- a square, and two on its right side, whose common corner it has not
 abbrev vertex_on_border_map : Map
@@ -43,7 +48,9 @@ vertex_on_border_map =
     ∷ feature (at 10 5 ∷ at 20 5 ∷ at 20 10 ∷ at 10 10 ∷ [])
     ∷ []
 
-vertex_on_border : report 1000 vertex_on_border_map ≡ codes "on 10 5 / 10 0 10 10\ncounts short 0 repeats 0 on 1 cross 0\n"
+vertex_on_border : report 1000 vertex_on_border_map
+    ≡ codes "on 10 5 / 10 0 10 10\ncounts short 0 repeats 0 on 1 cross 0\n"
+unfolding digits is_within is_on orientation cross are_split
 vertex_on_border = refl
 
 -- two neighbours that overlap
@@ -53,11 +60,15 @@ crossing_map =
     ∷ feature (at 5 8 ∷ at 30 8 ∷ at 30 20 ∷ at 5 20 ∷ [])
     ∷ []
 
-crossing : report 1000 crossing_map ≡ codes "cross 0 10 20 7 / 5 8 5 20\ncross 0 10 20 7 / 5 8 30 8\ncounts short 0 repeats 0 on 0 cross 2\n"
+crossing : report 1000 crossing_map
+    ≡ codes "cross 0 10 20 7 / 5 8 5 20\ncross 0 10 20 7 / 5 8 30 8\ncounts short 0 repeats 0 on 0 cross 2\n"
+unfolding digits is_within is_on orientation cross are_split
 crossing = refl
 
 -- the same, of each kind one line: the counts are whole
-one_line : report 1 crossing_map ≡ codes "cross 0 10 20 7 / 5 8 5 20\ncounts short 0 repeats 0 on 0 cross 2\n"
+one_line : report 1 crossing_map
+    ≡ codes "cross 0 10 20 7 / 5 8 5 20\ncounts short 0 repeats 0 on 0 cross 2\n"
+unfolding digits is_within is_on orientation cross are_split
 one_line = refl
 
 -- a ring with a spike
@@ -67,6 +78,7 @@ spike_map =
     ∷ []
 
 spike : report 1000 spike_map ≡ codes "repeats 0 0 0 10 10\ncounts short 0 repeats 1 on 0 cross 0\n"
+unfolding digits is_within is_on orientation cross are_split
 spike = refl
 
 -- rings that collapsed, and a square
@@ -76,7 +88,9 @@ collapsed_map =
     ∷ (((at 2 2 ∷ []) ∷ []) ∷ ((at 0 0 ∷ at 10 0 ∷ at 10 10 ∷ at 0 10 ∷ []) ∷ []) ∷ [])
     ∷ []
 
-collapsed : report 1000 collapsed_map ≡ codes "short 0 0 0\nshort 1 0 0\non 5 0 / 0 0 10 0\ncounts short 2 repeats 0 on 1 cross 0\n"
+collapsed : report 1000 collapsed_map
+    ≡ codes "short 0 0 0\nshort 1 0 0\non 5 0 / 0 0 10 0\ncounts short 2 repeats 0 on 1 cross 0\n"
+unfolding digits is_within is_on orientation cross are_split
 collapsed = refl
 
 -- two squares with a common side
@@ -87,6 +101,7 @@ opens_map =
     ∷ []
 
 opens : report 1000 opens_map ≡ codes "opens\ncounts short 0 repeats 0 on 0 cross 0\n"
+unfolding digits is_within is_on orientation cross are_split
 opens = refl
 
 -- a map of nothing
@@ -95,4 +110,5 @@ nothing_map =
     []
 
 nothing : report 1000 nothing_map ≡ codes "opens\ncounts short 0 repeats 0 on 0 cross 0\n"
+unfolding digits
 nothing = refl
