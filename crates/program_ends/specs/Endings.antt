@@ -4,7 +4,7 @@ use Rattle.std.specs.declared.io.ErrorKind.{ErrorKind}
 use Rattle.std.specs.declared.io.ErrorKind.TheVariants as kind
 use Rattle.topo_outline.specs.declared.fault.OpenFault.{OpenFault}
 use Rattle.program_ends.specs.declared.diagnostic.Diagnostic.{Diagnostic}
-use Rattle.program_ends.specs.declared.diagnostic.Diagnostic.TheVariants.{Open, Map, Script, Write, Save, Refused, NoMemory}
+use Rattle.program_ends.specs.declared.diagnostic.Diagnostic.TheVariants.{Open, Findings, Map, Script, Write, Save, Refused, NoMemory}
 use Rattle.program_ends.specs.declared.stop.Stop.{Stop}
 use Rattle.program_ends.specs.declared.stop.Stop.TheVariants as stop
 
@@ -34,9 +34,14 @@ unsaved_line k = unwritten_line k Save
 abbrev pub unlisted_line : ErrorKind → Diagnostic
 unlisted_line k = unwritten_line k Refused
 
+-- what is told where standard output could not be written
+abbrev pub unprinted_line : ErrorKind → Diagnostic
+unprinted_line k = unwritten_line k Write
+
 -- the text of a line; of a map's fault, which stands behind `open: `, nothing is said
 abbrev pub line_text : Diagnostic → Option (List ℕ)
 line_text (Open told) = None
+line_text Findings = Some (codes "open: too many findings")
 line_text Map = Some (codes "map fault")
 line_text Script = Some (codes "script fault")
 line_text Write = Some (codes "write fault")

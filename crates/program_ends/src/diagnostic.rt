@@ -11,11 +11,13 @@ use topo_outline::OpenFault;
 pub enum Diagnostic<'a> {
     /// A map can't be opened or read as a topology: `open: ` and its fault.
     Open(&'a OpenFault<'a>),
+    /// More keeps a map from opening than can be listed: `open: too many findings`.
+    Findings,
     /// The file of a map can't be read: `map fault`.
     Map,
     /// The file of a script can't be opened or read: `script fault`.
     Script,
-    /// The answers can't be written: `write fault`.
+    /// The answers, or a report, can't be written: `write fault`.
     Write,
     /// What the program makes can't be saved, or FILE not be written: `save fault`.
     Save,
@@ -26,7 +28,7 @@ pub enum Diagnostic<'a> {
 }
 
 impl<'a> Diagnostic<'a> {
-    ghost use Rattle.program_ends.specs.Endings.{unwritten_line, unsaved_line, unlisted_line};
+    ghost use Rattle.program_ends.specs.Endings.{unwritten_line, unsaved_line, unlisted_line, unprinted_line};
 
     /// Why a file could not be written: a refused growth, or else what the file's own line says.
     fn unwritten(error: Error, line: Diagnostic<'a>) -> Diagnostic<'a>
@@ -51,6 +53,13 @@ impl<'a> Diagnostic<'a> {
     {
         Diagnostic::unwritten(error, Diagnostic::Refused)
     }
+
+    /// Why standard output could not be written: a refused growth, or else standard output itself.
+    pub fn unprinted(error: Error) -> Diagnostic<'a>
+        ensures { result ≡ unprinted_line (error_kind error) }
+    {
+        Diagnostic::unwritten(error, Diagnostic::Write)
+    }
 }
 
 impl<'a> fmt::Display for Diagnostic<'a> {
@@ -61,6 +70,7 @@ impl<'a> fmt::Display for Diagnostic<'a> {
     fn fmt<W: fmt::Write>(&self, f: &mut fmt::Formatter<W>) -> fmt::Result {
         match self {
             Diagnostic::Open(fault) => write!(f, "open: {fault}"),
+            Diagnostic::Findings => f.write_str("open: too many findings"),
             Diagnostic::Map => f.write_str("map fault"),
             Diagnostic::Script => f.write_str("script fault"),
             Diagnostic::Write => f.write_str("write fault"),

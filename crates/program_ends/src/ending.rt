@@ -2,7 +2,7 @@
 ghost use Rattle.std.specs.Prelude.{◌≡◌, None, Some, true, false, OnOk, OnErr, IfErr};
 ghost use Rattle.std.specs.IoError.{error_kind};
 ghost use Rattle.program_ends.specs.Stops.{stop_status};
-ghost use Rattle.program_ends.specs.Endings.{stop_line, unsaved_line, unlisted_line};
+ghost use Rattle.program_ends.specs.Endings.{stop_line, unsaved_line, unlisted_line, unprinted_line};
 
 use crate::diagnostic::Diagnostic;
 use crate::stop::Stop;
@@ -13,7 +13,7 @@ use std::io::Error;
 pub struct Ending<'a> {
     /// The status.
     pub status: u8,
-    /// What FILE gets. Without it FILE stays as it is.
+    /// What FILE gets, and in a program that has none standard output. Without it FILE stays as it is.
     pub file: Option<&'a [u8]>,
     /// The line on standard error.
     pub line: Option<Diagnostic<'a>>,
@@ -97,6 +97,18 @@ impl<'a> Ending<'a> {
         match listed {
             Ok(()) => self,
             Err(error) => self.with_fault(Diagnostic::unlisted(error)),
+        }
+    }
+
+    /// The ending once standard output was written, or could not be.
+    pub fn once_printed(self, printed: Result<(), Error>) -> Ending<'a>
+        ensures printed { OnOk printed (result ≡ self.entry) }
+        ensures status { OnErr printed (result.status ≡ 3) }
+        ensures told { IfErr printed (λ error. result.line ≡ Some (unprinted_line (error_kind error))) }
+    {
+        match printed {
+            Ok(()) => self,
+            Err(error) => self.with_fault(Diagnostic::unprinted(error)),
         }
     }
 }

@@ -1,0 +1,5 @@
+pub mod Asked
+pub mod Report
+pub mod Looking
+pub mod Status
+pub mod Endings

@@ -1,0 +1,56 @@
+//! How a report ends the program: with which status, with what on standard output, and with which line.
+ghost use Rattle.std.specs.Prelude.{◌≡◌, None, Some, option_map, OnOk, OnErr, IfErr, IsSomeAnd};
+ghost use Rattle.border_mend.specs.Status.{status_of};
+ghost use Rattle.border_mend.specs.Endings.{Tells};
+
+use crate::looking::LookFault;
+use crate::report::is_clear;
+use program_ends::{Diagnostic, Ending};
+use std::alloc::Allocator;
+use walk_faults::Findings;
+
+/// The status that the program ends with after a report.
+fn status<A: Allocator + Copy>(outcome: &Result<Findings<A>, LookFault<'_>>) -> u8
+    ensures { result ≡ status_of outcome.now }
+{
+    match outcome {
+        Ok(findings) if is_clear(findings) => 0,
+        Ok(_) => 1,
+        Err(LookFault::Open(_) | LookFault::TooMany) => 2,
+        Err(LookFault::OutOfMemory) => 3,
+    }
+}
+
+/// The line that tells why there is no report.
+fn line_of<'a>(fault: &'a LookFault<'a>) -> Diagnostic<'a>
+    ensures { Tells fault.now result }
+{
+    match fault {
+        LookFault::Open(fault) => Diagnostic::Open(fault),
+        LookFault::TooMany => Diagnostic::Findings,
+        LookFault::OutOfMemory => Diagnostic::NoMemory,
+    }
+}
+
+/// The ending of a report: standard output gets it where it is whole, and nothing after a fault.
+pub(crate) fn ending_of_report<'a, A: Allocator + Copy>(
+    outcome: &'a Result<Findings<A>, LookFault<'a>>,
+    report: &'a [u8],
+) -> Ending<'a>
+    ensures status { result.status ≡ status_of outcome.now }
+    ensures printed { OnOk outcome.now
+        (option_map (λ text. text.now) result.file ≡ Some report.now) }
+    ensures silent { OnOk outcome.now (result.line ≡ None) }
+    ensures kept { OnErr outcome.now (result.file ≡ None) }
+    ensures told { IfErr outcome.now (λ fault. IsSomeAnd result.line (Tells fault)) }
+{
+    let status = status(outcome);
+    match outcome {
+        Ok(_) => Ending {
+            status,
+            file: Some(report),
+            line: None,
+        },
+        Err(fault) => Ending::of_fault(status, line_of(fault)),
+    }
+}

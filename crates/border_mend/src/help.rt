@@ -1,0 +1,22 @@
+//! What `--help` says.
+
+/// What the program does.
+pub(crate) const ABOUT: &str =
+    "Tells all that keeps a TopoJSON map from opening in border_edit, a fact a line";
+
+/// The lines of the report, the statuses, and an example. They are those of docs/FORMATS.md.
+pub(crate) const LINES: &str = "\
+Lines of the report, in this order (F P R is ring R of polygon P of feature F, numbered from 0;
+X Y is a position on the grid):
+  opens                    The map opens
+  short F P R              The ring has fewer than three positions
+  repeats F P R X Y        The ring passes more than once through the position
+  on X Y / X Y X Y         The vertex lies on the segment, and is none of its ends
+  cross X Y X Y / X Y X Y  The segments cross
+  counts short N repeats N on N cross N
+                           How many there are of each, whatever N of --most is
+
+Statuses: 0 the map opens; 1 it does not, and the report says why; 2 it can't be read as a map;
+3 a file or memory fails; 64 the words are wrong.
+
+Example: border_mend map.json --most 20";

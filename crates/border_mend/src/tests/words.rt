@@ -1,0 +1,72 @@
+//! What the words of the program are read as.
+use crate::command_line::words;
+use program_ends::Stop;
+use std::alloc::{AllocError, Global};
+use std::test::Fail;
+
+/// Words as the program is given them, its own name first, from a line with one space between them.
+fn given(alloc: Global, line: &str) -> Result<Vec<String>, AllocError> {
+    let mut given = Vec::new(alloc);
+    given.push(String::from_str(alloc, "border_mend")?)?;
+    for word in line.split(' ') {
+        given.push(String::from_str(alloc, word)?)?;
+    }
+    Ok(given)
+}
+
+#[test]
+fn a_map_and_the_most_are_taken(rt: HostRuntime) -> Result<(), Fail> {
+    let table = [
+        ("map.json", 1000),
+        ("map.json --most 0", 0),
+        ("--most 20 map.json", 20),
+        ("map.json --most=4000000", 4_000_000),
+        ("map.json --most +7", 7),
+    ];
+    for (line, most) in table {
+        let given = given(rt.alloc(), line)?;
+        let words = words(rt.alloc(), given.as_slice())?;
+        assert_eq!(rt; words.map.as_str(), "map.json", "{line:?}");
+        assert_eq!(rt; words.most, most, "{line:?}");
+    }
+    Ok(())
+}
+
+#[test]
+fn all_other_words_stop_the_program(rt: HostRuntime) -> Result<(), Fail> {
+    let table = [
+        ("--most", 64),
+        ("--most 3", 64),
+        ("map.json more.json", 64),
+        ("map.json --out saved.json", 64),
+        ("map.json --most", 64),
+        ("map.json --most -1", 64),
+        ("map.json --most 4000001", 64),
+        ("map.json --most 99999999999999999999", 64),
+        ("map.json --most all", 64),
+        ("map.json --most ", 64),
+        ("map.json --most 1 --most 2", 64),
+        ("--help", 0),
+        ("--version", 0),
+        ("map.json -h", 0),
+    ];
+    for (line, status) in table {
+        let given = given(rt.alloc(), line)?;
+        match words(rt.alloc(), given.as_slice()) {
+            Ok(_) => assert!(rt; false, "{line:?}"),
+            Err(error) => assert_eq!(rt; Stop::from(error).status(), status, "{line:?}"),
+        }
+    }
+    Ok(())
+}
+
+#[test]
+fn no_words_stop_the_program(rt: HostRuntime) -> Result<(), Fail> {
+    let mut given = Vec::new(rt.alloc());
+    given.push(String::from_str(rt.alloc(), "border_mend")?)?;
+    match words(rt.alloc(), given.as_slice()) {
+        Ok(_) => assert!(rt; false),
+        Err(error) => assert_eq!(rt; Stop::from(error).status(), 64),
+    }
+    Ok(())
+}

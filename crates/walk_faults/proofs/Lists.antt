@@ -1,0 +1,73 @@
+-- The elements of a list so far, and all of them.
+use Rattle.std.proofs.Common.{◌≡◌, ◌<◌, ◌≤◌, ◌+◌, ℕ, true, refl, sym, ap, ◌∙◌, List, [], ◌∷◌, ◌++◌, map, length, take, drop, get_or, inl, inr, ◌||◌, arith, append-nil}
+use Rattle.std.specs.List.{flat_map}
+use Rattle.std.proofs.lemmas.Bool.{false≢true}
+use Rattle.std.proofs.lemmas.List.{take_more, drop_more, map-append}
+use Rattle.std.proofs.lemmas.List.Concat.{flat_map-append}
+use Rattle.std.proofs.lemmas.List.Folds.{length-flat_map-take}
+use Rattle.grid_geometry.specs.Segment.{Segment}
+use Rattle.ring_machine.proofs.First.{In}
+use Rattle.ring_machine.proofs.Order.{or_true, or_right}
+use Rattle.segment_index.specs.Candidates.{has, segment_is}
+use Rattle.segment_index.proofs.Singles.{same_segment, is-itself}
+
+-- ---- the segments of a list
+
+pub in-has : (ss : List Segment) (t : Segment) → has ss t ≡ true → In t ss
+in-has [] t h = absurd (false≢true h)
+in-has (s ∷ ss) t h = elim (or_true (segment_is t s) (has ss t) h) [
+  | inl e ↦ inl (sym (same_segment t s e))
+  | inr k ↦ inr (in-has ss t k)
+]
+
+pub has-in : (ss : List Segment) (t : Segment) → In t ss → has ss t ≡ true
+has-in [] t i = absurd i
+has-in (s ∷ ss) t (inl e) = ap (λ b. b || has ss t) (ap (segment_is t) e ∙ is-itself t)
+has-in (s ∷ ss) t (inr i) = or_right (segment_is t s) (has ss t) (has-in ss t i)
+
+-- ---- one element more
+
+-- what is mapped
+pub map_more : {X Y : Type 0} (f : X → Y) (xs : List X) (i : ℕ) (x : X) → i < length xs → x ≡ get_or xs i x
+    → map f (take (i + 1) xs) ≡ map f (take i xs) ++ f x ∷ []
+map_more f xs i x l e =
+    ap (map f) (take_more xs i x l ∙ ap (λ z. take i xs ++ z ∷ []) (sym e)) ∙ map-append f (take i xs) (x ∷ [])
+
+-- what each element gives
+pub flat_more : {X Y : Type 0} (f : X → List Y) (xs : List X) (i : ℕ) (x : X) → i < length xs → x ≡ get_or xs i x
+    → flat_map f (take (i + 1) xs) ≡ flat_map f (take i xs) ++ f x
+flat_more f xs i x l e =
+    ap (flat_map f) (take_more xs i x l ∙ ap (λ z. take i xs ++ z ∷ []) (sym e)) ∙ flat_map-append f (take i xs) (x ∷ [])
+    ∙ ap (λ z. flat_map f (take i xs) ++ z) (append-nil (f x))
+
+-- what each element gives as it is seen
+pub flat_seen : {X Y Z : Type 0} (f : Y → List Z) (seen : X → Y) (xs : List X) → flat_map f (map seen xs) ≡ flat_map (λ x. f (seen x)) xs
+flat_seen f seen [] = refl
+flat_seen f seen (x ∷ xs) = ap (λ z. f (seen x) ++ z) (flat_seen f seen xs)
+
+pub seen_more : {X Y Z : Type 0} (f : Y → List Z) (seen : X → Y) (xs : List X) (i : ℕ) (x : X) → i < length xs → x ≡ get_or xs i x
+    → flat_map f (map seen (take (i + 1) xs)) ≡ flat_map f (map seen (take i xs)) ++ f (seen x)
+seen_more f seen xs i x l e =
+    flat_seen f seen (take (i + 1) xs) ∙ flat_more (λ y. f (seen y)) xs i x l e
+    ∙ ap (λ z. z ++ f (seen x)) (sym (flat_seen f seen (take i xs)))
+
+-- so many of all
+pub seen_among : {X Y Z : Type 0} (f : Y → List Z) (seen : X → Y) (xs : List X) (i : ℕ) (x : X) → i < length xs → x ≡ get_or xs i x
+    → length (flat_map f (map seen (take i xs))) + length (f (seen x)) ≤ length (flat_map f (map seen xs))
+seen_among f seen xs i x l e = omega (
+  arith,
+  length-flat_map-take (λ y. f (seen y)) xs i x l,
+  ap length (flat_seen f seen (take i xs)),
+  ap length (flat_seen f seen xs),
+  ap (λ y. length (f (seen y))) e,
+)
+
+-- with those of the next one there are more than so many
+pub flat_past : {X Y : Type 0} (f : X → List Y) (xs : List X) (i : ℕ) (x : X) (found : List Y) (n most : ℕ) → i < length xs → x ≡ get_or xs i x
+    → found ≡ flat_map f (take i xs) → n ≡ length (f x) → most < length found + n → most < length (flat_map f xs)
+flat_past f xs i x found n most l e is count more =
+    omega (arith, length-flat_map-take f xs i x l, ap length is, ap (λ y. length (f y)) e, count, more)
+
+-- what is left begins with the next one
+pub next_drop : {X : Type 0} (xs : List X) (i : ℕ) (x : X) → i < length xs → x ≡ get_or xs i x → drop i xs ≡ x ∷ drop (i + 1) xs
+next_drop xs i x l e = drop_more xs i x l ∙ ap (λ z. z ∷ drop (i + 1) xs) (sym e)

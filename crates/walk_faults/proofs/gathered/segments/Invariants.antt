@@ -1,0 +1,8 @@
+use Rattle.std.proofs.Common.{◌≡◌, map, take}
+use Rattle.walk_faults.specs.Findings.{all_segments}
+use Rattle.walk_faults.specs.Seen.{walk_seen}
+use Rattle.walk_faults.proofs.gathered.segments.Given as goal
+
+-- the segments of the walks so far
+abbrev pub invariant-loop-walk : goal.invariant-loop-walk
+invariant-loop-walk g l = l.found.items ≡ all_segments (map walk_seen (take l.walk-index l.walks))

@@ -1,0 +1,10 @@
+use Rattle.grid_geometry.specs.Position.{position_cmp, position_eq}
+use Rattle.ring_machine.proofs.Order.{position_eq-true}
+use Rattle.ring_machine.proofs.SortedOnce.{position_total, ties}
+use Rattle.walk_faults.proofs.Ascending.{sorted_once}
+use Rattle.walk_faults.proofs.gathered.sort_positions.Goals as goal
+
+pub returns : goal.returns
+returns g c =
+    sorted_once position_cmp position_total position_eq position_eq-true ties _ _ _
+    c.sort_unstable.ensures.permutation c.sort_unstable.ensures.sorted c.dedup.ensures.filtered

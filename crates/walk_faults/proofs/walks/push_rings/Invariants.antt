@@ -1,0 +1,9 @@
+use Rattle.std.proofs.Common.{◌≡◌, ◌++◌, map, take}
+use Rattle.walk_faults.specs.Walks.{walks_in_polygon}
+use Rattle.walk_faults.specs.Seen.{walk_seen, rings_seen}
+use Rattle.walk_faults.proofs.walks.push_rings.Given as goal
+
+-- the walks so far are appended
+abbrev pub invariant-loop-ring : goal.invariant-loop-ring
+invariant-loop-ring g l =
+    map walk_seen l.walks.items ≡ map walk_seen l.fn.walks.items ++ walks_in_polygon l.feature l.polygon (rings_seen (take l.ring l.rings))

@@ -1,0 +1,5 @@
+pub mod Walks
+pub mod Findings
+pub mod Seen
+pub mod Meeting
+pub mod Opens

@@ -1,0 +1,23 @@
+-- What the code holds, seen as lists.
+use Rattle.std.specs.Prelude.{List, Vec, map}
+use Rattle.grid_geometry.specs.Position.{Position}
+use Rattle.walk_faults.specs.declared.walks.Walk.{Walk}
+use Rattle.walk_faults.specs.Walks.{Placed}
+
+-- a walk with its place
+abbrev pub walk_seen : Walk → Placed
+walk_seen walk = (walk.at, walk.positions.now)
+
+-- the walks of a polygon
+abbrev pub rings_seen : {A : Type 0} → List (Vec Position A) → List (List Position)
+rings_seen rings = map (λ ring. ring.items) rings
+
+-- the polygons of a feature
+abbrev pub polygons_seen : {A : Type 0}
+    → List (Vec (Vec Position A) A) → List (List (List Position))
+polygons_seen polygons = map (λ polygon. rings_seen polygon.items) polygons
+
+-- the polygons of each feature
+abbrev pub features_seen : {A : Type 0}
+    → List (Vec (Vec (Vec Position A) A) A) → List (List (List (List Position)))
+features_seen features = map (λ feature. polygons_seen feature.items) features

@@ -1,0 +1,67 @@
+// What is found in a map of walks.
+use grid_geometry::{Pos, Seg};
+use std::alloc::{AllocError, Allocator, Global};
+use topo_outline::RingAt;
+
+/// A position that a walk passes more than once.
+#[derive(Clone, Copy, Debug, PartialEq, Eq)]
+pub struct Repeat {
+    /// Where the walk stands in the map.
+    pub ring: RingAt,
+    /// The position.
+    pub pos: Pos,
+}
+
+/// A vertex on a segment of which it is no end.
+#[derive(Clone, Copy, Debug, PartialEq, Eq)]
+pub struct Touch {
+    /// The vertex.
+    pub pos: Pos,
+    /// The segment on which it lies.
+    pub segment: Seg,
+}
+
+/// Two segments that cross.
+#[derive(Clone, Copy, Debug, PartialEq, Eq)]
+pub struct Crossing {
+    /// The lesser segment.
+    pub first: Seg,
+    /// The greater segment.
+    pub second: Seg,
+}
+
+/// What keeps a map of walks from being one of linear rings (RFC 7946, 3.1.6) whose segments meet in
+/// common ends alone. It is that where all four lists are empty.
+#[derive(Drop)]
+pub struct Findings<A: Allocator + Copy = Global> {
+    /// The walks of fewer than three positions, in the order of the map.
+    pub short: Vec<RingAt, A>,
+    /// The positions that a walk passes more than once: in the order of the walks, and ascending in
+    /// each walk, each once.
+    pub repeats: Vec<Repeat, A>,
+    /// Each vertex on a segment of which it is no end: ascending by the vertex, then by the segment,
+    /// each once.
+    pub touches: Vec<Touch, A>,
+    /// Each pair of segments that cross: ascending by the first, then by the second, each once.
+    pub crossings: Vec<Crossing, A>,
+}
+
+/// Why not all is listed.
+#[derive(Clone, Copy, Debug, PartialEq, Eq)]
+pub enum FindFault {
+    /// Of one kind there are more than are listed.
+    TooMany,
+    /// Memory was refused.
+    OutOfMemory,
+}
+
+impl From<AllocError> for FindFault {
+    ghost use Rattle.std.specs.Prelude.{◌≡◌};
+    ghost use Rattle.walk_faults.specs.declared.findings.FindFault.TheVariants.{OutOfMemory};
+
+    ghost from_gives = { λ _ e. e ≡ OutOfMemory };
+
+    fn from(_e: AllocError) -> FindFault {
+        FindFault::OutOfMemory
+    }
+}
