@@ -86,6 +86,6 @@ is_plain n ds d = subst (λ z. IsWhole z (pos n)) (append-nil ds) (subst (λ m. 
 is_negative : (n : ℕ) (ds : List ℕ) → IsDecimal (suc n) ds → IsWhole (45 ∷ ds) (negsuc n)
 is_negative n ds d = subst (λ z. IsWhole (45 ∷ z) (negsuc n)) (append-nil ds) (subst (λ m. IsWhole (45 ∷ (ds ++ [])) (minus_of m)) d.value (negative d.some no_point))
 
-pub whole_written : (z : ℤ) → unsigned_abs z < 2 ^ 64 → IsWhole (signed_decimal z) z
-whole_written (pos n) h = is_plain n (decimal n) (decimal_is n h)
-whole_written (negsuc n) h = is_negative n (decimal (suc n)) (decimal_is (suc n) h)
+pub whole_written : (z : ℤ) → unsigned_abs z < 2 ^ 63 → IsWhole (signed_decimal z) z
+whole_written (pos n) h = is_plain n (decimal n) (decimal_is n (omega (arith, h)))
+whole_written (negsuc n) h = is_negative n (decimal (suc n)) (decimal_is (suc n) (omega (arith, h)))

@@ -53,8 +53,8 @@ is_sum before q p n small range is e =
       x = q.x;
       y = q.y;
       two = subst (λ ns. IsListOf n ns) found.are listed.list;
-      x_is = subst (λ z. IsWhole z q.x) (sym found.first_is) (whole_written q.x (omega (arith, small.x)));
-      y_is = subst (λ z. IsWhole z q.y) (sym found.second_is) (whole_written q.y (omega (arith, small.y)));
+      x_is = subst (λ z. IsWhole z q.x) (sym found.first_is) (whole_written q.x small.x);
+      y_is = subst (λ z. IsWhole z q.y) (sym found.second_is) (whole_written q.y small.y);
       sum = is;
       in_range = range;
     }

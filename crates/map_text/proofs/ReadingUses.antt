@@ -71,7 +71,7 @@ polygons_json arcs ps uses h = list_is_json (map polygon_text ps) (all_json (Pol
 -- ---- uses
 
 read_use : (arcs : List Arc) (n : Node) (z : ℤ) (a : Arc) → IsIndex arcs z a → n.bytes ≡ signed_decimal z → IsUse arcs n a
-read_use arcs n z a h e = is_use arcs n z a (subst (λ bytes. IsWhole bytes z) (sym e) (whole_written z (omega (arith, h.0)))) h.1
+read_use arcs n z a h e = is_use arcs n z a (subst (λ bytes. IsWhole bytes z) (sym e) (whole_written z h.0)) h.1
 
 ring_texts : (arcs : List Arc) (n : Node) (zs : List ℤ) (uses : List Arc) → RingIndexes arcs zs uses → n.bytes ≡ ring_text zs → HasTexts n (map signed_decimal zs)
 ring_texts arcs n zs uses h e = has_texts n (map signed_decimal zs) e (all_json (IsIndex arcs) signed_decimal zs uses (index_json arcs) h)

@@ -2,7 +2,7 @@
 use Rattle.std.proofs.Common.{◌≡◌, ℕ, ◌+◌, ◌%◌, ◌<◌, ◌≤◌, ◌^◌, ◌==◌, Bool, true, false, cond, refl, sym, ap, ap₂, ◌∙◌, subst, List, [], ◌∷◌, ◌++◌, length, take, drop, ℤ, pos, negsuc, arith, FitsSigned, w64, Result, Ok, Err, unsigned_abs, suc, append_assoc}
 use Rattle.std.specs.List.{take_while}
 use Rattle.std.specs.Prelude.{nat_lt, nat_le}
-use Rattle.std.specs.Fmt.{decimal, signed_decimal}
+use Rattle.std.specs.Fmt.{decimal, signed_decimal, digits}
 use Rattle.std.specs.Int.{FitsUnsignedBits}
 use Rattle.std.specs.Int.Signed.{mag}
 use Rattle.std.specs.Str.Parse.{ParsesUnsigned, digits_value}
@@ -15,7 +15,7 @@ use Rattle.std.proofs.lemmas.Slice.Eq.{bytes_eq-Decides}
 use Rattle.std.proofs.lemmas.List.{take-append-drop}
 use Rattle.std.proofs.lemmas.List.Sums.{take_while-cons}
 use Rattle.grid_geometry.specs.Position.{Position, position, InRange}
-use Rattle.json_spans.specs.Whole.{held, whole_of}
+use Rattle.json_spans.specs.Whole.{value_from, held, whole_of}
 use Rattle.json_spans.specs.declared.number.NotWhole.{NotWhole}
 use Rattle.json_spans.proofs.Meant.{whole_is}
 use Rattle.map_text.proofs.GrammarNumbers.{whole_written}
@@ -186,10 +186,6 @@ place_second bs r p s = record { whole = refl; ends = s.ends; fits = fits_in_ran
 
 -- ---- what is not the text of a number
 
-abs_small : (z : ℤ) → FitsSigned w64 z → unsigned_abs z < 2 ^ 64
-abs_small (pos n) f = let h : n < 2 ^ 63 = f.sfits in omega arith
-abs_small (negsuc n) f = let h : n < 2 ^ 63 = f.sfits in omega arith
-
 held_fits : (z : ℤ) → FitsSigned w64 z → held z ≡ Ok z
 held_fits (pos n) f = let h : n < 2 ^ 63 = f.sfits in let fits : nat_lt n (2 ^ 63) ≡ true = lt-ltb _ _ h in rw fits refl
 held_fits (negsuc n) f =
@@ -197,9 +193,28 @@ held_fits (negsuc n) f =
     let fits : nat_le (suc n) (2 ^ 63) ≡ true = search (arith, nat_tests) in
     rw fits refl
 
+small_read : (z : ℤ) → FitsSigned w64 z → unsigned_abs z < 2 ^ 63 → whole_of (signed_decimal z) ≡ Ok z
+small_read z f h = whole_is (signed_decimal z) z (whole_written z h) ∙ held_fits z f
+
+-- the least number, whose distance from 0 is more than that of any other
+least_read : whole_of (signed_decimal (negsuc 9223372036854775807)) ≡ Ok (negsuc 9223372036854775807)
+unfolding value_from digits
+least_read = refl
+
+text_read : (z : ℤ) → FitsSigned w64 z → whole_of (signed_decimal z) ≡ Ok z
+text_read (pos n) f = small_read (pos n) f f.sfits
+text_read (negsuc n) f = by (nat_lt n 9223372036854775807) refl
+  where
+    by : (t : Bool) → nat_lt n 9223372036854775807 ≡ t → whole_of (signed_decimal (negsuc n)) ≡ Ok (negsuc n)
+    by true e = let h : suc n < 2 ^ 63 = grind (arith, nat_tests) in small_read (negsuc n) f h
+    by false e =
+        let h : n < 2 ^ 63 = f.sfits in
+        let least : n ≡ 9223372036854775807 = grind (arith, nat_tests) in
+        rw least least_read
+
 -- the text of a number is read as it
 number_read : (z : ℤ) (word : List ℕ) → FitsSigned w64 z → word ≡ signed_decimal z → whole_of word ≡ Ok z
-number_read z word f e = ap whole_of e ∙ whole_is (signed_decimal z) z (whole_written z (abs_small z f)) ∙ held_fits z f
+number_read z word f e = ap whole_of e ∙ text_read z f
 
 pub not_whole : (z : ℤ) (word : List ℕ) (fault : NotWhole) → FitsSigned w64 z → word ≡ signed_decimal z → Err fault ≡ whole_of word → ⊥
 not_whole z word fault f e r = let h = r ∙ number_read z word f e in cc

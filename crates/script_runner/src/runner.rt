@@ -159,9 +159,7 @@ impl<'a, A: Allocator + Copy> Runner<'a, A> {
     {
         let kept = bytes.len().min(MAX_LINE - self.line.len());
         self.line.extend_from_slice(&bytes[..kept])?;
-        if kept < bytes.len() {
-            self.over = true;
-        }
+        self.over |= kept < bytes.len();
         self.bytes += bytes.len() as u64;
         Ok(())
     }
@@ -180,7 +178,8 @@ impl<'a, A: Allocator + Copy> Runner<'a, A> {
     {
         self.keep(line)?;
         self.bytes += 1;
-        self.answer(true, out)
+        self.answer(true, out)?;
+        Ok(())
     }
 
     /// Takes the next bytes of a script, and answers each line that ends in them.
