@@ -1,4 +1,5 @@
-//! Tests of reading: what small texts give, token by token, as an outline, and as rings.
+//! Tests of reading: what small texts give, token by token, as an outline, as rings,
+//! and as walks.
 #![tactic(auto)]
 
 #[cfg(test)]
@@ -7,3 +8,5 @@ mod outlines;
 mod spans;
 #[cfg(test)]
 mod topologies;
+#[cfg(test)]
+mod walks;

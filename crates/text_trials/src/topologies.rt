@@ -35,7 +35,7 @@ fn answers<R: Abort>(rt: &R, alloc: Global, text: &str, want: &str) -> Result<()
 }
 
 /// A topology with these arcs and this layer, if any.
-fn topology(alloc: Global, layer: &str, arcs: &str) -> Result<String, Fail> {
+pub(crate) fn topology(alloc: Global, layer: &str, arcs: &str) -> Result<String, Fail> {
     Ok(format!(in alloc; "{{\"type\":\"Topology\",\"objects\":{{{layer}}},\"arcs\":[{arcs}]}}")?)
 }
 
@@ -54,7 +54,7 @@ fn topology_answers<R: Abort>(
 }
 
 /// A layer with a polygon of these arc indexes.
-fn polygon(alloc: Global, indexes: &str) -> Result<String, Fail> {
+pub(crate) fn polygon(alloc: Global, indexes: &str) -> Result<String, Fail> {
     Ok(format!(in alloc; "\"a\":{{\"type\":\"Polygon\",\"arcs\":[[{indexes}]]}}")?)
 }
 

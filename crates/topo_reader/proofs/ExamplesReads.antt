@@ -1,4 +1,4 @@
--- What arcs, indexes and rings mean, and what means nothing, worked out.
+-- What arcs, indexes, walks and rings mean, and what means nothing, worked out.
 use Rattle.std.proofs.Common.{◌≡◌, ℕ, List, [], ◌∷◌, codes, true, false, refl, pos, negsuc, ℤ, ap, sym, ◌∙◌}
 use Rattle.json_spans.specs.Nodes.{Node}
 use Rattle.json_spans.specs.Parts.{parts_from, part_len}
@@ -11,14 +11,18 @@ use Rattle.json_spans.proofs.Meant.{means, whole_meant}
 use Rattle.json_spans.proofs.Told.{object_kind}
 use Rattle.ring_machine.specs.Document.{Document}
 use Rattle.ring_machine.proofs.Worked.{at, under}
+use Rattle.std.specs.Prelude.{Ok, Err}
+use Rattle.grid_geometry.specs.Position.{Position}
+use Rattle.topo_outline.specs.declared.fault.RingAt.{RingAt}
+use Rattle.topo_outline.specs.Faults.{arcs_do_not_meet, ring_short, ring_repeats}
 use Rattle.topo_outline.specs.IsOutline.{NestsAtMost}
 use Rattle.topo_reader.specs.Positions.{position, positions, arc}
 use Rattle.topo_reader.specs.Arcs.{Arc}
 use Rattle.topo_reader.specs.Opening.{root_of}
-use Rattle.topo_reader.specs.Rings.{meet_from, ends, squeezed, all_of, first_repeat, ring_of}
-use Rattle.topo_reader.specs.Reads.{IsArc, IsUse, forward, backward, IsRing, Reads}
+use Rattle.topo_reader.specs.Rings.{meet_from, ends, squeezed, all_of, first_repeat, walk_of, ring_of}
+use Rattle.topo_reader.specs.Reads.{IsArc, IsUse, forward, backward, IsWalk, IsRing, Reads}
 use Rattle.topo_reader.proofs.MeaningOfArcs.{is_arc}
-use Rattle.topo_reader.proofs.MeaningOfRings.{ring_meant}
+use Rattle.topo_reader.proofs.MeaningOfRings.{walk_read, walk_meant, ring_read, ring_meant}
 
 -- a text at the begin of the file
 abbrev value : List ℕ → Node
@@ -73,13 +77,67 @@ no_exponent : (a : Arc) → ¬ IsUse there_and_on (value (codes "1e0")) a
 no_exponent a (forward w e) = not_whole _ w
 no_exponent a (backward w e) = not_whole _ w
 
--- ---- rings
+-- ---- walks and rings
 
--- the ring of [1, -1]: three corners, begun at the least one
-ring : IsRing ((at 4 0 ∷ at 4 4 ∷ at 4 4 ∷ at 0 0 ∷ []) ∷ (at 0 0 ∷ at 4 0 ∷ []) ∷ [])
-    (at 0 0 ∷ at 4 0 ∷ at 4 4 ∷ [])
-unfolding meet_from ends squeezed all_of first_repeat ring_of
-ring = ring_meant (record { feature = 0; polygon = 0; ring = 0 }) _ _ refl
+abbrev here : RingAt
+here = record { feature = 0; polygon = 0; ring = 0 }
+
+-- the arcs of [1, -1]
+abbrev around_and_back : List Arc
+around_and_back = (at 4 0 ∷ at 4 4 ∷ at 4 4 ∷ at 0 0 ∷ []) ∷ (at 0 0 ∷ at 4 0 ∷ []) ∷ []
+
+-- their walk begins where they do
+walk : IsWalk around_and_back (at 4 0 ∷ at 4 4 ∷ at 0 0 ∷ [])
+unfolding meet_from ends squeezed all_of walk_of
+walk = walk_meant here _ _ refl
+
+-- their ring: three corners, begun at the least one
+ring : IsRing around_and_back (at 0 0 ∷ at 4 0 ∷ at 4 4 ∷ [])
+unfolding meet_from ends squeezed all_of first_repeat walk_of ring_of
+ring = ring_meant here _ _ refl
+
+-- twice through (2, 2)
+abbrev pinched : List Arc
+pinched = (at 0 0 ∷ at 4 0 ∷ at 2 2 ∷ at 4 4 ∷ at 0 4 ∷ at 2 2 ∷ at 0 0 ∷ []) ∷ []
+
+pinched_walk : IsWalk pinched (at 0 0 ∷ at 4 0 ∷ at 2 2 ∷ at 4 4 ∷ at 0 4 ∷ at 2 2 ∷ [])
+unfolding meet_from ends squeezed all_of walk_of
+pinched_walk = walk_meant here _ _ refl
+
+no_pinched_ring : (ring : List Position) → ¬ IsRing pinched ring
+unfolding meet_from ends squeezed all_of first_repeat walk_of ring_of
+no_pinched_ring ring r = by (ring_read here pinched ring r)
+  where
+    by : Err (ring_repeats here (at 2 2)) ≡ Ok ring → ⊥
+    by e = absurd cc
+
+-- there and back
+abbrev collapsed : List Arc
+collapsed = (at 4 0 ∷ at 0 0 ∷ []) ∷ (at 0 0 ∷ at 4 0 ∷ []) ∷ []
+
+collapsed_walk : IsWalk collapsed (at 4 0 ∷ at 0 0 ∷ [])
+unfolding meet_from ends squeezed all_of walk_of
+collapsed_walk = walk_meant here _ _ refl
+
+no_collapsed_ring : (ring : List Position) → ¬ IsRing collapsed ring
+unfolding meet_from ends squeezed all_of walk_of ring_of
+no_collapsed_ring ring r = by (ring_read here collapsed ring r)
+  where
+    by : Err (ring_short here) ≡ Ok ring → ⊥
+    by e = absurd cc
+
+-- an arc that stays in one place
+still_walk : IsWalk ((at 1 1 ∷ at 1 1 ∷ []) ∷ []) []
+unfolding meet_from ends squeezed all_of walk_of
+still_walk = walk_meant here _ _ refl
+
+-- one that does not come back
+no_way_back : (walk : List Position) → ¬ IsWalk ((at 4 0 ∷ at 4 4 ∷ at 0 0 ∷ []) ∷ []) walk
+unfolding meet_from ends squeezed all_of walk_of
+no_way_back walk w = by (walk_read here ((at 4 0 ∷ at 4 4 ∷ at 0 0 ∷ []) ∷ []) walk w)
+  where
+    by : Err (arcs_do_not_meet here) ≡ Ok walk → ⊥
+    by e = absurd cc
 
 -- ---- whole texts
 

@@ -6,13 +6,14 @@ use Rattle.std.proofs.lemmas.List.Folds.{list_all-append}
 use Rattle.std.proofs.lemmas.Option.{unwrap_or-slice_get}
 use Rattle.std.proofs.lemmas.Slice.Zip.{AllZip-long}
 use Rattle.json_spans.specs.Nodes.{Node}
+use Rattle.grid_geometry.specs.Position.{Position}
 use Rattle.ring_machine.specs.Document.{Form, Polygon, MultiPolygon, Null, Head}
 use Rattle.ring_machine.specs.Parts.{feature_of}
 use Rattle.ring_machine.specs.WellFormed.{fits_form}
 use Rattle.topo_outline.specs.Layers.{LayerText, Piece, starts, ends, leaf, text, leaves_in, leaves}
 use Rattle.topo_reader.specs.Arcs.{Arc}
 use Rattle.topo_reader.specs.Document.{Polygons, polygons_at, numbered, items_from, layers_from}
-use Rattle.topo_reader.specs.Reads.{GeometryUses, IsRing, AreRings}
+use Rattle.topo_reader.specs.Reads.{GeometryUses, AreClosed}
 
 -- ---- one feature
 
@@ -28,28 +29,30 @@ fits n Polygon head ps h = ap (λ k. k == 1) h
 fits n MultiPolygon head ps h = refl
 fits n Null head ps h = ap (λ k. k == 0) h
 
--- a geometry's uses are as many as its form asks for, and each is a polygon
-suits : (found : List Arc) (form : Form) (n : Node) (uses : List (List (List Arc))) (ps : Polygons)
-    → GeometryUses found (form, n) uses → AreRings uses ps → Suits form ps
-suits found Polygon n uses ps u r =
-    AllZip-long (AllZip IsRing) uses ps r ∙ ap (λ (us : List (List (List Arc))). length us) u.2
-suits found MultiPolygon n uses ps u r = tt
-suits found Null n uses ps u r =
-    AllZip-long (AllZip IsRing) uses ps r ∙ ap (λ (us : List (List (List Arc))). length us) u
-
 abbrev SuitsLeaf : Form × Node → Polygons → Type 0
 SuitsLeaf g ps = Suits g.0 ps
 
-all_suit : (found : List Arc) (gs : List (Form × Node)) (uses : List (List (List (List Arc))))
-    (all : List Polygons) → AllZip (GeometryUses found) gs uses → AllZip AreRings uses all
-    → AllZip SuitsLeaf gs all
-all_suit found [] [] [] u r = tt
-all_suit found [] [] (ps ∷ all) u r = absurd r
-all_suit found [] (us ∷ uses) all u r = absurd u
-all_suit found (g ∷ gs) [] all u r = absurd u
-all_suit found (g ∷ gs) (us ∷ uses) [] u r = absurd r
-all_suit found (g ∷ gs) (us ∷ uses) (ps ∷ all) u r =
-    (suits found g.0 g.1 us ps u.0 r.0, all_suit found gs uses all u.1 r.1)
+-- whatever its rings mean
+module _ (IsOne : List Arc → List Position → Type 0) where
+  -- a geometry's uses are as many as its form asks for, and each is a polygon
+  suits : (found : List Arc) (form : Form) (n : Node) (uses : List (List (List Arc))) (ps : Polygons)
+      → GeometryUses found (form, n) uses → AreClosed IsOne uses ps → Suits form ps
+  suits found Polygon n uses ps u r =
+      AllZip-long (AllZip IsOne) uses ps r ∙ ap (λ (us : List (List (List Arc))). length us) u.2
+  suits found MultiPolygon n uses ps u r = tt
+  suits found Null n uses ps u r =
+      AllZip-long (AllZip IsOne) uses ps r ∙ ap (λ (us : List (List (List Arc))). length us) u
+
+  all_suit : (found : List Arc) (gs : List (Form × Node)) (uses : List (List (List (List Arc))))
+      (all : List Polygons) → AllZip (GeometryUses found) gs uses → AllZip (AreClosed IsOne) uses all
+      → AllZip SuitsLeaf gs all
+  all_suit found [] [] [] u r = tt
+  all_suit found [] [] (ps ∷ all) u r = absurd r
+  all_suit found [] (us ∷ uses) all u r = absurd u
+  all_suit found (g ∷ gs) [] all u r = absurd u
+  all_suit found (g ∷ gs) (us ∷ uses) [] u r = absurd r
+  all_suit found (g ∷ gs) (us ∷ uses) (ps ∷ all) u r =
+      (suits found g.0 g.1 us ps u.0 r.0, all_suit found gs uses all u.1 r.1)
 
 -- ---- by number
 
@@ -109,8 +112,9 @@ module _ (all : List Polygons) where
       ∙ ap₂ (λ a b. a && b) (items_fit n l.pieces k.0) (layers_fit (n + length (leaves_in l.pieces)) ls k.1)
 
 -- where the arcs of the leaves make these polygons, the features of all layers fit their forms
-pub each_fits : (found : List Arc) (ls : List LayerText) (uses : List (List (List (List Arc))))
-    (all : List Polygons) → AllZip (GeometryUses found) (leaves ls) uses → AllZip AreRings uses all
+pub each_fits : (IsOne : List Arc → List Position → Type 0) (found : List Arc) (ls : List LayerText)
+    (uses : List (List (List (List Arc)))) (all : List Polygons)
+    → AllZip (GeometryUses found) (leaves ls) uses → AllZip (AreClosed IsOne) uses all
     → list_all fits_form (flat_map (λ l. filter_map feature_of l.items) (layers_from 0 all ls)) ≡ true
-each_fits found ls uses all u r =
-    layers_fit all 0 ls (suit_from all 0 (leaves ls) all refl (all_suit found (leaves ls) uses all u r))
+each_fits IsOne found ls uses all u r =
+    layers_fit all 0 ls (suit_from all 0 (leaves ls) all refl (all_suit IsOne found (leaves ls) uses all u r))

@@ -2,6 +2,7 @@
 use Rattle.std.proofs.Common.{◌≡◌, ℕ, suc, ◌+◌, refl, sym, ap, List, [], ◌∷◌, length}
 use Rattle.std.specs.List.{AllZip, flat_map, filter_map}
 use Rattle.json_spans.specs.Nodes.{Node}
+use Rattle.grid_geometry.specs.Position.{Position}
 use Rattle.ring_machine.specs.Document.{Feature, Item, Layer}
 use Rattle.ring_machine.specs.Parts.{feature_of}
 use Rattle.ring_machine.specs.WellFormed.{WellFormed}
@@ -10,7 +11,7 @@ use Rattle.topo_outline.specs.Layers.{LayerText, Piece, starts, ends, leaf, text
 use Rattle.topo_outline.specs.IsOutline.{IsOutline}
 use Rattle.topo_reader.specs.Arcs.{Arc}
 use Rattle.topo_reader.specs.Document.{Polygons, items_from, layers_from, document_of}
-use Rattle.topo_reader.specs.Reads.{GeometryUses, AreRings}
+use Rattle.topo_reader.specs.Reads.{GeometryUses, AreClosed}
 use Rattle.topo_reader.proofs.Bracketed.{each_geometry}
 use Rattle.topo_reader.proofs.Fitting.{each_fits}
 
@@ -49,16 +50,17 @@ module _ (all : List Polygons) where
 -- ---- the document
 
 -- an outline whose arcs make these polygons means a document that is well formed
-pub read_formed : (root : Node) (shape : OutlineText) (found : List Arc) (uses : List (List (List (List Arc))))
-    (polygons : List Polygons) → IsOutline root shape → AllZip (GeometryUses found) (leaves shape.layers) uses
-    → AllZip AreRings uses polygons → WellFormed (document_of (record {
+pub read_formed : (IsOne : List Arc → List Position → Type 0) (root : Node) (shape : OutlineText)
+    (found : List Arc) (uses : List (List (List (List Arc)))) (polygons : List Polygons)
+    → IsOutline root shape → AllZip (GeometryUses found) (leaves shape.layers) uses
+    → AllZip (AreClosed IsOne) uses polygons → WellFormed (document_of (record {
       transform = shape.transform;
       layers = shape.layers;
       members = shape.members;
       polygons = polygons;
     }))
-read_formed root shape found uses polygons o u r = record {
+read_formed IsOne root shape found uses polygons o u r = record {
   geometries = each_geometry polygons o.layers 0;
-  forms = each_fits found shape.layers uses polygons u r;
+  forms = each_fits IsOne found shape.layers uses polygons u r;
   numbers = numbered_distinct 0 (within_layers (layers_from 0 polygons shape.layers)) (layers_numbered polygons 0 shape.layers);
 }

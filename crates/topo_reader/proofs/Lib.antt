@@ -8,6 +8,7 @@ pub mod MeaningOfArcs
 pub mod MeaningOfUses
 pub mod MeaningOfRings
 pub mod MeaningOfText
+pub mod Apart
 pub mod ExamplesReads
 pub mod Named
 pub mod Summing

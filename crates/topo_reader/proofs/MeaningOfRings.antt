@@ -1,5 +1,5 @@
--- The rings that arcs mean are those that the reader gives.
-use Rattle.std.proofs.Common.{◌≡◌, ℕ, ◌-◌, Bool, true, false, List, [], ◌∷◌, ◌++◌, length, take, refl, sym, ap, ◌∙◌, subst, arith, length-append}
+-- The walks and rings that arcs mean are those that the reader gives.
+use Rattle.std.proofs.Common.{◌≡◌, ℕ, ◌-◌, ◌≤◌, Bool, true, false, List, [], ◌∷◌, ◌++◌, length, take, refl, sym, ap, ◌∙◌, subst, arith, length-append}
 use Rattle.std.specs.Prelude.{Option, Some, None, Ok, nat_le}
 use Rattle.std.specs.List.{AllZip, flat_map}
 use Rattle.std.proofs.lemmas.Bool.{false≢true}
@@ -10,13 +10,15 @@ use Rattle.grid_geometry.specs.Position.{Position, position_eq}
 use Rattle.ring_machine.specs.Ring.{canonical}
 use Rattle.ring_machine.proofs.Order.{and_both, position_eq-true, position_eq-refl}
 use Rattle.topo_outline.specs.declared.fault.RingAt.{RingAt}
-use Rattle.topo_outline.specs.Faults.{arcs_do_not_meet, ring_short, demand}
+use Rattle.topo_outline.specs.Faults.{arcs_do_not_meet, ring_short}
+use Rattle.topo_reader.specs.declared.rings.Closed.{Closed}
+use Rattle.topo_reader.specs.declared.rings.Closed.TheVariants.{Rings, Walks}
 use Rattle.topo_reader.specs.Arcs.{Arc}
-use Rattle.topo_reader.specs.Rings.{is_at, first_of, last_of, meet_from, ends, meet, unless, squeezed, last_after, front, all_of, joined, first_repeat, distinct, ring_of, polygon_of, feature_of, all_rings}
+use Rattle.topo_reader.specs.Rings.{is_at, first_of, last_of, meet_from, ends, meet, unless, squeezed, last_after, front, all_of, joined, first_repeat, distinct, simple, walk_of, ring_of, closed_of, polygon_of, feature_of, all_rings}
 use Rattle.topo_reader.specs.Document.{Polygons}
-use Rattle.topo_reader.specs.Reads.{Leads, Chain, there, along, Once, none, last, same, next, IsRing, AreRings}
-use Rattle.topo_reader.proofs.Repeats.{none_again, no_repeat, differ, distinct_of, not_equal}
-use Rattle.topo_reader.proofs.Steps.{at_least, at_most, demand_ok, ok_same, each_at_of, of_each_at}
+use Rattle.topo_reader.specs.Reads.{Leads, Chain, there, along, Once, none, last, same, next, IsWalk, nowhere, around, IsRing, IsClosed, AreClosed}
+use Rattle.topo_reader.proofs.Repeats.{none_again, no_repeat, Differ, differ, distinct_of, not_equal}
+use Rattle.topo_reader.proofs.Steps.{at_least, at_most, bind_ok, demand_ok, ok_same, each_at_of, of_each_at}
 
 -- ---- equal neighbours taken once
 
@@ -27,7 +29,7 @@ once_after last = refl
 once_after (same {p = p} {ps = ps} o) = rw (position_eq-refl p) (once_after o)
 once_after (next {p = p} {q = q} apart o) = rw (not_equal p q apart) (ap (λ rs. p ∷ rs) (once_after o))
 
-once_squeezed : (ps qs : List Position) → Once ps qs → squeezed None ps ≡ qs
+pub once_squeezed : (ps qs : List Position) → Once ps qs → squeezed None ps ≡ qs
 unfolding squeezed
 once_squeezed [] qs none = refl
 once_squeezed (p ∷ ps) qs o = once_after o
@@ -149,12 +151,12 @@ is_closed a as' h = by (ends (last_of a) as') refl h
 
 -- ---- a closed chain
 
-all_is : (uses : List Arc) → all_of uses ≡ flat_map (λ a. a) uses
+pub all_is : (uses : List Arc) → all_of uses ≡ flat_map (λ a. a) uses
 unfolding all_of
 all_is [] = refl
 all_is (a ∷ uses) = ap (λ ps. a ++ ps) (all_is uses) ∙ sym (flat_map-cons (λ (b : Arc). b) a uses)
 
-begins_with : {s : Position} {a : Arc} {as' : List Arc} {q : Position} → Chain s (a ∷ as') q → (rest : List Position) × (all_of (a ∷ as') ≡ s ∷ rest)
+pub begins_with : {s : Position} {a : Arc} {as' : List Arc} {q : Position} → Chain s (a ∷ as') q → (rest : List Position) × (all_of (a ∷ as') ≡ s ∷ rest)
 unfolding all_of
 begins_with (along {as' = as'} l c) = (l.after ++ all_of as', ap (λ ps. ps ++ all_of as') l.begins)
 
@@ -173,67 +175,100 @@ closed_once {s = s} {a = a} {as' = as'} c =
     subst (λ ps. Once ps (joined (a ∷ as') ++ s ∷ [])) (all_is (a ∷ as'))
     (subst (λ qs. Once (all_of (a ∷ as')) qs) (closes s first.0 (all_of (a ∷ as')) first.1 (chain_joined c)) (is_once (all_of (a ∷ as'))))
 
+-- ---- one walk
+
+pub walk_read : (at_ring : RingAt) (uses : List Arc) (walk : List Position) → IsWalk uses walk → walk_of at_ring uses ≡ Ok walk
+unfolding walk_of meet_from ends all_of squeezed
+walk_read at_ring [] [] nowhere = refl
+walk_read at_ring uses walk (around {start = start} c o) =
+    let is : joined uses ≡ walk =
+    ap front (ap (squeezed None) (all_is uses) ∙ once_squeezed (flat_map (λ a. a) uses) (walk ++ start ∷ []) o) ∙ front_of walk start in
+    rw (closed_meets c refl, is) refl
+
+no_arcs : joined [] ≡ []
+unfolding all_of squeezed
+no_arcs = refl
+
+closed_walk : (uses : List Arc) → meet uses ≡ true → IsWalk uses (joined uses)
+closed_walk [] met = subst (λ ps. IsWalk [] ps) (sym no_arcs) nowhere
+closed_walk (a ∷ as') met = let chain = is_closed a as' met in around chain.1 (closed_once chain.1)
+
+pub walk_meant : (at_ring : RingAt) (uses : List Arc) (walk : List Position) → walk_of at_ring uses ≡ Ok walk → IsWalk uses walk
+unfolding walk_of
+walk_meant at_ring uses walk h =
+    let met = demand_ok (meet uses) (arcs_do_not_meet at_ring) (Ok (joined uses)) walk h in
+    subst (λ ps. IsWalk uses ps) (ok_same (joined uses) walk met.1) (closed_walk uses met.0)
+
 -- ---- one ring
 
-ring_read : (at_ring : RingAt) (uses : List Arc) (ring : List Position) → IsRing uses ring → ring_of at_ring uses ≡ Ok ring
+pub ring_read : (at_ring : RingAt) (uses : List Arc) (ring : List Position) → IsRing uses ring → ring_of at_ring uses ≡ Ok ring
 unfolding ring_of
 ring_read at_ring uses ring r =
-    let is : joined uses ≡ r.corners =
-    ap front (ap (squeezed None) (all_is uses) ∙ once_squeezed (flat_map (λ a. a) uses) (r.corners ++ r.start ∷ []) r.once) ∙ front_of r.corners r.start in
     let new : first_repeat [] r.corners ≡ None = no_repeat [] r.corners (distinct_of r.corners r.different, λ q h. absurd (false≢true h)) in
-    rw (closed_meets r.closed refl, is, at_least 3 (length r.corners) r.long, new, r.turned) refl
+    rw (walk_read at_ring uses r.corners (around r.closed r.once), at_least 3 (length r.corners) r.long, new, r.turned) refl
 
-no_arcs : nat_le 3 (length (joined [])) ≡ true → ⊥
-unfolding all_of squeezed
-no_arcs h = false≢true h
+long_ring : {uses : List Arc} {walk ring : List Position} → IsWalk uses walk → 3 ≤ length walk → Differ walk → ring ≡ canonical walk → IsRing uses ring
+long_ring nowhere long different turned = absurd (omega (arith, long))
+long_ring (around {start = start} {walk = walk} c o) long different turned = record {
+  start = start;
+  corners = walk;
+  closed = c;
+  once = o;
+  long = long;
+  different = different;
+  turned = turned;
+}
 
-made : (uses : List Arc) (ring : List Position) → meet uses ≡ true → nat_le 3 (length (joined uses)) ≡ true → first_repeat [] (joined uses) ≡ None → canonical (joined uses) ≡ ring → IsRing uses ring
-made [] ring met long new e = absurd (no_arcs long)
-made (a ∷ as') ring met long new e =
-    let chain = is_closed a as' met in
-    record {
-      start = chain.0;
-      corners = joined (a ∷ as');
-      closed = chain.1;
-      once = closed_once chain.1;
-      long = at_most 3 (length (joined (a ∷ as'))) long;
-      different = differ (joined (a ∷ as')) (none_again [] (joined (a ∷ as')) new).0;
-      turned = sym e;
-    }
+-- a walk that is simple is a ring
+simple_ring : (at_ring : RingAt) (uses : List Arc) (walk ring : List Position) → IsWalk uses walk → simple at_ring walk ≡ Ok ring → IsRing uses ring
+simple_ring at_ring uses walk ring w h =
+    let long = demand_ok (nat_le 3 (length walk)) (ring_short at_ring) (distinct at_ring walk (first_repeat [] walk)) ring h in
+    by (first_repeat [] walk) refl (at_most 3 (length walk) long.0) long.1
+  where
+    by : (o : Option Position) → first_repeat [] walk ≡ o → 3 ≤ length walk → distinct at_ring walk o ≡ Ok ring → IsRing uses ring
+    by (Some p) e l d = absurd cc
+    by None e l d = long_ring w l (differ walk (none_again [] walk e).0) (sym (ok_same (canonical walk) ring d))
 
 pub ring_meant : (at_ring : RingAt) (uses : List Arc) (ring : List Position) → ring_of at_ring uses ≡ Ok ring → IsRing uses ring
 unfolding ring_of
 ring_meant at_ring uses ring h =
-    let met = demand_ok (meet uses) (arcs_do_not_meet at_ring) (demand (nat_le 3 (length (joined uses))) (ring_short at_ring) (distinct at_ring (joined uses) (first_repeat [] (joined uses)))) ring h in
-    let long = demand_ok (nat_le 3 (length (joined uses))) (ring_short at_ring) (distinct at_ring (joined uses) (first_repeat [] (joined uses))) ring met.1 in
-    by (first_repeat [] (joined uses)) refl met.0 long.0 long.1
-  where
-    by : (o : Option Position) → first_repeat [] (joined uses) ≡ o → meet uses ≡ true → nat_le 3 (length (joined uses)) ≡ true → distinct at_ring (joined uses) o ≡ Ok ring → IsRing uses ring
-    by (Some p) e m l d = absurd cc
-    by None e m l d = made uses ring m l e (ok_same (canonical (joined uses)) ring d)
+    let walk = bind_ok (walk_of at_ring uses) (simple at_ring) ring h in
+    simple_ring at_ring uses walk.0 ring (walk_meant at_ring uses walk.0 walk.1) walk.2
 
--- ---- all rings
+-- ---- all of them
 
-polygon_read : (f p : ℕ) (uses : List (List Arc)) (rings : List (List Position)) → AllZip IsRing uses rings → polygon_of f p uses ≡ Ok rings
-unfolding polygon_of
-polygon_read f p uses rings h = each_at_of IsRing (λ r. ring_of (record { feature = f; polygon = p; ring = r })) (λ i a b. ring_read (record { feature = f; polygon = p; ring = i }) a b) 0 uses rings h
+closed_read : (closed : Closed) (at_ring : RingAt) (uses : List Arc) (ring : List Position) → IsClosed closed uses ring → closed_of closed at_ring uses ≡ Ok ring
+closed_read Rings at_ring uses ring h = ring_read at_ring uses ring h
+closed_read Walks at_ring uses ring h = walk_read at_ring uses ring h
 
-feature_read : (f : ℕ) (uses : List (List (List Arc))) (polygons : Polygons) → AreRings uses polygons → feature_of f uses ≡ Ok polygons
-unfolding feature_of
-feature_read f uses polygons h = each_at_of (AllZip IsRing) (polygon_of f) (polygon_read f) 0 uses polygons h
+closed_meant : (closed : Closed) (at_ring : RingAt) (uses : List Arc) (ring : List Position) → closed_of closed at_ring uses ≡ Ok ring → IsClosed closed uses ring
+closed_meant Rings at_ring uses ring h = ring_meant at_ring uses ring h
+closed_meant Walks at_ring uses ring h = walk_meant at_ring uses ring h
 
-pub rings_of : (uses : List (List (List (List Arc)))) (polygons : List Polygons) → AllZip AreRings uses polygons → all_rings uses ≡ Ok polygons
-unfolding all_rings
-rings_of uses polygons h = each_at_of AreRings feature_of feature_read 0 uses polygons h
+module _ (closed : Closed) where
+  abbrev Are : List (List (List Arc)) → Polygons → Type 0
+  Are uses polygons = AreClosed (IsClosed closed) uses polygons
 
-polygon_meant : (f p : ℕ) (uses : List (List Arc)) (rings : List (List Position)) → polygon_of f p uses ≡ Ok rings → AllZip IsRing uses rings
-unfolding polygon_of
-polygon_meant f p uses rings h = of_each_at IsRing (λ r. ring_of (record { feature = f; polygon = p; ring = r })) (λ i a b. ring_meant (record { feature = f; polygon = p; ring = i }) a b) 0 uses rings h
+  polygon_read : (f p : ℕ) (uses : List (List Arc)) (rings : List (List Position)) → AllZip (IsClosed closed) uses rings → polygon_of closed f p uses ≡ Ok rings
+  unfolding polygon_of
+  polygon_read f p uses rings h = each_at_of (IsClosed closed) (λ r. closed_of closed (record { feature = f; polygon = p; ring = r })) (λ i a b. closed_read closed (record { feature = f; polygon = p; ring = i }) a b) 0 uses rings h
 
-feature_meant : (f : ℕ) (uses : List (List (List Arc))) (polygons : Polygons) → feature_of f uses ≡ Ok polygons → AreRings uses polygons
-unfolding feature_of
-feature_meant f uses polygons h = of_each_at (AllZip IsRing) (polygon_of f) (polygon_meant f) 0 uses polygons h
+  feature_read : (f : ℕ) (uses : List (List (List Arc))) (polygons : Polygons) → Are uses polygons → feature_of closed f uses ≡ Ok polygons
+  unfolding feature_of
+  feature_read f uses polygons h = each_at_of (AllZip (IsClosed closed)) (polygon_of closed f) (polygon_read f) 0 uses polygons h
 
-pub are_rings : (uses : List (List (List (List Arc)))) (polygons : List Polygons) → all_rings uses ≡ Ok polygons → AllZip AreRings uses polygons
-unfolding all_rings
-are_rings uses polygons h = of_each_at AreRings feature_of feature_meant 0 uses polygons h
+  pub rings_of : (uses : List (List (List (List Arc)))) (polygons : List Polygons) → AllZip Are uses polygons → all_rings closed uses ≡ Ok polygons
+  unfolding all_rings
+  rings_of uses polygons h = each_at_of Are (feature_of closed) feature_read 0 uses polygons h
+
+  polygon_meant : (f p : ℕ) (uses : List (List Arc)) (rings : List (List Position)) → polygon_of closed f p uses ≡ Ok rings → AllZip (IsClosed closed) uses rings
+  unfolding polygon_of
+  polygon_meant f p uses rings h = of_each_at (IsClosed closed) (λ r. closed_of closed (record { feature = f; polygon = p; ring = r })) (λ i a b. closed_meant closed (record { feature = f; polygon = p; ring = i }) a b) 0 uses rings h
+
+  feature_meant : (f : ℕ) (uses : List (List (List Arc))) (polygons : Polygons) → feature_of closed f uses ≡ Ok polygons → Are uses polygons
+  unfolding feature_of
+  feature_meant f uses polygons h = of_each_at (AllZip (IsClosed closed)) (polygon_of closed f) (polygon_meant f) 0 uses polygons h
+
+  pub are_rings : (uses : List (List (List (List Arc)))) (polygons : List Polygons) → all_rings closed uses ≡ Ok polygons → AllZip Are uses polygons
+  unfolding all_rings
+  are_rings uses polygons h = of_each_at Are (feature_of closed) feature_meant 0 uses polygons h

@@ -1,6 +1,6 @@
 -- The arcs that a geometry names are those that the reader gives.
 use Rattle.std.proofs.Common.{◌≡◌, ◌<◌, ◌^◌, ℕ, ℤ, pos, negsuc, List, [], ◌∷◌, length, refl, sym, ap, subst, arith}
-use Rattle.std.specs.Prelude.{Option, Some, None, option_map, slice_get, reverse, unsigned_abs, Result, Ok, Err}
+use Rattle.std.specs.Prelude.{Option, Some, None, option_map, slice_get, reverse, Result, Ok, Err}
 use Rattle.std.specs.List.{AllByRecursion}
 use Rattle.std.proofs.lemmas.Option.{slice_get_within}
 use Rattle.json_spans.specs.Nodes.{Node}
@@ -13,7 +13,7 @@ use Rattle.json_spans.proofs.Meant.{whole_read, whole_meant}
 use Rattle.json_spans.proofs.Told.{items_told}
 use Rattle.ring_machine.specs.Document.{Form, Polygon, MultiPolygon, Null}
 use Rattle.topo_outline.specs.Faults.{Fault, each}
-use Rattle.topo_outline.specs.IsOutline.{AreLists, AreListsOfLists}
+use Rattle.topo_outline.specs.IsOutline.{AreLists}
 use Rattle.topo_outline.proofs.LeafArcs.{HasArcs}
 use Rattle.topo_reader.specs.Arcs.{Arc}
 use Rattle.topo_reader.specs.Indexes.{there, index_from, index, ring, polygon, polygons, uses_of}

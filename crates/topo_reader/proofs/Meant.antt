@@ -5,16 +5,19 @@ use Rattle.json_spans.proofs.Grouped.{padded_value}
 use Rattle.ring_machine.specs.Document.{Document}
 use Rattle.ring_machine.specs.WellFormed.{WellFormed}
 use Rattle.topo_outline.specs.Kept.{KeepsTexts}
-use Rattle.topo_reader.specs.Reads.{Reads}
+use Rattle.grid_geometry.specs.Position.{Position}
+use Rattle.topo_reader.specs.Arcs.{Arc}
+use Rattle.topo_reader.specs.Reads.{ReadsBy}
 use Rattle.topo_reader.proofs.Formed.{read_formed}
 use Rattle.topo_reader.proofs.Keeping.{read_keeps}
 
-pub meant_formed : (bytes : List ℕ) (d : Document) → Reads bytes d → WellFormed d
-meant_formed bytes d r =
-    subst WellFormed (sym r.document)
-    (read_formed r.root r.shape r.arcs r.uses r.polygons r.topology r.uses_are r.rings_are)
+module _ (IsOne : List Arc → List Position → Type 0) (bytes : List ℕ) (d : Document) where
+  pub meant_formed : ReadsBy IsOne bytes d → WellFormed d
+  meant_formed r =
+      subst WellFormed (sym r.document)
+      (read_formed IsOne r.root r.shape r.arcs r.uses r.polygons r.topology r.uses_are r.rings_are)
 
-pub meant_keeps : (bytes : List ℕ) (d : Document) → Reads bytes d → KeepsTexts d
-meant_keeps bytes d r =
-    subst KeepsTexts (sym r.document)
-    (read_keeps r.levels r.root r.shape r.polygons (padded_value {A = IsValue r.levels} 0 bytes r.root r.json) r.topology)
+  pub meant_keeps : ReadsBy IsOne bytes d → KeepsTexts d
+  meant_keeps r =
+      subst KeepsTexts (sym r.document)
+      (read_keeps r.levels r.root r.shape r.polygons (padded_value {A = IsValue r.levels} 0 bytes r.root r.json) r.topology)

@@ -1,4 +1,4 @@
--- What opens is of rings.
+-- What opens is of rings, or of walks.
 use Rattle.std.proofs.Common.{◌≡◌, ℕ, suc, ◌+◌, ◌-◌, ◌≤◌, Bool, true, false, List, [], ◌∷◌, ◌++◌, length, refl, sym, ap, ap₂, ◌∙◌, subst, arith, ◌&&◌}
 use Rattle.std.specs.Prelude.{Option, Some, None, Result, Ok, Err, IfOk, nat_le, sum_by, is_some}
 use Rattle.std.specs.List.{list_all, flat_map}
@@ -12,7 +12,6 @@ use Rattle.ring_machine.proofs.Canonical.{canonical_parts}
 use Rattle.ring_machine.proofs.StaysRing.{canonical_is_ring}
 use Rattle.json_spans.specs.Nodes.{Node}
 use Rattle.topo_outline.specs.Faults.{Fault, arcs_do_not_meet, ring_short, too_large, ◌>>=◌, each, each_at, demand}
-use Rattle.topo_outline.specs.Gives.{Gives}
 use Rattle.topo_outline.specs.Layers.{OutlineText, leaves}
 use Rattle.topo_outline.specs.Kept.{KeepsTexts}
 use Rattle.topo_outline.specs.Outline.{outline}
@@ -20,15 +19,20 @@ use Rattle.topo_outline.proofs.Shaped.{outline_few}
 use Rattle.topo_outline.specs.declared.fault.RingAt.{RingAt}
 use Rattle.topo_outline.specs.declared.fault.Limit.TheVariants as limit
 use Rattle.topo_outline.specs.declared.fault.OpenFault.{OpenFault}
+use Rattle.topo_reader.specs.declared.rings.Closed.{Closed}
+use Rattle.topo_reader.specs.declared.rings.Closed.TheVariants.{Rings, Walks}
 use Rattle.topo_reader.specs.Positions.{arcs}
 use Rattle.topo_reader.specs.Arcs.{Arc}
 use Rattle.topo_reader.specs.Indexes.{uses_of}
 use Rattle.topo_reader.specs.Sizes as sizes
-use Rattle.topo_reader.specs.Rings.{unless, is_at, meet, squeezed, all_of, joined, first_repeat, distinct, ring_of, polygon_of, feature_of, all_rings}
-use Rattle.topo_reader.specs.Document.{Polygons, Opened, document_of, IsOfRings}
-use Rattle.topo_reader.specs.Opening.{polygons_read, opening}
+use Rattle.topo_reader.specs.Rings.{unless, is_at, meet, squeezed, all_of, joined, first_repeat, distinct, simple, walk_of, ring_of, closed_of, polygon_of, feature_of, all_rings}
+use Rattle.topo_reader.specs.Document.{Polygons, Opened, document_of, is_walk, IsOf}
+use Rattle.topo_reader.specs.Opening.{polygons_read, root_of, OpensBy}
+use Rattle.topo_reader.specs.Reads.{IsClosed}
 use Rattle.topo_reader.proofs.Meant.{meant_formed, meant_keeps}
-use Rattle.topo_reader.proofs.MeaningOfText.{IsRead}
+use Rattle.topo_reader.proofs.MeaningOfText.{is_read_by}
+use Rattle.topo_reader.proofs.MeaningOfRings.{walk_meant}
+use Rattle.topo_reader.proofs.Apart.{walk_is}
 use Rattle.topo_reader.proofs.Repeats.{none_again}
 use Rattle.topo_reader.proofs.Steps.{at_most, bind_ok, demand_ok, ok_same}
 use Rattle.topo_reader.proofs.Numbering.{rings_within, rings_document, all_within, sum_within}
@@ -84,80 +88,103 @@ canonical_length ps =
     let whole : length parts.1 + length parts.0 ≡ length ps = omega (arith, ap (λ (qs : List Position). length qs) parts.2, length-append parts.0 parts.1) in
     ap (λ (qs : List Position). length qs) parts.3 ∙ length-append parts.1 parts.0 ∙ whole
 
-abbrev IsGoodRing : List Arc → List Position → Type 0
-IsGoodRing uses r = (is_ring r ≡ true) × (length r ≤ sizes.ring_size uses)
+-- the list passes the test, and is no longer than the arcs
+abbrev IsGood : (List Position → Bool) → List Arc → List Position → Type 0
+IsGood t uses r = (t r ≡ true) × (length r ≤ sizes.ring_size uses)
 
-ring_good : (at_ring : RingAt) (uses : List Arc) (r : List Position) → ring_of at_ring uses ≡ Ok r → IsGoodRing uses r
+simple_good : (at_ring : RingAt) (uses : List Arc) (walk r : List Position) → length walk ≤ sizes.ring_size uses → simple at_ring walk ≡ Ok r → IsGood is_ring uses r
+simple_good at_ring uses walk r small h =
+    let long = demand_ok (nat_le 3 (length walk)) (ring_short at_ring) (distinct at_ring walk (first_repeat [] walk)) r h in
+    by (first_repeat [] walk) refl (at_most 3 (length walk) long.0) long.1
+  where
+    by : (o : Option Position) → first_repeat [] walk ≡ o → 3 ≤ length walk → distinct at_ring walk o ≡ Ok r → IsGood is_ring uses r
+    by (Some p) e l d = absurd cc
+    by None e l d = subst (IsGood is_ring uses) (ok_same (canonical walk) r d)
+        (canonical_is_ring walk l (none_again [] walk e).0, omega (arith, canonical_length walk, small))
+
+walk_good : (at_ring : RingAt) (uses : List Arc) (walk : List Position) → walk_of at_ring uses ≡ Ok walk → IsGood is_walk uses walk
+unfolding walk_of
+walk_good at_ring uses walk h =
+    let met = demand_ok (meet uses) (arcs_do_not_meet at_ring) (Ok (joined uses)) walk h in
+    (walk_is uses walk (walk_meant at_ring uses walk h), subst (λ ps. length ps ≤ sizes.ring_size uses) (ok_same (joined uses) walk met.1) (joined_length uses))
+
+ring_good : (at_ring : RingAt) (uses : List Arc) (r : List Position) → ring_of at_ring uses ≡ Ok r → IsGood is_ring uses r
 unfolding ring_of
 ring_good at_ring uses r h =
-    let met = demand_ok (meet uses) (arcs_do_not_meet at_ring) (demand (nat_le 3 (length (joined uses))) (ring_short at_ring) (distinct at_ring (joined uses) (first_repeat [] (joined uses)))) r h in
-    let long = demand_ok (nat_le 3 (length (joined uses))) (ring_short at_ring) (distinct at_ring (joined uses) (first_repeat [] (joined uses))) r met.1 in
-    by (first_repeat [] (joined uses)) refl (at_most 3 (length (joined uses)) long.0) long.1
-  where
-    by : (o : Option Position) → first_repeat [] (joined uses) ≡ o → 3 ≤ length (joined uses) → distinct at_ring (joined uses) o ≡ Ok r → IsGoodRing uses r
-    by (Some p) e l d = absurd cc
-    by None e l d = subst (IsGoodRing uses) (ok_same (canonical (joined uses)) r d)
-        (canonical_is_ring (joined uses) l (none_again [] (joined uses) e).0, omega (arith, canonical_length (joined uses), joined_length uses))
+    let walk = bind_ok (walk_of at_ring uses) (simple at_ring) r h in
+    simple_good at_ring uses walk.0 r (walk_good at_ring uses walk.0 walk.1).1 walk.2
 
--- ---- all rings
+-- ---- all of them, where each is good
 
-polygon_good : (f p : ℕ) (rings' : List (List Arc)) (rs : List (List Position)) → polygon_of f p rings' ≡ Ok rs → (list_all is_ring rs ≡ true) × (sum_by length rs ≤ sizes.polygon_size rings')
-unfolding polygon_of
-polygon_good f p rings' rs h =
-    let all = each_at_good (λ r. ring_of (record { feature = f; polygon = p; ring = r })) is_ring sizes.ring_size length (λ i a b. ring_good (record { feature = f; polygon = p; ring = i }) a b) 0 rings' rs h in
-    (all.0, all.1)
+module _ (closed : Closed) (t : List Position → Bool) (one : (at_ring : RingAt) (uses : List Arc) (r : List Position) → closed_of closed at_ring uses ≡ Ok r → IsGood t uses r) where
+  polygon_good : (f p : ℕ) (rings' : List (List Arc)) (rs : List (List Position)) → polygon_of closed f p rings' ≡ Ok rs → (list_all t rs ≡ true) × (sum_by length rs ≤ sizes.polygon_size rings')
+  unfolding polygon_of
+  polygon_good f p rings' rs h =
+      let all = each_at_good (λ r. closed_of closed (record { feature = f; polygon = p; ring = r })) t sizes.ring_size length (λ i a b. one (record { feature = f; polygon = p; ring = i }) a b) 0 rings' rs h in
+      (all.0, all.1)
 
-feature_good : (f : ℕ) (ps : List (List (List Arc))) (rs : Polygons) → feature_of f ps ≡ Ok rs → (list_all (list_all is_ring) rs ≡ true) × (sum_by (sum_by length) rs ≤ sizes.feature_size ps)
-unfolding feature_of
-feature_good f ps rs h =
-    let all = each_at_good (polygon_of f) (list_all is_ring) sizes.polygon_size (sum_by length) (λ i a b. polygon_good f i a b) 0 ps rs h in
-    (all.0, all.1)
+  feature_good : (f : ℕ) (ps : List (List (List Arc))) (rs : Polygons) → feature_of closed f ps ≡ Ok rs → (list_all (list_all t) rs ≡ true) × (sum_by (sum_by length) rs ≤ sizes.feature_size ps)
+  unfolding feature_of
+  feature_good f ps rs h =
+      let all = each_at_good (polygon_of closed f) (list_all t) sizes.polygon_size (sum_by length) (λ i a b. polygon_good f i a b) 0 ps rs h in
+      (all.0, all.1)
 
-all_good : (fs : List (List (List (List Arc)))) (rs : List Polygons) → all_rings fs ≡ Ok rs →
-    (list_all (list_all (list_all is_ring)) rs ≡ true) × (sum_by (sum_by (sum_by length)) rs ≤ sizes.size fs) × (length rs ≡ length fs)
-unfolding all_rings
-all_good fs rs h = each_at_good feature_of (list_all (list_all is_ring)) sizes.feature_size (sum_by (sum_by length)) (λ i a b. feature_good i a b) 0 fs rs h
+  all_good : (fs : List (List (List (List Arc)))) (rs : List Polygons) → all_rings closed fs ≡ Ok rs →
+      (list_all (list_all (list_all t)) rs ≡ true) × (sum_by (sum_by (sum_by length)) rs ≤ sizes.size fs) × (length rs ≡ length fs)
+  unfolding all_rings
+  all_good fs rs h = each_at_good (feature_of closed) (list_all (list_all t)) sizes.feature_size (sum_by (sum_by length)) (λ i a b. feature_good i a b) 0 fs rs h
 
--- ---- what was read is of rings
+  -- ---- what was read
 
-abbrev IsWhole : OutlineText → List Polygons → Type 0
-IsWhole shape ps = (length (leaves shape.layers) ≤ 200000) × (length ps ≡ length (leaves shape.layers)) × (list_all (list_all (list_all is_ring)) ps ≡ true) × (sum_by (sum_by (sum_by length)) ps ≤ 4000000)
+  abbrev IsWhole : OutlineText → List Polygons → Type 0
+  IsWhole shape ps = (length (leaves shape.layers) ≤ 200000) × (length ps ≡ length (leaves shape.layers)) × (list_all (list_all (list_all t)) ps ≡ true) × (sum_by (sum_by (sum_by length)) ps ≤ 4000000)
 
-whole : (n : Node) (shape : OutlineText) (ps : List Polygons) → outline n ≡ Ok shape → polygons_read shape ≡ Ok ps → IsWhole shape ps
-whole n shape ps e h =
-    let found = bind_ok (arcs (is_some shape.transform) shape.arcs) (λ (found : List Arc). each (uses_of found) (leaves shape.layers) >>= λ uses. demand (nat_le (sizes.size uses) 4000000) (too_large limit.Positions) (all_rings uses)) ps h in
-    let uses = bind_ok (each (uses_of found.0) (leaves shape.layers)) (λ (uses : List (List (List (List Arc)))). demand (nat_le (sizes.size uses) 4000000) (too_large limit.Positions) (all_rings uses)) ps found.2 in
-    let fits = demand_ok (nat_le (sizes.size uses.0) 4000000) (too_large limit.Positions) (all_rings uses.0) ps uses.2 in
-    let good = all_good uses.0 ps fits.1 in
-    (at_most (length (leaves shape.layers)) 200000 (outline_few n shape e), good.2 ∙ each_length (uses_of found.0) (leaves shape.layers) uses.0 uses.1, good.0, omega (arith, good.1, at_most (sizes.size uses.0) 4000000 fits.0))
+  whole : (n : Node) (shape : OutlineText) (ps : List Polygons) → outline n ≡ Ok shape → polygons_read closed shape ≡ Ok ps → IsWhole shape ps
+  whole n shape ps e h =
+      let found = bind_ok (arcs (is_some shape.transform) shape.arcs) (λ (found : List Arc). each (uses_of found) (leaves shape.layers) >>= λ uses. demand (nat_le (sizes.size uses) 4000000) (too_large limit.Positions) (all_rings closed uses)) ps h in
+      let uses = bind_ok (each (uses_of found.0) (leaves shape.layers)) (λ (uses : List (List (List (List Arc)))). demand (nat_le (sizes.size uses) 4000000) (too_large limit.Positions) (all_rings closed uses)) ps found.2 in
+      let fits = demand_ok (nat_le (sizes.size uses.0) 4000000) (too_large limit.Positions) (all_rings closed uses.0) ps uses.2 in
+      let good = all_good uses.0 ps fits.1 in
+      (at_most (length (leaves shape.layers)) 200000 (outline_few n shape e), good.2 ∙ each_length (uses_of found.0) (leaves shape.layers) uses.0 uses.1, good.0, omega (arith, good.1, at_most (sizes.size uses.0) 4000000 fits.0))
 
-abbrev made : OutlineText → List Polygons → Opened
-made shape ps = record { transform = shape.transform; layers = shape.layers; members = shape.members; polygons = ps }
+  abbrev made : OutlineText → List Polygons → Opened
+  made shape ps = record { transform = shape.transform; layers = shape.layers; members = shape.members; polygons = ps }
 
-made_of_rings : (shape : OutlineText) (ps : List Polygons) → IsWhole shape ps → WellFormed (document_of (made shape ps)) → KeepsTexts (document_of (made shape ps)) → IsOfRings (made shape ps)
-made_of_rings shape ps w formed keeps =
-    let same : rings (document_of (made shape ps)) ≡ flat_map rings_within ps =
-    rings_document ps shape.layers ∙ ap (λ (qs : List Polygons). flat_map rings_within qs) (take_all (length (leaves shape.layers)) ps (omega (arith, w.1))) in
-    let total : size (document_of (made shape ps)) ≡ sum_by (sum_by (sum_by length)) ps =
-    ap (λ (rs : List (List Position)). sum_by length rs) same ∙ sum_within length ps in
-    record {
-      counted = w.1;
-      formed = formed;
-      keeps = keeps;
-      few = w.0;
-      are_rings = ap (λ (rs : List (List Position)). list_all is_ring rs) same ∙ all_within is_ring ps w.2;
-      small = omega (arith, total, w.3);
-    }
+  made_of : (shape : OutlineText) (ps : List Polygons) → IsWhole shape ps → WellFormed (document_of (made shape ps)) → KeepsTexts (document_of (made shape ps)) → IsOf t (made shape ps)
+  made_of shape ps w formed keeps =
+      let same : rings (document_of (made shape ps)) ≡ flat_map rings_within ps =
+      rings_document ps shape.layers ∙ ap (λ (qs : List Polygons). flat_map rings_within qs) (take_all (length (leaves shape.layers)) ps (omega (arith, w.1))) in
+      let total : size (document_of (made shape ps)) ≡ sum_by (sum_by (sum_by length)) ps =
+      ap (λ (rs : List (List Position)). sum_by length rs) same ∙ sum_within length ps in
+      record {
+        counted = w.1;
+        formed = formed;
+        keeps = keeps;
+        few = w.0;
+        are_rings = ap (λ (rs : List (List Position)). list_all t rs) same ∙ all_within t ps w.2;
+        small = omega (arith, total, w.3);
+      }
 
-pub opening_of_rings : (n : Node) (o : Opened) → opening n ≡ Ok o → WellFormed (document_of o) → KeepsTexts (document_of o) → IsOfRings o
-opening_of_rings n o h formed keeps =
-    let shape = bind_ok (outline n) (λ (shape : OutlineText). polygons_read shape >>= λ ps. Ok (made shape ps)) o h in
-    let ps = bind_ok (polygons_read shape.0) (λ (ps : List Polygons). Ok (made shape.0 ps)) o shape.2 in
-    let is = ok_same (made shape.0 ps.0) o ps.2 in
-    subst IsOfRings is (made_of_rings shape.0 ps.0 (whole n shape.0 ps.0 shape.1 ps.1) (subst (λ (p : Opened). WellFormed (document_of p)) (sym is) formed) (subst (λ (p : Opened). KeepsTexts (document_of p)) (sym is) keeps))
+  -- what opens is of such lists
+  opens_of : (bytes : List ℕ) (o : Opened) → OpensBy closed bytes o → IsOf t o
+  opens_of bytes o h =
+      let read = is_read_by closed bytes o h in
+      let shape = bind_ok (outline (root_of bytes)) (λ (shape : OutlineText). polygons_read closed shape >>= λ ps. Ok (made shape ps)) o h.opens in
+      let ps = bind_ok (polygons_read closed shape.0) (λ (ps : List Polygons). Ok (made shape.0 ps)) o shape.2 in
+      let is = ok_same (made shape.0 ps.0) o ps.2 in
+      let formed = meant_formed (IsClosed closed) bytes (document_of o) read.0 in
+      let keeps = meant_keeps (IsClosed closed) bytes (document_of o) read.0 in
+      subst (IsOf t) is (made_of shape.0 ps.0 (whole (root_of bytes) shape.0 ps.0 shape.1 ps.1) (subst (λ (p : Opened). WellFormed (document_of p)) (sym is) formed) (subst (λ (p : Opened). KeepsTexts (document_of p)) (sym is) keeps))
 
--- what is answered is of rings, where the bytes mean it
-pub gives_of_rings : {X : Type 0} (view : X → Opened) (bytes : List ℕ) (r : Result X OpenFault) (n : Node) → Gives view r (opening n) → IfOk r (λ x. IsRead bytes (document_of (view x))) → IfOk r (λ x. IsOfRings (view x))
-gives_of_rings view bytes (Ok x) n h read =
-    opening_of_rings n (view x) h (meant_formed bytes (document_of (view x)) read.0) (meant_keeps bytes (document_of (view x)) read.0)
-gives_of_rings view bytes (Err e) n h read = tt
+  answers_of : {X : Type 0} (view : X → Opened) (bytes : List ℕ) (r : Result X OpenFault) → IfOk r (λ x. OpensBy closed bytes (view x)) → IfOk r (λ x. IsOf t (view x))
+  answers_of view bytes (Ok x) h = opens_of bytes (view x) h
+  answers_of view bytes (Err e) h = tt
+
+-- ---- rings, and walks
+
+module _ {X : Type 0} (view : X → Opened) (bytes : List ℕ) (r : Result X OpenFault) where
+  pub answers_of_rings : IfOk r (λ x. OpensBy Rings bytes (view x)) → IfOk r (λ x. IsOf is_ring (view x))
+  answers_of_rings h = answers_of Rings is_ring ring_good view bytes r h
+
+  pub answers_of_walks : IfOk r (λ x. OpensBy Walks bytes (view x)) → IfOk r (λ x. IsOf is_walk (view x))
+  answers_of_walks h = answers_of Walks is_walk walk_good view bytes r h

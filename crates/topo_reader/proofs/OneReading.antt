@@ -4,7 +4,6 @@ use Rattle.std.specs.Prelude.{Some, slice_get, reverse, is_some, Result, Ok, Err
 use Rattle.std.specs.List.{AllZip}
 use Rattle.json_spans.specs.Nodes.{Node}
 use Rattle.json_spans.specs.Inside.{IsValue, IsListOf, IsListFor}
-use Rattle.json_spans.specs.Walk.{items}
 use Rattle.json_spans.specs.Whole.{IsWhole}
 use Rattle.json_spans.proofs.Meant.{one_whole}
 use Rattle.json_spans.proofs.Told.{items_told}
@@ -15,12 +14,14 @@ use Rattle.topo_outline.specs.declared.fault.OpenFault.{OpenFault}
 use Rattle.topo_outline.specs.Layers.{OutlineText, leaves}
 use Rattle.topo_outline.specs.IsOutline.{IsOutline}
 use Rattle.topo_outline.proofs.OneOutline.{outline_same}
+use Rattle.topo_reader.specs.declared.rings.Closed.{Closed}
+use Rattle.topo_reader.specs.declared.rings.Closed.TheVariants.{Rings}
 use Rattle.topo_reader.specs.Arcs.{Arc, origin}
 use Rattle.topo_reader.specs.Document.{Polygons, Opened, document_of}
-use Rattle.topo_reader.specs.Reads.{IsSum, Sums, no_pair, pair, ArePositions, IsArc, AreArcs, IsUse, forward, backward, RingUses, PolygonUses, GeometryUses, AreRings, Reads}
+use Rattle.topo_reader.specs.Reads.{IsSum, Sums, no_pair, pair, ArePositions, IsArc, AreArcs, IsUse, forward, backward, RingUses, PolygonUses, GeometryUses, IsClosed, AreClosed, ReadsBy, Reads}
 use Rattle.topo_reader.proofs.Steps.{ok_same}
 use Rattle.topo_reader.proofs.MeaningOfRings.{rings_of}
-use Rattle.topo_reader.proofs.MeaningOfText.{IsRead}
+use Rattle.topo_reader.proofs.MeaningOfText.{IsReadBy}
 
 -- each item of the first list stands for one thing at most
 zip_same : {A B : Type 0} (R : A → B → Type 0) → ((a : A) (b c : B) → R a b → R a c → b ≡ c) → (xs : List A) (ys zs : List B) → AllZip R xs ys → AllZip R xs zs → ys ≡ zs
@@ -113,8 +114,8 @@ module _ (arcs : List Arc) where
 abbrev made : OutlineText → List Polygons → Document
 made shape ps = document_of (record { transform = shape.transform; layers = shape.layers; members = shape.members; polygons = ps })
 
-pub one_reading : (bytes : List ℕ) (d e : Document) → Reads bytes d → Reads bytes e → d ≡ e
-one_reading bytes d e r s =
+pub one_reading_by : (closed : Closed) (bytes : List ℕ) (d e : Document) → ReadsBy (IsClosed closed) bytes d → ReadsBy (IsClosed closed) bytes e → d ≡ e
+one_reading_by closed bytes d e r s =
     let root : s.root ≡ r.root = padded_root s.json ∙ sym (padded_root r.json) in
     let nests = padded_value {A = IsValue r.levels} 0 bytes r.root r.json in
     let shape : r.shape ≡ s.shape = outline_same r.levels r.root r.shape s.shape nests r.topology (subst (λ n. IsOutline n s.shape) root s.topology) in
@@ -123,10 +124,13 @@ one_reading bytes d e r s =
     let used : AllZip (GeometryUses r.arcs) (leaves r.shape.layers) s.uses =
     subst (λ (as' : List Arc). AllZip (GeometryUses as') (leaves r.shape.layers) s.uses) (sym arcs) (subst (λ (o : OutlineText). AllZip (GeometryUses s.arcs) (leaves o.layers) s.uses) (sym shape) s.uses_are) in
     let uses : r.uses ≡ s.uses = zip_same (GeometryUses r.arcs) (geometry_same r.arcs) (leaves r.shape.layers) r.uses s.uses r.uses_are used in
-    let polygons : r.polygons ≡ s.polygons = ok_same r.polygons s.polygons (sym (rings_of r.uses r.polygons r.rings_are) ∙ rings_of r.uses s.polygons (subst (λ us. AllZip AreRings us s.polygons) (sym uses) s.rings_are)) in
+    let polygons : r.polygons ≡ s.polygons = ok_same r.polygons s.polygons (sym (rings_of closed r.uses r.polygons r.rings_are) ∙ rings_of closed r.uses s.polygons (subst (λ us. AllZip (AreClosed (IsClosed closed)) us s.polygons) (sym uses) s.rings_are)) in
     r.document ∙ ap₂ made shape polygons ∙ sym s.document
 
+pub one_reading : (bytes : List ℕ) (d e : Document) → Reads bytes d → Reads bytes e → d ≡ e
+one_reading bytes d e r s = one_reading_by Rings bytes d e r s
+
 -- whatever the bytes mean is what is answered
-pub gives_only : {X : Type 0} (view : X → Opened) (bytes : List ℕ) (r : Result X OpenFault) → IfOk r (λ x. IsRead bytes (document_of (view x))) → IfOk r (λ x. (d : Document) → Reads bytes d → d ≡ document_of (view x))
-gives_only view bytes (Ok x) read = λ d r. one_reading bytes d (document_of (view x)) r read.0
-gives_only view bytes (Err f) read = tt
+pub gives_only : {X : Type 0} (closed : Closed) (view : X → Opened) (bytes : List ℕ) (r : Result X OpenFault) → IfOk r (λ x. IsReadBy closed bytes (document_of (view x))) → IfOk r (λ x. (d : Document) → ReadsBy (IsClosed closed) bytes d → d ≡ document_of (view x))
+gives_only closed view bytes (Ok x) read = λ d r. one_reading_by closed bytes d (document_of (view x)) r read.0
+gives_only closed view bytes (Err f) read = tt

@@ -1,7 +1,8 @@
 -- What was read, as a document: each feature with its number and its polygons.
-use Rattle.std.specs.Prelude.{◌≡◌, ℕ, ◌+◌, ◌≤◌, List, [], ◌∷◌, length, Option, unwrap_or, slice_get, IsTrue}
+use Rattle.std.specs.Prelude.{◌≡◌, ℕ, ◌+◌, ◌≤◌, Bool, not, List, [], ◌∷◌, length, Option, unwrap_or, slice_get, IsTrue}
 use Rattle.std.specs.List.{list_all}
-use Rattle.grid_geometry.specs.Position.{Position}
+use Rattle.grid_geometry.specs.Position.{Position, position_eq}
+use Rattle.grid_geometry.specs.Ring.{edges}
 use Rattle.ring_machine.specs.Ring.{is_ring}
 use Rattle.ring_machine.specs.Document.{Text, Form, Member, Head, FeatureOf, ItemOf, Open, Close, Leaf, Kept, LayerOf, Document}
 use Rattle.ring_machine.specs.Parts.{rings, size}
@@ -61,13 +62,25 @@ document_of o = record {
   members = o.members;
 }
 
+-- a walk: a closed list of positions in which no neighbours are equal
+abbrev pub is_walk : List Position → Bool
+is_walk ps = list_all (λ e. not (position_eq e.0 e.1)) (edges ps)
+
 -- what every opened topology is: each feature has its polygons, its document is well formed, its
--- texts are ones that opening would keep, each list is a ring, and the numbers of features and
--- positions are within their limits
-pub record IsOfRings (o : Opened) : Type 0 where
+-- texts are ones that opening would keep, each list passes the test, and the numbers of features
+-- and positions are within their limits
+pub record IsOf (test : List Position → Bool) (o : Opened) : Type 0 where
   pub counted : length o.polygons ≡ length (leaves o.layers)
   pub formed : WellFormed (document_of o)
   pub keeps : KeepsTexts (document_of o)
   pub few : length (leaves o.layers) ≤ 200000
-  pub are_rings : IsTrue (list_all is_ring (rings (document_of o)))
+  pub are_rings : IsTrue (list_all test (rings (document_of o)))
   pub small : size (document_of o) ≤ 4000000
+
+-- each list is a ring
+abbrev pub IsOfRings : Opened → Type 0
+IsOfRings o = IsOf is_ring o
+
+-- each list is a walk
+abbrev pub IsOfWalks : Opened → Type 0
+IsOfWalks o = IsOf is_walk o

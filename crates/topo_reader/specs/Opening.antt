@@ -1,5 +1,5 @@
 -- Opening: the first fault of the first phase that has one, or what was read.
--- The phases follow each other as the lines do.
+-- The phases follow each other as the lines do. Rings are wanted, or walks.
 use Rattle.std.specs.Prelude.{◌≡◌, ℕ, ◌<◌, ◌≤◌, ◌⊎◌, List, length, nat_le, Some, is_some, Result, Ok, Err}
 use Rattle.ring_machine.specs.Planar.{first_pair}
 use Rattle.json_spans.specs.Grammar.{Json}
@@ -16,21 +16,23 @@ use Rattle.topo_outline.specs.Outline.{outline}
 use Rattle.topo_reader.specs.Positions.{arcs}
 use Rattle.topo_reader.specs.Indexes.{uses_of}
 use Rattle.topo_reader.specs.Sizes.{size}
+use Rattle.topo_reader.specs.declared.rings.Closed.{Closed}
+use Rattle.topo_reader.specs.declared.rings.Closed.TheVariants.{Rings, Walks}
 use Rattle.topo_reader.specs.Rings.{all_rings}
 use Rattle.topo_reader.specs.Document.{Polygons, Opened, document_of}
 
 -- the polygons of all features: the positions of the arcs, their indexes, the limit, the rings
-abbrev pub polygons_read : OutlineText → Result (List Polygons) Fault
-polygons_read shape = do
+abbrev pub polygons_read : Closed → OutlineText → Result (List Polygons) Fault
+polygons_read closed shape = do
   found ← arcs (is_some shape.transform) shape.arcs
   uses ← each (uses_of found) (leaves shape.layers)
-  demand (nat_le (size uses) 4000000) (too_large limit.Positions) (all_rings uses)
+  demand (nat_le (size uses) 4000000) (too_large limit.Positions) (all_rings closed uses)
 
 -- the topology whose root this is (TopoJSON 1.0, 2.1)
-abbrev pub opening : Node → Result Opened Fault
-opening root = do
+abbrev pub opening : Closed → Node → Result Opened Fault
+opening closed root = do
   shape ← outline root
-  polygons' ← polygons_read shape
+  polygons' ← polygons_read closed shape
   Ok (record {
     transform = shape.transform;
     layers = shape.layers;
@@ -43,16 +45,29 @@ abbrev pub root_of : List ℕ → Node
 root_of bytes = trimmed (record { at_byte = 0; bytes = bytes })
 
 -- the bytes are a topology of the profile, opened as o
-pub record Opens (bytes : List ℕ) (o : Opened) : Type 0 where
+pub record OpensBy (closed : Closed) (bytes : List ℕ) (o : Opened) : Type 0 where
   pub short : length bytes ≤ 67108864
   pub json : Json 100 bytes
-  pub opens : opening (root_of bytes) ≡ Ok o
+  pub opens : opening closed (root_of bytes) ≡ Ok o
+
+-- with rings, and with walks
+abbrev pub Opens : List ℕ → Opened → Type 0
+Opens bytes o = OpensBy Rings bytes o
+
+abbrev pub OpensWalks : List ℕ → Opened → Type 0
+OpensWalks bytes o = OpensBy Walks bytes o
 
 -- the bytes are JSON, and opening them comes to a fault
-pub record Stops (bytes : List ℕ) (f : Fault) : Type 0 where
+pub record StopsBy (closed : Closed) (bytes : List ℕ) (f : Fault) : Type 0 where
   pub short : length bytes ≤ 67108864
   pub json : Json 100 bytes
-  pub stops : opening (root_of bytes) ≡ Err f
+  pub stops : opening closed (root_of bytes) ≡ Err f
+
+abbrev pub Stops : List ℕ → Fault → Type 0
+Stops bytes f = StopsBy Rings bytes f
+
+abbrev pub StopsWalks : List ℕ → Fault → Type 0
+StopsWalks bytes f = StopsBy Walks bytes f
 
 -- the bytes are not JSON with at most 100 lists and objects one in another
 pub record IsNotJson (bytes : List ℕ) : Type 0 where
@@ -60,30 +75,45 @@ pub record IsNotJson (bytes : List ℕ) : Type 0 where
   pub not_json : ¬ Json 100 bytes
 
 -- the fault is the first of the bytes; want of memory may come at any time
+abbrev pub IsFaultBy : Closed → List ℕ → OpenFault → Type 0
+IsFaultBy closed bytes (fault.NotJson place) = IsNotJson bytes
+IsFaultBy closed bytes (fault.TooDeep place) =
+    IsNotJson bytes ⊎ StopsBy closed bytes (too_deep place)
+IsFaultBy closed bytes fault.NotTopology = StopsBy closed bytes not_topology
+IsFaultBy closed bytes (fault.BadMember name) = StopsBy closed bytes (bad_member name.text.now)
+IsFaultBy closed bytes (fault.Duplicate name) = StopsBy closed bytes (duplicate name.text.now)
+IsFaultBy closed bytes (fault.Unsupported name) = StopsBy closed bytes (unsupported name.text.now)
+IsFaultBy closed bytes (fault.NotWhole place) = StopsBy closed bytes (not_whole place)
+IsFaultBy closed bytes (fault.OutOfRange place) = StopsBy closed bytes (out_of_range place)
+IsFaultBy closed bytes (fault.BadPosition place) = StopsBy closed bytes (bad_position place)
+IsFaultBy closed bytes (fault.BadArcIndex place) = StopsBy closed bytes (bad_arc_index place)
+IsFaultBy closed bytes (fault.ArcsDoNotMeet ring) = StopsBy closed bytes (arcs_do_not_meet ring)
+IsFaultBy closed bytes (fault.RingShort ring) = StopsBy closed bytes (ring_short ring)
+IsFaultBy closed bytes (fault.RingRepeats ring p) = StopsBy closed bytes (ring_repeats ring p)
+IsFaultBy closed bytes (fault.Conflict s t) =
+    (o : Opened) × OpensBy closed bytes o × (first_pair (document_of o) ≡ Some (s, t))
+IsFaultBy closed bytes (fault.TooLarge limit.Bytes) = 67108864 < length bytes
+IsFaultBy closed bytes (fault.TooLarge limit.Features) =
+    StopsBy closed bytes (too_large limit.Features)
+IsFaultBy closed bytes (fault.TooLarge limit.Positions) =
+    StopsBy closed bytes (too_large limit.Positions)
+IsFaultBy closed bytes fault.OutOfMemory = Unit {0}
+
 abbrev pub IsFault : List ℕ → OpenFault → Type 0
-IsFault bytes (fault.NotJson place) = IsNotJson bytes
-IsFault bytes (fault.TooDeep place) = IsNotJson bytes ⊎ Stops bytes (too_deep place)
-IsFault bytes fault.NotTopology = Stops bytes not_topology
-IsFault bytes (fault.BadMember name) = Stops bytes (bad_member name.text.now)
-IsFault bytes (fault.Duplicate name) = Stops bytes (duplicate name.text.now)
-IsFault bytes (fault.Unsupported name) = Stops bytes (unsupported name.text.now)
-IsFault bytes (fault.NotWhole place) = Stops bytes (not_whole place)
-IsFault bytes (fault.OutOfRange place) = Stops bytes (out_of_range place)
-IsFault bytes (fault.BadPosition place) = Stops bytes (bad_position place)
-IsFault bytes (fault.BadArcIndex place) = Stops bytes (bad_arc_index place)
-IsFault bytes (fault.ArcsDoNotMeet ring) = Stops bytes (arcs_do_not_meet ring)
-IsFault bytes (fault.RingShort ring) = Stops bytes (ring_short ring)
-IsFault bytes (fault.RingRepeats ring p) = Stops bytes (ring_repeats ring p)
-IsFault bytes (fault.Conflict s t) =
-    (o : Opened) × Opens bytes o × (first_pair (document_of o) ≡ Some (s, t))
-IsFault bytes (fault.TooLarge limit.Bytes) = 67108864 < length bytes
-IsFault bytes (fault.TooLarge limit.Features) = Stops bytes (too_large limit.Features)
-IsFault bytes (fault.TooLarge limit.Positions) = Stops bytes (too_large limit.Positions)
-IsFault bytes fault.OutOfMemory = Unit {0}
+IsFault bytes f = IsFaultBy Rings bytes f
+
+abbrev pub IsWalkFault : List ℕ → OpenFault → Type 0
+IsWalkFault bytes f = IsFaultBy Walks bytes f
 
 -- where a text stops to be the front of a JSON text, or where a bracket opens level 101
+abbrev pub IsPlaceBy : Closed → List ℕ → OpenFault → Type 0
+IsPlaceBy closed bytes (fault.NotJson place) = verdict bytes ≡ verdicts.not_json place
+IsPlaceBy closed bytes (fault.TooDeep place) =
+    (verdict bytes ≡ verdicts.too_deep place) ⊎ StopsBy closed bytes (too_deep place)
+IsPlaceBy closed bytes _ = Unit {0}
+
 abbrev pub IsPlace : List ℕ → OpenFault → Type 0
-IsPlace bytes (fault.NotJson place) = verdict bytes ≡ verdicts.not_json place
-IsPlace bytes (fault.TooDeep place) =
-    (verdict bytes ≡ verdicts.too_deep place) ⊎ Stops bytes (too_deep place)
-IsPlace bytes _ = Unit {0}
+IsPlace bytes f = IsPlaceBy Rings bytes f
+
+abbrev pub IsWalkPlace : List ℕ → OpenFault → Type 0
+IsWalkPlace bytes f = IsPlaceBy Walks bytes f

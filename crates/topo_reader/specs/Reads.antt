@@ -11,6 +11,8 @@ use Rattle.ring_machine.specs.Ring.{canonical}
 use Rattle.ring_machine.specs.Document.{Form, Polygon, MultiPolygon, Null, Document}
 use Rattle.topo_outline.specs.Layers.{OutlineText, leaves}
 use Rattle.topo_outline.specs.IsOutline.{IsOutline}
+use Rattle.topo_reader.specs.declared.rings.Closed.{Closed}
+use Rattle.topo_reader.specs.declared.rings.Closed.TheVariants.{Rings, Walks}
 use Rattle.topo_reader.specs.Arcs.{Arc, origin}
 use Rattle.topo_reader.specs.Sizes.{size}
 use Rattle.topo_reader.specs.Document.{Polygons, document_of}
@@ -75,7 +77,7 @@ GeometryUses arcs (Polygon, n) polygons =
     (rings : List (List Arc)) × PolygonUses arcs n rings × (polygons ≡ rings ∷ [])
 GeometryUses arcs (MultiPolygon, n) polygons = IsListFor (PolygonUses arcs) n polygons
 
--- ---- rings (TopoJSON 1.0, 2.1.4; RFC 7946, 3.1.6)
+-- ---- walks and rings (TopoJSON 1.0, 2.1.4; RFC 7946, 3.1.6)
 
 -- the arc begins at p and ends at q
 pub record Leads (p : Position) (a : Arc) (q : Position) : Type 0 where
@@ -98,9 +100,15 @@ pub data Once : List Position → List Position → Type 0 where
   next : {p q : Position} {ps qs : List Position} →
       p ≢ q → Once (q ∷ ps) qs → Once (p ∷ q ∷ ps) (p ∷ qs)
 
--- the arcs lead from a position back to it; their positions, equal neighbours taken once and
--- without the last, which is the first, are at least three, all different; in the document
--- the ring begins at its least one
+-- a walk: the arcs lead from a position back to it; the walk has their positions, equal neighbours
+-- taken once and without the last, which is the first. No arcs make the walk of no positions
+pub data IsWalk : List Arc → List Position → Type 0 where
+  nowhere : IsWalk [] []
+  around : {start : Position} {uses : List Arc} {walk : List Position} → Chain start uses start
+      → Once (flat_map (λ a. a) uses) (walk ++ start ∷ []) → IsWalk uses walk
+
+-- a ring: a walk with at least three corners, all different; in the document it begins at its least
+-- one
 pub record IsRing (uses : List Arc) (ring : List Position) : Type 0 where
   pub start : Position
   pub corners : List Position
@@ -110,14 +118,25 @@ pub record IsRing (uses : List Arc) (ring : List Position) : Type 0 where
   pub different : AllPairs (λ p q. p ≢ q) corners
   pub turned : ring ≡ canonical corners
 
+-- what the arcs of a ring are read as
+abbrev pub IsClosed : Closed → List Arc → List Position → Type 0
+IsClosed Rings = IsRing
+IsClosed Walks = IsWalk
+
 -- by polygon and ring
+abbrev pub AreClosed :
+    (List Arc → List Position → Type 0) → List (List (List Arc)) → Polygons → Type 0
+AreClosed IsOne uses polygons = AllZip (AllZip IsOne) uses polygons
+
 abbrev pub AreRings : List (List (List Arc)) → Polygons → Type 0
-AreRings uses polygons = AllZip (AllZip IsRing) uses polygons
+AreRings uses polygons = AreClosed IsRing uses polygons
 
 -- ---- the topology (TopoJSON 1.0, 2.1)
 
--- the bytes are a value with space round it (RFC 8259, 2), and the value means the document
-pub record Reads (bytes : List ℕ) (d : Document) : Type 0 where
+-- the bytes are a value with space round it (RFC 8259, 2), and the value means the document, where
+-- the arcs of each ring mean what IsOne says
+pub record ReadsBy (IsOne : List Arc → List Position → Type 0) (bytes : List ℕ) (d : Document)
+    : Type 0 where
   pub levels : ℕ
   pub root : Node
   pub json : Padded (IsValue levels) 0 bytes root
@@ -128,7 +147,7 @@ pub record Reads (bytes : List ℕ) (d : Document) : Type 0 where
   pub topology : IsOutline root shape
   pub arcs_are : AreArcs (is_some shape.transform) shape.arcs arcs
   pub uses_are : AllZip (GeometryUses arcs) (leaves shape.layers) uses
-  pub rings_are : AllZip AreRings uses polygons
+  pub rings_are : AllZip (AreClosed IsOne) uses polygons
   pub document : d ≡ document_of (record {
     transform = shape.transform;
     layers = shape.layers;
@@ -136,9 +155,17 @@ pub record Reads (bytes : List ℕ) (d : Document) : Type 0 where
     polygons = polygons;
   })
 
+-- with rings, and with walks in their place
+abbrev pub Reads : List ℕ → Document → Type 0
+Reads bytes d = ReadsBy IsRing bytes d
+
+abbrev pub ReadsWalks : List ℕ → Document → Type 0
+ReadsWalks bytes d = ReadsBy IsWalk bytes d
+
 -- what is read is within the limits: bytes, lists and objects one in another, features, and
 -- the positions of the arcs, counted for each use
-pub record Fits {bytes : List ℕ} {d : Document} (reading : Reads bytes d) : Type 0 where
+pub record Fits {IsOne : List Arc → List Position → Type 0} {bytes : List ℕ} {d : Document}
+    (reading : ReadsBy IsOne bytes d) : Type 0 where
   pub short : length bytes ≤ 67108864
   pub flat : Json 100 bytes
   pub few : length (leaves reading.shape.layers) ≤ 200000

@@ -1,10 +1,12 @@
--- Rings from the arcs that they use.
+-- Walks and rings from the arcs that they use.
 use Rattle.std.specs.Prelude.{ℕ, ◌-◌, ◌&&◌, List, [], ◌∷◌, ◌++◌, length, take, Bool, true, false, nat_le, if◌then◌else◌, Option, Some, None, Result, Ok, Err, reverse}
 use Rattle.grid_geometry.specs.Position.{Position, position_eq}
 use Rattle.ring_machine.specs.Ring.{has, canonical}
 use Rattle.topo_outline.specs.declared.fault.RingAt.{RingAt}
+use Rattle.topo_outline.specs.Faults.{Fault, arcs_do_not_meet, ring_short, ring_repeats, ◌>>=◌, each_at, demand}
+use Rattle.topo_reader.specs.declared.rings.Closed.{Closed}
+use Rattle.topo_reader.specs.declared.rings.Closed.TheVariants.{Rings, Walks}
 use Rattle.topo_reader.specs.Arcs.{Arc}
-use Rattle.topo_outline.specs.Faults.{Fault, arcs_do_not_meet, ring_short, ring_repeats, each_at, demand}
 
 abbrev pub is_at : Option Position → Position → Bool
 is_at None p = false
@@ -66,26 +68,41 @@ unfoldable pub first_repeat : List Position → List Position → Option Positio
 first_repeat seen [] = None
 first_repeat seen (p ∷ ps) = if has seen p then Some p else first_repeat (seen ++ p ∷ []) ps
 
+-- a walk: its arcs meet
+unfoldable pub walk_of : RingAt → List Arc → Result (List Position) Fault
+walk_of at_ring uses = demand (meet uses) (arcs_do_not_meet at_ring) (Ok (joined uses))
+
 -- a ring of distinct positions begins at its least one
 abbrev pub distinct : RingAt → List Position → Option Position → Result (List Position) Fault
 distinct at_ring ring None = Ok (canonical ring)
 distinct at_ring ring (Some p) = Err (ring_repeats at_ring p)
 
--- a ring: its arcs meet, at least three positions remain, and none stood before (RFC 7946, 3.1.6)
-unfoldable pub ring_of : RingAt → List Arc → Result (List Position) Fault
-ring_of at_ring uses =
-    demand (meet uses) (arcs_do_not_meet at_ring)
-    (demand (nat_le 3 (length (joined uses))) (ring_short at_ring)
-    (distinct at_ring (joined uses) (first_repeat [] (joined uses))))
+-- a walk of at least three positions, of which none stood before (RFC 7946, 3.1.6)
+abbrev pub simple : RingAt → List Position → Result (List Position) Fault
+simple at_ring walk =
+    demand (nat_le 3 (length walk)) (ring_short at_ring)
+    (distinct at_ring walk (first_repeat [] walk))
 
-unfoldable pub polygon_of : ℕ → ℕ → List (List Arc) → Result (List (List Position)) Fault
-polygon_of f p rings =
-    each_at (λ r. ring_of (record { feature = f; polygon = p; ring = r })) 0 rings
+-- a ring: a walk that is simple
+unfoldable pub ring_of : RingAt → List Arc → Result (List Position) Fault
+ring_of at_ring uses = do
+  walk ← walk_of at_ring uses
+  simple at_ring walk
+
+-- a ring, or a walk
+abbrev pub closed_of : Closed → RingAt → List Arc → Result (List Position) Fault
+closed_of Rings at_ring uses = ring_of at_ring uses
+closed_of Walks at_ring uses = walk_of at_ring uses
+
+-- those of a polygon, of a feature, and of all features
+unfoldable pub polygon_of : Closed → ℕ → ℕ → List (List Arc) → Result (List (List Position)) Fault
+polygon_of closed f p rings =
+    each_at (λ r. closed_of closed (record { feature = f; polygon = p; ring = r })) 0 rings
 
 unfoldable pub feature_of :
-    ℕ → List (List (List Arc)) → Result (List (List (List Position))) Fault
-feature_of f polygons = each_at (polygon_of f) 0 polygons
+    Closed → ℕ → List (List (List Arc)) → Result (List (List (List Position))) Fault
+feature_of closed f polygons = each_at (polygon_of closed f) 0 polygons
 
 unfoldable pub all_rings :
-    List (List (List (List Arc))) → Result (List (List (List (List Position)))) Fault
-all_rings features = each_at feature_of 0 features
+    Closed → List (List (List (List Arc))) → Result (List (List (List (List Position)))) Fault
+all_rings closed features = each_at (feature_of closed) 0 features

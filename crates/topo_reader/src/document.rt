@@ -16,6 +16,7 @@ pub struct RawDoc<'a, A: Allocator + Copy = Global> {
     /// The members that are neither known nor a `bbox`, in order.
     pub members: Vec<KeptMember<'a>, A>,
     /// By feature the polygons, each an outer ring and its holes (RFC 7946, 3.1.6). A ring begins at
-    /// its least position, and does not repeat it at its end.
+    /// its least position, and does not repeat it at its end. Where walks were read, they stand in the
+    /// place of rings, each begun where its first arc is.
     pub polygons: Vec<Vec<Vec<Vec<Pos, A>, A>, A>, A>,
 }

@@ -1,4 +1,4 @@
-//! From the bytes of a topology to its rings, or the first fault.
+//! From the bytes of a topology to its rings, or to their walks, or the first fault.
 #![tactic(auto)]
 
 mod arcs;
@@ -10,4 +10,4 @@ mod reading;
 mod rings;
 
 pub use document::RawDoc;
-pub use reading::read;
+pub use reading::{read, read_walks};

@@ -5,17 +5,17 @@ ghost use Rattle.json_spans.specs.Left.{node};
 ghost use Rattle.topo_outline.specs.Gives.{Gives};
 ghost use Rattle.topo_outline.specs.OutlineView.{view_outline, IsPlaced};
 ghost use Rattle.ring_machine.specs.Document.{Document};
-ghost use Rattle.topo_reader.specs.Document.{document_of, IsOfRings};
+ghost use Rattle.topo_reader.specs.Document.{document_of, IsOfRings, IsOfWalks};
 ghost use Rattle.topo_reader.specs.DocumentView.{view_raw};
-ghost use Rattle.topo_reader.specs.Opening.{polygons_read, opening, Opens, IsFault, IsPlace};
-ghost use Rattle.topo_reader.specs.Reads.{Reads, Fits};
+ghost use Rattle.topo_reader.specs.Opening.{polygons_read, opening, OpensBy, Opens, OpensWalks, IsFaultBy, IsFault, IsWalkFault, IsPlaceBy, IsPlace, IsWalkPlace};
+ghost use Rattle.topo_reader.specs.Reads.{IsClosed, ReadsBy, Reads, ReadsWalks, Fits};
 ghost use Rattle.topo_reader.specs.Uses.{feature_positions};
 
 use crate::arcs::arcs;
 use crate::document::RawDoc;
 use crate::indexes::uses;
 use crate::limits::fit;
-use crate::rings::all_rings;
+use crate::rings::{Closed, all_rings};
 use grid_geometry::Pos;
 use json_spans::{ScanFault, Span, scan};
 use std::alloc::{Allocator, Global};
@@ -27,11 +27,12 @@ const MAX_BYTES: usize = 67_108_864;
 /// The polygons of all features.
 fn polygons<'a, A: Allocator + Copy>(
     alloc: A,
+    closed: Closed,
     outline: &Outline<'a, A>,
 ) -> Result<Vec<Vec<Vec<Vec<Pos, A>, A>, A>, A>, OpenFault<'a>>
     requires { IsPlaced outline.now }
     ensures { Gives (λ v. map feature_positions v.items) result
-        (polygons_read (view_outline outline.now)) }
+        (polygons_read closed (view_outline outline.now)) }
 {
     let arcs = match arcs(alloc, outline.transform.is_some(), outline.arcs) {
         Ok(arcs) => arcs,
@@ -46,22 +47,23 @@ fn polygons<'a, A: Allocator + Copy>(
             what: Limit::Positions,
         });
     }
-    all_rings(alloc, uses.as_slice())
+    all_rings(alloc, closed, uses.as_slice())
 }
 
 /// The topology whose root this is.
 fn opened<'a, A: Allocator + Copy>(
     alloc: A,
     heap: Global,
+    closed: Closed,
     root: Span<'a>,
 ) -> Result<RawDoc<'a, A>, OpenFault<'a>>
-    ensures { Gives view_raw result (opening (node root.entry)) }
+    ensures { Gives view_raw result (opening closed (node root.entry)) }
 {
     let outline = match read_outline(alloc, heap, root) {
         Ok(outline) => outline,
         Err(fault) => return Err(fault),
     };
-    match polygons(alloc, &outline) {
+    match polygons(alloc, closed, &outline) {
         Ok(polygons) => Ok(RawDoc {
             transform: outline.transform,
             layers: outline.layers,
@@ -69,6 +71,34 @@ fn opened<'a, A: Allocator + Copy>(
             polygons,
         }),
         Err(fault) => Err(fault),
+    }
+}
+
+/// The topology that the bytes are, with rings or with walks, or its first fault.
+fn read_closed<'a, A: Allocator + Copy>(
+    alloc: A,
+    heap: Global,
+    closed: Closed,
+    bytes: &'a [u8],
+) -> Result<RawDoc<'a, A>, OpenFault<'a>>
+    ensures opened { IfOk result (λ raw. OpensBy closed bytes.now (view_raw raw)) }
+    ensures refused { IfErr result (λ fault. IsFaultBy closed bytes.now fault) }
+    ensures places { IfErr result (λ fault. IsPlaceBy closed bytes.now fault) }
+    ensures reads { IfOk result (λ raw.
+        (reading : ReadsBy (IsClosed closed) bytes.now (document_of (view_raw raw))) × Fits reading) }
+    ensures only { IfOk result (λ raw. (d : Document) → ReadsBy (IsClosed closed) bytes.now d →
+        d ≡ document_of (view_raw raw)) }
+    ensures unread { IfErr result (λ fault. fault ≢ OpenFault.OutOfMemory →
+        ¬ ((d : Document) × (reading : ReadsBy (IsClosed closed) bytes.now d) × Fits reading)) }
+{
+    if bytes.len() > MAX_BYTES {
+        return Err(OpenFault::TooLarge { what: Limit::Bytes });
+    }
+    match scan(alloc, bytes) {
+        Ok(root) => opened(alloc, heap, closed, root.span()),
+        Err(ScanFault::NotJson { place }) => Err(OpenFault::NotJson { place }),
+        Err(ScanFault::TooDeep { place }) => Err(OpenFault::TooDeep { place }),
+        Err(ScanFault::OutOfMemory) => Err(OpenFault::OutOfMemory),
     }
 }
 
@@ -98,13 +128,33 @@ pub fn read<'a, A: Allocator + Copy>(
     ensures unread { IfErr result (λ fault. fault ≢ OpenFault.OutOfMemory →
         ¬ ((d : Document) × (reading : Reads bytes.now d) × Fits reading)) }
 {
-    if bytes.len() > MAX_BYTES {
-        return Err(OpenFault::TooLarge { what: Limit::Bytes });
-    }
-    match scan(alloc, bytes) {
-        Ok(root) => opened(alloc, heap, root.span()),
-        Err(ScanFault::NotJson { place }) => Err(OpenFault::NotJson { place }),
-        Err(ScanFault::TooDeep { place }) => Err(OpenFault::TooDeep { place }),
-        Err(ScanFault::OutOfMemory) => Err(OpenFault::OutOfMemory),
-    }
+    read_closed(alloc, heap, Closed::Rings, bytes)
+}
+
+/// The topology that the bytes are, with walks in the place of rings, or its first fault.
+///
+/// This is `read` without the tests of its last phase: the arcs of a ring must meet (TopoJSON 1.0,
+/// 2.1.4), and it may have fewer than three positions, and pass more than once through one. Its walk
+/// is the positions of its arcs in order, from the first position of the first arc on, equal
+/// neighbours once and without the last one, which is the first again: no two neighbours are equal,
+/// nor the last and the first. A walk that stays in one place has no positions, and one with at least
+/// three, all different, is a ring, begun anywhere. So `RingShort` and `RingRepeats` never come; all
+/// other faults come as those of `read` do.
+pub fn read_walks<'a, A: Allocator + Copy>(
+    alloc: A,
+    heap: Global,
+    bytes: &'a [u8],
+) -> Result<RawDoc<'a, A>, OpenFault<'a>>
+    ensures opened { IfOk result (λ raw. OpensWalks bytes.now (view_raw raw)) }
+    ensures of_walks { IfOk result (λ raw. IsOfWalks (view_raw raw)) }
+    ensures refused { IfErr result (λ fault. IsWalkFault bytes.now fault) }
+    ensures places { IfErr result (λ fault. IsWalkPlace bytes.now fault) }
+    ensures reads { IfOk result (λ raw.
+        (reading : ReadsWalks bytes.now (document_of (view_raw raw))) × Fits reading) }
+    ensures only { IfOk result (λ raw. (d : Document) → ReadsWalks bytes.now d →
+        d ≡ document_of (view_raw raw)) }
+    ensures unread { IfErr result (λ fault. fault ≢ OpenFault.OutOfMemory →
+        ¬ ((d : Document) × (reading : ReadsWalks bytes.now d) × Fits reading)) }
+{
+    read_closed(alloc, heap, Closed::Walks, bytes)
 }

@@ -1,10 +1,10 @@
-// Rings from the arcs that they use (TopoJSON 1.0, 2.1.3; RFC 7946, 3.1.6).
+// Walks and rings from the arcs that they use (TopoJSON 1.0, 2.1.3; RFC 7946, 3.1.6).
 ghost use Rattle.std.specs.Prelude.{◌≡◌, map, OnOk, IfOk, None, Some, ◌++◌, [], ◌∷◌, reverse, not, true};
 ghost use Rattle.grid_geometry.specs.Position.{Position};
 ghost use Rattle.ring_machine.specs.Ring.{has, canonical};
 ghost use Rattle.topo_outline.specs.Gives.{Gives};
 ghost use Rattle.topo_reader.specs.Uses.{arc_of, ring_uses, polygon_uses, feature_uses, positions_of, polygon_positions, feature_positions};
-ghost use Rattle.topo_reader.specs.Rings.{first_of, last_of, meet_from, meet, ends, unless, is_at, starts_at, squeezed, last_after, all_of, joined, first_repeat, ring_of, polygon_of, feature_of, all_rings};
+ghost use Rattle.topo_reader.specs.Rings.{first_of, last_of, meet_from, meet, ends, unless, is_at, starts_at, squeezed, last_after, all_of, joined, first_repeat, walk_of, ring_of, closed_of, polygon_of, feature_of, all_rings};
 
 use crate::indexes::Use;
 use grid_geometry::Pos;
@@ -12,6 +12,15 @@ use ring_parts::begin_at_least;
 use std::alloc::{AllocError, AllocFailed, Allocator};
 use std::collections::BTreeSet;
 use topo_outline::{OpenFault, RingAt};
+
+/// What the arcs of a ring are read as.
+#[derive(Clone, Copy, Debug)]
+pub(crate) enum Closed {
+    /// Walks of three positions or more, none of them twice, begun at the least one.
+    Rings,
+    /// Walks of any length, which may pass more than once through a position.
+    Walks,
+}
 
 /// The positions that a ring has had, ordered: they come from the text, and one who picks them
 /// could make their hashes collide.
@@ -222,6 +231,21 @@ fn repeat_of<A: Allocator + Copy>(alloc: A, ring: &[Pos]) -> Result<Option<Pos>,
     }
 }
 
+/// The walk of the arcs, which must meet.
+#[tactic(auto, unfolding(crate::specs::Rings::walk_of))]
+fn walk_of<'a, A: Allocator + Copy>(
+    alloc: A,
+    ring_at: RingAt,
+    uses: &[Use<'_>],
+) -> Result<Vec<Pos, A>, OpenFault<'a>>
+    ensures { Gives positions_of result (walk_of ring_at (map arc_of uses.now)) }
+{
+    if !meet(uses) {
+        return Err(OpenFault::ArcsDoNotMeet { ring: ring_at });
+    }
+    Ok(joined(alloc, uses)?)
+}
+
 /// The ring of the arcs, begun at its least position.
 #[tactic(auto, unfolding(crate::specs::Rings::ring_of))]
 fn ring_of<'a, A: Allocator + Copy>(
@@ -231,10 +255,10 @@ fn ring_of<'a, A: Allocator + Copy>(
 ) -> Result<Vec<Pos, A>, OpenFault<'a>>
     ensures { Gives positions_of result (ring_of ring_at (map arc_of uses.now)) }
 {
-    if !meet(uses) {
-        return Err(OpenFault::ArcsDoNotMeet { ring: ring_at });
-    }
-    let mut ring = joined(alloc, uses)?;
+    let mut ring = match walk_of(alloc, ring_at, uses) {
+        Ok(walk) => walk,
+        Err(fault) => return Err(fault),
+    };
     if ring.len() < 3 {
         return Err(OpenFault::RingShort { ring: ring_at });
     }
@@ -247,15 +271,30 @@ fn ring_of<'a, A: Allocator + Copy>(
     }
 }
 
+fn closed_of<'a, A: Allocator + Copy>(
+    alloc: A,
+    closed: Closed,
+    ring_at: RingAt,
+    uses: &[Use<'_>],
+) -> Result<Vec<Pos, A>, OpenFault<'a>>
+    ensures { Gives positions_of result (closed_of closed ring_at (map arc_of uses.now)) }
+{
+    match closed {
+        Closed::Rings => ring_of(alloc, ring_at, uses),
+        Closed::Walks => walk_of(alloc, ring_at, uses),
+    }
+}
+
 #[tactic(auto, unfolding(crate::specs::Rings::polygon_of))]
 fn polygon_of<'a, A: Allocator + Copy>(
     alloc: A,
+    closed: Closed,
     feature: usize,
     polygon: usize,
     rings: &[Vec<Use<'_>, A>],
 ) -> Result<Vec<Vec<Pos, A>, A>, OpenFault<'a>>
     ensures { Gives polygon_positions result
-        (polygon_of feature polygon (map ring_uses rings.now)) }
+        (polygon_of closed feature polygon (map ring_uses rings.now)) }
 {
     let mut found = Vec::new(alloc);
     for (ring, uses) in rings.iter().enumerate() {
@@ -264,7 +303,7 @@ fn polygon_of<'a, A: Allocator + Copy>(
             polygon,
             ring,
         };
-        match ring_of(alloc, ring_at, uses.as_slice()) {
+        match closed_of(alloc, closed, ring_at, uses.as_slice()) {
             Ok(one) => found.push(one)?,
             Err(fault) => return Err(fault),
         }
@@ -275,14 +314,15 @@ fn polygon_of<'a, A: Allocator + Copy>(
 #[tactic(auto, unfolding(crate::specs::Rings::feature_of))]
 fn feature_of<'a, A: Allocator + Copy>(
     alloc: A,
+    closed: Closed,
     feature: usize,
     polygons: &[Vec<Vec<Use<'_>, A>, A>],
 ) -> Result<Vec<Vec<Vec<Pos, A>, A>, A>, OpenFault<'a>>
-    ensures { Gives feature_positions result (feature_of feature (map polygon_uses polygons.now)) }
+    ensures { Gives feature_positions result (feature_of closed feature (map polygon_uses polygons.now)) }
 {
     let mut found = Vec::new(alloc);
     for (polygon, rings) in polygons.iter().enumerate() {
-        match polygon_of(alloc, feature, polygon, rings.as_slice()) {
+        match polygon_of(alloc, closed, feature, polygon, rings.as_slice()) {
             Ok(one) => found.push(one)?,
             Err(fault) => return Err(fault),
         }
@@ -290,18 +330,19 @@ fn feature_of<'a, A: Allocator + Copy>(
     Ok(found)
 }
 
-/// The rings of all features, by feature, polygon and ring.
+/// The rings of all features, or the walks, by feature, polygon and ring.
 #[tactic(auto, unfolding(crate::specs::Rings::all_rings))]
 pub(crate) fn all_rings<'a, A: Allocator + Copy>(
     alloc: A,
+    closed: Closed,
     features: &[Vec<Vec<Vec<Use<'_>, A>, A>, A>],
 ) -> Result<Vec<Vec<Vec<Vec<Pos, A>, A>, A>, A>, OpenFault<'a>>
     ensures { Gives (λ v. map feature_positions v.items) result
-        (all_rings (map feature_uses features.now)) }
+        (all_rings closed (map feature_uses features.now)) }
 {
     let mut found = Vec::new(alloc);
     for (feature, polygons) in features.iter().enumerate() {
-        match feature_of(alloc, feature, polygons.as_slice()) {
+        match feature_of(alloc, closed, feature, polygons.as_slice()) {
             Ok(one) => found.push(one)?,
             Err(fault) => return Err(fault),
         }

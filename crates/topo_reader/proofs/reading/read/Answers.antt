@@ -1,19 +1,6 @@
-use Rattle.std.proofs.Common.{ap, ◌∙◌, arith}
-use Rattle.json_spans.specs.Left.{node}
 use Rattle.topo_reader.specs.DocumentView.{view_raw}
-use Rattle.topo_reader.proofs.MeaningOfText.{gives_read, gives_unread}
-use Rattle.topo_reader.proofs.OfRings.{gives_of_rings}
-use Rattle.topo_reader.proofs.OneReading.{gives_only}
+use Rattle.topo_reader.proofs.OfRings.{answers_of_rings}
 use Rattle.topo_reader.proofs.reading.read.Goals as goal
 
-pub returns-in-Ok-clause-reads : goal.returns-in-Ok-clause-reads
-returns-in-Ok-clause-reads g c = gives_read view_raw c.args.bytes.now c.opened.result (node c.span.result) (ap node c.span.ensures ∙ c.in-Ok.ensures.span) (omega (arith, c.if-bytes-gt-MAX_BYTES.false)) c.in-Ok.ensures.json c.opened.ensures
-
-pub returns-in-Ok-clause-of_rings : goal.returns-in-Ok-clause-of_rings
-returns-in-Ok-clause-of_rings g c = gives_of_rings view_raw c.args.bytes.now c.opened.result (node c.span.result) c.opened.ensures (returns-in-Ok-clause-reads g c)
-
-pub returns-in-Ok-clause-unread : goal.returns-in-Ok-clause-unread
-returns-in-Ok-clause-unread g c = gives_unread view_raw c.args.bytes.now c.opened.result (node c.span.result) (ap node c.span.ensures ∙ c.in-Ok.ensures.span) c.opened.ensures
-
-pub returns-in-Ok-clause-only : goal.returns-in-Ok-clause-only
-returns-in-Ok-clause-only g c = gives_only view_raw c.args.bytes.now c.opened.result (returns-in-Ok-clause-reads g c)
+pub returns-clause-of_rings : goal.returns-clause-of_rings
+returns-clause-of_rings g c = answers_of_rings view_raw c.args.bytes.now c.read_closed.result c.read_closed.ensures.opened

@@ -6,4 +6,4 @@ use Rattle.topo_reader.specs.Uses.{feature_uses, feature_positions}
 use Rattle.topo_reader.proofs.rings.all_rings.Given as goal
 
 abbrev pub invariant-loop-feature : goal.invariant-loop-feature
-invariant-loop-feature g l = with_front (map feature_positions l.found.items) (each_at feature_of l.feature (map feature_uses (drop l.feature l.features))) ≡ each_at feature_of 0 (map feature_uses l.fn.features)
+invariant-loop-feature g l = with_front (map feature_positions l.found.items) (each_at (feature_of l.closed) l.feature (map feature_uses (drop l.feature l.features))) ≡ each_at (feature_of l.fn.closed) 0 (map feature_uses l.fn.features)
