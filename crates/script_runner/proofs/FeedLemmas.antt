@@ -129,9 +129,12 @@ no_line_kept p a line = none_kept p a (line ++ 10 ∷ []) (omega (arith, length-
 pub line_fed : (old new : Option (List ℕ)) (p q s r : Progress) (line : List ℕ) → Feeds p line [] q → s ≡ record q { bytes = q.bytes + 1 } → Told old new (λ text. LineStep true s text r)
     → r.bytes ≡ s.bytes → Told old new (λ text. Feeds p (line ++ 10 ∷ []) text r)
 line_fed old new p q s r line f same told n =
-    let (text, put, step) = told in
-    (text, put, Feeds-more line p q r [] text 10 f
-    (fed_line q r 10 text refl (subst (λ (u : Progress). LineStep true u text r) same step) (n ∙ ap (λ (u : Progress). u.bytes) same)))
+    let (text, put, step) = told in (
+      text,
+      put,
+      Feeds-more line p q r [] text 10 f
+          (fed_line q r 10 text refl (subst (λ (u : Progress). LineStep true u text r) same step) (n ∙ ap (λ (u : Progress). u.bytes) same)),
+    )
 
 -- of the answer no more was put than a part
 pub line_part : (old new : Option (List ℕ)) (p q s : Progress) (line : List ℕ) → Feeds p line [] q → s ≡ record q { bytes = q.bytes + 1 } → PutsPart true s old new
