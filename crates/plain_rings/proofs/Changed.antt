@@ -20,7 +20,7 @@ use Rattle.topo_reader.specs.Document.{Opened, document_of}
 use Rattle.topo_reader.specs.DocumentView.{view_raw}
 use Rattle.plain_rings.specs.Plain.{IsPlain}
 use Rattle.plain_rings.specs.Rings.{held}
-use Rattle.plain_rings.proofs.Documents.{rings_changed}
+use Rattle.topo_reader.proofs.RingsChanged.{rings_changed}
 use Rattle.plain_rings.proofs.EditedRings.{del_fewer}
 
 -- each ring of what is held changed

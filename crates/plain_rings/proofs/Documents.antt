@@ -6,12 +6,12 @@ use Rattle.std.proofs.lemmas.List.{length-map, map-append, length-append}
 use Rattle.std.proofs.lemmas.List.Folds.{flat_map-map}
 use Rattle.std.proofs.lemmas.Option.{slice_get-map}
 use Rattle.grid_geometry.specs.Position.{Position}
-use Rattle.ring_machine.specs.Document.{Feature, Item, Layer, Open, Close, Leaf, Kept}
-use Rattle.ring_machine.specs.Parts.{feature_of, features, feature, has_feature, rings, in_feature, in_item, in_layer, in_rings}
+use Rattle.ring_machine.specs.Document.{Feature, Item, Layer}
+use Rattle.ring_machine.specs.Parts.{feature_of, features, feature, has_feature, rings}
 use Rattle.ring_machine.specs.Refusals.{or_else, feature_at, no_feature}
 use Rattle.topo_outline.specs.Shape.{Piece, starts, ends, leaf, text, LayerText}
 use Rattle.topo_outline.specs.Outline.{leaves_in, leaves}
-use Rattle.topo_reader.specs.Document.{Opened, polygons_at, numbered, items_from, layers_from, document_of}
+use Rattle.topo_reader.specs.Document.{Opened, polygons_at, items_from, layers_from, document_of}
 
 abbrev pub Polygons : Type 0
 Polygons = List (List (List Position))
@@ -165,33 +165,3 @@ module _ (o : Opened) (counted : length o.polygons ≡ length (leaves o.layers))
       of_some : (f : Option Feature) → option_map (λ f. f.polygons) f ≡ Some ps → (or_else no_feature f).polygons ≡ ps
       of_some None h = absurd cc
       of_some (Some f) h = cc
-
--- ---- each ring changed
-
-module _ (g : List Position → List Position) where
-  abbrev changed : Polygons → Polygons
-  changed ps = map (map g) ps
-
-  polygons-changed : (all : List Polygons) (n : ℕ) → polygons_at (map changed all) n ≡ changed (polygons_at all n)
-  polygons-changed all n = ap (λ ps. unwrap_or ps []) (slice_get-map changed all n) ∙ by (slice_get all n)
-    where
-      by : (ps : Option Polygons) → unwrap_or (option_map changed ps) [] ≡ changed (unwrap_or ps [])
-      by None = refl
-      by (Some ps) = refl
-
-  items-changed : (n : ℕ) (all : List Polygons) (ps : List Piece) → map (in_item (in_feature g)) (items_from n all ps) ≡ items_from n (map changed all) ps
-  items-changed n all [] = refl
-  items-changed n all (starts head ∷ ps) = ap (λ z. in_item (in_feature g) (Open head) ∷ z) (items-changed n all ps)
-  items-changed n all (ends ∷ ps) = ap (λ z. Close ∷ z) (items-changed n all ps)
-  items-changed n all (text t ∷ ps) = ap (λ z. Kept t ∷ z) (items-changed n all ps)
-  items-changed n all (leaf form head arcs ∷ ps) =
-      ap₂ (λ qs z. Leaf (numbered n form head qs) ∷ z) (sym (polygons-changed all n)) (items-changed (n + 1) all ps)
-
-  layers-changed : (n : ℕ) (all : List Polygons) (ls : List LayerText) → map (in_layer (map (in_item (in_feature g)))) (layers_from n all ls) ≡ layers_from n (map changed all) ls
-  layers-changed n all [] = refl
-  layers-changed n all (l ∷ ls) =
-      ap₂ (λ is z. record { name = l.name; items = is } ∷ z) (items-changed n all l.pieces) (layers-changed (n + length (leaves_in l.pieces)) all ls)
-
-  -- the document with each ring changed is that of the changed polygons
-  pub rings_changed : (o : Opened) → in_rings g (document_of o) ≡ document_of (record o { polygons = map changed o.polygons })
-  rings_changed o = ap (λ ls. record { transform = o.transform; layers = ls; members = o.members }) (layers-changed 0 o.polygons o.layers)

@@ -1,11 +1,11 @@
 -- Lists of rings, a ring at a time, however the code holds them.
-use Rattle.std.proofs.Common.{◌≡◌, ℕ, zero, suc, ◌+◌, ◌<◌, ◌≤◌, Bool, true, false, refl, sym, ap, ap₂, ◌∙◌, List, [], ◌∷◌, ◌++◌, map, length, take, drop, get_or, ◌-◌, arith, ◌||◌, ◌&&◌, Some}
+use Rattle.std.proofs.Common.{◌≡◌, ℕ, zero, suc, ◌+◌, ◌<◌, ◌≤◌, Bool, true, false, refl, sym, ap, ap₂, ◌∙◌, List, [], ◌∷◌, ◌++◌, map, length, take, drop, get_or, ◌-◌, arith, ◌&&◌, Some}
 use Rattle.std.specs.Prelude.{slice_get, sum_by}
 use Rattle.std.specs.List.{list_all, list_any, fold}
 use Rattle.std.proofs.lemmas.List.Sums.{sum_by-cons}
 use Rattle.std.proofs.lemmas.Bool.{false≢true}
-use Rattle.std.proofs.lemmas.List.{take_more, take_all, map-append, length-map}
-use Rattle.std.proofs.lemmas.List.Folds.{list_all-map, list_all_at, list_any-append, list_all-append}
+use Rattle.std.proofs.lemmas.List.{take_all, length-map}
+use Rattle.std.proofs.lemmas.List.Folds.{list_all-map, list_all_at, list_all-append}
 use Rattle.grid_geometry.specs.Position.{Position, position_eq}
 use Rattle.ring_machine.specs.Ring.{has, is_ring}
 use Rattle.ring_machine.proofs.Removal.{position_eq-sym}

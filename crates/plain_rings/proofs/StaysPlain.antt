@@ -21,7 +21,7 @@ use Rattle.topo_outline.specs.Kept.{KeepsTexts}
 use Rattle.topo_outline.proofs.KeptRings.{keeps-in_rings}
 use Rattle.topo_reader.specs.Document.{Opened, document_of}
 use Rattle.plain_rings.specs.Plain.{IsPlain}
-use Rattle.plain_rings.proofs.Documents.{rings_changed}
+use Rattle.topo_reader.proofs.RingsChanged.{rings_changed}
 
 pub canonical_length : (ps : List Position) → length (canonical ps) ≡ length ps
 canonical_length ps =

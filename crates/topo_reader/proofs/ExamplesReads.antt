@@ -18,6 +18,7 @@ use Rattle.topo_outline.specs.Faults.{arcs_do_not_meet, ring_short, ring_repeats
 use Rattle.topo_outline.specs.IsOutline.{NestsAtMost}
 use Rattle.topo_reader.specs.Positions.{position, positions, arc}
 use Rattle.topo_reader.specs.Arcs.{Arc}
+use Rattle.topo_reader.specs.Document.{is_walk, is_simple}
 use Rattle.topo_reader.specs.Opening.{root_of}
 use Rattle.topo_reader.specs.Rings.{meet_from, ends, squeezed, all_of, first_repeat, walk_of, ring_of}
 use Rattle.topo_reader.specs.Reads.{IsArc, IsUse, forward, backward, IsWalk, IsRing, Reads}
@@ -125,6 +126,29 @@ no_collapsed_ring ring r = by (ring_read here collapsed ring r)
   where
     by : Err (ring_short here) ≡ Ok ring → ⊥
     by e = absurd cc
+
+-- no neighbours are equal, nor the last and the first; so one position alone is no walk
+pinched_is : is_walk (at 0 0 ∷ at 4 0 ∷ at 2 2 ∷ at 4 4 ∷ at 0 4 ∷ at 2 2 ∷ []) ≡ true
+pinched_is = refl
+
+two_are : is_walk (at 4 0 ∷ at 0 0 ∷ []) ≡ true
+two_are = refl
+
+one_is_none : is_walk (at 1 1 ∷ []) ≡ false
+one_is_none = refl
+
+last_is_first : is_walk (at 0 0 ∷ at 4 0 ∷ at 4 4 ∷ at 0 0 ∷ []) ≡ false
+last_is_first = refl
+
+-- a ring, wherever it begins, has three positions and none twice
+begun_anywhere : is_simple (at 4 0 ∷ at 4 4 ∷ at 0 0 ∷ []) ≡ true
+begun_anywhere = refl
+
+pinched_is_not : is_simple (at 0 0 ∷ at 4 0 ∷ at 2 2 ∷ at 4 4 ∷ at 0 4 ∷ at 2 2 ∷ []) ≡ false
+pinched_is_not = refl
+
+two_are_not : is_simple (at 4 0 ∷ at 0 0 ∷ []) ≡ false
+two_are_not = refl
 
 -- an arc that stays in one place
 still_walk : IsWalk ((at 1 1 ∷ at 1 1 ∷ []) ∷ []) []

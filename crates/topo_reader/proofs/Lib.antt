@@ -20,6 +20,8 @@ pub mod Keeping
 pub mod Meant
 pub mod OfRings
 pub mod OneReading
+pub mod RingsChanged
+pub mod WalksAndRings
 pub mod Leaves
 pub mod Widening
 pub mod Boxed

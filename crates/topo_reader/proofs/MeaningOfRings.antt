@@ -207,7 +207,7 @@ ring_read at_ring uses ring r =
     let new : first_repeat [] r.corners ≡ None = no_repeat [] r.corners (distinct_of r.corners r.different, λ q h. absurd (false≢true h)) in
     rw (walk_read at_ring uses r.corners (around r.closed r.once), at_least 3 (length r.corners) r.long, new, r.turned) refl
 
-long_ring : {uses : List Arc} {walk ring : List Position} → IsWalk uses walk → 3 ≤ length walk → Differ walk → ring ≡ canonical walk → IsRing uses ring
+pub long_ring : {uses : List Arc} {walk ring : List Position} → IsWalk uses walk → 3 ≤ length walk → Differ walk → ring ≡ canonical walk → IsRing uses ring
 long_ring nowhere long different turned = absurd (omega (arith, long))
 long_ring (around {start = start} {walk = walk} c o) long different turned = record {
   start = start;

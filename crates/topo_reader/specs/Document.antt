@@ -1,9 +1,9 @@
 -- What was read, as a document: each feature with its number and its polygons.
-use Rattle.std.specs.Prelude.{◌≡◌, ℕ, ◌+◌, ◌≤◌, Bool, not, List, [], ◌∷◌, length, Option, unwrap_or, slice_get, IsTrue}
+use Rattle.std.specs.Prelude.{◌≡◌, ℕ, ◌+◌, ◌≤◌, nat_le, Bool, not, ◌&&◌, List, [], ◌∷◌, length, Option, unwrap_or, slice_get, IsTrue}
 use Rattle.std.specs.List.{list_all}
 use Rattle.grid_geometry.specs.Position.{Position, position_eq}
 use Rattle.grid_geometry.specs.Ring.{edges}
-use Rattle.ring_machine.specs.Ring.{is_ring}
+use Rattle.ring_machine.specs.Ring.{is_ring, is_distinct}
 use Rattle.ring_machine.specs.Document.{Text, Form, Member, Head, FeatureOf, ItemOf, Open, Close, Leaf, Kept, LayerOf, Document}
 use Rattle.ring_machine.specs.Parts.{rings, size}
 use Rattle.ring_machine.specs.WellFormed.{WellFormed}
@@ -65,6 +65,10 @@ document_of o = record {
 -- a walk: a closed list of positions in which no neighbours are equal
 abbrev pub is_walk : List Position → Bool
 is_walk ps = list_all (λ e. not (position_eq e.0 e.1)) (edges ps)
+
+-- a walk that is a ring, wherever it begins: at least three positions, no two equal
+abbrev pub is_simple : List Position → Bool
+is_simple walk = nat_le 3 (length walk) && is_distinct walk
 
 -- what every opened topology is: each feature has its polygons, its document is well formed, its
 -- texts are ones that opening would keep, each list passes the test, and the numbers of features

@@ -9,7 +9,7 @@ use Rattle.plain_rings.specs.Faults.{Refuses}
 use Rattle.plain_rings.specs.Plain.{IsPlain}
 use Rattle.plain_rings.specs.Rings.{held}
 use Rattle.plain_rings.proofs.Changed.{changed_held, remove_stays}
-use Rattle.plain_rings.proofs.Documents.{rings_changed}
+use Rattle.topo_reader.proofs.RingsChanged.{rings_changed}
 use Rattle.plain_rings.proofs.RefusingEdits.{held_rings, remove_held}
 use Rattle.plain_rings.proofs.map.PlainMap.remove_vertex.Goals as goal
 
