@@ -1,19 +1,24 @@
 -- A line is cut into words in one way.
 use Rattle.std.proofs.Common.{◌≡◌, ℕ, ◌+◌, ◌%◌, ◌<◌, ◌≤◌, ◌^◌, ◌==◌, Bool, true, false, cond, refl, sym, ap, ap₂, ◌∙◌, subst, List, [], ◌∷◌, ◌++◌, length, take, drop, ℤ, pos, negsuc, arith, FitsSigned, w64, Result, Ok, Err, unsigned_abs, suc, append_assoc}
 use Rattle.std.specs.List.{take_while}
-use Rattle.std.specs.Fmt.{decimal, signed_decimal}
+use Rattle.std.specs.Prelude.{nat_lt, nat_le}
+use Rattle.std.specs.Fmt.{decimal, signed_decimal, digits}
 use Rattle.std.specs.Int.{FitsUnsignedBits}
 use Rattle.std.specs.Int.Signed.{mag}
-use Rattle.std.specs.Str.Parse.{ParsesSigned, ParsesUnsigned, digits_value}
+use Rattle.std.specs.Str.Parse.{ParsesUnsigned, digits_value}
 use Rattle.std.proofs.lemmas.Bool.Decides.{nat_tests}
-use Rattle.std.proofs.lemmas.Bool.{false≢true}
-use Rattle.std.proofs.lemmas.Fmt.{decimal_by_steps, parse-signed_decimal, signed_decimal_injective, IsAscii-signed, IsAscii-decimal_wide, parse-decimal_wide, decimal_is_IsNumeral_wide}
+use Rattle.std.proofs.lemmas.Bool.{false≢true, lt-ltb}
+use Rattle.std.proofs.lemmas.Fmt.{decimal_by_steps, signed_decimal_injective, IsAscii-signed, IsAscii-decimal_wide, parse-decimal_wide, decimal_is_IsNumeral_wide}
 use Rattle.std.specs.Str.{IsUtf8, IsAscii, bytes_eq}
 use Rattle.std.proofs.lemmas.Str.{IsUtf8-from_ascii}
 use Rattle.std.proofs.lemmas.Slice.Eq.{bytes_eq-Decides}
 use Rattle.std.proofs.lemmas.List.{take-append-drop}
 use Rattle.std.proofs.lemmas.List.Sums.{take_while-cons}
 use Rattle.grid_geometry.specs.Position.{Position, position, InRange}
+use Rattle.json_spans.specs.Whole.{value_from, held, whole_of}
+use Rattle.json_spans.specs.declared.number.NotWhole.{NotWhole}
+use Rattle.json_spans.proofs.Meant.{whole_is}
+use Rattle.map_text.proofs.GrammarNumbers.{whole_written}
 use Rattle.script_lines.specs.Lines.{spaced}
 use Rattle.script_lines.specs.Words.{is_letter, EndsWord, IsSpaced, IsFeature, IsPlace}
 
@@ -86,10 +91,6 @@ rest-ends (b ∷ bs) = by (is_letter b) refl (rest-ends bs)
 
 pub mag_small : (z : ℤ) → FitsSigned w64 z → mag z < 2 ^ 63
 mag_small z f = f.sfits
-
--- the text of a number parses as it
-pub parsed : {E : Type 0} (z y : ℤ) (bs : List ℕ) (r : Result ℤ E) → FitsSigned w64 z → bs ≡ signed_decimal z → ParsesSigned w64 10 bs r → r ≡ Ok y → z ≡ y
-parsed z y bs r f e p k = let h = sym (parse-signed_decimal w64 z bs r f (mag_small z f) e p) ∙ k in cc
 
 -- ---- numbers behind a space
 
@@ -185,20 +186,48 @@ place_second bs r p s = record { whole = refl; ends = s.ends; fits = fits_in_ran
 
 -- ---- what is not the text of a number
 
-pub number_utf8 : (z : ℤ) (bs : List ℕ) → FitsSigned w64 z → bs ≡ signed_decimal z → IsUtf8 bs
-number_utf8 z bs f e = IsUtf8-from_ascii bs (subst IsAscii (sym e) (IsAscii-signed z (mag_small z f)))
+held_fits : (z : ℤ) → FitsSigned w64 z → held z ≡ Ok z
+held_fits (pos n) f = let h : n < 2 ^ 63 = f.sfits in let fits : nat_lt n (2 ^ 63) ≡ true = lt-ltb _ _ h in rw fits refl
+held_fits (negsuc n) f =
+    let h : n < 2 ^ 63 = f.sfits in
+    let fits : nat_le (suc n) (2 ^ 63) ≡ true = search (arith, nat_tests) in
+    rw fits refl
 
-pub parses : (z : ℤ) (bs : List ℕ) → FitsSigned w64 z → bs ≡ signed_decimal z → ParsesSigned {E = ℕ} w64 10 bs (Err 0) → ⊥
-parses z bs f e p = let h = parse-signed_decimal {E = ℕ} w64 z bs (Err 0) f (mag_small z f) e p in cc
+small_read : (z : ℤ) → FitsSigned w64 z → unsigned_abs z < 2 ^ 63 → whole_of (signed_decimal z) ≡ Ok z
+small_read z f h = whole_is (signed_decimal z) z (whole_written z h) ∙ held_fits z f
+
+-- the least number, whose distance from 0 is more than that of any other
+least_read : whole_of (signed_decimal (negsuc 9223372036854775807)) ≡ Ok (negsuc 9223372036854775807)
+unfolding value_from digits
+least_read = refl
+
+text_read : (z : ℤ) → FitsSigned w64 z → whole_of (signed_decimal z) ≡ Ok z
+text_read (pos n) f = small_read (pos n) f f.sfits
+text_read (negsuc n) f = by (nat_lt n 9223372036854775807) refl
+  where
+    by : (t : Bool) → nat_lt n 9223372036854775807 ≡ t → whole_of (signed_decimal (negsuc n)) ≡ Ok (negsuc n)
+    by true e = let h : suc n < 2 ^ 63 = grind (arith, nat_tests) in small_read (negsuc n) f h
+    by false e =
+        let h : n < 2 ^ 63 = f.sfits in
+        let least : n ≡ 9223372036854775807 = grind (arith, nat_tests) in
+        rw least least_read
+
+-- the text of a number is read as it
+number_read : (z : ℤ) (word : List ℕ) → FitsSigned w64 z → word ≡ signed_decimal z → whole_of word ≡ Ok z
+number_read z word f e = ap whole_of e ∙ text_read z f
+
+pub not_whole : (z : ℤ) (word : List ℕ) (fault : NotWhole) → FitsSigned w64 z → word ≡ signed_decimal z → Err fault ≡ whole_of word → ⊥
+not_whole z word fault f e r = let h = r ∙ number_read z word f e in cc
 
 -- two texts that a test tells apart
 pub told_apart : (xs ys : List ℕ) → bytes_eq xs ys ≡ false → xs ≡ ys → ⊥
 told_apart xs ys k e = false≢true (sym k ∙ (bytes_eq-Decides xs ys).1 e)
 
-pub not_written : (z y x : ℤ) (word bs : List ℕ) → FitsSigned w64 z → word ≡ signed_decimal z → bs ≡ word → ParsesSigned {E = ℕ} w64 10 bs (Ok y) → x ≡ y → bytes_eq word (signed_decimal x) ≡ false → ⊥
-not_written z y x word bs f e s p w k =
-    let same = parsed {E = ℕ} z y bs (Ok y) f (s ∙ e) p refl in
-    told_apart word (signed_decimal x) k (e ∙ ap signed_decimal (same ∙ sym w))
+pub not_written : (z y x : ℤ) (word : List ℕ) → FitsSigned w64 z → word ≡ signed_decimal z → Ok y ≡ whole_of word → x ≡ y → bytes_eq word (signed_decimal x) ≡ false → ⊥
+not_written z y x word f e r w k =
+    let both : Ok y ≡ Ok z = r ∙ number_read z word f e in
+    let same : x ≡ z = cc in
+    told_apart word (signed_decimal x) k (e ∙ ap signed_decimal (sym same))
 
 -- ---- numbers of at most 128 bits
 

@@ -8,6 +8,7 @@ ghost use Rattle.script_lines.specs.Words.{is_letter, is_unmarked, IsSpaced, IsF
 
 use grid_geometry::Pos;
 use itoa::{Buffer, Integer};
+use json_spans::whole_text;
 use std::str;
 
 fn word_len(bytes: &[u8]) -> usize
@@ -40,10 +41,7 @@ fn number(word: &[u8]) -> Option<i64>
         ((z : ℤ) → FitsSigned w64 z → word.now ≢ signed_decimal z)
         (λ z. (word.now ≡ signed_decimal z) × FitsSigned w64 z) }
 {
-    let Ok(text) = str::from_utf8(word) else {
-        return None;
-    };
-    let Ok(number) = text.parse::<i64>() else {
+    let Ok(number) = whole_text(word) else {
         return None;
     };
     if is_written(word, number) {

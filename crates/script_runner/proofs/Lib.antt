@@ -3,5 +3,6 @@ pub mod ListLemmas
 pub mod LineLemmas
 pub mod SendLemmas
 pub mod StepLemmas
+pub mod FeedLemmas
 pub mod RunLemmas
 pub mod OpenLemmas

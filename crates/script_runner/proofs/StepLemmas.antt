@@ -100,22 +100,6 @@ put_at_feed p q b old new e same h =
     by part (inl none) = inl none
     by part (inr some) = inr (e, some)
 
--- at the byte with this number no more was put than a part
-pub feeds_part : (old mid new : Option (List ℕ)) (p q : Progress) (bs : List ℕ) (i : ℕ) (before part : List ℕ) → i < length bs → Feeds p (take i bs) before q → IsPartAt (get_or bs i 0) q part
-    → Appends old mid before → Appends mid new part → FeedsPart old new p bs
-feeds_part old mid new p q bs i before part within fed is sent put = record {
-  front = take i bs;
-  byte = get_or bs i 0;
-  rest = drop (i + 1) bs;
-  mid = q;
-  before = before;
-  part = part;
-  whole = sym (take-append-drop i bs) ∙ ap (λ t. take i bs ++ t) (drop_more bs i 0 within);
-  fed = fed;
-  is = is;
-  put = Appends-more old mid new before part sent put;
-}
-
 -- one more byte
 pub Feeds-more : (bs : List ℕ) (p q r : Progress) (s t : List ℕ) (b : ℕ) → Feeds p bs s q → ByteStep q b t r → Feeds p (bs ++ b ∷ []) (s ++ t) r
 Feeds-more [] p q r s t b h k =

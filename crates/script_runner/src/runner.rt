@@ -1,18 +1,19 @@
 //! What is kept between two bytes of a script.
-ghost use Rattle.std.specs.Prelude.{◌≡◌, ◌≤◌, ◌<◌, ◌+◌, ◌^◌, if◌then◌else◌};
+ghost use Rattle.std.specs.Prelude.{◌≡◌, ◌≤◌, ◌<◌, ◌+◌, ◌^◌, ◌∷◌, ◌++◌, if◌then◌else◌};
 ghost use Rattle.std.specs.Prelude.{[], length, false, true, OnOk, OnErr, IfOk};
 ghost use Rattle.std.specs.Io.KnownBytes.{Keeps};
 ghost use Rattle.device_io.specs.Sending.{Stands};
-ghost use Rattle.script_runner.specs.Runs.{without_return, answered_by};
+ghost use Rattle.script_runner.specs.Runs.{without_return, answered_by, NoFeed};
 ghost use Rattle.script_runner.specs.Replies.{meaning_of_said, of_writer};
 ghost use Rattle.script_lines.specs.Commands.{SaysSound};
 ghost use Rattle.ring_machine.specs.Parts.{features};
-ghost use Rattle.script_runner.specs.Progress.{KeptMeans, LineStep, ByteStep, Feeds, FeedsPart};
-ghost use Rattle.script_runner.specs.Progress.{PutsPart, IsPartAt, Told, start};
+ghost use Rattle.script_runner.specs.Progress.{KeptMeans, LineStep, Feeds, FeedsPart, PutsPart};
+ghost use Rattle.script_runner.specs.Progress.{Told, start};
 
 use crate::sending::send_reply;
 use crate::stop::{OutOfMemory, Stop};
 use device_io::Sink;
+use memchr::memchr;
 use script_lines::{Line, LineFault, parse_line};
 use segment_index::TreeIndex;
 use std::alloc::{Allocator, Global};
@@ -80,6 +81,8 @@ pub(crate) struct Runner<'a, A: Allocator + Copy> {
     editor: Editor<'a, TreeIndex<A>, A>,
     line: Vec<u8, A>,
     over: bool,
+    /// Holds the answer to a line while it is sent.
+    text: Vec<u8, A>,
     answered: u64,
     refused: u64,
     bytes: u64,
@@ -117,6 +120,7 @@ impl<'a, A: Allocator + Copy> Runner<'a, A> {
             editor,
             line: Vec::new(alloc),
             over: false,
+            text: Vec::new(alloc),
             answered: 0,
             refused: 0,
             bytes: 0,
@@ -137,7 +141,7 @@ impl<'a, A: Allocator + Copy> Runner<'a, A> {
         let over = self.over;
         let said = said(self.heap, self.line.as_slice(), over, ended)?;
         let counts = is_answered(&said);
-        let refuses = send_reply(*self.line.allocator(), &mut self.editor, said, out)?;
+        let refuses = send_reply(&mut self.editor, said, &mut self.text, out)?;
         self.answered += one_if(counts);
         self.refused += one_if(refuses);
         self.line.clear();
@@ -145,25 +149,36 @@ impl<'a, A: Allocator + Copy> Runner<'a, A> {
         Ok(())
     }
 
-    /// Takes the next byte of a script.
-    fn feed_byte<W: Sink>(&mut self, byte: u8, out: &mut W) -> Result<(), Stop>
+    /// Keeps bytes of a line, none of them a line feed; of a line over the limit only its front.
+    fn keep(&mut self, bytes: &[u8]) -> Result<(), OutOfMemory>
+        requires feeds { NoFeed bytes.now }
+        requires bytes { self.old.bytes + length bytes.now < 2 ^ 62 }
+        ensures ok { OnOk result (Feeds self.old bytes.now [] self.new) }
+        ensures bytes { OnOk result (self.new.bytes ≡ self.old.bytes + length bytes.now) }
+        ensures some { OnErr result (0 < length bytes.now) }
+    {
+        let kept = bytes.len().min(MAX_LINE - self.line.len());
+        self.line.extend_from_slice(&bytes[..kept])?;
+        self.over |= kept < bytes.len();
+        self.bytes += bytes.len() as u64;
+        Ok(())
+    }
+
+    /// Takes the bytes of a line and the line feed behind them, and answers the line.
+    fn feed_line<W: Sink>(&mut self, line: &[u8], out: &mut W) -> Result<(), Stop>
         requires works { W.has_failed out.old ≡ false }
-        requires bytes { self.old.bytes < 2 ^ 62 }
+        requires feeds { NoFeed line.now }
+        requires bytes { self.old.bytes + length line.now + 1 < 2 ^ 62 }
         ensures ok { OnOk result (Told (W.taken out.old) (W.taken out.new)
-            (λ text. ByteStep self.old byte text self.new)) }
-        ensures bytes { OnOk result (self.new.bytes ≡ self.old.bytes + 1) }
-        ensures cut { OnErr result (Told (W.taken out.old) (W.taken out.new)
-            (IsPartAt byte self.old)) }
+            (λ text. Feeds self.old (line.now ++ 10 ∷ []) text self.new)) }
+        ensures bytes { OnOk result (self.new.bytes ≡ self.old.bytes + length line.now + 1) }
+        ensures cut { OnErr result
+            (FeedsPart (W.taken out.old) (W.taken out.new) self.old (line.now ++ 10 ∷ [])) }
         ensures stands { Stands W.Sink of_writer out.new result }
     {
+        self.keep(line)?;
         self.bytes += 1;
-        if byte == b'\n' {
-            self.answer(true, out)?;
-        } else if self.line.len() < MAX_LINE {
-            self.line.push(byte)?;
-        } else {
-            self.over = true;
-        }
+        self.answer(true, out)?;
         Ok(())
     }
 
@@ -178,9 +193,13 @@ impl<'a, A: Allocator + Copy> Runner<'a, A> {
             (FeedsPart (W.taken out.old) (W.taken out.new) self.old piece.now) }
         ensures stands { Stands W.Sink of_writer out.new result }
     {
-        for byte in piece {
-            self.feed_byte(*byte, out)?;
+        let mut rest = piece;
+        while let Some(len) = memchr(b'\n', rest) {
+            let (line, behind) = rest.split_at(len);
+            self.feed_line(line, out)?;
+            rest = &behind[1..];
         }
+        self.keep(rest)?;
         Ok(())
     }
 
@@ -201,6 +220,7 @@ impl<'a, A: Allocator + Copy> Runner<'a, A> {
             editor,
             line: _,
             over: _,
+            text: _,
             answered,
             refused,
             bytes: _,

@@ -46,11 +46,11 @@ fn send_document<A: Allocator + Copy, W: Sink>(
 }
 
 /// Sends the answer to what a line says, with a line feed: nothing where it is skipped, `bad line`
-/// where it says nothing that is taken. Answers whether it was refused.
+/// where it says nothing that is taken. Answers whether it was refused. `text` holds the answer.
 pub(crate) fn send_reply<A: Allocator + Copy, W: Sink>(
-    alloc: A,
     editor: &mut Editor<'_, TreeIndex<A>, A>,
     said: Option<Line>,
+    text: &mut Vec<u8, A>,
     out: &mut W,
 ) -> Result<bool, Stop>
     requires sound { SaysSound said }
@@ -61,18 +61,18 @@ pub(crate) fn send_reply<A: Allocator + Copy, W: Sink>(
         RepliedLine editor.old editor.new (meaning_of_said said) refuses) }
     ensures shown { OnOk result (IsShownSaved editor.old.map.doc said) }
 {
-    let mut text = Vec::new(alloc);
+    text.clear();
     let refuses = match said {
         Some(Line::Skip) => return Ok(false),
         Some(Line::Document) => {
-            send_document(alloc, editor.map(), out)?;
+            send_document(*text.allocator(), editor.map(), out)?;
             return Ok(false);
         }
-        Some(Line::Rings(feature)) => reply_to_rings(editor.map(), feature, &mut text)?,
-        Some(Line::Count) => reply_to_count(editor.map(), &mut text)?,
-        Some(Line::Undo) => reply_to_undo(editor, &mut text)?,
-        Some(Line::Edit(command)) => reply_to(editor, command, &mut text)?,
-        None => push_bad_line(&mut text)?,
+        Some(Line::Rings(feature)) => reply_to_rings(editor.map(), feature, text)?,
+        Some(Line::Count) => reply_to_count(editor.map(), text)?,
+        Some(Line::Undo) => reply_to_undo(editor, text)?,
+        Some(Line::Edit(command)) => reply_to(editor, command, text)?,
+        None => push_bad_line(text)?,
     };
     text.push(b'\n')?;
     put_all(out, text.as_slice())?;

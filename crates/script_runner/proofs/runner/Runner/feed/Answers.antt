@@ -1,26 +1,55 @@
-use Rattle.std.proofs.Common.{◌++◌, take, rules, arith}
-use Rattle.std.proofs.lemmas.List.{take_more}
-use Rattle.device_io.proofs.DeviceLemmas.{Appends-more}
-use Rattle.script_runner.proofs.StepLemmas.{on_feeds, feeds_part, Feeds-more}
+use Rattle.std.proofs.Common.{◌-◌, ◌∷◌, ◌++◌, [], take, drop, length, sym, append-nil, arith, rules}
+use Rattle.script_runner.proofs.StepLemmas.{on_feeds}
+use Rattle.script_runner.proofs.FeedLemmas.{none_kept, none_found, line_found, cut_behind, cut_length, fed_on, fed_part, fed_all}
 use Rattle.script_runner.proofs.runner.Runner.feed.Goals as goal
 
-pub loop-byte-preserved : goal.loop-byte-preserved
-loop-byte-preserved g c =
-    let (done, sent, fed) = c.loop-byte.invariant.told in
-    let (text, put, step) = c.in_ok-feed_byte.ensures.ok in
+pub feed_line-requires-clause-feeds : goal.feed_line-requires-clause-feeds
+feed_line-requires-clause-feeds g c = rw c.split_at.ensures.front (line_found c.loop-len.rest.now c.in-Some.len c.in-Some.ensures.0)
+
+pub returns-in_err-feed_line-clause-cut : goal.returns-in_err-feed_line-clause-cut
+returns-in_err-feed_line-clause-cut g c =
+    let rest = c.loop-len.rest.now in
+    let line = c.split_at.result.0.now in
+    let behind = c.split_at.result.1.now in
+    let was = g.W.Sink.taken c.args.out.now in
+    let now = g.W.Sink.taken c.loop-len.out in
+    let is = g.W.Sink.taken c.feed_line.new.out in
+    let cut = cut_behind rest line behind c.in-Some.len c.in-Some.ensures c.split_at.ensures.front c.split_at.ensures.back in
+    on_feeds c.from_residual.result was is c.args.self.now c.args.piece.now
+    (fed_part was now is c.args.self.now c.loop-len.self c.args.piece.now rest (line ++ 10 ∷ []) (take (length behind - 1) (drop 1 behind))
+    c.loop-len.invariant.fed cut c.in_err-feed_line.ensures.cut)
+
+pub loop-len-preserved : goal.loop-len-preserved
+loop-len-preserved g c =
+    let rest = c.loop-len.rest.now in
+    let line = c.split_at.result.0.now in
+    let behind = c.split_at.result.1.now in
+    let next = take (length behind - 1) (drop 1 behind) in
+    let was = g.W.Sink.taken c.args.out.now in
+    let now = g.W.Sink.taken c.loop-len.out in
+    let is = g.W.Sink.taken c.feed_line.new.out in
+    let cut = cut_behind rest line behind c.in-Some.len c.in-Some.ensures c.split_at.ensures.front c.split_at.ensures.back in
+    let (text, put, fed) = c.in_ok-feed_line.ensures.ok in
     record {
-      told = (
-        done ++ text,
-        Appends-more _ _ _ _ _ sent put,
-        rw (take_more c.args.piece.now c.loop-byte.byte-index 0 c.loop-byte-test.true) (Feeds-more (take c.loop-byte.byte-index c.args.piece.now) _ _ _ done text _ fed step),
-      );
+      fed = fed_on was now is c.args.self.now c.loop-len.self c.feed_line.new.self c.args.piece.now rest (line ++ 10 ∷ []) next text
+          c.loop-len.invariant.fed cut put fed;
       works = search rules;
-      bytes = omega (arith, c.in_ok-feed_byte.ensures.bytes);
+      bytes = omega (arith, c.in_ok-feed_line.ensures.bytes, cut_length rest line next cut);
     }
 
-pub returns-in_err-feed_byte-clause-cut : goal.returns-in_err-feed_byte-clause-cut
-returns-in_err-feed_byte-clause-cut g c =
-    let (done, sent, fed) = c.loop-byte.invariant.told in
-    let (part, put, is) = c.in_err-feed_byte.ensures.cut in
-    on_feeds c.from_residual.result (g.W.Sink.taken c.args.out.now) (g.W.Sink.taken c.feed_byte.new.out) c.args.self.now c.args.piece.now
-    (feeds_part _ _ _ c.args.self.now c.loop-byte.self c.args.piece.now c.loop-byte.byte-index done part c.loop-byte-test.true fed is sent put)
+pub keep-requires-clause-feeds : goal.keep-requires-clause-feeds
+keep-requires-clause-feeds g c = none_found c.loop-len.rest.now c.in_default.ensures
+
+pub returns-in_err-keep-clause-cut : goal.returns-in_err-keep-clause-cut
+returns-in_err-keep-clause-cut g c =
+    let rest = c.loop-len.rest.now in
+    let was = g.W.Sink.taken c.args.out.now in
+    let now = g.W.Sink.taken c.loop-len.out in
+    on_feeds c.from_residual-in_err-keep.result was now c.args.self.now c.args.piece.now
+    (fed_part was now now c.args.self.now c.loop-len.self c.args.piece.now rest rest [] c.loop-len.invariant.fed (sym (append-nil rest))
+    (none_kept c.loop-len.self now rest c.in_err-keep.ensures.some))
+
+pub returns-clause-ok : goal.returns-clause-ok
+returns-clause-ok g c =
+    fed_all (g.W.Sink.taken c.args.out.now) (g.W.Sink.taken c.loop-len.out) c.args.self.now c.loop-len.self c.keep.new.self c.args.piece.now c.loop-len.rest.now
+    c.loop-len.invariant.fed c.in_ok-keep.ensures.ok

@@ -1,10 +1,13 @@
-use Rattle.std.proofs.Common.{◌≡◌, ◌+◌, false, take}
-use Rattle.script_runner.specs.Progress.{Feeds, Told}
+use Rattle.std.proofs.Common.{◌≡◌, ◌+◌, false, length}
+use Rattle.script_runner.proofs.FeedLemmas.{Fed}
 use Rattle.script_runner.proofs.runner.Runner.feed.Given as goal
 
-abbrev pub invariant-loop-byte : goal.invariant-loop-byte
-invariant-loop-byte g l = record {
-  told : Told (g.W.Sink.taken l.fn.out) (g.W.Sink.taken l.out) (λ text. Feeds l.fn.self (take l.byte-index l.piece) text l.self);
+abbrev pub invariant-loop-len : goal.invariant-loop-len
+invariant-loop-len g l = record {
+  fed : Fed (g.W.Sink.taken l.fn.out) (g.W.Sink.taken l.out) l.fn.self l.self l.piece l.rest;
   works : g.W.Sink.has_failed l.out ≡ false;
-  bytes : l.self.bytes ≡ l.fn.self.bytes + l.byte-index;
+  bytes : l.self.bytes + length l.rest ≡ l.fn.self.bytes + length l.piece;
 }
+
+abbrev pub decreases-loop-len : goal.decreases-loop-len
+decreases-loop-len g l = length l.rest
