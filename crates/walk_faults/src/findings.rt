@@ -1,4 +1,7 @@
 // What is found in a map of walks.
+ghost use Rattle.std.specs.Prelude.{◌↔◌, IsTrue};
+ghost use Rattle.walk_faults.specs.Opens.{IsNothing};
+
 use grid_geometry::{Pos, Seg};
 use std::alloc::{AllocError, Allocator, Global};
 use topo_outline::RingAt;
@@ -30,8 +33,8 @@ pub struct Crossing {
     pub second: Seg,
 }
 
-/// What keeps a map of walks from being one of linear rings (RFC 7946, 3.1.6) whose segments meet in
-/// common ends alone. It is that where all four lists are empty.
+/// What keeps a map of walks from being one of linear rings (RFC 7946, 3.1.6) whose segments meet
+/// in common ends alone. It is one of such rings exactly where all four lists are empty.
 #[derive(Drop)]
 pub struct Findings<A: Allocator + Copy = Global> {
     /// The walks of fewer than three positions, in the order of the map.
@@ -39,11 +42,24 @@ pub struct Findings<A: Allocator + Copy = Global> {
     /// The positions that a walk passes more than once: in the order of the walks, and ascending in
     /// each walk, each once.
     pub repeats: Vec<Repeat, A>,
-    /// Each vertex on a segment of which it is no end: ascending by the vertex, then by the segment,
-    /// each once.
+    /// Each vertex on a segment of which it is no end: ascending by the vertex, then by the
+    /// segment, each once.
     pub touches: Vec<Touch, A>,
     /// Each pair of segments that cross: ascending by the first, then by the second, each once.
     pub crossings: Vec<Crossing, A>,
+}
+
+impl<A: Allocator + Copy> Findings<A> {
+    /// Whether nothing was found: the map is one of linear rings whose segments meet in common ends
+    /// alone.
+    pub fn is_empty(&self) -> bool
+        ensures { IsTrue result ↔ IsNothing self.now }
+    {
+        self.short.is_empty()
+            && self.repeats.is_empty()
+            && self.touches.is_empty()
+            && self.crossings.is_empty()
+    }
 }
 
 /// Why not all is listed.

@@ -1,5 +1,6 @@
 // The vertices on segments, and the segments that cross.
-ghost use Rattle.std.specs.Prelude.{◌≡◌, ◌<◌, ◌≤◌, ◌+◌, ◌++◌, ◌&&◌, List, map, length, IfOk, IfErr, OnOk};
+ghost use Rattle.std.specs.Prelude.{◌≡◌, ◌<◌, ◌≤◌, ◌+◌, ◌++◌, ◌&&◌, List, map, length};
+ghost use Rattle.std.specs.Prelude.{IfOk, IfErr, OnOk};
 ghost use Rattle.grid_geometry.specs.Conflict as geometry;
 ghost use Rattle.grid_geometry.specs.Segment.{Segment, segment_lt};
 ghost use Rattle.walk_faults.specs.Findings.{OnlyIfMany, touch_at, crossing_at};
@@ -93,7 +94,8 @@ fn push_touches<A: Allocator + Copy>(
     segments: &[Seg],
     most: usize,
 ) -> Result<(), FindFault>
-    ensures pushed { OnOk result (out.new.items ≡ out.old.items ++ map (touch_at pos) segments.now) }
+    ensures pushed { OnOk result
+        (out.new.items ≡ out.old.items ++ map (touch_at pos) segments.now) }
     ensures few { length out.old.items ≤ most → OnOk result (length out.new.items ≤ most) }
     ensures fault { IfErr result (OnlyIfMany (most < length out.old.items + length segments.now)) }
 {
@@ -114,7 +116,8 @@ fn push_crossings<A: Allocator + Copy>(
     others: &[Seg],
     most: usize,
 ) -> Result<(), FindFault>
-    ensures pushed { OnOk result (out.new.items ≡ out.old.items ++ map (crossing_at first) others.now) }
+    ensures pushed { OnOk result
+        (out.new.items ≡ out.old.items ++ map (crossing_at first) others.now) }
     ensures few { length out.old.items ≤ most → OnOk result (length out.new.items ≤ most) }
     ensures fault { IfErr result (OnlyIfMany (most < length out.old.items + length others.now)) }
 {
@@ -159,7 +162,8 @@ pub(crate) fn crossings<I: SegIndex, A: Allocator + Copy>(
     requires { AreHeld (I.held index.now) segments.now }
     ensures found { IfOk result (λ found. found.items ≡ crossings_among segments.now segments.now) }
     ensures few { IfOk result (λ found. length found.items ≤ most) }
-    ensures fault { IfErr result (OnlyIfMany (most < length (crossings_among segments.now segments.now))) }
+    ensures fault { IfErr result
+        (OnlyIfMany (most < length (crossings_among segments.now segments.now))) }
 {
     let mut found = Vec::new(alloc);
     for s in segments {

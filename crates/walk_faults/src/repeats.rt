@@ -27,7 +27,8 @@ pub(crate) fn short<A: Allocator + Copy>(
 ) -> Result<Vec<RingAt, A>, FindFault>
     ensures found { IfOk result (λ found. found.items ≡ short_walks (map walk_seen walks.now)) }
     ensures few { IfOk result (λ found. length found.items ≤ most) }
-    ensures fault { IfErr result (OnlyIfMany (most < length (short_walks (map walk_seen walks.now)))) }
+    ensures fault { IfErr result
+        (OnlyIfMany (most < length (short_walks (map walk_seen walks.now)))) }
 {
     let mut found = Vec::new(alloc);
     for walk in walks {
@@ -67,6 +68,7 @@ fn repeated<A: Allocator + Copy>(alloc: A, walk: &[Pos]) -> Result<Vec<Pos, A>, 
     let mut sorted = Vec::from_slice(alloc, walk)?;
     sorted.sort_unstable();
     let mut found = equal_neighbours(alloc, sorted.as_slice())?;
+    // it ascends already: only what stands there again goes
     sort_positions(&mut found);
     Ok(found)
 }
@@ -78,7 +80,8 @@ fn push_repeats<A: Allocator + Copy>(
     positions: &[Pos],
     most: usize,
 ) -> Result<(), FindFault>
-    ensures pushed { OnOk result (out.new.items ≡ out.old.items ++ map (repeat_at ring) positions.now) }
+    ensures pushed { OnOk result
+        (out.new.items ≡ out.old.items ++ map (repeat_at ring) positions.now) }
     ensures few { length out.old.items ≤ most → OnOk result (length out.new.items ≤ most) }
     ensures fault { IfErr result (OnlyIfMany (most < length out.old.items + length positions.now)) }
 {
@@ -96,7 +99,8 @@ pub(crate) fn repeats<A: Allocator + Copy>(
 ) -> Result<Vec<Repeat, A>, FindFault>
     ensures found { IfOk result (λ found. found.items ≡ all_repeats (map walk_seen walks.now)) }
     ensures few { IfOk result (λ found. length found.items ≤ most) }
-    ensures fault { IfErr result (OnlyIfMany (most < length (all_repeats (map walk_seen walks.now)))) }
+    ensures fault { IfErr result
+        (OnlyIfMany (most < length (all_repeats (map walk_seen walks.now)))) }
 {
     let mut found = Vec::new(alloc);
     for walk in walks {

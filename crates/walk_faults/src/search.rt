@@ -16,35 +16,6 @@ use std::alloc::Allocator;
 /// How many findings of one kind are listed at most.
 pub const MOST: usize = 4_000_000;
 
-/// All that keeps a map from opening, where it is at most `most` of each kind.
-pub(crate) fn find_at_most<I: SegIndex, A: Allocator + Copy>(
-    alloc: A,
-    index: I,
-    polygons: &[Vec<Vec<Vec<Pos, A>, A>, A>],
-    most: usize,
-) -> Result<Findings<A>, FindFault>
-    requires empty { I.held index ≡ set.empty }
-    ensures found { IfOk result (λ findings. Found (features_seen polygons.now) findings) }
-    ensures few { IfOk result (λ findings. AreAtMost most findings) }
-    ensures fault { IfErr result (Tells most (features_seen polygons.now)) }
-{
-    let mut index = index;
-    let walks = walks(alloc, polygons)?;
-    let short = short(alloc, walks.as_slice(), most)?;
-    let repeats = repeats(alloc, walks.as_slice(), most)?;
-    let vertices = vertices(alloc, walks.as_slice())?;
-    let segments = segments(alloc, walks.as_slice())?;
-    fill(&mut index, segments.as_slice())?;
-    let touches = touches(alloc, &index, vertices.as_slice(), most)?;
-    let crossings = crossings(alloc, &index, segments.as_slice(), most)?;
-    Ok(Findings {
-        short,
-        repeats,
-        touches,
-        crossings,
-    })
-}
-
 /// All that keeps a map from opening. Its rings are given as walks, by feature, polygon and ring:
 /// closed lists of positions of any length. The index is empty. Fails for want of memory, and at
 /// once where there are more than [`MOST`] findings of one kind.
@@ -59,4 +30,32 @@ pub fn find<I: SegIndex, A: Allocator + Copy>(
     ensures fault { IfErr result (Tells MOST (features_seen polygons.now)) }
 {
     find_at_most(alloc, index, polygons, MOST)
+}
+
+/// All that keeps a map from opening, where it is at most `most` of each kind.
+pub(crate) fn find_at_most<I: SegIndex, A: Allocator + Copy>(
+    alloc: A,
+    mut index: I,
+    polygons: &[Vec<Vec<Vec<Pos, A>, A>, A>],
+    most: usize,
+) -> Result<Findings<A>, FindFault>
+    requires empty { I.held index ≡ set.empty }
+    ensures found { IfOk result (λ findings. Found (features_seen polygons.now) findings) }
+    ensures few { IfOk result (λ findings. AreAtMost most findings) }
+    ensures fault { IfErr result (Tells most (features_seen polygons.now)) }
+{
+    let walks = walks(alloc, polygons)?;
+    let short = short(alloc, walks.as_slice(), most)?;
+    let repeats = repeats(alloc, walks.as_slice(), most)?;
+    let vertices = vertices(alloc, walks.as_slice())?;
+    let segments = segments(alloc, walks.as_slice())?;
+    fill(&mut index, segments.as_slice())?;
+    let touches = touches(alloc, &index, vertices.as_slice(), most)?;
+    let crossings = crossings(alloc, &index, segments.as_slice(), most)?;
+    Ok(Findings {
+        short,
+        repeats,
+        touches,
+        crossings,
+    })
 }

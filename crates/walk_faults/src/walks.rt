@@ -21,8 +21,8 @@ fn push_rings<'r, A: Allocator + Copy>(
     polygon: usize,
     rings: &'r [Vec<Pos, A>],
 ) -> Result<(), AllocError>
-    ensures { OnOk result (map walk_seen walks.new.items
-        ≡ map walk_seen walks.old.items ++ walks_in_polygon feature polygon (rings_seen rings.now)) }
+    ensures { OnOk result (map walk_seen walks.new.items ≡ map walk_seen walks.old.items
+        ++ walks_in_polygon feature polygon (rings_seen rings.now)) }
 {
     for (ring, positions) in rings.iter().enumerate() {
         let at = RingAt {
@@ -44,8 +44,8 @@ fn push_polygons<'r, A: Allocator + Copy>(
     feature: usize,
     polygons: &'r [Vec<Vec<Pos, A>, A>],
 ) -> Result<(), AllocError>
-    ensures { OnOk result (map walk_seen walks.new.items
-        ≡ map walk_seen walks.old.items ++ walks_in_feature feature (polygons_seen polygons.now)) }
+    ensures { OnOk result (map walk_seen walks.new.items ≡ map walk_seen walks.old.items
+        ++ walks_in_feature feature (polygons_seen polygons.now)) }
 {
     for (polygon, rings) in polygons.iter().enumerate() {
         push_rings(walks, feature, polygon, rings.as_slice())?;

@@ -3,7 +3,7 @@ use super::told::{Lines, Walks, at, told};
 use crate::findings::{Crossing, FindFault, Repeat, Touch};
 use crate::search::find;
 use grid_geometry::{Pos, Seg, cross, on};
-use segment_index::ListIndex;
+use segment_index::TreeIndex;
 use std::alloc::{AllocError, Global};
 use std::process::Abort;
 use std::test::Fail;
@@ -242,7 +242,7 @@ fn compare<R: Abort>(
     all: &[Seg],
 ) -> Result<(), FindFault> {
     let walks = draw.walks(alloc, positions)?;
-    let found = find(alloc, ListIndex::new(alloc), walks.as_slice())?;
+    let found = find(alloc, TreeIndex::new(alloc, None), walks.as_slice())?;
     let text = told(alloc, &found)?;
     let placed = placed(alloc, walks.as_slice())?;
     let want = searched(alloc, placed.as_slice(), positions, all)?;

@@ -129,6 +129,7 @@ fn is_told<R: Abort>(rt: &R, alloc: Global, given: Given, want: &str) -> Result<
     let found = find(alloc, ListIndex::new(alloc), walks.as_slice())?;
     let text = told(alloc, &found)?;
     assert_eq!(rt; text.as_str(), want);
+    assert_eq!(rt; found.is_empty(), want.is_empty());
     Ok(())
 }
 
