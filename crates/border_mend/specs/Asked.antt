@@ -2,6 +2,7 @@
 use Rattle.std.specs.Prelude.{◌≡◌, ℕ, ◌≤◌, true, List, Option, Some, None, codes}
 use Rattle.std.specs.Str.Parse.{IsNumeral, digits_value, without_leading_plus}
 use Rattle.clap.specs.Words.{App, Rule, new_app, new_rule, with_rule, first_of, matches_of}
+use Rattle.program_ends.specs.Words.{with_version}
 use Rattle.clap.specs.declared.builder.action.ArgAction.TheVariants.{Set}
 
 -- MAP stands in its place and is required, --most N is not
@@ -14,10 +15,6 @@ most_rule = record (new_rule (codes "most")) {
   value_names = 1;
   action = Some Set;
 }
-
--- a program that tells its version
-abbrev pub with_version : App → App
-with_version a = record a { top = record a.top { has_version = true } }
 
 abbrev pub program : App
 program = with_rule (with_rule (with_version (new_app (codes "border_mend"))) map_rule) most_rule
