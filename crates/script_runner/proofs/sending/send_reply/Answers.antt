@@ -1,10 +1,11 @@
 use Rattle.std.proofs.Common.{ap, subst}
 use Rattle.device_io.specs.Sending.{Took, TookFront}
-use Rattle.device_io.proofs.SendingLaws.{sends_front}
+use Rattle.device_io.proofs.SendingLaws.{sends_front, took_none}
 use Rattle.ring_machine.specs.Document.{Document}
 use Rattle.map_text.specs.Text.{text_of}
 use Rattle.map_text.specs.Saved.{Saved}
 use Rattle.script_runner.specs.Replies.{of_writer}
+use Rattle.script_runner.specs.declared.stop.Stop.TheVariants.{OutOfMemory}
 use Rattle.script_runner.proofs.SendLemmas.{shown, shown_text}
 use Rattle.script_runner.proofs.sending.send_reply.Goals as goal
 
@@ -28,3 +29,6 @@ pub returns-in-Some-Document-clause-shown : goal.returns-in-Some-Document-clause
 returns-in-Some-Document-clause-shown g c =
     rw (c.in-Some-Document.is, c.in-Some-Document.field-0-is)
     (subst (λ (d : Document). Saved (text_of d) d) (ap (λ m. m.doc) c.map.ensures) c.send_document.ensures.saved)
+
+pub returns-in_err-push-clause-sends : goal.returns-in_err-push-clause-sends
+returns-in_err-push-clause-sends g c = sends_front of_writer OutOfMemory _ c.from_residual-in_err-push.ensures.1 (took_none c.requires.works)
