@@ -30,7 +30,8 @@ KEPT, SAVED = "kept", "saved"
 
 # What `--version` prints.
 HELP = (TOP / "crates/edit_program/src/help.rt").read_text()
-VERSION = "border_edit " + re.search('VERSION: &str = "(.*)"', HELP).group(1) + "\n"
+SHARED = (TOP / "crates/program_ends/src/lib.rt").read_text()
+VERSION = "border_edit " + re.search('VERSION: &str = "(.*)"', SHARED).group(1) + "\n"
 
 # What stands on standard error, or standard output, where its text is not fixed: something.
 SOME = object()
