@@ -1,12 +1,9 @@
 //! With which status the program ends, and what it writes.
 use crate::asked::Words;
-use crate::ending::ending_of_report;
-use crate::looking::LookFault;
 use crate::telling::tell;
 use std::io::{Error, ErrorKind, Result as IoResult, Write};
 use std::test::Fail;
 use std::{env, fs, process};
-use walk_faults::Findings;
 
 /// Two squares with a common side, which the editor opens.
 const SQUARES: &str =
@@ -127,28 +124,5 @@ fn an_output_that_fails_is_told(rt: HostRuntime) -> Result<(), Fail> {
     fs::remove_file(&rt, words.map.as_str())?;
     assert_eq!(rt; ended, 3);
     assert_eq!(rt; errors.as_slice(), "write fault\n".as_bytes());
-    Ok(())
-}
-
-/// No small map has more findings than can be listed.
-#[test]
-fn too_many_findings_are_told(rt: HostRuntime) -> Result<(), Fail> {
-    let rows = [
-        (LookFault::TooMany, 2, "open: too many findings"),
-        (LookFault::OutOfMemory, 3, "out of memory"),
-    ];
-    for (fault, status, want) in rows {
-        let outcome: Result<Findings, LookFault<'_>> = Err(fault);
-        let ending = ending_of_report(&outcome, b"opens\n");
-        assert_eq!(rt; ending.status, status, "{want}");
-        assert!(rt; ending.file.is_none(), "{want}");
-        match ending.line {
-            Some(line) => {
-                let told = format!(in rt.alloc(); "{line}")?;
-                assert_eq!(rt; told.as_str(), want);
-            }
-            None => assert!(rt; false, "{want}"),
-        }
-    }
     Ok(())
 }

@@ -10,23 +10,21 @@ const MAP: &str =
     r#"{"type":"Topology","objects":{"a":{"type":"MultiPolygon","id":1,"arcs":[[[0]]]}},"arcs":[[[0,0],[4,0],[2,2],[4,4],[0,4],[2,2],[0,0]]]}"#;
 
 /// Looking tells of the text what reading tells.
-fn is_same<R: Abort>(rt: &R, alloc: Global, text: &[u8]) -> Result<(), Fail> {
-    let found = look(alloc, alloc, text);
-    match read_walks(alloc, alloc, text) {
-        Ok(_) => assert!(rt; found.is_ok(), "{text:?}"),
-        Err(fault) => match &found {
-            Err(LookFault::Open(told)) => assert_eq!(rt; *told, fault, "{text:?}"),
-            _ => assert!(rt; false, "{text:?}"),
-        },
+fn is_same<R: Abort>(rt: &R, alloc: Global, text: &[u8]) {
+    let looked = look(alloc, alloc, text).err();
+    let read = read_walks(alloc, alloc, text).err();
+    match (looked, read) {
+        (Some(LookFault::Open(told)), Some(fault)) => assert_eq!(rt; told, fault, "{text:?}"),
+        (None, None) => {}
+        _ => assert!(rt; false, "{text:?}"),
     }
-    Ok(())
 }
 
 #[test]
 fn a_cut_text_has_the_fault_of_reading(rt: HostRuntime) -> Result<(), Fail> {
     let text = MAP.as_bytes();
     for end in 0..=text.len() {
-        is_same(&rt, rt.alloc(), &text[..end])?;
+        is_same(&rt, rt.alloc(), &text[..end]);
     }
     Ok(())
 }
@@ -37,7 +35,7 @@ fn a_text_with_a_byte_changed_has_the_fault_of_reading(rt: HostRuntime) -> Resul
         for at in 0..MAP.len() {
             let mut text = Vec::from_slice(rt.alloc(), MAP.as_bytes())?;
             text[at] = byte;
-            is_same(&rt, rt.alloc(), text.as_slice())?;
+            is_same(&rt, rt.alloc(), text.as_slice());
         }
     }
     Ok(())
@@ -81,8 +79,9 @@ const FAULTS: [(&str, &str); 10] = [
 #[test]
 fn each_fault_of_reading_is_told(rt: HostRuntime) -> Result<(), Fail> {
     for (text, want) in FAULTS {
-        match look(rt.alloc(), rt.alloc(), text.as_bytes()) {
-            Err(LookFault::Open(fault)) => {
+        let fault = look(rt.alloc(), rt.alloc(), text.as_bytes()).err();
+        match fault {
+            Some(LookFault::Open(fault)) => {
                 let told = format!(in rt.alloc(); "{fault}")?;
                 assert_eq!(rt; told.as_str(), want, "{text}");
             }
