@@ -1,5 +1,5 @@
 -- What clap found among the words is what the words ask for.
-use Rattle.std.proofs.Common.{◌≡◌, ℕ, subst, List, Option, option_map}
+use Rattle.std.proofs.Common.{◌≡◌, ℕ, refl, subst, List, Option, option_map}
 use Rattle.std.specs.Borrow.{Bor}
 use Rattle.clap.specs.Words.{App, HasMatchesOf, first_value, found_of}
 use Rattle.clap.specs.declared.parser.matches.ArgMatches.{ArgMatches}
@@ -10,4 +10,4 @@ pub most_is : (a : App) (m : ArgMatches) (words : List (List ℕ)) (id key : Lis
     → a ≡ program → HasMatchesOf a words m → key ≡ id → option_map (λ s. s.now) given ≡ first_value (found_of m) key
     → IsMost (option_map (λ s. s.now) given) n → IsMost (text_of id words) n
 most_is a m words id key given n is has same read most =
-    subst (λ (o : Option (List ℕ)). IsMost o n) (read_text refl a m words id key given is has same read) most
+    subst (λ (o : Option (List ℕ)). IsMost o n) (read_text program refl a m words id key given is has same read) most

@@ -12,13 +12,13 @@ pub depth_is : (a : App) (m : ArgMatches) (words : List (List ℕ)) (id key : Li
     → a ≡ program → HasMatchesOf a words m → key ≡ id → option_map (λ s. s.now) given ≡ first_value (found_of m) key
     → IsDepth (option_map (λ s. s.now) given) n → IsDepth (text_of id words) n
 depth_is a m words id key given n is has same read depth =
-    subst (λ (o : Option (List ℕ)). IsDepth o n) (read_text refl a m words id key given is has same read) depth
+    subst (λ (o : Option (List ℕ)). IsDepth o n) (read_text program refl a m words id key given is has same read) depth
 
 pub refused_is : (a : App) (m : ArgMatches) (words : List (List ℕ)) (id key : List ℕ) (given : Option (Bor (List ℕ))) (copy : Option (List ℕ))
     → a ≡ program → HasMatchesOf a words m → key ≡ id → option_map (λ s. s.now) given ≡ first_value (found_of m) key
     → copy ≡ option_map (λ s. s.now) given → copy ≡ text_of id words
 refused_is a m words id key given copy is has same read copied =
-    copied ∙ read_text refl a m words id key given is has same read
+    copied ∙ read_text program refl a m words id key given is has same read
 
 -- paths that are not the same are not the same once they are copied
 pub copies_apart : (given : Option (Bor (List ℕ))) (word : Bor (List ℕ)) (copy : Option (List ℕ)) (bytes : List ℕ) (is_same : Bool)

@@ -7,8 +7,8 @@ use Rattle.clap.specs.declared.parser.matches.ArgMatches.{ArgMatches}
 use Rattle.clap.proofs.WalkLemmas.{first_value-rows}
 
 -- what an argument was given, as the matches of the program have it
-found_text : {program : App} (simple : is_simple program ≡ true) (a : App) (m : ArgMatches) (words : List (List ℕ)) (id : List ℕ) → a ≡ program → HasMatchesOf a words m → first_value (found_of m) id ≡ first_of id (matches_of program words)
-found_text simple a m words id is has =
+found_text : (program : App) (simple : is_simple program ≡ true) (a : App) (m : ArgMatches) (words : List (List ℕ)) (id : List ℕ) → a ≡ program → HasMatchesOf a words m → first_value (found_of m) id ≡ first_of id (matches_of program words)
+found_text program simple a m words id is has =
     first_value-rows (found_of m) id ∙ ap (first_of id) ((has (ap is_simple is ∙ simple)).0 ∙ ap (λ (z : App). matches_of z words) is)
 
 value_or_empty : (given : Option (Bor (List ℕ))) (empty : Bor (List ℕ)) → empty.now ≡ [] → (unwrap_or given empty).now ≡ unwrap_or (option_map (λ s. s.now) given) []
@@ -16,15 +16,15 @@ value_or_empty None empty is_empty = is_empty
 value_or_empty (Some text) empty is_empty = refl
 
 -- the same of what is read back under a key that writes the id
-pub read_text : {program : App} (simple : is_simple program ≡ true) (a : App) (m : ArgMatches) (words : List (List ℕ)) (id key : List ℕ) (given : Option (Bor (List ℕ)))
+pub read_text : (program : App) (simple : is_simple program ≡ true) (a : App) (m : ArgMatches) (words : List (List ℕ)) (id key : List ℕ) (given : Option (Bor (List ℕ)))
     → a ≡ program → HasMatchesOf a words m → key ≡ id → option_map (λ s. s.now) given ≡ first_value (found_of m) key
     → option_map (λ s. s.now) given ≡ first_of id (matches_of program words)
-read_text simple a m words id key given is has same read =
-    read ∙ (ap (first_value (found_of m)) same ∙ found_text simple a m words id is has)
+read_text program simple a m words id key given is has same read =
+    read ∙ (ap (first_value (found_of m)) same ∙ found_text program simple a m words id is has)
 
-pub word_is : {program : App} (simple : is_simple program ≡ true) (a : App) (m : ArgMatches) (words : List (List ℕ)) (id key : List ℕ) (given : Option (Bor (List ℕ))) (empty word : Bor (List ℕ)) (bytes : List ℕ)
+pub word_is : (program : App) (simple : is_simple program ≡ true) (a : App) (m : ArgMatches) (words : List (List ℕ)) (id key : List ℕ) (given : Option (Bor (List ℕ))) (empty word : Bor (List ℕ)) (bytes : List ℕ)
     → a ≡ program → HasMatchesOf a words m → key ≡ id → option_map (λ s. s.now) given ≡ first_value (found_of m) key
     → empty.now ≡ [] → word ≡ unwrap_or given empty → bytes ≡ word.now → bytes ≡ unwrap_or (first_of id (matches_of program words)) []
-word_is simple a m words id key given empty word bytes is has same read is_empty or_empty copied =
+word_is program simple a m words id key given empty word bytes is has same read is_empty or_empty copied =
     copied ∙ (ap (λ (s : Bor (List ℕ)). s.now) or_empty ∙ (value_or_empty given empty is_empty
-    ∙ ap (λ (o : Option (List ℕ)). unwrap_or o []) (read_text simple a m words id key given is has same read)))
+    ∙ ap (λ (o : Option (List ℕ)). unwrap_or o []) (read_text program simple a m words id key given is has same read)))

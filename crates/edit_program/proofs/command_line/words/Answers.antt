@@ -1,21 +1,22 @@
-use Rattle.std.proofs.Common.{rules, codes}
+use Rattle.std.proofs.Common.{rules, codes, refl}
 use Rattle.program_ends.proofs.WordLemmas.{word_is}
+use Rattle.edit_program.specs.Asked.{program}
 use Rattle.edit_program.proofs.WordLemmas.{depth_is, refused_is, copies_apart, flag_is}
 use Rattle.edit_program.proofs.command_line.words.Goals as goal
 
 pub returns-clause-map : goal.returns-clause-map
 returns-clause-map c =
-    word_is refl _ c.in_ok-matches.matches _ (codes "MAP") _ c.get_str-3.result _ c.unwrap_or.result _
+    word_is program refl _ c.in_ok-matches.matches _ (codes "MAP") _ c.get_str-3.result _ c.unwrap_or.result _
     c.in_ok-command.ensures c.in_ok-matches.ensures.ok.2 (search rules) c.get_str-3.ensures (search rules) c.unwrap_or.ensures c.in_ok-from_str.ensures.ok
 
 pub returns-clause-script : goal.returns-clause-script
 returns-clause-script c =
-    word_is refl _ c.in_ok-matches.matches _ (codes "SCRIPT") _ c.get_str-4.result _ c.unwrap_or-2.result _
+    word_is program refl _ c.in_ok-matches.matches _ (codes "SCRIPT") _ c.get_str-4.result _ c.unwrap_or-2.result _
     c.in_ok-command.ensures c.in_ok-matches.ensures.ok.2 (search rules) c.get_str-4.ensures (search rules) c.unwrap_or-2.ensures c.in_ok-from_str-2.ensures.ok
 
 pub returns-clause-out : goal.returns-clause-out
 returns-clause-out c =
-    word_is refl _ c.in_ok-matches.matches _ (codes "out") _ c.get_str-2.result _ c.unwrap_or-out.result _
+    word_is program refl _ c.in_ok-matches.matches _ (codes "out") _ c.get_str-2.result _ c.unwrap_or-out.result _
     c.in_ok-command.ensures c.in_ok-matches.ensures.ok.2 (search rules) c.get_str-2.ensures (search rules) c.unwrap_or-out.ensures c.in_ok-from_str-3.ensures.ok
 
 pub returns-clause-depth : goal.returns-clause-depth
