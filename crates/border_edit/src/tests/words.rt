@@ -1,5 +1,6 @@
 //! What the words of the program are read as.
 use edit_program::words;
+use program_ends::Stop;
 use std::alloc::{AllocError, Global};
 use std::test::Fail;
 

@@ -1,0 +1,130 @@
+#!/usr/bin/env python3
+"""Compares what the built border_mend tells of drawn maps with a search over all pairs.
+
+Each map has some drawn rings on a small grid, so that many are short or pass twice through a position, have vertices on
+others' sides, or cross. What border_mend must tell is worked out here from docs/FORMATS.md alone: every vertex against
+every segment, and every segment against every other. Where it tells `opens`, border_edit has to open the map, and
+nowhere else; where it does not, border_edit's fault has to be one that was told. A line at the end counts maps and faults.
+"""
+import argparse
+import itertools
+import json
+import pathlib
+import random
+import subprocess
+import tempfile
+
+TOP = pathlib.Path(__file__).resolve().parent.parent
+MEND = TOP / "crates/border_mend/out/border_mend"
+EDIT = TOP / "crates/border_edit/out/border_edit"
+
+
+def turn(a, b, c):
+    """Which way the line through a and b is left at c: the sign of twice the area of the triangle."""
+    area = (b[0] - a[0]) * (c[1] - a[1]) - (b[1] - a[1]) * (c[0] - a[0])
+    return (area > 0) - (area < 0)
+
+
+def is_within(p, a, b):
+    """Whether p lies on the segment and is none of its ends."""
+    inside = min(a[0], b[0]) <= p[0] <= max(a[0], b[0]) and min(a[1], b[1]) <= p[1] <= max(a[1], b[1])
+    return p not in (a, b) and inside and turn(a, b, p) == 0
+
+
+def cross(s, t):
+    """Whether the ends of each segment lie on different sides of the other."""
+    return turn(*s, t[0]) * turn(*s, t[1]) < 0 and turn(*t, s[0]) * turn(*t, s[1]) < 0
+
+
+def walk_of(ring):
+    """A closed ring of positions with equal neighbours once, and without the last one."""
+    once = [p for p, _ in itertools.groupby(ring)]
+    return once[:-1]
+
+
+def told(p):
+    return f"{p[0]} {p[1]}"
+
+
+def report(features):
+    """What border_mend must tell of these features, each a list of polygons, each a list of walks."""
+    lines, walks = [], []
+    for f, polygons in enumerate(features):
+        for p, rings in enumerate(polygons):
+            walks += [(f"{f} {p} {r}", walk) for r, walk in enumerate(rings)]
+    short = [f"short {at}" for at, walk in walks if len(walk) < 3]
+    repeats = [f"repeats {at} {told(p)}" for at, walk in walks for p in sorted(set(walk)) if walk.count(p) > 1]
+    vertices = sorted({p for _, walk in walks for p in walk})
+    edges = {tuple(sorted(e)) for _, walk in walks for e in zip(walk, walk[1:] + walk[:1]) if e[0] != e[1]}
+    segments = sorted(edges)
+    on = [f"on {told(p)} / {told(s[0])} {told(s[1])}" for p in vertices for s in segments if is_within(p, *s)]
+    crossing = [(s, t) for s, t in itertools.combinations(segments, 2) if cross(s, t)]
+    crosses = [f"cross {told(s[0])} {told(s[1])} / {told(t[0])} {told(t[1])}" for s, t in crossing]
+    lines = short + repeats + on + crosses or ["opens"]
+    return lines + [f"counts short {len(short)} repeats {len(repeats)} on {len(on)} cross {len(crosses)}"]
+
+
+def drawn(draw):
+    """A drawn topology, and its features as walks."""
+    arcs, features, geometries = [], [], []
+    for _ in range(draw.randint(1, 4)):
+        polygons = []
+        for _ in range(draw.randint(1, 2)):
+            rings = []
+            for _ in range(draw.randint(1, 2)):
+                corners = [(draw.randint(0, 6), draw.randint(0, 6)) for _ in range(draw.randint(1, 5))]
+                rings.append(corners + corners[:1])
+            polygons.append(rings)
+        features.append([[walk_of(ring) for ring in rings] for rings in polygons])
+        numbers = []
+        for rings in polygons:
+            numbers.append([[len(arcs) + k] for k in range(len(rings))])
+            arcs += [[list(p) for p in ring] for ring in rings]
+        geometries.append({"type": "MultiPolygon", "arcs": numbers})
+    layer = {"type": "GeometryCollection", "geometries": geometries}
+    return {"type": "Topology", "objects": {"drawn": layer}, "arcs": arcs}, features
+
+
+def first_fault(lines):
+    """How border_edit may name what stops a map of which border_mend tells these lines."""
+    kinds = {"short": "open: ring short", "repeats": "open: ring repeats", "on": "open: conflict", "cross": "open: conflict"}
+    return {kinds[line.split()[0]] for line in lines[:-1]}
+
+
+def fault_of(map, features, folder):
+    """What is wrong with the programs' answers to this map; None where nothing is."""
+    path, script, out = folder / "map.json", folder / "script.txt", folder / "out.json"
+    path.write_text(json.dumps(map))
+    script.write_text("")
+    wanted = report(features)
+    ran = subprocess.run([MEND, path, "--most", "4000000"], capture_output=True, text=True)
+    status = 0 if wanted[0] == "opens" else 1
+    if ran.stdout.splitlines() != wanted or ran.returncode != status or ran.stderr:
+        return f"told {ran.stdout!r} {ran.stderr!r}, status {ran.returncode}, and not {wanted}"
+    edited = subprocess.run([EDIT, path, script, "--out", out], capture_output=True, text=True)
+    if status == 0:
+        return None if edited.returncode == 0 else f"opens, but border_edit says {edited.stderr!r}"
+    named = edited.returncode == 2 and any(edited.stderr.startswith(it) for it in first_fault(wanted))
+    return None if named else f"{wanted[:-1]}, but border_edit ends with {edited.returncode} {edited.stderr!r}"
+
+
+def main():
+    words = argparse.ArgumentParser(description=__doc__, formatter_class=argparse.RawDescriptionHelpFormatter)
+    words.add_argument("--maps", type=int, default=1000, help="how many maps are drawn")
+    words.add_argument("--seed", type=int, default=1, help="what they are drawn from")
+    given = words.parse_args()
+    draw, faults, opening = random.Random(given.seed), 0, 0
+    with tempfile.TemporaryDirectory() as name:
+        for number in range(given.maps):
+            map, features = drawn(draw)
+            fault = fault_of(map, features, pathlib.Path(name))
+            opening += report(features)[0] == "opens"
+            if fault:
+                faults += 1
+                print(f"map {number}: {fault}")
+    print(f"{given.maps} maps, {opening} of which open, {faults} faults")
+    return 1 if faults else 0
+
+
+if __name__ == "__main__":
+    raise SystemExit(main())
