@@ -7,7 +7,8 @@ use Rattle.arc_tables.specs.declared.batch.Put.{Put}
 use Rattle.arc_tables.specs.Ways.{Edge, links, both_parts, times}
 use Rattle.arc_tables.specs.Edited.{gained}
 use Rattle.arc_tables.specs.Rings.{Rings, edges, begins, has_segment, users_of}
-use Rattle.arc_tables.specs.Stores.{without, including}
+use Rattle.arc_tables.specs.Stores.{including}
+use Rattle.arc_tables.specs.ShortLists.{without}
 use Rattle.arc_tables.specs.Users.{where_some}
 
 -- a path of three keys has two edges, and a ring of three keys has three

@@ -61,7 +61,7 @@ impl<A: Allocator + Copy> Borders<A> {
     pub fn end_arcs_at(&mut self, k: VertexKey) -> Result<(), AllocError>
         ensures { self.new ≡ self.old }
     {
-        match mark_end(self.tables.alloc, &mut self.tables.stands, k) {
+        match mark_end(&mut self.tables.stands, k) {
             Ok(()) => Ok(()),
             Err(e) => Err(e),
         }
