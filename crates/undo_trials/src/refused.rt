@@ -422,7 +422,11 @@ fn opened<R: Abort, A: Allocator + Copy>(rt: &R, alloc: Global, heap: A, calm: A
     let Some(map) = map_of(heap, alloc, SQUARES.as_bytes()) else {
         return None;
     };
-    let text = written(rt, alloc, calm, &map);
+    let Some(other) = map_of(alloc, alloc, SQUARES.as_bytes()) else {
+        return None;
+    };
+    let text = written(rt, alloc, alloc, &other);
+    drop(other);
     let is_there = is_begun(rt, alloc, heap, calm, map, text.as_slice());
     drop(text);
     Some(is_there)

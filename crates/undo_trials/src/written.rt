@@ -8,13 +8,18 @@ use std::alloc::{Allocator, Global};
 use std::process::Abort;
 use topo_writer::write;
 
-/// The text of the map. The heap refuses no growth.
+/// The text of the map. Its own heap may refuse a growth once; then it is written again.
 pub(crate) fn written<R: Abort, I: SegIndex, A: Allocator + Copy>(
     rt: &R,
     alloc: Global,
     calm: A,
     map: &Map<'_, I, A>,
 ) -> Vec<u8> {
+    let mut out = ToWriter::new(Vec::new(alloc));
+    if write(calm, map, &mut out).is_ok() {
+        return out.writer;
+    }
+    drop(out);
     let mut out = ToWriter::new(Vec::new(alloc));
     let is_whole = write(calm, map, &mut out).is_ok();
     assert!(rt; is_whole, "the map is written");
