@@ -34,6 +34,7 @@ pub mod RestorePlan
 pub mod NamedBack
 pub mod RingKeys
 pub mod NamedRings
+pub mod SharedNames
 pub mod NearLemmas
 pub mod PlacedMap
 pub mod ChangesCounted

@@ -64,6 +64,20 @@ module _ (d : DocumentOf ℕ) (numbers : List ℕ) where
         ∙ ap (map Some) (sym (take_more numbers i 0 l));
   }
 
+-- a name that was found is that of a number
+pub of_name : (d : DocumentOf ℕ) (found : List RingName) (numbers : List ℕ) → map (number_at d) found ≡ map Some numbers
+    → (n : RingName) → In n found → (r : ℕ) × In r numbers × (number_at d n ≡ Some r)
+of_name d found numbers are n i =
+    let k = in_mapped Some (number_at d n) numbers (subst (In (number_at d n)) are (in-map (number_at d) n found i)) in
+    (k.0, k.1, sym k.2)
+
+-- and the name of each number was found
+pub to_name : (d : DocumentOf ℕ) → are_distinct (rings d) ≡ true → (found : List RingName) (numbers : List ℕ)
+    → map (number_at d) found ≡ map Some numbers → (n : RingName) (r : ℕ) → number_at d n ≡ Some r → In r numbers → In n found
+to_name d once found numbers are n r e i =
+    let k = in_mapped (number_at d) (Some r) found (subst (In (Some r)) (sym are) (in-map Some r numbers i)) in
+    subst (λ z. In z found) (one_name d once k.0 n r k.2 e) k.1
+
 -- ---- different numbers have different names
 
 other_than : (n : ℕ) (ns : List ℕ) → AllByRecursion (λ y. y ≢ n) ns → (r : ℕ) → In r ns → r ≢ n
@@ -101,7 +115,7 @@ module _ (f : Framed) (m : Rings) (places : Placement) (whole : IsWhole (stored 
   s = stored f m places
 
   -- the ring with a name is the one under its number
-  ring_by_name : (name : RingName)
+  pub ring_by_name : (name : RingName)
       → ring_at (document_of s) name.feature name.polygon name.ring ≡ option_map (ring_under s) (number_at f.doc name)
   ring_by_name name = ring-in_rings (ring_under s) f.doc name.feature name.polygon name.ring
 
@@ -116,7 +130,7 @@ module _ (f : Framed) (m : Rings) (places : Placement) (whole : IsWhole (stored 
         ap (λ z. has_segment z (ring_under s r)) (sym (ap₂ segment (place_is places a p at_a) (place_is places b q at_b)))
         ∙ ring_has s whole a b (place_kept places a p at_a) (place_kept places b q at_b) r es e
 
-    has_of : (name : RingName) (r : ℕ) → number_at f.doc name ≡ Some r → HasSegment m a b r
+    pub has_of : (name : RingName) (r : ℕ) → number_at f.doc name ≡ Some r → HasSegment m a b r
         → RingHas (document_of s) t name
     has_of name r e h = record {
       positions = ring_under s r;
@@ -124,7 +138,7 @@ module _ (f : Framed) (m : Rings) (places : Placement) (whole : IsWhole (stored 
       has = has_by_keys r h.edges h.held ∙ h.has;
     }
 
-    of_has : (name : RingName) → RingHas (document_of s) t name
+    pub of_has : (name : RingName) → RingHas (document_of s) t name
         → (r : ℕ) × (number_at f.doc name ≡ Some r) × HasSegment m a b r
     of_has name h =
         let k = mapped_there (ring_under s) (number_at f.doc name) h.positions (sym (ring_by_name name) ∙ h.there) in
@@ -154,26 +168,14 @@ module _ (f : Framed) (m : Rings) (places : Placement) (whole : IsWhole (stored 
       found = names.found;
       appended = names.appended;
       all = λ n. (
-        λ c. let k = of_name n (contains_in names.found n c) in
+        λ c. let k = of_name f.doc names.found numbers names.are n (contains_in names.found n c) in
             has_of n k.0 k.2 ((l.all k.0).0 (listed k.0 k.1)),
         λ h. let k = of_has n h in
-            in_contains names.found n (to_name n k.0 k.1 (unlisted k.0 ((l.all k.0).1 k.2))),
+            in_contains names.found n (to_name f.doc whole.once names.found numbers names.are n k.0 k.1 (unlisted k.0 ((l.all k.0).1 k.2))),
       );
       once = named_once f.doc names.found numbers names.are (subst AllDifferent (sym l.appended) l.once);
     }
       where
-        -- a name that was found is that of a number
-        of_name : (n : RingName) → In n names.found → (r : ℕ) × In r numbers × (number_at f.doc n ≡ Some r)
-        of_name n i =
-            let k = in_mapped Some (number_at f.doc n) numbers (subst (In (number_at f.doc n)) names.are (in-map (number_at f.doc) n names.found i)) in
-            (k.0, k.1, sym k.2)
-
-        -- and the name of each number was found
-        to_name : (n : RingName) (r : ℕ) → number_at f.doc n ≡ Some r → In r numbers → In n names.found
-        to_name n r e i =
-            let k = in_mapped (number_at f.doc) (Some r) names.found (subst (In (Some r)) (sym names.are) (in-map Some r numbers i)) in
-            subst (λ z. In z names.found) (one_name f.doc whole.once k.0 n r k.2 e) k.1
-
         listed : (r : ℕ) → In r numbers → Contains l.found r
         listed r i = in_contains l.found r (subst (In r) l.appended i)
 

@@ -9,3 +9,4 @@ pub mod Recorded
 pub mod Splits
 pub mod Spots
 pub mod State
+pub mod Users

@@ -1,9 +1,12 @@
-ghost use Rattle.std.specs.Prelude.{◌≡◌, ℕ, length, Some, Contains, OnOk};
+ghost use Rattle.std.specs.Prelude.{◌≡◌, ℕ, [], length, unwrap_or, Some, Contains, OnOk};
+ghost use Rattle.grid_geometry.specs.Ring.{edges};
 ghost use Rattle.grid_geometry.specs.Segment.{segment};
 ghost use Rattle.map_frame.specs.Named.{number_at};
+ghost use Rattle.map_frame.specs.Readers.{ring_at};
 ghost use Rattle.map_frame.specs.declared.names.RingName.{RingName};
 ghost use Rattle.arc_store.specs.Named.{ListsNames, ListsRings};
 ghost use Rattle.arc_store.specs.Spots.{users};
+ghost use Rattle.arc_store.specs.Users.{ListsUsers};
 
 use crate::map::Map;
 use grid_geometry::{Pos, Seg};
@@ -59,6 +62,30 @@ impl<'a, I: SegIndex, A: Allocator + Copy> Map<'a, I, A> {
         };
         let mut numbers = Vec::new(self.rings.alloc);
         self.rings.borders.push_users(a, b, &mut numbers)?;
+        push_names(&self.frame, numbers.as_slice(), out)?;
+        Ok(())
+    }
+    /// Appends the rings that have a segment in common with this ring: of the feature with this
+    /// number the polygon, and of that the ring, where the outer ring is the first one, each
+    /// counted from 0. It is itself among them, and a ring may come several times; where there is
+    /// no such ring nothing is appended. Reads the arcs of the ring alone. Fails for want of memory
+    /// alone; some of the rings may then have been appended.
+    pub fn push_sharing<B: Allocator>(
+        &self,
+        feature: u32,
+        polygon: usize,
+        ring: usize,
+        out: &mut Vec<RingName, B>,
+    ) -> Result<(), AllocError>
+        ensures { OnOk result (ListsUsers self.now.doc
+            (edges (unwrap_or (ring_at self.now.doc feature polygon ring) []))
+            out.old.items out.new.items) }
+    {
+        let Some(number) = self.frame.ring(feature, polygon, ring) else {
+            return Ok(());
+        };
+        let mut numbers = Vec::new(self.rings.alloc);
+        self.rings.borders.push_sharing(number, &mut numbers)?;
         push_names(&self.frame, numbers.as_slice(), out)?;
         Ok(())
     }

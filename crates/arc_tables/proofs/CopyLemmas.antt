@@ -31,13 +31,13 @@ module _ {T : Type 0} (is_clone : T → T → Type 0) where
 module _ {A : Type 0} where
   -- copies have the same keys, rings, uses and arcs
   abbrev pub SameArc : Arc A → Arc A → Type 0
-  SameArc arc copy = (copy.keys.items ≡ arc.keys.items) × (copy.rings.items ≡ arc.rings.items)
+  SameArc arc copy = (copy.keys.items ≡ arc.keys.items) × (copy.rings ≡ arc.rings)
 
   abbrev pub SameUses : Ring A → Ring A → Type 0
   SameUses ring copy = copy.uses.items ≡ ring.uses.items
 
   abbrev pub SameStand : Stand A → Stand A → Type 0
-  SameStand stand copy = (copy.arcs.items ≡ stand.arcs.items) × (copy.ends ≡ stand.ends)
+  SameStand stand copy = (copy.arcs ≡ stand.arcs) × (copy.ends ≡ stand.ends)
 
   cloned_path : (o p : Option (Arc A)) → IsSlotClone SameArc o p → path_in p ≡ path_in o
   cloned_path None p h = ap path_in h
@@ -69,7 +69,7 @@ module _ {A : Type 0} where
     (λ k. cloned_there SameUses (get s k) (get t k) (cloned_at SameUses s t c k)),
   )
 
-  cloned_lists : (ss ts : List (Stand A)) → AllZip SameStand ss ts → map (λ (s : Stand A). s.arcs.items) ts ≡ map (λ (s : Stand A). s.arcs.items) ss
+  cloned_lists : (ss ts : List (Stand A)) → AllZip SameStand ss ts → map (λ (s : Stand A). s.arcs) ts ≡ map (λ (s : Stand A). s.arcs) ss
   cloned_lists [] [] h = refl
   cloned_lists [] (t ∷ ts) h = absurd h
   cloned_lists (s ∷ ss) [] h = absurd h

@@ -18,7 +18,8 @@ use Rattle.arc_tables.specs.declared.arc.Ring.{Ring}
 use Rattle.arc_tables.specs.declared.tables.Tables.{Tables}
 use Rattle.arc_tables.specs.Ways.{Edge, links, walk, chain, is_seg, one, times}
 use Rattle.arc_tables.specs.Rings.{has_segment, users_of}
-use Rattle.arc_tables.specs.Stores.{path_of, users_in, uses_in, uses_arc, without, AllDifferent, IsPlace}
+use Rattle.arc_tables.specs.Stores.{path_of, users_in, uses_in, uses_arc, AllDifferent, IsPlace}
+use Rattle.arc_tables.specs.ShortLists.{without}
 use Rattle.arc_tables.specs.Sound.{edges_in, rings_of, Sound}
 use Rattle.arc_tables.proofs.Different.{in_without, from_without, different_without, length-without}
 use Rattle.arc_tables.proofs.Moves.{links-reverse, times-append, times-flipped}

@@ -7,7 +7,8 @@ use Rattle.std.proofs.lemmas.Bool.{false≢true}
 use Rattle.std.proofs.lemmas.Bool.Decides.{Decides-eqb}
 use Rattle.std.proofs.lemmas.List.Elements.{Contains-append_left, Contains-push, Contains-push_cases}
 use Rattle.slab.proofs.SlabLemmas.{Contains-cons, Contains-cons_cases}
-use Rattle.arc_tables.specs.Stores.{AllDifferent, without, including}
+use Rattle.arc_tables.specs.Stores.{AllDifferent, including}
+use Rattle.arc_tables.specs.ShortLists.{without}
 
 pub none_contained : (k : ℕ) (xs : List ℕ) → xs ≡ [] → Contains xs k → ⊥
 none_contained k xs e m = absurd (omega (arith, (subst (λ z. Contains z k) e m).1))

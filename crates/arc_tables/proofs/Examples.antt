@@ -7,7 +7,9 @@ use Rattle.arc_tables.specs.declared.batch.Put.{Put}
 use Rattle.arc_tables.specs.Ways.{Edge, links, both_parts, times}
 use Rattle.arc_tables.specs.Edited.{gained}
 use Rattle.arc_tables.specs.Rings.{Rings, edges, begins, has_segment, users_of}
-use Rattle.arc_tables.specs.Stores.{without, including}
+use Rattle.arc_tables.specs.Stores.{including}
+use Rattle.arc_tables.specs.ShortLists.{without}
+use Rattle.arc_tables.specs.Users.{where_some}
 
 -- a path of three keys has two edges, and a ring of three keys has three
 path_edges : links {A = ℕ} (7 ∷ 8 ∷ 9 ∷ []) ≡ (7, 8) ∷ (8, 9) ∷ []
@@ -35,6 +37,13 @@ known_already = refl
 
 learnt : including 4 (3 ∷ 5 ∷ []) ≡ 3 ∷ 5 ∷ 4 ∷ []
 learnt = refl
+
+-- an arc of one vertex has no segment in common with any ring, and one of two has
+no_segment : where_some (7 ∷ []) (3 ∷ 5 ∷ []) ≡ []
+no_segment = refl
+
+one_segment : where_some (7 ∷ 8 ∷ []) (3 ∷ 5 ∷ []) ≡ 3 ∷ 5 ∷ []
+one_segment = refl
 
 -- two squares, under 0 and 2, of which the second is gone round the other way
 abbrev squares : List (ℕ × List Edge)

@@ -19,5 +19,6 @@ pub mod Putting
 pub mod Counting
 pub mod Gaining
 pub mod UserLemmas
+pub mod SharingLemmas
 pub mod CopyLemmas
 mod Examples

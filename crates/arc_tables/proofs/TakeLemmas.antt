@@ -13,7 +13,8 @@ use Rattle.arc_tables.specs.declared.arc.Use.{Use}
 use Rattle.arc_tables.specs.declared.arc.Arc.{Arc}
 use Rattle.arc_tables.specs.declared.arc.Ring.{Ring}
 use Rattle.arc_tables.specs.Ways.{TakesOut}
-use Rattle.arc_tables.specs.Stores.{path_in, users_in, uses_in, store_of, uses_arc, without, AllDifferent}
+use Rattle.arc_tables.specs.Stores.{path_in, users_in, uses_in, store_of, uses_arc, AllDifferent}
+use Rattle.arc_tables.specs.ShortLists.{without}
 use Rattle.arc_tables.specs.Stores.{Known, StaysOrGoes}
 use Rattle.arc_tables.proofs.Different.{none_contained, in_without, from_without, without_absent, without_twice, different_without}
 use Rattle.arc_tables.proofs.CutLemmas.{or_left, or_right, or_split}

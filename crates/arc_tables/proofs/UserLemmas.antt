@@ -26,12 +26,21 @@ module _ {A : Type 0} where
 
   module _ (t : Tables A) (a b : ℕ) where
     -- the arcs of a ring with the segment
-    arc_used : (r : ℕ) → HasSegment (rings_of t) a b r
+    pub arc_used : (r : ℕ) → HasSegment (rings_of t) a b r
         → (n : ℕ) × (uses_arc n (uses_in (get t.rings r)) ≡ true) × (1 ≤ times a b (links (path_of t n)))
     arc_used r h =
         let es = edges_there (path_of t) (get t.rings r) h.edges (sym (get_rings t r) ∙ h.held) in
         chain_uses a b (path_of t) (uses_in (get t.rings r))
         (segment_times a b (chain (path_of t) (uses_in (get t.rings r))) (ap (has_segment a b) (sym es) ∙ h.has))
+
+    -- a ring that uses an arc with the segment has it
+    pub has_used : Sound t → (n r : ℕ) → 1 ≤ times a b (links (path_of t n)) → uses_arc n (uses_in (get t.rings r)) ≡ true
+        → HasSegment (rings_of t) a b r
+    has_used s n r l u = record {
+      edges = chain (path_of t) (uses_in (get t.rings r));
+      held = ring_here t r (used_there n (get t.rings r) u);
+      has = times_segment a b (chain (path_of t) (uses_in (get t.rings r))) (chain_has a b (path_of t) n (uses_in (get t.rings r)) l u);
+    }
 
     -- arc n has the segment
     pub listed_here : Sound t → (n : ℕ) → 1 ≤ times a b (links (path_of t n)) → (old new users : List ℕ)
@@ -40,11 +49,7 @@ module _ {A : Type 0} where
       found = users_in (get t.arcs n);
       appended = e ∙ ap (λ z. old ++ z) is;
       all = λ r. (
-        λ m. let u = s.whole.known.used r n m in record {
-          edges = chain (path_of t) (uses_in (get t.rings r));
-          held = ring_here t r (used_there n (get t.rings r) u);
-          has = times_segment a b (chain (path_of t) (uses_in (get t.rings r))) (chain_has a b (path_of t) n (uses_in (get t.rings r)) l u);
-        },
+        λ m. has_used s n r l (s.whole.known.used r n m),
         λ h. let u = arc_used r h in
             s.whole.known.users r n (subst (λ z. uses_arc z (uses_in (get t.rings r)) ≡ true) (s.once.apart a b u.0 n u.2 l) u.1),
       );

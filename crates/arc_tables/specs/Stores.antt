@@ -1,7 +1,7 @@
 -- What the tables of arcs, of rings and of vertices hold.
-use Rattle.std.specs.Prelude.{ℕ, ◌≡◌, ◌≢◌, ◌⊎◌, ◌<◌, ◌≤◌, ◌+◌, ◌==◌, not, if◌then◌else◌}
+use Rattle.std.specs.Prelude.{ℕ, ◌≡◌, ◌≢◌, ◌⊎◌, ◌<◌, ◌≤◌, ◌+◌, ◌==◌, if◌then◌else◌}
 use Rattle.std.specs.Prelude.{Bool, true, Option, Some, None, is_some, Result, IfOk, OnErr, vec_len, vec_capacity}
-use Rattle.std.specs.Prelude.{List, [], ◌∷◌, ◌++◌, take, map, filter, Contains, length, get_or}
+use Rattle.std.specs.Prelude.{List, [], ◌∷◌, ◌++◌, take, map, Contains, length, get_or}
 use Rattle.std.specs.Option.{option_map_or}
 use Rattle.std.specs.List.{list_any, flat_map, AllByRecursion}
 use Rattle.slab.specs.Slab.{Slab, get, ContainsKey}
@@ -32,10 +32,6 @@ abbrev pub AllDifferent : List ℕ → Type 0
 AllDifferent [] = Unit {0}
 AllDifferent (x ∷ xs) = AllByRecursion (λ y. y ≢ x) xs × AllDifferent xs
 
--- the list without this number
-abbrev pub without : ℕ → List ℕ → List ℕ
-without r xs = filter (λ k. not (k == r)) xs
-
 -- the list with this number, which comes last where it is new
 abbrev pub including : ℕ → List ℕ → List ℕ
 including r xs = if list_any (λ k. k == r) xs then xs else xs ++ r ∷ []
@@ -47,7 +43,7 @@ module _ {A : Type 0} where
 
   -- the rings that an arc is said to be in
   abbrev pub users_in : Option (Arc A) → List ℕ
-  users_in o = option_map_or (λ a. a.rings.items) o []
+  users_in o = option_map_or (λ a. a.rings) o []
 
   -- the uses of a ring
   abbrev pub uses_in : Option (Ring A) → List Use
@@ -58,7 +54,7 @@ module _ {A : Type 0} where
 
   -- the arcs that are listed for a vertex
   abbrev pub stand_at : List (Stand A) → ℕ → List ℕ
-  stand_at stands k = get_or (map (λ s. s.arcs.items) stands) k []
+  stand_at stands k = get_or (map (λ s. s.arcs) stands) k []
 
   -- an arc has each ring that uses it, once, and no other, and an arc that is there is used
   pub record Known (arcs : Slab (Arc A)) (rings : Slab (Ring A)) : Type 0 where

@@ -1,4 +1,5 @@
 //! Arcs, the rings that use them, and the arcs that a vertex stands in.
+use crate::short_list::ShortList;
 use std::alloc::{Allocator, Global};
 use vertex_index::VertexKey;
 
@@ -17,7 +18,7 @@ pub struct Arc<A: Allocator + Copy = Global> {
     /// The keys of its vertices, in order.
     pub keys: Vec<VertexKey, A>,
     /// The numbers of the rings that use it, each once.
-    pub rings: Vec<usize, A>,
+    pub rings: ShortList<A>,
 }
 
 /// A ring, by its uses of arcs.
@@ -31,7 +32,7 @@ pub struct Ring<A: Allocator + Copy = Global> {
 #[derive(Drop)]
 pub struct Stand<A: Allocator + Copy = Global> {
     /// The numbers of the arcs that it stands in, and perhaps of others.
-    pub arcs: Vec<usize, A>,
+    pub arcs: ShortList<A>,
     /// Whether new arcs end at it.
     pub ends: bool,
 }

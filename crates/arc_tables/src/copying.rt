@@ -9,7 +9,7 @@ use std::alloc::{AllocError, Allocator};
 impl<A: Allocator + Copy> Clone for Arc<A> {
     ghost use Rattle.std.specs.Prelude.{◌≡◌};
 
-    ghost is_clone = { λ arc copy. (copy.keys.items ≡ arc.keys.items) × (copy.rings.items ≡ arc.rings.items) };
+    ghost is_clone = { λ arc copy. (copy.keys.items ≡ arc.keys.items) × (copy.rings ≡ arc.rings) };
 
     fn clone(&self) -> Result<Arc<A>, AllocError> {
         Ok(Arc {
@@ -34,7 +34,7 @@ impl<A: Allocator + Copy> Clone for Ring<A> {
 impl<A: Allocator + Copy> Clone for Stand<A> {
     ghost use Rattle.std.specs.Prelude.{◌≡◌};
 
-    ghost is_clone = { λ stand copy. (copy.arcs.items ≡ stand.arcs.items) × (copy.ends ≡ stand.ends) };
+    ghost is_clone = { λ stand copy. (copy.arcs ≡ stand.arcs) × (copy.ends ≡ stand.ends) };
 
     fn clone(&self) -> Result<Stand<A>, AllocError> {
         Ok(Stand {

@@ -9,6 +9,7 @@ ghost use Rattle.arc_tables.specs.Stores.{path_in, users_in, uses_in, path_of, s
 ghost use Rattle.arc_tables.specs.Stores.{Whole, HasRing, IsPut, Doubles, SameKeys, EndsAt};
 
 use crate::arc::{Arc, NewUses, Ring, Use};
+use crate::short_list::ShortList;
 use crate::standing::{note, unlist_moved};
 use crate::tables::Tables;
 use slab::Slab;
@@ -91,7 +92,7 @@ fn part<A: Allocator + Copy>(
     i: usize,
     len: usize,
     tail: Vec<VertexKey, A>,
-    rings: Vec<usize, A>,
+    rings: ShortList<A>,
 ) -> usize
     requires room { HasRoomFor arcs.old 1 }
     requires there { ContainsKey arcs.old i }
@@ -102,7 +103,7 @@ fn part<A: Allocator + Copy>(
     ensures second { path_in (get arcs.new result) ≡ tail.items }
     ensures others { (j : ℕ) → j ≢ i → j ≢ result → get arcs.new j ≡ get arcs.old j }
     ensures users { users_in (get arcs.new i) ≡ users_in (get arcs.old i) }
-    ensures new_users { users_in (get arcs.new result) ≡ rings.items }
+    ensures new_users { users_in (get arcs.new result) ≡ rings }
     ensures kept { (j : ℕ) → ContainsKey arcs.old j → ContainsKey arcs.new j }
     ensures there { ContainsKey arcs.new result }
 {
@@ -141,7 +142,7 @@ impl<A: Allocator + Copy> Tables<A> {
         let n = self.arcs.vacant_key();
         let arc = self.arcs.get(i).unwrap();
         let tail = Vec::from_slice(self.alloc, &arc.keys[at..])?;
-        let users = Vec::from_slice(self.alloc, arc.rings.as_slice())?;
+        let users = arc.rings.clone()?;
         let news = plan_uses(self.alloc, &self.rings, users.as_slice(), i, n)?;
         note(self.alloc, &mut self.stands, tail.as_slice(), n)?;
         part(&mut self.arcs, i, at + 1, tail, users);

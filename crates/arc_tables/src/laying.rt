@@ -12,6 +12,7 @@ ghost use Rattle.arc_tables.specs.Stores.{GoesOn, Advances, WholeWith, Learns, H
 
 use crate::arc::{Arc, Ring, Use};
 use crate::place::{Place, agreed, agreed_back};
+use crate::short_list::ShortList;
 use crate::standing::{list_arc, note};
 use crate::tables::Tables;
 use slab::Slab;
@@ -81,6 +82,7 @@ fn is_known<A: Allocator + Copy>(
 
 /// Arc `i` learns that ring `r` uses it, unless it knows.
 fn learn<A: Allocator + Copy>(
+    alloc: A,
     arcs: &mut Slab<Arc<A>, A>,
     i: usize,
     r: usize,
@@ -96,8 +98,7 @@ fn learn<A: Allocator + Copy>(
         return Ok(());
     }
     let arc = arcs.get_mut(i).unwrap();
-    arc.rings.push(r)?;
-    Ok(())
+    arc.rings.push(alloc, r)
 }
 
 /// Arc `n` has one more key.
@@ -139,7 +140,7 @@ impl<A: Allocator + Copy> Tables<A> {
         self.arcs.reserve(1)?;
         let n = self.arcs.vacant_key();
         let keys = Vec::from_slice(self.alloc, &[a, b])?;
-        let users = Vec::from_slice(self.alloc, &[r])?;
+        let users = ShortList::of(r);
         note(self.alloc, &mut self.stands, keys.as_slice(), n)?;
         reserve_use(&mut self.rings, r)?;
         go_on(
@@ -182,7 +183,7 @@ impl<A: Allocator + Copy> Tables<A> {
     {
         let known = is_known(&self.arcs, &self.rings, i, r);
         reserve_use(&mut self.rings, r)?;
-        learn(&mut self.arcs, i, r, known)?;
+        learn(self.alloc, &mut self.arcs, i, r, known)?;
         go_on(&mut self.rings, r, Use { arc: i, back });
         Ok(())
     }

@@ -141,7 +141,7 @@ impl<A: Allocator + Copy> Tables<A> {
         match self.find_from(*near, a, b) {
             Some(place) => {
                 *near = Some(place);
-                self.arcs.get(place.arc).unwrap().rings.len()
+                self.arcs.get(place.arc).unwrap().rings.as_slice().len()
             }
             None => 0,
         }

@@ -4,22 +4,19 @@ ghost use Rattle.std.specs.List.{list_any};
 ghost use Rattle.arc_tables.specs.Stores.{stand_at, ListsMore, UnlistsOnly, UnlistsOff};
 
 use crate::arc::Stand;
-use crate::numbers::{include, take_from};
+use crate::numbers::include;
+use crate::short_list::ShortList;
 use std::alloc::{AllocError, Allocator};
 use vertex_index::VertexKey;
 
 /// Makes the table long enough for vertex `k`.
-fn reach<A: Allocator + Copy>(
-    alloc: A,
-    stands: &mut Vec<Stand<A>, A>,
-    k: VertexKey,
-) -> Result<(), AllocError>
+fn reach<A: Allocator + Copy>(stands: &mut Vec<Stand<A>, A>, k: VertexKey) -> Result<(), AllocError>
     ensures kept { (j : ℕ) → stand_at stands.new.items j ≡ stand_at stands.old.items j }
     ensures ok { OnOk result (k < vec_len stands.new) }
 {
     while stands.len() <= k.index() {
         stands.push(Stand {
-            arcs: Vec::new(alloc),
+            arcs: ShortList::new(),
             ends: false,
         })?;
     }
@@ -36,9 +33,9 @@ pub(crate) fn list_arc<A: Allocator + Copy>(
     ensures kept { ListsMore stands.old.items stands.new.items }
     ensures listed { OnOk result (Contains (stand_at stands.new.items k) n) }
 {
-    reach(alloc, stands, k)?;
+    reach(stands, k)?;
     let stand = stands.get_mut(k.index()).unwrap();
-    include(&mut stand.arcs, n)
+    include(alloc, &mut stand.arcs, n)
 }
 
 /// Lists arc `n` for each of these vertices.
@@ -64,7 +61,7 @@ fn unlist<A: Allocator + Copy>(stands: &mut Vec<Stand<A>, A>, k: VertexKey, i: u
     ensures others { (j : ℕ) → j ≢ k → stand_at stands.new.items j ≡ stand_at stands.old.items j }
 {
     if let Some(stand) = stands.get_mut(k.index()) {
-        take_from(&mut stand.arcs, i);
+        stand.arcs.take_out(i);
     }
 }
 
@@ -119,13 +116,12 @@ pub(crate) fn unlist_moved<A: Allocator + Copy>(
 
 /// New arcs end at vertex `k` from now on. Fails for want of memory alone.
 pub fn mark_end<A: Allocator + Copy>(
-    alloc: A,
     stands: &mut Vec<Stand<A>, A>,
     k: VertexKey,
 ) -> Result<(), AllocError>
     ensures { ListsMore stands.old.items stands.new.items }
 {
-    reach(alloc, stands, k)?;
+    reach(stands, k)?;
     let stand = stands.get_mut(k.index()).unwrap();
     stand.ends = true;
     Ok(())

@@ -47,7 +47,7 @@ fn mark<R: Abort>(
     requires { Whole tables.old }
     ensures { Whole tables.new }
 {
-    mark_end(tables.alloc, &mut tables.stands, key(rt, keys, n))
+    mark_end(&mut tables.stands, key(rt, keys, n))
 }
 
 /// How many arcs are listed for each vertex.

@@ -25,7 +25,8 @@ use Rattle.arc_store.specs.Near.{ListsNear}
 use Rattle.feature_exchange.proofs.Ends.{segment_ends}
 use Rattle.arc_store.proofs.Indexed.{in_segments, segment_in}
 use Rattle.ring_machine.proofs.Members.{contains_in, in_contains, in_mapped, in_flat, any_in, in_any}
-use Rattle.point_queries.specs.Users.{HasOne, ListsUsers, IsSorted, on_edge}
+use Rattle.arc_store.specs.Users.{HasOne, ListsUsers}
+use Rattle.point_queries.specs.Users.{IsSorted, on_edge}
 use Rattle.point_queries.proofs.Ascending.{numbers_are}
 use Rattle.arc_store.proofs.FrameNames.{ring_named}
 use Rattle.point_queries.proofs.SharedBorders.{named_ring}

@@ -23,7 +23,8 @@ use Rattle.ring_machine.proofs.Members.{contains_in, in_contains, in_filter, in_
 use Rattle.map_frame.proofs.NamedForgotten.{element_is}
 use Rattle.map_frame.proofs.ReadFeatures.{in_get}
 use Rattle.arc_store.proofs.FrameNames.{ring_named}
-use Rattle.point_queries.specs.Users.{HasOne, ListsUsers, IsSorted}
+use Rattle.arc_store.specs.Users.{HasOne, ListsUsers}
+use Rattle.point_queries.specs.Users.{IsSorted}
 use Rattle.point_queries.proofs.Ascending.{numbers_are}
 
 -- ---- the feature with a number

@@ -1,6 +1,6 @@
 -- The rings that have a segment of some edges, an edge and a ring at a time.
 use Rattle.std.proofs.Common.{◌≡◌, ℕ, ◌+◌, ◌<◌, refl, sym, ap, ◌∙◌, subst, List, [], ◌∷◌, ◌++◌, take, length}
-use Rattle.std.proofs.Common.{get_or, append_assoc, inl, inr, arith, cond, true, false}
+use Rattle.std.proofs.Common.{get_or, append_assoc, inl, inr, cond, true, false}
 use Rattle.std.specs.List.{flat_map}
 use Rattle.std.proofs.lemmas.List.{append-nil, take_more}
 use Rattle.std.proofs.lemmas.List.Concat.{flat_map-append}
@@ -13,14 +13,9 @@ use Rattle.ring_machine.proofs.First.{in-append, in_left, in_right}
 use Rattle.map_frame.specs.declared.names.RingName.{RingName}
 use Rattle.arc_store.specs.Named.{RingHas, ListsRings}
 use Rattle.ring_machine.proofs.Members.{contains_in, in_contains}
-use Rattle.point_queries.specs.Users.{ListsUsers, on_edge}
-
-pub users_none : (d : Document) (old : List RingName) → ListsUsers d [] old old
-users_none d old = record {
-  found = [];
-  appended = sym (append-nil old);
-  all = λ name. (λ c. absurd (omega (arith, c.1)), λ h. absurd (contains_in [] h.edge h.there));
-}
+use Rattle.arc_store.specs.Users.{ListsUsers}
+use Rattle.arc_store.proofs.SharedNames.{users_none}
+use Rattle.point_queries.specs.Users.{on_edge}
 
 pub users_one : (d : Document) (p q : Position) (old new : List RingName)
     → ListsRings d (segment p q) old new → ListsUsers d ((p, q) ∷ []) old new

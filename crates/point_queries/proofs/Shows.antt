@@ -11,7 +11,7 @@ use Rattle.ring_machine.specs.Refusals.{feature_at, or_else, no_feature}
 use Rattle.map_frame.specs.Readers.{Shown, shown, element, ring_at}
 
 -- the ring with these numbers, and none where there is no such ring
-ring_is : (d : Document) (n polygon ring : ℕ) → unwrap_or (ring_at d n polygon ring) [] ≡ get_or (get_or (feature_at d n).polygons polygon []) ring []
+pub ring_is : (d : Document) (n polygon ring : ℕ) → unwrap_or (ring_at d n polygon ring) [] ≡ get_or (get_or (feature_at d n).polygons polygon []) ring []
 ring_is d n polygon ring = of_feature (feature d n)
   where
     of_polygon : (o : Option (List (List Position))) → unwrap_or (element o ring) [] ≡ get_or (unwrap_or o []) ring []

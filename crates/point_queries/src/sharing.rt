@@ -6,7 +6,7 @@ ghost use Rattle.grid_geometry.specs.Ring.{edges};
 ghost use Rattle.ring_machine.specs.Parts.{has_feature};
 ghost use Rattle.ring_machine.specs.Query as query;
 ghost use Rattle.ring_machine.specs.Refusals.{feature_at};
-ghost use Rattle.point_queries.specs.Users.{ListsUsers};
+ghost use Rattle.arc_store.specs.Users.{ListsUsers};
 ghost use Rattle.point_queries.specs.Told.{Tells};
 
 use crate::numbers::{Numbers, sort_once};
@@ -34,33 +34,6 @@ impl From<AllocError> for QueryFault {
     }
 }
 
-/// Appends the rings that have a segment of this ring. Fails for want of memory alone.
-fn push_ring<'a, I: SegIndex, A: Allocator + Copy>(
-    map: &Map<'a, I, A>,
-    f: u32,
-    polygon: usize,
-    ring: usize,
-    out: &mut Vec<RingName, A>,
-) -> Result<(), AllocError>
-    ensures { OnOk result (ListsUsers map.now.doc
-        (edges (get_or (get_or (feature_at map.now.doc f).polygons polygon []) ring []))
-        out.old.items out.new.items) }
-{
-    let Some(mut positions) = map.ring(f, polygon, ring) else {
-        return Ok(());
-    };
-    let Some(first) = positions.next() else {
-        return Ok(());
-    };
-    let mut from = first;
-    for to in positions {
-        map.push_users(from, to, out)?;
-        from = to;
-    }
-    map.push_users(from, first, out)?;
-    Ok(())
-}
-
 /// Appends the rings that have a segment of this polygon, which has so many rings. Fails for want of
 /// memory alone.
 fn push_polygon<'a, I: SegIndex, A: Allocator + Copy>(
@@ -76,7 +49,7 @@ fn push_polygon<'a, I: SegIndex, A: Allocator + Copy>(
         out.old.items out.new.items) }
 {
     for ring in 0..rings {
-        push_ring(map, f, polygon, ring, out)?;
+        map.push_sharing(f, polygon, ring, out)?;
     }
     Ok(())
 }
@@ -100,7 +73,7 @@ fn others<A: Allocator + Copy>(
 }
 
 /// The numbers of the other features that have a segment in common with the feature with this
-/// number, ascending. Reads the rings of the feature, and the arcs at their positions.
+/// number, ascending. Reads the arcs of the rings of the feature alone.
 pub fn neighbours<'a, I: SegIndex, A: Allocator + Copy>(
     alloc: A,
     map: &Map<'a, I, A>,

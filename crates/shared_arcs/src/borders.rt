@@ -2,7 +2,7 @@
 ghost use Rattle.std.specs.Prelude.{◌≡◌, ◌≤◌, ◌++◌, true, None, IfOk, OnOk, OnErr, IfSome, length};
 ghost use Rattle.std.specs.FinMap as map;
 ghost use Rattle.arc_tables.specs.Rings.{begins, edges, users_of};
-ghost use Rattle.arc_tables.specs.Users.{ListsUsers};
+ghost use Rattle.arc_tables.specs.Users.{ListsUsers, ListsSharing};
 
 use crate::reading::push_ring_keys;
 use arc_tables::{Place, Tables, mark_end};
@@ -61,7 +61,7 @@ impl<A: Allocator + Copy> Borders<A> {
     pub fn end_arcs_at(&mut self, k: VertexKey) -> Result<(), AllocError>
         ensures { self.new ≡ self.old }
     {
-        match mark_end(self.tables.alloc, &mut self.tables.stands, k) {
+        match mark_end(&mut self.tables.stands, k) {
             Ok(()) => Ok(()),
             Err(e) => Err(e),
         }
@@ -119,6 +119,22 @@ impl<A: Allocator + Copy> Borders<A> {
         ensures { OnOk result (ListsUsers self.now a b out.old.items out.new.items) }
     {
         match self.tables.push_users(a, b, out) {
+            Ok(()) => Ok(()),
+            Err(e) => Err(e),
+        }
+    }
+
+    /// Appends the numbers of the rings that have a segment in common with ring `r`, itself among
+    /// them, some perhaps several times; none where no such ring is held. Fails for want of memory
+    /// alone; some of them may then have been appended.
+    pub fn push_sharing<B: Allocator>(
+        &self,
+        r: usize,
+        out: &mut Vec<usize, B>,
+    ) -> Result<(), AllocError>
+        ensures { OnOk result (ListsSharing self.now r out.old.items out.new.items) }
+    {
+        match self.tables.push_sharing(r, out) {
             Ok(()) => Ok(()),
             Err(e) => Err(e),
         }

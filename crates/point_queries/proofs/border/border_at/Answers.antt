@@ -1,7 +1,8 @@
 use Rattle.std.proofs.Common.{◌∙◌, ap, subst, [], map}
 use Rattle.std.specs.List.{flat_map}
 use Rattle.arc_store.specs.Near.{ListsNear}
-use Rattle.point_queries.specs.Users.{ListsUsers, on_edge}
+use Rattle.arc_store.specs.Users.{ListsUsers}
+use Rattle.point_queries.specs.Users.{on_edge}
 use Rattle.point_queries.proofs.OnBorders.{box_at, border_are}
 use Rattle.point_queries.proofs.border.border_at.Goals as goal
 

@@ -1,6 +1,7 @@
 use Rattle.std.proofs.Common.{take}
 use Rattle.std.specs.List.{flat_map}
-use Rattle.point_queries.specs.Users.{ListsUsers, on_edge}
+use Rattle.arc_store.specs.Users.{ListsUsers}
+use Rattle.point_queries.specs.Users.{on_edge}
 use Rattle.point_queries.proofs.border.push_on.Given as goal
 
 -- the rings of the segments so far

@@ -7,7 +7,7 @@ use Rattle.grid_geometry.specs.Ring.{edges}
 use Rattle.ring_machine.specs.Parts.{has_feature}
 use Rattle.ring_machine.specs.Refusals.{feature_at}
 use Rattle.point_queries.specs.Told.{Tells}
-use Rattle.point_queries.specs.Users.{ListsUsers}
+use Rattle.arc_store.specs.Users.{ListsUsers}
 use Rattle.point_queries.proofs.SharedBorders.{edges_of, shown_number, neighbours_are}
 use Rattle.point_queries.proofs.Sharers.{users_more}
 use Rattle.point_queries.proofs.Shows.{numbers_shown, count_is, is_shown}

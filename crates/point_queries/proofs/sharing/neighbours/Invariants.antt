@@ -2,7 +2,7 @@ use Rattle.std.proofs.Common.{[], take}
 use Rattle.std.specs.List.{flat_map}
 use Rattle.grid_geometry.specs.Ring.{edges}
 use Rattle.ring_machine.specs.Refusals.{feature_at}
-use Rattle.point_queries.specs.Users.{ListsUsers}
+use Rattle.arc_store.specs.Users.{ListsUsers}
 use Rattle.point_queries.proofs.sharing.neighbours.Given as goal
 
 -- the rings that have a segment of the polygons so far

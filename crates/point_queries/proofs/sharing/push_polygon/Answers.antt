@@ -2,8 +2,9 @@ use Rattle.std.proofs.Common.{◌<◌, ◌≤◌, subst, [], length, get_or, ari
 use Rattle.std.specs.List.{flat_map}
 use Rattle.grid_geometry.specs.Ring.{edges}
 use Rattle.ring_machine.specs.Refusals.{feature_at}
-use Rattle.point_queries.specs.Users.{ListsUsers}
+use Rattle.arc_store.specs.Users.{ListsUsers}
 use Rattle.point_queries.proofs.Sharers.{users_more}
+use Rattle.point_queries.proofs.Shows.{ring_is}
 use Rattle.point_queries.proofs.sharing.push_polygon.Goals as goal
 
 pub loop-ring-preserved : goal.loop-ring-preserved
@@ -11,8 +12,10 @@ loop-ring-preserved g c =
     let d = c.args.map.now.doc in
     let rings = get_or (feature_at d c.args.f).polygons c.args.polygon [] in
     let within : c.loop-ring.ring < length rings = omega (arith, c.requires, c.loop-ring-test.true) in
-    users_more edges d rings c.loop-ring.ring [] c.args.out.now.items c.loop-ring.out.items c.push_ring.new.out.items within
-    c.loop-ring.invariant c.in_ok-push_ring.ensures
+    let old = c.loop-ring.out.items in
+    let new = c.push_sharing.new.out.items in
+    users_more edges d rings c.loop-ring.ring [] c.args.out.now.items old new within c.loop-ring.invariant
+    (subst (λ ps. ListsUsers d (edges ps) old new) (ring_is d c.args.f c.args.polygon c.loop-ring.ring) c.in_ok-push_sharing.ensures)
 
 pub returns : goal.returns
 returns g c =

@@ -18,7 +18,7 @@ same g c j = ap (λ s. get s j) c.reserve.ensures.rest_kept
 key : (g : Over) (c : goal.After-unlist_moved g) → c.part.result ≡ c.vacant_key-n.result
 key g c = c.part.ensures.key ∙ sym c.vacant_key-n.ensures.value
 
-parted : (g : Over) (c : goal.After-unlist_moved g) → Parted c.args.self.now.arcs c.part.new.arcs c.args.i c.vacant_key-n.result c.args.at c.in_ok-users.users.items
+parted : (g : Over) (c : goal.After-unlist_moved g) → Parted c.args.self.now.arcs c.part.new.arcs c.args.i c.vacant_key-n.result c.args.at c.in_ok-users.users
 parted g c =
     let i = c.args.i in
     let arc : Some c.unwrap-arc.result.now ≡ get c.args.self.now.arcs i = sym (ap option_copied c.unwrap-arc.ensures) ∙ c.get.ensures ∙ same g c i in
@@ -29,29 +29,29 @@ parted g c =
       first = c.part.ensures.first ∙ ap (λ o. take (c.args.at + 1) (path_in o)) (same g c i);
       second = ap (λ k. path_in (get c.part.new.arcs k)) (sym (key g c)) ∙ c.part.ensures.second ∙ c.in_ok-tail.ensures.items ∙ rest c.args.at c.deref.result.now ∙ ap (drop c.args.at) c.deref.ensures.value ∙ ap (λ o. drop c.args.at (path_in o)) arc;
       others = λ j f f'. c.part.ensures.others j f (λ e. f' (e ∙ key g c)) ∙ same g c j;
-      users-is = c.in_ok-users.ensures.items ∙ c.as_slice.ensures.value ∙ ap users_in arc;
+      users-is = c.in_ok-users.ensures.cases ∙ ap users_in arc;
       users_i = c.part.ensures.users ∙ ap users_in (same g c i);
       users_n = ap (λ k. users_in (get c.part.new.arcs k)) (sym (key g c)) ∙ c.part.ensures.new_users;
       kept = λ j h. c.part.ensures.kept j (subst (λ o. IsSome o) (sym (same g c j)) h);
       new_there = subst (λ k. ContainsKey c.part.new.arcs k) (key g c) c.part.ensures.there;
     }
 
-all : (g : Over) (c : goal.After-unlist_moved g) (r : ℕ) → Contains c.in_ok-users.users.items r → ContainsKey c.args.self.now.rings r → HasRing c.in_ok-news.news.items r
-all g c r m h = c.in_ok-news.ensures.all r (subst (λ z. Contains z r) (sym c.as_slice-2.ensures.value) m) h
+all : (g : Over) (c : goal.After-unlist_moved g) (r : ℕ) → Contains c.in_ok-users.users r → ContainsKey c.args.self.now.rings r → HasRing c.in_ok-news.news.items r
+all g c r m h = c.in_ok-news.ensures.all r (subst (λ z. Contains z r) (sym c.as_slice.ensures) m) h
 
 pub returns-clause-ok : goal.returns-clause-ok
-returns-clause-ok g c = cuts_of c.args.self.now.arcs c.part.new.arcs c.args.self.now.rings c.put_uses.new.rings c.args.i c.vacant_key-n.result c.args.at c.in_ok-users.users.items c.in_ok-news.news.items
+returns-clause-ok g c = cuts_of c.args.self.now.arcs c.part.new.arcs c.args.self.now.rings c.put_uses.new.rings c.args.i c.vacant_key-n.result c.args.at c.in_ok-users.users c.in_ok-news.news.items
     c.requires.inner c.requires.whole.known (parted g c) c.put_uses.ensures.put c.in_ok-news.ensures.each (all g c)
 
 pub returns-clause-whole : goal.returns-clause-whole
 returns-clause-whole g c = record {
-  known = still_known c.args.self.now.arcs c.part.new.arcs c.args.self.now.rings c.put_uses.new.rings c.args.i c.vacant_key-n.result c.args.at c.in_ok-users.users.items c.in_ok-news.news.items
+  known = still_known c.args.self.now.arcs c.part.new.arcs c.args.self.now.rings c.put_uses.new.rings c.args.i c.vacant_key-n.result c.args.at c.in_ok-users.users c.in_ok-news.news.items
       c.requires.inner c.requires.whole.known (parted g c) c.put_uses.ensures.put c.in_ok-news.ensures.each (all g c);
   listed = stands_off c.args.i (λ j. path_in (get c.part.new.arcs j)) (stand_at c.note.new.stands.items) (stand_at c.unlist_moved.new.stands.items)
       (λ k j h. c.unlist_moved.ensures k j (elim h [ inl f ↦ inl f | inr m ↦ inr (subst (λ z. Contains z k) (sym c.keys_of-path.ensures) m) ]))
       (stands_cut c.args.i c.vacant_key-n.result (take c.args.at (path_of c.args.self.now c.args.i)) (get_or (path_of c.args.self.now c.args.i) c.args.at 0) (drop (c.args.at + 1) (path_of c.args.self.now c.args.i))
       (store c.args.self.now) (store_of c.part.new.arcs c.put_uses.new.rings) (stand_at c.args.self.now.stands.items) (stand_at c.note.new.stands.items) (returns-clause-ok g c) c.requires.whole.listed (λ k j. c.note.ensures.kept k j)
-      (λ k m. c.in_ok-note.ensures.noted k (subst (λ z. Contains z k) (sym (c.as_slice-3.ensures.value ∙ sym (ap (λ n. path_in (get c.part.new.arcs n)) (sym (key g c)) ∙ c.part.ensures.second) ∙ (returns-clause-ok g c).second)) m)));
+      (λ k m. c.in_ok-note.ensures.noted k (subst (λ z. Contains z k) (sym (c.as_slice-2.ensures.value ∙ sym (ap (λ n. path_in (get c.part.new.arcs n)) (sym (key g c)) ∙ c.part.ensures.second) ∙ (returns-clause-ok g c).second)) m)));
 }
 
 pub returns-in_err-news-clause-whole : goal.returns-in_err-news-clause-whole

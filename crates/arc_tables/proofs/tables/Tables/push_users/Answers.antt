@@ -14,7 +14,7 @@ returns-in_ok-extend_from_slice g c =
     listed_here t c.args.a c.args.b c.requires n
     (place_has c.args.a c.args.b (path_of t n) c.in-Some.place.at c.in-Some.place.back c.in-Some.ensures.some)
     c.args.out.now.items c.extend_from_slice.new.self.items c.as_slice.result.now
-    (c.as_slice.ensures.value ∙ sym (ap users_in is)) c.in_ok-extend_from_slice.ensures.items
+    (c.as_slice.ensures ∙ sym (ap users_in is)) c.in_ok-extend_from_slice.ensures.items
 
 pub returns-in_default : goal.returns-in_default
 returns-in_default g c =

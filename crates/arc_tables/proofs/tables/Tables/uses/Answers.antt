@@ -10,7 +10,7 @@ returns-in-Some g c =
     let n = c.in-Some.place.arc in
     let is : get c.args.self.now.arcs n ≡ Some c.unwrap.result.now = sym c.get.ensures ∙ ap option_copied c.unwrap.ensures in
     let count = users_here c.args.self.now c.args.a c.args.b c.requires n (place_has c.args.a c.args.b (path_of c.args.self.now n) c.in-Some.place.at c.in-Some.place.back c.in-Some.ensures.some) in
-    omega (arith, count, ap (λ o. length (users_in o)) is, c.len.ensures, c.unwrap.result.now.rings.ok)
+    omega (arith, count, ap (λ o. length (users_in o)) is, ap length c.as_slice.ensures)
 
 pub returns-in-None : goal.returns-in-None
 returns-in-None g c = sym (users_nowhere c.args.self.now c.args.a c.args.b c.in-None.ensures.none)
