@@ -15,3 +15,7 @@ five old a b c d k t u v w new e f g h i = three old a b (c ++ (d ++ k)) t u new
 pub six : (old a b c d k m t u v w x new : List ℕ) → t ≡ old ++ a → u ≡ t ++ b → v ≡ u ++ c → w ≡ v ++ d → x ≡ w ++ k → new ≡ x ++ m
     → new ≡ old ++ (a ++ (b ++ (c ++ (d ++ (k ++ m)))))
 six old a b c d k m t u v w x new e f g h i j = two old a (b ++ (c ++ (d ++ (k ++ m)))) t new e (five t b c d k m u v w x new f g h i j)
+
+pub seven : (old a b c d k m n t u v w x y new : List ℕ) → t ≡ old ++ a → u ≡ t ++ b → v ≡ u ++ c → w ≡ v ++ d → x ≡ w ++ k → y ≡ x ++ m → new ≡ y ++ n
+    → new ≡ old ++ (a ++ (b ++ (c ++ (d ++ (k ++ (m ++ n))))))
+seven old a b c d k m n t u v w x y new e f g h i j l = two old a (b ++ (c ++ (d ++ (k ++ (m ++ n))))) t new e (six t b c d k m n u v w x y new f g h i j l)

@@ -1,13 +1,41 @@
 -- What clap found among the words is what the words ask for.
-use Rattle.std.proofs.Common.{◌≡◌, ℕ, refl, subst, List, Option, option_map}
+use Rattle.std.proofs.Common.{◌≡◌, ℕ, ap, ◌∙◌, refl, subst, sym, Bool, false, List, Option, Some, None, option_map}
 use Rattle.std.specs.Borrow.{Bor}
+use Rattle.std.specs.Prelude.{◌≢◌, MatchBool}
 use Rattle.clap.specs.Words.{App, HasMatchesOf, first_value, found_of}
 use Rattle.clap.specs.declared.parser.matches.ArgMatches.{ArgMatches}
 use Rattle.program_ends.proofs.WordLemmas.{read_text}
-use Rattle.border_mend.specs.Asked.{program, text_of, IsMost}
+use Rattle.border_mend.specs.Asked.{program, text_of, IsMost, AreApart}
 
 pub most_is : (a : App) (m : ArgMatches) (words : List (List ℕ)) (id key : List ℕ) (given : Option (Bor (List ℕ))) (n : ℕ)
     → a ≡ program → HasMatchesOf a words m → key ≡ id → option_map (λ s. s.now) given ≡ first_value (found_of m) key
     → IsMost (option_map (λ s. s.now) given) n → IsMost (text_of id words) n
 most_is a m words id key given n is has same read most =
     subst (λ (o : Option (List ℕ)). IsMost o n) (read_text program refl a m words id key given is has same read) most
+
+pub places_is : (a : App) (m : ArgMatches) (words : List (List ℕ)) (id key : List ℕ) (given : Option (Bor (List ℕ))) (copy : Option (List ℕ))
+    → a ≡ program → HasMatchesOf a words m → key ≡ id → option_map (λ s. s.now) given ≡ first_value (found_of m) key
+    → copy ≡ option_map (λ s. s.now) given → copy ≡ text_of id words
+places_is a m words id key given copy is has same read copied =
+    copied ∙ read_text program refl a m words id key given is has same read
+
+-- paths that are not the same are not the same once they are copied
+pub copies_apart : (given : Option (Bor (List ℕ))) (word : Bor (List ℕ)) (copy : Option (List ℕ)) (bytes : List ℕ) (is_same : Bool)
+    → MatchBool is_same (option_map (λ s. s.now) given ≡ Some word.now) (option_map (λ s. s.now) given ≢ Some word.now) → is_same ≡ false
+    → copy ≡ option_map (λ s. s.now) given → bytes ≡ word.now → copy ≢ Some bytes
+copies_apart given word copy bytes is_same told apart copied same equal =
+    subst (λ (b : Bool). MatchBool b (option_map (λ s. s.now) given ≡ Some word.now) (option_map (λ s. s.now) given ≢ Some word.now)) apart told
+    (sym copied ∙ (equal ∙ ap (λ (b : List ℕ). Some b) same))
+
+-- paths of which neither is the other are apart
+pub not_both : (one : Option (Bor (List ℕ))) (path : Bor (List ℕ)) (is_same : Bool)
+    → MatchBool is_same (option_map (λ s. s.now) one ≡ Some path.now) (option_map (λ s. s.now) one ≢ Some path.now) → is_same ≡ false
+    → AreApart (option_map (λ s. s.now) one) (Some path.now)
+not_both one path is_same told apart text is same =
+    subst (λ (b : Bool). MatchBool b (option_map (λ s. s.now) one ≡ Some path.now) (option_map (λ s. s.now) one ≢ Some path.now)) apart told
+    (is ∙ sym same)
+
+-- paths that are apart are apart once they are copied
+pub files_apart : (one other : Option (Bor (List ℕ))) (copy second : Option (List ℕ)) → AreApart (option_map (λ s. s.now) one) (option_map (λ s. s.now) other)
+    → copy ≡ option_map (λ s. s.now) one → second ≡ option_map (λ s. s.now) other → AreApart copy second
+files_apart one other copy second apart is_one is_other path is same = apart path (sym is_one ∙ is) (sym is_other ∙ same)

@@ -2,12 +2,34 @@
 use Rattle.std.specs.Prelude.{◌≡◌}
 use Rattle.border_mend.specs.declared.looking.LookFault.{LookFault}
 use Rattle.border_mend.specs.declared.looking.LookFault.TheVariants as fault
+use Rattle.border_mend.specs.declared.remaking.RemakeFault.{RemakeFault}
+use Rattle.border_mend.specs.declared.remaking.RemakeFault.TheVariants as mending
+use Rattle.border_mend.specs.declared.report.RepairFault.{RepairFault}
+use Rattle.border_mend.specs.declared.report.RepairFault.TheVariants as repair
+use Rattle.grid_geometry.specs.Segment.{Segment}
 use Rattle.program_ends.specs.Endings.{IsOpen}
 use Rattle.program_ends.specs.declared.diagnostic.Diagnostic.{Diagnostic}
-use Rattle.program_ends.specs.declared.diagnostic.Diagnostic.TheVariants.{Findings, NoMemory}
+use Rattle.program_ends.specs.declared.diagnostic.Diagnostic.TheVariants.{Findings, TooLarge, Unmended, Unparted, NoMemory}
 
 -- the line tells why there is no report
 abbrev pub Tells : LookFault → Diagnostic → Type 0
 Tells (fault.Open f) line = IsOpen f line
 Tells fault.TooMany line = line ≡ Findings
 Tells fault.OutOfMemory line = line ≡ NoMemory
+
+-- the line tells that these two segments still conflict
+abbrev pub IsUnmended : Segment → Segment → Diagnostic → Type 0
+IsUnmended s t (Unmended one other) = (one.now ≡ s) × (other.now ≡ t)
+IsUnmended s t line = ⊥
+
+-- the line tells why a map that was looked through is not mended
+abbrev pub TellsUnmade : RemakeFault → Diagnostic → Type 0
+TellsUnmade (mending.TooLarge what) line = line ≡ TooLarge what
+TellsUnmade (mending.Unmended s t) line = IsUnmended s t line
+TellsUnmade (mending.Unparted feature polygon) line = line ≡ Unparted feature polygon
+TellsUnmade mending.OutOfMemory line = line ≡ NoMemory
+
+-- the line tells why no map was mended
+abbrev pub TellsUnmended : RepairFault → Diagnostic → Type 0
+TellsUnmended (repair.Look f) line = Tells f line
+TellsUnmended (repair.Remake f) line = TellsUnmade f line

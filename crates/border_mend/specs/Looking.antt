@@ -1,5 +1,6 @@
 -- What looking at the bytes of a map comes to.
 use Rattle.std.specs.Prelude.{ℕ, List}
+use Rattle.place_text.specs.Text.{IsPlaceText}
 use Rattle.topo_reader.specs.Document.{Opened}
 use Rattle.topo_reader.specs.Opening.{OpensWalks, IsWalkFault}
 use Rattle.walk_faults.specs.Findings.{Found, HasMore}
@@ -12,6 +13,11 @@ use Rattle.border_mend.specs.declared.looking.LookFault.TheVariants.{Open, TooMa
 -- the bytes are a topology with walks in the place of rings, and these are all findings in it
 abbrev pub Looked : {A : Type 0} → List ℕ → Findings A → Type 0
 Looked bytes findings = (o : Opened) × OpensWalks bytes o × Found o.polygons findings
+
+-- the text has the places of these findings in the topology with walks that the bytes are
+abbrev pub HasPlaces : {A : Type 0} → List ℕ → Findings A → List ℕ → Type 0
+HasPlaces bytes findings text =
+    (o : Opened) × OpensWalks bytes o × IsPlaceText o.transform o.polygons findings text
 
 -- the bytes are a topology with walks, each walk is a linear ring, and no two segments conflict
 abbrev pub MapOpens : List ℕ → Type 0

@@ -1,6 +1,8 @@
 -- The report of what keeps a map from opening: a fact a line.
 use Rattle.std.specs.Prelude.{ℕ, Bool, ◌&&◌, ◌==◌, List, [], ◌++◌, length, take, codes, decimal, flat_map, if◌then◌else◌}
 use Rattle.grid_geometry.specs.Text.{position_text, segment_text}
+use Rattle.map_mending.specs.declared.parted.Parted.{Parted}
+use Rattle.segment_paths.specs.Paths.{Path}
 use Rattle.topo_outline.specs.declared.fault.RingAt.{RingAt}
 use Rattle.walk_faults.specs.declared.findings.Crossing.{Crossing}
 use Rattle.walk_faults.specs.declared.findings.Findings.{Findings}
@@ -33,11 +35,15 @@ abbrev pub crossing_line : Crossing → List ℕ
 crossing_line c =
     codes "cross " ++ (segment_text c.first ++ (codes " / " ++ (segment_text c.second ++ codes "\n")))
 
--- how many there are of each kind: "counts short N repeats N on N cross N"
+-- how many findings there are of each kind: "counts short N repeats N on N cross N"
+abbrev pub found_text : ℕ → ℕ → ℕ → ℕ → List ℕ
+found_text short repeats touches crossings =
+    codes "counts short " ++ (decimal short ++ (codes " repeats " ++ (decimal repeats
+    ++ (codes " on " ++ (decimal touches ++ (codes " cross " ++ decimal crossings))))))
+
 abbrev pub counts_line : ℕ → ℕ → ℕ → ℕ → List ℕ
 counts_line short repeats touches crossings =
-    codes "counts short " ++ (decimal short ++ (codes " repeats " ++ (decimal repeats
-    ++ (codes " on " ++ (decimal touches ++ (codes " cross " ++ (decimal crossings ++ codes "\n")))))))
+    found_text short repeats touches crossings ++ codes "\n"
 
 -- ---- the whole
 
@@ -54,15 +60,50 @@ opens_line clear = if clear then codes "opens\n" else []
 abbrev pub lines : {X : Type 0} → ℕ → (X → List ℕ) → List X → List ℕ
 lines most line xs = flat_map line (take most xs)
 
+-- what was found, of each kind at most so many lines
+abbrev pub findings_text : ℕ
+    → List RingAt → List Repeat → List Touch → List Crossing → List ℕ
+findings_text most short repeats touches crossings =
+    opens_line (is_clear short repeats touches crossings)
+    ++ (lines most short_line short ++ (lines most repeat_line repeats
+    ++ (lines most touch_line touches ++ lines most crossing_line crossings)))
+
 -- the report of what was found, of each kind at most so many lines; all are counted
 abbrev pub report_text : ℕ
     → List RingAt → List Repeat → List Touch → List Crossing → List ℕ
 report_text most short repeats touches crossings =
-    opens_line (is_clear short repeats touches crossings)
-    ++ (lines most short_line short ++ (lines most repeat_line repeats
-    ++ (lines most touch_line touches ++ (lines most crossing_line crossings
-    ++ counts_line (length short) (length repeats) (length touches) (length crossings)))))
+    findings_text most short repeats touches crossings
+    ++ counts_line (length short) (length repeats) (length touches) (length crossings)
 
 abbrev pub report_of : {A : Type 0} → ℕ → Findings A → List ℕ
 report_of most found =
     report_text most found.short.items found.repeats.items found.touches.items found.crossings.items
+
+-- ---- a map that was mended
+
+-- the segment goes along these positions now: "path X Y X Y .. X Y"
+abbrev pub path_line : Path → List ℕ
+path_line p =
+    codes "path " ++ (position_text p.0.lo
+    ++ (flat_map (λ q. codes " " ++ position_text q) p.1
+    ++ (codes " " ++ (position_text p.0.hi ++ codes "\n"))))
+
+-- the polygon stands as so many polygons now: "parts F P N"
+abbrev pub parts_line : Parted → List ℕ
+parts_line t =
+    codes "parts " ++ (decimal t.feature ++ (codes " " ++ (decimal t.polygon
+    ++ (codes " " ++ (decimal t.parts ++ codes "\n")))))
+
+-- how many there are of each kind: "counts short N repeats N on N cross N paths N parts N"
+abbrev pub all_counts_line : ℕ → ℕ → ℕ → ℕ → ℕ → ℕ → List ℕ
+all_counts_line short repeats touches crossings paths parts =
+    found_text short repeats touches crossings
+    ++ (codes " paths " ++ (decimal paths ++ (codes " parts " ++ (decimal parts ++ codes "\n"))))
+
+-- the report of what was found and of what was done about it, of each kind at most so many lines
+abbrev pub mended_report : {A : Type 0} → ℕ → Findings A → List Path → List Parted → List ℕ
+mended_report most found paths parted =
+    findings_text most found.short.items found.repeats.items found.touches.items found.crossings.items
+    ++ (lines most path_line paths ++ (lines most parts_line parted
+    ++ all_counts_line (length found.short.items) (length found.repeats.items)
+    (length found.touches.items) (length found.crossings.items) (length paths) (length parted)))

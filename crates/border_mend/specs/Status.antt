@@ -2,6 +2,10 @@
 use Rattle.std.specs.Prelude.{ℕ, Result, Ok, Err, if◌then◌else◌}
 use Rattle.walk_faults.specs.declared.findings.Findings.{Findings}
 use Rattle.border_mend.specs.Report.{is_clear}
+use Rattle.border_mend.specs.declared.remaking.Remade.{Remade}
+use Rattle.border_mend.specs.declared.remaking.RemakeFault.TheVariants as mending
+use Rattle.border_mend.specs.declared.report.RepairFault.{RepairFault}
+use Rattle.border_mend.specs.declared.report.RepairFault.TheVariants.{Look, Remake}
 use Rattle.border_mend.specs.declared.looking.LookFault.{LookFault}
 use Rattle.border_mend.specs.declared.looking.LookFault.TheVariants.{Open, TooMany, OutOfMemory}
 
@@ -14,3 +18,18 @@ status_of (Ok found) =
 status_of (Err (Open fault)) = 2
 status_of (Err TooMany) = 2
 status_of (Err OutOfMemory) = 3
+
+-- 2 where a map can't be mended, and 3 where a growth was refused
+abbrev pub unmended_status : RepairFault → ℕ
+unmended_status (Look (Open fault)) = 2
+unmended_status (Look TooMany) = 2
+unmended_status (Look OutOfMemory) = 3
+unmended_status (Remake (mending.TooLarge what)) = 2
+unmended_status (Remake (mending.Unmended s t)) = 2
+unmended_status (Remake (mending.Unparted feature polygon)) = 2
+unmended_status (Remake mending.OutOfMemory) = 3
+
+-- 0 where a map was mended
+abbrev pub mended_status : {A : Type 0} → Result (Remade A) RepairFault → ℕ
+mended_status (Ok remade) = 0
+mended_status (Err fault) = unmended_status fault

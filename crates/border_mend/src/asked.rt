@@ -8,5 +8,9 @@ pub struct Words {
     pub map: String,
     /// How many lines of one kind the report has at most.
     pub most: usize,
+    /// The path of the file that the places are written in.
+    pub places: Option<String>,
+    /// The path of the file that the mended map is saved in.
+    pub out: Option<String>,
     ghost most_lines: { most ≤ 4000000 },
 }

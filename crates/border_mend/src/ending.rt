@@ -1,10 +1,11 @@
 //! How a report ends the program: with which status, with what on standard output, and with which line.
 ghost use Rattle.std.specs.Prelude.{◌≡◌, None, Some, option_map, OnOk, OnErr, IfErr, IsSomeAnd};
-ghost use Rattle.border_mend.specs.Status.{status_of};
-ghost use Rattle.border_mend.specs.Endings.{Tells};
+ghost use Rattle.border_mend.specs.Status.{status_of, mended_status, unmended_status};
+ghost use Rattle.border_mend.specs.Endings.{Tells, TellsUnmade, TellsUnmended};
 
 use crate::looking::LookFault;
-use crate::report::is_clear;
+use crate::remaking::{Remade, RemakeFault};
+use crate::report::{RepairFault, is_clear};
 use program_ends::{Diagnostic, Ending};
 use std::alloc::Allocator;
 use walk_faults::Findings;
@@ -52,5 +53,64 @@ pub(crate) fn ending_of_report<'a, A: Allocator + Copy>(
             line: None,
         },
         Err(fault) => Ending::of_fault(status, line_of(fault)),
+    }
+}
+
+/// The status that the program ends with where a map is not mended.
+fn status_of_unmended(fault: &RepairFault<'_>) -> u8
+    ensures { result ≡ unmended_status fault.now }
+{
+    match fault {
+        RepairFault::Look(LookFault::OutOfMemory) | RepairFault::Remake(RemakeFault::OutOfMemory) =>
+            3,
+        _ => 2,
+    }
+}
+
+/// The line that tells why a map that was looked through is not mended.
+fn line_of_remaking<'a>(fault: &'a RemakeFault) -> Diagnostic<'a>
+    ensures { TellsUnmade fault.now result }
+{
+    match fault {
+        RemakeFault::TooLarge(what) => Diagnostic::TooLarge(*what),
+        RemakeFault::Unmended { s, t } => Diagnostic::Unmended { s, t },
+        RemakeFault::Unparted { feature, polygon } => Diagnostic::Unparted {
+            feature: *feature,
+            polygon: *polygon,
+        },
+        RemakeFault::OutOfMemory => Diagnostic::NoMemory,
+    }
+}
+
+/// The line that tells why no map was mended.
+fn line_of_unmended<'a>(fault: &'a RepairFault<'a>) -> Diagnostic<'a>
+    ensures { TellsUnmended fault.now result }
+{
+    match fault {
+        RepairFault::Look(fault) => line_of(fault),
+        RepairFault::Remake(fault) => line_of_remaking(fault),
+    }
+}
+
+/// The ending of mending: standard output gets the report where the map was mended, and nothing
+/// after a fault.
+pub(crate) fn ending_of_mending<'a, A: Allocator + Copy>(
+    outcome: &'a Result<Remade<A>, RepairFault<'a>>,
+    report: &'a [u8],
+) -> Ending<'a>
+    ensures status { result.status ≡ mended_status outcome.now }
+    ensures printed { OnOk outcome.now
+        (option_map (λ text. text.now) result.file ≡ Some report.now) }
+    ensures silent { OnOk outcome.now (result.line ≡ None) }
+    ensures kept { OnErr outcome.now (result.file ≡ None) }
+    ensures told { IfErr outcome.now (λ fault. IsSomeAnd result.line (TellsUnmended fault)) }
+{
+    match outcome {
+        Ok(_) => Ending {
+            status: 0,
+            file: Some(report),
+            line: None,
+        },
+        Err(fault) => Ending::of_fault(status_of_unmended(fault), line_of_unmended(fault)),
     }
 }

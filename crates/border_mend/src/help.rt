@@ -2,7 +2,7 @@
 
 /// What the program does.
 pub(crate) const ABOUT: &str =
-    "Tells all that keeps a TopoJSON map from opening in border_edit, a fact a line";
+    "Tells all that keeps a TopoJSON map from opening in border_edit, a fact a line, and mends it";
 
 /// The lines of the report, the statuses, and an example. They are those of docs/FORMATS.md.
 pub(crate) const LINES: &str = "\
@@ -16,7 +16,12 @@ X Y is a position on the grid):
   counts short N repeats N on N cross N
                            How many there are of each, whatever N of --most is
 
-Statuses: 0 the map opens; 1 it does not, and the report says why; 2 it can't be read as a map;
-3 a file or memory fails; 64 the words are wrong.
+With --out these stand before the last line, which then also has paths N parts N:
+  path X Y X Y .. X Y      The segment from the first to the last position goes along these now
+  parts F P N              Polygon P of feature F stands as N polygons now (0: it bounded nothing)
 
-Example: border_mend map.json --most 20";
+Statuses: 0 the map opens, or with --out is saved; 1 it does not open, and the report says why; 2 it
+can't be read as a map, or not be mended; 3 a file or memory fails; 64 the words are wrong.
+
+Example: border_mend map.json --most 20 --places places.json
+         border_mend map.json --out mended.json";

@@ -1,7 +1,10 @@
 //! From the bytes of a map to all that keeps it from opening.
 ghost use Rattle.std.specs.Prelude.{◌≡◌, IfErr, IfOk};
+ghost use Rattle.topo_reader.specs.Document.{document_of, IsOfWalks};
 ghost use Rattle.topo_reader.specs.DocumentView.{view_raw};
 ghost use Rattle.topo_reader.specs.Opening.{OpensWalks};
+ghost use Rattle.topo_reader.specs.Reads.{ReadsWalks};
+ghost use Rattle.walk_faults.specs.Findings.{Found};
 ghost use Rattle.border_mend.specs.Looking.{Looked, IsEnd};
 
 use segment_index::TreeIndex;
@@ -32,6 +35,13 @@ impl<'a> From<AllocError> for LookFault<'a> {
     }
 }
 
+/// A map with walks in the place of its rings, and all that keeps it from opening.
+#[derive(Drop)]
+pub(crate) struct Seen<'a, A: Allocator + Copy = Global> {
+    pub(crate) map: RawDoc<'a, A>,
+    pub(crate) findings: Findings<A>,
+}
+
 /// The map that the bytes are, with walks in the place of its rings.
 fn map_of<'a, A: Allocator + Copy>(
     alloc: A,
@@ -39,6 +49,8 @@ fn map_of<'a, A: Allocator + Copy>(
     bytes: &'a [u8],
 ) -> Result<RawDoc<'a, A>, LookFault<'a>>
     ensures opened { IfOk result (λ map. OpensWalks bytes.now (view_raw map)) }
+    ensures of_walks { IfOk result (λ map. IsOfWalks (view_raw map)) }
+    ensures reads { IfOk result (λ map. ReadsWalks bytes.now (document_of (view_raw map))) }
     ensures refused { IfErr result (λ fault. IsEnd fault bytes.now) }
 {
     match read_walks(alloc, heap, bytes) {
@@ -48,7 +60,8 @@ fn map_of<'a, A: Allocator + Copy>(
     }
 }
 
-/// All that keeps the map that the bytes are from opening, beside what keeps it from being read.
+/// The map that the bytes are, and all that keeps it from opening, beside what keeps it from being
+/// read.
 ///
 /// It is read as `topo_reader` reads walks: up to and with the test that the arcs of each ring meet
 /// (TopoJSON 1.0, 2.1.4). Rings with fewer than three positions, or with one twice (RFC 7946, 3.1.6),
@@ -58,8 +71,12 @@ pub(crate) fn look<'a, A: Allocator + Copy>(
     alloc: A,
     heap: Global,
     bytes: &'a [u8],
-) -> Result<Findings<A>, LookFault<'a>>
-    ensures looked { IfOk result (λ findings. Looked bytes.now findings) }
+) -> Result<Seen<'a, A>, LookFault<'a>>
+    ensures looked { IfOk result (λ seen. Looked bytes.now seen.findings) }
+    ensures opened { IfOk result (λ seen. OpensWalks bytes.now (view_raw seen.map)) }
+    ensures of_walks { IfOk result (λ seen. IsOfWalks (view_raw seen.map)) }
+    ensures reads { IfOk result (λ seen. ReadsWalks bytes.now (document_of (view_raw seen.map))) }
+    ensures found { IfOk result (λ seen. Found (view_raw seen.map).polygons seen.findings) }
     ensures refused { IfErr result (λ fault. IsEnd fault bytes.now) }
 {
     let map = match map_of(alloc, heap, bytes) {
@@ -68,7 +85,7 @@ pub(crate) fn look<'a, A: Allocator + Copy>(
     };
     let index = TreeIndex::new(heap, map.extent());
     match find(alloc, index, map.polygons.as_slice()) {
-        Ok(findings) => Ok(findings),
+        Ok(findings) => Ok(Seen { map, findings }),
         Err(FindFault::TooMany) => Err(LookFault::TooMany),
         Err(FindFault::OutOfMemory) => Err(LookFault::OutOfMemory),
     }

@@ -1,4 +1,5 @@
-//! The program: all that keeps a map from opening in the editor is found, and told, a fact a line.
+//! The program: all that keeps a map from opening in the editor is found, and told, a fact a line; and
+//! the map is mended, so that it opens.
 #![tactic(auto)]
 
 mod asked;
@@ -7,6 +8,7 @@ mod ending;
 mod help;
 mod lines;
 mod looking;
+mod remaking;
 mod report;
 mod telling;
 mod texts;

@@ -1,8 +1,9 @@
 //! The files of the program: what is read, what is written, and in which order.
 use crate::asked::Words;
-use crate::ending::ending_of_report;
-use crate::report::report_map;
+use crate::ending::{ending_of_mending, ending_of_report};
+use crate::report::{Texts, mend_map, report_map};
 use program_ends::{Ending, Stop, end, map_bytes};
+use std::fs;
 use std::io::{Result as IoResult, Write};
 
 /// Writes all of a text.
@@ -11,7 +12,33 @@ fn print<W: Write>(text: &[u8], output: &mut W) -> IoResult<()> {
     output.flush()
 }
 
-/// Reads MAP, writes its report, and ends as the report did.
+/// Writes a file where nothing has failed before.
+fn save<'a>(rt: &HostRuntime, ending: Ending<'a>, path: &str, text: &[u8]) -> Ending<'a> {
+    if ending.line.is_some() {
+        return ending;
+    }
+    ending.once_written(fs::write(rt, path, text))
+}
+
+/// Writes the report on standard output, and the places in their file where they are asked for.
+fn print_and_place<'a, W: Write>(
+    rt: &HostRuntime,
+    words: &Words,
+    texts: &Texts,
+    ending: Ending<'a>,
+    output: &mut W,
+) -> Ending<'a> {
+    let ending = match ending.file {
+        Some(report) => ending.once_printed(print(report, output)),
+        None => ending,
+    };
+    match (&words.places, &texts.places) {
+        (Some(path), Some(places)) => save(rt, ending, path.as_str(), places.as_slice()),
+        _ => ending,
+    }
+}
+
+/// Reads MAP, writes its report and its places, and ends as the report did.
 fn tell_file<W: Write, E: Write>(
     rt: &HostRuntime,
     words: &Words,
@@ -20,25 +47,48 @@ fn tell_file<W: Write, E: Write>(
 ) -> Result<u8, Stop> {
     let alloc = rt.alloc();
     let map = map_bytes(rt, words.map.as_str())?;
-    let mut text = Vec::new(alloc);
-    let outcome = report_map(alloc, alloc, map.as_slice(), words.most, &mut text);
-    let ending = ending_of_report(&outcome, text.as_slice());
-    match ending.file {
-        Some(report) => Ok(end(ending.once_printed(print(report, output)), errors)),
-        None => Ok(end(ending, errors)),
-    }
+    let mut texts = Texts::new(alloc, words.places.is_some());
+    let outcome = report_map(alloc, alloc, map.as_slice(), words.most, &mut texts);
+    let ending = ending_of_report(&outcome, texts.report.as_slice());
+    let ending = print_and_place(rt, words, &texts, ending, output);
+    Ok(end(ending, errors))
+}
+
+/// Reads MAP, mends it, writes its report and its places, and at last the mended map in FILE.
+fn mend_file<W: Write, E: Write>(
+    rt: &HostRuntime,
+    words: &Words,
+    out: &str,
+    output: &mut W,
+    errors: &mut E,
+) -> Result<u8, Stop> {
+    let alloc = rt.alloc();
+    let map = map_bytes(rt, words.map.as_str())?;
+    let mut texts = Texts::new(alloc, words.places.is_some());
+    let outcome = mend_map(alloc, alloc, map.as_slice(), words.most, &mut texts);
+    let ending = ending_of_mending(&outcome, texts.report.as_slice());
+    let ending = print_and_place(rt, words, &texts, ending, output);
+    let ending = match &outcome {
+        Ok(remade) => save(rt, ending, out, remade.text.as_slice()),
+        Err(_) => ending,
+    };
+    Ok(end(ending, errors))
 }
 
 /// Tells what the words ask. Answers the status that the program ends with; the report and the line
 /// that says why it ends go to these two writers. Faults are found in this order: the file of the
-/// map, the map, standard output.
+/// map, the map, standard output, the file of the places, FILE, which is written last.
 pub(crate) fn tell<W: Write, E: Write>(
     rt: &HostRuntime,
     words: &Words,
     output: &mut W,
     errors: &mut E,
 ) -> u8 {
-    match tell_file(rt, words, output, errors) {
+    let told = match &words.out {
+        Some(out) => mend_file(rt, words, out.as_str(), output, errors),
+        None => tell_file(rt, words, output, errors),
+    };
+    match told {
         Ok(status) => status,
         Err(stop) => end(Ending::of_stop(&stop), errors),
     }

@@ -2,9 +2,10 @@
 ghost use Rattle.std.specs.Prelude.{◌≡◌};
 ghost use Rattle.std.specs.IoError.{error_kind};
 
+use grid_geometry::Seg;
 use std::fmt;
 use std::io::{Error, ErrorKind};
-use topo_outline::OpenFault;
+use topo_outline::{Limit, OpenFault};
 
 /// The line on standard error that says why a program ends.
 #[derive(Clone, Copy, Debug)]
@@ -13,6 +14,12 @@ pub enum Diagnostic<'a> {
     Open(&'a OpenFault<'a>),
     /// More keeps a map from opening than can be listed: `open: too many findings`.
     Findings,
+    /// A mended map would be over a limit: `open: too large `, and what is too large.
+    TooLarge(Limit),
+    /// Two segments of a mended map still conflict: `unmended X Y X Y / X Y X Y`.
+    Unmended { s: &'a Seg, t: &'a Seg },
+    /// A polygon was not taken apart into rings: `unparted F P`.
+    Unparted { feature: usize, polygon: usize },
     /// The file of a map can't be read: `map fault`.
     Map,
     /// The file of a script can't be opened or read: `script fault`.
@@ -71,6 +78,14 @@ impl<'a> fmt::Display for Diagnostic<'a> {
         match self {
             Diagnostic::Open(fault) => write!(f, "open: {fault}"),
             Diagnostic::Findings => f.write_str("open: too many findings"),
+            Diagnostic::TooLarge(what) => {
+                let fault = OpenFault::TooLarge { what: *what };
+                write!(f, "open: {fault}")
+            }
+            Diagnostic::Unmended { s, t } => write!(f, "unmended {s} / {t}"),
+            Diagnostic::Unparted { feature, polygon } => {
+                write!(f, "unparted {feature} {polygon}")
+            }
             Diagnostic::Map => f.write_str("map fault"),
             Diagnostic::Script => f.write_str("script fault"),
             Diagnostic::Write => f.write_str("write fault"),

@@ -1,4 +1,4 @@
-//! With which status the program ends, and what it writes.
+//! With which status the program ends, and what it prints.
 use crate::asked::Words;
 use crate::telling::tell;
 use std::io::{Error, ErrorKind, Result as IoResult, Write};
@@ -6,17 +6,17 @@ use std::test::Fail;
 use std::{env, fs, process};
 
 /// Two squares with a common side, which the editor opens.
-const SQUARES: &str =
+pub(crate) const SQUARES: &str =
     r#"{"type":"Topology","objects":{"land":{"type":"GeometryCollection","geometries":[{"type":"Polygon","id":"A","arcs":[[0,1]]},{"type":"Polygon","id":"B","arcs":[[2,-1]]}]}},"arcs":[[[10,0],[10,10]],[[10,10],[0,10],[0,0],[10,0]],[[10,0],[20,0],[20,10],[10,10]]]}"#;
 
 /// A bow tie.
-const BOW_TIE: &str =
+pub(crate) const BOW_TIE: &str =
     r#"{"type":"Topology","objects":{"land":{"type":"Polygon","arcs":[[0]]}},"arcs":[[[0,0],[10,10],[10,0],[0,10],[0,0]]]}"#;
 
 /// A writer that always fails, with an error of this kind.
 #[derive(Drop)]
-struct Broken {
-    kind: ErrorKind,
+pub(crate) struct Broken {
+    pub(crate) kind: ErrorKind,
 }
 
 impl Write for Broken {
@@ -46,13 +46,15 @@ impl Write for Unflushed {
 }
 
 /// What is asked of a file in the folder of all temporary files.
-fn words_for(rt: &HostRuntime, name: &str) -> Result<Words, Fail> {
+pub(crate) fn words_for(rt: &HostRuntime, name: &str) -> Result<Words, Fail> {
     let parent = env::temp_dir(rt)?;
     let number = process::id(rt.process());
     let parent = parent.as_str();
     Ok(Words {
         map: format!(in rt.alloc(); "{parent}/border_mend_{name}_{number}.json")?,
         most: 1000,
+        places: None,
+        out: None,
     })
 }
 

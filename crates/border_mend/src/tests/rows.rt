@@ -1,5 +1,5 @@
 //! Small maps, and what is reported of them.
-use crate::report::report_map;
+use crate::report::{Texts, report_map};
 use std::alloc::Global;
 use std::process::Abort;
 use std::test::Fail;
@@ -68,7 +68,7 @@ const ROWS: [(&str, &str); 12] = [
     ),
 ];
 
-/// The map has this report.
+/// The map has this report, and the same where its places are asked for.
 fn is_told<R: Abort>(
     rt: &R,
     alloc: Global,
@@ -76,10 +76,13 @@ fn is_told<R: Abort>(
     most: usize,
     want: &str,
 ) -> Result<(), Fail> {
-    let mut text = Vec::new(alloc);
-    let outcome = report_map(alloc, alloc, map.as_bytes(), most, &mut text);
-    assert!(rt; outcome.is_ok(), "{map}");
-    assert_eq!(rt; text.as_slice(), want.as_bytes(), "{map}");
+    for with_places in [false, true] {
+        let mut texts = Texts::new(alloc, with_places);
+        let outcome = report_map(alloc, alloc, map.as_bytes(), most, &mut texts);
+        assert!(rt; outcome.is_ok(), "{map}");
+        assert_eq!(rt; texts.report.as_slice(), want.as_bytes(), "{map}");
+        assert_eq!(rt; texts.places.is_some(), with_places, "{map}");
+    }
     Ok(())
 }
 

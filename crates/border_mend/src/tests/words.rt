@@ -28,6 +28,42 @@ fn a_map_and_the_most_are_taken(rt: HostRuntime) -> Result<(), Fail> {
         let words = words(rt.alloc(), given.as_slice())?;
         assert_eq!(rt; words.map.as_str(), "map.json", "{line:?}");
         assert_eq!(rt; words.most, most, "{line:?}");
+        assert!(rt; words.places.is_none(), "{line:?}");
+    }
+    Ok(())
+}
+
+#[test]
+fn a_file_of_places_is_taken(rt: HostRuntime) -> Result<(), Fail> {
+    for line in [
+        "map.json --places places.json",
+        "--places=places.json map.json",
+        "map.json --most 0 --places places.json",
+    ] {
+        let given = given(rt.alloc(), line)?;
+        let words = words(rt.alloc(), given.as_slice())?;
+        let places = words.places.ok_or("no file")?;
+        assert_eq!(rt; places.as_str(), "places.json", "{line:?}");
+        assert_eq!(rt; words.map.as_str(), "map.json", "{line:?}");
+    }
+    Ok(())
+}
+
+#[test]
+fn a_file_of_the_mended_map_is_taken(rt: HostRuntime) -> Result<(), Fail> {
+    for (line, file) in [
+        ("map.json --out saved.json", "saved.json"),
+        ("--out=map.json map.json", "map.json"),
+        (
+            "map.json --places places.json --out saved.json",
+            "saved.json",
+        ),
+    ] {
+        let given = given(rt.alloc(), line)?;
+        let words = words(rt.alloc(), given.as_slice())?;
+        let out = words.out.ok_or("no file")?;
+        assert_eq!(rt; out.as_str(), file, "{line:?}");
+        assert_eq!(rt; words.map.as_str(), "map.json", "{line:?}");
     }
     Ok(())
 }
@@ -38,7 +74,7 @@ fn all_other_words_stop_the_program(rt: HostRuntime) -> Result<(), Fail> {
         ("--most", 64),
         ("--most 3", 64),
         ("map.json more.json", 64),
-        ("map.json --out saved.json", 64),
+        ("map.json --save saved.json", 64),
         ("map.json --most", 64),
         ("map.json --most -1", 64),
         ("map.json --most 4000001", 64),
@@ -46,6 +82,12 @@ fn all_other_words_stop_the_program(rt: HostRuntime) -> Result<(), Fail> {
         ("map.json --most all", 64),
         ("map.json --most ", 64),
         ("map.json --most 1 --most 2", 64),
+        ("map.json --places", 64),
+        ("map.json --places a.json --places b.json", 64),
+        ("map.json --places map.json", 64),
+        ("map.json --out", 64),
+        ("map.json --out a.json --out b.json", 64),
+        ("map.json --out a.json --places a.json", 64),
         ("--help", 0),
         ("--version", 0),
         ("map.json -h", 0),

@@ -1,15 +1,34 @@
 use Rattle.std.proofs.Common.{rules, codes, refl}
 use Rattle.program_ends.proofs.WordLemmas.{word_is}
 use Rattle.border_mend.specs.Asked.{program}
-use Rattle.border_mend.proofs.WordLemmas.{most_is}
+use Rattle.border_mend.proofs.WordLemmas.{most_is, places_is, copies_apart, files_apart}
 use Rattle.border_mend.proofs.command_line.words.Goals as goal
 
 pub returns-clause-map : goal.returns-clause-map
 returns-clause-map c =
-    word_is program refl _ c.in_ok-matches.matches _ (codes "MAP") _ c.get_str-2.result _ c.unwrap_or.result _
-    c.in_ok-command.ensures c.in_ok-matches.ensures.ok.2 (search rules) c.get_str-2.ensures (search rules) c.unwrap_or.ensures c.in_ok-from_str.ensures.ok
+    word_is program refl _ c.in_ok-matches.matches _ (codes "MAP") _ c.get_str-2.result _ c.unwrap_or-map.result _
+    c.in_ok-command.ensures c.in_ok-matches.ensures.ok.2 (search rules) c.get_str-2.ensures (search rules) c.unwrap_or-map.ensures c.in_ok-from_str.ensures.ok
 
 pub returns-clause-most : goal.returns-clause-most
 returns-clause-most c =
     most_is _ c.in_ok-matches.matches _ (codes "most") _ c.get_str.result _
     c.in_ok-command.ensures c.in_ok-matches.ensures.ok.2 (search rules) c.get_str.ensures c.in-Some.ensures
+
+pub returns-clause-places : goal.returns-clause-places
+returns-clause-places c =
+    places_is _ c.in_ok-matches.matches _ (codes "places") _ c.get_str-places.result _
+    c.in_ok-command.ensures c.in_ok-matches.ensures.ok.2 (search rules) c.get_str-places.ensures c.in_ok-copied.ensures
+
+pub returns-clause-apart : goal.returns-clause-apart
+returns-clause-apart c =
+    copies_apart c.get_str-places.result c.unwrap_or-map.result _ _ c.is_file.result
+    c.is_file.ensures (search rules) c.in_ok-copied.ensures c.in_ok-from_str.ensures.ok
+
+pub returns-clause-out : goal.returns-clause-out
+returns-clause-out c =
+    places_is _ c.in_ok-matches.matches _ (codes "out") _ c.get_str-out.result _
+    c.in_ok-command.ensures c.in_ok-matches.ensures.ok.2 (search rules) c.get_str-out.ensures c.in_ok-copied-2.ensures
+
+pub returns-clause-files : goal.returns-clause-files
+returns-clause-files c =
+    files_apart c.get_str-places.result c.get_str-out.result _ _ (c.is_both.ensures (search rules)) c.in_ok-copied.ensures c.in_ok-copied-2.ensures

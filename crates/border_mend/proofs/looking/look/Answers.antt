@@ -13,6 +13,10 @@ returns-in-Ok-find-clause-looked g c = (
   subst (λ ps. Found (features_seen ps) c.in-Ok-find.findings) c.as_slice.ensures.value c.in-Ok-find.ensures.found,
 )
 
+pub returns-in-Ok-find-clause-found : goal.returns-in-Ok-find-clause-found
+returns-in-Ok-find-clause-found g c =
+    subst (λ ps. Found (features_seen ps) c.in-Ok-find.findings) c.as_slice.ensures.value c.in-Ok-find.ensures.found
+
 pub returns-in-Err-TooMany-clause-refused : goal.returns-in-Err-TooMany-clause-refused
 returns-in-Err-TooMany-clause-refused g c =
     let told : Tells 4000000 (features_seen c.as_slice.result.now) fault.TooMany =

@@ -1,25 +1,13 @@
-use Rattle.std.proofs.Common.{rules, length}
-use Rattle.border_mend.specs.Report.{is_clear, opens_line, short_line, repeat_line, touch_line, crossing_line, counts_line, lines}
-use Rattle.border_mend.proofs.Appending.{six}
-use Rattle.border_mend.proofs.ReportLemmas.{opened, told, counted}
+use Rattle.std.proofs.Common.{length}
+use Rattle.border_mend.specs.Report.{findings_text, counts_line}
+use Rattle.border_mend.proofs.Appending.{two}
+use Rattle.border_mend.proofs.ReportLemmas.{counted}
 use Rattle.border_mend.proofs.report.push_report.Goals as goal
 
 pub returns : goal.returns
 returns g c =
-    let most = c.args.most in
-    let short = c.args.findings.now.short.items in
-    let repeats = c.args.findings.now.repeats.items in
-    let touches = c.args.findings.now.touches.items in
-    let crossings = c.args.findings.now.crossings.items in
-    six c.args.text.now.items (opens_line (is_clear short repeats touches crossings)) (lines most short_line short) (lines most repeat_line repeats)
-    (lines most touch_line touches) (lines most crossing_line crossings)
-    (counts_line (length short) (length repeats) (length touches) (length crossings))
-    c.push_opens.new.text.items c.push_all_short.new.text.items c.push_repeats.new.text.items c.push_touches.new.text.items
-    c.push_crossings.new.text.items c.push_counts.new.text.items
-    (opened _ _ _ _ c.is_clear.ensures c.in_ok-push_opens.ensures)
-    (told most short_line short _ _ _ _ c.first.ensures c.as_slice.ensures.value c.in_ok-push_all_short.ensures)
-    (told most repeat_line repeats _ _ _ _ c.first-2.ensures c.as_slice-2.ensures.value c.in_ok-push_repeats.ensures)
-    (told most touch_line touches _ _ _ _ c.first-3.ensures c.as_slice-3.ensures.value c.in_ok-push_touches.ensures)
-    (told most crossing_line crossings _ _ _ _ c.first-4.ensures c.as_slice-4.ensures.value c.in_ok-push_crossings.ensures)
-    (counted _ _ _ _ _ _ (length short) (length repeats) (length touches) (length crossings)
-    (search rules) (search rules) (search rules) (search rules) c.in_ok-push_counts.ensures)
+    let f = c.args.findings.now in
+    two c.args.text.now.items (findings_text c.args.most f.short.items f.repeats.items f.touches.items f.crossings.items)
+    (counts_line (length f.short.items) (length f.repeats.items) (length f.touches.items) (length f.crossings.items))
+    c.push_findings.new.text.items c.push_counts.new.text.items
+    c.in_ok-push_findings.ensures (counted _ _ _ _ c.counts_of.ensures c.in_ok-push_counts.ensures)

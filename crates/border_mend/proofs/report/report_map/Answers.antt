@@ -1,5 +1,11 @@
+use Rattle.topo_reader.specs.DocumentView.{view_raw}
 use Rattle.border_mend.proofs.OpeningLemmas.{status_opens}
+use Rattle.border_mend.proofs.PlaceLemmas.{all_placed}
 use Rattle.border_mend.proofs.report.report_map.Goals as goal
 
 pub returns-clause-opens : goal.returns-clause-opens
-returns-clause-opens g c = status_opens c.args.bytes.now c.in-Ok.findings c.in-Ok.ensures.looked
+returns-clause-opens g c = status_opens c.args.bytes.now c.in-Ok.seen.findings c.in-Ok.ensures.looked
+
+pub returns-clause-placed : goal.returns-clause-placed
+returns-clause-placed g c =
+    all_placed c.args.bytes.now (view_raw c.in-Ok.seen.map) c.in-Ok.seen.findings c.put_places.new.places c.in-Ok.ensures.opened c.in_ok-put_places.ensures.placed

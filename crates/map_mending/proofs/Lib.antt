@@ -1,0 +1,7 @@
+pub mod Stands
+pub mod Pieces
+pub mod Features
+pub mod Whole
+pub mod Settling
+pub mod Stays
+mod Examples

@@ -1,0 +1,8 @@
+use Rattle.std.proofs.Common.{length}
+use Rattle.std.specs.Prelude.{sum_by}
+use Rattle.topo_reader.specs.Uses.{polygon_positions}
+use Rattle.topo_reader.proofs.Counting.{Counts}
+use Rattle.map_mending.proofs.size.after_feature.Given as goal
+
+abbrev pub invariant-loop-rings : goal.invariant-loop-rings
+invariant-loop-rings g l = Counts (sum_by length) polygon_positions l.fn.polygons l.fn.room l.left l.rings-index

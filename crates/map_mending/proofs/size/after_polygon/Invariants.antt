@@ -1,0 +1,7 @@
+use Rattle.std.proofs.Common.{length}
+use Rattle.topo_reader.specs.Uses.{positions_of}
+use Rattle.topo_reader.proofs.Counting.{Counts}
+use Rattle.map_mending.proofs.size.after_polygon.Given as goal
+
+abbrev pub invariant-loop-ring : goal.invariant-loop-ring
+invariant-loop-ring g l = Counts length positions_of l.fn.rings l.fn.room l.left l.ring-index

@@ -1,0 +1,4 @@
+pub mod Mended
+pub mod Bounding
+pub mod Told
+pub mod Seen

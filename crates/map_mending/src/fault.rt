@@ -1,0 +1,60 @@
+// Why a map is not mended.
+use grid_geometry::Seg;
+use segment_paths::PathFault;
+use std::alloc::{AllocError, AllocFailed};
+use walk_mending::PartFault;
+
+/// Why a map is not mended.
+#[derive(Clone, Copy, Debug, PartialEq, Eq)]
+pub enum MendFault {
+    /// The mended map would have more than 4,000,000 positions.
+    TooLarge,
+    /// These two segments conflict, and no position could be put into either.
+    Unmended {
+        /// One of the two.
+        s: Seg,
+        /// The other one.
+        t: Seg,
+    },
+    /// The polygon was not taken apart into rings.
+    Unparted {
+        /// The number of the feature, from 0 in the order of the map.
+        feature: usize,
+        /// The number of the polygon in the feature, from 0.
+        polygon: usize,
+    },
+    /// Memory was refused.
+    OutOfMemory,
+}
+
+impl From<AllocError> for MendFault {
+    ghost use Rattle.std.specs.Prelude.{◌≡◌};
+    ghost use Rattle.map_mending.specs.declared.fault.MendFault.TheVariants.{OutOfMemory};
+
+    ghost from_gives = { λ _ e. e ≡ OutOfMemory };
+
+    fn from(_e: AllocError) -> MendFault {
+        MendFault::OutOfMemory
+    }
+}
+
+impl<T: Drop> From<AllocFailed<T>> for MendFault {
+    ghost use Rattle.std.specs.Prelude.{◌≡◌};
+    ghost use Rattle.map_mending.specs.declared.fault.MendFault.TheVariants.{OutOfMemory};
+
+    ghost from_gives = { λ _ e. e ≡ OutOfMemory };
+
+    fn from(_e: AllocFailed<T>) -> MendFault {
+        MendFault::OutOfMemory
+    }
+}
+
+impl From<PathFault> for MendFault {
+    fn from(fault: PathFault) -> MendFault {
+        match fault {
+            PathFault::TooMany => MendFault::TooLarge,
+            PathFault::Unmended { s, t } => MendFault::Unmended { s, t },
+            PathFault::OutOfMemory => MendFault::OutOfMemory,
+        }
+    }
+}

@@ -1,0 +1,2 @@
+pub mod Opens
+pub mod Faults

@@ -1,0 +1,3 @@
+// Whole maps, and what stands in them once they are mended.
+mod rows;
+mod told;

@@ -1,0 +1,5 @@
+// Segments and their paths.
+mod drawn;
+mod refused;
+mod rows;
+mod told;

@@ -1,0 +1,4 @@
+// Walks laid, and polygons mended.
+mod drawn;
+mod given;
+mod rows;

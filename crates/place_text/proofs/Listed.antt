@@ -1,0 +1,63 @@
+-- Texts with commas between them, one after another.
+use Rattle.std.proofs.Common.{◌≡◌, ℕ, suc, ◌+◌, ◌<◌, length, take, List, [], ◌∷◌, ◌++◌, map, true, refl, sym, ap, ◌∙◌, arith, append_assoc, append-nil, get_or}
+use Rattle.std.specs.Prelude.{codes, nat_lt}
+use Rattle.std.proofs.lemmas.List.{map-append, take_more}
+use Rattle.std.proofs.lemmas.List.Concat.{flat_map-append}
+use Rattle.ring_machine.specs.Document.{Text}
+use Rattle.map_text.specs.Text.{further, commas, comma_if}
+use Rattle.walk_faults.specs.Walks.{each_at}
+use Rattle.place_text.proofs.Numbered.{each_next, so_many}
+
+positive : (i : ℕ) → nat_lt 0 (suc i) ≡ true
+positive i = grind arith
+
+-- one text more, after a comma where something stands before
+commas_next : (ts : List Text) (t : Text) → commas (ts ++ t ∷ []) ≡ commas ts ++ (comma_if (nat_lt 0 (length ts)) ++ t)
+commas_next [] t = append-nil t
+commas_next (u ∷ us) t =
+    ap (λ z. u ++ z) (flat_map-append (λ v. codes "," ++ v) us (t ∷ []) ∙ ap (λ z. further us ++ z) (append-nil (codes "," ++ t)))
+    ∙ sym (append_assoc u (further us) (codes "," ++ t))
+    ∙ ap (λ b. (u ++ further us) ++ (comma_if b ++ t)) (sym (positive (length us)))
+
+-- the text before, with one more behind those so far
+next_text : (ts next : List Text) (t : Text) (i : ℕ) → next ≡ ts ++ t ∷ [] → length ts ≡ i
+    → (o now mid end : Text) → now ≡ o ++ commas ts → mid ≡ now ++ comma_if (nat_lt 0 i) → end ≡ mid ++ t → end ≡ o ++ commas next
+next_text ts next t i e n o now mid end p q r =
+    r ∙ ap (λ z. z ++ t) (q ∙ ap (λ z. z ++ comma_if (nat_lt 0 i)) p)
+    ∙ append_assoc (o ++ commas ts) (comma_if (nat_lt 0 i)) t ∙ append_assoc o (commas ts) (comma_if (nat_lt 0 i) ++ t)
+    ∙ ap (λ k. o ++ (commas ts ++ (comma_if (nat_lt 0 k) ++ t))) (sym n)
+    ∙ ap (λ z. o ++ z) (sym (commas_next ts t)) ∙ ap (λ z. o ++ commas z) (sym e)
+
+length-map' : {A B : Type 0} (f : A → B) (xs : List A) → length (map f xs) ≡ length xs
+length-map' f [] = refl
+length-map' f (x ∷ xs) = ap suc (length-map' f xs)
+
+-- one element more, as f tells it
+pub map_step : {A : Type 0} (f : A → Text) (xs : List A) (i : ℕ) (x : A) → i < length xs → x ≡ get_or xs i x
+    → (o now mid end : Text) → now ≡ o ++ commas (map f (take i xs)) → mid ≡ now ++ comma_if (nat_lt 0 i) → end ≡ mid ++ f x
+    → end ≡ o ++ commas (map f (take (i + 1) xs))
+map_step f xs i x l e =
+    next_text (map f (take i xs)) (map f (take (i + 1) xs)) (f x) i
+    (ap (map f) (take_more xs i x l ∙ ap (λ z. take i xs ++ z ∷ []) (sym e)) ∙ map-append f (take i xs) (x ∷ []))
+    (length-map' f (take i xs) ∙ so_many xs i l)
+
+length-each : {A B : Type 0} (f : ℕ → A → B) (k : ℕ) (xs : List A) → length (each_at (λ n x. f n x ∷ []) k xs) ≡ length xs
+length-each f k [] = refl
+length-each f k (x ∷ xs) = ap suc (length-each f (suc k) xs)
+
+-- one element more, as f tells it with its number
+pub each_step : {A : Type 0} (f : ℕ → A → Text) (xs : List A) (i : ℕ) (x : A) → i < length xs → x ≡ get_or xs i x
+    → (o now mid end : Text) → now ≡ o ++ commas (each_at (λ n y. f n y ∷ []) 0 (take i xs)) → mid ≡ now ++ comma_if (nat_lt 0 i) → end ≡ mid ++ f i x
+    → end ≡ o ++ commas (each_at (λ n y. f n y ∷ []) 0 (take (i + 1) xs))
+each_step f xs i x l e =
+    next_text (each_at (λ n y. f n y ∷ []) 0 (take i xs)) (each_at (λ n y. f n y ∷ []) 0 (take (i + 1) xs)) (f i x) i
+    (each_next (λ n y. f n y ∷ []) xs i x l e) (length-each f 0 (take i xs) ∙ so_many xs i l)
+
+pub map_twice : {A B C : Type 0} (f : B → C) (g : A → B) (xs : List A) → map f (map g xs) ≡ map (λ x. f (g x)) xs
+map_twice f g [] = refl
+map_twice f g (x ∷ xs) = ap (λ z. f (g x) ∷ z) (map_twice f g xs)
+
+-- a text between brackets
+pub bracketed : (o w a b c : Text) → a ≡ o ++ codes "[" → b ≡ a ++ w → c ≡ b ++ codes "]" → c ≡ o ++ (codes "[" ++ (w ++ codes "]"))
+bracketed o w a b c p q r =
+    r ∙ ap (λ z. z ++ codes "]") (q ∙ ap (λ z. z ++ w) p) ∙ append_assoc (o ++ codes "[") w (codes "]") ∙ append_assoc o (codes "[") (w ++ codes "]")

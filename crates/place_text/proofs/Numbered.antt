@@ -1,0 +1,32 @@
+-- What each element of a list gives with its number, one after another.
+use Rattle.std.proofs.Common.{◌≡◌, ◌<◌, ◌+◌, ℕ, zero, suc, refl, sym, ap, ◌∙◌, List, [], ◌∷◌, ◌++◌, length, take, get_or, arith, append_assoc, append-nil}
+use Rattle.std.proofs.lemmas.List.{take_more}
+use Rattle.walk_faults.specs.Walks.{each_at}
+
+each_at-append : {X Y : Type 0} (f : ℕ → X → List Y) (k : ℕ) (xs ys : List X) → each_at f k (xs ++ ys) ≡ each_at f k xs ++ each_at f (k + length xs) ys
+each_at-append f k [] ys = let e : k ≡ k + 0 = omega arith in ap (λ n. each_at f n ys) e
+each_at-append f k (x ∷ xs) ys =
+    let e : suc k + length xs ≡ k + suc (length xs) = omega arith in
+    ap (λ z. f k x ++ z) (each_at-append f (suc k) xs ys ∙ ap (λ n. each_at f (suc k) xs ++ each_at f n ys) e)
+    ∙ sym (append_assoc (f k x) (each_at f (suc k) xs) (each_at f (k + suc (length xs)) ys))
+
+pub so_many : {X : Type 0} (xs : List X) (i : ℕ) → i < length xs → length (take i xs) ≡ i
+so_many xs zero l = refl
+so_many [] (suc i) l = absurd (omega arith)
+so_many (x ∷ xs) (suc i) l = ap suc (so_many xs i (omega arith))
+
+-- one element more
+pub each_next : {X Y : Type 0} (f : ℕ → X → List Y) (xs : List X) (i : ℕ) (x : X) → i < length xs → x ≡ get_or xs i x
+    → each_at f 0 (take (i + 1) xs) ≡ each_at f 0 (take i xs) ++ f i x
+each_next f xs i x l e =
+    let so_far = take i xs in
+    let e' : 0 + length so_far ≡ i = omega (arith, so_many xs i l) in
+    ap (each_at f 0) (take_more xs i x l ∙ ap (λ z. take i xs ++ z ∷ []) (sym e))
+    ∙ each_at-append f 0 so_far (x ∷ []) ∙ ap (λ n. each_at f 0 so_far ++ (f n x ++ [])) e'
+    ∙ ap (λ z. each_at f 0 so_far ++ z) (append-nil (f i x))
+
+-- what one element gives comes behind those so far
+pub one_more : {X Y : Type 0} (f : ℕ → X → List Y) (xs : List X) (i : ℕ) (x : X) (old before after : List Y) → i < length xs → x ≡ get_or xs i x
+    → before ≡ old ++ each_at f 0 (take i xs) → after ≡ before ++ f i x → after ≡ old ++ each_at f 0 (take (i + 1) xs)
+one_more f xs i x old before after l e so_far is =
+    is ∙ ap (λ z. z ++ f i x) so_far ∙ append_assoc old (each_at f 0 (take i xs)) (f i x) ∙ ap (λ z. old ++ z) (sym (each_next f xs i x l e))

@@ -1,0 +1,15 @@
+use Rattle.std.proofs.Common.{sym, ap, ◌∙◌, ◌++◌}
+use Rattle.std.specs.Prelude.{codes, decimal}
+use Rattle.place_text.specs.Text.{ring_text}
+use Rattle.place_text.proofs.Appending.{six}
+use Rattle.place_text.proofs.objects.push_ring.Goals as goal
+
+pub returns : goal.returns
+returns g c =
+    let r = c.in-Some.ring in
+    six c.args.text.now.items (codes ",\"feature\":") (decimal r.feature) (codes ",\"polygon\":") (decimal r.polygon) (codes ",\"ring\":") (decimal r.ring)
+    c.extend_from_slice.new.self.items c.push_number.new.text.items c.extend_from_slice-2.new.self.items c.push_number-2.new.text.items
+    c.extend_from_slice-3.new.self.items c.push_number-3.new.text.items
+    c.in_ok-extend_from_slice.ensures.items c.in_ok-push_number.ensures c.in_ok-extend_from_slice-2.ensures.items c.in_ok-push_number-2.ensures
+    c.in_ok-extend_from_slice-3.ensures.items c.in_ok-push_number-3.ensures
+    ∙ ap (λ o. c.args.text.now.items ++ ring_text o) (sym c.in-Some.is)

@@ -1,0 +1,7 @@
+use Rattle.std.proofs.Common.{take}
+use Rattle.place_text.specs.Places.{AreCrossings}
+use Rattle.place_text.proofs.places.crossing_positions.Given as goal
+
+-- the positions so far
+abbrev pub invariant-loop-pair : goal.invariant-loop-pair
+invariant-loop-pair g l = AreCrossings (take l.pair-index l.pairs) l.positions.items

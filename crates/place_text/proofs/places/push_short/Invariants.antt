@@ -1,0 +1,9 @@
+use Rattle.std.proofs.Common.{◌≡◌, ◌++◌, take}
+use Rattle.walk_faults.specs.Walks.{each_at}
+use Rattle.walk_faults.specs.Seen.{features_seen}
+use Rattle.place_text.specs.Places.{short_place}
+use Rattle.place_text.proofs.places.push_short.Given as goal
+
+-- the places so far
+abbrev pub invariant-loop-number : goal.invariant-loop-number
+invariant-loop-number g l = l.places.items ≡ l.fn.places.items ++ each_at (short_place (features_seen l.walks)) 0 (take l.number l.short)

@@ -1,0 +1,11 @@
+//! The places of what keeps a map from opening, as a topology of points and lines (TopoJSON 1.0) on
+//! the grid of the map.
+#![tactic(auto)]
+
+mod numbers;
+mod objects;
+mod places;
+mod sides;
+mod topology;
+
+pub use topology::text_of_places;

@@ -1,0 +1,82 @@
+// Numbers and pairs of them, appended to a text (RFC 8259).
+ghost use Rattle.std.specs.Prelude.{◌≡◌, ◌++◌, ◌-ℤ◌, OnOk};
+ghost use Rattle.grid_geometry.specs.Position.{position};
+ghost use Rattle.map_text.specs.Text.{comma_if, pair_text};
+ghost use Rattle.place_text.specs.Sides.{pair_behind};
+
+use grid_geometry::Pos;
+use itoa::{Buffer, Integer};
+use std::alloc::{AllocError, Allocator};
+
+/// Appends a number in decimal.
+pub(crate) fn push_number<A: Allocator, I: Integer>(
+    text: &mut Vec<u8, A>,
+    number: I,
+) -> Result<(), AllocError>
+    ensures { OnOk result (text.new.items ≡ text.old.items ++ I.text number) }
+{
+    let mut buffer = Buffer::new();
+    text.extend_from_slice(buffer.format(number).as_bytes())?;
+    Ok(())
+}
+
+/// Appends a comma where something stands before.
+pub(crate) fn push_comma<A: Allocator>(text: &mut Vec<u8, A>, more: bool) -> Result<(), AllocError>
+    ensures { OnOk result (text.new.items ≡ text.old.items ++ comma_if more) }
+{
+    if more {
+        text.extend_from_slice(b",")?;
+    }
+    Ok(())
+}
+
+/// Appends a pair of numbers.
+fn push_pair<A: Allocator>(text: &mut Vec<u8, A>, x: i64, y: i64) -> Result<(), AllocError>
+    ensures { OnOk result (text.new.items ≡ text.old.items ++ pair_text (position x y)) }
+{
+    text.extend_from_slice(b"[")?;
+    push_number(text, x)?;
+    text.extend_from_slice(b",")?;
+    push_number(text, y)?;
+    text.extend_from_slice(b"]")?;
+    Ok(())
+}
+
+/// Appends a position, as a pair of numbers.
+pub(crate) fn push_position<A: Allocator>(text: &mut Vec<u8, A>, pos: Pos) -> Result<(), AllocError>
+    ensures { OnOk result (text.new.items ≡ text.old.items ++ pair_text pos) }
+{
+    push_pair(text, pos.x(), pos.y())
+}
+
+/// How far b is to the right of a.
+fn across(a: Pos, b: Pos) -> i64
+    ensures { result ≡ b.x -ℤ a.x }
+{
+    b.x() - a.x()
+}
+
+/// How far b is above a.
+fn upward(a: Pos, b: Pos) -> i64
+    ensures { result ≡ b.y -ℤ a.y }
+{
+    b.y() - a.y()
+}
+
+/// Appends the position behind another in an arc: with a transform the difference to that one, and
+/// else the position itself (TopoJSON 1.0, 2.1.2 and 2.1.3).
+pub(crate) fn push_behind<A: Allocator>(
+    text: &mut Vec<u8, A>,
+    delta: bool,
+    before: Pos,
+    pos: Pos,
+) -> Result<(), AllocError>
+    ensures { OnOk result
+        (text.new.items ≡ text.old.items ++ pair_text (pair_behind delta before pos)) }
+{
+    if delta {
+        push_pair(text, across(before, pos), upward(before, pos))
+    } else {
+        push_position(text, pos)
+    }
+}

@@ -1,0 +1,4 @@
+pub mod Rising
+pub mod Led
+pub mod Gathering
+mod Examples

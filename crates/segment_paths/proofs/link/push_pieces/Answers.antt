@@ -1,0 +1,7 @@
+use Rattle.std.proofs.lemmas.List.Elements.{All-same, All-drop}
+use Rattle.segment_paths.specs.Stops.{IsPiece}
+use Rattle.segment_paths.proofs.link.push_pieces.Goals as goal
+
+pub returns-clause-kept : goal.returns-clause-kept
+returns-clause-kept g c ss h k =
+    c.in_ok-push_run.ensures.kept ss h (All-same (IsPiece ss) _ _ c.split_at.ensures.back (All-drop (IsPiece ss) c.begin_of.result c.args.links.now k))

@@ -1,0 +1,9 @@
+use Rattle.std.proofs.Common.{List}
+use Rattle.std.specs.List.{All}
+use Rattle.grid_geometry.specs.Segment.{Segment}
+use Rattle.segment_paths.specs.Stops.{IsStop, IsPiece}
+use Rattle.segment_paths.proofs.round.part_all.Given as goal
+
+abbrev pub invariant-loop-one : goal.invariant-loop-one
+invariant-loop-one g l =
+    (ss : List Segment) → All (IsStop ss) l.initial.stops.items → All (IsPiece ss) l.ones → All (IsPiece ss) l.others → All (IsStop ss) l.stops.items

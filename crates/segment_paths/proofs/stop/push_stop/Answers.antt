@@ -1,0 +1,7 @@
+use Rattle.std.proofs.lemmas.List.Elements.{All-same, All-push}
+use Rattle.segment_paths.specs.Stops.{IsStop}
+use Rattle.segment_paths.proofs.stop.push_stop.Goals as goal
+
+pub returns : goal.returns
+returns g c ss h there known =
+    All-same (IsStop ss) _ _ c.in_ok-push.ensures.items (All-push (IsStop ss) _ _ h (record { among = there; known = known }))

@@ -1,0 +1,41 @@
+-- Paths of segments: what is put between their ends.
+use Rattle.std.specs.Prelude.{ℕ, List, [], ◌∷◌, ◌++◌, map, length, Contains, IsTrue}
+use Rattle.std.specs.List.{All, list_all, sum_by}
+use Rattle.std.specs.List.Sorted.{IsStrictlySortedBy}
+use Rattle.std.specs.Ordering.{int_cmp}
+use Rattle.grid_geometry.specs.Position.{Position}
+use Rattle.grid_geometry.specs.Segment.{Segment, segment_cmp, is_end}
+use Rattle.grid_geometry.specs.Conflict.{cross}
+use Rattle.snap_geometry.specs.Near.{is_near, along}
+use Rattle.snap_geometry.specs.Crossing.{IsRoundedCrossing}
+
+-- a segment, and the positions that are put between its ends, from the lesser end on
+abbrev pub Path : Type 0
+Path = Segment × List Position
+
+-- these positions lead from the lesser end of the segment to the greater one: each is near the
+-- segment, and further along it than the one before
+pub record IsWay (s : Segment) (inner : List Position) : Type 0 where
+  pub near : IsTrue (list_all (λ q. is_near q s) inner)
+  pub onward : IsStrictlySortedBy int_cmp (map (along s) (s.lo ∷ inner ++ s.hi ∷ []))
+
+-- q is an end of one of the segments, or the crossing of two of them, rounded to the grid
+pub data IsKnown (ss : List Segment) (q : Position) : Type 0 where
+  vertex : {s : Segment} → Contains ss s → IsTrue (is_end q s) → IsKnown ss q
+  crossing : {s t : Segment} → Contains ss s → Contains ss t → IsTrue (cross s t)
+      → IsRoundedCrossing s t q → IsKnown ss q
+
+-- the segments that have a path
+abbrev pub segments_of : List Path → List Segment
+segments_of paths = map (λ p. p.0) paths
+
+-- the paths of some of the segments, ascending by them, one of each at most
+pub record ArePaths (ss : List Segment) (paths : List Path) : Type 0 where
+  pub ascending : IsStrictlySortedBy segment_cmp (segments_of paths)
+  pub among : All (λ p. Contains ss p.0) paths
+  pub ways : All (λ p. IsWay p.0 p.1) paths
+  pub known : All (λ p. All (IsKnown ss) p.1) paths
+
+-- how many positions are put in
+abbrev pub inner_positions : List Path → ℕ
+inner_positions paths = sum_by (λ p. length p.1) paths

@@ -1,0 +1,12 @@
+-- What the code holds, seen as paths.
+use Rattle.std.specs.Prelude.{List, map}
+use Rattle.segment_paths.specs.declared.path.SegmentPath.{SegmentPath}
+use Rattle.segment_paths.specs.Paths.{Path}
+
+-- a segment with what is put into it
+abbrev pub path_seen : {A : Type 0} → SegmentPath A → Path
+path_seen path = (path.segment, path.inner.items)
+
+-- the paths in their order
+abbrev pub paths_seen : {A : Type 0} → List (SegmentPath A) → List Path
+paths_seen paths = map path_seen paths

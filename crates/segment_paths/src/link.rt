@@ -1,0 +1,119 @@
+// Links of paths.
+ghost use Rattle.std.specs.Prelude.{◌≡◌, ◌≤◌, [], List, Contains, IfOk, OnOk, length};
+ghost use Rattle.std.specs.List.{All};
+ghost use Rattle.grid_geometry.specs.Segment.{Segment};
+ghost use Rattle.segment_paths.specs.Paths.{IsKnown, ArePaths};
+ghost use Rattle.segment_paths.specs.Seen.{paths_seen};
+ghost use Rattle.segment_paths.specs.Stops.{IsPiece};
+
+use crate::path::SegmentPath;
+use grid_geometry::{Pos, Seg};
+use snap_geometry::along;
+use std::alloc::{AllocError, Allocator};
+
+/// A link, from one position of a path to the next, and the segment whose path it is.
+#[derive(Clone, Copy, PartialEq, Eq, PartialOrd, Ord)]
+pub(crate) struct Piece {
+    pub(crate) link: Seg,
+    pub(crate) owner: Seg,
+}
+
+/// Whether a position comes between the ends of the link along the segment whose path it is.
+pub(crate) fn comes_between(piece: &Piece, pos: Pos) -> bool {
+    let from = along(piece.owner, piece.link.lo);
+    let to = along(piece.owner, piece.link.hi);
+    let at = along(piece.owner, pos);
+    (from < at && at < to) || (to < at && at < from)
+}
+
+/// Appends the link between two positions.
+fn push_link<A: Allocator + Copy>(
+    links: &mut Vec<Piece, A>,
+    owner: Seg,
+    from: Pos,
+    to: Pos,
+) -> Result<(), AllocError>
+    ensures { OnOk result ((ss : List Segment) → All (IsPiece ss) links.old.items
+        → Contains ss owner → IsKnown ss from → IsKnown ss to
+        → All (IsPiece ss) links.new.items) }
+{
+    if let Some(link) = Seg::new(from, to) {
+        links.push(Piece { link, owner })?;
+    }
+    Ok(())
+}
+
+/// Appends the links of a path.
+fn push_links<A: Allocator + Copy>(
+    links: &mut Vec<Piece, A>,
+    owner: Seg,
+    inner: &[Pos],
+) -> Result<(), AllocError>
+    ensures { OnOk result ((ss : List Segment) → All (IsPiece ss) links.old.items
+        → Contains ss owner → All (IsKnown ss) inner.now → All (IsPiece ss) links.new.items) }
+{
+    let mut from = owner.lo;
+    for to in inner {
+        push_link(links, owner, from, *to)?;
+        from = *to;
+    }
+    push_link(links, owner, from, owner.hi)?;
+    Ok(())
+}
+
+/// The links of paths, sorted.
+pub(crate) fn links_of<A: Allocator + Copy>(
+    alloc: A,
+    paths: &[SegmentPath<A>],
+) -> Result<Vec<Piece, A>, AllocError>
+    ensures { IfOk result (λ links. (ss : List Segment) → ArePaths ss (paths_seen paths.now)
+        → All (IsPiece ss) links.items) }
+{
+    let mut links = Vec::new(alloc);
+    for path in paths {
+        push_links(&mut links, path.segment, path.inner.as_slice())?;
+    }
+    links.sort_unstable();
+    Ok(links)
+}
+
+/// Where the pieces of a link begin in a sorted list.
+fn begin_of(links: &[Piece], link: Seg) -> usize
+    ensures { result ≤ length links.now }
+{
+    links.partition_point(|piece| piece.link < link)
+}
+
+/// Appends the first pieces, up to one of another link.
+fn push_run<A: Allocator + Copy>(
+    found: &mut Vec<Piece, A>,
+    pieces: &[Piece],
+    link: Seg,
+) -> Result<(), AllocError>
+    ensures kept { OnOk result ((ss : List Segment) → All (IsPiece ss) found.old.items
+        → All (IsPiece ss) pieces.now → All (IsPiece ss) found.new.items) }
+    ensures none { OnOk result (pieces.now ≡ [] → found.new.items ≡ found.old.items) }
+{
+    for piece in pieces {
+        if piece.link != link {
+            break;
+        }
+        found.push(*piece)?;
+    }
+    Ok(())
+}
+
+/// Appends the pieces of a link in a sorted list.
+pub(crate) fn push_pieces<A: Allocator + Copy>(
+    found: &mut Vec<Piece, A>,
+    links: &[Piece],
+    link: Seg,
+) -> Result<(), AllocError>
+    ensures kept { OnOk result ((ss : List Segment) → All (IsPiece ss) found.old.items
+        → All (IsPiece ss) links.now → All (IsPiece ss) found.new.items) }
+    ensures none { OnOk result (links.now ≡ [] → found.new.items ≡ found.old.items) }
+{
+    let (_, run) = links.split_at(begin_of(links, link));
+    push_run(found, run, link)?;
+    Ok(())
+}

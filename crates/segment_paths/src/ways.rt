@@ -1,0 +1,209 @@
+// The paths so far.
+ghost use Rattle.std.specs.Prelude.{◌≡◌, ◌≤◌, ◌<◌, ◌+◌, [], List, Contains, IsTrue, IfOk, OnOk};
+ghost use Rattle.std.specs.Prelude.{length, ◌++◌, ◌∷◌, ◌<ℤ◌};
+ghost use Rattle.std.specs.List.Sorted.{IsStrictlySortedBy};
+ghost use Rattle.std.specs.List.{All};
+ghost use Rattle.grid_geometry.specs.Segment.{Segment, segment_cmp, segment_lt};
+ghost use Rattle.snap_geometry.specs.Near.{is_near, along};
+ghost use Rattle.segment_paths.specs.Paths.{IsKnown, IsWay, ArePaths, segments_of};
+ghost use Rattle.segment_paths.specs.Paths.{inner_positions};
+ghost use Rattle.segment_paths.specs.Seen.{paths_seen};
+ghost use Rattle.segment_paths.specs.Stops.{IsStop, IsPiece, AreWays};
+
+use crate::link::{Piece, links_of, push_pieces};
+use crate::path::SegmentPath;
+use crate::stop::{Stop, joined};
+use grid_geometry::{Pos, Seg};
+use snap_geometry::{along, is_near};
+use std::alloc::{AllocError, Allocator};
+
+/// The paths so far of ascending segments: the stops of all of them, sorted; the paths of the
+/// segments that have stops, ascending; and the links of these paths, sorted.
+#[derive(Drop)]
+pub(crate) struct Ways<'s, A: Allocator + Copy> {
+    pub(crate) segments: &'s [Seg],
+    pub(crate) stops: Vec<Stop, A>,
+    pub(crate) paths: Vec<SegmentPath<A>, A>,
+    pub(crate) links: Vec<Piece, A>,
+}
+
+/// Whether a position is near the segment and comes between two others along it.
+fn comes_next(segment: Seg, last: Pos, pos: Pos, end: Pos) -> bool
+    ensures near { IsTrue result → IsTrue (is_near pos segment) }
+    ensures after { IsTrue result → along segment last <ℤ along segment pos }
+    ensures before { IsTrue result → along segment pos <ℤ along segment end }
+{
+    let at = along(segment, pos);
+    let reached = along(segment, last);
+    if at <= reached {
+        return false;
+    }
+    let most = along(segment, end);
+    if most <= at {
+        return false;
+    }
+    is_near(pos, segment)
+}
+
+/// The positions of sorted stops of one segment, from its lesser end on.
+fn inner_of<A: Allocator + Copy>(
+    alloc: A,
+    segment: Seg,
+    stops: &[Stop],
+) -> Result<Vec<Pos, A>, AllocError>
+    ensures way { IfOk result (λ inner. 0 < length inner.items → IsWay segment inner.items) }
+    ensures known { IfOk result (λ inner. (ss : List Segment) → All (IsStop ss) stops.now
+        → All (IsKnown ss) inner.items) }
+    ensures few { IfOk result (λ inner. length inner.items ≤ length stops.now) }
+{
+    let mut inner = Vec::new(alloc);
+    let mut last = segment.lo;
+    let end = segment.hi;
+    for stop in stops {
+        let pos = stop.pos;
+        if comes_next(segment, last, pos, end) {
+            inner.push(pos)?;
+            last = pos;
+        }
+    }
+    Ok(inner)
+}
+
+/// Whether s comes before t in the order of segments.
+fn is_before(s: Seg, t: Seg) -> bool
+    ensures { result ≡ segment_lt s t }
+{
+    s < t
+}
+
+/// Whether a segment comes after those of all paths, which ascend.
+fn is_past<A: Allocator + Copy>(paths: &[SegmentPath<A>], segment: Seg) -> bool
+    ensures { IsTrue result → IsStrictlySortedBy segment_cmp (segments_of (paths_seen paths.now))
+        → IsStrictlySortedBy segment_cmp (segments_of (paths_seen paths.now) ++ segment ∷ []) }
+{
+    match paths.last() {
+        Some(path) => is_before(path.segment, segment),
+        None => true,
+    }
+}
+
+/// Appends a path, where something is put in.
+fn push_path<A: Allocator + Copy>(
+    paths: &mut Vec<SegmentPath<A>, A>,
+    segment: Seg,
+    inner: Vec<Pos, A>,
+) -> Result<(), AllocError>
+    ensures kept { OnOk result ((ss : List Segment) → ArePaths ss (paths_seen paths.old.items)
+        → Contains ss segment → (0 < length inner.items → IsWay segment inner.items)
+        → All (IsKnown ss) inner.items → ArePaths ss (paths_seen paths.new.items)) }
+    ensures few { OnOk result (inner_positions (paths_seen paths.new.items)
+        ≤ inner_positions (paths_seen paths.old.items) + length inner.items) }
+{
+    if !inner.is_empty() && is_past(paths.as_slice(), segment) {
+        paths.push(SegmentPath { segment, inner })?;
+    }
+    Ok(())
+}
+
+/// How many of the stops have the segment of the first one before there is another.
+fn run_of(stops: &[Stop]) -> usize
+    requires { 0 < length stops.now }
+    ensures some { 0 < result }
+    ensures within { result ≤ length stops.now }
+{
+    let segment = stops[0].segment;
+    let mut n = 1;
+    while n < stops.len() && stops[n].segment == segment {
+        n += 1;
+    }
+    n
+}
+
+/// The paths over sorted stops.
+fn paths_of<A: Allocator + Copy>(
+    alloc: A,
+    stops: &[Stop],
+) -> Result<Vec<SegmentPath<A>, A>, AllocError>
+    ensures paths { IfOk result (λ paths. (ss : List Segment) → All (IsStop ss) stops.now
+        → ArePaths ss (paths_seen paths.items)) }
+    ensures few { IfOk result
+        (λ paths. inner_positions (paths_seen paths.items) ≤ length stops.now) }
+{
+    let mut paths = Vec::new(alloc);
+    let mut rest = stops;
+    while let [first, ..] = rest {
+        let segment = first.segment;
+        let (of_it, others) = rest.split_at(run_of(rest));
+        let inner = inner_of(alloc, segment, of_it)?;
+        push_path(&mut paths, segment, inner)?;
+        rest = others;
+    }
+    Ok(paths)
+}
+
+impl<'s, A: Allocator + Copy> Ways<'s, A> {
+    /// No path at all.
+    pub(crate) fn none(alloc: A, segments: &'s [Seg]) -> Ways<'s, A>
+        ensures ways { AreWays segments.now result }
+        ensures stops { result.stops.items ≡ [] }
+        ensures paths { result.paths.items ≡ [] }
+        ensures links { result.links.items ≡ [] }
+    {
+        Ways {
+            segments,
+            stops: Vec::new(alloc),
+            paths: Vec::new(alloc),
+            links: Vec::new(alloc),
+        }
+    }
+
+    /// The paths with more stops.
+    pub(crate) fn with(&self, alloc: A, more: &[Stop]) -> Result<Ways<'s, A>, AllocError>
+        ensures { IfOk result (λ ways. (ss : List Segment) → AreWays ss self.now
+            → All (IsStop ss) more.now → AreWays ss ways) }
+    {
+        let stops = joined(alloc, self.stops.as_slice(), more)?;
+        let paths = paths_of(alloc, stops.as_slice())?;
+        let links = links_of(alloc, paths.as_slice())?;
+        Ok(Ways {
+            segments: self.segments,
+            stops,
+            paths,
+            links,
+        })
+    }
+
+    /// Whether something is put into the segment.
+    fn is_bent(&self, segment: Seg) -> bool {
+        let place = self.paths.partition_point(|path| path.segment < segment);
+        match self.paths.get(place) {
+            Some(path) => path.segment == segment,
+            None => false,
+        }
+    }
+
+    /// Whether it is one of the segments, and nothing is put into it: then it is its own link.
+    fn is_whole(&self, link: Seg) -> bool
+        ensures { IsTrue result → Contains self.now.segments.now link }
+    {
+        match self.segments.binary_search(&link) {
+            Ok(_) => !self.is_bent(link),
+            Err(_) => false,
+        }
+    }
+
+    /// The pieces of a link: one for each segment whose path has it.
+    pub(crate) fn pieces_of(&self, alloc: A, link: Seg) -> Result<Vec<Piece, A>, AllocError>
+        ensures pieces { IfOk result (λ found. (ss : List Segment) → AreWays ss self.now
+            → All (IsPiece ss) found.items) }
+        ensures whole { IfOk result (λ found. self.now.links.items ≡ [] → 0 < length found.items
+            → Contains self.now.segments.now link) }
+    {
+        let mut found = Vec::new(alloc);
+        if self.is_whole(link) {
+            found.push(Piece { link, owner: link })?;
+        }
+        push_pieces(&mut found, self.links.as_slice(), link)?;
+        Ok(found)
+    }
+}

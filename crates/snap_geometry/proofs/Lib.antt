@@ -1,0 +1,4 @@
+pub mod Crossings
+pub mod Rounding
+pub mod Widths
+mod Examples

@@ -1,0 +1,105 @@
+-- Which segments bound: all of rings, the odd ones of other walks, and those of one polygon more.
+use Rattle.std.proofs.Common.{◌≡◌, ◌<◌, ◌+◌, ℕ, Bool, true, false, refl, sym, ap, ap₂, ◌∙◌, cond, List, [], ◌∷◌, ◌++◌, map, take, get_or, length, ◌||◌, Contains, arith}
+use Rattle.std.specs.Prelude.{nat_lt, IsTrue}
+use Rattle.std.specs.List.{count_by, flat_map, list_all, list_any}
+use Rattle.std.specs.List.Sorted.{IsPermutation}
+use Rattle.std.proofs.lemmas.Bool.Decides.{nat_tests}
+use Rattle.std.proofs.lemmas.List.Folds.{list_any-append, list_all-map, list_all_at}
+use Rattle.std.proofs.lemmas.List.Sorted.{sum_by-IsPermutation}
+use Rattle.std.proofs.lemmas.List.Sums.{sum_by-cons}
+use Rattle.grid_geometry.specs.Position.{Position}
+use Rattle.grid_geometry.specs.Segment.{Segment, segment_cmp, segment_eq}
+use Rattle.topo_reader.specs.Document.{is_simple}
+use Rattle.ring_machine.proofs.First.{In}
+use Rattle.ring_machine.proofs.Members.{contains_in, in_contains, in_any}
+use Rattle.ring_parts.proofs.Lists as lists
+use Rattle.ring_parts.proofs.Searching.{any_permuted}
+use Rattle.walk_faults.specs.Findings.{ListsAll, walk_segments}
+use Rattle.walk_mending.specs.Odd.{is_among, times_in, is_odd_in, is_bounding}
+use Rattle.walk_mending.proofs.Cancelling.{times, is_odd, among-in, segment_eq-refl}
+
+-- ---- of one polygon
+
+positive : (b : Bool) (n : ℕ) → (b || nat_lt 0 n) ≡ nat_lt 0 (cond b 1 0 + n)
+positive true n = grind (arith, nat_tests)
+positive false n = let e : n ≡ 0 + n = omega arith in ap (nat_lt 0) e
+
+pub any_counted : (test : Segment → Bool) (ss : List Segment) → list_any test ss ≡ nat_lt 0 (count_by test ss)
+any_counted test [] = refl
+any_counted test (s ∷ ss) =
+    ap (λ b. test s || b) (any_counted test ss) ∙ positive (test s) (count_by test ss)
+    ∙ ap (nat_lt 0) (sym (sum_by-cons (λ u. cond {A = ℕ} (test u) 1 0) s ss))
+
+pub as_often : (t : Segment) (ss sorted : List Segment) → IsPermutation ss sorted → times t sorted ≡ times t ss
+as_often t ss sorted p = sum_by-IsPermutation (λ u. cond {A = ℕ} (segment_eq t u) 1 0) ss sorted p
+
+-- of rings each segment
+pub all_bound : (walks : List (List Position)) (found : List Segment) → list_all is_simple walks ≡ true
+    → IsPermutation (flat_map walk_segments walks) found → (s : Segment) → is_among found s ≡ is_bounding walks s
+all_bound walks found h p s =
+    any_permuted (segment_eq s) (flat_map walk_segments walks) found p
+    ∙ any_counted (segment_eq s) (flat_map walk_segments walks)
+    ∙ sym (ap (λ b. cond b (nat_lt 0 (times_in walks s)) (is_odd_in walks s)) h)
+
+-- of other walks the odd ones
+pub odd_bound : (walks : List (List Position)) (sorted found : List Segment) → list_all is_simple walks ≡ false
+    → IsPermutation (flat_map walk_segments walks) sorted → ((s : Segment) → is_among found s ≡ is_odd (times s sorted))
+    → (s : Segment) → is_among found s ≡ is_bounding walks s
+odd_bound walks sorted found h p odd s =
+    odd s ∙ ap is_odd (as_often s (flat_map walk_segments walks) sorted p)
+    ∙ sym (ap (λ b. cond b (nat_lt 0 (times_in walks s)) (is_odd_in walks s)) h)
+
+-- ---- one more
+
+or_nothing : (a b : Bool) → (a || (b || false)) ≡ (a || b)
+or_nothing true b = refl
+or_nothing false true = refl
+or_nothing false false = refl
+
+or_assoc : (a b c : Bool) → ((a || b) || c) ≡ (a || (b || c))
+or_assoc true b c = refl
+or_assoc false b c = refl
+
+module _ {X Y : Type 0} (seen : X → Y) (test : Y → Bool) where
+  -- one element more passes or not
+  pub any_more : (xs : List X) (i : ℕ) (x : X) → i < length xs → x ≡ get_or xs i x
+      → list_any test (map seen (take (i + 1) xs)) ≡ (list_any test (map seen (take i xs)) || test (seen x))
+  any_more xs i x l e =
+      ap (list_any test) (lists.one_more seen xs i x l e) ∙ list_any-append test (map seen (take i xs)) (seen x ∷ [])
+      ∙ or_nothing (list_any test (map seen (take i xs))) (test (seen x))
+
+  -- with the segments that one element gives
+  pub more_bound : (xs : List X) (i : ℕ) (x : X) (old before more after : List Segment) (s : Segment) → i < length xs → x ≡ get_or xs i x
+      → after ≡ before ++ more → is_among before s ≡ (is_among old s || list_any test (map seen (take i xs))) → is_among more s ≡ test (seen x)
+      → is_among after s ≡ (is_among old s || list_any test (map seen (take (i + 1) xs)))
+  more_bound xs i x old before more after s l e is h k =
+      ap (λ z. is_among z s) is ∙ list_any-append (segment_eq s) before more ∙ ap₂ (λ a b. a || b) h k
+      ∙ or_assoc (is_among old s) (list_any test (map seen (take i xs))) (test (seen x))
+      ∙ ap (λ b. is_among old s || b) (sym (any_more xs i x l e))
+
+  -- with those that one element adds
+  pub added_bound : (xs : List X) (i : ℕ) (x : X) (before after : List Segment) (s : Segment) → i < length xs → x ≡ get_or xs i x
+      → is_among before s ≡ list_any test (map seen (take i xs)) → is_among after s ≡ (is_among before s || test (seen x))
+      → is_among after s ≡ list_any test (map seen (take (i + 1) xs))
+  added_bound xs i x before after s l e h k = k ∙ ap (λ b. b || test (seen x)) h ∙ sym (any_more xs i x l e)
+
+-- ---- as a list
+
+pub in-among : (ss : List Segment) (s : Segment) → In s ss → is_among ss s ≡ true
+in-among ss s i = in_any (segment_eq s) s ss i (segment_eq-refl s)
+
+pub listed : (found sorted : List Segment) (test : Segment → Bool) → ((s : Segment) → is_among found s ≡ test s)
+    → ListsAll segment_cmp (Contains found) sorted → ListsAll segment_cmp (λ s. IsTrue (test s)) sorted
+listed found sorted test h all = record {
+  ascending = all.ascending;
+  all = λ s. (
+    λ c. sym (h s) ∙ in-among found s (contains_in found s ((all.all s).0 c)),
+    λ t. (all.all s).1 (in_contains found s (among-in found s (h s ∙ t))),
+  );
+}
+
+-- where one element fails, not all pass
+pub fails_at : {X Y : Type 0} (test : Y → Bool) (seen : X → Y) (xs : List X) (i : ℕ) (x : X) → i < length xs → x ≡ get_or xs i x
+    → test (seen x) ≡ false → false ≡ list_all test (map seen xs)
+fails_at test seen xs i x l e h =
+    sym (list_all-map test seen xs ∙ list_all_at (λ y. test (seen y)) xs i x l (ap (λ y. test (seen y)) (sym e) ∙ h))

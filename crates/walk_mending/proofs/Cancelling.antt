@@ -1,0 +1,240 @@
+-- Of ascending segments equal ones cancel in pairs, one segment after another.
+use Rattle.std.proofs.Common.{◌≡◌, ◌↔◌, ◌<◌, ◌≤◌, ◌+◌, ◌-◌, ◌%◌, ℕ, zero, suc, Bool, true, false, refl, sym, ap, ap₂, ◌∙◌, subst, cond, List, [], ◌∷◌, ◌++◌, length, take, get_or, inl, inr, ◌⊎◌, ◌||◌, ◌&&◌, arith}
+use Rattle.std.specs.Prelude.{not, ◌==◌, IsTrue}
+use Rattle.std.specs.List.{AllByRecursion, count_by}
+use Rattle.std.specs.List.Sorted.{IsSorted, IsStrictlySortedBy}
+use Rattle.std.specs.Ordering.{is_lt, ordering_reverse}
+use Rattle.std.specs.declared.cmp.Ordering.{Ordering}
+use Rattle.std.specs.declared.cmp.Ordering.TheVariants.{Less, Equal, Greater}
+use Rattle.std.proofs.lemmas.Bool.{false≢true}
+use Rattle.std.proofs.lemmas.Bool.Decides.{nat_tests}
+use Rattle.std.proofs.lemmas.List.{take_more, get_or-take, get_or_default, length-take-le, length-append, get_or_at, take_at}
+use Rattle.std.proofs.lemmas.List.Folds.{list_any-append}
+use Rattle.std.proofs.lemmas.List.Sorted.{ranks_by, sorted_far}
+use Rattle.std.proofs.lemmas.List.Sums.{sum_by-append, sum_by-cons}
+use Rattle.grid_geometry.specs.Ring.{xor}
+use Rattle.grid_geometry.specs.Segment.{Segment, segment_cmp, segment_eq, segment_lt}
+use Rattle.ring_machine.proofs.First.{In, in-append, in_left, in_right}
+use Rattle.ring_machine.proofs.Members.{any_in, in_contains}
+use Rattle.ring_machine.proofs.Order.{position_eq-refl}
+use Rattle.ring_machine.proofs.RingSegments.{segment_eq-true}
+use Rattle.segment_index.proofs.Singles.{segment_total, segment_exact}
+use Rattle.walk_faults.proofs.Ascending.{not_less}
+use Rattle.walk_mending.specs.Odd.{is_among}
+use Rattle.walk_mending.specs.Cancelled.{EndsIn, IsCancelled, taken, put}
+
+by_bool : {X : Type 0} (p : Bool) → (p ≡ true → X) → (p ≡ false → X) → X
+by_bool true f g = f refl
+by_bool false f g = g refl
+
+pub segment_eq-refl : (s : Segment) → segment_eq s s ≡ true
+segment_eq-refl s = ap₂ (λ a b. a && b) (position_eq-refl s.lo) (position_eq-refl s.hi)
+
+-- ---- ascending lists, from behind
+
+module _ {X : Type 0} (cmp : X → X → Ordering) where
+  all_front : (P : X → Type 0) (xs ys : List X) → AllByRecursion P (xs ++ ys) → AllByRecursion P xs
+  all_front P [] ys h = tt
+  all_front P (x ∷ xs) ys h = (h.0, all_front P xs ys h.1)
+
+  all_last : (P : X → Type 0) (xs : List X) (y : X) → AllByRecursion P (xs ++ y ∷ []) → P y
+  all_last P [] y h = h.0
+  all_last P (x ∷ xs) y h = all_last P xs y h.1
+
+  all_push : (P : X → Type 0) (xs : List X) (y : X) → AllByRecursion P xs → P y → AllByRecursion P (xs ++ y ∷ [])
+  all_push P [] y h k = (k, tt)
+  all_push P (x ∷ xs) y h k = (h.0, all_push P xs y h.1 k)
+
+  pub rises_front : (xs ys : List X) → IsStrictlySortedBy cmp (xs ++ ys) → IsStrictlySortedBy cmp xs
+  unfolding IsStrictlySortedBy
+  rises_front [] ys h = tt
+  rises_front (x ∷ xs) ys h = (all_front (λ z. cmp x z ≡ Less) xs ys h.0, rises_front xs ys h.1)
+
+  pub rises_last : (xs : List X) (y : X) → IsStrictlySortedBy cmp (xs ++ y ∷ []) → (a : X) → In a xs → cmp a y ≡ Less
+  unfolding IsStrictlySortedBy
+  rises_last [] y h a i = absurd i
+  rises_last (x ∷ xs) y h a (inl e) = subst (λ z. cmp z y ≡ Less) e (all_last (λ z. cmp x z ≡ Less) xs y h.0)
+  rises_last (x ∷ xs) y h a (inr i) = rises_last xs y h.1 a i
+
+  pub rises_push : (xs : List X) (y : X) → IsStrictlySortedBy cmp xs → ((a : X) → In a xs → cmp a y ≡ Less) → IsStrictlySortedBy cmp (xs ++ y ∷ [])
+  unfolding IsStrictlySortedBy
+  rises_push [] y h k = (tt, tt)
+  rises_push (x ∷ xs) y h k = (all_push (λ z. cmp x z ≡ Less) xs y h.0 (k x (inl refl)), rises_push xs y h.1 (λ a i. k a (inr i)))
+
+-- a list is empty, or ends in an element
+from_behind : {X : Type 0} (xs : List X) → (xs ≡ []) ⊎ ((front : List X) × (x : X) × (xs ≡ front ++ x ∷ []))
+from_behind [] = inl refl
+from_behind (x ∷ xs) = elim (from_behind xs) [
+  | inl e ↦ inr ([], x, ap (λ z. x ∷ z) e)
+  | inr k ↦ inr (x ∷ k.0, k.1, ap (λ z. x ∷ z) k.2)
+]
+
+-- what a list ends in, by its last place
+ends_at : (ss : List Segment) (n : ℕ) (x s : Segment) → length ss ≡ suc n → x ≡ get_or ss n x → segment_eq x s ≡ true → EndsIn ss s
+ends_at [] n x s l e h = absurd (omega arith)
+ends_at (t ∷ []) zero x s l e h = ([], ap (λ z. z ∷ []) (sym e ∙ segment_eq-true x s h))
+ends_at (t ∷ u ∷ ss) zero x s l e h = absurd (omega arith)
+ends_at (t ∷ ss) (suc n) x s l e h =
+    let k = ends_at ss n x s (omega arith) e h in
+    (t ∷ k.0, ap (λ z. t ∷ z) k.1)
+
+last_of : (front : List Segment) (s d : Segment) → get_or (front ++ s ∷ []) (length (front ++ s ∷ []) - 1) d ≡ s
+last_of front s d = get_or_at front s [] d (length (front ++ s ∷ []) - 1) (omega (arith, length-append front (s ∷ [])))
+
+ends_no : (ss : List Segment) (x s : Segment) → x ≡ get_or ss (length ss - 1) x → segment_eq x s ≡ false → EndsIn ss s → ⊥
+ends_no ss x s e h k =
+    let same : x ≡ s = e ∙ ap (λ z. get_or z (length z - 1) x) k.1 ∙ last_of k.0 s x in
+    false≢true (sym h ∙ ap (segment_eq x) (sym same) ∙ segment_eq-refl x)
+
+none_ends : (s : Segment) → EndsIn [] s → ⊥
+none_ends s k = empty k.0 k.1
+  where
+    empty : (front : List Segment) → [] ≡ front ++ s ∷ [] → ⊥
+    empty [] e = cc
+    empty (t ∷ front) e = cc
+
+pub ends_tell : (ss : List Segment) (x s : Segment) (b : Bool) → 1 ≤ length ss → x ≡ get_or ss (length ss - 1) x → b ≡ segment_eq x s
+    → IsTrue b ↔ EndsIn ss s
+ends_tell ss x s b l e is = (
+  λ t. ends_at ss (length ss - 1) x s (omega arith) e (sym is ∙ t),
+  λ k. by_bool (segment_eq x s) (λ t. is ∙ t) (λ f. absurd (ends_no ss x s e f k)),
+)
+
+pub none_tells : (ss : List Segment) (s : Segment) → length ss ≡ 0 → IsTrue false ↔ EndsIn ss s
+none_tells [] s l = (λ t. absurd (false≢true t), λ k. absurd (none_ends s k))
+none_tells (t ∷ ss) s l = absurd (omega arith)
+
+-- the last one taken out
+pub popped : (old new : List Segment) (s : Segment) (n : ℕ) → EndsIn old s → length old ≡ n → new ≡ take (n - 1) old → old ≡ new ++ s ∷ []
+popped old new s n k l e =
+    let short : length k.0 ≡ n - 1 = omega (arith, ap length k.1, length-append k.0 (s ∷ []), l) in
+    k.1 ∙ ap (λ z. z ++ s ∷ []) (sym (e ∙ ap (take (n - 1)) k.1 ∙ take_at k.0 (s ∷ []) (n - 1) short))
+
+-- ---- counting by twos
+
+-- what is left of n by twos
+abbrev pub is_odd : ℕ → Bool
+is_odd n = n % 2 == 1
+
+odd_next : (n : ℕ) → is_odd (n + 1) ≡ not (is_odd n)
+odd_next n = grind (arith, nat_tests)
+
+odd_more : (b : Bool) (n : ℕ) → is_odd (n + cond b 1 0) ≡ xor b (is_odd n)
+odd_more true n = odd_next n
+odd_more false n = let e : n + 0 ≡ n = omega arith in ap is_odd e
+
+abbrev pub times : Segment → List Segment → ℕ
+times t ss = count_by (segment_eq t) ss
+
+pub times_push : (t : Segment) (ss : List Segment) (s : Segment) → times t (ss ++ s ∷ []) ≡ times t ss + cond (segment_eq t s) 1 0
+times_push t ss s = omega (
+  arith,
+  sum_by-append (λ u. cond {A = ℕ} (segment_eq t u) 1 0) ss (s ∷ []),
+  sum_by-cons (λ u. cond {A = ℕ} (segment_eq t u) 1 0) s [],
+)
+
+odd_push : (t : Segment) (ss : List Segment) (s : Segment) → is_odd (times t (ss ++ s ∷ [])) ≡ xor (segment_eq t s) (is_odd (times t ss))
+odd_push t ss s = ap is_odd (times_push t ss s) ∙ odd_more (segment_eq t s) (times t ss)
+
+-- ---- one segment more
+
+-- those that are kept of the segments so far
+pub record IsKept (so_far kept : List Segment) : Type 0 where
+  pub ascending : IsStrictlySortedBy segment_cmp kept
+  pub among : (t : Segment) → In t kept → In t so_far
+  pub odd : (t : Segment) → is_among kept t ≡ is_odd (times t so_far)
+
+pub kept_none : IsKept [] []
+unfolding IsStrictlySortedBy
+kept_none = record { ascending = tt; among = λ t i. i; odd = λ t. refl }
+
+pub among-in : (ss : List Segment) (t : Segment) → is_among ss t ≡ true → In t ss
+among-in ss t h =
+    let k = any_in (segment_eq t) ss h in
+    subst (λ z. In z ss) (sym (segment_eq-true t k.0 k.2)) k.1
+
+not_among : (ss : List Segment) (t : Segment) → (In t ss → ⊥) → is_among ss t ≡ false
+not_among ss t h = by_bool (is_among ss t) (λ e. absurd (h (among-in ss t e))) (λ e. e)
+
+taken_out : (a e : Bool) → (e ≡ true → a ≡ false) → a ≡ xor e (a || (e || false))
+taken_out true true h = absurd (false≢true (sym (h refl)))
+taken_out false true h = refl
+taken_out true false h = refl
+taken_out false false h = refl
+
+put_in : (a e : Bool) → (e ≡ true → a ≡ false) → (a || (e || false)) ≡ xor e a
+put_in true true h = absurd (false≢true (sym (h refl)))
+put_in false true h = refl
+put_in true false h = refl
+put_in false false h = refl
+
+-- what is not greater and is another one is less
+less_if : (s t : Segment) → segment_lt s t ≡ false → (t ≡ s → ⊥) → segment_cmp t s ≡ Less
+less_if s t h other = by (segment_cmp t s) refl
+  where
+    by : (o : Ordering) → segment_cmp t s ≡ o → o ≡ Less
+    by Less e = refl
+    by Equal e = absurd (other (segment_exact t s e))
+    by Greater e = absurd (false≢true (sym h ∙ ap is_lt (segment_total.antisymm s t ∙ ap ordering_reverse e)))
+
+step : (so_far : List Segment) (s : Segment) (old new : List Segment) → ((t : Segment) → In t so_far → segment_lt s t ≡ false)
+    → IsKept so_far old → IsCancelled old s new → IsKept (so_far ++ s ∷ []) new
+step so_far s old new most h (taken e) = record {
+  ascending = rises_front segment_cmp new (s ∷ []) rising;
+  among = λ t i. in_left t so_far (s ∷ []) (h.among t (subst (In t) (sym e) (in_left t new (s ∷ []) i)));
+  odd = λ t.
+      taken_out (is_among new t) (segment_eq t s) (λ k. not_among new t (λ i. away (subst (λ z. In z new) (segment_eq-true t s k) i)))
+      ∙ ap (xor (segment_eq t s)) (sym (list_any-append (segment_eq t) new (s ∷ [])) ∙ ap (λ z. is_among z t) (sym e) ∙ h.odd t)
+      ∙ sym (odd_push t so_far s);
+}
+  where
+    rising : IsStrictlySortedBy segment_cmp (new ++ s ∷ [])
+    rising = subst (IsStrictlySortedBy segment_cmp) e h.ascending
+
+    away : In s new → ⊥
+    away i = not_less segment_cmp segment_total s (rises_last segment_cmp new s rising s i)
+step so_far s old new most h (put e other) = record {
+  ascending = subst (IsStrictlySortedBy segment_cmp) (sym e)
+      (rises_push segment_cmp old s h.ascending (λ t i. less_if s t (most t (h.among t i)) (λ same. away (subst (λ z. In z old) same i))));
+  among = λ t i. elim (in-append t old (s ∷ []) (subst (In t) e i)) [
+    | inl j ↦ in_left t so_far (s ∷ []) (h.among t j)
+    | inr j ↦ in_right t so_far (s ∷ []) j
+  ];
+  odd = λ t.
+      ap (λ z. is_among z t) e ∙ list_any-append (segment_eq t) old (s ∷ [])
+      ∙ put_in (is_among old t) (segment_eq t s) (λ k. not_among old t (λ i. away (subst (λ z. In z old) (segment_eq-true t s k) i)))
+      ∙ ap (xor (segment_eq t s)) (h.odd t) ∙ sym (odd_push t so_far s);
+}
+  where
+    away : In s old → ⊥
+    away i = elim (from_behind old) [
+      | inl none ↦ subst (In s) none i
+      | inr k ↦ elim (in-append s k.0 (k.1 ∷ []) (subst (In s) k.2 i)) [
+        | inl j ↦
+            let less = rises_last segment_cmp k.0 k.1 (subst (IsStrictlySortedBy segment_cmp) k.2 h.ascending) s j in
+            let there : In k.1 old = subst (In k.1) (sym k.2) (in_right k.1 k.0 (k.1 ∷ []) (inl refl)) in
+            false≢true (sym (most k.1 (h.among k.1 there)) ∙ ap is_lt less)
+        | inr (inl same) ↦ other (k.0, k.2 ∙ ap (λ z. k.0 ++ z ∷ []) same)
+        | inr (inr none) ↦ none
+      ]
+    ]
+
+-- of sorted segments none so far is greater than the next one
+none_greater : (sorted : List Segment) (i : ℕ) (s : Segment) → IsSorted segment_cmp sorted → i < length sorted → s ≡ get_or sorted i s
+    → (t : Segment) → In t (take i sorted) → segment_lt s t ≡ false
+none_greater sorted i s up l e t j =
+    let k = in_contains (take i sorted) t j in
+    by k.0 k.1 k.2
+  where
+    by : (n : ℕ) → n < length (take i sorted) → get_or (take i sorted) n t ≡ t → segment_lt s t ≡ false
+    by n m f =
+        let low : n < i = omega (arith, length-take-le i sorted (omega arith), m) in
+        let far = sorted_far (λ x y. is_lt (segment_cmp x y)) (ranks_by segment_total (λ x. x)) sorted up n i t (omega arith) l in
+        subst (λ z. is_lt (segment_cmp s z) ≡ false) (sym (get_or-take i sorted n t low) ∙ f)
+        (subst (λ z. is_lt (segment_cmp z (get_or sorted n t)) ≡ false) (sym (e ∙ get_or_default sorted i s t l)) far)
+
+pub next : (sorted : List Segment) (i : ℕ) (s : Segment) (old new : List Segment) → IsSorted segment_cmp sorted → i < length sorted
+    → s ≡ get_or sorted i s → IsKept (take i sorted) old → IsCancelled old s new → IsKept (take (i + 1) sorted) new
+next sorted i s old new up l e h c =
+    subst (λ z. IsKept z new) (sym (take_more sorted i s l ∙ ap (λ z. take i sorted ++ z ∷ []) (sym e)))
+    (step (take i sorted) s old new (none_greater sorted i s up l e) h c)

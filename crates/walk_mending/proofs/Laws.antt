@@ -1,0 +1,86 @@
+-- What is kept of a polygon that is mended: its positions in order, and the ends of its odd segments.
+use Rattle.std.proofs.Common.{◌≡◌, ℕ, true, false, sym, ap, ◌∙◌, subst, cond, List, [], ◌∷◌, ◌++◌, map, arith}
+use Rattle.std.specs.Prelude.{nat_lt, Result, Ok, Err, IfOk, IfErr}
+use Rattle.std.proofs.lemmas.Result.{IfOk-weaker}
+use Rattle.std.specs.List.{flat_map, list_all, list_any}
+use Rattle.std.proofs.lemmas.Bool.Decides.{nat_tests}
+use Rattle.grid_geometry.specs.Position.{Position}
+use Rattle.grid_geometry.specs.Segment.{Segment, segment_eq}
+use Rattle.ring_machine.specs.Ring.{canonical, has}
+use Rattle.ring_machine.proofs.Canonical.{canonical_parts}
+use Rattle.ring_machine.proofs.First.{In, in_left}
+use Rattle.ring_machine.proofs.Members.{in_any, in_flat, in_swap}
+use Rattle.ring_machine.proofs.Neighbours.{in-map, in-has}
+use Rattle.segment_paths.specs.Paths.{Path}
+use Rattle.walk_faults.specs.Findings.{walk_segments}
+use Rattle.walk_faults.proofs.RingEdges.{segment_ends}
+use Rattle.topo_reader.specs.Document.{is_simple}
+use Rattle.walk_mending.specs.declared.mending.PartFault.{PartFault}
+use Rattle.walk_mending.specs.declared.mending.PartFault.TheVariants.{Unparted, OutOfMemory}
+use Rattle.walk_mending.specs.Laid.{laid, KeepsInOrder}
+use Rattle.walk_mending.specs.Odd.{times_in}
+use Rattle.walk_mending.specs.Mended.{all_rings, IsMended, stays, parted, ArePartsOf, KeepsOddEnds, OnlyIfApart}
+use Rattle.walk_mending.proofs.Along.{laid_keeps}
+use Rattle.walk_mending.proofs.Bounds.{any_counted}
+use Rattle.walk_mending.proofs.Cancelling.{among-in, is_odd}
+
+-- a ring in its canonical rotation is a laid walk turned, in which the walk stands in order
+pub keeps_round : (paths : List Path) (walk : List Position)
+    → (xs : List Position) × (ys : List Position) × KeepsInOrder walk (xs ++ ys) × (canonical (laid paths walk) ≡ ys ++ xs)
+keeps_round paths walk =
+    let k = canonical_parts (laid paths walk) in
+    (k.0, k.1, subst (KeepsInOrder walk) k.2 (laid_keeps paths walk), k.3)
+
+-- a segment that stands in walks some times is one of theirs, and its ends are positions of one
+ends_there : (walks : List (List Position)) (s : Segment) → nat_lt 0 (times_in walks s) ≡ true
+    → (walk : List Position) × In walk walks × In s.lo walk × In s.hi walk
+ends_there walks s h =
+    let among = any_counted (segment_eq s) (flat_map walk_segments walks) ∙ h in
+    let k = in_flat walk_segments s walks (among-in (flat_map walk_segments walks) s among) in
+    let e = segment_ends k.0 s k.2 in
+    (k.0, k.1, e.0, e.1)
+
+is_one : (rings : List (List Position)) (ring : List Position) (p : Position) → In ring rings → In p ring
+    → list_any (λ r. has r p) rings ≡ true
+is_one rings ring p i j = in_any (λ r. has r p) ring rings i (in-has p ring j)
+
+odd_some : (n : ℕ) → is_odd n ≡ true → nat_lt 0 n ≡ true
+odd_some n h = grind (arith, nat_tests)
+
+turned_has : (walk : List Position) (p : Position) → In p walk → In p (canonical walk)
+turned_has walk p i =
+    let k = canonical_parts walk in
+    subst (In p) (sym k.3) (in_swap p k.0 k.1 (subst (In p) k.2 i))
+
+-- both ends of each odd segment stay
+pub odd_ends : (walks : List (List Position)) (parts : List (List (List Position))) → IsMended walks parts → KeepsOddEnds walks parts
+odd_ends walks _ (stays h) s odd =
+    let k = ends_there walks s (odd_some (times_in walks s) odd) in
+    let there : In (canonical k.0) (map canonical walks ++ []) = in_left (canonical k.0) (map canonical walks) [] (in-map canonical k.0 walks k.1) in (
+      is_one (map canonical walks ++ []) (canonical k.0) s.lo there (turned_has k.0 s.lo k.2),
+      is_one (map canonical walks ++ []) (canonical k.0) s.hi there (turned_has k.0 s.hi k.3),
+    )
+odd_ends walks parts (parted h are) s odd =
+    let once = are.odd s ∙ ap (λ b. cond {A = ℕ} b 1 0) odd in
+    let k = ends_there (all_rings parts) s (ap (nat_lt 0) once) in
+    (is_one (all_rings parts) k.0 s.lo k.1 k.2, is_one (all_rings parts) k.0 s.hi k.1 k.3)
+
+-- ---- results
+
+-- that the rings do not fit may be said of walks that are not all rings
+pub fault_if : {T : Type 0} (P : Type 0) → P → (r : Result T PartFault) → IfErr r (OnlyIfApart P)
+fault_if P p (Ok x) = tt
+fault_if P p (Err Unparted) = p
+fault_if P p (Err OutOfMemory) = tt
+
+pub mended_if : {X E : Type 0} (walks : List (List Position)) (seen : X → List (List (List Position))) (r : Result X E) → list_all is_simple walks ≡ false
+    → IfOk r (λ x. ArePartsOf walks (seen x)) → IfOk r (λ x. IsMended walks (seen x))
+mended_if walks seen r h = IfOk-weaker r (λ x. ArePartsOf walks (seen x)) (λ x. IsMended walks (seen x)) (λ x are. parted h are)
+
+pub ends_if : {X E : Type 0} (walks : List (List Position)) (seen : X → List (List (List Position))) (r : Result X E)
+    → IfOk r (λ x. IsMended walks (seen x)) → IfOk r (λ x. KeepsOddEnds walks (seen x))
+ends_if walks seen r = IfOk-weaker r (λ x. IsMended walks (seen x)) (λ x. KeepsOddEnds walks (seen x)) (λ x m. odd_ends walks (seen x) m)
+
+pub stays_if : (walks : List (List Position)) (parts : List (List (List Position))) → list_all is_simple walks ≡ true
+    → parts ≡ map canonical walks ∷ [] → IsMended walks parts
+stays_if walks parts h e = subst (IsMended walks) (sym e) (stays h)

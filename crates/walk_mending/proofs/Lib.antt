@@ -1,0 +1,8 @@
+pub mod Searched
+pub mod Along
+pub mod Cancelling
+pub mod Bounds
+pub mod Distinct
+pub mod Parting
+pub mod Laws
+mod Examples

@@ -1,0 +1,86 @@
+-- Polygons as parts of one: their rings, and each odd segment once.
+use Rattle.std.proofs.Common.{◌≡◌, ◌<◌, ◌+◌, ℕ, Bool, true, false, refl, sym, ap, ◌∙◌, subst, cond, List, [], ◌∷◌, ◌++◌, map, take, get_or, length, ◌&&◌, ◌||◌, arith}
+use Rattle.std.specs.Bool.{Decides}
+use Rattle.std.specs.List.{flat_map, list_all}
+use Rattle.std.specs.List.Sorted.{IsPermutation, IsStrictlySortedBy}
+use Rattle.std.specs.declared.cmp.Ordering.TheVariants.{Less}
+use Rattle.std.proofs.lemmas.Bool.{and_parts, and_from}
+use Rattle.std.proofs.lemmas.List.{append-nil}
+use Rattle.std.proofs.lemmas.List.Concat.{flat_map-append}
+use Rattle.std.proofs.lemmas.List.Folds.{list_all-append}
+use Rattle.std.proofs.lemmas.List.Sums.{sum_by-cons}
+use Rattle.grid_geometry.specs.Position.{Position}
+use Rattle.grid_geometry.specs.Segment.{Segment, segment_cmp, segment_eq}
+use Rattle.ring_machine.specs.Ring.{is_ring}
+use Rattle.ring_machine.proofs.RingSegments.{segment_eq-true}
+use Rattle.ring_machine.proofs.SortedOnce.{in_recursion}
+use Rattle.segment_index.proofs.Singles.{segment_total}
+use Rattle.ring_parts.proofs.Lists as lists
+use Rattle.walk_faults.proofs.Ascending.{not_less}
+use Rattle.walk_faults.specs.Findings.{walk_segments}
+use Rattle.walk_mending.specs.Odd.{is_among, is_odd_in}
+use Rattle.walk_mending.specs.Mended.{all_rings, has_ring, ArePartsOf}
+use Rattle.walk_mending.proofs.Cancelling.{times, among-in, segment_eq-refl}
+use Rattle.walk_mending.proofs.Bounds.{as_often}
+
+-- ---- rings
+
+abbrev pub is_filled : List (List Position) → Bool
+is_filled part = has_ring part && list_all is_ring part
+
+filled_parts : (parts : List (List (List Position))) → list_all is_filled parts ≡ true
+    → (list_all has_ring parts ≡ true) × (list_all is_ring (all_rings parts) ≡ true)
+filled_parts [] h = (refl, refl)
+filled_parts (part ∷ parts) h =
+    let both = and_parts (is_filled part) (list_all is_filled parts) h in
+    let here = and_parts (has_ring part) (list_all is_ring part) both.0 in
+    let rest = filled_parts parts both.1 in (
+      and_from (has_ring part) (list_all has_ring parts) here.0 rest.0,
+      list_all-append is_ring part (all_rings parts) ∙ and_from (list_all is_ring part) (list_all is_ring (all_rings parts)) here.1 rest.1,
+    )
+
+-- ---- each segment once
+
+by_bool : {X : Type 0} (p : Bool) → (p ≡ true → X) → (p ≡ false → X) → X
+by_bool true f g = f refl
+by_bool false f g = g refl
+
+-- of ascending segments none stands twice
+pub once : (ss : List Segment) (s : Segment) → IsStrictlySortedBy segment_cmp ss → times s ss ≡ cond (is_among ss s) 1 0
+unfolding IsStrictlySortedBy
+once [] s h = refl
+once (t ∷ ss) s h = sum_by-cons (λ u. cond {A = ℕ} (segment_eq s u) 1 0) t ss ∙ by (segment_eq s t) refl (once ss s h.1)
+  where
+    away : segment_eq s t ≡ true → is_among ss s ≡ false
+    away e = by_bool (is_among ss s)
+        (λ k.
+        let less = in_recursion (λ z. segment_cmp t z ≡ Less) ss s h.0 (among-in ss s k) in
+        absurd (not_less segment_cmp segment_total s (subst (λ z. segment_cmp z s ≡ Less) (sym (segment_eq-true s t e)) less)))
+        (λ k. k)
+
+    by : (b : Bool) → segment_eq s t ≡ b → times s ss ≡ cond (is_among ss s) 1 0 → cond {A = ℕ} b 1 0 + times s ss ≡ cond (b || is_among ss s) 1 0
+    by true e k = let none = k ∙ ap (λ b. cond {A = ℕ} b 1 0) (away e) in omega (arith, none)
+    by false e k = omega (arith, k)
+
+pub are_parts : (walks : List (List Position)) (parts : List (List (List Position))) (odd : List Segment) → list_all is_filled parts ≡ true
+    → IsStrictlySortedBy segment_cmp odd → ((s : Segment) → is_among odd s ≡ is_odd_in walks s)
+    → IsPermutation (flat_map walk_segments (all_rings parts)) odd → ArePartsOf walks parts
+are_parts walks parts odd h up is p = record {
+  rings = (filled_parts parts h).1;
+  filled = (filled_parts parts h).0;
+  odd = λ s. sym (as_often s (flat_map walk_segments (all_rings parts)) odd p) ∙ once odd s up ∙ ap (λ b. cond {A = ℕ} b 1 0) (is s);
+}
+
+-- ---- the segments of one part more
+
+pub part_more : {X : Type 0} (seen : X → List (List Position)) (xs : List X) (i : ℕ) (x : X) (before after : List Segment) → i < length xs → x ≡ get_or xs i x
+    → before ≡ flat_map walk_segments (all_rings (map seen (take i xs))) → after ≡ before ++ flat_map walk_segments (seen x)
+    → after ≡ flat_map walk_segments (all_rings (map seen (take (i + 1) xs)))
+part_more seen xs i x before after l e h k =
+    k ∙ ap (λ z. z ++ flat_map walk_segments (seen x)) h
+    ∙ sym (flat_map-append walk_segments (all_rings (map seen (take i xs))) (seen x))
+    ∙ sym (ap (flat_map walk_segments) (ap all_rings (lists.one_more seen xs i x l e) ∙ flat_map-append (λ z. z) (map seen (take i xs)) (seen x ∷ []) ∙ ap (λ z. all_rings (map seen (take i xs)) ++ z) (append-nil (seen x))))
+
+-- segments are equal exactly where the test says so
+pub segment_decides : (s t : Segment) → Decides (segment_eq s t) (s ≡ t)
+segment_decides s t = (segment_eq-true s t, λ e. ap (segment_eq s) (sym e) ∙ segment_eq-refl s)

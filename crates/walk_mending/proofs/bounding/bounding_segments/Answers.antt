@@ -1,0 +1,11 @@
+use Rattle.std.proofs.Common.{ap, ◌∙◌}
+use Rattle.std.proofs.lemmas.List.{take_all}
+use Rattle.walk_faults.specs.Seen.{features_seen}
+use Rattle.walk_mending.specs.Odd.{is_bounding_in}
+use Rattle.walk_mending.proofs.Bounds.{listed}
+use Rattle.walk_mending.proofs.bounding.bounding_segments.Goals as goal
+
+pub returns : goal.returns
+returns g c = listed c.loop-feature.found.items c.sort_once.new.segments.items (is_bounding_in (features_seen c.args.polygons.now))
+    (λ s. c.loop-feature.invariant s ∙ ap (λ z. is_bounding_in (features_seen z) s) (take_all c.loop-feature.feature-index c.args.polygons.now c.loop-feature-test.false))
+    c.sort_once.ensures

@@ -1,0 +1,12 @@
+use Rattle.std.proofs.Common.{◌≡◌, ◌++◌, ◌∷◌, [], drop, map}
+use Rattle.std.specs.List.{flat_map}
+use Rattle.grid_geometry.specs.Ring.{links}
+use Rattle.segment_paths.specs.Seen.{path_seen}
+use Rattle.walk_mending.specs.Laid.{edge_along}
+use Rattle.walk_mending.proofs.laying.laid_walk.Given as goal
+
+-- what is laid so far and what is left of the way are all
+abbrev pub invariant-loop-to : goal.invariant-loop-to
+invariant-loop-to g l =
+    l.found.items ++ flat_map (edge_along (map path_seen l.paths)) (links (l.from ∷ drop l.to-index l.rest ++ l.first ∷ []))
+    ≡ flat_map (edge_along (map path_seen l.paths)) (links (l.first ∷ l.rest ++ l.first ∷ []))

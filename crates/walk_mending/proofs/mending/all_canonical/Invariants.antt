@@ -1,0 +1,8 @@
+use Rattle.std.proofs.Common.{◌≡◌, map, take}
+use Rattle.ring_machine.specs.Ring.{canonical}
+use Rattle.walk_faults.specs.Seen.{rings_seen}
+use Rattle.walk_mending.proofs.mending.all_canonical.Given as goal
+
+-- the walks so far
+abbrev pub invariant-loop-walk : goal.invariant-loop-walk
+invariant-loop-walk g l = rings_seen l.found.items ≡ map canonical (rings_seen (take l.walk-index l.walks))

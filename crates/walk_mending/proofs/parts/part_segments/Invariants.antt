@@ -1,0 +1,10 @@
+use Rattle.std.proofs.Common.{◌≡◌, take}
+use Rattle.std.specs.List.{flat_map}
+use Rattle.walk_faults.specs.Findings.{walk_segments}
+use Rattle.walk_faults.specs.Seen.{polygons_seen}
+use Rattle.walk_mending.specs.Mended.{all_rings}
+use Rattle.walk_mending.proofs.parts.part_segments.Given as goal
+
+-- those of the parts so far
+abbrev pub invariant-loop-part : goal.invariant-loop-part
+invariant-loop-part g l = l.segments.items ≡ flat_map walk_segments (all_rings (polygons_seen (take l.part-index l.parts)))

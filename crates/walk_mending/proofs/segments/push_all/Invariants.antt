@@ -1,0 +1,10 @@
+use Rattle.std.proofs.Common.{◌≡◌, ◌++◌, take}
+use Rattle.std.specs.List.{flat_map}
+use Rattle.walk_faults.specs.Findings.{walk_segments}
+use Rattle.walk_faults.specs.Seen.{rings_seen}
+use Rattle.walk_mending.proofs.segments.push_all.Given as goal
+
+-- the segments of the walks so far
+abbrev pub invariant-loop-walk : goal.invariant-loop-walk
+invariant-loop-walk g l =
+    l.segments.items ≡ l.fn.segments.items ++ flat_map walk_segments (rings_seen (take l.walk-index l.walks))

@@ -1,0 +1,13 @@
+use Rattle.std.proofs.Common.{ap, ◌∙◌}
+use Rattle.std.specs.Prelude.{not}
+use Rattle.std.specs.List.{list_any}
+use Rattle.grid_geometry.specs.Ring.{links}
+use Rattle.ring_machine.specs.Ring.{is_distinct}
+use Rattle.walk_mending.proofs.Distinct.{is_still, neighbours_tell}
+use Rattle.walk_mending.proofs.simple.all_differ.Goals as goal
+
+pub returns : goal.returns
+returns g c =
+    ap not (c.has_equal_neighbours.ensures ∙ ap (λ z. list_any is_still (links z)) c.as_slice.ensures.value)
+    ∙ neighbours_tell c.in_ok-sorted.sorted.items c.sort_unstable.new.self.items c.sort_unstable.ensures.permutation c.sort_unstable.ensures.sorted
+    ∙ ap is_distinct c.in_ok-sorted.ensures.items

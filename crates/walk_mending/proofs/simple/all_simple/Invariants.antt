@@ -1,0 +1,9 @@
+use Rattle.std.proofs.Common.{◌≡◌, true, take}
+use Rattle.std.specs.List.{list_all}
+use Rattle.topo_reader.specs.Document.{is_simple}
+use Rattle.walk_faults.specs.Seen.{rings_seen}
+use Rattle.walk_mending.proofs.simple.all_simple.Given as goal
+
+-- all so far
+abbrev pub invariant-loop-walk : goal.invariant-loop-walk
+invariant-loop-walk g l = list_all is_simple (rings_seen (take l.walk-index l.walks)) ≡ true

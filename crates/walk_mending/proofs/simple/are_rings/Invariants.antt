@@ -1,0 +1,9 @@
+use Rattle.std.proofs.Common.{◌≡◌, true, take}
+use Rattle.std.specs.List.{list_all}
+use Rattle.ring_machine.specs.Ring.{is_ring}
+use Rattle.walk_faults.specs.Seen.{rings_seen}
+use Rattle.walk_mending.proofs.simple.are_rings.Given as goal
+
+-- all so far
+abbrev pub invariant-loop-ring : goal.invariant-loop-ring
+invariant-loop-ring g l = list_all is_ring (rings_seen (take l.ring-index l.rings)) ≡ true

@@ -1,0 +1,31 @@
+-- Walks, led along the paths of their segments.
+use Rattle.std.specs.Prelude.{List, [], ◌∷◌, reverse, if◌then◌else◌}
+use Rattle.std.specs.List.{flat_map}
+use Rattle.grid_geometry.specs.Position.{Position, position_lt}
+use Rattle.grid_geometry.specs.Segment.{Segment, segment_eq}
+use Rattle.grid_geometry.specs.Ring.{Edge, edges}
+use Rattle.ring_machine.specs.Ring.{segment_of}
+use Rattle.segment_paths.specs.Paths.{Path}
+
+-- the positions between the ends of a segment on its path; none where it has none
+abbrev pub inner_of : List Path → Segment → List Position
+inner_of [] s = []
+inner_of (p ∷ ps) s = if segment_eq s p.0 then p.1 else inner_of ps s
+
+-- from the edge's begin up to its end, which is left out, along the path of its segment
+abbrev pub edge_along : List Path → Edge → List Position
+edge_along paths e =
+    e.0 ∷ (if position_lt e.0 e.1
+    then inner_of paths (segment_of e) else reverse (inner_of paths (segment_of e)))
+
+-- the walk, led along the paths
+abbrev pub laid : List Path → List Position → List Position
+laid paths walk = flat_map (edge_along paths) (edges walk)
+
+-- the positions stand in the other list in their order, others between them
+pub data KeepsInOrder : List Position → List Position → Type 0 where
+  ends : KeepsInOrder [] []
+  kept : {p : Position} {ps qs : List Position}
+      → KeepsInOrder ps qs → KeepsInOrder (p ∷ ps) (p ∷ qs)
+  between : {q : Position} {ps qs : List Position}
+      → KeepsInOrder ps qs → KeepsInOrder ps (q ∷ qs)

@@ -1,0 +1,4 @@
+pub mod Laid
+pub mod Odd
+pub mod Cancelled
+pub mod Mended

@@ -1,0 +1,80 @@
+// Walks, led along the paths of their segments.
+ghost use Rattle.std.specs.Prelude.{◌≡◌, ◌++◌, map, reverse, IfOk, OnOk};
+ghost use Rattle.std.specs.List.Sorted.{IsStrictlySortedBy};
+ghost use Rattle.grid_geometry.specs.Segment.{segment_cmp};
+ghost use Rattle.segment_paths.specs.Seen.{path_seen};
+ghost use Rattle.walk_mending.specs.Laid as spec;
+ghost use Rattle.walk_mending.specs.Laid.{edge_along, laid, KeepsInOrder};
+
+use grid_geometry::Pos;
+use segment_paths::SegmentPath;
+use std::alloc::{AllocError, Allocator};
+
+/// The positions between the ends of a segment on its path; none where it has none.
+fn inner_of<'p, A: Allocator + Copy>(paths: &'p [SegmentPath<A>], lo: Pos, hi: Pos) -> &'p [Pos]
+    requires { IsStrictlySortedBy segment_cmp (map (λ p. p.0) (map path_seen paths.now)) }
+    ensures { result.now ≡ spec.inner_of (map path_seen paths.now) (record { lo = lo; hi = hi }) }
+{
+    match paths.binary_search_by_key(&(lo, hi), |path| (path.segment.lo, path.segment.hi)) {
+        Ok(place) => paths[place].inner.as_slice(),
+        Err(_) => &[],
+    }
+}
+
+/// Appends positions, the last one first.
+fn push_reversed<A: Allocator + Copy>(
+    alloc: A,
+    found: &mut Vec<Pos, A>,
+    inner: &[Pos],
+) -> Result<(), AllocError>
+    ensures { OnOk result (found.new.items ≡ found.old.items ++ reverse inner.now) }
+{
+    let mut turned = Vec::from_slice(alloc, inner)?;
+    turned.reverse();
+    found.extend_from_slice(turned.as_slice())
+}
+
+/// Appends the positions from where an edge begins up to its end, which is left out.
+fn push_edge<A: Allocator + Copy>(
+    alloc: A,
+    found: &mut Vec<Pos, A>,
+    paths: &[SegmentPath<A>],
+    from: Pos,
+    to: Pos,
+) -> Result<(), AllocError>
+    requires { IsStrictlySortedBy segment_cmp (map (λ p. p.0) (map path_seen paths.now)) }
+    ensures { OnOk result (found.new.items
+        ≡ found.old.items ++ edge_along (map path_seen paths.now) (from, to)) }
+{
+    found.push(from)?;
+    if from < to {
+        found.extend_from_slice(inner_of(paths, from, to))
+    } else {
+        push_reversed(alloc, found, inner_of(paths, to, from))
+    }
+}
+
+/// The walk, led along the paths of its segments, which stand in the order of their segments, at
+/// most one for each: between two neighbours come the positions of the path of their segment, in
+/// the direction of the walk. Fails for want of memory alone.
+pub fn laid_walk<A: Allocator + Copy>(
+    alloc: A,
+    paths: &[SegmentPath<A>],
+    walk: &[Pos],
+) -> Result<Vec<Pos, A>, AllocError>
+    requires { IsStrictlySortedBy segment_cmp (map (λ p. p.0) (map path_seen paths.now)) }
+    ensures laid { IfOk result (λ found. found.items ≡ laid (map path_seen paths.now) walk.now) }
+    ensures kept { IfOk result (λ found. KeepsInOrder walk.now found.items) }
+{
+    let mut found = Vec::new(alloc);
+    let [first, rest @ ..] = walk else {
+        return Ok(found);
+    };
+    let mut from = *first;
+    for to in rest {
+        push_edge(alloc, &mut found, paths, from, *to)?;
+        from = *to;
+    }
+    push_edge(alloc, &mut found, paths, from, *first)?;
+    Ok(found)
+}
