@@ -2,13 +2,16 @@
 """Compares what the built border_mend tells of drawn maps with a search over all pairs.
 
 Each map has some drawn rings on a small grid, so that many are short or pass twice through a position, have vertices on
-others' sides, or cross. What border_mend must tell is worked out here from docs/FORMATS.md alone: every vertex against
-every segment, and every segment against every other. Where it tells `opens`, border_edit has to open the map, and
-nowhere else; where it does not, border_edit's fault has to be one that was told. A line at the end counts maps and faults.
+others' sides, or cross. What border_mend must tell, and what its file of places must have, is worked out here from
+docs/FORMATS.md alone: every vertex against every segment, and every segment against every other. Where it tells
+`opens`, border_edit has to open the map, and nowhere else; where it does not, border_edit's fault has to be one that
+was told. A line at the end counts maps and faults.
 """
 import argparse
+import fractions
 import itertools
 import json
+import math
 import pathlib
 import random
 import subprocess
@@ -46,27 +49,78 @@ def told(p):
     return f"{p[0]} {p[1]}"
 
 
-def report(features):
-    """What border_mend must tell of these features, each a list of polygons, each a list of walks."""
-    lines, walks = [], []
+def findings(features):
+    """What is found in these features, each a list of polygons, each a list of walks: the short walks, the positions
+    that are passed more than once, the vertices on segments, the pairs of segments that cross."""
+    walks = []
     for f, polygons in enumerate(features):
         for p, rings in enumerate(polygons):
-            walks += [(f"{f} {p} {r}", walk) for r, walk in enumerate(rings)]
-    short = [f"short {at}" for at, walk in walks if len(walk) < 3]
-    repeats = [f"repeats {at} {told(p)}" for at, walk in walks for p in sorted(set(walk)) if walk.count(p) > 1]
+            walks += [((f, p, r), walk) for r, walk in enumerate(rings)]
+    short = [(at, walk) for at, walk in walks if len(walk) < 3]
+    repeats = [(at, p) for at, walk in walks for p in sorted(set(walk)) if walk.count(p) > 1]
     vertices = sorted({p for _, walk in walks for p in walk})
     edges = {tuple(sorted(e)) for _, walk in walks for e in zip(walk, walk[1:] + walk[:1]) if e[0] != e[1]}
     segments = sorted(edges)
-    on = [f"on {told(p)} / {told(s[0])} {told(s[1])}" for p in vertices for s in segments if is_within(p, *s)]
+    on = [(p, s) for p in vertices for s in segments if is_within(p, *s)]
     crossing = [(s, t) for s, t in itertools.combinations(segments, 2) if cross(s, t)]
-    crosses = [f"cross {told(s[0])} {told(s[1])} / {told(t[0])} {told(t[1])}" for s, t in crossing]
-    lines = short + repeats + on + crosses or ["opens"]
-    return lines + [f"counts short {len(short)} repeats {len(repeats)} on {len(on)} cross {len(crosses)}"]
+    return short, repeats, on, crossing
+
+
+def report(features):
+    """What border_mend must tell of these features."""
+    short, repeats, on, crossing = findings(features)
+    lines = ["short %d %d %d" % at for at, _ in short]
+    lines += ["repeats %d %d %d %d %d" % (*at, *p) for at, p in repeats]
+    lines += [f"on {told(p)} / {told(s[0])} {told(s[1])}" for p, s in on]
+    lines += [f"cross {told(s[0])} {told(s[1])} / {told(t[0])} {told(t[1])}" for s, t in crossing]
+    counts = f"counts short {len(short)} repeats {len(repeats)} on {len(on)} cross {len(crossing)}"
+    return (lines or ["opens"]) + [counts]
+
+
+def crossing_of(s, t):
+    """Where two segments cross, rounded to whole numbers, a half upwards."""
+    (a, b), (c, d) = s, t
+    along, beside = (b[0] - a[0], b[1] - a[1]), (d[0] - c[0], d[1] - c[1])
+    whole = along[0] * beside[1] - along[1] * beside[0]
+    part = fractions.Fraction((c[0] - a[0]) * beside[1] - (c[1] - a[1]) * beside[0], whole)
+    return [math.floor(a[k] + part * along[k] + fractions.Fraction(1, 2)) for k in range(2)]
+
+
+def encoded(arc, transform):
+    """The positions of an arc: under a transform the first one, and then differences."""
+    if not transform:
+        return [list(p) for p in arc]
+    return [list(arc[0])] + [[q[0] - p[0], q[1] - p[1]] for p, q in zip(arc, arc[1:])]
+
+
+def places(features, transform):
+    """The topology that border_mend must write of these features."""
+    short, repeats, on, crossing = findings(features)
+    rings = lambda at: dict(zip(("feature", "polygon", "ring"), at))
+    points = [("short", n, rings(at), walk[0]) for n, (at, walk) in enumerate(short) if walk]
+    points += [("repeats", n, rings(at), p) for n, (at, p) in enumerate(repeats)]
+    points += [("on", n, {}, p) for n, (p, _) in enumerate(on)]
+    points += [("cross", n, {}, crossing_of(*pair)) for n, pair in enumerate(crossing)]
+    lines = [("on", n, s) for n, (_, s) in enumerate(on)]
+    lines += [("cross", n, s) for n, pair in enumerate(crossing) for s in pair]
+    located = [
+        {"type": "Point", "properties": {"kind": kind, "number": n, **at}, "coordinates": list(p)}
+        for kind, n, at, p in points
+    ]
+    led = [
+        {"type": "LineString", "properties": {"kind": kind, "number": n}, "arcs": [k]}
+        for k, (kind, n, _) in enumerate(lines)
+    ]
+    layers = {"places": located, "segments": led}
+    layers = {name: {"type": "GeometryCollection", "geometries": them} for name, them in layers.items()}
+    arcs = [encoded(s, transform) for _, _, s in lines]
+    return {"type": "Topology", **({"transform": transform} if transform else {}), "objects": layers, "arcs": arcs}
 
 
 def drawn(draw):
     """A drawn topology, and its features as walks."""
     arcs, features, geometries = [], [], []
+    transform = draw.choice([None, {"scale": [0.5, 0.001], "translate": [-1.25, 50]}])
     for _ in range(draw.randint(1, 4)):
         polygons = []
         for _ in range(draw.randint(1, 2)):
@@ -79,10 +133,11 @@ def drawn(draw):
         numbers = []
         for rings in polygons:
             numbers.append([[len(arcs) + k] for k in range(len(rings))])
-            arcs += [[list(p) for p in ring] for ring in rings]
+            arcs += [encoded(ring, transform) for ring in rings]
         geometries.append({"type": "MultiPolygon", "arcs": numbers})
     layer = {"type": "GeometryCollection", "geometries": geometries}
-    return {"type": "Topology", "objects": {"drawn": layer}, "arcs": arcs}, features
+    map = {"type": "Topology", "transform": transform, "objects": {"drawn": layer}, "arcs": arcs}
+    return map, features
 
 
 def first_fault(lines):
@@ -93,14 +148,17 @@ def first_fault(lines):
 
 def fault_of(map, features, folder):
     """What is wrong with the programs' answers to this map; None where nothing is."""
-    path, script, out = folder / "map.json", folder / "script.txt", folder / "out.json"
+    path, script, out, located = (folder / name for name in ("map.json", "script.txt", "out.json", "places.json"))
     path.write_text(json.dumps(map))
     script.write_text("")
     wanted = report(features)
-    ran = subprocess.run([MEND, path, "--most", "4000000"], capture_output=True, text=True)
+    ran = subprocess.run([MEND, path, "--most", "4000000", "--places", located], capture_output=True, text=True)
     status = 0 if wanted[0] == "opens" else 1
     if ran.stdout.splitlines() != wanted or ran.returncode != status or ran.stderr:
         return f"told {ran.stdout!r} {ran.stderr!r}, status {ran.returncode}, and not {wanted}"
+    topology = places(features, map["transform"])
+    if json.loads(located.read_text()) != topology:
+        return f"placed {located.read_text()!r}, and not {topology}"
     edited = subprocess.run([EDIT, path, script, "--out", out], capture_output=True, text=True)
     if status == 0:
         return None if edited.returncode == 0 else f"opens, but border_edit says {edited.stderr!r}"
