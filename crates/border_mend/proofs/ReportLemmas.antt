@@ -1,5 +1,5 @@
 -- The parts of a report.
-use Rattle.std.proofs.Common.{◌≡◌, ℕ, Bool, List, ◌++◌, ◌∙◌, ap, sym, take, length, map}
+use Rattle.std.proofs.Common.{◌≡◌, ℕ, Bool, List, ◌++◌, ◌∙◌, ap, sym, take, length}
 use Rattle.std.specs.Prelude.{flat_map}
 use Rattle.std.proofs.lemmas.List.{take-map, length-map}
 use Rattle.grid_geometry.specs.Position.{Position}

@@ -1,5 +1,5 @@
 -- What clap found among the words is what the words ask for.
-use Rattle.std.proofs.Common.{◌≡◌, ℕ, ap, ◌∙◌, refl, subst, sym, Bool, false, List, Option, Some, None, option_map}
+use Rattle.std.proofs.Common.{◌≡◌, ℕ, ap, ◌∙◌, refl, subst, sym, Bool, false, List, Option, Some, option_map}
 use Rattle.std.specs.Borrow.{Bor}
 use Rattle.std.specs.Prelude.{◌≢◌, MatchBool}
 use Rattle.clap.specs.Words.{App, HasMatchesOf, first_value, found_of}

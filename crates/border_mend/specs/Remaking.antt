@@ -1,10 +1,10 @@
 -- What mending the bytes of a map comes to.
-use Rattle.std.specs.Prelude.{◌≡◌, ℕ, List, ◌++◌}
+use Rattle.std.specs.Prelude.{◌≡◌, ℕ, List, ◌++◌, Option, Vec, IfSome}
 use Rattle.ring_machine.specs.Document.{Document}
 use Rattle.ring_machine.specs.Planar.{Proper}
 use Rattle.ring_machine.specs.Ring.{canonical}
 use Rattle.ring_machine.specs.Parts.{in_rings}
-use Rattle.topo_reader.specs.Document.{Opened, document_of}
+use Rattle.topo_reader.specs.Document.{Opened}
 use Rattle.topo_reader.specs.Opening.{OpensWalks}
 use Rattle.topo_reader.specs.Reads.{ReadsWalks}
 use Rattle.walk_faults.specs.Findings.{Found}
@@ -16,7 +16,7 @@ use Rattle.map_mending.specs.Bounding.{MendedBy, NeedsNoMending}
 use Rattle.map_mending.specs.Mended.{Mended}
 use Rattle.map_mending.specs.Told.{Parts}
 use Rattle.map_saving.specs.Opens.{OpensAgain}
-use Rattle.border_mend.specs.Looking.{IsEnd}
+use Rattle.border_mend.specs.Looking.{Looked, HasPlaces, IsEnd}
 use Rattle.border_mend.specs.Report.{mended_report}
 use Rattle.border_mend.specs.declared.remaking.Remade.{Remade}
 use Rattle.border_mend.specs.declared.report.RepairFault.{RepairFault}
@@ -44,6 +44,12 @@ abbrev pub TellsMending : {A : Type 0} → ℕ → List ℕ → Remade A → Lis
 TellsMending {A} most bytes remade before after =
     (o : Opened) × (found : Findings A) × OpensWalks bytes o × Found o.polygons found
     × (after ≡ before ++ mended_report most found (paths_seen remade.paths.items) remade.parted.items)
+
+-- the places, where they are asked for, are those of all that is found in the map
+abbrev pub PlacesMending : {A : Type 0} → List ℕ → Option (Vec ℕ A) → Type 0
+PlacesMending {A} bytes places =
+    IfSome places (λ text. (found : Findings A) × Looked bytes found
+    × HasPlaces bytes found text.items)
 
 -- why a map is not mended: where it was not looked through, as that ends
 abbrev pub IsMendEnd : RepairFault → List ℕ → Type 0

@@ -7,7 +7,7 @@ ghost use Rattle.place_text.specs.Text.{IsPlaceText};
 ghost use Rattle.border_mend.specs.Report.{short_line, repeat_line, touch_line, crossing_line};
 ghost use Rattle.border_mend.specs.Report.{is_clear, opens_line, report_of, findings_text};
 ghost use Rattle.border_mend.specs.Report.{path_line, parts_line, mended_report};
-ghost use Rattle.border_mend.specs.Remaking.{Remakes, TellsMending, IsMendEnd};
+ghost use Rattle.border_mend.specs.Remaking.{Remakes, TellsMending, PlacesMending, IsMendEnd};
 ghost use Rattle.segment_paths.specs.Seen.{paths_seen};
 ghost use Rattle.border_mend.specs.Looking.{Looked, HasPlaces, MapOpens, IsEnd};
 ghost use Rattle.border_mend.specs.Status.{status_of};
@@ -304,6 +304,8 @@ pub(crate) fn mend_map<'a, A: Allocator + Copy>(
     ensures mended { IfOk result (λ remade. Remakes bytes.now remade) }
     ensures told { IfOk result (λ remade. TellsMending most bytes.now remade
         texts.old.report.items texts.new.report.items) }
+    ensures asked { OnOk result (is_some texts.new.places ≡ is_some texts.old.places) }
+    ensures placed { OnOk result (PlacesMending bytes.now texts.new.places) }
     ensures refused { IfErr result (λ fault. IsMendEnd fault bytes.now) }
 {
     let Seen { map, findings } = match look(alloc, heap, bytes) {
