@@ -10,7 +10,8 @@
              holds, where that begins with ```text; else its status is 0 or 1
 
 A block's `./run` is the program that is named, or else the clone's own ./run. That one builds an unproved program
-for each block, which takes a minute each, and tells so in lines that are left out here.
+for each block, which takes a minute each, and tells so in lines that are left out here. The companion programs are lent
+to the clone, as `rt ci` and `./build` leave them.
 
 There is one line for each fault, and one that counts; the status is 0 where there is no fault.
 """
@@ -18,6 +19,7 @@ import argparse
 import pathlib
 import re
 import shlex
+import shutil
 import subprocess
 import sys
 import tempfile
@@ -25,6 +27,7 @@ import tempfile
 TOP = pathlib.Path(__file__).resolve().parent.parent
 MOST_LINES, MOST_COLUMNS = 250, 120
 TYPED = ["README.md", "docs/TUTORIAL.md", "docs/TESTED.md"]
+COMPANIONS = ["border_show", "border_mend"]
 # What ./run and `rt try` say of themselves.
 NOTICE = re.compile(r"^(run: |checked: |run=)")
 # The first words of a block of code, and its text.
@@ -98,6 +101,15 @@ def typed(page):
             yield number, block, after if head_after == "text" else None
 
 
+def lend_companions(clone):
+    """Puts the built companion programs where the pages call them."""
+    for name in COMPANIONS:
+        built = TOP / "crates" / name / "out" / name
+        if built.is_file():
+            (clone / "crates" / name / "out").mkdir()
+            shutil.copy(built, clone / "crates" / name / "out" / name)
+
+
 def run_faults(page, folder, program):
     for number, text, wanted in typed(page):
         if program:
@@ -124,6 +136,7 @@ def main():
         with tempfile.TemporaryDirectory() as folder:
             clone = pathlib.Path(folder, "clone")
             subprocess.run(["git", "clone", "-q", TOP, clone], check=True)
+            lend_companions(clone)
             for name in TYPED:
                 runs += len(list(typed(clone / name)))
                 faults += [f"{name}:{fault}" for fault in run_faults(clone / name, clone, program)]
