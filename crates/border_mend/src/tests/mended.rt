@@ -30,23 +30,20 @@ fn maps_are_mended_in_their_place(rt: HostRuntime) -> Result<(), Fail> {
             "cross 0 0 10 10 / 0 10 10 0\npath 0 0 5 5 10 10\npath 0 10 5 5 10 0\nparts 0 0 2\ncounts short 0 repeats 0 on 0 cross 1 paths 2 parts 1\n",
         ),
     ];
-    let mut words = asked_for(&rt, "mended")?;
+    let mending = asked_for(&rt, "mended")?;
+    let looking = words_for(&rt, "mended")?;
     for (map, report) in rows {
-        fs::write(&rt, words.map.as_str(), map)?;
+        fs::write(&rt, mending.map.as_str(), map)?;
         let mut output = Vec::new(rt.alloc());
         let mut errors = Vec::new(rt.alloc());
-        let ended = tell(&rt, &words, &mut output, &mut errors);
-        assert_eq!(rt; ended, 0, "{map}");
+        assert_eq!(rt; tell(&rt, &mending, &mut output, &mut errors), 0, "{map}");
         assert_eq!(rt; output.as_slice(), report.as_bytes(), "{map}");
-        assert!(rt; errors.is_empty(), "{map}");
-        let out = words.out.take();
-        let mut output = Vec::new(rt.alloc());
-        let ended = tell(&rt, &words, &mut output, &mut errors);
-        assert_eq!(rt; ended, 0, "{map}");
+        output.clear();
+        assert_eq!(rt; tell(&rt, &looking, &mut output, &mut errors), 0, "{map}");
         assert_eq!(rt; output.as_slice(), OPENS.as_bytes(), "{map}");
-        words.out = out;
+        assert!(rt; errors.is_empty(), "{map}");
     }
-    fs::remove_file(&rt, words.map.as_str())?;
+    fs::remove_file(&rt, mending.map.as_str())?;
     Ok(())
 }
 
