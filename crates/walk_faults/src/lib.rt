@@ -13,7 +13,4 @@ mod search;
 mod walks;
 
 pub use findings::{Crossing, FindFault, Findings, Repeat, Touch};
-pub use search::{MOST, find};
-
-#[cfg(test)]
-mod tests;
+pub use search::{MOST, find, find_at_most};

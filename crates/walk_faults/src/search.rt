@@ -32,8 +32,8 @@ pub fn find<I: SegIndex, A: Allocator + Copy>(
     find_at_most(alloc, index, polygons, MOST)
 }
 
-/// All that keeps a map from opening, where it is at most `most` of each kind.
-pub(crate) fn find_at_most<I: SegIndex, A: Allocator + Copy>(
+/// The same, where there are at most `most` findings of each kind; else it fails at once.
+pub fn find_at_most<I: SegIndex, A: Allocator + Copy>(
     alloc: A,
     mut index: I,
     polygons: &[Vec<Vec<Vec<Pos, A>, A>, A>],

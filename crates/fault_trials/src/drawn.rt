@@ -1,13 +1,12 @@
 // Drawn walks, whose findings are compared with those of a search among all positions and pairs.
-use super::told::{Lines, Walks, at, told};
-use crate::findings::{Crossing, FindFault, Repeat, Touch};
-use crate::search::find;
+use crate::told::{Lines, Walks, at, told};
 use grid_geometry::{Pos, Seg, cross, on};
 use segment_index::TreeIndex;
 use std::alloc::{AllocError, Global};
 use std::process::Abort;
 use std::test::Fail;
 use topo_outline::RingAt;
+use walk_faults::{Crossing, FindFault, Repeat, Touch, find};
 
 /// How many maps are drawn.
 const MAPS: u32 = 150;

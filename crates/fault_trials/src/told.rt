@@ -1,9 +1,9 @@
 // What is found in a map, in lines.
-use crate::findings::{Crossing, Findings, Repeat, Touch};
 use grid_geometry::Pos;
 use std::alloc::{AllocError, Allocator, Global};
 use std::process::Abort;
 use topo_outline::RingAt;
+use walk_faults::{Crossing, Findings, Repeat, Touch};
 
 /// A map by feature, polygon and ring.
 pub(crate) type Walks<A> = Vec<Vec<Vec<Vec<Pos, A>, A>, A>, A>;

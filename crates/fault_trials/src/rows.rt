@@ -1,14 +1,13 @@
 // Small maps whose findings are known.
-use super::told::{Given, told, walks};
-use crate::findings::FindFault;
-use crate::search::{find, find_at_most};
+use crate::told::{Given, told, walks};
 use segment_index::ListIndex;
 use std::alloc::Global;
 use std::process::Abort;
 use std::test::Fail;
+use walk_faults::{FindFault, find, find_at_most};
 
 /// Each map with the lines of its findings.
-const ROWS: [(Given, &str); 13] = [
+const ROWS: &[(Given, &str)] = &[
     // a vertex on a border
     (
         &[
@@ -124,25 +123,25 @@ const ROWS: [(Given, &str); 13] = [
     ),
 ];
 
-fn is_told<R: Abort>(rt: &R, alloc: Global, given: Given, want: &str) -> Result<(), FindFault> {
+/// Whether the findings of a map are these lines.
+fn is_told<R: Abort>(rt: &R, alloc: Global, given: Given, want: &str) -> Result<bool, FindFault> {
     let walks = walks(rt, alloc, given)?;
     let found = find(alloc, ListIndex::new(alloc), walks.as_slice())?;
     let text = told(alloc, &found)?;
-    assert_eq!(rt; text.as_str(), want);
-    assert_eq!(rt; found.is_empty(), want.is_empty());
-    Ok(())
+    Ok(text.as_str() == want && found.is_empty() == want.is_empty())
 }
 
 #[test]
 fn all_is_found(rt: HostRuntime) -> Result<(), Fail> {
     for (given, want) in ROWS {
-        is_told(&rt, rt.alloc(), given, want).expect(&rt, "memory");
+        let is_told = is_told(&rt, rt.alloc(), given, want).expect(&rt, "memory");
+        assert!(rt; is_told, "{want}");
     }
     Ok(())
 }
 
 /// A kind of findings of which a map has two.
-const TWO: [Given; 4] = [
+const TWO: &[Given] = &[
     &[&[&[&[], &[]]]],
     &[&[&[&[(0, 0), (4, 0), (2, 2), (0, 0), (0, 4), (2, 2)]]]],
     &[
@@ -155,15 +154,19 @@ const TWO: [Given; 4] = [
     ],
 ];
 
+/// Whether a map's findings are told where two of each kind are the most, and refused where it is one.
+fn has_two<R: Abort>(rt: &R, alloc: Global, given: Given) -> Result<bool, FindFault> {
+    let walks = walks(rt, alloc, given)?;
+    let two = find_at_most(alloc, ListIndex::new(alloc), walks.as_slice(), 2);
+    let one = find_at_most(alloc, ListIndex::new(alloc), walks.as_slice(), 1);
+    Ok(two.is_ok() && matches!(&one, Err(FindFault::TooMany)))
+}
+
 #[test]
 fn more_than_the_most_is_refused(rt: HostRuntime) -> Result<(), Fail> {
-    let alloc = rt.alloc();
     for given in TWO {
-        let walks = walks(&rt, alloc, given)?;
-        let two = find_at_most(alloc, ListIndex::new(alloc), walks.as_slice(), 2);
-        assert!(rt; two.is_ok());
-        let one = find_at_most(alloc, ListIndex::new(alloc), walks.as_slice(), 1);
-        assert!(rt; matches!(&one, Err(FindFault::TooMany)));
+        let has_two = has_two(&rt, rt.alloc(), given).expect(&rt, "memory");
+        assert!(rt; has_two);
     }
     Ok(())
 }
