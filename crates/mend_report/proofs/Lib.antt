@@ -1,0 +1,5 @@
+pub mod Appending
+pub mod ReportLemmas
+pub mod OpeningLemmas
+pub mod PlaceLemmas
+mod Examples
