@@ -1,5 +1,7 @@
 -- The report of what keeps a map from opening: a fact a line.
 use Rattle.std.specs.Prelude.{ℕ, Bool, ◌&&◌, ◌==◌, List, [], ◌++◌, length, take, codes, decimal, flat_map, if◌then◌else◌}
+use Rattle.std.specs.Fmt.{signed_decimal}
+use Rattle.area_changes.specs.declared.change.AreaChange.{AreaChange}
 use Rattle.grid_geometry.specs.Text.{position_text, segment_text}
 use Rattle.map_mending.specs.declared.parted.Parted.{Parted}
 use Rattle.segment_paths.specs.Paths.{Path}
@@ -94,16 +96,26 @@ parts_line t =
     codes "parts " ++ (decimal t.feature ++ (codes " " ++ (decimal t.polygon
     ++ (codes " " ++ (decimal t.parts ++ codes "\n")))))
 
--- how many there are of each kind: "counts short N repeats N on N cross N paths N parts N"
-abbrev pub all_counts_line : ℕ → ℕ → ℕ → ℕ → ℕ → ℕ → List ℕ
-all_counts_line short repeats touches crossings paths parts =
+-- twice the area of the feature was and is, and its borders swept over: "area F A B S"
+abbrev pub area_line : AreaChange → List ℕ
+area_line c =
+    codes "area " ++ (decimal c.feature ++ (codes " " ++ (signed_decimal c.before
+    ++ (codes " " ++ (signed_decimal c.after ++ (codes " " ++ (decimal c.swept ++ codes "\n")))))))
+
+-- how many there are of each kind:
+-- "counts short N repeats N on N cross N paths N parts N areas N"
+abbrev pub all_counts_line : ℕ → ℕ → ℕ → ℕ → ℕ → ℕ → ℕ → List ℕ
+all_counts_line short repeats touches crossings paths parts areas =
     found_text short repeats touches crossings
-    ++ (codes " paths " ++ (decimal paths ++ (codes " parts " ++ (decimal parts ++ codes "\n"))))
+    ++ (codes " paths " ++ (decimal paths ++ (codes " parts " ++ (decimal parts
+    ++ (codes " areas " ++ (decimal areas ++ codes "\n"))))))
 
 -- the report of what was found and of what was done about it, of each kind at most so many lines
-abbrev pub mended_report : {A : Type 0} → ℕ → Findings A → List Path → List Parted → List ℕ
-mended_report most found paths parted =
+abbrev pub mended_report : {A : Type 0}
+    → ℕ → Findings A → List Path → List Parted → List AreaChange → List ℕ
+mended_report most found paths parted areas =
     findings_text most found.short.items found.repeats.items found.touches.items found.crossings.items
-    ++ (lines most path_line paths ++ (lines most parts_line parted
+    ++ (lines most path_line paths ++ (lines most parts_line parted ++ (lines most area_line areas
     ++ all_counts_line (length found.short.items) (length found.repeats.items)
-    (length found.touches.items) (length found.crossings.items) (length paths) (length parted)))
+    (length found.touches.items) (length found.crossings.items) (length paths) (length parted)
+    (length areas))))

@@ -2,6 +2,7 @@
 //! how it is mended, so that it opens. From bytes to texts: no file is known here.
 #![tactic(auto)]
 
+mod copying;
 mod lines;
 mod looking;
 mod remaking;

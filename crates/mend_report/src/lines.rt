@@ -2,10 +2,12 @@
 ghost use Rattle.std.specs.Prelude.{◌≡◌, ◌++◌, codes, flat_map, OnOk};
 ghost use Rattle.grid_geometry.specs.Text.{position_text};
 ghost use Rattle.mend_report.specs.Report.{short_line, repeat_line, touch_line, crossing_line};
-ghost use Rattle.mend_report.specs.Report.{counts_line, all_counts_line, path_line, parts_line, found_text};
+ghost use Rattle.mend_report.specs.Report.{counts_line, all_counts_line, path_line, parts_line};
+ghost use Rattle.mend_report.specs.Report.{area_line, found_text};
 ghost use Rattle.segment_paths.specs.Seen.{path_seen};
 
 use crate::texts::{push_number, push_position, push_ring, push_segment};
+use area_changes::AreaChange;
 use grid_geometry::Pos;
 use map_mending::Parted;
 use segment_paths::SegmentPath;
@@ -116,6 +118,25 @@ pub(crate) fn push_parts<A: Allocator>(
     Ok(())
 }
 
+/// Appends the line of a feature whose area changes, or whose borders sweep over something.
+pub(crate) fn push_area<A: Allocator>(
+    text: &mut Vec<u8, A>,
+    change: AreaChange,
+) -> Result<(), AllocError>
+    ensures { OnOk result (text.new.items ≡ text.old.items ++ area_line change) }
+{
+    text.extend_from_slice(b"area ")?;
+    push_number(text, change.feature)?;
+    text.extend_from_slice(b" ")?;
+    push_number(text, change.before)?;
+    text.extend_from_slice(b" ")?;
+    push_number(text, change.after)?;
+    text.extend_from_slice(b" ")?;
+    push_number(text, change.swept)?;
+    text.extend_from_slice(b"\n")?;
+    Ok(())
+}
+
 /// How many findings there are of each kind.
 #[derive(Clone, Copy)]
 pub(crate) struct FindingCounts {
@@ -154,21 +175,25 @@ pub(crate) fn push_counts<A: Allocator>(
     Ok(())
 }
 
-/// Appends the last line of a map that was mended: also how many paths and parted polygons there are.
+/// Appends the last line of a map that was mended: also how many paths, parted polygons and features
+/// with another area there are.
 pub(crate) fn push_all_counts<A: Allocator>(
     text: &mut Vec<u8, A>,
     counts: FindingCounts,
     paths: usize,
     parts: usize,
+    areas: usize,
 ) -> Result<(), AllocError>
     ensures { OnOk result (text.new.items ≡ text.old.items ++ all_counts_line
-        counts.short counts.repeats counts.touches counts.crossings paths parts) }
+        counts.short counts.repeats counts.touches counts.crossings paths parts areas) }
 {
     push_found(text, counts)?;
     text.extend_from_slice(b" paths ")?;
     push_number(text, paths)?;
     text.extend_from_slice(b" parts ")?;
     push_number(text, parts)?;
+    text.extend_from_slice(b" areas ")?;
+    push_number(text, areas)?;
     text.extend_from_slice(b"\n")?;
     Ok(())
 }

@@ -4,12 +4,14 @@ ghost use Rattle.topo_reader.specs.Document.{document_of, IsOfWalks};
 ghost use Rattle.topo_reader.specs.DocumentView.{view_raw};
 ghost use Rattle.mend_report.specs.Remaking.{IsRemade};
 
+use crate::copying::copied;
+use area_changes::{AreaChange, area_changes};
 use grid_geometry::Seg;
 use map_mending::{MendFault, Mending, Parted, mend};
 use map_saving::{SaveFault, saved_text};
 use segment_index::TreeIndex;
 use segment_paths::SegmentPath;
-use std::alloc::{Allocator, Global};
+use std::alloc::{AllocError, Allocator, Global};
 use topo_outline::Limit;
 use topo_reader::RawDoc;
 
@@ -20,6 +22,8 @@ pub struct Remade<A: Allocator + Copy = Global> {
     pub paths: Vec<SegmentPath<A>, A>,
     /// The polygons that were taken apart.
     pub parted: Vec<Parted, A>,
+    /// The features whose area changed, or whose borders swept over something.
+    pub areas: Vec<AreaChange, A>,
     /// The text of the mended map, which opens.
     pub text: Vec<u8, A>,
 }
@@ -45,6 +49,12 @@ pub enum RemakeFault {
     },
     /// A growth was refused.
     OutOfMemory,
+}
+
+impl From<AllocError> for RemakeFault {
+    fn from(_error: AllocError) -> RemakeFault {
+        RemakeFault::OutOfMemory
+    }
 }
 
 impl From<MendFault> for RemakeFault {
@@ -78,11 +88,19 @@ pub(crate) fn remake<'a, A: Allocator + Copy>(
     ensures { IfOk result (IsRemade (document_of (view_raw map.entry))) }
 {
     let index = TreeIndex::new(heap, map.extent());
+    let walks = copied(alloc, map.polygons.as_slice())?;
     let Mending { map, paths, parted } = mend(alloc, index, map)?;
+    let areas = area_changes(
+        alloc,
+        paths.as_slice(),
+        walks.as_slice(),
+        map.polygons.as_slice(),
+    )?;
     let text = saved_text(alloc, heap, map)?;
     Ok(Remade {
         paths,
         parted,
+        areas,
         text,
     })
 }

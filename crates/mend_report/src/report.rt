@@ -6,18 +6,19 @@ ghost use Rattle.walk_faults.specs.Findings.{Found};
 ghost use Rattle.place_text.specs.Text.{IsPlaceText};
 ghost use Rattle.mend_report.specs.Report.{short_line, repeat_line, touch_line, crossing_line};
 ghost use Rattle.mend_report.specs.Report.{is_clear, opens_line, report_of, findings_text};
-ghost use Rattle.mend_report.specs.Report.{path_line, parts_line, mended_report};
+ghost use Rattle.mend_report.specs.Report.{path_line, parts_line, area_line, mended_report};
 ghost use Rattle.mend_report.specs.Remaking.{Remakes, TellsMending, PlacesMending, IsMendEnd};
 ghost use Rattle.segment_paths.specs.Seen.{paths_seen};
 ghost use Rattle.mend_report.specs.Looking.{Looked, HasPlaces, MapOpens, IsEnd};
 ghost use Rattle.mend_report.specs.Status.{status_of};
 
 use crate::lines::{
-    FindingCounts, push_all_counts, push_counts, push_crossing, push_parts, push_path, push_repeat,
-    push_short, push_touch,
+    FindingCounts, push_all_counts, push_area, push_counts, push_crossing, push_parts, push_path,
+    push_repeat, push_short, push_touch,
 };
 use crate::looking::{LookFault, Seen, look};
 use crate::remaking::{Remade, RemakeFault, remake};
+use area_changes::AreaChange;
 use map_mending::Parted;
 use place_text::text_of_places;
 use segment_paths::SegmentPath;
@@ -170,6 +171,16 @@ fn push_parted<A: Allocator>(text: &mut Vec<u8, A>, parted: &[Parted]) -> Result
     Ok(())
 }
 
+/// Appends a line for each feature whose area changes, or whose borders sweep over something.
+fn push_areas<A: Allocator>(text: &mut Vec<u8, A>, areas: &[AreaChange]) -> Result<(), AllocError>
+    ensures { OnOk result (text.new.items ≡ text.old.items ++ flat_map area_line areas.now) }
+{
+    for change in areas {
+        push_area(text, *change)?;
+    }
+    Ok(())
+}
+
 /// Appends the report of what was found in a map, and of what was done about it, of each kind at most
 /// so many lines.
 fn push_mended<A: Allocator, B: Allocator + Copy>(
@@ -179,16 +190,18 @@ fn push_mended<A: Allocator, B: Allocator + Copy>(
     most: usize,
 ) -> Result<(), AllocError>
     ensures { OnOk result (text.new.items ≡ text.old.items ++ mended_report most findings.now
-        (paths_seen remade.now.paths.items) remade.now.parted.items) }
+        (paths_seen remade.now.paths.items) remade.now.parted.items remade.now.areas.items) }
 {
     push_findings(text, findings, most)?;
     push_paths(text, first(remade.paths.as_slice(), most))?;
     push_parted(text, first(remade.parted.as_slice(), most))?;
+    push_areas(text, first(remade.areas.as_slice(), most))?;
     push_all_counts(
         text,
         counts_of(findings),
         remade.paths.len(),
         remade.parted.len(),
+        remade.areas.len(),
     )?;
     Ok(())
 }
@@ -292,7 +305,7 @@ impl<'a> From<AllocError> for RepairFault<'a> {
 /// Looks at a map and mends it. Appends the report of all that kept it from opening, and of what was
 /// done about it, to `texts.report`, of each kind at most `most` lines, and puts the places of what
 /// was found into `texts.places`, where they are asked for. Answers the paths, the polygons that were
-/// taken apart, and the text to be saved, which opens. Fails as `look` and `remake` do, and then
+/// taken apart, how areas changed, and the text to be saved, which opens. Fails as `look` and `remake` do, and then
 /// `texts` may have a part of a report.
 pub fn mend_map<'a, A: Allocator + Copy>(
     alloc: A,
