@@ -2,4 +2,5 @@ pub mod Appending
 pub mod ReportLemmas
 pub mod OpeningLemmas
 pub mod PlaceLemmas
+pub mod AreaLemmas
 mod Examples

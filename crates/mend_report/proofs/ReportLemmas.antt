@@ -46,12 +46,13 @@ pub counted : (old new : List ℕ) (counts n : FindingCounts) → counts ≡ n
     → new ≡ old ++ counts_line n.short n.repeats n.touches n.crossings
 counted old new counts n same e = e ∙ ap (λ (m : FindingCounts). old ++ counts_line m.short m.repeats m.touches m.crossings) same
 
--- the same, with the counts of paths and of parted polygons
-pub all_counted : {A : Type 0} (old new : List ℕ) (counts n : FindingCounts) (led parted : ℕ) (paths : List (SegmentPath A)) (parts : ℕ)
-    → counts ≡ n → led ≡ length paths → parted ≡ parts
-    → new ≡ old ++ all_counts_line counts.short counts.repeats counts.touches counts.crossings led parted
-    → new ≡ old ++ all_counts_line n.short n.repeats n.touches n.crossings (length (paths_seen paths)) parts
-all_counted old new counts n led parted paths parts same is_led is_parted e =
-    e ∙ ap (λ (m : FindingCounts). old ++ all_counts_line m.short m.repeats m.touches m.crossings led parted) same
-    ∙ ap (λ (z : ℕ). old ++ all_counts_line n.short n.repeats n.touches n.crossings z parted) (is_led ∙ sym (length-map paths path_seen))
-    ∙ ap (λ (z : ℕ). old ++ all_counts_line n.short n.repeats n.touches n.crossings (length (paths_seen paths)) z) is_parted
+-- the same, with the counts of paths, of parted polygons and of areas
+pub all_counted : {A : Type 0} (old new : List ℕ) (counts n : FindingCounts) (led parted changed : ℕ) (paths : List (SegmentPath A)) (parts areas : ℕ)
+    → counts ≡ n → led ≡ length paths → parted ≡ parts → changed ≡ areas
+    → new ≡ old ++ all_counts_line counts.short counts.repeats counts.touches counts.crossings led parted changed
+    → new ≡ old ++ all_counts_line n.short n.repeats n.touches n.crossings (length (paths_seen paths)) parts areas
+all_counted old new counts n led parted changed paths parts areas same is_led is_parted is_changed e =
+    e ∙ ap (λ (m : FindingCounts). old ++ all_counts_line m.short m.repeats m.touches m.crossings led parted changed) same
+    ∙ ap (λ (z : ℕ). old ++ all_counts_line n.short n.repeats n.touches n.crossings z parted changed) (is_led ∙ sym (length-map paths path_seen))
+    ∙ ap (λ (z : ℕ). old ++ all_counts_line n.short n.repeats n.touches n.crossings (length (paths_seen paths)) z changed) is_parted
+    ∙ ap (λ (z : ℕ). old ++ all_counts_line n.short n.repeats n.touches n.crossings (length (paths_seen paths)) parts z) is_changed

@@ -1,6 +1,7 @@
 -- What looking at the bytes of a map comes to.
-use Rattle.std.specs.Prelude.{ℕ, List}
+use Rattle.std.specs.Prelude.{ℕ, List, Option}
 use Rattle.place_text.specs.Text.{IsPlaceText}
+use Rattle.segment_paths.specs.Paths.{Path}
 use Rattle.topo_reader.specs.Document.{Opened}
 use Rattle.topo_reader.specs.Opening.{OpensWalks, IsWalkFault}
 use Rattle.walk_faults.specs.Findings.{Found, HasMore}
@@ -14,10 +15,11 @@ use Rattle.mend_report.specs.declared.looking.LookFault.TheVariants.{Open, TooMa
 abbrev pub Looked : {A : Type 0} → List ℕ → Findings A → Type 0
 Looked bytes findings = (o : Opened) × OpensWalks bytes o × Found o.polygons findings
 
--- the text has the places of these findings in the topology with walks that the bytes are
-abbrev pub HasPlaces : {A : Type 0} → List ℕ → Findings A → List ℕ → Type 0
-HasPlaces bytes findings text =
-    (o : Opened) × OpensWalks bytes o × IsPlaceText o.transform o.polygons findings text
+-- the text has the places of these findings in the topology with walks that the bytes are, and these
+-- paths, if they are told
+abbrev pub HasPlaces : {A : Type 0} → List ℕ → Findings A → Option (List Path) → List ℕ → Type 0
+HasPlaces bytes findings paths text =
+    (o : Opened) × OpensWalks bytes o × IsPlaceText o.transform o.polygons findings paths text
 
 -- the bytes are a topology with walks, each walk is a linear ring, and no two segments conflict
 abbrev pub MapOpens : List ℕ → Type 0

@@ -1,5 +1,5 @@
 -- What mending the bytes of a map comes to.
-use Rattle.std.specs.Prelude.{◌≡◌, ℕ, List, ◌++◌, Option, Vec, IfSome}
+use Rattle.std.specs.Prelude.{◌≡◌, ℕ, List, ◌++◌, Option, Some, Vec, IfSome}
 use Rattle.ring_machine.specs.Document.{Document}
 use Rattle.ring_machine.specs.Planar.{Proper}
 use Rattle.ring_machine.specs.Ring.{canonical}
@@ -50,11 +50,11 @@ TellsMending {A} most bytes remade before after =
     × (after ≡ before ++ mended_report most found (paths_seen remade.paths.items) remade.parted.items
     remade.areas.items)
 
--- the places, where they are asked for, are those of all that is found in the map
-abbrev pub PlacesMending : {A : Type 0} → List ℕ → Option (Vec ℕ A) → Type 0
-PlacesMending {A} bytes places =
+-- the places, where they are asked for, are those of all that is found in the map, and the paths
+abbrev pub PlacesMending : {A : Type 0} → List ℕ → Remade A → Option (Vec ℕ A) → Type 0
+PlacesMending {A} bytes remade places =
     IfSome places (λ text. (found : Findings A) × Looked bytes found
-    × HasPlaces bytes found text.items)
+    × HasPlaces bytes found (Some (paths_seen remade.paths.items)) text.items)
 
 -- why a map is not mended: where it was not looked through, as that ends
 abbrev pub IsMendEnd : RepairFault → List ℕ → Type 0

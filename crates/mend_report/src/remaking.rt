@@ -1,12 +1,12 @@
 //! From a map of walks to the text of the map that it is mended to.
-ghost use Rattle.std.specs.Prelude.{IfOk};
+ghost use Rattle.std.specs.Prelude.{◌≡◌, map, IfOk};
 ghost use Rattle.topo_reader.specs.Document.{document_of, IsOfWalks};
 ghost use Rattle.topo_reader.specs.DocumentView.{view_raw};
+ghost use Rattle.topo_reader.specs.Uses.{feature_positions};
 ghost use Rattle.mend_report.specs.Remaking.{IsRemade};
 
-use crate::copying::copied;
 use area_changes::{AreaChange, area_changes};
-use grid_geometry::Seg;
+use grid_geometry::{Pos, Seg};
 use map_mending::{MendFault, Mending, Parted, mend};
 use map_saving::{SaveFault, saved_text};
 use segment_index::TreeIndex;
@@ -78,24 +78,21 @@ impl From<SaveFault> for RemakeFault {
     }
 }
 
-/// Mends a map that was read with walks, and saves it as a text that opens.
+/// Mends a map that was read with walks, and saves it as a text that opens. Its polygons are given
+/// once more.
 pub(crate) fn remake<'a, A: Allocator + Copy>(
     alloc: A,
     heap: Global,
     map: RawDoc<'a, A>,
+    polygons: &[Vec<Vec<Vec<Pos, A>, A>, A>],
 ) -> Result<Remade<A>, RemakeFault>
-    requires { IsOfWalks (view_raw map) }
+    requires walks { IsOfWalks (view_raw map) }
+    requires same { map feature_positions polygons.now ≡ (view_raw map).polygons }
     ensures { IfOk result (IsRemade (document_of (view_raw map.entry))) }
 {
     let index = TreeIndex::new(heap, map.extent());
-    let walks = copied(alloc, map.polygons.as_slice())?;
     let Mending { map, paths, parted } = mend(alloc, index, map)?;
-    let areas = area_changes(
-        alloc,
-        paths.as_slice(),
-        walks.as_slice(),
-        map.polygons.as_slice(),
-    )?;
+    let areas = area_changes(alloc, paths.as_slice(), polygons, map.polygons.as_slice())?;
     let text = saved_text(alloc, heap, map)?;
     Ok(Remade {
         paths,

@@ -1,7 +1,8 @@
 //! The report of what keeps a map from opening.
-ghost use Rattle.std.specs.Prelude.{◌≡◌, ◌↔◌, ◌++◌, [], length, take, flat_map, is_some, Ok, IfErr, IfOk, IfSome};
+ghost use Rattle.std.specs.Prelude.{◌≡◌, ◌↔◌, ◌++◌, [], length, map, take, flat_map, is_some, Ok, None};
+ghost use Rattle.std.specs.Prelude.{option_map, IfErr, IfOk, IfSome};
 ghost use Rattle.std.specs.Prelude.{OnOk};
-ghost use Rattle.topo_reader.specs.DocumentView.{view_raw};
+ghost use Rattle.topo_reader.specs.Uses.{feature_positions};
 ghost use Rattle.walk_faults.specs.Findings.{Found};
 ghost use Rattle.place_text.specs.Text.{IsPlaceText};
 ghost use Rattle.mend_report.specs.Report.{short_line, repeat_line, touch_line, crossing_line};
@@ -18,13 +19,13 @@ use crate::lines::{
 };
 use crate::looking::{LookFault, Seen, look};
 use crate::remaking::{Remade, RemakeFault, remake};
+use crate::walks::Walks;
 use area_changes::AreaChange;
 use map_mending::Parted;
 use place_text::text_of_places;
 use segment_paths::SegmentPath;
 use std::alloc::{AllocError, Allocator, Global};
 use topo_outline::RingAt;
-use topo_reader::RawDoc;
 use walk_faults::{Crossing, Findings, Repeat, Touch};
 
 /// The first elements of a list, at most so many.
@@ -232,22 +233,32 @@ impl<A: Allocator + Copy> Texts<A> {
     }
 }
 
-/// Puts the places of all findings in a map into `places`, where they are asked for.
+/// Puts the places of all findings among walks into `places`, where they are asked for, and with them
+/// the paths that mend the map, if these are told.
 fn put_places<'a, A: Allocator + Copy>(
     alloc: A,
-    map: &RawDoc<'a, A>,
+    walks: &Walks<'a, A>,
     findings: &Findings<A>,
+    paths: Option<&[SegmentPath<A>]>,
     places: &mut Option<Vec<u8, A>>,
 ) -> Result<(), AllocError>
-    requires { Found (view_raw map.now).polygons findings.now }
+    requires { Found (map feature_positions walks.now.polygons.items) findings.now }
     ensures asked { OnOk result (is_some places.new ≡ is_some places.old) }
-    ensures placed { let o = view_raw map.now in OnOk result (IfSome places.new
-        (λ text. IsPlaceText o.transform o.polygons findings.now text.items)) }
+    ensures placed { OnOk result (IfSome places.new (λ text.
+        IsPlaceText (option_map (λ t. t.now) walks.now.transform)
+        (map feature_positions walks.now.polygons.items) findings.now
+        (option_map (λ ps. paths_seen ps.now) paths.entry) text.items)) }
 {
     if places.is_none() {
         return Ok(());
     }
-    let text = text_of_places(alloc, map.transform, map.polygons.as_slice(), findings)?;
+    let text = text_of_places(
+        alloc,
+        walks.transform,
+        walks.polygons.as_slice(),
+        findings,
+        paths,
+    )?;
     *places = Some(text);
     Ok(())
 }
@@ -269,7 +280,7 @@ pub fn report_map<'a, A: Allocator + Copy>(
         texts.new.report.items ≡ texts.old.report.items ++ report_of most findings) }
     ensures asked { OnOk result (is_some texts.new.places ≡ is_some texts.old.places) }
     ensures placed { IfOk result (λ findings. IfSome texts.new.places
-        (λ places. HasPlaces bytes.now findings places.items)) }
+        (λ places. HasPlaces bytes.now findings None places.items)) }
     ensures refused { IfErr result (λ fault. IsEnd fault bytes.now) }
 {
     let Seen { map, findings } = match look(alloc, heap, bytes) {
@@ -277,7 +288,8 @@ pub fn report_map<'a, A: Allocator + Copy>(
         Err(fault) => return Err(fault),
     };
     push_report(&mut texts.report, &findings, most)?;
-    put_places(alloc, &map, &findings, &mut texts.places)?;
+    let walks = Walks::of(map);
+    put_places(alloc, &walks, &findings, None, &mut texts.places)?;
     Ok(findings)
 }
 
@@ -304,7 +316,7 @@ impl<'a> From<AllocError> for RepairFault<'a> {
 
 /// Looks at a map and mends it. Appends the report of all that kept it from opening, and of what was
 /// done about it, to `texts.report`, of each kind at most `most` lines, and puts the places of what
-/// was found into `texts.places`, where they are asked for. Answers the paths, the polygons that were
+/// was found, and the paths, into `texts.places`, where they are asked for. Answers the paths, the polygons that were
 /// taken apart, how areas changed, and the text to be saved, which opens. Fails as `look` and `remake` do, and then
 /// `texts` may have a part of a report.
 pub fn mend_map<'a, A: Allocator + Copy>(
@@ -318,18 +330,20 @@ pub fn mend_map<'a, A: Allocator + Copy>(
     ensures told { IfOk result (λ remade. TellsMending most bytes.now remade
         texts.old.report.items texts.new.report.items) }
     ensures asked { OnOk result (is_some texts.new.places ≡ is_some texts.old.places) }
-    ensures placed { OnOk result (PlacesMending bytes.now texts.new.places) }
+    ensures placed { IfOk result (λ remade. PlacesMending bytes.now remade texts.new.places) }
     ensures refused { IfErr result (λ fault. IsMendEnd fault bytes.now) }
 {
     let Seen { map, findings } = match look(alloc, heap, bytes) {
         Ok(seen) => seen,
         Err(fault) => return Err(RepairFault::Look(fault)),
     };
-    put_places(alloc, &map, &findings, &mut texts.places)?;
-    let remade = match remake(alloc, heap, map) {
+    let walks = Walks::copied(alloc, &map)?;
+    let remade = match remake(alloc, heap, map, walks.polygons.as_slice()) {
         Ok(remade) => remade,
         Err(fault) => return Err(RepairFault::Remake(fault)),
     };
+    let paths = remade.paths.as_slice();
+    put_places(alloc, &walks, &findings, Some(paths), &mut texts.places)?;
     push_mended(&mut texts.report, &findings, &remade, most)?;
     Ok(remade)
 }

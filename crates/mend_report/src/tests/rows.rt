@@ -5,7 +5,7 @@ use std::process::Abort;
 use std::test::Fail;
 
 /// Each map with its report.
-const ROWS: [(&str, &str); 12] = [
+pub(super) const ROWS: [(&str, &str); 12] = [
     // a vertex on a border
     (
         r#"{"type":"Topology","objects":{"land":{"type":"GeometryCollection","geometries":[{"type":"Polygon","arcs":[[0]]},{"type":"Polygon","arcs":[[1]]},{"type":"Polygon","arcs":[[2]]}]}},"arcs":[[[0,0],[10,0],[10,10],[0,10],[0,0]],[[10,0],[20,0],[20,5],[10,5],[10,0]],[[10,5],[20,5],[20,10],[10,10],[10,5]]]}"#,
