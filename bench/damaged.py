@@ -8,15 +8,15 @@ import json
 import pathlib
 import re
 
-from mended import Old
+from mended import Old, paths_told, places_text
 from topology import Arcs, Collection, differences, edges, read, saved_text, segment, segments_of, walks_of, with_features
 
-# The text of a map, the text that it was mended to, and the report.
-Mended = collections.namedtuple("Mended", "old text report")
+# The text of a map, the text that it was mended to, the report, and the text of the places.
+Mended = collections.namedtuple("Mended", "old text report places")
 
 WORKED = pathlib.Path(__file__).resolve().parent / "worked_maps.txt"
-KINDS = "short", "repeats", "on", "cross", "path", "parts"
-COUNTED = {"path": "paths"}
+KINDS = "short", "repeats", "on", "cross", "path", "parts", "area"
+COUNTED = {"path": "paths", "area": "areas"}
 # The frame of a worked map: texts that have to stay as they are, and a `bbox` that goes.
 FRAME = (
     '{"note": {"x" :[1.50, "\\u00e9"]}, "type":"Topology","transform":{"scale":[0.50,1e-3],"translate":[-7,2.0]},'
@@ -83,7 +83,8 @@ def worked_maps():
             if feature.form == '"Polygon"' and len(feature.polygons) != 1:
                 feature.form = '"MultiPolygon"'
 
-        yield name, Mended(text, changed(text, put), lines_text(report))
+        places = places_text(Old(text), paths_told(report))
+        yield name, Mended(text, changed(text, put), lines_text(report), places)
 
 
 # ---- mistakes in the rings
@@ -278,7 +279,7 @@ def path_put_in(draw, it):
     if not s:
         return None
     lines = with_path(lines_of(it.report), (s[0], found[s], s[1]))
-    return Mended(it.old, through(it.text, s, found[s]), lines_text(lines))
+    return it._replace(text=through(it.text, s, found[s]), report=lines_text(lines))
 
 
 def path_led_off(draw, it):
@@ -291,7 +292,7 @@ def path_led_off(draw, it):
     q = p[0], p[1] + 2 + path[-2] - path[0] + abs(path[-1] - path[1])
     inner = re.compile(rf"(?<= ){p[0]} {p[1]}(?= -?\d)")
     lines = [inner.sub(f"{q[0]} {q[1]}", line) if line.startswith("path ") else line for line in lines_of(it.report)]
-    return Mended(it.old, in_rings(it.text, lambda ring: [q if w == p else w for w in ring]), lines_text(lines))
+    return it._replace(text=in_rings(it.text, lambda ring: [q if w == p else w for w in ring]), report=lines_text(lines))
 
 
 def line_left_out(draw, it):
@@ -323,6 +324,18 @@ def lines_swapped(draw, it):
 def number_changed(draw, it):
     at = draw.choice([*re.finditer(r"\d+", it.report)])
     return it._replace(report=it.report[: at.start()] + str(int(at[0]) + 1) + it.report[at.end() :])
+
+
+# ---- mistakes in the places
+
+def in_places(pattern, new):
+    """The mistake that another text is in the place of the last that is found."""
+
+    def mistake(_, it):
+        found = [*re.finditer(pattern, it.places)]
+        return it._replace(places=it.places[: found[-1].start()] + new + it.places[found[-1].end() :]) if found else None
+
+    return mistake
 
 
 MISTAKES = {
@@ -360,4 +373,8 @@ MISTAKES = {
     "a line told twice": line_twice,
     "two lines swapped": lines_swapped,
     "a number of the report changed": number_changed,
+    "places under another transform": in_places(r'"transform":', '"transform": '),
+    "a path left out of the places": in_places(r',\{"type":"LineString","properties":\{"number":[0-9]+\},"arcs":\[[0-9]+\]\}', ""),
+    "a position left out of the places": in_places(r",\[[^]]*\](?=\]\]\})", ""),
+    "the paths not placed": in_places(r',"paths":\{"type":"GeometryCollection","geometries":\[[^]]+.*?\]\}', ""),
 }

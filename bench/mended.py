@@ -11,15 +11,17 @@ believed in one thing, which path a segment has, and only where it is such a pat
               stands as polygons that have together exactly the segments that stood an odd number of times, each once
     text      all else is as it was, byte for byte, and written as docs/FORMATS.md says of the saved text
     report    every other line is worked out anew, and has to stand in its place
+    places    the topology of the places is worked out anew, with a line for each path
     parts     of a polygon that was taken apart holes lie directly in their outer rings, and outer rings in none of these;
               rings that were there stay, others turn as the outer ring did, and holes the other way. No promise says so
 """
 import collections
 import itertools
+import json
 import os
 import re
 
-from topology import Unreadable, edges, from_least, read, saved_text, segment, segments_of, walks_of, with_features
+from topology import Unreadable, differences, edges, from_least, read, saved_text, segment, segments_of, walks_of, with_features
 
 PATH = re.compile(r"path( -?[0-9]+ -?[0-9]+){3,}")
 
@@ -145,6 +147,24 @@ def laid(paths, walk):
 
 def area2(walk):
     return sum(a[0] * b[1] - b[0] * a[1] for a, b in edges(walk))
+
+
+def area_of(polygons):
+    """Twice the area of polygons: of their outer rings less their holes, whichever way they turn."""
+    rings = ((abs(area2(walk)), at) for walks in polygons for at, walk in enumerate(walks))
+    return sum(area if at == 0 else -area for area, at in rings)
+
+
+def swept_along(s, inner):
+    """Twice the area of the triangles of each step along a path and its end."""
+    way = [s[0], *inner, s[1]]
+    return sum(abs(orient(p, q, s[1])) for p, q in zip(way, way[1:]))
+
+
+def swept_of(polygons, paths):
+    """What the edges of polygons sweep over as they are led along the paths."""
+    segments = (s for walks in polygons for walk in walks for s in segments_of(walk))
+    return sum(swept_along(s, paths[s]) for s in segments if s in paths)
 
 
 class Old:
@@ -314,22 +334,35 @@ def told(*numbers):
     return " ".join(told(*it) if isinstance(it, (tuple, list)) else str(it) for it in numbers)
 
 
+def ring_findings(old):
+    """The rings of fewer than three positions, and the positions that a ring passes more than once."""
+    places = [((f, p, r), walk) for f, p, walks in old.polygons for r, walk in enumerate(walks)]
+    often = [(at, sorted(p for p, count in collections.Counter(walk).items() if count > 1)) for at, walk in places]
+    return [it for it in places if len(it[1]) < 3], [(at, p) for at, positions in often for p in positions]
+
+
 def finding_lines(old):
     """What stops the map from opening."""
-    places = [((f, p, r), walk) for f, p, walks in old.polygons for r, walk in enumerate(walks)]
-    short = [f"short {told(at)}" for at, walk in places if len(walk) < 3]
-    often = [(at, sorted(p for p, count in collections.Counter(walk).items() if count > 1)) for at, walk in places]
-    repeats = [f"repeats {told(at, p)}" for at, positions in often for p in positions]
+    short, repeats = ring_findings(old)
+    short = [f"short {told(at)}" for at, _ in short]
+    repeats = [f"repeats {told(at, p)}" for at, p in repeats]
     touches = [f"on {told(p)} / {told(s)}" for p, s in old.touches]
     return short, repeats, touches, [f"cross {told(s)} / {told(t)}" for s, t in old.crossings]
 
 
-def report_lines(old, paths, parted):
+def area_lines(old, new, paths):
+    """How areas change, and how much borders sweep over."""
+    both = enumerate(zip(old.map.features, new.features))
+    changes = [(f, area_of(a.polygons), area_of(b.polygons), swept_of(a.polygons, paths)) for f, (a, b) in both]
+    return [f"area {told(it)}" for it in changes if it[1] != it[2] or it[3]]
+
+
+def report_lines(old, new, paths, parted):
     """The report, line by line."""
     findings = finding_lines(old)
     bent = [f"path {told(s[0], *inner, s[1])}" for s, inner in sorted(paths.items())]
-    kinds = *findings, bent, [f"parts {told(it)}" for it in parted]
-    names = "short", "repeats", "on", "cross", "paths", "parts"
+    kinds = *findings, bent, [f"parts {told(it)}" for it in parted], area_lines(old, new, paths)
+    names = "short", "repeats", "on", "cross", "paths", "parts", "areas"
     counts = " ".join(f"{name} {len(lines)}" for name, lines in zip(names, kinds))
     return [*([] if any(findings) else ["opens"]), *itertools.chain(*kinds), f"counts {counts}"]
 
@@ -339,10 +372,54 @@ def check_report(lines, wanted):
         demand(line == other, f"the report has {line!r}, and not {other!r}")
 
 
+# ---- the places
+
+def points_of(old):
+    """A point for each finding that has a place."""
+    short, repeats = ring_findings(old)
+    found = {
+        "short": [(at, walk[:1]) for at, walk in short],
+        "repeats": [(at, [p]) for at, p in repeats],
+        "on": [((), [p]) for p, _ in old.touches],
+        "cross": [((), [rounded_crossing(*pair)]) for pair in old.crossings],
+    }
+    for kind, places in found.items():
+        for n, (at, positions) in enumerate(places):
+            properties = {"kind": kind, "number": n, **dict(zip(("feature", "polygon", "ring"), at))}
+            yield from ({"type": "Point", "properties": properties, "coordinates": [*p]} for p in positions)
+
+
+def places_of(old, paths):
+    """The layers of the places, of the segments and of the paths, and the arcs."""
+    sides = [("on", n, s) for n, (_, s) in enumerate(old.touches)]
+    sides += [("cross", n, s) for n, pair in enumerate(old.crossings) for s in pair]
+    ways = [[s[0], *inner, s[1]] for s, inner in sorted(paths.items())]
+    properties = [{"kind": kind, "number": n} for kind, n, _ in sides] + [{"number": n} for n in range(len(ways))]
+    lines = [{"type": "LineString", "properties": it, "arcs": [k]} for k, it in enumerate(properties)]
+    layers = {"places": [*points_of(old)], "segments": lines[: len(sides)], "paths": lines[len(sides) :]}
+    arcs = [differences(arc) if old.map.transform else arc for arc in ([*(s for _, _, s in sides), *ways])]
+    objects = {name: {"type": "GeometryCollection", "geometries": them} for name, them in layers.items()}
+    return objects, [[[*p] for p in arc] for arc in arcs]
+
+
+def places_text(old, paths):
+    objects, arcs = (json.dumps(it, separators=(",", ":")) for it in places_of(old, paths))
+    transform = f',"transform":{old.map.transform}' if old.map.transform else ""
+    return f'{{"type":"Topology"{transform},"objects":{objects},"arcs":{arcs}}}'
+
+
+def check_places(old, paths, text):
+    wanted = places_text(old, paths)
+    if text != wanted:
+        at = max(0, len(os.path.commonprefix([text, wanted])) - 20)
+        raise Wrong(f"the places have {text[at:at + 60]!r}, and not {wanted[at:at + 60]!r}")
+
+
 # ---- all of it
 
-def check(old_text, new_text, report):
-    """What is wrong with a mended map, by the texts of the map before and after, and the report; None where nothing is."""
+def check(old_text, new_text, report, places):
+    """What is wrong with a mended map, by the texts of the map before and after, the report and the places; None where
+    nothing is."""
     try:
         old, new = Old(old_text), read(new_text)
         paths = paths_told(report.splitlines())
@@ -351,7 +428,8 @@ def check(old_text, new_text, report):
         parted = check_polygons(old, new, paths)
         check_text(old, new, new_text)
         demand(report.endswith("\n"), "the report ends within a line")
-        check_report(report[:-1].split("\n"), report_lines(old, paths, parted))
+        check_report(report[:-1].split("\n"), report_lines(old, new, paths, parted))
+        check_places(old, paths, places)
     except (Wrong, Unreadable) as why:
         return str(why)
     return None

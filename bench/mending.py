@@ -5,7 +5,7 @@ The maps are those that were mended by hand; those that are named, or real ones 
 coarser grids and with fewer vertices, so that rings cross, repeat a position and collapse; and drawn ones. Of each
 
     border_mend ends with status 0 and writes nothing on standard error,
-    the mended map and the report are what bench/mended.py says that they have to be,
+    the mended map, the report and the places are what bench/mended.py says that they have to be,
     border_edit opens the mended map, and saves the same bytes after an empty script,
     border_mend leaves the mended map as it is, and tells that it opens,
     where the map opened as it was, border_edit saves it as the bytes that it was mended to.
@@ -38,7 +38,7 @@ LIMIT = 600
 # How often each mistake is made in each map that was mended by hand.
 TRIES = 5
 COUNTED = re.compile(r"([a-z]+) ([0-9]+)")
-UNTOUCHED = "opens\ncounts short 0 repeats 0 on 0 cross 0 paths 0 parts 0\n"
+UNTOUCHED = "opens\ncounts short 0 repeats 0 on 0 cross 0 paths 0 parts 0 areas 0\n"
 
 
 class Failed(Exception):
@@ -68,7 +68,7 @@ class Programs:
         return done.stdout.decode(), out.read_bytes()
 
     def mend(self, path, out):
-        return self.ran(self.mender, [path, "--most", MOST], out)
+        return self.ran(self.mender, [path, "--most", MOST, "--places", self.folder / "places.json"], out)
 
     def edit(self, path):
         """What a map is saved as after an empty script."""
@@ -77,13 +77,14 @@ class Programs:
     def mended(self, text, in_place=False):
         """How a map is mended, and what is wrong with that; in place the map itself is written over."""
         path, out = self.file("map.json", text.encode()), self.file("mended.json", text.encode())
-        report = saved = ""
+        report = saved = places = ""
         try:
             report, saved = self.mend(out if in_place else path, out)
-            fault = check(text, saved.decode(), report) or self.unsettled(path, out, report, saved)
+            places = (self.folder / "places.json").read_text(encoding="utf-8")
+            fault = check(text, saved.decode(), report, places) or self.unsettled(path, out, report, saved)
         except (Failed, ValueError, subprocess.TimeoutExpired) as why:
             fault = str(why)
-        return damaged.Mended(text, saved and saved.decode(errors="replace"), report), fault
+        return damaged.Mended(text, saved and saved.decode(errors="replace"), report, places), fault
 
     def unsettled(self, path, out, report, saved):
         """Where a mended map does not open as what it is, or is not mended to itself; None where it is."""

@@ -1,6 +1,1 @@
-pub mod Appending
-pub mod ReportLemmas
-pub mod OpeningLemmas
 pub mod WordLemmas
-pub mod PlaceLemmas
-mod Examples

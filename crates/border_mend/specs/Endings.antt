@@ -1,11 +1,11 @@
 -- The line on standard error that tells why there is no report.
 use Rattle.std.specs.Prelude.{◌≡◌}
-use Rattle.border_mend.specs.declared.looking.LookFault.{LookFault}
-use Rattle.border_mend.specs.declared.looking.LookFault.TheVariants as fault
-use Rattle.border_mend.specs.declared.remaking.RemakeFault.{RemakeFault}
-use Rattle.border_mend.specs.declared.remaking.RemakeFault.TheVariants as mending
-use Rattle.border_mend.specs.declared.report.RepairFault.{RepairFault}
-use Rattle.border_mend.specs.declared.report.RepairFault.TheVariants as repair
+use Rattle.mend_report.specs.declared.looking.LookFault.{LookFault}
+use Rattle.mend_report.specs.declared.looking.LookFault.TheVariants as fault
+use Rattle.mend_report.specs.declared.remaking.RemakeFault.{RemakeFault}
+use Rattle.mend_report.specs.declared.remaking.RemakeFault.TheVariants as mending
+use Rattle.mend_report.specs.declared.report.RepairFault.{RepairFault}
+use Rattle.mend_report.specs.declared.report.RepairFault.TheVariants as repair
 use Rattle.grid_geometry.specs.Segment.{Segment}
 use Rattle.program_ends.specs.Endings.{IsOpen}
 use Rattle.program_ends.specs.declared.diagnostic.Diagnostic.{Diagnostic}

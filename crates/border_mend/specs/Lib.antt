@@ -1,6 +1,2 @@
 pub mod Asked
-pub mod Report
-pub mod Looking
-pub mod Remaking
-pub mod Status
 pub mod Endings

@@ -1,11 +1,9 @@
 //! How a report ends the program: with which status, with what on standard output, and with which line.
 ghost use Rattle.std.specs.Prelude.{◌≡◌, None, Some, option_map, OnOk, OnErr, IfErr, IsSomeAnd};
-ghost use Rattle.border_mend.specs.Status.{status_of, mended_status, unmended_status};
+ghost use Rattle.mend_report.specs.Status.{status_of, mended_status, unmended_status};
 ghost use Rattle.border_mend.specs.Endings.{Tells, TellsUnmade, TellsUnmended};
 
-use crate::looking::LookFault;
-use crate::remaking::{Remade, RemakeFault};
-use crate::report::{RepairFault, is_clear};
+use mend_report::{LookFault, Remade, RemakeFault, RepairFault, is_clear};
 use program_ends::{Diagnostic, Ending};
 use std::alloc::Allocator;
 use walk_faults::Findings;

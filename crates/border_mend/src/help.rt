@@ -16,9 +16,10 @@ X Y is a position on the grid):
   counts short N repeats N on N cross N
                            How many there are of each, whatever N of --most is
 
-With --out these stand before the last line, which then also has paths N parts N:
+With --out these stand before the last line, which then also has paths N parts N areas N:
   path X Y X Y .. X Y      The segment from the first to the last position goes along these now
   parts F P N              Polygon P of feature F stands as N polygons now (0: it bounded nothing)
+  area F A B S             Twice the area of F was A and is B; its borders swept over at most S
 
 Statuses: 0 the map opens, or with --out is saved; 1 it does not open, and the report says why; 2 it
 can't be read as a map, or not be mended; 3 a file or memory fails; 64 the words are wrong.

@@ -6,12 +6,7 @@ mod asked;
 mod command_line;
 mod ending;
 mod help;
-mod lines;
-mod looking;
-mod remaking;
-mod report;
 mod telling;
-mod texts;
 
 use asked::Words;
 use command_line::words;

@@ -1,7 +1,7 @@
 //! The files of the program: what is read, what is written, and in which order.
 use crate::asked::Words;
 use crate::ending::{ending_of_mending, ending_of_report};
-use crate::report::{Texts, mend_map, report_map};
+use mend_report::{Texts, mend_map, report_map};
 use program_ends::{Ending, Stop, end, map_bytes};
 use std::fs;
 use std::io::{Result as IoResult, Write};

@@ -8,6 +8,10 @@ pub three : (old a b c t u new : List ℕ) → t ≡ old ++ a → u ≡ t ++ b �
     → new ≡ old ++ (a ++ (b ++ c))
 three old a b c t u new e f g = two old a (b ++ c) t new e (two t b c u new f g)
 
+pub four : (old a b c d t u v new : List ℕ) → t ≡ old ++ a → u ≡ t ++ b → v ≡ u ++ c → new ≡ v ++ d
+    → new ≡ old ++ (a ++ (b ++ (c ++ d)))
+four old a b c d t u v new e f g h = two old a (b ++ (c ++ d)) t new e (three t b c d u v new f g h)
+
 pub five : (old a b c d k t u v w new : List ℕ) → t ≡ old ++ a → u ≡ t ++ b → v ≡ u ++ c → w ≡ v ++ d → new ≡ w ++ k
     → new ≡ old ++ (a ++ (b ++ (c ++ (d ++ k))))
 five old a b c d k t u v w new e f g h i = three old a b (c ++ (d ++ k)) t u new e f (three u c d k v w new g h i)

@@ -8,7 +8,7 @@ use Rattle.grid_geometry.specs.Position.{Position, position}
 use Rattle.grid_geometry.specs.Segment.{Segment}
 use Rattle.map_text.specs.Text.{arc_text, list_text, pair_text}
 use Rattle.place_text.specs.Sides.{ends, pair_behind}
-use Rattle.place_text.proofs.Appending.{five}
+use Rattle.place_text.proofs.Appending.{five, six}
 
 list_two : (a b : Text) → codes "[" ++ (a ++ (codes "," ++ (b ++ codes "]"))) ≡ list_text (a ∷ b ∷ [])
 list_two a b =
@@ -34,27 +34,10 @@ pub some_there : (o : Option (Bor (List ℕ))) → is_some o ≡ is_some (option
 some_there None = refl
 some_there (Some t) = refl
 
--- two lists in two collections in a topology
-pub topology_is : (transform places sides arcs : Text)
-    → codes "{\"type\":\"Topology\"" ++ (transform
-    ++ (codes ",\"objects\":{\"places\":{\"type\":\"GeometryCollection\",\"geometries\":" ++ (places
-    ++ (codes "},\"segments\":{\"type\":\"GeometryCollection\",\"geometries\":" ++ (sides
-    ++ (codes "}},\"arcs\":" ++ (arcs ++ codes "}")))))))
-    ≡ codes "{\"type\":\"Topology\"" ++ (transform
-    ++ (codes ",\"objects\":{\"places\":" ++ ((codes "{\"type\":\"GeometryCollection\",\"geometries\":" ++ (places ++ codes "}"))
-    ++ (codes ",\"segments\":" ++ ((codes "{\"type\":\"GeometryCollection\",\"geometries\":" ++ (sides ++ codes "}"))
-    ++ (codes "},\"arcs\":" ++ (arcs ++ codes "}")))))))
-topology_is transform places sides arcs =
-    ap (λ z. codes "{\"type\":\"Topology\"" ++ (transform ++ (codes ",\"objects\":{\"places\":{\"type\":\"GeometryCollection\",\"geometries\":" ++ z)))
-    (ap (λ z. places ++ (codes "},\"segments\":{\"type\":\"GeometryCollection\",\"geometries\":" ++ z))
-    (sym (append_assoc sides (codes "}") (codes "},\"arcs\":" ++ (arcs ++ codes "}"))))
-    ∙ sym (append_assoc places (codes "}") (codes ",\"segments\":" ++ ((codes "{\"type\":\"GeometryCollection\",\"geometries\":" ++ (sides ++ codes "}"))
-    ++ (codes "},\"arcs\":" ++ (arcs ++ codes "}"))))))
-
--- nine pieces, one after another
-pub nine : (old a b c d e f g h k t1 t2 t3 t4 t5 t6 t7 t8 new : Text)
-    → t1 ≡ old ++ a → t2 ≡ t1 ++ b → t3 ≡ t2 ++ c → t4 ≡ t3 ++ d → t5 ≡ t4 ++ e → t6 ≡ t5 ++ f → t7 ≡ t6 ++ g → t8 ≡ t7 ++ h → new ≡ t8 ++ k
-    → new ≡ old ++ (a ++ (b ++ (c ++ (d ++ (e ++ (f ++ (g ++ (h ++ k))))))))
-nine old a b c d e f g h k t1 t2 t3 t4 t5 t6 t7 t8 new p1 p2 p3 p4 p5 p6 p7 p8 p9 =
-    five old a b c d (e ++ (f ++ (g ++ (h ++ k)))) t1 t2 t3 t4 new p1 p2 p3 p4
-    (five t4 e f g h k t5 t6 t7 t8 new p5 p6 p7 p8 p9)
+-- ten pieces, one after another
+pub ten : (old a b c d e f g h k m t1 t2 t3 t4 t5 t6 t7 t8 t9 new : Text)
+    → t1 ≡ old ++ a → t2 ≡ t1 ++ b → t3 ≡ t2 ++ c → t4 ≡ t3 ++ d → t5 ≡ t4 ++ e → t6 ≡ t5 ++ f → t7 ≡ t6 ++ g → t8 ≡ t7 ++ h → t9 ≡ t8 ++ k → new ≡ t9 ++ m
+    → new ≡ old ++ (a ++ (b ++ (c ++ (d ++ (e ++ (f ++ (g ++ (h ++ (k ++ m)))))))))
+ten old a b c d e f g h k m t1 t2 t3 t4 t5 t6 t7 t8 t9 new p1 p2 p3 p4 p5 p6 p7 p8 p9 p10 =
+    five old a b c d (e ++ (f ++ (g ++ (h ++ (k ++ m))))) t1 t2 t3 t4 new p1 p2 p3 p4
+    (six t4 e f g h k m t5 t6 t7 t8 t9 new p5 p6 p7 p8 p9 p10)

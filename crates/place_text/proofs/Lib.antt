@@ -4,3 +4,4 @@ pub mod Appending
 pub mod ShortWalks
 pub mod Crossed
 pub mod Assembled
+pub mod Ways

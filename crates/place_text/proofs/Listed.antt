@@ -12,7 +12,7 @@ positive : (i : ℕ) → nat_lt 0 (suc i) ≡ true
 positive i = grind arith
 
 -- one text more, after a comma where something stands before
-commas_next : (ts : List Text) (t : Text) → commas (ts ++ t ∷ []) ≡ commas ts ++ (comma_if (nat_lt 0 (length ts)) ++ t)
+pub commas_next : (ts : List Text) (t : Text) → commas (ts ++ t ∷ []) ≡ commas ts ++ (comma_if (nat_lt 0 (length ts)) ++ t)
 commas_next [] t = append-nil t
 commas_next (u ∷ us) t =
     ap (λ z. u ++ z) (flat_map-append (λ v. codes "," ++ v) us (t ∷ []) ∙ ap (λ z. further us ++ z) (append-nil (codes "," ++ t)))
@@ -61,3 +61,9 @@ map_twice f g (x ∷ xs) = ap (λ z. f (g x) ∷ z) (map_twice f g xs)
 pub bracketed : (o w a b c : Text) → a ≡ o ++ codes "[" → b ≡ a ++ w → c ≡ b ++ codes "]" → c ≡ o ++ (codes "[" ++ (w ++ codes "]"))
 bracketed o w a b c p q r =
     r ∙ ap (λ z. z ++ codes "]") (q ∙ ap (λ z. z ++ w) p) ∙ append_assoc (o ++ codes "[") w (codes "]") ∙ append_assoc o (codes "[") (w ++ codes "]")
+
+-- elements that are seen as others give what those give
+pub each_map : {A B : Type 0} (f : ℕ → B → Text) (g : A → B) (k : ℕ) (xs : List A)
+    → each_at (λ n y. f n y ∷ []) k (map g xs) ≡ each_at (λ n x. f n (g x) ∷ []) k xs
+each_map f g k [] = refl
+each_map f g k (x ∷ xs) = ap (λ z. f k (g x) ∷ z) (each_map f g (suc k) xs)

@@ -2,6 +2,7 @@
 use Rattle.std.specs.Prelude.{ℕ, ◌-ℤ◌, Bool, true, false, List, [], ◌∷◌, ◌++◌}
 use Rattle.grid_geometry.specs.Position.{Position, position}
 use Rattle.grid_geometry.specs.Segment.{Segment}
+use Rattle.segment_paths.specs.Paths.{Path}
 use Rattle.walk_faults.specs.declared.findings.Crossing.{Crossing}
 use Rattle.walk_faults.specs.declared.findings.Findings.{Findings}
 use Rattle.walk_faults.specs.declared.findings.Touch.{Touch}
@@ -33,6 +34,10 @@ ends s = s.lo ∷ s.hi ∷ []
 
 abbrev pub side_ends : Side → List Position
 side_ends side = ends side.segment
+
+-- the positions of the path of a segment, from the lesser end to the greater
+abbrev pub way : Path → List Position
+way p = p.0.lo ∷ p.1 ++ p.0.hi ∷ []
 
 -- the pair that stands for a position behind another in an arc: with a transform the difference
 abbrev pub pair_behind : Bool → Position → Position → Position

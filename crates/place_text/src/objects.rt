@@ -1,13 +1,16 @@
 // The objects of a topology of places, appended to a text.
 ghost use Rattle.std.specs.Prelude.{◌≡◌, ◌++◌, OnOk};
+ghost use Rattle.segment_paths.specs.Seen.{path_seen};
 ghost use Rattle.map_text.specs.Text.{arc_text};
-ghost use Rattle.place_text.specs.Sides.{ends};
-ghost use Rattle.place_text.specs.Text.{kind_text, ring_text, properties_text, place_text, side_text};
+ghost use Rattle.place_text.specs.Sides.{ends, way};
+ghost use Rattle.place_text.specs.Text.{kind_text, ring_text, properties_text, place_text};
+ghost use Rattle.place_text.specs.Text.{side_text, path_text};
 
 use crate::numbers::{push_behind, push_number, push_position};
 use crate::places::{Kind, Place};
 use crate::sides::Side;
 use grid_geometry::Seg;
+use segment_paths::SegmentPath;
 use std::alloc::{AllocError, Allocator};
 use topo_outline::RingAt;
 
@@ -101,6 +104,47 @@ pub(crate) fn push_arc<A: Allocator>(
     push_position(text, segment.lo)?;
     text.extend_from_slice(b",")?;
     push_behind(text, delta, segment.lo, segment.hi)?;
+    text.extend_from_slice(b"]")?;
+    Ok(())
+}
+
+/// Appends the path with this number, as a line of the arc with this index (TopoJSON 1.0, 2.2.3).
+pub(crate) fn push_path<A: Allocator>(
+    text: &mut Vec<u8, A>,
+    number: usize,
+    index: usize,
+) -> Result<(), AllocError>
+    ensures { OnOk result (text.new.items ≡ text.old.items ++ path_text number index) }
+{
+    text.extend_from_slice(b"{\"type\":\"LineString\",\"properties\":{\"number\":")?;
+    push_number(text, number)?;
+    text.extend_from_slice(b"},\"arcs\":[")?;
+    push_number(text, index)?;
+    text.extend_from_slice(b"]}")?;
+    Ok(())
+}
+
+/// Appends the positions of a path, as an arc (TopoJSON 1.0, 2.1.3).
+pub(crate) fn push_way<A: Allocator, B: Allocator + Copy>(
+    text: &mut Vec<u8, A>,
+    delta: bool,
+    path: &SegmentPath<B>,
+) -> Result<(), AllocError>
+    ensures { OnOk result
+        (text.new.items ≡ text.old.items ++ arc_text delta (way (path_seen path.now))) }
+{
+    let inner = path.inner.as_slice();
+    let end = path.segment.hi;
+    let mut from = path.segment.lo;
+    text.extend_from_slice(b"[")?;
+    push_position(text, from)?;
+    for to in inner {
+        text.extend_from_slice(b",")?;
+        push_behind(text, delta, from, *to)?;
+        from = *to;
+    }
+    text.extend_from_slice(b",")?;
+    push_behind(text, delta, from, end)?;
     text.extend_from_slice(b"]")?;
     Ok(())
 }

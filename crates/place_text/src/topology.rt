@@ -1,17 +1,20 @@
 // The topology of places.
-ghost use Rattle.std.specs.Prelude.{◌≡◌, ◌++◌, map, is_some, option_map, IfOk, OnOk};
-ghost use Rattle.map_text.specs.Text.{arcs_text, list_text};
+ghost use Rattle.std.specs.Prelude.{◌≡◌, ◌≤◌, ◌||◌, ◌++◌, nat_lt, map, is_some, option_map, IfOk, OnOk};
+ghost use Rattle.map_text.specs.Text.{arc_text, arcs_text, commas, list_text};
+ghost use Rattle.segment_paths.specs.Seen.{paths_seen};
 ghost use Rattle.walk_faults.specs.Findings.{Found};
 ghost use Rattle.walk_faults.specs.Seen.{features_seen};
-ghost use Rattle.place_text.specs.Sides.{side_ends};
-ghost use Rattle.place_text.specs.Text.{transform_text, place_text, sides_text, topology_text};
+ghost use Rattle.place_text.specs.Sides.{side_ends, way};
+ghost use Rattle.place_text.specs.Text.{transform_text, place_text, sides_text, paths_text, ways};
+ghost use Rattle.place_text.specs.Text.{behind_if, collection_text, path_layer, topology_text};
 ghost use Rattle.place_text.specs.Text.{IsPlaceText};
 
 use crate::numbers::push_comma;
-use crate::objects::{push_arc, push_place, push_side};
+use crate::objects::{push_arc, push_path, push_place, push_side, push_way};
 use crate::places::{Place, places};
 use crate::sides::{Side, sides};
 use grid_geometry::Pos;
+use segment_paths::SegmentPath;
 use std::alloc::{AllocError, Allocator};
 use walk_faults::Findings;
 
@@ -42,20 +45,89 @@ fn push_sides<A: Allocator>(text: &mut Vec<u8, A>, sides: &[Side]) -> Result<(),
     Ok(())
 }
 
-/// Appends the list of the arcs, one for each segment.
-fn push_arcs<A: Allocator>(
+/// Appends the list of so many paths, each as a line of its arc; so many arcs come before theirs.
+fn push_paths<A: Allocator, B: Allocator + Copy>(
+    text: &mut Vec<u8, A>,
+    others: usize,
+    paths: &[SegmentPath<B>],
+) -> Result<(), AllocError>
+    requires { others ≤ 9223372036854775807 }
+    ensures { OnOk result (text.new.items
+        ≡ text.old.items ++ list_text (paths_text others (paths_seen paths.now))) }
+{
+    text.extend_from_slice(b"[")?;
+    for (number, _path) in paths.iter().enumerate() {
+        push_comma(text, number > 0)?;
+        push_path(text, number, others + number)?;
+    }
+    text.extend_from_slice(b"]")?;
+    Ok(())
+}
+
+/// Appends the arcs of the segments, with commas between them.
+fn push_side_arcs<A: Allocator>(
     text: &mut Vec<u8, A>,
     delta: bool,
     sides: &[Side],
 ) -> Result<(), AllocError>
-    ensures { OnOk result
-        (text.new.items ≡ text.old.items ++ arcs_text delta (map side_ends sides.now)) }
+    ensures { OnOk result (text.new.items
+        ≡ text.old.items ++ commas (map (arc_text delta) (map side_ends sides.now))) }
 {
-    text.extend_from_slice(b"[")?;
     for (index, side) in sides.iter().enumerate() {
         push_comma(text, index > 0)?;
         push_arc(text, delta, side.segment)?;
     }
+    Ok(())
+}
+
+/// Whether something stands before the element with this index, where perhaps others come first.
+fn follows(more: bool, index: usize) -> bool
+    ensures { result ≡ (more || nat_lt 0 index) }
+{
+    more || index > 0
+}
+
+/// Appends the arcs of the paths, with commas before them, but where nothing stands before.
+fn push_way_arcs<A: Allocator, B: Allocator + Copy>(
+    text: &mut Vec<u8, A>,
+    delta: bool,
+    more: bool,
+    paths: &[SegmentPath<B>],
+) -> Result<(), AllocError>
+    ensures { OnOk result (text.new.items ≡ text.old.items
+        ++ behind_if more (map (arc_text delta) (map way (paths_seen paths.now)))) }
+{
+    for (index, path) in paths.iter().enumerate() {
+        push_comma(text, follows(more, index))?;
+        push_way(text, delta, path)?;
+    }
+    Ok(())
+}
+
+/// The paths that are told, and none where they are not.
+fn told<'p, B: Allocator + Copy>(paths: Option<&'p [SegmentPath<B>]>) -> &'p [SegmentPath<B>]
+    ensures { map way (paths_seen result.now)
+        ≡ ways (option_map (λ ps. paths_seen ps.now) paths.entry) }
+{
+    match paths {
+        Some(paths) => paths,
+        None => &[],
+    }
+}
+
+/// Appends the list of the arcs: one for each segment, and one for each path, if these are told.
+fn push_arcs<A: Allocator, B: Allocator + Copy>(
+    text: &mut Vec<u8, A>,
+    delta: bool,
+    sides: &[Side],
+    paths: Option<&[SegmentPath<B>]>,
+) -> Result<(), AllocError>
+    ensures { OnOk result (text.new.items ≡ text.old.items ++ arcs_text delta
+        (map side_ends sides.now ++ ways (option_map (λ ps. paths_seen ps.now) paths.entry))) }
+{
+    text.extend_from_slice(b"[")?;
+    push_side_arcs(text, delta, sides)?;
+    push_way_arcs(text, delta, !sides.is_empty(), told(paths))?;
     text.extend_from_slice(b"]")?;
     Ok(())
 }
@@ -76,26 +148,69 @@ fn push_transform<A: Allocator>(
     Ok(())
 }
 
-/// Appends a topology of these places and segments (TopoJSON 1.0, 2.1).
-fn push_topology<A: Allocator>(
+/// Appends the layer of the places.
+fn push_place_layer<A: Allocator>(text: &mut Vec<u8, A>, places: &[Place]) -> Result<(), AllocError>
+    ensures { OnOk result
+        (text.new.items ≡ text.old.items ++ collection_text (map place_text places.now)) }
+{
+    text.extend_from_slice(b"{\"type\":\"GeometryCollection\",\"geometries\":")?;
+    push_places(text, places)?;
+    text.extend_from_slice(b"}")?;
+    Ok(())
+}
+
+/// Appends the layer of the segments.
+fn push_side_layer<A: Allocator>(text: &mut Vec<u8, A>, sides: &[Side]) -> Result<(), AllocError>
+    ensures { OnOk result
+        (text.new.items ≡ text.old.items ++ collection_text (sides_text sides.now)) }
+{
+    text.extend_from_slice(b"{\"type\":\"GeometryCollection\",\"geometries\":")?;
+    push_sides(text, sides)?;
+    text.extend_from_slice(b"}")?;
+    Ok(())
+}
+
+/// Appends the layer of the paths, if they are told; so many arcs come before theirs.
+fn push_path_layer<A: Allocator, B: Allocator + Copy>(
+    text: &mut Vec<u8, A>,
+    others: usize,
+    paths: Option<&[SegmentPath<B>]>,
+) -> Result<(), AllocError>
+    requires { others ≤ 9223372036854775807 }
+    ensures { OnOk result (text.new.items ≡ text.old.items
+        ++ path_layer others (option_map (λ ps. paths_seen ps.now) paths.entry)) }
+{
+    let Some(paths) = paths else {
+        return Ok(());
+    };
+    text.extend_from_slice(b",\"paths\":{\"type\":\"GeometryCollection\",\"geometries\":")?;
+    push_paths(text, others, paths)?;
+    text.extend_from_slice(b"}")?;
+    Ok(())
+}
+
+/// Appends a topology of these places and segments, and of the paths if they are told (TopoJSON
+/// 1.0, 2.1).
+fn push_topology<A: Allocator, B: Allocator + Copy>(
     text: &mut Vec<u8, A>,
     transform: Option<&[u8]>,
     places: &[Place],
     sides: &[Side],
+    paths: Option<&[SegmentPath<B>]>,
 ) -> Result<(), AllocError>
     ensures { OnOk result (text.new.items ≡ text.old.items
-        ++ topology_text (option_map (λ t. t.now) transform.entry) places.now sides.now) }
+        ++ topology_text (option_map (λ t. t.now) transform.entry) places.now sides.now
+        (option_map (λ ps. paths_seen ps.now) paths.entry)) }
 {
     text.extend_from_slice(b"{\"type\":\"Topology\"")?;
     push_transform(text, transform)?;
-    text.extend_from_slice(
-        b",\"objects\":{\"places\":{\"type\":\"GeometryCollection\",\"geometries\":",
-    )?;
-    push_places(text, places)?;
-    text.extend_from_slice(b"},\"segments\":{\"type\":\"GeometryCollection\",\"geometries\":")?;
-    push_sides(text, sides)?;
-    text.extend_from_slice(b"}},\"arcs\":")?;
-    push_arcs(text, transform.is_some(), sides)?;
+    text.extend_from_slice(b",\"objects\":{\"places\":")?;
+    push_place_layer(text, places)?;
+    text.extend_from_slice(b",\"segments\":")?;
+    push_side_layer(text, sides)?;
+    push_path_layer(text, sides.len(), paths)?;
+    text.extend_from_slice(b"},\"arcs\":")?;
+    push_arcs(text, transform.is_some(), sides, paths)?;
     text.extend_from_slice(b"}")?;
     Ok(())
 }
@@ -107,20 +222,29 @@ fn push_topology<A: Allocator>(
 /// three, unless it has none; at a position that a walk passes more than once; at a vertex on a
 /// segment; and where two segments cross, rounded to the grid. Its layer `segments` has a line for
 /// each segment that a vertex lies on, and for both of each pair that crosses. `kind` and `number`
-/// say which finding of the report each belongs to.
+/// say which finding of the report each belongs to. Where paths are given, a layer `paths` has a
+/// line for each of them, with its `number`.
 pub fn text_of_places<A: Allocator + Copy>(
     alloc: A,
     transform: Option<&[u8]>,
     walks: &[Vec<Vec<Vec<Pos, A>, A>, A>],
     findings: &Findings<A>,
+    paths: Option<&[SegmentPath<A>]>,
 ) -> Result<Vec<u8, A>, AllocError>
     requires { Found (features_seen walks.now) findings.now }
     ensures { IfOk result (λ text. IsPlaceText (option_map (λ t. t.now) transform.entry)
-        (features_seen walks.now) findings.now text.items) }
+        (features_seen walks.now) findings.now (option_map (λ ps. paths_seen ps.now) paths.entry)
+        text.items) }
 {
     let places = places(alloc, walks, findings)?;
     let sides = sides(alloc, findings)?;
     let mut text = Vec::new(alloc);
-    push_topology(&mut text, transform, places.as_slice(), sides.as_slice())?;
+    push_topology(
+        &mut text,
+        transform,
+        places.as_slice(),
+        sides.as_slice(),
+        paths,
+    )?;
     Ok(text)
 }

@@ -1,8 +1,8 @@
 //! Where a map is kept from opening, in a file.
 use super::endings::{BOW_TIE, Broken, words_for};
 use crate::asked::Words;
-use crate::report::{Texts, report_map};
 use crate::telling::tell;
+use mend_report::{Texts, report_map};
 use std::fs;
 use std::io::ErrorKind;
 use std::test::Fail;

@@ -71,6 +71,6 @@ pub(crate) fn told<R: Abort, A: Allocator + Copy>(
 ) -> Result<Vec<u8, A>, FindFault> {
     let walks = walks(rt, alloc, given)?;
     let found = find(alloc, ListIndex::new(alloc), walks.as_slice())?;
-    let text = text_of_places(heap, transform, walks.as_slice(), &found)?;
+    let text = text_of_places(heap, transform, walks.as_slice(), &found, None)?;
     Ok(text)
 }

@@ -1,28 +1,17 @@
-use Rattle.std.proofs.Common.{arith, refl, sym, ap, ◌∙◌, ◌+◌, ◌++◌, append-nil, map, take}
-use Rattle.std.specs.Prelude.{codes}
-use Rattle.std.proofs.lemmas.List.{take_all}
-use Rattle.map_text.specs.Text.{arc_text, commas}
+use Rattle.std.proofs.Common.{◌==◌, not, sym, ap, ◌∙◌, map}
+use Rattle.std.specs.Prelude.{option_map}
+use Rattle.std.proofs.lemmas.List.{length-map}
+use Rattle.map_text.specs.Text.{arc_text}
+use Rattle.segment_paths.specs.Seen.{paths_seen}
 use Rattle.place_text.specs.Sides.{side_ends}
-use Rattle.place_text.proofs.Listed.{bracketed, map_twice, map_step}
+use Rattle.place_text.specs.Text.{ways}
+use Rattle.place_text.proofs.Ways.{arcs_both}
 use Rattle.place_text.proofs.topology.push_arcs.Goals as goal
-
-pub loop-index-init : goal.loop-index-init
-loop-index-init g c = c.in_ok-extend_from_slice.ensures.items ∙ sym (append-nil (c.args.text.now.items ++ codes "["))
-
-pub loop-index-preserved : goal.loop-index-preserved
-loop-index-preserved g c =
-    let begun = c.args.text.now.items ++ codes "[" in
-    let arc = arc_text c.args.delta in
-    let sides = c.args.sides.now in
-    map_step (λ s. arc (side_ends s)) sides c.loop-index.index c.index-sides-index.result c.loop-index-test.true c.index-sides-index.is
-    begun c.loop-index.text.items c.push_comma.new.text.items c.push_arc.new.text.items
-    (c.loop-index.invariant ∙ ap (λ z. begun ++ commas z) (map_twice arc side_ends (take c.loop-index.index sides)))
-    c.in_ok-push_comma.ensures c.in_ok-push_arc.ensures
-    ∙ ap (λ z. begun ++ commas z) (sym (map_twice arc side_ends (take (c.loop-index.index + 1) sides)))
 
 pub returns : goal.returns
 returns g c =
-    let begun = c.args.text.now.items ++ codes "[" in
-    bracketed c.args.text.now.items _ begun c.loop-index.text.items _ refl
-    (c.loop-index.invariant ∙ ap (λ z. begun ++ commas (map (arc_text c.args.delta) (map side_ends z))) (take_all c.loop-index.index c.args.sides.now (omega arith)))
-    c.in_ok-extend_from_slice-2.ensures.items
+    let sides = c.args.sides.now in
+    arcs_both (arc_text c.args.delta) (map side_ends sides) (ways (option_map (λ ps. paths_seen ps.now) c.args.paths)) _ _
+    c.args.text.now.items c.extend_from_slice.new.self.items c.push_side_arcs.new.text.items c.push_way_arcs.new.text.items c.extend_from_slice-2.new.self.items
+    (ap not c.is_empty.ensures ∙ ap (λ n. not (n == 0)) (sym (length-map sides side_ends))) c.told.ensures
+    c.in_ok-extend_from_slice.ensures.items c.in_ok-push_side_arcs.ensures c.in_ok-push_way_arcs.ensures c.in_ok-extend_from_slice-2.ensures.items

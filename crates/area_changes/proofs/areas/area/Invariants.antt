@@ -1,0 +1,11 @@
+use Rattle.std.proofs.Common.{◌≡◌, ◌≤◌, ◌*◌, unsigned_abs, map, take, length, sum_by}
+use Rattle.topo_reader.specs.Uses.{polygon_positions}
+use Rattle.area_changes.specs.Areas.{area_in}
+use Rattle.area_changes.proofs.areas.area.Given as goal
+
+-- the area so far, and how large it may be
+abbrev pub invariant-loop-polygon : goal.invariant-loop-polygon
+invariant-loop-polygon g l = record {
+  whole : l.area ≡ area_in (map polygon_positions (take l.polygon-index l.polygons));
+  bound : unsigned_abs l.area ≤ 2000000000000000000000000 * sum_by (sum_by length) (map polygon_positions (take l.polygon-index l.polygons));
+}

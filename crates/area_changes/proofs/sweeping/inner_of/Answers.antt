@@ -1,0 +1,16 @@
+use Rattle.std.proofs.Common.{◌∙◌, ap, sym, rules}
+use Rattle.std.proofs.lemmas.List.Sorted.{answers_always}
+use Rattle.walk_mending.proofs.Searched.{found_at, not_found}
+use Rattle.area_changes.proofs.sweeping.inner_of.Goals as goal
+
+pub returns-in-Ok : goal.returns-in-Ok
+returns-in-Ok g c =
+    let equal = c.in-Ok.ensures.position (λ path. (path.segment.lo, path.segment.hi)) (answers_always _ _ _ (λ f a r h called. search rules)) in
+    c.as_slice.ensures.value
+    ∙ ap (λ path. path.inner.items) (sym c.index-paths-place.is)
+    ∙ sym (found_at (λ path. path.segment) (λ path. path.inner.items) c.args.paths.now c.in-Ok.place c.index-paths-place.result (record { lo = c.args.lo; hi = c.args.hi }) c.requires c.in-Ok.ensures.bound c.index-paths-place.is equal)
+
+pub returns-in-Err : goal.returns-in-Err
+returns-in-Err g c =
+    let none = c.in-Err.ensures.position (λ path. (path.segment.lo, path.segment.hi)) (answers_always _ _ _ (λ f a r h called. search rules)) in
+    sym (not_found (λ path. path.segment) (λ path. path.inner.items) c.args.paths.now _ (record { lo = c.args.lo; hi = c.args.hi }) c.requires none)

@@ -1,0 +1,13 @@
+use Rattle.std.proofs.Common.{◌≡◌, ◌≤◌, ◌<◌, ◌+◌, ◌*◌, ◌∷◌, ◌++◌, [], drop, length, sum_by}
+use Rattle.std.specs.List.{AllByRecursion}
+use Rattle.grid_geometry.specs.Ring.{links}
+use Rattle.area_changes.specs.Swept.{triangle, swept_along, IsBeside}
+use Rattle.area_changes.proofs.sweeping.swept_along.Given as goal
+
+-- the triangles so far and those of the rest of the path are all, and they are small
+abbrev pub invariant-loop-to : goal.invariant-loop-to
+invariant-loop-to l = record {
+  whole : l.sum + sum_by (triangle l.segment.hi) (links (l.from ∷ drop l.to-index l.inner ++ l.segment.hi ∷ [])) ≡ swept_along l.segment l.inner;
+  bound : l.sum ≤ 4000000000000 * l.to-index;
+  beside : 0 < length l.inner → AllByRecursion (IsBeside l.segment) (l.from ∷ drop l.to-index l.inner);
+}

@@ -1,0 +1,21 @@
+use Rattle.std.proofs.Common.{◌≡◌, ◌<◌, length, List, subst, sym, refl}
+use Rattle.grid_geometry.specs.Position.{Position}
+use Rattle.segment_paths.specs.Paths.{IsWay}
+use Rattle.segment_paths.specs.Seen.{paths_seen}
+use Rattle.walk_mending.specs.Laid.{inner_of}
+use Rattle.area_changes.proofs.Beside.{way_of}
+use Rattle.area_changes.specs.Swept.{swept_by}
+use Rattle.area_changes.proofs.StepByStep.{path_found, nothing_swept}
+use Rattle.area_changes.proofs.sweeping.swept_by.Goals as goal
+
+pub swept_along-requires : goal.swept_along-requires
+swept_along-requires g c =
+    let paths = paths_seen c.args.paths.now in
+    let s = c.in-Some.segment in
+    let is : c.inner_of.result.now ≡ inner_of paths s = path_found paths s _ c.inner_of.result.now c.segment.view_is c.inner_of.ensures in
+    subst (λ (inner : List Position). 0 < length inner → IsWay s inner) (sym is) (way_of paths s c.requires.ways)
+
+pub returns-in-None-clause-value : goal.returns-in-None-clause-value
+returns-in-None-clause-value g c =
+    let paths = paths_seen c.args.paths.now in
+    sym (subst (λ (to : Position). swept_by paths (c.args.from, to) ≡ 0) (c.in-None.ensures.none.0 refl) (nothing_swept paths c.args.from c.requires.ways))

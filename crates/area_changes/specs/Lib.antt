@@ -1,0 +1,2 @@
+pub mod Swept
+pub mod Areas

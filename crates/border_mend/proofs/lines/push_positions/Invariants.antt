@@ -1,9 +1,0 @@
-use Rattle.std.proofs.Common.{◌≡◌, ◌++◌, take}
-use Rattle.std.specs.Prelude.{codes, flat_map}
-use Rattle.grid_geometry.specs.Text.{position_text}
-use Rattle.border_mend.proofs.lines.push_positions.Given as goal
-
--- the positions so far, each behind a space
-abbrev pub invariant-loop-position : goal.invariant-loop-position
-invariant-loop-position g l =
-    l.text.items ≡ l.fn.text.items ++ flat_map (λ q. codes " " ++ position_text q) (take l.position-index l.positions)

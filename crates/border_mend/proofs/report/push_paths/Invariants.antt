@@ -1,9 +1,0 @@
-use Rattle.std.proofs.Common.{◌≡◌, ◌++◌, take}
-use Rattle.std.specs.Prelude.{flat_map}
-use Rattle.segment_paths.specs.Seen.{paths_seen}
-use Rattle.border_mend.specs.Report.{path_line}
-use Rattle.border_mend.proofs.report.push_paths.Given as goal
-
--- the lines so far
-abbrev pub invariant-loop-path : goal.invariant-loop-path
-invariant-loop-path g l = l.text.items ≡ l.fn.text.items ++ flat_map path_line (paths_seen (take l.path-index l.paths))

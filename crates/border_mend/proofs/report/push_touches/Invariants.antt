@@ -1,8 +1,0 @@
-use Rattle.std.proofs.Common.{◌≡◌, ◌++◌, take}
-use Rattle.std.specs.Prelude.{flat_map}
-use Rattle.border_mend.specs.Report.{touch_line}
-use Rattle.border_mend.proofs.report.push_touches.Given as goal
-
--- the lines so far
-abbrev pub invariant-loop-touch : goal.invariant-loop-touch
-invariant-loop-touch g l = l.text.items ≡ l.fn.text.items ++ flat_map touch_line (take l.touch-index l.touches)

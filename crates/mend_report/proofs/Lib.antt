@@ -1,0 +1,6 @@
+pub mod Appending
+pub mod ReportLemmas
+pub mod OpeningLemmas
+pub mod PlaceLemmas
+pub mod AreaLemmas
+mod Examples

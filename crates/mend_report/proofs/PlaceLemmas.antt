@@ -1,0 +1,41 @@
+-- The places of a map that was looked at.
+use Rattle.std.proofs.Common.{◌≡◌, ℕ, Bool, true, sym, ap, ◌∙◌, subst, List, Option, Some, None}
+use Rattle.std.specs.Prelude.{IfSome, Vec, is_some, not}
+use Rattle.std.proofs.lemmas.Bool.{false≢true}
+use Rattle.ring_machine.specs.Document.{Text}
+use Rattle.segment_paths.specs.Paths.{Path}
+use Rattle.segment_paths.specs.Seen.{paths_seen}
+use Rattle.topo_reader.specs.Document.{Opened, Polygons}
+use Rattle.topo_reader.specs.Opening.{OpensWalks}
+use Rattle.walk_faults.specs.declared.findings.Findings.{Findings}
+use Rattle.place_text.specs.Text.{IsPlaceText}
+use Rattle.mend_report.specs.Looking.{HasPlaces}
+use Rattle.mend_report.specs.Remaking.{PlacesMending}
+use Rattle.walk_faults.specs.Findings.{Found}
+use Rattle.mend_report.specs.declared.remaking.Remade.{Remade}
+
+-- what is told of the map is told of the bytes that it was read from
+pub all_placed : {A : Type 0} (bytes : List ℕ) (o : Opened) (found : Findings A) (places : Option (Vec ℕ A)) → OpensWalks bytes o
+    → IfSome places (λ text. IsPlaceText o.transform o.polygons found None text.items) → IfSome places (λ text. HasPlaces bytes found None text.items)
+all_placed bytes o found None opens h = h
+all_placed bytes o found (Some text) opens h = (o, opens, h)
+
+-- where nothing is asked for, all that is asked for holds
+pub none_holds : {X : Type 0} (o : Option X) (none : Bool) (P : X → Type 0) → is_some o ≡ not none → none ≡ true → IfSome o P
+none_holds None none P e f = tt
+none_holds (Some x) none P e f = absurd (false≢true (sym (e ∙ ap not f)))
+
+-- and so are the places of a map that is mended
+pub mending_placed : {A : Type 0} (bytes : List ℕ) (o : Opened) (found : Findings A) (remade : Remade A) (places : Option (Vec ℕ A)) → OpensWalks bytes o → Found o.polygons found
+    → IfSome places (λ text. IsPlaceText o.transform o.polygons found (Some (paths_seen remade.paths.items)) text.items) → PlacesMending bytes remade places
+mending_placed bytes o found remade None opens is_found h = h
+mending_placed bytes o found remade (Some text) opens is_found h = (found, (o, opens, is_found), (o, opens, h))
+
+-- what is told of walks that are those of the map is told of the map
+pub places_same : {A : Type 0} (o : Opened) (found : Findings A) (transform : Option Text) (polygons : List Polygons) (given paths : Option (List Path)) (places : Option (Vec ℕ A))
+    → transform ≡ o.transform → polygons ≡ o.polygons → given ≡ paths
+    → IfSome places (λ text. IsPlaceText transform polygons found given text.items) → IfSome places (λ text. IsPlaceText o.transform o.polygons found paths text.items)
+places_same {A = A} o found transform polygons given paths places t p q h =
+    subst (λ z. IfSome places (λ text. IsPlaceText o.transform o.polygons found z text.items)) q
+    (subst (λ z. IfSome places (λ text. IsPlaceText o.transform z found given text.items)) p
+    (subst (λ z. IfSome places (λ text. IsPlaceText z polygons found given text.items)) t h))

@@ -1,0 +1,7 @@
+use Rattle.std.proofs.Common.{◌≡◌, map, take}
+use Rattle.topo_reader.specs.Uses.{feature_positions}
+use Rattle.mend_report.proofs.walks.copied.Given as goal
+
+-- the copy so far
+abbrev pub invariant-loop-polygons : goal.invariant-loop-polygons
+invariant-loop-polygons g l = map feature_positions l.copy.items ≡ map feature_positions (take l.polygons-index l.features)

@@ -1,0 +1,4 @@
+pub mod Report
+pub mod Looking
+pub mod Remaking
+pub mod Status

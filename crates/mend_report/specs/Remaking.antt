@@ -1,0 +1,62 @@
+-- What mending the bytes of a map comes to.
+use Rattle.std.specs.Prelude.{◌≡◌, ℕ, List, ◌++◌, Option, Some, Vec, IfSome}
+use Rattle.ring_machine.specs.Document.{Document}
+use Rattle.ring_machine.specs.Planar.{Proper}
+use Rattle.ring_machine.specs.Ring.{canonical}
+use Rattle.ring_machine.specs.Parts.{in_rings}
+use Rattle.topo_reader.specs.Document.{Opened}
+use Rattle.topo_reader.specs.Opening.{OpensWalks}
+use Rattle.topo_reader.specs.Reads.{ReadsWalks}
+use Rattle.walk_faults.specs.Findings.{Found}
+use Rattle.walk_faults.specs.declared.findings.Findings.{Findings}
+use Rattle.map_text.specs.Saved.{Saved}
+use Rattle.map_text.specs.Text.{text_of}
+use Rattle.area_changes.specs.Areas.{changes_from}
+use Rattle.segment_paths.specs.Seen.{paths_seen}
+use Rattle.map_mending.specs.Bounding.{MendedBy, NeedsNoMending}
+use Rattle.map_mending.specs.Mended.{Mended}
+use Rattle.map_mending.specs.Told.{Parts, polygons_of}
+use Rattle.map_saving.specs.Opens.{OpensAgain}
+use Rattle.mend_report.specs.Looking.{Looked, HasPlaces, IsEnd}
+use Rattle.mend_report.specs.Report.{mended_report}
+use Rattle.mend_report.specs.declared.remaking.Remade.{Remade}
+use Rattle.mend_report.specs.declared.report.RepairFault.{RepairFault}
+use Rattle.mend_report.specs.declared.report.RepairFault.TheVariants.{Look, Remake}
+
+-- a document of walks is mended by these paths to a proper one, which is the same where that needs no
+-- mending; what was taken apart is told, and how areas change, and the text keeps the document and
+-- opens as it
+pub record IsRemade {A : Type 0} (d : Document) (remade : Remade A) : Type 0 where
+  pub document : Document
+  pub mended : Mended (paths_seen remade.paths.items) d document
+  pub by : MendedBy d (paths_seen remade.paths.items)
+  pub parts : Parts (paths_seen remade.paths.items) d document remade.parted.items
+  pub areas : remade.areas.items
+      ≡ changes_from (paths_seen remade.paths.items) 0 (polygons_of d) (polygons_of document)
+  pub stays : NeedsNoMending d → document ≡ in_rings canonical d
+  pub proper : Proper document
+  pub text : remade.text.items ≡ text_of document
+  pub saved : Saved remade.text.items document
+  pub opens : OpensAgain remade.text.items document
+
+-- the bytes mean a document of walks, and that is mended
+abbrev pub Remakes : {A : Type 0} → List ℕ → Remade A → Type 0
+Remakes bytes remade = (d : Document) × ReadsWalks bytes d × IsRemade d remade
+
+-- the report has all that is found in the map that the bytes are, and what was done about it
+abbrev pub TellsMending : {A : Type 0} → ℕ → List ℕ → Remade A → List ℕ → List ℕ → Type 0
+TellsMending {A} most bytes remade before after =
+    (o : Opened) × (found : Findings A) × OpensWalks bytes o × Found o.polygons found
+    × (after ≡ before ++ mended_report most found (paths_seen remade.paths.items) remade.parted.items
+    remade.areas.items)
+
+-- the places, where they are asked for, are those of all that is found in the map, and the paths
+abbrev pub PlacesMending : {A : Type 0} → List ℕ → Remade A → Option (Vec ℕ A) → Type 0
+PlacesMending {A} bytes remade places =
+    IfSome places (λ text. (found : Findings A) × Looked bytes found
+    × HasPlaces bytes found (Some (paths_seen remade.paths.items)) text.items)
+
+-- why a map is not mended: where it was not looked through, as that ends
+abbrev pub IsMendEnd : RepairFault → List ℕ → Type 0
+IsMendEnd (Look fault) bytes = IsEnd fault bytes
+IsMendEnd (Remake fault) bytes = Unit {0}

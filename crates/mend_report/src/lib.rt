@@ -1,0 +1,17 @@
+//! The report of a map: all that keeps it from opening in the editor, a fact a line, and where; and
+//! how it is mended, so that it opens. From bytes to texts: no file is known here.
+#![tactic(auto)]
+
+mod lines;
+mod looking;
+mod remaking;
+mod report;
+mod texts;
+mod walks;
+
+pub use looking::LookFault;
+pub use remaking::{Remade, RemakeFault};
+pub use report::{RepairFault, Texts, is_clear, mend_map, report_map};
+
+#[cfg(test)]
+mod tests;

@@ -1,0 +1,349 @@
+//! The report of what keeps a map from opening.
+ghost use Rattle.std.specs.Prelude.{◌≡◌, ◌↔◌, ◌++◌, [], length, map, take, flat_map, is_some, Ok, None};
+ghost use Rattle.std.specs.Prelude.{option_map, IfErr, IfOk, IfSome};
+ghost use Rattle.std.specs.Prelude.{OnOk};
+ghost use Rattle.topo_reader.specs.Uses.{feature_positions};
+ghost use Rattle.walk_faults.specs.Findings.{Found};
+ghost use Rattle.place_text.specs.Text.{IsPlaceText};
+ghost use Rattle.mend_report.specs.Report.{short_line, repeat_line, touch_line, crossing_line};
+ghost use Rattle.mend_report.specs.Report.{is_clear, opens_line, report_of, findings_text};
+ghost use Rattle.mend_report.specs.Report.{path_line, parts_line, area_line, mended_report};
+ghost use Rattle.mend_report.specs.Remaking.{Remakes, TellsMending, PlacesMending, IsMendEnd};
+ghost use Rattle.segment_paths.specs.Seen.{paths_seen};
+ghost use Rattle.mend_report.specs.Looking.{Looked, HasPlaces, MapOpens, IsEnd};
+ghost use Rattle.mend_report.specs.Status.{status_of};
+
+use crate::lines::{
+    FindingCounts, push_all_counts, push_area, push_counts, push_crossing, push_parts, push_path,
+    push_repeat, push_short, push_touch,
+};
+use crate::looking::{LookFault, Seen, look};
+use crate::remaking::{Remade, RemakeFault, remake};
+use crate::walks::Walks;
+use area_changes::AreaChange;
+use map_mending::Parted;
+use place_text::text_of_places;
+use segment_paths::SegmentPath;
+use std::alloc::{AllocError, Allocator, Global};
+use topo_outline::RingAt;
+use walk_faults::{Crossing, Findings, Repeat, Touch};
+
+/// The first elements of a list, at most so many.
+fn first<T>(list: &[T], most: usize) -> &[T]
+    ensures { result.now ≡ take most list.now }
+{
+    list.get(..most).unwrap_or(list)
+}
+
+/// Appends a line for each ring of fewer than three positions.
+fn push_all_short<A: Allocator>(text: &mut Vec<u8, A>, rings: &[RingAt]) -> Result<(), AllocError>
+    ensures { OnOk result (text.new.items ≡ text.old.items ++ flat_map short_line rings.now) }
+{
+    for ring in rings {
+        push_short(text, *ring)?;
+    }
+    Ok(())
+}
+
+/// Appends a line for each position that a ring passes more than once.
+fn push_repeats<A: Allocator>(text: &mut Vec<u8, A>, repeats: &[Repeat]) -> Result<(), AllocError>
+    ensures { OnOk result (text.new.items ≡ text.old.items ++ flat_map repeat_line repeats.now) }
+{
+    for repeat in repeats {
+        push_repeat(text, *repeat)?;
+    }
+    Ok(())
+}
+
+/// Appends a line for each vertex on a segment.
+fn push_touches<A: Allocator>(text: &mut Vec<u8, A>, touches: &[Touch]) -> Result<(), AllocError>
+    ensures { OnOk result (text.new.items ≡ text.old.items ++ flat_map touch_line touches.now) }
+{
+    for touch in touches {
+        push_touch(text, *touch)?;
+    }
+    Ok(())
+}
+
+/// Appends a line for each pair of segments that cross.
+fn push_crossings<A: Allocator>(
+    text: &mut Vec<u8, A>,
+    crossings: &[Crossing],
+) -> Result<(), AllocError>
+    ensures { OnOk result
+        (text.new.items ≡ text.old.items ++ flat_map crossing_line crossings.now) }
+{
+    for crossing in crossings {
+        push_crossing(text, *crossing)?;
+    }
+    Ok(())
+}
+
+/// Whether nothing keeps the map from opening.
+pub fn is_clear<A: Allocator + Copy>(findings: &Findings<A>) -> bool
+    ensures { result ≡ is_clear findings.now.short.items findings.now.repeats.items
+        findings.now.touches.items findings.now.crossings.items }
+{
+    findings.short.is_empty()
+        && findings.repeats.is_empty()
+        && findings.touches.is_empty()
+        && findings.crossings.is_empty()
+}
+
+/// Appends the line of a map that opens, where it does.
+fn push_opens<A: Allocator>(text: &mut Vec<u8, A>, is_clear: bool) -> Result<(), AllocError>
+    ensures { OnOk result (text.new.items ≡ text.old.items ++ opens_line is_clear) }
+{
+    if is_clear {
+        text.extend_from_slice(b"opens\n")?;
+    }
+    Ok(())
+}
+
+/// Appends what was found, of each kind at most so many lines.
+fn push_findings<A: Allocator, B: Allocator + Copy>(
+    text: &mut Vec<u8, A>,
+    findings: &Findings<B>,
+    most: usize,
+) -> Result<(), AllocError>
+    ensures { let found = findings.now in OnOk result (text.new.items ≡ text.old.items
+        ++ findings_text most found.short.items found.repeats.items
+        found.touches.items found.crossings.items) }
+{
+    push_opens(text, is_clear(findings))?;
+    push_all_short(text, first(findings.short.as_slice(), most))?;
+    push_repeats(text, first(findings.repeats.as_slice(), most))?;
+    push_touches(text, first(findings.touches.as_slice(), most))?;
+    push_crossings(text, first(findings.crossings.as_slice(), most))?;
+    Ok(())
+}
+
+/// How many findings there are of each kind.
+fn counts_of<A: Allocator + Copy>(findings: &Findings<A>) -> FindingCounts
+    ensures { let found = findings.now in result ≡ record {
+      short = length found.short.items;
+      repeats = length found.repeats.items;
+      touches = length found.touches.items;
+      crossings = length found.crossings.items;
+    } }
+{
+    FindingCounts {
+        short: findings.short.len(),
+        repeats: findings.repeats.len(),
+        touches: findings.touches.len(),
+        crossings: findings.crossings.len(),
+    }
+}
+
+/// Appends the report of what was found, of each kind at most so many lines.
+fn push_report<A: Allocator, B: Allocator + Copy>(
+    text: &mut Vec<u8, A>,
+    findings: &Findings<B>,
+    most: usize,
+) -> Result<(), AllocError>
+    ensures { OnOk result (text.new.items ≡ text.old.items ++ report_of most findings.now) }
+{
+    push_findings(text, findings, most)?;
+    push_counts(text, counts_of(findings))?;
+    Ok(())
+}
+
+/// Appends a line for each path.
+fn push_paths<A: Allocator, B: Allocator + Copy>(
+    text: &mut Vec<u8, A>,
+    paths: &[SegmentPath<B>],
+) -> Result<(), AllocError>
+    ensures { OnOk result (text.new.items ≡ text.old.items
+        ++ flat_map path_line (paths_seen paths.now)) }
+{
+    for path in paths {
+        push_path(text, path)?;
+    }
+    Ok(())
+}
+
+/// Appends a line for each polygon that was taken apart.
+fn push_parted<A: Allocator>(text: &mut Vec<u8, A>, parted: &[Parted]) -> Result<(), AllocError>
+    ensures { OnOk result (text.new.items ≡ text.old.items ++ flat_map parts_line parted.now) }
+{
+    for polygon in parted {
+        push_parts(text, *polygon)?;
+    }
+    Ok(())
+}
+
+/// Appends a line for each feature whose area changes, or whose borders sweep over something.
+fn push_areas<A: Allocator>(text: &mut Vec<u8, A>, areas: &[AreaChange]) -> Result<(), AllocError>
+    ensures { OnOk result (text.new.items ≡ text.old.items ++ flat_map area_line areas.now) }
+{
+    for change in areas {
+        push_area(text, *change)?;
+    }
+    Ok(())
+}
+
+/// Appends the report of what was found in a map, and of what was done about it, of each kind at most
+/// so many lines.
+fn push_mended<A: Allocator, B: Allocator + Copy>(
+    text: &mut Vec<u8, A>,
+    findings: &Findings<B>,
+    remade: &Remade<B>,
+    most: usize,
+) -> Result<(), AllocError>
+    ensures { OnOk result (text.new.items ≡ text.old.items ++ mended_report most findings.now
+        (paths_seen remade.now.paths.items) remade.now.parted.items remade.now.areas.items) }
+{
+    push_findings(text, findings, most)?;
+    push_paths(text, first(remade.paths.as_slice(), most))?;
+    push_parted(text, first(remade.parted.as_slice(), most))?;
+    push_areas(text, first(remade.areas.as_slice(), most))?;
+    push_all_counts(
+        text,
+        counts_of(findings),
+        remade.paths.len(),
+        remade.parted.len(),
+        remade.areas.len(),
+    )?;
+    Ok(())
+}
+
+/// What is written of a map.
+#[derive(Drop)]
+pub struct Texts<A: Allocator + Copy = Global> {
+    /// The report.
+    pub report: Vec<u8, A>,
+    /// The places, where they are asked for.
+    pub places: Option<Vec<u8, A>>,
+}
+
+impl<A: Allocator + Copy> Texts<A> {
+    /// No report, and places where they are asked for, none of them yet.
+    pub fn new(alloc: A, with_places: bool) -> Self
+        ensures report { result.report.items ≡ [] }
+        ensures places { is_some result.places ≡ with_places }
+    {
+        Texts {
+            report: Vec::new(alloc),
+            places: if with_places {
+                Some(Vec::new(alloc))
+            } else {
+                None
+            },
+        }
+    }
+}
+
+/// Puts the places of all findings among walks into `places`, where they are asked for, and with them
+/// the paths that mend the map, if these are told.
+fn put_places<'a, A: Allocator + Copy>(
+    alloc: A,
+    walks: &Walks<'a, A>,
+    findings: &Findings<A>,
+    paths: Option<&[SegmentPath<A>]>,
+    places: &mut Option<Vec<u8, A>>,
+) -> Result<(), AllocError>
+    requires { Found (map feature_positions walks.now.polygons.items) findings.now }
+    ensures asked { OnOk result (is_some places.new ≡ is_some places.old) }
+    ensures placed { OnOk result (IfSome places.new (λ text.
+        IsPlaceText (option_map (λ t. t.now) walks.now.transform)
+        (map feature_positions walks.now.polygons.items) findings.now
+        (option_map (λ ps. paths_seen ps.now) paths.entry) text.items)) }
+{
+    if places.is_none() {
+        return Ok(());
+    }
+    let text = text_of_places(
+        alloc,
+        walks.transform,
+        walks.polygons.as_slice(),
+        findings,
+        paths,
+    )?;
+    *places = Some(text);
+    Ok(())
+}
+
+/// Looks at a map, appends the report of all that keeps it from opening to `texts.report`, of each
+/// kind at most `most` lines, and puts the places of it all into `texts.places`, where they are asked
+/// for. What is found is answered: nothing, and so the status 0, exactly where the map opens. Fails
+/// as `look` does, and then `texts` may have a part of a report.
+pub fn report_map<'a, A: Allocator + Copy>(
+    alloc: A,
+    heap: Global,
+    bytes: &'a [u8],
+    most: usize,
+    texts: &mut Texts<A>,
+) -> Result<Findings<A>, LookFault<'a>>
+    ensures looked { IfOk result (λ findings. Looked bytes.now findings) }
+    ensures opens { IfOk result (λ findings. status_of (Ok findings) ≡ 0 ↔ MapOpens bytes.now) }
+    ensures told { IfOk result (λ findings.
+        texts.new.report.items ≡ texts.old.report.items ++ report_of most findings) }
+    ensures asked { OnOk result (is_some texts.new.places ≡ is_some texts.old.places) }
+    ensures placed { IfOk result (λ findings. IfSome texts.new.places
+        (λ places. HasPlaces bytes.now findings None places.items)) }
+    ensures refused { IfErr result (λ fault. IsEnd fault bytes.now) }
+{
+    let Seen { map, findings } = match look(alloc, heap, bytes) {
+        Ok(seen) => seen,
+        Err(fault) => return Err(fault),
+    };
+    push_report(&mut texts.report, &findings, most)?;
+    let walks = Walks::of(map);
+    put_places(alloc, &walks, &findings, None, &mut texts.places)?;
+    Ok(findings)
+}
+
+/// Why a map is not mended.
+#[derive(Clone, Copy, Debug)]
+pub enum RepairFault<'a> {
+    /// It was not looked through.
+    Look(LookFault<'a>),
+    /// It was, and yet is not mended.
+    Remake(RemakeFault),
+}
+
+impl<'a> From<AllocError> for RepairFault<'a> {
+    ghost use Rattle.std.specs.Prelude.{◌≡◌};
+    ghost use Rattle.mend_report.specs.declared.looking.LookFault.TheVariants.{OutOfMemory};
+    ghost use Rattle.mend_report.specs.declared.report.RepairFault.TheVariants.{Look};
+
+    ghost from_gives = { λ _ fault. fault ≡ Look OutOfMemory };
+
+    fn from(_error: AllocError) -> RepairFault<'a> {
+        RepairFault::Look(LookFault::OutOfMemory)
+    }
+}
+
+/// Looks at a map and mends it. Appends the report of all that kept it from opening, and of what was
+/// done about it, to `texts.report`, of each kind at most `most` lines, and puts the places of what
+/// was found, and the paths, into `texts.places`, where they are asked for. Answers the paths, the polygons that were
+/// taken apart, how areas changed, and the text to be saved, which opens. Fails as `look` and `remake` do, and then
+/// `texts` may have a part of a report.
+pub fn mend_map<'a, A: Allocator + Copy>(
+    alloc: A,
+    heap: Global,
+    bytes: &'a [u8],
+    most: usize,
+    texts: &mut Texts<A>,
+) -> Result<Remade<A>, RepairFault<'a>>
+    ensures mended { IfOk result (λ remade. Remakes bytes.now remade) }
+    ensures told { IfOk result (λ remade. TellsMending most bytes.now remade
+        texts.old.report.items texts.new.report.items) }
+    ensures asked { OnOk result (is_some texts.new.places ≡ is_some texts.old.places) }
+    ensures placed { IfOk result (λ remade. PlacesMending bytes.now remade texts.new.places) }
+    ensures refused { IfErr result (λ fault. IsMendEnd fault bytes.now) }
+{
+    let Seen { map, findings } = match look(alloc, heap, bytes) {
+        Ok(seen) => seen,
+        Err(fault) => return Err(RepairFault::Look(fault)),
+    };
+    let walks = Walks::copied(alloc, &map)?;
+    let remade = match remake(alloc, heap, map, walks.polygons.as_slice()) {
+        Ok(remade) => remade,
+        Err(fault) => return Err(RepairFault::Remake(fault)),
+    };
+    let paths = remade.paths.as_slice();
+    put_places(alloc, &walks, &findings, Some(paths), &mut texts.places)?;
+    push_mended(&mut texts.report, &findings, &remade, most)?;
+    Ok(remade)
+}

@@ -1,0 +1,4 @@
+//! What is reported of small maps, also as they are mended, and the faults of texts that can't be read.
+mod faults;
+mod mended;
+mod rows;

@@ -1,0 +1,23 @@
+use Rattle.std.proofs.Common.{arith, sym, ap, ◌∙◌, ◌++◌, map}
+use Rattle.std.proofs.lemmas.List.{take_all}
+use Rattle.map_text.specs.Text.{arc_text, comma_if}
+use Rattle.segment_paths.specs.Seen.{path_seen, paths_seen}
+use Rattle.place_text.specs.Sides.{way}
+use Rattle.place_text.specs.Text.{behind_if}
+use Rattle.place_text.proofs.Ways.{way_step, nothing_behind}
+use Rattle.place_text.proofs.topology.push_way_arcs.Goals as goal
+
+pub loop-index-init : goal.loop-index-init
+loop-index-init g c = sym (nothing_behind c.args.more c.args.text.now.items)
+
+pub loop-index-preserved : goal.loop-index-preserved
+loop-index-preserved g c =
+    way_step c.args.more (arc_text c.args.delta) way path_seen c.args.paths.now c.loop-index.index c.index-paths-index.result
+    c.loop-index-test.true c.index-paths-index.is
+    c.args.text.now.items c.loop-index.text.items c.push_comma.new.text.items c.push_way.new.text.items
+    c.loop-index.invariant (c.in_ok-push_comma.ensures ∙ ap (λ b. c.loop-index.text.items ++ comma_if b) c.follows.ensures) c.in_ok-push_way.ensures
+
+pub returns : goal.returns
+returns g c =
+    c.loop-index.invariant
+    ∙ ap (λ z. c.args.text.now.items ++ behind_if c.args.more (map (arc_text c.args.delta) (map way (paths_seen z)))) (take_all c.loop-index.index c.args.paths.now (omega arith))
