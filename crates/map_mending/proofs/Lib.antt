@@ -4,4 +4,6 @@ pub mod Features
 pub mod Whole
 pub mod Settling
 pub mod Stays
+pub mod Kept
+pub mod Failing
 mod Examples

@@ -81,7 +81,7 @@ module _ (paths : List Path) (o : Opened) (mended : List Polygons) (told : List 
       ∙ e ∙ sym (layers_count mended o.layers)
 
   -- the document after it has as many positions as its polygons
-  mended_size : length o.polygons ≡ length (leaves o.layers)
+  pub mended_size : length o.polygons ≡ length (leaves o.layers)
       → size (document_of (with_mended o mended)) ≡ sum_by (sum_by (sum_by length)) mended
   mended_size e =
       ap (λ (rs : List (List Position)). sum_by length rs)

@@ -2,3 +2,5 @@ pub mod Mended
 pub mod Bounding
 pub mod Told
 pub mod Seen
+pub mod Laws
+pub mod Faults

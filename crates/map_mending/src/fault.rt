@@ -50,6 +50,11 @@ impl<T: Drop> From<AllocFailed<T>> for MendFault {
 }
 
 impl From<PathFault> for MendFault {
+    ghost use Rattle.std.specs.Prelude.{◌≡◌};
+    ghost use Rattle.map_mending.specs.Faults.{without_paths};
+
+    ghost from_gives = { λ fault e. e ≡ without_paths fault };
+
     fn from(fault: PathFault) -> MendFault {
         match fault {
             PathFault::TooMany => MendFault::TooLarge,

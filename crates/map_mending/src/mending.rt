@@ -1,12 +1,13 @@
 // From a map of walks to one of rings.
-ghost use Rattle.std.specs.Prelude.{◌≡◌, map, IfOk};
-ghost use Rattle.std.specs.FinSet as set;
+ghost use Rattle.std.specs.Prelude.{◌≡◌, map, IfErr, IfOk};
 ghost use Rattle.ring_machine.specs.Parts.{in_rings};
 ghost use Rattle.ring_machine.specs.Ring.{canonical};
 ghost use Rattle.segment_paths.specs.Seen.{paths_seen};
 ghost use Rattle.topo_reader.specs.Document.{document_of, IsOfRings, IsOfWalks};
 ghost use Rattle.topo_reader.specs.DocumentView.{view_raw};
 ghost use Rattle.map_mending.specs.Bounding.{MendedBy, NeedsNoMending};
+ghost use Rattle.map_mending.specs.Faults.{IsMendFault};
+ghost use Rattle.map_mending.specs.Laws.{VerticesStay, AllStayNear};
 ghost use Rattle.map_mending.specs.Mended.{Mended};
 ghost use Rattle.map_mending.specs.Told.{Parts};
 
@@ -33,7 +34,8 @@ pub struct Mending<'a, A: Allocator + Copy = Global> {
     pub parted: Vec<Parted, A>,
 }
 
-/// The map with its rings mended. It was read with walks in their place, and the index is empty.
+/// The map with its rings mended. It was read with walks in their place. The index is to be empty:
+/// over another one conflicts may be missed.
 ///
 /// The segments that bound its polygons get paths where they conflict, each walk is led along them,
 /// and of a polygon whose walks are then not all rings the segments that stand in it an odd number of
@@ -42,15 +44,15 @@ pub struct Mending<'a, A: Allocator + Copy = Global> {
 /// where its rings begin.
 ///
 /// Whether the segments of the mended map conflict is not tested here. Fails with `TooLarge` where
-/// its rings, or the paths, would have more than 4,000,000 positions, with `Unmended` and `Unparted`
-/// where no paths or no rings were found, and for want of memory.
+/// its rings, or the paths, would have more than 4,000,000 positions, with `Unmended` where paths were
+/// found under which two segments still conflict, with `Unparted` where no rings were found for a
+/// polygon that bounds something, and for want of memory.
 pub fn mend<'a, I: SegIndex, A: Allocator + Copy>(
     alloc: A,
     index: I,
     raw: RawDoc<'a, A>,
 ) -> Result<Mending<'a, A>, MendFault>
-    requires walks { IsOfWalks (view_raw raw) }
-    requires empty { I.held index ≡ set.empty }
+    requires { IsOfWalks (view_raw raw) }
     ensures rings { IfOk result (λ mending. IsOfRings (view_raw mending.map)) }
     ensures mended { IfOk result (λ mending. Mended (paths_seen mending.paths.items)
         (document_of (view_raw raw.entry)) (document_of (view_raw mending.map))) }
@@ -62,6 +64,11 @@ pub fn mend<'a, I: SegIndex, A: Allocator + Copy>(
     ensures stays { IfOk result (λ mending. NeedsNoMending (document_of (view_raw raw.entry))
         → document_of (view_raw mending.map)
         ≡ in_rings canonical (document_of (view_raw raw.entry))) }
+    ensures vertices { IfOk result (λ mending. VerticesStay (paths_seen mending.paths.items)
+        (document_of (view_raw raw.entry)) (document_of (view_raw mending.map))) }
+    ensures near { IfOk result (λ mending. AllStayNear (paths_seen mending.paths.items)
+        (document_of (view_raw raw.entry)) (document_of (view_raw mending.map))) }
+    ensures fault { IfErr result (IsMendFault (document_of (view_raw raw.entry))) }
 {
     let segments = bounding_segments(alloc, raw.polygons.as_slice())?;
     let paths = find_paths(alloc, index, segments.as_slice(), MAX_POSITIONS)?;

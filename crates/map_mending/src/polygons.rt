@@ -1,5 +1,5 @@
 // Polygon by polygon: its walks are led along the paths, and then it stays or is taken apart.
-ghost use Rattle.std.specs.Prelude.{◌≡◌, [], ◌∷◌, ◌++◌, map, if◌then◌else◌, IfOk, OnOk};
+ghost use Rattle.std.specs.Prelude.{◌≡◌, [], ◌∷◌, ◌++◌, map, if◌then◌else◌, IfErr, IfOk, OnOk};
 ghost use Rattle.std.specs.List.{list_all};
 ghost use Rattle.std.specs.List.Sorted.{IsStrictlySortedBy};
 ghost use Rattle.grid_geometry.specs.Segment.{segment_cmp};
@@ -7,6 +7,8 @@ ghost use Rattle.segment_paths.specs.Seen.{paths_seen};
 ghost use Rattle.topo_reader.specs.Document.{is_simple};
 ghost use Rattle.topo_reader.specs.Uses.{positions_of, polygon_positions, feature_positions};
 ghost use Rattle.walk_mending.specs.Laid.{laid};
+ghost use Rattle.walk_mending.specs.Mended.{AreApart, OnlyIfApart};
+ghost use Rattle.map_mending.specs.Faults.{AreUnparted, AreUnpartedIn, OnlyUnparted};
 ghost use Rattle.map_mending.specs.Mended.{MendsPolygon};
 ghost use Rattle.map_mending.specs.Seen.{StandsFor};
 ghost use Rattle.map_mending.specs.Told.{TellsParted};
@@ -56,6 +58,8 @@ fn mended_at<A: Allocator + Copy>(
         (map positions_of walks.now) (map polygon_positions found.polygons.items)) }
     ensures stays { IfOk result (λ found. found.stays
         ≡ list_all is_simple (map (laid (paths_seen paths.now)) (map positions_of walks.now))) }
+    ensures fault { IfErr result (OnlyIfApart
+        (AreApart (map (laid (paths_seen paths.now)) (map positions_of walks.now)))) }
 {
     let laid = laid_walks(alloc, paths, walks)?;
     let polygons = mended_polygon(alloc, laid.as_slice())?;
@@ -87,9 +91,11 @@ fn mended_feature<A: Allocator + Copy>(
     parted: &mut Vec<Parted, A>,
 ) -> Result<Polygons<A>, MendFault>
     requires { IsStrictlySortedBy segment_cmp (map (λ p. p.0) (paths_seen paths.now)) }
-    ensures { IfOk result (λ found. StandsFor (paths_seen paths.now) feature
+    ensures stands { IfOk result (λ found. StandsFor (paths_seen paths.now) feature
         (map polygon_positions polygons.now) (map polygon_positions found.items)
         parted.old.items parted.new.items) }
+    ensures fault { IfErr result (OnlyUnparted (λ n k. (n ≡ feature)
+        × AreUnpartedIn (paths_seen paths.now) (map polygon_positions polygons.now) k)) }
 {
     let mut found = Vec::new(alloc);
     for (polygon, walks) in polygons.iter().enumerate() {
@@ -116,9 +122,11 @@ pub(crate) fn mended_features<A: Allocator + Copy>(
     features: &[Polygons<A>],
 ) -> Result<(Vec<Polygons<A>, A>, Vec<Parted, A>), MendFault>
     requires { IsStrictlySortedBy segment_cmp (map (λ p. p.0) (paths_seen paths.now)) }
-    ensures { IfOk result (λ found. TellsParted (paths_seen paths.now)
+    ensures tells { IfOk result (λ found. TellsParted (paths_seen paths.now)
         (map feature_positions features.now) (map feature_positions found.0.items)
         found.1.items) }
+    ensures fault { IfErr result (OnlyUnparted
+        (AreUnparted (paths_seen paths.now) (map feature_positions features.now))) }
 {
     let mut found = Vec::new(alloc);
     let mut parted = Vec::new(alloc);

@@ -1,12 +1,11 @@
 -- Paths that grow: a position more at the end of one, and a path more after the others.
-use Rattle.std.proofs.Common.{◌≡◌, ◌≤◌, ◌<◌, ◌+◌, ℕ, zero, suc, ℤ, ◌<ℤ◌, Bool, true, false, ◌&&◌, refl, sym, ap, subst, ◌∙◌, List, [], ◌∷◌, ◌++◌, map, length, get_or, Contains, arith, cond, ◌||◌, ◌==◌}
+use Rattle.std.proofs.Common.{◌≡◌, ◌≤◌, ◌<◌, ℕ, zero, suc, ℤ, ◌<ℤ◌, Bool, true, false, ◌&&◌, refl, sym, ap, subst, ◌∙◌, List, [], ◌∷◌, ◌++◌, map, length, get_or, Contains, arith, cond, ◌||◌, ◌==◌}
 use Rattle.std.specs.List.{All, list_all}
 use Rattle.std.specs.List.Sorted.{IsStrictlySortedBy}
 use Rattle.std.specs.Ordering.{int_cmp}
 use Rattle.std.proofs.lemmas.Bool.{false≢true}
 use Rattle.std.proofs.lemmas.List.{map-append}
 use Rattle.std.proofs.lemmas.List.Folds.{list_all-append}
-use Rattle.std.proofs.lemmas.List.Sums.{sum_by_push}
 use Rattle.std.proofs.lemmas.List.Elements.{All-push, All-same, All-nil, All-tail}
 use Rattle.std.specs.Ordering.{is_gt, is_lt}
 use Rattle.std.specs.declared.cmp.Ordering.{Ordering}
@@ -17,7 +16,7 @@ use Rattle.grid_geometry.proofs.Conflicts.{position_eq-same}
 use Rattle.ring_machine.proofs.Order.{or_right}
 use Rattle.segment_index.proofs.Singles.{segment_total}
 use Rattle.snap_geometry.specs.Near.{is_near, along}
-use Rattle.segment_paths.specs.Paths.{Path, IsWay, IsKnown, vertex, ArePaths, segments_of, inner_positions}
+use Rattle.segment_paths.specs.Paths.{Path, IsWay, IsKnown, vertex, ArePaths, segments_of, links_of}
 use Rattle.segment_paths.specs.Seen.{path_seen, paths_seen}
 use Rattle.segment_paths.specs.declared.path.SegmentPath.{SegmentPath}
 use Rattle.segment_paths.specs.declared.ways.Ways.{Ways}
@@ -77,17 +76,15 @@ paths_push ss ps s inner h sorted there way known = record {
   known = All-push (λ (p : Path). All (IsKnown ss) p.1) ps (s, inner) h.known known;
 }
 
-pub inner_push : (ps : List Path) (s : Segment) (inner : List Position) → inner_positions (ps ++ (s, inner) ∷ []) ≡ inner_positions ps + length inner
-inner_push ps s inner = sum_by_push (λ (p : Path). length p.1) ps (s, inner)
-
 -- ---- pieces
 
-pub link_known : (ss : List Segment) (owner : Segment) (from to : Position) (link : Segment) → Contains ss owner → IsKnown ss from → IsKnown ss to
-    → link ≡ segment from to → IsPiece ss (record { link = link; owner = owner })
-link_known ss owner from to link there k l e = record {
+pub link_known : (ss : List Segment) (paths : List Path) (owner : Segment) (from to : Position) (link : Segment) → Contains ss owner → IsKnown ss from → IsKnown ss to
+    → Contains (links_of paths owner) (segment from to) → link ≡ segment from to → IsPiece ss paths (record { link = link; owner = owner })
+link_known ss paths owner from to link there k l has e = record {
   among = there;
   lesser = subst (λ s. IsKnown ss s.lo) (sym e) (ends.0);
   greater = subst (λ s. IsKnown ss s.hi) (sym e) (ends.1);
+  has_it = subst (Contains (links_of paths owner)) (sym e) has;
 }
   where
     pick : (b : Bool) (u v : Segment) → IsKnown ss u.lo × IsKnown ss u.hi → IsKnown ss v.lo × IsKnown ss v.hi
@@ -98,11 +95,19 @@ link_known ss owner from to link there k l e = record {
     ends : IsKnown ss (segment from to).lo × IsKnown ss (segment from to).hi
     ends = pick (is_gt (position_cmp from to)) (record { lo = to; hi = from }) (record { lo = from; hi = to }) (l, k) (k, l)
 
-pub whole_known : (ss : List Segment) (s : Segment) → Contains ss s → IsPiece ss (record { link = s; owner = s })
-whole_known ss s there = record {
+pub lo_known : (ss : List Segment) (s : Segment) → Contains ss s → IsKnown ss s.lo
+lo_known ss s there = vertex there (ap (λ b. b || position_eq s.lo s.hi) (position_eq-same s.lo))
+
+pub hi_known : (ss : List Segment) (s : Segment) → Contains ss s → IsKnown ss s.hi
+hi_known ss s there = vertex there (or_right (position_eq s.hi s.lo) (position_eq s.hi s.hi) (position_eq-same s.hi))
+
+pub whole_known : (ss : List Segment) (paths : List Path) (s : Segment) → Contains ss s → Contains (links_of paths s) s
+    → IsPiece ss paths (record { link = s; owner = s })
+whole_known ss paths s there alone = record {
   among = there;
-  lesser = vertex there (ap (λ b. b || position_eq s.lo s.hi) (position_eq-same s.lo));
-  greater = vertex there (or_right (position_eq s.hi s.lo) (position_eq s.hi s.hi) (position_eq-same s.hi));
+  lesser = lo_known ss s there;
+  greater = hi_known ss s there;
+  has_it = alone;
 }
 
 -- ---- no path at all
@@ -116,8 +121,7 @@ ways_none ss ways stops paths links given = record {
   segments = given;
   stops = nothing (IsStop ss) ways.stops.items stops;
   paths = subst (λ ps. ArePaths ss (paths_seen ps)) (sym paths) (no_paths ss);
-  few = subst (λ ps. inner_positions (paths_seen ps) ≤ length ways.stops.items) (sym paths) (omega arith);
-  links = nothing (IsPiece ss) ways.links.items links;
+  links = nothing (IsPiece ss (paths_seen ways.paths.items)) ways.links.items links;
 }
 
 -- ---- a path after the others
@@ -174,9 +178,3 @@ pub at_place_seen : {X Y : Type 0} (P : Y → Type 0) (f : X → Y) (xs : List X
 at_place_seen P f [] i x h l e = absurd (omega arith)
 at_place_seen P f (y ∷ ys) zero x h l e = subst (λ z. P (f z)) (sym e) (h 0 (f x) (omega arith))
 at_place_seen P f (y ∷ ys) (suc i) x h l e = at_place_seen P f ys i x (All-tail P (f y) (map f ys) h) (omega arith) e
-
-pub lo_known : (ss : List Segment) (s : Segment) → Contains ss s → IsKnown ss s.lo
-lo_known ss s there = (whole_known ss s there).lesser
-
-pub hi_known : (ss : List Segment) (s : Segment) → Contains ss s → IsKnown ss s.hi
-hi_known ss s there = (whole_known ss s there).greater

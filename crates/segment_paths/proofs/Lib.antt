@@ -1,4 +1,7 @@
 pub mod Rising
+pub mod Searched
+pub mod Linked
+pub mod Conflicting
 pub mod Led
 pub mod Gathering
 mod Examples

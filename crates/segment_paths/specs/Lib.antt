@@ -1,3 +1,4 @@
 pub mod Paths
+pub mod Faults
 pub mod Seen
 pub mod Stops

@@ -1,11 +1,13 @@
 -- Paths of segments: what is put between their ends.
-use Rattle.std.specs.Prelude.{ℕ, List, [], ◌∷◌, ◌++◌, map, length, Contains, IsTrue}
+use Rattle.std.specs.Prelude.{ℕ, List, [], ◌∷◌, ◌++◌, map, length, Contains, IsTrue, if◌then◌else◌}
 use Rattle.std.specs.List.{All, list_all, sum_by}
 use Rattle.std.specs.List.Sorted.{IsStrictlySortedBy}
 use Rattle.std.specs.Ordering.{int_cmp}
 use Rattle.grid_geometry.specs.Position.{Position}
-use Rattle.grid_geometry.specs.Segment.{Segment, segment_cmp, is_end}
+use Rattle.grid_geometry.specs.Segment.{Segment, segment_cmp, segment_eq, is_end}
 use Rattle.grid_geometry.specs.Conflict.{cross}
+use Rattle.grid_geometry.specs.Ring.{links}
+use Rattle.ring_machine.specs.Ring.{segment_of}
 use Rattle.snap_geometry.specs.Near.{is_near, along}
 use Rattle.snap_geometry.specs.Crossing.{IsRoundedCrossing}
 
@@ -39,3 +41,13 @@ pub record ArePaths (ss : List Segment) (paths : List Path) : Type 0 where
 -- how many positions are put in
 abbrev pub inner_positions : List Path → ℕ
 inner_positions paths = sum_by (λ p. length p.1) paths
+
+-- the positions between the ends of a segment on its path; none where it has none
+abbrev pub inner_of : List Path → Segment → List Position
+inner_of [] s = []
+inner_of (p ∷ ps) s = if segment_eq s p.0 then p.1 else inner_of ps s
+
+-- the links of a segment: from its lesser end over the positions of its path to the greater one,
+-- from each to the next
+abbrev pub links_of : List Path → Segment → List Segment
+links_of paths s = map segment_of (links (s.lo ∷ inner_of paths s ++ s.hi ∷ []))

@@ -19,6 +19,11 @@ pub enum PathFault {
 }
 
 impl From<AllocError> for PathFault {
+    ghost use Rattle.std.specs.Prelude.{◌≡◌};
+    ghost use Rattle.segment_paths.specs.declared.fault.PathFault.TheVariants.{OutOfMemory};
+
+    ghost from_gives = { λ _ e. e ≡ OutOfMemory };
+
     fn from(_e: AllocError) -> PathFault {
         PathFault::OutOfMemory
     }

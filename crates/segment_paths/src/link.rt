@@ -1,10 +1,11 @@
 // Links of paths.
 ghost use Rattle.std.specs.Prelude.{◌≡◌, ◌≤◌, [], List, Contains, IfOk, OnOk, length};
 ghost use Rattle.std.specs.List.{All};
-ghost use Rattle.grid_geometry.specs.Segment.{Segment};
-ghost use Rattle.segment_paths.specs.Paths.{IsKnown, ArePaths};
+ghost use Rattle.grid_geometry.specs.Segment.{Segment, segment};
+ghost use Rattle.segment_paths.specs.Paths as spec;
+ghost use Rattle.segment_paths.specs.Paths.{Path, IsKnown, ArePaths};
 ghost use Rattle.segment_paths.specs.Seen.{paths_seen};
-ghost use Rattle.segment_paths.specs.Stops.{IsPiece};
+ghost use Rattle.segment_paths.specs.Stops.{IsPiece, IsOf};
 
 use crate::path::SegmentPath;
 use grid_geometry::{Pos, Seg};
@@ -33,9 +34,10 @@ fn push_link<A: Allocator + Copy>(
     from: Pos,
     to: Pos,
 ) -> Result<(), AllocError>
-    ensures { OnOk result ((ss : List Segment) → All (IsPiece ss) links.old.items
-        → Contains ss owner → IsKnown ss from → IsKnown ss to
-        → All (IsPiece ss) links.new.items) }
+    ensures { OnOk result ((ss : List Segment) (paths : List Path)
+        → All (IsPiece ss paths) links.old.items → Contains ss owner → IsKnown ss from
+        → IsKnown ss to → Contains (spec.links_of paths owner) (segment from to)
+        → All (IsPiece ss paths) links.new.items) }
 {
     if let Some(link) = Seg::new(from, to) {
         links.push(Piece { link, owner })?;
@@ -49,8 +51,9 @@ fn push_links<A: Allocator + Copy>(
     owner: Seg,
     inner: &[Pos],
 ) -> Result<(), AllocError>
-    ensures { OnOk result ((ss : List Segment) → All (IsPiece ss) links.old.items
-        → Contains ss owner → All (IsKnown ss) inner.now → All (IsPiece ss) links.new.items) }
+    ensures { OnOk result ((ss : List Segment) (paths : List Path)
+        → All (IsPiece ss paths) links.old.items → Contains ss owner → All (IsKnown ss) inner.now
+        → spec.inner_of paths owner ≡ inner.now → All (IsPiece ss paths) links.new.items) }
 {
     let mut from = owner.lo;
     for to in inner {
@@ -67,7 +70,7 @@ pub(crate) fn links_of<A: Allocator + Copy>(
     paths: &[SegmentPath<A>],
 ) -> Result<Vec<Piece, A>, AllocError>
     ensures { IfOk result (λ links. (ss : List Segment) → ArePaths ss (paths_seen paths.now)
-        → All (IsPiece ss) links.items) }
+        → All (IsPiece ss (paths_seen paths.now)) links.items) }
 {
     let mut links = Vec::new(alloc);
     for path in paths {
@@ -90,8 +93,10 @@ fn push_run<A: Allocator + Copy>(
     pieces: &[Piece],
     link: Seg,
 ) -> Result<(), AllocError>
-    ensures kept { OnOk result ((ss : List Segment) → All (IsPiece ss) found.old.items
-        → All (IsPiece ss) pieces.now → All (IsPiece ss) found.new.items) }
+    ensures kept { OnOk result ((ss : List Segment) (paths : List Path)
+        → All (IsPiece ss paths) found.old.items → All (IsPiece ss paths) pieces.now
+        → All (IsPiece ss paths) found.new.items) }
+    ensures same { OnOk result (All (IsOf link) found.old.items → All (IsOf link) found.new.items) }
     ensures none { OnOk result (pieces.now ≡ [] → found.new.items ≡ found.old.items) }
 {
     for piece in pieces {
@@ -109,8 +114,10 @@ pub(crate) fn push_pieces<A: Allocator + Copy>(
     links: &[Piece],
     link: Seg,
 ) -> Result<(), AllocError>
-    ensures kept { OnOk result ((ss : List Segment) → All (IsPiece ss) found.old.items
-        → All (IsPiece ss) links.now → All (IsPiece ss) found.new.items) }
+    ensures kept { OnOk result ((ss : List Segment) (paths : List Path)
+        → All (IsPiece ss paths) found.old.items → All (IsPiece ss paths) links.now
+        → All (IsPiece ss paths) found.new.items) }
+    ensures same { OnOk result (All (IsOf link) found.old.items → All (IsOf link) found.new.items) }
     ensures none { OnOk result (links.now ≡ [] → found.new.items ≡ found.old.items) }
 {
     let (_, run) = links.split_at(begin_of(links, link));

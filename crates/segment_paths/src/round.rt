@@ -1,16 +1,17 @@
 // A round of the search: what is put in where links conflict.
-ghost use Rattle.std.specs.Prelude.{◌≡◌, [], List, IsTrue, None, IfOk, OnOk, length};
+ghost use Rattle.std.specs.Prelude.{◌≡◌, ◌⊎◌, [], List, IsTrue, None, IfErr, IfOk, OnOk, length};
 ghost use Rattle.std.specs.List.{All};
 ghost use Rattle.grid_geometry.specs.Segment.{Segment};
 ghost use Rattle.grid_geometry.specs.Conflict as geometry;
 ghost use Rattle.ring_machine.specs.Planar.{least_conflict};
-ghost use Rattle.segment_paths.specs.Paths.{IsKnown};
-ghost use Rattle.segment_paths.specs.Stops.{IsStop, IsPiece, AreWays};
+ghost use Rattle.segment_paths.specs.Faults.{IsPathFault};
+ghost use Rattle.segment_paths.specs.Paths.{Path, IsKnown};
+ghost use Rattle.segment_paths.specs.Stops.{IsStop, IsPiece, AreOwners, AreWays, IsPair};
 
 use crate::fault::PathFault;
 use crate::link::{Piece, comes_between};
 use crate::stop::{Stop, push_stop, sort_stops};
-use crate::ways::Ways;
+use crate::ways::{Ways, paths_of, room_after};
 use grid_geometry::{Pos, Seg, conflict, cross};
 use segment_index::SegIndex;
 use snap_geometry::{meets_square, rounded_crossing};
@@ -31,8 +32,9 @@ fn join_end<A: Allocator + Copy>(
     piece: &Piece,
     end: Pos,
 ) -> Result<bool, AllocError>
-    ensures { OnOk result ((ss : List Segment) → All (IsStop ss) stops.old.items
-        → IsPiece ss piece.now → IsKnown ss end → All (IsStop ss) stops.new.items) }
+    ensures { OnOk result ((ss : List Segment) (paths : List Path)
+        → All (IsStop ss) stops.old.items → IsPiece ss paths piece.now → IsKnown ss end
+        → All (IsStop ss) stops.new.items) }
 {
     if !comes_between(piece, end) || !meets_square(piece.owner, end) {
         return Ok(false);
@@ -47,8 +49,9 @@ fn join_ends<A: Allocator + Copy>(
     piece: &Piece,
     other: &Piece,
 ) -> Result<bool, AllocError>
-    ensures { OnOk result ((ss : List Segment) → All (IsStop ss) stops.old.items
-        → IsPiece ss piece.now → IsPiece ss other.now → All (IsStop ss) stops.new.items) }
+    ensures { OnOk result ((ss : List Segment) (paths : List Path)
+        → All (IsStop ss) stops.old.items → IsPiece ss paths piece.now
+        → IsPiece ss paths other.now → All (IsStop ss) stops.new.items) }
 {
     let lesser = join_end(stops, piece, other.link.lo)?;
     let greater = join_end(stops, piece, other.link.hi)?;
@@ -62,8 +65,9 @@ fn join_crossing<A: Allocator + Copy>(
     piece: &Piece,
     crossing: Pos,
 ) -> Result<(), AllocError>
-    ensures { OnOk result ((ss : List Segment) → All (IsStop ss) stops.old.items
-        → IsPiece ss piece.now → IsKnown ss crossing → All (IsStop ss) stops.new.items) }
+    ensures { OnOk result ((ss : List Segment) (paths : List Path)
+        → All (IsStop ss) stops.old.items → IsPiece ss paths piece.now → IsKnown ss crossing
+        → All (IsStop ss) stops.new.items) }
 {
     if comes_between(piece, crossing) {
         push_stop(stops, piece.owner, crossing)?;
@@ -78,8 +82,9 @@ fn part<A: Allocator + Copy>(
     one: &Piece,
     other: &Piece,
 ) -> Result<(), AllocError>
-    ensures { OnOk result ((ss : List Segment) → All (IsStop ss) stops.old.items
-        → IsPiece ss one.now → IsPiece ss other.now → All (IsStop ss) stops.new.items) }
+    ensures { OnOk result ((ss : List Segment) (paths : List Path)
+        → All (IsStop ss) stops.old.items → IsPiece ss paths one.now → IsPiece ss paths other.now
+        → All (IsStop ss) stops.new.items) }
 {
     let ends = join_ends(stops, one, other)?;
     let others = join_ends(stops, other, one)?;
@@ -97,8 +102,9 @@ fn part_from_each<A: Allocator + Copy>(
     one: &Piece,
     others: &[Piece],
 ) -> Result<(), AllocError>
-    ensures { OnOk result ((ss : List Segment) → All (IsStop ss) stops.old.items
-        → IsPiece ss one.now → All (IsPiece ss) others.now → All (IsStop ss) stops.new.items) }
+    ensures { OnOk result ((ss : List Segment) (paths : List Path)
+        → All (IsStop ss) stops.old.items → IsPiece ss paths one.now
+        → All (IsPiece ss paths) others.now → All (IsStop ss) stops.new.items) }
 {
     for other in others {
         part(stops, one, other)?;
@@ -112,9 +118,9 @@ fn part_all<A: Allocator + Copy>(
     ones: &[Piece],
     others: &[Piece],
 ) -> Result<(), AllocError>
-    ensures { OnOk result ((ss : List Segment) → All (IsStop ss) stops.old.items
-        → All (IsPiece ss) ones.now → All (IsPiece ss) others.now
-        → All (IsStop ss) stops.new.items) }
+    ensures { OnOk result ((ss : List Segment) (paths : List Path)
+        → All (IsStop ss) stops.old.items → All (IsPiece ss paths) ones.now
+        → All (IsPiece ss paths) others.now → All (IsStop ss) stops.new.items) }
 {
     for one in ones {
         part_from_each(stops, one, others)?;
@@ -127,6 +133,7 @@ fn part_all<A: Allocator + Copy>(
 fn owners_of(old: Option<(Seg, Seg)>, ones: &[Piece], others: &[Piece]) -> Option<(Seg, Seg)>
     ensures one { length ones.now ≡ 0 → result ≡ old }
     ensures other { length others.now ≡ 0 → result ≡ old }
+    ensures owners { (result ≡ old) ⊎ AreOwners ones.now others.now result }
 {
     match (ones.first(), others.first()) {
         (Some(one), Some(other)) => Some((one.owner, other.owner)),
@@ -148,6 +155,8 @@ impl<A: Allocator + Copy> Round<A> {
             → All (IsStop ss) self.old.stops.items → All (IsStop ss) self.new.stops.items) }
         ensures needed { OnOk result (ways.now.links.items ≡ [] → self.old.conflict ≡ None
             → least_conflict ways.now.segments.now ≡ None → self.new.conflict ≡ None) }
+        ensures conflict { OnOk result ((ss : List Segment) → AreWays ss ways.now
+            → IsPair ss ways.now self.old.conflict → IsPair ss ways.now self.new.conflict) }
     {
         let ones = ways.pieces_of(alloc, one)?;
         let others = ways.pieces_of(alloc, other)?;
@@ -168,6 +177,8 @@ impl<A: Allocator + Copy> Round<A> {
             → All (IsStop ss) self.old.stops.items → All (IsStop ss) self.new.stops.items) }
         ensures needed { OnOk result (ways.now.links.items ≡ [] → self.old.conflict ≡ None
             → least_conflict ways.now.segments.now ≡ None → self.new.conflict ≡ None) }
+        ensures conflict { OnOk result ((ss : List Segment) → AreWays ss ways.now
+            → IsPair ss ways.now self.old.conflict → IsPair ss ways.now self.new.conflict) }
     {
         for other in near {
             if conflict(link, *other) {
@@ -177,20 +188,23 @@ impl<A: Allocator + Copy> Round<A> {
         Ok(())
     }
 
-    /// Sorts the stops, where there are many; fails where there are more than `most`.
-    fn keep_few(&mut self, most: usize) -> Result<(), PathFault>
+    /// Sorts the stops, where there are many; fails where paths over them alone put in more than
+    /// `most` positions.
+    fn keep_few(&mut self, alloc: A, most: usize) -> Result<(), PathFault>
         ensures stops { OnOk result ((ss : List Segment) → All (IsStop ss) self.old.stops.items
             → All (IsStop ss) self.new.stops.items) }
         ensures conflict { OnOk result (self.new.conflict ≡ self.old.conflict) }
+        ensures fault { IfErr result (λ fault. (ss : List Segment)
+            → All (IsStop ss) self.old.stops.items → IsPathFault ss most fault) }
     {
         if self.stops.len() / 4 <= most {
             return Ok(());
         }
         sort_stops(&mut self.stops);
-        if self.stops.len() <= most {
-            Ok(())
-        } else {
-            Err(PathFault::TooMany)
+        let paths = paths_of(alloc, self.stops.as_slice())?;
+        match room_after(paths.as_slice(), most) {
+            Some(_) => Ok(()),
+            None => Err(PathFault::TooMany),
         }
     }
 }
@@ -209,6 +223,10 @@ pub(crate) fn play<I: SegIndex, A: Allocator + Copy>(
         → All (IsStop ss) round.stops.items) }
     ensures needed { IfOk result (λ round. ways.now.links.items ≡ []
         → least_conflict ways.now.segments.now ≡ None → round.conflict ≡ None) }
+    ensures conflict { IfOk result (λ round. (ss : List Segment) → AreWays ss ways.now
+        → IsPair ss ways.now round.conflict) }
+    ensures fault { IfErr result (λ fault. (ss : List Segment) → AreWays ss ways.now
+        → IsPathFault ss most fault) }
 {
     let mut round = Round {
         stops: Vec::new(alloc),
@@ -222,7 +240,7 @@ pub(crate) fn play<I: SegIndex, A: Allocator + Copy>(
         if !near.contains(link) {
             index.add(*link)?;
         }
-        round.keep_few(most)?;
+        round.keep_few(alloc, most)?;
     }
     Ok(round)
 }

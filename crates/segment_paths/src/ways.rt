@@ -1,14 +1,15 @@
 // The paths so far.
-ghost use Rattle.std.specs.Prelude.{◌≡◌, ◌≤◌, ◌<◌, ◌+◌, [], List, Contains, IsTrue, IfOk, OnOk};
-ghost use Rattle.std.specs.Prelude.{length, ◌++◌, ◌∷◌, ◌<ℤ◌};
+ghost use Rattle.std.specs.Prelude.{◌≡◌, ◌≤◌, ◌<◌, ◌+◌, [], List, Contains, IsTrue, IsFalse, IfOk, OnOk};
+ghost use Rattle.std.specs.Prelude.{length, ◌++◌, ◌∷◌, ◌<ℤ◌, MatchOption};
 ghost use Rattle.std.specs.List.Sorted.{IsStrictlySortedBy};
 ghost use Rattle.std.specs.List.{All};
 ghost use Rattle.grid_geometry.specs.Segment.{Segment, segment_cmp, segment_lt};
 ghost use Rattle.snap_geometry.specs.Near.{is_near, along};
+ghost use Rattle.segment_paths.specs.Paths as spec;
 ghost use Rattle.segment_paths.specs.Paths.{IsKnown, IsWay, ArePaths, segments_of};
 ghost use Rattle.segment_paths.specs.Paths.{inner_positions};
 ghost use Rattle.segment_paths.specs.Seen.{paths_seen};
-ghost use Rattle.segment_paths.specs.Stops.{IsStop, IsPiece, AreWays};
+ghost use Rattle.segment_paths.specs.Stops.{IsStop, IsPiece, IsOf, AreWays};
 
 use crate::link::{Piece, links_of, push_pieces};
 use crate::path::SegmentPath;
@@ -54,7 +55,6 @@ fn inner_of<A: Allocator + Copy>(
     ensures way { IfOk result (λ inner. 0 < length inner.items → IsWay segment inner.items) }
     ensures known { IfOk result (λ inner. (ss : List Segment) → All (IsStop ss) stops.now
         → All (IsKnown ss) inner.items) }
-    ensures few { IfOk result (λ inner. length inner.items ≤ length stops.now) }
 {
     let mut inner = Vec::new(alloc);
     let mut last = segment.lo;
@@ -93,11 +93,9 @@ fn push_path<A: Allocator + Copy>(
     segment: Seg,
     inner: Vec<Pos, A>,
 ) -> Result<(), AllocError>
-    ensures kept { OnOk result ((ss : List Segment) → ArePaths ss (paths_seen paths.old.items)
+    ensures { OnOk result ((ss : List Segment) → ArePaths ss (paths_seen paths.old.items)
         → Contains ss segment → (0 < length inner.items → IsWay segment inner.items)
         → All (IsKnown ss) inner.items → ArePaths ss (paths_seen paths.new.items)) }
-    ensures few { OnOk result (inner_positions (paths_seen paths.new.items)
-        ≤ inner_positions (paths_seen paths.old.items) + length inner.items) }
 {
     if !inner.is_empty() && is_past(paths.as_slice(), segment) {
         paths.push(SegmentPath { segment, inner })?;
@@ -120,14 +118,12 @@ fn run_of(stops: &[Stop]) -> usize
 }
 
 /// The paths over sorted stops.
-fn paths_of<A: Allocator + Copy>(
+pub(crate) fn paths_of<A: Allocator + Copy>(
     alloc: A,
     stops: &[Stop],
 ) -> Result<Vec<SegmentPath<A>, A>, AllocError>
-    ensures paths { IfOk result (λ paths. (ss : List Segment) → All (IsStop ss) stops.now
+    ensures { IfOk result (λ paths. (ss : List Segment) → All (IsStop ss) stops.now
         → ArePaths ss (paths_seen paths.items)) }
-    ensures few { IfOk result
-        (λ paths. inner_positions (paths_seen paths.items) ≤ length stops.now) }
 {
     let mut paths = Vec::new(alloc);
     let mut rest = stops;
@@ -139,6 +135,21 @@ fn paths_of<A: Allocator + Copy>(
         rest = others;
     }
     Ok(paths)
+}
+
+/// The room that paths leave, where they put in no more than so many positions.
+pub(crate) fn room_after<A: Allocator + Copy>(
+    paths: &[SegmentPath<A>],
+    most: usize,
+) -> Option<usize>
+    ensures { MatchOption result (most < inner_positions (paths_seen paths.now))
+        (λ room. room + inner_positions (paths_seen paths.now) ≡ most) }
+{
+    let mut room = most;
+    for path in paths {
+        room = room.checked_sub(path.inner.len())?;
+    }
+    Some(room)
 }
 
 impl<'s, A: Allocator + Copy> Ways<'s, A> {
@@ -173,18 +184,24 @@ impl<'s, A: Allocator + Copy> Ways<'s, A> {
         })
     }
 
-    /// Whether something is put into the segment.
-    fn is_bent(&self, segment: Seg) -> bool {
-        let place = self.paths.partition_point(|path| path.segment < segment);
-        match self.paths.get(place) {
-            Some(path) => path.segment == segment,
-            None => false,
-        }
+    /// Whether something is put into the segment: else it is its own link.
+    fn is_bent(&self, segment: Seg) -> bool
+        ensures { IsFalse result
+            → IsStrictlySortedBy segment_cmp (segments_of (paths_seen self.now.paths.items))
+            → Contains (spec.links_of (paths_seen self.now.paths.items) segment) segment }
+    {
+        let ends = (segment.lo, segment.hi);
+        self.paths
+            .binary_search_by_key(&ends, |path| (path.segment.lo, path.segment.hi))
+            .is_ok()
     }
 
     /// Whether it is one of the segments, and nothing is put into it: then it is its own link.
     fn is_whole(&self, link: Seg) -> bool
-        ensures { IsTrue result → Contains self.now.segments.now link }
+        ensures among { IsTrue result → Contains self.now.segments.now link }
+        ensures alone { IsTrue result
+            → IsStrictlySortedBy segment_cmp (segments_of (paths_seen self.now.paths.items))
+            → Contains (spec.links_of (paths_seen self.now.paths.items) link) link }
     {
         match self.segments.binary_search(&link) {
             Ok(_) => !self.is_bent(link),
@@ -195,7 +212,8 @@ impl<'s, A: Allocator + Copy> Ways<'s, A> {
     /// The pieces of a link: one for each segment whose path has it.
     pub(crate) fn pieces_of(&self, alloc: A, link: Seg) -> Result<Vec<Piece, A>, AllocError>
         ensures pieces { IfOk result (λ found. (ss : List Segment) → AreWays ss self.now
-            → All (IsPiece ss) found.items) }
+            → All (IsPiece ss (paths_seen self.now.paths.items)) found.items) }
+        ensures same { IfOk result (λ found. All (IsOf link) found.items) }
         ensures whole { IfOk result (λ found. self.now.links.items ≡ [] → 0 < length found.items
             → Contains self.now.segments.now link) }
     {

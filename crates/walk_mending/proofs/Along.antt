@@ -10,8 +10,8 @@ use Rattle.grid_geometry.specs.Segment.{Segment, segment}
 use Rattle.grid_geometry.specs.Ring.{Edge}
 use Rattle.grid_geometry.proofs.Conflicts.{position_cmp-exact}
 use Rattle.ring_machine.proofs.Edges.{edges_to, edges_is}
-use Rattle.segment_paths.specs.Paths.{Path}
-use Rattle.walk_mending.specs.Laid.{inner_of, edge_along, laid, KeepsInOrder, ends, kept, between}
+use Rattle.segment_paths.specs.Paths.{Path, inner_of}
+use Rattle.walk_mending.specs.Laid.{edge_along, laid, KeepsInOrder, ends, kept, between}
 
 abbrev pub from_to : Position → Position → Segment
 from_to a b = record { lo = a; hi = b }

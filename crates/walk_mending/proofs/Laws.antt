@@ -32,7 +32,7 @@ keeps_round paths walk =
     (k.0, k.1, subst (KeepsInOrder walk) k.2 (laid_keeps paths walk), k.3)
 
 -- a segment that stands in walks some times is one of theirs, and its ends are positions of one
-ends_there : (walks : List (List Position)) (s : Segment) → nat_lt 0 (times_in walks s) ≡ true
+pub ends_there : (walks : List (List Position)) (s : Segment) → nat_lt 0 (times_in walks s) ≡ true
     → (walk : List Position) × In walk walks × In s.lo walk × In s.hi walk
 ends_there walks s h =
     let among = any_counted (segment_eq s) (flat_map walk_segments walks) ∙ h in
@@ -44,7 +44,7 @@ is_one : (rings : List (List Position)) (ring : List Position) (p : Position) �
     → list_any (λ r. has r p) rings ≡ true
 is_one rings ring p i j = in_any (λ r. has r p) ring rings i (in-has p ring j)
 
-odd_some : (n : ℕ) → is_odd n ≡ true → nat_lt 0 n ≡ true
+pub odd_some : (n : ℕ) → is_odd n ≡ true → nat_lt 0 n ≡ true
 odd_some n h = grind (arith, nat_tests)
 
 turned_has : (walk : List Position) (p : Position) → In p walk → In p (canonical walk)
@@ -67,11 +67,11 @@ odd_ends walks parts (parted h are) s odd =
 
 -- ---- results
 
--- that the rings do not fit may be said of walks that are not all rings
-pub fault_if : {T : Type 0} (P : Type 0) → P → (r : Result T PartFault) → IfErr r (OnlyIfApart P)
-fault_if P p (Ok x) = tt
-fault_if P p (Err Unparted) = p
-fault_if P p (Err OutOfMemory) = tt
+-- that the rings do not fit is said where more holds
+pub fault_if : {T : Type 0} (P Q : Type 0) → (P → Q) → (r : Result T PartFault) → IfErr r (OnlyIfApart P) → IfErr r (OnlyIfApart Q)
+fault_if P Q f (Ok x) h = tt
+fault_if P Q f (Err Unparted) h = f h
+fault_if P Q f (Err OutOfMemory) h = tt
 
 pub mended_if : {X E : Type 0} (walks : List (List Position)) (seen : X → List (List (List Position))) (r : Result X E) → list_all is_simple walks ≡ false
     → IfOk r (λ x. ArePartsOf walks (seen x)) → IfOk r (λ x. IsMended walks (seen x))

@@ -1,4 +1,3 @@
-pub mod Searched
 pub mod Along
 pub mod Cancelling
 pub mod Bounds

@@ -1,10 +1,11 @@
 -- Polygons as parts of one: their rings, and each odd segment once.
-use Rattle.std.proofs.Common.{◌≡◌, ◌<◌, ◌+◌, ℕ, Bool, true, false, refl, sym, ap, ◌∙◌, subst, cond, List, [], ◌∷◌, ◌++◌, map, take, get_or, length, ◌&&◌, ◌||◌, arith}
+use Rattle.std.proofs.Common.{◌≡◌, ◌<◌, ◌+◌, ℕ, zero, suc, ◌==◌, Bool, true, false, refl, sym, ap, ◌∙◌, subst, cond, List, [], ◌∷◌, ◌++◌, map, take, get_or, length, ◌&&◌, ◌||◌, arith}
 use Rattle.std.specs.Bool.{Decides}
 use Rattle.std.specs.List.{flat_map, list_all}
 use Rattle.std.specs.List.Sorted.{IsPermutation, IsStrictlySortedBy}
 use Rattle.std.specs.declared.cmp.Ordering.TheVariants.{Less}
 use Rattle.std.proofs.lemmas.Bool.{and_parts, and_from}
+use Rattle.std.proofs.lemmas.Bool.Decides.{nat_tests}
 use Rattle.std.proofs.lemmas.List.{append-nil}
 use Rattle.std.proofs.lemmas.List.Concat.{flat_map-append}
 use Rattle.std.proofs.lemmas.List.Folds.{list_all-append}
@@ -19,7 +20,7 @@ use Rattle.ring_parts.proofs.Lists as lists
 use Rattle.walk_faults.proofs.Ascending.{not_less}
 use Rattle.walk_faults.specs.Findings.{walk_segments}
 use Rattle.walk_mending.specs.Odd.{is_among, is_odd_in}
-use Rattle.walk_mending.specs.Mended.{all_rings, has_ring, ArePartsOf}
+use Rattle.walk_mending.specs.Mended.{all_rings, has_ring, ArePartsOf, HasOdd}
 use Rattle.walk_mending.proofs.Cancelling.{times, among-in, segment_eq-refl}
 use Rattle.walk_mending.proofs.Bounds.{as_often}
 
@@ -84,3 +85,28 @@ part_more seen xs i x before after l e h k =
 -- segments are equal exactly where the test says so
 pub segment_decides : (s t : Segment) → Decides (segment_eq s t) (s ≡ t)
 segment_decides s t = (segment_eq-true s t, λ e. ap (segment_eq s) (sym e) ∙ segment_eq-refl s)
+
+-- ---- where no segment bounds
+
+not_none : (n : ℕ) → (suc n == 0) ≡ true → ⊥
+not_none n e = grind (arith, nat_tests)
+
+pub none_left : (ss : List Segment) (n : ℕ) (b : Bool) → n ≡ length ss → b ≡ (n == 0) → b ≡ true → ss ≡ []
+none_left [] n b l e h = refl
+none_left (s ∷ ss) zero b l e h = absurd (omega (arith, l))
+none_left (s ∷ ss) (suc n) b l e h = absurd (not_none n (sym e ∙ h))
+
+pub no_parts : (walks : List (List Position)) (parts : List (List (List Position))) (odd : List Segment) → odd ≡ [] → ((s : Segment) → is_among odd s ≡ is_odd_in walks s)
+    → parts ≡ [] → ArePartsOf walks parts
+no_parts walks parts odd none is e =
+    subst (ArePartsOf walks) (sym e)
+    (record {
+      rings = refl;
+      filled = refl;
+      odd = λ s. ap (λ b. cond {A = ℕ} b 1 0) (ap (λ ss. is_among ss s) (sym none) ∙ is s);
+    })
+
+-- the first of those that stand an odd number of times
+pub some_odd : (walks : List (List Position)) (odd : List Segment) → 0 < length odd → ((s : Segment) → is_among odd s ≡ is_odd_in walks s) → HasOdd walks
+some_odd walks [] l is = absurd (omega (arith, l))
+some_odd walks (s ∷ ss) l is = (s, sym (is s) ∙ ap (λ b. b || is_among ss s) (segment_eq-refl s))

@@ -2,15 +2,9 @@
 use Rattle.std.specs.Prelude.{List, [], ◌∷◌, reverse, if◌then◌else◌}
 use Rattle.std.specs.List.{flat_map}
 use Rattle.grid_geometry.specs.Position.{Position, position_lt}
-use Rattle.grid_geometry.specs.Segment.{Segment, segment_eq}
 use Rattle.grid_geometry.specs.Ring.{Edge, edges}
 use Rattle.ring_machine.specs.Ring.{segment_of}
-use Rattle.segment_paths.specs.Paths.{Path}
-
--- the positions between the ends of a segment on its path; none where it has none
-abbrev pub inner_of : List Path → Segment → List Position
-inner_of [] s = []
-inner_of (p ∷ ps) s = if segment_eq s p.0 then p.1 else inner_of ps s
+use Rattle.segment_paths.specs.Paths.{Path, inner_of}
 
 -- from the edge's begin up to its end, which is left out, along the path of its segment
 abbrev pub edge_along : List Path → Edge → List Position

@@ -41,6 +41,14 @@ abbrev pub KeepsOddEnds : List (List Position) → List (List (List Position)) �
 KeepsOddEnds walks parts = (s : Segment) → IsTrue (is_odd_in walks s)
     → IsTrue (is_position_of parts s.lo) × IsTrue (is_position_of parts s.hi)
 
+-- some segment stands an odd number of times in the walks
+abbrev pub HasOdd : List (List Position) → Type 0
+HasOdd walks = (s : Segment) × IsTrue (is_odd_in walks s)
+
+-- not all walks are rings, and yet they bound something
+abbrev pub AreApart : List (List Position) → Type 0
+AreApart walks = IsFalse (list_all is_simple walks) × HasOdd walks
+
 -- that the rings do not fit is said only where this holds
 abbrev pub OnlyIfApart : Type 0 → PartFault → Type 0
 OnlyIfApart Apart Unparted = Apart

@@ -3,7 +3,7 @@ ghost use Rattle.std.specs.Prelude.{◌≡◌, ◌++◌, map, reverse, IfOk, OnO
 ghost use Rattle.std.specs.List.Sorted.{IsStrictlySortedBy};
 ghost use Rattle.grid_geometry.specs.Segment.{segment_cmp};
 ghost use Rattle.segment_paths.specs.Seen.{path_seen};
-ghost use Rattle.walk_mending.specs.Laid as spec;
+ghost use Rattle.segment_paths.specs.Paths as spec;
 ghost use Rattle.walk_mending.specs.Laid.{edge_along, laid, KeepsInOrder};
 
 use grid_geometry::Pos;

@@ -1,10 +1,9 @@
 // A polygon of walks, mended.
-ghost use Rattle.std.specs.Prelude.{◌≡◌, ◌∷◌, [], map, IfOk, IfErr, IsFalse};
-ghost use Rattle.std.specs.List.{list_all};
+ghost use Rattle.std.specs.Prelude.{◌≡◌, ◌∷◌, [], map, IfOk, IfErr};
 ghost use Rattle.ring_machine.specs.Ring as machine;
-ghost use Rattle.topo_reader.specs.Document.{is_simple};
 ghost use Rattle.walk_faults.specs.Seen.{rings_seen, polygons_seen};
-ghost use Rattle.walk_mending.specs.Mended.{ArePartsOf, IsMended, KeepsOddEnds, OnlyIfApart};
+ghost use Rattle.walk_mending.specs.Mended.{ArePartsOf, IsMended, KeepsOddEnds};
+ghost use Rattle.walk_mending.specs.Mended.{HasOdd, AreApart, OnlyIfApart};
 
 use crate::odd::odd_segments;
 use crate::parts::{all_filled, have_exactly};
@@ -68,10 +67,14 @@ fn parted<A: Allocator + Copy>(
     alloc: A,
     walks: &[Vec<Pos, A>],
 ) -> Result<Vec<Vec<Vec<Pos, A>, A>, A>, PartFault>
-    ensures { IfOk result
+    ensures parts { IfOk result
         (λ parts. ArePartsOf (rings_seen walks.now) (polygons_seen parts.items)) }
+    ensures fault { IfErr result (OnlyIfApart (HasOdd (rings_seen walks.now))) }
 {
     let odd = odd_segments(alloc, walks)?;
+    if odd.is_empty() {
+        return Ok(Vec::new(alloc));
+    }
     let parts = find_parts(alloc, walks, odd.as_slice())?;
     let filled = all_filled(alloc, parts.as_slice())?;
     let exact = have_exactly(alloc, parts.as_slice(), odd.as_slice())?;
@@ -86,7 +89,7 @@ fn parted<A: Allocator + Copy>(
 /// begun at its least position. Where all walks are rings, it is the polygon itself; else there may
 /// be any number of polygons, none where no segment bounds anything. A ring that was there and
 /// stays keeps its direction; other outer rings turn as the first walk did, and holes the other
-/// way. Fails with `Unparted` only where some walk is no ring.
+/// way. Fails with `Unparted` only where some walk is no ring, and some segment bounds.
 pub fn mended_polygon<A: Allocator + Copy>(
     alloc: A,
     walks: &[Vec<Pos, A>],
@@ -95,8 +98,7 @@ pub fn mended_polygon<A: Allocator + Copy>(
         (λ parts. IsMended (rings_seen walks.now) (polygons_seen parts.items)) }
     ensures ends { IfOk result
         (λ parts. KeepsOddEnds (rings_seen walks.now) (polygons_seen parts.items)) }
-    ensures fault { IfErr result
-        (OnlyIfApart (IsFalse (list_all is_simple (rings_seen walks.now)))) }
+    ensures fault { IfErr result (OnlyIfApart (AreApart (rings_seen walks.now))) }
 {
     if all_simple(alloc, walks)? {
         Ok(whole(alloc, walks)?)

@@ -1,22 +1,25 @@
-use Rattle.std.proofs.Common.{Contains}
+use Rattle.std.proofs.Common.{Contains, sym, ◌∙◌}
 use Rattle.std.specs.List.{All}
 use Rattle.std.proofs.lemmas.List.Elements.{All-same, All-nil}
 use Rattle.std.proofs.lemmas.List.Sorted.{All-permutation}
 use Rattle.segment_paths.specs.Paths.{IsKnown}
-use Rattle.segment_paths.specs.Seen.{path_seen}
+use Rattle.segment_paths.specs.Seen.{path_seen, paths_seen}
 use Rattle.segment_paths.specs.Stops.{IsPiece}
 use Rattle.segment_paths.proofs.Led.{at_place_seen}
+use Rattle.segment_paths.proofs.Linked.{inner_at}
 use Rattle.segment_paths.proofs.link.links_of.Goals as goal
 
 pub loop-path-init : goal.loop-path-init
-loop-path-init g c ss h = All-same (IsPiece ss) _ _ c.new-links.ensures.items (All-nil (IsPiece ss))
+loop-path-init g c ss h = All-same (IsPiece ss (paths_seen c.args.paths.now)) _ _ c.new-links.ensures.items (All-nil (IsPiece ss (paths_seen c.args.paths.now)))
 
 pub loop-path-preserved : goal.loop-path-preserved
 loop-path-preserved g c ss h =
     let i = c.loop-path.path-index in
-    let there = at_place_seen (λ p. Contains ss p.0) path_seen c.args.paths.now i c.path-item.result h.among c.loop-path-test.true c.path-item.is in
-    let known = at_place_seen (λ p. All (IsKnown ss) p.1) path_seen c.args.paths.now i c.path-item.result h.known c.loop-path-test.true c.path-item.is in
-    c.in_ok-push_links.ensures ss (c.loop-path.invariant ss h) there (All-same (IsKnown ss) _ _ c.as_slice.ensures.value known)
+    let path = c.path-item.result in
+    let there = at_place_seen (λ p. Contains ss p.0) path_seen c.args.paths.now i path h.among c.loop-path-test.true c.path-item.is in
+    let known = at_place_seen (λ p. All (IsKnown ss) p.1) path_seen c.args.paths.now i path h.known c.loop-path-test.true c.path-item.is in
+    c.in_ok-push_links.ensures ss (paths_seen c.args.paths.now) (c.loop-path.invariant ss h) there (All-same (IsKnown ss) _ _ c.as_slice.ensures.value known)
+    (inner_at c.args.paths.now i path h.ascending c.loop-path-test.true c.path-item.is ∙ sym c.as_slice.ensures.value)
 
 pub returns : goal.returns
-returns g c ss h = All-permutation (IsPiece ss) _ _ c.sort_unstable.ensures.permutation (c.loop-path.invariant ss h)
+returns g c ss h = All-permutation (IsPiece ss (paths_seen c.args.paths.now)) _ _ c.sort_unstable.ensures.permutation (c.loop-path.invariant ss h)

@@ -7,4 +7,4 @@ use Rattle.segment_paths.specs.Stops.{IsPiece}
 use Rattle.segment_paths.proofs.link.links_of.Given as goal
 
 abbrev pub invariant-loop-path : goal.invariant-loop-path
-invariant-loop-path g l = (ss : List Segment) → ArePaths ss (paths_seen l.paths) → All (IsPiece ss) l.links.items
+invariant-loop-path g l = (ss : List Segment) → ArePaths ss (paths_seen l.paths) → All (IsPiece ss (paths_seen l.paths)) l.links.items

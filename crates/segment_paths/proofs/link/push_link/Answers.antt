@@ -4,6 +4,6 @@ use Rattle.segment_paths.proofs.Led.{link_known}
 use Rattle.segment_paths.proofs.link.push_link.Goals as goal
 
 pub returns-in_ok-push : goal.returns-in_ok-push
-returns-in_ok-push g c ss h there from to =
-    All-same (IsPiece ss) _ _ c.in_ok-push.ensures.items
-    (All-push (IsPiece ss) _ _ h (link_known ss c.args.owner c.args.from c.args.to c.in-Some.link there from to c.in-Some.ensures.some))
+returns-in_ok-push g c ss paths h there from to has =
+    All-same (IsPiece ss paths) _ _ c.in_ok-push.ensures.items
+    (All-push (IsPiece ss paths) _ _ h (link_known ss paths c.args.owner c.args.from c.args.to c.in-Some.link there from to has c.in-Some.ensures.some))

@@ -3,8 +3,8 @@ use Rattle.segment_paths.specs.Paths.{IsKnown, crossing}
 use Rattle.segment_paths.proofs.round.part.Goals as goal
 
 pub returns-in_ok-join_crossing-2 : goal.returns-in_ok-join_crossing-2
-returns-in_ok-join_crossing-2 g c ss h one other =
+returns-in_ok-join_crossing-2 g c ss paths h one other =
     let known : IsKnown ss c.rounded_crossing-crossing.result =
     crossing one.among other.among (sym c.cross.ensures ∙ c.if-cross.true) c.rounded_crossing-crossing.ensures in
-    let first = c.in_ok-others.ensures ss (c.in_ok-ends.ensures ss h one other) other one in
-    c.in_ok-join_crossing-2.ensures ss (c.in_ok-join_crossing.ensures ss first one known) other known
+    let first = c.in_ok-others.ensures ss paths (c.in_ok-ends.ensures ss paths h one other) other one in
+    c.in_ok-join_crossing-2.ensures ss paths (c.in_ok-join_crossing.ensures ss paths first one known) other known

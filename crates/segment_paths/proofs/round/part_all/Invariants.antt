@@ -1,9 +1,10 @@
 use Rattle.std.proofs.Common.{List}
 use Rattle.std.specs.List.{All}
 use Rattle.grid_geometry.specs.Segment.{Segment}
+use Rattle.segment_paths.specs.Paths.{Path}
 use Rattle.segment_paths.specs.Stops.{IsStop, IsPiece}
 use Rattle.segment_paths.proofs.round.part_all.Given as goal
 
 abbrev pub invariant-loop-one : goal.invariant-loop-one
 invariant-loop-one g l =
-    (ss : List Segment) → All (IsStop ss) l.initial.stops.items → All (IsPiece ss) l.ones → All (IsPiece ss) l.others → All (IsStop ss) l.stops.items
+    (ss : List Segment) (paths : List Path) → All (IsStop ss) l.initial.stops.items → All (IsPiece ss paths) l.ones → All (IsPiece ss paths) l.others → All (IsStop ss) l.stops.items

@@ -1,9 +1,11 @@
-use Rattle.std.proofs.Common.{◌∙◌, ap, sym, refl}
+use Rattle.std.proofs.Common.{List, ◌∙◌, ap, sym, subst, refl}
 use Rattle.std.specs.List.{list_any}
-use Rattle.grid_geometry.specs.Segment.{segment_eq}
+use Rattle.grid_geometry.specs.Segment.{Segment, segment_eq}
 use Rattle.std.proofs.lemmas.List.Elements.{All-same, All-nil}
 use Rattle.segment_index.specs.Times.{times_by}
-use Rattle.segment_paths.specs.Stops.{IsStop}
+use Rattle.segment_paths.specs.Faults.{IsPathFault}
+use Rattle.segment_paths.specs.Stops.{IsStop, IsPair, AreWays}
+use Rattle.segment_paths.proofs.Conflicting.{handed}
 use Rattle.segment_paths.proofs.Gathering.{not_held}
 use Rattle.segment_paths.proofs.round.play.Goals as goal
 
@@ -11,6 +13,7 @@ pub loop-link-init : goal.loop-link-init
 loop-link-init g c = record {
   stops = λ ss h. All-same (IsStop ss) _ _ c.new.ensures.items (All-nil (IsStop ss));
   needed = λ links least. refl;
+  conflict = λ ss h. tt;
 }
 
 pub loop-link-preserved : goal.loop-link-preserved
@@ -19,6 +22,7 @@ loop-link-preserved g c =
     record {
       stops = λ ss h. c.in_ok-keep_few.ensures.stops ss (c.in_ok-part_near.ensures.stops ss h (v.stops ss h));
       needed = λ links least. c.in_ok-keep_few.ensures.conflict ∙ c.in_ok-part_near.ensures.needed links (v.needed links least) least;
+      conflict = λ ss h. subst (IsPair ss c.args.ways.now) (sym c.in_ok-keep_few.ensures.conflict) (c.in_ok-part_near.ensures.conflict ss h (v.conflict ss h));
     }
 
 pub add-requires : goal.add-requires
@@ -26,3 +30,9 @@ add-requires g c =
     not_held (g.I.SegIndex.held c.loop-link.index) (times_by (g.I.SegIndex.cells c.loop-link.index)) c.rect.result c.clear.new.self.items c.candidates.new.out.items c.link-item.result
     c.clear.ensures.items c.rect.ensures c.in_ok-candidates.ensures
     (ap (λ z. list_any (λ y. segment_eq y c.link-item.result) z) (sym c.deref.ensures.value) ∙ sym c.contains.ensures.value ∙ c.if-not-contains.true)
+
+pub returns-in_err-keep_few-clause-fault : goal.returns-in_err-keep_few-clause-fault
+returns-in_err-keep_few-clause-fault g c =
+    handed (λ fault. (ss : List Segment) → AreWays ss c.args.ways.now → IsPathFault ss c.args.most fault) c.in_err-keep_few.field-0.0 c.from_residual-in_err-keep_few.result
+    c.from_residual-in_err-keep_few.ensures.1
+    (λ ss h. c.in_err-keep_few.ensures.fault ss (c.in_ok-part_near.ensures.stops ss h (c.loop-link.invariant.stops ss h)))

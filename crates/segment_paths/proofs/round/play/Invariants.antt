@@ -2,11 +2,12 @@ use Rattle.std.proofs.Common.{List, ◌≡◌, [], None}
 use Rattle.std.specs.List.{All}
 use Rattle.grid_geometry.specs.Segment.{Segment}
 use Rattle.ring_machine.specs.Planar.{least_conflict}
-use Rattle.segment_paths.specs.Stops.{IsStop, AreWays}
+use Rattle.segment_paths.specs.Stops.{IsStop, AreWays, IsPair}
 use Rattle.segment_paths.proofs.round.play.Given as goal
 
 abbrev pub invariant-loop-link : goal.invariant-loop-link
 invariant-loop-link g l = record {
   stops : (ss : List Segment) → AreWays ss l.ways → All (IsStop ss) l.round.stops.items;
   needed : l.ways.links.items ≡ [] → least_conflict l.ways.segments.now ≡ None → l.round.conflict ≡ None;
+  conflict : (ss : List Segment) → AreWays ss l.ways → IsPair ss l.ways l.round.conflict;
 }

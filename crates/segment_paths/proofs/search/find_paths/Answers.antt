@@ -1,7 +1,11 @@
-use Rattle.std.proofs.Common.{◌≡◌, None, Some, Option, length, ap, subst, sym, arith}
+use Rattle.std.proofs.Common.{◌≡◌, ◌+◌, None, Some, Option, ap, subst, sym, arith}
 use Rattle.std.proofs.lemmas.List.Elements.{All-same}
 use Rattle.ring_machine.specs.Planar.{least_conflict}
+use Rattle.segment_paths.specs.Faults.{IsPathFault}
+use Rattle.segment_paths.specs.Paths.{inner_positions}
+use Rattle.segment_paths.specs.Seen.{paths_seen}
 use Rattle.segment_paths.specs.Stops.{IsStop}
+use Rattle.segment_paths.proofs.Conflicting.{handed, has_more}
 use Rattle.segment_paths.proofs.search.find_paths.Goals as goal
 
 no_pair : {X : Type 0} (o : Option X) (x : X) → o ≡ None → o ≡ Some x → ⊥
@@ -10,9 +14,10 @@ no_pair o x h k = cc
 pub loop-round-init : goal.loop-round-init
 loop-round-init g c = record {
   ways = c.none-ways.ensures.ways;
-  few = omega (arith, ap length c.none-ways.ensures.stops);
+  room = omega (arith, ap (λ ps. inner_positions (paths_seen ps)) c.none-ways.ensures.paths);
   stops = c.in_ok-round.ensures.stops c.args.segments.now c.none-ways.ensures.ways;
   needed = λ least. (c.in_ok-round.ensures.needed c.none-ways.ensures.links (subst (λ ss. least_conflict ss ≡ None) (sym c.none-ways.ensures.ways.segments) least), c.none-ways.ensures.paths);
+  conflict = c.in_ok-round.ensures.conflict c.args.segments.now c.none-ways.ensures.ways;
 }
 
 pub loop-round-preserved : goal.loop-round-preserved
@@ -22,7 +27,28 @@ loop-round-preserved g c =
     let ways = c.in_ok-next.ensures ss v.ways (All-same (IsStop ss) _ _ c.as_slice.ensures.value v.stops) in
     record {
       ways = ways;
-      few = omega (arith, c.in_ok-next.next.stops.ok, c.len.ensures, c.if-len-most.false);
+      room = subst (λ ps. c.in-Some-room_after.left + inner_positions (paths_seen ps) ≡ c.args.most) c.as_slice-in-Some.ensures.value c.in-Some-room_after.ensures;
       stops = c.in_ok-round-2.ensures.stops ss ways;
       needed = λ least. absurd (no_pair _ _ (v.needed least).0 c.in-Some.is);
+      conflict = c.in_ok-round-2.ensures.conflict ss ways;
     }
+
+pub returns-in_err-round-clause-fault : goal.returns-in_err-round-clause-fault
+returns-in_err-round-clause-fault g c =
+    handed (IsPathFault c.args.segments.now c.args.most) c.in_err-round.field-0.0 c.from_residual.result c.from_residual.ensures.1
+    (c.in_err-round.ensures.fault c.args.segments.now c.none-ways.ensures.ways)
+
+pub returns-in_default-room_after-clause-fault : goal.returns-in_default-room_after-clause-fault
+returns-in_default-room_after-clause-fault g c =
+    let v = c.loop-round.invariant in
+    let ss = c.args.segments.now in
+    has_more ss c.args.most c.as_slice-in-Some.result.now c.in_ok-next.next.paths.items c.as_slice-in-Some.ensures.value
+    (c.in_ok-next.ensures ss v.ways (All-same (IsStop ss) _ _ c.as_slice.ensures.value v.stops)).paths
+    c.in_default-room_after.ensures
+
+pub returns-in_err-round-2-clause-fault : goal.returns-in_err-round-2-clause-fault
+returns-in_err-round-2-clause-fault g c =
+    let v = c.loop-round.invariant in
+    let ss = c.args.segments.now in
+    handed (IsPathFault ss c.args.most) c.in_err-round-2.field-0.0 c.from_residual-in_err-round-2.result c.from_residual-in_err-round-2.ensures.1
+    (c.in_err-round-2.ensures.fault ss (c.in_ok-next.ensures ss v.ways (All-same (IsStop ss) _ _ c.as_slice.ensures.value v.stops)))

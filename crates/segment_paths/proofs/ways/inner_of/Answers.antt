@@ -1,5 +1,4 @@
-use Rattle.std.proofs.Common.{◌<◌, ◌<ℤ◌, ◌∷◌, [], length, sym, ap, subst, ◌∙◌, arith}
-use Rattle.std.proofs.lemmas.List.{length-append}
+use Rattle.std.proofs.Common.{◌<◌, ◌<ℤ◌, length, sym, ap, subst, ◌∙◌, arith}
 use Rattle.std.proofs.lemmas.List.Elements.{All-same, All-nil, All-push}
 use Rattle.snap_geometry.specs.Near.{along}
 use Rattle.segment_paths.specs.Paths.{IsKnown}
@@ -13,7 +12,6 @@ loop-stop-init g c = record {
   led = subst (λ q. IsLed c.args.segment q (along c.args.segment c.segment.inside.lo)) (sym c.new-inner.ensures.items)
       (led_none c.args.segment (along c.args.segment c.segment.inside.lo) (ap (λ s. along c.args.segment s.lo) c.segment.view_is));
   known = λ ss h. All-same (IsKnown ss) _ _ c.new-inner.ensures.items (All-nil (IsKnown ss));
-  few = omega (arith, ap length c.new-inner.ensures.items);
   short = λ some. absurd (omega (arith, some, ap length c.new-inner.ensures.items));
 }
 
@@ -30,7 +28,6 @@ loop-stop-preserved g c =
             known = λ ss h.
                 All-same (IsKnown ss) _ _ items (All-push (IsKnown ss) _ _ (s.invariant.known ss h)
                 (at_place (IsStop ss) c.args.stops.now s.stop-index stop h c.loop-stop-test.true c.stop-item.is).known);
-            few = omega (arith, ap length items, length-append s.inner.items (stop.pos ∷ []), s.invariant.few);
             short = λ some. subst (λ z. along c.args.segment z <ℤ along c.args.segment c.segment.inside.hi) (sym w.last-is) (c.comes_next.ensures.before w.if-comes_next.true);
           }
       | else-comes_next w ↦
@@ -38,7 +35,6 @@ loop-stop-preserved g c =
           record {
             led = led_same c.args.segment s.inner.items c.if-comes_next.inner.items s.last c.if-comes_next.last items w.last-is s.invariant.led;
             known = λ ss h. All-same (IsKnown ss) _ _ items (s.invariant.known ss h);
-            few = omega (arith, ap length items, s.invariant.few);
             short = λ some. subst (λ z. along c.args.segment z <ℤ along c.args.segment c.segment.inside.hi) (sym w.last-is) (s.invariant.short (subst (λ q. 0 < length q) items some));
           }
     ]

@@ -1,4 +1,4 @@
-use Rattle.std.proofs.Common.{List, ◌<◌, ◌≤◌, ◌<ℤ◌, length}
+use Rattle.std.proofs.Common.{List, ◌<◌, ◌<ℤ◌, length}
 use Rattle.std.specs.List.{All}
 use Rattle.grid_geometry.specs.Segment.{Segment}
 use Rattle.snap_geometry.specs.Near.{along}
@@ -11,6 +11,5 @@ abbrev pub invariant-loop-stop : goal.invariant-loop-stop
 invariant-loop-stop g l = record {
   led : IsLed l.segment l.inner.items (along l.segment l.last);
   known : (ss : List Segment) → All (IsStop ss) l.stops → All (IsKnown ss) l.inner.items;
-  few : length l.inner.items ≤ l.stop-index;
   short : 0 < length l.inner.items → along l.segment l.last <ℤ along l.segment l.end;
 }

@@ -1,7 +1,6 @@
-use Rattle.std.proofs.Common.{◌≡◌, false, sym, ◌∙◌}
-use Rattle.std.specs.List.{list_all}
-use Rattle.topo_reader.specs.Document.{is_simple}
+use Rattle.std.proofs.Common.{sym, ◌∙◌}
 use Rattle.walk_faults.specs.Seen.{rings_seen, polygons_seen}
+use Rattle.walk_mending.specs.Mended.{HasOdd, AreApart}
 use Rattle.walk_mending.proofs.Laws.{stays_if, odd_ends, mended_if, ends_if, fault_if}
 use Rattle.walk_mending.proofs.mending.mended_polygon.Goals as goal
 
@@ -16,13 +15,14 @@ returns-in_ok-whole-clause-ends g c =
 
 pub returns-else-branch-clause-mended : goal.returns-else-branch-clause-mended
 returns-else-branch-clause-mended g c =
-    mended_if (rings_seen c.args.walks.now) (λ parts. polygons_seen parts.items) c.parted.result (sym c.in_ok-all_simple.ensures ∙ c.if-branch.false) c.parted.ensures
+    mended_if (rings_seen c.args.walks.now) (λ parts. polygons_seen parts.items) c.parted.result (sym c.in_ok-all_simple.ensures ∙ c.if-branch.false) c.parted.ensures.parts
 
 pub returns-else-branch-clause-ends : goal.returns-else-branch-clause-ends
 returns-else-branch-clause-ends g c =
     ends_if (rings_seen c.args.walks.now) (λ parts. polygons_seen parts.items) c.parted.result
-    (mended_if (rings_seen c.args.walks.now) (λ parts. polygons_seen parts.items) c.parted.result (sym c.in_ok-all_simple.ensures ∙ c.if-branch.false) c.parted.ensures)
+    (mended_if (rings_seen c.args.walks.now) (λ parts. polygons_seen parts.items) c.parted.result (sym c.in_ok-all_simple.ensures ∙ c.if-branch.false) c.parted.ensures.parts)
 
 pub returns-else-branch-clause-fault : goal.returns-else-branch-clause-fault
 returns-else-branch-clause-fault g c =
-    fault_if (list_all is_simple (rings_seen c.args.walks.now) ≡ false) (sym c.in_ok-all_simple.ensures ∙ c.if-branch.false) c.parted.result
+    fault_if (HasOdd (rings_seen c.args.walks.now)) (AreApart (rings_seen c.args.walks.now)) (λ some. (sym c.in_ok-all_simple.ensures ∙ c.if-branch.false, some)) c.parted.result
+    c.parted.ensures.fault

@@ -1,5 +1,5 @@
 use Rattle.std.proofs.Common.{◌∙◌, ◌++◌, ◌∷◌, [], ap}
-use Rattle.walk_mending.proofs.Searched.{one_ascends}
+use Rattle.segment_paths.proofs.Searched.{one_ascends}
 use Rattle.mending_trials.proofs.walks.rows.led.Goals as goal
 
 pub laid_walk-requires : goal.laid_walk-requires

@@ -1,18 +1,18 @@
-use Rattle.std.proofs.Common.{◌≤◌, length, subst, sym}
+use Rattle.std.proofs.Common.{subst, sym}
+use Rattle.std.specs.List.{All}
 use Rattle.std.proofs.lemmas.List.Elements.{All-same}
-use Rattle.segment_paths.specs.Paths.{ArePaths, inner_positions}
+use Rattle.segment_paths.specs.Paths.{ArePaths}
 use Rattle.segment_paths.specs.Seen.{paths_seen}
-use Rattle.segment_paths.specs.Stops.{IsStop}
+use Rattle.segment_paths.specs.Stops.{IsStop, IsPiece}
 use Rattle.segment_paths.proofs.ways.Ways.with.Goals as goal
 
 pub returns : goal.returns
 returns g c ss h more =
     let stops = c.in_ok-stops.ensures ss (All-same (IsStop ss) _ _ c.as_slice.ensures.value h.stops) more in
-    let paths = c.in_ok-paths.ensures.paths ss (All-same (IsStop ss) _ _ c.as_slice-2.ensures.value stops) in
+    let paths = c.in_ok-paths.ensures ss (All-same (IsStop ss) _ _ c.as_slice-2.ensures.value stops) in
     record {
       segments = h.segments;
       stops = stops;
       paths = paths;
-      few = subst (λ s. inner_positions (paths_seen c.in_ok-paths.paths.items) ≤ length s) c.as_slice-2.ensures.value c.in_ok-paths.ensures.few;
-      links = c.in_ok-links.ensures ss (subst (λ p. ArePaths ss (paths_seen p)) (sym c.as_slice-3.ensures.value) paths);
+      links = subst (λ p. All (IsPiece ss (paths_seen p)) c.in_ok-links.links.items) c.as_slice-3.ensures.value (c.in_ok-links.ensures ss (subst (λ p. ArePaths ss (paths_seen p)) (sym c.as_slice-3.ensures.value) paths));
     }

@@ -1,10 +1,11 @@
 -- A path found by a search among ascending ones.
-use Rattle.std.proofs.Common.{◌≡◌, ◌<◌, ◌+◌, ℕ, zero, suc, true, false, refl, sym, ap, ap₂, ◌∙◌, subst, cond, List, [], ◌∷◌, map, length, get_or, inl, inr, arith}
-use Rattle.std.specs.List.Sorted.{IsSortedBy, IsStrictlySortedBy, IsPartitionPoint}
+use Rattle.std.proofs.Common.{◌≡◌, ◌<◌, ◌+◌, ℕ, zero, suc, true, false, refl, sym, ap, ap₂, ◌∙◌, subst, cond, List, [], ◌∷◌, map, length, get_or, inl, inr, Result, Ok, Err, is_ok, arith}
+use Rattle.std.specs.List.Sorted.{IsSortedBy, IsStrictlySortedBy, IsPartitionPoint, IsBinarySearchResult}
 use Rattle.std.specs.Ordering.{is_lt, is_eq, ordering_index}
 use Rattle.std.specs.List.Sorted.{IsNonDecreasingBy}
 use Rattle.std.specs.declared.cmp.Ordering.{Ordering}
 use Rattle.std.specs.declared.cmp.Ordering.TheVariants.{Less, Equal, Greater}
+use Rattle.std.specs.Cmp.{tied_itself}
 use Rattle.std.proofs.lemmas.Bool.{cases_lt}
 use Rattle.std.proofs.lemmas.List.Sorted.{searchable_from_sorted}
 use Rattle.grid_geometry.specs.Position.{Position}
@@ -12,9 +13,14 @@ use Rattle.grid_geometry.specs.Segment.{Segment, segment_cmp, segment_eq}
 use Rattle.ring_machine.proofs.First.{In}
 use Rattle.ring_machine.proofs.SortedOnce.{in_recursion}
 use Rattle.segment_index.proofs.Singles.{segment_total, segment_exact, segment_eq-is}
-use Rattle.walk_faults.proofs.Ascending.{not_less}
-use Rattle.segment_paths.specs.Paths.{Path}
-use Rattle.walk_mending.specs.Laid.{inner_of}
+use Rattle.segment_paths.specs.Paths.{Path, inner_of}
+
+-- of two segments one at most is less
+not_both : (s t : Segment) → segment_cmp s t ≡ Less → segment_cmp t s ≡ Less → ⊥
+not_both s t h k = differ (sym (segment_total.trans s t s h k) ∙ tied_itself segment_total s)
+  where
+    differ : Less ≡ Equal → ⊥
+    differ e = cc
 
 -- segments that compare as equal are so by the test
 equal_is : (s t : Segment) → segment_cmp t s ≡ Equal → segment_eq s t ≡ true
@@ -68,7 +74,7 @@ module _ {X : Type 0} (key : X → Segment) (inner : X → List Position) where
   ascends (x ∷ y ∷ ys) h zero d z l = not_after (segment_cmp (key y) (key x)) refl
     where
       not_after : (o : Ordering) → segment_cmp (key y) (key x) ≡ o → is_lt o ≡ false
-      not_after Less e = absurd (not_less segment_cmp segment_total (key x) (segment_total.trans (key x) (key y) (key x) h.0.0 e))
+      not_after Less e = absurd (not_both (key x) (key y) h.0.0 e)
       not_after Equal e = refl
       not_after Greater e = refl
   ascends (x ∷ y ∷ ys) h (suc k) d z l =
@@ -86,6 +92,13 @@ module _ {X : Type 0} (key : X → Segment) (inner : X → List Position) where
         | inl b ↦ less_differs s (key (get_or xs k d)) (point.0 k d (omega arith) b)
         | inr b ↦ greater_differs s (key (get_or xs k d)) (point.1 k d b l)
       ])
+
+  -- where nothing is found there is none
+  pub none_found : (given xs : List X) (r : Result ℕ ℕ) (s : Segment) → given ≡ xs → IsStrictlySortedBy segment_cmp (keys xs) → is_ok r ≡ false
+      → IsBinarySearchResult (λ x. segment_cmp (key x) s) given r → inner_of (map seen xs) s ≡ []
+  none_found given xs (Ok i) s e h none_there k = cc
+  none_found given xs (Err i) s e h none_there k =
+      subst (λ zs. inner_of (map seen zs) s ≡ []) e (not_found given i s (subst (λ zs. IsStrictlySortedBy segment_cmp (keys zs)) (sym e) h) k)
 
   -- one path alone
   pub one_ascends : (xs : List X) (x : X) → xs ≡ x ∷ [] → IsStrictlySortedBy segment_cmp (keys xs)
