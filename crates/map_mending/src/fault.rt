@@ -7,16 +7,16 @@ use walk_mending::PartFault;
 /// Why a map is not mended.
 #[derive(Clone, Copy, Debug, PartialEq, Eq)]
 pub enum MendFault {
-    /// The mended map would have more than 4,000,000 positions.
+    /// The mended map, or what its paths put in, would have more than 4,000,000 positions.
     TooLarge,
-    /// These two segments conflict, and no position could be put into either.
+    /// These two segments still conflict along their paths, and no position parts them.
     Unmended {
         /// One of the two.
         s: Seg,
         /// The other one.
         t: Seg,
     },
-    /// The polygon was not taken apart into rings.
+    /// The polygon bounds something, and was not taken apart into rings.
     Unparted {
         /// The number of the feature, from 0 in the order of the map.
         feature: usize,

@@ -4,7 +4,7 @@ use Rattle.std.proofs.lemmas.Int.{ints}
 use Rattle.grid_geometry.specs.Position.{Position, position}
 use Rattle.grid_geometry.specs.Segment.{Segment, segment}
 use Rattle.grid_geometry.specs.Orientation.{orientation}
-use Rattle.snap_geometry.specs.Near.{is_near, along}
+use Rattle.snap_geometry.specs.Near.{is_near, is_above_falling, meets_square, along}
 use Rattle.snap_geometry.specs.Crossing.{IsRounded, IsRoundedCrossing, before, whole}
 
 abbrev at : ℕ → ℕ → Position
@@ -43,6 +43,32 @@ past_the_end = refl
 an_end : is_near (at 2 2) (seg 0 0 2 2) ≡ true
 unfolding is_near orientation
 an_end = refl
+
+-- ---- half-open squares
+
+-- more than a corner
+met : meets_square (seg 0 0 4 1) (at 2 1) ≡ true
+unfolding meets_square is_near is_above_falling orientation
+met = refl
+
+-- the lower left corner of the square around 1 1 is on the segment from 0 1 to 1 0
+lower_left : meets_square (seg 0 1 1 0) (at 1 1) ≡ true
+unfolding meets_square is_near is_above_falling orientation
+lower_left = refl
+
+-- and the upper right corner of that around 0 0, which the square is without
+upper_right : meets_square (seg 0 1 1 0) (at 0 0) ≡ false
+unfolding meets_square is_near is_above_falling orientation
+upper_right = refl
+
+-- a segment that rises touches the other two corners, which neither square has
+lower_right : meets_square (seg 0 0 1 1) (at 0 1) ≡ false
+unfolding meets_square is_near is_above_falling orientation
+lower_right = refl
+
+upper_left : meets_square (seg 0 0 1 1) (at 1 0) ≡ false
+unfolding meets_square is_near is_above_falling orientation
+upper_left = refl
 
 -- ---- along a segment
 

@@ -1,5 +1,5 @@
 // Unit squares, and distances along a segment.
-ghost use Rattle.std.specs.Prelude.{◌≡◌, ◌≤◌, ◌+◌, ◌*◌, ◌-ℤ◌, ◌+ℤ◌, ◌*ℤ◌, ◌&&◌, IsTrue};
+ghost use Rattle.std.specs.Prelude.{◌≡◌, ◌≤◌, ◌+◌, ◌*◌, ◌-ℤ◌, ◌+ℤ◌, ◌*ℤ◌, ◌&&◌};
 ghost use Rattle.std.specs.Prelude.{unsigned_abs};
 ghost use Rattle.grid_geometry.specs.Orientation.{orientation, is_in_box, is_between};
 ghost use Rattle.snap_geometry.specs.Near as spec;
@@ -50,15 +50,19 @@ pub fn is_near(q: Pos, s: Seg) -> bool
 
 /// Whether the segment meets the half-open unit square around the position: with the left and the
 /// lower side, and without the right and the upper one. These squares part the plane.
+#[tactic(auto, unfolding(crate::specs::Near::meets_square))]
 pub fn meets_square(s: Seg, q: Pos) -> bool
-    ensures { IsTrue result → IsTrue (spec.is_near q s) }
+    ensures { result ≡ spec.meets_square s q }
 {
     // a segment that only touches the square does so in a corner: it may be the lower left one
     is_near(q, s) && (2 * beside(s, q) < reach(s) as u128 || falls_below(q, s))
 }
 
 /// Whether the segment falls, and the position is above it.
-fn falls_below(q: Pos, s: Seg) -> bool {
+#[tactic(auto, unfolding(crate::specs::Near::is_above_falling))]
+fn falls_below(q: Pos, s: Seg) -> bool
+    ensures { result ≡ spec.is_above_falling q s }
+{
     s.hi.y() < s.lo.y() && 0 < orient(s.lo, s.hi, q)
 }
 

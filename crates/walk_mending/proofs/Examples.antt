@@ -159,3 +159,21 @@ begun = refl
 -- a part without a ring is none
 empty_part : list_all has_ring ([] ∷ []) ≡ false
 empty_part = refl
+
+-- ---- a border that is led along another one of its ring
+
+abbrev back_along : List Position
+back_along = at 0 0 ∷ at 10 0 ∷ at 7 0 ∷ at 3 0 ∷ at 5 8 ∷ []
+
+abbrev back_paths : List Path
+back_paths = (seg 0 0 10 0, at 3 0 ∷ at 7 0 ∷ []) ∷ []
+
+laid-back : laid back_paths back_along ≡ (at 0 0 ∷ at 3 0 ∷ at 7 0 ∷ at 10 0 ∷ at 7 0 ∷ at 3 0 ∷ at 5 8 ∷ [])
+laid-back = refl
+
+-- a segment that stood there once stands there twice then, and vanishes with its end
+back-once : is_odd_in (back_along ∷ []) (seg 7 0 10 0) ≡ true
+back-once = refl
+
+back-twice : is_odd_in (laid back_paths back_along ∷ []) (seg 7 0 10 0) ≡ false
+back-twice = refl
