@@ -17,7 +17,7 @@ abbrev pub from_to : Position → Position → Segment
 from_to a b = record { lo = a; hi = b }
 
 -- the segment of an edge that goes up, and of one that does not
-up : (a b : Position) → position_lt a b ≡ true → segment a b ≡ from_to a b
+pub up : (a b : Position) → position_lt a b ≡ true → segment a b ≡ from_to a b
 up a b h = by (position_cmp a b) h
   where
     by : (o : Ordering) → is_lt o ≡ true → cond (is_gt o) (from_to b a) (from_to a b) ≡ from_to a b
@@ -25,7 +25,7 @@ up a b h = by (position_cmp a b) h
     by Equal k = refl
     by Greater k = absurd (false≢true k)
 
-down : (a b : Position) → position_lt a b ≡ false → segment a b ≡ from_to b a
+pub down : (a b : Position) → position_lt a b ≡ false → segment a b ≡ from_to b a
 down a b h = by (position_cmp a b) refl h
   where
     by : (o : Ordering) → position_cmp a b ≡ o → is_lt o ≡ false → cond (is_gt o) (from_to b a) (from_to a b) ≡ from_to b a

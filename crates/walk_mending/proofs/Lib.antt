@@ -1,4 +1,5 @@
 pub mod Along
+pub mod Going
 pub mod Cancelling
 pub mod Bounds
 pub mod Distinct

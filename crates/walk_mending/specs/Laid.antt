@@ -1,10 +1,11 @@
 -- Walks, led along the paths of their segments.
-use Rattle.std.specs.Prelude.{List, [], ◌∷◌, reverse, if◌then◌else◌}
+use Rattle.std.specs.Prelude.{List, [], ◌∷◌, reverse, Contains, if◌then◌else◌}
 use Rattle.std.specs.List.{flat_map}
 use Rattle.grid_geometry.specs.Position.{Position, position_lt}
+use Rattle.grid_geometry.specs.Segment.{Segment}
 use Rattle.grid_geometry.specs.Ring.{Edge, edges}
-use Rattle.ring_machine.specs.Ring.{segment_of}
-use Rattle.segment_paths.specs.Paths.{Path, inner_of}
+use Rattle.ring_machine.specs.Ring.{segment_of, segments}
+use Rattle.segment_paths.specs.Paths.{Path, inner_of, links_of}
 
 -- from the edge's begin up to its end, which is left out, along the path of its segment
 abbrev pub edge_along : List Path → Edge → List Position
@@ -23,3 +24,9 @@ pub data KeepsInOrder : List Position → List Position → Type 0 where
       → KeepsInOrder ps qs → KeepsInOrder (p ∷ ps) (p ∷ qs)
   between : {q : Position} {ps qs : List Position}
       → KeepsInOrder ps qs → KeepsInOrder ps (q ∷ qs)
+
+-- each link of each segment of the walk is a segment of the other one
+abbrev pub GoesAlong : List Path → List Position → List Position → Type 0
+GoesAlong paths walk found =
+    (s link : Segment) → Contains (segments walk) s → Contains (links_of paths s) link
+    → Contains (segments found) link

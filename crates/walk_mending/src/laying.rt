@@ -4,7 +4,7 @@ ghost use Rattle.std.specs.List.Sorted.{IsStrictlySortedBy};
 ghost use Rattle.grid_geometry.specs.Segment.{segment_cmp};
 ghost use Rattle.segment_paths.specs.Seen.{path_seen};
 ghost use Rattle.segment_paths.specs.Paths as spec;
-ghost use Rattle.walk_mending.specs.Laid.{edge_along, laid, KeepsInOrder};
+ghost use Rattle.walk_mending.specs.Laid.{edge_along, laid, KeepsInOrder, GoesAlong};
 
 use grid_geometry::Pos;
 use segment_paths::SegmentPath;
@@ -65,6 +65,8 @@ pub fn laid_walk<A: Allocator + Copy>(
     requires { IsStrictlySortedBy segment_cmp (map (λ p. p.0) (map path_seen paths.now)) }
     ensures laid { IfOk result (λ found. found.items ≡ laid (map path_seen paths.now) walk.now) }
     ensures kept { IfOk result (λ found. KeepsInOrder walk.now found.items) }
+    ensures links { IfOk result (λ found.
+        GoesAlong (map path_seen paths.now) walk.now found.items) }
 {
     let mut found = Vec::new(alloc);
     let [first, rest @ ..] = walk else {

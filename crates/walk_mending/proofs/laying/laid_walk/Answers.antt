@@ -3,6 +3,7 @@ use Rattle.std.proofs.lemmas.Grind.{common_steps}
 use Rattle.segment_paths.specs.Seen.{path_seen}
 use Rattle.walk_mending.specs.Laid.{laid}
 use Rattle.walk_mending.proofs.Along.{none_keeps, keeps_if}
+use Rattle.walk_mending.proofs.Going.{none_goes, goes_if}
 use Rattle.walk_mending.proofs.laying.laid_walk.Goals as goal
 
 pub returns-in_default-clause-kept : goal.returns-in_default-clause-kept
@@ -12,3 +13,11 @@ pub returns-clause-kept : goal.returns-clause-kept
 returns-clause-kept g c =
     let is : c.push_edge-2.new.found.items ≡ laid (map path_seen c.args.paths.now) c.args.walk.now = grind (arith, common_steps) in
     keeps_if (map path_seen c.args.paths.now) c.args.walk.now c.push_edge-2.new.found.items is
+
+pub returns-in_default-clause-links : goal.returns-in_default-clause-links
+returns-in_default-clause-links g c = none_goes (map path_seen c.args.paths.now) c.args.walk.now c.new-found.result.items (omega arith)
+
+pub returns-clause-links : goal.returns-clause-links
+returns-clause-links g c =
+    let is : c.push_edge-2.new.found.items ≡ laid (map path_seen c.args.paths.now) c.args.walk.now = grind (arith, common_steps) in
+    goes_if (map path_seen c.args.paths.now) c.args.walk.now c.push_edge-2.new.found.items is
