@@ -4,3 +4,4 @@ pub mod OpeningLemmas
 pub mod PlaceLemmas
 pub mod AreaLemmas
 mod Examples
+mod FaultLemmas

@@ -1,4 +1,5 @@
 pub mod Report
 pub mod Looking
+pub mod Faults
 pub mod Remaking
 pub mod Status

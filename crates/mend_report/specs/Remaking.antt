@@ -16,7 +16,9 @@ use Rattle.segment_paths.specs.Seen.{paths_seen}
 use Rattle.map_mending.specs.Bounding.{MendedBy, NeedsNoMending}
 use Rattle.map_mending.specs.Mended.{Mended}
 use Rattle.map_mending.specs.Told.{Parts, polygons_of}
+use Rattle.map_mending.specs.Laws.{VerticesStay, AllStayNear}
 use Rattle.map_saving.specs.Opens.{OpensAgain}
+use Rattle.mend_report.specs.Faults.{IsRemakeFault}
 use Rattle.mend_report.specs.Looking.{Looked, HasPlaces, IsEnd}
 use Rattle.mend_report.specs.Report.{mended_report}
 use Rattle.mend_report.specs.declared.remaking.Remade.{Remade}
@@ -24,8 +26,8 @@ use Rattle.mend_report.specs.declared.report.RepairFault.{RepairFault}
 use Rattle.mend_report.specs.declared.report.RepairFault.TheVariants.{Look, Remake}
 
 -- a document of walks is mended by these paths to a proper one, which is the same where that needs no
--- mending; what was taken apart is told, and how areas change, and the text keeps the document and
--- opens as it
+-- mending, keeps its vertices and stays near it; what was taken apart is told, and how areas change,
+-- and the text keeps the document and opens as it
 pub record IsRemade {A : Type 0} (d : Document) (remade : Remade A) : Type 0 where
   pub document : Document
   pub mended : Mended (paths_seen remade.paths.items) d document
@@ -34,6 +36,8 @@ pub record IsRemade {A : Type 0} (d : Document) (remade : Remade A) : Type 0 whe
   pub areas : remade.areas.items
       ≡ changes_from (paths_seen remade.paths.items) 0 (polygons_of d) (polygons_of document)
   pub stays : NeedsNoMending d → document ≡ in_rings canonical d
+  pub vertices : VerticesStay (paths_seen remade.paths.items) d document
+  pub near : AllStayNear (paths_seen remade.paths.items) d document
   pub proper : Proper document
   pub text : remade.text.items ≡ text_of document
   pub saved : Saved remade.text.items document
@@ -56,7 +60,8 @@ PlacesMending {A} bytes remade places =
     IfSome places (λ text. (found : Findings A) × Looked bytes found
     × HasPlaces bytes found (Some (paths_seen remade.paths.items)) text.items)
 
--- why a map is not mended: where it was not looked through, as that ends
+-- why a map is not mended: where it was not looked through, as that ends; else as the document of
+-- walks that the bytes mean
 abbrev pub IsMendEnd : RepairFault → List ℕ → Type 0
 IsMendEnd (Look fault) bytes = IsEnd fault bytes
-IsMendEnd (Remake fault) bytes = Unit {0}
+IsMendEnd (Remake fault) bytes = (d : Document) × ReadsWalks bytes d × IsRemakeFault d fault

@@ -1,9 +1,10 @@
 //! From a map of walks to the text of the map that it is mended to.
-ghost use Rattle.std.specs.Prelude.{◌≡◌, map, IfOk};
+ghost use Rattle.std.specs.Prelude.{◌≡◌, map, IfOk, IfErr};
 ghost use Rattle.topo_reader.specs.Document.{document_of, IsOfWalks};
 ghost use Rattle.topo_reader.specs.DocumentView.{view_raw};
 ghost use Rattle.topo_reader.specs.Uses.{feature_positions};
 ghost use Rattle.mend_report.specs.Remaking.{IsRemade};
+ghost use Rattle.mend_report.specs.Faults.{IsRemakeFault};
 
 use area_changes::{AreaChange, area_changes};
 use grid_geometry::{Pos, Seg};
@@ -52,12 +53,22 @@ pub enum RemakeFault {
 }
 
 impl From<AllocError> for RemakeFault {
+    ghost use Rattle.std.specs.Prelude.{◌≡◌};
+    ghost use Rattle.mend_report.specs.declared.remaking.RemakeFault.TheVariants.{OutOfMemory};
+
+    ghost from_gives = { λ _ e. e ≡ OutOfMemory };
+
     fn from(_error: AllocError) -> RemakeFault {
         RemakeFault::OutOfMemory
     }
 }
 
 impl From<MendFault> for RemakeFault {
+    ghost use Rattle.std.specs.Prelude.{◌≡◌};
+    ghost use Rattle.mend_report.specs.Faults.{of_mending};
+
+    ghost from_gives = { λ fault e. e ≡ of_mending fault };
+
     fn from(fault: MendFault) -> RemakeFault {
         match fault {
             MendFault::TooLarge => RemakeFault::TooLarge(Limit::Positions),
@@ -69,6 +80,11 @@ impl From<MendFault> for RemakeFault {
 }
 
 impl From<SaveFault> for RemakeFault {
+    ghost use Rattle.std.specs.Prelude.{◌≡◌};
+    ghost use Rattle.mend_report.specs.Faults.{of_saving};
+
+    ghost from_gives = { λ fault e. e ≡ of_saving fault };
+
     fn from(fault: SaveFault) -> RemakeFault {
         match fault {
             SaveFault::Conflict { s, t } => RemakeFault::Unmended { s, t },
@@ -88,7 +104,8 @@ pub(crate) fn remake<'a, A: Allocator + Copy>(
 ) -> Result<Remade<A>, RemakeFault>
     requires walks { IsOfWalks (view_raw map) }
     requires same { map feature_positions polygons.now ≡ (view_raw map).polygons }
-    ensures { IfOk result (IsRemade (document_of (view_raw map.entry))) }
+    ensures remade { IfOk result (IsRemade (document_of (view_raw map.entry))) }
+    ensures fault { IfErr result (IsRemakeFault (document_of (view_raw map.entry))) }
 {
     let index = TreeIndex::new(heap, map.extent());
     let Mending { map, paths, parted } = mend(alloc, index, map)?;

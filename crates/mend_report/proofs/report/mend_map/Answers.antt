@@ -8,7 +8,7 @@ use Rattle.mend_report.proofs.report.mend_map.Goals as goal
 
 -- the document that is mended is the one that was read
 pub returns-clause-mended : goal.returns-clause-mended
-returns-clause-mended g c = (document_of (view_raw c.in-Ok.seen.map), c.in-Ok.ensures.reads, c.in-Ok-remake.ensures)
+returns-clause-mended g c = (document_of (view_raw c.in-Ok.seen.map), c.in-Ok.ensures.reads, c.in-Ok-remake.ensures.remade)
 
 pub returns-clause-told : goal.returns-clause-told
 returns-clause-told g c =
