@@ -14,9 +14,8 @@ use Rattle.grid_geometry.specs.Orientation.{orientation, is_in_box}
 use Rattle.ring_machine.proofs.Order.{and_both}
 use Rattle.ring_machine.proofs.RingSegments.{segment_eq-true}
 use Rattle.snap_geometry.specs.Near.{is_near, along}
-use Rattle.segment_paths.specs.Paths.{Path, IsWay}
+use Rattle.segment_paths.specs.Paths.{Path, IsWay, inner_of}
 use Rattle.topo_reader.proofs.Steps.{at_most}
-use Rattle.walk_mending.specs.Laid.{inner_of}
 use Rattle.area_changes.specs.Swept.{IsBeside}
 
 less : (x y : ℤ) → int_cmp x y ≡ Less → x <ℤ y

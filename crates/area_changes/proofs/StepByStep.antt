@@ -8,8 +8,7 @@ use Rattle.grid_geometry.specs.Position.{Position, position_cmp}
 use Rattle.grid_geometry.specs.Segment.{Segment}
 use Rattle.grid_geometry.specs.Ring.{Edge, links}
 use Rattle.grid_geometry.proofs.RingLemmas.{drop_item}
-use Rattle.segment_paths.specs.Paths.{Path, IsWay}
-use Rattle.walk_mending.specs.Laid.{inner_of}
+use Rattle.segment_paths.specs.Paths.{Path, IsWay, inner_of}
 use Rattle.area_changes.specs.Swept.{triangle, swept_along, swept_by, IsBeside}
 use Rattle.area_changes.proofs.Beside.{no_triangle, none_alone}
 

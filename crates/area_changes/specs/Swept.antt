@@ -7,9 +7,8 @@ use Rattle.grid_geometry.specs.Orientation.{orientation}
 use Rattle.grid_geometry.specs.Ring.{Edge, links, edges}
 use Rattle.ring_machine.specs.Ring.{segment_of}
 use Rattle.snap_geometry.specs.Near.{along}
-use Rattle.segment_paths.specs.Paths.{Path}
+use Rattle.segment_paths.specs.Paths.{Path, inner_of}
 use Rattle.topo_reader.specs.Document.{Polygons}
-use Rattle.walk_mending.specs.Laid.{inner_of}
 
 -- the triangle of a step along a path and the path's end
 abbrev pub triangle : Position → Edge → ℕ

@@ -8,7 +8,7 @@ ghost use Rattle.snap_geometry.specs.Near.{along};
 ghost use Rattle.segment_paths.specs.Paths.{IsWay, segments_of};
 ghost use Rattle.segment_paths.specs.Seen.{paths_seen};
 ghost use Rattle.topo_reader.specs.Uses.{positions_of, polygon_positions};
-ghost use Rattle.walk_mending.specs.Laid as laid;
+ghost use Rattle.segment_paths.specs.Paths as led;
 ghost use Rattle.area_changes.specs.Swept as spec;
 ghost use Rattle.area_changes.specs.Swept.{IsBeside};
 
@@ -47,7 +47,7 @@ fn swept_along(segment: Seg, inner: &[Pos]) -> u128
 /// The positions between the ends of a segment on its path; none where it has none.
 fn inner_of<A: Allocator + Copy>(paths: &[SegmentPath<A>], lo: Pos, hi: Pos) -> &[Pos]
     requires { IsStrictlySortedBy segment_cmp (segments_of (paths_seen paths.now)) }
-    ensures { result.now ≡ laid.inner_of (paths_seen paths.now) (record { lo = lo; hi = hi }) }
+    ensures { result.now ≡ led.inner_of (paths_seen paths.now) (record { lo = lo; hi = hi }) }
 {
     match paths.binary_search_by_key(&(lo, hi), |path| (path.segment.lo, path.segment.hi)) {
         Ok(place) => paths[place].inner.as_slice(),

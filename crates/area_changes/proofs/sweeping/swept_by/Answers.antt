@@ -1,8 +1,7 @@
 use Rattle.std.proofs.Common.{◌≡◌, ◌<◌, length, List, subst, sym, refl}
 use Rattle.grid_geometry.specs.Position.{Position}
-use Rattle.segment_paths.specs.Paths.{IsWay}
+use Rattle.segment_paths.specs.Paths.{IsWay, inner_of}
 use Rattle.segment_paths.specs.Seen.{paths_seen}
-use Rattle.walk_mending.specs.Laid.{inner_of}
 use Rattle.area_changes.proofs.Beside.{way_of}
 use Rattle.area_changes.specs.Swept.{swept_by}
 use Rattle.area_changes.proofs.StepByStep.{path_found, nothing_swept}
