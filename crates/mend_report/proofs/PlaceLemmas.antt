@@ -2,7 +2,6 @@
 use Rattle.std.proofs.Common.{◌≡◌, ℕ, Bool, true, sym, ap, ◌∙◌, subst, List, Option, Some, None}
 use Rattle.std.specs.Prelude.{IfSome, Vec, is_some, not}
 use Rattle.std.proofs.lemmas.Bool.{false≢true}
-use Rattle.ring_machine.specs.Document.{Text}
 use Rattle.segment_paths.specs.Paths.{Path}
 use Rattle.segment_paths.specs.Seen.{paths_seen}
 use Rattle.topo_reader.specs.Document.{Opened, Polygons}
@@ -32,10 +31,9 @@ mending_placed bytes o found remade None opens is_found h = h
 mending_placed bytes o found remade (Some text) opens is_found h = (found, (o, opens, is_found), (o, opens, h))
 
 -- what is told of walks that are those of the map is told of the map
-pub places_same : {A : Type 0} (o : Opened) (found : Findings A) (transform : Option Text) (polygons : List Polygons) (given paths : Option (List Path)) (places : Option (Vec ℕ A))
-    → transform ≡ o.transform → polygons ≡ o.polygons → given ≡ paths
-    → IfSome places (λ text. IsPlaceText transform polygons found given text.items) → IfSome places (λ text. IsPlaceText o.transform o.polygons found paths text.items)
-places_same {A = A} o found transform polygons given paths places t p q h =
+pub walks_same : {A : Type 0} (o : Opened) (found : Findings A) (walks : List Polygons) (given paths : Option (List Path)) (places : Option (Vec ℕ A))
+    → walks ≡ o.polygons → given ≡ paths
+    → IfSome places (λ text. IsPlaceText o.transform walks found given text.items) → IfSome places (λ text. IsPlaceText o.transform o.polygons found paths text.items)
+walks_same o found walks given paths places p q h =
     subst (λ z. IfSome places (λ text. IsPlaceText o.transform o.polygons found z text.items)) q
-    (subst (λ z. IfSome places (λ text. IsPlaceText o.transform z found given text.items)) p
-    (subst (λ z. IfSome places (λ text. IsPlaceText z polygons found given text.items)) t h))
+    (subst (λ z. IfSome places (λ text. IsPlaceText o.transform z found given text.items)) p h)

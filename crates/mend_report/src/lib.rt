@@ -2,12 +2,12 @@
 //! how it is mended, so that it opens. From bytes to texts: no file is known here.
 #![tactic(auto)]
 
+mod copying;
 mod lines;
 mod looking;
 mod remaking;
 mod report;
 mod texts;
-mod walks;
 
 pub use looking::LookFault;
 pub use remaking::{Remade, RemakeFault};

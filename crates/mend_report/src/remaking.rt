@@ -1,8 +1,8 @@
 //! From a map of walks to the text of the map that it is mended to.
-ghost use Rattle.std.specs.Prelude.{◌≡◌, map, IfOk, IfErr};
+ghost use Rattle.std.specs.Prelude.{◌≡◌, IfOk, IfErr};
 ghost use Rattle.topo_reader.specs.Document.{document_of, IsOfWalks};
 ghost use Rattle.topo_reader.specs.DocumentView.{view_raw};
-ghost use Rattle.topo_reader.specs.Uses.{feature_positions};
+ghost use Rattle.walk_faults.specs.Seen.{features_seen};
 ghost use Rattle.mend_report.specs.Remaking.{IsRemade};
 ghost use Rattle.mend_report.specs.Faults.{IsRemakeFault};
 
@@ -103,7 +103,7 @@ pub(crate) fn remake<'a, A: Allocator + Copy>(
     polygons: &[Vec<Vec<Vec<Pos, A>, A>, A>],
 ) -> Result<Remade<A>, RemakeFault>
     requires walks { IsOfWalks (view_raw map) }
-    requires same { map feature_positions polygons.now ≡ (view_raw map).polygons }
+    requires same { features_seen polygons.now ≡ (view_raw map).polygons }
     ensures remade { IfOk result (IsRemade (document_of (view_raw map.entry))) }
     ensures fault { IfErr result (IsRemakeFault (document_of (view_raw map.entry))) }
 {

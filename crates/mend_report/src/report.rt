@@ -1,8 +1,8 @@
 //! The report of what keeps a map from opening.
-ghost use Rattle.std.specs.Prelude.{◌≡◌, ◌↔◌, ◌++◌, [], length, map, take, flat_map, is_some, Ok, None};
+ghost use Rattle.std.specs.Prelude.{◌≡◌, ◌↔◌, ◌++◌, [], length, take, flat_map, is_some, Ok, None};
 ghost use Rattle.std.specs.Prelude.{option_map, IfErr, IfOk, IfSome};
 ghost use Rattle.std.specs.Prelude.{OnOk};
-ghost use Rattle.topo_reader.specs.Uses.{feature_positions};
+ghost use Rattle.walk_faults.specs.Seen.{features_seen};
 ghost use Rattle.walk_faults.specs.Findings.{Found};
 ghost use Rattle.place_text.specs.Text.{IsPlaceText};
 ghost use Rattle.mend_report.specs.Report.{short_line, repeat_line, touch_line, crossing_line};
@@ -13,14 +13,15 @@ ghost use Rattle.segment_paths.specs.Seen.{paths_seen};
 ghost use Rattle.mend_report.specs.Looking.{Looked, HasPlaces, MapOpens, IsEnd};
 ghost use Rattle.mend_report.specs.Status.{status_of};
 
+use crate::copying::copied;
 use crate::lines::{
     FindingCounts, push_all_counts, push_area, push_counts, push_crossing, push_parts, push_path,
     push_repeat, push_short, push_touch,
 };
 use crate::looking::{LookFault, Seen, look};
 use crate::remaking::{Remade, RemakeFault, remake};
-use crate::walks::Walks;
 use area_changes::AreaChange;
+use grid_geometry::Pos;
 use map_mending::Parted;
 use place_text::text_of_places;
 use segment_paths::SegmentPath;
@@ -233,32 +234,26 @@ impl<A: Allocator + Copy> Texts<A> {
     }
 }
 
-/// Puts the places of all findings among walks into `places`, where they are asked for, and with them
-/// the paths that mend the map, if these are told.
-fn put_places<'a, A: Allocator + Copy>(
+/// Puts the places of all findings among walks under a transform into `places`, where they are asked
+/// for, and with them the paths that mend the map, if these are told.
+fn put_places<'f, A: Allocator + Copy>(
     alloc: A,
-    walks: &Walks<'a, A>,
-    findings: &Findings<A>,
-    paths: Option<&[SegmentPath<A>]>,
+    transform: Option<&[u8]>,
+    walks: &[Vec<Vec<Vec<Pos, A>, A>, A>],
+    findings: &'f Findings<A>,
+    paths: Option<&'f [SegmentPath<A>]>,
     places: &mut Option<Vec<u8, A>>,
 ) -> Result<(), AllocError>
-    requires { Found (map feature_positions walks.now.polygons.items) findings.now }
+    requires { Found (features_seen walks.now) findings.now }
     ensures asked { OnOk result (is_some places.new ≡ is_some places.old) }
-    ensures placed { OnOk result (IfSome places.new (λ text.
-        IsPlaceText (option_map (λ t. t.now) walks.now.transform)
-        (map feature_positions walks.now.polygons.items) findings.now
-        (option_map (λ ps. paths_seen ps.now) paths.entry) text.items)) }
+    ensures placed { OnOk result (IfSome places.new
+        (λ text. IsPlaceText (option_map (λ t. t.now) transform.entry) (features_seen walks.now)
+        findings.now (option_map (λ ps. paths_seen ps.now) paths.entry) text.items)) }
 {
     if places.is_none() {
         return Ok(());
     }
-    let text = text_of_places(
-        alloc,
-        walks.transform,
-        walks.polygons.as_slice(),
-        findings,
-        paths,
-    )?;
+    let text = text_of_places(alloc, transform, walks, findings, paths)?;
     *places = Some(text);
     Ok(())
 }
@@ -288,8 +283,9 @@ pub fn report_map<'a, A: Allocator + Copy>(
         Err(fault) => return Err(fault),
     };
     push_report(&mut texts.report, &findings, most)?;
-    let walks = Walks::of(map);
-    put_places(alloc, &walks, &findings, None, &mut texts.places)?;
+    let transform = map.transform;
+    let walks = map.polygons.as_slice();
+    put_places(alloc, transform, walks, &findings, None, &mut texts.places)?;
     Ok(findings)
 }
 
@@ -337,13 +333,21 @@ pub fn mend_map<'a, A: Allocator + Copy>(
         Ok(seen) => seen,
         Err(fault) => return Err(RepairFault::Look(fault)),
     };
-    let walks = Walks::copied(alloc, &map)?;
-    let remade = match remake(alloc, heap, map, walks.polygons.as_slice()) {
+    let transform = map.transform;
+    let walks = copied(alloc, map.polygons.as_slice())?;
+    let remade = match remake(alloc, heap, map, walks.as_slice()) {
         Ok(remade) => remade,
         Err(fault) => return Err(RepairFault::Remake(fault)),
     };
     let paths = remade.paths.as_slice();
-    put_places(alloc, &walks, &findings, Some(paths), &mut texts.places)?;
+    put_places(
+        alloc,
+        transform,
+        walks.as_slice(),
+        &findings,
+        Some(paths),
+        &mut texts.places,
+    )?;
     push_mended(&mut texts.report, &findings, &remade, most)?;
     Ok(remade)
 }

@@ -1,13 +1,15 @@
-use Rattle.std.proofs.Common.{refl, sym, subst}
+use Rattle.std.proofs.Common.{refl, sym, subst, ap}
 use Rattle.std.specs.Prelude.{None}
 use Rattle.topo_reader.specs.DocumentView.{view_raw}
 use Rattle.walk_faults.specs.Findings.{Found}
+use Rattle.walk_faults.specs.Seen.{features_seen}
 use Rattle.mend_report.proofs.OpeningLemmas.{status_opens}
-use Rattle.mend_report.proofs.PlaceLemmas.{all_placed, places_same}
+use Rattle.mend_report.proofs.PlaceLemmas.{all_placed, walks_same}
 use Rattle.mend_report.proofs.report.report_map.Goals as goal
 
+-- the walks that are told are those of the map
 pub put_places-requires : goal.put_places-requires
-put_places-requires g c = subst (λ ps. Found ps c.in-Ok.seen.findings) (sym c.of.ensures.polygons) c.in-Ok.ensures.found
+put_places-requires g c = subst (λ ps. Found (features_seen ps) c.in-Ok.seen.findings) (sym c.as_slice-walks.ensures.value) c.in-Ok.ensures.found
 
 pub returns-clause-opens : goal.returns-clause-opens
 returns-clause-opens g c = status_opens c.args.bytes.now c.in-Ok.seen.findings c.in-Ok.ensures.looked
@@ -15,4 +17,4 @@ returns-clause-opens g c = status_opens c.args.bytes.now c.in-Ok.seen.findings c
 pub returns-clause-placed : goal.returns-clause-placed
 returns-clause-placed g c =
     all_placed c.args.bytes.now (view_raw c.in-Ok.seen.map) c.in-Ok.seen.findings c.put_places.new.places c.in-Ok.ensures.opened
-    (places_same (view_raw c.in-Ok.seen.map) c.in-Ok.seen.findings _ _ None None c.put_places.new.places c.of.ensures.transform c.of.ensures.polygons refl c.in_ok-put_places.ensures.placed)
+    (walks_same (view_raw c.in-Ok.seen.map) c.in-Ok.seen.findings _ None None c.put_places.new.places (ap features_seen c.as_slice-walks.ensures.value) refl c.in_ok-put_places.ensures.placed)

@@ -1,6 +1,6 @@
 use Rattle.std.proofs.Common.{◌≡◌, map, take}
 use Rattle.topo_reader.specs.Uses.{polygon_positions}
-use Rattle.mend_report.proofs.walks.copied_polygons.Given as goal
+use Rattle.mend_report.proofs.copying.copied_polygons.Given as goal
 
 -- the copy so far
 abbrev pub invariant-loop-rings : goal.invariant-loop-rings

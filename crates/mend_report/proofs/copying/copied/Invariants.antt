@@ -1,6 +1,6 @@
 use Rattle.std.proofs.Common.{◌≡◌, map, take}
 use Rattle.topo_reader.specs.Uses.{feature_positions}
-use Rattle.mend_report.proofs.walks.copied.Given as goal
+use Rattle.mend_report.proofs.copying.copied.Given as goal
 
 -- the copy so far
 abbrev pub invariant-loop-polygons : goal.invariant-loop-polygons

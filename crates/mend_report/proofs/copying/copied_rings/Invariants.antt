@@ -1,6 +1,6 @@
 use Rattle.std.proofs.Common.{◌≡◌, map, take}
 use Rattle.topo_reader.specs.Uses.{positions_of}
-use Rattle.mend_report.proofs.walks.copied_rings.Given as goal
+use Rattle.mend_report.proofs.copying.copied_rings.Given as goal
 
 -- the copy so far
 abbrev pub invariant-loop-ring : goal.invariant-loop-ring
