@@ -3,9 +3,8 @@ use crate::long_texts::{Long, text_of};
 use crate::maps::TWO_SQUARES;
 use crate::told::is_answered;
 use std::alloc::Global;
-use std::fmt::Write;
+use std::fmt::{Result as Written, Write};
 use std::process::Abort;
-use std::test::Fail;
 
 /// Ids of 8,000 letters: a script, and its answers.
 const LONG_IDS: &[(&str, Long, Long)] = &[
@@ -54,32 +53,30 @@ fn long_ids(rt: HostRuntime) {
 
 /// Appends the arc of this number, round a square of side 10 whose left side is at 100 times the
 /// number.
-fn put_arc(text: &mut String, n: u32) -> Result<(), Fail> {
+fn put_arc(text: &mut String, n: u32) -> Written {
     let left = u64::from(n) * 100;
     let right = left + 10;
     write!(
         text,
         ",[[{left},0],[{right},0],[{right},10],[{left},10],[{left},0]]"
-    )?;
-    Ok(())
+    )
 }
 
 /// Appends a map: a square, and to the left of it a row of 2,000 squares, of which the last one has a
 /// side in common with it. Those in the row are the polygons of feature 1, and lie apart from each
 /// other.
-fn put_square_and_row(text: &mut String) -> Result<(), Fail> {
-    text.push_str(
+fn put_square_and_row(text: &mut String) -> Written {
+    text.write_str(
         "{\"type\":\"Topology\",\"objects\":{\"m\":{\"type\":\"GeometryCollection\",\"geometries\":[{\"type\":\"Polygon\",\"arcs\":[[0]]},{\"type\":\"MultiPolygon\",\"arcs\":[[[1]]",
     )?;
     for n in 2..2001u32 {
         write!(text, ",[[{n}]]")?;
     }
-    text.push_str("]}]}},\"arcs\":[[[200010,0],[200020,0],[200020,10],[200010,10],[200010,0]]")?;
+    text.write_str("]}]}},\"arcs\":[[[200010,0],[200020,0],[200020,10],[200010,10],[200010,0]]")?;
     for n in 1..2001u32 {
         put_arc(text, n)?;
     }
-    text.push_str("]}")?;
-    Ok(())
+    text.write_str("]}")
 }
 
 /// What it shows, a script on that map, and its answers.
@@ -96,19 +93,16 @@ const OF_MANY_POLYGONS: &[(&str, &str, &str)] = &[
     ),
 ];
 
-#[test]
-fn a_feature_of_many_polygons(rt: HostRuntime) -> Result<(), Fail> {
-    let mut map = String::new(rt.alloc());
-    put_square_and_row(&mut map)?;
+/// That each script has these answers on that map.
+fn polygons_answer<R: Abort>(rt: &R, alloc: Global, map: &[u8]) {
     for (what, script, want) in OF_MANY_POLYGONS {
-        is_answered(
-            &rt,
-            rt.alloc(),
-            what,
-            map.as_bytes(),
-            script.as_bytes(),
-            want.as_bytes(),
-        );
+        is_answered(rt, alloc, what, map, script.as_bytes(), want.as_bytes());
     }
-    Ok(())
+}
+
+#[test]
+fn a_feature_of_many_polygons(rt: HostRuntime) {
+    let mut map = String::new(rt.alloc());
+    put_square_and_row(&mut map).expect(&rt, "memory");
+    polygons_answer(&rt, rt.alloc(), map.as_bytes());
 }

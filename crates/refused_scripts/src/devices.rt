@@ -5,7 +5,6 @@ use device_io::{FailAt, FromReader};
 use script_runner::RunFault;
 use std::alloc::{AllocError, Global};
 use std::process::Abort;
-use std::test::Fail;
 
 const SCRIPT: &[u8] = b"area 0\nmove 10 10 12 12\r\nx\narea 0\nundo\narea 0";
 
@@ -74,22 +73,19 @@ fn put_comment(script: &mut Vec<u8>, length: usize, end: &[u8]) -> Result<(), Al
     script.extend_from_slice(end)
 }
 
-/// A comment of 8,192 bytes is skipped, one of 8,193 is a bad line.
+/// Appends a comment of 8,192 bytes, which is skipped, one of 8,193, which is a bad line, and a question.
+fn put_comments(script: &mut Vec<u8>) -> Result<(), AllocError> {
+    put_comment(script, 8192, b"\n")?;
+    put_comment(script, 8193, b"\narea 0")
+}
+
 #[test]
-fn long_lines(rt: HostRuntime) -> Result<(), Fail> {
-    let mut script: Vec<u8> = Vec::new(rt.alloc());
-    put_comment(&mut script, 8192, b"\n")?;
-    put_comment(&mut script, 8193, b"\narea 0")?;
+fn long_lines(rt: HostRuntime) {
+    let mut script = Vec::new(rt.alloc());
+    put_comments(&mut script).expect(&rt, "memory");
     let want = b"bad line\n200\nanswered 2, refused 1";
-    is_answered(
-        &rt,
-        rt.alloc(),
-        "long lines",
-        TWO_SQUARES.as_bytes(),
-        script.as_slice(),
-        want,
-    );
-    Ok(())
+    let map = TWO_SQUARES.as_bytes();
+    is_answered(&rt, rt.alloc(), "long lines", map, script.as_slice(), want);
 }
 
 /// A carriage return before a line feed is dropped, and no other.

@@ -49,7 +49,7 @@ fn has_area<R: Abort>(rt: &R, map: &PlainMap<'_>, feature: u32, want: i128) {
 /// An edit of a vertex.
 enum Edit {
     Move(Place, Place),
-    Insert([Place; 2], Place),
+    Insert(Place, Place, Place),
     Remove(Place),
 }
 
@@ -57,7 +57,7 @@ enum Edit {
 fn answer<R: Abort>(rt: &R, map: &mut PlainMap<'_>, edit: &Edit) -> Result<(), EditFault> {
     match edit {
         Edit::Move(p, q) => map.move_vertex(at(rt, *p), at(rt, *q)),
-        Edit::Insert([a, b], q) => map.insert_vertex(at(rt, *a), at(rt, *b), at(rt, *q)),
+        Edit::Insert(a, b, q) => map.insert_vertex(at(rt, *a), at(rt, *b), at(rt, *q)),
         Edit::Remove(p) => map.remove_vertex(at(rt, *p)),
     }
 }
@@ -96,7 +96,7 @@ fn a_move_past_no_position(rt: HostRuntime) {
 
 /// Puts a vertex into the common side of the squares.
 fn bend_side<R: Abort>(rt: &R, map: &mut PlainMap<'_>) {
-    accepts(rt, map, &Edit::Insert([(10, 0), (10, 10)], (8, 5)));
+    accepts(rt, map, &Edit::Insert((10, 0), (10, 10), (8, 5)));
     has_area(rt, map, 0, 180);
     has_area(rt, map, 1, 220);
 }
@@ -137,8 +137,8 @@ fn a_pass_of_thinning(rt: HostRuntime) {
 
 /// Thins a side with two vertices, the first of which has the second beside it.
 fn thin_side<R: Abort>(rt: &R, map: &mut PlainMap<'_>) {
-    accepts(rt, map, &Edit::Insert([(0, 0), (10, 0)], (2, 0)));
-    accepts(rt, map, &Edit::Insert([(2, 0), (10, 0)], (5, 1)));
+    accepts(rt, map, &Edit::Insert((0, 0), (10, 0), (2, 0)));
+    accepts(rt, map, &Edit::Insert((2, 0), (10, 0), (5, 1)));
     has_area(rt, map, 0, 192);
     holds(rt, "one vertex", map.thin(8) == Ok(1));
     has_area(rt, map, 0, 190);
@@ -164,22 +164,22 @@ const REFUSALS: [(&str, Edit, EditFault); 12] = [
     ("triangle", Edit::Move((0, 0), (9, 20)), EditFault::Sweeps),
     (
         "squares",
-        Edit::Insert([(0, 0), (10, 10)], (5, 5)),
+        Edit::Insert((0, 0), (10, 10), (5, 5)),
         EditFault::NoSegment,
     ),
     (
         "squares",
-        Edit::Insert([(0, 0), (0, 0)], (5, 5)),
+        Edit::Insert((0, 0), (0, 0), (5, 5)),
         EditFault::NoSegment,
     ),
     (
         "squares",
-        Edit::Insert([(0, 0), (10, 0)], (20, 10)),
+        Edit::Insert((0, 0), (10, 0), (20, 10)),
         EditFault::Occupied,
     ),
     (
         "triangle",
-        Edit::Insert([(0, 0), (0, 30)], (10, 12)),
+        Edit::Insert((0, 0), (0, 30), (10, 12)),
         EditFault::Sweeps,
     ),
     ("squares", Edit::Remove((1, 1)), EditFault::NoVertex),
@@ -196,35 +196,30 @@ fn refusals(rt: HostRuntime) {
     }
 }
 
-/// The map of a name, an edit, and the least pair of segments that it would put in conflict.
-const CONFLICTS: &[(&str, Edit, [Place; 2], [Place; 2])] = &[
-    (
-        "squares",
-        Edit::Move((10, 10), (10, -5)),
-        [(0, 0), (10, 0)],
-        [(0, 10), (10, -5)],
-    ),
-    (
-        "triangle",
-        Edit::Insert([(0, 30), (0, 0)], (4, 9)),
-        [(0, 0), (4, 9)],
-        [(3, 8), (5, 8)],
-    ),
-    (
-        "crossing",
-        Edit::Remove((0, 0)),
-        [(0, 30), (30, 0)],
-        [(10, 12), (20, 20)],
-    ),
-];
+/// That the edit would put this pair of segments in conflict.
+fn is_in_conflict<R: Abort>(
+    rt: &R,
+    alloc: Global,
+    name: &str,
+    edit: &Edit,
+    [[p, q], [from, to]]: [[Place; 2]; 2],
+) {
+    let (s, t) = (seg(rt, p, q), seg(rt, from, to));
+    is_refused(rt, alloc, name, edit, EditFault::Conflict { s, t });
+}
 
 #[test]
 fn conflicts(rt: HostRuntime) {
-    for (name, edit, [p, q], [from, to]) in CONFLICTS {
-        let s = seg(&rt, *p, *q);
-        let t = seg(&rt, *from, *to);
-        is_refused(&rt, rt.alloc(), name, edit, EditFault::Conflict { s, t });
-    }
+    let alloc = rt.alloc();
+    let edit = Edit::Move((10, 10), (10, -5));
+    let pair = [[(0, 0), (10, 0)], [(0, 10), (10, -5)]];
+    is_in_conflict(&rt, alloc, "squares", &edit, pair);
+    let edit = Edit::Insert((0, 30), (0, 0), (4, 9));
+    let pair = [[(0, 0), (4, 9)], [(3, 8), (5, 8)]];
+    is_in_conflict(&rt, alloc, "triangle", &edit, pair);
+    let edit = Edit::Remove((0, 0));
+    let pair = [[(0, 30), (30, 0)], [(10, 12), (20, 20)]];
+    is_in_conflict(&rt, alloc, "crossing", &edit, pair);
 }
 
 /// Whether this is the fault of a map whose first pair in conflict is this one.

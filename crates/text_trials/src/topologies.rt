@@ -7,11 +7,22 @@ use std::process::Abort;
 use topo_outline::OpenFault;
 use topo_reader::{RawDoc, read};
 
+/// The fault of the text, if it has one.
+fn fault_of(alloc: Global, text: &[u8]) -> Option<OpenFault<'_>> {
+    match read(alloc, alloc, text) {
+        Ok(raw) => {
+            drop(raw);
+            None
+        }
+        Err(fault) => Some(fault),
+    }
+}
+
 /// Whether the text is answered so: `ok`, or the text of the fault.
 pub(crate) fn is_answered(alloc: Global, text: &[u8], want: &str) -> bool {
-    match read(alloc, alloc, text) {
-        Ok(_) => want == "ok",
-        Err(fault) => is_displayed(&fault, want),
+    match fault_of(alloc, text) {
+        Some(fault) => is_displayed(&fault, want),
+        None => want == "ok",
     }
 }
 

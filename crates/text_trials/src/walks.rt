@@ -7,51 +7,25 @@ use std::process::Abort;
 use topo_outline::OpenFault;
 use topo_reader::{RawDoc, read, read_walks};
 
-/// What is told of each text with rings, and with walks: all of them, each after a bar, or the fault.
+/// Texts, and what is told of each with rings, and with walks: all of them, each after a bar, or the fault.
 const CASES: &str = r#"# a ring that opens, begun where its arcs are
-text: {"type":"Topology","objects":{"a":{"type":"Polygon","arcs":[[1,-1]]}},"arcs":[[[4,0],[0,0]],[[4,0],[4,4],[4,4],[0,0]]]}
-rings: |0 0, 4 0, 4 4
-walks: |4 0, 4 4, 0 0
-
+{"type":"Topology","objects":{"a":{"type":"Polygon","arcs":[[1,-1]]}},"arcs":[[[4,0],[0,0]],[[4,0],[4,4],[4,4],[0,0]]]} => |0 0, 4 0, 4 4 => |4 0, 4 4, 0 0
 # twice through 2 2
-text: {"type":"Topology","objects":{"a":{"type":"Polygon","arcs":[[0]]}},"arcs":[[[0,0],[4,0],[2,2],[4,4],[0,4],[2,2],[0,0]]]}
-rings: ring repeats 0 0 0 at 2 2
-walks: |0 0, 4 0, 2 2, 4 4, 0 4, 2 2
-
+{"type":"Topology","objects":{"a":{"type":"Polygon","arcs":[[0]]}},"arcs":[[[0,0],[4,0],[2,2],[4,4],[0,4],[2,2],[0,0]]]} => ring repeats 0 0 0 at 2 2 => |0 0, 4 0, 2 2, 4 4, 0 4, 2 2
 # out and back on a spike
-text: {"type":"Topology","objects":{"a":{"type":"Polygon","arcs":[[0]]}},"arcs":[[[0,0],[4,0],[9,0],[4,0],[0,4],[0,0]]]}
-rings: ring repeats 0 0 0 at 4 0
-walks: |0 0, 4 0, 9 0, 4 0, 0 4
-
+{"type":"Topology","objects":{"a":{"type":"Polygon","arcs":[[0]]}},"arcs":[[[0,0],[4,0],[9,0],[4,0],[0,4],[0,0]]]} => ring repeats 0 0 0 at 4 0 => |0 0, 4 0, 9 0, 4 0, 0 4
 # two positions
-text: {"type":"Topology","objects":{"a":{"type":"Polygon","arcs":[[0,-1]]}},"arcs":[[[4,0],[0,0]]]}
-rings: ring short 0 0 0
-walks: |4 0, 0 0
-
+{"type":"Topology","objects":{"a":{"type":"Polygon","arcs":[[0,-1]]}},"arcs":[[[4,0],[0,0]]]} => ring short 0 0 0 => |4 0, 0 0
 # one position
-text: {"type":"Topology","objects":{"a":{"type":"Polygon","arcs":[[0]]}},"arcs":[[[1,1],[1,1]]]}
-rings: ring short 0 0 0
-walks: |
-
+{"type":"Topology","objects":{"a":{"type":"Polygon","arcs":[[0]]}},"arcs":[[[1,1],[1,1]]]} => ring short 0 0 0 => |
 # no arcs
-text: {"type":"Topology","objects":{"a":{"type":"Polygon","arcs":[[]]}},"arcs":[]}
-rings: ring short 0 0 0
-walks: |
-
+{"type":"Topology","objects":{"a":{"type":"Polygon","arcs":[[]]}},"arcs":[]} => ring short 0 0 0 => |
 # arcs that do not meet
-text: {"type":"Topology","objects":{"a":{"type":"Polygon","arcs":[[0]]}},"arcs":[[[0,0],[4,0],[4,4]]]}
-rings: arcs do not meet 0 0 0
-walks: arcs do not meet 0 0 0
-
+{"type":"Topology","objects":{"a":{"type":"Polygon","arcs":[[0]]}},"arcs":[[[0,0],[4,0],[4,4]]]} => arcs do not meet 0 0 0 => arcs do not meet 0 0 0
 # an arc that is not there
-text: {"type":"Topology","objects":{"a":{"type":"Polygon","arcs":[[1]]}},"arcs":[[[0,0],[4,0],[4,4]]]}
-rings: bad arc index at 61
-walks: bad arc index at 61
-
+{"type":"Topology","objects":{"a":{"type":"Polygon","arcs":[[1]]}},"arcs":[[[0,0],[4,0],[4,4]]]} => bad arc index at 61 => bad arc index at 61
 # a ring that is short stops the rings before one whose arcs do not meet does
-text: {"type":"Topology","objects":{"a":{"type":"Polygon","arcs":[[0,-1],[0]]}},"arcs":[[[4,0],[0,0]]]}
-rings: ring short 0 0 0
-walks: arcs do not meet 0 0 1"#;
+{"type":"Topology","objects":{"a":{"type":"Polygon","arcs":[[0,-1],[0]]}},"arcs":[[[4,0],[0,0]]]} => ring short 0 0 0 => arcs do not meet 0 0 1"#;
 
 /// The positions, as `0 0, 4 0, 4 4`.
 fn take_positions(coming: &mut Coming<'_>, positions: &[Pos]) {
@@ -87,28 +61,24 @@ fn is_told(answer: &Result<RawDoc<'_>, OpenFault<'_>>, want: &str) -> bool {
     }
 }
 
-/// What stands behind this mark on a line of the case.
-fn field<'t, R: Abort>(rt: &R, case: &'t str, mark: &str) -> &'t str {
-    for line in case.lines() {
-        if let Some(rest) = line.strip_prefix(mark) {
-            return rest;
-        }
-    }
-    panic!(rt; "{mark}");
+/// That the text is told so with rings, and so with walks.
+fn tells<R: Abort>(rt: &R, alloc: Global, text: &str, rings: &str, walks: &str) {
+    let text = text.as_bytes();
+    holds(rt, rings, is_told(&read(alloc, alloc, text), rings));
+    holds(rt, walks, is_told(&read_walks(alloc, alloc, text), walks));
 }
 
-/// That the case is told so with rings, and so with walks.
-fn case_tells<R: Abort>(rt: &R, alloc: Global, case: &str) {
-    let text = field(rt, case, "text: ").as_bytes();
-    let rings = is_told(&read(alloc, alloc, text), field(rt, case, "rings: "));
-    holds(rt, case, rings);
-    let walks = is_told(&read_walks(alloc, alloc, text), field(rt, case, "walks: "));
-    holds(rt, case, walks);
+/// That the text of this line, unless it says what the next one shows, is told so.
+fn line_tells<R: Abort>(rt: &R, alloc: Global, line: &str) {
+    if let Some((text, told)) = line.split_once(" => ") {
+        let (rings, walks) = told.split_once(" => ").unwrap_or((told, told));
+        tells(rt, alloc, text, rings, walks);
+    }
 }
 
 #[test]
 fn rings_as_walks(rt: HostRuntime) {
-    for case in CASES.split("\n\n") {
-        case_tells(&rt, rt.alloc(), case);
+    for line in CASES.lines() {
+        line_tells(&rt, rt.alloc(), line);
     }
 }
