@@ -58,12 +58,11 @@ fn row_tells<R: Abort>(rt: &R, alloc: Global, with_gap: &str, (piece, want): (&s
 
 /// That each piece is told so in the text with a gap, which comes first.
 fn rows_tell<R: Abort>(rt: &R, alloc: Global, rows: &str) {
-    let mut with_gap = "";
-    for line in rows.lines() {
-        match line.split_once(" => ") {
-            Some(row) => row_tells(rt, alloc, with_gap, row),
-            None => with_gap = line,
-        }
+    let mut lines = rows.lines();
+    let with_gap = lines.next().unwrap_or("");
+    for line in lines {
+        let row = line.split_once(" => ").unwrap_or((line, ""));
+        row_tells(rt, alloc, with_gap, row);
     }
 }
 

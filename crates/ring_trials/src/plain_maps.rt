@@ -47,6 +47,7 @@ fn has_area<R: Abort>(rt: &R, map: &PlainMap<'_>, feature: u32, want: i128) {
 }
 
 /// An edit of a vertex.
+#[derive(Drop)]
 enum Edit {
     Move(Place, Place),
     Insert(Place, Place, Place),

@@ -85,6 +85,8 @@ null => not whole at 48
 -1,0 => ok
 0,1 => ok
 1,0 => out of range at 106
+
+# without one it is not
 {"type":"Topology","objects":{},"arcs":[@]}
 [[1000000000000,0],[1,0]] => ok
 
@@ -102,13 +104,15 @@ null => not whole at 48
 [0] => not whole at 61
 0,1 => bad arc index at 63
 
-# rings of one arc, and of none
+# rings of one arc
 {"type":"Topology","objects":{"a":{"type":"Polygon","arcs":[[0]]}},"arcs":[@]}
 [[0,0],[10,0],[0,0]] => ring short 0 0 0
 [[0,0],[10,0],[10,0],[0,0],[0,0]] => ring short 0 0 0
 [[0,0],[4,0],[2,2],[4,4],[0,4],[2,2],[0,0]] => ring repeats 0 0 0 at 2 2
 [[0,0],[1,0],[0,1]] => arcs do not meet 0 0 0
 [[0,0],[10,10],[10,0],[0,10],[0,0]] => ok
+
+# a ring of no arc
 {"type":"Topology","objects":{"a":{"type":"Polygon","arcs":[[@]]}},"arcs":[]}
  => ring short 0 0 0
 
@@ -147,23 +151,30 @@ fn row_answers<R: Abort>(
     holds(rt, piece, is_so);
 }
 
-/// That each piece is answered so in the text with a gap before it.
-fn rows_answer<R: Abort>(rt: &R, alloc: Global, rows: &str, is_outline: bool) {
-    let mut with_gap = "";
-    for line in rows.lines() {
-        match line.split_once(" => ") {
-            Some(row) => row_answers(rt, alloc, with_gap, row, is_outline),
-            None => with_gap = line,
-        }
+/// That each piece is answered so in the text with a gap, which stands behind the title.
+fn rows_answer<R: Abort>(rt: &R, alloc: Global, table: &str, is_outline: bool) {
+    let mut lines = table.lines();
+    let _ = lines.next();
+    let with_gap = lines.next().unwrap_or("");
+    for line in lines {
+        let row = line.split_once(" => ").unwrap_or((line, ""));
+        row_answers(rt, alloc, with_gap, row, is_outline);
+    }
+}
+
+/// The same of each table; an empty line stands between two of them.
+fn tables_answer<R: Abort>(rt: &R, alloc: Global, tables: &str, is_outline: bool) {
+    for table in tables.split("\n\n") {
+        rows_answer(rt, alloc, table, is_outline);
     }
 }
 
 #[test]
 fn outlines(rt: HostRuntime) {
-    rows_answer(&rt, rt.alloc(), OUTLINES, true);
+    tables_answer(&rt, rt.alloc(), OUTLINES, true);
 }
 
 #[test]
 fn topologies(rt: HostRuntime) {
-    rows_answer(&rt, rt.alloc(), TOPOLOGIES, false);
+    tables_answer(&rt, rt.alloc(), TOPOLOGIES, false);
 }

@@ -25,14 +25,12 @@ fn said(line: &str) -> Option<&str> {
     }
 }
 
-/// Appends the script, with line feeds between its lines.
+/// Appends the lines of the script, each with a line feed behind it.
 fn put_script(script: &mut String, transcript: &str) -> Result<(), AllocError> {
-    let mut between = "";
     for line in transcript.lines() {
         if let Some(said) = said(line) {
-            script.push_str(between)?;
             script.push_str(said)?;
-            between = "\n";
+            script.push_str("\n")?;
         }
     }
     Ok(())
@@ -71,20 +69,15 @@ fn is_as_written(told: &Told, answers: &str, end: Option<&str>, saved: Option<&s
     is_saved && told.answers.as_slice() == answers.as_bytes() && end == Some(told.end.as_str())
 }
 
-/// That the run is as the transcript has it.
+/// That the run of the script, without the last line feed, is as the transcript has it.
 fn goes<R: Abort>(rt: &R, alloc: Global, transcript: &str) {
     let mut script = String::new(alloc);
     put_script(&mut script, transcript).expect(rt, "memory");
     let mut answers = String::new(alloc);
     put_answers(&mut answers, transcript).expect(rt, "memory");
-    let map = text_of(field(transcript, "map: ").expect(rt, "a map"));
-    let told = tell(
-        rt,
-        alloc,
-        map.as_bytes(),
-        script.as_bytes(),
-        depth(rt, transcript),
-    );
+    let map = text_of(field(transcript, "map: ").unwrap_or(""));
+    let lines = script.as_bytes().strip_suffix(b"\n").unwrap_or(b"");
+    let told = tell(rt, alloc, map.as_bytes(), lines, depth(rt, transcript));
     let end = field(transcript, "end: ");
     let is_so = is_as_written(&told, answers.as_str(), end, field(transcript, "saved: "));
     assert!(rt; is_so, "{transcript}");
