@@ -2,8 +2,8 @@
 use crate::long_texts::{Long, text_of};
 use crate::maps::TWO_SQUARES;
 use crate::told::is_answered;
-use std::alloc::Global;
-use std::fmt::{Result as Written, Write};
+use std::alloc::{AllocError, Global};
+use std::fmt::Write;
 use std::process::Abort;
 
 /// Ids of 8,000 letters: a script, and its answers.
@@ -53,7 +53,7 @@ fn long_ids(rt: HostRuntime) {
 
 /// Appends the arc of this number, round a square of side 10 whose left side is at 100 times the
 /// number.
-fn put_arc(text: &mut String, n: u32) -> Written {
+fn put_arc(text: &mut String, n: u32) -> Result<(), AllocError> {
     let left = u64::from(n) * 100;
     let right = left + 10;
     write!(
@@ -65,18 +65,18 @@ fn put_arc(text: &mut String, n: u32) -> Written {
 /// Appends a map: a square, and to the left of it a row of 2,000 squares, of which the last one has a
 /// side in common with it. Those in the row are the polygons of feature 1, and lie apart from each
 /// other.
-fn put_square_and_row(text: &mut String) -> Written {
-    text.write_str(
+fn put_square_and_row(text: &mut String) -> Result<(), AllocError> {
+    text.push_str(
         "{\"type\":\"Topology\",\"objects\":{\"m\":{\"type\":\"GeometryCollection\",\"geometries\":[{\"type\":\"Polygon\",\"arcs\":[[0]]},{\"type\":\"MultiPolygon\",\"arcs\":[[[1]]",
     )?;
     for n in 2..2001u32 {
         write!(text, ",[[{n}]]")?;
     }
-    text.write_str("]}]}},\"arcs\":[[[200010,0],[200020,0],[200020,10],[200010,10],[200010,0]]")?;
+    text.push_str("]}]}},\"arcs\":[[[200010,0],[200020,0],[200020,10],[200010,10],[200010,0]]")?;
     for n in 1..2001u32 {
         put_arc(text, n)?;
     }
-    text.write_str("]}")
+    text.push_str("]}")
 }
 
 /// What it shows, a script on that map, and its answers.

@@ -10,20 +10,24 @@ use topo_outline::{
 };
 
 /// That the fault has this text.
-fn has_text<R: Abort>(rt: &R, fault: OpenFault<'_>, want: &str) {
-    holds(rt, want, is_displayed(&fault, want));
+fn has_text<R: Abort>(rt: &R, fault: &OpenFault<'_>, want: &str) {
+    holds(rt, want, is_displayed(fault, want));
 }
 
 #[test]
 fn texts_of_faults_of_a_text(rt: HostRuntime) {
-    has_text(&rt, OpenFault::NotJson { place: 7 }, "not json at 7");
-    has_text(&rt, OpenFault::TooDeep { place: 100 }, "too deep at 100");
-    has_text(&rt, OpenFault::OutOfMemory, "out of memory");
+    let fault = OpenFault::NotJson { place: 7 };
+    has_text(&rt, &fault, "not json at 7");
+    let fault = OpenFault::TooDeep { place: 100 };
+    has_text(&rt, &fault, "too deep at 100");
+    let fault = OpenFault::OutOfMemory;
+    has_text(&rt, &fault, "out of memory");
 }
 
 /// That a limit that is passed has this text.
 fn has_limit_text<R: Abort>(rt: &R, what: Limit, want: &str) {
-    has_text(rt, OpenFault::TooLarge { what }, want);
+    let fault = OpenFault::TooLarge { what };
+    has_text(rt, &fault, want);
 }
 
 #[test]
@@ -38,37 +42,29 @@ fn texts_of_faults_of_members(rt: HostRuntime) {
     let name = Token {
         text: b"arc\\u0073",
     };
-    has_text(&rt, OpenFault::NotTopology, "not a topology");
-    has_text(&rt, OpenFault::BadMember { name }, "bad member arc\\u0073");
-    has_text(&rt, OpenFault::Duplicate { name }, "duplicate arc\\u0073");
+    let fault = OpenFault::NotTopology;
+    has_text(&rt, &fault, "not a topology");
+    let fault = OpenFault::BadMember { name };
+    has_text(&rt, &fault, "bad member arc\\u0073");
+    let fault = OpenFault::Duplicate { name };
+    has_text(&rt, &fault, "duplicate arc\\u0073");
     let type_name = Token {
         text: b"LineString",
     };
-    has_text(
-        &rt,
-        OpenFault::Unsupported { type_name },
-        "unsupported LineString",
-    );
+    let fault = OpenFault::Unsupported { type_name };
+    has_text(&rt, &fault, "unsupported LineString");
 }
 
 #[test]
 fn texts_of_faults_at_places(rt: HostRuntime) {
-    has_text(&rt, OpenFault::NotWhole { place: 48 }, "not whole at 48");
-    has_text(
-        &rt,
-        OpenFault::OutOfRange { place: 49 },
-        "out of range at 49",
-    );
-    has_text(
-        &rt,
-        OpenFault::BadPosition { place: 40 },
-        "bad position at 40",
-    );
-    has_text(
-        &rt,
-        OpenFault::BadArcIndex { place: 61 },
-        "bad arc index at 61",
-    );
+    let fault = OpenFault::NotWhole { place: 48 };
+    has_text(&rt, &fault, "not whole at 48");
+    let fault = OpenFault::OutOfRange { place: 49 };
+    has_text(&rt, &fault, "out of range at 49");
+    let fault = OpenFault::BadPosition { place: 40 };
+    has_text(&rt, &fault, "bad position at 40");
+    let fault = OpenFault::BadArcIndex { place: 61 };
+    has_text(&rt, &fault, "bad arc index at 61");
 }
 
 /// The position, which is in range.
@@ -88,24 +84,16 @@ fn texts_of_faults_of_rings(rt: HostRuntime) {
         polygon: 0,
         ring: 1,
     };
-    has_text(
-        &rt,
-        OpenFault::ArcsDoNotMeet { ring },
-        "arcs do not meet 2 0 1",
-    );
-    has_text(&rt, OpenFault::RingShort { ring }, "ring short 2 0 1");
+    let fault = OpenFault::ArcsDoNotMeet { ring };
+    has_text(&rt, &fault, "arcs do not meet 2 0 1");
+    let fault = OpenFault::RingShort { ring };
+    has_text(&rt, &fault, "ring short 2 0 1");
     let pos = pos(&rt, 2, -2);
-    has_text(
-        &rt,
-        OpenFault::RingRepeats { ring, pos },
-        "ring repeats 2 0 1 at 2 -2",
-    );
+    let fault = OpenFault::RingRepeats { ring, pos };
+    has_text(&rt, &fault, "ring repeats 2 0 1 at 2 -2");
     let (s, t) = (seg(&rt, (0, 0), (4, -4)), seg(&rt, (3, 0), (1, -4)));
-    has_text(
-        &rt,
-        OpenFault::Conflict { s, t },
-        "conflict 0 0 4 -4 / 1 -4 3 0",
-    );
+    let fault = OpenFault::Conflict { s, t };
+    has_text(&rt, &fault, "conflict 0 0 4 -4 / 1 -4 3 0");
 }
 
 fn take_part(coming: &mut Coming<'_>, name: &[u8], text: Option<&[u8]>) {
