@@ -4,7 +4,7 @@
 use crate::characters::Numbers;
 
 /// Why bytes are not a JSON text.
-#[derive(Clone, Copy)]
+#[derive(Clone, Copy, Debug, PartialEq, Eq)]
 pub(crate) enum Stop {
     /// They end where a text would go on.
     Ended,

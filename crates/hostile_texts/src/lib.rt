@@ -19,6 +19,8 @@ mod memory;
 #[cfg(test)]
 mod names;
 #[cfg(test)]
+mod names_of_one_hash;
+#[cfg(test)]
 mod pieces;
 #[cfg(test)]
 mod places;

@@ -112,8 +112,13 @@ fn has_text<R: Abort>(rt: &R, alloc: Global, fault: &RunFault<'_>, want: &str) {
 /// What the program says on standard error of a run that ended early.
 #[test]
 fn texts_of_failures(rt: HostRuntime) {
-    has_text(&rt, rt.alloc(), &RunFault::Read, "script fault");
-    has_text(&rt, rt.alloc(), &RunFault::Write, "write fault");
-    has_text(&rt, rt.alloc(), &RunFault::Save, "save fault");
-    has_text(&rt, rt.alloc(), &RunFault::OutOfMemory, "out of memory");
+    let rows = [
+        (RunFault::Read, "script fault"),
+        (RunFault::Write, "write fault"),
+        (RunFault::Save, "save fault"),
+        (RunFault::OutOfMemory, "out of memory"),
+    ];
+    for (fault, want) in &rows[..] {
+        has_text(&rt, rt.alloc(), fault, want);
+    }
 }

@@ -4,8 +4,7 @@
 
 use device_io::{FromReader, ToWriter};
 use script_runner::run;
-use std::alloc::Global;
-use std::fmt::{Result as Written, Write};
+use std::alloc::{AllocError, Global};
 use std::fs;
 use std::process::ExitCode;
 
@@ -16,13 +15,14 @@ struct Texts {
     saved: Vec<u8>,
 }
 
-/// Appends a script that asks for the counts, and for the rings of the features below a number.
-fn put_questions(script: &mut String, features: u32) -> Written {
-    script.write_str("count\n")?;
+/// A script that asks for the counts, and for the rings of the features below a number.
+fn questions(alloc: Global, features: u32) -> Result<String, AllocError> {
+    let mut script = String::from_str(alloc, "count\n")?;
     for n in 0..features {
-        writeln!(script, "rings {n}")?;
+        let line = format!(in alloc; "rings {n}\n")?;
+        script.push_str(line.as_str())?;
     }
-    Ok(())
+    Ok(script)
 }
 
 /// The answers to the script on the map, and the map that is saved. `None` where the run ended in a
@@ -51,71 +51,49 @@ fn weight(text: &[u8]) -> usize {
     count
 }
 
-/// What is told of a map by what two runs gave, the second on what the first one saved.
-fn compared(map: &[u8], counted: &str, first: &Texts, second: &Texts) -> &'static str {
-    if second.answers.as_slice() != first.answers.as_slice() {
+/// What is told of a map with this many features.
+fn told(alloc: Global, map: &[u8], features: u32) -> Result<&'static str, AllocError> {
+    let counted = format!(in alloc; "features {features} ")?;
+    let script = questions(alloc, features)?;
+    let script = script.as_str().as_bytes();
+    let Some(first) = texts_of(alloc, map, script) else {
+        return Ok("not opened");
+    };
+    let Some(second) = texts_of(alloc, first.saved.as_slice(), script) else {
+        return Ok("not opened again");
+    };
+    Ok(if second.answers.as_slice() != first.answers.as_slice() {
         "another map"
     } else if second.saved.as_slice() != first.saved.as_slice() {
         "saved otherwise"
     } else if weight(first.saved.as_slice()) > weight(map) {
         "longer"
-    } else if !first.answers.as_slice().starts_with(counted.as_bytes()) {
+    } else if !first
+        .answers
+        .as_slice()
+        .starts_with(counted.as_str().as_bytes())
+    {
         "other features"
     } else {
         "the same"
-    }
+    })
 }
-
-/// What is told of a map by what a run gave.
-fn told_again(
-    alloc: Global,
-    map: &[u8],
-    script: &[u8],
-    counted: &str,
-    first: &Texts,
-) -> &'static str {
-    match texts_of(alloc, first.saved.as_slice(), script) {
-        Some(second) => compared(map, counted, first, &second),
-        None => "not opened again",
-    }
-}
-
-/// What is told of a map that is asked this.
-fn told(alloc: Global, map: &[u8], script: &[u8], counted: &str) -> &'static str {
-    match texts_of(alloc, map, script) {
-        Some(first) => told_again(alloc, map, script, counted, &first),
-        None => "not opened",
-    }
-}
-
-/// Prints what is told of the map in a file.
-fn print_told(rt: &HostRuntime, name: &str, script: &[u8], counted: &str) -> bool {
-    match fs::read(rt, name) {
-        Ok(map) => {
-            let text = told(rt.alloc(), map.as_slice(), script, counted);
-            println!(rt; "{name}: {text}").is_ok()
-        }
-        Err(_) => false,
-    }
-}
-
-/// The same, asked about this many features.
-fn print_asked(rt: &HostRuntime, name: &str, features: u32, counted: &str) -> bool {
-    let mut script = String::new(rt.alloc());
-    put_questions(&mut script, features).is_ok() && print_told(rt, name, script.as_bytes(), counted)
-}
-
-/// Maps, how many features they have, and what the answers begin with.
-const MAPS: &[(&str, u32, &str)] = &[
-    ("columbus.json", 49, "features 49 "),
-    ("boston-tracts.json", 506, "features 506 "),
-    ("ny8-tracts.json", 281, "features 281 "),
-    ("ne-countries50.json", 241, "features 241 "),
-];
 
 fn main(rt: HostRuntime) -> ExitCode {
-    for (name, features, counted) in MAPS {
-        if !print_asked(&rt, name, *features, counted) {
+    let maps = [
+        ("columbus.json", 49),
+        ("boston-tracts.json", 506),
+        ("ny8-tracts.json", 281),
+        ("ne-countries50.json", 241),
+    ];
+    for (name, features) in maps {
+        let Ok(map) = fs::read(&rt, name) else {
+            return ExitCode::from(1);
+        };
+        let Ok(text) = told(rt.alloc(), map.as_slice(), features) else {
+            return ExitCode::from(1);
+        };
+        if println!(rt; "{name}: {text}").is_err() {
             return ExitCode::from(1);
         }
     }

@@ -14,14 +14,21 @@ fn has_text<R: Abort>(rt: &R, fault: &OpenFault<'_>, want: &str) {
     holds(rt, want, is_displayed(fault, want));
 }
 
+const OF_A_TEXT: [(OpenFault<'static>, &str); 7] = [
+    (OpenFault::NotJson { place: 7 }, "not json at 7"),
+    (OpenFault::TooDeep { place: 100 }, "too deep at 100"),
+    (OpenFault::OutOfMemory, "out of memory"),
+    (OpenFault::NotWhole { place: 48 }, "not whole at 48"),
+    (OpenFault::OutOfRange { place: 49 }, "out of range at 49"),
+    (OpenFault::BadPosition { place: 40 }, "bad position at 40"),
+    (OpenFault::BadArcIndex { place: 61 }, "bad arc index at 61"),
+];
+
 #[test]
-fn texts_of_faults_of_a_text(rt: HostRuntime) {
-    let fault = OpenFault::NotJson { place: 7 };
-    has_text(&rt, &fault, "not json at 7");
-    let fault = OpenFault::TooDeep { place: 100 };
-    has_text(&rt, &fault, "too deep at 100");
-    let fault = OpenFault::OutOfMemory;
-    has_text(&rt, &fault, "out of memory");
+fn texts_of_faults_at_places(rt: HostRuntime) {
+    for (fault, want) in &OF_A_TEXT[..] {
+        has_text(&rt, fault, want);
+    }
 }
 
 /// That a limit that is passed has this text.
@@ -55,18 +62,6 @@ fn texts_of_faults_of_members(rt: HostRuntime) {
     has_text(&rt, &fault, "unsupported LineString");
 }
 
-#[test]
-fn texts_of_faults_at_places(rt: HostRuntime) {
-    let fault = OpenFault::NotWhole { place: 48 };
-    has_text(&rt, &fault, "not whole at 48");
-    let fault = OpenFault::OutOfRange { place: 49 };
-    has_text(&rt, &fault, "out of range at 49");
-    let fault = OpenFault::BadPosition { place: 40 };
-    has_text(&rt, &fault, "bad position at 40");
-    let fault = OpenFault::BadArcIndex { place: 61 };
-    has_text(&rt, &fault, "bad arc index at 61");
-}
-
 /// The position, which is in range.
 fn pos<R: Abort>(rt: &R, x: i64, y: i64) -> Pos {
     Pos::new(x, y).expect(rt, "in range")
@@ -77,23 +72,40 @@ fn seg<R: Abort>(rt: &R, p: (i64, i64), q: (i64, i64)) -> Seg {
     Seg::new(pos(rt, p.0, p.1), pos(rt, q.0, q.1)).expect(rt, "two positions")
 }
 
+const RING: RingAt = RingAt {
+    feature: 2,
+    polygon: 0,
+    ring: 1,
+};
+
+const OF_RINGS: [(OpenFault<'static>, &str); 2] = [
+    (
+        OpenFault::ArcsDoNotMeet { ring: RING },
+        "arcs do not meet 2 0 1",
+    ),
+    (OpenFault::RingShort { ring: RING }, "ring short 2 0 1"),
+];
+
+/// That the faults of rings that name positions have their texts.
+fn have_texts<R: Abort>(rt: &R) {
+    let repeats = OpenFault::RingRepeats {
+        ring: RING,
+        pos: pos(rt, 2, -2),
+    };
+    has_text(rt, &repeats, "ring repeats 2 0 1 at 2 -2");
+    let conflict = OpenFault::Conflict {
+        s: seg(rt, (0, 0), (4, -4)),
+        t: seg(rt, (3, 0), (1, -4)),
+    };
+    has_text(rt, &conflict, "conflict 0 0 4 -4 / 1 -4 3 0");
+}
+
 #[test]
 fn texts_of_faults_of_rings(rt: HostRuntime) {
-    let ring = RingAt {
-        feature: 2,
-        polygon: 0,
-        ring: 1,
-    };
-    let fault = OpenFault::ArcsDoNotMeet { ring };
-    has_text(&rt, &fault, "arcs do not meet 2 0 1");
-    let fault = OpenFault::RingShort { ring };
-    has_text(&rt, &fault, "ring short 2 0 1");
-    let pos = pos(&rt, 2, -2);
-    let fault = OpenFault::RingRepeats { ring, pos };
-    has_text(&rt, &fault, "ring repeats 2 0 1 at 2 -2");
-    let (s, t) = (seg(&rt, (0, 0), (4, -4)), seg(&rt, (3, 0), (1, -4)));
-    let fault = OpenFault::Conflict { s, t };
-    has_text(&rt, &fault, "conflict 0 0 4 -4 / 1 -4 3 0");
+    for (fault, want) in &OF_RINGS[..] {
+        has_text(&rt, fault, want);
+    }
+    have_texts(&rt);
 }
 
 fn take_part(coming: &mut Coming<'_>, name: &[u8], text: Option<&[u8]>) {

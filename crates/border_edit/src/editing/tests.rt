@@ -5,6 +5,7 @@ use std::alloc::{AllocError, Global};
 use std::fs::File;
 use std::io::{Error, ErrorKind, Result as IoResult, Write};
 use std::process::Abort;
+use std::test::Fail;
 use std::{env, fs, process};
 
 /// Two squares with a common side.
@@ -48,382 +49,445 @@ impl Write for Broken {
     }
 }
 
-/// Texts and their names. A new folder has those whose name is that of a file.
-const TEXTS: &[(&str, &str)] = &[
-    ("squares.json", SQUARES),
-    ("cut.json", "{"),
-    ("other.json", r#"{"type":"FeatureCollection"}"#),
-    ("noted.json", NOTED),
-    ("saved.json", BEFORE),
-    ("accepted.txt", "move 10 10 12 12\n"),
-    ("refused.txt", "move 10 10 12 12\nmove 1 1 2 2\n"),
-    ("bad.txt", "mend 10 10\n"),
-    ("undone.txt", "move 0 0 1 1\nmove 10 10 12 12\nundo\nundo\n"),
-    ("mixed.txt", MIXED),
-    ("before", BEFORE),
-    ("moved", MOVED),
-    ("nothing", ""),
-    (
-        "listed of refused.txt",
-        "2\trefused no vertex\tmove 1 1 2 2\n",
-    ),
-    ("listed of bad.txt", "1\tbad line\tmend 10 10\n"),
-    ("listed", LISTED),
-];
-
-/// Runs in new folders, one behind each empty line: MAP SCRIPT FILE, the status that the program ends with,
-/// and what it says, where `@` is the folder and a bar stands between lines. Before and behind them is put
-/// into files, and seen, what stands in them.
-const RUNS: &str =
-    r#"# after each fault FILE is as it was before, and was not made where it was not there; a folder can be
-# opened, and not be read
-other.json accepted.txt saved.json => 2 open: not a topology
-other.json accepted.txt made.json => 2 open: not a topology
-holds: saved.json = before
-missing: made.json
-cut.json refused.txt saved.json => 2 open: not json at 1
-cut.json refused.txt made.json => 2 open: not json at 1
-holds: saved.json = before
-missing: made.json
-missing.json accepted.txt saved.json => 3 map fault
-missing.json accepted.txt made.json => 3 map fault
-holds: saved.json = before
-missing: made.json
-. accepted.txt saved.json => 3 map fault
-. accepted.txt made.json => 3 map fault
-holds: saved.json = before
-missing: made.json
-squares.json missing.txt saved.json => 3 script fault
-squares.json missing.txt made.json => 3 script fault
-holds: saved.json = before
-missing: made.json
-squares.json . saved.json => 3 script fault
-squares.json . made.json => 3 script fault
-holds: saved.json = before
-missing: made.json
-
-# where answers can't be written FILE is as it was before
-squares.json accepted.txt saved.json broken => 3 write fault
-holds: saved.json = before
-squares.json refused.txt saved.json broken => 3 write fault
-holds: saved.json = before
-
-# FILE holds the last map once the whole script was answered, refusals or not, and no more than it
-put: saved.json = before
-squares.json accepted.txt saved.json => 0
-holds: saved.json = moved
-put: saved.json = before
-squares.json accepted.txt made.json => 0
-holds: made.json = moved
-put: saved.json = before
-squares.json refused.txt saved.json => 1
-holds: saved.json = moved
-put: saved.json = before
-squares.json refused.txt made.json => 1
-holds: made.json = moved
-put: saved.json = before
-squares.json bad.txt saved.json => 1
-holds: saved.json = squares.json
-put: saved.json = before
-squares.json bad.txt made.json => 1
-holds: made.json = squares.json
-# FILE may be MAP, which was read whole before
-squares.json accepted.txt squares.json => 0
-holds: squares.json = moved
-
-# a FILE that can't be made, or is a folder, is a fault, whatever the answers were
-squares.json accepted.txt . => 3 save fault
-squares.json accepted.txt missing/saved.json => 3 save fault
-squares.json refused.txt . => 3 save fault
-squares.json refused.txt missing/saved.json => 3 save fault
-squares.json bad.txt . => 3 save fault
-squares.json bad.txt missing/saved.json => 3 save fault
-
-# MAP is read, then SCRIPT is opened, then the map is, then lines are answered, then FILE is written: of
-# several faults the first is told
-missing.json missing.txt . broken => 3 map fault
-cut.json missing.txt . broken => 3 script fault
-cut.json . . broken => 2 open: not json at 1
-squares.json . . broken => 3 script fault
-squares.json accepted.txt . broken => 3 write fault
-
-# a map over the limit is read to one byte over it, and is too large; FILE is as it was before
-zeros: large.json
-read: large.json = 67108865
-large.json accepted.txt saved.json => 2 open: too large bytes
-holds: saved.json = before
-
-# two changes are taken back where two are kept, and not where one is
-squares.json undone.txt saved.json undo=2 => 0
-holds: saved.json = squares.json
-squares.json undone.txt saved.json undo=1 => 1
-
-# where the words ask for it, what is begun is told before it is done or fails, and the rest is as ever
-squares.json refused.txt out.json progress => 1 opening @/squares.json | saving @/out.json
-cut.json refused.txt out.json progress => 2 opening @/cut.json | open: not json at 1
-missing.json refused.txt out.json progress => 3 opening @/missing.json | map fault
-holds: out.json = moved
-
-# each refused line stands in FILE2, and no other, also where a text of several lines is an answer
-put: saved.json = before
-squares.json accepted.txt out.json list=saved.json => 0
-holds: saved.json = nothing
-put: saved.json = before
-squares.json accepted.txt out.json list=made.txt => 0
-holds: made.txt = nothing
-put: saved.json = before
-squares.json refused.txt out.json list=saved.json => 1
-holds: saved.json = listed of refused.txt
-put: saved.json = before
-squares.json refused.txt out.json list=made.txt => 1
-holds: made.txt = listed of refused.txt
-put: saved.json = before
-squares.json bad.txt out.json list=saved.json => 1
-holds: saved.json = listed of bad.txt
-put: saved.json = before
-squares.json bad.txt out.json list=made.txt => 1
-holds: made.txt = listed of bad.txt
-put: saved.json = before
-squares.json mixed.txt out.json list=saved.json => 1
-holds: saved.json = listed
-put: saved.json = before
-squares.json mixed.txt out.json list=made.txt => 1
-holds: made.txt = listed
-put: saved.json = before
-noted.json mixed.txt out.json list=saved.json => 1
-holds: saved.json = listed
-put: saved.json = before
-noted.json mixed.txt out.json list=made.txt => 1
-holds: made.txt = listed
-holds: out.json = noted.json
-
-# after a fault FILE2 is as it was; one that can't be written is a fault, and FILE holds the map
-cut.json refused.txt out.json list=saved.json => 2 open: not json at 1
-holds: saved.json = before
-squares.json . out.json list=saved.json => 3 script fault
-holds: saved.json = before
-squares.json refused.txt . list=saved.json => 3 save fault
-holds: saved.json = before
-squares.json refused.txt out.json list=saved.json broken => 3 write fault
-holds: saved.json = before
-put: out.json = before
-squares.json accepted.txt out.json list=. => 3 refused fault
-holds: out.json = moved
-put: out.json = before
-squares.json refused.txt out.json list=. => 3 refused fault
-holds: out.json = moved"#;
-
-/// The texts and their names.
-fn texts() -> &'static [(&'static str, &'static str)] {
-    TEXTS
-}
-
-/// The text of this name.
-fn text_of<R: Abort>(test: &R, name: &str) -> &'static str {
-    for (this, text) in texts() {
-        if *this == name {
-            return text;
-        }
-    }
-    panic!(test; "{name}");
+/// A writer for answers that are not looked at.
+fn unread(alloc: Global) -> Vec<u8> {
+    Vec::new(alloc)
 }
 
 /// The path of a file in a folder.
-fn path<R: Abort>(test: &R, alloc: Global, folder: &str, name: &str) -> String {
-    format!(in alloc; "{folder}/{name}").expect(test, "memory")
+fn path(alloc: Global, folder: &str, name: &str) -> Result<String, AllocError> {
+    format!(in alloc; "{folder}/{name}")
 }
 
 /// Writes a file in a folder.
-fn put<R: Abort>(rt: &HostRuntime, test: &R, folder: &str, name: &str, text: &str) {
-    let path = path(test, rt.alloc(), folder, name);
-    let is_put = fs::write(rt, path.as_str(), text).is_ok();
-    assert!(test; is_put, "{name}");
+fn put(rt: &HostRuntime, folder: &str, name: &str, text: &str) -> Result<(), Fail> {
+    let path = path(rt.alloc(), folder, name)?;
+    fs::write(rt, path.as_str(), text)?;
+    Ok(())
 }
 
-/// Whether a file in a folder holds this text.
-fn has_text(rt: &HostRuntime, path: &str, text: &str) -> bool {
-    match fs::read_to_string(rt, path) {
-        Ok(held) => held.as_str() == text,
-        Err(_) => false,
-    }
+/// A file in a folder holds this text.
+fn holds(
+    rt: &HostRuntime,
+    test: &impl Abort,
+    folder: &str,
+    name: &str,
+    text: &str,
+) -> Result<(), Fail> {
+    let path = path(rt.alloc(), folder, name)?;
+    let held = fs::read_to_string(rt, path.as_str())?;
+    assert_eq!(test; held.as_str(), text, "{name}");
+    Ok(())
 }
 
-/// That a file in a folder holds this text.
-fn holds<R: Abort>(rt: &HostRuntime, test: &R, folder: &str, name: &str, text: &str) {
-    let path = path(test, rt.alloc(), folder, name);
-    let has_text = has_text(rt, path.as_str(), text);
-    assert!(test; has_text, "{name}");
+/// No file of this name stands in a folder.
+fn is_missing(rt: &HostRuntime, test: &impl Abort, folder: &str, name: &str) -> Result<(), Fail> {
+    let path = path(rt.alloc(), folder, name)?;
+    let opened = File::open(rt, path.as_str());
+    assert!(test; opened.is_err(), "{name}");
+    Ok(())
 }
 
-/// That no file of this name stands in a folder.
-fn is_missing<R: Abort>(rt: &HostRuntime, test: &R, folder: &str, name: &str) {
-    let path = path(test, rt.alloc(), folder, name);
-    let is_missing = File::open(rt, path.as_str()).is_err();
-    assert!(test; is_missing, "{name}");
-}
-
-/// Makes a file of zeros in a folder, a hundred bytes longer than a map may be.
-fn put_zeros<R: Abort>(rt: &HostRuntime, test: &R, folder: &str, name: &str) {
-    let path = path(test, rt.alloc(), folder, name);
-    let is_put = match File::create(rt, path.as_str()) {
-        Ok(file) => file.set_len(67_108_964).is_ok(),
-        Err(_) => false,
-    };
-    assert!(test; is_put, "{name}");
-}
-
-/// That so many bytes are read of a map in a folder.
-fn is_read<R: Abort>(rt: &HostRuntime, test: &R, folder: &str, name: &str, length: &str) {
-    let path = path(test, rt.alloc(), folder, name);
-    let count = match map_bytes(rt, path.as_str()) {
-        Ok(bytes) => bytes.len(),
-        Err(_) => 0,
-    };
-    assert!(test; Ok(count) == length.parse::<usize>(), "{count}");
-}
-
-/// What words ask for that name these files of a folder, and then what else is asked for.
-fn words_of<R: Abort>(test: &R, alloc: Global, folder: &str, line: &str) -> Words {
-    let mut names = line.split(' ');
-    let mut words = Words {
-        map: path(test, alloc, folder, names.next().unwrap_or("")),
-        script: path(test, alloc, folder, names.next().unwrap_or("")),
-        out: path(test, alloc, folder, names.next().unwrap_or("")),
-        depth: 100,
-        refused: None,
-        progress: false,
-    };
-    for name in names {
-        if let Some(list) = name.strip_prefix("list=") {
-            words.refused = Some(path(test, alloc, folder, list));
-        }
-        match name {
-            "progress" => words.progress = true,
-            "undo=1" => words.depth = 1,
-            "undo=2" => words.depth = 2,
-            _ => {}
-        }
-    }
-    words
-}
-
-/// Appends what is to be said.
-fn put_said(said: &mut String, folder: &str, want: &str) -> Result<(), AllocError> {
-    for line in want.split(" | ") {
-        let (front, end) = line.split_once("@").unwrap_or((line, ""));
-        said.push_str(front)?;
-        if front.len() < line.len() {
-            said.push_str(folder)?;
-        }
-        said.push_str(end)?;
-        said.push_str("\n")?;
+/// Puts a map, scripts and what stands in FILE into a folder.
+fn put_files(rt: &HostRuntime, folder: &str) -> Result<(), Fail> {
+    let files = [
+        ("squares.json", SQUARES),
+        ("cut.json", "{"),
+        ("other.json", r#"{"type":"FeatureCollection"}"#),
+        ("accepted.txt", "move 10 10 12 12\n"),
+        ("refused.txt", "move 10 10 12 12\nmove 1 1 2 2\n"),
+        ("bad.txt", "mend 10 10\n"),
+        ("undone.txt", "move 0 0 1 1\nmove 10 10 12 12\nundo\nundo\n"),
+        ("mixed.txt", MIXED),
+        ("noted.json", NOTED),
+        ("saved.json", BEFORE),
+    ];
+    for (name, text) in files {
+        put(rt, folder, name, text)?;
     }
     Ok(())
 }
 
-/// The status that the program ends with, and what it says.
-fn ended<R: Abort>(rt: &HostRuntime, test: &R, folder: &str, line: &str) -> (u8, Vec<u8>) {
-    let words = words_of(test, rt.alloc(), folder, line);
-    let mut errors = Vec::new(rt.alloc());
-    let status = if line.ends_with(" broken") {
-        edit(rt, &words, Broken, &mut errors)
-    } else {
-        let answers: Vec<u8> = Vec::new(rt.alloc());
-        edit(rt, &words, answers, &mut errors)
-    };
-    (status, errors)
-}
-
-/// That the program ends so on these files of a folder.
-fn ends<R: Abort>(rt: &HostRuntime, test: &R, folder: &str, line: &str, want: &str) {
-    let (status, errors) = ended(rt, test, folder, line);
-    let mut said = String::new(rt.alloc());
-    let wanted = match want.split_once(" ") {
-        Some((status, want)) => {
-            put_said(&mut said, folder, want).expect(test, "memory");
-            status
-        }
-        None => want,
-    };
-    let is_so = wanted.parse::<u8>() == Ok(status) && errors.as_slice() == said.as_bytes();
-    assert!(test; is_so, "{line}: {status} {errors:?}");
-}
-
-/// Does what stands on this line: a run; or something with a file, and perhaps a text.
-fn step<R: Abort>(rt: &HostRuntime, test: &R, folder: &str, line: &str) {
-    if let Some((run, want)) = line.split_once(" => ") {
-        return ends(rt, test, folder, run, want);
-    }
-    let Some((what, of)) = line.split_once(": ") else {
-        return;
-    };
-    let (name, text) = of.split_once(" = ").unwrap_or((of, ""));
-    match what {
-        "put" => put(rt, test, folder, name, text_of(test, text)),
-        "holds" => holds(rt, test, folder, name, text_of(test, text)),
-        "missing" => is_missing(rt, test, folder, name),
-        "zeros" => put_zeros(rt, test, folder, name),
-        "read" => is_read(rt, test, folder, name, text),
-        _ => {}
-    }
-}
-
-/// Puts the maps, the scripts and what stands in FILE into a folder.
-fn put_files<R: Abort>(rt: &HostRuntime, test: &R, folder: &str) {
-    for (name, text) in texts() {
-        if name.ends_with(".json") || name.ends_with(".txt") {
-            put(rt, test, folder, name, text);
-        }
-    }
-}
-
-/// The path of a new folder with these files.
-fn new_folder<R: Abort>(rt: &HostRuntime, test: &R, number: usize) -> String {
-    let parent = env::temp_dir(rt).expect(test, "a folder");
-    let process = process::id(rt.process());
+/// The path of a new folder with a map, scripts and what stands in FILE.
+fn new_folder(rt: &HostRuntime, name: &str) -> Result<String, Fail> {
+    let parent = env::temp_dir(rt)?;
+    let number = process::id(rt.process());
     let parent = parent.as_str();
-    let folder = format!(in rt.alloc(); "{parent}/border_edit_{number}_{process}");
-    let folder = folder.expect(test, "memory");
-    fs::create_dir(rt, folder.as_str()).expect(test, "a new folder");
-    put_files(rt, test, folder.as_str());
-    folder
+    let folder = format!(in rt.alloc(); "{parent}/border_edit_{name}_{number}")?;
+    fs::create_dir(rt, folder.as_str())?;
+    put_files(rt, folder.as_str())?;
+    Ok(folder)
 }
 
-/// Does what stands on these lines, in a new folder.
-fn steps<R: Abort>(rt: &HostRuntime, test: &R, number: usize, lines: &str) {
-    let folder = new_folder(rt, test, number);
-    for line in lines.lines() {
-        step(rt, test, folder.as_str(), line);
+/// Words that name files of a folder: MAP, SCRIPT and FILE.
+fn words(alloc: Global, folder: &str, files: [&str; 3]) -> Result<Words, AllocError> {
+    let [map, script, out] = files;
+    Ok(Words {
+        map: path(alloc, folder, map)?,
+        script: path(alloc, folder, script)?,
+        out: path(alloc, folder, out)?,
+        depth: 100,
+        refused: None,
+        progress: false,
+    })
+}
+
+/// On these files of a folder the program ends with this status, and says this.
+fn ends<W: Write + Drop>(
+    rt: &HostRuntime,
+    test: &impl Abort,
+    folder: &str,
+    files: [&str; 3],
+    answers: W,
+    (status, said): (u8, &str),
+) -> Result<(), Fail> {
+    let words = words(rt.alloc(), folder, files)?;
+    let mut errors: Vec<u8> = Vec::new(rt.alloc());
+    let ended = edit(rt, &words, answers, &mut errors);
+    assert_eq!(test; ended, status, "{files:?}");
+    assert_eq!(test; errors.as_slice(), said.as_bytes(), "{files:?}");
+    Ok(())
+}
+
+/// After each fault FILE is as it was before, and was not made where it was not there.
+fn faults(rt: &HostRuntime, test: &impl Abort, folder: &str) -> Result<(), Fail> {
+    // A folder can be opened, and not be read.
+    let rows = [
+        ("other.json", "accepted.txt", 2, "open: not a topology\n"),
+        ("cut.json", "refused.txt", 2, "open: not json at 1\n"),
+        ("missing.json", "accepted.txt", 3, "map fault\n"),
+        (".", "accepted.txt", 3, "map fault\n"),
+        ("squares.json", "missing.txt", 3, "script fault\n"),
+        ("squares.json", ".", 3, "script fault\n"),
+    ];
+    for (map, script, status, said) in rows {
+        for file in ["saved.json", "made.json"] {
+            let answers = unread(rt.alloc());
+            ends(
+                rt,
+                test,
+                folder,
+                [map, script, file],
+                answers,
+                (status, said),
+            )?;
+        }
+        holds(rt, test, folder, "saved.json", BEFORE)?;
+        is_missing(rt, test, folder, "made.json")?;
     }
-    fs::remove_dir_all(rt, folder.as_str()).expect(test, "the folder");
+    Ok(())
 }
 
 #[test]
-fn runs(rt: HostRuntime) {
-    for (number, lines) in RUNS.split("\n\n").enumerate() {
-        steps(&rt, &rt, number, lines);
-    }
+fn a_fault_leaves_the_file_as_it_was(rt: HostRuntime) -> Result<(), Fail> {
+    let folder = new_folder(&rt, "faults")?;
+    faults(&rt, &rt, folder.as_str())?;
+    fs::remove_dir_all(&rt, folder.as_str())?;
+    Ok(())
 }
 
-/// The status of a run whose script comes from a reader, where nothing is said.
-fn piped<R: Abort>(rt: &HostRuntime, test: &R, words: &Words) -> Option<u8> {
-    let map = SQUARES.as_bytes();
-    let editing = Editing { rt, words, map };
-    let answers: Vec<u8> = Vec::new(rt.alloc());
+/// Where answers can't be written FILE is as it was before.
+fn write_faults(rt: &HostRuntime, test: &impl Abort, folder: &str) -> Result<(), Fail> {
+    for script in ["accepted.txt", "refused.txt"] {
+        let files = ["squares.json", script, "saved.json"];
+        ends(rt, test, folder, files, Broken, (3, "write fault\n"))?;
+        holds(rt, test, folder, "saved.json", BEFORE)?;
+    }
+    Ok(())
+}
+
+#[test]
+fn a_write_fault_leaves_the_file_as_it_was(rt: HostRuntime) -> Result<(), Fail> {
+    let folder = new_folder(&rt, "write_faults")?;
+    write_faults(&rt, &rt, folder.as_str())?;
+    fs::remove_dir_all(&rt, folder.as_str())?;
+    Ok(())
+}
+
+/// FILE holds the last map once the whole script was answered, refusals or not, and no more than it.
+fn answered(rt: &HostRuntime, test: &impl Abort, folder: &str) -> Result<(), Fail> {
+    let rows = [
+        ("accepted.txt", 0, MOVED),
+        ("refused.txt", 1, MOVED),
+        ("bad.txt", 1, SQUARES),
+    ];
+    for (script, status, text) in rows {
+        for file in ["saved.json", "made.json"] {
+            put(rt, folder, "saved.json", BEFORE)?;
+            let answers = unread(rt.alloc());
+            ends(
+                rt,
+                test,
+                folder,
+                ["squares.json", script, file],
+                answers,
+                (status, ""),
+            )?;
+            holds(rt, test, folder, file, text)?;
+        }
+    }
+    // FILE may be MAP, which was read whole before.
+    let files = ["squares.json", "accepted.txt", "squares.json"];
+    ends(rt, test, folder, files, unread(rt.alloc()), (0, ""))?;
+    holds(rt, test, folder, "squares.json", MOVED)
+}
+
+#[test]
+fn the_file_is_written_once_the_script_was_answered(rt: HostRuntime) -> Result<(), Fail> {
+    let folder = new_folder(&rt, "answered")?;
+    answered(&rt, &rt, folder.as_str())?;
+    fs::remove_dir_all(&rt, folder.as_str())?;
+    Ok(())
+}
+
+/// A FILE that can't be made, or is a folder, is a fault, whatever the answers were.
+fn save_faults(rt: &HostRuntime, test: &impl Abort, folder: &str) -> Result<(), Fail> {
+    for script in ["accepted.txt", "refused.txt", "bad.txt"] {
+        for file in [".", "missing/saved.json"] {
+            let answers = unread(rt.alloc());
+            let files = ["squares.json", script, file];
+            ends(rt, test, folder, files, answers, (3, "save fault\n"))?;
+        }
+    }
+    Ok(())
+}
+
+#[test]
+fn a_file_that_cannot_be_written_is_a_fault(rt: HostRuntime) -> Result<(), Fail> {
+    let folder = new_folder(&rt, "save_faults")?;
+    save_faults(&rt, &rt, folder.as_str())?;
+    fs::remove_dir_all(&rt, folder.as_str())?;
+    Ok(())
+}
+
+/// MAP is read, then SCRIPT is opened, then the map is, then lines are answered, then FILE is written:
+/// of several faults the first is told.
+fn first_faults(rt: &HostRuntime, test: &impl Abort, folder: &str) -> Result<(), Fail> {
+    let rows = [
+        ("missing.json", "missing.txt", 3, "map fault\n"),
+        ("cut.json", "missing.txt", 3, "script fault\n"),
+        ("cut.json", ".", 2, "open: not json at 1\n"),
+        ("squares.json", ".", 3, "script fault\n"),
+        ("squares.json", "accepted.txt", 3, "write fault\n"),
+    ];
+    for (map, script, status, said) in rows {
+        ends(rt, test, folder, [map, script, "."], Broken, (status, said))?;
+    }
+    Ok(())
+}
+
+#[test]
+fn the_first_fault_is_told(rt: HostRuntime) -> Result<(), Fail> {
+    let folder = new_folder(&rt, "first_faults")?;
+    first_faults(&rt, &rt, folder.as_str())?;
+    fs::remove_dir_all(&rt, folder.as_str())?;
+    Ok(())
+}
+
+/// Makes a file of zeros in a folder.
+fn put_zeros(rt: &HostRuntime, folder: &str, name: &str, length: u64) -> Result<(), Fail> {
+    let path = path(rt.alloc(), folder, name)?;
+    let file = File::create(rt, path.as_str())?;
+    file.set_len(length)?;
+    Ok(())
+}
+
+/// How many bytes are read of a map in a folder.
+fn read_length(rt: &HostRuntime, folder: &str, name: &str) -> Result<usize, Fail> {
+    let path = path(rt.alloc(), folder, name)?;
+    let bytes = map_bytes(rt, path.as_str())?;
+    Ok(bytes.len())
+}
+
+#[test]
+fn a_map_is_read_to_one_byte_over_the_limit(rt: HostRuntime) -> Result<(), Fail> {
+    let folder = new_folder(&rt, "read")?;
+    put_zeros(&rt, folder.as_str(), "large.json", 67_108_964)?;
+    let length = read_length(&rt, folder.as_str(), "large.json")?;
+    assert_eq!(rt; length, 67_108_865);
+    fs::remove_dir_all(&rt, folder.as_str())?;
+    Ok(())
+}
+
+/// A map over the limit is too large, and FILE is as it was before.
+fn too_large(rt: &HostRuntime, test: &impl Abort, folder: &str) -> Result<(), Fail> {
+    put_zeros(rt, folder, "large.json", 67_108_964)?;
+    let files = ["large.json", "accepted.txt", "saved.json"];
+    let said = "open: too large bytes\n";
+    ends(rt, test, folder, files, unread(rt.alloc()), (2, said))?;
+    holds(rt, test, folder, "saved.json", BEFORE)
+}
+
+#[test]
+fn a_map_over_the_limit_is_too_large(rt: HostRuntime) -> Result<(), Fail> {
+    let folder = new_folder(&rt, "large")?;
+    too_large(&rt, &rt, folder.as_str())?;
+    fs::remove_dir_all(&rt, folder.as_str())?;
+    Ok(())
+}
+
+/// Two changes are taken back where two are kept, and not where one is.
+#[test]
+fn as_many_changes_are_kept_as_the_words_say(rt: HostRuntime) -> Result<(), Fail> {
+    let folder = new_folder(&rt, "depth")?;
+    let mut words = words(
+        rt.alloc(),
+        folder.as_str(),
+        ["squares.json", "undone.txt", "saved.json"],
+    )?;
     let mut errors: Vec<u8> = Vec::new(rt.alloc());
-    let ended = editing.edit_by(MIXED.as_bytes(), answers, &mut errors);
-    assert!(test; errors.is_empty());
-    ended.ok()
+    words.depth = 2;
+    assert_eq!(rt; edit(&rt, &words, unread(rt.alloc()), &mut errors), 0);
+    holds(&rt, &rt, folder.as_str(), "saved.json", SQUARES)?;
+    words.depth = 1;
+    assert_eq!(rt; edit(&rt, &words, unread(rt.alloc()), &mut errors), 1);
+    fs::remove_dir_all(&rt, folder.as_str())?;
+    Ok(())
+}
+
+/// Where the words ask for it, what is begun is told before it is done or fails, and the rest is as ever.
+fn told(rt: &HostRuntime, test: &impl Abort, folder: &str) -> Result<(), Fail> {
+    let opening = format!(in rt.alloc(); "opening {folder}/")?;
+    let opening = opening.as_str();
+    let saving = format!(in rt.alloc(); "saving {folder}/out.json\n")?;
+    let saving = saving.as_str();
+    let rows = [
+        ("squares.json", 1, saving),
+        ("cut.json", 2, "open: not json at 1\n"),
+        ("missing.json", 3, "map fault\n"),
+    ];
+    for (map, status, said) in rows {
+        let mut words = words(rt.alloc(), folder, [map, "refused.txt", "out.json"])?;
+        words.progress = true;
+        let said = format!(in rt.alloc(); "{opening}{map}\n{said}")?;
+        let mut errors: Vec<u8> = Vec::new(rt.alloc());
+        let ended = edit(rt, &words, unread(rt.alloc()), &mut errors);
+        assert_eq!(test; ended, status, "{map}");
+        assert_eq!(test; errors.as_slice(), said.as_bytes(), "{map}");
+    }
+    holds(rt, test, folder, "out.json", MOVED)
+}
+
+#[test]
+fn what_is_begun_is_told(rt: HostRuntime) -> Result<(), Fail> {
+    let folder = new_folder(&rt, "told")?;
+    told(&rt, &rt, folder.as_str())?;
+    fs::remove_dir_all(&rt, folder.as_str())?;
+    Ok(())
+}
+
+/// Runs files of a folder, MAP, SCRIPT, FILE and FILE2, and looks at the end.
+fn ends_listed<W: Write + Drop>(
+    rt: &HostRuntime,
+    test: &impl Abort,
+    folder: &str,
+    files: [&str; 4],
+    answers: W,
+    (status, said): (u8, &str),
+) -> Result<(), Fail> {
+    let [map, script, out, list] = files;
+    let mut words = words(rt.alloc(), folder, [map, script, out])?;
+    words.refused = Some(path(rt.alloc(), folder, list)?);
+    let mut errors: Vec<u8> = Vec::new(rt.alloc());
+    let ended = edit(rt, &words, answers, &mut errors);
+    assert_eq!(test; ended, status, "{files:?}");
+    assert_eq!(test; errors.as_slice(), said.as_bytes(), "{files:?}");
+    Ok(())
+}
+
+/// Each refused line stands in FILE2, and no other, also where a text of several lines is an answer.
+fn listed(rt: &HostRuntime, test: &impl Abort, folder: &str) -> Result<(), Fail> {
+    let rows = [
+        ("squares.json", "accepted.txt", 0, ""),
+        (
+            "squares.json",
+            "refused.txt",
+            1,
+            "2\trefused no vertex\tmove 1 1 2 2\n",
+        ),
+        ("squares.json", "bad.txt", 1, "1\tbad line\tmend 10 10\n"),
+        ("squares.json", "mixed.txt", 1, LISTED),
+        ("noted.json", "mixed.txt", 1, LISTED),
+    ];
+    for (map, script, status, text) in rows {
+        for list in ["saved.json", "made.txt"] {
+            put(rt, folder, "saved.json", BEFORE)?;
+            let files = [map, script, "out.json", list];
+            ends_listed(rt, test, folder, files, unread(rt.alloc()), (status, ""))?;
+            holds(rt, test, folder, list, text)?;
+        }
+    }
+    holds(rt, test, folder, "out.json", NOTED)
+}
+
+#[test]
+fn refused_lines_are_listed(rt: HostRuntime) -> Result<(), Fail> {
+    let folder = new_folder(&rt, "listed")?;
+    listed(&rt, &rt, folder.as_str())?;
+    fs::remove_dir_all(&rt, folder.as_str())?;
+    Ok(())
+}
+
+/// After a fault FILE2 is as it was; one that can't be written is a fault, and FILE holds the map.
+fn list_faults(rt: &HostRuntime, test: &impl Abort, folder: &str) -> Result<(), Fail> {
+    let rows = [
+        (
+            "cut.json",
+            "refused.txt",
+            "out.json",
+            2,
+            "open: not json at 1\n",
+        ),
+        ("squares.json", ".", "out.json", 3, "script fault\n"),
+        ("squares.json", "refused.txt", ".", 3, "save fault\n"),
+    ];
+    for (map, script, out, status, said) in rows {
+        let files = [map, script, out, "saved.json"];
+        ends_listed(rt, test, folder, files, unread(rt.alloc()), (status, said))?;
+        holds(rt, test, folder, "saved.json", BEFORE)?;
+    }
+    let files = ["squares.json", "refused.txt", "out.json", "saved.json"];
+    ends_listed(rt, test, folder, files, Broken, (3, "write fault\n"))?;
+    holds(rt, test, folder, "saved.json", BEFORE)?;
+    for script in ["accepted.txt", "refused.txt"] {
+        put(rt, folder, "out.json", BEFORE)?;
+        let files = ["squares.json", script, "out.json", "."];
+        let said = "refused fault\n";
+        ends_listed(rt, test, folder, files, unread(rt.alloc()), (3, said))?;
+        holds(rt, test, folder, "out.json", MOVED)?;
+    }
+    Ok(())
+}
+
+#[test]
+fn a_list_that_cannot_be_written_is_a_fault(rt: HostRuntime) -> Result<(), Fail> {
+    let folder = new_folder(&rt, "list_faults")?;
+    list_faults(&rt, &rt, folder.as_str())?;
+    fs::remove_dir_all(&rt, folder.as_str())?;
+    Ok(())
 }
 
 /// A script that comes from a reader is answered, and its refused lines are listed.
+fn piped(rt: &HostRuntime, test: &impl Abort, folder: &str) -> Result<(), Fail> {
+    let mut words = words(rt.alloc(), folder, ["squares.json", "-", "out.json"])?;
+    words.refused = Some(path(rt.alloc(), folder, "list.txt")?);
+    let mut errors: Vec<u8> = Vec::new(rt.alloc());
+    let editing = Editing {
+        rt,
+        words: &words,
+        map: SQUARES.as_bytes(),
+    };
+    let ended = editing.edit_by(MIXED.as_bytes(), unread(rt.alloc()), &mut errors);
+    assert_eq!(test; ended.ok(), Some(1));
+    assert_eq!(test; errors.as_slice(), b"".as_slice());
+    holds(rt, test, folder, "list.txt", LISTED)?;
+    holds(rt, test, folder, "out.json", SQUARES)
+}
+
 #[test]
-fn a_script_comes_from_a_reader(rt: HostRuntime) {
-    let folder = new_folder(&rt, &rt, 0);
-    let line = "squares.json - out.json list=list.txt";
-    let words = words_of(&rt, rt.alloc(), folder.as_str(), line);
-    assert!(rt; piped(&rt, &rt, &words) == Some(1));
-    holds(&rt, &rt, folder.as_str(), "list.txt", LISTED);
-    holds(&rt, &rt, folder.as_str(), "out.json", SQUARES);
-    fs::remove_dir_all(&rt, folder.as_str()).expect(&rt, "the folder");
+fn a_script_comes_from_a_reader(rt: HostRuntime) -> Result<(), Fail> {
+    let folder = new_folder(&rt, "piped")?;
+    piped(&rt, &rt, folder.as_str())?;
+    fs::remove_dir_all(&rt, folder.as_str())?;
+    Ok(())
 }
