@@ -1,176 +1,162 @@
 // Maps and scripts at their limits.
 ghost use Rattle.std.specs.Prelude.{None, false};
 
-use crate::told::{TWO_SQUARES, told};
-use device_io::{Failed, FromReader, Source, ToWriter};
-use script_runner::{RunFault, run};
-use std::alloc::{AllocFailed, Global};
+use crate::devices::is_left;
+use crate::long_texts::{Long, text_of};
+use crate::maps::{SQUARES, TWO_SQUARES};
+use crate::told::{Told, holds, is_answered, tell, tell_by};
+use device_io::{Failed, FromReader, Source};
+use std::alloc::Global;
 use std::process::Abort;
-use std::test::Fail;
 
-/// Appends a piece so many times.
-fn repeat(text: &mut Vec<u8>, piece: &[u8], times: usize) -> Result<(), AllocFailed<u8>> {
-    for _ in 0..times {
-        for byte in piece {
-            text.push(*byte)?;
-        }
+/// What it shows, a map, a script, and the answers.
+type Case = (&'static str, Long<'static>, &'static str, &'static str);
+
+/// As many bytes as a map may have, and one more.
+const BYTES: &[Case] = &[
+    (
+        "one byte more than a map may have",
+        ("", " ", 67_108_865, ""),
+        "",
+        "open: too large bytes",
+    ),
+    (
+        "as many bytes as a map may have",
+        ("", " ", 67_108_864, ""),
+        "",
+        "open: not json at 67108864",
+    ),
+];
+
+/// A ring that names a closed arc of five positions 800,001 times; rings of four positions.
+const POSITIONS: &[Case] = &[
+    (
+        "one arc too many",
+        (
+            "{\"type\":\"Topology\",\"objects\":{\"a\":{\"type\":\"Polygon\",\"arcs\":[[0",
+            ",0",
+            800_000,
+            "]]}},\"arcs\":[[[0,0],[10,0],[10,10],[0,10],[0,0]]]}",
+        ),
+        "",
+        "open: too large positions",
+    ),
+    (
+        "the last arc that can be",
+        (
+            "{\"type\":\"Topology\",\"objects\":{\"a\":{\"type\":\"Polygon\",\"arcs\":[[0",
+            ",0",
+            799_999,
+            "]]}},\"arcs\":[[[0,0],[10,0],[10,10],[0,10],[0,0]]]}",
+        ),
+        "",
+        "open: ring repeats 0 0 0 at 0 0",
+    ),
+    (
+        "800,000 rings, a position more in each, and then one too many in each",
+        (
+            "{\"type\":\"Topology\",\"objects\":{\"a\":{\"type\":\"GeometryCollection\",\"geometries\":[{\"type\":\"MultiPolygon\",\"arcs\":[[[0]]",
+            ",[[0]]",
+            799_999,
+            "]}]}},\"arcs\":[[[0,0],[10,0],[10,10],[0,10],[0,0]]]}",
+        ),
+        "insert 0 0 10 0 5 0\ninsert 5 0 10 0 7 0\nsplit 0 \"c\" 0 0 10 10\narea 0",
+        "ok\nrefused too large\nrefused too large\n160000000\nanswered 4, refused 2",
+    ),
+];
+
+const NULL: &str = ",{\"type\":null}";
+
+const NULLS: &str =
+    "{\"type\":\"Topology\",\"objects\":{\"a\":{\"type\":\"GeometryCollection\",\"geometries\":[{\"type\":null}";
+
+const NULLS_END: &str = "]}},\"arcs\":[]}";
+
+const SQUARE_AND_NULLS: &str =
+    "{\"type\":\"Topology\",\"objects\":{\"a\":{\"type\":\"GeometryCollection\",\"geometries\":[{\"type\":\"Polygon\",\"arcs\":[[0]]}";
+
+const SQUARE_END: &str = "]}},\"arcs\":[[[0,0],[10,0],[10,10],[0,10],[0,0]]]}";
+
+/// Features that have no polygons, alone and behind a square.
+const FEATURES: &[Case] = &[
+    (
+        "one feature more than a map may have",
+        (NULLS, NULL, 200_000, NULLS_END),
+        "area 0",
+        "open: too large features",
+    ),
+    (
+        "as many features as a map may have",
+        (NULLS, NULL, 199_999, NULLS_END),
+        "area 199999",
+        "0\nanswered 1, refused 0",
+    ),
+    (
+        "the last number that there is, and one more, though a feature has gone",
+        (SQUARE_AND_NULLS, NULL, 199_998, SQUARE_END),
+        "split 0 \"C\" 0 0 10 10\ndelete 1\nsplit 0 \"D\" 0 0 5 3 10 10\narea 0",
+        "ok 199999\nok\nrefused too large\n100\nanswered 4, refused 1",
+    ),
+    (
+        "all numbers are taken by what was read",
+        (SQUARE_AND_NULLS, NULL, 199_999, SQUARE_END),
+        "split 0 \"C\" 0 0 10 10\narea 0\nrings 0",
+        "refused too large\n200\n[[[[0,0],[10,0],[10,10],[0,10]]]]\nanswered 3, refused 1",
+    ),
+];
+
+/// That the script has these answers on the map.
+fn case_answers<R: Abort>(rt: &R, alloc: Global, case: &Case) {
+    let (what, map, script, want) = case;
+    let map = text_of(rt, alloc, map);
+    is_answered(
+        rt,
+        alloc,
+        what,
+        map.as_slice(),
+        script.as_bytes(),
+        want.as_bytes(),
+    );
+}
+
+/// That each script has these answers on its map.
+fn cases_answer<R: Abort>(rt: &R, alloc: Global, cases: &[Case]) {
+    for case in cases {
+        case_answers(rt, alloc, case);
     }
-    Ok(())
 }
 
-/// A text of so many pieces between a front and an end.
-pub(crate) fn long_text(
-    rt: &HostRuntime,
-    front: &[u8],
-    piece: &[u8],
-    times: usize,
-    end: &[u8],
-) -> Result<Vec<u8>, AllocFailed<u8>> {
-    let mut text = Vec::new(rt.alloc());
-    repeat(&mut text, front, 1)?;
-    repeat(&mut text, piece, times)?;
-    repeat(&mut text, end, 1)?;
-    Ok(text)
-}
-
-/// One byte more than a map may have.
 #[test]
-fn a_map_of_too_many_bytes(rt: HostRuntime) -> Result<(), Fail> {
-    let map = long_text(&rt, b"", b" ", 67_108_865, b"")?;
-    assert_eq!(rt;
-        told(rt.alloc(), map.as_slice(), b"")?.as_str(),
-        "open: too large bytes"
-    );
-    let map = long_text(&rt, b"", b" ", 67_108_864, b"")?;
-    assert_eq!(rt;
-        told(rt.alloc(), map.as_slice(), b"")?.as_str(),
-        "open: not json at 67108864"
-    );
-    Ok(())
+fn bytes_of_a_map(rt: HostRuntime) {
+    cases_answer(&rt, rt.alloc(), BYTES);
+}
+
+#[test]
+fn positions_of_a_map(rt: HostRuntime) {
+    cases_answer(&rt, rt.alloc(), POSITIONS);
+}
+
+#[test]
+fn features_of_a_map(rt: HostRuntime) {
+    cases_answer(&rt, rt.alloc(), FEATURES);
+}
+
+/// Whether the two squares answered for their first area, and were saved.
+fn is_of_squares(told: &Told) -> bool {
+    told.end.as_str() == "answered 1, refused 0"
+        && told.answers.as_slice() == b"200\n".as_slice()
+        && told.saved.as_slice() == SQUARES.as_bytes()
 }
 
 /// Two squares in as many bytes as a map may have, most of them spaces.
 #[test]
-fn a_map_of_all_bytes(rt: HostRuntime) -> Result<(), Fail> {
-    let squares = TWO_SQUARES.as_bytes();
-    let spaces = 67_108_864usize.saturating_sub(squares.len());
-    let map = long_text(&rt, b"{", b" ", spaces, &squares[1..])?;
-    assert_eq!(rt; map.len(), 67_108_864);
-    let mut source = FromReader::new(b"area 0".as_slice());
-    let mut sink = ToWriter::new(Vec::new(rt.alloc()));
-    let mut saved = ToWriter::new(Vec::new(rt.alloc()));
-    let outcome = run(
-        rt.alloc(),
-        rt.alloc(),
-        map.as_slice(),
-        &mut source,
-        100,
-        &mut sink,
-        &mut saved,
-    );
-    assert!(rt; outcome.is_ok());
-    assert_eq!(rt; sink.writer.as_slice(), b"200\n".as_slice());
-    assert_eq!(rt;
-        saved.writer.as_slice(),
-        b"{\"type\":\"Topology\",\"objects\":{\"land\":{\"type\":\"GeometryCollection\",\"geometries\":[{\"type\":\"Polygon\",\"id\":\"A\",\"arcs\":[[0,1]]},{\"type\":\"Polygon\",\"id\":\"B\",\"arcs\":[[2,-1]]}]}},\"arcs\":[[[10,0],[10,10]],[[10,10],[0,10],[0,0],[10,0]],[[10,0],[20,0],[20,10],[10,10]]]}".as_slice()
-    );
-    Ok(())
-}
-
-/// A ring that names a closed arc of five positions 800,001 times.
-#[test]
-fn a_map_of_too_many_positions(rt: HostRuntime) -> Result<(), Fail> {
-    let front = b"{\"type\":\"Topology\",\"objects\":{\"a\":{\"type\":\"Polygon\",\"arcs\":[[0";
-    let end = b"]]}},\"arcs\":[[[0,0],[10,0],[10,10],[0,10],[0,0]]]}";
-    let map = long_text(&rt, front, b",0", 800_000, end)?;
-    assert_eq!(rt;
-        told(rt.alloc(), map.as_slice(), b"")?.as_str(),
-        "open: too large positions"
-    );
-    let map = long_text(&rt, front, b",0", 799_999, end)?;
-    assert_eq!(rt;
-        told(rt.alloc(), map.as_slice(), b"")?.as_str(),
-        "open: ring repeats 0 0 0 at 0 0"
-    );
-    Ok(())
-}
-
-/// 800,000 rings of four positions, a position more in each, and then one too many in each.
-#[test]
-fn an_edit_of_too_many_positions(rt: HostRuntime) -> Result<(), Fail> {
-    let front =
-        b"{\"type\":\"Topology\",\"objects\":{\"a\":{\"type\":\"GeometryCollection\",\"geometries\":[{\"type\":\"MultiPolygon\",\"arcs\":[[[0]]";
-    let end = b"]}]}},\"arcs\":[[[0,0],[10,0],[10,10],[0,10],[0,0]]]}";
-    let map = long_text(&rt, front, b",[[0]]", 799_999, end)?;
-    assert_eq!(rt;
-        told(
-            rt.alloc(),
-            map.as_slice(),
-            b"insert 0 0 10 0 5 0\ninsert 5 0 10 0 7 0\nsplit 0 \"c\" 0 0 10 10\narea 0"
-        )?
-        .as_str(),
-        "ok\nrefused too large\nrefused too large\n160000000\nanswered 4, refused 2"
-    );
-    Ok(())
-}
-
-/// One feature more than a map may have.
-#[test]
-fn a_map_of_too_many_features(rt: HostRuntime) -> Result<(), Fail> {
-    let front =
-        b"{\"type\":\"Topology\",\"objects\":{\"a\":{\"type\":\"GeometryCollection\",\"geometries\":[{\"type\":null}";
-    let end = b"]}},\"arcs\":[]}";
-    let map = long_text(&rt, front, b",{\"type\":null}", 200_000, end)?;
-    assert_eq!(rt;
-        told(rt.alloc(), map.as_slice(), b"area 0")?.as_str(),
-        "open: too large features"
-    );
-    let map = long_text(&rt, front, b",{\"type\":null}", 199_999, end)?;
-    assert_eq!(rt;
-        told(rt.alloc(), map.as_slice(), b"area 199999")?.as_str(),
-        "0\nanswered 1, refused 0"
-    );
-    Ok(())
-}
-
-/// A square, and so many features without polygons.
-fn square_and_nulls(rt: &HostRuntime, times: usize) -> Result<Vec<u8>, AllocFailed<u8>> {
-    let front =
-        b"{\"type\":\"Topology\",\"objects\":{\"a\":{\"type\":\"GeometryCollection\",\"geometries\":[{\"type\":\"Polygon\",\"arcs\":[[0]]}";
-    let end = b"]}},\"arcs\":[[[0,0],[10,0],[10,10],[0,10],[0,0]]]}";
-    long_text(rt, front, b",{\"type\":null}", times, end)
-}
-
-/// The last number that there is, and one more, though a feature has gone.
-#[test]
-fn a_split_with_the_last_number(rt: HostRuntime) -> Result<(), Fail> {
-    let map = square_and_nulls(&rt, 199_998)?;
-    assert_eq!(rt;
-        told(
-            rt.alloc(),
-            map.as_slice(),
-            b"split 0 \"C\" 0 0 10 10\ndelete 1\nsplit 0 \"D\" 0 0 5 3 10 10\narea 0"
-        )?
-        .as_str(),
-        "ok 199999\nok\nrefused too large\n100\nanswered 4, refused 1"
-    );
-    Ok(())
-}
-
-/// All numbers are taken by what was read.
-#[test]
-fn a_split_past_the_last_number(rt: HostRuntime) -> Result<(), Fail> {
-    let map = square_and_nulls(&rt, 199_999)?;
-    assert_eq!(rt;
-        told(
-            rt.alloc(),
-            map.as_slice(),
-            b"split 0 \"C\" 0 0 10 10\narea 0\nrings 0"
-        )?
-        .as_str(),
-        "refused too large\n200\n[[[[0,0],[10,0],[10,10],[0,10]]]]\nanswered 3, refused 1"
-    );
-    Ok(())
+fn a_map_of_all_bytes(rt: HostRuntime) {
+    let squares = &TWO_SQUARES[1..];
+    let spaces = 67_108_863usize.saturating_sub(squares.len());
+    let map = text_of(&rt, rt.alloc(), &("{", " ", spaces, squares));
+    holds(&rt, "as many bytes", map.len() == 67_108_864);
+    let told = tell(&rt, rt.alloc(), map.as_slice(), b"area 0");
+    holds(&rt, "two squares", is_of_squares(&told));
 }
 
 /// A reader with no end, whose lines are comments.
@@ -195,23 +181,10 @@ impl Source for Endless {
 
 /// A script without an end is a script fault.
 #[test]
-fn a_script_without_an_end(rt: HostRuntime) -> Result<(), Fail> {
-    let mut source = Endless;
-    let mut sink = ToWriter::new(Vec::new(rt.alloc()));
-    let mut saved = ToWriter::new(Vec::new(rt.alloc()));
-    let outcome = run(
-        rt.alloc(),
-        rt.alloc(),
-        TWO_SQUARES.as_bytes(),
-        &mut source,
-        100,
-        &mut sink,
-        &mut saved,
-    );
-    assert!(rt; matches!(outcome, Err(RunFault::Read)));
-    assert!(rt; sink.writer.is_empty());
-    assert!(rt; saved.writer.is_empty());
-    Ok(())
+fn a_script_without_an_end(rt: HostRuntime) {
+    let map = TWO_SQUARES.as_bytes();
+    let told = tell_by(&rt, rt.alloc(), rt.alloc(), map, &mut Endless, 100);
+    holds(&rt, "without an end", is_left(&told, b"", "script fault"));
 }
 
 /// A reader of so many bytes of comment lines, and then of what is left.
@@ -242,58 +215,61 @@ impl<S: Source> Source for Commented<S> {
     }
 }
 
-/// The run of two squares and a script of this length, which ends in two questions without a line
-/// feed, has these answers; whether it ended well.
-fn is_read<R: Abort>(rt: &R, alloc: Global, length: usize, answers: &[u8]) -> bool {
-    let end = b"area 0\narea 0";
+/// How many bytes a script has that ends in two questions without a line feed, its answers, and its end.
+const LENGTHS: &[(usize, &[u8], &str)] = &[
+    (1_073_741_824, b"200\n200\n", "answered 2, refused 0"),
+    (1_073_741_825, b"200\n", "script fault"),
+];
+
+/// That the run of two squares and a script of this length has these answers, and this end.
+fn is_read<R: Abort>(rt: &R, alloc: Global, length: usize, answers: &[u8], end: &str) {
+    let questions = b"area 0\narea 0";
     let mut source = Commented {
-        comments: length.saturating_sub(end.len()),
-        end: FromReader::new(end.as_slice()),
+        comments: length.saturating_sub(questions.len()),
+        end: FromReader::new(questions.as_slice()),
     };
-    let mut sink = ToWriter::new(Vec::new(alloc));
-    let mut saved = ToWriter::new(Vec::new(alloc));
-    let outcome = run(
-        alloc,
-        alloc,
-        TWO_SQUARES.as_bytes(),
-        &mut source,
-        100,
-        &mut sink,
-        &mut saved,
-    );
-    assert_eq!(rt; sink.writer.as_slice(), answers);
-    assert_eq!(rt; saved.writer.is_empty(), outcome.is_err());
-    if outcome.is_err() {
-        assert!(rt; matches!(outcome, Err(RunFault::Read)));
+    let told = tell_by(rt, alloc, alloc, TWO_SQUARES.as_bytes(), &mut source, 100);
+    holds(rt, end, is_left(&told, answers, end));
+}
+
+/// A script of as many bytes as one may have, and one of a byte more, whose last line is not answered.
+#[test]
+fn scripts_of_all_bytes(rt: HostRuntime) {
+    for (length, answers, end) in LENGTHS {
+        is_read(&rt, rt.alloc(), *length, answers, end);
     }
-    outcome.is_ok()
 }
 
-/// A script of as many bytes as one may have.
-#[test]
-fn a_script_of_all_bytes(rt: HostRuntime) {
-    assert!(rt; is_read(&rt, rt.alloc(), 1_073_741_824, b"200\n200\n"));
-}
+/// Paths of positions, and what they are answered.
+const PATHS: &[(&str, Long, &str)] = &[
+    (
+        "a path of 256 positions",
+        ("split 0 \"C\" 0 0", " 1 1", 254, " 10 10"),
+        "refused repeated point\nanswered 1, refused 1",
+    ),
+    (
+        "a path of 257 positions",
+        ("split 0 \"C\" 0 0", " 1 1", 255, " 10 10"),
+        "bad line\nanswered 1, refused 1",
+    ),
+];
 
-/// One byte more; the last line is not answered.
-#[test]
-fn a_script_of_too_many_bytes(rt: HostRuntime) {
-    assert!(rt; !is_read(&rt, rt.alloc(), 1_073_741_825, b"200\n"));
-}
-
-/// A path of 256 positions is one, a path of 257 none.
-#[test]
-fn long_paths(rt: HostRuntime) -> Result<(), Fail> {
-    let front = b"split 0 \"C\" 0 0";
-    let line = long_text(&rt, front, b" 1 1", 254, b" 10 10")?;
-    assert_eq!(rt;
-        told(rt.alloc(), TWO_SQUARES.as_bytes(), line.as_slice())?.as_str(),
-        "refused repeated point\nanswered 1, refused 1"
+/// That the path is answered so.
+fn is_path<R: Abort>(rt: &R, alloc: Global, what: &str, line: &Long, want: &str) {
+    let line = text_of(rt, alloc, line);
+    is_answered(
+        rt,
+        alloc,
+        what,
+        TWO_SQUARES.as_bytes(),
+        line.as_slice(),
+        want.as_bytes(),
     );
-    let line = long_text(&rt, front, b" 1 1", 255, b" 10 10")?;
-    assert_eq!(rt;
-        told(rt.alloc(), TWO_SQUARES.as_bytes(), line.as_slice())?.as_str(),
-        "bad line\nanswered 1, refused 1"
-    );
-    Ok(())
+}
+
+#[test]
+fn long_paths(rt: HostRuntime) {
+    for (what, line, want) in PATHS {
+        is_path(&rt, rt.alloc(), what, line, want);
+    }
 }

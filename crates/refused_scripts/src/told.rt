@@ -1,40 +1,132 @@
-// How a run is told in one text, to be compared, and the map of most runs.
-use device_io::{FromReader, ToWriter};
-use script_runner::run;
-use std::alloc::Global;
+// How a run is told, to be compared.
+ghost use Rattle.std.specs.Prelude.{◌≡◌, ◌≤◌, false};
+
+use device_io::{FailAt, FromReader, Source, ToWriter};
+use script_runner::{RunFault, Summary, run};
+use std::alloc::{Allocator, Global};
 use std::process::Abort;
-use std::str;
-use std::test::Fail;
 
-/// Two squares with a common side: the first is feature 0, the second feature 1.
-pub(crate) const TWO_SQUARES: &str =
-    "{\"type\":\"Topology\",\"bbox\":[0,0,20,10],\"objects\":{\"land\":{\"type\":\"GeometryCollection\",\"geometries\":[{\"type\":\"Polygon\",\"id\":\"A\",\"arcs\":[[0,1]]},{\"arcs\":[[-1,2]],\"type\":\"Polygon\",\"id\":\"B\"}]}},\"arcs\":[[[10,0],[10,10]],[[10,10],[0,10],[0,0],[10,0]],[[10,0],[20,0],[20,10],[10,10]]]}";
-
-/// The answers to the script on the map, and then the counts or the line of the fault.
-pub(crate) fn told(alloc: Global, map: &[u8], script: &[u8]) -> Result<String, Fail> {
-    let mut source = FromReader::new(script);
-    let mut sink = ToWriter::new(Vec::new(alloc));
-    let mut saved = ToWriter::new(Vec::new(alloc));
-    let outcome = run(alloc, alloc, map, &mut source, 100, &mut sink, &mut saved);
-    let out = str::from_utf8(sink.writer.as_slice())?;
-    let text = match outcome {
-        Ok(summary) => format!(in alloc;
-            "{out}answered {}, refused {}",
-            summary.answered, summary.refused
-        )?,
-        Err(fault) => format!(in alloc; "{out}{fault}")?,
-    };
-    Ok(text)
+/// What a run gave to its two writers, and how it ended: the counts, or the line of the fault.
+#[derive(Drop)]
+pub(crate) struct Told {
+    pub(crate) answers: Vec<u8>,
+    pub(crate) end: String,
+    pub(crate) saved: Vec<u8>,
 }
 
-/// A question for an area is told this of each map.
-pub(crate) fn are_opened<R: Abort>(
+/// That it is so.
+pub(crate) fn holds<R: Abort>(rt: &R, what: &str, is_so: bool) {
+    assert!(rt; is_so, "{what}");
+}
+
+/// The counts, or the line of the fault.
+fn end_of<R: Abort>(rt: &R, alloc: Global, outcome: &Result<Summary, RunFault<'_>>) -> String {
+    let end = match outcome {
+        Ok(Summary { answered, refused }) => {
+            format!(in alloc; "answered {answered}, refused {refused}")
+        }
+        Err(fault) => format!(in alloc; "{fault}"),
+    };
+    end.expect(rt, "memory")
+}
+
+/// The run of what comes from this source, whose map stands in the heap, and of which so many changes
+/// are kept.
+pub(crate) fn tell_by<R: Abort, A: Allocator + Copy, S: Source>(
+    rt: &R,
+    heap: A,
+    alloc: Global,
+    map: &[u8],
+    source: &mut S,
+    depth: usize,
+) -> Told
+    requires least { 1 ≤ depth }
+    requires most { depth ≤ 1000 }
+    requires reader { S.has_failed source.old ≡ false }
+{
+    let mut sink = ToWriter::new(Vec::new(alloc));
+    let mut saved = ToWriter::new(Vec::new(alloc));
+    let outcome = run(heap, alloc, map, source, depth, &mut sink, &mut saved);
+    let end = end_of(rt, alloc, &outcome);
+    Told {
+        answers: sink.writer,
+        end,
+        saved: saved.writer,
+    }
+}
+
+/// The run of the script on the map.
+pub(crate) fn tell<R: Abort>(rt: &R, alloc: Global, map: &[u8], script: &[u8]) -> Told {
+    tell_by(rt, alloc, alloc, map, &mut FromReader::new(script), 100)
+}
+
+/// The same where the writer of the answers fails after so many calls.
+pub(crate) fn tell_unwritten<R: Abort>(
     rt: &R,
     alloc: Global,
-    rows: &[(&str, &str)],
-) -> Result<(), Fail> {
-    for row in rows {
-        assert_eq!(rt; told(alloc, row.0.as_bytes(), b"area 0")?.as_str(), row.1);
+    map: &[u8],
+    script: &[u8],
+    calls: u64,
+) -> Told {
+    let mut sink = FailAt::new(ToWriter::new(Vec::new(alloc)), calls);
+    let mut saved = ToWriter::new(Vec::new(alloc));
+    let mut source = FromReader::new(script);
+    let outcome = run(alloc, alloc, map, &mut source, 100, &mut sink, &mut saved);
+    let end = end_of(rt, alloc, &outcome);
+    Told {
+        answers: sink.device.writer,
+        end,
+        saved: saved.writer,
     }
-    Ok(())
+}
+
+/// The same where the writer of the saved map fails after so many calls.
+pub(crate) fn tell_unsaved<R: Abort>(
+    rt: &R,
+    alloc: Global,
+    map: &[u8],
+    script: &[u8],
+    calls: u64,
+) -> Told {
+    let mut sink = ToWriter::new(Vec::new(alloc));
+    let mut saved = FailAt::new(ToWriter::new(Vec::new(alloc)), calls);
+    let mut source = FromReader::new(script);
+    let outcome = run(alloc, alloc, map, &mut source, 100, &mut sink, &mut saved);
+    let end = end_of(rt, alloc, &outcome);
+    Told {
+        answers: sink.writer,
+        end,
+        saved: saved.device.writer,
+    }
+}
+
+/// Whether these are the answers with the end behind them.
+fn is_said(told: &Told, want: &[u8]) -> bool {
+    match want.strip_prefix(told.answers.as_slice()) {
+        Some(end) => end == told.end.as_bytes(),
+        None => false,
+    }
+}
+
+/// That the run is told so.
+pub(crate) fn says<R: Abort>(rt: &R, what: &str, told: &Told, want: &[u8]) {
+    assert!(rt;
+        is_said(told, want),
+        "{what}: {:?} {}",
+        told.answers,
+        told.end
+    );
+}
+
+/// The script has these answers on the map, and this end.
+pub(crate) fn is_answered<R: Abort>(
+    rt: &R,
+    alloc: Global,
+    what: &str,
+    map: &[u8],
+    script: &[u8],
+    want: &[u8],
+) {
+    let told = tell(rt, alloc, map, script);
+    says(rt, what, &told, want);
 }

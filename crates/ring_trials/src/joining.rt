@@ -1,172 +1,22 @@
 //! Two rings compared, and joined.
-use crate::given::{BOTH_SQUARES, LEFT, LEFT_BACK, at, is_ring, ring};
+use crate::given::{BOTH_SQUARES, LEFT, LEFT_BACK, Place, are_at, holds, ring};
 use grid_geometry::Pos;
 use ring_parts::{Border, common_else, has_common, joined, passed_alike, runs, same_side};
-use std::alloc::{AllocError, Global};
+use std::alloc::Global;
 use std::process::Abort;
-use std::test::Fail;
 
 // the square beside the left one, in either direction
-const RIGHT: [(i64, i64); 4] = [(10, 0), (20, 0), (20, 10), (10, 10)];
+const RIGHT: &[Place] = &[(10, 0), (20, 0), (20, 10), (10, 10)];
 
-const RIGHT_BACK: [(i64, i64); 4] = [(10, 0), (10, 10), (20, 10), (20, 0)];
-
-/// What the calls say of two rings.
-#[derive(Debug, PartialEq, Clone, Copy)]
-struct Comparison {
-    has_common: bool,
-    runs: usize,
-    passed_alike: bool,
-    same_side: bool,
-    common_else: Option<Pos>,
-}
-
-/// One run between areas on different sides, passed in different directions.
-const BESIDE: Comparison = Comparison {
-    has_common: true,
-    runs: 1,
-    passed_alike: false,
-    same_side: false,
-    common_else: None,
-};
-
-/// What the two borders have in common.
-fn common_to(
-    alloc: Global,
-    first: &Border<'_, Global>,
-    second: &Border<'_, Global>,
-) -> Result<Comparison, AllocError> {
-    Ok(Comparison {
-        has_common: has_common(alloc, first, second)?,
-        runs: runs(alloc, first, second)?,
-        common_else: common_else(alloc, first, second)?,
-        ..BESIDE
-    })
-}
-
-/// What the calls say of two rings.
-fn compared_rings<R: Abort>(
-    rt: &R,
-    alloc: Global,
-    ones: &[Pos],
-    others: &[Pos],
-) -> Result<Comparison, AllocError> {
-    assert!(rt; ones.len() < 100 && others.len() < 100);
-    let first = Border::new(alloc, ones)?;
-    let second = Border::new(alloc, others)?;
-    let common = common_to(alloc, &first, &second);
-    let side = same_side(alloc, &first, &second);
-    drop(second);
-    drop(first);
-    Ok(Comparison {
-        passed_alike: passed_alike(alloc, ones, others)?,
-        same_side: side?,
-        ..common?
-    })
-}
-
-/// What the calls say of the rings of these positions.
-fn compared<R: Abort>(
-    rt: &R,
-    alloc: Global,
-    first: &[(i64, i64)],
-    second: &[(i64, i64)],
-) -> Result<Comparison, AllocError> {
-    let ones = ring(rt, alloc, first)?;
-    let others = ring(rt, alloc, second)?;
-    let comparison = compared_rings(rt, alloc, ones.as_slice(), others.as_slice());
-    drop(others);
-    drop(ones);
-    comparison
-}
-
-/// The ring of two that are joined.
-fn joined_rings(alloc: Global, ones: &[Pos], others: &[Pos]) -> Result<Vec<Pos>, AllocError> {
-    let first = Border::new(alloc, ones)?;
-    let second = Border::new(alloc, others)?;
-    let ring = joined(alloc, &first, &second);
-    drop(second);
-    drop(first);
-    ring
-}
-
-/// The ring of two of these positions that are joined.
-fn join<R: Abort>(
-    rt: &R,
-    alloc: Global,
-    first: &[(i64, i64)],
-    second: &[(i64, i64)],
-) -> Result<Vec<Pos>, AllocError> {
-    let ones = ring(rt, alloc, first)?;
-    let others = ring(rt, alloc, second)?;
-    let joined = joined_rings(alloc, ones.as_slice(), others.as_slice());
-    drop(others);
-    drop(ones);
-    joined
-}
-
-/// Two rings side by side, and whether their run is passed alike.
-const SIDE_BY_SIDE: [(&[(i64, i64)], &[(i64, i64)], bool); 4] = [
-    (&LEFT, &RIGHT, false),
-    (&LEFT, &RIGHT_BACK, true),
-    (&LEFT_BACK, &RIGHT, true),
-    (&LEFT_BACK, &RIGHT_BACK, false),
-];
-
-#[test]
-fn squares_side_by_side(rt: HostRuntime) -> Result<(), Fail> {
-    for (first, second, passed_alike) in &SIDE_BY_SIDE[..] {
-        let want = Comparison {
-            passed_alike: *passed_alike,
-            ..BESIDE
-        };
-        assert_eq!(rt; compared(&rt, rt.alloc(), first, second)?, want);
-    }
-    Ok(())
-}
-
-/// Two rings on the same side of their run, and whether it is passed alike.
-const ON_ONE_SIDE: [(&[(i64, i64)], &[(i64, i64)], bool); 4] = [
-    (&BOTH_SQUARES, &LEFT, true),
-    (&BOTH_SQUARES, &LEFT_BACK, false),
-    (&LEFT, &LEFT, true),
-    (&LEFT, &LEFT_BACK, false),
-];
-
-// a square in a ring of twice its length, and the same square twice
-#[test]
-fn areas_on_the_same_side(rt: HostRuntime) -> Result<(), Fail> {
-    for (first, second, passed_alike) in &ON_ONE_SIDE[..] {
-        let want = Comparison {
-            passed_alike: *passed_alike,
-            same_side: true,
-            ..BESIDE
-        };
-        assert_eq!(rt; compared(&rt, rt.alloc(), first, second)?, want);
-    }
-    Ok(())
-}
-
-const WITH_A_DENT: [(i64, i64); 7] = [(0, 0), (10, 0), (10, 3), (3, 5), (10, 7), (10, 10), (0, 10)];
-
-const BESIDE_A_DENT: [(i64, i64); 6] = [(10, 0), (20, 0), (20, 10), (10, 10), (10, 7), (10, 3)];
+const RIGHT_BACK: &[Place] = &[(10, 0), (10, 10), (20, 10), (20, 0)];
 
 // neighbours with a gap between them
-#[test]
-fn two_runs(rt: HostRuntime) -> Result<(), Fail> {
-    let want = Comparison { runs: 2, ..BESIDE };
-    assert_eq!(rt;
-        compared(&rt, rt.alloc(), &WITH_A_DENT, &BESIDE_A_DENT)?,
-        want
-    );
-    assert_eq!(rt;
-        compared(&rt, rt.alloc(), &BESIDE_A_DENT, &WITH_A_DENT)?,
-        want
-    );
-    Ok(())
-}
+const WITH_A_DENT: &[Place] = &[(0, 0), (10, 0), (10, 3), (3, 5), (10, 7), (10, 10), (0, 10)];
 
-const TEETH: [(i64, i64); 8] = [
+const BESIDE_A_DENT: &[Place] = &[(10, 0), (20, 0), (20, 10), (10, 10), (10, 7), (10, 3)];
+
+// neighbours that touch in two further positions
+const TEETH: &[Place] = &[
     (0, 0),
     (10, 0),
     (10, 4),
@@ -177,7 +27,7 @@ const TEETH: [(i64, i64); 8] = [
     (0, 10),
 ];
 
-const FACING_TEETH: [(i64, i64); 8] = [
+const FACING_TEETH: &[Place] = &[
     (10, 0),
     (20, 0),
     (20, 10),
@@ -188,53 +38,157 @@ const FACING_TEETH: [(i64, i64); 8] = [
     (10, 4),
 ];
 
-const AT_THE_CORNER: [(i64, i64); 4] = [(10, 10), (20, 10), (20, 20), (10, 20)];
+const AT_THE_CORNER: &[Place] = &[(10, 10), (20, 10), (20, 20), (10, 20)];
 
-// neighbours that touch in two further positions, and squares that touch in a corner alone
-#[test]
-fn touching_beside_the_run(rt: HostRuntime) -> Result<(), Fail> {
-    let want = Comparison {
-        common_else: Some(at(&rt, (10, 6))),
-        ..BESIDE
-    };
-    assert_eq!(rt; compared(&rt, rt.alloc(), &TEETH, &FACING_TEETH)?, want);
-    let want = Comparison {
-        has_common: false,
-        runs: 0,
-        common_else: Some(at(&rt, (10, 10))),
-        ..BESIDE
-    };
-    assert_eq!(rt; compared(&rt, rt.alloc(), &LEFT, &AT_THE_CORNER)?, want);
-    Ok(())
+/// What the calls say of two rings.
+struct Comparison {
+    /// How many runs of segments they have in common; none where they have no segment in common.
+    runs: usize,
+    passed_alike: bool,
+    same_side: bool,
+    common_else: Option<Place>,
 }
 
-const BOTH_BACK: [(i64, i64); 6] = [(0, 0), (0, 10), (10, 10), (20, 10), (20, 0), (10, 0)];
+/// One run between areas on different sides, passed in different directions.
+const BESIDE: Comparison = Comparison {
+    runs: 1,
+    passed_alike: false,
+    same_side: false,
+    common_else: None,
+};
 
-/// Two rings, and the ring of both.
-const JOINED: [(&[(i64, i64)], &[(i64, i64)], &[(i64, i64)]); 4] = [
-    (&LEFT, &RIGHT, &BOTH_SQUARES),
-    (&LEFT, &RIGHT_BACK, &BOTH_SQUARES),
-    (&LEFT_BACK, &RIGHT, &BOTH_BACK),
-    (&LEFT_BACK, &RIGHT_BACK, &BOTH_BACK),
-];
+/// The same, passed alike.
+const BESIDE_ALIKE: Comparison = Comparison {
+    passed_alike: true,
+    ..BESIDE
+};
+
+/// One run between areas on the same side, passed in different directions.
+const ON_ONE_SIDE: Comparison = Comparison {
+    same_side: true,
+    ..BESIDE
+};
+
+/// The same, passed alike.
+const ON_ONE_SIDE_ALIKE: Comparison = Comparison {
+    passed_alike: true,
+    ..ON_ONE_SIDE
+};
+
+/// That the borders have this in common.
+fn have_in_common<R: Abort>(
+    rt: &R,
+    alloc: Global,
+    first: &Border<'_, Global>,
+    second: &Border<'_, Global>,
+    want: &Comparison,
+) {
+    let has = has_common(alloc, first, second).expect(rt, "memory");
+    holds(rt, "a common segment", has == (want.runs > 0));
+    let count = runs(alloc, first, second).expect(rt, "memory");
+    holds(rt, "runs", count == want.runs);
+    let beside = common_else(alloc, first, second).expect(rt, "memory");
+    let beside = beside.map(|pos| (pos.x(), pos.y()));
+    holds(rt, "a common position", beside == want.common_else);
+}
+
+/// That the calls say so of the rings.
+fn rings_compare<R: Abort>(rt: &R, alloc: Global, ones: &[Pos], others: &[Pos], want: &Comparison) {
+    assert!(rt; ones.len() < 100 && others.len() < 100);
+    let first = Border::new(alloc, ones).expect(rt, "memory");
+    let second = Border::new(alloc, others).expect(rt, "memory");
+    have_in_common(rt, alloc, &first, &second, want);
+    let side = same_side(alloc, &first, &second).expect(rt, "memory");
+    holds(rt, "the same side", side == want.same_side);
+    let alike = passed_alike(alloc, ones, others).expect(rt, "memory");
+    holds(rt, "passed alike", alike == want.passed_alike);
+}
+
+/// That the calls say so of the rings of these positions.
+fn compare<R: Abort>(rt: &R, alloc: Global, first: &[Place], second: &[Place], want: &Comparison) {
+    let ones = ring(rt, alloc, first);
+    let others = ring(rt, alloc, second);
+    rings_compare(rt, alloc, ones.as_slice(), others.as_slice(), want);
+}
+
+#[test]
+fn squares_side_by_side(rt: HostRuntime) {
+    let alloc = rt.alloc();
+    compare(&rt, alloc, LEFT, RIGHT, &BESIDE);
+    compare(&rt, alloc, LEFT, RIGHT_BACK, &BESIDE_ALIKE);
+    compare(&rt, alloc, LEFT_BACK, RIGHT, &BESIDE_ALIKE);
+    compare(&rt, alloc, LEFT_BACK, RIGHT_BACK, &BESIDE);
+}
+
+// a square in a ring of twice its length, and the same square twice
+#[test]
+fn areas_on_the_same_side(rt: HostRuntime) {
+    let alloc = rt.alloc();
+    compare(&rt, alloc, BOTH_SQUARES, LEFT, &ON_ONE_SIDE_ALIKE);
+    compare(&rt, alloc, BOTH_SQUARES, LEFT_BACK, &ON_ONE_SIDE);
+    compare(&rt, alloc, LEFT, LEFT, &ON_ONE_SIDE_ALIKE);
+    compare(&rt, alloc, LEFT, LEFT_BACK, &ON_ONE_SIDE);
+}
+
+/// Neighbours with a gap between them.
+const TWO_RUNS: Comparison = Comparison { runs: 2, ..BESIDE };
+
+/// Neighbours that touch beside their run.
+const TOUCHING: Comparison = Comparison {
+    common_else: Some((10, 6)),
+    ..BESIDE
+};
+
+/// Squares that touch in a corner alone.
+const CORNER_ALONE: Comparison = Comparison {
+    runs: 0,
+    common_else: Some((10, 10)),
+    ..BESIDE
+};
+
+#[test]
+fn runs_and_touches(rt: HostRuntime) {
+    let alloc = rt.alloc();
+    compare(&rt, alloc, WITH_A_DENT, BESIDE_A_DENT, &TWO_RUNS);
+    compare(&rt, alloc, BESIDE_A_DENT, WITH_A_DENT, &TWO_RUNS);
+    compare(&rt, alloc, TEETH, FACING_TEETH, &TOUCHING);
+    compare(&rt, alloc, LEFT, AT_THE_CORNER, &CORNER_ALONE);
+}
+
+const BOTH_BACK: &[Place] = &[(0, 0), (0, 10), (10, 10), (20, 10), (20, 0), (10, 0)];
+
+const LEFT_OF_A_KINK: &[Place] = &[(0, 0), (10, 0), (8, 5), (10, 10), (0, 10)];
+
+const RIGHT_OF_A_KINK: &[Place] = &[(8, 5), (10, 0), (20, 0), (20, 10), (10, 10)];
+
+/// The ring of two that are joined.
+fn joined_ring<R: Abort>(rt: &R, alloc: Global, ones: &[Pos], others: &[Pos]) -> Vec<Pos> {
+    let first = Border::new(alloc, ones).expect(rt, "memory");
+    let second = Border::new(alloc, others).expect(rt, "memory");
+    joined(alloc, &first, &second).expect(rt, "memory")
+}
+
+/// That two rings of these positions are joined to this one.
+fn join<R: Abort>(rt: &R, alloc: Global, first: &[Place], second: &[Place], want: &[Place]) {
+    let ones = ring(rt, alloc, first);
+    let others = ring(rt, alloc, second);
+    let whole = joined_ring(rt, alloc, ones.as_slice(), others.as_slice());
+    holds(rt, "the joined ring", are_at(whole.as_slice(), want));
+}
 
 // the ring keeps the direction of the first one
 #[test]
-fn squares_joined(rt: HostRuntime) -> Result<(), Fail> {
-    for (first, second, want) in &JOINED[..] {
-        is_ring(&rt, rt.alloc(), join(&rt, rt.alloc(), first, second), want)?;
-    }
-    Ok(())
+fn squares_joined(rt: HostRuntime) {
+    let alloc = rt.alloc();
+    join(&rt, alloc, LEFT, RIGHT, BOTH_SQUARES);
+    join(&rt, alloc, LEFT, RIGHT_BACK, BOTH_SQUARES);
+    join(&rt, alloc, LEFT_BACK, RIGHT, BOTH_BACK);
+    join(&rt, alloc, LEFT_BACK, RIGHT_BACK, BOTH_BACK);
 }
-
-const LEFT_OF_A_KINK: [(i64, i64); 5] = [(0, 0), (10, 0), (8, 5), (10, 10), (0, 10)];
-
-const RIGHT_OF_A_KINK: [(i64, i64); 5] = [(8, 5), (10, 0), (20, 0), (20, 10), (10, 10)];
 
 // what lies between the ends of the run is gone
 #[test]
-fn joined_along_two_segments(rt: HostRuntime) -> Result<(), Fail> {
-    let whole = join(&rt, rt.alloc(), &LEFT_OF_A_KINK, &RIGHT_OF_A_KINK);
-    is_ring(&rt, rt.alloc(), whole, &BOTH_SQUARES)?;
-    Ok(())
+fn joined_along_two_segments(rt: HostRuntime) {
+    let (left, right) = (LEFT_OF_A_KINK, RIGHT_OF_A_KINK);
+    join(&rt, rt.alloc(), left, right, BOTH_SQUARES);
 }

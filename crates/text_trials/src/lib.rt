@@ -3,7 +3,11 @@
 #![tactic(auto)]
 
 #[cfg(test)]
+mod coming;
+#[cfg(test)]
 mod outlines;
+#[cfg(test)]
+mod rows;
 #[cfg(test)]
 mod spans;
 #[cfg(test)]

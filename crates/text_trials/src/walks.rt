@@ -1,160 +1,84 @@
 //! What is read of a topology with walks in the place of its rings.
-use crate::topologies::{polygon, topology};
+use crate::coming::{Coming, holds, is_displayed};
 use grid_geometry::Pos;
-use std::alloc::{AllocError, Global};
+use std::alloc::Global;
 use std::fmt::Write;
 use std::process::Abort;
-use std::test::Fail;
 use topo_outline::OpenFault;
 use topo_reader::{RawDoc, read, read_walks};
 
-/// Appends the positions, as `0 0, 4 0, 4 4`.
-fn put_positions(shown: &mut String, positions: &[Pos]) -> Result<(), Fail> {
+/// Texts, and what is told of each with rings, and with walks: all of them, each after a bar, or the fault.
+const CASES: &str = r#"# a ring that opens, begun where its arcs are
+{"type":"Topology","objects":{"a":{"type":"Polygon","arcs":[[1,-1]]}},"arcs":[[[4,0],[0,0]],[[4,0],[4,4],[4,4],[0,0]]]} => |0 0, 4 0, 4 4 => |4 0, 4 4, 0 0
+# twice through 2 2
+{"type":"Topology","objects":{"a":{"type":"Polygon","arcs":[[0]]}},"arcs":[[[0,0],[4,0],[2,2],[4,4],[0,4],[2,2],[0,0]]]} => ring repeats 0 0 0 at 2 2 => |0 0, 4 0, 2 2, 4 4, 0 4, 2 2
+# out and back on a spike
+{"type":"Topology","objects":{"a":{"type":"Polygon","arcs":[[0]]}},"arcs":[[[0,0],[4,0],[9,0],[4,0],[0,4],[0,0]]]} => ring repeats 0 0 0 at 4 0 => |0 0, 4 0, 9 0, 4 0, 0 4
+# two positions
+{"type":"Topology","objects":{"a":{"type":"Polygon","arcs":[[0,-1]]}},"arcs":[[[4,0],[0,0]]]} => ring short 0 0 0 => |4 0, 0 0
+# one position
+{"type":"Topology","objects":{"a":{"type":"Polygon","arcs":[[0]]}},"arcs":[[[1,1],[1,1]]]} => ring short 0 0 0 => |
+# no arcs
+{"type":"Topology","objects":{"a":{"type":"Polygon","arcs":[[]]}},"arcs":[]} => ring short 0 0 0 => |
+# arcs that do not meet
+{"type":"Topology","objects":{"a":{"type":"Polygon","arcs":[[0]]}},"arcs":[[[0,0],[4,0],[4,4]]]} => arcs do not meet 0 0 0 => arcs do not meet 0 0 0
+# an arc that is not there
+{"type":"Topology","objects":{"a":{"type":"Polygon","arcs":[[1]]}},"arcs":[[[0,0],[4,0],[4,4]]]} => bad arc index at 61 => bad arc index at 61
+# a ring that is short stops the rings before one whose arcs do not meet does
+{"type":"Topology","objects":{"a":{"type":"Polygon","arcs":[[0,-1],[0]]}},"arcs":[[[4,0],[0,0]]]} => ring short 0 0 0 => arcs do not meet 0 0 1"#;
+
+/// The positions, as `0 0, 4 0, 4 4`.
+fn take_positions(coming: &mut Coming<'_>, positions: &[Pos]) {
     let mut between = "";
     for pos in positions {
-        write!(shown, "{between}{} {}", pos.x(), pos.y())?;
+        let _ = write!(coming, "{between}{} {}", pos.x(), pos.y());
         between = ", ";
     }
-    Ok(())
 }
 
-/// Appends the walks of all features, each after a bar.
-fn put_walks(shown: &mut String, raw: &RawDoc<'_>) -> Result<(), Fail> {
-    for walk in raw.polygons.iter().flatten().flatten() {
-        shown.push_str("|")?;
-        put_positions(shown, walk.as_slice())?;
+/// The walks of a feature, each after a bar.
+fn take_walks(coming: &mut Coming<'_>, polygons: &[Vec<Vec<Pos>>]) {
+    for walk in polygons.iter().flatten() {
+        coming.take(b"|");
+        take_positions(coming, walk.as_slice());
     }
-    Ok(())
 }
 
-/// The walks of all features, each after a bar, or the text of the fault.
-fn told(alloc: Global, answer: Result<RawDoc<'_>, OpenFault<'_>>) -> Result<String, Fail> {
-    let mut shown = String::new(alloc);
+/// Whether these are the walks of all features.
+fn are_walks(raw: &RawDoc<'_>, want: &str) -> bool {
+    let mut coming = Coming::new(want);
+    for polygons in raw.polygons.as_slice() {
+        take_walks(&mut coming, polygons.as_slice());
+    }
+    coming.is_done()
+}
+
+/// Whether the answer is told so.
+fn is_told(answer: &Result<RawDoc<'_>, OpenFault<'_>>, want: &str) -> bool {
     match answer {
-        Ok(raw) => {
-            let put = put_walks(&mut shown, &raw);
-            drop(raw);
-            put?;
-        }
-        Err(fault) => write!(shown, "{fault}")?,
+        Ok(raw) => are_walks(raw, want),
+        Err(fault) => is_displayed(fault, want),
     }
-    Ok(shown)
 }
 
 /// That the text is told so with rings, and so with walks.
-fn tells<R: Abort>(
-    rt: &R,
-    alloc: Global,
-    text: &str,
-    rings: &str,
-    walks: &str,
-) -> Result<(), Fail> {
-    let found = told(alloc, read(alloc, alloc, text.as_bytes()))?;
-    assert_eq!(rt; found.as_str(), rings, "{text}");
-    drop(found);
-    let found = told(alloc, read_walks(alloc, alloc, text.as_bytes()))?;
-    assert_eq!(rt; found.as_str(), walks, "{text}");
-    drop(found);
-    Ok(())
+fn tells<R: Abort>(rt: &R, alloc: Global, text: &str, rings: &str, walks: &str) {
+    let text = text.as_bytes();
+    holds(rt, rings, is_told(&read(alloc, alloc, text), rings));
+    holds(rt, walks, is_told(&read_walks(alloc, alloc, text), walks));
 }
 
-/// A ring's indexes of arcs, the arcs, and what is told of it as a ring and as a walk.
-struct Case {
-    indexes: &'static str,
-    arcs: &'static str,
-    ring: &'static str,
-    walk: &'static str,
-}
-
-/// That a topology with this ring is told so.
-fn case_tells<R: Abort>(rt: &R, alloc: Global, case: &Case) -> Result<(), Fail> {
-    let layer = polygon(alloc, case.indexes)?;
-    let text = topology(alloc, layer.as_str(), case.arcs)?;
-    drop(layer);
-    let checked = tells(rt, alloc, text.as_str(), case.ring, case.walk);
-    drop(text);
-    checked
-}
-
-const CASES: [Case; 8] = [
-    // a ring that opens, begun where its arcs are
-    Case {
-        indexes: "1,-1",
-        arcs: "[[4,0],[0,0]],[[4,0],[4,4],[4,4],[0,0]]",
-        ring: "|0 0, 4 0, 4 4",
-        walk: "|4 0, 4 4, 0 0",
-    },
-    // twice through 2 2
-    Case {
-        indexes: "0",
-        arcs: "[[0,0],[4,0],[2,2],[4,4],[0,4],[2,2],[0,0]]",
-        ring: "ring repeats 0 0 0 at 2 2",
-        walk: "|0 0, 4 0, 2 2, 4 4, 0 4, 2 2",
-    },
-    // out and back on a spike
-    Case {
-        indexes: "0",
-        arcs: "[[0,0],[4,0],[9,0],[4,0],[0,4],[0,0]]",
-        ring: "ring repeats 0 0 0 at 4 0",
-        walk: "|0 0, 4 0, 9 0, 4 0, 0 4",
-    },
-    // two positions
-    Case {
-        indexes: "0,-1",
-        arcs: "[[4,0],[0,0]]",
-        ring: "ring short 0 0 0",
-        walk: "|4 0, 0 0",
-    },
-    // one position
-    Case {
-        indexes: "0",
-        arcs: "[[1,1],[1,1]]",
-        ring: "ring short 0 0 0",
-        walk: "|",
-    },
-    // no arcs
-    Case {
-        indexes: "",
-        arcs: "",
-        ring: "ring short 0 0 0",
-        walk: "|",
-    },
-    // arcs that do not meet
-    Case {
-        indexes: "0",
-        arcs: "[[0,0],[4,0],[4,4]]",
-        ring: "arcs do not meet 0 0 0",
-        walk: "arcs do not meet 0 0 0",
-    },
-    // an arc that is not there
-    Case {
-        indexes: "1",
-        arcs: "[[0,0],[4,0],[4,4]]",
-        ring: "bad arc index at 61",
-        walk: "bad arc index at 61",
-    },
-];
-
-#[test]
-fn rings_as_walks(rt: HostRuntime) -> Result<(), Fail> {
-    for case in &CASES[..] {
-        case_tells(&rt, rt.alloc(), case)?;
+/// That the text of this line, unless it says what the next one shows, is told so.
+fn line_tells<R: Abort>(rt: &R, alloc: Global, line: &str) {
+    if let Some((text, told)) = line.split_once(" => ") {
+        let (rings, walks) = told.split_once(" => ").unwrap_or((told, told));
+        tells(rt, alloc, text, rings, walks);
     }
-    Ok(())
 }
 
-// A ring that is short stops the rings before one whose arcs do not meet does.
 #[test]
-fn first_fault_of_walks(rt: HostRuntime) -> Result<(), Fail> {
-    let layer = "\"a\":{\"type\":\"Polygon\",\"arcs\":[[0,-1],[0]]}";
-    let text = topology(rt.alloc(), layer, "[[4,0],[0,0]]")?;
-    let checked = tells(
-        &rt,
-        rt.alloc(),
-        text.as_str(),
-        "ring short 0 0 0",
-        "arcs do not meet 0 0 1",
-    );
-    drop(text);
-    checked
+fn rings_as_walks(rt: HostRuntime) {
+    for line in CASES.lines() {
+        line_tells(&rt, rt.alloc(), line);
+    }
 }

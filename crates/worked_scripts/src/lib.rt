@@ -2,17 +2,11 @@
 #![tactic(auto)]
 
 #[cfg(test)]
-mod devices;
-#[cfg(test)]
-mod failing_devices;
+mod faults;
 #[cfg(test)]
 mod features;
 #[cfg(test)]
-mod lines;
-#[cfg(test)]
 mod maps;
-#[cfg(test)]
-mod memory;
 #[cfg(test)]
 mod questions;
 #[cfg(test)]
@@ -20,6 +14,10 @@ mod saving;
 #[cfg(test)]
 mod scripts;
 #[cfg(test)]
+mod texts;
+#[cfg(test)]
 mod told;
+#[cfg(test)]
+mod transcripts;
 #[cfg(test)]
 mod undone;
