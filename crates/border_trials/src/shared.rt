@@ -1,26 +1,21 @@
 //! How many rings have a side, as squares come and go.
-use crate::squares::{LEFT, RIGHT, RIGHT_TURNED, add, goes_along, key, pick, take, vertex_keys};
+use crate::squares::{LEFT, MEMORY, RIGHT, RIGHT_TURNED, add, goes_along, key, take, vertex_keys};
 use shared_arcs::Borders;
-use std::alloc::{AllocError, Global};
+use std::alloc::Global;
 use std::process::Abort;
-use std::test::Fail;
 use vertex_index::VertexKey;
 
 /// The side of vertices 1 and 2, another side of each square, a diagonal and a pair far apart.
 const SEGMENTS: [(usize, usize); 6] = [(1, 2), (2, 1), (0, 1), (4, 5), (0, 2), (0, 4)];
 
-/// How many rings have each of these segments.
-fn uses_of<R: Abort>(
-    rt: &R,
-    alloc: Global,
-    borders: &Borders,
-    keys: &[VertexKey],
-) -> Result<Vec<usize>, AllocError> {
-    let mut counts = Vec::new(alloc);
-    for (a, b) in SEGMENTS.iter() {
-        counts.push(borders.uses(key(rt, keys, *a), key(rt, keys, *b)))?;
+/// Whether so many rings have each of these segments.
+fn has_uses<R: Abort>(rt: &R, borders: &Borders, keys: &[VertexKey], counts: &[usize; 6]) -> bool {
+    for ((a, b), count) in SEGMENTS.iter().zip(counts) {
+        if borders.uses(key(rt, keys, *a), key(rt, keys, *b)) != *count {
+            return false;
+        }
     }
-    Ok(counts)
+    true
 }
 
 /// The shared side has two rings, and one once a square is taken out, until it is added again.
@@ -29,67 +24,47 @@ fn count_sides<R: Abort>(
     alloc: Global,
     borders: &mut Borders,
     keys: &[VertexKey],
-    left: &[VertexKey],
-    right: &[VertexKey],
-) -> Result<(), Fail> {
-    let first = add(rt, borders, left)?;
-    let alone = uses_of(rt, alloc, borders, keys)?;
-    assert_eq!(rt; alone.as_slice(), [1usize, 1, 1, 0, 0, 0].as_slice());
-    add(rt, borders, right)?;
-    let both = uses_of(rt, alloc, borders, keys)?;
-    assert_eq!(rt; both.as_slice(), [2usize, 2, 1, 1, 0, 0].as_slice());
-    take(rt, borders, first);
-    let left_over = uses_of(rt, alloc, borders, keys)?;
-    assert_eq!(rt; left_over.as_slice(), [1usize, 1, 0, 1, 0, 0].as_slice());
-    let again = add(rt, borders, left)?;
-    assert!(rt; goes_along(alloc, borders, again, left)?);
-    Ok(())
-}
-
-/// The two squares, the second gone round this way.
-fn count_squares<R: Abort>(
-    rt: &R,
-    alloc: Global,
-    keys: &[VertexKey],
     right: &[usize],
-) -> Result<(), Fail> {
-    let left = pick(rt, alloc, keys, &LEFT)?;
-    let right = pick(rt, alloc, keys, right)?;
-    let mut borders = Borders::new(alloc);
-    count_sides(
-        rt,
-        alloc,
-        &mut borders,
-        keys,
-        left.as_slice(),
-        right.as_slice(),
-    )
+) {
+    let first = add(rt, alloc, borders, keys, &LEFT).expect(rt, MEMORY);
+    assert!(rt; has_uses(rt, borders, keys, &[1, 1, 1, 0, 0, 0]));
+    add(rt, alloc, borders, keys, right).expect(rt, MEMORY);
+    assert!(rt; has_uses(rt, borders, keys, &[2, 2, 1, 1, 0, 0]));
+    take(rt, borders, first);
+    assert!(rt; has_uses(rt, borders, keys, &[1, 1, 0, 1, 0, 0]));
+    let again = add(rt, alloc, borders, keys, &LEFT).expect(rt, MEMORY);
+    assert!(rt; goes_along(rt, alloc, borders, again, keys, &LEFT));
 }
 
 #[test]
-fn a_shared_side_is_counted_twice(rt: HostRuntime) -> Result<(), Fail> {
-    let alloc = rt.alloc();
-    let keys = vertex_keys(&rt, alloc, 6)?;
-    count_squares(&rt, alloc, keys.as_slice(), &RIGHT)?;
-    count_squares(&rt, alloc, keys.as_slice(), &RIGHT_TURNED)
+fn a_shared_side_is_counted_twice(rt: HostRuntime) {
+    let keys = vertex_keys(&rt, rt.alloc(), 6);
+    for right in [RIGHT, RIGHT_TURNED] {
+        let mut borders = Borders::new(rt.alloc());
+        count_sides(&rt, rt.alloc(), &mut borders, keys.as_slice(), &right);
+    }
 }
 
 /// The rings of the side of vertices 1 and 2 are listed behind what stood there, each once.
-#[test]
-fn a_shared_side_lists_both_rings(rt: HostRuntime) -> Result<(), Fail> {
-    let alloc = rt.alloc();
-    let keys = vertex_keys(&rt, alloc, 6)?;
-    let left = pick(&rt, alloc, keys.as_slice(), &LEFT)?;
-    let right = pick(&rt, alloc, keys.as_slice(), &RIGHT_TURNED)?;
-    let mut borders = Borders::new(alloc);
-    let first = add(&rt, &mut borders, left.as_slice())?;
-    let second = add(&rt, &mut borders, right.as_slice())?;
-    let a = key(&rt, keys.as_slice(), 1);
-    let b = key(&rt, keys.as_slice(), 2);
-    let mut listed = Vec::new(alloc);
-    borders.push_users(b, a, &mut listed)?;
-    borders.push_users(a, a, &mut listed)?;
+fn list_both<R: Abort>(
+    rt: &R,
+    alloc: Global,
+    borders: &mut Borders,
+    keys: &[VertexKey],
+    listed: &mut Vec<usize>,
+) {
+    let first = add(rt, alloc, borders, keys, &LEFT).expect(rt, MEMORY);
+    let second = add(rt, alloc, borders, keys, &RIGHT_TURNED).expect(rt, MEMORY);
+    let (a, b) = (key(rt, keys, 1), key(rt, keys, 2));
+    borders.push_users(b, a, listed).expect(rt, MEMORY);
+    borders.push_users(a, a, listed).expect(rt, MEMORY);
     listed.sort_unstable();
-    assert_eq!(rt; listed.as_slice(), [first, second].as_slice());
-    Ok(())
+    assert!(rt; listed.as_slice() == [first, second].as_slice());
+}
+
+#[test]
+fn a_shared_side_lists_both_rings(rt: HostRuntime) {
+    let keys = vertex_keys(&rt, rt.alloc(), 6);
+    let (mut borders, mut listed) = (Borders::new(rt.alloc()), Vec::new(rt.alloc()));
+    list_both(&rt, rt.alloc(), &mut borders, keys.as_slice(), &mut listed);
 }

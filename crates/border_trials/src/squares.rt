@@ -3,7 +3,6 @@ use grid_geometry::Pos;
 use shared_arcs::{Borders, Neighbours, Put};
 use std::alloc::{AllocError, Allocator, Global};
 use std::process::Abort;
-use std::test::Fail;
 use vertex_index::{VertexKey, Vertices};
 
 /// Two squares, each counted by its four vertices: the side of vertices 1 and 2 is in both.
@@ -14,18 +13,24 @@ pub(crate) const RIGHT: [usize; 4] = [1, 4, 5, 2];
 /// The second square, gone round the other way.
 pub(crate) const RIGHT_TURNED: [usize; 4] = [2, 5, 4, 1];
 
+/// What a growth that nothing refuses is expected to find.
+pub(crate) const MEMORY: &str = "there is memory";
+
+/// Says what does not hold, if it does not.
+pub(crate) fn holds<R: Abort>(rt: &R, what: &str, is_so: bool) {
+    assert!(rt; is_so, "{what}");
+}
+
 /// The keys of so many vertices.
-pub(crate) fn vertex_keys<R: Abort>(
-    rt: &R,
-    alloc: Global,
-    count: i64,
-) -> Result<Vec<VertexKey>, Fail> {
+pub(crate) fn vertex_keys<R: Abort>(rt: &R, alloc: Global, count: i64) -> Vec<VertexKey> {
     let mut vertices = Vertices::new(alloc);
     let mut keys = Vec::new(alloc);
     for n in 0..count {
-        keys.push(vertices.add(Pos::new(n, 0).expect(rt, "in range"))?)?;
+        let p = Pos::new(n, 0).expect(rt, "in range");
+        let key = vertices.add(p).expect(rt, "a new vertex");
+        keys.push(key).expect(rt, MEMORY);
     }
-    Ok(keys)
+    keys
 }
 
 /// The key of a vertex.
@@ -39,22 +44,34 @@ pub(crate) fn pick<R: Abort>(
     alloc: Global,
     keys: &[VertexKey],
     which: &[usize],
-) -> Result<Vec<VertexKey>, AllocError> {
-    let mut ring = Vec::new(alloc);
+) -> Vec<VertexKey> {
+    let mut picked = Vec::new(alloc);
     for n in which {
-        ring.push(key(rt, keys, *n))?;
+        picked.push(key(rt, keys, *n)).expect(rt, MEMORY);
     }
-    Ok(ring)
+    picked
 }
 
 /// Adds the ring along these keys.
-pub(crate) fn add<R: Abort, A: Allocator + Copy>(
+fn add_keys<R: Abort, A: Allocator + Copy>(
     rt: &R,
     borders: &mut Borders<A>,
-    keys: &[VertexKey],
+    ring: &[VertexKey],
 ) -> Result<usize, AllocError> {
-    assert!(rt; 0 < keys.len());
-    borders.add_ring(keys)
+    assert!(rt; 0 < ring.len());
+    borders.add_ring(ring)
+}
+
+/// Adds the ring along these vertices.
+pub(crate) fn add<R: Abort, A: Allocator + Copy>(
+    rt: &R,
+    alloc: Global,
+    borders: &mut Borders<A>,
+    keys: &[VertexKey],
+    which: &[usize],
+) -> Result<usize, AllocError> {
+    let ring = pick(rt, alloc, keys, which);
+    add_keys(rt, borders, ring.as_slice())
 }
 
 /// Takes out a ring.
@@ -67,9 +84,7 @@ pub(crate) fn take<R: Abort, A: Allocator + Copy>(rt: &R, borders: &mut Borders<
 pub(crate) fn insert<R: Abort, A: Allocator + Copy>(
     rt: &R,
     borders: &mut Borders<A>,
-    a: VertexKey,
-    b: VertexKey,
-    q: VertexKey,
+    [a, b, q]: [VertexKey; 3],
 ) -> Result<(), AllocError> {
     assert!(rt; a != b && a != q && b != q);
     match borders.neighbours(q) {
@@ -131,38 +146,71 @@ pub(crate) fn remove<R: Abort, A: Allocator + Copy>(
     }
 }
 
-/// Whether the ring is held and goes along these keys.
-pub(crate) fn goes_along<A: Allocator + Copy>(
+/// The keys of a ring; none where it is not held.
+fn ring_keys<R: Abort, A: Allocator + Copy>(
+    rt: &R,
     alloc: Global,
     borders: &Borders<A>,
     r: usize,
-    keys: &[VertexKey],
-) -> Result<bool, AllocError> {
-    if !borders.holds(r) {
-        return Ok(false);
-    }
+) -> Vec<VertexKey> {
     let mut read = Vec::new(alloc);
-    borders.push_keys(r, &mut read)?;
-    Ok(read.as_slice() == keys)
+    if borders.holds(r) {
+        borders.push_keys(r, &mut read).expect(rt, MEMORY);
+    }
+    read
 }
 
-/// Whether the ring goes along these vertices, but for where it begins.
-pub(crate) fn goes_round<R: Abort, A: Allocator + Copy>(
+/// Whether the ring is held and goes along these vertices.
+pub(crate) fn goes_along<R: Abort, A: Allocator + Copy>(
     rt: &R,
     alloc: Global,
     borders: &Borders<A>,
     r: usize,
     keys: &[VertexKey],
     which: &[usize],
-) -> Result<bool, AllocError> {
-    let mut turned = pick(rt, alloc, keys, which)?;
-    for _ in 0..which.len() {
-        if goes_along(alloc, borders, r, turned.as_slice())? {
-            return Ok(true);
+) -> bool {
+    let read = ring_keys(rt, alloc, borders, r);
+    read.as_slice() == pick(rt, alloc, keys, which).as_slice()
+}
+
+/// Whether the keys are the wanted ones, but for where they begin.
+fn is_turned(keys: &mut [VertexKey], wanted: &[VertexKey]) -> bool {
+    for _ in wanted {
+        if *keys == *wanted {
+            return true;
         }
-        if !turned.is_empty() {
-            turned.rotate_left(1);
+        if !keys.is_empty() {
+            keys.rotate_left(1);
         }
     }
-    Ok(false)
+    false
+}
+
+/// Whether the ring goes along these vertices, but for where it begins.
+fn goes_round<R: Abort, A: Allocator + Copy>(
+    rt: &R,
+    alloc: Global,
+    borders: &Borders<A>,
+    r: usize,
+    keys: &[VertexKey],
+    which: &[usize],
+) -> bool {
+    let mut read = ring_keys(rt, alloc, borders, r);
+    is_turned(read.as_mut_slice(), pick(rt, alloc, keys, which).as_slice())
+}
+
+/// Whether the rings from 0 on go round these vertices.
+pub(crate) fn are_rings<R: Abort, A: Allocator + Copy>(
+    rt: &R,
+    alloc: Global,
+    borders: &Borders<A>,
+    keys: &[VertexKey],
+    rings: &[&[usize]],
+) -> bool {
+    for (r, which) in rings.iter().enumerate() {
+        if !goes_round(rt, alloc, borders, r, keys, *which) {
+            return false;
+        }
+    }
+    true
 }

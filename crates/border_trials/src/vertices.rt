@@ -1,40 +1,37 @@
 // A key through the changes of its vertex, and calls that are refused memory.
+use crate::squares::MEMORY;
 use grid_geometry::Pos;
 use refusing_allocator::Refusing;
 use std::alloc::{Allocator, Global};
 use std::process::Abort;
-use std::test::Fail;
 use vertex_index::{AddFault, ShiftFault, VertexKey, Vertices};
 
 /// More than the growths of any run below.
 const MANY: u64 = 100;
 
-/// The position, which is in range.
-fn at<R: Abort>(rt: &R, x: i64, y: i64) -> Pos {
-    Pos::new(x, y).expect(rt, "in range")
-}
-
 /// The position that is added after n others.
 fn nth<R: Abort>(rt: &R, n: u32) -> Pos {
-    at(rt, i64::from(n), 1)
+    Pos::new(i64::from(n), 1).expect(rt, "in range")
+}
+
+/// A vertex keeps its key where it is shifted, and a copy from before keeps the vertex.
+fn keep_key<R: Abort>(rt: &R, vertices: &mut Vertices) {
+    let (first, other) = (nth(rt, 2), nth(rt, 4));
+    let key = vertices.add(first).expect(rt, "a new vertex");
+    let (again, shifted) = (vertices.add(first), vertices.shift(key, first));
+    assert!(rt; again == Err(AddFault::Occupied) && shifted == Err(ShiftFault::Occupied));
+    let copy = vertices.copy().expect(rt, MEMORY);
+    let count = vertices.len();
+    vertices.shift(key, other).expect(rt, MEMORY);
+    let is_shifted = vertices.key_of(first).is_none() && vertices.pos(key) == other;
+    vertices.remove(key);
+    let is_gone = vertices.key_of(other).is_none();
+    assert!(rt; count == 1 && is_shifted && is_gone && copy.key_of(first) == Some(key));
 }
 
 #[test]
-fn a_key_stays_with_its_vertex(rt: HostRuntime) -> Result<(), Fail> {
-    let (first, other) = (at(&rt, 1, 2), at(&rt, 3, 4));
-    let mut vertices = Vertices::new(rt.alloc());
-    let key = vertices.add(first)?;
-    assert_eq!(rt; vertices.add(first), Err(AddFault::Occupied));
-    assert_eq!(rt; vertices.shift(key, first), Err(ShiftFault::Occupied));
-    assert_eq!(rt; vertices.len(), 1);
-    let copy = vertices.copy()?;
-    vertices.shift(key, other)?;
-    assert_eq!(rt; vertices.key_of(first), None);
-    assert!(rt; vertices.pos(key) == other);
-    vertices.remove(key);
-    assert_eq!(rt; vertices.key_of(other), None);
-    assert_eq!(rt; copy.key_of(first), Some(key));
-    Ok(())
+fn a_key_stays_with_its_vertex(rt: HostRuntime) {
+    keep_key(&rt, &mut Vertices::new(rt.alloc()));
 }
 
 /// Whether a vertex stands at the position under this key, by both looks.
@@ -63,46 +60,55 @@ fn is_filled<R: Abort, A: Allocator + Copy>(
     vertices.len() == count as usize
 }
 
-/// Adds so many vertices, and the same to a set that is refused nothing. An addition that is
-/// refused changes nothing, and has its usual answer when it is called again. Gives whether one
-/// was refused.
+/// Adds a vertex after n others, and the same to a set that is refused nothing. An addition that is
+/// refused changes nothing, and has its usual answer when it is called again. Gives whether it was.
+fn add_twice<R: Abort, A: Allocator + Copy>(
+    rt: &R,
+    vertices: &mut Vertices<A>,
+    usual: &mut Vertices,
+    n: u32,
+) -> bool {
+    let p = nth(rt, n);
+    let mut added = vertices.add(p);
+    let was_refused = added == Err(AddFault::OutOfMemory);
+    if was_refused {
+        assert!(rt; is_filled(rt, vertices, usual, n) && vertices.key_of(p).is_none());
+        added = vertices.add(p);
+    }
+    assert!(rt; added == usual.add(p));
+    was_refused
+}
+
+/// Adds twenty vertices, and gives how many of the additions were refused.
 fn fill<R: Abort, A: Allocator + Copy>(
     rt: &R,
     vertices: &mut Vertices<A>,
     usual: &mut Vertices,
-    count: u32,
-) -> Result<bool, Fail> {
-    let mut was_refused = false;
-    for n in 0..count {
-        let p = nth(rt, n);
-        let mut added = vertices.add(p);
-        if added == Err(AddFault::OutOfMemory) {
-            assert!(rt; !was_refused);
-            was_refused = true;
-            assert!(rt; is_filled(rt, vertices, usual, n));
-            assert_eq!(rt; vertices.key_of(p), None);
-            added = vertices.add(p);
-        }
-        assert_eq!(rt; added, usual.add(p));
+) -> u32 {
+    let mut refused = 0u32;
+    for n in 0..20u32 {
+        refused = refused.saturating_add(u32::from(add_twice(rt, vertices, usual, n)));
     }
-    assert!(rt; is_filled(rt, vertices, usual, count));
-    Ok(was_refused)
+    assert!(rt; is_filled(rt, vertices, usual, 20));
+    refused
+}
+
+/// Whether the growth of this number is one of twenty additions.
+fn is_refused<R: Abort>(rt: &R, alloc: Global, nth: u64) -> bool {
+    let refusing = Refusing::new(alloc, nth);
+    let refused = fill(rt, &mut Vertices::new(&refusing), &mut Vertices::new(alloc));
+    assert!(rt; refused == u32::from(refusing.was_refused()));
+    refused == 1
 }
 
 /// Each growth of twenty additions is refused in turn.
 #[test]
-fn a_refused_addition_changes_nothing(rt: HostRuntime) -> Result<(), Fail> {
-    for k in 1..=MANY {
-        let refusing = Refusing::new(rt.alloc(), k);
-        let mut vertices = Vertices::new(&refusing);
-        let mut usual = Vertices::new(rt.alloc());
-        let was_refused = fill(&rt, &mut vertices, &mut usual, 20)?;
-        assert_eq!(rt; refusing.was_refused(), was_refused);
-        if !was_refused {
-            assert!(rt; 8 < k);
-            break;
+fn a_refused_addition_changes_nothing(rt: HostRuntime) {
+    for nth in 1..=MANY {
+        if !is_refused(&rt, rt.alloc(), nth) {
+            assert!(rt; 8 < nth);
+            return;
         }
-        assert!(rt; k < MANY);
     }
-    Ok(())
+    panic!(rt; "the additions end");
 }

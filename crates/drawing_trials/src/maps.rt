@@ -1,24 +1,32 @@
 //! Pictures of maps.
-use crate::pictures::{ALL, conflict, has, picture};
-use grid_geometry::Pos;
-use map_drawing::{View, Window, draw_map};
+use crate::pictures::{ALL, MEMORY, read_map, shows};
+use grid_geometry::{Pos, Seg};
+use map_drawing::{Conflict, View, Window, draw_map};
 use refusing_allocator::Refusing;
-use std::test::Fail;
-use topo_reader::read;
+use std::alloc::{AllocError, Allocator, Global};
+use std::process::Abort;
 
 /// Two squares with a common side.
 const SQUARES: &str =
     r#"{"type":"Topology","objects":{"land":{"type":"GeometryCollection","geometries":[{"type":"Polygon","id":"A","arcs":[[0,1]]},{"type":"Polygon","arcs":[[-1,2]]}]}},"arcs":[[[10,0],[10,10]],[[10,10],[0,10],[0,0],[10,0]],[[10,0],[20,0],[20,10],[10,10]]]}"#;
 
-/// A unit of the grid whose id is still to come, before and behind it.
-const BEFORE_ID: &str = r#"{"type":"Topology","objects":{"a":{"type":"Polygon","id":"#;
+/// A picture of the squares: whether a part is drawn, about 20 10, whether ids are, and whether a
+/// conflict is marked; the parts of its text, and what is not in it.
+struct Picture {
+    is_part: bool,
+    has_ids: bool,
+    is_marked: bool,
+    shown: &'static [&'static str],
+    others: &'static [&'static str],
+}
 
-const BEHIND_ID: &str = r#","arcs":[[0]]}},"arcs":[[[0,0],[1,0],[0,1],[0,0]]]}"#;
-
-#[test]
-fn a_map_is_drawn_with_y_upwards_from_its_corner(rt: HostRuntime) -> Result<(), Fail> {
-    let text = picture(rt.alloc(), SQUARES, ALL, None)?;
-    let drawn = r#"<svg x="20" y="20" width="960" height="523" viewBox="0 0 22 12">
+/// y grows upwards from the corner of the map.
+const WHOLE: Picture = Picture {
+    is_part: false,
+    has_ids: false,
+    is_marked: false,
+    shown: &[
+        r#"<svg x="20" y="20" width="960" height="523" viewBox="0 0 22 12">
 <g transform="translate(0 12) scale(1 -1)">
 <g class="narrow" stroke-width="1">
 <path class="plain" d="M 1 1 11 1 11 11 1 11z"><title>A</title></path>
@@ -27,126 +35,198 @@ fn a_map_is_drawn_with_y_upwards_from_its_corner(rt: HostRuntime) -> Result<(), 
 </g>
 </svg>
 </svg>
-"#;
-    assert!(rt; has(text.as_slice(), drawn));
-    Ok(())
+"#,
+    ],
+    others: &[],
+};
+
+/// A part has the features that meet it.
+const PART: Picture = Picture {
+    is_part: true,
+    has_ids: true,
+    is_marked: false,
+    shown: &[
+        r#"viewBox="0 0 4 4""#,
+        r#"d="M -8 -8 2 -8 2 2 -8 2z"><title>#1</title>"#,
+    ],
+    others: &["<title>A</title>", r#"class="name""#],
+};
+
+/// Ids are written in the features.
+const WITH_IDS: Picture = Picture {
+    is_part: false,
+    has_ids: true,
+    is_marked: false,
+    shown: &[
+        r#"<text class="name" x="281" y="285">A</text>"#,
+        r#"<text class="name" x="718" y="285">#1</text>"#,
+    ],
+    others: &[],
+};
+
+const MARKED: Picture = Picture {
+    is_part: false,
+    has_ids: false,
+    is_marked: true,
+    shown: &[
+        r#"<path class="conflict" stroke-width="3" d="M 1 1 11 11M 1 11 11 1"/>"#,
+        "conflict 0 0 10 10 / 0 10 10 0</text>",
+        "<circle cx=\"281\" cy=\"281\" r=\"14\"/>",
+    ],
+    others: &[],
+};
+
+/// Maps without rings.
+const EMPTY: &[&str] = &[
+    r#"{"type":"Topology","objects":{},"arcs":[]}"#,
+    r#"{"type":"Topology","objects":{"a":{"type":null}},"arcs":[]}"#,
+];
+
+/// The text of an id, and how it is written in a picture.
+const IDS: &[(&str, &str)] = &[
+    (r#""<b>&amp;\"'""#, "&lt;b&gt;&amp;amp;&quot;&apos;"),
+    (r#""]]>""#, "]]&gt;"),
+    (r#""a\u0000\u001f\u007f""#, "a\u{FFFD}\u{FFFD}\u{7F}"),
+    (r#""\t\n\r""#, "\t\n&#13;"),
+    ("\"\\u202e\u{5D0}\"", "\u{202E}\u{5D0}"),
+    (r#""\ufffe\uffff\ufffd""#, "\u{FFFD}\u{FFFD}\u{FFFD}"),
+    (r#""\ud83d\ude00""#, "\u{1F600}"),
+    (r#""\ud800<""#, "\\ud800&lt;"),
+    ("12", "12"),
+    ("null", "null"),
+    (r#"{"a":[1,"<"]}"#, "{&quot;a&quot;:[1,&quot;&lt;&quot;]}"),
+    (r#""""#, ""),
+    (
+        r#""123456789 123456789 123456789 123456789 1234567é890""#,
+        "123456789 123456789 123456789 123456789 1234567\u{2026}",
+    ),
+];
+
+/// A position in range.
+fn pos<R: Abort>(rt: &R, x: i64, y: i64) -> Pos {
+    Pos::new(x, y).expect(rt, "in range")
 }
 
-#[test]
-fn a_part_is_drawn_with_the_features_that_meet_it(rt: HostRuntime) -> Result<(), Fail> {
-    let middle = Pos::new(20, 10).expect(&rt, "in range");
-    let view = View {
-        part: Some(Window::about(middle, 4)),
-        has_ids: true,
-    };
-    let text = picture(rt.alloc(), SQUARES, view, None)?;
-    assert!(rt; has(text.as_slice(), r#"viewBox="0 0 4 4""#));
-    assert!(rt;
-        has(
-            text.as_slice(),
-            r#"d="M -8 -8 2 -8 2 2 -8 2z"><title>#1</title>"#
-        )
-    );
-    assert!(rt; !has(text.as_slice(), "<title>A</title>"));
-    assert!(rt; !has(text.as_slice(), r#"class="name""#));
-    Ok(())
+/// The segment between two positions, which differ.
+fn segment<R: Abort>(rt: &R, from: Pos, to: Pos) -> Seg {
+    Seg::new(from, to).expect(rt, "two positions")
 }
 
-#[test]
-fn ids_are_written_in_the_features(rt: HostRuntime) -> Result<(), Fail> {
-    let view = View {
-        part: None,
-        has_ids: true,
-    };
-    let text = picture(rt.alloc(), SQUARES, view, None)?;
-    assert!(rt;
-        has(
-            text.as_slice(),
-            r#"<text class="name" x="281" y="285">A</text>"#
-        )
-    );
-    assert!(rt;
-        has(
-            text.as_slice(),
-            r#"<text class="name" x="718" y="285">#1</text>"#
-        )
-    );
-    Ok(())
-}
-
-#[test]
-fn a_conflict_is_marked(rt: HostRuntime) -> Result<(), Fail> {
-    let text = picture(rt.alloc(), SQUARES, ALL, Some(conflict(&rt)))?;
-    assert!(rt;
-        has(
-            text.as_slice(),
-            r#"<path class="conflict" stroke-width="3" d="M 1 1 11 11M 1 11 11 1"/>"#
-        )
-    );
-    assert!(rt; has(text.as_slice(), "conflict 0 0 10 10 / 0 10 10 0</text>"));
-    assert!(rt; has(text.as_slice(), "<circle cx=\"281\" cy=\"281\" r=\"14\"/>"));
-    Ok(())
-}
-
-#[test]
-fn a_map_without_rings_is_drawn(rt: HostRuntime) -> Result<(), Fail> {
-    for map in [
-        r#"{"type":"Topology","objects":{},"arcs":[]}"#,
-        r#"{"type":"Topology","objects":{"a":{"type":null}},"arcs":[]}"#,
-    ] {
-        let text = picture(rt.alloc(), map, ALL, None)?;
-        assert!(rt; has(text.as_slice(), r#"viewBox="0 0 1 1""#));
-        assert!(rt; !has(text.as_slice(), "<path"));
+/// A conflict of the lower side of a unit with the one that leads up from 0 0.
+fn conflict<R: Abort>(rt: &R) -> Conflict {
+    Conflict {
+        first: segment(rt, pos(rt, 0, 0), pos(rt, 10, 10)),
+        second: segment(rt, pos(rt, 0, 10), pos(rt, 10, 0)),
     }
-    Ok(())
+}
+
+/// The picture of a map.
+fn drawn<R: Abort>(
+    rt: &R,
+    alloc: Global,
+    map: &str,
+    view: View,
+    conflict: Option<Conflict>,
+) -> Vec<u8> {
+    let mut text = Vec::new(alloc);
+    let map = read_map(alloc, alloc, map).expect(rt, "it is read");
+    draw_map(alloc, alloc, &map, view, conflict, &mut text).expect(rt, MEMORY);
+    text
+}
+
+/// The picture shows what it is to show.
+fn see<R: Abort>(rt: &R, alloc: Global, row: &Picture) {
+    let part = if row.is_part {
+        Some(Window::about(pos(rt, 20, 10), 4))
+    } else {
+        None
+    };
+    let view = View {
+        part,
+        has_ids: row.has_ids,
+    };
+    let marked = if row.is_marked {
+        Some(conflict(rt))
+    } else {
+        None
+    };
+    let text = drawn(rt, alloc, SQUARES, view, marked);
+    shows(rt, text.as_slice(), row.shown, row.others);
 }
 
 #[test]
-fn any_id_is_written_as_text(rt: HostRuntime) -> Result<(), Fail> {
-    let rows = [
-        (r#""<b>&amp;\"'""#, "&lt;b&gt;&amp;amp;&quot;&apos;"),
-        (r#""]]>""#, "]]&gt;"),
-        (r#""a\u0000\u001f\u007f""#, "a\u{FFFD}\u{FFFD}\u{7F}"),
-        (r#""\t\n\r""#, "\t\n&#13;"),
-        ("\"\\u202e\u{5D0}\"", "\u{202E}\u{5D0}"),
-        (r#""\ufffe\uffff\ufffd""#, "\u{FFFD}\u{FFFD}\u{FFFD}"),
-        (r#""\ud83d\ude00""#, "\u{1F600}"),
-        (r#""\ud800<""#, "\\ud800&lt;"),
-        ("12", "12"),
-        ("null", "null"),
-        (r#"{"a":[1,"<"]}"#, "{&quot;a&quot;:[1,&quot;&lt;&quot;]}"),
-        (r#""""#, ""),
-        (
-            r#""123456789 123456789 123456789 123456789 1234567é890""#,
-            "123456789 123456789 123456789 123456789 1234567\u{2026}",
-        ),
-    ];
-    for (id, written) in rows {
-        let map = format!(in rt.alloc(); "{BEFORE_ID}{id}{BEHIND_ID}")?;
-        let title = format!(in rt.alloc(); "<title>{written}</title>")?;
-        let text = picture(rt.alloc(), map.as_str(), ALL, None)?;
-        assert!(rt; has(text.as_slice(), title.as_str()), "{id}");
+fn squares_are_drawn(rt: HostRuntime) {
+    see(&rt, rt.alloc(), &WHOLE);
+    see(&rt, rt.alloc(), &PART);
+    see(&rt, rt.alloc(), &WITH_IDS);
+    see(&rt, rt.alloc(), &MARKED);
+}
+
+#[test]
+fn a_map_without_rings_is_drawn(rt: HostRuntime) {
+    for map in EMPTY {
+        let text = drawn(&rt, rt.alloc(), *map, ALL, None);
+        shows(&rt, text.as_slice(), &[r#"viewBox="0 0 1 1""#], &["<path"]);
     }
-    Ok(())
+}
+
+/// An id is written so.
+fn see_id<R: Abort>(rt: &R, alloc: Global, (id, written): &(&str, &str)) {
+    let map = format!(in alloc;
+        r#"{{"type":"Topology","objects":{{"a":{{"type":"Polygon","id":{id},"arcs":[[0]]}}}},"arcs":[[[0,0],[1,0],[0,1],[0,0]]]}}"#
+    ).expect(rt, MEMORY);
+    let title = format!(in alloc; "<title>{written}</title>").expect(rt, MEMORY);
+    let text = drawn(rt, alloc, map.as_str(), ALL, None);
+    shows(rt, text.as_slice(), &[title.as_str()], &[]);
+}
+
+#[test]
+fn any_id_is_written_as_text(rt: HostRuntime) {
+    for row in IDS {
+        see_id(&rt, rt.alloc(), row);
+    }
+}
+
+/// Draws the squares in a heap that may refuse a growth.
+fn draw<A: Allocator + Copy>(
+    heap: A,
+    alloc: Global,
+    text: &mut Vec<u8, A>,
+) -> Result<(), AllocError> {
+    match read_map(heap, alloc, SQUARES) {
+        Some(map) => draw_map(heap, alloc, &map, ALL, None, text),
+        None => Err(AllocError),
+    }
+}
+
+/// Whether the squares are drawn where the growth of this number is refused: then as they are drawn
+/// where none is.
+fn is_drawn<R: Abort>(rt: &R, alloc: Global, whole: &[u8], nth: u64) -> bool {
+    let heap = Refusing::new(alloc, nth);
+    let mut text = Vec::new(&heap);
+    let is_drawn = draw(&heap, alloc, &mut text).is_ok();
+    let is_whole = text.as_slice() == whole;
+    drop(text);
+    assert!(rt;
+        is_drawn != heap.was_refused() && (is_whole || !is_drawn),
+        "growth {nth}"
+    );
+    is_drawn
+}
+
+/// The number of the first growth that is none of the picture, with each one before refused in turn.
+fn first_drawn<R: Abort>(rt: &R, alloc: Global, whole: &[u8]) -> u64 {
+    for nth in 1..500u64 {
+        if is_drawn(rt, alloc, whole, nth) {
+            return nth;
+        }
+    }
+    panic!(rt; "more growths than that");
 }
 
 /// With each growth refused in turn a picture is none, or the picture.
 #[test]
-fn a_refused_growth_is_told(rt: HostRuntime) -> Result<(), Fail> {
-    let whole = picture(rt.alloc(), SQUARES, ALL, None)?;
-    for nth in 1..500u64 {
-        let alloc = Refusing::new(rt.alloc(), nth);
-        let Ok(map) = read(&alloc, rt.alloc(), SQUARES.as_bytes()) else {
-            continue;
-        };
-        let mut text = Vec::new(&alloc);
-        let drawn = draw_map(&alloc, rt.alloc(), &map, ALL, None, &mut text);
-        assert_eq!(rt; drawn.is_ok(), !alloc.was_refused(), "growth {nth}");
-        if drawn.is_ok() {
-            assert_eq!(rt; text.as_slice(), whole.as_slice());
-            return Ok(());
-        }
-    }
-    assert!(rt; false, "more growths than that");
-    Ok(())
+fn a_refused_growth_is_told(rt: HostRuntime) {
+    let whole = drawn(&rt, rt.alloc(), SQUARES, ALL, None);
+    first_drawn(&rt, rt.alloc(), whole.as_slice());
 }

@@ -9,12 +9,14 @@ use map_frame::{FeatureTexts, Frame, Id, ItemView};
 use refusing_allocator::Refusing;
 use std::alloc::{AllocError, Allocator, Global};
 use std::process::Abort;
-use std::test::Fail;
 use topo_outline::Form;
 use topo_reader::read;
 
 /// More than the growths of any run below.
 const MANY: u64 = 100;
+
+/// What a growth that nothing refuses is expected to find.
+const MEMORY: &str = "there is memory";
 
 /// Two layers that are features.
 const ALONE: &[u8] = b"{\"type\":\"Topology\",\"objects\":{\"a\":{\"type\":\"Polygon\",\"id\":7,\
@@ -85,8 +87,15 @@ fn frame_of<R: Abort, A: Allocator + Copy>(
     let second = triangle(alloc, 1)?;
     let numbers = pair(alloc, first, second)?;
     let frame = Frame::build(alloc, raw.transform, raw.layers, raw.members, numbers)?;
-    assert_eq!(rt; frame.next(), 2);
+    assert!(rt; frame.next() == 2);
     Ok(frame)
+}
+
+/// The frame of a text that opens.
+fn opened<R: Abort>(rt: &R, alloc: Global, text: &'static [u8]) -> Frame<'static>
+    ensures { IsTrue (are_distinct (rings result.doc)) }
+{
+    frame_of(rt, alloc, alloc, text).expect(rt, MEMORY)
 }
 
 /// Whether the ring with this number is of this feature; `None`: of no one.
@@ -137,58 +146,37 @@ fn is_empty_collection(frame: &Frame<'_>) -> bool {
 
 /// The frame has two features, each of which is a layer.
 fn see_alone<R: Abort>(rt: &R, frame: &Frame<'_>) {
-    assert!(rt; frame.is_alone(0));
-    assert!(rt; frame.is_alone(1));
-    assert!(rt; frame.feature_count() == 2);
-    assert!(rt; has_leaves(frame, &[0]));
-    assert!(rt; item_count(frame) == 1);
-    assert!(rt; is_of(frame, 0, Some(0)));
-    assert!(rt; is_of(frame, 1, Some(1)));
-    assert!(rt; is_of(frame, 2, None));
+    assert!(rt; frame.is_alone(0) && frame.is_alone(1) && frame.feature_count() == 2);
+    assert!(rt; has_leaves(frame, &[0]) && item_count(frame) == 1);
+    assert!(rt; is_of(frame, 0, Some(0)) && is_of(frame, 1, Some(1)) && is_of(frame, 2, None));
 }
 
 #[test]
-fn features_alone(rt: HostRuntime) -> Result<(), Fail> {
-    let frame = frame_of(&rt, rt.alloc(), rt.alloc(), ALONE)?;
-    see_alone(&rt, &frame);
-    drop(frame);
-    Ok(())
+fn features_alone(rt: HostRuntime) {
+    see_alone(&rt, &opened(&rt, rt.alloc(), ALONE));
 }
 
 /// The frame has two features in a collection, with a point between them.
 fn see_collection<R: Abort>(rt: &R, frame: &Frame<'_>) {
-    assert!(rt; frame.feature_count() == 2);
-    assert!(rt; !frame.is_alone(0));
-    assert!(rt; !frame.is_alone(1));
-    assert!(rt; has_leaves(frame, &[0, 1]));
-    assert!(rt; item_count(frame) == 5, "with its end, and the point");
-    assert!(rt; is_of(frame, 0, Some(0)));
-    assert!(rt; is_of(frame, 1, Some(1)));
-    assert!(rt; is_of(frame, 2, None));
+    assert!(rt; frame.feature_count() == 2 && !frame.is_alone(0) && !frame.is_alone(1));
+    // with its end, and the point
+    assert!(rt; has_leaves(frame, &[0, 1]) && item_count(frame) == 5);
+    assert!(rt; is_of(frame, 0, Some(0)) && is_of(frame, 1, Some(1)) && is_of(frame, 2, None));
 }
 
 #[test]
-fn a_collection(rt: HostRuntime) -> Result<(), Fail> {
-    let frame = frame_of(&rt, rt.alloc(), rt.alloc(), COLLECTION)?;
-    see_collection(&rt, &frame);
-    drop(frame);
-    Ok(())
+fn a_collection(rt: HostRuntime) {
+    see_collection(&rt, &opened(&rt, rt.alloc(), COLLECTION));
 }
 
 /// A copy of the frame of the collection, which is gone then.
-fn copied<R: Abort>(rt: &R, alloc: Global) -> Result<Frame<'static>, AllocError> {
-    let frame = frame_of(rt, alloc, alloc, COLLECTION)?;
-    let copy = frame.copy();
-    drop(frame);
-    copy
+fn copied<R: Abort>(rt: &R, alloc: Global) -> Frame<'static> {
+    opened(rt, alloc, COLLECTION).copy().expect(rt, MEMORY)
 }
 
 #[test]
-fn a_copy(rt: HostRuntime) -> Result<(), Fail> {
-    let copy = copied(&rt, rt.alloc())?;
-    see_collection(&rt, &copy);
-    drop(copy);
-    Ok(())
+fn a_copy(rt: HostRuntime) {
+    see_collection(&rt, &copied(&rt, rt.alloc()));
 }
 
 // ---- features that are taken out and put back
@@ -254,72 +242,58 @@ fn take_polygon<'a, R: Abort, A: Allocator + Copy>(
 
 /// Nothing has the number of the first feature.
 fn see_gone<R: Abort>(rt: &R, frame: &Frame<'_>) {
-    assert!(rt; frame.feature(0).is_none());
-    assert!(rt; !frame.is_alone(0));
-    assert!(rt; frame.feature_count() == 1);
-    assert!(rt; frame.next() == 2);
-    assert!(rt; is_of(frame, 0, None));
-    assert!(rt; is_of(frame, 1, Some(1)));
+    assert!(rt; frame.feature(0).is_none() && !frame.is_alone(0));
+    assert!(rt; frame.feature_count() == 1 && frame.next() == 2);
+    assert!(rt; is_of(frame, 0, None) && is_of(frame, 1, Some(1)));
+}
+
+/// The feature is a Polygon with this id, and has the properties that were read of the first one.
+fn see_feature<R: Abort>(rt: &R, frame: &Frame<'_>, n: u32, id: &[u8]) {
+    let feature = frame.feature(n).expect(rt, "the feature is there");
+    assert!(rt; feature.id() == Some(id) && feature.form() == Form::Polygon);
+    assert!(rt;
+        feature.properties() == Some(b"{\"k\":1}".as_slice()) && feature.members().len() == 1
+    );
 }
 
 /// The first feature has what was read of it, and the ring 0.
 fn see_first<R: Abort>(rt: &R, frame: &Frame<'_>) {
-    let first = frame.feature(0).expect(rt, "the feature is there");
-    assert!(rt; first.id() == Some(b"7".as_slice()));
-    assert!(rt; first.form() == Form::Polygon);
-    assert!(rt; first.properties() == Some(b"{\"k\":1}".as_slice()));
-    assert!(rt; first.members().len() == 1);
-    assert!(rt; frame.ring(0, 0, 0) == Some(0));
-    assert!(rt; frame.next() == 2);
+    see_feature(rt, frame, 0, b"7");
+    assert!(rt; frame.ring(0, 0, 0) == Some(0) && frame.next() == 2);
 }
 
-/// Takes the first feature out of the collection, and puts it back.
-fn take_from_collection<R: Abort>(
-    rt: &R,
-    alloc: Global,
-    frame: &mut Frame<'_>,
-) -> Result<(), AllocError>
+/// Takes the first feature out, and puts it back: there are as many leaves and items between.
+fn take_first<R: Abort>(rt: &R, alloc: Global, frame: &mut Frame<'_>, leaves: &[u32], items: usize)
     requires { IsTrue (are_distinct (rings frame.old.doc)) }
 {
-    let polygons = prepare(alloc, frame, 0)?;
+    let polygons = prepare(alloc, frame, 0).expect(rt, MEMORY);
     let texts = take_polygon(rt, frame, 0);
     see_gone(rt, frame);
-    assert!(rt; has_leaves(frame, &[1]));
-    assert!(rt; item_count(frame) == 4, "with its end, and the point");
+    see_items(rt, frame, leaves, items);
     put_polygon(rt, frame, 0, texts, polygons, 0);
     see_first(rt, frame);
-    see_collection(rt, frame);
-    Ok(())
+}
+
+/// The first layer has these features, and so many items, the end of each collection counted too; where
+/// it has no feature, it is a collection with nothing in it.
+fn see_items<R: Abort>(rt: &R, frame: &Frame<'_>, leaves: &[u32], items: usize) {
+    assert!(rt; has_leaves(frame, leaves) && item_count(frame) == items);
+    assert!(rt; !leaves.is_empty() || is_empty_collection(frame));
+}
+
+// with the end of the collection, and the point
+#[test]
+fn a_feature_is_put_back(rt: HostRuntime) {
+    let mut frame = opened(&rt, rt.alloc(), COLLECTION);
+    take_first(&rt, rt.alloc(), &mut frame, &[1], 4);
+    see_collection(&rt, &frame);
 }
 
 #[test]
-fn a_feature_is_put_back(rt: HostRuntime) -> Result<(), Fail> {
-    let mut frame = frame_of(&rt, rt.alloc(), rt.alloc(), COLLECTION)?;
-    let taken = take_from_collection(&rt, rt.alloc(), &mut frame);
-    drop(frame);
-    Ok(taken?)
-}
-
-/// Takes the feature out that is the first layer, and puts it back.
-fn take_alone<R: Abort>(rt: &R, alloc: Global, frame: &mut Frame<'_>) -> Result<(), AllocError>
-    requires { IsTrue (are_distinct (rings frame.old.doc)) }
-{
-    let polygons = prepare(alloc, frame, 0)?;
-    let texts = take_polygon(rt, frame, 0);
-    see_gone(rt, frame);
-    assert!(rt; is_empty_collection(frame));
-    put_polygon(rt, frame, 0, texts, polygons, 0);
-    see_first(rt, frame);
-    see_alone(rt, frame);
-    Ok(())
-}
-
-#[test]
-fn a_layer_is_put_back(rt: HostRuntime) -> Result<(), Fail> {
-    let mut frame = frame_of(&rt, rt.alloc(), rt.alloc(), ALONE)?;
-    let taken = take_alone(&rt, rt.alloc(), &mut frame);
-    drop(frame);
-    Ok(taken?)
+fn a_layer_is_put_back(rt: HostRuntime) {
+    let mut frame = opened(&rt, rt.alloc(), ALONE);
+    take_first(&rt, rt.alloc(), &mut frame, &[], 2);
+    see_alone(&rt, &frame);
 }
 
 // ---- new features
@@ -354,20 +328,13 @@ fn part_texts<'a, R: Abort, A: Allocator + Copy>(
 }
 
 /// Puts a part of the first feature, which is the ring with this number, into the place of `n`.
-fn put_part<R: Abort>(
-    rt: &R,
-    alloc: Global,
-    frame: &mut Frame<'_>,
-    n: u32,
-    ring: usize,
-) -> Result<(), AllocError>
+fn put_part<R: Abort>(rt: &R, alloc: Global, frame: &mut Frame<'_>, n: u32, ring: usize)
     requires { IsTrue (are_distinct (rings frame.old.doc)) }
-    ensures { OnOk result (IsTrue (are_distinct (rings frame.new.doc))) }
+    ensures { IsTrue (are_distinct (rings frame.new.doc)) }
 {
-    let polygons = prepare(alloc, frame, ring)?;
-    let texts = part_texts(rt, alloc, frame, 0)?;
+    let polygons = prepare(alloc, frame, ring).expect(rt, MEMORY);
+    let texts = part_texts(rt, alloc, frame, 0).expect(rt, MEMORY);
     put_polygon(rt, frame, n, texts, polygons, ring);
-    Ok(())
 }
 
 /// The rings from 0 on are of these features.
@@ -377,39 +344,26 @@ fn see_owners<R: Abort>(rt: &R, frame: &Frame<'_>, owners: &[Option<u32>]) {
     }
 }
 
-/// The feature of this number is a Polygon with the id that it was given, and has the properties of
-/// the first feature and the ring 5.
-fn see_part<R: Abort>(rt: &R, frame: &Frame<'_>, number: u32) {
-    let part = frame.feature(number).expect(rt, "the part is there");
-    assert!(rt; part.id() == Some(b"\"new\"".as_slice()));
-    assert!(rt; part.form() == Form::Polygon);
-    assert!(rt; part.properties() == Some(b"{\"k\":1}".as_slice()));
-    assert!(rt; part.members().len() == 1);
-    assert!(rt; frame.ring(number, 0, 0) == Some(5));
-}
-
 /// Gives two numbers places after the first feature, in which nothing stands.
-fn grow_twice<R: Abort>(rt: &R, frame: &mut Frame<'_>) -> Result<(), AllocError>
+fn grow_twice<R: Abort>(rt: &R, frame: &mut Frame<'_>)
     ensures { frame.new.doc ≡ frame.old.doc }
 {
-    assert!(rt; grow_after(rt, frame, 0)? == 2);
-    assert!(rt; grow_after(rt, frame, 0)? == 3);
-    assert!(rt; frame.next() == 4);
-    assert!(rt; frame.feature(2).is_none());
-    assert!(rt; frame.feature(3).is_none());
+    let first = grow_after(rt, frame, 0).expect(rt, MEMORY);
+    let second = grow_after(rt, frame, 0).expect(rt, MEMORY);
+    assert!(rt; first == 2 && second == 3 && frame.next() == 4);
+    assert!(rt; frame.feature(2).is_none() && frame.feature(3).is_none());
     see_collection(rt, frame);
-    Ok(())
 }
 
 /// Puts parts of the first feature into two new places after it, and takes one of them out.
-fn part_twice<R: Abort>(rt: &R, alloc: Global, frame: &mut Frame<'_>) -> Result<(), AllocError>
+fn part_twice<R: Abort>(rt: &R, alloc: Global, frame: &mut Frame<'_>)
     requires { IsTrue (are_distinct (rings frame.old.doc)) }
 {
-    grow_twice(rt, frame)?;
-    put_part(rt, alloc, frame, 2, 5)?;
-    see_part(rt, frame, 2);
-    assert!(rt; has_leaves(frame, &[0, 2, 1]));
-    put_part(rt, alloc, frame, 3, 3)?;
+    grow_twice(rt, frame);
+    put_part(rt, alloc, frame, 2, 5);
+    see_feature(rt, frame, 2, b"\"new\"");
+    assert!(rt; frame.ring(2, 0, 0) == Some(5) && has_leaves(frame, &[0, 2, 1]));
+    put_part(rt, alloc, frame, 3, 3);
     assert!(rt; has_leaves(frame, &[0, 3, 2, 1]));
     see_owners(
         rt,
@@ -417,19 +371,13 @@ fn part_twice<R: Abort>(rt: &R, alloc: Global, frame: &mut Frame<'_>) -> Result<
         &[Some(0), Some(1), None, Some(3), None, Some(2), None],
     );
     frame.take_out(2);
-    assert!(rt; has_leaves(frame, &[0, 3, 1]));
-    assert!(rt; frame.feature_count() == 3);
-    assert!(rt; frame.next() == 4);
-    assert!(rt; is_of(frame, 5, None));
-    Ok(())
+    assert!(rt; has_leaves(frame, &[0, 3, 1]) && frame.feature_count() == 3);
+    assert!(rt; frame.next() == 4 && is_of(frame, 5, None));
 }
 
 #[test]
-fn parts_stand_after_their_feature(rt: HostRuntime) -> Result<(), Fail> {
-    let mut frame = frame_of(&rt, rt.alloc(), rt.alloc(), COLLECTION)?;
-    let parted = part_twice(&rt, rt.alloc(), &mut frame);
-    drop(frame);
-    Ok(parted?)
+fn parts_stand_after_their_feature(rt: HostRuntime) {
+    part_twice(&rt, rt.alloc(), &mut opened(&rt, rt.alloc(), COLLECTION));
 }
 
 // ---- other ids
@@ -442,29 +390,34 @@ fn has_id(frame: &Frame<'_>, n: u32, id: Option<&[u8]>) -> bool {
     }
 }
 
+/// Gives a feature another id, which it has then. Gives back the one that it had.
+fn rename<'a, R: Abort>(
+    rt: &R,
+    frame: &mut Frame<'a>,
+    n: u32,
+    id: Id<'a>,
+    wanted: Option<&[u8]>,
+) -> Id<'a> {
+    let before = frame.rename(n, id);
+    assert!(rt; has_id(frame, n, wanted));
+    before
+}
+
 /// Gives the features another id, and then their own again.
-fn rename_both<R: Abort>(rt: &R, alloc: Global, frame: &mut Frame<'_>) -> Result<(), AllocError> {
-    let text = Vec::from_slice(alloc, b"\"new\"")?;
+fn rename_both<R: Abort>(rt: &R, alloc: Global, frame: &mut Frame<'_>) {
+    let given = b"\"new\"".as_slice();
+    let text = Vec::from_slice(alloc, given).expect(rt, MEMORY);
     let new = frame.rename(9, Id::given(text));
-    let old = frame.rename(0, new);
-    assert!(rt; has_id(frame, 0, Some(b"\"new\"".as_slice())));
-    let new = frame.rename(0, old);
-    assert!(rt; has_id(frame, 0, Some(b"7".as_slice())));
-    let none = frame.rename(1, new);
-    assert!(rt; has_id(frame, 1, Some(b"\"new\"".as_slice())));
-    let new = frame.rename(1, none);
-    assert!(rt; has_id(frame, 1, None));
-    drop(new);
+    let old = rename(rt, frame, 0, new, Some(given));
+    let new = rename(rt, frame, 0, old, Some(b"7".as_slice()));
+    let none = rename(rt, frame, 1, new, Some(given));
+    rename(rt, frame, 1, none, None);
     see_collection(rt, frame);
-    Ok(())
 }
 
 #[test]
-fn an_id_is_given_back(rt: HostRuntime) -> Result<(), Fail> {
-    let mut frame = frame_of(&rt, rt.alloc(), rt.alloc(), COLLECTION)?;
-    let renamed = rename_both(&rt, rt.alloc(), &mut frame);
-    drop(frame);
-    Ok(renamed?)
+fn an_id_is_given_back(rt: HostRuntime) {
+    rename_both(&rt, rt.alloc(), &mut opened(&rt, rt.alloc(), COLLECTION));
 }
 
 // ---- refused growths
@@ -497,43 +450,33 @@ fn is_parted<A: Allocator + Copy>(frame: &Frame<'_, A>) -> bool {
 }
 
 /// Parts a feature, and again if a growth was refused. Gives whether it was.
-fn part_again<R: Abort, A: Allocator + Copy>(
-    rt: &R,
-    alloc: A,
-    frame: &mut Frame<'_, A>,
-    growth: u64,
-) -> Result<bool, AllocError> {
-    match part_feature(rt, alloc, frame) {
-        Ok(()) => Ok(false),
-        Err(_) => {
-            assert!(rt; stays(frame), "growth {growth}");
-            part_feature(rt, alloc, frame)?;
-            Ok(true)
-        }
+fn part_again<R: Abort, A: Allocator + Copy>(rt: &R, alloc: A, frame: &mut Frame<'_, A>) -> bool {
+    let is_refused = part_feature(rt, alloc, frame).is_err();
+    if is_refused {
+        assert!(rt; stays(frame));
+        part_feature(rt, alloc, frame).expect(rt, MEMORY);
     }
+    assert!(rt; is_parted(frame));
+    is_refused
 }
 
 /// Parts a feature where the growth of this number is refused, and again if it was. Gives whether
 /// it was.
-fn is_refused<R: Abort>(rt: &R, heap: Global, growth: u64) -> Result<bool, Fail> {
-    let refusing = Refusing::new(heap, growth);
-    let Ok(mut frame) = frame_of(rt, &refusing, heap, COLLECTION) else {
-        return Ok(true);
+fn is_refused<R: Abort>(rt: &R, alloc: Global, growth: u64) -> bool {
+    let refusing = Refusing::new(alloc, growth);
+    let refused = match frame_of(rt, &refusing, alloc, COLLECTION) {
+        Ok(mut frame) => part_again(rt, &refusing, &mut frame),
+        Err(_) => true,
     };
-    let parted = part_again(rt, &refusing, &mut frame, growth);
-    let is_parted = is_parted(&frame);
-    drop(frame);
-    let refused = parted?;
-    assert!(rt; is_parted, "growth {growth}");
     assert!(rt; refused == refusing.was_refused(), "growth {growth}");
-    Ok(refused)
+    refused
 }
 
 #[test]
-fn a_refused_growth_changes_nothing(rt: HostRuntime) -> Result<(), Fail> {
+fn a_refused_growth_changes_nothing(rt: HostRuntime) {
     for growth in 1..MANY {
-        if !is_refused(&rt, rt.alloc(), growth)? {
-            return Ok(());
+        if !is_refused(&rt, rt.alloc(), growth) {
+            return;
         }
     }
     panic!(rt; "more growths than expected");

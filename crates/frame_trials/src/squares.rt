@@ -13,11 +13,13 @@ use segment_index::ListIndex;
 use shared_arcs::Borders;
 use std::alloc::{AllocError, Allocator, Global};
 use std::process::Abort;
-use std::test::Fail;
 use vertex_index::{VertexKey, Vertices};
 
 /// More than the growths of any run below.
 const MANY: u64 = 200;
+
+/// What a growth that nothing refuses is expected to find.
+const MEMORY: &str = "there is memory";
 
 /// The position, which is in range.
 fn at<R: Abort>(rt: &R, x: i64, y: i64) -> Pos
@@ -78,38 +80,30 @@ impl<A: Allocator + Copy> Squares<A> {
     }
 
     /// Lays both squares.
-    fn lay_squares<R: Abort>(&mut self, rt: &R, alloc: A) -> Result<(), AllocError>
+    fn lay_squares<R: Abort>(&mut self, rt: &R, alloc: A)
         requires { AreStanding self.old.tables }
         ensures { AreStanding self.new.tables }
     {
-        let rings = two_squares(rt, alloc)?;
-        let laid = self.lay(rings.as_slice());
-        drop(rings);
-        laid
+        let rings = two_squares(rt, alloc).expect(rt, MEMORY);
+        self.lay(rings.as_slice()).expect(rt, MEMORY);
     }
 
     /// The ring with a number, which stands.
-    fn gather<R: Abort>(
-        &self,
-        rt: &R,
-        alloc: A,
-        number: usize,
-    ) -> Result<Vec<LaidRing<A>, A>, AllocError>
+    fn gather<R: Abort>(&self, rt: &R, alloc: A, number: usize) -> Vec<LaidRing<A>, A>
         requires { AreStanding self.now.tables }
-        ensures { IfOk result (λ laid. AreThere self.now.tables.borders laid.items) }
+        ensures { AreThere self.now.tables.borders result.items }
     {
         assert!(rt; self.tables.borders.holds(number));
-        gather_rings(alloc, &self.tables.borders, &[number])
+        gather_rings(alloc, &self.tables.borders, &[number]).expect(rt, MEMORY)
     }
 
     /// Takes out the ring with a number, which stands.
-    fn take_out<R: Abort>(&mut self, rt: &R, alloc: A, number: usize) -> Result<(), AllocError>
+    fn take_out<R: Abort>(&mut self, rt: &R, alloc: A, number: usize)
         requires { AreStanding self.old.tables }
         ensures { AreStanding self.new.tables }
     {
-        let rings = self.gather(rt, alloc, number)?;
+        let rings = self.gather(rt, alloc, number);
         take_out_rings(&mut self.tables, rings.as_slice());
-        Ok(())
     }
 
     /// The key of the vertex at a position, which stands.
@@ -131,25 +125,21 @@ impl<A: Allocator + Copy> Squares<A> {
 }
 
 /// Lays both squares, and counts how often their sides are used.
-fn share_a_side<R: Abort>(rt: &R, alloc: Global, squares: &mut Squares) -> Result<(), AllocError>
+fn share_a_side<R: Abort>(rt: &R, alloc: Global, squares: &mut Squares)
     requires { AreStanding squares.old.tables }
 {
-    squares.lay_squares(rt, alloc)?;
-    assert!(rt; squares.counts() == (2, 6, 7));
+    squares.lay_squares(rt, alloc);
     let (corner, above) = (squares.key(rt, 10, 0), squares.key(rt, 10, 10));
     let origin = squares.key(rt, 0, 0);
-    assert!(rt; squares.tables.borders.uses(corner, above) == 2);
-    assert!(rt; squares.tables.borders.uses(corner, origin) == 1);
-    assert!(rt; squares.tables.borders.uses(origin, above) == 0);
-    Ok(())
+    let borders = &squares.tables.borders;
+    let are_used = borders.uses(corner, above) == 2 && borders.uses(corner, origin) == 1;
+    assert!(rt; squares.counts() == (2, 6, 7));
+    assert!(rt; are_used && borders.uses(origin, above) == 0);
 }
 
 #[test]
-fn squares_share_a_side(rt: HostRuntime) -> Result<(), Fail> {
-    let mut squares = Squares::new(rt.alloc());
-    let shared = share_a_side(&rt, rt.alloc(), &mut squares);
-    drop(squares);
-    Ok(shared?)
+fn squares_share_a_side(rt: HostRuntime) {
+    share_a_side(&rt, rt.alloc(), &mut Squares::new(rt.alloc()));
 }
 
 /// The numbers of the two rings that were laid.
@@ -171,115 +161,91 @@ fn see_right<R: Abort>(rt: &R, squares: &Squares, laid: &[LaidRing], number: usi
         squares.key(rt, 20, 10),
         squares.key(rt, 10, 10),
     ];
-    assert!(rt; ring.number == number);
-    assert!(rt; ring.keys.as_slice() == want.as_slice());
+    assert!(rt; ring.number == number && ring.keys.as_slice() == want.as_slice());
 }
 
 /// Lays both squares, and gathers the right one.
-fn gather_right<R: Abort>(rt: &R, alloc: Global, squares: &mut Squares) -> Result<(), AllocError>
+fn gather_right<R: Abort>(rt: &R, alloc: Global, squares: &mut Squares)
     requires { AreStanding squares.old.tables }
 {
-    squares.lay_squares(rt, alloc)?;
+    squares.lay_squares(rt, alloc);
     let (_, right) = numbers(rt, squares);
-    let laid = squares.gather(rt, alloc, right)?;
+    let laid = squares.gather(rt, alloc, right);
     see_right(rt, squares, laid.as_slice(), right);
-    drop(laid);
-    Ok(())
 }
 
 // in the order in which they were given, each from its first position on
 #[test]
-fn rings_are_gathered_by_number(rt: HostRuntime) -> Result<(), Fail> {
-    let mut squares = Squares::new(rt.alloc());
-    let gathered = gather_right(&rt, rt.alloc(), &mut squares);
-    drop(squares);
-    Ok(gathered?)
+fn rings_are_gathered_by_number(rt: HostRuntime) {
+    gather_right(&rt, rt.alloc(), &mut Squares::new(rt.alloc()));
+}
+
+/// Whether there are so many vertices and segments.
+fn has_counts(squares: &Squares, vertices: usize, segments: usize) -> bool {
+    squares.tables.vertices.len() == vertices && squares.tables.index.len() == segments
 }
 
 /// The right square stands alone.
 fn see_right_alone<R: Abort>(rt: &R, squares: &Squares) {
-    assert!(rt; (squares.tables.vertices.len(), squares.tables.index.len()) == (4, 4));
-    assert!(rt; squares.tables.vertices.key_of(at(rt, 0, 0)).is_none());
+    let origin = squares.tables.vertices.key_of(at(rt, 0, 0));
+    assert!(rt; has_counts(squares, 4, 4) && origin.is_none());
     let (corner, above) = (squares.key(rt, 10, 0), squares.key(rt, 10, 10));
     assert!(rt; squares.tables.borders.uses(corner, above) == 1);
 }
 
 /// Lays both squares, and takes out the left one and then the right one.
-fn take_both_out<R: Abort>(rt: &R, alloc: Global, squares: &mut Squares) -> Result<(), AllocError>
+fn take_both_out<R: Abort>(rt: &R, alloc: Global, squares: &mut Squares)
     requires { AreStanding squares.old.tables }
 {
-    squares.lay_squares(rt, alloc)?;
+    squares.lay_squares(rt, alloc);
     let (left, right) = numbers(rt, squares);
-    squares.take_out(rt, alloc, left)?;
+    squares.take_out(rt, alloc, left);
     see_right_alone(rt, squares);
-    squares.take_out(rt, alloc, right)?;
-    assert!(rt; (squares.tables.vertices.len(), squares.tables.index.len()) == (0, 0));
-    Ok(())
+    squares.take_out(rt, alloc, right);
+    assert!(rt; has_counts(squares, 0, 0));
 }
 
 // the other square keeps its sides and corners, until it goes too
 #[test]
-fn squares_taken_out(rt: HostRuntime) -> Result<(), Fail> {
-    let mut squares = Squares::new(rt.alloc());
-    let taken = take_both_out(&rt, rt.alloc(), &mut squares);
-    drop(squares);
-    Ok(taken?)
+fn squares_taken_out(rt: HostRuntime) {
+    take_both_out(&rt, rt.alloc(), &mut Squares::new(rt.alloc()));
 }
 
 /// Lays rings, and again if a growth was refused. Gives whether it was.
 fn lay_again<R: Abort, A: Allocator + Copy>(
     rt: &R,
-    alloc: A,
     squares: &mut Squares<A>,
     rings: &[Vec<Pos, A>],
-    growth: u64,
-) -> Result<bool, AllocError>
+) -> bool
     requires stand { AreStanding squares.old.tables }
     requires rings { IsTrue (list_all is_ring (map (λ ring. ring.items) rings.now)) }
 {
     let refused = squares.lay(rings).is_err();
     if refused {
-        assert!(rt; squares.counts() == (0, 0, 0), "growth {growth}");
-        squares.lay(rings)?;
+        assert!(rt; squares.counts() == (0, 0, 0));
+        squares.lay(rings).expect(rt, MEMORY);
     }
-    assert!(rt; squares.counts() == (2, 6, 7), "growth {growth}");
-    Ok(refused)
-}
-
-/// Lays rings into new tables, and again if a growth was refused. Gives whether it was.
-fn lay_in_new<R: Abort, A: Allocator + Copy>(
-    rt: &R,
-    alloc: A,
-    rings: &[Vec<Pos, A>],
-    growth: u64,
-) -> Result<bool, AllocError>
-    requires rings { IsTrue (list_all is_ring (map (λ ring. ring.items) rings.now)) }
-{
-    let mut squares = Squares::new(alloc);
-    let laid = lay_again(rt, alloc, &mut squares, rings, growth);
-    drop(squares);
-    laid
+    assert!(rt; squares.counts() == (2, 6, 7));
+    refused
 }
 
 /// Lays both squares where the growth of this number is refused, and again if it was. Gives
 /// whether it was.
-fn is_refused<R: Abort>(rt: &R, alloc: Global, growth: u64) -> Result<bool, Fail> {
+fn is_refused<R: Abort>(rt: &R, alloc: Global, growth: u64) -> bool {
     let refusing = Refusing::new(alloc, growth);
-    let Ok(rings) = two_squares(rt, &refusing) else {
-        return Ok(true);
+    let refused = match two_squares(rt, &refusing) {
+        Ok(rings) => lay_again(rt, &mut Squares::new(&refusing), rings.as_slice()),
+        Err(_) => true,
     };
-    let laid = lay_in_new(rt, &refusing, rings.as_slice(), growth);
-    drop(rings);
-    let refused = laid?;
     assert!(rt; refused == refusing.was_refused(), "growth {growth}");
-    Ok(refused)
+    refused
 }
 
 #[test]
-fn a_refusal_changes_nothing(rt: HostRuntime) -> Result<(), Fail> {
+fn a_refusal_changes_nothing(rt: HostRuntime) {
     for growth in 1..MANY {
-        if !is_refused(&rt, rt.alloc(), growth)? {
-            return Ok(());
+        if !is_refused(&rt, rt.alloc(), growth) {
+            return;
         }
     }
     panic!(rt; "more growths than expected");

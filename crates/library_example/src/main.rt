@@ -10,9 +10,8 @@ use arc_store::{EditFault, Map};
 use device_io::ToWriter;
 use grid_geometry::Pos;
 use segment_index::TreeIndex;
-use std::alloc::{AllocError, Global};
+use std::alloc::Global;
 use std::process::ExitCode;
-use std::str;
 use topo_reader::read;
 use topo_writer::write;
 use undo_ring::{Answer, Command, Editor};
@@ -31,13 +30,9 @@ type MapEditor<'a> = Editor<'a, TreeIndex<Global>, Global>;
 
 /// An editor of the map of a text; `None` where the map does not open.
 fn opened(alloc: Global, text: &[u8]) -> Option<MapEditor<'_>> {
-    let Ok(raw) = read(alloc, alloc, text) else {
-        return None;
-    };
+    let raw = read(alloc, alloc, text).ok()?;
     let index = TreeIndex::new(alloc, raw.extent());
-    let Ok(map) = Map::build(alloc, raw, index) else {
-        return None;
-    };
+    let map = Map::build(alloc, raw, index).ok()?;
     Editor::new(alloc, map, DEPTH).ok()
 }
 
@@ -48,52 +43,47 @@ fn moving(from: (i64, i64), to: (i64, i64)) -> Option<Command>
     Some(Command::Move(Pos::new(from.0, from.1)?, Pos::new(to.0, to.1)?))
 }
 
-/// What an editor says of a command.
-fn told(alloc: Global, said: Result<Answer, EditFault>) -> Result<String, AllocError> {
-    match said {
-        Ok(Answer::Area(twice)) => format!(in alloc; "twice the area is {twice}"),
-        Ok(_) => String::from_str(alloc, "done"),
-        Err(EditFault::Conflict { .. }) => String::from_str(
-            alloc,
-            "refused: two borders would meet",
-        ),
-        Err(_) => String::from_str(alloc, "refused"),
-    }
-}
-
-/// The map as TopoJSON; `None` where there is no memory.
-fn written(alloc: Global, editor: &MapEditor<'_>) -> Option<Vec<u8>> {
-    let mut out = ToWriter::new(Vec::new(alloc));
-    write(alloc, editor.map(), &mut out).ok()?;
-    Some(out.writer)
+/// Prints what an editor says of a command; `None` where nothing can be printed.
+fn tell(rt: &HostRuntime, said: &Result<Answer, EditFault>) -> Option<()> {
+    let word = match said {
+        Ok(Answer::Area(twice)) => return println!(rt; "twice the area is {twice}").ok(),
+        Ok(_) => "done",
+        Err(EditFault::Conflict { .. }) => "refused: two borders would meet",
+        Err(_) => "refused",
+    };
+    println!(rt; "{word}").ok()
 }
 
 /// Gives an editor a command, and prints what it says; `None` where that fails.
 fn give(rt: &HostRuntime, editor: &mut MapEditor<'_>, command: Command) -> Option<()>
     requires { IsSound command }
 {
-    let said = told(rt.alloc(), editor.apply(command)).ok()?;
-    println!(rt; "{said}").ok()
+    tell(rt, &editor.apply(command))
 }
 
-/// Prints the map; `None` where that fails.
+/// Prints the map as TopoJSON; `None` where that fails.
 fn show(rt: &HostRuntime, editor: &MapEditor<'_>) -> Option<()> {
-    let text = written(rt.alloc(), editor)?;
-    let text = str::from_utf8(text.as_slice()).ok()?;
-    println!(rt; "{text}").ok()
+    let mut out = ToWriter::new(rt.stdout());
+    write(rt.alloc(), editor.map(), &mut out).ok()?;
+    println!(rt; "").ok()
 }
 
-/// Runs the example; `None` where memory is wanting or nothing can be printed.
-fn run(rt: &HostRuntime) -> Option<()> {
-    let mut editor = opened(rt.alloc(), SQUARES.as_bytes())?;
-    give(rt, &mut editor, Command::Area(0))?;
-    give(rt, &mut editor, moving((10, 10), (12, 12))?)?;
-    give(rt, &mut editor, Command::Area(0))?;
-    give(rt, &mut editor, moving((0, 0), (15, 5))?)?;
+/// Edits a map, takes an edit back, and prints the map; `None` where memory is wanting or nothing can
+/// be printed.
+fn edit(rt: &HostRuntime, editor: &mut MapEditor<'_>) -> Option<()> {
+    give(rt, editor, Command::Area(0))?;
+    give(rt, editor, moving((10, 10), (12, 12))?)?;
+    give(rt, editor, Command::Area(0))?;
+    give(rt, editor, moving((0, 0), (15, 5))?)?;
     if editor.undo().is_ok() {
         println!(rt; "taken back").ok()?;
     }
-    show(rt, &editor)
+    show(rt, editor)
+}
+
+/// Runs the example; `None` where that fails.
+fn run(rt: &HostRuntime) -> Option<()> {
+    edit(rt, &mut opened(rt.alloc(), SQUARES.as_bytes())?)
 }
 
 fn main(rt: HostRuntime) -> ExitCode {

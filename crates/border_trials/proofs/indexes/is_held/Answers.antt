@@ -22,7 +22,7 @@ pub returns : goal.returns
 returns g c =
     let held = g.I.SegIndex.held c.args.index.now in
     let times = times_by (g.I.SegIndex.cells c.args.index.now) in
-    let near = c.in_ok-near.near.items in
+    let near = c.given-near.result.items in
     c.contains.ensures.value ∙ ap (list_any (λ t. segment_eq t c.args.s)) c.as_slice.ensures.value
     ∙ held_near held times c.args.s near
-    (all_near held times c.args.s near (subst (λ r. Gives held times r [] near true) c.rect.ensures c.in_ok-near.ensures))
+    (all_near held times c.args.s near (subst (λ r. Gives held times r [] near true) c.rect.ensures c.given-near.ensures))
