@@ -1,4 +1,4 @@
-use Rattle.std.proofs.Common.{◌++◌, ◌∙◌, length}
+use Rattle.std.proofs.Common.{◌∙◌, length}
 use Rattle.segment_paths.specs.Seen.{paths_seen}
 use Rattle.mend_report.specs.Report.{findings_text, lines, path_line, parts_line, area_line, all_counts_line}
 use Rattle.mend_report.proofs.Appending.{five}
