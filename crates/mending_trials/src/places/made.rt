@@ -1,10 +1,14 @@
 //! Maps of walks, and the text of their places.
+ghost use Rattle.walk_faults.specs.Findings.{Found};
+ghost use Rattle.walk_faults.specs.Seen.{features_seen};
+
 use grid_geometry::Pos;
 use place_text::text_of_places;
 use segment_index::ListIndex;
+use segment_paths::SegmentPath;
 use std::alloc::{AllocError, Allocator};
 use std::process::Abort;
-use walk_faults::{FindFault, find};
+use walk_faults::{FindFault, Findings, find};
 
 /// A map by feature, polygon and ring.
 pub(crate) type Walks<A> = Vec<Vec<Vec<Vec<Pos, A>, A>, A>, A>;
@@ -61,6 +65,19 @@ fn walks<R: Abort, A: Allocator + Copy>(
     Ok(features)
 }
 
+/// The text of the places of walks, and of paths if these are given, for which memory comes from `heap`.
+fn text<'f, A: Allocator + Copy>(
+    heap: A,
+    transform: Option<&[u8]>,
+    walks: &[Vec<Vec<Vec<Pos, A>, A>, A>],
+    found: &'f Findings<A>,
+    paths: Option<&'f [SegmentPath<A>]>,
+) -> Result<Vec<u8, A>, AllocError>
+    requires { Found (features_seen walks.now) found.now }
+{
+    text_of_places(heap, transform, walks, found, paths)
+}
+
 /// The text of the places of a map, for which memory comes from `heap`.
 pub(crate) fn told<R: Abort, A: Allocator + Copy>(
     rt: &R,
@@ -71,6 +88,6 @@ pub(crate) fn told<R: Abort, A: Allocator + Copy>(
 ) -> Result<Vec<u8, A>, FindFault> {
     let walks = walks(rt, alloc, given)?;
     let found = find(alloc, ListIndex::new(alloc), walks.as_slice())?;
-    let text = text_of_places(heap, transform, walks.as_slice(), &found, None)?;
+    let text = text(heap, transform, walks.as_slice(), &found, None)?;
     Ok(text)
 }
