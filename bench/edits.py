@@ -13,6 +13,7 @@ It copies the crates, puts these edits in the place of the others, and calls `rt
 first unless it was proved before on this machine. The status is 0 where each edit was refused.
 """
 import argparse
+import os
 import pathlib
 import shutil
 import subprocess
@@ -22,13 +23,24 @@ import tempfile
 TOP = pathlib.Path(__file__).resolve().parent.parent
 
 
+LEFT = shutil.ignore_patterns("incremental", "must-fail", "inner-edits")
+
+
 def inner(crate):
     return TOP / "crates" / crate / "inner-edits"
 
 
+def link(one, other):
+    """Another name for a file, since libraries that were built are large; a copy on another disk."""
+    try:
+        os.link(one, other)
+    except OSError:
+        shutil.copy2(one, other)
+
+
 def copied(names, to):
     """A copy of the crates in this folder, in which the inner edits of these are the only ones."""
-    shutil.copytree(TOP / "crates", to / "crates", ignore=shutil.ignore_patterns("out", "must-fail", "inner-edits"))
+    shutil.copytree(TOP / "crates", to / "crates", ignore=LEFT, copy_function=link)
     for file in ["crates.txt", "HANDLES"]:
         shutil.copy(TOP / file, to / file)
     for name in names:
