@@ -23,8 +23,8 @@ use Rattle.topo_reader.specs.Indexes.{uses_of}
 use Rattle.topo_reader.specs.Sizes.{size}
 use Rattle.topo_reader.specs.Rings.{all_rings}
 use Rattle.topo_reader.specs.Document.{Polygons, Opened, document_of}
-use Rattle.topo_reader.specs.Opening.{polygons_read, opening, root_of, OpensBy, Opens}
-use Rattle.topo_reader.specs.Reads.{IsArc, AreArcs, GeometryUses, IsClosed, AreClosed, ReadsBy, Reads, Fits}
+use Rattle.topo_reader.specs.Opening.{polygons_along, polygons_read, opening, root_of, OpensBy, Opens}
+use Rattle.topo_reader.specs.Reads.{IsArc, AreArcs, GeometryUses, IsClosed, AreClosed, ReadsWith, ReadsBy, Reads, Fits}
 use Rattle.json_spans.proofs.Grouped.{root_value, root_padded, padded_root}
 use Rattle.json_spans.proofs.Sized.{padded_short, list_count}
 use Rattle.topo_outline.proofs.Values.{value_short}
@@ -35,7 +35,7 @@ use Rattle.topo_reader.proofs.MeaningOfUses.{AreFew, uses_are, are_uses}
 use Rattle.topo_reader.proofs.MeaningOfRings.{rings_of, are_rings}
 use Rattle.topo_reader.proofs.Steps.{at_least, at_most, bind_ok, demand_ok, ok_same, each_of, of_each}
 
-abbrev made : OutlineText → List Polygons → Opened
+abbrev pub made : OutlineText → List Polygons → Opened
 made shape ps = record { transform = shape.transform; layers = shape.layers; members = shape.members; polygons = ps }
 
 -- ---- what is meant is read
@@ -78,29 +78,37 @@ IsReadBy closed bytes d = (reading : ReadsBy (IsClosed closed) bytes d) × Fits 
 abbrev pub IsRead : List ℕ → Document → Type 0
 IsRead bytes d = (reading : Reads bytes d) × Fits reading
 
--- the polygons that were read are meant
-made_read : (closed : Closed) (bytes : List ℕ) (shape : OutlineText) (ps : List Polygons) → length bytes ≤ 67108864 → Json 100 bytes → outline (root_of bytes) ≡ Ok shape → polygons_read closed shape ≡ Ok ps → IsReadBy closed bytes (document_of (made shape ps))
-made_read closed bytes shape ps short text e h =
+-- what stands along arcs that were read is meant, whatever the arcs are
+pub made_along : (AreThese : Bool → Node → List Arc → Type 0) (closed : Closed) (bytes : List ℕ) (shape : OutlineText) (found : List Arc) (ps : List Polygons) →
+    length bytes ≤ 67108864 → Json 100 bytes → outline (root_of bytes) ≡ Ok shape → AreThese (is_some shape.transform) shape.arcs found → polygons_along closed found shape.layers ≡ Ok ps →
+    (reading : ReadsWith AreThese (IsClosed closed) bytes (document_of (made shape ps))) × Fits reading
+made_along AreThese closed bytes shape found ps short text e are h =
     let topology = outline_means 100 (root_of bytes) shape (root_value 100 bytes text) e in
-    let found = bind_ok (arcs (is_some shape.transform) shape.arcs) (λ (found : List Arc). each (uses_of found) (leaves shape.layers) >>= λ uses. demand (nat_le (size uses) 4000000) (too_large limit.Positions) (all_rings closed uses)) ps h in
-    let uses = bind_ok (each (uses_of found.0) (leaves shape.layers)) (λ (uses : List (List (List (List Arc)))). demand (nat_le (size uses) 4000000) (too_large limit.Positions) (all_rings closed uses)) ps found.2 in
+    let uses = bind_ok (each (uses_of found) (leaves shape.layers)) (λ (uses : List (List (List (List Arc)))). demand (nat_le (size uses) 4000000) (too_large limit.Positions) (all_rings closed uses)) ps h in
     let fits = demand_ok (nat_le (size uses.0) 4000000) (too_large limit.Positions) (all_rings closed uses.0) ps uses.2 in (
       record {
         levels = 100;
         root = root_of bytes;
         json = root_padded 100 bytes text;
         shape = shape;
-        arcs = found.0;
+        arcs = found;
         uses = uses.0;
         polygons = ps;
         topology = topology;
-        arcs_are = are_arcs (is_some shape.transform) shape.arcs found.0 topology.are_arcs found.1;
-        uses_are = of_each HasArcs (GeometryUses found.0) (uses_of found.0) (λ g us right is. are_uses found.0 g us right is) (leaves shape.layers) uses.0 (leaves_have_arcs (root_of bytes) shape topology) uses.1;
+        arcs_are = are;
+        uses_are = of_each HasArcs (GeometryUses found) (uses_of found) (λ g us right is. are_uses found g us right is) (leaves shape.layers) uses.0 (leaves_have_arcs (root_of bytes) shape topology) uses.1;
         rings_are = are_rings closed uses.0 ps fits.1;
         document = refl;
       },
       record { short = short; flat = text; few = at_most (length (leaves shape.layers)) 200000 (outline_few (root_of bytes) shape e); small = at_most (size uses.0) 4000000 fits.0 },
     )
+
+-- the polygons that were read are meant
+made_read : (closed : Closed) (bytes : List ℕ) (shape : OutlineText) (ps : List Polygons) → length bytes ≤ 67108864 → Json 100 bytes → outline (root_of bytes) ≡ Ok shape → polygons_read closed shape ≡ Ok ps → IsReadBy closed bytes (document_of (made shape ps))
+made_read closed bytes shape ps short text e h =
+    let topology = outline_means 100 (root_of bytes) shape (root_value 100 bytes text) e in
+    let found = bind_ok (arcs (is_some shape.transform) shape.arcs) (λ (found : List Arc). polygons_along closed found shape.layers) ps h in
+    made_along AreArcs closed bytes shape found.0 ps short text e (are_arcs (is_some shape.transform) shape.arcs found.0 topology.are_arcs found.1) found.2
 
 -- what opens is a reading within the limits
 pub is_read_by : (closed : Closed) (bytes : List ℕ) (o : Opened) → OpensBy closed bytes o → IsReadBy closed bytes (document_of o)

@@ -1,5 +1,6 @@
 -- What bytes mean is well formed, and its texts are ones that opening would keep.
-use Rattle.std.proofs.Common.{ℕ, List, sym, subst}
+use Rattle.std.proofs.Common.{ℕ, List, Bool, sym, subst}
+use Rattle.json_spans.specs.Nodes.{Node}
 use Rattle.json_spans.specs.Inside.{IsValue}
 use Rattle.json_spans.proofs.Grouped.{padded_value}
 use Rattle.ring_machine.specs.Document.{Document}
@@ -7,17 +8,17 @@ use Rattle.ring_machine.specs.WellFormed.{WellFormed}
 use Rattle.topo_outline.specs.Kept.{KeepsTexts}
 use Rattle.grid_geometry.specs.Position.{Position}
 use Rattle.topo_reader.specs.Arcs.{Arc}
-use Rattle.topo_reader.specs.Reads.{ReadsBy}
+use Rattle.topo_reader.specs.Reads.{ReadsWith}
 use Rattle.topo_reader.proofs.Formed.{read_formed}
 use Rattle.topo_reader.proofs.Keeping.{read_keeps}
 
-module _ (IsOne : List Arc → List Position → Type 0) (bytes : List ℕ) (d : Document) where
-  pub meant_formed : ReadsBy IsOne bytes d → WellFormed d
+module _ (AreThese : Bool → Node → List Arc → Type 0) (IsOne : List Arc → List Position → Type 0) (bytes : List ℕ) (d : Document) where
+  pub meant_formed : ReadsWith AreThese IsOne bytes d → WellFormed d
   meant_formed r =
       subst WellFormed (sym r.document)
       (read_formed IsOne r.root r.shape r.arcs r.uses r.polygons r.topology r.uses_are r.rings_are)
 
-  pub meant_keeps : ReadsBy IsOne bytes d → KeepsTexts d
+  pub meant_keeps : ReadsWith AreThese IsOne bytes d → KeepsTexts d
   meant_keeps r =
       subst KeepsTexts (sym r.document)
       (read_keeps r.levels r.root r.shape r.polygons (padded_value {A = IsValue r.levels} 0 bytes r.root r.json) r.topology)

@@ -27,10 +27,10 @@ use Rattle.topo_reader.specs.Indexes.{uses_of}
 use Rattle.topo_reader.specs.Sizes as sizes
 use Rattle.topo_reader.specs.Rings.{unless, is_at, meet, squeezed, all_of, joined, first_repeat, distinct, simple, walk_of, ring_of, closed_of, polygon_of, feature_of, all_rings}
 use Rattle.topo_reader.specs.Document.{Polygons, Opened, document_of, is_walk, IsOf}
-use Rattle.topo_reader.specs.Opening.{polygons_read, root_of, OpensBy}
-use Rattle.topo_reader.specs.Reads.{IsClosed}
+use Rattle.topo_reader.specs.Opening.{polygons_along, polygons_read, root_of, OpensBy}
+use Rattle.topo_reader.specs.Reads.{AreArcs, IsClosed, IsWalk, ReadsWith, ReadsBy}
 use Rattle.topo_reader.proofs.Meant.{meant_formed, meant_keeps}
-use Rattle.topo_reader.proofs.MeaningOfText.{is_read_by}
+use Rattle.topo_reader.proofs.MeaningOfText.{made, is_read_by}
 use Rattle.topo_reader.proofs.MeaningOfRings.{walk_meant}
 use Rattle.topo_reader.proofs.Apart.{walk_is}
 use Rattle.topo_reader.proofs.Repeats.{none_again}
@@ -139,16 +139,12 @@ module _ (closed : Closed) (t : List Position → Bool) (one : (at_ring : RingAt
   abbrev IsWhole : OutlineText → List Polygons → Type 0
   IsWhole shape ps = (length (leaves shape.layers) ≤ 200000) × (length ps ≡ length (leaves shape.layers)) × (list_all (list_all (list_all t)) ps ≡ true) × (sum_by (sum_by (sum_by length)) ps ≤ 4000000)
 
-  whole : (n : Node) (shape : OutlineText) (ps : List Polygons) → outline n ≡ Ok shape → polygons_read closed shape ≡ Ok ps → IsWhole shape ps
-  whole n shape ps e h =
-      let found = bind_ok (arcs (is_some shape.transform) shape.arcs) (λ (found : List Arc). each (uses_of found) (leaves shape.layers) >>= λ uses. demand (nat_le (sizes.size uses) 4000000) (too_large limit.Positions) (all_rings closed uses)) ps h in
-      let uses = bind_ok (each (uses_of found.0) (leaves shape.layers)) (λ (uses : List (List (List (List Arc)))). demand (nat_le (sizes.size uses) 4000000) (too_large limit.Positions) (all_rings closed uses)) ps found.2 in
+  whole : (n : Node) (shape : OutlineText) (found : List Arc) (ps : List Polygons) → outline n ≡ Ok shape → polygons_along closed found shape.layers ≡ Ok ps → IsWhole shape ps
+  whole n shape found ps e h =
+      let uses = bind_ok (each (uses_of found) (leaves shape.layers)) (λ (uses : List (List (List (List Arc)))). demand (nat_le (sizes.size uses) 4000000) (too_large limit.Positions) (all_rings closed uses)) ps h in
       let fits = demand_ok (nat_le (sizes.size uses.0) 4000000) (too_large limit.Positions) (all_rings closed uses.0) ps uses.2 in
       let good = all_good uses.0 ps fits.1 in
-      (at_most (length (leaves shape.layers)) 200000 (outline_few n shape e), good.2 ∙ each_length (uses_of found.0) (leaves shape.layers) uses.0 uses.1, good.0, omega (arith, good.1, at_most (sizes.size uses.0) 4000000 fits.0))
-
-  abbrev made : OutlineText → List Polygons → Opened
-  made shape ps = record { transform = shape.transform; layers = shape.layers; members = shape.members; polygons = ps }
+      (at_most (length (leaves shape.layers)) 200000 (outline_few n shape e), good.2 ∙ each_length (uses_of found) (leaves shape.layers) uses.0 uses.1, good.0, omega (arith, good.1, at_most (sizes.size uses.0) 4000000 fits.0))
 
   made_of : (shape : OutlineText) (ps : List Polygons) → IsWhole shape ps → WellFormed (document_of (made shape ps)) → KeepsTexts (document_of (made shape ps)) → IsOf t (made shape ps)
   made_of shape ps w formed keeps =
@@ -165,16 +161,22 @@ module _ (closed : Closed) (t : List Position → Bool) (one : (at_ring : RingAt
         small = omega (arith, total, w.3);
       }
 
+  -- what stands along arcs is of such lists, whatever the arcs are
+  along_of : (AreThese : Bool → Node → List Arc → Type 0) (bytes : List ℕ) (shape : OutlineText) (found : List Arc) (ps : List Polygons) → ReadsWith AreThese (IsClosed closed) bytes (document_of (made shape ps)) → outline (root_of bytes) ≡ Ok shape → polygons_along closed found shape.layers ≡ Ok ps → IsOf t (made shape ps)
+  along_of AreThese bytes shape found ps read e h =
+      made_of shape ps (whole (root_of bytes) shape found ps e h)
+      (meant_formed AreThese (IsClosed closed) bytes (document_of (made shape ps)) read)
+      (meant_keeps AreThese (IsClosed closed) bytes (document_of (made shape ps)) read)
+
   -- what opens is of such lists
   opens_of : (bytes : List ℕ) (o : Opened) → OpensBy closed bytes o → IsOf t o
   opens_of bytes o h =
-      let read = is_read_by closed bytes o h in
       let shape = bind_ok (outline (root_of bytes)) (λ (shape : OutlineText). polygons_read closed shape >>= λ ps. Ok (made shape ps)) o h.opens in
       let ps = bind_ok (polygons_read closed shape.0) (λ (ps : List Polygons). Ok (made shape.0 ps)) o shape.2 in
+      let found = bind_ok (arcs (is_some shape.0.transform) shape.0.arcs) (λ (found : List Arc). polygons_along closed found shape.0.layers) ps.0 ps.1 in
       let is = ok_same (made shape.0 ps.0) o ps.2 in
-      let formed = meant_formed (IsClosed closed) bytes (document_of o) read.0 in
-      let keeps = meant_keeps (IsClosed closed) bytes (document_of o) read.0 in
-      subst (IsOf t) is (made_of shape.0 ps.0 (whole (root_of bytes) shape.0 ps.0 shape.1 ps.1) (subst (λ (p : Opened). WellFormed (document_of p)) (sym is) formed) (subst (λ (p : Opened). KeepsTexts (document_of p)) (sym is) keeps))
+      let read = subst (λ (p : Opened). ReadsBy (IsClosed closed) bytes (document_of p)) (sym is) (is_read_by closed bytes o h).0 in
+      subst (IsOf t) is (along_of AreArcs bytes shape.0 found.0 ps.0 read shape.1 found.2)
 
   answers_of : {X : Type 0} (view : X → Opened) (bytes : List ℕ) (r : Result X OpenFault) → IfOk r (λ x. OpensBy closed bytes (view x)) → IfOk r (λ x. IsOf t (view x))
   answers_of view bytes (Ok x) h = opens_of bytes (view x) h
@@ -188,3 +190,7 @@ module _ {X : Type 0} (view : X → Opened) (bytes : List ℕ) (r : Result X Ope
 
   pub answers_of_walks : IfOk r (λ x. OpensBy Walks bytes (view x)) → IfOk r (λ x. IsOf is_walk (view x))
   answers_of_walks h = answers_of Walks is_walk walk_good view bytes r h
+
+-- walks along arcs, whatever the arcs are
+pub along_of_walks : (AreThese : Bool → Node → List Arc → Type 0) (bytes : List ℕ) (shape : OutlineText) (found : List Arc) (ps : List Polygons) → ReadsWith AreThese IsWalk bytes (document_of (made shape ps)) → outline (root_of bytes) ≡ Ok shape → polygons_along Walks found shape.layers ≡ Ok ps → IsOf is_walk (made shape ps)
+along_of_walks AreThese bytes shape found ps read e h = along_of Walks is_walk walk_good AreThese bytes shape found ps read e h

@@ -134,9 +134,10 @@ AreRings uses polygons = AreClosed IsRing uses polygons
 -- ---- the topology (TopoJSON 1.0, 2.1)
 
 -- the bytes are a value with space round it (RFC 8259, 2), and the value means the document, where
--- the arcs of each ring mean what IsOne says
-pub record ReadsBy (IsOne : List Arc → List Position → Type 0) (bytes : List ℕ) (d : Document)
-    : Type 0 where
+-- the list of arcs means what AreThese says, told whether there is a transform, and the arcs of each
+-- ring what IsOne says
+pub record ReadsWith (AreThese : Bool → Node → List Arc → Type 0)
+    (IsOne : List Arc → List Position → Type 0) (bytes : List ℕ) (d : Document) : Type 0 where
   pub levels : ℕ
   pub root : Node
   pub json : Padded (IsValue levels) 0 bytes root
@@ -145,7 +146,7 @@ pub record ReadsBy (IsOne : List Arc → List Position → Type 0) (bytes : List
   pub uses : List (List (List (List Arc)))
   pub polygons : List Polygons
   pub topology : IsOutline root shape
-  pub arcs_are : AreArcs (is_some shape.transform) shape.arcs arcs
+  pub arcs_are : AreThese (is_some shape.transform) shape.arcs arcs
   pub uses_are : AllZip (GeometryUses arcs) (leaves shape.layers) uses
   pub rings_are : AllZip (AreClosed IsOne) uses polygons
   pub document : d ≡ document_of (record {
@@ -154,6 +155,10 @@ pub record ReadsBy (IsOne : List Arc → List Position → Type 0) (bytes : List
     members = shape.members;
     polygons = polygons;
   })
+
+-- where the arcs have whole numbers
+abbrev pub ReadsBy : (List Arc → List Position → Type 0) → List ℕ → Document → Type 0
+ReadsBy IsOne bytes d = ReadsWith AreArcs IsOne bytes d
 
 -- with rings, and with walks in their place
 abbrev pub Reads : List ℕ → Document → Type 0
@@ -164,8 +169,9 @@ ReadsWalks bytes d = ReadsBy IsWalk bytes d
 
 -- what is read is within the limits: bytes, lists and objects one in another, features, and
 -- the positions of the arcs, counted for each use
-pub record Fits {IsOne : List Arc → List Position → Type 0} {bytes : List ℕ} {d : Document}
-    (reading : ReadsBy IsOne bytes d) : Type 0 where
+pub record Fits {AreThese : Bool → Node → List Arc → Type 0}
+    {IsOne : List Arc → List Position → Type 0} {bytes : List ℕ} {d : Document}
+    (reading : ReadsWith AreThese IsOne bytes d) : Type 0 where
   pub short : length bytes ≤ 67108864
   pub flat : Json 100 bytes
   pub few : length (leaves reading.shape.layers) ≤ 200000

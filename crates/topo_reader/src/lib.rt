@@ -10,4 +10,4 @@ mod reading;
 mod rings;
 
 pub use document::RawDoc;
-pub use reading::{read, read_walks};
+pub use reading::{read, read_walks, walks_along};

@@ -7,9 +7,9 @@ ghost use Rattle.topo_outline.specs.OutlineView.{view_outline, IsPlaced};
 ghost use Rattle.ring_machine.specs.Document.{Document};
 ghost use Rattle.topo_reader.specs.Document.{document_of, IsOfRings, IsOfWalks};
 ghost use Rattle.topo_reader.specs.DocumentView.{view_raw};
-ghost use Rattle.topo_reader.specs.Opening.{polygons_read, opening, OpensBy, Opens, OpensWalks, IsFaultBy, IsFault, IsWalkFault, IsPlaceBy, IsPlace, IsWalkPlace};
+ghost use Rattle.topo_reader.specs.Opening.{polygons_along, polygons_read, opening, OpensBy, Opens, OpensWalks, IsFaultBy, IsFault, IsWalkFault, IsPlaceBy, IsPlace, IsWalkPlace};
 ghost use Rattle.topo_reader.specs.Reads.{IsClosed, ReadsBy, Reads, ReadsWalks, Fits};
-ghost use Rattle.topo_reader.specs.Uses.{feature_positions};
+ghost use Rattle.topo_reader.specs.Uses.{feature_positions, positions_of};
 
 use crate::arcs::arcs;
 use crate::document::RawDoc;
@@ -24,6 +24,46 @@ use topo_outline::{Limit, OpenFault, Outline, read_outline};
 /// The most bytes of a text.
 const MAX_BYTES: usize = 67_108_864;
 
+/// The polygons of all features along these arcs, with rings or with walks.
+fn polygons_along<'a, A: Allocator + Copy>(
+    alloc: A,
+    closed: Closed,
+    arcs: &[Vec<Pos, A>],
+    outline: &Outline<'a, A>,
+) -> Result<Vec<Vec<Vec<Vec<Pos, A>, A>, A>, A>, OpenFault<'a>>
+    requires { IsPlaced outline.now }
+    ensures { Gives (λ v. map feature_positions v.items) result
+        (polygons_along closed (map positions_of arcs.now) (view_outline outline.now).layers) }
+{
+    let uses = match uses(alloc, arcs, outline.places.as_slice()) {
+        Ok(uses) => uses,
+        Err(fault) => return Err(fault),
+    };
+    if !fit(uses.as_slice()) {
+        return Err(OpenFault::TooLarge {
+            what: Limit::Positions,
+        });
+    }
+    all_rings(alloc, closed, uses.as_slice())
+}
+
+/// The polygons of all features, with walks in the place of rings, along arcs that were read before:
+/// the last two phases of `read_walks`, for a reader with positions of its own.
+///
+/// Fails as these phases do: with `NotWhole` or `BadArcIndex` at the first arc index that is wrong
+/// (TopoJSON 1.0, 2.1.4), with `TooLarge` over 4,000,000 positions, and with `ArcsDoNotMeet`.
+pub fn walks_along<'a, A: Allocator + Copy>(
+    alloc: A,
+    arcs: &[Vec<Pos, A>],
+    outline: &Outline<'a, A>,
+) -> Result<Vec<Vec<Vec<Vec<Pos, A>, A>, A>, A>, OpenFault<'a>>
+    requires { IsPlaced outline.now }
+    ensures { Gives (λ v. map feature_positions v.items) result
+        (polygons_along Closed.Walks (map positions_of arcs.now) (view_outline outline.now).layers) }
+{
+    polygons_along(alloc, Closed::Walks, arcs, outline)
+}
+
 /// The polygons of all features.
 fn polygons<'a, A: Allocator + Copy>(
     alloc: A,
@@ -34,20 +74,10 @@ fn polygons<'a, A: Allocator + Copy>(
     ensures { Gives (λ v. map feature_positions v.items) result
         (polygons_read closed (view_outline outline.now)) }
 {
-    let arcs = match arcs(alloc, outline.transform.is_some(), outline.arcs) {
-        Ok(arcs) => arcs,
-        Err(fault) => return Err(fault),
-    };
-    let uses = match uses(alloc, arcs.as_slice(), outline.places.as_slice()) {
-        Ok(uses) => uses,
-        Err(fault) => return Err(fault),
-    };
-    if !fit(uses.as_slice()) {
-        return Err(OpenFault::TooLarge {
-            what: Limit::Positions,
-        });
+    match arcs(alloc, outline.transform.is_some(), outline.arcs) {
+        Ok(arcs) => polygons_along(alloc, closed, arcs.as_slice(), outline),
+        Err(fault) => Err(fault),
     }
-    all_rings(alloc, closed, uses.as_slice())
 }
 
 /// The topology whose root this is.
