@@ -10,6 +10,7 @@ use Rattle.ring_machine.specs.Parts.{rings, size}
 use Rattle.ring_machine.specs.WellFormed.{WellFormed}
 use Rattle.ring_machine.proofs.Canonical.{canonical_parts}
 use Rattle.ring_machine.proofs.StaysRing.{canonical_is_ring}
+use Rattle.json_spans.specs.Grammar.{Json}
 use Rattle.json_spans.specs.Nodes.{Node}
 use Rattle.topo_outline.specs.Faults.{Fault, arcs_do_not_meet, ring_short, too_large, ◌>>=◌, each, each_at, demand}
 use Rattle.topo_outline.specs.Layers.{OutlineText, leaves}
@@ -27,10 +28,10 @@ use Rattle.topo_reader.specs.Indexes.{uses_of}
 use Rattle.topo_reader.specs.Sizes as sizes
 use Rattle.topo_reader.specs.Rings.{unless, is_at, meet, squeezed, all_of, joined, first_repeat, distinct, simple, walk_of, ring_of, closed_of, polygon_of, feature_of, all_rings}
 use Rattle.topo_reader.specs.Document.{Polygons, Opened, document_of, is_walk, IsOf}
-use Rattle.topo_reader.specs.Opening.{polygons_along, polygons_read, root_of, OpensBy}
+use Rattle.topo_reader.specs.Opening.{polygons_along, walks_read, polygons_read, root_of, OpensBy}
 use Rattle.topo_reader.specs.Reads.{AreArcs, IsClosed, IsWalk, ReadsWith, ReadsBy}
 use Rattle.topo_reader.proofs.Meant.{meant_formed, meant_keeps}
-use Rattle.topo_reader.proofs.MeaningOfText.{made, is_read_by}
+use Rattle.topo_reader.proofs.MeaningOfText.{made, made_along, is_read_by}
 use Rattle.topo_reader.proofs.MeaningOfRings.{walk_meant}
 use Rattle.topo_reader.proofs.Apart.{walk_is}
 use Rattle.topo_reader.proofs.Repeats.{none_again}
@@ -192,5 +193,9 @@ module _ {X : Type 0} (view : X → Opened) (bytes : List ℕ) (r : Result X Ope
   answers_of_walks h = answers_of Walks is_walk walk_good view bytes r h
 
 -- walks along arcs, whatever the arcs are
-pub along_of_walks : (AreThese : Bool → Node → List Arc → Type 0) (bytes : List ℕ) (shape : OutlineText) (found : List Arc) (ps : List Polygons) → ReadsWith AreThese IsWalk bytes (document_of (made shape ps)) → outline (root_of bytes) ≡ Ok shape → polygons_along Walks found shape.layers ≡ Ok ps → IsOf is_walk (made shape ps)
+pub along_of_walks : (AreThese : Bool → Node → List Arc → Type 0) (bytes : List ℕ) (shape : OutlineText) (found : List Arc) (ps : List Polygons) → ReadsWith AreThese IsWalk bytes (document_of (made shape ps)) → outline (root_of bytes) ≡ Ok shape → walks_read found shape.layers ≡ Ok ps → IsOf is_walk (made shape ps)
 along_of_walks AreThese bytes shape found ps read e h = along_of Walks is_walk walk_good AreThese bytes shape found ps read e h
+
+-- what stands along arcs with walks is meant, whatever the arcs are
+pub walks_along_meant : (AreThese : Bool → Node → List Arc → Type 0) (bytes : List ℕ) (shape : OutlineText) (found : List Arc) (ps : List Polygons) → length bytes ≤ 67108864 → Json 100 bytes → outline (root_of bytes) ≡ Ok shape → AreThese (is_some shape.transform) shape.arcs found → walks_read found shape.layers ≡ Ok ps → ReadsWith AreThese IsWalk bytes (document_of (made shape ps))
+walks_along_meant AreThese bytes shape found ps short text e are h = (made_along AreThese Walks bytes shape found ps short text e are h).0

@@ -28,6 +28,10 @@ polygons_along closed found layers = do
   uses ← each (uses_of found) (leaves layers)
   demand (nat_le (size uses) 4000000) (too_large limit.Positions) (all_rings closed uses)
 
+-- with walks in the place of rings
+abbrev pub walks_read : List Arc → List LayerText → Result (List Polygons) Fault
+walks_read found layers = polygons_along Walks found layers
+
 -- the polygons of all features: the positions of the arcs first
 abbrev pub polygons_read : Closed → OutlineText → Result (List Polygons) Fault
 polygons_read closed shape = do

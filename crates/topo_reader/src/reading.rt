@@ -7,7 +7,7 @@ ghost use Rattle.topo_outline.specs.OutlineView.{view_outline, IsPlaced};
 ghost use Rattle.ring_machine.specs.Document.{Document};
 ghost use Rattle.topo_reader.specs.Document.{document_of, IsOfRings, IsOfWalks};
 ghost use Rattle.topo_reader.specs.DocumentView.{view_raw};
-ghost use Rattle.topo_reader.specs.Opening.{polygons_along, polygons_read, opening, OpensBy, Opens, OpensWalks, IsFaultBy, IsFault, IsWalkFault, IsPlaceBy, IsPlace, IsWalkPlace};
+ghost use Rattle.topo_reader.specs.Opening.{polygons_along, walks_read, polygons_read, opening, OpensBy, Opens, OpensWalks, IsFaultBy, IsFault, IsWalkFault, IsPlaceBy, IsPlace, IsWalkPlace};
 ghost use Rattle.topo_reader.specs.Reads.{IsClosed, ReadsBy, Reads, ReadsWalks, Fits};
 ghost use Rattle.topo_reader.specs.Uses.{feature_positions, positions_of};
 
@@ -59,7 +59,7 @@ pub fn walks_along<'a, A: Allocator + Copy>(
 ) -> Result<Vec<Vec<Vec<Vec<Pos, A>, A>, A>, A>, OpenFault<'a>>
     requires { IsPlaced outline.now }
     ensures { Gives (λ v. map feature_positions v.items) result
-        (polygons_along Closed.Walks (map positions_of arcs.now) (view_outline outline.now).layers) }
+        (walks_read (map positions_of arcs.now) (view_outline outline.now).layers) }
 {
     polygons_along(alloc, Closed::Walks, arcs, outline)
 }
