@@ -1,0 +1,78 @@
+-- The grid that positions are put on: how many decimals it has, and where they stand on it.
+use Rattle.std.specs.Prelude.{ℕ, zero, suc, ◌+◌, ◌-◌, ◌*◌, ◌^◌, ◌||◌, ℤ, pos, ◌*ℤ◌, unsigned_abs, Bool, nat_le, if◌then◌else◌, List, [], ◌∷◌, map, length}
+use Rattle.std.specs.List.{flat_map, fold, filter, count_by}
+use Rattle.json_spans.specs.Nodes.{Node}
+use Rattle.json_spans.specs.Walk.{items}
+use Rattle.grid_geometry.specs.Position.{Position, position}
+use Rattle.topo_reader.specs.Arcs.{Arc}
+use Rattle.exact_decimals.specs.Fine.{decimals, rounded, is_rounded}
+use Rattle.grid_reader.specs.declared.wants.Wants.{Wants}
+use Rattle.grid_reader.specs.Fine.{FinePosition}
+
+-- ---- how many decimals
+
+abbrev pub coordinates : List (List FinePosition) → List ℤ
+coordinates arcs = flat_map (flat_map (λ p. p.x ∷ p.y ∷ [])) arcs
+
+abbrev pub greater : ℕ → ℕ → ℕ
+greater a b = if nat_le a b then b else a
+
+-- the greatest of the numbers, and 0 where there is none
+abbrev pub greatest : List ℕ → ℕ
+greatest ns = fold greater 0 ns
+
+-- the most decimals that a coordinate has
+abbrev pub most_decimals : List (List FinePosition) → ℕ
+most_decimals arcs = greatest (map decimals (coordinates arcs))
+
+-- how far the furthest coordinate is from 0
+abbrev pub furthest : List (List FinePosition) → ℕ
+furthest arcs = greatest (map unsigned_abs (coordinates arcs))
+
+-- the greatest number up to the second of decimals with which so far a coordinate is within 10^12, on
+-- a grid 10^finer times as fine again
+unfoldable pub fitting : ℕ → ℕ → ℕ → ℕ
+fitting finer far zero = 0
+fitting finer far (suc k) =
+    if nat_le (far * 10 ^ (suc k)) (10 ^ (36 - finer)) then suc k else fitting finer far k
+
+abbrev pub lesser : ℕ → ℕ → ℕ
+lesser a b = if nat_le a b then a else b
+
+-- how many decimals are kept: as many as there are, as are asked for, and as fit
+abbrev pub digits_of : Wants → List (List FinePosition) → ℕ
+digits_of wants arcs =
+    fitting wants.finer (furthest arcs) (lesser wants.digits (most_decimals arcs))
+
+-- ---- the positions
+
+-- rounded to so many decimals, on a grid 10^finer times as fine as these
+abbrev pub on_grid : ℕ → ℕ → FinePosition → Position
+on_grid digits finer p =
+    position (rounded digits p.x *ℤ pos (10 ^ finer)) (rounded digits p.y *ℤ pos (10 ^ finer))
+
+-- the arcs of a map on the grid that is asked for
+abbrev pub arcs_on : Wants → List (List FinePosition) → List Arc
+arcs_on wants arcs = map (map (on_grid (digits_of wants arcs) wants.finer)) arcs
+
+-- by which power of ten the grid is finer than the one of the text
+abbrev pub finer_by : Wants → List (List FinePosition) → ℕ
+finer_by wants arcs = digits_of wants arcs + wants.finer
+
+-- ---- what is told of it
+
+-- whether rounding moves the position
+abbrev pub is_moved : ℕ → FinePosition → Bool
+is_moved digits p = is_rounded digits p.x || is_rounded digits p.y
+
+-- how many positions of the arcs rounding moves
+abbrev pub moved : ℕ → List (List FinePosition) → ℕ
+moved digits arcs = length (filter (is_moved digits) (flat_map (λ a. a) arcs))
+
+-- a third number, or further ones
+abbrev pub has_more : List Node → Bool
+has_more ns = nat_le 3 (length ns)
+
+-- how many positions of the arcs have further numbers
+abbrev pub heights : Node → ℕ
+heights arcs = length (filter (λ n. has_more (items n)) (flat_map items (items arcs)))

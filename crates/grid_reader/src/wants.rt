@@ -1,0 +1,15 @@
+//! What is asked of coordinates.
+ghost use Rattle.std.specs.Prelude.{◌≤◌};
+
+/// What is asked of the coordinates of a map.
+#[derive(Clone, Copy, Debug)]
+pub struct Wants {
+    /// At most so many decimals are kept.
+    pub digits: usize,
+    /// The grid is made finer by 10 to the power of this.
+    pub finer: usize,
+    /// Whether further numbers of positions are left out.
+    pub drop_heights: bool,
+    ghost few_digits: { digits ≤ 24 },
+    ghost not_too_fine: { finer ≤ 12 },
+}
