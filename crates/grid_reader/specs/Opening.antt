@@ -6,10 +6,9 @@ use Rattle.ring_machine.specs.Document.{Document}
 use Rattle.topo_outline.specs.Faults.{Fault, unsupported, ◌>>=◌, demand}
 use Rattle.topo_outline.specs.Layers.{Piece, starts, ends, leaf, text, LayerText, OutlineText}
 use Rattle.topo_outline.specs.Outline.{outline}
-use Rattle.topo_reader.specs.declared.rings.Closed.TheVariants.{Walks}
 use Rattle.topo_reader.specs.Arcs.{Arc}
 use Rattle.topo_reader.specs.Document.{Opened}
-use Rattle.topo_reader.specs.Opening.{polygons_along}
+use Rattle.topo_reader.specs.Opening.{walks_read}
 use Rattle.topo_reader.specs.Reads.{IsWalk, ReadsWith}
 use Rattle.grid_reader.specs.declared.wants.Wants.{Wants}
 use Rattle.grid_reader.specs.Fine.{FinePosition, fine_arcs}
@@ -36,7 +35,7 @@ abbrev pub opened_on : Wants → OutlineText → List (List FinePosition) → Re
 opened_on wants shape fine = do
   transform ← transform_on (finer_by wants fine) shape.transform
   polygons ← demand_no_points (finer_by wants fine) shape.layers
-      (polygons_along Walks (arcs_on wants fine) shape.layers)
+      (walks_read (arcs_on wants fine) shape.layers)
   Ok (record {
     transform = transform;
     layers = shape.layers;
