@@ -1,36 +1,57 @@
 -- What looking at the bytes of a map comes to.
-use Rattle.std.specs.Prelude.{ℕ, List, Option}
+use Rattle.std.specs.Prelude.{◌≡◌, ℕ, true, List, Option}
+use Rattle.grid_geometry.specs.Position.{Position}
+use Rattle.grid_reader.specs.Opening.{grid_opening}
+use Rattle.grid_reader.specs.Told.{IsTold}
+use Rattle.grid_reader.specs.declared.reading.Told.{Told}
+use Rattle.grid_reader.specs.declared.wants.Wants.{Wants}
 use Rattle.place_text.specs.Text.{IsPlaceText}
 use Rattle.segment_paths.specs.Paths.{Path}
 use Rattle.topo_reader.specs.Document.{Opened}
-use Rattle.topo_reader.specs.Opening.{OpensWalks, IsWalkFault}
+use Rattle.topo_reader.specs.Opening.{OpensIn, IsFaultIn}
 use Rattle.walk_faults.specs.Findings.{Found, HasMore}
 use Rattle.walk_faults.specs.Opens.{Opens}
 use Rattle.walk_faults.specs.Walks.{walks_of}
 use Rattle.walk_faults.specs.declared.findings.Findings.{Findings}
+use Rattle.mend_report.specs.Report.{is_plain}
 use Rattle.mend_report.specs.declared.looking.LookFault.{LookFault}
 use Rattle.mend_report.specs.declared.looking.LookFault.TheVariants.{Open, TooMany, OutOfMemory}
 
--- the bytes are a topology with walks in the place of rings, and these are all findings in it
-abbrev pub Looked : {A : Type 0} → List ℕ → Findings A → Type 0
-Looked bytes findings = (o : Opened) × OpensWalks bytes o × Found o.polygons findings
+-- on the grid that is asked for, the bytes are this topology, with walks in the place of rings
+abbrev pub OpensOn : Wants → List ℕ → Opened → Type 0
+OpensOn wants bytes o = OpensIn (grid_opening wants) bytes o
+
+-- the bytes are a topology with walks, and these are all findings in it
+abbrev pub Looked : {A : Type 0} → Wants → List ℕ → Findings A → Type 0
+Looked wants bytes findings = (o : Opened) × OpensOn wants bytes o × Found o.polygons findings
 
 -- the text has the places of these findings in the topology with walks that the bytes are, and these
 -- paths, if they are told
-abbrev pub HasPlaces : {A : Type 0} → List ℕ → Findings A → Option (List Path) → List ℕ → Type 0
-HasPlaces bytes findings paths text =
-    (o : Opened) × OpensWalks bytes o × IsPlaceText o.transform o.polygons findings paths text
+abbrev pub HasPlaces : {A : Type 0}
+    → Wants → List ℕ → Findings A → Option (List Path) → List ℕ → Type 0
+HasPlaces wants bytes findings paths text =
+    (o : Opened) × OpensOn wants bytes o × IsPlaceText o.transform o.polygons findings paths text
 
--- the bytes are a topology with walks, each walk is a linear ring, and no two segments conflict
-abbrev pub MapOpens : List ℕ → Type 0
-MapOpens bytes = (o : Opened) × OpensWalks bytes o × Opens o.polygons
+-- the bytes are a topology whose coordinates are whole numbers, two a position; each walk is a linear
+-- ring, and no two segments conflict
+abbrev pub MapOpens : Wants → List ℕ → Type 0
+MapOpens wants bytes =
+    (o : Opened) × (grid : Told) × OpensOn wants bytes o × IsTold wants bytes grid
+    × (is_plain grid ≡ true) × Opens o.polygons
 
 -- of some kind there are more findings in the topology that the bytes are than can be listed
-abbrev pub AreTooMany : List ℕ → Type 0
-AreTooMany bytes = (o : Opened) × OpensWalks bytes o × HasMore 4000000 (walks_of o.polygons)
+abbrev pub AreTooMany : Wants → List ℕ → Type 0
+AreTooMany wants bytes =
+    (o : Opened) × OpensOn wants bytes o × HasMore 4000000 (walks_of o.polygons)
 
 -- the first fault of the bytes as a topology with walks, too many findings, or a refused growth
-abbrev pub IsEnd : LookFault → List ℕ → Type 0
-IsEnd (Open fault) bytes = IsWalkFault bytes fault
-IsEnd TooMany bytes = AreTooMany bytes
-IsEnd OutOfMemory bytes = Unit {0}
+abbrev pub IsEnd : LookFault → Wants → List ℕ → Type 0
+IsEnd (Open fault) wants bytes = IsFaultIn (grid_opening wants) bytes fault
+IsEnd TooMany wants bytes = AreTooMany wants bytes
+IsEnd OutOfMemory wants bytes = Unit {0}
+
+-- why a map that was read was not looked through
+abbrev pub EndsLook : List (List (List (List Position))) → LookFault → Type 0
+EndsLook polygons (Open fault) = ⊥
+EndsLook polygons TooMany = HasMore 4000000 (walks_of polygons)
+EndsLook polygons OutOfMemory = Unit {0}

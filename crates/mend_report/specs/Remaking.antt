@@ -5,8 +5,10 @@ use Rattle.ring_machine.specs.Planar.{Proper}
 use Rattle.ring_machine.specs.Ring.{canonical}
 use Rattle.ring_machine.specs.Parts.{in_rings}
 use Rattle.topo_reader.specs.Document.{Opened}
-use Rattle.topo_reader.specs.Opening.{OpensWalks}
-use Rattle.topo_reader.specs.Reads.{ReadsWalks}
+use Rattle.grid_reader.specs.Opening.{ReadsOnGrid}
+use Rattle.grid_reader.specs.Told.{IsTold}
+use Rattle.grid_reader.specs.declared.reading.Told.{Told}
+use Rattle.grid_reader.specs.declared.wants.Wants.{Wants}
 use Rattle.walk_faults.specs.Findings.{Found}
 use Rattle.walk_faults.specs.declared.findings.Findings.{Findings}
 use Rattle.map_text.specs.Saved.{Saved}
@@ -19,8 +21,9 @@ use Rattle.map_mending.specs.Told.{Parts, polygons_of}
 use Rattle.map_mending.specs.Laws.{VerticesStay, AllStayNear}
 use Rattle.map_saving.specs.Opens.{OpensAgain}
 use Rattle.mend_report.specs.Faults.{IsRemakeFault}
-use Rattle.mend_report.specs.Looking.{Looked, HasPlaces, IsEnd}
+use Rattle.mend_report.specs.Looking.{OpensOn, Looked, HasPlaces, IsEnd}
 use Rattle.mend_report.specs.Report.{mended_report}
+use Rattle.mend_report.specs.declared.asked.Asked.{Asked}
 use Rattle.mend_report.specs.declared.remaking.Remade.{Remade}
 use Rattle.mend_report.specs.declared.report.RepairFault.{RepairFault}
 use Rattle.mend_report.specs.declared.report.RepairFault.TheVariants.{Look, Remake}
@@ -43,25 +46,30 @@ pub record IsRemade {A : Type 0} (d : Document) (remade : Remade A) : Type 0 whe
   pub saved : Saved remade.text.items document
   pub opens : OpensAgain remade.text.items document
 
--- the bytes mean a document of walks, and that is mended
-abbrev pub Remakes : {A : Type 0} → List ℕ → Remade A → Type 0
-Remakes bytes remade = (d : Document) × ReadsWalks bytes d × IsRemade d remade
+-- on the grid that is asked for, the bytes mean a document of walks, and that is mended
+abbrev pub Remakes : {A : Type 0} → Wants → List ℕ → Remade A → Type 0
+Remakes wants bytes remade = (d : Document) × ReadsOnGrid wants bytes d × IsRemade d remade
 
--- the report has all that is found in the map that the bytes are, and what was done about it
-abbrev pub TellsMending : {A : Type 0} → ℕ → List ℕ → Remade A → List ℕ → List ℕ → Type 0
-TellsMending {A} most bytes remade before after =
-    (o : Opened) × (found : Findings A) × OpensWalks bytes o × Found o.polygons found
-    × (after ≡ before ++ mended_report most found (paths_seen remade.paths.items) remade.parted.items
-    remade.areas.items)
+-- the report tells the grid, all that is found in the map that the bytes are, and what was done
+-- about it
+abbrev pub TellsMending : {A : Type 0}
+    → Asked → List ℕ → Remade A → List ℕ → List ℕ → Type 0
+TellsMending {A} asked bytes remade before after =
+    (o : Opened) × (grid : Told) × (found : Findings A)
+    × OpensOn asked.grid bytes o × IsTold asked.grid bytes grid × Found o.polygons found
+    × (after ≡ before ++ mended_report asked.most grid found (paths_seen remade.paths.items)
+    remade.parted.items remade.areas.items)
 
 -- the places, where they are asked for, are those of all that is found in the map, and the paths
-abbrev pub PlacesMending : {A : Type 0} → List ℕ → Remade A → Option (Vec ℕ A) → Type 0
-PlacesMending {A} bytes remade places =
-    IfSome places (λ text. (found : Findings A) × Looked bytes found
-    × HasPlaces bytes found (Some (paths_seen remade.paths.items)) text.items)
+abbrev pub PlacesMending : {A : Type 0}
+    → Wants → List ℕ → Remade A → Option (Vec ℕ A) → Type 0
+PlacesMending {A} wants bytes remade places =
+    IfSome places (λ text. (found : Findings A) × Looked wants bytes found
+    × HasPlaces wants bytes found (Some (paths_seen remade.paths.items)) text.items)
 
 -- why a map is not mended: where it was not looked through, as that ends; else as the document of
 -- walks that the bytes mean
-abbrev pub IsMendEnd : RepairFault → List ℕ → Type 0
-IsMendEnd (Look fault) bytes = IsEnd fault bytes
-IsMendEnd (Remake fault) bytes = (d : Document) × ReadsWalks bytes d × IsRemakeFault d fault
+abbrev pub IsMendEnd : RepairFault → Wants → List ℕ → Type 0
+IsMendEnd (Look fault) wants bytes = IsEnd fault wants bytes
+IsMendEnd (Remake fault) wants bytes =
+    (d : Document) × ReadsOnGrid wants bytes d × IsRemakeFault d fault

@@ -3,6 +3,7 @@ use Rattle.std.specs.Prelude.{ℕ, Bool, ◌&&◌, ◌==◌, List, [], ◌++◌,
 use Rattle.std.specs.Fmt.{signed_decimal}
 use Rattle.area_changes.specs.declared.change.AreaChange.{AreaChange}
 use Rattle.grid_geometry.specs.Text.{position_text, segment_text}
+use Rattle.grid_reader.specs.declared.reading.Told.{Told}
 use Rattle.map_mending.specs.declared.parted.Parted.{Parted}
 use Rattle.segment_paths.specs.Paths.{Path}
 use Rattle.topo_outline.specs.declared.fault.RingAt.{RingAt}
@@ -54,32 +55,54 @@ abbrev pub is_clear : List RingAt → List Repeat → List Touch → List Crossi
 is_clear short repeats touches crossings =
     length short == 0 && length repeats == 0 && length touches == 0 && length crossings == 0
 
--- the map opens: "opens"
+-- every coordinate is a whole number, and nothing was left out
+abbrev pub is_plain : Told → Bool
+is_plain grid = grid.decimals == 0 && grid.heights == 0
+
+-- the map opens as it is: "opens"
 abbrev pub opens_line : Bool → List ℕ
 opens_line clear = if clear then codes "opens\n" else []
+
+-- coordinates have up to so many decimals, the grid has so many, and so many positions were rounded:
+-- "decimals D digits K rounded N"
+abbrev pub decimals_line : Told → List ℕ
+decimals_line grid =
+    if grid.decimals == 0 then [] else (codes "decimals " ++ (decimal grid.decimals
+    ++ (codes " digits " ++ (decimal grid.digits ++ (codes " rounded " ++ (decimal grid.rounded
+    ++ codes "\n"))))))
+
+-- so many positions had further numbers, which were left out: "heights N"
+abbrev pub heights_line : Told → List ℕ
+heights_line grid =
+    if grid.heights == 0 then [] else (codes "heights " ++ (decimal grid.heights ++ codes "\n"))
+
+-- what the grid is
+abbrev pub grid_text : Told → List ℕ
+grid_text grid = decimals_line grid ++ heights_line grid
 
 -- a line for each of the first findings of a kind, at most so many
 abbrev pub lines : {X : Type 0} → ℕ → (X → List ℕ) → List X → List ℕ
 lines most line xs = flat_map line (take most xs)
 
--- what was found, of each kind at most so many lines
-abbrev pub findings_text : ℕ
+-- what the grid is, and what was found, of each kind at most so many lines
+abbrev pub findings_text : ℕ → Told
     → List RingAt → List Repeat → List Touch → List Crossing → List ℕ
-findings_text most short repeats touches crossings =
-    opens_line (is_clear short repeats touches crossings)
-    ++ (lines most short_line short ++ (lines most repeat_line repeats
-    ++ (lines most touch_line touches ++ lines most crossing_line crossings)))
+findings_text most grid short repeats touches crossings =
+    opens_line (is_plain grid && is_clear short repeats touches crossings)
+    ++ (grid_text grid ++ (lines most short_line short ++ (lines most repeat_line repeats
+    ++ (lines most touch_line touches ++ lines most crossing_line crossings))))
 
 -- the report of what was found, of each kind at most so many lines; all are counted
-abbrev pub report_text : ℕ
+abbrev pub report_text : ℕ → Told
     → List RingAt → List Repeat → List Touch → List Crossing → List ℕ
-report_text most short repeats touches crossings =
-    findings_text most short repeats touches crossings
+report_text most grid short repeats touches crossings =
+    findings_text most grid short repeats touches crossings
     ++ counts_line (length short) (length repeats) (length touches) (length crossings)
 
-abbrev pub report_of : {A : Type 0} → ℕ → Findings A → List ℕ
-report_of most found =
-    report_text most found.short.items found.repeats.items found.touches.items found.crossings.items
+abbrev pub report_of : {A : Type 0} → ℕ → Told → Findings A → List ℕ
+report_of most grid found =
+    report_text most grid found.short.items found.repeats.items found.touches.items
+    found.crossings.items
 
 -- ---- a map that was mended
 
@@ -112,9 +135,9 @@ all_counts_line short repeats touches crossings paths parts areas =
 
 -- the report of what was found and of what was done about it, of each kind at most so many lines
 abbrev pub mended_report : {A : Type 0}
-    → ℕ → Findings A → List Path → List Parted → List AreaChange → List ℕ
-mended_report most found paths parted areas =
-    findings_text most found.short.items found.repeats.items found.touches.items found.crossings.items
+    → ℕ → Told → Findings A → List Path → List Parted → List AreaChange → List ℕ
+mended_report most grid found paths parted areas =
+    findings_text most grid found.short.items found.repeats.items found.touches.items found.crossings.items
     ++ (lines most path_line paths ++ (lines most parts_line parted ++ (lines most area_line areas
     ++ all_counts_line (length found.short.items) (length found.repeats.items)
     (length found.touches.items) (length found.crossings.items) (length paths) (length parted)

@@ -1,7 +1,7 @@
 -- The status that a report ends the program with.
-use Rattle.std.specs.Prelude.{ℕ, Result, Ok, Err, if◌then◌else◌}
-use Rattle.walk_faults.specs.declared.findings.Findings.{Findings}
-use Rattle.mend_report.specs.Report.{is_clear}
+use Rattle.std.specs.Prelude.{ℕ, Bool, ◌&&◌, Result, Ok, Err, if◌then◌else◌}
+use Rattle.mend_report.specs.Report.{is_plain, is_clear}
+use Rattle.mend_report.specs.declared.asked.Report.{Report}
 use Rattle.mend_report.specs.declared.remaking.Remade.{Remade}
 use Rattle.mend_report.specs.declared.remaking.RemakeFault.TheVariants as mending
 use Rattle.mend_report.specs.declared.report.RepairFault.{RepairFault}
@@ -9,12 +9,16 @@ use Rattle.mend_report.specs.declared.report.RepairFault.TheVariants.{Look, Rema
 use Rattle.mend_report.specs.declared.looking.LookFault.{LookFault}
 use Rattle.mend_report.specs.declared.looking.LookFault.TheVariants.{Open, TooMany, OutOfMemory}
 
+-- nothing keeps the map from opening as it is
+abbrev pub is_open : {A : Type 0} → Report A → Bool
+is_open report =
+    is_plain report.grid && is_clear report.findings.short.items report.findings.repeats.items
+    report.findings.touches.items report.findings.crossings.items
+
 -- 0 where nothing keeps the map from opening, 1 where something does, 2 where it can't be read or not
 -- all can be listed, and 3 where a growth was refused
-abbrev pub status_of : {A : Type 0} → Result (Findings A) LookFault → ℕ
-status_of (Ok found) =
-    if is_clear found.short.items found.repeats.items found.touches.items found.crossings.items
-    then 0 else 1
+abbrev pub status_of : {A : Type 0} → Result (Report A) LookFault → ℕ
+status_of (Ok report) = if is_open report then 0 else 1
 status_of (Err (Open fault)) = 2
 status_of (Err TooMany) = 2
 status_of (Err OutOfMemory) = 3

@@ -2,6 +2,7 @@
 //! how it is mended, so that it opens. From bytes to texts: no file is known here.
 #![tactic(auto)]
 
+mod asked;
 mod copying;
 mod lines;
 mod looking;
@@ -9,9 +10,10 @@ mod remaking;
 mod report;
 mod texts;
 
+pub use asked::{Asked, Report};
 pub use looking::LookFault;
 pub use remaking::{Remade, RemakeFault};
-pub use report::{RepairFault, Texts, is_clear, mend_map, report_map};
+pub use report::{RepairFault, Texts, is_open, mend_map, report_map};
 
 #[cfg(test)]
 mod tests;

@@ -3,17 +3,54 @@ ghost use Rattle.std.specs.Prelude.{◌≡◌, ◌++◌, codes, flat_map, OnOk};
 ghost use Rattle.grid_geometry.specs.Text.{position_text};
 ghost use Rattle.mend_report.specs.Report.{short_line, repeat_line, touch_line, crossing_line};
 ghost use Rattle.mend_report.specs.Report.{counts_line, all_counts_line, path_line, parts_line};
-ghost use Rattle.mend_report.specs.Report.{area_line, found_text};
+ghost use Rattle.mend_report.specs.Report.{area_line, found_text, decimals_line, heights_line};
 ghost use Rattle.segment_paths.specs.Seen.{path_seen};
 
 use crate::texts::{push_number, push_position, push_ring, push_segment};
 use area_changes::AreaChange;
 use grid_geometry::Pos;
+use grid_reader::Told;
 use map_mending::Parted;
 use segment_paths::SegmentPath;
 use std::alloc::{AllocError, Allocator};
 use topo_outline::RingAt;
 use walk_faults::{Crossing, Repeat, Touch};
+
+/// Appends the line of the decimals of a grid, where coordinates have some.
+pub(crate) fn push_decimals<A: Allocator>(
+    text: &mut Vec<u8, A>,
+    grid: Told,
+) -> Result<(), AllocError>
+    ensures { OnOk result (text.new.items ≡ text.old.items ++ decimals_line grid) }
+{
+    if grid.decimals == 0 {
+        return Ok(());
+    }
+    text.extend_from_slice(b"decimals ")?;
+    push_number(text, grid.decimals)?;
+    text.extend_from_slice(b" digits ")?;
+    push_number(text, grid.digits)?;
+    text.extend_from_slice(b" rounded ")?;
+    push_number(text, grid.rounded)?;
+    text.extend_from_slice(b"\n")?;
+    Ok(())
+}
+
+/// Appends the line of the further numbers that were left out, where there were some.
+pub(crate) fn push_heights<A: Allocator>(
+    text: &mut Vec<u8, A>,
+    grid: Told,
+) -> Result<(), AllocError>
+    ensures { OnOk result (text.new.items ≡ text.old.items ++ heights_line grid) }
+{
+    if grid.heights == 0 {
+        return Ok(());
+    }
+    text.extend_from_slice(b"heights ")?;
+    push_number(text, grid.heights)?;
+    text.extend_from_slice(b"\n")?;
+    Ok(())
+}
 
 /// Appends the line of a ring of fewer than three positions.
 pub(crate) fn push_short<A: Allocator>(

@@ -1,32 +1,36 @@
 //! The report of what keeps a map from opening.
-ghost use Rattle.std.specs.Prelude.{◌≡◌, ◌↔◌, ◌++◌, [], length, take, flat_map, is_some, Ok, None};
+ghost use Rattle.std.specs.Prelude.{◌≡◌, ◌↔◌, ◌++◌, ◌&&◌, [], length, take, flat_map, is_some, Ok, None};
 ghost use Rattle.std.specs.Prelude.{option_map, IfErr, IfOk, IfSome};
 ghost use Rattle.std.specs.Prelude.{OnOk};
 ghost use Rattle.walk_faults.specs.Seen.{features_seen};
 ghost use Rattle.walk_faults.specs.Findings.{Found};
 ghost use Rattle.place_text.specs.Text.{IsPlaceText};
 ghost use Rattle.mend_report.specs.Report.{short_line, repeat_line, touch_line, crossing_line};
-ghost use Rattle.mend_report.specs.Report.{is_clear, opens_line, report_of, findings_text};
+ghost use Rattle.mend_report.specs.Report.{is_plain, is_clear, opens_line, report_of, findings_text, grid_text};
 ghost use Rattle.mend_report.specs.Report.{path_line, parts_line, area_line, mended_report};
 ghost use Rattle.mend_report.specs.Remaking.{Remakes, TellsMending, PlacesMending, IsMendEnd};
 ghost use Rattle.segment_paths.specs.Seen.{paths_seen};
 ghost use Rattle.mend_report.specs.Looking.{Looked, HasPlaces, MapOpens, IsEnd};
-ghost use Rattle.mend_report.specs.Status.{status_of};
+ghost use Rattle.mend_report.specs.Status.{is_open, status_of};
+ghost use Rattle.grid_reader.specs.Told.{IsTold};
 
+use crate::asked::{Asked, Report};
 use crate::copying::copied;
 use crate::lines::{
-    FindingCounts, push_all_counts, push_area, push_counts, push_crossing, push_parts, push_path,
-    push_repeat, push_short, push_touch,
+    FindingCounts, push_all_counts, push_area, push_counts, push_crossing, push_decimals,
+    push_heights, push_parts, push_path, push_repeat, push_short, push_touch,
 };
-use crate::looking::{LookFault, Seen, look};
+use crate::looking::{LookFault, look, map_of};
 use crate::remaking::{Remade, RemakeFault, remake};
 use area_changes::AreaChange;
 use grid_geometry::Pos;
+use grid_reader::{OnGrid, Told};
 use map_mending::Parted;
 use place_text::text_of_places;
 use segment_paths::SegmentPath;
 use std::alloc::{AllocError, Allocator, Global};
 use topo_outline::RingAt;
+use topo_reader::RawDoc;
 use walk_faults::{Crossing, Findings, Repeat, Touch};
 
 /// The first elements of a list, at most so many.
@@ -80,8 +84,15 @@ fn push_crossings<A: Allocator>(
     Ok(())
 }
 
-/// Whether nothing keeps the map from opening.
-pub fn is_clear<A: Allocator + Copy>(findings: &Findings<A>) -> bool
+/// Whether every coordinate is a whole number, and nothing was left out.
+fn is_plain(grid: Told) -> bool
+    ensures { result ≡ is_plain grid }
+{
+    grid.decimals == 0 && grid.heights == 0
+}
+
+/// Whether nothing is found.
+fn is_clear<A: Allocator + Copy>(findings: &Findings<A>) -> bool
     ensures { result ≡ is_clear findings.now.short.items findings.now.repeats.items
         findings.now.touches.items findings.now.crossings.items }
 {
@@ -89,6 +100,13 @@ pub fn is_clear<A: Allocator + Copy>(findings: &Findings<A>) -> bool
         && findings.repeats.is_empty()
         && findings.touches.is_empty()
         && findings.crossings.is_empty()
+}
+
+/// Whether nothing keeps the map from opening as it is.
+pub fn is_open<A: Allocator + Copy>(report: &Report<A>) -> bool
+    ensures { result ≡ is_open report.now }
+{
+    is_plain(report.grid) && is_clear(&report.findings)
 }
 
 /// Appends the line of a map that opens, where it does.
@@ -101,17 +119,28 @@ fn push_opens<A: Allocator>(text: &mut Vec<u8, A>, is_clear: bool) -> Result<(),
     Ok(())
 }
 
-/// Appends what was found, of each kind at most so many lines.
+/// Appends what the grid is.
+fn push_grid<A: Allocator>(text: &mut Vec<u8, A>, grid: Told) -> Result<(), AllocError>
+    ensures { OnOk result (text.new.items ≡ text.old.items ++ grid_text grid) }
+{
+    push_decimals(text, grid)?;
+    push_heights(text, grid)?;
+    Ok(())
+}
+
+/// Appends what the grid is, and what was found, of each kind at most so many lines.
 fn push_findings<A: Allocator, B: Allocator + Copy>(
     text: &mut Vec<u8, A>,
-    findings: &Findings<B>,
+    report: &Report<B>,
     most: usize,
 ) -> Result<(), AllocError>
-    ensures { let found = findings.now in OnOk result (text.new.items ≡ text.old.items
-        ++ findings_text most found.short.items found.repeats.items
+    ensures { let found = report.now.findings in OnOk result (text.new.items ≡ text.old.items
+        ++ findings_text most report.now.grid found.short.items found.repeats.items
         found.touches.items found.crossings.items) }
 {
-    push_opens(text, is_clear(findings))?;
+    let findings = &report.findings;
+    push_opens(text, is_open(report))?;
+    push_grid(text, report.grid)?;
     push_all_short(text, first(findings.short.as_slice(), most))?;
     push_repeats(text, first(findings.repeats.as_slice(), most))?;
     push_touches(text, first(findings.touches.as_slice(), most))?;
@@ -139,13 +168,14 @@ fn counts_of<A: Allocator + Copy>(findings: &Findings<A>) -> FindingCounts
 /// Appends the report of what was found, of each kind at most so many lines.
 fn push_report<A: Allocator, B: Allocator + Copy>(
     text: &mut Vec<u8, A>,
-    findings: &Findings<B>,
+    report: &Report<B>,
     most: usize,
 ) -> Result<(), AllocError>
-    ensures { OnOk result (text.new.items ≡ text.old.items ++ report_of most findings.now) }
+    ensures { OnOk result (text.new.items
+        ≡ text.old.items ++ report_of most report.now.grid report.now.findings) }
 {
-    push_findings(text, findings, most)?;
-    push_counts(text, counts_of(findings))?;
+    push_findings(text, report, most)?;
+    push_counts(text, counts_of(&report.findings))?;
     Ok(())
 }
 
@@ -187,20 +217,21 @@ fn push_areas<A: Allocator>(text: &mut Vec<u8, A>, areas: &[AreaChange]) -> Resu
 /// so many lines.
 fn push_mended<A: Allocator, B: Allocator + Copy>(
     text: &mut Vec<u8, A>,
-    findings: &Findings<B>,
+    report: &Report<B>,
     remade: &Remade<B>,
     most: usize,
 ) -> Result<(), AllocError>
-    ensures { OnOk result (text.new.items ≡ text.old.items ++ mended_report most findings.now
+    ensures { OnOk result (text.new.items ≡ text.old.items
+        ++ mended_report most report.now.grid report.now.findings
         (paths_seen remade.now.paths.items) remade.now.parted.items remade.now.areas.items) }
 {
-    push_findings(text, findings, most)?;
+    push_findings(text, report, most)?;
     push_paths(text, first(remade.paths.as_slice(), most))?;
     push_parted(text, first(remade.parted.as_slice(), most))?;
     push_areas(text, first(remade.areas.as_slice(), most))?;
     push_all_counts(
         text,
-        counts_of(findings),
+        counts_of(&report.findings),
         remade.paths.len(),
         remade.parted.len(),
         remade.areas.len(),
@@ -258,35 +289,59 @@ fn put_places<'f, A: Allocator + Copy>(
     Ok(())
 }
 
-/// Looks at a map, appends the report of all that keeps it from opening to `texts.report`, of each
-/// kind at most `most` lines, and puts the places of it all into `texts.places`, where they are asked
-/// for. What is found is answered: nothing, and so the status 0, exactly where the map opens. Fails
-/// as `look` does, and then `texts` may have a part of a report.
+/// Looks at a map on the grid that is asked for, appends the report of that grid and of all that keeps
+/// the map from opening to `texts.report`, of each kind at most `asked.most` lines, and puts the places
+/// of it all into `texts.places`, where they are asked for. What is told is answered: nothing, and so
+/// the status 0, exactly where the map opens as it is. Fails as `map_of` and `look` do, and then `texts`
+/// may have a part of a report.
 pub fn report_map<'a, A: Allocator + Copy>(
     alloc: A,
     heap: Global,
     bytes: &'a [u8],
-    most: usize,
+    asked: Asked,
     texts: &mut Texts<A>,
-) -> Result<Findings<A>, LookFault<'a>>
-    ensures looked { IfOk result (λ findings. Looked bytes.now findings) }
-    ensures opens { IfOk result (λ findings. status_of (Ok findings) ≡ 0 ↔ MapOpens bytes.now) }
-    ensures told { IfOk result (λ findings.
-        texts.new.report.items ≡ texts.old.report.items ++ report_of most findings) }
+) -> Result<Report<A>, LookFault<'a>>
+    ensures looked { IfOk result (λ report. Looked asked.grid bytes.now report.findings) }
+    ensures grid { IfOk result (λ report. IsTold asked.grid bytes.now report.grid) }
+    ensures opens { IfOk result (λ report.
+        status_of (Ok report) ≡ 0 ↔ MapOpens asked.grid bytes.now) }
+    ensures told { IfOk result (λ report. texts.new.report.items
+        ≡ texts.old.report.items ++ report_of asked.most report.grid report.findings) }
     ensures asked { OnOk result (is_some texts.new.places ≡ is_some texts.old.places) }
-    ensures placed { IfOk result (λ findings. IfSome texts.new.places
-        (λ places. HasPlaces bytes.now findings None places.items)) }
-    ensures refused { IfErr result (λ fault. IsEnd fault bytes.now) }
+    ensures placed { IfOk result (λ report. IfSome texts.new.places
+        (λ places. HasPlaces asked.grid bytes.now report.findings None places.items)) }
+    ensures refused { IfErr result (λ fault. IsEnd fault asked.grid bytes.now) }
 {
-    let Seen { map, findings } = match look(alloc, heap, bytes) {
-        Ok(seen) => seen,
+    let OnGrid {
+        transform,
+        layers,
+        members,
+        polygons,
+        told,
+    } = match map_of(alloc, heap, bytes, asked.grid) {
+        Ok(read) => read,
         Err(fault) => return Err(fault),
     };
-    push_report(&mut texts.report, &findings, most)?;
-    let transform = map.transform;
+    let map = RawDoc {
+        transform: transform.text(),
+        layers,
+        members,
+        polygons,
+    };
+    let findings = match look(alloc, heap, &map) {
+        Ok(findings) => findings,
+        Err(LookFault::TooMany) => return Err(LookFault::TooMany),
+        Err(_) => return Err(LookFault::OutOfMemory),
+    };
+    let report = Report {
+        grid: told,
+        findings,
+    };
+    push_report(&mut texts.report, &report, asked.most)?;
     let walks = map.polygons.as_slice();
-    put_places(alloc, transform, walks, &findings, None, &mut texts.places)?;
-    Ok(findings)
+    let found = &report.findings;
+    put_places(alloc, map.transform, walks, found, None, &mut texts.places)?;
+    Ok(report)
 }
 
 /// Why a map is not mended.
@@ -310,30 +365,52 @@ impl<'a> From<AllocError> for RepairFault<'a> {
     }
 }
 
-/// Looks at a map and mends it. Appends the report of all that kept it from opening, and of what was
-/// done about it, to `texts.report`, of each kind at most `most` lines, and puts the places of what
-/// was found, and the paths, into `texts.places`, where they are asked for. Answers the paths, the polygons that were
-/// taken apart, how areas changed, and the text to be saved, which opens. Fails as `look` and `remake` do, and then
-/// `texts` may have a part of a report.
+/// Looks at a map on the grid that is asked for, and mends it. Appends the report of that grid, of all
+/// that kept the map from opening, and of what was done about it, to `texts.report`, of each kind at most
+/// `asked.most` lines, and puts the places of what was found, and the paths, into `texts.places`, where
+/// they are asked for. Answers the paths, the polygons that were taken apart, how areas changed, and the
+/// text to be saved, which opens. Fails as `map_of`, `look` and `remake` do, and then `texts` may have a
+/// part of a report.
 pub fn mend_map<'a, A: Allocator + Copy>(
     alloc: A,
     heap: Global,
     bytes: &'a [u8],
-    most: usize,
+    asked: Asked,
     texts: &mut Texts<A>,
 ) -> Result<Remade<A>, RepairFault<'a>>
-    ensures mended { IfOk result (λ remade. Remakes bytes.now remade) }
-    ensures told { IfOk result (λ remade. TellsMending most bytes.now remade
+    ensures mended { IfOk result (λ remade. Remakes asked.grid bytes.now remade) }
+    ensures told { IfOk result (λ remade. TellsMending asked bytes.now remade
         texts.old.report.items texts.new.report.items) }
     ensures asked { OnOk result (is_some texts.new.places ≡ is_some texts.old.places) }
-    ensures placed { IfOk result (λ remade. PlacesMending bytes.now remade texts.new.places) }
-    ensures refused { IfErr result (λ fault. IsMendEnd fault bytes.now) }
+    ensures placed { IfOk result (λ remade.
+        PlacesMending asked.grid bytes.now remade texts.new.places) }
+    ensures refused { IfErr result (λ fault. IsMendEnd fault asked.grid bytes.now) }
 {
-    let Seen { map, findings } = match look(alloc, heap, bytes) {
-        Ok(seen) => seen,
+    let OnGrid {
+        transform,
+        layers,
+        members,
+        polygons,
+        told,
+    } = match map_of(alloc, heap, bytes, asked.grid) {
+        Ok(read) => read,
         Err(fault) => return Err(RepairFault::Look(fault)),
     };
-    let transform = map.transform;
+    let map = RawDoc {
+        transform: transform.text(),
+        layers,
+        members,
+        polygons,
+    };
+    let findings = match look(alloc, heap, &map) {
+        Ok(findings) => findings,
+        Err(LookFault::TooMany) => return Err(RepairFault::Look(LookFault::TooMany)),
+        Err(_) => return Err(RepairFault::Look(LookFault::OutOfMemory)),
+    };
+    let report = Report {
+        grid: told,
+        findings,
+    };
     let walks = copied(alloc, map.polygons.as_slice())?;
     let remade = match remake(alloc, heap, map, walks.as_slice()) {
         Ok(remade) => remade,
@@ -342,12 +419,12 @@ pub fn mend_map<'a, A: Allocator + Copy>(
     let paths = remade.paths.as_slice();
     put_places(
         alloc,
-        transform,
+        transform.text(),
         walks.as_slice(),
-        &findings,
+        &report.findings,
         Some(paths),
         &mut texts.places,
     )?;
-    push_mended(&mut texts.report, &findings, &remade, most)?;
+    push_mended(&mut texts.report, &report, &remade, asked.most)?;
     Ok(remade)
 }
