@@ -1,0 +1,4 @@
+pub mod Decimal
+pub mod Fine
+pub mod Shifted
+pub mod Seen
