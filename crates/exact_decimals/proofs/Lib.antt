@@ -1,3 +1,5 @@
-pub mod Values
 pub mod Powers
+pub mod Values
 pub mod Cutting
+pub mod Zeros
+pub mod Rounding

@@ -1,5 +1,6 @@
 -- Powers of ten.
-use Rattle.std.proofs.Common.{◌≡◌, ℕ, ◌+◌, ◌*◌, ◌<◌, ◌≤◌, ◌^◌, arith}
+use Rattle.std.proofs.Common.{◌≡◌, ℕ, ◌+◌, ◌*◌, ◌<◌, ◌≤◌, ◌^◌, ap, arith}
+use Rattle.std.proofs.lemmas.Grind.{pow_more}
 use Rattle.std.proofs.Math.Nat.{one-le-pow, pow-le-pow_right, mul-le-mul_left}
 
 pub power_pos : (k : ℕ) → 0 < 10 ^ k
@@ -14,3 +15,6 @@ scaled_mono n j k h = mul-le-mul_left n (power_mono j k h)
 
 pub scaled_grows : (n k : ℕ) → n ≤ n * 10 ^ k
 scaled_grows n k = omega (arith, mul-le-mul_left n (power_pos k))
+
+pub scaled_more : (n k : ℕ) → n * 10 ^ (k + 1) ≡ n * 10 ^ k * 10
+scaled_more n k = omega (arith, ap (λ q. n * q) (pow_more 10 k))
