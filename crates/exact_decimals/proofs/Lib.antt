@@ -3,3 +3,5 @@ pub mod Values
 pub mod Cutting
 pub mod Zeros
 pub mod Rounding
+pub mod Leading
+pub mod Appending
