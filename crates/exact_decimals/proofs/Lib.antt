@@ -5,3 +5,4 @@ pub mod Zeros
 pub mod Rounding
 pub mod Leading
 pub mod Appending
+pub mod Power
