@@ -6,3 +6,5 @@ pub mod Rounding
 pub mod Leading
 pub mod Appending
 pub mod Power
+pub mod Written
+mod Examples
