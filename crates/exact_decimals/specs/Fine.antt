@@ -27,11 +27,7 @@ abbrev pub fine : Parts → ℤ
 fine p =
     if p.is_negative
     then minus (first_digits (reach p) (p.integer ++ p.fraction)
-<<<<<<< HEAD
-        + one_if_more (reach p) (p.integer ++ p.fraction))
-=======
     + one_if_more (reach p) (p.integer ++ p.fraction))
->>>>>>> 908ac16264b99982157cf791dab962edabb4c1f0
     else pos (first_digits (reach p) (p.integer ++ p.fraction))
 
 -- ---- fewer decimals

@@ -1,9 +1,5 @@
 //! The parts of a number.
-<<<<<<< HEAD
-ghost use Rattle.std.specs.Prelude.{IsTrue};
-=======
 ghost use Rattle.std.specs.Prelude.{IsTrue, ◌<◌, unsigned_abs};
->>>>>>> 908ac16264b99982157cf791dab962edabb4c1f0
 ghost use Rattle.std.specs.List.{list_all};
 ghost use Rattle.json_spans.specs.Bytes.{is_digit};
 
@@ -17,8 +13,5 @@ pub struct Decimal<'a> {
     pub(crate) exponent: i64,
     ghost integer_digits: { IsTrue (list_all is_digit integer.now) },
     ghost fraction_digits: { IsTrue (list_all is_digit fraction.now) },
-<<<<<<< HEAD
-=======
     ghost small_exponent: { unsigned_abs exponent < 1000 },
->>>>>>> 908ac16264b99982157cf791dab962edabb4c1f0
 }

@@ -2,14 +2,6 @@
 //!
 //! [`decimal_of`] reads the parts of a number (RFC 8259, 6). [`Decimal::fine`] gives the units of
 //! 10^-24 in it, rounded down: all of it where it has at most 24 decimals. [`decimals`] and
-<<<<<<< HEAD
-//! [`rounded`] take such units to fewer decimals. No floating-point number is made.
-#![tactic(auto)]
-
-mod decimal;
-
-pub use decimal::Decimal;
-=======
 //! [`rounded`] take such units to fewer decimals, and [`push_shifted`] writes a number divided by a
 //! power of ten. No floating-point number is made.
 #![tactic(auto)]
@@ -26,4 +18,3 @@ pub use decimal::Decimal;
 pub use fine::{decimals, is_rounded, rounded};
 pub use reading::decimal_of;
 pub use shifted::push_shifted;
->>>>>>> 908ac16264b99982157cf791dab962edabb4c1f0
