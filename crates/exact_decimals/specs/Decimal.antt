@@ -52,8 +52,8 @@ behind_integer sign integer [] = with_exponent sign integer [] (exponent_of [])
 behind_integer sign integer (x ∷ xs) =
     if x == 46
     then (if nat_lt 0 (digits_len xs)
-        then with_exponent sign integer (digits_of xs) (exponent_of (behind_digits xs))
-        else None)
+    then with_exponent sign integer (digits_of xs) (exponent_of (behind_digits xs))
+    else None)
     else with_exponent sign integer [] (exponent_of (x ∷ xs))
 
 -- without its sign

@@ -27,7 +27,7 @@ abbrev pub fine : Parts → ℤ
 fine p =
     if p.is_negative
     then minus (first_digits (reach p) (p.integer ++ p.fraction)
-        + one_if_more (reach p) (p.integer ++ p.fraction))
+    + one_if_more (reach p) (p.integer ++ p.fraction))
     else pos (first_digits (reach p) (p.integer ++ p.fraction))
 
 -- ---- fewer decimals

@@ -1,5 +1,5 @@
 //! The parts of a number.
-ghost use Rattle.std.specs.Prelude.{IsTrue};
+ghost use Rattle.std.specs.Prelude.{IsTrue, ◌<◌, unsigned_abs};
 ghost use Rattle.std.specs.List.{list_all};
 ghost use Rattle.json_spans.specs.Bytes.{is_digit};
 
@@ -13,4 +13,5 @@ pub struct Decimal<'a> {
     pub(crate) exponent: i64,
     ghost integer_digits: { IsTrue (list_all is_digit integer.now) },
     ghost fraction_digits: { IsTrue (list_all is_digit fraction.now) },
+    ghost small_exponent: { unsigned_abs exponent < 1000 },
 }

@@ -11,8 +11,11 @@ use Rattle.grid_reader.specs.Fine.{FinePosition}
 
 -- ---- how many decimals
 
+abbrev pub xy : FinePosition → List ℤ
+xy p = p.x ∷ p.y ∷ []
+
 abbrev pub coordinates : List (List FinePosition) → List ℤ
-coordinates arcs = flat_map (flat_map (λ p. p.x ∷ p.y ∷ [])) arcs
+coordinates arcs = flat_map (flat_map xy) arcs
 
 abbrev pub greater : ℕ → ℕ → ℕ
 greater a b = if nat_le a b then b else a

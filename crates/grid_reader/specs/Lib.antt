@@ -1,5 +1,9 @@
 pub mod Fine
 pub mod Grid
+pub mod Seen
+pub mod Near
 pub mod Transform
+pub mod TransformView
 pub mod Opening
+pub mod OnGridView
 pub mod Told

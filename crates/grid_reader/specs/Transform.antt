@@ -33,13 +33,13 @@ two_in (Some n) = both (two_of (items n))
     both None = bad_transform
     both (Some p) = Ok p
 
--- a number, divided by a power of ten
-abbrev pub shifted : ℕ → Node → Result Text Fault
-shifted k n = by (parts_of n.bytes)
+-- a number
+abbrev pub number : List ℕ → Result Parts Fault
+number t = by (parts_of t)
   where
-    by : Option Parts → Result Text Fault
+    by : Option Parts → Result Parts Fault
     by None = bad_transform
-    by (Some p) = Ok (shifted_text k p)
+    by (Some p) = Ok p
 
 -- ---- the new one
 
@@ -59,10 +59,10 @@ abbrev pub divided : ℕ → Option Text → Result Text Fault
 divided k None = Ok (transform_text (one_shifted k) (one_shifted k) (codes "0") (codes "0"))
 divided k (Some t) = do
   scale ← two_in (value_named (codes "scale") (members (record { at_byte = 0; bytes = t })))
-  a ← shifted k scale.0
-  b ← shifted k scale.1
+  a ← number scale.0.bytes
+  b ← number scale.1.bytes
   translate ← two_in (value_named (codes "translate") (members (record { at_byte = 0; bytes = t })))
-  Ok (transform_text a b translate.0.bytes translate.1.bytes)
+  Ok (transform_text (shifted_text k a) (shifted_text k b) translate.0.bytes translate.1.bytes)
 
 -- the transform of a grid that is finer by 10^k: where k is 0, the same
 abbrev pub transform_on : ℕ → Option Text → Result (Option Text) Fault

@@ -2,8 +2,14 @@
 //! numbers, or the first fault.
 #![tactic(auto)]
 
+mod fine;
+mod grid;
 mod reading;
+#[cfg(test)]
+mod tests;
+mod transform;
 mod wants;
 
-pub use reading::Told;
+pub use reading::{OnGrid, Told, read_on_grid};
+pub use transform::Transform;
 pub use wants::Wants;

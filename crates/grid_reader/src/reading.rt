@@ -1,4 +1,32 @@
 //! From the bytes of a topology to its walks on a grid.
+ghost use Rattle.std.specs.Prelude.{◌≡◌, ◌≤◌, ◌==◌, ◌||◌, IfOk, IfErr, map, not, length, is_some, Ok, codes};
+ghost use Rattle.std.specs.List.{list_any};
+ghost use Rattle.json_spans.specs.Grammar.{Json};
+ghost use Rattle.json_spans.specs.Left.{node};
+ghost use Rattle.topo_outline.specs.Faults.{each};
+ghost use Rattle.topo_outline.specs.Gives.{Gives};
+ghost use Rattle.topo_outline.specs.Views.{view_item, view_layer};
+ghost use Rattle.topo_outline.specs.OutlineView.{view_outline, IsPlaced};
+ghost use Rattle.topo_reader.specs.Document.{document_of, IsOfWalks};
+ghost use Rattle.topo_reader.specs.Opening.{OpensIn, IsFaultIn};
+ghost use Rattle.grid_reader.specs.Fine.{fine_arcs};
+ghost use Rattle.grid_reader.specs.Opening.{is_text, has_points, opened_on, grid_opening, ReadsOnGrid};
+ghost use Rattle.grid_reader.specs.OnGridView.{view_on_grid};
+ghost use Rattle.grid_reader.specs.Seen.{arcs_seen};
+ghost use Rattle.grid_reader.specs.Told.{IsTold};
+
+use crate::fine::{FinePos, fine_arcs};
+use crate::grid::{arcs_on, digits_of, heights, most_decimals, moved};
+use crate::transform::{Transform, transform_on};
+use crate::wants::Wants;
+use grid_geometry::Pos;
+use json_spans::{ScanFault, Span, scan};
+use std::alloc::{Allocator, Global};
+use topo_outline::{Item, KeptMember, Limit, OpenFault, Outline, RawLayer, Token, read_outline};
+use topo_reader::walks_along;
+
+/// The most bytes of a text.
+const MAX_BYTES: usize = 67_108_864;
 
 /// What is told of the grid that a map was put on.
 #[derive(Clone, Copy, Debug, PartialEq, Eq)]
@@ -11,4 +39,182 @@ pub struct Told {
     pub rounded: usize,
     /// How many positions of arcs had further numbers, which were left out.
     pub heights: usize,
+}
+
+/// A topology that was read on a grid: its layers as they stand in the text, and its walks.
+///
+/// The features are numbered from 0 in the order of the text.
+#[derive(Drop)]
+#[derive_where(Debug)]
+pub struct OnGrid<'a, A: Allocator + Copy = Global> {
+    /// The transform of the grid.
+    pub transform: Transform<'a, A>,
+    /// The members of `objects`, in order (TopoJSON 1.0, 2.1.5).
+    pub layers: Vec<RawLayer<'a, A>, A>,
+    /// The members that are neither known nor a `bbox`, in order.
+    pub members: Vec<KeptMember<'a>, A>,
+    /// By feature the polygons, each a list of walks, begun where their first arcs are.
+    pub polygons: Vec<Vec<Vec<Vec<Pos, A>, A>, A>, A>,
+    /// What is told of the grid.
+    pub told: Told,
+}
+
+fn is_text<A: Allocator + Copy>(item: &Item<'_, A>) -> bool
+    ensures { result ≡ is_text (view_item item.now) }
+{
+    match item {
+        Item::Kept(_) => true,
+        _ => false,
+    }
+}
+
+fn has_text<A: Allocator + Copy>(items: &[Item<'_, A>]) -> bool
+    ensures { result ≡ list_any is_text (map view_item items.now) }
+{
+    for item in items {
+        if is_text(item) {
+            return true;
+        }
+    }
+    false
+}
+
+/// Whether there is a point, or several points (TopoJSON 1.0, 2.2.1 and 2.2.2).
+fn has_points<A: Allocator + Copy>(layers: &[RawLayer<'_, A>]) -> bool
+    ensures { result ≡ has_points (map view_layer layers.now) }
+{
+    for layer in layers {
+        if has_text(layer.items.as_slice()) {
+            return true;
+        }
+    }
+    false
+}
+
+/// What is told of the grid. There are no more positions than bytes, so the counts fit.
+fn told_of<'a, A: Allocator + Copy>(
+    wants: Wants,
+    most: usize,
+    digits: usize,
+    fine: &[Vec<FinePos, A>],
+    arcs: Span<'a>,
+) -> Result<Told, OpenFault<'a>> {
+    let rounded = match moved(digits, fine) {
+        Some(rounded) => rounded,
+        None => return Err(OpenFault::OutOfMemory),
+    };
+    let heights = if wants.drop_heights {
+        heights(arcs)
+    } else {
+        Some(0)
+    };
+    match heights {
+        Some(heights) => Ok(Told {
+            decimals: most,
+            digits,
+            rounded,
+            heights,
+        }),
+        None => Err(OpenFault::OutOfMemory),
+    }
+}
+
+/// The polygons of all features along the arcs on the grid.
+fn polygons<'a, A: Allocator + Copy>(
+    alloc: A,
+    digits: usize,
+    finer: usize,
+    fine: &[Vec<FinePos, A>],
+    outline: &Outline<'a, A>,
+) -> Result<Vec<Vec<Vec<Vec<Pos, A>, A>, A>, A>, OpenFault<'a>> {
+    if !(digits + finer == 0) && has_points(outline.layers.as_slice()) {
+        return Err(OpenFault::Unsupported {
+            type_name: Token { text: b"Point" },
+        });
+    }
+    let arcs = arcs_on(alloc, digits, finer, fine)?;
+    walks_along(alloc, arcs.as_slice(), outline)
+}
+
+/// The topology with this outline, whose arcs have these positions.
+fn opened_on<'a, A: Allocator + Copy>(
+    alloc: A,
+    heap: Global,
+    wants: Wants,
+    outline: Outline<'a, A>,
+    fine: &[Vec<FinePos, A>],
+) -> Result<OnGrid<'a, A>, OpenFault<'a>> {
+    let most = most_decimals(fine);
+    let digits = digits_of(wants, most, fine);
+    let told = match told_of(wants, most, digits, fine, outline.arcs) {
+        Ok(told) => told,
+        Err(fault) => return Err(fault),
+    };
+    let transform = match transform_on(alloc, heap, digits + wants.finer, outline.transform) {
+        Ok(transform) => transform,
+        Err(fault) => return Err(fault),
+    };
+    match polygons(alloc, digits, wants.finer, fine, &outline) {
+        Ok(polygons) => Ok(OnGrid {
+            transform,
+            layers: outline.layers,
+            members: outline.members,
+            polygons,
+            told,
+        }),
+        Err(fault) => Err(fault),
+    }
+}
+
+/// The topology whose root this is, on the grid that is asked for.
+fn opened<'a, A: Allocator + Copy>(
+    alloc: A,
+    heap: Global,
+    wants: Wants,
+    root: Span<'a>,
+) -> Result<OnGrid<'a, A>, OpenFault<'a>> {
+    let outline = match read_outline(alloc, heap, root) {
+        Ok(outline) => outline,
+        Err(fault) => return Err(fault),
+    };
+    match fine_arcs(alloc, wants, outline.transform.is_some(), outline.arcs) {
+        Ok(fine) => opened_on(alloc, heap, wants, outline, fine.as_slice()),
+        Err(fault) => Err(fault),
+    }
+}
+
+/// The topology that the bytes are, on the grid that is asked for, or its first fault.
+///
+/// The coordinates are read as exact decimals, of at most 24 decimals. All are put on one grid of
+/// whole numbers: of the decimals that are there, at most `wants.digits` are kept, and fewer where the
+/// furthest coordinate would pass 10^12; the rest is rounded to the nearest, and halves up. The
+/// transform becomes that of the grid. With `wants.drop_heights`, numbers behind the first two of a
+/// position are left out. The phases and the faults are those of `topo_reader::read_walks`, where
+/// `OutOfRange` is told of a coordinate beyond 10^12 on a grid 10^`wants.finer` times as fine, and
+/// `Unsupported` of a point where the grid is finer than that of the text: points are kept as they
+/// stand.
+///
+/// All that the topology owns lies in `alloc`. `heap` holds decoded names while they are compared.
+pub fn read_on_grid<'a, A: Allocator + Copy>(
+    alloc: A,
+    heap: Global,
+    bytes: &'a [u8],
+    wants: Wants,
+) -> Result<OnGrid<'a, A>, OpenFault<'a>>
+    ensures opened { IfOk result (λ read. OpensIn (grid_opening wants) bytes.now (view_on_grid read)) }
+    ensures of_walks { IfOk result (λ read. IsOfWalks (view_on_grid read)) }
+    ensures reads { IfOk result (λ read.
+        ReadsOnGrid wants bytes.now (document_of (view_on_grid read))) }
+    ensures told { IfOk result (λ read. IsTold wants bytes.now read.told) }
+    ensures refused { IfErr result (λ fault. IsFaultIn (grid_opening wants) bytes.now fault) }
+{
+    if bytes.len() > MAX_BYTES {
+        return Err(OpenFault::TooLarge { what: Limit::Bytes });
+    }
+    match scan(alloc, bytes) {
+        Ok(root) => opened(alloc, heap, wants, root.span()),
+        Err(ScanFault::NotJson { place }) => Err(OpenFault::NotJson { place }),
+        Err(ScanFault::TooDeep { place }) => Err(OpenFault::TooDeep { place }),
+        Err(ScanFault::OutOfMemory) => Err(OpenFault::OutOfMemory),
+    }
 }

@@ -1,0 +1,10 @@
+pub mod Powers
+pub mod Values
+pub mod Cutting
+pub mod Zeros
+pub mod Rounding
+pub mod Leading
+pub mod Appending
+pub mod Power
+pub mod Written
+mod Examples

@@ -1,0 +1,20 @@
+-- The power of ten behind a number: no width cuts it off.
+use mir.Syntax.{w64, w128}
+use mir.Val.{of_z, to_z}
+use Rattle.std.proofs.Common.{◌≡◌, ℕ, ◌<◌, ◌≤◌, ◌^◌, ap, sym, ◌∙◌, arith}
+use Rattle.std.specs.Prelude.{ℤ, pos, negsuc, ◌-ℤ◌, unsigned_abs}
+use Rattle.std.proofs.lemmas.Int.{ints}
+
+exponent_is : (z : ℤ) → unsigned_abs z < 1000 → to_z w64 (of_z w64 z) ≡ z
+exponent_is (pos n) h = omega (arith, ints)
+exponent_is (negsuc n) h = omega (arith, ints)
+
+less_is : (z : ℤ) (m n : ℕ) → unsigned_abs z < 1000 → m < 2 ^ 64 → n ≤ 36
+    → to_z w128 (of_z w128 (to_z w128 (of_z w128 (to_z w128 (of_z w128 z) -ℤ to_z w128 m)) -ℤ to_z w128 n)) ≡ (z -ℤ pos m) -ℤ pos n
+less_is (pos a) m n h f g = omega (arith, ints)
+less_is (negsuc a) m n h f g = omega (arith, ints)
+
+pub power_is : (z r : ℤ) (m n : ℕ) → r ≡ to_z w64 (of_z w64 z) → unsigned_abs z < 1000 → m < 2 ^ 64 → n ≤ 36
+    → to_z w128 (of_z w128 (to_z w128 (of_z w128 (to_z w128 (of_z w128 r) -ℤ to_z w128 m)) -ℤ to_z w128 n)) ≡ (z -ℤ pos m) -ℤ pos n
+power_is z r m n e h f g =
+    ap (λ y. to_z w128 (of_z w128 (to_z w128 (of_z w128 (to_z w128 (of_z w128 y) -ℤ to_z w128 m)) -ℤ to_z w128 n))) (e ∙ exponent_is z h) ∙ less_is z m n h f g

@@ -1,0 +1,19 @@
+use mir.Syntax.{w128}
+use mir.Val.{of_z, to_z}
+use Rattle.std.proofs.Common.{◌≡◌, ap, arith}
+use Rattle.std.specs.Prelude.{unsigned_abs}
+use Rattle.std.proofs.Math.Facts.{to_z-of_z}
+use Rattle.exact_decimals.specs.Fine.{zeros_behind}
+use Rattle.exact_decimals.proofs.Zeros.{zeros_step, zeros_none}
+use Rattle.exact_decimals.proofs.fine.decimals.Goals as goal
+
+pub loop-decimals-preserved : goal.loop-decimals-preserved
+loop-decimals-preserved c = record {
+  zeros = omega (arith, zeros_step c.loop-decimals.decimals c.loop-decimals.left (omega arith) (omega arith), c.loop-decimals.invariant.zeros);
+  bound = omega arith;
+}
+
+pub returns-else-left-eq0-clause-value : goal.returns-else-left-eq0-clause-value
+returns-else-left-eq0-clause-value c =
+    let passed = ap (λ z. zeros_behind 24 (unsigned_abs z)) (to_z-of_z c.ranges.units) in
+    omega (arith, passed, zeros_none c.loop-decimals.decimals c.loop-decimals.left (λ e. absurd (omega (arith, e))), c.loop-decimals.invariant.zeros)

@@ -1,0 +1,14 @@
+use Rattle.std.proofs.Common.{◌≡◌, ◌+◌, ◌≤◌}
+use Rattle.std.specs.Prelude.{unsigned_abs}
+use Rattle.exact_decimals.specs.Fine.{zeros_behind}
+use Rattle.exact_decimals.proofs.fine.decimals.Given as goal
+
+-- what is taken off so far and what can still be are all zeros behind the number
+abbrev pub invariant-loop-decimals : goal.invariant-loop-decimals
+invariant-loop-decimals l = record {
+  zeros : zeros_behind l.decimals l.left + 24 ≡ zeros_behind 24 (unsigned_abs l.units) + l.decimals;
+  bound : l.decimals ≤ 24;
+}
+
+abbrev pub decreases-loop-decimals : goal.decreases-loop-decimals
+decreases-loop-decimals l = l.decimals

@@ -1,0 +1,241 @@
+// The grid that positions are put on: how many decimals it has, and where they stand on it.
+ghost use Rattle.std.specs.Prelude.{◌≡◌, ◌≤◌, ◌*◌, ◌+◌, ◌^◌, ◌<◌, ℕ, Some, map, flat_map, length, unsigned_abs, IfOk, IfSome, OnOk, MatchOption, ◌-◌, ◌*ℤ◌, pos};
+ghost use Rattle.std.specs.List.{fold, filter, AllByRecursion};
+ghost use Rattle.json_spans.specs.Left.{node};
+ghost use Rattle.json_spans.specs.Walk.{items};
+ghost use Rattle.exact_decimals.specs.Fine.{decimals, rounded};
+ghost use Rattle.topo_reader.specs.Uses.{positions_of};
+ghost use Rattle.grid_reader.specs.Fine.{FinePosition};
+ghost use Rattle.grid_reader.specs.Grid.{greater, lesser, xy, coordinates, most_decimals, furthest, fitting, digits_of, on_grid, arcs_on, is_moved, moved, has_more, heights};
+ghost use Rattle.grid_reader.specs.Near.{IsNear};
+ghost use Rattle.grid_reader.specs.Seen.{fine_seen, arc_seen, arcs_seen};
+
+use crate::fine::FinePos;
+use crate::wants::Wants;
+use exact_decimals::{decimals, is_rounded, rounded};
+use grid_geometry::Pos;
+use json_spans::{Span, items};
+use std::alloc::{AllocError, Allocator};
+
+/// How many decimals a unit has, and how many digits stand before them in the greatest coordinate.
+const DIGITS: usize = 36;
+
+// ---- how many decimals
+
+fn greater(a: usize, b: usize) -> usize
+    ensures { result ≡ greater a b }
+{
+    if a <= b { b } else { a }
+}
+
+fn further(a: u128, b: u128) -> u128
+    ensures { result ≡ greater a b }
+{
+    if a <= b { b } else { a }
+}
+
+/// The most decimals of an arc's coordinates, or of those before them.
+fn most_in_arc(before: usize, arc: &[FinePos]) -> usize
+    ensures { result ≡ fold greater before (map decimals (flat_map xy (map fine_seen arc.now))) }
+{
+    let mut most = before;
+    for pos in arc {
+        most = greater(greater(most, decimals(pos.x)), decimals(pos.y));
+    }
+    most
+}
+
+/// The most decimals that a coordinate has.
+pub(crate) fn most_decimals<A: Allocator + Copy>(arcs: &[Vec<FinePos, A>]) -> usize
+    ensures { result ≡ most_decimals (arcs_seen arcs.now) }
+{
+    let mut most = 0;
+    for arc in arcs {
+        most = most_in_arc(most, arc.as_slice());
+    }
+    most
+}
+
+/// How far the furthest coordinate of an arc is from 0, or of those before them.
+fn furthest_in_arc(before: u128, arc: &[FinePos]) -> u128
+    ensures { result
+        ≡ fold greater before (map unsigned_abs (flat_map xy (map fine_seen arc.now))) }
+{
+    let mut far = before;
+    for pos in arc {
+        far = further(further(far, pos.x.unsigned_abs()), pos.y.unsigned_abs());
+    }
+    far
+}
+
+/// How far the furthest coordinate is from 0.
+fn furthest<A: Allocator + Copy>(arcs: &[Vec<FinePos, A>]) -> u128
+    ensures { result ≡ furthest (arcs_seen arcs.now) }
+{
+    let mut far = 0;
+    for arc in arcs {
+        far = furthest_in_arc(far, arc.as_slice());
+    }
+    far
+}
+
+/// The greatest number of decimals up to `most` with which a coordinate so far away stays within
+/// 10^12, on a grid 10^`finer` times as fine again.
+fn fitting(finer: usize, far: u128, most: usize) -> usize
+    requires finer { finer ≤ 12 }
+    requires most { most ≤ 24 }
+    ensures value { result ≡ fitting finer far most }
+    ensures bound { result ≤ most }
+{
+    let mut kept = most;
+    while kept > 0 && far > 10u128.pow((DIGITS - finer - kept) as u32) {
+        kept -= 1;
+    }
+    kept
+}
+
+fn lesser(a: usize, b: usize) -> usize
+    ensures { result ≡ lesser a b }
+{
+    if a <= b { a } else { b }
+}
+
+/// How many decimals are kept, where a coordinate has at most so many.
+pub(crate) fn digits_of<A: Allocator + Copy>(
+    wants: Wants,
+    most: usize,
+    arcs: &[Vec<FinePos, A>],
+) -> usize
+    requires { most ≡ most_decimals (arcs_seen arcs.now) }
+    ensures value { result ≡ digits_of wants (arcs_seen arcs.now) }
+    ensures bound { result ≤ 24 }
+{
+    fitting(wants.finer, furthest(arcs), lesser(wants.digits, most))
+}
+
+// ---- the positions
+
+/// A coordinate on the grid.
+fn on_axis(digits: usize, finer: usize, units: i128) -> i64
+    requires digits { digits ≤ 24 }
+    requires finer { finer ≤ 12 }
+    requires near { unsigned_abs units * 10 ^ digits ≤ 10 ^ (36 - finer) }
+    ensures value { result ≡ rounded digits units *ℤ pos (10 ^ finer) }
+    ensures bound { unsigned_abs result ≤ 1000000000000 }
+{
+    rounded(digits, units) * 10i64.pow(finer as u32)
+}
+
+fn on_grid(digits: usize, finer: usize, pos: FinePos) -> Pos
+    requires digits { digits ≤ 24 }
+    requires finer { finer ≤ 12 }
+    requires across { unsigned_abs pos.x * 10 ^ digits ≤ 10 ^ (36 - finer) }
+    requires upward { unsigned_abs pos.y * 10 ^ digits ≤ 10 ^ (36 - finer) }
+    ensures { result ≡ on_grid digits finer (fine_seen pos) }
+{
+    Pos::new(on_axis(digits, finer, pos.x), on_axis(digits, finer, pos.y)).unwrap()
+}
+
+/// The positions of an arc on the grid.
+fn arc_on<A: Allocator + Copy>(
+    alloc: A,
+    digits: usize,
+    finer: usize,
+    arc: &[FinePos],
+) -> Result<Vec<Pos, A>, AllocError>
+    requires digits { digits ≤ 24 }
+    requires finer { finer ≤ 12 }
+    requires near { AllByRecursion (IsNear digits finer) (map fine_seen arc.now) }
+    ensures { IfOk result (λ v. v.items ≡ map (on_grid digits finer) (map fine_seen arc.now)) }
+{
+    let mut found = Vec::new(alloc);
+    for pos in arc {
+        found.push(on_grid(digits, finer, *pos))?;
+    }
+    Ok(found)
+}
+
+/// The arcs on the grid.
+pub(crate) fn arcs_on<A: Allocator + Copy>(
+    alloc: A,
+    digits: usize,
+    finer: usize,
+    arcs: &[Vec<FinePos, A>],
+) -> Result<Vec<Vec<Pos, A>, A>, AllocError>
+    requires digits { digits ≤ 24 }
+    requires finer { finer ≤ 12 }
+    requires near { AllByRecursion (AllByRecursion (IsNear digits finer)) (arcs_seen arcs.now) }
+    ensures { IfOk result (λ v. map positions_of v.items
+        ≡ map (map (on_grid digits finer)) (arcs_seen arcs.now)) }
+{
+    let mut found = Vec::new(alloc);
+    for arc in arcs {
+        found.push(arc_on(alloc, digits, finer, arc.as_slice())?)?;
+    }
+    Ok(found)
+}
+
+// ---- what is told of it
+
+fn is_moved(digits: usize, pos: FinePos) -> bool
+    requires { digits ≤ 24 }
+    ensures { result ≡ is_moved digits (fine_seen pos) }
+{
+    is_rounded(digits, pos.x) || is_rounded(digits, pos.y)
+}
+
+fn moved_in_arc(digits: usize, before: usize, arc: &[FinePos]) -> Option<usize>
+    requires { digits ≤ 24 }
+{
+    let mut count = before;
+    for pos in arc {
+        if is_moved(digits, *pos) {
+            count = count.checked_add(1)?;
+        }
+    }
+    Some(count)
+}
+
+/// How many positions rounding moves.
+pub(crate) fn moved<A: Allocator + Copy>(digits: usize, arcs: &[Vec<FinePos, A>]) -> Option<usize>
+    requires { digits ≤ 24 }
+{
+    let mut count = 0;
+    for arc in arcs {
+        count = moved_in_arc(digits, count, arc.as_slice())?;
+    }
+    Some(count)
+}
+
+/// Whether there is a third number.
+fn has_more(span: Span<'_>) -> bool
+    ensures { result ≡ has_more (items (node span.entry)) }
+{
+    let mut parts = items(span);
+    match parts.next() {
+        None => false,
+        Some(_) => match parts.next() {
+            None => false,
+            Some(_) => parts.next().is_some(),
+        },
+    }
+}
+
+fn heights_in_arc(before: usize, arc: Span<'_>) -> Option<usize> {
+    let mut count = before;
+    for part in items(arc) {
+        if has_more(part) {
+            count = count.checked_add(1)?;
+        }
+    }
+    Some(count)
+}
+
+/// How many positions have further numbers.
+pub(crate) fn heights(arcs: Span<'_>) -> Option<usize> {
+    let mut count = 0;
+    for arc in items(arcs) {
+        count = heights_in_arc(count, arc)?;
+    }
+    Some(count)
+}

@@ -1,0 +1,208 @@
+//! Which walks and which transform a map has on a grid, and what is refused.
+use super::{Told, Wants, read_on_grid};
+use grid_geometry::Pos;
+use std::alloc::Global;
+use std::process::Abort;
+use topo_outline::OpenFault;
+
+/// What is asked for.
+#[derive(Clone, Copy)]
+enum Asked {
+    All,
+    Tenths,
+    Finer,
+    Flat,
+}
+
+fn wants(asked: Asked) -> Wants {
+    let (digits, finer, drop_heights) = match asked {
+        Asked::All => (24, 0, false),
+        Asked::Tenths => (1, 0, false),
+        Asked::Finer => (24, 1, false),
+        Asked::Flat => (24, 0, true),
+    };
+    Wants {
+        digits,
+        finer,
+        drop_heights,
+    }
+}
+
+/// A map of one walk: its text and what is asked for; its transform on the grid, the corners of the
+/// walk there, and what is told.
+struct Row {
+    text: &'static [u8],
+    asked: Asked,
+    transform: &'static [u8],
+    corners: &'static [(i64, i64)],
+    told: Told,
+}
+
+const ROWS: &[Row] = &[
+    Row {
+        text: br#"{"type":"Topology","objects":{"a":{"type":"Polygon","arcs":[[0]]}},"arcs":[[[1.5,0.25],[2,0.5],[-0.5,1],[1.5,0.25]]]}"#,
+        asked: Asked::All,
+        transform: br#"{"scale":[1e-2,1e-2],"translate":[0,0]}"#,
+        corners: &[(150, 25), (200, 50), (-50, 100)],
+        told: Told {
+            decimals: 2,
+            digits: 2,
+            rounded: 0,
+            heights: 0,
+        },
+    },
+    Row {
+        text: br#"{"type":"Topology","objects":{"a":{"type":"Polygon","arcs":[[0]]}},"arcs":[[[1.5,0.25],[2,0.5],[-0.05,1],[1.5,0.25]]]}"#,
+        asked: Asked::Tenths,
+        transform: br#"{"scale":[1e-1,1e-1],"translate":[0,0]}"#,
+        corners: &[(15, 3), (20, 5), (0, 10)],
+        told: Told {
+            decimals: 2,
+            digits: 1,
+            rounded: 3,
+            heights: 0,
+        },
+    },
+    Row {
+        text: br#"{"type":"Topology","transform":{"scale":[0.0001,2.5e-3],"translate":[0,0]},"objects":{"a":{"type":"Polygon","arcs":[[0]]}},"arcs":[[[1.5,0],[0.5,0.1],[0,1],[-0.5,-1.1]]]}"#,
+        asked: Asked::All,
+        transform: br#"{"scale":[1e-5,25e-5],"translate":[0,0]}"#,
+        corners: &[(15, 0), (20, 1), (20, 11)],
+        told: Told {
+            decimals: 1,
+            digits: 1,
+            rounded: 0,
+            heights: 0,
+        },
+    },
+    Row {
+        text: br#"{"type":"Topology","objects":{"a":{"type":"Polygon","arcs":[[0]]}},"arcs":[[[1,0],[2,5],[0,1],[1,0]]]}"#,
+        asked: Asked::Finer,
+        transform: br#"{"scale":[1e-1,1e-1],"translate":[0,0]}"#,
+        corners: &[(10, 0), (20, 50), (0, 10)],
+        told: Told {
+            decimals: 0,
+            digits: 0,
+            rounded: 0,
+            heights: 0,
+        },
+    },
+    Row {
+        text: br#"{"type":"Topology","objects":{"a":{"type":"Polygon","arcs":[[0]]}},"arcs":[[[1,0,7],[2,5],[0,1,8,9],[1,0]]]}"#,
+        asked: Asked::Flat,
+        transform: br#""#,
+        corners: &[(1, 0), (2, 5), (0, 1)],
+        told: Told {
+            decimals: 0,
+            digits: 0,
+            rounded: 0,
+            heights: 2,
+        },
+    },
+];
+
+fn has_corners(walk: &[Pos], corners: &[(i64, i64)]) -> bool {
+    walk.len() == corners.len()
+        && walk
+            .iter()
+            .zip(corners)
+            .all(|(p, c)| p.x() == c.0 && p.y() == c.1)
+}
+
+fn is_first_walk(polygons: &[Vec<Vec<Vec<Pos>>>], corners: &[(i64, i64)]) -> bool {
+    match polygons {
+        [feature, ..] => match feature.as_slice() {
+            [polygon, ..] => match polygon.as_slice() {
+                [walk, ..] => has_corners(walk.as_slice(), corners),
+                [] => false,
+            },
+            [] => false,
+        },
+        [] => false,
+    }
+}
+
+fn is_read(alloc: Global, row: &Row) -> bool {
+    match read_on_grid(alloc, alloc, row.text, wants(row.asked)) {
+        Ok(read) => {
+            let text = match read.transform.text() {
+                Some(text) => text,
+                None => b"",
+            };
+            text == row.transform
+                && is_first_walk(read.polygons.as_slice(), row.corners)
+                && read.told == row.told
+        }
+        Err(_) => false,
+    }
+}
+
+#[test]
+fn maps_are_put_on_a_grid(rt: HostRuntime) {
+    for row in ROWS {
+        assert!(rt; is_read(rt.alloc(), row));
+    }
+}
+
+/// A fault at a place, or of points.
+#[derive(Clone, Copy, PartialEq)]
+enum Refused {
+    Position(usize),
+    Range(usize),
+    Whole(usize),
+    Points,
+    Other,
+}
+
+fn refusal(fault: OpenFault<'_>) -> Refused {
+    match fault {
+        OpenFault::BadPosition { place } => Refused::Position(place),
+        OpenFault::OutOfRange { place } => Refused::Range(place),
+        OpenFault::NotWhole { place } => Refused::Whole(place),
+        OpenFault::Unsupported { .. } => Refused::Points,
+        _ => Refused::Other,
+    }
+}
+
+/// What is refused, with what is asked for, and the fault.
+const REFUSED: &[(&[u8], Asked, Refused)] = &[
+    (
+        br#"{"type":"Topology","objects":{"a":{"type":"Polygon","arcs":[[0]]}},"arcs":[[[1,0,7],[2,5]]]}"#,
+        Asked::All,
+        Refused::Position(76),
+    ),
+    (
+        br#"{"type":"Topology","objects":{"a":{"type":"Polygon","arcs":[[0]]}},"arcs":[[[1000000000000.1,0],[2,5]]]}"#,
+        Asked::All,
+        Refused::Range(77),
+    ),
+    (
+        br#"{"type":"Topology","objects":{"a":{"type":"Polygon","arcs":[[0]]}},"arcs":[[[1,null],[2,5]]]}"#,
+        Asked::All,
+        Refused::Whole(79),
+    ),
+    (
+        br#"{"type":"Topology","objects":{"a":{"type":"Point","coordinates":[0,0]}},"arcs":[]}"#,
+        Asked::Finer,
+        Refused::Points,
+    ),
+    (
+        br#"{"type":"Topology","objects":{"a":{"type":"Polygon","arcs":[[0]]}},"arcs":[[[200000000000,0],[2,5]]]}"#,
+        Asked::Finer,
+        Refused::Range(77),
+    ),
+];
+
+fn is_refused(alloc: Global, text: &[u8], asked: Asked, expected: Refused) -> bool {
+    match read_on_grid(alloc, alloc, text, wants(asked)) {
+        Ok(_) => false,
+        Err(fault) => refusal(fault) == expected,
+    }
+}
+
+#[test]
+fn faults_are_told(rt: HostRuntime) {
+    for (text, asked, fault) in REFUSED {
+        assert!(rt; is_refused(rt.alloc(), text, *asked, *fault));
+    }
+}

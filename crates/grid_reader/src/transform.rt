@@ -1,0 +1,211 @@
+// The transform of a grid that is finer by a power of ten (TopoJSON 1.0, 2.1.2).
+ghost use Rattle.std.specs.Prelude.{◌≡◌, ◌≤◌, List, ℕ, Option, Ok, option_map, IfOk};
+ghost use Rattle.json_spans.specs.Left.{node};
+ghost use Rattle.json_spans.specs.Walk.{items, members};
+ghost use Rattle.json_spans.specs.Decoded.{decoded};
+ghost use Rattle.topo_outline.specs.Gives.{Gives};
+ghost use Rattle.exact_decimals.specs.Seen.{parts};
+ghost use Rattle.exact_decimals.specs.Shifted.{shifted_text};
+ghost use Rattle.topo_reader.specs.Positions.{two_of};
+ghost use Rattle.grid_reader.specs.Transform.{says, value_named, two_in, transform_text, divided, transform_on, number};
+ghost use Rattle.grid_reader.specs.TransformView.{view_transform};
+
+use exact_decimals::{Decimal, decimal_of, push_shifted};
+use json_spans::{Span, TextFault, bytes, items, members, text};
+use std::alloc::{AllocError, Allocator, Global};
+use topo_outline::{OpenFault, Token};
+
+/// The transform of a map on a grid.
+#[derive(Drop)]
+#[derive_where(Debug)]
+pub enum Transform<'a, A: Allocator + Copy = Global> {
+    /// As it stands in the text, and none where it is missing or `null`.
+    Kept(Option<&'a [u8]>),
+    /// One that was made, since the grid is finer than that of the text.
+    Made(Vec<u8, A>),
+}
+
+impl<'a, A: Allocator + Copy> Transform<'a, A> {
+    /// Its text, if there is one.
+    pub fn text(&self) -> Option<&[u8]>
+        ensures { option_map (λ t. t.now) result ≡ view_transform self.now }
+    {
+        match self {
+            Transform::Kept(text) => *text,
+            Transform::Made(text) => Some(text.as_slice()),
+        }
+    }
+}
+
+fn bad_transform<'a>() -> OpenFault<'a> {
+    OpenFault::BadMember {
+        name: Token { text: b"transform" },
+    }
+}
+
+/// Whether a name stands for this text (RFC 8259, 7).
+fn says<'a>(heap: Global, name: &[u8], span: Span<'a>) -> Result<bool, OpenFault<'a>>
+    ensures { Gives (λ b. b) result (Ok (says name.now (decoded (node span.entry).bytes))) }
+{
+    match text(heap, span) {
+        Ok(decoded) => Ok(decoded.as_str().as_bytes() == name),
+        Err(TextFault::BadText) => Ok(false),
+        Err(TextFault::OutOfMemory) => Err(OpenFault::OutOfMemory),
+    }
+}
+
+/// The value of the first member with this name.
+fn value_named<'a>(
+    heap: Global,
+    name: &[u8],
+    object: Span<'a>,
+) -> Result<Option<Span<'a>>, OpenFault<'a>>
+    ensures { Gives (option_map node) result
+        (Ok (value_named name.now (members (node object.entry)))) }
+{
+    for member in members(object) {
+        match says(heap, name, member.0) {
+            Ok(right) => if right {
+                return Ok(Some(member.1));
+            },
+            Err(fault) => return Err(fault),
+        }
+    }
+    Ok(None)
+}
+
+/// The two parts of a list of exactly two.
+fn two<'a>(part: Span<'a>) -> Option<(Span<'a>, Span<'a>)>
+    ensures { option_map (λ p. (node p.0, node p.1)) result ≡ two_of (items (node part.entry)) }
+{
+    let mut parts = items(part);
+    let first = parts.next()?;
+    let second = parts.next()?;
+    match parts.next() {
+        None => Some((first, second)),
+        Some(_) => None,
+    }
+}
+
+/// The two items of the member with this name.
+fn two_named<'a>(
+    heap: Global,
+    name: &[u8],
+    object: Span<'a>,
+) -> Result<(Span<'a>, Span<'a>), OpenFault<'a>>
+    ensures { Gives (λ p. (node p.0, node p.1)) result
+        (two_in (value_named name.now (members (node object.entry)))) }
+{
+    match value_named(heap, name, object) {
+        Ok(Some(value)) => match two(value) {
+            Some(pair) => Ok(pair),
+            None => Err(bad_transform()),
+        },
+        Ok(None) => Err(bad_transform()),
+        Err(fault) => Err(fault),
+    }
+}
+
+/// A number of a transform.
+fn number<'a>(text: &'a [u8]) -> Result<Decimal<'a>, OpenFault<'a>>
+    ensures { Gives parts result (number text.now) }
+{
+    match decimal_of(text) {
+        Some(number) => Ok(number),
+        None => Err(bad_transform()),
+    }
+}
+
+/// The text of a transform with this scale, divided by 10^`digits`, and this translation.
+fn made<A: Allocator + Copy>(
+    alloc: A,
+    digits: usize,
+    scale: (Decimal<'_>, Decimal<'_>),
+    translate: (&[u8], &[u8]),
+) -> Result<Vec<u8, A>, AllocError>
+    requires { digits ≤ 36 }
+    ensures { IfOk result (λ v. v.items ≡ transform_text
+        (shifted_text digits (parts scale.entry.0)) (shifted_text digits (parts scale.entry.1))
+        translate.entry.0.now translate.entry.1.now) }
+{
+    let mut text = Vec::new(alloc);
+    text.extend_from_slice(b"{\"scale\":[")?;
+    push_shifted(&mut text, scale.0, digits)?;
+    text.extend_from_slice(b",")?;
+    push_shifted(&mut text, scale.1, digits)?;
+    text.extend_from_slice(b"],\"translate\":[")?;
+    text.extend_from_slice(translate.0)?;
+    text.extend_from_slice(b",")?;
+    text.extend_from_slice(translate.1)?;
+    text.extend_from_slice(b"]}")?;
+    Ok(text)
+}
+
+/// The transform of a grid finer by 10^`digits`, where there was none.
+fn first<'a, A: Allocator + Copy>(alloc: A, digits: usize) -> Result<Vec<u8, A>, OpenFault<'a>>
+    requires { digits ≤ 36 }
+    ensures { Gives (λ v. v.items) result (divided digits None) }
+{
+    let one = match number(b"1") {
+        Ok(one) => one,
+        Err(fault) => return Err(fault),
+    };
+    Ok(made(alloc, digits, (one, one), (b"0", b"0"))?)
+}
+
+/// A transform with its scale divided by 10^`digits`.
+fn divided<'a, A: Allocator + Copy>(
+    alloc: A,
+    heap: Global,
+    digits: usize,
+    text: &'a [u8],
+) -> Result<Vec<u8, A>, OpenFault<'a>>
+    requires { digits ≤ 36 }
+    ensures { Gives (λ v. v.items) result (divided digits (Some text.now)) }
+{
+    let object = Span { text, at: 0 };
+    let scale = match two_named(heap, b"scale", object) {
+        Ok(scale) => scale,
+        Err(fault) => return Err(fault),
+    };
+    let across = match number(bytes(scale.0)) {
+        Ok(across) => across,
+        Err(fault) => return Err(fault),
+    };
+    let upward = match number(bytes(scale.1)) {
+        Ok(upward) => upward,
+        Err(fault) => return Err(fault),
+    };
+    match two_named(heap, b"translate", object) {
+        Ok(translate) => Ok(made(
+            alloc,
+            digits,
+            (across, upward),
+            (bytes(translate.0), bytes(translate.1)),
+        )?),
+        Err(fault) => Err(fault),
+    }
+}
+
+/// The transform of a grid that is finer by 10^`digits`.
+pub(crate) fn transform_on<'a, A: Allocator + Copy>(
+    alloc: A,
+    heap: Global,
+    digits: usize,
+    text: Option<&'a [u8]>,
+) -> Result<Transform<'a, A>, OpenFault<'a>>
+    requires { digits ≤ 36 }
+    ensures { Gives view_transform result (transform_on digits (option_map (λ t. t.now) text.entry)) }
+{
+    if digits == 0 {
+        return Ok(Transform::Kept(text));
+    }
+    let made = match text {
+        Some(text) => divided(alloc, heap, digits, text),
+        None => first(alloc, digits),
+    };
+    match made {
+        Ok(made) => Ok(Transform::Made(made)),
+        Err(fault) => Err(fault),
+    }
+}
