@@ -1,51 +1,54 @@
 -- What the words of the program ask for, as clap reads them.
-use Rattle.std.specs.Prelude.{◌≡◌, ◌≢◌, ℕ, ◌≤◌, true, List, Option, Some, None, codes}
+use Rattle.std.specs.Prelude.{◌≡◌, ◌≢◌, ℕ, ◌≤◌, Bool, true, false, List, Option, Some, None, codes}
 use Rattle.std.specs.Str.Parse.{IsNumeral, digits_value, without_leading_plus}
 use Rattle.clap.specs.Words.{App, Rule, new_app, new_rule, with_rule, first_of, matches_of}
+use Rattle.mend_report.specs.declared.asked.Asked.{Asked}
 use Rattle.program_ends.specs.Words.{with_version}
 use Rattle.clap.specs.declared.builder.action.ArgAction.TheVariants.{Set}
 
--- MAP stands in its place and is required; --most N, --places FILE and --out FILE are not
+-- MAP stands in its place and is required
 abbrev pub map_rule : Rule
 map_rule = record (new_rule (codes "MAP")) { required = true; action = Some Set }
 
-abbrev pub most_rule : Rule
-most_rule = record (new_rule (codes "most")) {
-  long = Some (codes "most");
+-- an argument that need not be there, and takes a value behind its name
+abbrev pub option_rule : List ℕ → Rule
+option_rule name = record (new_rule name) {
+  long = Some name;
   value_names = 1;
   action = Some Set;
 }
 
-abbrev pub places_rule : Rule
-places_rule = record (new_rule (codes "places")) {
-  long = Some (codes "places");
-  value_names = 1;
-  action = Some Set;
-}
-
-abbrev pub out_rule : Rule
-out_rule = record (new_rule (codes "out")) {
-  long = Some (codes "out");
-  value_names = 1;
-  action = Some Set;
-}
-
+-- MAP, --most N, --places FILE, --out FILE, --digits K, --refine K, --drop WHAT
 abbrev pub program : App
 program =
-    with_rule (with_rule (with_rule (with_rule (with_version (new_app (codes "border_mend"))) map_rule)
-    most_rule) places_rule) out_rule
+    with_rule (with_rule (with_rule (with_rule (with_rule (with_rule (with_rule
+    (with_version (new_app (codes "border_mend"))) map_rule) (option_rule (codes "most")))
+    (option_rule (codes "places"))) (option_rule (codes "out"))) (option_rule (codes "digits")))
+    (option_rule (codes "refine"))) (option_rule (codes "drop"))
 
 -- the value that clap finds for an argument among the words, the program's name first
 abbrev pub text_of : List ℕ → List (List ℕ) → Option (List ℕ)
 text_of id words = first_of id (matches_of program words)
 
--- how many lines of one kind are told at most: what the value of --most says, digits that perhaps
--- stand behind a plus, and 1000 where there is none
-abbrev pub IsMost : Option (List ℕ) → ℕ → Type 0
-IsMost None n = n ≡ 1000
-IsMost (Some text) n =
+-- a number: what a value says, digits that perhaps stand behind a plus, up to the greatest; and the
+-- usual one where there is no value
+abbrev pub IsCount : ℕ → ℕ → Option (List ℕ) → ℕ → Type 0
+IsCount usual greatest None n = n ≡ usual
+IsCount usual greatest (Some text) n =
     IsNumeral 10 (without_leading_plus text) × (n ≡ digits_value 10 (without_leading_plus text))
-    × (n ≤ 4000000)
+    × (n ≤ greatest)
+
+-- whether heights are left out: where the value is that word
+abbrev pub AreDropped : Option (List ℕ) → Bool → Type 0
+AreDropped None dropped = dropped ≡ false
+AreDropped (Some text) dropped = (text ≡ codes "heights") × (dropped ≡ true)
+
+-- what the values of --most, --digits, --refine and --drop ask for
+pub record IsAsked (most digits refine drop : Option (List ℕ)) (asked : Asked) : Type 0 where
+  pub most : IsCount 1000 4000000 most asked.most
+  pub digits : IsCount 24 24 digits asked.grid.digits
+  pub finer : IsCount 0 12 refine asked.grid.finer
+  pub heights : AreDropped drop asked.grid.drop_heights
 
 -- two paths that are given are not the same
 abbrev pub AreApart : Option (List ℕ) → Option (List ℕ) → Type 0

@@ -1,21 +1,60 @@
 //! The words of the program.
-ghost use Rattle.std.specs.Prelude.{◌≡◌, ◌≢◌, ◌≤◌, ℕ, [], Some, false, map, codes, string_bytes, unwrap_or};
+ghost use Rattle.std.specs.Prelude.{◌≡◌, ◌≢◌, ◌≤◌, ℕ, Bool, [], Some, false, map, codes, string_bytes, unwrap_or};
 ghost use Rattle.std.specs.Prelude.{option_map, IfOk, MatchBool, MatchOption};
-ghost use Rattle.clap.specs.Words.{app_of};
-ghost use Rattle.border_mend.specs.Asked.{program, text_of, IsMost, AreApart};
+ghost use Rattle.clap.specs.Words.{app_of, rule_of};
+ghost use Rattle.border_mend.specs.Asked.{option_rule, program, text_of, IsCount, AreDropped};
+ghost use Rattle.border_mend.specs.Asked.{IsAsked, AreApart};
 
 use crate::asked::Words;
 use crate::help::{ABOUT, LINES};
 use clap::error::ErrorKind;
 use clap::{Arg, ArgAction, Command};
+use grid_reader::Wants;
+use mend_report::Asked;
 use program_ends::VERSION;
 use std::alloc::{AllocError, Global};
 
-/// How many lines of one kind the report has at most where the words say nothing of it.
-const USUAL: usize = 1000;
+/// A number that a word asks for: the one without the word, and the greatest that it may be.
+#[derive(Clone, Copy, Debug)]
+struct Count {
+    usual: usize,
+    greatest: usize,
+}
 
-/// The most that the words may ask for.
-const MOST: usize = 4_000_000;
+/// How many lines of one kind the report has at most.
+const MOST: Count = Count {
+    usual: 1000,
+    greatest: 4_000_000,
+};
+
+/// How many decimals are kept at most.
+const DIGITS: Count = Count {
+    usual: 24,
+    greatest: 24,
+};
+
+/// By which power of ten the grid is made finer.
+const FINER: Count = Count {
+    usual: 0,
+    greatest: 12,
+};
+
+/// An argument that takes a value behind its name.
+fn option<'a>(
+    alloc: Global,
+    name: &'static str,
+    value: &'static str,
+    help: &'static str,
+) -> Arg<'a>
+    ensures rule { rule_of result ≡ option_rule name.now }
+    ensures local { result.global ≡ false }
+{
+    Arg::new(alloc, name)
+        .long(name)
+        .value_name(value)
+        .help(help)
+        .action(ArgAction::Set)
+}
 
 /// The program's words and their help.
 fn command<'a>(alloc: Global) -> Result<Command<'a>, clap::Error>
@@ -25,23 +64,42 @@ fn command<'a>(alloc: Global) -> Result<Command<'a>, clap::Error>
         .help("The TopoJSON topology to look at")
         .required(true)
         .action(ArgAction::Set);
-    let most = Arg::new(alloc, "most")
-        .long("most")
-        .value_name("N")
-        .help("How many lines of one kind are told at most, from 0 to 4000000; 1000 if absent")
-        .action(ArgAction::Set);
-    let places = Arg::new(alloc, "places")
-        .long("places")
-        .value_name("FILE")
-        .help(
-            "The file that the places of it all are written in, as a topology of points and lines",
-        )
-        .action(ArgAction::Set);
-    let out = Arg::new(alloc, "out")
-        .long("out")
-        .value_name("FILE")
-        .help("The file that the mended map is saved in; it may be MAP")
-        .action(ArgAction::Set);
+    let most = option(
+        alloc,
+        "most",
+        "N",
+        "How many lines of one kind are told at most, from 0 to 4000000; 1000 if absent",
+    );
+    let places = option(
+        alloc,
+        "places",
+        "FILE",
+        "The file that the places of it all are written in, as a topology of points and lines",
+    );
+    let out = option(
+        alloc,
+        "out",
+        "FILE",
+        "The file that the mended map is saved in; it may be MAP",
+    );
+    let digits = option(
+        alloc,
+        "digits",
+        "K",
+        "How many decimals of coordinates are kept at most, from 0 to 24; all that fit if absent",
+    );
+    let refine = option(
+        alloc,
+        "refine",
+        "K",
+        "Makes the grid 10^K times as fine, K from 0 to 12, so that borders bend less",
+    );
+    let drop = option(
+        alloc,
+        "drop",
+        "WHAT",
+        "What is left out: heights, the further numbers of positions",
+    );
     let command = Command::new(alloc, "border_mend")
         .about(ABOUT)
         .version(VERSION)
@@ -49,22 +107,41 @@ fn command<'a>(alloc: Global) -> Result<Command<'a>, clap::Error>
         .arg(map)?
         .arg(most)?
         .arg(places)?
-        .arg(out)?;
+        .arg(out)?
+        .arg(digits)?
+        .arg(refine)?
+        .arg(drop)?;
     Ok(command)
 }
 
-/// How many lines of one kind are told, as the value of `--most` says, or as is usual without one.
-fn most_of(given: Option<&str>) -> Option<usize>
+/// The number that a value says, or the usual one without a value.
+fn count_of(given: Option<&str>, count: Count) -> Option<usize>
     ensures { MatchOption result
-        ((n : ℕ) → ¬ IsMost (option_map (λ text. text.now) given.entry) n)
-        (λ n. IsMost (option_map (λ text. text.now) given.entry) n) }
+        ((n : ℕ) → ¬ IsCount count.usual count.greatest (option_map (λ text. text.now) given.entry) n)
+        (λ n. IsCount count.usual count.greatest (option_map (λ text. text.now) given.entry) n) }
 {
     let Some(text) = given else {
-        return Some(USUAL);
+        return Some(count.usual);
     };
     match text.parse::<usize>() {
-        Ok(most) if most <= MOST => Some(most),
+        Ok(number) if number <= count.greatest => Some(number),
         _ => None,
+    }
+}
+
+/// Whether heights are left out, as the value of `--drop` says.
+fn are_dropped(given: Option<&str>) -> Option<bool>
+    ensures { MatchOption result
+        ((dropped : Bool) → ¬ AreDropped (option_map (λ text. text.now) given.entry) dropped)
+        (λ dropped. AreDropped (option_map (λ text. text.now) given.entry) dropped) }
+{
+    match given {
+        None => Some(false),
+        Some(text) => if text == "heights" {
+            Some(true)
+        } else {
+            None
+        },
     }
 }
 
@@ -105,13 +182,47 @@ fn is_both(one: Option<&str>, other: Option<&str>) -> bool
     }
 }
 
+/// What the values of `--most`, `--digits`, `--refine` and `--drop` ask for, or what is wrong.
+fn asked_of(
+    most: Option<&str>,
+    digits: Option<&str>,
+    refine: Option<&str>,
+    drop: Option<&str>,
+) -> Result<Asked, &'static str>
+    ensures { IfOk result (λ asked. IsAsked (option_map (λ text. text.now) most.entry)
+        (option_map (λ text. text.now) digits.entry) (option_map (λ text. text.now) refine.entry)
+        (option_map (λ text. text.now) drop.entry) asked) }
+{
+    let Some(most) = count_of(most, MOST) else {
+        return Err("--most takes a whole number from 0 to 4000000");
+    };
+    let Some(digits) = count_of(digits, DIGITS) else {
+        return Err("--digits takes a whole number from 0 to 24");
+    };
+    let Some(finer) = count_of(refine, FINER) else {
+        return Err("--refine takes a whole number from 0 to 12");
+    };
+    let Some(drop_heights) = are_dropped(drop) else {
+        return Err("--drop takes heights");
+    };
+    let grid = Wants {
+        digits,
+        finer,
+        drop_heights,
+    };
+    Ok(Asked { grid, most })
+}
+
 /// Reads the words, the program's name first. A request for help, or for the version, is an error
 /// here too, and so are words that name one path for the places and for MAP or FILE.
 pub(crate) fn words(alloc: Global, given: &[String]) -> Result<Words, clap::Error>
     ensures map { IfOk result (λ words. string_bytes words.map
         ≡ unwrap_or (text_of (codes "MAP") (map string_bytes given.now)) []) }
-    ensures most { IfOk result (λ words.
-        IsMost (text_of (codes "most") (map string_bytes given.now)) words.most) }
+    ensures asked { IfOk result (λ words.
+        IsAsked (text_of (codes "most") (map string_bytes given.now))
+        (text_of (codes "digits") (map string_bytes given.now))
+        (text_of (codes "refine") (map string_bytes given.now))
+        (text_of (codes "drop") (map string_bytes given.now)) words.asked) }
     ensures places { IfOk result (λ words. option_map string_bytes words.places
         ≡ text_of (codes "places") (map string_bytes given.now)) }
     ensures apart { IfOk result (λ words.
@@ -123,9 +234,14 @@ pub(crate) fn words(alloc: Global, given: &[String]) -> Result<Words, clap::Erro
 {
     let mut command = command(alloc)?;
     let matches = command.try_get_matches_from_mut(given)?;
-    let Some(most) = most_of(matches.get_str("most")) else {
-        let message = "--most takes a whole number from 0 to 4000000";
-        return Err(command.error(ErrorKind::ValueValidation, message)?);
+    let asked = match asked_of(
+        matches.get_str("most"),
+        matches.get_str("digits"),
+        matches.get_str("refine"),
+        matches.get_str("drop"),
+    ) {
+        Ok(asked) => asked,
+        Err(message) => return Err(command.error(ErrorKind::ValueValidation, message)?),
     };
     // A parse gives MAP, since it is required.
     let map = matches.get_str("MAP").unwrap_or("");
@@ -141,7 +257,7 @@ pub(crate) fn words(alloc: Global, given: &[String]) -> Result<Words, clap::Erro
     }
     Ok(Words {
         map: String::from_str(alloc, map)?,
-        most,
+        asked,
         places: copied(alloc, places)?,
         out: copied(alloc, out)?,
     })

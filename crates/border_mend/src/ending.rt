@@ -3,17 +3,16 @@ ghost use Rattle.std.specs.Prelude.{◌≡◌, None, Some, option_map, OnOk, OnE
 ghost use Rattle.mend_report.specs.Status.{status_of, mended_status, unmended_status};
 ghost use Rattle.border_mend.specs.Endings.{Tells, TellsUnmade, TellsUnmended};
 
-use mend_report::{LookFault, Remade, RemakeFault, RepairFault, is_clear};
+use mend_report::{LookFault, Remade, RemakeFault, RepairFault, Report, is_open};
 use program_ends::{Diagnostic, Ending};
 use std::alloc::Allocator;
-use walk_faults::Findings;
 
 /// The status that the program ends with after a report.
-fn status<A: Allocator + Copy>(outcome: &Result<Findings<A>, LookFault<'_>>) -> u8
+fn status<A: Allocator + Copy>(outcome: &Result<Report<A>, LookFault<'_>>) -> u8
     ensures { result ≡ status_of outcome.now }
 {
     match outcome {
-        Ok(findings) if is_clear(findings) => 0,
+        Ok(report) if is_open(report) => 0,
         Ok(_) => 1,
         Err(LookFault::Open(_) | LookFault::TooMany) => 2,
         Err(LookFault::OutOfMemory) => 3,
@@ -33,7 +32,7 @@ fn line_of<'a>(fault: &'a LookFault<'a>) -> Diagnostic<'a>
 
 /// The ending of a report: standard output gets it where it is whole, and nothing after a fault.
 pub(crate) fn ending_of_report<'a, A: Allocator + Copy>(
-    outcome: &'a Result<Findings<A>, LookFault<'a>>,
+    outcome: &'a Result<Report<A>, LookFault<'a>>,
     report: &'a [u8],
 ) -> Ending<'a>
     ensures status { result.status ≡ status_of outcome.now }

@@ -8,7 +8,11 @@ pub(crate) const ABOUT: &str =
 pub(crate) const LINES: &str = "\
 Lines of the report, in this order (F P R is ring R of polygon P of feature F, numbered from 0;
 X Y is a position on the grid):
-  opens                    The map opens
+  opens                    The map opens as it is
+  decimals D digits K rounded N
+                           Coordinates have up to D decimals, the grid has K of them (--digits), and
+                           N positions were rounded
+  heights N                N positions had further numbers, which were left out (--drop heights)
   short F P R              The ring has fewer than three positions
   repeats F P R X Y        The ring passes more than once through the position
   on X Y / X Y X Y         The vertex lies on the segment, and is none of its ends
@@ -25,4 +29,5 @@ Statuses: 0 the map opens, or with --out is saved; 1 it does not open, and the r
 can't be read as a map, or not be mended; 3 a file or memory fails; 64 the words are wrong.
 
 Example: border_mend map.json --most 20 --places places.json
-         border_mend map.json --out mended.json";
+         border_mend map.json --out mended.json
+         border_mend map.json --digits 5 --out mended.json";

@@ -48,7 +48,7 @@ fn tell_file<W: Write, E: Write>(
     let alloc = rt.alloc();
     let map = map_bytes(rt, words.map.as_str())?;
     let mut texts = Texts::new(alloc, words.places.is_some());
-    let outcome = report_map(alloc, alloc, map.as_slice(), words.most, &mut texts);
+    let outcome = report_map(alloc, alloc, map.as_slice(), words.asked, &mut texts);
     let ending = ending_of_report(&outcome, texts.report.as_slice());
     let ending = print_and_place(rt, words, &texts, ending, output);
     Ok(end(ending, errors))
@@ -65,7 +65,7 @@ fn mend_file<W: Write, E: Write>(
     let alloc = rt.alloc();
     let map = map_bytes(rt, words.map.as_str())?;
     let mut texts = Texts::new(alloc, words.places.is_some());
-    let outcome = mend_map(alloc, alloc, map.as_slice(), words.most, &mut texts);
+    let outcome = mend_map(alloc, alloc, map.as_slice(), words.asked, &mut texts);
     let ending = ending_of_mending(&outcome, texts.report.as_slice());
     let ending = print_and_place(rt, words, &texts, ending, output);
     let ending = match &outcome {

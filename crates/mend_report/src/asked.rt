@@ -1,4 +1,6 @@
 //! What is asked about a map, and what is told of it.
+ghost use Rattle.std.specs.Prelude.{◌≡◌};
+
 use grid_reader::{Told, Wants};
 use std::alloc::{Allocator, Global};
 use walk_faults::Findings;
@@ -10,6 +12,20 @@ pub struct Asked {
     pub grid: Wants,
     /// How many lines of one kind the report has at most.
     pub most: usize,
+}
+
+impl Asked {
+    /// So many lines of one kind at most, and the grid that has all decimals that fit.
+    pub fn with_most(most: usize) -> Asked
+        ensures { result.most ≡ most }
+    {
+        let grid = Wants {
+            digits: 24,
+            finer: 0,
+            drop_heights: false,
+        };
+        Asked { grid, most }
+    }
 }
 
 /// What is told of a map.

@@ -2,7 +2,7 @@
 ghost use Rattle.std.specs.Prelude.{IfErr, IfOk};
 ghost use Rattle.grid_reader.specs.Opening.{ReadsOnGrid};
 ghost use Rattle.grid_reader.specs.Told.{IsTold};
-ghost use Rattle.grid_reader.specs.Seen.{view_on_grid};
+ghost use Rattle.grid_reader.specs.OnGridView.{view_on_grid};
 ghost use Rattle.topo_reader.specs.Document.{document_of, IsOfWalks};
 ghost use Rattle.topo_reader.specs.DocumentView.{view_raw};
 ghost use Rattle.walk_faults.specs.Findings.{Found};

@@ -1,5 +1,5 @@
 // A small map, mended with its report and its places.
-use mend_report::{LookFault, Remade, RemakeFault, RepairFault, Texts, mend_map};
+use mend_report::{Asked, LookFault, Remade, RemakeFault, RepairFault, Texts, mend_map};
 use refusing_allocator::Refusing;
 use std::alloc::{Allocator, Global};
 use std::process::Abort;
@@ -30,7 +30,8 @@ fn is_refused_in_turn<R: Abort>(rt: &R, alloc: Global) -> Result<(), Fail> {
     for nth in 1..MANY {
         let refusing = Refusing::new(alloc, nth);
         let mut texts = Texts::new(&refusing, true);
-        let outcome = mend_map(&refusing, alloc, BOW_TIE.as_bytes(), 1000, &mut texts);
+        let asked = Asked::with_most(1000);
+        let outcome = mend_map(&refusing, alloc, BOW_TIE.as_bytes(), asked, &mut texts);
         if !refusing.was_refused() {
             assert!(rt; outcome.is_ok());
             assert_eq!(rt; texts.report.as_slice(), REPORT.as_bytes());

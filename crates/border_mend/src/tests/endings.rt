@@ -1,6 +1,7 @@
 //! With which status the program ends, and what it prints.
 use crate::asked::Words;
 use crate::telling::tell;
+use mend_report::Asked;
 use std::io::{Error, ErrorKind, Result as IoResult, Write};
 use std::test::Fail;
 use std::{env, fs, process};
@@ -52,7 +53,7 @@ pub(crate) fn words_for(rt: &HostRuntime, name: &str) -> Result<Words, Fail> {
     let parent = parent.as_str();
     Ok(Words {
         map: format!(in rt.alloc(); "{parent}/border_mend_{name}_{number}.json")?,
-        most: 1000,
+        asked: Asked::with_most(1000),
         places: None,
         out: None,
     })

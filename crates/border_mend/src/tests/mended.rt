@@ -2,6 +2,7 @@
 use super::endings::{BOW_TIE, Broken, SQUARES, words_for};
 use crate::asked::Words;
 use crate::telling::tell;
+use mend_report::Asked;
 use std::fs;
 use std::io::ErrorKind;
 use std::test::Fail;
@@ -93,7 +94,7 @@ fn the_paths_are_placed(rt: HostRuntime) -> Result<(), Fail> {
     let map = words.map.as_str();
     let places = format!(in rt.alloc(); "{map}.places")?;
     fs::write(&rt, words.map.as_str(), BOW_TIE)?;
-    words.most = 0;
+    words.asked = Asked::with_most(0);
     let mut output = Vec::new(rt.alloc());
     let mut errors = Vec::new(rt.alloc());
     words.places = Some(String::from_str(rt.alloc(), places.as_str())?);

@@ -2,7 +2,7 @@
 use super::endings::{BOW_TIE, Broken, words_for};
 use crate::asked::Words;
 use crate::telling::tell;
-use mend_report::{Texts, report_map};
+use mend_report::{Asked, Texts, report_map};
 use std::fs;
 use std::io::ErrorKind;
 use std::test::Fail;
@@ -40,7 +40,8 @@ fn path_of(words: &Words) -> &str {
 #[test]
 fn the_transform_is_kept(rt: HostRuntime) -> Result<(), Fail> {
     let mut texts = Texts::new(rt.alloc(), true);
-    let outcome = report_map(rt.alloc(), rt.alloc(), MAP.as_bytes(), 1000, &mut texts);
+    let asked = Asked::with_most(1000);
+    let outcome = report_map(rt.alloc(), rt.alloc(), MAP.as_bytes(), asked, &mut texts);
     assert!(rt; outcome.is_ok());
     let places = texts.places.ok_or("no places")?;
     assert_eq!(rt; places.as_slice(), PLACES.as_bytes());
@@ -51,7 +52,7 @@ fn the_transform_is_kept(rt: HostRuntime) -> Result<(), Fail> {
 #[test]
 fn places_are_written(rt: HostRuntime) -> Result<(), Fail> {
     let mut words = asked_for(&rt, "places")?;
-    words.most = 0;
+    words.asked = Asked::with_most(0);
     fs::write(&rt, words.map.as_str(), BOW_TIE)?;
     let mut output = Vec::new(rt.alloc());
     let mut errors = Vec::new(rt.alloc());

@@ -27,7 +27,7 @@ fn a_map_and_the_most_are_taken(rt: HostRuntime) -> Result<(), Fail> {
         let given = given(rt.alloc(), line)?;
         let words = words(rt.alloc(), given.as_slice())?;
         assert_eq!(rt; words.map.as_str(), "map.json", "{line:?}");
-        assert_eq!(rt; words.most, most, "{line:?}");
+        assert_eq!(rt; words.asked.most, most, "{line:?}");
         assert!(rt; words.places.is_none(), "{line:?}");
     }
     Ok(())
@@ -68,6 +68,27 @@ fn a_file_of_the_mended_map_is_taken(rt: HostRuntime) -> Result<(), Fail> {
     Ok(())
 }
 
+/// Each line with the decimals that are kept at most, by how much the grid is finer, and whether heights
+/// are left out.
+const GRIDS: [(&str, (usize, usize, bool)); 5] = [
+    ("map.json", (24, 0, false)),
+    ("map.json --digits 5", (5, 0, false)),
+    ("--refine 3 map.json --digits=0", (0, 3, false)),
+    ("map.json --drop heights", (24, 0, true)),
+    ("map.json --refine 12 --drop=heights --digits 24", (24, 12, true)),
+];
+
+#[test]
+fn a_grid_is_taken(rt: HostRuntime) -> Result<(), Fail> {
+    for (line, want) in GRIDS {
+        let given = given(rt.alloc(), line)?;
+        let grid = words(rt.alloc(), given.as_slice())?.asked.grid;
+        let found = (grid.digits, grid.finer, grid.drop_heights);
+        assert!(rt; found == want, "{line:?}");
+    }
+    Ok(())
+}
+
 #[test]
 fn all_other_words_stop_the_program(rt: HostRuntime) -> Result<(), Fail> {
     let table = [
@@ -88,6 +109,13 @@ fn all_other_words_stop_the_program(rt: HostRuntime) -> Result<(), Fail> {
         ("map.json --out", 64),
         ("map.json --out a.json --out b.json", 64),
         ("map.json --out a.json --places a.json", 64),
+        ("map.json --digits 25", 64),
+        ("map.json --digits -1", 64),
+        ("map.json --refine 13", 64),
+        ("map.json --refine", 64),
+        ("map.json --drop", 64),
+        ("map.json --drop widths", 64),
+        ("map.json --drop heights --drop heights", 64),
         ("--help", 0),
         ("--version", 0),
         ("map.json -h", 0),

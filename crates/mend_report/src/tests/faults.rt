@@ -1,5 +1,6 @@
 //! A text that can't be read is told by the fault that reading tells.
-use crate::looking::{LookFault, look};
+use crate::asked::Asked;
+use crate::looking::{LookFault, map_of};
 use std::alloc::Global;
 use std::process::Abort;
 use std::test::Fail;
@@ -11,7 +12,7 @@ const MAP: &str =
 
 /// Looking tells of the text what reading tells.
 fn is_same<R: Abort>(rt: &R, alloc: Global, text: &[u8]) {
-    let looked = look(alloc, alloc, text).err();
+    let looked = map_of(alloc, alloc, text, Asked::with_most(0).grid).err();
     let read = read_walks(alloc, alloc, text).err();
     match (looked, read) {
         (Some(LookFault::Open(told)), Some(fault)) => assert_eq!(rt; told, fault, "{text:?}"),
@@ -55,7 +56,7 @@ const FAULTS: [(&str, &str); 10] = [
         "unsupported LineString",
     ),
     (
-        r#"{"type":"Topology","objects":{},"arcs":[[[0,0],[1.5,0]]]}"#,
+        r#"{"type":"Topology","objects":{},"arcs":[[[0,0],[null,0]]]}"#,
         "not whole at 48",
     ),
     (
@@ -79,7 +80,8 @@ const FAULTS: [(&str, &str); 10] = [
 #[test]
 fn each_fault_of_reading_is_told(rt: HostRuntime) -> Result<(), Fail> {
     for (text, want) in FAULTS {
-        let fault = look(rt.alloc(), rt.alloc(), text.as_bytes()).err();
+        let grid = Asked::with_most(0).grid;
+        let fault = map_of(rt.alloc(), rt.alloc(), text.as_bytes(), grid).err();
         match fault {
             Some(LookFault::Open(fault)) => {
                 let told = format!(in rt.alloc(); "{fault}")?;

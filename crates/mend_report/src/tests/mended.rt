@@ -1,5 +1,6 @@
 //! Small maps, and what is reported of them as they are mended.
 use super::rows::ROWS;
+use crate::asked::Asked;
 use crate::report::{Texts, mend_map};
 use std::alloc::Global;
 use std::process::Abort;
@@ -24,7 +25,7 @@ const REPORTS: [&str; 12] = [
 /// The map is mended with this report.
 fn is_told<R: Abort>(rt: &R, alloc: Global, map: &str, most: usize, want: &str) {
     let mut texts = Texts::new(alloc, false);
-    let outcome = mend_map(alloc, alloc, map.as_bytes(), most, &mut texts);
+    let outcome = mend_map(alloc, alloc, map.as_bytes(), Asked::with_most(most), &mut texts);
     assert!(rt; outcome.is_ok(), "{map}");
     assert_eq!(rt; texts.report.as_slice(), want.as_bytes(), "{map}");
 }
@@ -65,7 +66,8 @@ const NOTHING: &str =
 fn the_paths_are_placed(rt: HostRuntime) -> Result<(), Fail> {
     for (map, want) in [(MAP, PLACES), (OPENS, NOTHING)] {
         let mut texts = Texts::new(rt.alloc(), true);
-        let outcome = mend_map(rt.alloc(), rt.alloc(), map.as_bytes(), 1000, &mut texts);
+        let asked = Asked::with_most(1000);
+        let outcome = mend_map(rt.alloc(), rt.alloc(), map.as_bytes(), asked, &mut texts);
         assert!(rt; outcome.is_ok());
         let places = texts.places.ok_or("no places")?;
         assert_eq!(rt; places.as_slice(), want.as_bytes());

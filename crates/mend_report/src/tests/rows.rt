@@ -1,4 +1,5 @@
 //! Small maps, and what is reported of them.
+use crate::asked::Asked;
 use crate::report::{Texts, report_map};
 use std::alloc::Global;
 use std::process::Abort;
@@ -78,7 +79,7 @@ fn is_told<R: Abort>(
 ) -> Result<(), Fail> {
     for with_places in [false, true] {
         let mut texts = Texts::new(alloc, with_places);
-        let outcome = report_map(alloc, alloc, map.as_bytes(), most, &mut texts);
+        let outcome = report_map(alloc, alloc, map.as_bytes(), Asked::with_most(most), &mut texts);
         assert!(rt; outcome.is_ok(), "{map}");
         assert_eq!(rt; texts.report.as_slice(), want.as_bytes(), "{map}");
         assert_eq!(rt; texts.places.is_some(), with_places, "{map}");
