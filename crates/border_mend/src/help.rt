@@ -4,7 +4,7 @@
 pub(crate) const ABOUT: &str =
     "Tells all that keeps a TopoJSON map from opening in border_edit, a fact a line, and mends it";
 
-/// The lines of the report, the statuses, and an example. They are those of docs/FORMATS.md.
+/// The lines of the report, the statuses, and an example. They are those of docs/MENDING.md.
 pub(crate) const LINES: &str = "\
 Lines of the report, in this order (F P R is ring R of polygon P of feature F, numbered from 0;
 X Y is a position on the grid):
