@@ -1,17 +1,31 @@
 -- What clap found among the words is what the words ask for.
-use Rattle.std.proofs.Common.{◌≡◌, ℕ, ap, ◌∙◌, refl, subst, sym, Bool, false, List, Option, Some, option_map}
+use Rattle.std.proofs.Common.{◌≡◌, ℕ, ap, ◌∙◌, refl, subst, sym, Bool, false, List, Option, Some, option_map, codes}
 use Rattle.std.specs.Borrow.{Bor}
 use Rattle.std.specs.Prelude.{◌≢◌, MatchBool}
 use Rattle.clap.specs.Words.{App, HasMatchesOf, first_value, found_of}
 use Rattle.clap.specs.declared.parser.matches.ArgMatches.{ArgMatches}
 use Rattle.program_ends.proofs.WordLemmas.{read_text}
-use Rattle.border_mend.specs.Asked.{program, text_of, IsMost, AreApart}
+use Rattle.border_mend.specs.Asked.{program, text_of, IsCount, AreDropped, IsAsked, AreApart}
+use Rattle.mend_report.specs.declared.asked.Asked.{Asked}
 
-pub most_is : (a : App) (m : ArgMatches) (words : List (List ℕ)) (id key : List ℕ) (given : Option (Bor (List ℕ))) (n : ℕ)
-    → a ≡ program → HasMatchesOf a words m → key ≡ id → option_map (λ s. s.now) given ≡ first_value (found_of m) key
-    → IsMost (option_map (λ s. s.now) given) n → IsMost (text_of id words) n
-most_is a m words id key given n is has same read most =
-    subst (λ (o : Option (List ℕ)). IsMost o n) (read_text program refl a m words id key given is has same read) most
+-- what four values ask for is what the words ask for
+module _ (a : App) (m : ArgMatches) (words : List (List ℕ)) (is : a ≡ program) (has : HasMatchesOf a words m) where
+  value_of : (id key : List ℕ) (given : Option (Bor (List ℕ))) → key ≡ id → option_map (λ s. s.now) given ≡ first_value (found_of m) key
+      → option_map (λ s. s.now) given ≡ text_of id words
+  value_of id key given same read = read_text program refl a m words id key given is has same read
+
+  pub asked_is : (k l n o : List ℕ) (most digits refine drop : Option (Bor (List ℕ))) (asked : Asked)
+      → k ≡ codes "most" → l ≡ codes "digits" → n ≡ codes "refine" → o ≡ codes "drop"
+      → option_map (λ s. s.now) most ≡ first_value (found_of m) k → option_map (λ s. s.now) digits ≡ first_value (found_of m) l
+      → option_map (λ s. s.now) refine ≡ first_value (found_of m) n → option_map (λ s. s.now) drop ≡ first_value (found_of m) o
+      → IsAsked (option_map (λ s. s.now) most) (option_map (λ s. s.now) digits) (option_map (λ s. s.now) refine) (option_map (λ s. s.now) drop) asked
+      → IsAsked (text_of (codes "most") words) (text_of (codes "digits") words) (text_of (codes "refine") words) (text_of (codes "drop") words) asked
+  asked_is k l n o most digits refine drop asked e f g h r s t u is_asked = record {
+    most = subst (λ (v : Option (List ℕ)). IsCount 1000 4000000 v asked.most) (value_of (codes "most") k most e r) is_asked.most;
+    digits = subst (λ (v : Option (List ℕ)). IsCount 24 24 v asked.grid.digits) (value_of (codes "digits") l digits f s) is_asked.digits;
+    finer = subst (λ (v : Option (List ℕ)). IsCount 0 12 v asked.grid.finer) (value_of (codes "refine") n refine g t) is_asked.finer;
+    heights = subst (λ (v : Option (List ℕ)). AreDropped v asked.grid.drop_heights) (value_of (codes "drop") o drop h u) is_asked.heights;
+  }
 
 pub places_is : (a : App) (m : ArgMatches) (words : List (List ℕ)) (id key : List ℕ) (given : Option (Bor (List ℕ))) (copy : Option (List ℕ))
     → a ≡ program → HasMatchesOf a words m → key ≡ id → option_map (λ s. s.now) given ≡ first_value (found_of m) key

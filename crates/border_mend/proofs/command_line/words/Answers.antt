@@ -1,18 +1,20 @@
 use Rattle.std.proofs.Common.{rules, codes, refl}
 use Rattle.program_ends.proofs.WordLemmas.{word_is}
 use Rattle.border_mend.specs.Asked.{program}
-use Rattle.border_mend.proofs.WordLemmas.{most_is, places_is, copies_apart, files_apart}
+use Rattle.border_mend.proofs.WordLemmas.{asked_is, places_is, copies_apart, files_apart}
 use Rattle.border_mend.proofs.command_line.words.Goals as goal
 
 pub returns-clause-map : goal.returns-clause-map
 returns-clause-map c =
-    word_is program refl _ c.in_ok-matches.matches _ (codes "MAP") _ c.get_str-2.result _ c.unwrap_or-map.result _
-    c.in_ok-command.ensures c.in_ok-matches.ensures.ok.2 (search rules) c.get_str-2.ensures (search rules) c.unwrap_or-map.ensures c.in_ok-from_str.ensures.ok
+    word_is program refl _ c.in_ok-matches.matches _ (codes "MAP") _ c.get_str-5.result _ c.unwrap_or-map.result _
+    c.in_ok-command.ensures c.in_ok-matches.ensures.ok.2 (search rules) c.get_str-5.ensures (search rules) c.unwrap_or-map.ensures c.in_ok-from_str.ensures.ok
 
-pub returns-clause-most : goal.returns-clause-most
-returns-clause-most c =
-    most_is _ c.in_ok-matches.matches _ (codes "most") _ c.get_str.result _
-    c.in_ok-command.ensures c.in_ok-matches.ensures.ok.2 (search rules) c.get_str.ensures c.in-Some.ensures
+pub returns-clause-asked : goal.returns-clause-asked
+returns-clause-asked c =
+    asked_is _ c.in_ok-matches.matches _ c.in_ok-command.ensures c.in_ok-matches.ensures.ok.2
+    _ _ _ _ c.get_str.result c.get_str-2.result c.get_str-3.result c.get_str-4.result _
+    (search rules) (search rules) (search rules) (search rules)
+    c.get_str.ensures c.get_str-2.ensures c.get_str-3.ensures c.get_str-4.ensures c.in-Ok.ensures
 
 pub returns-clause-places : goal.returns-clause-places
 returns-clause-places c =
