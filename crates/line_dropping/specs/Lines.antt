@@ -1,0 +1,51 @@
+-- The lines of a topology (TopoJSON 1.0, 2.2.3 and 2.2.4): where they stand in its text. Defined for
+-- any bytes.
+use Rattle.std.specs.Prelude.{ℕ, zero, suc, ◌||◌, Bool, false, if◌then◌else◌, List, [], ◌∷◌, codes, Option, Some, None}
+use Rattle.std.specs.List.{flat_map}
+use Rattle.std.specs.Str.{bytes_eq}
+use Rattle.json_spans.specs.Nodes.{Node}
+use Rattle.json_spans.specs.Walk.{items, members}
+use Rattle.json_spans.specs.Decoded.{decoded}
+
+-- a string stands for this text (RFC 8259, 7)
+abbrev pub is_text : List ℕ → Option (List ℕ) → Bool
+is_text name None = false
+is_text name (Some t) = bytes_eq t name
+
+abbrev pub says : List ℕ → Node → Bool
+says name n = is_text name (decoded n.bytes)
+
+-- the value of the first member of this name, as a list of at most one
+unfoldable pub value_named : List ℕ → List (Node × Node) → List Node
+value_named name [] = []
+value_named name (m ∷ ms) = if says name m.0 then (m.1 ∷ []) else value_named name ms
+
+abbrev pub value_in : List ℕ → Node → List Node
+value_in name n = value_named name (members n)
+
+-- whether the member `type` of an object is this text
+abbrev pub says_type : List ℕ → List Node → Bool
+says_type name [] = false
+says_type name (n ∷ ns) = says name n
+
+abbrev pub has_type : List ℕ → Node → Bool
+has_type name n = says_type name (value_in (codes "type") n)
+
+-- a line, or several lines
+abbrev pub is_line : Node → Bool
+is_line n = has_type (codes "LineString") n || has_type (codes "MultiLineString") n
+
+-- the lines of a geometry, collections walked depth first; the depth is more than any text of 100
+-- levels has
+unfoldable pub lines_in : ℕ → Node → List Node
+lines_in zero n = []
+lines_in (suc d) n =
+    if is_line n then (n ∷ [])
+    else (if has_type (codes "GeometryCollection") n
+    then flat_map (lines_in d) (flat_map items (value_in (codes "geometries") n))
+    else [])
+
+-- the lines of all layers of a topology
+abbrev pub all_lines : Node → List Node
+all_lines root =
+    flat_map (λ m. lines_in 100 m.1) (flat_map members (value_in (codes "objects") root))
