@@ -1,0 +1,202 @@
+#!/usr/bin/env python3
+"""Checks what the built border_mend makes of coordinates with decimals, beside the same map on whole numbers.
+
+Each map is a real or a drawn one whose positions were divided by powers of ten and moved by small fractions, written as
+decimals in many ways, with and without third numbers. Its grid is worked out here by exact fractions, from docs/MENDING.md
+alone, and the map is written once more with whole numbers on that grid. Both are mended: the saved bytes must be the same,
+and so the reports but for what they tell of the grid. A line at the end counts maps and faults.
+"""
+import argparse
+import decimal
+import fractions
+import json
+import math
+import pathlib
+import random
+import subprocess
+import sys
+import tempfile
+
+import loose_maps
+from topology import differences, entries, read, sums
+
+TOP = pathlib.Path(__file__).resolve().parent.parent
+REACH = 10**12
+PLACES = 24
+
+decimal.getcontext().prec = 100
+
+
+# ---- a map with decimals
+
+class Blurred:
+    """A map of which each position is another one, with decimals."""
+
+    def __init__(self, draw, text):
+        self.draw, self.text, self.places = draw, text, draw.choice([0, 1, 1, 2, 3, 6, 9, 17, 25])
+        self.members = {name: [token, value] for name, token, value in entries(text.strip())}
+        old = self.members.get("transform", ["", "null"])[1]
+        self.transform = None if old == "null" else old
+        self.made, self.heights = {}, draw.random() < 0.3
+        self.further = draw.random() < 0.5 and self.heights
+        step = draw.choice([1, 1, 10, 1000])
+        arcs = [[self.position(p, step) for p in arc] for arc in read(text).arcs]
+        self.pairs = [differences(arc) if self.transform else arc for arc in arcs]
+
+    def position(self, p, step):
+        if p not in self.made:
+            self.made[p] = tuple(self.coordinate(c, step) for c in p)
+        return self.made[p]
+
+    def coordinate(self, c, step):
+        part = self.draw.choice([0, 0, 5, self.draw.randrange(10**self.places)]) if self.places else 0
+        return fractions.Fraction(c, step) + fractions.Fraction(part, 10**self.places * 10)
+
+    def written(self):
+        """Its text, and how many positions have further numbers."""
+        count, lines = 0, []
+        for arc in self.pairs:
+            pairs = []
+            for x, y in arc:
+                more = self.further and self.draw.random() < 0.5
+                count += more
+                pairs.append(f"[{self.number(x)},{self.number(y)}{',7.5' * more}]")
+            lines.append(f"[{','.join(pairs)}]")
+        return with_members(self.members, {"arcs": f"[{','.join(lines)}]"}), count
+
+    def number(self, value):
+        """The number, in one of the ways that JSON has."""
+        whole = decimal.Decimal(value.numerator) / decimal.Decimal(value.denominator)
+        plain = format(whole, "f")
+        kind = self.draw.random()
+        if kind < 0.2:
+            power = self.draw.randint(-3, 3)
+            return format(whole.scaleb(-power), "f") + f"e{power}"
+        return plain + (("." if "." not in plain else "") + "00" if kind < 0.4 else "")
+
+
+def with_members(members, changed):
+    """The text of an object with these values in the place of others; one that is not there stands before all."""
+    more = [f'"{name}":{value}' for name, value in changed.items() if name not in members]
+    kept = [f"{token}:{changed.get(name, value)}" for name, (token, value) in members.items()]
+    return "{" + ",".join(more + kept) + "}"
+
+
+# ---- its grid
+
+def decimals_of(value):
+    """How many decimals a number has, of which those behind the 24th are cut, rounding down."""
+    units = math.floor(value * 10**PLACES)
+    return next(d for d in range(PLACES + 1) if units % 10 ** (PLACES - d) == 0)
+
+
+def divided(number, power):
+    """A number of a JSON text divided by a power of ten, as all its digits and an exponent."""
+    sign, digits, exponent = decimal.Decimal(number).as_tuple()
+    text = "".join(map(str, digits)).lstrip("0") or "0"
+    return f"{'-' * sign}{text}e{exponent - power}"
+
+
+class Grid:
+    """The grid of a map with decimals, where so many are kept at most, and it is made finer by a power of ten."""
+
+    def __init__(self, pairs, are_differences, digits, finer):
+        cut = [[tuple(fractions.Fraction(math.floor(c * 10**PLACES), 10**PLACES) for c in p) for p in arc] for arc in pairs]
+        cut = [sums(arc) for arc in cut] if are_differences else cut
+        all_numbers = [c for arc in cut for p in arc for c in p]
+        self.decimals = max(map(decimals_of, all_numbers), default=0)
+        far = max(map(abs, all_numbers), default=0)
+        self.fits = far * 10**finer <= REACH
+        fitting = [k for k in range(min(digits, self.decimals) + 1) if far * 10 ** (k + finer) <= REACH]
+        self.digits, self.finer = max(fitting, default=0), finer
+        self.arcs = [[tuple(math.floor(c * 10**self.digits + fractions.Fraction(1, 2)) * 10**finer for c in p) for p in arc] for arc in cut]
+        self.rounded = sum(any((c * 10**self.digits).denominator > 1 for c in p) for arc in cut for p in arc)
+
+    def written(self, blurred):
+        """The text of the map with whole numbers on this grid."""
+        power, changed = self.digits + self.finer, {}
+        if power:
+            old = json.loads(blurred.transform, parse_float=str, parse_int=str) if blurred.transform else None
+            scale = [divided(n, power) for n in old["scale"]] if old else [f"1e-{power}"] * 2
+            moved = old["translate"] if old else ["0", "0"]
+            changed["transform"] = f'{{"scale":[{",".join(scale)}],"translate":[{",".join(moved)}]}}'
+        has_transform = bool(power or blurred.transform)
+        arcs = [differences(arc) if has_transform else arc for arc in self.arcs]
+        changed["arcs"] = json.dumps(arcs, separators=(",", ":"))
+        return with_members(blurred.members, changed)
+
+
+# ---- runs
+
+class Mender:
+    def __init__(self, program, folder):
+        self.program, self.folder = program, pathlib.Path(folder)
+
+    def ran(self, text, words):
+        """The status, the report, the line on standard error, and the saved bytes."""
+        path, out = self.folder / "map.json", self.folder / "saved.json"
+        path.write_text(text, encoding="utf-8")
+        out.unlink(missing_ok=True)
+        done = subprocess.run([self.program, path, "--out", out, *words], capture_output=True, text=True, timeout=600)
+        return done.returncode, done.stdout, done.stderr, out.read_bytes() if out.exists() else None
+
+
+def wanted(grid, heights, report):
+    """The report of the map on whole numbers, with what is told of the grid."""
+    told = [f"decimals {grid.decimals} digits {grid.digits} rounded {grid.rounded}\n"] * bool(grid.decimals)
+    told += [f"heights {heights}\n"] * bool(heights)
+    lines = report.splitlines(keepends=True)
+    rest = [line for line in lines if line != "opens\n" or not told]
+    return "".join(rest[:1] + told + rest[1:] if rest[:1] == ["opens\n"] else told + rest)
+
+
+def fault_of(mender, blurred, digits, finer):
+    """What is wrong with one map, and what was tried of it."""
+    text, heights = blurred.written()
+    grid = Grid(blurred.pairs, bool(blurred.transform), digits, finer)
+    words = ["--digits", str(digits), "--refine", str(finer), *(["--drop", "heights"] if blurred.heights else [])]
+    status, report, said, saved = mender.ran(text, words)
+    if not grid.fits:
+        return (None if said.startswith("open: out of range at ") else f"{said!r} of a map out of range"), "out of range"
+    if grid.digits + finer and any(f'"{name}"' in text for name in ("Point", "MultiPoint")):
+        return (None if said == "open: unsupported Point\n" else f"{said!r} of a map with points"), "points"
+    plain = mender.ran(grid.written(blurred), [])
+    if plain[0] != status or plain[3] != saved or plain[2] != said:
+        return f"status {status} and {plain[0]}, {said!r} and {plain[2]!r}, the same bytes: {saved == plain[3]}", "saved"
+    if status == 0 and report != wanted(grid, heights, plain[1]):
+        return f"{report[:300]!r} in place of {wanted(grid, heights, plain[1])[:300]!r}", "saved"
+    return None, "saved" if status == 0 else "not mended"
+
+
+def texts(given):
+    """Real maps, and drawn ones, each with its name and what it is drawn from."""
+    for path in given.map:
+        yield path.name, random.Random(path.name), path.read_text(encoding="utf-8")
+    for number in range(given.drawn):
+        draw = random.Random(f"{given.seed} {number}")
+        yield f"drawn {number}", draw, loose_maps.drawn(draw)
+
+
+def main():
+    words = argparse.ArgumentParser(description=__doc__, formatter_class=argparse.RawDescriptionHelpFormatter)
+    words.add_argument("map", nargs="*", type=pathlib.Path, default=sorted((TOP / "examples").glob("*.json")), help="real maps")
+    words.add_argument("--program", default=TOP / "crates/border_mend/out/border_mend", help="the mender (%(default)s)")
+    words.add_argument("--drawn", type=int, default=500, help="how many maps are drawn (%(default)s)")
+    words.add_argument("--seed", type=int, default=1, help="what they are drawn from (%(default)s)")
+    given = words.parse_args()
+    faults, counts = 0, {}
+    with tempfile.TemporaryDirectory() as folder:
+        mender = Mender(given.program, folder)
+        for name, draw, text in texts(given):
+            blurred = Blurred(draw, text)
+            fault, kind = fault_of(mender, blurred, draw.choice([24, 24, 0, 1, 2, 5, 9]), draw.choice([0, 0, 0, 1, 3, 12]))
+            counts[kind] = counts.get(kind, 0) + 1
+            if fault:
+                faults += 1
+                print(f"{name}: {fault}", flush=True)
+    print(f"{sum(counts.values())} maps, {faults} faults; " + ", ".join(f"{kind} {n}" for kind, n in sorted(counts.items())))
+    return 1 if faults else 0
+
+
+if __name__ == "__main__":
+    sys.exit(main())
