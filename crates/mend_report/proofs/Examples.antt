@@ -10,6 +10,7 @@ use Rattle.grid_geometry.specs.Segment.{Segment, segment_eq, segment_lt}
 use Rattle.walk_faults.specs.Walks.{walks_of}
 use Rattle.walk_faults.specs.Findings.{short_walks, all_repeats, all_positions, all_segments}
 use Rattle.walk_faults.specs.Meeting.{touches_among, crossings_among}
+use Rattle.grid_reader.specs.declared.reading.Told.{Told}
 use Rattle.mend_report.specs.Report.{report_text}
 
 abbrev at : ℕ → ℕ → Position
@@ -34,10 +35,14 @@ vertices m = fold (add position_lt position_eq) [] (all_positions (walks_of m))
 abbrev sides : Map → List Segment
 sides m = fold (add segment_lt segment_eq) [] (all_segments (walks_of m))
 
+-- the grid of a map whose coordinates are whole numbers
+abbrev whole : Told
+whole = record { decimals = 0; digits = 0; rounded = 0; heights = 0 }
+
 -- the report of a map, of each kind at most so many lines
 abbrev report : ℕ → Map → List ℕ
 report most m =
-    report_text most (short_walks (walks_of m)) (all_repeats (walks_of m))
+    report_text most whole (short_walks (walks_of m)) (all_repeats (walks_of m))
     (touches_among (vertices m) (sides m)) (crossings_among (sides m) (sides m))
 
 -- a square, and two on its right side, whose common corner it has not

@@ -1,9 +1,14 @@
 -- The status is 0 exactly where the map opens.
-use Rattle.std.proofs.Common.{◌≡◌, ◌↔◌, ℕ, suc, ◌==◌, ◌&&◌, Bool, true, false, refl, sym, ap, ◌∙◌, subst, List, [], ◌∷◌, length, arith}
-use Rattle.std.specs.Prelude.{Ok, if◌then◌else◌}
+use Rattle.std.proofs.Common.{◌≡◌, ◌↔◌, ℕ, suc, ◌==◌, ◌&&◌, Bool, true, false, refl, sym, ap, ap₂, ◌∙◌, subst, List, [], ◌∷◌, length, arith}
+use Rattle.std.specs.Prelude.{Ok, is_some, if◌then◌else◌}
 use Rattle.std.proofs.lemmas.Bool.{false≢true, eqb-true}
 use Rattle.topo_reader.specs.Document.{Opened}
-use Rattle.topo_reader.specs.Opening.{OpensWalks}
+use Rattle.topo_outline.specs.Layers.{OutlineText}
+use Rattle.grid_reader.specs.Fine.{fine_arcs}
+use Rattle.grid_reader.specs.Grid.{most_decimals, heights}
+use Rattle.grid_reader.specs.Told.{IsTold}
+use Rattle.grid_reader.specs.declared.reading.Told.{Told}
+use Rattle.grid_reader.specs.declared.wants.Wants.{Wants}
 use Rattle.topo_reader.proofs.Steps.{ok_same}
 use Rattle.topo_outline.specs.declared.fault.RingAt.{RingAt}
 use Rattle.walk_faults.specs.Opens.{Opens, IsNothing}
@@ -12,8 +17,9 @@ use Rattle.walk_faults.specs.declared.findings.Findings.{Findings}
 use Rattle.walk_faults.specs.declared.findings.Repeat.{Repeat}
 use Rattle.walk_faults.specs.declared.findings.Touch.{Touch}
 use Rattle.walk_faults.proofs.Opening.{nothing_opens}
-use Rattle.mend_report.specs.Looking.{Looked, MapOpens}
-use Rattle.mend_report.specs.Report.{is_clear}
+use Rattle.mend_report.specs.Looking.{OpensOn, Looked, MapOpens}
+use Rattle.mend_report.specs.Report.{is_plain, is_clear}
+use Rattle.mend_report.specs.declared.asked.Report.{Report}
 use Rattle.mend_report.specs.Status.{status_of}
 
 -- ---- nothing is found
@@ -51,20 +57,43 @@ zero_if : (b : Bool) → ◌≡◌ {A = ℕ} (if b then 0 else 1) 0 → b ≡ tr
 zero_if true e = refl
 zero_if false e = absurd (omega arith)
 
--- the bytes are one topology
-one : (bytes : List ℕ) (o p : Opened) → OpensWalks bytes o → OpensWalks bytes p → o ≡ p
-one bytes o p reads again = ok_same o p (sym reads.opens ∙ again.opens)
+both_if : (a b : Bool) → (a && b) ≡ true → (a ≡ true) × (b ≡ true)
+both_if true true e = (refl, refl)
+both_if false b e = absurd (false≢true e)
+both_if true false e = absurd (false≢true e)
 
-pub status_opens : {A : Type 0} (bytes : List ℕ) (f : Findings A) → Looked bytes f → status_of (Ok f) ≡ 0 ↔ MapOpens bytes
-status_opens bytes f looked = (
-  λ e. (o, looked.1, law.0 (nothing_if f (zero_if clear e))),
+-- the bytes are one topology on a grid
+one : (wants : Wants) (bytes : List ℕ) (o p : Opened) → OpensOn wants bytes o → OpensOn wants bytes p → o ≡ p
+one wants bytes o p reads again = ok_same o p (sym reads.opens ∙ again.opens)
+
+-- and so is the grid
+plain_same : (wants : Wants) (bytes : List ℕ) (s t : Told) → IsTold wants bytes s → IsTold wants bytes t → is_plain s ≡ is_plain t
+plain_same wants bytes s t told again =
+    let shape : told.shape ≡ again.shape = ok_same told.shape again.shape (sym told.outlined ∙ again.outlined) in
+    let fine : told.fine ≡ again.fine = ok_same told.fine again.fine
+    (sym told.are ∙ ap (λ (o : OutlineText). fine_arcs wants (is_some o.transform) o.arcs) shape ∙ again.are) in
+    let decimals : s.decimals ≡ t.decimals = told.decimals ∙ ap most_decimals fine ∙ sym again.decimals in
+    let same : s.heights ≡ t.heights =
+    told.heights ∙ ap (λ (o : OutlineText). if wants.drop_heights then heights o.arcs else 0) shape ∙ sym again.heights in
+    ap (λ (z : ℕ). (z == 0) && (s.heights == 0)) decimals ∙ ap (λ (z : ℕ). (t.decimals == 0) && (z == 0)) same
+
+pub status_opens : {A : Type 0} (wants : Wants) (bytes : List ℕ) (r : Report A) → Looked wants bytes r.findings → IsTold wants bytes r.grid
+    → status_of (Ok r) ≡ 0 ↔ MapOpens wants bytes
+status_opens wants bytes r looked told = (
+  λ e.
+      let both = both_if (is_plain r.grid) clear (zero_if (is_plain r.grid && clear) e) in
+      (o, r.grid, looked.1, told, both.0, law.0 (nothing_if f both.1)),
   λ opens.
-      let opened = subst (λ p. Opens p.polygons) (one bytes opens.0 o opens.1 looked.1) opens.2 in
+      let opened = subst (λ p. Opens p.polygons) (one wants bytes opens.0 o opens.2 looked.1) opens.5 in
       let none = law.1 opened in
-      ap (λ b. if b then 0 else 1) (clear_if f.short.items f.repeats.items f.touches.items f.crossings.items
-      none.short none.repeats none.touches none.crossings),
+      let plain : is_plain r.grid ≡ true = plain_same wants bytes r.grid opens.1 told opens.3 ∙ opens.4 in
+      ap (λ b. if b then 0 else 1) (ap₂ (λ a b. a && b) plain (clear_if f.short.items f.repeats.items f.touches.items f.crossings.items
+      none.short none.repeats none.touches none.crossings)),
 )
   where
+    f : Findings A
+    f = r.findings
+
     o : Opened
     o = looked.0
 

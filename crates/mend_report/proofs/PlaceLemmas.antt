@@ -5,19 +5,20 @@ use Rattle.std.proofs.lemmas.Bool.{false≢true}
 use Rattle.segment_paths.specs.Paths.{Path}
 use Rattle.segment_paths.specs.Seen.{paths_seen}
 use Rattle.topo_reader.specs.Document.{Opened, Polygons}
-use Rattle.topo_reader.specs.Opening.{OpensWalks}
+use Rattle.grid_reader.specs.declared.wants.Wants.{Wants}
+use Rattle.ring_machine.specs.Document.{Text}
 use Rattle.walk_faults.specs.declared.findings.Findings.{Findings}
 use Rattle.place_text.specs.Text.{IsPlaceText}
-use Rattle.mend_report.specs.Looking.{HasPlaces}
-use Rattle.mend_report.specs.Remaking.{PlacesMending}
+use Rattle.mend_report.specs.Looking.{OpensOn, HasPlaces}
+use Rattle.mend_report.specs.Remaking.{PlacesRemade}
 use Rattle.walk_faults.specs.Findings.{Found}
 use Rattle.mend_report.specs.declared.remaking.Remade.{Remade}
 
 -- what is told of the map is told of the bytes that it was read from
-pub all_placed : {A : Type 0} (bytes : List ℕ) (o : Opened) (found : Findings A) (places : Option (Vec ℕ A)) → OpensWalks bytes o
-    → IfSome places (λ text. IsPlaceText o.transform o.polygons found None text.items) → IfSome places (λ text. HasPlaces bytes found None text.items)
-all_placed bytes o found None opens h = h
-all_placed bytes o found (Some text) opens h = (o, opens, h)
+pub all_placed : {A : Type 0} (wants : Wants) (bytes : List ℕ) (o : Opened) (transform : Option Text) (found : Findings A) (places : Option (Vec ℕ A)) → OpensOn wants bytes o
+    → transform ≡ o.transform → IfSome places (λ text. IsPlaceText transform o.polygons found None text.items) → IfSome places (λ text. HasPlaces wants bytes found None text.items)
+all_placed wants bytes o transform found None opens e h = h
+all_placed wants bytes o transform found (Some text) opens e h = (o, opens, subst (λ t. IsPlaceText t o.polygons found None text.items) e h)
 
 -- where nothing is asked for, all that is asked for holds
 pub none_holds : {X : Type 0} (o : Option X) (none : Bool) (P : X → Type 0) → is_some o ≡ not none → none ≡ true → IfSome o P
@@ -25,10 +26,10 @@ none_holds None none P e f = tt
 none_holds (Some x) none P e f = absurd (false≢true (sym (e ∙ ap not f)))
 
 -- and so are the places of a map that is mended
-pub mending_placed : {A : Type 0} (bytes : List ℕ) (o : Opened) (found : Findings A) (remade : Remade A) (places : Option (Vec ℕ A)) → OpensWalks bytes o → Found o.polygons found
-    → IfSome places (λ text. IsPlaceText o.transform o.polygons found (Some (paths_seen remade.paths.items)) text.items) → PlacesMending bytes remade places
-mending_placed bytes o found remade None opens is_found h = h
-mending_placed bytes o found remade (Some text) opens is_found h = (found, (o, opens, is_found), (o, opens, h))
+pub remade_placed : {A : Type 0} (o : Opened) (found : Findings A) (remade : Remade A) (places : Option (Vec ℕ A)) → Found o.polygons found
+    → IfSome places (λ text. IsPlaceText o.transform o.polygons found (Some (paths_seen remade.paths.items)) text.items) → PlacesRemade o remade places
+remade_placed o found remade None is_found h = h
+remade_placed o found remade (Some text) is_found h = (found, is_found, h)
 
 -- what is told of walks that are those of the map is told of the map
 pub walks_same : {A : Type 0} (o : Opened) (found : Findings A) (walks : List Polygons) (given paths : Option (List Path)) (places : Option (Vec ℕ A))

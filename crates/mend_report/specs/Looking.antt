@@ -51,7 +51,7 @@ IsEnd TooMany wants bytes = AreTooMany wants bytes
 IsEnd OutOfMemory wants bytes = Unit {0}
 
 -- why a map that was read was not looked through
-abbrev pub EndsLook : List (List (List (List Position))) → LookFault → Type 0
-EndsLook polygons (Open fault) = ⊥
-EndsLook polygons TooMany = HasMore 4000000 (walks_of polygons)
-EndsLook polygons OutOfMemory = Unit {0}
+abbrev pub EndsLook : LookFault → List (List (List (List Position))) → Type 0
+EndsLook (Open fault) polygons = ⊥
+EndsLook TooMany polygons = HasMore 4000000 (walks_of polygons)
+EndsLook OutOfMemory polygons = Unit {0}

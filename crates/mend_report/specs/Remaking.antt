@@ -4,13 +4,14 @@ use Rattle.ring_machine.specs.Document.{Document}
 use Rattle.ring_machine.specs.Planar.{Proper}
 use Rattle.ring_machine.specs.Ring.{canonical}
 use Rattle.ring_machine.specs.Parts.{in_rings}
-use Rattle.topo_reader.specs.Document.{Opened}
+use Rattle.topo_reader.specs.Document.{Opened, document_of}
 use Rattle.grid_reader.specs.Opening.{ReadsOnGrid}
 use Rattle.grid_reader.specs.Told.{IsTold}
 use Rattle.grid_reader.specs.declared.reading.Told.{Told}
 use Rattle.grid_reader.specs.declared.wants.Wants.{Wants}
 use Rattle.walk_faults.specs.Findings.{Found}
 use Rattle.walk_faults.specs.declared.findings.Findings.{Findings}
+use Rattle.place_text.specs.Text.{IsPlaceText}
 use Rattle.map_text.specs.Saved.{Saved}
 use Rattle.map_text.specs.Text.{text_of}
 use Rattle.area_changes.specs.Areas.{changes_from}
@@ -21,7 +22,7 @@ use Rattle.map_mending.specs.Told.{Parts, polygons_of}
 use Rattle.map_mending.specs.Laws.{VerticesStay, AllStayNear}
 use Rattle.map_saving.specs.Opens.{OpensAgain}
 use Rattle.mend_report.specs.Faults.{IsRemakeFault}
-use Rattle.mend_report.specs.Looking.{OpensOn, Looked, HasPlaces, IsEnd}
+use Rattle.mend_report.specs.Looking.{OpensOn, IsEnd, EndsLook}
 use Rattle.mend_report.specs.Report.{mended_report}
 use Rattle.mend_report.specs.declared.asked.Asked.{Asked}
 use Rattle.mend_report.specs.declared.remaking.Remade.{Remade}
@@ -50,22 +51,32 @@ pub record IsRemade {A : Type 0} (d : Document) (remade : Remade A) : Type 0 whe
 abbrev pub Remakes : {A : Type 0} → Wants → List ℕ → Remade A → Type 0
 Remakes wants bytes remade = (d : Document) × ReadsOnGrid wants bytes d × IsRemade d remade
 
--- the report tells the grid, all that is found in the map that the bytes are, and what was done
--- about it
-abbrev pub TellsMending : {A : Type 0}
-    → Asked → List ℕ → Remade A → List ℕ → List ℕ → Type 0
-TellsMending {A} asked bytes remade before after =
-    (o : Opened) × (grid : Told) × (found : Findings A)
-    × OpensOn asked.grid bytes o × IsTold asked.grid bytes grid × Found o.polygons found
-    × (after ≡ before ++ mended_report asked.most grid found (paths_seen remade.paths.items)
+-- the report tells the grid, all that is found in a map, and what was done about it
+abbrev pub TellsRemade : {A : Type 0}
+    → ℕ → Opened → Told → Remade A → List ℕ → List ℕ → Type 0
+TellsRemade {A} most o grid remade before after =
+    (found : Findings A) × Found o.polygons found
+    × (after ≡ before ++ mended_report most grid found (paths_seen remade.paths.items)
     remade.parted.items remade.areas.items)
 
--- the places, where they are asked for, are those of all that is found in the map, and the paths
+-- the same of the map that the bytes are
+abbrev pub TellsMending : {A : Type 0}
+    → Asked → List ℕ → Remade A → List ℕ → List ℕ → Type 0
+TellsMending asked bytes remade before after =
+    (o : Opened) × (grid : Told) × OpensOn asked.grid bytes o × IsTold asked.grid bytes grid
+    × TellsRemade asked.most o grid remade before after
+
+-- the places, where they are asked for, are those of all that is found in a map, and the paths
+abbrev pub PlacesRemade : {A : Type 0} → Opened → Remade A → Option (Vec ℕ A) → Type 0
+PlacesRemade {A} o remade places =
+    IfSome places (λ text. (found : Findings A) × Found o.polygons found
+    × IsPlaceText o.transform o.polygons found (Some (paths_seen remade.paths.items)) text.items)
+
+-- the same of the map that the bytes are
 abbrev pub PlacesMending : {A : Type 0}
     → Wants → List ℕ → Remade A → Option (Vec ℕ A) → Type 0
-PlacesMending {A} wants bytes remade places =
-    IfSome places (λ text. (found : Findings A) × Looked wants bytes found
-    × HasPlaces wants bytes found (Some (paths_seen remade.paths.items)) text.items)
+PlacesMending wants bytes remade places =
+    (o : Opened) × OpensOn wants bytes o × PlacesRemade o remade places
 
 -- why a map is not mended: where it was not looked through, as that ends; else as the document of
 -- walks that the bytes mean
@@ -73,3 +84,8 @@ abbrev pub IsMendEnd : RepairFault → Wants → List ℕ → Type 0
 IsMendEnd (Look fault) wants bytes = IsEnd fault wants bytes
 IsMendEnd (Remake fault) wants bytes =
     (d : Document) × ReadsOnGrid wants bytes d × IsRemakeFault d fault
+
+-- why a map that was read is not mended
+abbrev pub EndsMending : RepairFault → Opened → Type 0
+EndsMending (Look fault) o = EndsLook fault o.polygons
+EndsMending (Remake fault) o = IsRemakeFault (document_of o) fault

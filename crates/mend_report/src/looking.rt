@@ -8,7 +8,7 @@ ghost use Rattle.topo_reader.specs.DocumentView.{view_raw};
 ghost use Rattle.walk_faults.specs.Findings.{Found};
 ghost use Rattle.mend_report.specs.Looking.{OpensOn, IsEnd, EndsLook};
 
-use grid_reader::{OnGrid, Wants, read_on_grid};
+use grid_reader::{OnGrid, Told, Wants, read_on_grid};
 use segment_index::TreeIndex;
 use std::alloc::{AllocError, Allocator, Global};
 use topo_outline::OpenFault;
@@ -61,18 +61,25 @@ pub(crate) fn map_of<'a, A: Allocator + Copy>(
     }
 }
 
+/// A map with walks in the place of its rings, and the grid that it was put on.
+#[derive(Drop)]
+pub(crate) struct Seen<'a, A: Allocator + Copy = Global> {
+    pub(crate) map: RawDoc<'a, A>,
+    pub(crate) grid: Told,
+}
+
 /// All that keeps a map of walks from opening, beside what keeps it from being read.
 ///
 /// Rings with fewer than three positions, or with one twice (RFC 7946, 3.1.6), and segments in
 /// conflict are found, all of them. Fails with `TooMany` where there are more than 4,000,000 findings
 /// of one kind.
-pub(crate) fn look<'a, A: Allocator + Copy>(
+pub(crate) fn look<A: Allocator + Copy>(
     alloc: A,
     heap: Global,
-    map: &RawDoc<'a, A>,
-) -> Result<Findings<A>, LookFault<'a>>
+    map: &RawDoc<'_, A>,
+) -> Result<Findings<A>, LookFault<'static>>
     ensures found { IfOk result (λ findings. Found (view_raw map.now).polygons findings) }
-    ensures refused { IfErr result (λ fault. EndsLook (view_raw map.now).polygons fault) }
+    ensures refused { IfErr result (λ fault. EndsLook fault (view_raw map.now).polygons) }
 {
     let index = TreeIndex::new(heap, map.extent());
     match find(alloc, index, map.polygons.as_slice()) {

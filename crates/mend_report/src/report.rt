@@ -9,8 +9,11 @@ ghost use Rattle.mend_report.specs.Report.{short_line, repeat_line, touch_line, 
 ghost use Rattle.mend_report.specs.Report.{is_plain, is_clear, opens_line, report_of, findings_text, grid_text};
 ghost use Rattle.mend_report.specs.Report.{path_line, parts_line, area_line, mended_report};
 ghost use Rattle.mend_report.specs.Remaking.{Remakes, TellsMending, PlacesMending, IsMendEnd};
+ghost use Rattle.mend_report.specs.Remaking.{IsRemade, TellsRemade, PlacesRemade, EndsMending};
+ghost use Rattle.topo_reader.specs.Document.{document_of, IsOfWalks};
+ghost use Rattle.topo_reader.specs.DocumentView.{view_raw};
 ghost use Rattle.segment_paths.specs.Seen.{paths_seen};
-ghost use Rattle.mend_report.specs.Looking.{Looked, HasPlaces, MapOpens, IsEnd};
+ghost use Rattle.mend_report.specs.Looking.{Looked, HasPlaces, MapOpens, IsEnd, EndsLook};
 ghost use Rattle.mend_report.specs.Status.{is_open, status_of};
 ghost use Rattle.grid_reader.specs.Told.{IsTold};
 
@@ -20,7 +23,7 @@ use crate::lines::{
     FindingCounts, push_all_counts, push_area, push_counts, push_crossing, push_decimals,
     push_heights, push_parts, push_path, push_repeat, push_short, push_touch,
 };
-use crate::looking::{LookFault, look, map_of};
+use crate::looking::{LookFault, Seen, look, map_of};
 use crate::remaking::{Remade, RemakeFault, remake};
 use area_changes::AreaChange;
 use grid_geometry::Pos;
@@ -289,6 +292,39 @@ fn put_places<'f, A: Allocator + Copy>(
     Ok(())
 }
 
+/// Looks at a map that was read, and reports it as `report_map` says.
+fn report_read<A: Allocator + Copy>(
+    alloc: A,
+    heap: Global,
+    seen: Seen<'_, A>,
+    most: usize,
+    texts: &mut Texts<A>,
+) -> Result<Report<A>, LookFault<'static>>
+    ensures found { IfOk result (λ report.
+        Found (view_raw seen.entry.map).polygons report.findings) }
+    ensures grid { IfOk result (λ report. report.grid ≡ seen.entry.grid) }
+    ensures told { IfOk result (λ report. texts.new.report.items
+        ≡ texts.old.report.items ++ report_of most report.grid report.findings) }
+    ensures asked { OnOk result (is_some texts.new.places ≡ is_some texts.old.places) }
+    ensures placed { IfOk result (λ report. IfSome texts.new.places (λ places.
+        IsPlaceText (view_raw seen.entry.map).transform (view_raw seen.entry.map).polygons
+        report.findings None places.items)) }
+    ensures refused { IfErr result (λ fault.
+        EndsLook fault (view_raw seen.entry.map).polygons) }
+{
+    let Seen { map, grid } = seen;
+    let findings = match look(alloc, heap, &map) {
+        Ok(findings) => findings,
+        Err(fault) => return Err(fault),
+    };
+    let report = Report { grid, findings };
+    push_report(&mut texts.report, &report, most)?;
+    let walks = map.polygons.as_slice();
+    let found = &report.findings;
+    put_places(alloc, map.transform, walks, found, None, &mut texts.places)?;
+    Ok(report)
+}
+
 /// Looks at a map on the grid that is asked for, appends the report of that grid and of all that keeps
 /// the map from opening to `texts.report`, of each kind at most `asked.most` lines, and puts the places
 /// of it all into `texts.places`, where they are asked for. What is told is answered: nothing, and so
@@ -328,20 +364,7 @@ pub fn report_map<'a, A: Allocator + Copy>(
         members,
         polygons,
     };
-    let findings = match look(alloc, heap, &map) {
-        Ok(findings) => findings,
-        Err(LookFault::TooMany) => return Err(LookFault::TooMany),
-        Err(_) => return Err(LookFault::OutOfMemory),
-    };
-    let report = Report {
-        grid: told,
-        findings,
-    };
-    push_report(&mut texts.report, &report, asked.most)?;
-    let walks = map.polygons.as_slice();
-    let found = &report.findings;
-    put_places(alloc, map.transform, walks, found, None, &mut texts.places)?;
-    Ok(report)
+    report_read(alloc, heap, Seen { map, grid: told }, asked.most, texts)
 }
 
 /// Why a map is not mended.
@@ -363,6 +386,49 @@ impl<'a> From<AllocError> for RepairFault<'a> {
     fn from(_error: AllocError) -> RepairFault<'a> {
         RepairFault::Look(LookFault::OutOfMemory)
     }
+}
+
+/// Mends a map that was read, and reports it as `mend_map` says.
+fn mend_read<A: Allocator + Copy>(
+    alloc: A,
+    heap: Global,
+    seen: Seen<'_, A>,
+    most: usize,
+    texts: &mut Texts<A>,
+) -> Result<Remade<A>, RepairFault<'static>>
+    requires { IsOfWalks (view_raw seen.map) }
+    ensures remade { IfOk result (λ remade.
+        IsRemade (document_of (view_raw seen.entry.map)) remade) }
+    ensures told { IfOk result (λ remade. TellsRemade most (view_raw seen.entry.map)
+        seen.entry.grid remade texts.old.report.items texts.new.report.items) }
+    ensures asked { OnOk result (is_some texts.new.places ≡ is_some texts.old.places) }
+    ensures placed { IfOk result (λ remade.
+        PlacesRemade (view_raw seen.entry.map) remade texts.new.places) }
+    ensures refused { IfErr result (λ fault. EndsMending fault (view_raw seen.entry.map)) }
+{
+    let Seen { map, grid } = seen;
+    let findings = match look(alloc, heap, &map) {
+        Ok(findings) => findings,
+        Err(fault) => return Err(RepairFault::Look(fault)),
+    };
+    let report = Report { grid, findings };
+    let transform = map.transform;
+    let walks = copied(alloc, map.polygons.as_slice())?;
+    let remade = match remake(alloc, heap, map, walks.as_slice()) {
+        Ok(remade) => remade,
+        Err(fault) => return Err(RepairFault::Remake(fault)),
+    };
+    let paths = remade.paths.as_slice();
+    put_places(
+        alloc,
+        transform,
+        walks.as_slice(),
+        &report.findings,
+        Some(paths),
+        &mut texts.places,
+    )?;
+    push_mended(&mut texts.report, &report, &remade, most)?;
+    Ok(remade)
 }
 
 /// Looks at a map on the grid that is asked for, and mends it. Appends the report of that grid, of all
@@ -402,29 +468,5 @@ pub fn mend_map<'a, A: Allocator + Copy>(
         members,
         polygons,
     };
-    let findings = match look(alloc, heap, &map) {
-        Ok(findings) => findings,
-        Err(LookFault::TooMany) => return Err(RepairFault::Look(LookFault::TooMany)),
-        Err(_) => return Err(RepairFault::Look(LookFault::OutOfMemory)),
-    };
-    let report = Report {
-        grid: told,
-        findings,
-    };
-    let walks = copied(alloc, map.polygons.as_slice())?;
-    let remade = match remake(alloc, heap, map, walks.as_slice()) {
-        Ok(remade) => remade,
-        Err(fault) => return Err(RepairFault::Remake(fault)),
-    };
-    let paths = remade.paths.as_slice();
-    put_places(
-        alloc,
-        transform.text(),
-        walks.as_slice(),
-        &report.findings,
-        Some(paths),
-        &mut texts.places,
-    )?;
-    push_mended(&mut texts.report, &report, &remade, asked.most)?;
-    Ok(remade)
+    mend_read(alloc, heap, Seen { map, grid: told }, asked.most, texts)
 }

@@ -1,27 +1,15 @@
 use Rattle.std.proofs.Common.{subst}
-use Rattle.topo_reader.specs.DocumentView.{view_raw}
 use Rattle.walk_faults.specs.Findings.{Found, Tells}
 use Rattle.walk_faults.specs.Seen.{features_seen}
 use Rattle.walk_faults.specs.declared.findings.FindFault.TheVariants as fault
 use Rattle.mend_report.proofs.looking.look.Goals as goal
 
 -- the walks that were searched are those that were read
-pub returns-in-Ok-find-clause-looked : goal.returns-in-Ok-find-clause-looked
-returns-in-Ok-find-clause-looked g c = (
-  view_raw c.in-Ok.map,
-  c.in-Ok.ensures.opened,
-  subst (λ ps. Found (features_seen ps) c.in-Ok-find.findings) c.as_slice.ensures.value c.in-Ok-find.ensures.found,
-)
-
-pub returns-in-Ok-find-clause-found : goal.returns-in-Ok-find-clause-found
-returns-in-Ok-find-clause-found g c =
-    subst (λ ps. Found (features_seen ps) c.in-Ok-find.findings) c.as_slice.ensures.value c.in-Ok-find.ensures.found
+pub returns-in-Ok-clause-found : goal.returns-in-Ok-clause-found
+returns-in-Ok-clause-found g c = subst (λ ps. Found (features_seen ps) c.in-Ok.findings) c.as_slice.ensures.value c.in-Ok.ensures.found
 
 pub returns-in-Err-TooMany-clause-refused : goal.returns-in-Err-TooMany-clause-refused
 returns-in-Err-TooMany-clause-refused g c =
     let told : Tells 4000000 (features_seen c.as_slice.result.now) fault.TooMany =
-    subst (λ f. Tells 4000000 (features_seen c.as_slice.result.now) f) c.in-Err-TooMany.field-0-is c.in-Err-TooMany.ensures.fault in (
-      view_raw c.in-Ok.map,
-      c.in-Ok.ensures.opened,
-      subst (λ ps. Tells 4000000 (features_seen ps) fault.TooMany) c.as_slice.ensures.value told,
-    )
+    subst (λ f. Tells 4000000 (features_seen c.as_slice.result.now) f) c.in-Err-TooMany.field-0-is c.in-Err-TooMany.ensures.fault in
+    subst (λ ps. Tells 4000000 (features_seen ps) fault.TooMany) c.as_slice.ensures.value told

@@ -7,14 +7,14 @@ use Rattle.mend_report.proofs.report.push_mended.Goals as goal
 
 pub returns : goal.returns
 returns g c =
-    let f = c.args.findings.now in
+    let f = c.args.report.now.findings in
     let most = c.args.most in
     let paths = c.args.remade.now.paths.items in
     let parted = c.args.remade.now.parted.items in
     let areas = c.args.remade.now.areas.items in
     let counts = all_counts_line (length f.short.items) (length f.repeats.items) (length f.touches.items) (length f.crossings.items)
     (length (paths_seen paths)) (length parted) (length areas) in
-    five c.args.text.now.items (findings_text most f.short.items f.repeats.items f.touches.items f.crossings.items)
+    five c.args.text.now.items (findings_text most c.args.report.now.grid f.short.items f.repeats.items f.touches.items f.crossings.items)
     (lines most path_line (paths_seen paths)) (lines most parts_line parted) (lines most area_line areas) counts
     c.push_findings.new.text.items c.push_paths.new.text.items c.push_parted.new.text.items c.push_areas.new.text.items c.push_all_counts.new.text.items
     c.in_ok-push_findings.ensures

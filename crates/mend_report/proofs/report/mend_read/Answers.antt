@@ -1,12 +1,11 @@
 use Rattle.std.proofs.Common.{sym, subst, ap, ◌∙◌}
 use Rattle.std.specs.Prelude.{Some}
-use Rattle.topo_reader.specs.Document.{document_of}
 use Rattle.topo_reader.specs.DocumentView.{view_raw}
 use Rattle.segment_paths.specs.Seen.{paths_seen}
 use Rattle.walk_faults.specs.Findings.{Found}
 use Rattle.walk_faults.specs.Seen.{features_seen}
-use Rattle.mend_report.proofs.PlaceLemmas.{mending_placed, walks_same}
-use Rattle.mend_report.proofs.report.mend_map.Goals as goal
+use Rattle.mend_report.proofs.PlaceLemmas.{remade_placed, walks_same}
+use Rattle.mend_report.proofs.report.mend_read.Goals as goal
 
 -- the walks that were kept are those of the map
 pub remake-requires-clause-same : goal.remake-requires-clause-same
@@ -15,21 +14,15 @@ remake-requires-clause-same g c =
 
 pub put_places-requires : goal.put_places-requires
 put_places-requires g c =
-    subst (λ ps. Found ps c.in-Ok.seen.findings)
+    subst (λ ps. Found ps c.in-Ok.findings)
     (sym (ap features_seen c.as_slice-3.ensures.value ∙ c.in_ok-walks.ensures ∙ ap features_seen c.as_slice.ensures.value)) c.in-Ok.ensures.found
 
--- the document that is mended is the one that was read
-pub returns-clause-mended : goal.returns-clause-mended
-returns-clause-mended g c = (document_of (view_raw c.in-Ok.seen.map), c.in-Ok.ensures.reads, c.in-Ok-remake.ensures.remade)
-
 pub returns-clause-told : goal.returns-clause-told
-returns-clause-told g c =
-    (view_raw c.in-Ok.seen.map, c.in-Ok.seen.findings, c.in-Ok.ensures.opened, c.in-Ok.ensures.found, c.in_ok-push_mended.ensures)
+returns-clause-told g c = (c.in-Ok.findings, c.in-Ok.ensures.found, c.in_ok-push_mended.ensures)
 
 pub returns-clause-placed : goal.returns-clause-placed
 returns-clause-placed g c =
-    mending_placed c.args.bytes.now (view_raw c.in-Ok.seen.map) c.in-Ok.seen.findings c.in-Ok-remake.remade c.put_places.new.places
-    c.in-Ok.ensures.opened c.in-Ok.ensures.found
-    (walks_same (view_raw c.in-Ok.seen.map) c.in-Ok.seen.findings _ _ _ c.put_places.new.places
+    remade_placed (view_raw c.args.seen.map) c.in-Ok.findings c.in-Ok-remake.remade c.put_places.new.places c.in-Ok.ensures.found
+    (walks_same (view_raw c.args.seen.map) c.in-Ok.findings _ _ _ c.put_places.new.places
     (ap features_seen c.as_slice-3.ensures.value ∙ c.in_ok-walks.ensures ∙ ap features_seen c.as_slice.ensures.value)
     (ap (λ ps. Some (paths_seen ps)) c.as_slice-paths.ensures.value) c.in_ok-put_places.ensures.placed)
