@@ -37,8 +37,8 @@ pub front_passes : (p : ℕ → Bool) (xs : List ℕ) → list_all p (take (pref
 front_passes p [] = refl
 front_passes p (x ∷ xs) =
     elim (cases_Bool (p x)) [
-      inl e ↦ rw (e, one-add, e) (front_passes p xs)
-    | inr e ↦ rw e refl
+      | inl e ↦ rw (e, one-add, e) (front_passes p xs)
+      | inr e ↦ rw e refl
     ]
 
 -- the digits at the front are digits

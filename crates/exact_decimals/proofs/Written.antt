@@ -72,8 +72,8 @@ led_number [] r h e = zero_first (no_fraction e)
 led_number (x ∷ xs) r h e =
     let p = and_parts (is_digit x) (list_all is_digit xs) h in
     elim (cases_Bool (is_zero x)) [
-      inl z ↦ subst (λ zs. Unsigned (or_zero zs ++ r) []) (sym (passed is_zero x xs z)) (led_number xs r p.1 e)
-    | inr z ↦ subst (λ zs. Unsigned (zs ++ r) []) (begun x xs z) (digit_first {x = x} (nonzero_from x p.0 z) (digits_then xs r p.1) (no_fraction e))
+      | inl z ↦ subst (λ zs. Unsigned (or_zero zs ++ r) []) (sym (passed is_zero x xs z)) (led_number xs r p.1 e)
+      | inr z ↦ subst (λ zs. Unsigned (zs ++ r) []) (begun x xs z) (digit_first {x = x} (nonzero_from x p.0 z) (digits_then xs r p.1) (no_fraction e))
     ]
 
 with_sign : (is_negative : Bool) (xs : List ℕ) → Unsigned xs [] → IsNumber (sign_text is_negative ++ xs)
