@@ -1,12 +1,12 @@
 -- A number of a JSON text is read, unless its exponent is long.
-use Rattle.std.proofs.Common.{◌≡◌, ℕ, suc, ◌+◌, ◌<◌, ◌≤◌, Bool, true, false, refl, ap, subst, sym, ◌∙◌, inl, inr, List, [], ◌∷◌, length, Option, Some, None, arith}
+use Rattle.std.proofs.Common.{◌≡◌, ℕ, ◌+◌, ◌<◌, Bool, true, false, refl, ap, subst, sym, ◌∙◌, inl, inr, List, [], ◌∷◌, length, Option, Some, None, arith}
 use Rattle.std.proofs.lemmas.Bool.{cases_lt, cases_Bool, cond-true, cond-false, and_from, lt-ltb, le-leb, eq-eqb, or_cases, or_parts, both_ways}
 use Rattle.std.proofs.lemmas.Bool.Decides.{nat_tests}
 use Rattle.std.specs.Prelude.{ℤ, pos, ◌==◌, ◌&&◌, nat_lt, nat_le, option_map, is_some}
 use Rattle.json_spans.specs.Bytes.{is_digit, is_nonzero, is_e, is_sign}
 use Rattle.json_spans.specs.Grammar.{Digits, no_digit, digit, SomeDigits, digits, Signed as IsSigned, sign, unsigned as plain, Exponent, no_exponent, exponent, Fraction, no_fraction, fraction, Unsigned, zero_first, digit_first, Number, minus as negative, plain_number}
 use Rattle.json_spans.specs.Whole.{value_from, digits_len, minus}
-use Rattle.exact_decimals.specs.Decimal.{Parts, digits_of, behind_digits, small, signed, exponent_of, with_exponent, behind_integer, unsigned, parts_of}
+use Rattle.exact_decimals.specs.Decimal.{digits_of, behind_digits, small, signed, exponent_of, with_exponent, behind_integer, unsigned, parts_of}
 use Rattle.exact_decimals.specs.Exponent.{behind_e, without_sign, exponent_digits}
 use Rattle.exact_decimals.proofs.Leading.{passed, stopped}
 

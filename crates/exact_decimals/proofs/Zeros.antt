@@ -1,11 +1,7 @@
 -- Zeros behind a number.
-use mir.Syntax.{w128}
-use mir.Val.{SFits, of_z, to_z}
-use Rattle.std.proofs.Common.{◌≡◌, ℕ, zero, suc, ◌+◌, ◌-◌, ◌≤◌, ◌%◌, ◌/◌, ap, subst, sym, ◌∙◌, refl, inl, inr, cond, true, false, arith, sub-one, add-one}
-use Rattle.std.specs.Prelude.{ℤ, unsigned_abs}
-use Rattle.std.proofs.Math.Facts.{to_z-of_z}
-use Rattle.std.proofs.lemmas.Bool.{eq-eqb, ne_eqb, eqb-true, cond-true, cond-false, cases_eq}
-use Rattle.exact_decimals.specs.Fine.{zeros_behind, decimals}
+use Rattle.std.proofs.Common.{◌≡◌, ℕ, zero, suc, ◌+◌, ◌-◌, ◌≤◌, ◌%◌, ◌/◌, refl, arith, sub-one, add-one}
+use Rattle.std.proofs.lemmas.Bool.{eq-eqb, ne_eqb, cond-true, cond-false}
+use Rattle.exact_decimals.specs.Fine.{zeros_behind}
 
 pub zeros_step : (k n : ℕ) → 1 ≤ k → n % 10 ≡ 0 → zeros_behind k n ≡ zeros_behind (k - 1) (n / 10) + 1
 unfolding zeros_behind
