@@ -12,7 +12,3 @@ pub zeros_none : (k n : ℕ) → (n % 10 ≡ 0 → ⊥) → zeros_behind k n ≡
 unfolding zeros_behind
 zeros_none zero n h = refl
 zeros_none (suc k) n h = cond-false _ _ _ (ne_eqb (n % 10) 0 h)
-
-pub zeros_most : (n : ℕ) → zeros_behind 0 n ≡ 0
-unfolding zeros_behind
-zeros_most n = refl
