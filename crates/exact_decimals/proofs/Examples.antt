@@ -1,6 +1,6 @@
 -- Decimals, worked out.
 use Rattle.std.proofs.Common.{refl}
-use Rattle.std.specs.Prelude.{◌≡◌, ℕ, ℤ, pos, negsuc, ◌*◌, ◌^◌, ◌-◌, List, Option, Some, None, option_map, codes, true, false}
+use Rattle.std.specs.Prelude.{◌≡◌, ℕ, ℤ, pos, ◌*◌, ◌^◌, List, Option, Some, None, option_map, codes, true, false}
 use Rattle.std.specs.Fmt.{digits}
 use Rattle.json_spans.specs.Whole.{value_from, minus}
 use Rattle.exact_decimals.specs.Decimal.{parts_of}

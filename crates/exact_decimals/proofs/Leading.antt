@@ -1,5 +1,5 @@
 -- Two rows of digits as one, without the zeros before them.
-use Rattle.std.proofs.Common.{◌≡◌, ℕ, ◌+◌, ◌<◌, Bool, true, false, refl, ap, sym, subst, ◌∙◌, inl, inr, List, [], ◌∷◌, ◌++◌, length, drop, arith}
+use Rattle.std.proofs.Common.{◌≡◌, ℕ, ◌<◌, Bool, true, false, refl, ap, sym, subst, ◌∙◌, inl, inr, List, [], ◌∷◌, ◌++◌, length, drop, arith}
 use Rattle.std.proofs.Math.Numerals.{one-add}
 use Rattle.std.proofs.lemmas.Bool.{cases_Bool, cond-true, cond-false, eqb-true, eqb-false, ne_eqb}
 use Rattle.std.proofs.lemmas.List.{length-append}
@@ -19,18 +19,18 @@ led : (p : ℕ → Bool) (xs ys : List ℕ) → 0 < length (drop (prefix_len p x
 led p [] ys h = absurd (omega arith)
 led p (x ∷ xs) ys h =
     elim (cases_Bool (p x)) [
-      inl e ↦
-        let on = subst (λ zs. 0 < length zs) (passed p x xs e) h in
-        passed p x (xs ++ ys) e ∙ (led p xs ys on ∙ ap (λ zs. zs ++ ys) (sym (passed p x xs e)))
-    | inr e ↦ stopped p x (xs ++ ys) e ∙ ap (λ zs. zs ++ ys) (sym (stopped p x xs e))
+      | inl e ↦
+          let on = subst (λ zs. 0 < length zs) (passed p x xs e) h in
+          passed p x (xs ++ ys) e ∙ (led p xs ys on ∙ ap (λ zs. zs ++ ys) (sym (passed p x xs e)))
+      | inr e ↦ stopped p x (xs ++ ys) e ∙ ap (λ zs. zs ++ ys) (sym (stopped p x xs e))
     ]
 
 not_led : (p : ℕ → Bool) (xs ys : List ℕ) → length (drop (prefix_len p xs) xs) ≡ 0 → drop (prefix_len p (xs ++ ys)) (xs ++ ys) ≡ drop (prefix_len p ys) ys
 not_led p [] ys h = refl
 not_led p (x ∷ xs) ys h =
     elim (cases_Bool (p x)) [
-      inl e ↦ passed p x (xs ++ ys) e ∙ not_led p xs ys (ap length (sym (passed p x xs e)) ∙ h)
-    | inr e ↦ absurd (omega (arith, ap length (stopped p x xs e)))
+      | inl e ↦ passed p x (xs ++ ys) e ∙ not_led p xs ys (ap length (sym (passed p x xs e)) ∙ h)
+      | inr e ↦ absurd (omega (arith, ap length (stopped p x xs e)))
     ]
 
 -- no zero is put in the place of digits

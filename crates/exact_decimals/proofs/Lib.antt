@@ -8,3 +8,4 @@ pub mod Appending
 pub mod Power
 pub mod Written
 mod Examples
+pub mod Numbers

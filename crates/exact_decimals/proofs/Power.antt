@@ -1,8 +1,9 @@
 -- The power of ten behind a number: no width cuts it off.
 use mir.Syntax.{w64, w128}
 use mir.Val.{of_z, to_z}
-use Rattle.std.proofs.Common.{◌≡◌, ℕ, ◌<◌, ◌≤◌, ◌^◌, ap, sym, ◌∙◌, arith}
-use Rattle.std.specs.Prelude.{ℤ, pos, negsuc, ◌-ℤ◌, unsigned_abs}
+use Rattle.std.proofs.Common.{◌≡◌, ℕ, List, ◌++◌, ◌<◌, ◌≤◌, ◌^◌, ap, ◌∙◌, arith}
+use Rattle.std.specs.Prelude.{ℤ, pos, negsuc, ◌-ℤ◌, unsigned_abs, codes}
+use Rattle.std.specs.Fmt.{signed_decimal}
 use Rattle.std.proofs.lemmas.Int.{ints}
 
 exponent_is : (z : ℤ) → unsigned_abs z < 1000 → to_z w64 (of_z w64 z) ≡ z
@@ -14,7 +15,13 @@ less_is : (z : ℤ) (m n : ℕ) → unsigned_abs z < 1000 → m < 2 ^ 64 → n �
 less_is (pos a) m n h f g = omega (arith, ints)
 less_is (negsuc a) m n h f g = omega (arith, ints)
 
-pub power_is : (z r : ℤ) (m n : ℕ) → r ≡ to_z w64 (of_z w64 z) → unsigned_abs z < 1000 → m < 2 ^ 64 → n ≤ 36
+power_is : (z r : ℤ) (m n : ℕ) → r ≡ to_z w64 (of_z w64 z) → unsigned_abs z < 1000 → m < 2 ^ 64 → n ≤ 36
     → to_z w128 (of_z w128 (to_z w128 (of_z w128 (to_z w128 (of_z w128 r) -ℤ to_z w128 m)) -ℤ to_z w128 n)) ≡ (z -ℤ pos m) -ℤ pos n
 power_is z r m n e h f g =
     ap (λ y. to_z w128 (of_z w128 (to_z w128 (of_z w128 (to_z w128 (of_z w128 y) -ℤ to_z w128 m)) -ℤ to_z w128 n))) (e ∙ exponent_is z h) ∙ less_is z m n h f g
+
+-- the text of what the code computes is that of the power
+pub power_text : (z r : ℤ) (m n : ℕ) (old new : List ℕ) → r ≡ to_z w64 (of_z w64 z) → unsigned_abs z < 1000 → m < 2 ^ 64 → n ≤ 36
+    → new ≡ old ++ (codes "e" ++ signed_decimal (to_z w128 (of_z w128 (to_z w128 (of_z w128 (to_z w128 (of_z w128 r) -ℤ to_z w128 m)) -ℤ to_z w128 n))))
+    → new ≡ old ++ (codes "e" ++ signed_decimal ((z -ℤ pos m) -ℤ pos n))
+power_text z r m n old new e h f g i = i ∙ ap (λ y. old ++ (codes "e" ++ signed_decimal y)) (power_is z r m n e h f g)

@@ -1,9 +1,9 @@
 -- A number divided by a power of ten is a number of a JSON text (RFC 8259, 6).
-use Rattle.std.proofs.Common.{◌≡◌, ℕ, zero, suc, ◌+◌, ◌*◌, ◌<◌, ◌/◌, ◌%◌, Bool, true, false, refl, ap, subst, sym, ◌∙◌, inl, inr, List, [], ◌∷◌, ◌++◌, length, ℤ, pos, negsuc, arith}
+use Rattle.std.proofs.Common.{◌≡◌, ℕ, zero, suc, ◌<◌, ◌/◌, ◌%◌, Bool, true, false, refl, ap, subst, sym, ◌∙◌, inl, inr, List, [], ◌∷◌, ◌++◌, length, ℤ, pos, negsuc, arith}
 use Rattle.std.proofs.lemmas.Bool.{cases_Bool, cond_both, and_parts, and_from, ne_eqb}
 use Rattle.std.proofs.lemmas.Bool.Decides.{nat_tests}
 use Rattle.std.proofs.lemmas.List.Folds.{list_all-append}
-use Rattle.std.specs.Prelude.{◌-ℤ◌, ◌&&◌, ◌==◌, IsTrue, codes}
+use Rattle.std.specs.Prelude.{◌-ℤ◌, ◌==◌, IsTrue}
 use Rattle.std.specs.List.{list_all}
 use Rattle.std.specs.Fmt.{digits as digits_of, digits_onto, digit_glyph, decimal, signed_decimal}
 use Rattle.json_spans.specs.Bytes.{is_digit, is_nonzero}
@@ -72,8 +72,8 @@ led_number [] r h e = zero_first (no_fraction e)
 led_number (x ∷ xs) r h e =
     let p = and_parts (is_digit x) (list_all is_digit xs) h in
     elim (cases_Bool (is_zero x)) [
-      inl z ↦ subst (λ zs. Unsigned (or_zero zs ++ r) []) (sym (passed is_zero x xs z)) (led_number xs r p.1 e)
-    | inr z ↦ subst (λ zs. Unsigned (zs ++ r) []) (begun x xs z) (digit_first {x = x} (nonzero_from x p.0 z) (digits_then xs r p.1) (no_fraction e))
+      | inl z ↦ subst (λ zs. Unsigned (or_zero zs ++ r) []) (sym (passed is_zero x xs z)) (led_number xs r p.1 e)
+      | inr z ↦ subst (λ zs. Unsigned (zs ++ r) []) (begun x xs z) (digit_first {x = x} (nonzero_from x p.0 z) (digits_then xs r p.1) (no_fraction e))
     ]
 
 with_sign : (is_negative : Bool) (xs : List ℕ) → Unsigned xs [] → IsNumber (sign_text is_negative ++ xs)

@@ -1,11 +1,7 @@
 -- Zeros behind a number.
-use mir.Syntax.{w128}
-use mir.Val.{SFits, of_z, to_z}
-use Rattle.std.proofs.Common.{◌≡◌, ℕ, zero, suc, ◌+◌, ◌-◌, ◌≤◌, ◌%◌, ◌/◌, ap, subst, sym, ◌∙◌, refl, inl, inr, cond, true, false, arith, sub-one, add-one}
-use Rattle.std.specs.Prelude.{ℤ, unsigned_abs}
-use Rattle.std.proofs.Math.Facts.{to_z-of_z}
-use Rattle.std.proofs.lemmas.Bool.{eq-eqb, ne_eqb, eqb-true, cond-true, cond-false, cases_eq}
-use Rattle.exact_decimals.specs.Fine.{zeros_behind, decimals}
+use Rattle.std.proofs.Common.{◌≡◌, ℕ, zero, suc, ◌+◌, ◌-◌, ◌≤◌, ◌%◌, ◌/◌, refl, arith, sub-one, add-one}
+use Rattle.std.proofs.lemmas.Bool.{eq-eqb, ne_eqb, cond-true, cond-false}
+use Rattle.exact_decimals.specs.Fine.{zeros_behind}
 
 pub zeros_step : (k n : ℕ) → 1 ≤ k → n % 10 ≡ 0 → zeros_behind k n ≡ zeros_behind (k - 1) (n / 10) + 1
 unfolding zeros_behind
@@ -16,7 +12,3 @@ pub zeros_none : (k n : ℕ) → (n % 10 ≡ 0 → ⊥) → zeros_behind k n ≡
 unfolding zeros_behind
 zeros_none zero n h = refl
 zeros_none (suc k) n h = cond-false _ _ _ (ne_eqb (n % 10) 0 h)
-
-pub zeros_most : (n : ℕ) → zeros_behind 0 n ≡ 0
-unfolding zeros_behind
-zeros_most n = refl

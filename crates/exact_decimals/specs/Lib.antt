@@ -2,3 +2,4 @@ pub mod Decimal
 pub mod Fine
 pub mod Shifted
 pub mod Seen
+pub mod Exponent

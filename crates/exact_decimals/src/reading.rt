@@ -1,8 +1,10 @@
 // The parts of a number, from its bytes.
-ghost use Rattle.std.specs.Prelude.{◌≡◌, ◌<◌, option_map, IfSome, IsTrue, unsigned_abs};
+ghost use Rattle.std.specs.Prelude.{◌≡◌, ◌<◌, length, option_map, IfSome, IsNone, IsTrue, unsigned_abs};
 ghost use Rattle.std.specs.List.{list_all};
 ghost use Rattle.json_spans.specs.Bytes.{is_digit};
+ghost use Rattle.json_spans.specs.Inside.{IsNumber};
 ghost use Rattle.exact_decimals.specs.Decimal.{parts_of, unsigned, behind_integer, with_exponent, exponent_of, signed, small};
+ghost use Rattle.exact_decimals.specs.Exponent.{exponent_digits};
 ghost use Rattle.exact_decimals.specs.Seen.{parts};
 
 use crate::decimal::Decimal;
@@ -93,14 +95,22 @@ fn unsigned(is_negative: bool, bytes: &[u8]) -> Option<Decimal<'_>>
     behind_integer(is_negative, integer, rest)
 }
 
-/// The parts of a number (RFC 8259, 6).
-///
-/// `None` comes for bytes that are none, and for a number whose exponent has more than three digits.
-pub fn decimal_of(text: &[u8]) -> Option<Decimal<'_>>
+/// The number, perhaps behind a minus.
+fn parts_of(text: &[u8]) -> Option<Decimal<'_>>
     ensures { option_map parts result ≡ parts_of text.now }
 {
     match text {
         [b'-', rest @ ..] => unsigned(true, rest),
         _ => unsigned(false, text),
     }
+}
+
+/// The parts of a number (RFC 8259, 6).
+///
+/// `None` comes for bytes that are none, and for a number whose exponent has more than three digits.
+pub fn decimal_of(text: &[u8]) -> Option<Decimal<'_>>
+    ensures value { option_map parts result ≡ parts_of text.now }
+    ensures numbers { IsNumber text.now → IsNone result → 3 < length (exponent_digits text.now) }
+{
+    parts_of(text)
 }

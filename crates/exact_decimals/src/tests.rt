@@ -46,10 +46,7 @@ const SHIFTED: &[(&[u8], usize, &[u8])] = &[
 
 /// The units in a number, if it is one.
 fn units_of(text: &[u8]) -> Option<Option<i128>> {
-    match decimal_of(text) {
-        Some(number) => Some(number.fine()),
-        None => None,
-    }
+    Some(decimal_of(text)?.fine())
 }
 
 #[test]

@@ -1,6 +1,4 @@
-use mir.Syntax.{w128}
-use mir.Val.{of_z, to_z}
-use Rattle.std.proofs.Common.{◌≡◌, ap, arith}
+use Rattle.std.proofs.Common.{ap, arith}
 use Rattle.std.specs.Prelude.{unsigned_abs}
 use Rattle.std.proofs.Math.Facts.{to_z-of_z}
 use Rattle.exact_decimals.specs.Fine.{zeros_behind}

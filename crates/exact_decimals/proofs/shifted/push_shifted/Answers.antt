@@ -1,9 +1,9 @@
-use Rattle.std.proofs.Common.{rules, ◌++◌, ◌<◌, ◌^◌, ◌∙◌, ap, length, arith}
-use Rattle.std.specs.Prelude.{codes}
+use Rattle.std.proofs.Common.{rules, ◌++◌, ◌<◌, ◌^◌, length}
+use Rattle.std.specs.Prelude.{pos, ◌-ℤ◌, codes}
 use Rattle.std.specs.Fmt.{signed_decimal}
 use Rattle.exact_decimals.specs.Shifted.{sign_text, without_zeros, or_zero}
 use Rattle.exact_decimals.proofs.Appending.{three}
-use Rattle.exact_decimals.proofs.Power.{power_is}
+use Rattle.exact_decimals.proofs.Power.{power_text}
 use Rattle.exact_decimals.proofs.shifted.push_shifted.Goals as goal
 
 pub returns : goal.returns
@@ -13,7 +13,7 @@ returns g c =
     let written = c.push_digits.new.text.items in
     let new = c.push_power.new.text.items in
     let short : length c.args.number.fraction.now < 2 ^ 64 = search rules in
-    let power = power_is p.exponent c.from.result (length p.fraction.now) c.args.digits c.from.ensures p.small_exponent short c.requires in
-    three c.args.text.now.items (sign_text p.is_negative) (or_zero (without_zeros (p.integer.now ++ p.fraction.now))) _ signed written new
+    three c.args.text.now.items (sign_text p.is_negative) (or_zero (without_zeros (p.integer.now ++ p.fraction.now)))
+    (codes "e" ++ signed_decimal ((p.exponent -ℤ pos (length p.fraction.now)) -ℤ pos c.args.digits)) signed written new
     c.in_ok-push_sign.ensures c.in_ok-push_digits.ensures
-    (c.in_ok-push_power.ensures ∙ ap (λ z. written ++ (codes "e" ++ signed_decimal z)) power)
+    (power_text p.exponent c.from.result (length p.fraction.now) c.args.digits written new c.from.ensures p.small_exponent short c.requires c.in_ok-push_power.ensures)

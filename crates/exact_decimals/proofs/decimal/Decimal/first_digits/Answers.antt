@@ -1,4 +1,4 @@
-use Rattle.std.proofs.Common.{◌≡◌, ◌≤◌, ◌*◌, ◌-◌, ◌^◌, ap, sym, subst, ◌∙◌, length, MatchOption, arith}
+use Rattle.std.proofs.Common.{◌≡◌, ◌≤◌, ◌*◌, ◌-◌, ◌^◌, ap, sym, subst, ◌∙◌, length, MatchOption}
 use Rattle.json_spans.specs.Whole.{value_from}
 use Rattle.exact_decimals.proofs.Cutting.{first_digits_is, first_large, both_large}
 use Rattle.exact_decimals.proofs.decimal.Decimal.first_digits.Goals as goal

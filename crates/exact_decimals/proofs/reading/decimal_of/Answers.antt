@@ -1,0 +1,7 @@
+use Rattle.exact_decimals.specs.Decimal.{parts_of}
+use Rattle.exact_decimals.specs.Seen.{parts}
+use Rattle.exact_decimals.proofs.Numbers.{number_long, none_seen}
+use Rattle.exact_decimals.proofs.reading.decimal_of.Goals as goal
+
+pub returns-clause-numbers : goal.returns-clause-numbers
+returns-clause-numbers c = λ n none. number_long n (none_seen parts c.parts_of.result (parts_of c.args.text.now) none c.parts_of.ensures)
