@@ -10,7 +10,7 @@ ghost use Rattle.grid_reader.specs.Grid.{greater, lesser, xy, coordinates, most_
 ghost use Rattle.grid_reader.specs.Near.{IsNear};
 ghost use Rattle.grid_reader.specs.Seen.{fine_seen, arc_seen, arcs_seen};
 
-use crate::fine::FinePos;
+use crate::fine_pos::FinePos;
 use crate::wants::Wants;
 use exact_decimals::{decimals, is_rounded, rounded};
 use grid_geometry::Pos;

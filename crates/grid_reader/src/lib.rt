@@ -3,6 +3,7 @@
 #![tactic(auto)]
 
 mod fine;
+mod fine_pos;
 mod grid;
 mod reading;
 #[cfg(test)]

@@ -15,7 +15,8 @@ ghost use Rattle.grid_reader.specs.OnGridView.{view_on_grid};
 ghost use Rattle.grid_reader.specs.Seen.{arcs_seen};
 ghost use Rattle.grid_reader.specs.Told.{IsTold};
 
-use crate::fine::{FinePos, fine_arcs};
+use crate::fine::fine_arcs;
+use crate::fine_pos::FinePos;
 use crate::grid::{arcs_on, digits_of, heights, most_decimals, moved};
 use crate::transform::{Transform, transform_on};
 use crate::wants::Wants;
