@@ -1,3 +1,4 @@
 pub mod Summing
 pub mod Reach
 pub mod Greatest
+pub mod Scaled

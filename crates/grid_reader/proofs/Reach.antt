@@ -14,7 +14,7 @@ power_fits finer = power_mono (36 - finer) 36 (omega arith)
 pub within_reach : (finer : ℕ) (z : ℤ) → is_within finer z ≡ true → unsigned_abs z ≤ 10 ^ 36
 within_reach finer z h = omega (arith, at_most (unsigned_abs z) (10 ^ (36 - finer)) h, power_fits finer)
 
-not_at_least : (m n : ℕ) → n < m → nat_le m n ≡ false
+pub not_at_least : (m n : ℕ) → n < m → nat_le m n ≡ false
 not_at_least m n h = grind arith
 
 sum_far : (x y : ℤ) → unsigned_abs x ≤ 10 ^ 36 → 10 ^ 37 ≤ unsigned_abs y → 10 ^ 36 < unsigned_abs (x +ℤ y)
