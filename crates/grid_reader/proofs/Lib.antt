@@ -2,3 +2,5 @@ pub mod Summing
 pub mod Reach
 pub mod Greatest
 pub mod Scaled
+pub mod NearAll
+pub mod Naming

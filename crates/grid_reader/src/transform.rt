@@ -1,5 +1,5 @@
 // The transform of a grid that is finer by a power of ten (TopoJSON 1.0, 2.1.2).
-ghost use Rattle.std.specs.Prelude.{◌≡◌, ◌≤◌, List, ℕ, Option, Ok, option_map, IfOk};
+ghost use Rattle.std.specs.Prelude.{◌≡◌, ◌≤◌, List, ℕ, Option, Ok, option_map, IfOk, None, Some, codes};
 ghost use Rattle.json_spans.specs.Left.{node};
 ghost use Rattle.json_spans.specs.Walk.{items, members};
 ghost use Rattle.json_spans.specs.Decoded.{decoded};
@@ -37,10 +37,11 @@ impl<'a, A: Allocator + Copy> Transform<'a, A> {
     }
 }
 
-fn bad_transform<'a>() -> OpenFault<'a> {
-    OpenFault::BadMember {
-        name: Token { text: b"transform" },
-    }
+/// The member that is at fault where a transform cannot be divided.
+fn transform_name() -> Token<'static>
+    ensures { result.text.now ≡ codes "transform" }
+{
+    Token { text: b"transform" }
 }
 
 /// Whether a name stands for this text (RFC 8259, 7).
@@ -99,9 +100,13 @@ fn two_named<'a>(
     match value_named(heap, name, object) {
         Ok(Some(value)) => match two(value) {
             Some(pair) => Ok(pair),
-            None => Err(bad_transform()),
+            None => Err(OpenFault::BadMember {
+                name: transform_name(),
+            }),
         },
-        Ok(None) => Err(bad_transform()),
+        Ok(None) => Err(OpenFault::BadMember {
+            name: transform_name(),
+        }),
         Err(fault) => Err(fault),
     }
 }
@@ -112,7 +117,9 @@ fn number<'a>(text: &'a [u8]) -> Result<Decimal<'a>, OpenFault<'a>>
 {
     match decimal_of(text) {
         Some(number) => Ok(number),
-        None => Err(bad_transform()),
+        None => Err(OpenFault::BadMember {
+            name: transform_name(),
+        }),
     }
 }
 
