@@ -4,3 +4,5 @@ pub mod Greatest
 pub mod Scaled
 pub mod NearAll
 pub mod Naming
+pub mod Points
+pub mod Opened

@@ -148,7 +148,7 @@ fn opened_on<'a, A: Allocator + Copy>(
     requires near { AllByRecursion
         (AllByRecursion (IsNear (digits_of wants (arcs_seen fine.now)) wants.finer))
         (arcs_seen fine.now) }
-    requires placed { IsPlaced outline.entry }
+    requires placed { IsPlaced outline }
     ensures value { Gives view_on_grid result
         (opened_on wants (view_outline outline.entry) (arcs_seen fine.now)) }
     ensures told { IfOk result (λ read.

@@ -7,11 +7,11 @@ ghost use Rattle.topo_outline.specs.Gives.{Gives};
 ghost use Rattle.exact_decimals.specs.Seen.{parts};
 ghost use Rattle.exact_decimals.specs.Shifted.{shifted_text};
 ghost use Rattle.topo_reader.specs.Positions.{two_of};
-ghost use Rattle.grid_reader.specs.Transform.{says, value_named, two_in, transform_text, divided, transform_on, number};
+ghost use Rattle.grid_reader.specs.Transform.{says, value_named, two_numbers, two_in, transform_text, divided, transform_on, number};
 ghost use Rattle.grid_reader.specs.TransformView.{view_transform};
 
 use exact_decimals::{Decimal, decimal_of, push_shifted};
-use json_spans::{Span, TextFault, bytes, items, members, text};
+use json_spans::{Kind, Span, TextFault, bytes, items, kind, members, text};
 use std::alloc::{AllocError, Allocator, Global};
 use topo_outline::{OpenFault, Token};
 
@@ -88,7 +88,23 @@ fn two<'a>(part: Span<'a>) -> Option<(Span<'a>, Span<'a>)>
     }
 }
 
-/// The two items of the member with this name.
+/// The parts of a list of two numbers.
+#[tactic(auto, unfolding(crate::specs::Transform::two_numbers))]
+fn two_numbers<'a>(part: Span<'a>) -> Option<(Span<'a>, Span<'a>)>
+    ensures { option_map (λ p. (node p.0, node p.1)) result ≡ two_numbers (node part.entry) }
+{
+    if kind(part) != Kind::List {
+        return None;
+    }
+    let (first, second) = two(part)?;
+    if kind(first) == Kind::Number && kind(second) == Kind::Number {
+        Some((first, second))
+    } else {
+        None
+    }
+}
+
+/// The two numbers of the member with this name.
 fn two_named<'a>(
     heap: Global,
     name: &[u8],
@@ -98,7 +114,7 @@ fn two_named<'a>(
         (two_in (value_named name.now (members (node object.entry)))) }
 {
     match value_named(heap, name, object) {
-        Ok(Some(value)) => match two(value) {
+        Ok(Some(value)) => match two_numbers(value) {
             Some(pair) => Ok(pair),
             None => Err(OpenFault::BadMember {
                 name: transform_name(),

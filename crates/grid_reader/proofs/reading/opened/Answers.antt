@@ -1,0 +1,6 @@
+use Rattle.grid_reader.specs.Seen.{arcs_seen}
+use Rattle.grid_reader.proofs.NearAll.{all_near}
+use Rattle.grid_reader.proofs.reading.opened.Goals as goal
+
+pub opened_on-requires-clause-near : goal.opened_on-requires-clause-near
+opened_on-requires-clause-near g c = rw c.as_slice.ensures.value (all_near c.args.wants _ _ (arcs_seen c.in-Ok-fine_arcs.fine.items) c.in-Ok-fine_arcs.ensures)
