@@ -6,3 +6,4 @@ pub mod NearAll
 pub mod Naming
 pub mod Points
 pub mod Opened
+pub mod NewTransform

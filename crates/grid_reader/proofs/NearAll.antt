@@ -120,11 +120,11 @@ Fits finer far d = (d ≡ 0) ⊎ (far * 10 ^ d ≤ 10 ^ (36 - finer))
 fitting_fits : (finer far k : ℕ) → Fits finer far (fitting finer far k)
 unfolding fitting
 fitting_fits finer far zero = inl refl
-fitting_fits finer far (suc k) = by (nat_le (far * 10 ^ (suc k)) (10 ^ (36 - finer))) refl
+fitting_fits finer far (suc k) = by (nat_le (far * 10 ^ (suc k)) (10 ^ (36 - finer))) refl (fitting_fits finer far k)
   where
-    by : (t : Bool) → nat_le (far * 10 ^ (suc k)) (10 ^ (36 - finer)) ≡ t → Fits finer far (cond t (suc k) (fitting finer far k))
-    by true e = inr (at_most (far * 10 ^ (suc k)) (10 ^ (36 - finer)) e)
-    by false e = fitting_fits finer far k
+    by : (t : Bool) → nat_le (far * 10 ^ (suc k)) (10 ^ (36 - finer)) ≡ t → Fits finer far (fitting finer far k) → Fits finer far (cond t (suc k) (fitting finer far k))
+    by true e h = inr (at_most (far * 10 ^ (suc k)) (10 ^ (36 - finer)) e)
+    by false e h = h
 
 near_one : (finer far d n : ℕ) → Fits finer far d → n ≤ 10 ^ (36 - finer) → n ≤ far → n * 10 ^ d ≤ 10 ^ (36 - finer)
 near_one finer far d n (inl e) low le = subst (λ j. n * 10 ^ j ≤ 10 ^ (36 - finer)) (sym e) (omega arith)

@@ -10,16 +10,17 @@ use Rattle.topo_outline.specs.Gives.{Fails, Gives}
 use Rattle.topo_outline.specs.Layers.{OutlineText}
 use Rattle.topo_outline.specs.Outline.{outline}
 use Rattle.topo_outline.proofs.Walking.{carry}
-use Rattle.topo_reader.specs.Document.{Polygons, Opened, document_of}
+use Rattle.topo_reader.specs.Document.{Polygons, Opened, document_of, IsOfWalks}
 use Rattle.topo_reader.specs.Opening.{walks_read, root_of}
 use Rattle.topo_reader.proofs.MeaningOfText.{made}
-use Rattle.topo_reader.proofs.OfRings.{walks_along_meant}
+use Rattle.topo_reader.proofs.OfRings.{along_of_walks, walks_along_meant}
 use Rattle.topo_reader.proofs.Steps.{bind_ok, demand_ok, ok_same}
 use Rattle.grid_reader.specs.declared.wants.Wants.{Wants}
 use Rattle.grid_reader.specs.Fine.{FinePosition, fine_arcs}
 use Rattle.grid_reader.specs.Grid.{arcs_on, finer_by, digits_of, on_grid}
 use Rattle.grid_reader.specs.Opening.{has_points, demand_no_points, opened_on, grid_opening, AreOnGrid, ReadsOnGrid}
 use Rattle.grid_reader.specs.Transform.{transform_on}
+use Rattle.grid_reader.proofs.NewTransform.{transform_kept}
 
 abbrev pub put : OutlineText → Option Text → List Polygons → Opened
 put shape t ps = record { transform = t; layers = shape.layers; members = shape.members; polygons = ps }
@@ -79,9 +80,33 @@ reads_on_grid wants bytes o short text h =
       same = refl;
     })
 
+pub on_grid_of_walks : (wants : Wants) (bytes : List ℕ) (o : Opened) → length bytes ≤ 67108864 → Json 100 bytes → IsOpenedOn wants (root_of bytes) o → IsOfWalks o
+on_grid_of_walks wants bytes o short text h =
+    let reads = walks_along_meant (AreOnGrid wants h.fine) bytes h.shape (arcs_on wants h.fine) h.polygons short text h.outlined (record { are = h.are; on_grid = refl }) h.along in
+    let before = along_of_walks (AreOnGrid wants h.fine) bytes h.shape (arcs_on wants h.fine) h.polygons reads h.outlined h.along in
+    subst IsOfWalks h.is (record {
+      counted = before.counted;
+      formed = record { geometries = before.formed.geometries; forms = before.formed.forms; numbers = before.formed.numbers };
+      keeps = record {
+        transform = transform_kept (finer_by wants h.fine) h.shape.transform h.transform before.keeps.transform h.divides;
+        layer_names = before.keeps.layer_names;
+        layers_named = before.keeps.layers_named;
+        layers_differ = before.keeps.layers_differ;
+        items = before.keeps.items;
+        members = before.keeps.members;
+      };
+      few = before.few;
+      are_rings = before.are_rings;
+      small = before.small;
+    })
+
 -- ---- as the code answers it
 
 module _ {X : Type 0} (wants : Wants) (view : X → Opened) (bytes : List ℕ) where
   pub gives_reading : (r : Result X OpenFault) (n : Node) → n ≡ root_of bytes → length bytes ≤ 67108864 → Json 100 bytes → Gives view r (grid_opening wants n) → IfOk r (λ x. ReadsOnGrid wants bytes (document_of (view x)))
   gives_reading (Err o) n e short text h = tt
   gives_reading (Ok x) n e short text h = reads_on_grid wants bytes (view x) short text (opened_parts wants (root_of bytes) (view x) (ap (grid_opening wants) (sym e) ∙ h))
+
+  pub gives_walks : (r : Result X OpenFault) (n : Node) → n ≡ root_of bytes → length bytes ≤ 67108864 → Json 100 bytes → Gives view r (grid_opening wants n) → IfOk r (λ x. IsOfWalks (view x))
+  gives_walks (Err o) n e short text h = tt
+  gives_walks (Ok x) n e short text h = on_grid_of_walks wants bytes (view x) short text (opened_parts wants (root_of bytes) (view x) (ap (grid_opening wants) (sym e) ∙ h))

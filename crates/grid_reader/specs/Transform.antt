@@ -36,22 +36,19 @@ both_numbers (Some p) =
 unfoldable pub two_numbers : Node → Option (Node × Node)
 two_numbers n = if is_list n then both_numbers (two_of (items n)) else None
 
--- those of a member that is there
+-- what is there
+abbrev pub there : {A : Type 0} → Option A → Result A Fault
+there None = bad_transform
+there (Some a) = Ok a
+
+-- the two numbers of a member that is there
 abbrev pub two_in : Option Node → Result (Node × Node) Fault
 two_in None = bad_transform
-two_in (Some n) = both (two_numbers n)
-  where
-    both : Option (Node × Node) → Result (Node × Node) Fault
-    both None = bad_transform
-    both (Some p) = Ok p
+two_in (Some n) = there (two_numbers n)
 
 -- a number
 abbrev pub number : List ℕ → Result Parts Fault
-number t = by (parts_of t)
-  where
-    by : Option Parts → Result Parts Fault
-    by None = bad_transform
-    by (Some p) = Ok p
+number t = there (parts_of t)
 
 -- ---- the new one
 
