@@ -24,6 +24,10 @@ greater a b = if nat_le a b then b else a
 abbrev pub greatest : List ℕ → ℕ
 greatest ns = fold greater 0 ns
 
+-- the greatest of a number and of those that the positions' coordinates have
+abbrev pub greatest_from : (ℤ → ℕ) → ℕ → List FinePosition → ℕ
+greatest_from f n ps = fold greater n (map f (flat_map xy ps))
+
 -- the most decimals that a coordinate has
 abbrev pub most_decimals : List (List FinePosition) → ℕ
 most_decimals arcs = greatest (map decimals (coordinates arcs))
@@ -73,9 +77,9 @@ abbrev pub moved : ℕ → List (List FinePosition) → ℕ
 moved digits arcs = length (filter (is_moved digits) (flat_map (λ a. a) arcs))
 
 -- a third number, or further ones
-abbrev pub has_more : List Node → Bool
-has_more ns = nat_le 3 (length ns)
+abbrev pub has_further : Node → Bool
+has_further n = nat_le 3 (length (items n))
 
 -- how many positions of the arcs have further numbers
 abbrev pub heights : Node → ℕ
-heights arcs = length (filter (λ n. has_more (items n)) (flat_map items (items arcs)))
+heights arcs = length (filter has_further (flat_map items (items arcs)))

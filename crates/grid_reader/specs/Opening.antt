@@ -22,8 +22,11 @@ is_text (text t) = true
 is_text _ = false
 
 -- a point, or several points (TopoJSON 1.0, 2.2.1 and 2.2.2)
+abbrev pub has_text_in : LayerText → Bool
+has_text_in l = list_any is_text l.pieces
+
 abbrev pub has_points : List LayerText → Bool
-has_points layers = list_any (λ l. list_any is_text l.pieces) layers
+has_points layers = list_any has_text_in layers
 
 -- points are kept as they stand, so the grid must stay as it is
 abbrev pub demand_no_points : {A : Type 0} → ℕ → List LayerText → Result A Fault → Result A Fault

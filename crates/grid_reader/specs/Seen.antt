@@ -1,6 +1,6 @@
 -- The positions that the code holds, as the definitions see them.
 use Rattle.std.specs.Prelude.{List, map, Vec}
-use Rattle.grid_reader.specs.declared.fine.FinePos.{FinePos}
+use Rattle.grid_reader.specs.declared.fine_pos.FinePos.{FinePos}
 use Rattle.grid_reader.specs.Fine.{FinePosition}
 
 abbrev pub fine_seen : FinePos → FinePosition

@@ -1,21 +1,31 @@
 -- What is told of the grid that a map was put on.
 use Rattle.std.specs.Prelude.{◌≡◌, ℕ, Bool, List, is_some, if◌then◌else◌, Ok}
+use Rattle.json_spans.specs.Nodes.{Node}
 use Rattle.topo_outline.specs.Layers.{OutlineText}
 use Rattle.topo_outline.specs.Outline.{outline}
 use Rattle.topo_reader.specs.Opening.{root_of}
 use Rattle.grid_reader.specs.declared.wants.Wants.{Wants}
-use Rattle.grid_reader.specs.declared.reading.Told.{Told}
+use Rattle.grid_reader.specs.declared.told.Told.{Told}
 use Rattle.grid_reader.specs.Fine.{FinePosition, fine_arcs}
 use Rattle.grid_reader.specs.Grid.{most_decimals, digits_of, moved, heights}
 
 -- how many decimals the coordinates have, how many are kept, how many positions were rounded, and how
 -- many had further numbers
-pub record IsTold (wants : Wants) (bytes : List ℕ) (told : Told) : Type 0 where
-  pub shape : OutlineText
-  pub fine : List (List FinePosition)
-  pub outlined : outline (root_of bytes) ≡ Ok shape
-  pub are : fine_arcs wants (is_some shape.transform) shape.arcs ≡ Ok fine
+pub record IsToldOf (wants : Wants) (fine : List (List FinePosition)) (arcs : Node) (told : Told)
+    : Type 0 where
   pub decimals : told.decimals ≡ most_decimals fine
   pub digits : told.digits ≡ digits_of wants fine
   pub rounded : told.rounded ≡ moved (digits_of wants fine) fine
-  pub heights : told.heights ≡ (if wants.drop_heights then heights shape.arcs else 0)
+  pub heights : told.heights ≡ (if wants.drop_heights then heights arcs else 0)
+
+-- the same of the topology whose root this is
+pub record IsToldAt (wants : Wants) (root : Node) (told : Told) : Type 0 where
+  pub shape : OutlineText
+  pub fine : List (List FinePosition)
+  pub outlined : outline root ≡ Ok shape
+  pub are : fine_arcs wants (is_some shape.transform) shape.arcs ≡ Ok fine
+  pub is : IsToldOf wants fine shape.arcs told
+
+-- and of the one that the bytes are
+abbrev pub IsTold : Wants → List ℕ → Told → Type 0
+IsTold wants bytes told = IsToldAt wants (root_of bytes) told

@@ -1,10 +1,12 @@
 -- The transform of a grid that is finer by a power of ten (TopoJSON 1.0, 2.1.2).
-use Rattle.std.specs.Prelude.{ℕ, zero, suc, pos, Bool, false, List, [], ◌∷◌, ◌++◌, codes, Option, Some, None, if◌then◌else◌, Result, Ok, Err}
+use Rattle.std.specs.Prelude.{ℕ, zero, suc, pos, ◌&&◌, Bool, false, List, [], ◌∷◌, ◌++◌, codes, Option, Some, None, if◌then◌else◌, Result, Ok, Err}
 use Rattle.std.specs.Str.{bytes_eq}
 use Rattle.json_spans.specs.Nodes.{Node}
 use Rattle.json_spans.specs.Walk.{items, members}
+use Rattle.json_spans.specs.Kinds.{kind_of}
 use Rattle.json_spans.specs.Decoded.{decoded}
 use Rattle.ring_machine.specs.Document.{Text}
+use Rattle.topo_outline.specs.Shape.{is_list, is_number}
 use Rattle.topo_outline.specs.Faults.{Fault, bad_member, ◌>>=◌}
 use Rattle.topo_reader.specs.Positions.{two_of}
 use Rattle.exact_decimals.specs.Decimal.{Parts, parts_of}
@@ -24,22 +26,29 @@ value_named name (m ∷ ms) = if says name (decoded m.0.bytes) then Some m.1 els
 abbrev pub bad_transform : {A : Type 0} → Result A Fault
 bad_transform = Err (bad_member (codes "transform"))
 
--- its two items
+-- the two, where both are numbers
+abbrev pub both_numbers : Option (Node × Node) → Option (Node × Node)
+both_numbers None = None
+both_numbers (Some p) =
+    if is_number (kind_of p.0.bytes) && is_number (kind_of p.1.bytes) then Some p else None
+
+-- the items of a list of two numbers
+unfoldable pub two_numbers : Node → Option (Node × Node)
+two_numbers n = if is_list n then both_numbers (two_of (items n)) else None
+
+-- what is there
+abbrev pub there : {A : Type 0} → Option A → Result A Fault
+there None = bad_transform
+there (Some a) = Ok a
+
+-- the two numbers of a member that is there
 abbrev pub two_in : Option Node → Result (Node × Node) Fault
 two_in None = bad_transform
-two_in (Some n) = both (two_of (items n))
-  where
-    both : Option (Node × Node) → Result (Node × Node) Fault
-    both None = bad_transform
-    both (Some p) = Ok p
+two_in (Some n) = there (two_numbers n)
 
 -- a number
 abbrev pub number : List ℕ → Result Parts Fault
-number t = by (parts_of t)
-  where
-    by : Option Parts → Result Parts Fault
-    by None = bad_transform
-    by (Some p) = Ok p
+number t = there (parts_of t)
 
 -- ---- the new one
 

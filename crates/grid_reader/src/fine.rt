@@ -1,5 +1,5 @@
 // The positions of the arcs in units of 10^-24 (TopoJSON 1.0, 2.1.1 to 2.1.3).
-ghost use Rattle.std.specs.Prelude.{◌≡◌, ◌≤◌, ◌^◌, Some, map, option_map, IfOk, unsigned_abs};
+ghost use Rattle.std.specs.Prelude.{◌≡◌, ◌≤◌, ◌^◌, true, Some, map, option_map, IfOk, unsigned_abs};
 ghost use Rattle.json_spans.specs.Left.{node};
 ghost use Rattle.json_spans.specs.Walk.{items};
 ghost use Rattle.topo_outline.specs.Gives.{Gives};
@@ -8,6 +8,7 @@ ghost use Rattle.grid_reader.specs.Fine.{origin, is_within, summed, coordinate, 
 ghost use Rattle.grid_reader.specs.Seen.{fine_seen, arc_seen, arcs_seen};
 ghost use Rattle.topo_reader.specs.Positions.{has_two};
 
+use crate::fine_pos::FinePos;
 use crate::wants::Wants;
 use exact_decimals::{Decimal, decimal_of};
 use json_spans::{Kind, Span, at, bytes, items, kind};
@@ -17,19 +18,11 @@ use topo_outline::OpenFault;
 /// How many decimals a unit has, and how many digits stand before them in the greatest coordinate.
 const DIGITS: usize = 36;
 
-/// A position in units of 10^-24.
-#[derive(Clone, Copy, Debug)]
-pub(crate) struct FinePos {
-    pub(crate) x: i128,
-    pub(crate) y: i128,
-    ghost across: { unsigned_abs x ≤ 10 ^ 36 },
-    ghost upward: { unsigned_abs y ≤ 10 ^ 36 },
-}
-
 /// Whether a coordinate stays within 10^12 on a grid 10^`finer` times as fine.
 fn is_within(finer: usize, units: i128) -> bool
     requires { finer ≤ 12 }
-    ensures { result ≡ is_within finer units }
+    ensures value { result ≡ is_within finer units }
+    ensures reach { result ≡ true → unsigned_abs units ≤ 10 ^ 36 }
 {
     units.unsigned_abs() <= 10u128.pow((DIGITS - finer) as u32)
 }

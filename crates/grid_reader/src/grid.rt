@@ -6,11 +6,11 @@ ghost use Rattle.json_spans.specs.Walk.{items};
 ghost use Rattle.exact_decimals.specs.Fine.{decimals, rounded};
 ghost use Rattle.topo_reader.specs.Uses.{positions_of};
 ghost use Rattle.grid_reader.specs.Fine.{FinePosition};
-ghost use Rattle.grid_reader.specs.Grid.{greater, lesser, xy, coordinates, most_decimals, furthest, fitting, digits_of, on_grid, arcs_on, is_moved, moved, has_more, heights};
+ghost use Rattle.grid_reader.specs.Grid.{greater, lesser, greatest_from, most_decimals, furthest, fitting, digits_of, on_grid, arcs_on, is_moved, moved, has_further, heights};
 ghost use Rattle.grid_reader.specs.Near.{IsNear};
 ghost use Rattle.grid_reader.specs.Seen.{fine_seen, arc_seen, arcs_seen};
 
-use crate::fine::FinePos;
+use crate::fine_pos::FinePos;
 use crate::wants::Wants;
 use exact_decimals::{decimals, is_rounded, rounded};
 use grid_geometry::Pos;
@@ -36,7 +36,7 @@ fn further(a: u128, b: u128) -> u128
 
 /// The most decimals of an arc's coordinates, or of those before them.
 fn most_in_arc(before: usize, arc: &[FinePos]) -> usize
-    ensures { result ≡ fold greater before (map decimals (flat_map xy (map fine_seen arc.now))) }
+    ensures { result ≡ greatest_from decimals before (map fine_seen arc.now) }
 {
     let mut most = before;
     for pos in arc {
@@ -58,8 +58,7 @@ pub(crate) fn most_decimals<A: Allocator + Copy>(arcs: &[Vec<FinePos, A>]) -> us
 
 /// How far the furthest coordinate of an arc is from 0, or of those before them.
 fn furthest_in_arc(before: u128, arc: &[FinePos]) -> u128
-    ensures { result
-        ≡ fold greater before (map unsigned_abs (flat_map xy (map fine_seen arc.now))) }
+    ensures { result ≡ greatest_from unsigned_abs before (map fine_seen arc.now) }
 {
     let mut far = before;
     for pos in arc {
@@ -123,17 +122,19 @@ fn on_axis(digits: usize, finer: usize, units: i128) -> i64
     ensures value { result ≡ rounded digits units *ℤ pos (10 ^ finer) }
     ensures bound { unsigned_abs result ≤ 1000000000000 }
 {
-    rounded(digits, units) * 10i64.pow(finer as u32)
+    let scale = 10u64.pow(finer as u32) as i64;
+    rounded(digits, units) * scale
 }
 
 fn on_grid(digits: usize, finer: usize, pos: FinePos) -> Pos
     requires digits { digits ≤ 24 }
     requires finer { finer ≤ 12 }
-    requires across { unsigned_abs pos.x * 10 ^ digits ≤ 10 ^ (36 - finer) }
-    requires upward { unsigned_abs pos.y * 10 ^ digits ≤ 10 ^ (36 - finer) }
+    requires near { IsNear digits finer (fine_seen pos) }
     ensures { result ≡ on_grid digits finer (fine_seen pos) }
 {
-    Pos::new(on_axis(digits, finer, pos.x), on_axis(digits, finer, pos.y)).unwrap()
+    let x = on_axis(digits, finer, pos.x);
+    let y = on_axis(digits, finer, pos.y);
+    Pos::new(x, y).unwrap()
 }
 
 /// The positions of an arc on the grid.
@@ -186,6 +187,8 @@ fn is_moved(digits: usize, pos: FinePos) -> bool
 
 fn moved_in_arc(digits: usize, before: usize, arc: &[FinePos]) -> Option<usize>
     requires { digits ≤ 24 }
+    ensures { IfSome result (λ n.
+        n ≡ before + length (filter (is_moved digits) (map fine_seen arc.now))) }
 {
     let mut count = before;
     for pos in arc {
@@ -199,6 +202,7 @@ fn moved_in_arc(digits: usize, before: usize, arc: &[FinePos]) -> Option<usize>
 /// How many positions rounding moves.
 pub(crate) fn moved<A: Allocator + Copy>(digits: usize, arcs: &[Vec<FinePos, A>]) -> Option<usize>
     requires { digits ≤ 24 }
+    ensures { IfSome result (λ n. n ≡ moved digits (arcs_seen arcs.now)) }
 {
     let mut count = 0;
     for arc in arcs {
@@ -208,8 +212,8 @@ pub(crate) fn moved<A: Allocator + Copy>(digits: usize, arcs: &[Vec<FinePos, A>]
 }
 
 /// Whether there is a third number.
-fn has_more(span: Span<'_>) -> bool
-    ensures { result ≡ has_more (items (node span.entry)) }
+fn has_further(span: Span<'_>) -> bool
+    ensures { result ≡ has_further (node span.entry) }
 {
     let mut parts = items(span);
     match parts.next() {
@@ -221,10 +225,13 @@ fn has_more(span: Span<'_>) -> bool
     }
 }
 
-fn heights_in_arc(before: usize, arc: Span<'_>) -> Option<usize> {
+fn heights_in_arc(before: usize, arc: Span<'_>) -> Option<usize>
+    ensures { IfSome result (λ n.
+        n ≡ before + length (filter has_further (items (node arc.entry)))) }
+{
     let mut count = before;
     for part in items(arc) {
-        if has_more(part) {
+        if has_further(part) {
             count = count.checked_add(1)?;
         }
     }
@@ -232,7 +239,9 @@ fn heights_in_arc(before: usize, arc: Span<'_>) -> Option<usize> {
 }
 
 /// How many positions have further numbers.
-pub(crate) fn heights(arcs: Span<'_>) -> Option<usize> {
+pub(crate) fn heights(arcs: Span<'_>) -> Option<usize>
+    ensures { IfSome result (λ n. n ≡ heights (node arcs.entry)) }
+{
     let mut count = 0;
     for arc in items(arcs) {
         count = heights_in_arc(count, arc)?;

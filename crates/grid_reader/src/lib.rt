@@ -3,13 +3,16 @@
 #![tactic(auto)]
 
 mod fine;
+mod fine_pos;
 mod grid;
 mod reading;
 #[cfg(test)]
 mod tests;
+mod told;
 mod transform;
 mod wants;
 
-pub use reading::{OnGrid, Told, read_on_grid};
+pub use reading::{OnGrid, read_on_grid};
+pub use told::Told;
 pub use transform::Transform;
 pub use wants::Wants;

@@ -1,6 +1,6 @@
-//! From the bytes of a topology to its walks on a grid.
-ghost use Rattle.std.specs.Prelude.{◌≡◌, ◌≤◌, ◌==◌, ◌||◌, IfOk, IfErr, map, not, length, is_some, Ok, codes};
-ghost use Rattle.std.specs.List.{list_any};
+// From the bytes of a topology to its walks on a grid.
+ghost use Rattle.std.specs.Prelude.{◌≡◌, ◌≤◌, ◌+◌, ◌==◌, ◌||◌, IfOk, IfErr, IfSome, map, not, length, is_some, Ok, codes};
+ghost use Rattle.std.specs.List.{list_any, AllByRecursion};
 ghost use Rattle.json_spans.specs.Grammar.{Json};
 ghost use Rattle.json_spans.specs.Left.{node};
 ghost use Rattle.topo_outline.specs.Faults.{each};
@@ -8,15 +8,20 @@ ghost use Rattle.topo_outline.specs.Gives.{Gives};
 ghost use Rattle.topo_outline.specs.Views.{view_item, view_layer};
 ghost use Rattle.topo_outline.specs.OutlineView.{view_outline, IsPlaced};
 ghost use Rattle.topo_reader.specs.Document.{document_of, IsOfWalks};
-ghost use Rattle.topo_reader.specs.Opening.{OpensIn, IsFaultIn};
+ghost use Rattle.topo_reader.specs.Opening.{walks_read, OpensIn, IsFaultIn};
+ghost use Rattle.topo_reader.specs.Uses.{feature_positions};
 ghost use Rattle.grid_reader.specs.Fine.{fine_arcs};
-ghost use Rattle.grid_reader.specs.Opening.{is_text, has_points, opened_on, grid_opening, ReadsOnGrid};
+ghost use Rattle.grid_reader.specs.Opening.{is_text, has_points, demand_no_points, opened_on, grid_opening, ReadsOnGrid};
+ghost use Rattle.grid_reader.specs.Grid.{most_decimals, digits_of, on_grid};
+ghost use Rattle.grid_reader.specs.Near.{IsNear};
 ghost use Rattle.grid_reader.specs.OnGridView.{view_on_grid};
 ghost use Rattle.grid_reader.specs.Seen.{arcs_seen};
-ghost use Rattle.grid_reader.specs.Told.{IsTold};
+ghost use Rattle.grid_reader.specs.Told.{IsToldOf, IsToldAt, IsTold};
 
-use crate::fine::{FinePos, fine_arcs};
+use crate::fine::fine_arcs;
+use crate::fine_pos::FinePos;
 use crate::grid::{arcs_on, digits_of, heights, most_decimals, moved};
+use crate::told::Told;
 use crate::transform::{Transform, transform_on};
 use crate::wants::Wants;
 use grid_geometry::Pos;
@@ -27,19 +32,6 @@ use topo_reader::walks_along;
 
 /// The most bytes of a text.
 const MAX_BYTES: usize = 67_108_864;
-
-/// What is told of the grid that a map was put on.
-#[derive(Clone, Copy, Debug, PartialEq, Eq)]
-pub struct Told {
-    /// The most decimals that a coordinate has, of 24.
-    pub decimals: usize,
-    /// How many of them are kept.
-    pub digits: usize,
-    /// How many positions of arcs rounding moved.
-    pub rounded: usize,
-    /// How many positions of arcs had further numbers, which were left out.
-    pub heights: usize,
-}
 
 /// A topology that was read on a grid: its layers as they stand in the text, and its walks.
 ///
@@ -91,43 +83,52 @@ fn has_points<A: Allocator + Copy>(layers: &[RawLayer<'_, A>]) -> bool
     false
 }
 
-/// What is told of the grid. There are no more positions than bytes, so the counts fit.
-fn told_of<'a, A: Allocator + Copy>(
+/// What is told of the grid, where the counts fit. There are no more positions than bytes, so they do.
+fn told_of<A: Allocator + Copy>(
     wants: Wants,
     most: usize,
     digits: usize,
     fine: &[Vec<FinePos, A>],
-    arcs: Span<'a>,
-) -> Result<Told, OpenFault<'a>> {
-    let rounded = match moved(digits, fine) {
-        Some(rounded) => rounded,
-        None => return Err(OpenFault::OutOfMemory),
-    };
+    arcs: Span<'_>,
+) -> Option<Told>
+    requires most { most ≡ most_decimals (arcs_seen fine.now) }
+    requires digits { digits ≡ digits_of wants (arcs_seen fine.now) }
+    requires few { digits ≤ 24 }
+    ensures { IfSome result (λ t. IsToldOf wants (arcs_seen fine.now) (node arcs.entry) t) }
+{
+    let rounded = moved(digits, fine)?;
     let heights = if wants.drop_heights {
-        heights(arcs)
+        heights(arcs)?
     } else {
-        Some(0)
+        0
     };
-    match heights {
-        Some(heights) => Ok(Told {
-            decimals: most,
-            digits,
-            rounded,
-            heights,
-        }),
-        None => Err(OpenFault::OutOfMemory),
-    }
+    Some(Told {
+        decimals: most,
+        digits,
+        rounded,
+        heights,
+    })
 }
 
-/// The polygons of all features along the arcs on the grid.
+/// The polygons of all features along the arcs on the grid. Points are kept as they stand, so there
+/// may be none on a finer one.
 fn polygons<'a, A: Allocator + Copy>(
     alloc: A,
     digits: usize,
     finer: usize,
     fine: &[Vec<FinePos, A>],
     outline: &Outline<'a, A>,
-) -> Result<Vec<Vec<Vec<Vec<Pos, A>, A>, A>, A>, OpenFault<'a>> {
-    if !(digits + finer == 0) && has_points(outline.layers.as_slice()) {
+) -> Result<Vec<Vec<Vec<Vec<Pos, A>, A>, A>, A>, OpenFault<'a>>
+    requires digits { digits ≤ 24 }
+    requires finer { finer ≤ 12 }
+    requires near { AllByRecursion (AllByRecursion (IsNear digits finer)) (arcs_seen fine.now) }
+    requires placed { IsPlaced outline.now }
+    ensures { Gives (λ v. map feature_positions v.items) result
+        (demand_no_points (digits + finer) (view_outline outline.now).layers
+        (walks_read (map (map (on_grid digits finer)) (arcs_seen fine.now))
+        (view_outline outline.now).layers)) }
+{
+    if digits + finer > 0 && has_points(outline.layers.as_slice()) {
         return Err(OpenFault::Unsupported {
             type_name: Token { text: b"Point" },
         });
@@ -143,12 +144,21 @@ fn opened_on<'a, A: Allocator + Copy>(
     wants: Wants,
     outline: Outline<'a, A>,
     fine: &[Vec<FinePos, A>],
-) -> Result<OnGrid<'a, A>, OpenFault<'a>> {
+) -> Result<OnGrid<'a, A>, OpenFault<'a>>
+    requires near { AllByRecursion
+        (AllByRecursion (IsNear (digits_of wants (arcs_seen fine.now)) wants.finer))
+        (arcs_seen fine.now) }
+    requires placed { IsPlaced outline }
+    ensures value { Gives view_on_grid result
+        (opened_on wants (view_outline outline.entry) (arcs_seen fine.now)) }
+    ensures told { IfOk result (λ read.
+        IsToldOf wants (arcs_seen fine.now) (node outline.entry.arcs) read.told) }
+{
     let most = most_decimals(fine);
     let digits = digits_of(wants, most, fine);
     let told = match told_of(wants, most, digits, fine, outline.arcs) {
-        Ok(told) => told,
-        Err(fault) => return Err(fault),
+        Some(told) => told,
+        None => return Err(OpenFault::OutOfMemory),
     };
     let transform = match transform_on(alloc, heap, digits + wants.finer, outline.transform) {
         Ok(transform) => transform,
@@ -172,7 +182,10 @@ fn opened<'a, A: Allocator + Copy>(
     heap: Global,
     wants: Wants,
     root: Span<'a>,
-) -> Result<OnGrid<'a, A>, OpenFault<'a>> {
+) -> Result<OnGrid<'a, A>, OpenFault<'a>>
+    ensures value { Gives view_on_grid result (grid_opening wants (node root.entry)) }
+    ensures told { IfOk result (λ read. IsToldAt wants (node root.entry) read.told) }
+{
     let outline = match read_outline(alloc, heap, root) {
         Ok(outline) => outline,
         Err(fault) => return Err(fault),

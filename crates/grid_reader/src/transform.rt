@@ -1,5 +1,5 @@
 // The transform of a grid that is finer by a power of ten (TopoJSON 1.0, 2.1.2).
-ghost use Rattle.std.specs.Prelude.{◌≡◌, ◌≤◌, List, ℕ, Option, Ok, option_map, IfOk};
+ghost use Rattle.std.specs.Prelude.{◌≡◌, ◌≤◌, List, ℕ, Option, Ok, option_map, IfOk, None, Some, codes};
 ghost use Rattle.json_spans.specs.Left.{node};
 ghost use Rattle.json_spans.specs.Walk.{items, members};
 ghost use Rattle.json_spans.specs.Decoded.{decoded};
@@ -7,11 +7,11 @@ ghost use Rattle.topo_outline.specs.Gives.{Gives};
 ghost use Rattle.exact_decimals.specs.Seen.{parts};
 ghost use Rattle.exact_decimals.specs.Shifted.{shifted_text};
 ghost use Rattle.topo_reader.specs.Positions.{two_of};
-ghost use Rattle.grid_reader.specs.Transform.{says, value_named, two_in, transform_text, divided, transform_on, number};
+ghost use Rattle.grid_reader.specs.Transform.{says, value_named, two_numbers, two_in, transform_text, divided, transform_on, number};
 ghost use Rattle.grid_reader.specs.TransformView.{view_transform};
 
 use exact_decimals::{Decimal, decimal_of, push_shifted};
-use json_spans::{Span, TextFault, bytes, items, members, text};
+use json_spans::{Kind, Span, TextFault, bytes, items, kind, members, text};
 use std::alloc::{AllocError, Allocator, Global};
 use topo_outline::{OpenFault, Token};
 
@@ -37,10 +37,11 @@ impl<'a, A: Allocator + Copy> Transform<'a, A> {
     }
 }
 
-fn bad_transform<'a>() -> OpenFault<'a> {
-    OpenFault::BadMember {
-        name: Token { text: b"transform" },
-    }
+/// The member that is at fault where a transform cannot be divided.
+fn transform_name() -> Token<'static>
+    ensures { result.text.now ≡ codes "transform" }
+{
+    Token { text: b"transform" }
 }
 
 /// Whether a name stands for this text (RFC 8259, 7).
@@ -87,7 +88,23 @@ fn two<'a>(part: Span<'a>) -> Option<(Span<'a>, Span<'a>)>
     }
 }
 
-/// The two items of the member with this name.
+/// The parts of a list of two numbers.
+#[tactic(auto, unfolding(crate::specs::Transform::two_numbers))]
+fn two_numbers<'a>(part: Span<'a>) -> Option<(Span<'a>, Span<'a>)>
+    ensures { option_map (λ p. (node p.0, node p.1)) result ≡ two_numbers (node part.entry) }
+{
+    if kind(part) != Kind::List {
+        return None;
+    }
+    let (first, second) = two(part)?;
+    if kind(first) == Kind::Number && kind(second) == Kind::Number {
+        Some((first, second))
+    } else {
+        None
+    }
+}
+
+/// The two numbers of the member with this name.
 fn two_named<'a>(
     heap: Global,
     name: &[u8],
@@ -97,11 +114,15 @@ fn two_named<'a>(
         (two_in (value_named name.now (members (node object.entry)))) }
 {
     match value_named(heap, name, object) {
-        Ok(Some(value)) => match two(value) {
+        Ok(Some(value)) => match two_numbers(value) {
             Some(pair) => Ok(pair),
-            None => Err(bad_transform()),
+            None => Err(OpenFault::BadMember {
+                name: transform_name(),
+            }),
         },
-        Ok(None) => Err(bad_transform()),
+        Ok(None) => Err(OpenFault::BadMember {
+            name: transform_name(),
+        }),
         Err(fault) => Err(fault),
     }
 }
@@ -112,7 +133,9 @@ fn number<'a>(text: &'a [u8]) -> Result<Decimal<'a>, OpenFault<'a>>
 {
     match decimal_of(text) {
         Some(number) => Ok(number),
-        None => Err(bad_transform()),
+        None => Err(OpenFault::BadMember {
+            name: transform_name(),
+        }),
     }
 }
 

@@ -1,0 +1,12 @@
+use Rattle.std.proofs.Common.{◌≡◌, ◌++◌, drop, map}
+use Rattle.std.specs.List.{AllByRecursion}
+use Rattle.grid_reader.specs.Grid.{on_grid}
+use Rattle.grid_reader.specs.Near.{IsNear}
+use Rattle.grid_reader.specs.Seen.{fine_seen}
+use Rattle.grid_reader.proofs.grid.arc_on.Given as goal
+
+abbrev pub invariant-loop-pos : goal.invariant-loop-pos
+invariant-loop-pos g l = record {
+  all : l.found.items ++ map (on_grid l.digits l.finer) (map fine_seen (drop l.pos-index l.arc)) ≡ map (on_grid l.digits l.finer) (map fine_seen l.fn.arc);
+  near : AllByRecursion (IsNear l.digits l.finer) (map fine_seen (drop l.pos-index l.arc));
+}

@@ -1,0 +1,13 @@
+use Rattle.std.proofs.Common.{◌≡◌, ◌++◌, drop, map}
+use Rattle.std.specs.List.{AllByRecursion}
+use Rattle.topo_reader.specs.Uses.{positions_of}
+use Rattle.grid_reader.specs.Grid.{on_grid}
+use Rattle.grid_reader.specs.Near.{IsNear}
+use Rattle.grid_reader.specs.Seen.{arcs_seen}
+use Rattle.grid_reader.proofs.grid.arcs_on.Given as goal
+
+abbrev pub invariant-loop-arc : goal.invariant-loop-arc
+invariant-loop-arc g l = record {
+  all : map positions_of l.found.items ++ map (map (on_grid l.digits l.finer)) (arcs_seen (drop l.arc-index l.arcs)) ≡ map (map (on_grid l.digits l.finer)) (arcs_seen l.fn.arcs);
+  near : AllByRecursion (AllByRecursion (IsNear l.digits l.finer)) (arcs_seen (drop l.arc-index l.arcs));
+}

@@ -1,0 +1,9 @@
+use Rattle.std.proofs.Common.{◌≡◌, ◌+◌, length}
+use Rattle.std.specs.List.{filter, flat_map}
+use Rattle.json_spans.specs.Left.{node}
+use Rattle.json_spans.specs.Walk.{items, items_left}
+use Rattle.grid_reader.specs.Grid.{has_further, heights}
+use Rattle.grid_reader.proofs.grid.heights.Given as goal
+
+abbrev pub invariant-loop-arc : goal.invariant-loop-arc
+invariant-loop-arc l = l.count + length (filter has_further (flat_map items (items_left l.arc-iterator))) ≡ heights (node l.fn.arcs)

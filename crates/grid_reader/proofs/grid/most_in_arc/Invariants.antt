@@ -1,0 +1,8 @@
+use Rattle.std.proofs.Common.{◌≡◌, drop, map}
+use Rattle.exact_decimals.specs.Fine.{decimals}
+use Rattle.grid_reader.specs.Grid.{greatest_from}
+use Rattle.grid_reader.specs.Seen.{fine_seen}
+use Rattle.grid_reader.proofs.grid.most_in_arc.Given as goal
+
+abbrev pub invariant-loop-pos : goal.invariant-loop-pos
+invariant-loop-pos l = greatest_from decimals l.most (map fine_seen (drop l.pos-index l.arc)) ≡ greatest_from decimals l.fn.before (map fine_seen l.fn.arc)

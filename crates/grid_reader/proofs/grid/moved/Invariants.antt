@@ -1,0 +1,7 @@
+use Rattle.std.proofs.Common.{◌≡◌, ◌+◌, drop}
+use Rattle.grid_reader.specs.Grid.{moved}
+use Rattle.grid_reader.specs.Seen.{arcs_seen}
+use Rattle.grid_reader.proofs.grid.moved.Given as goal
+
+abbrev pub invariant-loop-arc : goal.invariant-loop-arc
+invariant-loop-arc g l = l.count + moved l.digits (arcs_seen (drop l.arc-index l.arcs)) ≡ moved l.digits (arcs_seen l.fn.arcs)

@@ -1,0 +1,8 @@
+use Rattle.std.proofs.Common.{◌≡◌, ◌+◌, drop, length, map}
+use Rattle.std.specs.List.{filter}
+use Rattle.grid_reader.specs.Grid.{is_moved}
+use Rattle.grid_reader.specs.Seen.{fine_seen}
+use Rattle.grid_reader.proofs.grid.moved_in_arc.Given as goal
+
+abbrev pub invariant-loop-pos : goal.invariant-loop-pos
+invariant-loop-pos l = l.count + length (filter (is_moved l.digits) (map fine_seen (drop l.pos-index l.arc))) ≡ l.fn.before + length (filter (is_moved l.digits) (map fine_seen l.fn.arc))

@@ -1,0 +1,8 @@
+use Rattle.std.proofs.Common.{◌≡◌, drop, map}
+use Rattle.std.specs.List.{list_any}
+use Rattle.topo_outline.specs.Views.{view_item}
+use Rattle.grid_reader.specs.Opening.{is_text}
+use Rattle.grid_reader.proofs.reading.has_text.Given as goal
+
+abbrev pub invariant-loop-item : goal.invariant-loop-item
+invariant-loop-item g l = list_any is_text (map view_item (drop l.item-index l.items)) ≡ list_any is_text (map view_item l.fn.items)

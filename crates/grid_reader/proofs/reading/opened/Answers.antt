@@ -1,0 +1,7 @@
+use Rattle.json_spans.specs.Left.{node}
+use Rattle.grid_reader.specs.Seen.{arcs_seen}
+use Rattle.grid_reader.proofs.NearAll.{all_near}
+use Rattle.grid_reader.proofs.reading.opened.Goals as goal
+
+pub opened_on-requires-clause-near : goal.opened_on-requires-clause-near
+opened_on-requires-clause-near g c = rw c.as_slice.ensures.value (all_near c.args.wants c.is_some.result (node c.in-Ok.outline.arcs) (arcs_seen c.in-Ok-fine_arcs.fine.items) c.in-Ok-fine_arcs.ensures)

@@ -1,0 +1,14 @@
+// What is told of the grid.
+
+/// What is told of the grid that a map was put on.
+#[derive(Clone, Copy, Debug, PartialEq, Eq)]
+pub struct Told {
+    /// The most decimals that a coordinate has, of 24.
+    pub decimals: usize,
+    /// How many of them are kept.
+    pub digits: usize,
+    /// How many positions of arcs rounding moved.
+    pub rounded: usize,
+    /// How many positions of arcs had further numbers, which were left out.
+    pub heights: usize,
+}
