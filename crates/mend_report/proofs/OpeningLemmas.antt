@@ -1,6 +1,6 @@
 -- The status is 0 exactly where the map opens.
 use Rattle.std.proofs.Common.{◌≡◌, ◌↔◌, ℕ, suc, ◌==◌, ◌&&◌, Bool, true, false, refl, sym, ap, ap₂, ◌∙◌, subst, List, [], ◌∷◌, length, arith}
-use Rattle.std.specs.Prelude.{Ok, is_some, if◌then◌else◌}
+use Rattle.std.specs.Prelude.{Result, Ok, Err, IfOk, is_some, if◌then◌else◌}
 use Rattle.std.proofs.lemmas.Bool.{false≢true, eqb-true}
 use Rattle.topo_reader.specs.Document.{Opened}
 use Rattle.topo_outline.specs.Layers.{OutlineText}
@@ -11,6 +11,7 @@ use Rattle.grid_reader.specs.declared.reading.Told.{Told}
 use Rattle.grid_reader.specs.declared.wants.Wants.{Wants}
 use Rattle.topo_reader.proofs.Steps.{ok_same}
 use Rattle.topo_outline.specs.declared.fault.RingAt.{RingAt}
+use Rattle.walk_faults.specs.Findings.{Found}
 use Rattle.walk_faults.specs.Opens.{Opens, IsNothing}
 use Rattle.walk_faults.specs.declared.findings.Crossing.{Crossing}
 use Rattle.walk_faults.specs.declared.findings.Findings.{Findings}
@@ -20,6 +21,7 @@ use Rattle.walk_faults.proofs.Opening.{nothing_opens}
 use Rattle.mend_report.specs.Looking.{OpensOn, Looked, MapOpens}
 use Rattle.mend_report.specs.Report.{is_plain, is_clear}
 use Rattle.mend_report.specs.declared.asked.Report.{Report}
+use Rattle.mend_report.specs.declared.looking.LookFault.{LookFault}
 use Rattle.mend_report.specs.Status.{status_of}
 
 -- ---- nothing is found
@@ -79,7 +81,7 @@ plain_same wants bytes s t told again =
 
 pub status_opens : {A : Type 0} (wants : Wants) (bytes : List ℕ) (r : Report A) → Looked wants bytes r.findings → IsTold wants bytes r.grid
     → status_of (Ok r) ≡ 0 ↔ MapOpens wants bytes
-status_opens wants bytes r looked told = (
+status_opens {A = A} wants bytes r looked told = (
   λ e.
       let both = both_if (is_plain r.grid) clear (zero_if (is_plain r.grid && clear) e) in
       (o, r.grid, looked.1, told, both.0, law.0 (nothing_if f both.1)),
@@ -102,3 +104,11 @@ status_opens wants bytes r looked told = (
 
     clear : Bool
     clear = is_clear f.short.items f.repeats.items f.touches.items f.crossings.items
+
+-- as it is answered: what is found is found in what the bytes are, and the grid is theirs
+pub answer_opens : {A : Type 0} (wants : Wants) (bytes : List ℕ) (o : Opened) (grid : Told) (r : Result (Report A) LookFault)
+    → OpensOn wants bytes o → IsTold wants bytes grid → IfOk r (λ report. Found o.polygons report.findings) → IfOk r (λ report. report.grid ≡ grid)
+    → IfOk r (λ report. status_of (Ok report) ≡ 0 ↔ MapOpens wants bytes)
+answer_opens wants bytes o grid (Ok report) opens told found same =
+    status_opens wants bytes report (o, opens, found) (subst (IsTold wants bytes) (sym same) told)
+answer_opens wants bytes o grid (Err fault) opens told found same = tt

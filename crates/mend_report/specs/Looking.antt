@@ -6,6 +6,7 @@ use Rattle.grid_reader.specs.Told.{IsTold}
 use Rattle.grid_reader.specs.declared.reading.Told.{Told}
 use Rattle.grid_reader.specs.declared.wants.Wants.{Wants}
 use Rattle.place_text.specs.Text.{IsPlaceText}
+use Rattle.ring_machine.specs.Document.{Text}
 use Rattle.segment_paths.specs.Paths.{Path}
 use Rattle.topo_reader.specs.Document.{Opened}
 use Rattle.topo_reader.specs.Opening.{OpensIn, IsFaultIn}
@@ -16,6 +17,10 @@ use Rattle.walk_faults.specs.declared.findings.Findings.{Findings}
 use Rattle.mend_report.specs.Report.{is_plain}
 use Rattle.mend_report.specs.declared.looking.LookFault.{LookFault}
 use Rattle.mend_report.specs.declared.looking.LookFault.TheVariants.{Open, TooMany, OutOfMemory}
+
+-- a topology with this transform
+abbrev pub under : Option Text → Opened → Opened
+under t o = record o { transform = t }
 
 -- on the grid that is asked for, the bytes are this topology, with walks in the place of rings
 abbrev pub OpensOn : Wants → List ℕ → Opened → Type 0

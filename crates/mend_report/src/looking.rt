@@ -61,11 +61,13 @@ pub(crate) fn map_of<'a, A: Allocator + Copy>(
     }
 }
 
-/// A map with walks in the place of its rings, and the grid that it was put on.
+/// A map with walks in the place of its rings, without its transform; the grid that it was put on; and
+/// how many lines of one kind are told of it at most.
 #[derive(Drop)]
 pub(crate) struct Seen<'a, A: Allocator + Copy = Global> {
     pub(crate) map: RawDoc<'a, A>,
     pub(crate) grid: Told,
+    pub(crate) most: usize,
 }
 
 /// All that keeps a map of walks from opening, beside what keeps it from being read.

@@ -13,7 +13,7 @@ ghost use Rattle.mend_report.specs.Remaking.{IsRemade, TellsRemade, PlacesRemade
 ghost use Rattle.topo_reader.specs.Document.{document_of, IsOfWalks};
 ghost use Rattle.topo_reader.specs.DocumentView.{view_raw};
 ghost use Rattle.segment_paths.specs.Seen.{paths_seen};
-ghost use Rattle.mend_report.specs.Looking.{Looked, HasPlaces, MapOpens, IsEnd, EndsLook};
+ghost use Rattle.mend_report.specs.Looking.{under, Looked, HasPlaces, MapOpens, IsEnd, EndsLook};
 ghost use Rattle.mend_report.specs.Status.{is_open, status_of};
 ghost use Rattle.grid_reader.specs.Told.{IsTold};
 
@@ -296,23 +296,23 @@ fn put_places<'f, A: Allocator + Copy>(
 fn report_read<A: Allocator + Copy>(
     alloc: A,
     heap: Global,
+    transform: Option<&[u8]>,
     seen: Seen<'_, A>,
-    most: usize,
     texts: &mut Texts<A>,
 ) -> Result<Report<A>, LookFault<'static>>
     ensures found { IfOk result (λ report.
         Found (view_raw seen.entry.map).polygons report.findings) }
     ensures grid { IfOk result (λ report. report.grid ≡ seen.entry.grid) }
     ensures told { IfOk result (λ report. texts.new.report.items
-        ≡ texts.old.report.items ++ report_of most report.grid report.findings) }
+        ≡ texts.old.report.items ++ report_of seen.entry.most report.grid report.findings) }
     ensures asked { OnOk result (is_some texts.new.places ≡ is_some texts.old.places) }
     ensures placed { IfOk result (λ report. IfSome texts.new.places (λ places.
-        IsPlaceText (view_raw seen.entry.map).transform (view_raw seen.entry.map).polygons
+        IsPlaceText (option_map (λ t. t.now) transform.entry) (view_raw seen.entry.map).polygons
         report.findings None places.items)) }
     ensures refused { IfErr result (λ fault.
         EndsLook fault (view_raw seen.entry.map).polygons) }
 {
-    let Seen { map, grid } = seen;
+    let Seen { map, grid, most } = seen;
     let findings = match look(alloc, heap, &map) {
         Ok(findings) => findings,
         Err(fault) => return Err(fault),
@@ -321,7 +321,7 @@ fn report_read<A: Allocator + Copy>(
     push_report(&mut texts.report, &report, most)?;
     let walks = map.polygons.as_slice();
     let found = &report.findings;
-    put_places(alloc, map.transform, walks, found, None, &mut texts.places)?;
+    put_places(alloc, transform, walks, found, None, &mut texts.places)?;
     Ok(report)
 }
 
@@ -358,13 +358,17 @@ pub fn report_map<'a, A: Allocator + Copy>(
         Ok(read) => read,
         Err(fault) => return Err(fault),
     };
-    let map = RawDoc {
-        transform: transform.text(),
-        layers,
-        members,
-        polygons,
+    let seen = Seen {
+        map: RawDoc {
+            transform: None,
+            layers,
+            members,
+            polygons,
+        },
+        grid: told,
+        most: asked.most,
     };
-    report_read(alloc, heap, Seen { map, grid: told }, asked.most, texts)
+    report_read(alloc, heap, transform.text(), seen, texts)
 }
 
 /// Why a map is not mended.
@@ -389,31 +393,45 @@ impl<'a> From<AllocError> for RepairFault<'a> {
 }
 
 /// Mends a map that was read, and reports it as `mend_map` says.
-fn mend_read<A: Allocator + Copy>(
+fn mend_read<'x, 'a: 'x, A: Allocator + Copy>(
     alloc: A,
     heap: Global,
-    seen: Seen<'_, A>,
-    most: usize,
+    transform: Option<&'x [u8]>,
+    seen: Seen<'a, A>,
     texts: &mut Texts<A>,
 ) -> Result<Remade<A>, RepairFault<'static>>
-    requires { IsOfWalks (view_raw seen.map) }
-    ensures remade { IfOk result (λ remade.
-        IsRemade (document_of (view_raw seen.entry.map)) remade) }
-    ensures told { IfOk result (λ remade. TellsRemade most (view_raw seen.entry.map)
+    requires { IsOfWalks (under (option_map (λ t. t.now) transform) (view_raw seen.map)) }
+    ensures remade { IfOk result (IsRemade (document_of
+        (under (option_map (λ t. t.now) transform.entry) (view_raw seen.entry.map)))) }
+    ensures told { IfOk result (λ remade. TellsRemade seen.entry.most
+        (under (option_map (λ t. t.now) transform.entry) (view_raw seen.entry.map))
         seen.entry.grid remade texts.old.report.items texts.new.report.items) }
     ensures asked { OnOk result (is_some texts.new.places ≡ is_some texts.old.places) }
-    ensures placed { IfOk result (λ remade.
-        PlacesRemade (view_raw seen.entry.map) remade texts.new.places) }
-    ensures refused { IfErr result (λ fault. EndsMending fault (view_raw seen.entry.map)) }
+    ensures placed { IfOk result (λ remade. PlacesRemade
+        (under (option_map (λ t. t.now) transform.entry) (view_raw seen.entry.map))
+        remade texts.new.places) }
+    ensures refused { IfErr result (λ fault. EndsMending fault
+        (under (option_map (λ t. t.now) transform.entry) (view_raw seen.entry.map))) }
 {
-    let Seen { map, grid } = seen;
+    let Seen { map, grid, most } = seen;
     let findings = match look(alloc, heap, &map) {
         Ok(findings) => findings,
         Err(fault) => return Err(RepairFault::Look(fault)),
     };
     let report = Report { grid, findings };
-    let transform = map.transform;
     let walks = copied(alloc, map.polygons.as_slice())?;
+    let RawDoc {
+        transform: _,
+        layers,
+        members,
+        polygons,
+    } = map;
+    let map = RawDoc {
+        transform,
+        layers,
+        members,
+        polygons,
+    };
     let remade = match remake(alloc, heap, map, walks.as_slice()) {
         Ok(remade) => remade,
         Err(fault) => return Err(RepairFault::Remake(fault)),
@@ -462,11 +480,15 @@ pub fn mend_map<'a, A: Allocator + Copy>(
         Ok(read) => read,
         Err(fault) => return Err(RepairFault::Look(fault)),
     };
-    let map = RawDoc {
-        transform: transform.text(),
-        layers,
-        members,
-        polygons,
+    let seen = Seen {
+        map: RawDoc {
+            transform: None,
+            layers,
+            members,
+            polygons,
+        },
+        grid: told,
+        most: asked.most,
     };
-    mend_read(alloc, heap, Seen { map, grid: told }, asked.most, texts)
+    mend_read(alloc, heap, transform.text(), seen, texts)
 }

@@ -1,5 +1,6 @@
 use Rattle.std.proofs.Common.{sym, subst, ap, ◌∙◌}
-use Rattle.std.specs.Prelude.{Some}
+use Rattle.std.specs.Prelude.{Some, option_map}
+use Rattle.mend_report.specs.Looking.{under}
 use Rattle.topo_reader.specs.DocumentView.{view_raw}
 use Rattle.segment_paths.specs.Seen.{paths_seen}
 use Rattle.walk_faults.specs.Findings.{Found}
@@ -22,7 +23,7 @@ returns-clause-told g c = (c.in-Ok.findings, c.in-Ok.ensures.found, c.in_ok-push
 
 pub returns-clause-placed : goal.returns-clause-placed
 returns-clause-placed g c =
-    remade_placed (view_raw c.args.seen.map) c.in-Ok.findings c.in-Ok-remake.remade c.put_places.new.places c.in-Ok.ensures.found
-    (walks_same (view_raw c.args.seen.map) c.in-Ok.findings _ _ _ c.put_places.new.places
+    remade_placed (under (option_map (λ t. t.now) c.args.transform) (view_raw c.args.seen.map)) c.in-Ok.findings c.in-Ok-remake.remade c.put_places.new.places c.in-Ok.ensures.found
+    (walks_same (under (option_map (λ t. t.now) c.args.transform) (view_raw c.args.seen.map)) c.in-Ok.findings _ _ _ c.put_places.new.places
     (ap features_seen c.as_slice-3.ensures.value ∙ c.in_ok-walks.ensures ∙ ap features_seen c.as_slice.ensures.value)
     (ap (λ ps. Some (paths_seen ps)) c.as_slice-paths.ensures.value) c.in_ok-put_places.ensures.placed)

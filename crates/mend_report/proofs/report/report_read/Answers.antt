@@ -1,5 +1,6 @@
 use Rattle.std.proofs.Common.{refl, sym, subst, ap}
-use Rattle.std.specs.Prelude.{None}
+use Rattle.std.specs.Prelude.{None, option_map}
+use Rattle.mend_report.specs.Looking.{under}
 use Rattle.topo_reader.specs.DocumentView.{view_raw}
 use Rattle.walk_faults.specs.Findings.{Found}
 use Rattle.walk_faults.specs.Seen.{features_seen}
@@ -12,4 +13,4 @@ put_places-requires g c = subst (λ ps. Found (features_seen ps) c.in-Ok.finding
 
 pub returns-clause-placed : goal.returns-clause-placed
 returns-clause-placed g c =
-    walks_same (view_raw c.args.seen.map) c.in-Ok.findings _ None None c.put_places.new.places (ap features_seen c.as_slice-walks.ensures.value) refl c.in_ok-put_places.ensures.placed
+    walks_same (under (option_map (λ t. t.now) c.args.transform) (view_raw c.args.seen.map)) c.in-Ok.findings _ None None c.put_places.new.places (ap features_seen c.as_slice-walks.ensures.value) refl c.in_ok-put_places.ensures.placed
