@@ -47,13 +47,15 @@ fn range_of(
     };
     let mut before = None;
     for next in left {
-        if says(heap, name, member.0)? {
+        let named = says(heap, name, member.0)?;
+        if named {
             return Ok(Some((member.0.at, next.0.at)));
         }
         before = Some(end_of(member.1));
         member = next;
     }
-    if says(heap, name, member.0)? {
+    let last = says(heap, name, member.0)?;
+    if last {
         Ok(behind(before, end_of(member.1)))
     } else {
         Ok(None)
@@ -69,15 +71,18 @@ fn set(text: &mut [u8], place: usize, byte: u8)
 }
 
 /// Puts bytes in the place of as many others.
-fn put(text: &mut [u8], place: usize, new: &[u8])
-    requires { place + length new.now < 2 ^ 64 }
-    ensures { text.new ≡ put place new.now text.old }
+#[tactic(auto, using(crate::proofs::Putting::put_step, crate::proofs::Putting::put_end))]
+fn put(text: &mut [u8], place: usize, bytes: &[u8])
+    requires { place + length bytes.now < 2 ^ 64 }
+    ensures { text.new ≡ put place bytes.now text.old }
 {
-    for (i, byte) in new.iter().enumerate() {
+    for (i, byte) in bytes.iter().enumerate() {
         set(text, place + i, *byte);
     }
 }
 
+/// Puts spaces from a place up to another.
+#[tactic(auto, using(crate::proofs::Putting::blank_step, crate::proofs::Putting::blank_end))]
 fn blank(text: &mut [u8], from: usize, to: usize)
     ensures { text.new ≡ put from (replicate (to - from) 32) text.old }
 {
@@ -118,6 +123,17 @@ fn without_line(heap: Global, text: &mut [u8], line: Span<'_>) -> Result<(), All
     Ok(())
 }
 
+/// The text without the lines at these places.
+#[tactic(auto, using(crate::proofs::Walking::fold_step, crate::proofs::Walking::fold_end))]
+fn without_each(heap: Global, text: &mut [u8], lines: &[Span<'_>]) -> Result<(), AllocError>
+    ensures { OnOk result (text.new ≡ fold without_line text.old (map node lines.now)) }
+{
+    for line in lines {
+        without_line(heap, text, *line)?;
+    }
+    Ok(())
+}
+
 /// The text without the lines of the topology whose root this is.
 fn text_without<A: Allocator + Copy>(
     alloc: A,
@@ -131,9 +147,7 @@ fn text_without<A: Allocator + Copy>(
 {
     let lines = all_lines(alloc, heap, root)?;
     let mut text = Vec::from_slice(alloc, bytes)?;
-    for line in &lines {
-        without_line(heap, text.as_mut_slice(), *line)?;
-    }
+    without_each(heap, text.as_mut_slice(), lines.as_slice())?;
     Ok(Dropped {
         text,
         lines: lines.len(),

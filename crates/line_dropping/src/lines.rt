@@ -27,7 +27,8 @@ pub(crate) fn value_in<'a>(
     ensures { IfOk result (λ value. found value ≡ value_in name.now (node span.entry)) }
 {
     for member in members(span) {
-        if says(heap, name, member.0)? {
+        let named = says(heap, name, member.0)?;
+        if named {
             return Ok(Some(member.1));
         }
     }
@@ -75,14 +76,16 @@ fn lines_in<'a, A: Allocator + Copy>(
     if depth == 0 {
         return Ok(());
     }
-    if is_line(heap, span)? {
+    let line = is_line(heap, span)?;
+    if line {
         out.push(span)?;
         return Ok(());
     }
-    if let Some(list) = geometries(heap, span)? {
-        for part in items(list) {
-            lines_in(heap, depth - 1, part, out)?;
-        }
+    let Some(list) = geometries(heap, span)? else {
+        return Ok(());
+    };
+    for part in items(list) {
+        lines_in(heap, depth - 1, part, out)?;
     }
     Ok(())
 }
@@ -96,10 +99,11 @@ pub(crate) fn all_lines<'a, A: Allocator + Copy>(
     ensures { IfOk result (λ lines. map node lines.items ≡ all_lines (node root.entry)) }
 {
     let mut lines = Vec::new(alloc);
-    if let Some(objects) = value_in(heap, "objects", root)? {
-        for member in members(objects) {
-            lines_in(heap, 100, member.1, &mut lines)?;
-        }
+    let Some(objects) = value_in(heap, "objects", root)? else {
+        return Ok(lines);
+    };
+    for member in members(objects) {
+        lines_in(heap, 100, member.1, &mut lines)?;
     }
     Ok(lines)
 }
