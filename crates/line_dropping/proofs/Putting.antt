@@ -14,7 +14,7 @@ use Rattle.std.specs.Prelude.{codes}
 pub put_step : (n i : ℕ) (bytes text : List ℕ) → i < length bytes → put (n + i) (drop i bytes) text ≡ put (n + (i + 1)) (drop (i + 1) bytes) (set text (n + i) (get_or bytes i 0))
 unfolding put
 put_step n i bytes text lt =
-    let next : n + i + 1 ≡ n + (i + 1) = omega arith in
+    let next : n + i + 1 ≡ n + suc i = omega arith in
     rw (drop-cons bytes i 0 lt, add-one i, ← next) refl
 
 pub put_end : (n i : ℕ) (bytes text : List ℕ) → length bytes ≤ i → put (n + i) (drop i bytes) text ≡ text
@@ -46,9 +46,9 @@ length-nulled : (ns : List Node) (text : List ℕ) → length (nulled ns text) �
 length-nulled [] text = refl
 length-nulled (n ∷ ns) text = length-put n.at_byte _ _ ∙ length-put n.at_byte _ text
 
-pub length-without : (ns : List Node) (text : List ℕ) → length (fold without_line text ns) ≡ length text
-length-without [] text = refl
-length-without (n ∷ ns) text =
-    length-without ns (without_line text n)
+pub length_without : (ns : List Node) (text : List ℕ) → length (fold without_line text ns) ≡ length text
+length_without [] text = refl
+length_without (n ∷ ns) text =
+    length_without ns (without_line text n)
     ∙ length-nulled (value_in (codes "type") n) (blanked (range_of (codes "arcs") None (members n)) text)
     ∙ length-blanked (range_of (codes "arcs") None (members n)) text

@@ -5,9 +5,9 @@ use Rattle.json_spans.specs.Nodes.{Node}
 use Rattle.line_dropping.specs.Lines.{says}
 use Rattle.line_dropping.specs.Dropped.{end_of, behind, range_of}
 
-pub no_member : (name : List ℕ) (left : List (Node × Node)) → left ≡ [] → None ≡ range_of name None left
+pub no_member : (name : List ℕ) (left ms : List (Node × Node)) → left ≡ [] → left ≡ ms → None ≡ range_of name None ms
 unfolding range_of
-no_member name left e = rw e refl
+no_member name left ms e is = rw (← is, e) refl
 
 pub member_here : (name : List ℕ) (before : Option ℕ) (m next : Node × Node) (ms left : List (Node × Node)) (b : Bool) (whole : Option (ℕ × ℕ)) → left ≡ next ∷ ms → b ≡ says name m.0 → b ≡ true → range_of name before (m ∷ left) ≡ whole → Some (m.0.at_byte, next.0.at_byte) ≡ whole
 unfolding range_of

@@ -42,8 +42,9 @@ fn range_of(
     ensures { IfOk result (λ range. range ≡ range_of name.now None (members (node span.entry))) }
 {
     let mut left = members(span);
-    let Some(mut member) = left.next() else {
-        return Ok(None);
+    let mut member = match left.next() {
+        Some(member) => member,
+        None => return Ok(None),
     };
     let mut before = None;
     for next in left {
@@ -135,6 +136,7 @@ fn without_each(heap: Global, text: &mut [u8], lines: &[Span<'_>]) -> Result<(),
 }
 
 /// The text without the lines of the topology whose root this is.
+#[tactic(auto, using(crate::proofs::Putting::length_without))]
 fn text_without<A: Allocator + Copy>(
     alloc: A,
     heap: Global,
@@ -144,6 +146,7 @@ fn text_without<A: Allocator + Copy>(
     ensures text { IfOk result (λ dropped.
         dropped.text.items ≡ fold without_line bytes.now (all_lines (node root.entry))) }
     ensures lines { IfOk result (λ dropped. dropped.lines ≡ length (all_lines (node root.entry))) }
+    ensures long { IfOk result (λ dropped. length dropped.text.items ≡ length bytes.now) }
 {
     let lines = all_lines(alloc, heap, root)?;
     let mut text = Vec::from_slice(alloc, bytes)?;

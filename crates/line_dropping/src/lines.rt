@@ -81,8 +81,9 @@ fn lines_in<'a, A: Allocator + Copy>(
         out.push(span)?;
         return Ok(());
     }
-    let Some(list) = geometries(heap, span)? else {
-        return Ok(());
+    let list = match geometries(heap, span)? {
+        Some(list) => list,
+        None => return Ok(()),
     };
     for part in items(list) {
         lines_in(heap, depth - 1, part, out)?;
