@@ -38,7 +38,7 @@ abbrev pub nulled : List Node → List ℕ → List ℕ
 nulled [] text = text
 nulled (n ∷ ns) text =
     put n.at_byte (take (length n.bytes) (codes "null"))
-        (put n.at_byte (replicate (length n.bytes) 32) text)
+    (put n.at_byte (replicate (length n.bytes) 32) text)
 
 -- the text without the type and the arcs of this line
 abbrev pub without_line : List ℕ → Node → List ℕ

@@ -34,11 +34,7 @@ fn behind(before: Option<usize>, to: usize) -> Option<(usize, usize)>
 }
 
 /// From where to where the first member of this name stands, with one comma.
-fn range_of(
-    heap: Global,
-    name: &str,
-    span: Span<'_>,
-) -> Result<Option<(usize, usize)>, AllocError>
+fn range_of(heap: Global, name: &str, span: Span<'_>) -> Result<Option<(usize, usize)>, AllocError>
     ensures { IfOk result (λ range. range ≡ range_of name.now None (members (node span.entry))) }
 {
     let mut left = members(span);
@@ -179,7 +175,7 @@ pub fn without_lines<A: Allocator + Copy>(
 ) -> Result<Dropped<A>, AllocError>
     ensures text { IfOk result (λ dropped.
         ((dropped.text.items ≡ without_lines bytes.now)
-            × (dropped.lines ≡ length (all_lines (root_of bytes.now))))
+        × (dropped.lines ≡ length (all_lines (root_of bytes.now))))
         ⊎ ((¬ Json 100 bytes.now) × (dropped.text.items ≡ bytes.now) × (dropped.lines ≡ 0))) }
     ensures long { IfOk result (λ dropped. length dropped.text.items ≡ length bytes.now) }
 {
