@@ -1,29 +1,29 @@
 -- The text of a topology without its lines: each becomes a geometry whose type is null, and what is
 -- left keeps its place.
-use Rattle.std.specs.Prelude.{◌≡◌, ◌⊎◌, ℕ, ◌+◌, ◌-◌, if◌then◌else◌, List, [], ◌∷◌, ◌++◌, length, take, drop, replicate, codes, Option, Some, None}
+use Rattle.std.specs.Prelude.{ℕ, ◌+◌, ◌-◌, if◌then◌else◌, List, [], ◌∷◌, length, take, replicate, slice_set, codes, Option, Some, None}
 use Rattle.std.specs.List.{fold}
-use Rattle.json_spans.specs.Grammar.{Json}
 use Rattle.json_spans.specs.Nodes.{Node}
 use Rattle.json_spans.specs.Walk.{members}
 use Rattle.json_spans.specs.Trimmed.{trimmed}
 use Rattle.line_dropping.specs.Lines.{says, value_in, all_lines}
 
--- the text with these bytes in the place of as many from place n on
-abbrev pub put : ℕ → List ℕ → List ℕ → List ℕ
-put n new text = take n text ++ (new ++ drop (n + length new) text)
+-- the text with these bytes in the place of as many from place n on, up to its end
+unfoldable pub put : ℕ → List ℕ → List ℕ → List ℕ
+put n [] text = text
+put n (x ∷ xs) text = put (n + 1) xs (slice_set text n x)
 
 abbrev pub end_of : Node → ℕ
 end_of n = n.at_byte + length n.bytes
+
+abbrev pub behind : Option ℕ → ℕ → Option (ℕ × ℕ)
+behind None to = None
+behind (Some from) to = Some (from, to)
 
 -- from where to where the first member of this name stands, with one comma: up to the next member, or
 -- as the last one from the end of the one before it
 unfoldable pub range_of : List ℕ → Option ℕ → List (Node × Node) → Option (ℕ × ℕ)
 range_of name before [] = None
-range_of name before (m ∷ []) = if says name m.0 then from before else None
-  where
-    from : Option ℕ → Option (ℕ × ℕ)
-    from None = None
-    from (Some e) = Some (e, end_of m.1)
+range_of name before (m ∷ []) = if says name m.0 then behind before (end_of m.1) else None
 range_of name before (m ∷ next ∷ ms) =
     if says name m.0 then Some (m.0.at_byte, next.0.at_byte)
     else range_of name (Some (end_of m.1)) (next ∷ ms)
@@ -33,11 +33,12 @@ abbrev pub blanked : Option (ℕ × ℕ) → List ℕ → List ℕ
 blanked None text = text
 blanked (Some r) text = put r.0 (replicate (r.1 - r.0) 32) text
 
--- null, and spaces, in the place of a value
+-- null, and spaces, in the place of a value, up to its end
 abbrev pub nulled : List Node → List ℕ → List ℕ
 nulled [] text = text
 nulled (n ∷ ns) text =
-    put n.at_byte (codes "null" ++ replicate (length n.bytes - 4) 32) text
+    put n.at_byte (take (length n.bytes) (codes "null"))
+    (put n.at_byte (replicate (length n.bytes) 32) text)
 
 -- the text without the type and the arcs of this line
 abbrev pub without_line : List ℕ → Node → List ℕ

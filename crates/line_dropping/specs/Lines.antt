@@ -35,15 +35,17 @@ has_type name n = says_type name (value_in (codes "type") n)
 abbrev pub is_line : Node → Bool
 is_line n = has_type (codes "LineString") n || has_type (codes "MultiLineString") n
 
+-- the list of what stands in a collection, as a list of at most one
+abbrev pub parts_of : Node → List Node
+parts_of n =
+    if has_type (codes "GeometryCollection") n then value_in (codes "geometries") n else []
+
 -- the lines of a geometry, collections walked depth first; the depth is more than any text of 100
 -- levels has
 unfoldable pub lines_in : ℕ → Node → List Node
 lines_in zero n = []
 lines_in (suc d) n =
-    if is_line n then (n ∷ [])
-    else (if has_type (codes "GeometryCollection") n
-    then flat_map (lines_in d) (flat_map items (value_in (codes "geometries") n))
-    else [])
+    if is_line n then (n ∷ []) else flat_map (lines_in d) (flat_map items (parts_of n))
 
 -- the lines of all layers of a topology
 abbrev pub all_lines : Node → List Node
