@@ -14,17 +14,18 @@ module _ (a : App) (m : ArgMatches) (words : List (List ℕ)) (is : a ≡ progra
       → option_map (λ s. s.now) given ≡ text_of id words
   value_of id key given same read = read_text program refl a m words id key given is has same read
 
-  pub asked_is : (k l n o : List ℕ) (most digits refine drop : Option (Bor (List ℕ))) (asked : Asked)
+  pub asked_is : (k l n o : List ℕ) (most digits refine drop : Option (Bor (List ℕ))) (asked : Asked) (lines : Bool)
       → k ≡ codes "most" → l ≡ codes "digits" → n ≡ codes "refine" → o ≡ codes "drop"
       → option_map (λ s. s.now) most ≡ first_value (found_of m) k → option_map (λ s. s.now) digits ≡ first_value (found_of m) l
       → option_map (λ s. s.now) refine ≡ first_value (found_of m) n → option_map (λ s. s.now) drop ≡ first_value (found_of m) o
-      → IsAsked (option_map (λ s. s.now) most) (option_map (λ s. s.now) digits) (option_map (λ s. s.now) refine) (option_map (λ s. s.now) drop) asked
-      → IsAsked (text_of (codes "most") words) (text_of (codes "digits") words) (text_of (codes "refine") words) (text_of (codes "drop") words) asked
-  asked_is k l n o most digits refine drop asked e f g h r s t u is_asked = record {
-    most = subst (λ (v : Option (List ℕ)). IsCount 1000 4000000 v asked.most) (value_of (codes "most") k most e r) is_asked.most;
-    digits = subst (λ (v : Option (List ℕ)). IsCount 24 24 v asked.grid.digits) (value_of (codes "digits") l digits f s) is_asked.digits;
-    finer = subst (λ (v : Option (List ℕ)). IsCount 0 12 v asked.grid.finer) (value_of (codes "refine") n refine g t) is_asked.finer;
-    heights = subst (λ (v : Option (List ℕ)). AreDropped v asked.grid.drop_heights) (value_of (codes "drop") o drop h u) is_asked.heights;
+      → IsAsked (option_map (λ s. s.now) most) (option_map (λ s. s.now) digits) (option_map (λ s. s.now) refine) (option_map (λ s. s.now) drop) asked lines
+      → IsAsked (text_of (codes "most") words) (text_of (codes "digits") words) (text_of (codes "refine") words) (text_of (codes "drop") words) asked lines
+  asked_is k l n o most digits refine drop asked lines e f g h r s t u is_asked = record {
+    is_most = subst (λ (v : Option (List ℕ)). IsCount 1000 4000000 v asked.most) (value_of (codes "most") k most e r) is_asked.is_most;
+    are_digits = subst (λ (v : Option (List ℕ)). IsCount 24 24 v asked.grid.digits) (value_of (codes "digits") l digits f s) is_asked.are_digits;
+    is_finer = subst (λ (v : Option (List ℕ)). IsCount 0 12 v asked.grid.finer) (value_of (codes "refine") n refine g t) is_asked.is_finer;
+    are_dropped = subst (λ (v : Option (List ℕ)). AreDropped v asked.grid.drop_heights lines) (value_of (codes "drop") o drop h u) is_asked.are_dropped;
+    nothing_dropped = is_asked.nothing_dropped;
   }
 
 pub places_is : (a : App) (m : ArgMatches) (words : List (List ℕ)) (id key : List ℕ) (given : Option (Bor (List ℕ))) (copy : Option (List ℕ))

@@ -38,17 +38,22 @@ IsCount usual greatest (Some text) n =
     IsNumeral 10 (without_leading_plus text) × (n ≡ digits_value 10 (without_leading_plus text))
     × (n ≤ greatest)
 
--- whether heights are left out: where the value is that word
-abbrev pub AreDropped : Option (List ℕ) → Bool → Type 0
-AreDropped None dropped = dropped ≡ false
-AreDropped (Some text) dropped = (text ≡ codes "heights") × (dropped ≡ true)
+-- whether heights, and whether lines are left out: where the value names them
+pub data AreDropped : Option (List ℕ) → Bool → Bool → Type 0 where
+  nothing : AreDropped None false false
+  heights : AreDropped (Some (codes "heights")) true false
+  lines : AreDropped (Some (codes "lines")) false true
+  heights_lines : AreDropped (Some (codes "heights,lines")) true true
+  lines_heights : AreDropped (Some (codes "lines,heights")) true true
 
 -- what the values of --most, --digits, --refine and --drop ask for
-pub record IsAsked (most digits refine drop : Option (List ℕ)) (asked : Asked) : Type 0 where
-  pub most : IsCount 1000 4000000 most asked.most
-  pub digits : IsCount 24 24 digits asked.grid.digits
-  pub finer : IsCount 0 12 refine asked.grid.finer
-  pub heights : AreDropped drop asked.grid.drop_heights
+pub record IsAsked (most digits refine drop : Option (List ℕ)) (asked : Asked) (lines : Bool)
+    : Type 0 where
+  pub is_most : IsCount 1000 4000000 most asked.most
+  pub are_digits : IsCount 24 24 digits asked.grid.digits
+  pub is_finer : IsCount 0 12 refine asked.grid.finer
+  pub are_dropped : AreDropped drop asked.grid.drop_heights lines
+  pub nothing_dropped : asked.dropped ≡ 0
 
 -- two paths that are given are not the same
 abbrev pub AreApart : Option (List ℕ) → Option (List ℕ) → Type 0

@@ -10,6 +10,8 @@ pub struct Words {
     pub map: String,
     /// The grid that its coordinates are put on, and how many lines of one kind the report has at most.
     pub asked: Asked,
+    /// Whether lines (TopoJSON 1.0, 2.2.3 and 2.2.4) are left out.
+    pub drop_lines: bool,
     /// The path of the file that the places are written in.
     pub places: Option<String>,
     /// The path of the file that the mended map is saved in.

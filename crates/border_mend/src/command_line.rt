@@ -98,7 +98,7 @@ fn command<'a>(alloc: Global) -> Result<Command<'a>, clap::Error>
         alloc,
         "drop",
         "WHAT",
-        "What is left out: heights, the further numbers of positions",
+        "What is left out: heights (the further numbers of positions), lines, or heights,lines",
     );
     let command = Command::new(alloc, "border_mend")
         .about(ABOUT)
@@ -129,19 +129,23 @@ fn count_of(given: Option<&str>, count: Count) -> Option<usize>
     }
 }
 
-/// Whether heights are left out, as the value of `--drop` says.
-fn are_dropped(given: Option<&str>) -> Option<bool>
+/// Whether heights, and whether lines are left out, as the value of `--drop` says.
+fn are_dropped(given: Option<&str>) -> Option<(bool, bool)>
     ensures { MatchOption result
-        ((dropped : Bool) → ¬ AreDropped (option_map (λ text. text.now) given.entry) dropped)
-        (λ dropped. AreDropped (option_map (λ text. text.now) given.entry) dropped) }
+        ((heights lines : Bool) → ¬ AreDropped (option_map (λ text. text.now) given.entry) heights lines)
+        (λ dropped. AreDropped (option_map (λ text. text.now) given.entry) dropped.0 dropped.1) }
 {
-    match given {
-        None => Some(false),
-        Some(text) => if text == "heights" {
-            Some(true)
-        } else {
-            None
-        },
+    let Some(text) = given else {
+        return Some((false, false));
+    };
+    if text == "heights" {
+        Some((true, false))
+    } else if text == "lines" {
+        Some((false, true))
+    } else if text == "heights,lines" || text == "lines,heights" {
+        Some((true, true))
+    } else {
+        None
     }
 }
 
@@ -182,16 +186,17 @@ fn is_both(one: Option<&str>, other: Option<&str>) -> bool
     }
 }
 
-/// What the values of `--most`, `--digits`, `--refine` and `--drop` ask for, or what is wrong.
+/// What the values of `--most`, `--digits`, `--refine` and `--drop` ask for, and whether lines are left
+/// out, or what is wrong.
 fn asked_of(
     most: Option<&str>,
     digits: Option<&str>,
     refine: Option<&str>,
     drop: Option<&str>,
-) -> Result<Asked, &'static str>
-    ensures { IfOk result (λ asked. IsAsked (option_map (λ text. text.now) most.entry)
+) -> Result<(Asked, bool), &'static str>
+    ensures { IfOk result (λ pair. IsAsked (option_map (λ text. text.now) most.entry)
         (option_map (λ text. text.now) digits.entry) (option_map (λ text. text.now) refine.entry)
-        (option_map (λ text. text.now) drop.entry) asked) }
+        (option_map (λ text. text.now) drop.entry) pair.0 pair.1) }
 {
     let Some(most) = count_of(most, MOST) else {
         return Err("--most takes a whole number from 0 to 4000000");
@@ -202,15 +207,20 @@ fn asked_of(
     let Some(finer) = count_of(refine, FINER) else {
         return Err("--refine takes a whole number from 0 to 12");
     };
-    let Some(drop_heights) = are_dropped(drop) else {
-        return Err("--drop takes heights");
+    let Some((drop_heights, drop_lines)) = are_dropped(drop) else {
+        return Err("--drop takes heights, lines, or heights,lines");
     };
     let grid = Wants {
         digits,
         finer,
         drop_heights,
     };
-    Ok(Asked { grid, most })
+    let asked = Asked {
+        grid,
+        most,
+        dropped: 0,
+    };
+    Ok((asked, drop_lines))
 }
 
 /// Reads the words, the program's name first. A request for help, or for the version, is an error
@@ -222,7 +232,7 @@ pub(crate) fn words(alloc: Global, given: &[String]) -> Result<Words, clap::Erro
         IsAsked (text_of (codes "most") (map string_bytes given.now))
         (text_of (codes "digits") (map string_bytes given.now))
         (text_of (codes "refine") (map string_bytes given.now))
-        (text_of (codes "drop") (map string_bytes given.now)) words.asked) }
+        (text_of (codes "drop") (map string_bytes given.now)) words.asked words.drop_lines) }
     ensures places { IfOk result (λ words. option_map string_bytes words.places
         ≡ text_of (codes "places") (map string_bytes given.now)) }
     ensures apart { IfOk result (λ words.
@@ -234,13 +244,13 @@ pub(crate) fn words(alloc: Global, given: &[String]) -> Result<Words, clap::Erro
 {
     let mut command = command(alloc)?;
     let matches = command.try_get_matches_from_mut(given)?;
-    let asked = match asked_of(
+    let (asked, drop_lines) = match asked_of(
         matches.get_str("most"),
         matches.get_str("digits"),
         matches.get_str("refine"),
         matches.get_str("drop"),
     ) {
-        Ok(asked) => asked,
+        Ok(pair) => pair,
         Err(message) => return Err(command.error(ErrorKind::ValueValidation, message)?),
     };
     // A parse gives MAP, since it is required.
@@ -258,6 +268,7 @@ pub(crate) fn words(alloc: Global, given: &[String]) -> Result<Words, clap::Erro
     Ok(Words {
         map: String::from_str(alloc, map)?,
         asked,
+        drop_lines,
         places: copied(alloc, places)?,
         out: copied(alloc, out)?,
     })

@@ -13,6 +13,7 @@ X Y is a position on the grid):
                            Coordinates have up to D decimals, the grid has K of them (--digits), and
                            N positions were rounded
   heights N                N positions had further numbers, which were left out (--drop heights)
+  lines N                  N lines were left out (--drop lines)
   short F P R              The ring has fewer than three positions
   repeats F P R X Y        The ring passes more than once through the position
   on X Y / X Y X Y         The vertex lies on the segment, and is none of its ends

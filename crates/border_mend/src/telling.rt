@@ -1,7 +1,8 @@
 //! The files of the program: what is read, what is written, and in which order.
 use crate::asked::Words;
 use crate::ending::{ending_of_mending, ending_of_report};
-use mend_report::{Texts, mend_map, report_map};
+use line_dropping::{Dropped, without_lines};
+use mend_report::{Asked, Texts, mend_map, report_map};
 use program_ends::{Ending, Stop, end, map_bytes};
 use std::fs;
 use std::io::{Result as IoResult, Write};
@@ -38,6 +39,21 @@ fn print_and_place<'a, W: Write>(
     }
 }
 
+/// MAP as it is looked at, and what is asked of it: without its lines, where these are left out.
+fn map_asked(rt: &HostRuntime, words: &Words) -> Result<(Vec<u8>, Asked), Stop> {
+    let alloc = rt.alloc();
+    let map = map_bytes(rt, words.map.as_str())?;
+    if !words.drop_lines {
+        return Ok((map, words.asked));
+    }
+    let Dropped { text, lines } = without_lines(alloc, alloc, map.as_slice())?;
+    let asked = Asked {
+        dropped: lines,
+        ..words.asked
+    };
+    Ok((text, asked))
+}
+
 /// Reads MAP, writes its report and its places, and ends as the report did.
 fn tell_file<W: Write, E: Write>(
     rt: &HostRuntime,
@@ -46,9 +62,9 @@ fn tell_file<W: Write, E: Write>(
     errors: &mut E,
 ) -> Result<u8, Stop> {
     let alloc = rt.alloc();
-    let map = map_bytes(rt, words.map.as_str())?;
+    let (map, asked) = map_asked(rt, words)?;
     let mut texts = Texts::new(alloc, words.places.is_some());
-    let outcome = report_map(alloc, alloc, map.as_slice(), words.asked, &mut texts);
+    let outcome = report_map(alloc, alloc, map.as_slice(), asked, &mut texts);
     let ending = ending_of_report(&outcome, texts.report.as_slice());
     let ending = print_and_place(rt, words, &texts, ending, output);
     Ok(end(ending, errors))
@@ -63,9 +79,9 @@ fn mend_file<W: Write, E: Write>(
     errors: &mut E,
 ) -> Result<u8, Stop> {
     let alloc = rt.alloc();
-    let map = map_bytes(rt, words.map.as_str())?;
+    let (map, asked) = map_asked(rt, words)?;
     let mut texts = Texts::new(alloc, words.places.is_some());
-    let outcome = mend_map(alloc, alloc, map.as_slice(), words.asked, &mut texts);
+    let outcome = mend_map(alloc, alloc, map.as_slice(), asked, &mut texts);
     let ending = ending_of_mending(&outcome, texts.report.as_slice());
     let ending = print_and_place(rt, words, &texts, ending, output);
     let ending = match &outcome {

@@ -42,7 +42,7 @@ whole = record { decimals = 0; digits = 0; rounded = 0; heights = 0 }
 -- the report of a map, of each kind at most so many lines
 abbrev report : ℕ → Map → List ℕ
 report most m =
-    report_text most whole (short_walks (walks_of m)) (all_repeats (walks_of m))
+    report_text most whole 0 (short_walks (walks_of m)) (all_repeats (walks_of m))
     (touches_among (vertices m) (sides m)) (crossings_among (sides m) (sides m))
 
 -- a square, and two on its right side, whose common corner it has not

@@ -20,6 +20,7 @@ use Rattle.walk_faults.specs.declared.findings.Touch.{Touch}
 use Rattle.walk_faults.proofs.Opening.{nothing_opens}
 use Rattle.mend_report.specs.Looking.{OpensOn, Looked, MapOpens}
 use Rattle.mend_report.specs.Report.{is_plain, is_clear}
+use Rattle.mend_report.specs.declared.asked.Asked.{Asked}
 use Rattle.mend_report.specs.declared.asked.Report.{Report}
 use Rattle.mend_report.specs.declared.looking.LookFault.{LookFault}
 use Rattle.mend_report.specs.Status.{status_of}
@@ -79,18 +80,20 @@ plain_same wants bytes s t told again =
     told.heights ∙ ap (λ (o : OutlineText). if wants.drop_heights then heights o.arcs else 0) shape ∙ sym again.heights in
     ap (λ (z : ℕ). (z == 0) && (s.heights == 0)) decimals ∙ ap (λ (z : ℕ). (t.decimals == 0) && (z == 0)) same
 
-pub status_opens : {A : Type 0} (wants : Wants) (bytes : List ℕ) (r : Report A) → Looked wants bytes r.findings → IsTold wants bytes r.grid
-    → status_of (Ok r) ≡ 0 ↔ MapOpens wants bytes
-status_opens {A = A} wants bytes r looked told = (
+pub status_opens : {A : Type 0} (asked : Asked) (bytes : List ℕ) (r : Report A) → Looked asked.grid bytes r.findings → IsTold asked.grid bytes r.grid
+    → r.dropped ≡ asked.dropped → status_of (Ok r) ≡ 0 ↔ MapOpens asked bytes
+status_opens {A = A} asked bytes r looked told dropped = (
   λ e.
-      let both = both_if (is_plain r.grid) clear (zero_if (is_plain r.grid && clear) e) in
-      (o, r.grid, looked.1, told, both.0, law.0 (nothing_if f both.1)),
+      let both = both_if (is_plain r.grid) ((r.dropped == 0) && clear) (zero_if (is_plain r.grid && ((r.dropped == 0) && clear)) e) in
+      let rest = both_if (r.dropped == 0) clear both.1 in
+      (o, r.grid, looked.1, told, both.0, sym dropped ∙ eqb-true r.dropped 0 rest.0, law.0 (nothing_if f rest.1)),
   λ opens.
-      let opened = subst (λ p. Opens p.polygons) (one wants bytes opens.0 o opens.2 looked.1) opens.5 in
+      let opened = subst (λ p. Opens p.polygons) (one asked.grid bytes opens.0 o opens.2 looked.1) opens.6 in
       let none = law.1 opened in
-      let plain : is_plain r.grid ≡ true = plain_same wants bytes r.grid opens.1 told opens.3 ∙ opens.4 in
-      ap (λ b. if b then 0 else 1) (ap₂ (λ a b. a && b) plain (clear_if f.short.items f.repeats.items f.touches.items f.crossings.items
-      none.short none.repeats none.touches none.crossings)),
+      let plain : is_plain r.grid ≡ true = plain_same asked.grid bytes r.grid opens.1 told opens.3 ∙ opens.4 in
+      let none_dropped : (r.dropped == 0) ≡ true = ap (λ (n : ℕ). n == 0) (dropped ∙ opens.5) in
+      ap (λ b. if b then 0 else 1) (ap₂ (λ a b. a && b) plain (ap₂ (λ a b. a && b) none_dropped
+      (clear_if f.short.items f.repeats.items f.touches.items f.crossings.items none.short none.repeats none.touches none.crossings))),
 )
   where
     f : Findings A
@@ -106,9 +109,9 @@ status_opens {A = A} wants bytes r looked told = (
     clear = is_clear f.short.items f.repeats.items f.touches.items f.crossings.items
 
 -- as it is answered: what is found is found in what the bytes are, and the grid is theirs
-pub answer_opens : {A : Type 0} (wants : Wants) (bytes : List ℕ) (o : Opened) (grid : Told) (r : Result (Report A) LookFault)
-    → OpensOn wants bytes o → IsTold wants bytes grid → IfOk r (λ report. Found o.polygons report.findings) → IfOk r (λ report. report.grid ≡ grid)
-    → IfOk r (λ report. status_of (Ok report) ≡ 0 ↔ MapOpens wants bytes)
-answer_opens wants bytes o grid (Ok report) opens told found same =
-    status_opens wants bytes report (o, opens, found) (subst (IsTold wants bytes) (sym same) told)
-answer_opens wants bytes o grid (Err fault) opens told found same = tt
+pub answer_opens : {A : Type 0} (asked : Asked) (bytes : List ℕ) (o : Opened) (grid : Told) (r : Result (Report A) LookFault)
+    → OpensOn asked.grid bytes o → IsTold asked.grid bytes grid → IfOk r (λ report. Found o.polygons report.findings) → IfOk r (λ report. report.grid ≡ grid)
+    → IfOk r (λ report. report.dropped ≡ asked.dropped) → IfOk r (λ report. status_of (Ok report) ≡ 0 ↔ MapOpens asked bytes)
+answer_opens asked bytes o grid (Ok report) opens told found same dropped =
+    status_opens asked bytes report (o, opens, found) (subst (IsTold asked.grid bytes) (sym same) told) dropped
+answer_opens asked bytes o grid (Err fault) opens told found same dropped = tt

@@ -15,6 +15,7 @@ use Rattle.walk_faults.specs.Opens.{Opens}
 use Rattle.walk_faults.specs.Walks.{walks_of}
 use Rattle.walk_faults.specs.declared.findings.Findings.{Findings}
 use Rattle.mend_report.specs.Report.{is_plain}
+use Rattle.mend_report.specs.declared.asked.Asked.{Asked}
 use Rattle.mend_report.specs.declared.looking.LookFault.{LookFault}
 use Rattle.mend_report.specs.declared.looking.LookFault.TheVariants.{Open, TooMany, OutOfMemory}
 
@@ -37,12 +38,12 @@ abbrev pub HasPlaces : {A : Type 0}
 HasPlaces wants bytes findings paths text =
     (o : Opened) × OpensOn wants bytes o × IsPlaceText o.transform o.polygons findings paths text
 
--- the bytes are a topology whose coordinates are whole numbers, two a position; each walk is a linear
--- ring, and no two segments conflict
-abbrev pub MapOpens : Wants → List ℕ → Type 0
-MapOpens wants bytes =
-    (o : Opened) × (grid : Told) × OpensOn wants bytes o × IsTold wants bytes grid
-    × (is_plain grid ≡ true) × Opens o.polygons
+-- no line was left out, and the bytes are a topology whose coordinates are whole numbers, two a
+-- position; each walk is a linear ring, and no two segments conflict
+abbrev pub MapOpens : Asked → List ℕ → Type 0
+MapOpens asked bytes =
+    (o : Opened) × (grid : Told) × OpensOn asked.grid bytes o × IsTold asked.grid bytes grid
+    × (is_plain grid ≡ true) × (asked.dropped ≡ 0) × Opens o.polygons
 
 -- of some kind there are more findings in the topology that the bytes are than can be listed
 abbrev pub AreTooMany : Wants → List ℕ → Type 0

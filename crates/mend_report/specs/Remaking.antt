@@ -53,10 +53,10 @@ Remakes wants bytes remade = (d : Document) × ReadsOnGrid wants bytes d × IsRe
 
 -- the report tells the grid, all that is found in a map, and what was done about it
 abbrev pub TellsRemade : {A : Type 0}
-    → ℕ → Opened → Told → Remade A → List ℕ → List ℕ → Type 0
-TellsRemade {A} most o grid remade before after =
+    → ℕ → ℕ → Opened → Told → Remade A → List ℕ → List ℕ → Type 0
+TellsRemade {A} most dropped o grid remade before after =
     (found : Findings A) × Found o.polygons found
-    × (after ≡ before ++ mended_report most grid found (paths_seen remade.paths.items)
+    × (after ≡ before ++ mended_report most grid dropped found (paths_seen remade.paths.items)
     remade.parted.items remade.areas.items)
 
 -- the same of the map that the bytes are
@@ -64,7 +64,7 @@ abbrev pub TellsMending : {A : Type 0}
     → Asked → List ℕ → Remade A → List ℕ → List ℕ → Type 0
 TellsMending asked bytes remade before after =
     (o : Opened) × (grid : Told) × OpensOn asked.grid bytes o × IsTold asked.grid bytes grid
-    × TellsRemade asked.most o grid remade before after
+    × TellsRemade asked.most asked.dropped o grid remade before after
 
 -- the places, where they are asked for, are those of all that is found in a map, and the paths
 abbrev pub PlacesRemade : {A : Type 0} → Opened → Remade A → Option (Vec ℕ A) → Type 0

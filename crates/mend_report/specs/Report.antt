@@ -76,32 +76,36 @@ abbrev pub heights_line : Told → List ℕ
 heights_line grid =
     if grid.heights == 0 then [] else (codes "heights " ++ (decimal grid.heights ++ codes "\n"))
 
--- what the grid is
-abbrev pub grid_text : Told → List ℕ
-grid_text grid = decimals_line grid ++ heights_line grid
+-- so many lines of the map were left out: "lines N"
+abbrev pub lines_line : ℕ → List ℕ
+lines_line dropped = if dropped == 0 then [] else (codes "lines " ++ (decimal dropped ++ codes "\n"))
+
+-- what the grid is, and how many lines were left out
+abbrev pub grid_text : Told → ℕ → List ℕ
+grid_text grid dropped = decimals_line grid ++ (heights_line grid ++ lines_line dropped)
 
 -- a line for each of the first findings of a kind, at most so many
 abbrev pub lines : {X : Type 0} → ℕ → (X → List ℕ) → List X → List ℕ
 lines most line xs = flat_map line (take most xs)
 
 -- what the grid is, and what was found, of each kind at most so many lines
-abbrev pub findings_text : ℕ → Told
+abbrev pub findings_text : ℕ → Told → ℕ
     → List RingAt → List Repeat → List Touch → List Crossing → List ℕ
-findings_text most grid short repeats touches crossings =
-    opens_line (is_plain grid && is_clear short repeats touches crossings)
-    ++ (grid_text grid ++ (lines most short_line short ++ (lines most repeat_line repeats
+findings_text most grid dropped short repeats touches crossings =
+    opens_line (is_plain grid && dropped == 0 && is_clear short repeats touches crossings)
+    ++ (grid_text grid dropped ++ (lines most short_line short ++ (lines most repeat_line repeats
     ++ (lines most touch_line touches ++ lines most crossing_line crossings))))
 
 -- the report of what was found, of each kind at most so many lines; all are counted
-abbrev pub report_text : ℕ → Told
+abbrev pub report_text : ℕ → Told → ℕ
     → List RingAt → List Repeat → List Touch → List Crossing → List ℕ
-report_text most grid short repeats touches crossings =
-    findings_text most grid short repeats touches crossings
+report_text most grid dropped short repeats touches crossings =
+    findings_text most grid dropped short repeats touches crossings
     ++ counts_line (length short) (length repeats) (length touches) (length crossings)
 
-abbrev pub report_of : {A : Type 0} → ℕ → Told → Findings A → List ℕ
-report_of most grid found =
-    report_text most grid found.short.items found.repeats.items found.touches.items
+abbrev pub report_of : {A : Type 0} → ℕ → Told → ℕ → Findings A → List ℕ
+report_of most grid dropped found =
+    report_text most grid dropped found.short.items found.repeats.items found.touches.items
     found.crossings.items
 
 -- ---- a map that was mended
@@ -135,9 +139,9 @@ all_counts_line short repeats touches crossings paths parts areas =
 
 -- the report of what was found and of what was done about it, of each kind at most so many lines
 abbrev pub mended_report : {A : Type 0}
-    → ℕ → Told → Findings A → List Path → List Parted → List AreaChange → List ℕ
-mended_report most grid found paths parted areas =
-    findings_text most grid found.short.items found.repeats.items found.touches.items found.crossings.items
+    → ℕ → Told → ℕ → Findings A → List Path → List Parted → List AreaChange → List ℕ
+mended_report most grid dropped found paths parted areas =
+    findings_text most grid dropped found.short.items found.repeats.items found.touches.items found.crossings.items
     ++ (lines most path_line paths ++ (lines most parts_line parted ++ (lines most area_line areas
     ++ all_counts_line (length found.short.items) (length found.repeats.items)
     (length found.touches.items) (length found.crossings.items) (length paths) (length parted)

@@ -1,5 +1,5 @@
 -- The status that a report ends the program with.
-use Rattle.std.specs.Prelude.{ℕ, Bool, ◌&&◌, Result, Ok, Err, if◌then◌else◌}
+use Rattle.std.specs.Prelude.{ℕ, Bool, ◌&&◌, ◌==◌, Result, Ok, Err, if◌then◌else◌}
 use Rattle.mend_report.specs.Report.{is_plain, is_clear}
 use Rattle.mend_report.specs.declared.asked.Report.{Report}
 use Rattle.mend_report.specs.declared.remaking.Remade.{Remade}
@@ -12,7 +12,8 @@ use Rattle.mend_report.specs.declared.looking.LookFault.TheVariants.{Open, TooMa
 -- nothing keeps the map from opening as it is
 abbrev pub is_open : {A : Type 0} → Report A → Bool
 is_open report =
-    is_plain report.grid && is_clear report.findings.short.items report.findings.repeats.items
+    is_plain report.grid && report.dropped == 0
+    && is_clear report.findings.short.items report.findings.repeats.items
     report.findings.touches.items report.findings.crossings.items
 
 -- 0 where nothing keeps the map from opening, 1 where something does, 2 where it can't be read or not

@@ -12,10 +12,13 @@ pub struct Asked {
     pub grid: Wants,
     /// How many lines of one kind the report has at most.
     pub most: usize,
+    /// How many lines (TopoJSON 1.0, 2.2.3 and 2.2.4) were left out of its text before.
+    pub dropped: usize,
 }
 
 impl Asked {
-    /// So many lines of one kind at most, and the grid that has all decimals that fit.
+    /// So many lines of one kind at most, and the grid that has all decimals that fit; nothing was left
+    /// out.
     pub fn with_most(most: usize) -> Asked
         ensures { result.most ≡ most }
     {
@@ -24,7 +27,11 @@ impl Asked {
             finer: 0,
             drop_heights: false,
         };
-        Asked { grid, most }
+        Asked {
+            grid,
+            most,
+            dropped: 0,
+        }
     }
 }
 
@@ -33,6 +40,8 @@ impl Asked {
 pub struct Report<A: Allocator + Copy = Global> {
     /// The grid that its coordinates were put on.
     pub grid: Told,
+    /// How many lines were left out of its text before.
+    pub dropped: usize,
     /// All that keeps it from opening on that grid.
     pub findings: Findings<A>,
 }

@@ -4,6 +4,7 @@ ghost use Rattle.grid_geometry.specs.Text.{position_text};
 ghost use Rattle.mend_report.specs.Report.{short_line, repeat_line, touch_line, crossing_line};
 ghost use Rattle.mend_report.specs.Report.{counts_line, all_counts_line, path_line, parts_line};
 ghost use Rattle.mend_report.specs.Report.{area_line, found_text, decimals_line, heights_line};
+ghost use Rattle.mend_report.specs.Report.{lines_line};
 ghost use Rattle.segment_paths.specs.Seen.{path_seen};
 
 use crate::texts::{push_number, push_position, push_ring, push_segment};
@@ -48,6 +49,19 @@ pub(crate) fn push_heights<A: Allocator>(
     }
     text.extend_from_slice(b"heights ")?;
     push_number(text, grid.heights)?;
+    text.extend_from_slice(b"\n")?;
+    Ok(())
+}
+
+/// Appends the line of the lines that were left out, where there were some.
+pub(crate) fn push_lines<A: Allocator>(text: &mut Vec<u8, A>, dropped: usize) -> Result<(), AllocError>
+    ensures { OnOk result (text.new.items ≡ text.old.items ++ lines_line dropped) }
+{
+    if dropped == 0 {
+        return Ok(());
+    }
+    text.extend_from_slice(b"lines ")?;
+    push_number(text, dropped)?;
     text.extend_from_slice(b"\n")?;
     Ok(())
 }

@@ -61,13 +61,14 @@ pub(crate) fn map_of<'a, A: Allocator + Copy>(
     }
 }
 
-/// A map with walks in the place of its rings, without its transform; the grid that it was put on; and
-/// how many lines of one kind are told of it at most.
+/// A map with walks in the place of its rings, without its transform; the grid that it was put on; how
+/// many lines of one kind are told of it at most, and how many of its own were left out.
 #[derive(Drop)]
 pub(crate) struct Seen<'a, A: Allocator + Copy = Global> {
     pub(crate) map: RawDoc<'a, A>,
     pub(crate) grid: Told,
     pub(crate) most: usize,
+    pub(crate) dropped: usize,
 }
 
 /// All that keeps a map of walks from opening, beside what keeps it from being read.

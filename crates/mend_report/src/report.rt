@@ -21,7 +21,7 @@ use crate::asked::{Asked, Report};
 use crate::copying::copied;
 use crate::lines::{
     FindingCounts, push_all_counts, push_area, push_counts, push_crossing, push_decimals,
-    push_heights, push_parts, push_path, push_repeat, push_short, push_touch,
+    push_heights, push_lines, push_parts, push_path, push_repeat, push_short, push_touch,
 };
 use crate::looking::{LookFault, Seen, look, map_of};
 use crate::remaking::{Remade, RemakeFault, remake};
@@ -109,7 +109,7 @@ fn is_clear<A: Allocator + Copy>(findings: &Findings<A>) -> bool
 pub fn is_open<A: Allocator + Copy>(report: &Report<A>) -> bool
     ensures { result ≡ is_open report.now }
 {
-    is_plain(report.grid) && is_clear(&report.findings)
+    is_plain(report.grid) && report.dropped == 0 && is_clear(&report.findings)
 }
 
 /// Appends the line of a map that opens, where it does.
@@ -122,12 +122,17 @@ fn push_opens<A: Allocator>(text: &mut Vec<u8, A>, is_clear: bool) -> Result<(),
     Ok(())
 }
 
-/// Appends what the grid is.
-fn push_grid<A: Allocator>(text: &mut Vec<u8, A>, grid: Told) -> Result<(), AllocError>
-    ensures { OnOk result (text.new.items ≡ text.old.items ++ grid_text grid) }
+/// Appends what the grid is, and how many lines were left out.
+fn push_grid<A: Allocator>(
+    text: &mut Vec<u8, A>,
+    grid: Told,
+    dropped: usize,
+) -> Result<(), AllocError>
+    ensures { OnOk result (text.new.items ≡ text.old.items ++ grid_text grid dropped) }
 {
     push_decimals(text, grid)?;
     push_heights(text, grid)?;
+    push_lines(text, dropped)?;
     Ok(())
 }
 
@@ -138,12 +143,12 @@ fn push_findings<A: Allocator, B: Allocator + Copy>(
     most: usize,
 ) -> Result<(), AllocError>
     ensures { let found = report.now.findings in OnOk result (text.new.items ≡ text.old.items
-        ++ findings_text most report.now.grid found.short.items found.repeats.items
+        ++ findings_text most report.now.grid report.now.dropped found.short.items found.repeats.items
         found.touches.items found.crossings.items) }
 {
     let findings = &report.findings;
     push_opens(text, is_open(report))?;
-    push_grid(text, report.grid)?;
+    push_grid(text, report.grid, report.dropped)?;
     push_all_short(text, first(findings.short.as_slice(), most))?;
     push_repeats(text, first(findings.repeats.as_slice(), most))?;
     push_touches(text, first(findings.touches.as_slice(), most))?;
@@ -175,7 +180,7 @@ fn push_report<A: Allocator, B: Allocator + Copy>(
     most: usize,
 ) -> Result<(), AllocError>
     ensures { OnOk result (text.new.items
-        ≡ text.old.items ++ report_of most report.now.grid report.now.findings) }
+        ≡ text.old.items ++ report_of most report.now.grid report.now.dropped report.now.findings) }
 {
     push_findings(text, report, most)?;
     push_counts(text, counts_of(&report.findings))?;
@@ -225,7 +230,7 @@ fn push_mended<A: Allocator, B: Allocator + Copy>(
     most: usize,
 ) -> Result<(), AllocError>
     ensures { OnOk result (text.new.items ≡ text.old.items
-        ++ mended_report most report.now.grid report.now.findings
+        ++ mended_report most report.now.grid report.now.dropped report.now.findings
         (paths_seen remade.now.paths.items) remade.now.parted.items remade.now.areas.items) }
 {
     push_findings(text, report, most)?;
@@ -303,8 +308,9 @@ fn report_read<A: Allocator + Copy>(
     ensures found { IfOk result (λ report.
         Found (view_raw seen.entry.map).polygons report.findings) }
     ensures grid { IfOk result (λ report. report.grid ≡ seen.entry.grid) }
+    ensures dropped { IfOk result (λ report. report.dropped ≡ seen.entry.dropped) }
     ensures told { IfOk result (λ report. texts.new.report.items
-        ≡ texts.old.report.items ++ report_of seen.entry.most report.grid report.findings) }
+        ≡ texts.old.report.items ++ report_of seen.entry.most report.grid report.dropped report.findings) }
     ensures asked { OnOk result (is_some texts.new.places ≡ is_some texts.old.places) }
     ensures placed { IfOk result (λ report. IfSome texts.new.places (λ places.
         IsPlaceText (option_map (λ t. t.now) transform.entry) (view_raw seen.entry.map).polygons
@@ -312,12 +318,21 @@ fn report_read<A: Allocator + Copy>(
     ensures refused { IfErr result (λ fault.
         EndsLook fault (view_raw seen.entry.map).polygons) }
 {
-    let Seen { map, grid, most } = seen;
+    let Seen {
+        map,
+        grid,
+        most,
+        dropped,
+    } = seen;
     let findings = match look(alloc, heap, &map) {
         Ok(findings) => findings,
         Err(fault) => return Err(fault),
     };
-    let report = Report { grid, findings };
+    let report = Report {
+        grid,
+        dropped,
+        findings,
+    };
     push_report(&mut texts.report, &report, most)?;
     let walks = map.polygons.as_slice();
     let found = &report.findings;
@@ -339,10 +354,11 @@ pub fn report_map<'a, A: Allocator + Copy>(
 ) -> Result<Report<A>, LookFault<'a>>
     ensures looked { IfOk result (λ report. Looked asked.grid bytes.now report.findings) }
     ensures grid { IfOk result (λ report. IsTold asked.grid bytes.now report.grid) }
+    ensures dropped { IfOk result (λ report. report.dropped ≡ asked.dropped) }
     ensures opens { IfOk result (λ report.
-        status_of (Ok report) ≡ 0 ↔ MapOpens asked.grid bytes.now) }
+        status_of (Ok report) ≡ 0 ↔ MapOpens asked bytes.now) }
     ensures told { IfOk result (λ report. texts.new.report.items
-        ≡ texts.old.report.items ++ report_of asked.most report.grid report.findings) }
+        ≡ texts.old.report.items ++ report_of asked.most report.grid report.dropped report.findings) }
     ensures asked { OnOk result (is_some texts.new.places ≡ is_some texts.old.places) }
     ensures placed { IfOk result (λ report. IfSome texts.new.places
         (λ places. HasPlaces asked.grid bytes.now report.findings None places.items)) }
@@ -367,6 +383,7 @@ pub fn report_map<'a, A: Allocator + Copy>(
         },
         grid: told,
         most: asked.most,
+        dropped: asked.dropped,
     };
     report_read(alloc, heap, transform.text(), seen, texts)
 }
@@ -403,7 +420,7 @@ fn mend_read<'x, 'a: 'x, A: Allocator + Copy>(
     requires { IsOfWalks (under (option_map (λ t. t.now) transform) (view_raw seen.map)) }
     ensures remade { IfOk result (IsRemade (document_of
         (under (option_map (λ t. t.now) transform.entry) (view_raw seen.entry.map)))) }
-    ensures told { IfOk result (λ remade. TellsRemade seen.entry.most
+    ensures told { IfOk result (λ remade. TellsRemade seen.entry.most seen.entry.dropped
         (under (option_map (λ t. t.now) transform.entry) (view_raw seen.entry.map))
         seen.entry.grid remade texts.old.report.items texts.new.report.items) }
     ensures asked { OnOk result (is_some texts.new.places ≡ is_some texts.old.places) }
@@ -413,12 +430,21 @@ fn mend_read<'x, 'a: 'x, A: Allocator + Copy>(
     ensures refused { IfErr result (λ fault. EndsMending fault
         (under (option_map (λ t. t.now) transform.entry) (view_raw seen.entry.map))) }
 {
-    let Seen { map, grid, most } = seen;
+    let Seen {
+        map,
+        grid,
+        most,
+        dropped,
+    } = seen;
     let findings = match look(alloc, heap, &map) {
         Ok(findings) => findings,
         Err(fault) => return Err(RepairFault::Look(fault)),
     };
-    let report = Report { grid, findings };
+    let report = Report {
+        grid,
+        dropped,
+        findings,
+    };
     let walks = copied(alloc, map.polygons.as_slice())?;
     let RawDoc {
         transform: _,
@@ -489,6 +515,7 @@ pub fn mend_map<'a, A: Allocator + Copy>(
         },
         grid: told,
         most: asked.most,
+        dropped: asked.dropped,
     };
     mend_read(alloc, heap, transform.text(), seen, texts)
 }

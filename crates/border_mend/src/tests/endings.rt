@@ -54,6 +54,7 @@ pub(crate) fn words_for(rt: &HostRuntime, name: &str) -> Result<Words, Fail> {
     Ok(Words {
         map: format!(in rt.alloc(); "{parent}/border_mend_{name}_{number}.json")?,
         asked: Asked::with_most(1000),
+        drop_lines: false,
         places: None,
         out: None,
     })

@@ -68,22 +68,25 @@ fn a_file_of_the_mended_map_is_taken(rt: HostRuntime) -> Result<(), Fail> {
     Ok(())
 }
 
-/// Each line with the decimals that are kept at most, by how much the grid is finer, and whether heights
-/// are left out.
-const GRIDS: [(&str, (usize, usize, bool)); 5] = [
-    ("map.json", (24, 0, false)),
-    ("map.json --digits 5", (5, 0, false)),
-    ("--refine 3 map.json --digits=0", (0, 3, false)),
-    ("map.json --drop heights", (24, 0, true)),
-    ("map.json --refine 12 --drop=heights --digits 24", (24, 12, true)),
+/// Each line with the decimals that are kept at most, by how much the grid is finer, and whether heights,
+/// and lines, are left out.
+const GRIDS: [(&str, (usize, usize, bool, bool)); 7] = [
+    ("map.json", (24, 0, false, false)),
+    ("map.json --digits 5", (5, 0, false, false)),
+    ("--refine 3 map.json --digits=0", (0, 3, false, false)),
+    ("map.json --drop heights", (24, 0, true, false)),
+    ("map.json --drop lines", (24, 0, false, true)),
+    ("map.json --drop lines,heights", (24, 0, true, true)),
+    ("map.json --refine 12 --drop=heights,lines --digits 24", (24, 12, true, true)),
 ];
 
 #[test]
 fn a_grid_is_taken(rt: HostRuntime) -> Result<(), Fail> {
     for (line, want) in GRIDS {
         let given = given(rt.alloc(), line)?;
-        let grid = words(rt.alloc(), given.as_slice())?.asked.grid;
-        let found = (grid.digits, grid.finer, grid.drop_heights);
+        let words = words(rt.alloc(), given.as_slice())?;
+        let grid = words.asked.grid;
+        let found = (grid.digits, grid.finer, grid.drop_heights, words.drop_lines);
         assert!(rt; found == want, "{line:?}");
     }
     Ok(())
@@ -115,6 +118,7 @@ fn all_other_words_stop_the_program(rt: HostRuntime) -> Result<(), Fail> {
         ("map.json --refine", 64),
         ("map.json --drop", 64),
         ("map.json --drop widths", 64),
+        ("map.json --drop heights,heights", 64),
         ("map.json --drop heights --drop heights", 64),
         ("--help", 0),
         ("--version", 0),

@@ -69,7 +69,10 @@ fn asked_in(row: &Row) -> Asked {
         finer: row.finer.min(12),
         drop_heights: row.drop_heights,
     };
-    Asked { grid, most: 1000 }
+    Asked {
+        grid,
+        ..Asked::with_most(1000)
+    }
 }
 
 /// The map of the row is saved so, and the report begins so.

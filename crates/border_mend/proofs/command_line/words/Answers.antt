@@ -12,7 +12,7 @@ returns-clause-map c =
 pub returns-clause-asked : goal.returns-clause-asked
 returns-clause-asked c =
     asked_is _ c.in_ok-matches.matches _ c.in_ok-command.ensures c.in_ok-matches.ensures.ok.2
-    _ _ _ _ c.get_str.result c.get_str-2.result c.get_str-3.result c.get_str-4.result _
+    _ _ _ _ c.get_str.result c.get_str-2.result c.get_str-3.result c.get_str-4.result _ _
     (search rules) (search rules) (search rules) (search rules)
     c.get_str.ensures c.get_str-2.ensures c.get_str-3.ensures c.get_str-4.ensures c.in-Ok.ensures
 

@@ -1,4 +1,4 @@
-use Rattle.std.proofs.Common.{◌&&◌}
+use Rattle.std.proofs.Common.{◌&&◌, ◌==◌}
 use Rattle.mend_report.specs.Report.{is_plain, is_clear, opens_line, grid_text, short_line, repeat_line, touch_line, crossing_line, lines}
 use Rattle.mend_report.proofs.Appending.{six}
 use Rattle.mend_report.proofs.ReportLemmas.{opened, told}
@@ -8,11 +8,12 @@ pub returns : goal.returns
 returns g c =
     let most = c.args.most in
     let grid = c.args.report.now.grid in
+    let dropped = c.args.report.now.dropped in
     let short = c.args.report.now.findings.short.items in
     let repeats = c.args.report.now.findings.repeats.items in
     let touches = c.args.report.now.findings.touches.items in
     let crossings = c.args.report.now.findings.crossings.items in
-    six c.args.text.now.items (opens_line (is_plain grid && is_clear short repeats touches crossings)) (grid_text grid)
+    six c.args.text.now.items (opens_line (is_plain grid && dropped == 0 && is_clear short repeats touches crossings)) (grid_text grid dropped)
     (lines most short_line short) (lines most repeat_line repeats)
     (lines most touch_line touches) (lines most crossing_line crossings)
     c.push_opens.new.text.items c.push_grid.new.text.items c.push_all_short.new.text.items c.push_repeats.new.text.items c.push_touches.new.text.items

@@ -14,7 +14,7 @@ returns g c =
     let areas = c.args.remade.now.areas.items in
     let counts = all_counts_line (length f.short.items) (length f.repeats.items) (length f.touches.items) (length f.crossings.items)
     (length (paths_seen paths)) (length parted) (length areas) in
-    five c.args.text.now.items (findings_text most c.args.report.now.grid f.short.items f.repeats.items f.touches.items f.crossings.items)
+    five c.args.text.now.items (findings_text most c.args.report.now.grid c.args.report.now.dropped f.short.items f.repeats.items f.touches.items f.crossings.items)
     (lines most path_line (paths_seen paths)) (lines most parts_line parted) (lines most area_line areas) counts
     c.push_findings.new.text.items c.push_paths.new.text.items c.push_parted.new.text.items c.push_areas.new.text.items c.push_all_counts.new.text.items
     c.in_ok-push_findings.ensures

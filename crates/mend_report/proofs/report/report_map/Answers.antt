@@ -4,5 +4,5 @@ use Rattle.mend_report.proofs.report.report_map.Goals as goal
 
 pub returns-clause-opens : goal.returns-clause-opens
 returns-clause-opens g c =
-    answer_opens c.args.asked.grid c.args.bytes.now (view_on_grid c.in-Ok.read) _ c.report_read.result
-    c.in-Ok.ensures.opened c.in-Ok.ensures.told c.report_read.ensures.found c.report_read.ensures.grid
+    answer_opens c.args.asked c.args.bytes.now (view_on_grid c.in-Ok.read) _ c.report_read.result
+    c.in-Ok.ensures.opened c.in-Ok.ensures.told c.report_read.ensures.found c.report_read.ensures.grid c.report_read.ensures.dropped
