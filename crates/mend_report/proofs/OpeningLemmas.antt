@@ -84,16 +84,16 @@ pub status_opens : {A : Type 0} (asked : Asked) (bytes : List ℕ) (r : Report A
     → r.dropped ≡ asked.dropped → status_of (Ok r) ≡ 0 ↔ MapOpens asked bytes
 status_opens {A = A} asked bytes r looked told dropped = (
   λ e.
-      let both = both_if (is_plain r.grid) ((r.dropped == 0) && clear) (zero_if (is_plain r.grid && ((r.dropped == 0) && clear)) e) in
-      let rest = both_if (r.dropped == 0) clear both.1 in
-      (o, r.grid, looked.1, told, both.0, sym dropped ∙ eqb-true r.dropped 0 rest.0, law.0 (nothing_if f rest.1)),
+      let both = both_if (is_plain r.grid && (r.dropped == 0)) clear (zero_if ((is_plain r.grid && (r.dropped == 0)) && clear) e) in
+      let grid = both_if (is_plain r.grid) (r.dropped == 0) both.0 in
+      (o, r.grid, looked.1, told, grid.0, sym dropped ∙ eqb-true r.dropped 0 grid.1, law.0 (nothing_if f both.1)),
   λ opens.
       let opened = subst (λ p. Opens p.polygons) (one asked.grid bytes opens.0 o opens.2 looked.1) opens.6 in
       let none = law.1 opened in
       let plain : is_plain r.grid ≡ true = plain_same asked.grid bytes r.grid opens.1 told opens.3 ∙ opens.4 in
       let none_dropped : (r.dropped == 0) ≡ true = ap (λ (n : ℕ). n == 0) (dropped ∙ opens.5) in
-      ap (λ b. if b then 0 else 1) (ap₂ (λ a b. a && b) plain (ap₂ (λ a b. a && b) none_dropped
-      (clear_if f.short.items f.repeats.items f.touches.items f.crossings.items none.short none.repeats none.touches none.crossings))),
+      ap (λ b. if b then 0 else 1) (ap₂ (λ a b. a && b) (ap₂ (λ a b. a && b) plain none_dropped)
+      (clear_if f.short.items f.repeats.items f.touches.items f.crossings.items none.short none.repeats none.touches none.crossings)),
 )
   where
     f : Findings A
