@@ -195,10 +195,10 @@ fn opened<'a, A: Allocator + Copy>(
 
 /// The topology that the bytes are, on the grid that is asked for, or its first fault.
 ///
-/// The coordinates are read as exact decimals, of at most 24 decimals. All are put on one grid of
-/// whole numbers: of the decimals that are there, at most `wants.digits` are kept, and fewer where the
-/// furthest coordinate would pass 10^12; the rest is rounded to the nearest, and halves up. The
-/// transform becomes that of the grid. With `wants.drop_heights`, numbers behind the first two of a
+/// The coordinates are read as exact decimals; what stands behind the 24th is rounded down. All are
+/// put on one grid of whole numbers: of the decimals that are there, at most `wants.digits` are kept,
+/// and fewer where the furthest coordinate would pass 10^12; the rest is rounded to the nearest, and
+/// halves up. The transform becomes that of the grid. With `wants.drop_heights`, numbers behind the first two of a
 /// position are left out. The phases and the faults are those of `topo_reader::read_walks`, where
 /// `OutOfRange` is told of a coordinate beyond 10^12 on a grid 10^`wants.finer` times as fine, and
 /// `Unsupported` of a point where the grid is finer than that of the text: points are kept as they
