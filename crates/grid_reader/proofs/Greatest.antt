@@ -1,12 +1,11 @@
 -- The greatest of what the coordinates have, as the loops come to it.
-use Rattle.std.proofs.Common.{◌≡◌, ℕ, ◌+◌, ◌<◌, ◌≤◌, List, ◌∷◌, ◌++◌, length, get_or, drop, map, sym, ap, ◌∙◌}
+use Rattle.std.proofs.Common.{◌≡◌, ℕ, ◌+◌, ◌<◌, ◌≤◌, List, length, get_or, drop, map, sym, ap, ◌∙◌}
 use Rattle.std.specs.Prelude.{ℤ, Vec}
 use Rattle.std.specs.List.{fold, flat_map}
 use Rattle.std.proofs.lemmas.List.{drop_all, map-append}
 use Rattle.std.proofs.lemmas.List.Sums.{fold-append}
 use Rattle.topo_reader.proofs.Joining.{tail_at}
 use Rattle.grid_reader.specs.declared.fine_pos.FinePos.{FinePos}
-use Rattle.grid_reader.specs.Fine.{FinePosition}
 use Rattle.grid_reader.specs.Grid.{xy, greater, greatest_from, coordinates}
 use Rattle.grid_reader.specs.Seen.{fine_seen, arc_seen, arcs_seen}
 

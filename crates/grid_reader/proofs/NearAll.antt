@@ -1,7 +1,7 @@
 -- The positions that were read are in range on the grid that they are put on.
-use Rattle.std.proofs.Common.{◌≡◌, ℕ, zero, suc, ◌+◌, ◌-◌, ◌*◌, ◌<◌, ◌≤◌, ◌^◌, Bool, true, false, cond, List, [], ◌∷◌, ◌++◌, length, map, refl, sym, ap, ◌∙◌, subst, inl, inr, ◌⊎◌, arith}
+use Rattle.std.proofs.Common.{◌≡◌, ℕ, zero, suc, ◌-◌, ◌*◌, ◌≤◌, ◌^◌, Bool, true, false, cond, List, [], ◌∷◌, ◌++◌, map, refl, sym, ap, ◌∙◌, subst, inl, inr, ◌⊎◌, arith}
 use Rattle.std.proofs.Math.Nat.{mul-le-mul_right}
-use Rattle.std.specs.Prelude.{◌&&◌, ◌+ℤ◌, ℤ, Option, Some, None, Result, Ok, Err, unsigned_abs, nat_le}
+use Rattle.std.specs.Prelude.{◌&&◌, ◌+ℤ◌, ℤ, Option, Some, None, Ok, unsigned_abs, nat_le}
 use Rattle.std.specs.List.{AllByRecursion, fold, flat_map}
 use Rattle.std.proofs.lemmas.List.{map-append}
 use Rattle.std.proofs.lemmas.List.Sums.{fold-append}
@@ -9,7 +9,7 @@ use Rattle.json_spans.specs.Nodes.{Node}
 use Rattle.json_spans.specs.Walk.{items}
 use Rattle.json_spans.specs.Kinds.{kind_of}
 use Rattle.topo_outline.specs.Shape.{is_list, is_number}
-use Rattle.topo_outline.specs.Faults.{Fault, not_whole, out_of_range, bad_position, ◌>>=◌, each, demand}
+use Rattle.topo_outline.specs.Faults.{not_whole, out_of_range, bad_position, ◌>>=◌, each}
 use Rattle.topo_reader.specs.Positions.{has_two}
 use Rattle.topo_reader.proofs.Steps.{bind_ok, demand_ok, ok_same, at_most}
 use Rattle.exact_decimals.specs.Decimal.{Parts, parts_of}

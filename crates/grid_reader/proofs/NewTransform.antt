@@ -1,16 +1,14 @@
 -- The transform of a finer grid is one that opening would keep.
-use Rattle.std.proofs.Common.{◌≡◌, ◌≢◌, ℕ, zero, suc, ◌+◌, arith, Bool, true, false, cond, ◌&&◌, List, [], ◌∷◌, ◌++◌, length, map, take, refl, sym, ap, ◌∙◌, subst, codes, append_assoc, bytes_eq}
-use Rattle.std.specs.Prelude.{Option, Some, None, option_map, Result, Ok, Err, IsTrue, IsUtf8, nat_lt, ℤ, pos, ◌==◌}
-use Rattle.std.specs.List.{AllByRecursion, AllZip, AllPairs, IsDistinct, list_all, prefix_len}
+use Rattle.std.proofs.Common.{◌≡◌, ◌≢◌, ℕ, zero, suc, ◌+◌, arith, Bool, true, false, cond, ◌&&◌, List, [], ◌∷◌, ◌++◌, map, take, refl, sym, ap, ◌∙◌, subst, codes, append_assoc}
+use Rattle.std.specs.Prelude.{Option, Some, None, option_map, Result, Ok, IsTrue, nat_lt, ℤ, pos, ◌==◌}
+use Rattle.std.specs.List.{AllByRecursion, AllPairs, IsDistinct, list_all}
 use Rattle.std.proofs.lemmas.List.{append-nil}
 use Rattle.std.proofs.lemmas.Map.Made.{AllPairs-from_IsDistinct}
 use Rattle.std.proofs.lemmas.Slice.Eq.{bytes_eq-Decides}
-use Rattle.serde_json.specs.Read.{read}
-use Rattle.serde_json.specs.Data.{string}
 use Rattle.serde_json.proofs.OnLiterals.{serde_json_on_literals}
 use Rattle.json_spans.specs.Bytes.{is_digit}
-use Rattle.json_spans.specs.Grammar.{Value, number as a_number, plain_number, zero_first, no_fraction, no_exponent}
-use Rattle.json_spans.specs.Inside.{IsValue, IsNumber, IsText, IsListOf, IsObjectOf}
+use Rattle.json_spans.specs.Grammar.{number as a_number, plain_number, zero_first, no_fraction, no_exponent}
+use Rattle.json_spans.specs.Inside.{IsValue, IsNumber, IsText, IsListOf}
 use Rattle.json_spans.specs.Kinds.{kind_of}
 use Rattle.json_spans.specs.Nodes.{Node}
 use Rattle.json_spans.specs.Decoded.{decoded}
@@ -21,9 +19,8 @@ use Rattle.json_spans.proofs.Told.{number_told, object_told, object_kind, member
 use Rattle.ring_machine.specs.Document.{Text, Member}
 use Rattle.topo_outline.specs.declared.words.Word.TheVariants as word
 use Rattle.topo_outline.specs.Faults.{Fault, ◌>>=◌}
-use Rattle.topo_outline.specs.IsOutline.{HasEntries, value_at, AreTwoNumbers, IsTransform, no_transform, null_transform, transform, NestsAtMost}
+use Rattle.topo_outline.specs.IsOutline.{value_at, AreTwoNumbers, IsTransform, no_transform, null_transform, transform, NestsAtMost}
 use Rattle.topo_outline.specs.Kept.{IsJson, IsName, IfThere, IsKeptTransform}
-use Rattle.topo_outline.specs.Members.{EntryNode}
 use Rattle.topo_outline.specs.Shape.{is_list, is_number}
 use Rattle.topo_outline.specs.Words.{word_of}
 use Rattle.topo_outline.proofs.Levels.{list_here, list_nests}
@@ -36,6 +33,7 @@ use Rattle.topo_reader.specs.Positions.{two_of}
 use Rattle.topo_reader.proofs.Steps.{bind_ok, ok_same}
 use Rattle.exact_decimals.specs.Decimal.{Parts, parts_of, unsigned, behind_integer, with_exponent, exponent_of, digits_of, behind_digits}
 use Rattle.exact_decimals.specs.Shifted.{shifted_text}
+use Rattle.exact_decimals.proofs.Values.{front_passes}
 use Rattle.exact_decimals.proofs.Written.{shifted_number}
 use Rattle.json_spans.specs.Whole.{digits_len}
 use Rattle.grid_reader.specs.Transform.{says, value_named, both_numbers, two_numbers, two_in, there, number, transform_text, one_shifted, divided, transform_on}
@@ -120,12 +118,7 @@ made_kept a b c d w x y z =
 -- ---- its numbers
 
 digits_ok : (xs : List ℕ) → list_all is_digit (digits_of xs) ≡ true
-digits_ok [] = refl
-digits_ok (x ∷ xs) = by (is_digit x) refl (digits_ok xs)
-  where
-    by : (b : Bool) → is_digit x ≡ b → list_all is_digit (digits_of xs) ≡ true → list_all is_digit (take (cond b (1 + digits_len xs) 0) (x ∷ xs)) ≡ true
-    by true e h = let more : 1 + digits_len xs ≡ suc (digits_len xs) = omega arith in rw (more, e) h
-    by false e h = refl
+digits_ok xs = front_passes is_digit xs
 
 pub record HasDigits (p : Parts) : Type 0 where
   pub whole : IsTrue (list_all is_digit p.integer)

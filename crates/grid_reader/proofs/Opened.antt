@@ -1,11 +1,11 @@
 -- What opening on a grid is made of, and what it means.
-use Rattle.std.proofs.Common.{◌≡◌, ℕ, ◌+◌, ◌≤◌, map, Bool, true, not, ◌||◌, List, length, refl, sym, ap, ◌∙◌, subst}
+use Rattle.std.proofs.Common.{◌≡◌, ℕ, ◌+◌, ◌≤◌, map, not, ◌||◌, List, length, refl, sym, ap, ◌∙◌, subst}
 use Rattle.std.specs.Prelude.{◌==◌, Option, Result, Ok, Err, IfOk, is_some, codes}
 use Rattle.json_spans.specs.Grammar.{Json}
 use Rattle.json_spans.specs.Nodes.{Node}
 use Rattle.ring_machine.specs.Document.{Text}
 use Rattle.topo_outline.specs.declared.fault.OpenFault.{OpenFault}
-use Rattle.topo_outline.specs.Faults.{Fault, unsupported, ◌>>=◌, demand}
+use Rattle.topo_outline.specs.Faults.{Fault, unsupported, ◌>>=◌}
 use Rattle.topo_outline.specs.Gives.{Fails, Gives}
 use Rattle.topo_outline.specs.Layers.{OutlineText}
 use Rattle.topo_outline.specs.Outline.{outline}

@@ -5,11 +5,11 @@ use Rattle.std.proofs.lemmas.List.{append-nil, map-append}
 use Rattle.json_spans.specs.Nodes.{Node}
 use Rattle.topo_outline.specs.Gives.{Fails}
 use Rattle.topo_outline.specs.declared.fault.OpenFault.{OpenFault}
-use Rattle.topo_outline.specs.Faults.{Fault, each}
-use Rattle.topo_outline.proofs.Walking.{with_front, carry, regroup, each_turn}
+use Rattle.topo_outline.specs.Faults.{Fault}
+use Rattle.topo_outline.proofs.Walking.{with_front, carry, regroup}
 use Rattle.grid_reader.specs.declared.fine_pos.FinePos.{FinePos}
 use Rattle.grid_reader.specs.declared.wants.Wants.{Wants}
-use Rattle.grid_reader.specs.Fine.{FinePosition, coordinate, pair_of, fine_position, fine_positions, fine_arc, before_next}
+use Rattle.grid_reader.specs.Fine.{FinePosition, coordinate, pair_of, fine_position, fine_positions, before_next}
 use Rattle.grid_reader.specs.Seen.{fine_seen}
 
 pub turn : (wants : Wants) (delta : Bool) (before : FinePosition) (front : List FinePos) (p : FinePos) (n : Node) (ns left : List Node) (whole : Result (List FinePosition) Fault) → left ≡ n ∷ ns → fine_position wants before n ≡ Ok (fine_seen p) → with_front (map fine_seen front) (fine_positions wants delta before left) ≡ whole →

@@ -1,6 +1,6 @@
 -- The positions of the arcs in units of 10^-24: the first fault in the order of the text, or all of
 -- them (TopoJSON 1.0, 2.1.1 to 2.1.3).
-use Rattle.std.specs.Prelude.{ℕ, ◌-◌, ◌^◌, ◌&&◌, ℤ, pos, ◌+ℤ◌, unsigned_abs, List, [], ◌∷◌, Bool, true, false, nat_le, if◌then◌else◌, Option, Some, None, Result, Ok, Err}
+use Rattle.std.specs.Prelude.{ℕ, ◌-◌, ◌^◌, ◌&&◌, ℤ, pos, ◌+ℤ◌, unsigned_abs, List, [], ◌∷◌, Bool, true, false, nat_le, Option, Some, None, Result, Ok, Err}
 use Rattle.json_spans.specs.Nodes.{Node}
 use Rattle.json_spans.specs.Walk.{items}
 use Rattle.json_spans.specs.Kinds.{kind_of}

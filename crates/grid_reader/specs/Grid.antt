@@ -1,6 +1,6 @@
 -- The grid that positions are put on: how many decimals it has, and where they stand on it.
 use Rattle.std.specs.Prelude.{ℕ, zero, suc, ◌+◌, ◌-◌, ◌*◌, ◌^◌, ◌||◌, ℤ, pos, ◌*ℤ◌, unsigned_abs, Bool, nat_le, if◌then◌else◌, List, [], ◌∷◌, map, length}
-use Rattle.std.specs.List.{flat_map, fold, filter, count_by}
+use Rattle.std.specs.List.{flat_map, fold, filter}
 use Rattle.json_spans.specs.Nodes.{Node}
 use Rattle.json_spans.specs.Walk.{items}
 use Rattle.grid_geometry.specs.Position.{Position, position}
@@ -36,8 +36,8 @@ most_decimals arcs = greatest (map decimals (coordinates arcs))
 abbrev pub furthest : List (List FinePosition) → ℕ
 furthest arcs = greatest (map unsigned_abs (coordinates arcs))
 
--- the greatest number up to the second of decimals with which so far a coordinate is within 10^12, on
--- a grid 10^finer times as fine again
+-- the greatest number of decimals, up to the last argument, with which so far a coordinate is within
+-- 10^12, on a grid 10^finer times as fine again
 unfoldable pub fitting : ℕ → ℕ → ℕ → ℕ
 fitting finer far zero = 0
 fitting finer far (suc k) =

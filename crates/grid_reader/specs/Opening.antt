@@ -1,10 +1,10 @@
 -- What a topology means on the grid that is asked for.
-use Rattle.std.specs.Prelude.{◌≡◌, ℕ, ◌==◌, ◌||◌, Bool, true, false, not, List, Option, codes, is_some, Result, Ok}
+use Rattle.std.specs.Prelude.{◌≡◌, ℕ, ◌==◌, ◌||◌, Bool, true, false, not, List, codes, is_some, Result, Ok}
 use Rattle.std.specs.List.{list_any}
 use Rattle.json_spans.specs.Nodes.{Node}
 use Rattle.ring_machine.specs.Document.{Document}
 use Rattle.topo_outline.specs.Faults.{Fault, unsupported, ◌>>=◌, demand}
-use Rattle.topo_outline.specs.Layers.{Piece, starts, ends, leaf, text, LayerText, OutlineText}
+use Rattle.topo_outline.specs.Layers.{Piece, text, LayerText, OutlineText}
 use Rattle.topo_outline.specs.Outline.{outline}
 use Rattle.topo_reader.specs.Arcs.{Arc}
 use Rattle.topo_reader.specs.Document.{Opened}

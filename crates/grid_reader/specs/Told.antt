@@ -1,5 +1,5 @@
 -- What is told of the grid that a map was put on.
-use Rattle.std.specs.Prelude.{◌≡◌, ℕ, Bool, List, is_some, if◌then◌else◌, Ok}
+use Rattle.std.specs.Prelude.{◌≡◌, ℕ, List, is_some, if◌then◌else◌, Ok}
 use Rattle.json_spans.specs.Nodes.{Node}
 use Rattle.topo_outline.specs.Layers.{OutlineText}
 use Rattle.topo_outline.specs.Outline.{outline}
@@ -9,8 +9,8 @@ use Rattle.grid_reader.specs.declared.told.Told.{Told}
 use Rattle.grid_reader.specs.Fine.{FinePosition, fine_arcs}
 use Rattle.grid_reader.specs.Grid.{most_decimals, digits_of, moved, heights}
 
--- how many decimals the coordinates have, how many are kept, how many positions were rounded, and how
--- many had further numbers
+-- how many decimals the coordinates have, how many are kept, how many positions were rounded, and
+-- how many had further numbers
 pub record IsToldOf (wants : Wants) (fine : List (List FinePosition)) (arcs : Node) (told : Told)
     : Type 0 where
   pub decimals : told.decimals ≡ most_decimals fine

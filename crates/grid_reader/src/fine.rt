@@ -1,5 +1,5 @@
 // The positions of the arcs in units of 10^-24 (TopoJSON 1.0, 2.1.1 to 2.1.3).
-ghost use Rattle.std.specs.Prelude.{◌≡◌, ◌≤◌, ◌^◌, true, Some, map, option_map, IfOk, unsigned_abs};
+ghost use Rattle.std.specs.Prelude.{◌≡◌, ◌≤◌, ◌^◌, true, Some, option_map, IfOk, unsigned_abs};
 ghost use Rattle.json_spans.specs.Left.{node};
 ghost use Rattle.json_spans.specs.Walk.{items};
 ghost use Rattle.topo_outline.specs.Gives.{Gives};

@@ -1,16 +1,13 @@
 // From the bytes of a topology to its walks on a grid.
-ghost use Rattle.std.specs.Prelude.{◌≡◌, ◌≤◌, ◌+◌, ◌==◌, ◌||◌, IfOk, IfErr, IfSome, map, not, length, is_some, Ok, codes};
+ghost use Rattle.std.specs.Prelude.{◌≡◌, ◌≤◌, ◌+◌, IfOk, IfErr, IfSome, map};
 ghost use Rattle.std.specs.List.{list_any, AllByRecursion};
-ghost use Rattle.json_spans.specs.Grammar.{Json};
 ghost use Rattle.json_spans.specs.Left.{node};
-ghost use Rattle.topo_outline.specs.Faults.{each};
 ghost use Rattle.topo_outline.specs.Gives.{Gives};
 ghost use Rattle.topo_outline.specs.Views.{view_item, view_layer};
 ghost use Rattle.topo_outline.specs.OutlineView.{view_outline, IsPlaced};
 ghost use Rattle.topo_reader.specs.Document.{document_of, IsOfWalks};
 ghost use Rattle.topo_reader.specs.Opening.{walks_read, OpensIn, IsFaultIn};
 ghost use Rattle.topo_reader.specs.Uses.{feature_positions};
-ghost use Rattle.grid_reader.specs.Fine.{fine_arcs};
 ghost use Rattle.grid_reader.specs.Opening.{is_text, has_points, demand_no_points, opened_on, grid_opening, ReadsOnGrid};
 ghost use Rattle.grid_reader.specs.Grid.{most_decimals, digits_of, on_grid};
 ghost use Rattle.grid_reader.specs.Near.{IsNear};
@@ -198,10 +195,10 @@ fn opened<'a, A: Allocator + Copy>(
 
 /// The topology that the bytes are, on the grid that is asked for, or its first fault.
 ///
-/// The coordinates are read as exact decimals, of at most 24 decimals. All are put on one grid of
-/// whole numbers: of the decimals that are there, at most `wants.digits` are kept, and fewer where the
-/// furthest coordinate would pass 10^12; the rest is rounded to the nearest, and halves up. The
-/// transform becomes that of the grid. With `wants.drop_heights`, numbers behind the first two of a
+/// The coordinates are read as exact decimals; what stands behind the 24th is rounded down. All are
+/// put on one grid of whole numbers: of the decimals that are there, at most `wants.digits` are kept,
+/// and fewer where the furthest coordinate would pass 10^12; the rest is rounded to the nearest, and
+/// halves up. The transform becomes that of the grid. With `wants.drop_heights`, numbers behind the first two of a
 /// position are left out. The phases and the faults are those of `topo_reader::read_walks`, where
 /// `OutOfRange` is told of a coordinate beyond 10^12 on a grid 10^`wants.finer` times as fine, and
 /// `Unsupported` of a point where the grid is finer than that of the text: points are kept as they

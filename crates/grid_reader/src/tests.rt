@@ -1,7 +1,7 @@
 //! Which walks and which transform a map has on a grid, and what is refused.
-use super::{Told, Wants, read_on_grid};
+use super::{OnGrid, Told, Transform, Wants, read_on_grid};
 use grid_geometry::Pos;
-use std::alloc::Global;
+use std::alloc::{AllocError, Global};
 use std::process::Abort;
 use topo_outline::OpenFault;
 
@@ -122,17 +122,22 @@ fn is_first_walk(polygons: &[Vec<Vec<Vec<Pos>>>], corners: &[(i64, i64)]) -> boo
     }
 }
 
+fn has_text(transform: &Transform<'_>, want: &[u8]) -> bool {
+    match transform.text() {
+        Some(text) => text == want,
+        None => want.is_empty(),
+    }
+}
+
+fn is_row(read: &OnGrid<'_>, row: &Row) -> bool {
+    has_text(&read.transform, row.transform)
+        && is_first_walk(read.polygons.as_slice(), row.corners)
+        && read.told == row.told
+}
+
 fn is_read(alloc: Global, row: &Row) -> bool {
     match read_on_grid(alloc, alloc, row.text, wants(row.asked)) {
-        Ok(read) => {
-            let text = match read.transform.text() {
-                Some(text) => text,
-                None => b"",
-            };
-            text == row.transform
-                && is_first_walk(read.polygons.as_slice(), row.corners)
-                && read.told == row.told
-        }
+        Ok(read) => is_row(&read, row),
         Err(_) => false,
     }
 }
@@ -144,59 +149,57 @@ fn maps_are_put_on_a_grid(rt: HostRuntime) {
     }
 }
 
-/// A fault at a place, or of points.
-#[derive(Clone, Copy, PartialEq)]
-enum Refused {
-    Position(usize),
-    Range(usize),
-    Whole(usize),
-    Points,
-    Other,
-}
-
-fn refusal(fault: OpenFault<'_>) -> Refused {
-    match fault {
-        OpenFault::BadPosition { place } => Refused::Position(place),
-        OpenFault::OutOfRange { place } => Refused::Range(place),
-        OpenFault::NotWhole { place } => Refused::Whole(place),
-        OpenFault::Unsupported { .. } => Refused::Points,
-        _ => Refused::Other,
-    }
-}
-
-/// What is refused, with what is asked for, and the fault.
-const REFUSED: &[(&[u8], Asked, Refused)] = &[
+/// What is refused, with what is asked for, and the text of the fault.
+const REFUSED: &[(&[u8], Asked, &str)] = &[
     (
         br#"{"type":"Topology","objects":{"a":{"type":"Polygon","arcs":[[0]]}},"arcs":[[[1,0,7],[2,5]]]}"#,
         Asked::All,
-        Refused::Position(76),
+        "bad position at 76",
     ),
     (
         br#"{"type":"Topology","objects":{"a":{"type":"Polygon","arcs":[[0]]}},"arcs":[[[1000000000000.1,0],[2,5]]]}"#,
         Asked::All,
-        Refused::Range(77),
+        "out of range at 77",
     ),
     (
         br#"{"type":"Topology","objects":{"a":{"type":"Polygon","arcs":[[0]]}},"arcs":[[[1,null],[2,5]]]}"#,
         Asked::All,
-        Refused::Whole(79),
+        "not whole at 79",
     ),
     (
         br#"{"type":"Topology","objects":{"a":{"type":"Point","coordinates":[0,0]}},"arcs":[]}"#,
         Asked::Finer,
-        Refused::Points,
+        "unsupported Point",
     ),
     (
         br#"{"type":"Topology","objects":{"a":{"type":"Polygon","arcs":[[0]]}},"arcs":[[[200000000000,0],[2,5]]]}"#,
         Asked::Finer,
-        Refused::Range(77),
+        "out of range at 77",
     ),
 ];
 
-fn is_refused(alloc: Global, text: &[u8], asked: Asked, expected: Refused) -> bool {
+/// The fault of the text, if it has one.
+fn fault_of(alloc: Global, text: &[u8], asked: Asked) -> Option<OpenFault<'_>> {
     match read_on_grid(alloc, alloc, text, wants(asked)) {
-        Ok(_) => false,
-        Err(fault) => refusal(fault) == expected,
+        Ok(read) => {
+            drop(read);
+            None
+        }
+        Err(fault) => Some(fault),
+    }
+}
+
+fn shown(alloc: Global, text: &[u8], asked: Asked) -> Result<String, AllocError> {
+    match fault_of(alloc, text, asked) {
+        Some(fault) => format!(in alloc; "{fault}"),
+        None => format!(in alloc; "read"),
+    }
+}
+
+fn is_refused(alloc: Global, text: &[u8], asked: Asked, want: &str) -> bool {
+    match shown(alloc, text, asked) {
+        Ok(shown) => shown.as_str() == want,
+        Err(_) => false,
     }
 }
 

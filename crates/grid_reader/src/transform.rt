@@ -1,5 +1,5 @@
 // The transform of a grid that is finer by a power of ten (TopoJSON 1.0, 2.1.2).
-ghost use Rattle.std.specs.Prelude.{◌≡◌, ◌≤◌, List, ℕ, Option, Ok, option_map, IfOk, None, Some, codes};
+ghost use Rattle.std.specs.Prelude.{◌≡◌, ◌≤◌, Ok, option_map, IfOk, None, Some, codes};
 ghost use Rattle.json_spans.specs.Left.{node};
 ghost use Rattle.json_spans.specs.Walk.{items, members};
 ghost use Rattle.json_spans.specs.Decoded.{decoded};

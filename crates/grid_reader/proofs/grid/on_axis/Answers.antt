@@ -1,4 +1,4 @@
-use Rattle.std.proofs.Common.{◌≡◌, ◌*◌, ◌≤◌, ◌^◌, ◌-◌, refl, sym, ap, ap₂, ◌∙◌, arith, ℤ, pos}
+use Rattle.std.proofs.Common.{◌≡◌, ◌≤◌, ◌^◌, ap₂, ◌∙◌, arith, ℤ, pos}
 use Rattle.std.specs.Prelude.{◌*ℤ◌, unsigned_abs}
 use Rattle.std.proofs.lemmas.Int.{to_z-of_z}
 use Rattle.exact_decimals.specs.Fine.{rounded}
@@ -6,7 +6,7 @@ use Rattle.grid_reader.proofs.Reach.{power_fits}
 use Rattle.grid_reader.proofs.Scaled.{axis_within, small_fits, scale_fits, product_is}
 use Rattle.grid_reader.proofs.grid.on_axis.Goals as goal
 use mir.Syntax.{w64, w128}
-use mir.Val.{SFits, of_z, to_z}
+use mir.Val.{SFits}
 
 pub overflow_cast-scale : goal.overflow_cast-scale
 overflow_cast-scale c = small_fits (pos c.pow-scale.result) (scale_fits c.args.finer c.pow-scale.result c.requires.finer c.pow-scale.ensures)
