@@ -1,6 +1,6 @@
-use Rattle.std.proofs.Common.{arith, refl, sym, ap, ◌∙◌, ◌++◌, append-nil, map}
+use Rattle.std.proofs.Common.{arith, refl, sym, ap, ◌∙◌, ◌++◌, append-nil, map, get_or}
 use Rattle.std.specs.Prelude.{codes, decimal}
-use Rattle.std.proofs.lemmas.List.{take_all}
+use Rattle.std.proofs.lemmas.List.{take_all, get_or_default}
 use Rattle.map_text.specs.Text.{commas}
 use Rattle.place_text.proofs.Appending.{three}
 use Rattle.place_text.proofs.Listed.{map_step}
@@ -11,7 +11,9 @@ loop-index-init g c = c.in_ok-extend_from_slice.ensures.items ∙ sym (append-ni
 
 pub loop-index-preserved : goal.loop-index-preserved
 loop-index-preserved g c =
-    map_step decimal c.args.numbers.now c.loop-index.index c.index-numbers-index.result c.loop-index-test.true c.index-numbers-index.is
+    let numbers = c.args.numbers.now in
+    let i = c.loop-index.index in
+    map_step decimal numbers i (get_or numbers i 0) c.loop-index-test.true (get_or_default numbers i 0 (get_or numbers i 0) c.loop-index-test.true)
     (c.args.text.now.items ++ codes ",\"features\":[") c.loop-index.text.items c.push_comma.new.text.items c.push_number.new.text.items
     c.loop-index.invariant c.in_ok-push_comma.ensures c.in_ok-push_number.ensures
 

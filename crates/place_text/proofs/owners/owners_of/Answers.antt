@@ -6,5 +6,5 @@ use Rattle.place_text.specs.Tables.{numbers_at}
 use Rattle.place_text.proofs.Asking.{pairs_among}
 use Rattle.place_text.proofs.owners.owners_of.Goals as goal
 
-pub returns-clause-pairs : goal.returns-clause-pairs
-returns-clause-pairs g c = ?
+pub returns : goal.returns
+returns g c = ?
