@@ -96,11 +96,8 @@ def encoded(arc, transform):
 def having(features, *these):
     """The property that tells the features which have one of these vertices, or of these segments as edges."""
     has = lambda walk, it: it in walk or any(it in (e, e[::-1]) for e in zip(walk, walk[1:] + walk[:1]))
-    return {
-        "features": [
-            n for n, polygons in enumerate(features) if any(has(walk, it) for walks in polygons for walk in walks for it in these)
-        ]
-    }
+    walks = [[walk for walks in polygons for walk in walks] for polygons in features]
+    return {"features": [n for n, them in enumerate(walks) if any(has(walk, it) for walk in them for it in these)]}
 
 
 def places(features, transform):

@@ -8,6 +8,7 @@ use Rattle.std.specs.declared.cmp.Ordering.{Ordering}
 use Rattle.grid_geometry.specs.Position.{Position, position_cmp}
 use Rattle.grid_geometry.specs.Segment.{Segment, segment_cmp}
 use Rattle.segment_paths.specs.Paths.{Path}
+use Rattle.walk_faults.specs.declared.findings.Crossing.{Crossing}
 use Rattle.walk_faults.specs.declared.findings.Touch.{Touch}
 use Rattle.place_text.specs.declared.owners.Owners.{Owners}
 use Rattle.place_text.specs.declared.sides.Side.{Side}
@@ -92,6 +93,13 @@ path_segment path = path.0
 abbrev pub told_paths : Option (List Path) → List Path
 told_paths None = []
 told_paths (Some paths) = paths
+
+-- a table answers as the map does for both segments of a pair
+abbrev pub AnswersBoth : {A : Type 0} → List (List (List (List Position)))
+    → BTreeMap Segment (Vec ℕ A) → Crossing → Type 0
+AnswersBoth features segments c =
+    (numbers_at segment_cmp segments c.first ≡ segment_features features c.first)
+    × (numbers_at segment_cmp segments c.second ≡ segment_features features c.second)
 
 -- the tables answer as the map does
 pub record Answers {A : Type 0} (features : List (List (List (List Position))))

@@ -61,10 +61,10 @@ fn push_features<A: Allocator>(text: &mut Vec<u8, A>, numbers: &[usize]) -> Resu
 fn push_whose<A: Allocator, B: Allocator + Copy>(
     text: &mut Vec<u8, A>,
     owners: &Owners<B>,
-    place: Place,
+    place: &Place,
 ) -> Result<(), AllocError>
-    ensures { OnOk result
-        (text.new.items ≡ text.old.items ++ whose_text (told_by owners.now) place.kind place) }
+    ensures { OnOk result (text.new.items
+        ≡ text.old.items ++ whose_text (told_by owners.now) place.now.kind place.now) }
 {
     match place.kind {
         Kind::Short | Kind::Repeats => push_ring(text, place.ring),
@@ -92,10 +92,10 @@ fn push_finding<A: Allocator>(
 pub(crate) fn push_place<A: Allocator, B: Allocator + Copy>(
     text: &mut Vec<u8, A>,
     owners: &Owners<B>,
-    place: Place,
+    place: &Place,
 ) -> Result<(), AllocError>
     ensures { OnOk result
-        (text.new.items ≡ text.old.items ++ place_text (told_by owners.now) place) }
+        (text.new.items ≡ text.old.items ++ place_text (told_by owners.now) place.now) }
 {
     text.extend_from_slice(b"{\"type\":\"Point\",\"properties\":")?;
     push_finding(text, place.kind, place.number)?;

@@ -11,7 +11,7 @@ ghost use Rattle.place_text.specs.Places.{list_at};
 ghost use Rattle.place_text.specs.Sides.{sides_of};
 ghost use Rattle.place_text.specs.Owners.{vertex_features, segment_features, pair_features};
 ghost use Rattle.place_text.specs.Tables.{numbers_in, numbers_at, asked_with, touch_pos, side_segment};
-ghost use Rattle.place_text.specs.Tables.{numbers_of, path_segment, told_paths, Answers};
+ghost use Rattle.place_text.specs.Tables.{numbers_of, path_segment, told_paths, Answers, AnswersBoth};
 
 use crate::sides::Side;
 use crate::tables::{Table, Tables, ask, tell_all};
@@ -123,9 +123,8 @@ fn pairs<A: Allocator + Copy>(
     crossings: &[Crossing],
 ) -> Result<Vec<Vec<usize, A>, A>, AllocError>
     ensures { IfOk result (λ pairs. (features : List (List (List (List Position)))) →
-        All (λ c. (numbers_at segment_cmp tables.now.segments c.first ≡ segment_features features c.first)
-        × (numbers_at segment_cmp tables.now.segments c.second ≡ segment_features features c.second))
-        crossings.now → map numbers_of pairs.items ≡ map (pair_features features) crossings.now) }
+        All (AnswersBoth features tables.now.segments) crossings.now →
+        map numbers_of pairs.items ≡ map (pair_features features) crossings.now) }
 {
     let mut pairs = Vec::new(alloc);
     for pair in crossings {
@@ -144,7 +143,14 @@ pub(crate) fn owners_of<A: Allocator + Copy>(
     findings: &Findings<A>,
     sides: &[Side],
     paths: Option<&[SegmentPath<A>]>,
-) -> Result<Owners<A>, AllocError> {
+) -> Result<Owners<A>, AllocError>
+    requires { sides.now ≡ sides_of findings.now }
+    ensures tables { IfOk result (λ owners. Answers (features_seen walks.now)
+        findings.now.touches.items sides.now
+        (told_paths (option_map (λ ps. paths_seen ps.now) paths.entry)) owners.tables) }
+    ensures pairs { IfOk result (λ owners. map numbers_of owners.pairs.items
+        ≡ map (pair_features (features_seen walks.now)) findings.now.crossings.items) }
+{
     let tables = told_tables(alloc, walks, findings.touches.as_slice(), sides, paths)?;
     let pairs = pairs(alloc, &tables, findings.crossings.as_slice())?;
     Ok(Owners { tables, pairs })

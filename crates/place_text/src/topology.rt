@@ -32,7 +32,7 @@ fn push_places<A: Allocator, B: Allocator + Copy>(
     text.extend_from_slice(b"[")?;
     for (index, place) in places.iter().enumerate() {
         push_comma(text, index > 0)?;
-        push_place(text, owners, *place)?;
+        push_place(text, owners, place)?;
     }
     text.extend_from_slice(b"]")?;
     Ok(())
@@ -211,7 +211,7 @@ fn push_path_layer<A: Allocator, B: Allocator + Copy>(
 }
 
 /// The objects of a topology, and whose they are.
-#[derive(Clone, Copy)]
+#[derive(Drop)]
 struct Layers<'l, B: Allocator + Copy> {
     owners: &'l Owners<B>,
     places: &'l [Place],
