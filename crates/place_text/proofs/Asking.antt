@@ -1,9 +1,8 @@
 -- What is asked for, and what tables answer of it.
-use Rattle.std.proofs.Common.{◌≡◌, ◌<◌, ◌+◌, ◌||◌, ℕ, zero, suc, Bool, true, false, cond, refl, sym, ap, ap₂, ◌∙◌, subst}
+use Rattle.std.proofs.Common.{◌≡◌, ◌<◌, ◌+◌, ◌||◌, ℕ, zero, suc, Bool, true, false, cond, refl, sym, ap, ◌∙◌, subst}
 use Rattle.std.proofs.Common.{List, [], ◌∷◌, ◌++◌, length, map, take, get_or, arith, Option, Some, None, All}
-use Rattle.std.specs.Prelude.{option_map, unwrap_or, slice_get, Vec}
-use Rattle.std.specs.List.{list_any}
-use Rattle.std.specs.BTreeMap.{BTreeMap, IsEmpty, get}
+use Rattle.std.specs.Prelude.{option_map, unwrap_or, Vec}
+use Rattle.std.specs.BTreeMap.{BTreeMap, IsEmpty}
 use Rattle.std.specs.Map.{lookup}
 use Rattle.std.specs.Ordering.{is_eq}
 use Rattle.std.specs.Cmp.{IsTotalOrder, tied_itself}
@@ -25,7 +24,7 @@ use Rattle.place_text.specs.declared.sides.Side.{Side}
 use Rattle.place_text.specs.declared.tables.Tables.{Tables}
 use Rattle.place_text.specs.Owners.{vertex_features, segment_features}
 use Rattle.place_text.specs.Sides.{crossing_sides, sides_of, touch_side}
-use Rattle.place_text.specs.Tables.{is_among, asked_with, numbers_in, numbers_at, touch_pos, side_segment, path_segment, TellsAll, AreEmpty, Answers}
+use Rattle.place_text.specs.Tables.{is_among, asked_with, numbers_in, touch_pos, side_segment, path_segment, TellsAll, AreEmpty, Answers}
 
 module _ {K : Type 0} (cmp : K → K → Ordering) where
   -- ---- one key after another

@@ -1,5 +1,5 @@
 -- What tables tell is what the map tells, wherever the text asks.
-use Rattle.std.proofs.Common.{◌≡◌, ◌<◌, ◌+◌, ℕ, zero, suc, refl, sym, ap, ap₂, ◌∙◌, subst, List, [], ◌∷◌, ◌++◌, length, map, take, get_or, arith, Option, Some, None, All}
+use Rattle.std.proofs.Common.{◌≡◌, ◌<◌, ◌+◌, ℕ, suc, refl, sym, ap, ap₂, ◌∙◌, List, [], ◌∷◌, ◌++◌, length, map, take, get_or, arith, Option, Some, None, All}
 use Rattle.std.specs.Prelude.{codes, is_some}
 use Rattle.std.proofs.lemmas.List.{map-append}
 use Rattle.grid_geometry.specs.Position.{Position}
@@ -8,7 +8,6 @@ use Rattle.map_text.specs.Text.{arcs_text}
 use Rattle.segment_paths.specs.Paths.{Path}
 use Rattle.topo_outline.specs.declared.fault.RingAt.{RingAt}
 use Rattle.walk_faults.specs.declared.findings.Findings.{Findings}
-use Rattle.walk_faults.specs.declared.findings.Repeat.{Repeat}
 use Rattle.walk_faults.specs.declared.findings.Touch.{Touch}
 use Rattle.walk_faults.specs.Walks.{each_at}
 use Rattle.place_text.specs.declared.owners.Owners.{Owners}
@@ -19,7 +18,7 @@ use Rattle.place_text.specs.Owners.{Telling, telling, pair_features}
 use Rattle.place_text.specs.Places.{list_at, place_at, short_place, repeat_place, touch_place, crossing_place, places_of, ArePlaces, walk_at}
 use Rattle.place_text.specs.Sides.{sides_of, side_ends}
 use Rattle.place_text.specs.Tables.{numbers_of, told_by, told_paths, Answers}
-use Rattle.place_text.specs.Text.{place_text, side_text, sides_text, path_text, paths_text, path_layer, collection_text, transform_text, ways, topology_text, IsPlaceText}
+use Rattle.place_text.specs.Text.{place_text, side_text, sides_text, path_text, path_layer, collection_text, transform_text, ways, topology_text, IsPlaceText}
 
 -- ---- elements that give the same
 

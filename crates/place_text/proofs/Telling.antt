@@ -13,9 +13,9 @@ use Rattle.ring_machine.proofs.Order.{position_eq-true}
 use Rattle.ring_machine.proofs.Removal.{position_eq-sym}
 use Rattle.ring_machine.proofs.SortedOnce.{ties}
 use Rattle.segment_index.proofs.Singles.{segment_eq-is}
-use Rattle.walk_faults.specs.Findings.{segment_at, walk_segments}
+use Rattle.walk_faults.specs.Findings.{segment_at}
 use Rattle.place_text.specs.declared.tables.Tables.{Tables}
-use Rattle.place_text.specs.Owners.{feature_positions, feature_segments, has_vertex, has_segment, vertex_features, segment_features, numbers_where}
+use Rattle.place_text.specs.Owners.{feature_positions, feature_segments, has_vertex, has_segment, numbers_where}
 use Rattle.place_text.specs.Tables.{is_among, once, once_if, numbers_in, Tells, TellsAll}
 use Rattle.place_text.proofs.Numbered.{so_many}
 use Rattle.place_text.proofs.Told.{both_told, none_told, next_number}

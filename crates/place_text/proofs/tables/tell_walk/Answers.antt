@@ -1,5 +1,4 @@
-use Rattle.std.proofs.lemmas.List.{drop_all}
-use Rattle.place_text.proofs.Telling.{walk_step, walk_end}
+use Rattle.place_text.proofs.Telling.{walk_step}
 use Rattle.place_text.proofs.tables.tell_walk.Goals as goal
 
 pub loop-to-preserved : goal.loop-to-preserved
