@@ -89,12 +89,6 @@ module _ {A : Type 0} where
       subst (λ zs. Tells n (from ∷ zs) (flat_map segment_at (links (from ∷ zs ++ first ∷ []))) a c) (sym there)
       (tells_both n (from ∷ []) (to ∷ drop (i + 1) rest) (segment_at (from, to)) (flat_map segment_at (links (to ∷ drop (i + 1) rest ++ first ∷ []))) a b c h k)
 
-  pub walk_end : (n : ℕ) (from first : Position) (left : List Position) (a b : Tables A) → left ≡ []
-      → Tells n (from ∷ []) (segment_at (from, first)) a b → Tells n (from ∷ left) (flat_map segment_at (links (from ∷ left ++ first ∷ []))) a b
-  walk_end n from first left a b none h =
-      subst (λ zs. Tells n (from ∷ zs) (flat_map segment_at (links (from ∷ zs ++ first ∷ []))) a b) (sym none)
-      (subst (λ ss. Tells n (from ∷ []) ss a b) (sym (append-nil (segment_at (from, first)))) h)
-
   -- ---- walks and polygons, one after another
 
   pub level_step : {X Y : Type 0} (n : ℕ) (f : Y → List Position) (g : Y → List Segment) (v : X → Y) (xs : List X) (i : ℕ) (x : X) (a b c : Tables A)

@@ -1,5 +1,5 @@
 // The features that findings belong to.
-ghost use Rattle.std.specs.Prelude.{◌≡◌, ◌++◌, [], ℕ, List, map, option_map, unwrap_or, slice_get, All, IfOk, OnOk};
+ghost use Rattle.std.specs.Prelude.{◌≡◌, ◌++◌, List, map, option_map, All, IfOk, OnOk};
 ghost use Rattle.std.specs.Prelude.{Contains};
 ghost use Rattle.std.specs.Ordering.{nat_cmp};
 ghost use Rattle.grid_geometry.specs.Position.{Position, position_cmp};
@@ -9,8 +9,8 @@ ghost use Rattle.walk_faults.specs.Findings.{ListsAll};
 ghost use Rattle.walk_faults.specs.Seen.{features_seen};
 ghost use Rattle.place_text.specs.Places.{list_at};
 ghost use Rattle.place_text.specs.Sides.{sides_of};
-ghost use Rattle.place_text.specs.Owners.{vertex_features, segment_features, pair_features};
-ghost use Rattle.place_text.specs.Tables.{numbers_in, numbers_at, asked_with, touch_pos, side_segment};
+ghost use Rattle.place_text.specs.Owners.{pair_features};
+ghost use Rattle.place_text.specs.Tables.{numbers_in, asked_with, touch_pos, side_segment};
 ghost use Rattle.place_text.specs.Tables.{numbers_of, path_segment, told_paths, Answers, AnswersBoth};
 
 use crate::sides::Side;

@@ -1,5 +1,5 @@
 // The topology of places.
-ghost use Rattle.std.specs.Prelude.{◌≡◌, ◌≤◌, ◌||◌, ◌++◌, nat_lt, map, is_some, option_map, IfOk, OnOk};
+ghost use Rattle.std.specs.Prelude.{◌≡◌, ◌≤◌, ◌||◌, ◌++◌, nat_lt, map, option_map, IfOk, OnOk};
 ghost use Rattle.map_text.specs.Text.{arc_text, arcs_text, commas, list_text};
 ghost use Rattle.segment_paths.specs.Seen.{paths_seen};
 ghost use Rattle.walk_faults.specs.Findings.{Found};
