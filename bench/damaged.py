@@ -338,6 +338,7 @@ def in_places(pattern, new):
     return mistake
 
 
+A_PATH = r',\{"type":"LineString","properties":\{"number":[0-9]+,"features":\[[0-9,]*\]\},"arcs":\[[0-9]+\]\}'
 MISTAKES = {
     "a vertex moved": vertex_moved,
     "a vertex left out": vertex_left_out,
@@ -374,7 +375,10 @@ MISTAKES = {
     "two lines swapped": lines_swapped,
     "a number of the report changed": number_changed,
     "places under another transform": in_places(r'"transform":', '"transform": '),
-    "a path left out of the places": in_places(r',\{"type":"LineString","properties":\{"number":[0-9]+\},"arcs":\[[0-9]+\]\}', ""),
+    "a path left out of the places": in_places(A_PATH, ""),
     "a position left out of the places": in_places(r",\[[^]]*\](?=\]\]\})", ""),
+    "a feature left out of the places": in_places(r"(?<=[0-9]),[0-9]+(?=\]\})", ""),
+    "a feature put into the places": in_places(r'(?<="features":\[)', "0,"),
+    "features not told": in_places(r',"features":\[[0-9,]*\]', ""),
     "the paths not placed": in_places(r',"paths":\{"type":"GeometryCollection","geometries":\[[^]]+.*?\]\}', ""),
 }

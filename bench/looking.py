@@ -93,14 +93,21 @@ def encoded(arc, transform):
     return [list(arc[0])] + [[q[0] - p[0], q[1] - p[1]] for p, q in zip(arc, arc[1:])]
 
 
+def having(features, *these):
+    """The property that tells the features which have one of these vertices, or of these segments as edges."""
+    has = lambda walk, it: it in walk or any(it in (e, e[::-1]) for e in zip(walk, walk[1:] + walk[:1]))
+    walks = [[walk for walks in polygons for walk in walks] for polygons in features]
+    return {"features": [n for n, them in enumerate(walks) if any(has(walk, it) for walk in them for it in these)]}
+
+
 def places(features, transform):
     """The topology that border_mend must write of these features."""
     short, repeats, on, crossing = findings(features)
     rings = lambda at: dict(zip(("feature", "polygon", "ring"), at))
     points = [("short", n, rings(at), walk[0]) for n, (at, walk) in enumerate(short) if walk]
     points += [("repeats", n, rings(at), p) for n, (at, p) in enumerate(repeats)]
-    points += [("on", n, {}, p) for n, (p, _) in enumerate(on)]
-    points += [("cross", n, {}, crossing_of(*pair)) for n, pair in enumerate(crossing)]
+    points += [("on", n, having(features, p), p) for n, (p, _) in enumerate(on)]
+    points += [("cross", n, having(features, *pair), crossing_of(*pair)) for n, pair in enumerate(crossing)]
     lines = [("on", n, s) for n, (_, s) in enumerate(on)]
     lines += [("cross", n, s) for n, pair in enumerate(crossing) for s in pair]
     located = [
@@ -108,8 +115,8 @@ def places(features, transform):
         for kind, n, at, p in points
     ]
     led = [
-        {"type": "LineString", "properties": {"kind": kind, "number": n}, "arcs": [k]}
-        for k, (kind, n, _) in enumerate(lines)
+        {"type": "LineString", "properties": {"kind": kind, "number": n, **having(features, s)}, "arcs": [k]}
+        for k, (kind, n, s) in enumerate(lines)
     ]
     layers = {"places": located, "segments": led}
     layers = {name: {"type": "GeometryCollection", "geometries": them} for name, them in layers.items()}

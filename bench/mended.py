@@ -177,6 +177,14 @@ class Old:
         ]
         self.bounding = {s for _, _, walks in self.polygons for s in bounding(walks)}
         self.touches, self.crossings = meetings({s for walk in walks_of(self.map) for s in segments_of(walk)})
+        self.having = collections.defaultdict(set)
+        for f, _, walks in self.polygons:
+            for it in itertools.chain.from_iterable([*walk, *segments_of(walk)] for walk in walks):
+                self.having[it].add(f)
+
+    def features_with(self, *these):
+        """The property that tells the features which have one of these vertices or segments."""
+        return {"features": sorted(set().union(*(self.having[it] for it in these)))}
 
     def known(self):
         """What may be put into a segment."""
@@ -377,15 +385,16 @@ def check_report(lines, wanted):
 def points_of(old):
     """A point for each finding that has a place."""
     short, repeats = ring_findings(old)
+    in_ring = lambda at: dict(zip(("feature", "polygon", "ring"), at))
     found = {
-        "short": [(at, walk[:1]) for at, walk in short],
-        "repeats": [(at, [p]) for at, p in repeats],
-        "on": [((), [p]) for p, _ in old.touches],
-        "cross": [((), [rounded_crossing(*pair)]) for pair in old.crossings],
+        "short": [(in_ring(at), walk[:1]) for at, walk in short],
+        "repeats": [(in_ring(at), [p]) for at, p in repeats],
+        "on": [(old.features_with(p), [p]) for p, _ in old.touches],
+        "cross": [(old.features_with(*pair), [rounded_crossing(*pair)]) for pair in old.crossings],
     }
     for kind, places in found.items():
-        for n, (at, positions) in enumerate(places):
-            properties = {"kind": kind, "number": n, **dict(zip(("feature", "polygon", "ring"), at))}
+        for n, (whose, positions) in enumerate(places):
+            properties = {"kind": kind, "number": n, **whose}
             yield from ({"type": "Point", "properties": properties, "coordinates": [*p]} for p in positions)
 
 
@@ -394,7 +403,8 @@ def places_of(old, paths):
     sides = [("on", n, s) for n, (_, s) in enumerate(old.touches)]
     sides += [("cross", n, s) for n, pair in enumerate(old.crossings) for s in pair]
     ways = [[s[0], *inner, s[1]] for s, inner in sorted(paths.items())]
-    properties = [{"kind": kind, "number": n} for kind, n, _ in sides] + [{"number": n} for n in range(len(ways))]
+    properties = [{"kind": kind, "number": n, **old.features_with(s)} for kind, n, s in sides]
+    properties += [{"number": n, **old.features_with((way[0], way[-1]))} for n, way in enumerate(ways)]
     lines = [{"type": "LineString", "properties": it, "arcs": [k]} for k, it in enumerate(properties)]
     layers = {"places": [*points_of(old)], "segments": lines[: len(sides)], "paths": lines[len(sides) :]}
     arcs = [differences(arc) if old.map.transform else arc for arc in ([*(s for _, _, s in sides), *ways])]

@@ -5,3 +5,8 @@ pub mod ShortWalks
 pub mod Crossed
 pub mod Assembled
 pub mod Ways
+pub mod Told
+pub mod Unions
+pub mod Telling
+pub mod Asking
+pub mod SameText

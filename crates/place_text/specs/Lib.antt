@@ -1,3 +1,5 @@
+pub mod Owners
 pub mod Places
 pub mod Sides
+pub mod Tables
 pub mod Text

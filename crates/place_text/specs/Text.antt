@@ -10,6 +10,7 @@ use Rattle.place_text.specs.declared.places.Kind.{Kind}
 use Rattle.place_text.specs.declared.places.Kind.TheVariants.{Short, Repeats, On, Cross}
 use Rattle.place_text.specs.declared.places.Place.{Place}
 use Rattle.place_text.specs.declared.sides.Side.{Side}
+use Rattle.place_text.specs.Owners.{Telling, telling}
 use Rattle.place_text.specs.Places.{ArePlaces}
 use Rattle.segment_paths.specs.Paths.{Path}
 use Rattle.place_text.specs.Sides.{sides_of, side_ends, way}
@@ -30,39 +31,53 @@ ring_text (Some r) =
     codes ",\"feature\":" ++ (decimal r.feature ++ (codes ",\"polygon\":" ++ (decimal r.polygon
     ++ (codes ",\"ring\":" ++ decimal r.ring))))
 
--- the kind of a finding, its number among those of its kind, and perhaps the place of its walk
-abbrev pub properties_text : Kind → ℕ → Option RingAt → Text
-properties_text kind n ring =
-    codes "{\"kind\":" ++ (kind_text kind ++ (codes ",\"number\":" ++ (decimal n
-    ++ (ring_text ring ++ codes "}"))))
+-- the features with these numbers, as a further member
+abbrev pub features_text : List ℕ → Text
+features_text numbers = codes ",\"features\":" ++ list_text (map decimal numbers)
+
+-- whose a place is: that of a walk, of the features that have a vertex, or of those that have a
+-- segment of a pair
+abbrev pub whose_text : Telling → Kind → Place → Text
+whose_text told Short p = ring_text p.ring
+whose_text told Repeats p = ring_text p.ring
+whose_text told On p = features_text (told.vertex p.pos)
+whose_text told Cross p = features_text (told.pair p.number)
+
+-- the first properties: the kind of a finding, and its number among those of its kind
+abbrev pub finding_text : Kind → ℕ → Text
+finding_text kind n =
+    codes "{\"kind\":" ++ (kind_text kind ++ (codes ",\"number\":" ++ decimal n))
 
 -- ---- geometries
 
 -- a place: a point (TopoJSON 1.0, 2.2.1)
-abbrev pub place_text : Place → Text
-place_text p =
-    codes "{\"type\":\"Point\",\"properties\":" ++ (properties_text p.kind p.number p.ring
-    ++ (codes ",\"coordinates\":" ++ (pair_text p.pos ++ codes "}")))
+abbrev pub place_text : Telling → Place → Text
+place_text told p =
+    codes "{\"type\":\"Point\",\"properties\":" ++ (finding_text p.kind p.number
+    ++ (whose_text told p.kind p
+    ++ (codes "},\"coordinates\":" ++ (pair_text p.pos ++ codes "}"))))
 
 -- a segment: a line of the arc with this index (TopoJSON 1.0, 2.2.3)
-abbrev pub side_text : ℕ → Side → Text
-side_text n s =
-    codes "{\"type\":\"LineString\",\"properties\":" ++ (properties_text s.kind s.number None
-    ++ (codes ",\"arcs\":[" ++ (decimal n ++ codes "]}")))
+abbrev pub side_text : Telling → ℕ → Side → Text
+side_text told n s =
+    codes "{\"type\":\"LineString\",\"properties\":" ++ (finding_text s.kind s.number
+    ++ (features_text (told.segment s.segment)
+    ++ (codes "},\"arcs\":[" ++ (decimal n ++ codes "]}"))))
 
 -- the segments, each with an arc of its own, which have the same order
-abbrev pub sides_text : List Side → List Text
-sides_text sides = each_at (λ n s. side_text n s ∷ []) 0 sides
+abbrev pub sides_text : Telling → List Side → List Text
+sides_text told sides = each_at (λ n s. side_text told n s ∷ []) 0 sides
 
 -- the path with this number: a line of the arc with this index
-abbrev pub path_text : ℕ → ℕ → Text
-path_text n index =
+abbrev pub path_text : Telling → ℕ → ℕ → Path → Text
+path_text told n index path =
     codes "{\"type\":\"LineString\",\"properties\":{\"number\":" ++ (decimal n
-    ++ (codes "},\"arcs\":[" ++ (decimal index ++ codes "]}")))
+    ++ (features_text (told.segment path.0)
+    ++ (codes "},\"arcs\":[" ++ (decimal index ++ codes "]}"))))
 
 -- the paths, each with an arc of its own, which have the same order and come behind so many others
-abbrev pub paths_text : ℕ → List Path → List Text
-paths_text others paths = each_at (λ n p. path_text n (others + n) ∷ []) 0 paths
+abbrev pub paths_text : Telling → ℕ → List Path → List Text
+paths_text told others paths = each_at (λ n p. path_text told n (others + n) p ∷ []) 0 paths
 
 -- ---- the topology (TopoJSON 1.0, 2.1)
 
@@ -77,9 +92,10 @@ collection_text geometries =
     codes "{\"type\":\"GeometryCollection\",\"geometries\":" ++ (list_text geometries ++ codes "}")
 
 -- the layer of the paths, if they are told, as a further member; so many arcs come before theirs
-abbrev pub path_layer : ℕ → Option (List Path) → Text
-path_layer others None = []
-path_layer others (Some paths) = codes ",\"paths\":" ++ collection_text (paths_text others paths)
+abbrev pub path_layer : Telling → ℕ → Option (List Path) → Text
+path_layer told others None = []
+path_layer told others (Some paths) =
+    codes ",\"paths\":" ++ collection_text (paths_text told others paths)
 
 -- the positions of the paths, if they are told
 abbrev pub ways : Option (List Path) → List (List Position)
@@ -91,20 +107,21 @@ abbrev pub behind_if : Bool → List Text → Text
 behind_if more values = if more then further values else commas values
 
 -- the layers of the places, of the segments, and of the paths if they are told, and the arcs
-abbrev pub topology_text : Option Text → List Place → List Side → Option (List Path) → Text
-topology_text transform places sides paths =
+abbrev pub topology_text : Telling → Option Text → List Place → List Side → Option (List Path)
+    → Text
+topology_text told transform places sides paths =
     codes "{\"type\":\"Topology\"" ++ (transform_text transform
-    ++ (codes ",\"objects\":{\"places\":" ++ (collection_text (map place_text places)
-    ++ (codes ",\"segments\":" ++ (collection_text (sides_text sides)
-    ++ (path_layer (length sides) paths
+    ++ (codes ",\"objects\":{\"places\":" ++ (collection_text (map (place_text told) places)
+    ++ (codes ",\"segments\":" ++ (collection_text (sides_text told sides)
+    ++ (path_layer told (length sides) paths
     ++ (codes "},\"arcs\":" ++ (arcs_text (is_some transform) (map side_ends sides ++ ways paths)
     ++ codes "}"))))))))
 
 -- the text has the places and the segments of these findings in a map with this transform, and
--- these paths, if they are told
+-- these paths, if they are told, each with the features that have it
 pub record IsPlaceText {A : Type 0} (transform : Option Text)
     (features : List (List (List (List Position)))) (found : Findings A)
     (paths : Option (List Path)) (text : List ℕ) : Type 0 where
   pub places : List Place
   pub are_places : ArePlaces features found places
-  pub same : text ≡ topology_text transform places (sides_of found) paths
+  pub same : text ≡ topology_text (telling features found) transform places (sides_of found) paths

@@ -4,8 +4,10 @@
 
 mod numbers;
 mod objects;
+mod owners;
 mod places;
 mod sides;
+mod tables;
 mod topology;
 
 pub use topology::text_of_places;

@@ -3,10 +3,12 @@ ghost use Rattle.std.specs.Prelude.{◌≡◌, ◌++◌, OnOk};
 ghost use Rattle.segment_paths.specs.Seen.{path_seen};
 ghost use Rattle.map_text.specs.Text.{arc_text};
 ghost use Rattle.place_text.specs.Sides.{ends, way};
-ghost use Rattle.place_text.specs.Text.{kind_text, ring_text, properties_text, place_text};
-ghost use Rattle.place_text.specs.Text.{side_text, path_text};
+ghost use Rattle.place_text.specs.Tables.{told_by};
+ghost use Rattle.place_text.specs.Text.{kind_text, ring_text, features_text, whose_text};
+ghost use Rattle.place_text.specs.Text.{finding_text, place_text, side_text, path_text};
 
-use crate::numbers::{push_behind, push_number, push_position};
+use crate::numbers::{push_behind, push_comma, push_number, push_position};
+use crate::owners::Owners;
 use crate::places::{Kind, Place};
 use crate::sides::Side;
 use grid_geometry::Seg;
@@ -42,51 +44,82 @@ fn push_ring<A: Allocator>(text: &mut Vec<u8, A>, ring: Option<RingAt>) -> Resul
     Ok(())
 }
 
-/// Appends the properties of what stands for a finding.
-fn push_properties<A: Allocator>(
+/// Appends the numbers of features, as a further member.
+fn push_features<A: Allocator>(text: &mut Vec<u8, A>, numbers: &[usize]) -> Result<(), AllocError>
+    ensures { OnOk result (text.new.items ≡ text.old.items ++ features_text numbers.now) }
+{
+    text.extend_from_slice(b",\"features\":[")?;
+    for (index, number) in numbers.iter().enumerate() {
+        push_comma(text, index > 0)?;
+        push_number(text, *number)?;
+    }
+    text.extend_from_slice(b"]")?;
+    Ok(())
+}
+
+/// Appends whose a place is, as further members.
+fn push_whose<A: Allocator, B: Allocator + Copy>(
+    text: &mut Vec<u8, A>,
+    owners: &Owners<B>,
+    place: &Place,
+) -> Result<(), AllocError>
+    ensures { OnOk result (text.new.items
+        ≡ text.old.items ++ whose_text (told_by owners.now) place.now.kind place.now) }
+{
+    match place.kind {
+        Kind::Short | Kind::Repeats => push_ring(text, place.ring),
+        Kind::On => push_features(text, owners.tables.of_vertex(place.pos)),
+        Kind::Cross => push_features(text, owners.of_pair(place.number)),
+    }
+}
+
+/// Appends the kind and the number of a finding, as the first properties.
+fn push_finding<A: Allocator>(
     text: &mut Vec<u8, A>,
     kind: Kind,
     number: usize,
-    ring: Option<RingAt>,
 ) -> Result<(), AllocError>
-    ensures { OnOk result
-        (text.new.items ≡ text.old.items ++ properties_text kind number ring) }
+    ensures { OnOk result (text.new.items ≡ text.old.items ++ finding_text kind number) }
 {
     text.extend_from_slice(b"{\"kind\":")?;
     push_kind(text, kind)?;
     text.extend_from_slice(b",\"number\":")?;
     push_number(text, number)?;
-    push_ring(text, ring)?;
-    text.extend_from_slice(b"}")?;
     Ok(())
 }
 
 /// Appends a place, as a point (TopoJSON 1.0, 2.2.1).
-pub(crate) fn push_place<A: Allocator>(
+pub(crate) fn push_place<A: Allocator, B: Allocator + Copy>(
     text: &mut Vec<u8, A>,
-    place: Place,
+    owners: &Owners<B>,
+    place: &Place,
 ) -> Result<(), AllocError>
-    ensures { OnOk result (text.new.items ≡ text.old.items ++ place_text place) }
+    ensures { OnOk result
+        (text.new.items ≡ text.old.items ++ place_text (told_by owners.now) place.now) }
 {
     text.extend_from_slice(b"{\"type\":\"Point\",\"properties\":")?;
-    push_properties(text, place.kind, place.number, place.ring)?;
-    text.extend_from_slice(b",\"coordinates\":")?;
+    push_finding(text, place.kind, place.number)?;
+    push_whose(text, owners, place)?;
+    text.extend_from_slice(b"},\"coordinates\":")?;
     push_position(text, place.pos)?;
     text.extend_from_slice(b"}")?;
     Ok(())
 }
 
 /// Appends a segment, as a line of the arc with this index (TopoJSON 1.0, 2.2.3).
-pub(crate) fn push_side<A: Allocator>(
+pub(crate) fn push_side<A: Allocator, B: Allocator + Copy>(
     text: &mut Vec<u8, A>,
+    owners: &Owners<B>,
     index: usize,
     side: Side,
 ) -> Result<(), AllocError>
-    ensures { OnOk result (text.new.items ≡ text.old.items ++ side_text index side) }
+    ensures { OnOk result
+        (text.new.items ≡ text.old.items ++ side_text (told_by owners.now) index side) }
 {
     text.extend_from_slice(b"{\"type\":\"LineString\",\"properties\":")?;
-    push_properties(text, side.kind, side.number, None)?;
-    text.extend_from_slice(b",\"arcs\":[")?;
+    push_finding(text, side.kind, side.number)?;
+    push_features(text, owners.tables.of_segment(side.segment))?;
+    text.extend_from_slice(b"},\"arcs\":[")?;
     push_number(text, index)?;
     text.extend_from_slice(b"]}")?;
     Ok(())
@@ -109,15 +142,19 @@ pub(crate) fn push_arc<A: Allocator>(
 }
 
 /// Appends the path with this number, as a line of the arc with this index (TopoJSON 1.0, 2.2.3).
-pub(crate) fn push_path<A: Allocator>(
+pub(crate) fn push_path<A: Allocator, B: Allocator + Copy>(
     text: &mut Vec<u8, A>,
+    owners: &Owners<B>,
     number: usize,
     index: usize,
+    path: &SegmentPath<B>,
 ) -> Result<(), AllocError>
-    ensures { OnOk result (text.new.items ≡ text.old.items ++ path_text number index) }
+    ensures { OnOk result (text.new.items ≡ text.old.items
+        ++ path_text (told_by owners.now) number index (path_seen path.now)) }
 {
     text.extend_from_slice(b"{\"type\":\"LineString\",\"properties\":{\"number\":")?;
     push_number(text, number)?;
+    push_features(text, owners.tables.of_segment(path.segment))?;
     text.extend_from_slice(b"},\"arcs\":[")?;
     push_number(text, index)?;
     text.extend_from_slice(b"]}")?;

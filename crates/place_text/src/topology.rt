@@ -1,16 +1,18 @@
 // The topology of places.
-ghost use Rattle.std.specs.Prelude.{◌≡◌, ◌≤◌, ◌||◌, ◌++◌, nat_lt, map, is_some, option_map, IfOk, OnOk};
+ghost use Rattle.std.specs.Prelude.{◌≡◌, ◌≤◌, ◌||◌, ◌++◌, nat_lt, map, option_map, IfOk, OnOk};
 ghost use Rattle.map_text.specs.Text.{arc_text, arcs_text, commas, list_text};
 ghost use Rattle.segment_paths.specs.Seen.{paths_seen};
 ghost use Rattle.walk_faults.specs.Findings.{Found};
 ghost use Rattle.walk_faults.specs.Seen.{features_seen};
 ghost use Rattle.place_text.specs.Sides.{side_ends, way};
+ghost use Rattle.place_text.specs.Tables.{told_by};
 ghost use Rattle.place_text.specs.Text.{transform_text, place_text, sides_text, paths_text, ways};
 ghost use Rattle.place_text.specs.Text.{behind_if, collection_text, path_layer, topology_text};
 ghost use Rattle.place_text.specs.Text.{IsPlaceText};
 
 use crate::numbers::push_comma;
 use crate::objects::{push_arc, push_path, push_place, push_side, push_way};
+use crate::owners::{Owners, owners_of};
 use crate::places::{Place, places};
 use crate::sides::{Side, sides};
 use grid_geometry::Pos;
@@ -19,46 +21,56 @@ use std::alloc::{AllocError, Allocator};
 use walk_faults::Findings;
 
 /// Appends the list of the places.
-fn push_places<A: Allocator>(text: &mut Vec<u8, A>, places: &[Place]) -> Result<(), AllocError>
-    ensures { OnOk result
-        (text.new.items ≡ text.old.items ++ list_text (map place_text places.now)) }
+fn push_places<A: Allocator, B: Allocator + Copy>(
+    text: &mut Vec<u8, A>,
+    owners: &Owners<B>,
+    places: &[Place],
+) -> Result<(), AllocError>
+    ensures { OnOk result (text.new.items
+        ≡ text.old.items ++ list_text (map (place_text (told_by owners.now)) places.now)) }
 {
     text.extend_from_slice(b"[")?;
     for (index, place) in places.iter().enumerate() {
         push_comma(text, index > 0)?;
-        push_place(text, *place)?;
+        push_place(text, owners, place)?;
     }
     text.extend_from_slice(b"]")?;
     Ok(())
 }
 
 /// Appends the list of the segments, each as a line of the arc with its index.
-fn push_sides<A: Allocator>(text: &mut Vec<u8, A>, sides: &[Side]) -> Result<(), AllocError>
-    ensures { OnOk result (text.new.items ≡ text.old.items ++ list_text (sides_text sides.now)) }
+fn push_sides<A: Allocator, B: Allocator + Copy>(
+    text: &mut Vec<u8, A>,
+    owners: &Owners<B>,
+    sides: &[Side],
+) -> Result<(), AllocError>
+    ensures { OnOk result (text.new.items
+        ≡ text.old.items ++ list_text (sides_text (told_by owners.now) sides.now)) }
 {
     text.extend_from_slice(b"[")?;
     for (index, side) in sides.iter().enumerate() {
         push_comma(text, index > 0)?;
-        push_side(text, index, *side)?;
+        push_side(text, owners, index, *side)?;
     }
     text.extend_from_slice(b"]")?;
     Ok(())
 }
 
-/// Appends the list of so many paths, each as a line of its arc; so many arcs come before theirs.
+/// Appends the list of the paths, each as a line of its arc; so many arcs come before theirs.
 fn push_paths<A: Allocator, B: Allocator + Copy>(
     text: &mut Vec<u8, A>,
+    owners: &Owners<B>,
     others: usize,
     paths: &[SegmentPath<B>],
 ) -> Result<(), AllocError>
     requires { others ≤ 9223372036854775807 }
     ensures { OnOk result (text.new.items
-        ≡ text.old.items ++ list_text (paths_text others (paths_seen paths.now))) }
+        ≡ text.old.items ++ list_text (paths_text (told_by owners.now) others (paths_seen paths.now))) }
 {
     text.extend_from_slice(b"[")?;
-    for (number, _path) in paths.iter().enumerate() {
+    for (number, path) in paths.iter().enumerate() {
         push_comma(text, number > 0)?;
-        push_path(text, number, others + number)?;
+        push_path(text, owners, number, others + number, path)?;
     }
     text.extend_from_slice(b"]")?;
     Ok(())
@@ -149,23 +161,31 @@ fn push_transform<A: Allocator>(
 }
 
 /// Appends the layer of the places.
-fn push_place_layer<A: Allocator>(text: &mut Vec<u8, A>, places: &[Place]) -> Result<(), AllocError>
-    ensures { OnOk result
-        (text.new.items ≡ text.old.items ++ collection_text (map place_text places.now)) }
+fn push_place_layer<A: Allocator, B: Allocator + Copy>(
+    text: &mut Vec<u8, A>,
+    owners: &Owners<B>,
+    places: &[Place],
+) -> Result<(), AllocError>
+    ensures { OnOk result (text.new.items
+        ≡ text.old.items ++ collection_text (map (place_text (told_by owners.now)) places.now)) }
 {
     text.extend_from_slice(b"{\"type\":\"GeometryCollection\",\"geometries\":")?;
-    push_places(text, places)?;
+    push_places(text, owners, places)?;
     text.extend_from_slice(b"}")?;
     Ok(())
 }
 
 /// Appends the layer of the segments.
-fn push_side_layer<A: Allocator>(text: &mut Vec<u8, A>, sides: &[Side]) -> Result<(), AllocError>
-    ensures { OnOk result
-        (text.new.items ≡ text.old.items ++ collection_text (sides_text sides.now)) }
+fn push_side_layer<A: Allocator, B: Allocator + Copy>(
+    text: &mut Vec<u8, A>,
+    owners: &Owners<B>,
+    sides: &[Side],
+) -> Result<(), AllocError>
+    ensures { OnOk result (text.new.items
+        ≡ text.old.items ++ collection_text (sides_text (told_by owners.now) sides.now)) }
 {
     text.extend_from_slice(b"{\"type\":\"GeometryCollection\",\"geometries\":")?;
-    push_sides(text, sides)?;
+    push_sides(text, owners, sides)?;
     text.extend_from_slice(b"}")?;
     Ok(())
 }
@@ -173,44 +193,54 @@ fn push_side_layer<A: Allocator>(text: &mut Vec<u8, A>, sides: &[Side]) -> Resul
 /// Appends the layer of the paths, if they are told; so many arcs come before theirs.
 fn push_path_layer<A: Allocator, B: Allocator + Copy>(
     text: &mut Vec<u8, A>,
+    owners: &Owners<B>,
     others: usize,
     paths: Option<&[SegmentPath<B>]>,
 ) -> Result<(), AllocError>
     requires { others ≤ 9223372036854775807 }
     ensures { OnOk result (text.new.items ≡ text.old.items
-        ++ path_layer others (option_map (λ ps. paths_seen ps.now) paths.entry)) }
+        ++ path_layer (told_by owners.now) others (option_map (λ ps. paths_seen ps.now) paths.entry)) }
 {
     let Some(paths) = paths else {
         return Ok(());
     };
     text.extend_from_slice(b",\"paths\":{\"type\":\"GeometryCollection\",\"geometries\":")?;
-    push_paths(text, others, paths)?;
+    push_paths(text, owners, others, paths)?;
     text.extend_from_slice(b"}")?;
     Ok(())
 }
 
-/// Appends a topology of these places and segments, and of the paths if they are told (TopoJSON
-/// 1.0, 2.1).
+/// The objects of a topology, and whose they are.
+#[derive(Drop)]
+struct Layers<'l, B: Allocator + Copy> {
+    owners: &'l Owners<B>,
+    places: &'l [Place],
+    sides: &'l [Side],
+    /// The paths, if they are told.
+    paths: Option<&'l [SegmentPath<B>]>,
+}
+
+/// Appends a topology of these layers (TopoJSON 1.0, 2.1).
 fn push_topology<A: Allocator, B: Allocator + Copy>(
     text: &mut Vec<u8, A>,
     transform: Option<&[u8]>,
-    places: &[Place],
-    sides: &[Side],
-    paths: Option<&[SegmentPath<B>]>,
+    layers: &Layers<'_, B>,
 ) -> Result<(), AllocError>
     ensures { OnOk result (text.new.items ≡ text.old.items
-        ++ topology_text (option_map (λ t. t.now) transform.entry) places.now sides.now
-        (option_map (λ ps. paths_seen ps.now) paths.entry)) }
+        ++ topology_text (told_by layers.now.owners.now) (option_map (λ t. t.now) transform.entry)
+        layers.now.places.now layers.now.sides.now
+        (option_map (λ ps. paths_seen ps.now) layers.now.paths)) }
 {
+    let sides = layers.sides;
     text.extend_from_slice(b"{\"type\":\"Topology\"")?;
     push_transform(text, transform)?;
     text.extend_from_slice(b",\"objects\":{\"places\":")?;
-    push_place_layer(text, places)?;
+    push_place_layer(text, layers.owners, layers.places)?;
     text.extend_from_slice(b",\"segments\":")?;
-    push_side_layer(text, sides)?;
-    push_path_layer(text, sides.len(), paths)?;
+    push_side_layer(text, layers.owners, sides)?;
+    push_path_layer(text, layers.owners, sides.len(), layers.paths)?;
     text.extend_from_slice(b"},\"arcs\":")?;
-    push_arcs(text, transform.is_some(), sides, paths)?;
+    push_arcs(text, transform.is_some(), sides, layers.paths)?;
     text.extend_from_slice(b"}")?;
     Ok(())
 }
@@ -222,8 +252,9 @@ fn push_topology<A: Allocator, B: Allocator + Copy>(
 /// three, unless it has none; at a position that a walk passes more than once; at a vertex on a
 /// segment; and where two segments cross, rounded to the grid. Its layer `segments` has a line for
 /// each segment that a vertex lies on, and for both of each pair that crosses. `kind` and `number`
-/// say which finding of the report each belongs to. Where paths are given, a layer `paths` has a
-/// line for each of them, with its `number`.
+/// say which finding of the report each belongs to, and `features` which features have the vertex,
+/// the segment, or one of the two that cross. Where paths are given, a layer `paths` has a line for
+/// each of them, with its `number`, and the `features` that have its segment.
 pub fn text_of_places<A: Allocator + Copy>(
     alloc: A,
     transform: Option<&[u8]>,
@@ -238,13 +269,14 @@ pub fn text_of_places<A: Allocator + Copy>(
 {
     let places = places(alloc, walks, findings)?;
     let sides = sides(alloc, findings)?;
-    let mut text = Vec::new(alloc);
-    push_topology(
-        &mut text,
-        transform,
-        places.as_slice(),
-        sides.as_slice(),
+    let owners = owners_of(alloc, walks, findings, sides.as_slice(), paths)?;
+    let layers = Layers {
+        owners: &owners,
+        places: places.as_slice(),
+        sides: sides.as_slice(),
         paths,
-    )?;
+    };
+    let mut text = Vec::new(alloc);
+    push_topology(&mut text, transform, &layers)?;
     Ok(text)
 }

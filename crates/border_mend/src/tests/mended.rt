@@ -85,7 +85,7 @@ fn a_fault_keeps_the_file(rt: HostRuntime) -> Result<(), Fail> {
 
 /// The places of the bow tie with its paths.
 const PATHS: &str =
-    r#"{"type":"Topology","objects":{"places":{"type":"GeometryCollection","geometries":[{"type":"Point","properties":{"kind":"cross","number":0},"coordinates":[5,5]}]},"segments":{"type":"GeometryCollection","geometries":[{"type":"LineString","properties":{"kind":"cross","number":0},"arcs":[0]},{"type":"LineString","properties":{"kind":"cross","number":0},"arcs":[1]}]},"paths":{"type":"GeometryCollection","geometries":[{"type":"LineString","properties":{"number":0},"arcs":[2]},{"type":"LineString","properties":{"number":1},"arcs":[3]}]}},"arcs":[[[0,0],[10,10]],[[0,10],[10,0]],[[0,0],[5,5],[10,10]],[[0,10],[5,5],[10,0]]]}"#;
+    r#"{"type":"Topology","objects":{"places":{"type":"GeometryCollection","geometries":[{"type":"Point","properties":{"kind":"cross","number":0,"features":[0]},"coordinates":[5,5]}]},"segments":{"type":"GeometryCollection","geometries":[{"type":"LineString","properties":{"kind":"cross","number":0,"features":[0]},"arcs":[0]},{"type":"LineString","properties":{"kind":"cross","number":0,"features":[0]},"arcs":[1]}]},"paths":{"type":"GeometryCollection","geometries":[{"type":"LineString","properties":{"number":0,"features":[0]},"arcs":[2]},{"type":"LineString","properties":{"number":1,"features":[0]},"arcs":[3]}]}},"arcs":[[[0,0],[10,10]],[[0,10],[10,0]],[[0,0],[5,5],[10,10]],[[0,10],[5,5],[10,0]]]}"#;
 
 /// The paths are in the file of the places, though no line of the report is asked for.
 #[test]

@@ -14,11 +14,11 @@ const MAP: &str =
 
 /// Its places, worked out by hand.
 const PLACES: &str =
-    r#"{"type":"Topology","transform":{ "scale":[0.50,1e-3],"translate":[-1.25, 50.0]},"objects":{"places":{"type":"GeometryCollection","geometries":[{"type":"Point","properties":{"kind":"short","number":0,"feature":0,"polygon":0,"ring":0},"coordinates":[5,0]},{"type":"Point","properties":{"kind":"repeats","number":0,"feature":1,"polygon":1,"ring":0},"coordinates":[22,2]},{"type":"Point","properties":{"kind":"on","number":0},"coordinates":[5,0]}]},"segments":{"type":"GeometryCollection","geometries":[{"type":"LineString","properties":{"kind":"on","number":0},"arcs":[0]}]}},"arcs":[[[0,0],[10,0]]]}"#;
+    r#"{"type":"Topology","transform":{ "scale":[0.50,1e-3],"translate":[-1.25, 50.0]},"objects":{"places":{"type":"GeometryCollection","geometries":[{"type":"Point","properties":{"kind":"short","number":0,"feature":0,"polygon":0,"ring":0},"coordinates":[5,0]},{"type":"Point","properties":{"kind":"repeats","number":0,"feature":1,"polygon":1,"ring":0},"coordinates":[22,2]},{"type":"Point","properties":{"kind":"on","number":0,"features":[0]},"coordinates":[5,0]}]},"segments":{"type":"GeometryCollection","geometries":[{"type":"LineString","properties":{"kind":"on","number":0,"features":[1]},"arcs":[0]}]}},"arcs":[[[0,0],[10,0]]]}"#;
 
 /// The places of the bow tie.
 const CROSSING: &str =
-    r#"{"type":"Topology","objects":{"places":{"type":"GeometryCollection","geometries":[{"type":"Point","properties":{"kind":"cross","number":0},"coordinates":[5,5]}]},"segments":{"type":"GeometryCollection","geometries":[{"type":"LineString","properties":{"kind":"cross","number":0},"arcs":[0]},{"type":"LineString","properties":{"kind":"cross","number":0},"arcs":[1]}]}},"arcs":[[[0,0],[10,10]],[[0,10],[10,0]]]}"#;
+    r#"{"type":"Topology","objects":{"places":{"type":"GeometryCollection","geometries":[{"type":"Point","properties":{"kind":"cross","number":0,"features":[0]},"coordinates":[5,5]}]},"segments":{"type":"GeometryCollection","geometries":[{"type":"LineString","properties":{"kind":"cross","number":0,"features":[0]},"arcs":[0]},{"type":"LineString","properties":{"kind":"cross","number":0,"features":[0]},"arcs":[1]}]}},"arcs":[[[0,0],[10,10]],[[0,10],[10,0]]]}"#;
 
 /// What is asked of a file in the folder of all temporary files, with the places in another one.
 fn asked_for(rt: &HostRuntime, name: &str) -> Result<Words, Fail> {

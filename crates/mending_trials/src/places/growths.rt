@@ -29,7 +29,8 @@ fn a_refused_growth_is_told(rt: HostRuntime) -> Result<(), Fail> {
         }
         refused = nth;
     }
-    // the lists of the places, of the crossings and of the segments, and the text
-    assert!(rt; 4 <= refused && refused < 999);
+    // the lists of the places, of the crossings and of the segments, by each table of vertices, of segments and of
+    // pairs of them the features that have it, and the text
+    assert!(rt; 10 <= refused && refused < 999);
     Ok(())
 }

@@ -14,7 +14,7 @@ struct Row {
     differences: &'static str,
 }
 
-const ROWS: [Row; 7] = [
+const ROWS: [Row; 10] = [
     // a vertex on a border
     Row {
         given: &[
@@ -22,8 +22,8 @@ const ROWS: [Row; 7] = [
             &[&[&[(10, 0), (20, 0), (20, 5), (10, 5)]]],
             &[&[&[(10, 5), (20, 5), (20, 10), (10, 10)]]],
         ],
-        points: r#"{"type":"Point","properties":{"kind":"on","number":0},"coordinates":[10,5]}"#,
-        lines: r#"{"type":"LineString","properties":{"kind":"on","number":0},"arcs":[0]}"#,
+        points: r#"{"type":"Point","properties":{"kind":"on","number":0,"features":[1,2]},"coordinates":[10,5]}"#,
+        lines: r#"{"type":"LineString","properties":{"kind":"on","number":0,"features":[0]},"arcs":[0]}"#,
         arcs: "[[10,0],[10,10]]",
         differences: "[[10,0],[0,10]]",
     },
@@ -33,16 +33,16 @@ const ROWS: [Row; 7] = [
             &[&[&[(0, 0), (20, 0), (20, 7), (0, 10)]]],
             &[&[&[(5, 8), (30, 8), (30, 20), (5, 20)]]],
         ],
-        points: r#"{"type":"Point","properties":{"kind":"cross","number":0},"coordinates":[5,9]},{"type":"Point","properties":{"kind":"cross","number":1},"coordinates":[13,8]}"#,
-        lines: r#"{"type":"LineString","properties":{"kind":"cross","number":0},"arcs":[0]},{"type":"LineString","properties":{"kind":"cross","number":0},"arcs":[1]},{"type":"LineString","properties":{"kind":"cross","number":1},"arcs":[2]},{"type":"LineString","properties":{"kind":"cross","number":1},"arcs":[3]}"#,
+        points: r#"{"type":"Point","properties":{"kind":"cross","number":0,"features":[0,1]},"coordinates":[5,9]},{"type":"Point","properties":{"kind":"cross","number":1,"features":[0,1]},"coordinates":[13,8]}"#,
+        lines: r#"{"type":"LineString","properties":{"kind":"cross","number":0,"features":[0]},"arcs":[0]},{"type":"LineString","properties":{"kind":"cross","number":0,"features":[1]},"arcs":[1]},{"type":"LineString","properties":{"kind":"cross","number":1,"features":[0]},"arcs":[2]},{"type":"LineString","properties":{"kind":"cross","number":1,"features":[1]},"arcs":[3]}"#,
         arcs: "[[0,10],[20,7]],[[5,8],[5,20]],[[0,10],[20,7]],[[5,8],[30,8]]",
         differences: "[[0,10],[20,-3]],[[5,8],[0,12]],[[0,10],[20,-3]],[[5,8],[25,0]]",
     },
     // a crossing at 1/2 and -1/2: a half goes upwards
     Row {
         given: &[&[&[&[(0, -1), (1, 0), (1, -1), (0, 0)]]]],
-        points: r#"{"type":"Point","properties":{"kind":"cross","number":0},"coordinates":[1,0]}"#,
-        lines: r#"{"type":"LineString","properties":{"kind":"cross","number":0},"arcs":[0]},{"type":"LineString","properties":{"kind":"cross","number":0},"arcs":[1]}"#,
+        points: r#"{"type":"Point","properties":{"kind":"cross","number":0,"features":[0]},"coordinates":[1,0]}"#,
+        lines: r#"{"type":"LineString","properties":{"kind":"cross","number":0,"features":[0]},"arcs":[0]},{"type":"LineString","properties":{"kind":"cross","number":0,"features":[0]},"arcs":[1]}"#,
         arcs: "[[0,-1],[1,0]],[[0,0],[1,-1]]",
         differences: "[[0,-1],[1,1]],[[0,0],[1,-1]]",
     },
@@ -52,8 +52,8 @@ const ROWS: [Row; 7] = [
             &[&[&[(0, 0), (10, 0), (10, 10), (0, 10)]]],
             &[&[&[(10, 5), (20, 5), (20, 15), (10, 15)]]],
         ],
-        points: r#"{"type":"Point","properties":{"kind":"on","number":0},"coordinates":[10,5]},{"type":"Point","properties":{"kind":"on","number":1},"coordinates":[10,10]}"#,
-        lines: r#"{"type":"LineString","properties":{"kind":"on","number":0},"arcs":[0]},{"type":"LineString","properties":{"kind":"on","number":1},"arcs":[1]}"#,
+        points: r#"{"type":"Point","properties":{"kind":"on","number":0,"features":[1]},"coordinates":[10,5]},{"type":"Point","properties":{"kind":"on","number":1,"features":[0]},"coordinates":[10,10]}"#,
+        lines: r#"{"type":"LineString","properties":{"kind":"on","number":0,"features":[0]},"arcs":[0]},{"type":"LineString","properties":{"kind":"on","number":1,"features":[1]},"arcs":[1]}"#,
         arcs: "[[10,0],[10,10]],[[10,5],[10,15]]",
         differences: "[[10,0],[0,10]],[[10,5],[0,10]]",
     },
@@ -72,10 +72,52 @@ const ROWS: [Row; 7] = [
             &[&[&[(2, 2)], &[]], &[&[(0, 0), (10, 0), (10, 10), (0, 10)]]],
             &[&[&[(7, 3)]]],
         ],
-        points: r#"{"type":"Point","properties":{"kind":"short","number":0,"feature":0,"polygon":0,"ring":0},"coordinates":[0,0]},{"type":"Point","properties":{"kind":"short","number":1,"feature":1,"polygon":0,"ring":0},"coordinates":[2,2]},{"type":"Point","properties":{"kind":"short","number":3,"feature":2,"polygon":0,"ring":0},"coordinates":[7,3]},{"type":"Point","properties":{"kind":"on","number":0},"coordinates":[5,0]}"#,
-        lines: r#"{"type":"LineString","properties":{"kind":"on","number":0},"arcs":[0]}"#,
+        points: r#"{"type":"Point","properties":{"kind":"short","number":0,"feature":0,"polygon":0,"ring":0},"coordinates":[0,0]},{"type":"Point","properties":{"kind":"short","number":1,"feature":1,"polygon":0,"ring":0},"coordinates":[2,2]},{"type":"Point","properties":{"kind":"short","number":3,"feature":2,"polygon":0,"ring":0},"coordinates":[7,3]},{"type":"Point","properties":{"kind":"on","number":0,"features":[0]},"coordinates":[5,0]}"#,
+        lines: r#"{"type":"LineString","properties":{"kind":"on","number":0,"features":[1]},"arcs":[0]}"#,
         arcs: "[[0,0],[10,0]]",
         differences: "[[0,0],[10,0]]",
+    },
+    // on the side of one feature a vertex of three others, of which one has it in both of its polygons
+    Row {
+        given: &[
+            &[
+                &[&[(10, 5), (20, -10), (20, 0)]],
+                &[&[(10, 5), (20, -30), (20, -20)]],
+            ],
+            &[&[&[(0, 0), (10, 0), (10, 10), (0, 10)]]],
+            &[&[&[(10, 5), (20, 0), (20, 10)]]],
+            &[&[&[(10, 5), (20, 10), (20, 20)]]],
+        ],
+        points: r#"{"type":"Point","properties":{"kind":"on","number":0,"features":[0,2,3]},"coordinates":[10,5]}"#,
+        lines: r#"{"type":"LineString","properties":{"kind":"on","number":0,"features":[1]},"arcs":[0]}"#,
+        arcs: "[[10,0],[10,10]]",
+        differences: "[[10,0],[0,10]]",
+    },
+    // a vertex on a side that two features have, of which a third has an end alone
+    Row {
+        given: &[
+            &[&[&[(0, 10), (5, 20), (-5, 20)]]],
+            &[&[&[(0, 0), (10, 0), (10, 10), (0, 10)]]],
+            &[&[&[(0, 5), (3, 4), (3, 6)]]],
+            &[&[&[(0, 0), (0, 10), (-10, 10), (-10, 0)]]],
+        ],
+        points: r#"{"type":"Point","properties":{"kind":"on","number":0,"features":[2]},"coordinates":[0,5]}"#,
+        lines: r#"{"type":"LineString","properties":{"kind":"on","number":0,"features":[1,3]},"arcs":[0]}"#,
+        arcs: "[[0,0],[0,10]]",
+        differences: "[[0,0],[0,10]]",
+    },
+    // crossings of segments that two features have each
+    Row {
+        given: &[
+            &[&[&[(0, 0), (20, 0), (20, 7), (0, 10)]]],
+            &[&[&[(5, 8), (30, 8), (30, 20), (5, 20)]]],
+            &[&[&[(0, 0), (20, 0), (20, 7), (0, 10)]]],
+            &[&[&[(5, 8), (30, 8), (30, 20), (5, 20)]]],
+        ],
+        points: r#"{"type":"Point","properties":{"kind":"cross","number":0,"features":[0,1,2,3]},"coordinates":[5,9]},{"type":"Point","properties":{"kind":"cross","number":1,"features":[0,1,2,3]},"coordinates":[13,8]}"#,
+        lines: r#"{"type":"LineString","properties":{"kind":"cross","number":0,"features":[0,2]},"arcs":[0]},{"type":"LineString","properties":{"kind":"cross","number":0,"features":[1,3]},"arcs":[1]},{"type":"LineString","properties":{"kind":"cross","number":1,"features":[0,2]},"arcs":[2]},{"type":"LineString","properties":{"kind":"cross","number":1,"features":[1,3]},"arcs":[3]}"#,
+        arcs: "[[0,10],[20,7]],[[5,8],[5,20]],[[0,10],[20,7]],[[5,8],[30,8]]",
+        differences: "[[0,10],[20,-3]],[[5,8],[0,12]],[[0,10],[20,-3]],[[5,8],[25,0]]",
     },
     // a map that opens
     Row {
@@ -148,7 +190,7 @@ const CORNERS: Given = &[&[&[&[
 #[test]
 fn the_greatest_differences_are_told(rt: HostRuntime) -> Result<(), Fail> {
     let want =
-        r#"{"type":"Topology","transform":{},"objects":{"places":{"type":"GeometryCollection","geometries":[{"type":"Point","properties":{"kind":"cross","number":0},"coordinates":[0,0]}]},"segments":{"type":"GeometryCollection","geometries":[{"type":"LineString","properties":{"kind":"cross","number":0},"arcs":[0]},{"type":"LineString","properties":{"kind":"cross","number":0},"arcs":[1]}]}},"arcs":[[[-1000000000000,-1000000000000],[2000000000000,2000000000000]],[[-1000000000000,1000000000000],[2000000000000,-2000000000000]]]}"#;
+        r#"{"type":"Topology","transform":{},"objects":{"places":{"type":"GeometryCollection","geometries":[{"type":"Point","properties":{"kind":"cross","number":0,"features":[0]},"coordinates":[0,0]}]},"segments":{"type":"GeometryCollection","geometries":[{"type":"LineString","properties":{"kind":"cross","number":0,"features":[0]},"arcs":[0]},{"type":"LineString","properties":{"kind":"cross","number":0,"features":[0]},"arcs":[1]}]}},"arcs":[[[-1000000000000,-1000000000000],[2000000000000,2000000000000]],[[-1000000000000,1000000000000],[2000000000000,-2000000000000]]]}"#;
     is_told(&rt, rt.alloc(), CORNERS, Some(b"{}"), want).expect(&rt, "memory");
     Ok(())
 }

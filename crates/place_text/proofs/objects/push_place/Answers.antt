@@ -1,15 +1,16 @@
 use Rattle.std.specs.Prelude.{codes}
 use Rattle.map_text.specs.Text.{pair_text}
-use Rattle.place_text.specs.Text.{properties_text}
-use Rattle.place_text.proofs.Appending.{five}
+use Rattle.place_text.specs.Tables.{told_by}
+use Rattle.place_text.specs.Text.{finding_text, whose_text}
+use Rattle.place_text.proofs.Appending.{six}
 use Rattle.place_text.proofs.objects.push_place.Goals as goal
 
 pub returns : goal.returns
 returns g c =
-    let p = c.args.place in
-    five c.args.text.now.items (codes "{\"type\":\"Point\",\"properties\":") (properties_text p.kind p.number p.ring)
-    (codes ",\"coordinates\":") (pair_text p.pos) (codes "}")
-    c.extend_from_slice.new.self.items c.push_properties.new.text.items c.extend_from_slice-2.new.self.items c.push_position.new.text.items
+    let p = c.args.place.now in
+    six c.args.text.now.items (codes "{\"type\":\"Point\",\"properties\":") (finding_text p.kind p.number) (whose_text (told_by c.args.owners.now) p.kind p)
+    (codes "},\"coordinates\":") (pair_text p.pos) (codes "}")
+    c.extend_from_slice.new.self.items c.push_finding.new.text.items c.push_whose.new.text.items c.extend_from_slice-2.new.self.items c.push_position.new.text.items
     c.extend_from_slice-3.new.self.items
-    c.in_ok-extend_from_slice.ensures.items c.in_ok-push_properties.ensures c.in_ok-extend_from_slice-2.ensures.items c.in_ok-push_position.ensures
+    c.in_ok-extend_from_slice.ensures.items c.in_ok-push_finding.ensures c.in_ok-push_whose.ensures c.in_ok-extend_from_slice-2.ensures.items c.in_ok-push_position.ensures
     c.in_ok-extend_from_slice-3.ensures.items

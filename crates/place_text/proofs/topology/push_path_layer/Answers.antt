@@ -2,6 +2,7 @@ use Rattle.std.proofs.Common.{sym, ap, ◌∙◌, ◌++◌}
 use Rattle.std.specs.Prelude.{codes, option_map}
 use Rattle.map_text.specs.Text.{list_text}
 use Rattle.segment_paths.specs.Seen.{paths_seen}
+use Rattle.place_text.specs.Tables.{told_by}
 use Rattle.place_text.specs.Text.{path_layer, paths_text}
 use Rattle.place_text.proofs.Appending.{three}
 use Rattle.place_text.proofs.topology.push_path_layer.Goals as goal
@@ -10,7 +11,7 @@ pub returns : goal.returns
 returns g c =
     let old = c.args.text.now.items in
     three old (codes ",\"paths\":{\"type\":\"GeometryCollection\",\"geometries\":")
-    (list_text (paths_text c.args.others (paths_seen c.in-Some.paths.now))) (codes "}")
+    (list_text (paths_text (told_by c.args.owners.now) c.args.others (paths_seen c.in-Some.paths.now))) (codes "}")
     c.extend_from_slice.new.self.items c.push_paths.new.text.items c.extend_from_slice-2.new.self.items
     c.in_ok-extend_from_slice.ensures.items c.in_ok-push_paths.ensures c.in_ok-extend_from_slice-2.ensures.items
-    ∙ ap (λ o. old ++ path_layer c.args.others (option_map (λ ps. paths_seen ps.now) o)) (sym c.in-Some.is)
+    ∙ ap (λ o. old ++ path_layer (told_by c.args.owners.now) c.args.others (option_map (λ ps. paths_seen ps.now) o)) (sym c.in-Some.is)

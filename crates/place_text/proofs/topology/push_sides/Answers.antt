@@ -2,6 +2,7 @@ use Rattle.std.proofs.Common.{arith, refl, sym, ap, ◌∙◌, ◌++◌, append-
 use Rattle.std.specs.Prelude.{codes}
 use Rattle.std.proofs.lemmas.List.{take_all}
 use Rattle.map_text.specs.Text.{commas}
+use Rattle.place_text.specs.Tables.{told_by}
 use Rattle.place_text.specs.Text.{side_text, sides_text}
 use Rattle.place_text.proofs.Listed.{bracketed, each_step}
 use Rattle.place_text.proofs.topology.push_sides.Goals as goal
@@ -11,7 +12,7 @@ loop-index-init g c = c.in_ok-extend_from_slice.ensures.items ∙ sym (append-ni
 
 pub loop-index-preserved : goal.loop-index-preserved
 loop-index-preserved g c =
-    each_step side_text c.args.sides.now c.loop-index.index c.index-sides-index.result c.loop-index-test.true c.index-sides-index.is
+    each_step (side_text (told_by c.args.owners.now)) c.args.sides.now c.loop-index.index c.index-sides-index.result c.loop-index-test.true c.index-sides-index.is
     (c.args.text.now.items ++ codes "[") c.loop-index.text.items c.push_comma.new.text.items c.push_side.new.text.items
     c.loop-index.invariant c.in_ok-push_comma.ensures c.in_ok-push_side.ensures
 
@@ -19,5 +20,5 @@ pub returns : goal.returns
 returns g c =
     let begun = c.args.text.now.items ++ codes "[" in
     bracketed c.args.text.now.items _ begun c.loop-index.text.items _ refl
-    (c.loop-index.invariant ∙ ap (λ z. begun ++ commas (sides_text z)) (take_all c.loop-index.index c.args.sides.now (omega arith)))
+    (c.loop-index.invariant ∙ ap (λ z. begun ++ commas (sides_text (told_by c.args.owners.now) z)) (take_all c.loop-index.index c.args.sides.now (omega arith)))
     c.in_ok-extend_from_slice-2.ensures.items

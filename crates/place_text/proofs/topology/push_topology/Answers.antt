@@ -3,6 +3,7 @@ use Rattle.std.specs.Prelude.{codes, is_some, option_map, length}
 use Rattle.map_text.specs.Text.{arcs_text}
 use Rattle.segment_paths.specs.Seen.{paths_seen}
 use Rattle.place_text.specs.Sides.{side_ends}
+use Rattle.place_text.specs.Tables.{told_by}
 use Rattle.place_text.specs.Text.{place_text, sides_text, collection_text, path_layer, transform_text, ways}
 use Rattle.place_text.proofs.Assembled.{ten, some_there}
 use Rattle.place_text.proofs.topology.push_topology.Goals as goal
@@ -10,12 +11,14 @@ use Rattle.place_text.proofs.topology.push_topology.Goals as goal
 pub returns : goal.returns
 returns g c =
     let transform = option_map (λ t. t.now) c.args.transform in
-    let paths = option_map (λ ps. paths_seen ps.now) c.args.paths in
-    let sides = c.args.sides.now in
+    let layers = c.args.layers.now in
+    let told = told_by layers.owners.now in
+    let paths = option_map (λ ps. paths_seen ps.now) layers.paths in
+    let sides = layers.sides.now in
     let all = map side_ends sides ++ ways paths in
     ten c.args.text.now.items (codes "{\"type\":\"Topology\"") (transform_text transform)
-    (codes ",\"objects\":{\"places\":") (collection_text (map place_text c.args.places.now))
-    (codes ",\"segments\":") (collection_text (sides_text sides)) (path_layer (length sides) paths)
+    (codes ",\"objects\":{\"places\":") (collection_text (map (place_text told) layers.places.now))
+    (codes ",\"segments\":") (collection_text (sides_text told sides)) (path_layer told (length sides) paths)
     (codes "},\"arcs\":") (arcs_text (is_some transform) all) (codes "}")
     c.extend_from_slice.new.self.items c.push_transform.new.text.items c.extend_from_slice-2.new.self.items c.push_place_layer.new.text.items
     c.extend_from_slice-3.new.self.items c.push_side_layer.new.text.items c.push_path_layer.new.text.items c.extend_from_slice-4.new.self.items

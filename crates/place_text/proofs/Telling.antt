@@ -1,0 +1,112 @@
+-- What tables hold, while features are told one after another.
+use Rattle.std.proofs.Common.{◌≡◌, ◌<◌, ◌≤◌, ◌+◌, ℕ, zero, suc, Bool, true, false, cond, refl, sym, ap, ap₂, ◌∙◌, subst}
+use Rattle.std.proofs.Common.{List, [], ◌∷◌, ◌++◌, length, map, take, drop, get_or, drop-cons, arith, append-nil, Option, Some, None}
+use Rattle.std.specs.Prelude.{option_map}
+use Rattle.std.specs.List.{flat_map, list_any}
+use Rattle.std.specs.Ordering.{is_eq}
+use Rattle.std.proofs.lemmas.List.{map-append, take_more, take-map, length-map}
+use Rattle.std.proofs.lemmas.List.Concat.{flat_map-append}
+use Rattle.grid_geometry.specs.Position.{Position, position_cmp, position_eq}
+use Rattle.grid_geometry.specs.Segment.{Segment, segment, segment_cmp, segment_eq}
+use Rattle.grid_geometry.specs.Ring.{links}
+use Rattle.ring_machine.proofs.Order.{position_eq-true}
+use Rattle.ring_machine.proofs.Removal.{position_eq-sym}
+use Rattle.ring_machine.proofs.SortedOnce.{ties}
+use Rattle.segment_index.proofs.Singles.{segment_eq-is}
+use Rattle.walk_faults.specs.Findings.{segment_at}
+use Rattle.place_text.specs.declared.tables.Tables.{Tables}
+use Rattle.place_text.specs.Owners.{feature_positions, feature_segments, has_vertex, has_segment, numbers_where}
+use Rattle.place_text.specs.Tables.{is_among, once, once_if, numbers_in, Tells, TellsAll}
+use Rattle.place_text.proofs.Numbered.{so_many}
+use Rattle.place_text.proofs.Told.{both_told, none_told, next_number}
+
+-- ---- one edge
+
+pub segment_there : (a b : Position) (s : Segment) → s ≡ segment a b → (a ≡ b → ⊥) → s ∷ [] ≡ segment_at (a, b)
+segment_there a b s e apart = by (position_eq a b) refl
+  where
+    by : (c : Bool) → position_eq a b ≡ c → s ∷ [] ≡ cond c [] (segment a b ∷ [])
+    by true h = absurd (apart (position_eq-true a b h))
+    by false h = ap (λ t. t ∷ []) e
+
+-- ---- what each gives, one after another
+
+flat_next : {X Y Z : Type 0} (f : Y → List Z) (v : X → Y) (xs : List X) (i : ℕ) (x : X) → i < length xs → x ≡ get_or xs i x
+    → flat_map f (map v (take (i + 1) xs)) ≡ flat_map f (map v (take i xs)) ++ f (v x)
+flat_next f v xs i x l e =
+    ap (λ z. flat_map f (map v z)) (take_more xs i x l ∙ ap (λ z. take i xs ++ z ∷ []) (sym e))
+    ∙ ap (flat_map f) (map-append v (take i xs) (x ∷ [])) ∙ flat_map-append f (map v (take i xs)) (v x ∷ [])
+    ∙ ap (λ z. flat_map f (map v (take i xs)) ++ z) (append-nil (f (v x)))
+
+vertex_among : (p : Position) (feature : List (List (List Position))) → is_among position_cmp (feature_positions feature) p ≡ has_vertex p feature
+vertex_among p feature =
+    let e : (t : Position) → is_eq (position_cmp t p) ≡ position_eq p t = λ t. sym (ties t p) ∙ position_eq-sym t p in
+    λ i. list_any (λ t. e t i) (feature_positions feature)
+
+segment_among : (s : Segment) (feature : List (List (List Position))) → is_among segment_cmp (feature_segments feature) s ≡ has_segment s feature
+segment_among s feature =
+    let e : (t : Segment) → is_eq (segment_cmp t s) ≡ segment_eq s t = λ t. sym (segment_eq-is t s) in
+    λ i. list_any (λ t. e t i) (feature_segments feature)
+
+get_seen : {X Y : Type 0} (v : X → Y) (xs : List X) (i : ℕ) (x : X) → i < length xs → x ≡ get_or xs i x → v x ≡ get_or (map v xs) i (v x)
+get_seen v [] i x l e = absurd (omega (arith, l))
+get_seen v (y ∷ xs) zero x l e = ap v e
+get_seen v (y ∷ xs) (suc i) x l e = get_seen v xs i x (omega (arith, l)) e
+
+-- the numbers of those so far, with that of the next one where it passes
+number_step : {X Y : Type 0} (test : Y → Bool) (v : X → Y) (xs : List X) (i : ℕ) (x : X) (b : Bool) (o : Option (List ℕ)) → i < length xs → x ≡ get_or xs i x → b ≡ test (v x)
+    → option_map (λ ns. cond b (once i ns) ns) (option_map (λ ns. numbers_where test (map v (take i xs))) o) ≡ option_map (λ ns. numbers_where test (map v (take (i + 1) xs))) o
+number_step test v xs i x b None l e t = refl
+number_step test v xs i x b (Some ns) l e t =
+    let l' : i < length (map v xs) = subst (λ k. i < k) (sym (length-map xs v)) l in
+    let few : length (take i (map v xs)) ≤ i = omega (arith, so_many (map v xs) i l') in
+    ap Some (ap (λ z. cond b (once i (numbers_where test z)) (numbers_where test z)) (sym (take-map v i xs))
+    ∙ next_number test (map v xs) i (v x) b l' (get_seen v xs i x l e) few t ∙ ap (numbers_where test) (take-map v (i + 1) xs))
+
+-- ---- a feature's positions and segments, one after another
+
+module _ {A : Type 0} where
+  pub tells_both : (n : ℕ) (ps qs : List Position) (ss ts : List Segment) (a b c : Tables A) → Tells n ps ss a b → Tells n qs ts b c → Tells n (ps ++ qs) (ss ++ ts) a c
+  tells_both n ps qs ss ts a b c h k = record {
+    vertices = λ p. k.vertices p ∙ ap (option_map (once_if position_cmp n qs p)) (h.vertices p) ∙ both_told position_cmp n ps qs p (numbers_in position_cmp a.vertices p);
+    segments = λ s. k.segments s ∙ ap (option_map (once_if segment_cmp n ts s)) (h.segments s) ∙ both_told segment_cmp n ss ts s (numbers_in segment_cmp a.segments s);
+  }
+
+  pub tells_none : (n : ℕ) (a : Tables A) → Tells n [] [] a a
+  tells_none n a = record {
+    vertices = λ p. none_told position_cmp n p (numbers_in position_cmp a.vertices p);
+    segments = λ s. none_told segment_cmp n s (numbers_in segment_cmp a.segments s);
+  }
+
+  -- ---- a walk: what is told of an edge and of what is left
+
+  pub walk_step : (n : ℕ) (from to first : Position) (rest : List Position) (i : ℕ) (a b c : Tables A) → i < length rest → to ≡ get_or rest i to
+      → Tells n (from ∷ []) (segment_at (from, to)) a b → Tells n (to ∷ drop (i + 1) rest) (flat_map segment_at (links (to ∷ drop (i + 1) rest ++ first ∷ []))) b c
+      → Tells n (from ∷ drop i rest) (flat_map segment_at (links (from ∷ drop i rest ++ first ∷ []))) a c
+  walk_step n from to first rest i a b c l e h k =
+      let next : suc i ≡ i + 1 = omega arith in
+      let there : drop i rest ≡ to ∷ drop (i + 1) rest = drop-cons rest i to l ∙ ap₂ (λ (z : Position) (m : ℕ). z ∷ drop m rest) (sym e) next in
+      subst (λ zs. Tells n (from ∷ zs) (flat_map segment_at (links (from ∷ zs ++ first ∷ []))) a c) (sym there)
+      (tells_both n (from ∷ []) (to ∷ drop (i + 1) rest) (segment_at (from, to)) (flat_map segment_at (links (to ∷ drop (i + 1) rest ++ first ∷ []))) a b c h k)
+
+  -- ---- walks and polygons, one after another
+
+  pub level_step : {X Y : Type 0} (n : ℕ) (f : Y → List Position) (g : Y → List Segment) (v : X → Y) (xs : List X) (i : ℕ) (x : X) (a b c : Tables A)
+      → i < length xs → x ≡ get_or xs i x
+      → Tells n (flat_map f (map v (take i xs))) (flat_map g (map v (take i xs))) a b → Tells n (f (v x)) (g (v x)) b c
+      → Tells n (flat_map f (map v (take (i + 1) xs))) (flat_map g (map v (take (i + 1) xs))) a c
+  level_step n f g v xs i x a b c l e h k =
+      subst (λ ps. Tells n ps (flat_map g (map v (take (i + 1) xs))) a c) (sym (flat_next f v xs i x l e))
+      (subst (λ ss. Tells n (flat_map f (map v (take i xs)) ++ f (v x)) ss a c) (sym (flat_next g v xs i x l e))
+      (tells_both n (flat_map f (map v (take i xs))) (f (v x)) (flat_map g (map v (take i xs))) (g (v x)) a b c h k))
+
+  -- ---- features, one after another
+
+  pub feature_step : {X : Type 0} (v : X → List (List (List Position))) (xs : List X) (i : ℕ) (x : X) (a b c : Tables A) → i < length xs → x ≡ get_or xs i x
+      → TellsAll (map v (take i xs)) a b → Tells i (feature_positions (v x)) (feature_segments (v x)) b c → TellsAll (map v (take (i + 1) xs)) a c
+  feature_step v xs i x a b c l e h k = record {
+    vertices = λ p. k.vertices p ∙ ap (option_map (once_if position_cmp i (feature_positions (v x)) p)) (h.vertices p)
+        ∙ number_step (has_vertex p) v xs i x (is_among position_cmp (feature_positions (v x)) p) (numbers_in position_cmp a.vertices p) l e (vertex_among p (v x));
+    segments = λ s. k.segments s ∙ ap (option_map (once_if segment_cmp i (feature_segments (v x)) s)) (h.segments s)
+        ∙ number_step (has_segment s) v xs i x (is_among segment_cmp (feature_segments (v x)) s) (numbers_in segment_cmp a.segments s) l e (segment_among s (v x));
+  }

@@ -1,0 +1,21 @@
+use Rattle.std.proofs.Common.{sym, ap, ◌∙◌, subst, map}
+use Rattle.std.proofs.lemmas.List.{take_all}
+use Rattle.place_text.specs.Owners.{pair_features}
+use Rattle.place_text.specs.Tables.{numbers_of, AnswersBoth}
+use Rattle.place_text.proofs.Unions.{pair_step}
+use Rattle.place_text.proofs.owners.pairs.Goals as goal
+
+pub loop-pair-preserved : goal.loop-pair-preserved
+loop-pair-preserved g c = λ features all.
+    let i = c.loop-pair.pair-index in
+    let pair = c.pair-item.result in
+    let segments = c.args.tables.now.segments in
+    let both = subst (AnswersBoth features segments) (sym c.pair-item.is) (all i pair c.loop-pair-test.true) in
+    pair_step numbers_of features c.args.crossings.now i pair c.of_segment-first.result.now c.of_segment-second.result.now
+    c.loop-pair.pairs.items c.push.new.self.items c.in_ok-union.field-0
+    c.loop-pair-test.true c.pair-item.is (c.of_segment-first.ensures ∙ both.0) (c.of_segment-second.ensures ∙ both.1)
+    c.in_ok-union.ensures (c.loop-pair.invariant features all) c.in_ok-push.ensures.items
+
+pub returns : goal.returns
+returns g c = λ features all.
+    c.loop-pair.invariant features all ∙ ap (map (pair_features features)) (take_all c.loop-pair.pair-index c.args.crossings.now c.loop-pair-test.false)

@@ -1,0 +1,13 @@
+use Rattle.std.proofs.Common.{subst}
+use Rattle.walk_faults.specs.Seen.{polygons_seen}
+use Rattle.place_text.specs.Owners.{feature_positions, feature_segments}
+use Rattle.place_text.specs.Tables.{Tells}
+use Rattle.place_text.proofs.Telling.{feature_step}
+use Rattle.place_text.proofs.tables.tell_all.Goals as goal
+
+pub loop-feature-preserved : goal.loop-feature-preserved
+loop-feature-preserved g c =
+    feature_step (λ feature. polygons_seen feature.items) c.args.walks.now c.loop-feature.feature c.index-walks-feature.result
+    c.args.tables.now c.loop-feature.tables c.tell_feature.new.tables c.loop-feature-test.true c.index-walks-feature.is c.loop-feature.invariant
+    (subst (λ polygons. Tells c.loop-feature.feature (feature_positions (polygons_seen polygons)) (feature_segments (polygons_seen polygons)) c.loop-feature.tables c.tell_feature.new.tables)
+    c.as_slice.ensures.value c.in_ok-tell_feature.ensures)

@@ -1,0 +1,8 @@
+use Rattle.std.proofs.Common.{take}
+use Rattle.walk_faults.specs.Seen.{features_seen}
+use Rattle.place_text.specs.Tables.{TellsAll}
+use Rattle.place_text.proofs.tables.tell_all.Given as goal
+
+-- the features so far are told
+abbrev pub invariant-loop-feature : goal.invariant-loop-feature
+invariant-loop-feature g l = TellsAll (features_seen (take l.feature l.walks)) l.fn.tables l.tables

@@ -1,0 +1,15 @@
+use Rattle.std.proofs.Common.{sym, ap, ◌∙◌}
+use Rattle.std.specs.Prelude.{option_map}
+use Rattle.std.proofs.lemmas.Bool.{false≢true}
+use Rattle.grid_geometry.specs.Segment.{segment_cmp}
+use Rattle.place_text.specs.Tables.{once_if, numbers_in}
+use Rattle.place_text.proofs.Telling.{segment_there}
+use Rattle.place_text.proofs.tables.tell_edge.Goals as goal
+
+pub returns-in_ok-tell-2 : goal.returns-in_ok-tell-2
+returns-in_ok-tell-2 g c = record {
+  vertices = c.in_ok-tell.ensures;
+  segments = λ s. c.in_ok-tell-2.ensures s
+      ∙ ap (λ ss. option_map (once_if segment_cmp c.args.feature ss s) (numbers_in segment_cmp c.args.tables.now.segments s))
+      (segment_there c.args.from c.args.to c.in-Some.segment c.in-Some.ensures.some (λ e. false≢true (sym (c.in-Some.ensures.none.1 e))));
+}

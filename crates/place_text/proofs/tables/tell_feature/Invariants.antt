@@ -1,0 +1,10 @@
+use Rattle.std.proofs.Common.{take}
+use Rattle.walk_faults.specs.Seen.{polygons_seen}
+use Rattle.place_text.specs.Owners.{feature_positions, feature_segments}
+use Rattle.place_text.specs.Tables.{Tells}
+use Rattle.place_text.proofs.tables.tell_feature.Given as goal
+
+-- the polygons so far are told
+abbrev pub invariant-loop-rings : goal.invariant-loop-rings
+invariant-loop-rings g l =
+    Tells l.feature (feature_positions (polygons_seen (take l.rings-index l.polygons))) (feature_segments (polygons_seen (take l.rings-index l.polygons))) l.fn.tables l.tables

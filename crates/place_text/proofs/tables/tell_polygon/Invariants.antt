@@ -1,0 +1,11 @@
+use Rattle.std.proofs.Common.{take}
+use Rattle.std.specs.List.{flat_map}
+use Rattle.walk_faults.specs.Findings.{walk_segments}
+use Rattle.walk_faults.specs.Seen.{rings_seen}
+use Rattle.place_text.specs.Tables.{Tells}
+use Rattle.place_text.proofs.tables.tell_polygon.Given as goal
+
+-- the walks so far are told
+abbrev pub invariant-loop-ring : goal.invariant-loop-ring
+invariant-loop-ring g l =
+    Tells l.feature (flat_map (λ walk. walk) (rings_seen (take l.ring-index l.rings))) (flat_map walk_segments (rings_seen (take l.ring-index l.rings))) l.fn.tables l.tables
