@@ -5,7 +5,7 @@ use Rattle.std.specs.Prelude.{◌≢◌, MatchBool}
 use Rattle.clap.specs.Words.{App, HasMatchesOf, first_value, found_of}
 use Rattle.clap.specs.declared.parser.matches.ArgMatches.{ArgMatches}
 use Rattle.program_ends.proofs.WordLemmas.{read_text}
-use Rattle.border_mend.specs.Asked.{program, text_of, IsCount, AreDropped, IsAsked, AreApart}
+use Rattle.border_mend.specs.Asked.{program, text_of, IsCount, dropped, IsAsked, AreApart}
 use Rattle.mend_report.specs.declared.asked.Asked.{Asked}
 
 -- what four values ask for is what the words ask for
@@ -24,7 +24,7 @@ module _ (a : App) (m : ArgMatches) (words : List (List ℕ)) (is : a ≡ progra
     is_most = subst (λ (v : Option (List ℕ)). IsCount 1000 4000000 v asked.most) (value_of (codes "most") k most e r) is_asked.is_most;
     are_digits = subst (λ (v : Option (List ℕ)). IsCount 24 24 v asked.grid.digits) (value_of (codes "digits") l digits f s) is_asked.are_digits;
     is_finer = subst (λ (v : Option (List ℕ)). IsCount 0 12 v asked.grid.finer) (value_of (codes "refine") n refine g t) is_asked.is_finer;
-    are_dropped = subst (λ (v : Option (List ℕ)). AreDropped v asked.grid.drop_heights lines) (value_of (codes "drop") o drop h u) is_asked.are_dropped;
+    are_dropped = subst (λ (v : Option (List ℕ)). dropped v ≡ Some (asked.grid.drop_heights, lines)) (value_of (codes "drop") o drop h u) is_asked.are_dropped;
     nothing_dropped = is_asked.nothing_dropped;
   }
 

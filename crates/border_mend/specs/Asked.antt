@@ -1,5 +1,6 @@
 -- What the words of the program ask for, as clap reads them.
-use Rattle.std.specs.Prelude.{◌≡◌, ◌≢◌, ℕ, ◌≤◌, Bool, true, false, List, Option, Some, None, codes}
+use Rattle.std.specs.Prelude.{◌≡◌, ◌≢◌, ℕ, ◌≤◌, Bool, true, false, if◌then◌else◌, List, Option, Some, None, codes}
+use Rattle.std.specs.Str.{bytes_eq}
 use Rattle.std.specs.Str.Parse.{IsNumeral, digits_value, without_leading_plus}
 use Rattle.clap.specs.Words.{App, Rule, new_app, new_rule, with_rule, first_of, matches_of}
 use Rattle.mend_report.specs.declared.asked.Asked.{Asked}
@@ -39,12 +40,14 @@ IsCount usual greatest (Some text) n =
     × (n ≤ greatest)
 
 -- whether heights, and whether lines are left out: where the value names them
-pub data AreDropped : Option (List ℕ) → Bool → Bool → Type 0 where
-  nothing : AreDropped None false false
-  heights : AreDropped (Some (codes "heights")) true false
-  lines : AreDropped (Some (codes "lines")) false true
-  heights_lines : AreDropped (Some (codes "heights,lines")) true true
-  lines_heights : AreDropped (Some (codes "lines,heights")) true true
+unfoldable pub dropped : Option (List ℕ) → Option (Bool × Bool)
+dropped None = Some (false, false)
+dropped (Some text) =
+    if bytes_eq text (codes "heights") then Some (true, false)
+    else (if bytes_eq text (codes "lines") then Some (false, true)
+    else (if bytes_eq text (codes "heights,lines") then Some (true, true)
+    else (if bytes_eq text (codes "lines,heights") then Some (true, true)
+    else None)))
 
 -- what the values of --most, --digits, --refine and --drop ask for
 pub record IsAsked (most digits refine drop : Option (List ℕ)) (asked : Asked) (lines : Bool)
@@ -52,7 +55,7 @@ pub record IsAsked (most digits refine drop : Option (List ℕ)) (asked : Asked)
   pub is_most : IsCount 1000 4000000 most asked.most
   pub are_digits : IsCount 24 24 digits asked.grid.digits
   pub is_finer : IsCount 0 12 refine asked.grid.finer
-  pub are_dropped : AreDropped drop asked.grid.drop_heights lines
+  pub are_dropped : dropped drop ≡ Some (asked.grid.drop_heights, lines)
   pub nothing_dropped : asked.dropped ≡ 0
 
 -- two paths that are given are not the same

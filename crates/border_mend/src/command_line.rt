@@ -1,8 +1,8 @@
 //! The words of the program.
-ghost use Rattle.std.specs.Prelude.{◌≡◌, ◌≢◌, ◌≤◌, ℕ, Bool, [], Some, false, map, codes, string_bytes, unwrap_or};
+ghost use Rattle.std.specs.Prelude.{◌≡◌, ◌≢◌, ◌≤◌, ℕ, [], Some, false, map, codes, string_bytes, unwrap_or};
 ghost use Rattle.std.specs.Prelude.{option_map, IfOk, MatchBool, MatchOption};
 ghost use Rattle.clap.specs.Words.{app_of, rule_of};
-ghost use Rattle.border_mend.specs.Asked.{option_rule, program, text_of, IsCount, AreDropped};
+ghost use Rattle.border_mend.specs.Asked.{option_rule, program, text_of, IsCount, dropped};
 ghost use Rattle.border_mend.specs.Asked.{IsAsked, AreApart};
 
 use crate::asked::Words;
@@ -130,10 +130,9 @@ fn count_of(given: Option<&str>, count: Count) -> Option<usize>
 }
 
 /// Whether heights, and whether lines are left out, as the value of `--drop` says.
-fn are_dropped(given: Option<&str>) -> Option<(bool, bool)>
-    ensures { MatchOption result
-        ((heights lines : Bool) → ¬ AreDropped (option_map (λ text. text.now) given.entry) heights lines)
-        (λ dropped. AreDropped (option_map (λ text. text.now) given.entry) dropped.0 dropped.1) }
+#[tactic(auto, unfolding(crate::specs::Asked::dropped))]
+fn dropped(given: Option<&str>) -> Option<(bool, bool)>
+    ensures { result ≡ dropped (option_map (λ text. text.now) given.entry) }
 {
     let Some(text) = given else {
         return Some((false, false));
@@ -142,7 +141,9 @@ fn are_dropped(given: Option<&str>) -> Option<(bool, bool)>
         Some((true, false))
     } else if text == "lines" {
         Some((false, true))
-    } else if text == "heights,lines" || text == "lines,heights" {
+    } else if text == "heights,lines" {
+        Some((true, true))
+    } else if text == "lines,heights" {
         Some((true, true))
     } else {
         None
@@ -207,7 +208,7 @@ fn asked_of(
     let Some(finer) = count_of(refine, FINER) else {
         return Err("--refine takes a whole number from 0 to 12");
     };
-    let Some((drop_heights, drop_lines)) = are_dropped(drop) else {
+    let Some((drop_heights, drop_lines)) = dropped(drop) else {
         return Err("--drop takes heights, lines, or heights,lines");
     };
     let grid = Wants {

@@ -54,7 +54,10 @@ pub(crate) fn push_heights<A: Allocator>(
 }
 
 /// Appends the line of the lines that were left out, where there were some.
-pub(crate) fn push_lines<A: Allocator>(text: &mut Vec<u8, A>, dropped: usize) -> Result<(), AllocError>
+pub(crate) fn push_lines<A: Allocator>(
+    text: &mut Vec<u8, A>,
+    dropped: usize,
+) -> Result<(), AllocError>
     ensures { OnOk result (text.new.items ≡ text.old.items ++ lines_line dropped) }
 {
     if dropped == 0 {

@@ -82,7 +82,11 @@ fn is_saved<R: Abort>(rt: &R, alloc: Global, row: &Row) {
         Ok(remade) => assert_eq!(rt; remade.text.as_slice(), row.saved.as_bytes(), "{}", row.map),
         Err(_) => assert!(rt; false, "{}", row.map),
     }
-    assert!(rt; texts.report.starts_with(row.report.as_bytes()), "{}", row.map);
+    assert!(rt;
+        texts.report.starts_with(row.report.as_bytes()),
+        "{}",
+        row.map
+    );
 }
 
 #[test]
@@ -97,7 +101,13 @@ fn each_is_saved_on_its_grid(rt: HostRuntime) {
 fn decimals_keep_a_map_from_opening(rt: HostRuntime) {
     let mut texts = Texts::new(rt.alloc(), false);
     let asked = Asked::with_most(1000);
-    let outcome = report_map(rt.alloc(), rt.alloc(), DECIMALS.as_bytes(), asked, &mut texts);
+    let outcome = report_map(
+        rt.alloc(),
+        rt.alloc(),
+        DECIMALS.as_bytes(),
+        asked,
+        &mut texts,
+    );
     assert!(rt; outcome.is_ok());
     let want = "decimals 2 digits 2 rounded 0\ncounts short 0 repeats 0 on 0 cross 0\n";
     assert_eq!(rt; texts.report.as_slice(), want.as_bytes());

@@ -25,7 +25,13 @@ const REPORTS: [&str; 12] = [
 /// The map is mended with this report.
 fn is_told<R: Abort>(rt: &R, alloc: Global, map: &str, most: usize, want: &str) {
     let mut texts = Texts::new(alloc, false);
-    let outcome = mend_map(alloc, alloc, map.as_bytes(), Asked::with_most(most), &mut texts);
+    let outcome = mend_map(
+        alloc,
+        alloc,
+        map.as_bytes(),
+        Asked::with_most(most),
+        &mut texts,
+    );
     assert!(rt; outcome.is_ok(), "{map}");
     assert_eq!(rt; texts.report.as_slice(), want.as_bytes(), "{map}");
 }

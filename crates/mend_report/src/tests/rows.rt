@@ -79,7 +79,13 @@ fn is_told<R: Abort>(
 ) -> Result<(), Fail> {
     for with_places in [false, true] {
         let mut texts = Texts::new(alloc, with_places);
-        let outcome = report_map(alloc, alloc, map.as_bytes(), Asked::with_most(most), &mut texts);
+        let outcome = report_map(
+            alloc,
+            alloc,
+            map.as_bytes(),
+            Asked::with_most(most),
+            &mut texts,
+        );
         assert!(rt; outcome.is_ok(), "{map}");
         assert_eq!(rt; texts.report.as_slice(), want.as_bytes(), "{map}");
         assert_eq!(rt; texts.places.is_some(), with_places, "{map}");
