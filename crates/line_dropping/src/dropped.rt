@@ -177,6 +177,8 @@ pub fn without_lines<A: Allocator + Copy>(
         ((dropped.text.items ≡ without_lines bytes.now)
         × (dropped.lines ≡ length (all_lines (root_of bytes.now))))
         ⊎ ((¬ Json 100 bytes.now) × (dropped.text.items ≡ bytes.now) × (dropped.lines ≡ 0))) }
+    ensures as_it_is { IfOk result (λ dropped.
+        (¬ Json 100 bytes.now) → dropped.text.items ≡ bytes.now) }
     ensures long { IfOk result (λ dropped. length dropped.text.items ≡ length bytes.now) }
 {
     match scan(alloc, bytes) {
