@@ -19,8 +19,8 @@ abbrev pub behind : Option ℕ → ℕ → Option (ℕ × ℕ)
 behind None to = None
 behind (Some from) to = Some (from, to)
 
--- from where to where the first member of this name stands, with one comma: up to the next member, or
--- as the last one from the end of the one before it
+-- from where to where the first member of this name stands, with one comma: up to the next member,
+-- or as the last one from the end of the one before it
 unfoldable pub range_of : List ℕ → Option ℕ → List (Node × Node) → Option (ℕ × ℕ)
 range_of name before [] = None
 range_of name before (m ∷ []) = if says name m.0 then behind before (end_of m.1) else None

@@ -1,5 +1,5 @@
--- The lines of a topology (TopoJSON 1.0, 2.2.3 and 2.2.4): where they stand in its text. Defined for
--- any bytes.
+-- The lines of a topology (TopoJSON 1.0, 2.2.3 and 2.2.4): where they stand in its text. Defined
+-- for any bytes.
 use Rattle.std.specs.Prelude.{ℕ, zero, suc, ◌||◌, Bool, false, if◌then◌else◌, List, [], ◌∷◌, codes, Option, Some, None}
 use Rattle.std.specs.List.{flat_map}
 use Rattle.std.specs.Str.{bytes_eq}

@@ -1,5 +1,5 @@
 // The text without its lines.
-ghost use Rattle.std.specs.Prelude.{◌≡◌, ◌⊎◌, ◌+◌, ◌-◌, ◌<◌, ◌^◌, length, replicate, map, option_map, slice_set, codes, None, IfOk, OnOk};
+ghost use Rattle.std.specs.Prelude.{◌≡◌, ◌⊎◌, ◌+◌, ◌-◌, ◌<◌, ◌^◌, length, replicate, map, slice_set, None, IfOk, OnOk};
 ghost use Rattle.std.specs.List.{fold};
 ghost use Rattle.json_spans.specs.Walk.{members};
 ghost use Rattle.json_spans.specs.Left.{node};
@@ -177,6 +177,8 @@ pub fn without_lines<A: Allocator + Copy>(
         ((dropped.text.items ≡ without_lines bytes.now)
         × (dropped.lines ≡ length (all_lines (root_of bytes.now))))
         ⊎ ((¬ Json 100 bytes.now) × (dropped.text.items ≡ bytes.now) × (dropped.lines ≡ 0))) }
+    ensures as_it_is { IfOk result (λ dropped.
+        (¬ Json 100 bytes.now) → dropped.text.items ≡ bytes.now) }
     ensures long { IfOk result (λ dropped. length dropped.text.items ≡ length bytes.now) }
 {
     match scan(alloc, bytes) {
@@ -211,18 +213,24 @@ mod tests {
             lines: 1,
         },
         Row {
-            text: r#"{"objects":{"a":{"type":"GeometryCollection","geometries":[{"type":"LineString","arcs":[ 0, 1 ] },{"type":"Polygon","arcs":[[2]]}]}}}"#,
-            left: r#"{"objects":{"a":{"type":"GeometryCollection","geometries":[{"type":null                         },{"type":"Polygon","arcs":[[2]]}]}}}"#,
+            text: r#"{"objects":{"a":{"type":"GeometryCollection","geometries":[
+{"type":"LineString","arcs":[ 0, 1 ] },{"type":"Polygon","arcs":[[2]]}]}}}"#,
+            left: r#"{"objects":{"a":{"type":"GeometryCollection","geometries":[
+{"type":null                         },{"type":"Polygon","arcs":[[2]]}]}}}"#,
             lines: 1,
         },
         Row {
-            text: r#"{"objects":{"a":{"type":"GeometryCollection","geometries":[{"geometries":[{"type":"MultiLineString","arcs":[[0],[1]]}],"type":"GeometryCollection"}]}}}"#,
-            left: r#"{"objects":{"a":{"type":"GeometryCollection","geometries":[{"geometries":[{"type":null                              }],"type":"GeometryCollection"}]}}}"#,
+            text: r#"{"objects":{"a":{"type":"GeometryCollection","geometries":[
+{"geometries":[{"type":"MultiLineString","arcs":[[0],[1]]}],"type":"GeometryCollection"}]}}}"#,
+            left: r#"{"objects":{"a":{"type":"GeometryCollection","geometries":[
+{"geometries":[{"type":null                              }],"type":"GeometryCollection"}]}}}"#,
             lines: 1,
         },
         Row {
-            text: r#" { "objects" : { "a" : { "id" : 1 , "arcs" : [ 0 ] , "\u0074ype" : "Line\u0053tring" } , "b" : { "type" : "LineString" , "arcs" : [ 1 ] } } } "#,
-            left: r#" { "objects" : { "a" : { "id" : 1 ,                  "\u0074ype" : null              } , "b" : { "type" : null                          } } } "#,
+            text: r#" { "objects" : { "a" : { "id" : 1 , "arcs" : [ 0 ] , "\u0074ype" : "Line\u0053tring" } ,
+"b" : { "type" : "LineString" , "arcs" : [ 1 ] } } } "#,
+            left: r#" { "objects" : { "a" : { "id" : 1 ,                  "\u0074ype" : null              } ,
+"b" : { "type" : null                          } } } "#,
             lines: 2,
         },
         Row {
