@@ -77,7 +77,10 @@ const GRIDS: [(&str, (usize, usize, bool, bool)); 7] = [
     ("map.json --drop heights", (24, 0, true, false)),
     ("map.json --drop lines", (24, 0, false, true)),
     ("map.json --drop lines,heights", (24, 0, true, true)),
-    ("map.json --refine 12 --drop=heights,lines --digits 24", (24, 12, true, true)),
+    (
+        "map.json --refine 12 --drop=heights,lines --digits 24",
+        (24, 12, true, true),
+    ),
 ];
 
 #[test]
