@@ -1,10 +1,11 @@
 #!/usr/bin/env python3
 """Checks what the built border_mend makes of coordinates with decimals, beside the same map on whole numbers.
 
-Each map is a real or a drawn one whose positions were divided by powers of ten and moved by small fractions, written as
-decimals in many ways, with and without third numbers. Its grid is worked out here by exact fractions, from docs/MENDING.md
-alone, and the map is written once more with whole numbers on that grid. Both are mended: the saved bytes must be the same,
-and so the reports but for what they tell of the grid. A line at the end counts maps and faults.
+Each map is a real or a drawn one whose positions were divided by powers of ten and moved by small fractions, written
+as decimals in many ways, with and without third numbers, and with lines. Its grid is worked out here by exact
+fractions, from docs/MENDING.md alone, and the map is written once more with whole numbers on that grid. Both are
+mended: the saved bytes must be the same, and so the reports but for what they tell of the grid. A line at the end
+counts maps and faults.
 """
 import argparse
 import decimal
@@ -39,6 +40,7 @@ class Blurred:
         self.transform = None if old == "null" else old
         self.made, self.heights = {}, draw.random() < 0.3
         self.further = draw.random() < 0.5 and self.heights
+        self.lines = draw.choice([0, 0, 1, 2])
         step = draw.choice([1, 1, 10, 1000])
         arcs = [[self.position(p, step) for p in arc] for arc in read(text).arcs]
         self.pairs = [differences(arc) if self.transform else arc for arc in arcs]
@@ -52,6 +54,17 @@ class Blurred:
         part = self.draw.choice([0, 0, 5, self.draw.randrange(10**self.places)]) if self.places else 0
         return fractions.Fraction(c, step) + fractions.Fraction(part, 10**self.places * 10)
 
+    def objects(self, has_lines):
+        """The layers, with drawn lines before all others, or with what is left of these."""
+        left = '{"type" : null, "id":7,"properties":{"type":"LineString","arcs":[0]} }'
+        line = '{"type" : "LineString", "id":7,"arcs" : [0],"properties":{"type":"LineString","arcs":[0]} }'
+        several = '{"type":"GeometryCollection","geometries":[{ "arcs":[[0],[-1]],"\\u0074ype":"MultiLineString"}]}'
+        empty = '{"type":"GeometryCollection","geometries":[{ "type":null}]}'
+        made = [(line, left), (several, empty)][: self.lines]
+        more = ",".join(f'"line {n}":{pair[not has_lines]}' for n, pair in enumerate(made))
+        inside = self.members["objects"][1].strip()[1:]
+        return "{" + more + ("," if more and not inside.lstrip().startswith("}") else "") + inside
+
     def written(self):
         """Its text, and how many positions have further numbers."""
         count, lines = 0, []
@@ -62,7 +75,7 @@ class Blurred:
                 count += more
                 pairs.append(f"[{self.number(x)},{self.number(y)}{',7.5' * more}]")
             lines.append(f"[{','.join(pairs)}]")
-        return with_members(self.members, {"arcs": f"[{','.join(lines)}]"}), count
+        return with_members(self.members, {"arcs": f"[{','.join(lines)}]", "objects": self.objects(True)}), count
 
     def number(self, value):
         """The number, in one of the ways that JSON has."""
@@ -84,6 +97,11 @@ def with_members(members, changed):
 
 # ---- its grid
 
+def cut_number(value):
+    """A number without what stands behind its 24th decimal, rounding down."""
+    return fractions.Fraction(math.floor(value * 10**PLACES), 10**PLACES)
+
+
 def decimals_of(value):
     """How many decimals a number has, of which those behind the 24th are cut, rounding down."""
     units = math.floor(value * 10**PLACES)
@@ -101,7 +119,7 @@ class Grid:
     """The grid of a map with decimals, where so many are kept at most, and it is made finer by a power of ten."""
 
     def __init__(self, pairs, are_differences, digits, finer):
-        cut = [[tuple(fractions.Fraction(math.floor(c * 10**PLACES), 10**PLACES) for c in p) for p in arc] for arc in pairs]
+        cut = [[tuple(map(cut_number, p)) for p in arc] for arc in pairs]
         cut = [sums(arc) for arc in cut] if are_differences else cut
         all_numbers = [c for arc in cut for p in arc for c in p]
         self.decimals = max(map(decimals_of, all_numbers), default=0)
@@ -109,8 +127,12 @@ class Grid:
         self.fits = far * 10**finer <= REACH
         fitting = [k for k in range(min(digits, self.decimals) + 1) if far * 10 ** (k + finer) <= REACH]
         self.digits, self.finer = max(fitting, default=0), finer
-        self.arcs = [[tuple(math.floor(c * 10**self.digits + fractions.Fraction(1, 2)) * 10**finer for c in p) for p in arc] for arc in cut]
+        self.arcs = [[tuple(map(self.nearest, p)) for p in arc] for arc in cut]
         self.rounded = sum(any((c * 10**self.digits).denominator > 1 for c in p) for arc in cut for p in arc)
+
+    def nearest(self, number):
+        """The number on the grid, halves up."""
+        return math.floor(number * 10**self.digits + fractions.Fraction(1, 2)) * 10**self.finer
 
     def written(self, blurred):
         """The text of the map with whole numbers on this grid."""
@@ -122,7 +144,7 @@ class Grid:
             changed["transform"] = f'{{"scale":[{",".join(scale)}],"translate":[{",".join(moved)}]}}'
         has_transform = bool(power or blurred.transform)
         arcs = [differences(arc) if has_transform else arc for arc in self.arcs]
-        changed["arcs"] = json.dumps(arcs, separators=(",", ":"))
+        changed |= {"arcs": json.dumps(arcs, separators=(",", ":")), "objects": blurred.objects(False)}
         return with_members(blurred.members, changed)
 
 
@@ -141,12 +163,11 @@ class Mender:
         return done.returncode, done.stdout, done.stderr, out.read_bytes() if out.exists() else None
 
 
-def wanted(grid, heights, report):
-    """The report of the map on whole numbers, with what is told of the grid."""
+def wanted(grid, heights, lines, report):
+    """The report of the map on whole numbers, with what is told of the grid and of what was left out."""
     told = [f"decimals {grid.decimals} digits {grid.digits} rounded {grid.rounded}\n"] * bool(grid.decimals)
-    told += [f"heights {heights}\n"] * bool(heights)
-    lines = report.splitlines(keepends=True)
-    rest = [line for line in lines if line != "opens\n" or not told]
+    told += [f"heights {heights}\n"] * bool(heights) + [f"lines {lines}\n"] * bool(lines)
+    rest = [line for line in report.splitlines(keepends=True) if line != "opens\n" or not told]
     return "".join(rest[:1] + told + rest[1:] if rest[:1] == ["opens\n"] else told + rest)
 
 
@@ -154,17 +175,20 @@ def fault_of(mender, blurred, digits, finer):
     """What is wrong with one map, and what was tried of it."""
     text, heights = blurred.written()
     grid = Grid(blurred.pairs, bool(blurred.transform), digits, finer)
-    words = ["--digits", str(digits), "--refine", str(finer), *(["--drop", "heights"] if blurred.heights else [])]
+    dropped = ["heights"] * blurred.heights + ["lines"] * bool(blurred.lines)
+    words = ["--digits", str(digits), "--refine", str(finer), *(["--drop", ",".join(dropped)] if dropped else [])]
     status, report, said, saved = mender.ran(text, words)
     if not grid.fits:
-        return (None if said.startswith("open: out of range at ") else f"{said!r} of a map out of range"), "out of range"
+        is_told = said.startswith("open: out of range at ")
+        return (None if is_told else f"{said!r} of a map out of range"), "out of range"
     if grid.digits + finer and any(f'"{name}"' in text for name in ("Point", "MultiPoint")):
         return (None if said == "open: unsupported Point\n" else f"{said!r} of a map with points"), "points"
     plain = mender.ran(grid.written(blurred), [])
     if plain[0] != status or plain[3] != saved or plain[2] != said:
-        return f"status {status} and {plain[0]}, {said!r} and {plain[2]!r}, the same bytes: {saved == plain[3]}", "saved"
-    if status == 0 and report != wanted(grid, heights, plain[1]):
-        return f"{report[:300]!r} in place of {wanted(grid, heights, plain[1])[:300]!r}", "saved"
+        return f"status {status} and {plain[0]}, {said!r} and {plain[2]!r}, {saved == plain[3]}", "saved"
+    want = wanted(grid, heights, blurred.lines, plain[1])
+    if status == 0 and report != want:
+        return f"{report[:300]!r} in place of {want[:300]!r}", "saved"
     return None, "saved" if status == 0 else "not mended"
 
 
@@ -179,8 +203,10 @@ def texts(given):
 
 def main():
     words = argparse.ArgumentParser(description=__doc__, formatter_class=argparse.RawDescriptionHelpFormatter)
-    words.add_argument("map", nargs="*", type=pathlib.Path, default=sorted((TOP / "examples").glob("*.json")), help="real maps")
-    words.add_argument("--program", default=TOP / "crates/border_mend/out/border_mend", help="the mender (%(default)s)")
+    here = sorted((TOP / "examples").glob("*.json"))
+    mend = TOP / "crates/border_mend/out/border_mend"
+    words.add_argument("map", nargs="*", type=pathlib.Path, default=here, help="real maps")
+    words.add_argument("--program", default=mend, help="the mender (%(default)s)")
     words.add_argument("--drawn", type=int, default=500, help="how many maps are drawn (%(default)s)")
     words.add_argument("--seed", type=int, default=1, help="what they are drawn from (%(default)s)")
     given = words.parse_args()
@@ -189,12 +215,14 @@ def main():
         mender = Mender(given.program, folder)
         for name, draw, text in texts(given):
             blurred = Blurred(draw, text)
-            fault, kind = fault_of(mender, blurred, draw.choice([24, 24, 0, 1, 2, 5, 9]), draw.choice([0, 0, 0, 1, 3, 12]))
+            digits, finer = draw.choice([24, 24, 0, 1, 2, 5, 9]), draw.choice([0, 0, 0, 1, 3, 12])
+            fault, kind = fault_of(mender, blurred, digits, finer)
             counts[kind] = counts.get(kind, 0) + 1
             if fault:
                 faults += 1
                 print(f"{name}: {fault}", flush=True)
-    print(f"{sum(counts.values())} maps, {faults} faults; " + ", ".join(f"{kind} {n}" for kind, n in sorted(counts.items())))
+    kinds = ", ".join(f"{kind} {n}" for kind, n in sorted(counts.items()))
+    print(f"{sum(counts.values())} maps, {faults} faults; {kinds}")
     return 1 if faults else 0
 
 
