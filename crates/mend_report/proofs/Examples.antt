@@ -10,7 +10,7 @@ use Rattle.grid_geometry.specs.Segment.{Segment, segment_eq, segment_lt}
 use Rattle.walk_faults.specs.Walks.{walks_of}
 use Rattle.walk_faults.specs.Findings.{short_walks, all_repeats, all_positions, all_segments}
 use Rattle.walk_faults.specs.Meeting.{touches_among, crossings_among}
-use Rattle.grid_reader.specs.declared.reading.Told.{Told}
+use Rattle.grid_reader.specs.declared.told.Told.{Told}
 use Rattle.mend_report.specs.Report.{report_text}
 
 abbrev at : ℕ → ℕ → Position

@@ -7,7 +7,7 @@ use Rattle.topo_outline.specs.Layers.{OutlineText}
 use Rattle.grid_reader.specs.Fine.{fine_arcs}
 use Rattle.grid_reader.specs.Grid.{most_decimals, heights}
 use Rattle.grid_reader.specs.Told.{IsTold}
-use Rattle.grid_reader.specs.declared.reading.Told.{Told}
+use Rattle.grid_reader.specs.declared.told.Told.{Told}
 use Rattle.grid_reader.specs.declared.wants.Wants.{Wants}
 use Rattle.topo_reader.proofs.Steps.{ok_same}
 use Rattle.topo_outline.specs.declared.fault.RingAt.{RingAt}
@@ -75,9 +75,9 @@ plain_same wants bytes s t told again =
     let shape : told.shape ≡ again.shape = ok_same told.shape again.shape (sym told.outlined ∙ again.outlined) in
     let fine : told.fine ≡ again.fine = ok_same told.fine again.fine
     (sym told.are ∙ ap (λ (o : OutlineText). fine_arcs wants (is_some o.transform) o.arcs) shape ∙ again.are) in
-    let decimals : s.decimals ≡ t.decimals = told.decimals ∙ ap most_decimals fine ∙ sym again.decimals in
+    let decimals : s.decimals ≡ t.decimals = told.is.decimals ∙ ap most_decimals fine ∙ sym again.is.decimals in
     let same : s.heights ≡ t.heights =
-    told.heights ∙ ap (λ (o : OutlineText). if wants.drop_heights then heights o.arcs else 0) shape ∙ sym again.heights in
+    told.is.heights ∙ ap (λ (o : OutlineText). if wants.drop_heights then heights o.arcs else 0) shape ∙ sym again.is.heights in
     ap (λ (z : ℕ). (z == 0) && (s.heights == 0)) decimals ∙ ap (λ (z : ℕ). (t.decimals == 0) && (z == 0)) same
 
 pub status_opens : {A : Type 0} (asked : Asked) (bytes : List ℕ) (r : Report A) → Looked asked.grid bytes r.findings → IsTold asked.grid bytes r.grid

@@ -3,7 +3,7 @@ use Rattle.std.specs.Prelude.{◌≡◌, ℕ, true, List, Option}
 use Rattle.grid_geometry.specs.Position.{Position}
 use Rattle.grid_reader.specs.Opening.{grid_opening}
 use Rattle.grid_reader.specs.Told.{IsTold}
-use Rattle.grid_reader.specs.declared.reading.Told.{Told}
+use Rattle.grid_reader.specs.declared.told.Told.{Told}
 use Rattle.grid_reader.specs.declared.wants.Wants.{Wants}
 use Rattle.place_text.specs.Text.{IsPlaceText}
 use Rattle.ring_machine.specs.Document.{Text}

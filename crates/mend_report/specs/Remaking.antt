@@ -7,7 +7,7 @@ use Rattle.ring_machine.specs.Parts.{in_rings}
 use Rattle.topo_reader.specs.Document.{Opened, document_of}
 use Rattle.grid_reader.specs.Opening.{ReadsOnGrid}
 use Rattle.grid_reader.specs.Told.{IsTold}
-use Rattle.grid_reader.specs.declared.reading.Told.{Told}
+use Rattle.grid_reader.specs.declared.told.Told.{Told}
 use Rattle.grid_reader.specs.declared.wants.Wants.{Wants}
 use Rattle.walk_faults.specs.Findings.{Found}
 use Rattle.walk_faults.specs.declared.findings.Findings.{Findings}

@@ -3,7 +3,7 @@ use Rattle.std.specs.Prelude.{ℕ, Bool, ◌&&◌, ◌==◌, List, [], ◌++◌,
 use Rattle.std.specs.Fmt.{signed_decimal}
 use Rattle.area_changes.specs.declared.change.AreaChange.{AreaChange}
 use Rattle.grid_geometry.specs.Text.{position_text, segment_text}
-use Rattle.grid_reader.specs.declared.reading.Told.{Told}
+use Rattle.grid_reader.specs.declared.told.Told.{Told}
 use Rattle.map_mending.specs.declared.parted.Parted.{Parted}
 use Rattle.segment_paths.specs.Paths.{Path}
 use Rattle.topo_outline.specs.declared.fault.RingAt.{RingAt}
