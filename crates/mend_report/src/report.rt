@@ -409,6 +409,21 @@ impl<'a> From<AllocError> for RepairFault<'a> {
     }
 }
 
+/// The map with this transform.
+fn with_transform<'x, 'a: 'x, A: Allocator + Copy>(
+    transform: Option<&'x [u8]>,
+    map: RawDoc<'a, A>,
+) -> RawDoc<'x, A>
+    ensures { view_raw result ≡ under (option_map (λ t. t.now) transform.entry) (view_raw map.entry) }
+{
+    RawDoc {
+        transform,
+        layers: map.layers,
+        members: map.members,
+        polygons: map.polygons,
+    }
+}
+
 /// Mends a map that was read, and reports it as `mend_map` says.
 fn mend_read<'x, 'a: 'x, A: Allocator + Copy>(
     alloc: A,
@@ -446,31 +461,14 @@ fn mend_read<'x, 'a: 'x, A: Allocator + Copy>(
         findings,
     };
     let walks = copied(alloc, map.polygons.as_slice())?;
-    let RawDoc {
-        transform: _,
-        layers,
-        members,
-        polygons,
-    } = map;
-    let map = RawDoc {
-        transform,
-        layers,
-        members,
-        polygons,
-    };
+    let map = with_transform(transform, map);
     let remade = match remake(alloc, heap, map, walks.as_slice()) {
         Ok(remade) => remade,
         Err(fault) => return Err(RepairFault::Remake(fault)),
     };
-    let paths = remade.paths.as_slice();
-    put_places(
-        alloc,
-        transform,
-        walks.as_slice(),
-        &report.findings,
-        Some(paths),
-        &mut texts.places,
-    )?;
+    let paths = Some(remade.paths.as_slice());
+    let (walks, found) = (walks.as_slice(), &report.findings);
+    put_places(alloc, transform, walks, found, paths, &mut texts.places)?;
     push_mended(&mut texts.report, &report, &remade, most)?;
     Ok(remade)
 }
