@@ -1,5 +1,5 @@
 #!/usr/bin/env python3
-"""Runs the built program border_edit with each growth of its memory refused in turn.
+"""Runs the built programs border_edit and border_mend with each growth of their memory refused in turn.
 
 The tests of the gate refuse growths of one allocator. Here the C library's `malloc` and `realloc` are
 refused under the whole program, one call a run: also those for the words, for the files, and for what is
@@ -7,7 +7,8 @@ decoded from the map and from a line. Such a run ends with status 3 and `out of 
 answers, and FILE as it was; or with `save fault` and all answers, where the saved text found no room; or,
 where the growth was not needed, as it would have ended. The script has an edit of each kind, as many
 undos, and questions. So it is with `--refused` and two lines more that are refused, where the run may also
-end so when FILE holds the map and FILE2 a front of the list.
+end so when FILE holds the map and FILE2 a front of the list. border_mend mends a map that has decimals, a line
+and sides that cross: such a run ends with the same statuses and lines, and FILE is as it was.
 
 It needs the C compiler `cc`, for the few lines that stand before the C library. The program has to stand
 already (`rt ci` leaves it); another one can be named. The status is 0 where each run ended so.
@@ -34,6 +35,9 @@ SCRIPT = "\n".join(EDITS + ["undo"] * len(EDITS) + QUESTIONS)
 REFUSED = "\nmend\nmove 900 900 1 1"
 LISTED = "21\tbad line\tmend\n22\trefused no vertex\tmove 900 900 1 1\n"
 BEFORE = "what was saved before\n"
+# A bow tie with decimals, beside a line.
+BROKEN = """{"type":"Topology","objects":{"land":{"type":"Polygon","arcs":[[0]]},"way":{"type":"LineString","arcs":[0]}},
+"arcs":[[[0,0],[10.5,10],[10.5,0],[0,10],[0,0]]]}"""
 # More than the growths of the run.
 MANY = 100_000
 REFUSING = r"""
@@ -117,10 +121,52 @@ def tried(program, folder, library, is_listed):
     return nth - 1, wanting, wrong
 
 
+Mended = collections.namedtuple("Mended", "status report said file places")
+
+
+def mend(program, folder, more):
+    """The status, the report, what stands on standard error, and what FILE and the file of the places hold."""
+    out, places = folder / "mended.json", folder / "places.json"
+    out.write_text(BEFORE)
+    places.write_text(BEFORE)
+    words = [program, folder / "broken.json", "--out", out, "--places", places, "--drop", "heights,lines"]
+    ran = subprocess.run(words, capture_output=True, text=True, timeout=60, env={**os.environ, **more})
+    return Mended(ran.returncode, ran.stdout, ran.stderr, out.read_text(), places.read_text())
+
+
+def mending_wants(done, whole):
+    """Whether a run of border_mend ended as one for want of memory is to end."""
+    is_told = done.status == 3 and done.said in ("out of memory\n", "save fault\n")
+    is_front = done.report in ("", whole.report) and done.places in (BEFORE, whole.places)
+    return is_told and is_front and done.file == BEFORE
+
+
+def mended(program, folder, library):
+    """The same counts of border_mend."""
+    (folder / "broken.json").write_text(BROKEN)
+    whole = mend(program, folder, {})
+    if whole.status != 0 or "lines 1\n" not in whole.report or "path " not in whole.report:
+        print(f"the map is not mended: {whole}")
+        return 0, 0, 1
+    wrong = wanting = 0
+    for nth in range(1, MANY):
+        done = mend(program, folder, {"LD_PRELOAD": str(library), "REFUSED": str(nth)})
+        if done.status == 100:  # there are fewer growths
+            break
+        if mending_wants(done, whole):
+            wanting += 1
+        elif done != whole:
+            wrong += 1
+            print(f"growth {nth}: {done}")
+    return nth - 1, wanting, wrong
+
+
 def main():
     words = argparse.ArgumentParser(description=__doc__.split("\n", 1)[0])
     words.add_argument("program", nargs="?", default=str(TOP / "crates/border_edit/out/border_edit"))
-    program = os.path.abspath(words.parse_args().program)
+    words.add_argument("--mend", default=str(TOP / "crates/border_mend/out/border_mend"))
+    given = words.parse_args()
+    program = os.path.abspath(given.program)
     if not shutil.which("cc"):
         print("cc is not there")
         return 2
@@ -129,6 +175,7 @@ def main():
         shutil.copy(MAP, folder / "squares.json")
         library = compiled(folder)
         tries = [tried(program, folder, library, is_listed) for is_listed in (False, True)]
+        tries.append(mended(os.path.abspath(given.mend), folder, library))
     growths, wanting, wrong = (sum(counts) for counts in zip(*tries))
     print(f"{growths} growths refused, {wanting} runs ended for want of memory, {wrong} wrong")
     return 1 if wrong or not all(wanting for _, wanting, _ in tries) else 0

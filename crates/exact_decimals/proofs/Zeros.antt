@@ -1,5 +1,8 @@
 -- Zeros behind a number.
-use Rattle.std.proofs.Common.{◌≡◌, ℕ, zero, suc, ◌+◌, ◌-◌, ◌≤◌, ◌%◌, ◌/◌, refl, arith, sub-one, add-one}
+use Rattle.std.proofs.Common.{◌≡◌, ℕ, zero, suc, ◌+◌, ◌-◌, ◌*◌, ◌^◌, ◌≤◌, ◌<◌, ◌%◌, ◌/◌, refl, sym, ap, ◌∙◌, arith, sub-one, add-one}
+use Rattle.std.proofs.Math.Arith.{mod-mul}
+use Rattle.std.proofs.Math.Nat.{pow-suc}
+use Rattle.exact_decimals.proofs.Powers.{power_pos}
 use Rattle.std.proofs.lemmas.Bool.{eq-eqb, ne_eqb, cond-true, cond-false}
 use Rattle.exact_decimals.specs.Fine.{zeros_behind}
 
@@ -12,3 +15,12 @@ pub zeros_none : (k n : ℕ) → (n % 10 ≡ 0 → ⊥) → zeros_behind k n ≡
 unfolding zeros_behind
 zeros_none zero n h = refl
 zeros_none (suc k) n h = cond-false _ _ _ (ne_eqb (n % 10) 0 h)
+
+-- a number that so many tens divide has as many zeros behind it
+pub zeros_all : (k n : ℕ) → n % (10 ^ k) ≡ 0 → zeros_behind k n ≡ k
+unfolding zeros_behind
+zeros_all zero n h = refl
+zeros_all (suc k) n h =
+    let parts : (n / 10 % (10 ^ k)) * 10 + n % 10 ≡ 0 =
+    sym (mod-mul n (power_pos k) (omega arith)) ∙ ap (λ (m : ℕ). n % m) (sym (pow-suc 10 k)) ∙ h in
+    cond-true _ _ _ (eq-eqb (n % 10) 0 (omega (arith, parts))) ∙ ap suc (zeros_all k (n / 10) (omega (arith, parts)))

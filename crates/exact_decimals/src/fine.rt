@@ -97,6 +97,10 @@ pub fn decimals(units: i128) -> usize
     ensures bound { result ≤ 24 }
 {
     let mut left = units.unsigned_abs();
+    // Most numbers are whole ones, and one division tells them.
+    if left % power_of_ten(DECIMALS) == 0 {
+        return 0;
+    }
     let mut decimals = DECIMALS;
     while decimals > 0 && left % 10 == 0 {
         left /= 10;
