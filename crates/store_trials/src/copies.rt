@@ -1,57 +1,86 @@
 //! Copies of a map: an edit of one leaves the map as it was, and so does a copy whose growth is
 //! refused.
-use crate::compared::{Edit, answer, at, has_rings, plain_map};
-use crate::refusals::{Counts, MANY, THREE, counts_of, first_growth, refused_map, stays};
-use arc_store::Map;
-use plain_rings::PlainMap;
+use crate::maps::THREE;
+use crate::opening::{MANY, MEMORY, holds, map_in};
+use crate::refused::first_growth;
+use crate::shown::{Rings, at, has_outer_rings, shown, shows};
+use arc_store::{EditFault, Map};
+use edit_vertex::{move_vertex, remove_vertex};
 use refusing_allocator::Refusing;
-use segment_index::SegIndex;
+use segment_index::{GridIndex, SegIndex};
 use std::alloc::{Allocator, Global};
 use std::process::Abort;
-use std::test::Fail;
 
-/// Edits a copy of a map that was edited once: the map stays.
+/// The edit of the map, before it is copied.
+fn edit<R: Abort, I: SegIndex, A: Allocator + Copy>(
+    rt: &R,
+    map: &mut Map<'_, I, A>,
+) -> Result<(), EditFault> {
+    move_vertex(map, at(rt, (10, 0)), at(rt, (11, 1)))
+}
+
+/// The edit of the copy.
+fn edit_copy<R: Abort, I: SegIndex, A: Allocator + Copy>(rt: &R, copy: &mut Map<'_, I, A>) {
+    let removed = remove_vertex(copy, at(rt, (10, 5)));
+    assert!(rt; removed == Ok(()));
+}
+
+/// What the map shows before and after the edit of the copy.
+#[derive(Drop)]
+struct Shown {
+    before: Vec<u8>,
+    after: Vec<u8>,
+}
+
+/// The outer rings of the three features after the edit.
+const EDITED: Rings = &[
+    &[(0, 0), (11, 1), (10, 5), (10, 10), (0, 10)],
+    &[(10, 5), (11, 1), (20, 0), (20, 10), (10, 10)],
+    &[(0, -10), (20, -10), (20, 0), (11, 1), (0, 0)],
+];
+
+/// Those after the edit of the copy.
+const COPY_EDITED: Rings = &[
+    &[(0, 0), (11, 1), (10, 10), (0, 10)],
+    &[(10, 10), (11, 1), (20, 0), (20, 10)],
+    &[(0, -10), (20, -10), (20, 0), (11, 1), (0, 0)],
+];
+
+/// Makes both edits of the map, and gives what it shows.
+fn edit_both<R: Abort>(rt: &R, alloc: Global, map: &mut Map<'_, GridIndex>) -> Shown {
+    assert!(rt; edit(rt, map) == Ok(()) && has_outer_rings(rt, map, EDITED));
+    let before = shown(rt, alloc, alloc, map);
+    edit_copy(rt, map);
+    assert!(rt; has_outer_rings(rt, map, COPY_EDITED));
+    let after = shown(rt, alloc, alloc, map);
+    Shown { before, after }
+}
+
+/// What the map shows where there is memory.
+fn usual<R: Abort>(rt: &R, alloc: Global) -> Shown {
+    let mut map = map_in(alloc, alloc, THREE.as_bytes()).expect(rt, "the text opens");
+    edit_both(rt, alloc, &mut map)
+}
+
+/// Edits a copy: the map stays.
 fn edit_of_copy<R: Abort, I: SegIndex, A: Allocator + Copy>(
     rt: &R,
     alloc: Global,
+    heap: A,
     map: &Map<'_, I, A>,
     copy: &mut Map<'_, I, A>,
-    before: &PlainMap<'_>,
-    after: &PlainMap<'_>,
-    counts: &Counts,
-) -> Result<(), Fail> {
-    stays(rt, alloc, copy, before, counts)?;
-    assert_eq!(rt; copy.tests(), map.tests());
-    assert_eq!(rt; answer(copy, Edit::Remove(at(rt, 10, 5))), Ok(0));
-    assert!(rt; has_rings(copy, after.polygons()));
-    stays(rt, alloc, map, before, counts)
-}
-
-/// Copies a map that was edited once, and edits the copy.
-fn edit_a_copy<R: Abort, I: SegIndex, A: Allocator + Copy>(
-    rt: &R,
-    alloc: Global,
-    map: &Map<'_, I, A>,
-    before: &PlainMap<'_>,
-    after: &PlainMap<'_>,
-    counts: &Counts,
-) -> Result<(), Fail> {
-    let mut copy = map.copy()?;
-    let edited = edit_of_copy(rt, alloc, map, &mut copy, before, after, counts);
-    drop(copy);
-    edited
-}
-
-/// Whether there is memory for a copy.
-fn is_copied<I: SegIndex, A: Allocator + Copy>(map: &Map<'_, I, A>) -> bool {
-    let copy = map.copy();
-    let is_made = copy.is_ok();
-    drop(copy);
-    is_made
+    usual: &Shown,
+) {
+    let (before, after) = (usual.before.as_slice(), usual.after.as_slice());
+    assert!(rt; shows(rt, alloc, heap, copy, before) && copy.tests() == map.tests());
+    assert!(rt; copy.next_number() == 3);
+    edit_copy(rt, copy);
+    assert!(rt; shows(rt, alloc, heap, copy, after));
+    assert!(rt; shows(rt, alloc, heap, map, before) && map.next_number() == 3);
 }
 
 /// What came of a copy where a growth was refused.
-#[derive(Clone, Copy, Debug, PartialEq, Eq)]
+#[derive(Clone, Copy)]
 enum Outcome {
     /// It was one of the edit that comes before.
     NoEdit,
@@ -61,100 +90,101 @@ enum Outcome {
     Usual,
 }
 
-/// A copy of a map that has these counts, whose growth may be refused, and another one, for which
-/// there is memory.
+/// Whether there is memory for a copy.
+fn is_copied<I: SegIndex, A: Allocator + Copy>(map: &Map<'_, I, A>) -> bool {
+    map.copy().is_ok()
+}
+
+/// Copies a map that was edited once, and edits the copy.
+fn edit_a_copy<R: Abort, I: SegIndex, A: Allocator + Copy>(
+    rt: &R,
+    alloc: Global,
+    heap: A,
+    map: &Map<'_, I, A>,
+    usual: &Shown,
+) {
+    let mut copy = map.copy().expect(rt, MEMORY);
+    edit_of_copy(rt, alloc, heap, map, &mut copy, usual);
+}
+
+/// The map, which was edited once, is copied; where that is refused memory, the map stays, and there
+/// is memory for another copy.
 fn copy_twice<R: Abort, I: SegIndex, A: Allocator + Copy>(
     rt: &R,
     alloc: Global,
-    heap: &Refusing<Global>,
+    (refusing, heap): (&Refusing<Global>, A),
     map: &Map<'_, I, A>,
-    before: &PlainMap<'_>,
-    after: &PlainMap<'_>,
-    counts: &Counts,
-) -> Result<Outcome, Fail> {
-    if is_copied(map) {
-        assert!(rt; !heap.was_refused());
-        return Ok(Outcome::Usual);
+    usual: &Shown,
+) -> Outcome {
+    let is_copied = is_copied(map);
+    holds(
+        rt,
+        "a copy is refused where a growth is",
+        refusing.was_refused() != is_copied,
+    );
+    if is_copied {
+        return Outcome::Usual;
     }
-    assert!(rt; heap.was_refused());
-    stays(rt, alloc, map, before, counts)?;
-    edit_a_copy(rt, alloc, map, before, after, counts)?;
-    Ok(Outcome::Refused)
+    let is_same = shows(rt, alloc, heap, map, usual.before.as_slice());
+    holds(rt, "the map stays", is_same);
+    edit_a_copy(rt, alloc, heap, map, usual);
+    Outcome::Refused
 }
 
 /// The map is edited once, and then copied.
 fn edit_and_copy<R: Abort, I: SegIndex, A: Allocator + Copy>(
     rt: &R,
     alloc: Global,
-    heap: &Refusing<Global>,
+    (refusing, heap): (&Refusing<Global>, A),
     map: &mut Map<'_, I, A>,
-    before: &PlainMap<'_>,
-    after: &PlainMap<'_>,
-) -> Result<Outcome, Fail> {
-    let moved = answer(map, Edit::Move(at(rt, 10, 0), at(rt, 11, 1)));
-    if moved.is_err() {
-        assert!(rt; heap.was_refused());
-        return Ok(Outcome::NoEdit);
+    usual: &Shown,
+) -> Outcome {
+    if edit(rt, map).is_err() {
+        holds(
+            rt,
+            "the edit is refused where a growth is",
+            refusing.was_refused(),
+        );
+        return Outcome::NoEdit;
     }
-    let counts = counts_of(alloc, map, before)?;
-    let outcome = copy_twice(rt, alloc, heap, map, before, after, &counts);
-    drop(counts);
-    outcome
+    copy_twice(rt, alloc, (refusing, heap), map, usual)
 }
 
-/// An edit and a copy whose growth of this number is refused, one after the opening.
-fn refuse_a_copy<R: Abort>(
+/// The map is opened in a heap whose refused growth comes after that, edited and copied.
+fn open_and_copy<R: Abort, A: Allocator + Copy>(
     rt: &R,
     alloc: Global,
-    before: &PlainMap<'_>,
-    after: &PlainMap<'_>,
-    nth: u64,
-) -> Result<Outcome, Fail> {
+    (refusing, heap): (&Refusing<Global>, A),
+    usual: &Shown,
+) -> Outcome {
+    let mut map = map_in(heap, alloc, THREE.as_bytes()).expect(rt, "the opening has its growths");
+    edit_and_copy(rt, alloc, (refusing, heap), &mut map, usual)
+}
+
+/// An edit and a copy whose growth of this number is refused.
+fn refuse<R: Abort>(rt: &R, alloc: Global, usual: &Shown, nth: u64) -> Outcome {
     let heap = Refusing::new(alloc, nth);
-    let Some(mut map) = refused_map(&heap, alloc, THREE) else {
-        panic!(rt; "it opens before that growth");
-    };
-    let outcome = edit_and_copy(rt, alloc, &heap, &mut map, before, after);
-    drop(map);
-    outcome
+    open_and_copy(rt, alloc, (&heap, &heap), usual)
 }
 
-/// Copies of the map, with each growth after the opening refused in turn. Gives how many of a copy
-/// were.
-fn refuse_each_copy<R: Abort>(
-    rt: &R,
-    alloc: Global,
-    before: &PlainMap<'_>,
-    after: &PlainMap<'_>,
-) -> Result<u64, Fail> {
-    let first = first_growth(rt, alloc, THREE);
+/// Copies of the map, with each growth refused in turn. Gives how many of a copy were.
+fn refuse_each<R: Abort>(rt: &R, alloc: Global, usual: &Shown) -> u64 {
     let mut refused = 0u64;
+    // the last growth of an editor's opening is none of the map's
+    let first = first_growth(rt, alloc, THREE).wrapping_sub(1);
     for count in 0..MANY {
-        match refuse_a_copy(rt, alloc, before, after, first.saturating_add(count))? {
+        match refuse(rt, alloc, usual, first.wrapping_add(count)) {
             Outcome::NoEdit => (),
             Outcome::Refused => refused = refused.wrapping_add(1),
-            Outcome::Usual => return Ok(refused),
+            Outcome::Usual => return refused,
         }
     }
     panic!(rt; "the copy ends");
 }
 
-/// The first map with a vertex moved, and the second with another one left out too.
-fn prepare<R: Abort>(rt: &R, before: &mut PlainMap<'_>, after: &mut PlainMap<'_>) {
-    let (corner, new) = (at(rt, 10, 0), at(rt, 11, 1));
-    assert!(rt; before.move_vertex(corner, new).is_ok());
-    assert!(rt; after.move_vertex(corner, new).is_ok());
-    assert!(rt; after.remove_vertex(at(rt, 10, 5)).is_ok());
-}
-
 #[test]
-fn a_copy_stands_for_itself(rt: HostRuntime) -> Result<(), Fail> {
-    let mut before = plain_map(&rt, rt.alloc(), THREE);
-    let mut after = plain_map(&rt, rt.alloc(), THREE);
-    prepare(&rt, &mut before, &mut after);
-    let refused = refuse_each_copy(&rt, rt.alloc(), &before, &after);
-    drop(before);
-    drop(after);
-    assert!(rt; 10 < refused?);
-    Ok(())
+fn a_copy_stands_for_itself(rt: HostRuntime) {
+    let usual = usual(&rt, rt.alloc());
+    let refused = refuse_each(&rt, rt.alloc(), &usual);
+    holds(&rt, "a copy takes many growths", 10 < refused);
 }

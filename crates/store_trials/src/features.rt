@@ -1,294 +1,229 @@
-//! Edits of features on small maps: each refusal once.
+//! Edits of features on small maps, in a list: each refusal once.
+use crate::maps::{ALONE, GAP, HOLES, NULL, TOUCHING, TWO_SQUARES, UNION};
+use crate::opening::{MEMORY, command_of, holds, is_answer, map_of};
+use crate::shown::has_ring;
 use arc_store::{EditFault, IdText, ItemView, Map, Path};
-use grid_geometry::{Pos, Seg};
 use segment_index::{ListIndex, SegIndex};
 use split_merge::{delete, merge, rename, split};
-use std::alloc::{AllocError, Allocator, Global};
+use std::alloc::Global;
 use std::process::Abort;
-use std::test::Fail;
-use topo_reader::read;
+use undo_ring::Command;
 
-// two squares with a common side
-const SQUARES: &str =
-    "{\"type\":\"Topology\",\"objects\":{\"l\":{\"type\":\"GeometryCollection\",\"geometries\":[{\"type\":\"Polygon\",\"id\":\"A\",\"arcs\":[[0]]},{\"type\":\"Polygon\",\"id\":\"B\",\"arcs\":[[1]]}]}},\"arcs\":[[[0,0],[10,0],[10,10],[0,10],[0,0]],[[10,0],[20,0],[20,10],[10,10],[10,0]]]}";
+/// A line of a script, and why it is refused.
+type Refusal = (&'static str, &'static str);
 
-// a square, and below it a polygon with a dent, each the geometry of its layer
-const ALONE: &str =
-    "{\"type\":\"Topology\",\"objects\":{\"a\":{\"type\":\"Polygon\",\"arcs\":[[0]]},\"b\":{\"type\":\"Polygon\",\"arcs\":[[1]]}},\"arcs\":[[[0,0],[10,0],[10,10],[0,10],[0,0]],[[0,-10],[10,-10],[10,0],[5,-2],[0,0],[0,-10]]]}";
+/// Refusals on two squares.
+const REFUSED: &[Refusal] = &[
+    ("split 9 \"new\" 0 0 10 10", "Err(NoFeature)"),
+    ("split 0 \"new\" 0 0 20 0", "Err(NotOnOuterRing)"),
+    ("split 0 \"new\" 0 0 5 5 5 5 10 10", "Err(RepeatedPoint)"),
+    ("split 0 \"new\" 0 0 20 0 10 10", "Err(Occupied)"),
+    ("split 0 \"new\" 0 0 10 0", "Err(SegmentExists)"),
+    ("split 0 \"new\" 0 0 15 5 10 10", CROSSED),
+    ("split 0 \"new\" 0 0 5 -5 10 0", "Err(WrongSide)"),
+    ("merge 0 9", "Err(NoFeature)"),
+    ("merge 9 9", "Err(NoFeature)"),
+    ("merge 1 1", "Err(SameFeature)"),
+    ("rename 2 \"x\"", "Err(NoFeature)"),
+    ("delete 2", "Err(NoFeature)"),
+];
 
-// two squares, and a layer that is their union
-const UNION: &str =
-    "{\"type\":\"Topology\",\"objects\":{\"l\":{\"type\":\"GeometryCollection\",\"geometries\":[{\"type\":\"Polygon\",\"arcs\":[[0]]},{\"type\":\"Polygon\",\"arcs\":[[1]]}]},\"s\":{\"type\":\"Polygon\",\"arcs\":[[2]]}},\"arcs\":[[[0,0],[10,0],[10,10],[0,10],[0,0]],[[10,0],[20,0],[20,10],[10,10],[10,0]],[[0,0],[10,0],[20,0],[20,10],[10,10],[0,10],[0,0]]]}";
+/// The path crosses the common side.
+const CROSSED: &str =
+    "Err(Conflict { s: Seg { lo: Pos { x: 0, y: 0 }, hi: Pos { x: 15, y: 5 } }, t: Seg { lo: Pos { x: 10, y: 0 }, hi: Pos { x: 10, y: 10 } } })";
 
-// neighbours with a gap between them
-const GAP: &str =
-    "{\"type\":\"Topology\",\"objects\":{\"l\":{\"type\":\"GeometryCollection\",\"geometries\":[{\"type\":\"Polygon\",\"arcs\":[[0]]},{\"type\":\"Polygon\",\"arcs\":[[1]]}]}},\"arcs\":[[[0,0],[10,0],[10,3],[8,5],[10,7],[10,10],[0,10],[0,0]],[[10,0],[20,0],[20,10],[10,10],[10,7],[12,5],[10,3],[10,0]]]}";
+/// Refusals on features that are layers themselves.
+const REFUSED_ALONE: &[Refusal] = &[
+    ("split 0 \"new\" 0 0 10 10", "Err(NoCollection)"),
+    ("merge 0 1", "Err(NotNeighbours)"),
+];
 
-// neighbours that also touch at a position
-const TOUCHING: &str =
-    "{\"type\":\"Topology\",\"objects\":{\"l\":{\"type\":\"GeometryCollection\",\"geometries\":[{\"type\":\"Polygon\",\"arcs\":[[0]]},{\"type\":\"Polygon\",\"arcs\":[[1]]}]}},\"arcs\":[[[0,0],[4,0],[4,4],[0,4],[0,0]],[[0,4],[2,6],[4,4],[4,0],[8,0],[8,8],[0,8],[0,4]]]}";
-
-// a triangle, and an object whose type is null
-const NULL: &str =
-    "{\"type\":\"Topology\",\"objects\":{\"l\":{\"type\":\"GeometryCollection\",\"geometries\":[{\"type\":\"Polygon\",\"arcs\":[[0]]},{\"type\":null}]}},\"arcs\":[[[0,0],[5,0],[5,5],[0,0]]]}";
-
-// a polygon with a hole at a corner, and one that turns right
-const HOLES: &str =
-    "{\"type\":\"Topology\",\"objects\":{\"l\":{\"type\":\"GeometryCollection\",\"geometries\":[{\"type\":\"Polygon\",\"arcs\":[[0],[1],[2]]}]}},\"arcs\":[[[0,0],[10,0],[20,0],[20,10],[10,10],[0,10],[0,0]],[[0,0],[2,4],[4,2],[0,0]],[[14,4],[14,6],[16,6],[16,4],[14,4]]]}";
-
-const ACROSS: &[(i64, i64)] = &[(0, 0), (10, 10)];
-
-/// The map of the text, which opens and is planar.
-fn map_of<R: Abort>(rt: &R, alloc: Global, text: &'static str) -> Map<'static, ListIndex> {
-    let Ok(raw) = read(alloc, alloc, text.as_bytes()) else {
-        panic!(rt; "the text opens");
-    };
-    let Ok(map) = Map::build(alloc, raw, ListIndex::new(alloc)) else {
-        panic!(rt; "it is planar");
-    };
-    map
-}
-
-/// The position, which is in range.
-fn at<R: Abort>(rt: &R, p: (i64, i64)) -> Pos {
-    Pos::new(p.0, p.1).expect(rt, "in range")
-}
-
-/// The segment of two positions, which differ.
-fn side<R: Abort>(rt: &R, p: (i64, i64), q: (i64, i64)) -> Seg {
-    Seg::new(at(rt, p), at(rt, q)).expect(rt, "two positions")
-}
-
-/// The positions with these coordinates.
-fn ring<R: Abort, A: Allocator + Copy>(
-    rt: &R,
-    alloc: A,
-    positions: &[(i64, i64)],
-) -> Result<Vec<Pos, A>, AllocError> {
-    let mut ring = Vec::new(alloc);
-    for p in positions {
-        ring.push(at(rt, *p))?;
+/// What an edit without a number is answered.
+fn done(answer: Result<(), EditFault>) -> Result<u64, EditFault> {
+    match answer {
+        Ok(()) => Ok(0),
+        Err(fault) => Err(fault),
     }
-    Ok(ring)
 }
 
-/// Whether the ring has these positions.
-fn is_ring<R: Abort>(rt: &R, ring: &[Pos], positions: &[(i64, i64)]) -> bool {
-    for (p, q) in ring.iter().zip(positions) {
-        if *p != at(rt, *q) {
-            return false;
-        }
-    }
-    ring.len() == positions.len()
-}
-
-/// Whether there is one polygon, of these rings.
-fn is_one_polygon<R: Abort, A: Allocator + Copy>(
+/// Cuts a feature, and gives the number of the new one. The path has from 2 to 256 positions.
+fn cut<R: Abort, I: SegIndex>(
     rt: &R,
-    polygons: &[Vec<Vec<Pos, A>, A>],
-    rings: &[&[(i64, i64)]],
-) -> bool {
-    let [one] = polygons else {
-        return false;
-    };
-    for (ring, positions) in one.iter().zip(rings) {
-        if !is_ring(rt, ring.as_slice(), *positions) {
-            return false;
-        }
-    }
-    one.len() == rings.len()
-}
-
-/// Whether the feature has one polygon, of these rings.
-fn has_rings<R: Abort, I: SegIndex, A: Allocator + Copy>(
-    rt: &R,
-    map: &Map<'_, I, A>,
+    map: &mut Map<'_, I>,
     f: u32,
-    rings: &[&[(i64, i64)]],
-) -> Result<bool, AllocError> {
-    let polygons = map.polygons(f)?;
-    let same = is_one_polygon(rt, polygons.as_slice(), rings);
-    drop(polygons);
-    Ok(same)
-}
-
-/// The split along these positions, of which there are 2 to 256.
-pub(crate) fn cut<R: Abort, I: SegIndex, A: Allocator + Copy>(
-    rt: &R,
-    alloc: A,
-    map: &mut Map<'_, I, A>,
-    f: u32,
-    positions: &[(i64, i64)],
-) -> Result<u32, EditFault> {
-    let id = IdText(String::from_str(alloc, "new")?);
-    let path = Path(ring(rt, alloc, positions)?);
+    id: IdText,
+    path: Path,
+) -> Result<u64, EditFault> {
     let count = path.0.len();
     assert!(rt; 2 <= count && count <= 256);
-    split(map, f, id, path)
-}
-
-// ---- refusals
-
-/// Splits of two squares that are refused.
-fn refuse_splits<R: Abort>(rt: &R, alloc: Global, map: &mut Map<'_, ListIndex>) {
-    let (s, t) = (side(rt, (0, 0), (15, 5)), side(rt, (10, 0), (10, 10)));
-    let twice: &[(i64, i64)] = &[(0, 0), (5, 5), (5, 5), (10, 10)];
-    let over_a_vertex: &[(i64, i64)] = &[(0, 0), (20, 0), (10, 10)];
-    let over_a_side: &[(i64, i64)] = &[(0, 0), (15, 5), (10, 10)];
-    let outside: &[(i64, i64)] = &[(0, 0), (5, -5), (10, 0)];
-    for (f, positions, fault) in [
-        (9, ACROSS, EditFault::NoFeature),
-        (0, &[(0, 0), (20, 0)], EditFault::NotOnOuterRing),
-        (0, twice, EditFault::RepeatedPoint),
-        (0, over_a_vertex, EditFault::Occupied),
-        (0, &[(0, 0), (10, 0)], EditFault::SegmentExists),
-        (0, over_a_side, EditFault::Conflict { s, t }),
-        (0, outside, EditFault::WrongSide),
-    ] {
-        assert_eq!(rt; cut(rt, alloc, map, f, positions), Err(fault));
+    match split(map, f, id, path) {
+        Ok(number) => Ok(u64::from(number)),
+        Err(fault) => Err(fault),
     }
 }
 
-#[test]
-fn splits_are_refused(rt: HostRuntime) {
-    let mut map = map_of(&rt, rt.alloc(), SQUARES);
-    refuse_splits(&rt, rt.alloc(), &mut map);
-    drop(map);
+/// Makes the edit of a feature, and gives the number of the new one, or 0.
+fn make<R: Abort, I: SegIndex>(
+    rt: &R,
+    map: &mut Map<'_, I>,
+    command: Command,
+) -> Result<u64, EditFault> {
+    match command {
+        Command::Split(f, id, path) => cut(rt, map, f, id, path),
+        Command::Merge(f, g) => done(merge(map, f, g)),
+        Command::Rename(f, id) => done(rename(map, f, id)),
+        Command::Delete(f) => done(delete(map, f)),
+        _ => panic!(rt; "no edit of a feature"),
+    }
 }
 
-#[test]
-fn a_layer_is_not_split(rt: HostRuntime) {
-    let mut map = map_of(&rt, rt.alloc(), ALONE);
-    let answer = cut(&rt, rt.alloc(), &mut map, 0, ACROSS);
-    drop(map);
-    assert_eq!(rt; answer, Err(EditFault::NoCollection));
-}
-
-/// What a merge of these features of the text is answered.
-fn merged<R: Abort>(
+/// The line is answered so.
+fn answers<R: Abort, I: SegIndex>(
     rt: &R,
     alloc: Global,
-    text: &'static str,
-    f: u32,
-    g: u32,
-) -> Result<(), EditFault> {
-    let mut map = map_of(rt, alloc, text);
-    let answer = merge(&mut map, f, g);
-    drop(map);
-    answer
+    map: &mut Map<'_, I>,
+    line: &str,
+    wanted: &str,
+) {
+    let answer = make(rt, map, command_of(rt, alloc, line));
+    holds(rt, line, is_answer(rt, alloc, answer, wanted));
 }
 
-#[test]
-fn merges_are_refused(rt: HostRuntime) {
-    let alloc = rt.alloc();
-    let pos = at(&rt, (0, 4));
-    for (text, f, g, fault) in [
-        (SQUARES, 0, 9, EditFault::NoFeature),
-        (SQUARES, 9, 9, EditFault::NoFeature),
-        (SQUARES, 1, 1, EditFault::SameFeature),
-        (NULL, 0, 1, EditFault::NotOnePolygon),
-        (ALONE, 0, 1, EditFault::NotNeighbours),
-        (GAP, 0, 1, EditFault::Runs { n: 2 }),
-        (TOUCHING, 0, 1, EditFault::CommonElse { pos }),
-        (UNION, 0, 2, EditFault::SameSide),
-    ] {
-        assert_eq!(rt; merged(&rt, alloc, text, f, g), Err(fault));
-    }
-}
-
-/// The feature with this id, by its number, and its deletion are refused.
-fn refuse_missing<R: Abort>(rt: &R, map: &mut Map<'_, ListIndex>, f: u32, id: IdText) {
-    assert_eq!(rt; rename(map, f, id), Err(EditFault::NoFeature));
-    assert_eq!(rt; delete(map, f), Err(EditFault::NoFeature));
-}
-
-#[test]
-fn no_such_feature(rt: HostRuntime) -> Result<(), Fail> {
-    let id = IdText(String::from_str(rt.alloc(), "x")?);
-    let mut map = map_of(&rt, rt.alloc(), SQUARES);
-    refuse_missing(&rt, &mut map, 2, id);
-    drop(map);
-    Ok(())
-}
-
-// ---- edits
-
-/// How many features, vertices and segments the map has, and its next number.
-fn counts(map: &Map<'_, ListIndex>) -> (usize, usize, usize, u32) {
-    (
-        map.feature_count(),
-        map.vertex_count(),
-        map.segment_count(),
-        map.next_number(),
-    )
-}
-
-/// A square is split, and joined again.
-fn split_and_merge<R: Abort>(
+/// The lines are refused on the map, one after another.
+fn are_refused<R: Abort>(
     rt: &R,
     alloc: Global,
     map: &mut Map<'_, ListIndex>,
-) -> Result<(), Fail> {
-    let made = cut(rt, alloc, map, 0, &[(0, 0), (5, 2), (10, 10)]);
-    assert_eq!(rt; made, Ok(2));
-    assert!(rt; has_rings(rt, map, 0, &[&[(0, 0), (10, 0), (10, 10), (5, 2)]])?);
-    assert!(rt; has_rings(rt, map, 2, &[&[(0, 0), (5, 2), (10, 10), (0, 10)]])?);
-    assert!(rt; counts(map) == (3, 7, 9, 3));
-    assert_eq!(rt; merge(map, 0, 2), Ok(()));
-    assert!(rt; has_rings(rt, map, 0, &[&[(0, 0), (10, 0), (10, 10), (0, 10)]])?);
-    assert!(rt; counts(map) == (2, 6, 7, 3));
-    Ok(())
+    refusals: &[Refusal],
+) {
+    for (line, fault) in refusals {
+        answers(rt, alloc, map, *line, *fault);
+    }
+}
+
+/// The lines are refused on the map of this text.
+fn refuse<R: Abort>(rt: &R, alloc: Global, text: &str, refusals: &[Refusal]) {
+    are_refused(rt, alloc, &mut map_of(rt, alloc, text), refusals);
 }
 
 #[test]
-fn split_and_merged(rt: HostRuntime) -> Result<(), Fail> {
-    let mut map = map_of(&rt, rt.alloc(), SQUARES);
-    let done = split_and_merge(&rt, rt.alloc(), &mut map);
-    drop(map);
-    done
-}
-
-/// The hole at the corner stays, the other one goes.
-fn split_holes<R: Abort>(rt: &R, alloc: Global, map: &mut Map<'_, ListIndex>) -> Result<(), Fail> {
-    let made = cut(rt, alloc, map, 0, &[(10, 10), (10, 0)]);
-    assert_eq!(rt; made, Ok(1));
-    let left: &[(i64, i64)] = &[(0, 0), (10, 0), (10, 10), (0, 10)];
-    let right: &[(i64, i64)] = &[(10, 0), (20, 0), (20, 10), (10, 10)];
-    let far: &[(i64, i64)] = &[(14, 4), (14, 6), (16, 6), (16, 4)];
-    assert!(rt; has_rings(rt, map, 0, &[left, &[(0, 0), (2, 4), (4, 2)]])?);
-    assert!(rt; has_rings(rt, map, 1, &[right, far])?);
-    Ok(())
-}
-
-#[test]
-fn holes_go_with_their_part(rt: HostRuntime) -> Result<(), Fail> {
-    let mut map = map_of(&rt, rt.alloc(), HOLES);
-    let done = split_holes(&rt, rt.alloc(), &mut map);
-    drop(map);
-    done
-}
-
-/// The feature has this id after it was given the text.
-fn rename_to<R: Abort>(rt: &R, map: &mut Map<'_, ListIndex>, id: IdText, want: &str) {
-    assert_eq!(rt; rename(map, 1, id), Ok(()));
-    let Some(feature) = map.feature(1) else {
-        panic!(rt; "it is there");
-    };
-    assert!(rt; feature.id() == Some(want.as_bytes()));
-}
-
-// the text that serde_json 1.0 writes
-#[test]
-fn an_id_is_escaped(rt: HostRuntime) -> Result<(), Fail> {
-    let id = IdText(String::from_str(
+fn edits_are_refused(rt: HostRuntime) {
+    refuse(&rt, rt.alloc(), TWO_SQUARES, REFUSED);
+    refuse(&rt, rt.alloc(), ALONE, REFUSED_ALONE);
+    refuse(
+        &rt,
         rt.alloc(),
-        "a\"/\\\n\t\u{8}\u{c}\r\u{1}\u{1f}\u{7f}\u{e9}\u{20ac}\u{1f5fa}",
-    )?);
-    let want = "\"a\\\"/\\\\\\n\\t\\b\\f\\r\\u0001\\u001f\u{7f}\u{e9}\u{20ac}\u{1f5fa}\"";
-    let mut map = map_of(&rt, rt.alloc(), SQUARES);
-    rename_to(&rt, &mut map, id, want);
-    drop(map);
-    Ok(())
+        NULL,
+        &[("merge 0 1", "Err(NotOnePolygon)")],
+    );
+    refuse(&rt, rt.alloc(), GAP, &[("merge 0 1", "Err(Runs { n: 2 })")]);
+    refuse(&rt, rt.alloc(), TOUCHING, &[("merge 0 1", TOUCHED)]);
+    refuse(&rt, rt.alloc(), UNION, &[("merge 0 2", "Err(SameSide)")]);
+}
+
+/// The position at which neighbours also touch.
+const TOUCHED: &str = "Err(CommonElse { pos: Pos { x: 0, y: 4 } })";
+
+/// The rings of a feature's polygon, the outer one first, by its number.
+type Rings = (u32, &'static [&'static [(i64, i64)]]);
+
+/// A line, its answer, how many features, vertices and segments there are then and the next number,
+/// and the rings of some features.
+struct Step {
+    line: &'static str,
+    answer: &'static str,
+    counts: (usize, usize, usize, u32),
+    rings: &'static [Rings],
+}
+
+/// A square is split, and joined again.
+const SPLIT_AND_MERGED: &[Step] = &[
+    Step {
+        line: "split 0 \"new\" 0 0 5 2 10 10",
+        answer: "Ok(2)",
+        counts: (3, 7, 9, 3),
+        rings: &[
+            (0, &[&[(0, 0), (10, 0), (10, 10), (5, 2)]]),
+            (2, &[&[(0, 0), (5, 2), (10, 10), (0, 10)]]),
+        ],
+    },
+    Step {
+        line: "merge 0 2",
+        answer: "Ok(0)",
+        counts: (2, 6, 7, 3),
+        rings: &[(0, &[&[(0, 0), (10, 0), (10, 10), (0, 10)]])],
+    },
+];
+
+/// The hole at the corner stays, the other one goes with its part.
+const HOLES_SPLIT: &[Step] = &[Step {
+    line: "split 0 \"new\" 10 10 10 0",
+    answer: "Ok(1)",
+    counts: (2, 12, 14, 2),
+    rings: &[
+        (
+            0,
+            &[
+                &[(0, 0), (10, 0), (10, 10), (0, 10)],
+                &[(0, 0), (2, 4), (4, 2)],
+            ],
+        ),
+        (
+            1,
+            &[
+                &[(10, 0), (20, 0), (20, 10), (10, 10)],
+                &[(14, 4), (14, 6), (16, 6), (16, 4)],
+            ],
+        ),
+    ],
+}];
+
+/// A feature goes.
+const DELETED: &[Step] = &[Step {
+    line: "delete 1",
+    answer: "Ok(0)",
+    counts: (1, 4, 4, 2),
+    rings: &[(0, &[&[(0, 0), (10, 0), (10, 10), (0, 10)]])],
+}];
+
+/// Whether the feature has one polygon, of these rings.
+fn has_rings<R: Abort, I: SegIndex>(rt: &R, map: &Map<'_, I>, (f, rings): &Rings) -> bool {
+    for (n, ring) in rings.iter().enumerate() {
+        if !has_ring(rt, map, *f, 0, n, *ring) {
+            return false;
+        }
+    }
+    map.ring(*f, 0, rings.len()).is_none() && map.ring(*f, 1, 0).is_none()
+}
+
+/// The line is answered, and the map is as it is to be then.
+fn see_step<R: Abort, I: SegIndex>(rt: &R, alloc: Global, map: &mut Map<'_, I>, step: &Step) {
+    answers(rt, alloc, map, step.line, step.answer);
+    let (features, vertices) = (map.feature_count(), map.vertex_count());
+    let (segments, next) = (map.segment_count(), map.next_number());
+    holds(
+        rt,
+        step.line,
+        (features, vertices, segments, next) == step.counts,
+    );
+    for rings in step.rings {
+        holds(rt, step.line, has_rings(rt, map, rings));
+    }
+}
+
+/// The steps are taken on the map of this text, one after another. Gives the map.
+fn see<'a, R: Abort>(rt: &R, alloc: Global, text: &'a str, steps: &[Step]) -> Map<'a, ListIndex> {
+    let mut map = map_of(rt, alloc, text);
+    for step in steps {
+        see_step(rt, alloc, &mut map, step);
+    }
+    map
+}
+
+#[test]
+fn features_are_split_and_merged(rt: HostRuntime) {
+    see(&rt, rt.alloc(), TWO_SQUARES, SPLIT_AND_MERGED);
+    see(&rt, rt.alloc(), HOLES, HOLES_SPLIT);
 }
 
 /// Whether the layer is one collection of as many features.
@@ -308,33 +243,31 @@ fn has_features<I: SegIndex>(map: &Map<'_, I>, layer: usize, count: usize) -> bo
     opened == 1 && closed == 1 && leaves == count
 }
 
-/// A feature leaves its collection.
-fn delete_a_square<R: Abort>(rt: &R, map: &mut Map<'_, ListIndex>) {
-    assert_eq!(rt; delete(map, 1), Ok(()));
-    assert!(rt; has_features(map, 0, 1));
-    assert_eq!(rt; map.vertex_count(), 4);
-    assert_eq!(rt; map.segment_count(), 4);
-}
-
+/// A feature leaves its collection, and a layer's own geometry leaves an empty one.
 #[test]
 fn features_are_deleted(rt: HostRuntime) {
-    let mut map = map_of(&rt, rt.alloc(), SQUARES);
-    delete_a_square(&rt, &mut map);
-    drop(map);
+    let square = see(&rt, rt.alloc(), TWO_SQUARES, DELETED);
+    let was_alone = !has_features(&map_of(&rt, rt.alloc(), ALONE), 1, 0);
+    let layer = see(&rt, rt.alloc(), ALONE, DELETED);
+    let are_left = has_features(&square, 0, 1) && has_features(&layer, 1, 0);
+    holds(&rt, "an empty collection is left", was_alone && are_left);
 }
 
-/// A layer's own geometry leaves an empty collection.
-fn delete_a_layer<R: Abort>(rt: &R, map: &mut Map<'_, ListIndex>) {
-    assert!(rt; !has_features(map, 1, 0));
-    assert_eq!(rt; delete(map, 1), Ok(()));
-    assert!(rt; has_features(map, 1, 0));
-    assert_eq!(rt; map.feature_count(), 1);
-    assert_eq!(rt; map.vertex_count(), 4);
+/// A text, and what serde_json 1.0 writes for it.
+const ESCAPED: (&str, &str) = (
+    "a\"/\\\n\t\u{8}\u{c}\r\u{1}\u{1f}\u{7f}\u{e9}\u{20ac}\u{1f5fa}",
+    "\"a\\\"/\\\\\\n\\t\\b\\f\\r\\u0001\\u001f\u{7f}\u{e9}\u{20ac}\u{1f5fa}\"",
+);
+
+/// The second feature has its id after it was given the text.
+fn rename_escaped<R: Abort>(rt: &R, alloc: Global, map: &mut Map<'_, ListIndex>) {
+    let id = IdText(String::from_str(alloc, ESCAPED.0).expect(rt, MEMORY));
+    let renamed = rename(map, 1, id);
+    let feature = map.feature(1).expect(rt, "it is there");
+    assert!(rt; renamed == Ok(()) && feature.id() == Some(ESCAPED.1.as_bytes()));
 }
 
 #[test]
-fn a_layer_is_deleted(rt: HostRuntime) {
-    let mut map = map_of(&rt, rt.alloc(), ALONE);
-    delete_a_layer(&rt, &mut map);
-    drop(map);
+fn an_id_is_escaped(rt: HostRuntime) {
+    rename_escaped(&rt, rt.alloc(), &mut map_of(&rt, rt.alloc(), TWO_SQUARES));
 }

@@ -1,22 +1,18 @@
-//! Tests of the store: the same edits beside those of plain rings, growths that are refused, edits of
-//! features, and how few pairs of segments an edit tests.
+//! Tests of the store and of the editor over it, on worked maps: edits of features, histories, growths
+//! that are refused, copies, and how few pairs of segments an edit tests.
 #![tactic(auto)]
 
 #[cfg(test)]
-mod columbus;
-#[cfg(test)]
-mod compared;
-#[cfg(test)]
 mod copies;
-#[cfg(test)]
-mod counted;
 #[cfg(test)]
 mod features;
 #[cfg(test)]
-mod made;
+mod histories;
 #[cfg(test)]
-mod opened;
+mod maps;
 #[cfg(test)]
-mod refusals;
+mod opening;
 #[cfg(test)]
-mod refused_features;
+mod refused;
+#[cfg(test)]
+mod shown;

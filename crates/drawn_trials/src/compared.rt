@@ -4,41 +4,35 @@ ghost use Rattle.std.specs.Prelude.{◌≡◌};
 ghost use Rattle.std.specs.FinSet as set;
 
 use crate::columbus::COLUMBUS;
-use crate::made::{Cells, Drawn, cells_text};
+use crate::made::{Cells, Numbers, cells_text};
+use crate::opening::{MEMORY, at, built, grid, holds, read_text};
 use arc_store::{EditFault, Map};
 use edit_vertex::{insert_vertex, move_vertex, remove_vertex, thin};
 use grid_geometry::{Pos, Rect};
 use plain_rings::{EditFault as PlainFault, PlainMap};
-use segment_index::{GridIndex, ListIndex, SegIndex};
-use std::alloc::{AllocError, Allocator, Global};
+use segment_index::{ListIndex, SegIndex};
+use std::alloc::Global;
 use std::process::Abort;
-use std::test::Fail;
-use topo_reader::read;
 
-// two squares with a common side, and above them a layer that is their union
-const UNION_ABOVE: &str =
-    "{\"type\":\"Topology\",\"objects\":{\"land\":{\"type\":\"GeometryCollection\",\"geometries\":[{\"type\":\"Polygon\",\"id\":\"A\",\"arcs\":[[0,1]]},{\"arcs\":[[-1,2]],\"type\":\"Polygon\",\"id\":\"B\"}]},\"state\":{\"type\":\"Polygon\",\"arcs\":[[1,2]]}},\"arcs\":[[[10,0],[10,10]],[[10,10],[0,10],[0,0],[10,0]],[[10,0],[20,0],[20,10],[10,10]]]}";
+/// Two squares with a common side, and above them a layer that is their union.
+pub(crate) const UNION_ABOVE: &str =
+    r#"{"type":"Topology","objects":{"land":{"type":"GeometryCollection","geometries":[{"type":"Polygon","id":"A","arcs":[[0,1]]},{"arcs":[[-1,2]],"type":"Polygon","id":"B"}]},"state":{"type":"Polygon","arcs":[[1,2]]}},"arcs":[[[10,0],[10,10]],[[10,10],[0,10],[0,0],[10,0]],[[10,0],[20,0],[20,10],[10,10]]]}"#;
 
-// a polygon with a hole at its corner, and another hole that turns right
+/// A polygon with a hole at its corner, and another hole that turns right.
 const HOLES: &str =
-    "{\"type\":\"Topology\",\"objects\":{\"h\":{\"type\":\"GeometryCollection\",\"geometries\":[{\"type\":\"Polygon\",\"arcs\":[[0],[1],[2]]}]}},\"arcs\":[[[0,0],[10,0],[20,0],[20,10],[10,10],[0,10],[0,0]],[[0,0],[2,4],[4,2],[0,0]],[[14,4],[14,6],[16,6],[16,4],[14,4]]]}";
+    r#"{"type":"Topology","objects":{"h":{"type":"GeometryCollection","geometries":[{"type":"Polygon","arcs":[[0],[1],[2]]}]}},"arcs":[[[0,0],[10,0],[20,0],[20,10],[10,10],[0,10],[0,0]],[[0,0],[2,4],[4,2],[0,0]],[[14,4],[14,6],[16,6],[16,4],[14,4]]]}"#;
 
-// two neighbours with a gap between them
+/// Two neighbours with a gap between them.
 const TWO_RUNS: &str =
-    "{\"type\":\"Topology\",\"objects\":{\"l\":{\"type\":\"GeometryCollection\",\"geometries\":[{\"type\":\"Polygon\",\"arcs\":[[0,1,2,3]]},{\"type\":\"Polygon\",\"arcs\":[[-1,4,-3,5]]}]}},\"arcs\":[[[10,0],[10,3]],[[10,3],[8,5],[10,7]],[[10,7],[10,10]],[[10,10],[0,10],[0,0],[10,0]],[[10,0],[20,0],[20,10],[10,10]],[[10,7],[12,5],[10,3]]]}";
+    r#"{"type":"Topology","objects":{"l":{"type":"GeometryCollection","geometries":[{"type":"Polygon","arcs":[[0,1,2,3]]},{"type":"Polygon","arcs":[[-1,4,-3,5]]}]}},"arcs":[[[10,0],[10,3]],[[10,3],[8,5],[10,7]],[[10,7],[10,10]],[[10,10],[0,10],[0,0],[10,0]],[[10,0],[20,0],[20,10],[10,10]],[[10,7],[12,5],[10,3]]]}"#;
 
-/// An edit of one vertex.
-#[derive(Clone, Copy, Debug)]
-pub(crate) enum Edit {
+/// An edit of one vertex, or a thinning of all.
+#[derive(Clone, Copy)]
+enum Edit {
     Move(Pos, Pos),
     Insert(Pos, Pos, Pos),
     Remove(Pos),
     Thin(u32),
-}
-
-/// The position, which is in range.
-pub(crate) fn at<R: Abort>(rt: &R, x: i64, y: i64) -> Pos {
-    Pos::new(x, y).expect(rt, "in range")
 }
 
 /// Where edits are drawn.
@@ -75,19 +69,19 @@ const REAL: Field = Field {
 };
 
 /// A position of the field.
-fn drawn_position<R: Abort>(rt: &R, field: &Field, drawn: &mut Drawn) -> Pos {
+fn drawn_position<R: Abort>(rt: &R, field: &Field, drawn: &mut Numbers) -> Pos {
     let x = drawn.from(field.left, field.width);
     let y = drawn.from(field.low, field.height);
     at(rt, x, y)
 }
 
 /// A bound of a thinning.
-fn drawn_bound(field: &Field, drawn: &mut Drawn) -> u32 {
+fn drawn_bound(field: &Field, drawn: &mut Numbers) -> u32 {
     u32::try_from(drawn.below(u64::from(field.flat))).unwrap_or(0)
 }
 
 /// A position near this one.
-fn drawn_near<R: Abort>(rt: &R, field: &Field, p: Pos, drawn: &mut Drawn) -> Pos {
+fn drawn_near<R: Abort>(rt: &R, field: &Field, p: Pos, drawn: &mut Numbers) -> Pos {
     let step = i64::from(field.step);
     let count = field.step.saturating_mul(2).saturating_add(1);
     let x = p
@@ -102,7 +96,7 @@ fn drawn_near<R: Abort>(rt: &R, field: &Field, p: Pos, drawn: &mut Drawn) -> Pos
 }
 
 /// A ring of the map, and a place in it.
-fn drawn_place(plain: &PlainMap<'_>, drawn: &mut Drawn) -> Option<(Pos, Pos)> {
+fn drawn_place(plain: &PlainMap<'_>, drawn: &mut Numbers) -> Option<(Pos, Pos)> {
     let features = plain.polygons();
     let polygons = features.get(drawn.below(features.len() as u64) as usize)?;
     let rings = polygons.get(drawn.below(polygons.len() as u64) as usize)?;
@@ -116,7 +110,7 @@ fn drawn_place(plain: &PlainMap<'_>, drawn: &mut Drawn) -> Option<(Pos, Pos)> {
 }
 
 /// An edit that may be accepted or refused.
-fn drawn_edit<R: Abort>(rt: &R, field: &Field, plain: &PlainMap<'_>, drawn: &mut Drawn) -> Edit {
+fn drawn_edit<R: Abort>(rt: &R, field: &Field, plain: &PlainMap<'_>, drawn: &mut Numbers) -> Edit {
     let other = drawn_position(rt, field, drawn);
     let (p, next) = match drawn_place(plain, drawn) {
         Some(place) => place,
@@ -175,10 +169,7 @@ fn plain_answer(plain: &mut PlainMap<'_>, edit: Edit) -> Result<u64, EditFault> 
 }
 
 /// What the edit is answered; of a thinning, how many vertices went.
-pub(crate) fn answer<I: SegIndex, A: Allocator + Copy>(
-    map: &mut Map<'_, I, A>,
-    edit: Edit,
-) -> Result<u64, EditFault> {
+fn answer<I: SegIndex>(map: &mut Map<'_, I>, edit: Edit) -> Result<u64, EditFault> {
     let answer = match edit {
         Edit::Move(p, q) => move_vertex(map, p, q),
         Edit::Insert(a, b, q) => insert_vertex(map, a, b, q),
@@ -197,8 +188,8 @@ pub(crate) fn answer<I: SegIndex, A: Allocator + Copy>(
 }
 
 /// Whether the ring of these numbers has these positions, from the least one on.
-fn is_ring<I: SegIndex, A: Allocator + Copy>(
-    map: &Map<'_, I, A>,
+fn is_ring<I: SegIndex>(
+    map: &Map<'_, I>,
     feature: u32,
     polygon: usize,
     ring: usize,
@@ -217,8 +208,8 @@ fn is_ring<I: SegIndex, A: Allocator + Copy>(
 }
 
 /// Whether the polygon of these numbers has these rings.
-fn is_polygon<I: SegIndex, A: Allocator + Copy>(
-    map: &Map<'_, I, A>,
+fn is_polygon<I: SegIndex>(
+    map: &Map<'_, I>,
     feature: u32,
     polygon: usize,
     rings: &[Vec<Pos>],
@@ -232,10 +223,7 @@ fn is_polygon<I: SegIndex, A: Allocator + Copy>(
 }
 
 /// Whether the map has these rings.
-pub(crate) fn has_rings<I: SegIndex, A: Allocator + Copy>(
-    map: &Map<'_, I, A>,
-    features: &[Vec<Vec<Vec<Pos>>>],
-) -> bool {
+fn has_rings<I: SegIndex>(map: &Map<'_, I>, features: &[Vec<Vec<Vec<Pos>>>]) -> bool {
     let mut feature = 0u32;
     for polygons in features {
         for (n, rings) in polygons.iter().enumerate() {
@@ -249,100 +237,70 @@ pub(crate) fn has_rings<I: SegIndex, A: Allocator + Copy>(
 }
 
 /// How many vertices the map lists.
-pub(crate) fn vertex_total<I: SegIndex, A: Allocator + Copy>(
-    map: &Map<'_, I, A>,
-) -> Result<usize, AllocError> {
-    let vertices = map.vertices()?;
-    let total = vertices.len();
-    drop(vertices);
-    Ok(total)
+fn vertex_total<R: Abort, I: SegIndex>(rt: &R, map: &Map<'_, I>) -> usize {
+    map.vertices().expect(rt, MEMORY).len()
 }
 
-/// How many of the edits were answered so.
-#[derive(Clone, Copy, Debug, PartialEq, Eq)]
+/// How many edits were answered so.
+#[derive(Clone, Copy)]
 struct Tally {
-    accepted: usize,
-    refused: usize,
-    conflicts: usize,
-    sweeps: usize,
+    accepted: u32,
+    refused: u32,
+    conflicts: u32,
     /// How many vertices the thinnings left out.
     thinned: u64,
 }
 
-impl Tally {
-    /// Counts an edit that was answered so.
-    fn count(&mut self, answer: Result<u64, EditFault>) {
-        match answer {
-            Ok(gone) => {
-                self.accepted = self.accepted.wrapping_add(1);
-                self.thinned = self.thinned.wrapping_add(gone);
-            }
-            Err(EditFault::Conflict { .. }) => self.conflicts = self.conflicts.wrapping_add(1),
-            Err(EditFault::Sweeps) => self.sweeps = self.sweeps.wrapping_add(1),
-            Err(_) => self.refused = self.refused.wrapping_add(1),
+/// One more edit was answered so.
+fn counted(mut tally: Tally, answer: Result<u64, EditFault>) -> Tally {
+    match answer {
+        Ok(gone) => {
+            tally.accepted = tally.accepted.wrapping_add(1);
+            tally.thinned = tally.thinned.wrapping_add(gone);
         }
+        Err(EditFault::Conflict { .. }) => tally.conflicts = tally.conflicts.wrapping_add(1),
+        Err(EditFault::Sweeps) => (),
+        Err(_) => tally.refused = tally.refused.wrapping_add(1),
     }
+    tally
 }
 
-/// Makes drawn edits of both maps, and compares answers and rings. Gives how they were answered.
+/// Makes the edit of both maps, and compares answers and rings.
+fn compare_edit<R: Abort, I: SegIndex>(
+    rt: &R,
+    plain: &mut PlainMap<'_>,
+    map: &mut Map<'_, I>,
+    edit: Edit,
+    n: u32,
+) -> Result<u64, EditFault> {
+    let (wanted, found) = (plain_answer(plain, edit), answer(map, edit));
+    assert!(rt; found == wanted, "answer {n}");
+    assert!(rt; has_rings(map, plain.polygons()), "rings {n}");
+    assert!(rt; vertex_total(rt, map) == map.vertex_count());
+    found
+}
+
+/// Makes drawn edits of both maps, and gives how they were answered.
 fn compare<R: Abort, I: SegIndex>(
     rt: &R,
     plain: &mut PlainMap<'_>,
     map: &mut Map<'_, I>,
     field: &Field,
     start: u64,
-    count: u32,
-) -> Result<Tally, Fail> {
-    let mut drawn = Drawn::new(start);
+) -> Tally {
+    assert!(rt; has_rings(map, plain.polygons()), "at the start");
+    let mut drawn = Numbers::new(start);
     let mut tally = Tally {
         accepted: 0,
         refused: 0,
         conflicts: 0,
-        sweeps: 0,
         thinned: 0,
     };
-    for n in 0..count {
+    for n in 0..300u32 {
         let edit = drawn_edit(rt, field, plain, &mut drawn);
-        let want = plain_answer(plain, edit);
-        let got = answer(map, edit);
-        assert_eq!(rt; got, want, "edit {n} from {start}: {edit:?}");
-        assert!(rt;
-            has_rings(map, plain.polygons()),
-            "after edit {n} from {start}: {edit:?}"
-        );
-        assert_eq!(rt; vertex_total(map)?, map.vertex_count());
-        tally.count(got);
+        tally = counted(tally, compare_edit(rt, plain, map, edit, n));
     }
-    Ok(tally)
-}
-
-/// The plain map of the text.
-pub(crate) fn plain_map<'a, R: Abort>(rt: &R, alloc: Global, text: &'a str) -> PlainMap<'a> {
-    match read(alloc, alloc, text.as_bytes()) {
-        Ok(raw) => match PlainMap::build(alloc, raw) {
-            Ok(plain) => plain,
-            Err(_) => panic!(rt; "no two segments conflict"),
-        },
-        Err(_) => panic!(rt; "the text opens"),
-    }
-}
-
-/// The map of the text.
-pub(crate) fn stored_map<'a, R: Abort, I: SegIndex>(
-    rt: &R,
-    alloc: Global,
-    text: &'a str,
-    index: I,
-) -> Map<'a, I>
-    requires { I.held index ≡ set.empty }
-{
-    match read(alloc, alloc, text.as_bytes()) {
-        Ok(raw) => match Map::build(alloc, raw, index) {
-            Ok(map) => map,
-            Err(_) => panic!(rt; "no two segments conflict"),
-        },
-        Err(_) => panic!(rt; "the text opens"),
-    }
+    tally
 }
 
 /// Compares drawn edits of the map of this text.
@@ -353,61 +311,61 @@ fn compare_text<R: Abort, I: SegIndex>(
     index: I,
     field: &Field,
     start: u64,
-    count: u32,
-) -> Result<Tally, Fail>
+) -> Tally
     requires { I.held index ≡ set.empty }
 {
-    let mut plain = plain_map(rt, alloc, text);
-    let mut map = stored_map(rt, alloc, text, index);
-    assert!(rt; has_rings(&map, plain.polygons()), "at the start");
-    let tally = compare(rt, &mut plain, &mut map, field, start, count);
-    drop(map);
-    drop(plain);
-    tally
+    let raw = read_text(rt, alloc, text.as_bytes());
+    let mut plain = PlainMap::build(alloc, raw).expect(rt, "no two segments conflict");
+    let raw = read_text(rt, alloc, text.as_bytes());
+    let mut map = built(rt, alloc, raw, index);
+    compare(rt, &mut plain, &mut map, field, start)
 }
 
 /// Compares drawn edits of the map of this text over a list and over a grid.
-fn compare_both<R: Abort>(rt: &R, alloc: Global, text: &str, start: u64) -> Result<(), Fail> {
-    let list = ListIndex::new(alloc);
-    let tally = compare_text(rt, alloc, text, list, &SMALL, start, 300)?;
-    assert!(rt;
-        20 < tally.accepted && 20 < tally.refused,
-        "{start}: {tally:?}"
-    );
-    let grid = GridIndex::new(alloc, Rect::new(0, 0, 24, 16))?;
-    compare_text(rt, alloc, text, grid, &SMALL, start.wrapping_add(10), 300)?;
-    Ok(())
+fn compare_both<R: Abort>(rt: &R, alloc: Global, text: &str, start: u64) {
+    let tally = compare_text(rt, alloc, text, ListIndex::new(alloc), &SMALL, start);
+    assert!(rt; 20 < tally.accepted && 20 < tally.refused, "{start}");
+    let grid = grid(rt, alloc, Rect::new(0, 0, 24, 16));
+    compare_text(rt, alloc, text, grid, &SMALL, start.wrapping_add(10));
 }
 
 #[test]
-fn the_same_as_plain_rings(rt: HostRuntime) -> Result<(), Fail> {
-    let alloc = rt.alloc();
-    compare_both(&rt, alloc, UNION_ABOVE, 0)?;
-    compare_both(&rt, alloc, HOLES, 1)?;
-    compare_both(&rt, alloc, TWO_RUNS, 2)
+fn the_same_as_plain_rings(rt: HostRuntime) {
+    compare_both(&rt, rt.alloc(), UNION_ABOVE, 0);
+    compare_both(&rt, rt.alloc(), HOLES, 1);
+    compare_both(&rt, rt.alloc(), TWO_RUNS, 2);
 }
 
+/// Small cells whose sides are broken.
+const CELLS: Cells = Cells {
+    columns: 3,
+    rows: 2,
+    parts: 2,
+    step: 4,
+    gap: 0,
+    has_ids: false,
+};
+
 #[test]
-fn the_same_on_cells(rt: HostRuntime) -> Result<(), Fail> {
-    let cells = Cells {
-        columns: 3,
-        rows: 2,
-        parts: 2,
-        step: 4,
-    };
-    let made = cells_text(rt.alloc(), cells)?;
-    let compared = compare_both(&rt, rt.alloc(), made.as_str(), 3);
-    drop(made);
-    compared
+fn the_same_on_cells(rt: HostRuntime) {
+    let text = cells_text(&rt, rt.alloc(), &CELLS);
+    compare_both(&rt, rt.alloc(), text.as_str(), 3);
 }
 
 /// Edits of a part of a real map.
 #[test]
-fn the_same_on_a_real_map(rt: HostRuntime) -> Result<(), Fail> {
-    let alloc = rt.alloc();
-    let grid = GridIndex::new(alloc, Rect::new(356_039, 290_608, 882_173, 730_496))?;
-    let tally = compare_text(&rt, alloc, COLUMBUS, grid, &REAL, 20, 300)?;
-    assert!(rt; 50 < tally.accepted && 20 < tally.refused, "{tally:?}");
-    assert!(rt; 0 < tally.conflicts && 0 < tally.thinned, "{tally:?}");
-    Ok(())
+fn the_same_on_a_real_map(rt: HostRuntime) {
+    let extent = Rect::new(356_039, 290_608, 882_173, 730_496);
+    let grid = grid(&rt, rt.alloc(), extent);
+    let tally = compare_text(&rt, rt.alloc(), COLUMBUS, grid, &REAL, 20);
+    holds(
+        &rt,
+        "many are accepted",
+        50 < tally.accepted && 0 < tally.thinned,
+    );
+    holds(
+        &rt,
+        "many are refused",
+        20 < tally.refused && 0 < tally.conflicts,
+    );
 }
