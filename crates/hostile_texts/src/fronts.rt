@@ -4,7 +4,7 @@
 use crate::characters::Numbers;
 
 /// Why bytes are not a JSON text.
-#[derive(Clone, Copy, Debug, PartialEq, Eq)]
+#[derive(Clone, Copy)]
 pub(crate) enum Stop {
     /// They end where a text would go on.
     Ended,

@@ -1,6 +1,7 @@
 // JSON texts that are drawn one after another, the same in each run.
 use crate::pieces::{CHARACTERS, LITERALS, NUMBER_PARTS, SPACES};
 use std::alloc::{AllocError, Global};
+use std::process::Abort;
 
 /// A source of numbers: a linear congruence modulo 2^64, of which the upper half is drawn.
 #[derive(Drop)]
@@ -31,7 +32,7 @@ impl Draws {
     }
 
     fn put_number(&mut self, out: &mut Vec<u8>) -> Result<(), AllocError> {
-        for pieces in &NUMBER_PARTS[..] {
+        for pieces in NUMBER_PARTS {
             self.put_one(out, pieces)?;
         }
         Ok(())
@@ -40,16 +41,16 @@ impl Draws {
     fn put_string(&mut self, out: &mut Vec<u8>) -> Result<(), AllocError> {
         out.push(b'"')?;
         for _ in 0..self.draw() % 4 {
-            self.put_one(out, &CHARACTERS)?;
+            self.put_one(out, CHARACTERS)?;
         }
         out.push(b'"')?;
         Ok(())
     }
 
     fn put_name(&mut self, out: &mut Vec<u8>) -> Result<(), AllocError> {
-        self.put_one(out, &SPACES)?;
+        self.put_one(out, SPACES)?;
         self.put_string(out)?;
-        self.put_one(out, &SPACES)?;
+        self.put_one(out, SPACES)?;
         out.push(b':')?;
         Ok(())
     }
@@ -58,7 +59,7 @@ impl Draws {
         match self.draw() % 3 {
             0 => self.put_number(out),
             1 => self.put_string(out),
-            _ => self.put_one(out, &LITERALS),
+            _ => self.put_one(out, LITERALS),
         }
     }
 
@@ -73,10 +74,10 @@ impl Draws {
 
     /// Appends a value with at most so many lists and objects one in another.
     fn put_value(&mut self, out: &mut Vec<u8>, depth: usize) -> Result<(), AllocError> {
-        self.put_one(out, &SPACES)?;
+        self.put_one(out, SPACES)?;
         if depth == 0 || self.draw() % 3 == 0 {
             self.put_scalar(out)?;
-            return self.put_one(out, &SPACES);
+            return self.put_one(out, SPACES);
         }
         let (open, close) = self.brackets();
         out.push(open)?;
@@ -90,13 +91,13 @@ impl Draws {
             self.put_value(out, depth - 1)?;
         }
         out.push(close)?;
-        self.put_one(out, &SPACES)
+        self.put_one(out, SPACES)
     }
 
     /// The next text.
-    pub(crate) fn text(&mut self, alloc: Global) -> Result<Vec<u8>, AllocError> {
+    pub(crate) fn text<R: Abort>(&mut self, rt: &R, alloc: Global) -> Vec<u8> {
         let mut out = Vec::new(alloc);
-        self.put_value(&mut out, 3)?;
-        Ok(out)
+        self.put_value(&mut out, 3).expect(rt, "memory");
+        out
     }
 }

@@ -19,8 +19,6 @@ mod memory;
 #[cfg(test)]
 mod names;
 #[cfg(test)]
-mod names_of_one_hash;
-#[cfg(test)]
 mod pieces;
 #[cfg(test)]
 mod places;

@@ -1,22 +1,22 @@
 // What numbers and strings are made of, in each form (RFC 8259, sections 6 and 7).
 
-pub(crate) const SIGNS: [&[u8]; 2] = [b"", b"-"];
+pub(crate) const SIGNS: &[&[u8]] = &[b"", b"-"];
 
-pub(crate) const WHOLES: [&[u8]; 4] = [b"0", b"7", b"10", b"9007199254740993"];
+pub(crate) const WHOLES: &[&[u8]] = &[b"0", b"7", b"10", b"9007199254740993"];
 
-pub(crate) const FRACTIONS: [&[u8]; 3] = [b"", b".0", b".25"];
+pub(crate) const FRACTIONS: &[&[u8]] = &[b"", b".0", b".25"];
 
-pub(crate) const POWERS: [&[u8]; 5] = [b"", b"e0", b"E7", b"e+12", b"E-3"];
+pub(crate) const POWERS: &[&[u8]] = &[b"", b"e0", b"E7", b"e+12", b"E-3"];
 
 /// The parts of a number, in order.
-pub(crate) const NUMBER_PARTS: [&[&[u8]]; 4] = [&SIGNS, &WHOLES, &FRACTIONS, &POWERS];
+pub(crate) const NUMBER_PARTS: &[&[&[u8]]] = &[SIGNS, WHOLES, FRACTIONS, POWERS];
 
-pub(crate) const LITERALS: [&[u8]; 3] = [b"true", b"false", b"null"];
+pub(crate) const LITERALS: &[&[u8]] = &[b"true", b"false", b"null"];
 
-pub(crate) const SPACES: [&[u8]; 5] = [b"", b"", b" ", b"\n", b"\t\r "];
+pub(crate) const SPACES: &[&[u8]] = &[b"", b"", b" ", b"\n", b"\t\r "];
 
 /// Characters of each length at both ends of their ranges, escapes, and halves of surrogate pairs.
-pub(crate) const CHARACTERS: [&[u8]; 34] = [
+pub(crate) const CHARACTERS: &[&[u8]] = &[
     b" ",
     b"a",
     b"[",

@@ -1,9 +1,8 @@
 // Places of faults, worked out by hand.
 use crate::texts::text_of;
 use crate::verdicts::{Verdict, agree, agree_on_cuts, says};
-use std::alloc::{AllocError, Global};
+use std::alloc::Global;
 use std::process::Abort;
-use std::test::Fail;
 
 /// That both the scan and the grammar say so of the text.
 fn is_said<R: Abort>(rt: &R, alloc: Global, text: &[u8], want: Verdict) {
@@ -18,7 +17,7 @@ fn say<R: Abort>(rt: &R, alloc: Global, rows: &[(&[u8], usize)]) {
     }
 }
 
-const NO_VALUE_OR_TWO: [(&[u8], usize); 17] = [
+const NO_VALUE_OR_TWO: &[(&[u8], usize)] = &[
     (b"", 0),
     (b"   ", 3),
     (b" \t\r\n", 4),
@@ -40,10 +39,10 @@ const NO_VALUE_OR_TWO: [(&[u8], usize); 17] = [
 
 #[test]
 fn no_value_or_two(rt: HostRuntime) {
-    say(&rt, rt.alloc(), &NO_VALUE_OR_TWO);
+    say(&rt, rt.alloc(), NO_VALUE_OR_TWO);
 }
 
-const IN_NUMBERS: [(&[u8], usize); 24] = [
+const IN_NUMBERS: &[(&[u8], usize)] = &[
     (b"-", 1),
     (b"--1", 1),
     (b"-x", 1),
@@ -72,10 +71,10 @@ const IN_NUMBERS: [(&[u8], usize); 24] = [
 
 #[test]
 fn in_numbers(rt: HostRuntime) {
-    say(&rt, rt.alloc(), &IN_NUMBERS);
+    say(&rt, rt.alloc(), IN_NUMBERS);
 }
 
-const IN_LITERALS: [(&[u8], usize); 9] = [
+const IN_LITERALS: &[(&[u8], usize)] = &[
     (b"nul", 3),
     (b"nulll", 4),
     (b"nan", 1),
@@ -89,10 +88,10 @@ const IN_LITERALS: [(&[u8], usize); 9] = [
 
 #[test]
 fn in_literals(rt: HostRuntime) {
-    say(&rt, rt.alloc(), &IN_LITERALS);
+    say(&rt, rt.alloc(), IN_LITERALS);
 }
 
-const IN_STRINGS: [(&[u8], usize); 17] = [
+const IN_STRINGS: &[(&[u8], usize)] = &[
     (b"\"", 1),
     (b"\"a", 2),
     (b"'a'", 0),
@@ -114,10 +113,10 @@ const IN_STRINGS: [(&[u8], usize); 17] = [
 
 #[test]
 fn in_strings(rt: HostRuntime) {
-    say(&rt, rt.alloc(), &IN_STRINGS);
+    say(&rt, rt.alloc(), IN_STRINGS);
 }
 
-const IN_LISTS_AND_OBJECTS: [(&[u8], usize); 25] = [
+const IN_LISTS_AND_OBJECTS: &[(&[u8], usize)] = &[
     (b"]", 0),
     (b"}", 0),
     (b",", 0),
@@ -147,11 +146,11 @@ const IN_LISTS_AND_OBJECTS: [(&[u8], usize); 25] = [
 
 #[test]
 fn in_lists_and_objects(rt: HostRuntime) {
-    say(&rt, rt.alloc(), &IN_LISTS_AND_OBJECTS);
+    say(&rt, rt.alloc(), IN_LISTS_AND_OBJECTS);
 }
 
 /// Overlong forms, surrogates, numbers past the last, and tails without a first byte (RFC 3629).
-const IN_CHARACTERS: [(&[u8], usize); 24] = [
+const IN_CHARACTERS: &[(&[u8], usize)] = &[
     (b"\"\x80\"", 1),
     (b"\"\xbf\"", 1),
     (b"\"\xc0\x80\"", 1),
@@ -180,11 +179,11 @@ const IN_CHARACTERS: [(&[u8], usize); 24] = [
 
 #[test]
 fn in_characters(rt: HostRuntime) {
-    say(&rt, rt.alloc(), &IN_CHARACTERS);
+    say(&rt, rt.alloc(), IN_CHARACTERS);
 }
 
 /// Texts at the edge of the grammar that are JSON.
-const AT_THE_EDGE: [&[u8]; 14] = [
+const AT_THE_EDGE: &[&[u8]] = &[
     b"-0",
     b"-0.0e-0",
     b"1E400",
@@ -203,13 +202,13 @@ const AT_THE_EDGE: [&[u8]; 14] = [
 
 #[test]
 fn json_at_the_edge(rt: HostRuntime) {
-    for text in &AT_THE_EDGE[..] {
+    for text in AT_THE_EDGE {
         is_said(&rt, rt.alloc(), text, Verdict::Json);
     }
 }
 
 /// A piece so many times, and then an end.
-const NESTED: [(&[u8], usize, &[u8], Verdict); 13] = [
+const NESTED: &[(&[u8], usize, &[u8], Verdict)] = &[
     (b"[", 100, b"", Verdict::NotJson(100)),
     (b"[", 101, b"", Verdict::TooDeep(100)),
     (b"[", 100, b"{", Verdict::TooDeep(100)),
@@ -226,28 +225,20 @@ const NESTED: [(&[u8], usize, &[u8], Verdict); 13] = [
 ];
 
 /// A hundred brackets that open, and as many that close.
-const CLOSED: [(&[u8], usize); 3] = [(b"[", 100), (b"]", 100), (b" ", 1)];
+const CLOSED: &[(&[u8], usize)] = &[(b"[", 100), (b"]", 100), (b" ", 1)];
 
 /// That the scan says so of the text of these pieces, and what it is to say of the text cut.
-fn pieces_say<R: Abort>(
-    rt: &R,
-    alloc: Global,
-    pieces: &[(&[u8], usize)],
-    want: Verdict,
-) -> Result<(), AllocError> {
-    let text = text_of(alloc, pieces)?;
+fn pieces_say<R: Abort>(rt: &R, alloc: Global, pieces: &[(&[u8], usize)], want: Verdict) {
+    let text = text_of(rt, alloc, pieces);
     says(rt, alloc, text.as_slice(), want);
     agree_on_cuts(rt, alloc, text.as_slice());
-    drop(text);
-    Ok(())
 }
 
 /// The bracket that opens level 101, and what comes before it.
 #[test]
-fn too_deep(rt: HostRuntime) -> Result<(), Fail> {
-    for (piece, times, end, want) in &NESTED[..] {
-        pieces_say(&rt, rt.alloc(), &[(*piece, *times), (*end, 1)], *want)?;
+fn too_deep(rt: HostRuntime) {
+    for (piece, times, end, want) in NESTED {
+        pieces_say(&rt, rt.alloc(), &[(*piece, *times), (*end, 1)], *want);
     }
-    pieces_say(&rt, rt.alloc(), &CLOSED, Verdict::Json)?;
-    Ok(())
+    pieces_say(&rt, rt.alloc(), CLOSED, Verdict::Json);
 }

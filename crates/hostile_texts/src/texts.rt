@@ -1,7 +1,7 @@
 // Texts of pieces, most of them far too long to be written out.
 use std::alloc::{AllocError, Global};
-use std::fmt::Write;
-use std::test::Fail;
+use std::fmt::{Result as Written, Write};
+use std::process::Abort;
 
 /// Appends the piece so many times.
 fn put_times(text: &mut Vec<u8>, piece: &[u8], times: usize) -> Result<(), AllocError> {
@@ -20,30 +20,35 @@ fn put_pieces(text: &mut Vec<u8>, pieces: &[(&[u8], usize)]) -> Result<(), Alloc
 }
 
 /// The text of these pieces, each so many times.
-pub(crate) fn text_of(alloc: Global, pieces: &[(&[u8], usize)]) -> Result<Vec<u8>, AllocError> {
+pub(crate) fn text_of<R: Abort>(rt: &R, alloc: Global, pieces: &[(&[u8], usize)]) -> Vec<u8> {
     let mut text = Vec::new(alloc);
-    put_pieces(&mut text, pieces)?;
-    Ok(text)
+    put_pieces(&mut text, pieces).expect(rt, "memory");
+    text
 }
 
-/// What stands round a number, and round all of them.
-pub(crate) struct Numbered {
-    pub(crate) front: &'static str,
-    pub(crate) before: &'static str,
-    /// The least number of digits.
-    pub(crate) width: usize,
-    pub(crate) after: &'static str,
-    pub(crate) end: &'static str,
-}
+/// What stands before all numbers, before each, behind each, and behind all; and the least number of
+/// digits.
+pub(crate) type Round = (
+    &'static str,
+    &'static str,
+    &'static str,
+    &'static str,
+    usize,
+);
 
 /// Appends the numbers from 0 on, so many.
-pub(crate) fn put_numbers(text: &mut String, round: &Numbered, count: usize) -> Result<(), Fail> {
-    text.push_str(round.front)?;
+fn put_numbers(text: &mut String, round: &Round, count: usize) -> Written {
+    let (front, before, after, end, width) = round;
+    text.write_str(front)?;
     for number in 0..count {
-        text.push_str(round.before)?;
-        write!(text, "{number:0width$}", width = round.width)?;
-        text.push_str(round.after)?;
+        write!(text, "{before}{number:0width$}{after}", width = *width)?;
     }
-    text.push_str(round.end)?;
-    Ok(())
+    text.write_str(end)
+}
+
+/// The text of so many numbers.
+pub(crate) fn numbers<R: Abort>(rt: &R, alloc: Global, round: &Round, count: usize) -> String {
+    let mut text = String::new(alloc);
+    put_numbers(&mut text, round, count).expect(rt, "memory");
+    text
 }

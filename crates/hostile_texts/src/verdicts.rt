@@ -7,7 +7,7 @@ use std::process::Abort;
 /// How many lists and objects may be open.
 const MAX_DEPTH: usize = 100;
 
-#[derive(Clone, Copy, Debug, PartialEq, Eq)]
+#[derive(Clone, Copy, PartialEq, Eq)]
 pub(crate) enum Verdict {
     Json,
     NotJson(usize),
@@ -20,7 +20,7 @@ pub(crate) enum Verdict {
 pub(crate) fn expected(bytes: &[u8]) -> Verdict {
     for place in 0..bytes.len() {
         let mut reader = Reader::new(&bytes[..place + 1]);
-        if reader.text() == Err(Stop::Wrong) {
+        if matches!(reader.text(), Err(Stop::Wrong)) {
             return Verdict::NotJson(place);
         }
         if reader.deepest() > MAX_DEPTH {
@@ -43,9 +43,19 @@ pub(crate) fn scanned(alloc: Global, bytes: &[u8]) -> Verdict {
     }
 }
 
+/// That it is so.
+pub(crate) fn holds<R: Abort>(rt: &R, what: &str, is_so: bool) {
+    assert!(rt; is_so, "{what}");
+}
+
+/// That it is so of the bytes.
+fn holds_of<R: Abort>(rt: &R, bytes: &[u8], is_so: bool) {
+    assert!(rt; is_so, "{bytes:?}");
+}
+
 /// That the scan says this of the bytes.
 pub(crate) fn says<R: Abort>(rt: &R, alloc: Global, bytes: &[u8], want: Verdict) {
-    assert_eq!(rt; scanned(alloc, bytes), want, "{bytes:?}");
+    holds_of(rt, bytes, scanned(alloc, bytes) == want);
 }
 
 /// That the scan says of the bytes what it is to say.
