@@ -303,6 +303,29 @@ fn compare<R: Abort, I: SegIndex>(
     tally
 }
 
+/// The plain map of the text.
+fn plain_map<'a, R: Abort>(rt: &R, alloc: Global, text: &'a str) -> PlainMap<'a> {
+    let raw = read_text(rt, alloc, text.as_bytes());
+    PlainMap::build(alloc, raw).expect(rt, "no two segments conflict")
+}
+
+/// Compares drawn edits of the plain map of this text and of its map.
+fn compare_with<R: Abort, I: SegIndex>(
+    rt: &R,
+    alloc: Global,
+    plain: &mut PlainMap<'_>,
+    text: &str,
+    index: I,
+    field: &Field,
+    start: u64,
+) -> Tally
+    requires { I.held index ≡ set.empty }
+{
+    let raw = read_text(rt, alloc, text.as_bytes());
+    let mut map = built(rt, alloc, raw, index);
+    compare(rt, plain, &mut map, field, start)
+}
+
 /// Compares drawn edits of the map of this text.
 fn compare_text<R: Abort, I: SegIndex>(
     rt: &R,
@@ -314,11 +337,8 @@ fn compare_text<R: Abort, I: SegIndex>(
 ) -> Tally
     requires { I.held index ≡ set.empty }
 {
-    let raw = read_text(rt, alloc, text.as_bytes());
-    let mut plain = PlainMap::build(alloc, raw).expect(rt, "no two segments conflict");
-    let raw = read_text(rt, alloc, text.as_bytes());
-    let mut map = built(rt, alloc, raw, index);
-    compare(rt, &mut plain, &mut map, field, start)
+    let mut plain = plain_map(rt, alloc, text);
+    compare_with(rt, alloc, &mut plain, text, index, field, start)
 }
 
 /// Compares drawn edits of the map of this text over a list and over a grid.

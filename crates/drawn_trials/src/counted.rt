@@ -28,18 +28,23 @@ const ROW: Cells = Cells {
     has_ids: false,
 };
 
-#[test]
-fn two_squares(rt: HostRuntime) {
-    let text = cells_text(&rt, rt.alloc(), &TWO);
-    let raw = read_text(&rt, rt.alloc(), text.as_bytes());
-    let map = built(&rt, rt.alloc(), raw, ListIndex::new(rt.alloc()));
-    has_counts(&rt, &map, (6, 7, 8));
-}
-
 /// The map has so many vertices, segments and positions.
 fn has_counts<R: Abort>(rt: &R, map: &Map<'_, ListIndex>, counts: (usize, usize, usize)) {
     let (vertices, segments) = (map.vertex_count(), map.segment_count());
     assert!(rt; (vertices, segments, map.position_count()) == counts);
+}
+
+/// The map of this text has as many, in a list.
+fn text_has_counts<R: Abort>(rt: &R, alloc: Global, text: &[u8], counts: (usize, usize, usize)) {
+    let raw = read_text(rt, alloc, text);
+    let map = built(rt, alloc, raw, ListIndex::new(alloc));
+    has_counts(rt, &map, counts);
+}
+
+#[test]
+fn two_squares(rt: HostRuntime) {
+    let text = cells_text(&rt, rt.alloc(), &TWO);
+    text_has_counts(&rt, rt.alloc(), text.as_bytes(), (6, 7, 8));
 }
 
 /// A corner of the first square moves, and then none is found where it was. In cells of 99 by 1 the
@@ -56,8 +61,14 @@ fn move_a_corner<R: Abort>(rt: &R, map: &mut Map<'_, GridIndex>) {
     assert!(rt; removed == Err(EditFault::NoVertex) && map.tests() == 0);
 }
 
+/// The same of the map of this text.
+fn move_a_corner_of<R: Abort>(rt: &R, alloc: Global, text: &[u8]) {
+    let mut map = map_of(rt, alloc, text);
+    move_a_corner(rt, &mut map);
+}
+
 #[test]
 fn few_pairs_are_tested(rt: HostRuntime) {
     let text = cells_text(&rt, rt.alloc(), &ROW);
-    move_a_corner(&rt, &mut map_of(&rt, rt.alloc(), text.as_bytes()));
+    move_a_corner_of(&rt, rt.alloc(), text.as_bytes());
 }

@@ -166,30 +166,11 @@ fn drawn_feature<R: Abort>(
 ) -> Command {
     match drawn.below(32) {
         0 => Command::Delete(f),
-        1 | 2 => Command::Rename(f, id_of(rt, alloc, drawn.below(1000))),
-        3..=13 => Command::Merge(drawn_neighbour(rt, alloc, map, drawn, ring), f),
+        1 => Command::Rename(f, id_of(rt, alloc, drawn.below(1000))),
+        2..=15 => Command::Merge(drawn_neighbour(rt, alloc, map, drawn, ring), f),
         _ => {
             let path = drawn_path(rt, alloc, drawn, ring);
             Command::Split(f, id_of(rt, alloc, drawn.below(1000)), path)
-        }
-    }
-}
-
-/// A split, merge or deletion of the feature with this outer ring.
-fn drawn_part<R: Abort>(
-    rt: &R,
-    alloc: Global,
-    map: &Map<'_, GridIndex>,
-    drawn: &mut Drawn,
-    f: u32,
-    ring: &[Pos],
-) -> Command {
-    match drawn.below(32) {
-        0 => Command::Delete(f),
-        1..=14 => Command::Merge(drawn_neighbour(rt, alloc, map, drawn, ring), f),
-        _ => {
-            let path = drawn_path(rt, alloc, drawn, ring);
-            Command::Split(f, id_of(rt, alloc, f as usize), path)
         }
     }
 }
@@ -204,24 +185,22 @@ fn check_path<R: Abort>(rt: &R, command: &Command)
     }
 }
 
-/// A command that may be accepted or refused: of all kinds, or of those that cut and join features.
+/// A command that may be accepted or refused: of all kinds, or an edit of features.
 pub(crate) fn drawn_command<R: Abort>(
     rt: &R,
     alloc: Global,
     map: &Map<'_, GridIndex>,
     drawn: &mut Drawn,
-    is_part: bool,
+    of_features: bool,
 ) -> Command
     ensures { IsSound result }
 {
     let f = drawn_number(rt, alloc, map, drawn);
     let ring = outer_ring(rt, alloc, map, f);
-    let command = if is_part {
-        drawn_part(rt, alloc, map, drawn, f, ring.as_slice())
-    } else if drawn.below(2) == 0 {
-        drawn_vertex(rt, drawn, ring.as_slice())
-    } else {
+    let command = if of_features || drawn.below(2) > 0 {
         drawn_feature(rt, alloc, map, drawn, f, ring.as_slice())
+    } else {
+        drawn_vertex(rt, drawn, ring.as_slice())
     };
     check_path(rt, &command);
     command

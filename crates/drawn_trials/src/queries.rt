@@ -106,12 +106,17 @@ fn see_place<R: Abort>(
     holds(rt, "the features at a position", is_same);
 }
 
-/// The map of this text has these features at these positions.
+/// The map has these features at these positions.
+fn have_places<R: Abort>(rt: &R, alloc: Global, map: &Map<'_, GridIndex>, rows: &[Row]) {
+    for row in rows {
+        see_place(rt, alloc, map, row);
+    }
+}
+
+/// The same of the map of this text.
 fn see_places<R: Abort>(rt: &R, alloc: Global, text: &str, rows: &[Row]) {
     let map = map_of(rt, alloc, text.as_bytes());
-    for row in rows {
-        see_place(rt, alloc, &map, row);
-    }
+    have_places(rt, alloc, &map, rows);
 }
 
 /// A feature of two polygons holds what either holds, and a union what its parts hold and their

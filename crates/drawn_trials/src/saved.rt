@@ -7,7 +7,7 @@ use device_io::{FromReader, ToWriter};
 use grid_geometry::{Pos, Seg};
 use script_runner::run;
 use segment_index::GridIndex;
-use split_merge::{delete, merge, split};
+use split_merge::{delete, merge, rename, split};
 use std::alloc::Global;
 use std::process::Abort;
 use std::str;
@@ -38,6 +38,10 @@ fn push_line<R: Abort>(rt: &R, alloc: Global, script: &mut String, command: &Com
             push(rt, script, format!(in alloc; "\n"));
         }
         Command::Merge(f, g) => push(rt, script, format!(in alloc; "merge {f} {g}\n")),
+        Command::Rename(f, id) => {
+            let id = id.0.as_str();
+            push(rt, script, format!(in alloc; "rename {f} \"{id}\"\n"));
+        }
         Command::Delete(f) => push(rt, script, format!(in alloc; "delete {f}\n")),
         _ => panic!(rt; "no such edit is drawn"),
     }
@@ -68,6 +72,7 @@ fn make<R: Abort>(
     match command {
         Command::Split(f, id, path) => cut(rt, map, f, id, path),
         Command::Merge(f, g) => unnumbered(merge(map, f, g)),
+        Command::Rename(f, id) => unnumbered(rename(map, f, id)),
         Command::Delete(f) => unnumbered(delete(map, f)),
         _ => panic!(rt; "no such edit is drawn"),
     }
@@ -115,7 +120,8 @@ fn draw_one<R: Abort>(
 fn draw<R: Abort>(rt: &R, alloc: Global, map: &mut Map<'_, GridIndex>, script: &mut Script) {
     let (mut drawn, mut tally): (Drawn, Tally) = (Drawn::new(1), [0; 10]);
     for _ in 0..COUNT {
-        count(rt, &mut tally, draw_one(rt, alloc, map, &mut drawn, script));
+        let kind = draw_one(rt, alloc, map, &mut drawn, script);
+        count(rt, &mut tally, kind);
     }
     assert!(rt; 200 < tally[4] && 200 < tally[5] && 10 < tally[7] && 10 < tally[REFUSED]);
 }

@@ -106,15 +106,15 @@ fn counts_of(map: &Map<'_, GridIndex>) -> [usize; 5] {
     ]
 }
 
-/// The map is written as the copy of it, and tells the same counts.
+/// Whether the map is written as the copy of it, and tells the same counts.
 fn is_copy<R: Abort>(
     rt: &R,
     alloc: Global,
     map: &Map<'_, GridIndex>,
     copy: &Map<'_, GridIndex>,
 ) -> bool {
-    let is_written = written(rt, alloc, map).as_slice() == written(rt, alloc, copy).as_slice();
-    is_written && counts_of(map) == counts_of(copy)
+    let (text, copied) = (written(rt, alloc, map), written(rt, alloc, copy));
+    text.as_slice() == copied.as_slice() && counts_of(map) == counts_of(copy)
 }
 
 /// What came of a command.
@@ -187,11 +187,16 @@ pub(crate) fn take_back<'a, R: Abort>(
     is_kept
 }
 
+/// Whether the map tells the counts of the one that is opened from this text.
+fn is_as_read<R: Abort>(rt: &R, alloc: Global, map: &Map<'_, GridIndex>, text: &[u8]) -> bool {
+    let other = map_of(rt, alloc, text);
+    counts_of(map) == counts_of(&other)
+}
+
 /// Whether the map stands as if it had been opened from its text.
 fn is_as_opened<R: Abort>(rt: &R, alloc: Global, map: &Map<'_, GridIndex>) -> bool {
     let text = written(rt, alloc, map);
-    let other = map_of(rt, alloc, text.as_slice());
-    counts_of(map) == counts_of(&other)
+    is_as_read(rt, alloc, map, text.as_slice())
 }
 
 /// Takes back every change that is kept. Each time the map stands as if it had been opened from its

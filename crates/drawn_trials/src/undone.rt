@@ -2,7 +2,7 @@
 // many changes are taken back as are kept.
 use crate::columbus::COLUMBUS;
 use crate::drawing::{Drawn, REFUSED, Tally, UNDONE, count, drawn_command, kind_of};
-use crate::opening::map_of;
+use crate::opening::{MEMORY, map_of};
 use crate::trail::{Trail, give, take_all_back, take_back};
 use segment_index::GridIndex;
 use std::alloc::Global;
@@ -42,11 +42,8 @@ fn draw<'a, R: Abort>(
     let (mut drawn, mut tally) = (Drawn::new(1), [0u32; 10]);
     for _ in 0..COUNT {
         if drawn.below(4) > 0 {
-            count(
-                rt,
-                &mut tally,
-                draw_one(rt, alloc, editor, &mut drawn, trail),
-            );
+            let kind = draw_one(rt, alloc, editor, &mut drawn, trail);
+            count(rt, &mut tally, kind);
         } else if take_back(rt, alloc, editor, trail) {
             count(rt, &mut tally, UNDONE);
         }
@@ -75,12 +72,20 @@ fn draw_and_take_back<'a, R: Abort>(
     take_all_back(rt, alloc, editor, trail);
 }
 
+/// The same of an editor alone.
+fn draw_on<R: Abort>(rt: &R, alloc: Global, editor: &mut Editor<'_, GridIndex>) {
+    let mut trail = Trail::new(rt, alloc, editor.map(), DEPTH);
+    draw_and_take_back(rt, alloc, editor, &mut trail);
+}
+
+/// An editor of the map of this text.
+fn editor_of<'a, R: Abort>(rt: &R, alloc: Global, text: &'a str) -> Editor<'a, GridIndex> {
+    let map = map_of(rt, alloc, text.as_bytes());
+    Editor::new(alloc, map, DEPTH).ok().expect(rt, MEMORY)
+}
+
 #[test]
 fn drawn_commands_are_taken_back(rt: HostRuntime) {
-    let map = map_of(&rt, rt.alloc(), COLUMBUS.as_bytes());
-    let mut trail = Trail::new(&rt, rt.alloc(), &map, DEPTH);
-    let mut editor = Editor::new(rt.alloc(), map, DEPTH)
-        .ok()
-        .expect(&rt, "there is memory");
-    draw_and_take_back(&rt, rt.alloc(), &mut editor, &mut trail);
+    let mut editor = editor_of(&rt, rt.alloc(), COLUMBUS);
+    draw_on(&rt, rt.alloc(), &mut editor);
 }

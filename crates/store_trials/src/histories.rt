@@ -3,7 +3,7 @@ ghost use Rattle.std.specs.Prelude.{◌≤◌};
 
 use crate::maps::{FLAT, TWO_SQUARES};
 use crate::opening::{MEMORY, editor_in, give, holds, map_in};
-use crate::shown::{counts_of, shown, shows, written};
+use crate::shown::{are_alike, shown, shows, written};
 use arc_store::Map;
 use segment_index::GridIndex;
 use std::alloc::Global;
@@ -58,11 +58,16 @@ fn change<R: Abort>(
     before
 }
 
-/// The map has the segments of the one that is opened from its text, in as many rings.
+/// Whether the map stands as the one that is opened from this text.
+fn is_as_read<R: Abort>(rt: &R, alloc: Global, map: &Map<'_, GridIndex>, text: &[u8]) -> bool {
+    let other = map_in(alloc, alloc, text).expect(rt, "what is written opens");
+    are_alike(rt, alloc, map, &other)
+}
+
+/// The same of its own text.
 fn is_as_opened<R: Abort>(rt: &R, alloc: Global, map: &Map<'_, GridIndex>) -> bool {
     let text = written(rt, alloc, alloc, map);
-    let other = map_in(alloc, alloc, text.as_slice()).expect(rt, "what is written opens");
-    counts_of(map) == counts_of(&other)
+    is_as_read(rt, alloc, map, text.as_slice())
 }
 
 /// The newest change is taken back: the map shows this then, and stands as if it had been opened from
@@ -89,25 +94,47 @@ fn ends<R: Abort>(rt: &R, alloc: Global, editor: &mut Editor<'_, GridIndex>) {
     );
 }
 
-/// Makes the changes, and takes back as many as are kept. Those before are left in the list.
+/// Makes the changes, and appends what the map showed before each.
+fn come<R: Abort>(
+    rt: &R,
+    alloc: Global,
+    editor: &mut Editor<'_, GridIndex>,
+    lines: &[&str],
+    before: &mut Vec<Vec<u8>>,
+) {
+    for line in lines {
+        let shown = change(rt, alloc, editor, *line);
+        before.push(shown).expect(rt, MEMORY);
+    }
+}
+
+/// Takes back so many changes. What the map showed before the others is left in the list.
+fn go<R: Abort>(
+    rt: &R,
+    alloc: Global,
+    editor: &mut Editor<'_, GridIndex>,
+    count: usize,
+    before: &mut Vec<Vec<u8>>,
+) {
+    for _ in 0..count {
+        let newest = before.pop().expect(rt, "a change");
+        take_back(rt, alloc, editor, newest.as_slice());
+    }
+}
+
+/// Makes the changes, and takes back as many as are kept. Gives how many are too old.
 fn come_and_go<R: Abort>(
     rt: &R,
     alloc: Global,
     editor: &mut Editor<'_, GridIndex>,
     depth: usize,
     lines: &[&str],
-    before: &mut Vec<Vec<u8>>,
-) {
-    for line in lines {
-        before
-            .push(change(rt, alloc, editor, *line))
-            .expect(rt, MEMORY);
-    }
-    for _ in 0..depth.min(lines.len()) {
-        let newest = before.pop().expect(rt, "a change");
-        take_back(rt, alloc, editor, newest.as_slice());
-    }
+) -> usize {
+    let mut before = Vec::new(alloc);
+    come(rt, alloc, editor, lines, &mut before);
+    go(rt, alloc, editor, depth.min(lines.len()), &mut before);
     ends(rt, alloc, editor);
+    before.len()
 }
 
 /// An editor of the map of the text, which keeps so many changes.
@@ -121,12 +148,10 @@ fn editor_of<'a, R: Abort>(
     editor_in(alloc, alloc, text, depth).expect(rt, "the text opens")
 }
 
-/// The changes are made and taken back, of which so many are kept. Gives how many are too old.
+/// The same of the map of this text.
 fn too_old<R: Abort>(rt: &R, alloc: Global, text: &str, depth: usize, lines: &[&str]) -> usize {
     let mut editor = editor_of(rt, alloc, text, depth);
-    let mut before = Vec::new(alloc);
-    come_and_go(rt, alloc, &mut editor, depth, lines, &mut before);
-    before.len()
+    come_and_go(rt, alloc, &mut editor, depth, lines)
 }
 
 /// How many changes are kept, and how many of the eight edits are too old then.

@@ -215,15 +215,7 @@ fn edit_was_refused<R: Abort, I: SegIndex, A: Allocator + Copy>(
         Err(fault) => Err(fault),
     };
     holds(rt, line, again == wanted && (is_same || is_part));
-    make_again(
-        rt,
-        alloc,
-        heap,
-        editor,
-        usual,
-        left,
-        usual.after.as_slice(),
-    );
+    make_again(rt, alloc, heap, editor, usual, left, usual.after.as_slice());
     if is_same {
         Outcome::NoEdit
     } else {
@@ -482,15 +474,42 @@ fn undo_all<R: Abort, I: SegIndex, A: Allocator + Copy>(
 
 /// Makes one edit of each kind and takes all back, where a growth may be refused once: the map shows
 /// this then. Gives how many undos were refused.
-fn make_and_undo<R: Abort>(rt: &R, alloc: Global, before: &[u8], nth: u64) -> Option<u32> {
-    let heap = Refusing::new(alloc, nth);
-    let mut editor = editor_in(&heap, alloc, TWO_SQUARES, DEPTH)?;
-    make_all(rt, alloc, &mut editor);
-    let undos = undo_all(rt, &mut editor);
-    let is_refused = heap.was_refused();
-    let is_same = !is_refused || shows(rt, alloc, &heap, editor.map(), before);
+fn make_and_undo<R: Abort, I: SegIndex, A: Allocator + Copy>(
+    rt: &R,
+    alloc: Global,
+    (refusing, heap): (&Refusing<Global>, A),
+    editor: &mut Editor<'_, I, A>,
+    before: &[u8],
+) -> u32 {
+    make_all(rt, alloc, editor);
+    let undos = undo_all(rt, editor);
+    // what a map shows takes growths of its heap, too
+    let is_same = !refusing.was_refused() || shows(rt, alloc, heap, editor.map(), before);
     holds(rt, "all is taken back", is_same);
-    if is_refused { Some(undos) } else { None }
+    undos
+}
+
+/// The same of the two squares, in a heap whose refused growth comes after the opening.
+fn open_and_undo<R: Abort, A: Allocator + Copy>(
+    rt: &R,
+    alloc: Global,
+    (refusing, heap): (&Refusing<Global>, A),
+    before: &[u8],
+) -> u32 {
+    let opened = editor_in(heap, alloc, TWO_SQUARES, DEPTH);
+    let mut editor = opened.expect(rt, "the opening has its growths");
+    make_and_undo(rt, alloc, (refusing, heap), &mut editor, before)
+}
+
+/// How many undos were refused the growth of this number; `None` where nothing was.
+fn refused_undos<R: Abort>(rt: &R, alloc: Global, before: &[u8], nth: u64) -> Option<u32> {
+    let heap = Refusing::new(alloc, nth);
+    let undos = open_and_undo(rt, alloc, (&heap, &heap), before);
+    if heap.was_refused() {
+        Some(undos)
+    } else {
+        None
+    }
 }
 
 /// What the two squares show.
@@ -499,55 +518,74 @@ fn squares_shown<R: Abort>(rt: &R, alloc: Global) -> Vec<u8> {
     shown(rt, alloc, alloc, &map)
 }
 
-/// A whole history, with each growth refused in turn.
-#[test]
-fn one_edit_of_each_kind(rt: HostRuntime) {
-    let before = squares_shown(&rt, rt.alloc());
-    let first = first_growth(&rt, rt.alloc(), TWO_SQUARES);
+/// How many undos are refused, with each growth of a whole history refused in turn.
+fn count_refused<R: Abort>(rt: &R, alloc: Global, before: &[u8]) -> u32 {
+    let first = first_growth(rt, alloc, TWO_SQUARES);
     let mut undos = 0u32;
     for count in 0..MANY {
-        match make_and_undo(
-            &rt,
-            rt.alloc(),
-            before.as_slice(),
-            first.wrapping_add(count),
-        ) {
+        match refused_undos(rt, alloc, before, first.wrapping_add(count)) {
             Some(refused) => undos = undos.wrapping_add(refused),
             None => break,
         }
     }
+    undos
+}
+
+#[test]
+fn one_edit_of_each_kind(rt: HostRuntime) {
+    let before = squares_shown(&rt, rt.alloc());
+    let undos = count_refused(&rt, rt.alloc(), before.as_slice());
     holds(&rt, "many undos are refused", 20 < undos);
 }
 
-/// Whether there is memory for the history of the map; where there is none, the map is handed back as
-/// it was.
+/// The map is written so.
+fn is_written_so<R: Abort, I: SegIndex, A: Allocator + Copy>(
+    rt: &R,
+    alloc: Global,
+    heap: A,
+    map: &Map<'_, I, A>,
+    text: &[u8],
+) {
+    let found = written(rt, alloc, heap, map);
+    holds(rt, "the map is as it was", found.as_slice() == text);
+}
+
+/// Whether there is memory for the history of the map, which is written so; where there is none, the map
+/// is handed back as it was.
 fn is_begun<R: Abort, A: Allocator + Copy>(
     rt: &R,
     alloc: Global,
-    (heap, calm): (A, A),
+    heap: A,
     map: Map<'_, GridIndex<A>, A>,
     text: &[u8],
 ) -> bool {
     match Editor::new(heap, map, DEPTH) {
         Ok(editor) => {
-            let is_same = written(rt, alloc, calm, editor.map()).as_slice() == text;
-            holds(rt, "the map is as it was", is_same);
+            is_written_so(rt, alloc, heap, editor.map(), text);
             true
         }
         Err(map) => {
-            let is_same = written(rt, alloc, calm, &map).as_slice() == text;
-            holds(rt, "the map is handed back", is_same);
+            is_written_so(rt, alloc, heap, &map, text);
             false
         }
     }
 }
 
-/// Whether there is memory for the history of the map; `None` where the growth of this number is one of
-/// its opening.
-fn begun<R: Abort>(rt: &R, alloc: Global, text: &[u8], nth: u64) -> Option<bool> {
-    let (heap, calm) = (Refusing::new(alloc, nth), Refusing::new(alloc, 0));
-    let map = map_in(&heap, alloc, FLAT.as_bytes())?;
-    Some(is_begun(rt, alloc, (&heap, &calm), map, text))
+/// The same of the map with flat vertices.
+fn open_and_begin<R: Abort, A: Allocator + Copy>(
+    rt: &R,
+    alloc: Global,
+    heap: A,
+    text: &[u8],
+) -> bool {
+    let map = map_in(heap, alloc, FLAT.as_bytes()).expect(rt, "the opening has its growths");
+    is_begun(rt, alloc, heap, map, text)
+}
+
+/// The same, where the growth of this number is refused.
+fn begins<R: Abort>(rt: &R, alloc: Global, text: &[u8], nth: u64) -> bool {
+    let heap = Refusing::new(alloc, nth);
+    open_and_begin(rt, alloc, &heap, text)
 }
 
 /// The text of the map with flat vertices.
@@ -556,13 +594,12 @@ fn flat_text<R: Abort>(rt: &R, alloc: Global) -> Vec<u8> {
     written(rt, alloc, alloc, &map)
 }
 
-/// The last growth before the editor is there is the one of the history; the map is handed back where
-/// it is refused.
+/// The last growth before the editor is there is the one of the history.
 #[test]
 fn a_map_is_handed_back(rt: HostRuntime) {
     let text = flat_text(&rt, rt.alloc());
     let first = first_growth(&rt, rt.alloc(), FLAT);
-    let is_back = begun(&rt, rt.alloc(), text.as_slice(), first.wrapping_sub(1)) == Some(false);
-    let is_begun = begun(&rt, rt.alloc(), text.as_slice(), first) == Some(true);
+    let is_back = !begins(&rt, rt.alloc(), text.as_slice(), first.wrapping_sub(1));
+    let is_begun = begins(&rt, rt.alloc(), text.as_slice(), first);
     holds(&rt, "the history takes one growth", is_back && is_begun);
 }

@@ -33,6 +33,15 @@ const POSITIONS: &[(i64, i64)] = &[
     (15, 6),
     (12, 2),
     (11, 1),
+    (1, 1),
+    (15, 0),
+    (15, 1),
+    (10, 2),
+    (10, 3),
+    (10, 7),
+    (10, 8),
+    (9, 5),
+    (11, 5),
 ];
 
 /// The position, which is in range.
@@ -155,7 +164,7 @@ fn push_layers<R: Abort, I: SegIndex, A: Allocator + Copy>(
 
 /// Appends how many rings have the segment from the position to each greater one of those above, as a
 /// byte.
-fn push_uses<R: Abort, I: SegIndex, A: Allocator + Copy>(
+fn push_uses_from<R: Abort, I: SegIndex, A: Allocator + Copy>(
     rt: &R,
     out: &mut Vec<u8>,
     map: &Map<'_, I, A>,
@@ -170,34 +179,24 @@ fn push_uses<R: Abort, I: SegIndex, A: Allocator + Copy>(
     }
 }
 
-/// How many rings have each side of the first outer ring of this feature but its last, added up.
-fn users_along<I: SegIndex, A: Allocator + Copy>(map: &Map<'_, I, A>, n: u32) -> usize {
-    let Some(positions) = map.ring(n, 0, 0) else {
-        return 0;
-    };
-    let (mut users, mut last): (usize, Option<Pos>) = (0, None);
-    for p in positions {
-        if let Some(side) = last.and_then(|before| Seg::new(before, p)) {
-            users = users.wrapping_add(map.uses(side));
-        }
-        last = Some(p);
+/// Appends how many rings have each segment between two of the positions above.
+fn push_uses<R: Abort, I: SegIndex, A: Allocator + Copy>(
+    rt: &R,
+    out: &mut Vec<u8>,
+    map: &Map<'_, I, A>,
+) {
+    for p in POSITIONS {
+        push_uses_from(rt, out, map, *p);
     }
-    users
 }
 
-/// What a map tells of itself beside its text: how many features, vertices, segments and positions it
-/// has, and how many rings have each side of each outer ring, all added up.
-pub(crate) fn counts_of<I: SegIndex, A: Allocator + Copy>(map: &Map<'_, I, A>) -> [usize; 5] {
-    let mut users = 0usize;
-    for n in 0..map.next_number() {
-        users = users.wrapping_add(users_along(map, n));
-    }
+/// How many features, vertices, segments and positions the map has.
+fn counts_of<I: SegIndex, A: Allocator + Copy>(map: &Map<'_, I, A>) -> [usize; 4] {
     [
         map.feature_count(),
         map.vertex_count(),
         map.segment_count(),
         map.position_count(),
-        users,
     ]
 }
 
@@ -216,6 +215,19 @@ fn push_vertices<R: Abort, I: SegIndex, A: Allocator + Copy>(
     );
     let line = format!(in alloc; "{counts:?} {vertices:?}").expect(rt, MEMORY);
     push_text(rt, out, Some(line.as_bytes()));
+}
+
+/// Whether two maps have as many of all things, and segments in as many rings.
+pub(crate) fn are_alike<R: Abort, I: SegIndex, A: Allocator + Copy>(
+    rt: &R,
+    alloc: Global,
+    map: &Map<'_, I, A>,
+    other: &Map<'_, I, A>,
+) -> bool {
+    let (mut found, mut wanted) = (Vec::new(alloc), Vec::new(alloc));
+    push_uses(rt, &mut found, map);
+    push_uses(rt, &mut wanted, other);
+    counts_of(map) == counts_of(other) && found.as_slice() == wanted.as_slice()
 }
 
 /// Appends the text of the map; whether there was memory.
@@ -254,9 +266,7 @@ pub(crate) fn shown<R: Abort, I: SegIndex, A: Allocator + Copy>(
     let mut out = written(rt, alloc, heap, map);
     push_layers(rt, alloc, &mut out, map);
     push_vertices(rt, alloc, &mut out, map);
-    for p in POSITIONS {
-        push_uses(rt, &mut out, map, *p);
-    }
+    push_uses(rt, &mut out, map);
     out
 }
 
