@@ -167,7 +167,7 @@ fn drawn_feature<R: Abort>(
     match drawn.below(32) {
         0 => Command::Delete(f),
         1 => Command::Rename(f, id_of(rt, alloc, drawn.below(1000))),
-        2..=15 => Command::Merge(drawn_neighbour(rt, alloc, map, drawn, ring), f),
+        2..=16 => Command::Merge(drawn_neighbour(rt, alloc, map, drawn, ring), f),
         _ => {
             let path = drawn_path(rt, alloc, drawn, ring);
             Command::Split(f, id_of(rt, alloc, drawn.below(1000)), path)
