@@ -187,13 +187,21 @@ const DELETED: &[Step] = &[Step {
 }];
 
 /// Whether the feature has one polygon, of these rings.
-fn has_rings<R: Abort, I: SegIndex>(rt: &R, map: &Map<'_, I>, (f, rings): &Rings) -> bool {
-    for (n, ring) in rings.iter().enumerate() {
-        if !has_ring(rt, map, *f, 0, n, *ring) {
+fn has_rings<R: Abort, I: SegIndex>(
+    rt: &R,
+    map: &Map<'_, I>,
+    f: u32,
+    rings: &[&[(i64, i64)]],
+) -> bool {
+    let mut n = 0usize;
+    for ring in rings {
+        if !has_ring(rt, map, f, 0, n, *ring) {
             return false;
         }
+        n = n.wrapping_add(1);
     }
-    map.ring(*f, 0, rings.len()).is_none() && map.ring(*f, 1, 0).is_none()
+    let is_last = map.ring(f, 0, n).is_none();
+    is_last && map.ring(f, 1, 0).is_none()
 }
 
 /// The line is answered, and the map is as it is to be then.
@@ -206,18 +214,21 @@ fn see_step<R: Abort, I: SegIndex>(rt: &R, alloc: Global, map: &mut Map<'_, I>, 
         step.line,
         (features, vertices, segments, next) == step.counts,
     );
-    for rings in step.rings {
-        holds(rt, step.line, has_rings(rt, map, rings));
+    for (f, rings) in step.rings {
+        holds(rt, step.line, has_rings(rt, map, *f, *rings));
     }
 }
 
-/// The steps are taken on the map of this text, one after another. Gives the map.
-fn see<'a, R: Abort>(rt: &R, alloc: Global, text: &'a str, steps: &[Step]) -> Map<'a, ListIndex> {
-    let mut map = map_of(rt, alloc, text);
+/// The steps are taken on the map, one after another.
+fn see_steps<R: Abort>(rt: &R, alloc: Global, map: &mut Map<'_, ListIndex>, steps: &[Step]) {
     for step in steps {
-        see_step(rt, alloc, &mut map, step);
+        see_step(rt, alloc, map, step);
     }
-    map
+}
+
+/// The same on the map of this text.
+fn see<R: Abort>(rt: &R, alloc: Global, text: &str, steps: &[Step]) {
+    see_steps(rt, alloc, &mut map_of(rt, alloc, text), steps);
 }
 
 #[test]
@@ -243,14 +254,30 @@ fn has_features<I: SegIndex>(map: &Map<'_, I>, layer: usize, count: usize) -> bo
     opened == 1 && closed == 1 && leaves == count
 }
 
+/// A feature is deleted: only then is the layer one collection of as many features.
+fn see_deletion<R: Abort>(
+    rt: &R,
+    alloc: Global,
+    map: &mut Map<'_, ListIndex>,
+    layer: usize,
+    count: usize,
+) {
+    let was_so = has_features(map, layer, count);
+    see_steps(rt, alloc, map, DELETED);
+    let is_so = has_features(map, layer, count);
+    holds(rt, "a collection is left", !was_so && is_so);
+}
+
+/// The same of the map of this text.
+fn see_deletion_of<R: Abort>(rt: &R, alloc: Global, text: &str, layer: usize, count: usize) {
+    see_deletion(rt, alloc, &mut map_of(rt, alloc, text), layer, count);
+}
+
 /// A feature leaves its collection, and a layer's own geometry leaves an empty one.
 #[test]
 fn features_are_deleted(rt: HostRuntime) {
-    let square = see(&rt, rt.alloc(), TWO_SQUARES, DELETED);
-    let was_alone = !has_features(&map_of(&rt, rt.alloc(), ALONE), 1, 0);
-    let layer = see(&rt, rt.alloc(), ALONE, DELETED);
-    let are_left = has_features(&square, 0, 1) && has_features(&layer, 1, 0);
-    holds(&rt, "an empty collection is left", was_alone && are_left);
+    see_deletion_of(&rt, rt.alloc(), TWO_SQUARES, 0, 1);
+    see_deletion_of(&rt, rt.alloc(), ALONE, 1, 0);
 }
 
 /// A text, and what serde_json 1.0 writes for it.
