@@ -230,13 +230,15 @@ pub(crate) fn are_alike<R: Abort, I: SegIndex, A: Allocator + Copy>(
     counts_of(map) == counts_of(other) && found.as_slice() == wanted.as_slice()
 }
 
-/// Appends the text of the map; whether there was memory.
-fn is_written<I: SegIndex, A: Allocator + Copy>(
+/// The text of the map; `None` where a growth was refused.
+fn text_of<I: SegIndex, A: Allocator + Copy>(
+    alloc: Global,
     heap: A,
     map: &Map<'_, I, A>,
-    text: &mut ToWriter<Vec<u8>>,
-) -> bool {
-    write(heap, map, text).is_ok()
+) -> Option<Vec<u8>> {
+    let mut text = ToWriter::new(Vec::new(alloc));
+    let is_written = write(heap, map, &mut text).is_ok();
+    if is_written { Some(text.writer) } else { None }
 }
 
 /// The text of the map. Its own heap may refuse a growth once; then it is written again.
@@ -246,12 +248,10 @@ pub(crate) fn written<R: Abort, I: SegIndex, A: Allocator + Copy>(
     heap: A,
     map: &Map<'_, I, A>,
 ) -> Vec<u8> {
-    let mut text = ToWriter::new(Vec::new(alloc));
-    if !is_written(heap, map, &mut text) {
-        text = ToWriter::new(Vec::new(alloc));
-        holds(rt, "the map is written", is_written(heap, map, &mut text));
+    match text_of(alloc, heap, map) {
+        Some(text) => text,
+        None => text_of(alloc, heap, map).expect(rt, "the map is written"),
     }
-    text.writer
 }
 
 /// All that the map shows but its next number: its layers with their features and rings, its counts,
