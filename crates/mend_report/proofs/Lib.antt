@@ -1,6 +1,7 @@
 pub mod Appending
 pub mod ReportLemmas
 pub mod OpeningLemmas
+pub mod WholeLemmas
 pub mod PlaceLemmas
 pub mod AreaLemmas
 mod Examples
