@@ -3,5 +3,6 @@ pub mod ReportLemmas
 pub mod OpeningLemmas
 pub mod PlaceLemmas
 pub mod AreaLemmas
+pub mod EditorOpens
 mod Examples
 mod FaultLemmas
