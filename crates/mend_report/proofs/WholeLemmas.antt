@@ -4,7 +4,6 @@ use Rattle.std.proofs.lemmas.Bool.{eqb-true}
 use Rattle.std.specs.Prelude.{Result, Ok, Err, IfOk, ◌&&◌}
 use Rattle.topo_reader.specs.Document.{Opened, document_of}
 use Rattle.topo_reader.specs.Opening.{OpensWalks}
-use Rattle.topo_reader.specs.declared.rings.Closed.TheVariants.{Walks}
 use Rattle.topo_reader.proofs.MeaningOfText.{is_read_by}
 use Rattle.grid_reader.specs.Told.{IsTold}
 use Rattle.grid_reader.specs.declared.told.Told.{Told}
@@ -53,7 +52,7 @@ answer_editor asked bytes grid (Ok report) told opens =
 remade_whole : {A : Type 0} (wants : Wants) (bytes : List ℕ) (o : Opened) (remade : Remade A) → wants.finer ≡ 0 → OpensOn wants bytes o
     → HasWalks bytes → IsRemade (document_of o) remade → RemakesWhole bytes remade
 remade_whole wants bytes o remade same opens walks is =
-    let read = is_read_by Walks bytes walks.0 walks.1 in
+    let read = is_read_by _ bytes walks.0 walks.1 in
     let alike : walks.0 ≡ o = one wants bytes walks.0 o (whole_on_grid wants bytes walks.0 same walks.1) opens in
     (document_of walks.0, read.0, subst (λ p. IsRemade (document_of p) remade) (sym alike) is)
 

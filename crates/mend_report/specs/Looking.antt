@@ -11,7 +11,7 @@ use Rattle.ring_machine.specs.Planar.{first_pair}
 use Rattle.segment_paths.specs.Paths.{Path}
 use Rattle.topo_reader.specs.Document.{Opened, document_of}
 use Rattle.topo_reader.specs.Opening.{OpensIn, OpensWalks, IsFaultIn}
-use Rattle.topo_reader.specs.Opening as reading
+use Rattle.topo_reader.specs.Opening as reader
 use Rattle.walk_faults.specs.Findings.{Found, HasMore}
 use Rattle.walk_faults.specs.Opens.{Opens}
 use Rattle.walk_faults.specs.Walks.{walks_of}
@@ -49,8 +49,7 @@ MapOpens asked bytes =
 
 -- the editor opens the map: its bytes are a topology of rings, no two of whose segments conflict
 abbrev pub EditorOpens : List ℕ → Type 0
-EditorOpens bytes =
-    (o : Opened) × reading.Opens bytes o × (first_pair (document_of o) ≡ None)
+EditorOpens bytes = (p : Opened) × reader.Opens bytes p × (first_pair (document_of p) ≡ None)
 
 -- the bytes are a topology of whole numbers, with walks in the place of rings, as the editor reads it
 abbrev pub HasWalks : List ℕ → Type 0
