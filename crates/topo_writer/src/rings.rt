@@ -16,7 +16,7 @@ use segment_index::SegIndex;
 use std::alloc::{AllocError, Allocator};
 
 /// The pieces of a ring of the map, from its first junction on; none where there is no such ring.
-pub(crate) fn cut_named<'a, I: SegIndex, A: Allocator + Copy>(
+fn cut_named<'a, I: SegIndex, A: Allocator + Copy>(
     alloc: A,
     map: &MarkedMap<'_, 'a, I, A>,
     name: RingName,
