@@ -5,6 +5,7 @@ mod Ascending
 mod SharedBorders
 mod OnBorders
 mod Odds
+mod Holding
 mod Passing
 mod PassedRings
 mod PassedSegments
