@@ -1,0 +1,78 @@
+-- What is held after an add, and which rings that covers.
+use Rattle.std.proofs.Common.{◌≡◌, ◌<◌, ◌+◌, ℕ, zero, suc, ℤ, Bool, true, subst, ◌&&◌, ◌||◌, refl, sym, ap, ◌∙◌, int_le, List, [], ◌∷◌, ◌++◌, length, get_or, take, inl, inr, Result, Ok, Err, OnOk, OnErr, Contains, arith}
+use Rattle.std.specs.FinSet as set
+use Rattle.std.specs.Int.{int_min, int_max}
+use Rattle.std.specs.List.{list_any}
+use Rattle.std.proofs.lemmas.Int.{ints}
+use Rattle.std.proofs.lemmas.List.Folds.{list_any_more, list_any_at}
+use Rattle.grid_geometry.specs.Position.{Position}
+use Rattle.grid_geometry.specs.Segment.{Segment, Box, box_of, boxes_meet, segment_eq}
+use Rattle.ring_machine.proofs.Members.{contains_in, same_answer}
+use Rattle.ring_machine.proofs.Order.{or_true}
+use Rattle.segment_index.specs.Candidates.{SegmentSet, Gives, has, segment_is}
+use Rattle.segment_index.proofs.Singles.{same_segment, segment_eq-is, segment_total, is-itself, contains_inserted}
+use Rattle.ring_boxes.specs.Covering.{lies_in, IsCovered, Keeps}
+use Rattle.ring_boxes.specs.Held.{AreAround, IsWider, IsWidened, StaysHeld}
+
+-- what holds where there is a value holds there in another form
+pub on_ok : {X E P Q : Type 0} (r : Result X E) → (P → Q) → OnOk r P → OnOk r Q
+on_ok (Ok x) f p = f p
+on_ok (Err e) f p = p
+
+-- ---- the boxes that are held
+
+meets_itself : (s : Segment) → boxes_meet (box_of s) (box_of s) ≡ true
+meets_itself s = λ i. (side s.lo.x s.hi.x i && side s.lo.x s.hi.x i) && (side s.lo.y s.hi.y i && side s.lo.y s.hi.y i)
+  where
+    side : (a b : ℤ) → int_le (int_min a b) (int_max a b) ≡ true
+    side a b = grind (arith, ints)
+
+-- a box is held where it is given for itself
+pub held_given : (boxes : SegmentSet) (times : Segment → Box → ℕ) (d : Segment) (old new : List Segment) → old ≡ [] → Gives boxes times (box_of d) old new true → list_any (λ t. segment_eq t d) new ≡ set.contains boxes d
+held_given boxes times d old new none g =
+    (λ i. list_any (λ t. segment_eq-is d t i) new) ∙ ap (λ ts. has ts d) (g.appended ∙ ap (λ ts. ts ++ g.found) none)
+    ∙ same_answer (has g.found d) (set.contains boxes d) (g.among d) (λ h. g.covers refl d h (meets_itself d))
+
+inserted : (old new : SegmentSet) (d : Segment) → new ≡ set.insert old d → StaysHeld old new
+inserted old new d e t h = ap (λ s. set.contains s t) e ∙ set.contains-insert segment_total old d t ∙ ap (λ b. segment_is t d || b) h ∙ or_itself (segment_is t d)
+  where
+    or_itself : (b : Bool) → (b || true) ≡ true
+    or_itself b = grind arith
+
+-- an add that may have failed
+pub added_stays : {X E : Type 0} (r : Result X E) (old new : SegmentSet) (d : Segment) → OnOk r (new ≡ set.insert old d) → OnErr r (new ≡ old) → StaysHeld old new
+added_stays (Ok x) old new d ok err = inserted old new d ok
+added_stays (Err e) old new d ok err = λ t h. ap (λ s. set.contains s t) err ∙ h
+
+-- ---- the boxes that are widened
+
+widened_stays : (old new : SegmentSet) (d : Segment) (p : Position) → StaysHeld old new → IsWidened old d p → IsWidened new d p
+widened_stays old new d p stays w = (w.0, stays w.0 w.1, w.2)
+
+pub next_widened : (boxes : List Segment) (i : ℕ) (d : Segment) (p : Position) (old new : SegmentSet) → i < length boxes → d ≡ get_or boxes i d → StaysHeld old new → IsWidened new d p
+    → ((t : Segment) → has (take i boxes) t ≡ true → IsWidened old t p) → (t : Segment) → has (take (i + 1) boxes) t ≡ true → IsWidened new t p
+next_widened boxes i d p old new lt here stays w below t h =
+    elim (or_true (has (take i boxes) t) (segment_is t (get_or boxes i d)) (sym (list_any_more (segment_is t) boxes i d lt) ∙ h)) [
+      | inl e ↦ widened_stays old new t p stays (below t e)
+      | inr e ↦ subst (λ s. IsWidened new s p) (sym (same_segment t (get_or boxes i d) e ∙ sym here)) w
+    ]
+
+-- an item of a list is among its segments
+pub item_has : (boxes : List Segment) (i : ℕ) (d : Segment) → i < length boxes → d ≡ get_or boxes i d → has boxes d ≡ true
+item_has boxes i d lt here = list_any_at (segment_is d) boxes i d lt (ap (segment_is d) (sym here) ∙ is-itself d)
+
+-- ---- the rings that lie in them
+
+pub keeps : (old new : SegmentSet) → StaysHeld old new → Keeps old new
+keeps old new stays ring c = record { by = c.by; held = stays c.by c.held; within = c.within }
+
+pub grown : (old new : SegmentSet) (p q : Position) (near : List Segment) → AreAround old p near → ((d : Segment) → has near d ≡ true → IsWidened new d q)
+    → (ring : List Position) → IsCovered old ring → Contains ring p → IsCovered new (q ∷ ring)
+grown old new p q near around all ring c i = record { by = w.0; held = w.1; within = within }
+  where
+    w : IsWidened new c.by q
+    w = all c.by (around.each c.by c.held (c.within p i))
+
+    within : (r : Position) → Contains (q ∷ ring) r → lies_in w.0 r ≡ true
+    within r (zero, l, e) = ap (lies_in w.0) (sym e) ∙ w.2.has_it
+    within r (suc k, l, e) = w.2.has_all r (c.within r (k, omega (arith, l), e))
