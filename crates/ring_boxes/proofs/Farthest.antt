@@ -1,9 +1,9 @@
 -- The greatest x of the first so many boxes.
-use Rattle.std.proofs.Common.{◌≡◌, ◌<◌, ◌+◌, ℕ, ℤ, true, ◌||◌, sym, ap, ◌∙◌, int_le, List, length, get_or, take, inl, inr, arith}
+use Rattle.std.proofs.Common.{◌≡◌, ◌<◌, ◌+◌, ℕ, ℤ, true, sym, ap, ◌∙◌, int_le, List, length, get_or, take, inl, inr, arith}
 use Rattle.std.specs.Int.{int_max}
 use Rattle.std.proofs.lemmas.Int.{ints}
 use Rattle.std.proofs.lemmas.List.Folds.{list_any_more}
-use Rattle.grid_geometry.specs.Segment.{Segment}
+use Rattle.grid_geometry.specs.Segment.{Segment, box_of}
 use Rattle.ring_machine.proofs.Order.{or_true}
 use Rattle.segment_index.specs.Candidates.{has, segment_is}
 use Rattle.segment_index.proofs.Singles.{same_segment}
@@ -19,15 +19,15 @@ max_right a b c h = grind (arith, ints)
 
 -- no box of the list reaches past x
 abbrev pub AllUpTo : List Segment → ℤ → Type 0
-AllUpTo boxes x = (t : Segment) → has boxes t ≡ true → int_le t.hi.x x ≡ true
+AllUpTo boxes x = (t : Segment) → has boxes t ≡ true → int_le (box_of t).x1 x ≡ true
 
-pub next_up_to : (boxes : List Segment) (i : ℕ) (d : Segment) (x y : ℤ) → i < length boxes → d ≡ get_or boxes i d → y ≡ int_max x d.hi.x → AllUpTo (take i boxes) x → AllUpTo (take (i + 1) boxes) y
+pub next_up_to : (boxes : List Segment) (i : ℕ) (d : Segment) (x y : ℤ) → i < length boxes → d ≡ get_or boxes i d → y ≡ int_max x (box_of d).x1 → AllUpTo (take i boxes) x → AllUpTo (take (i + 1) boxes) y
 next_up_to boxes i d x y lt here most below t h =
     let known = sym (list_any_more (segment_is t) boxes i d lt) ∙ h in
-    ap (int_le t.hi.x) most
+    ap (int_le (box_of t).x1) most
     ∙ elim (or_true (has (take i boxes) t) (segment_is t (get_or boxes i d)) known) [
-      | inl e ↦ max_left x d.hi.x t.hi.x (below t e)
+      | inl e ↦ max_left x (box_of d).x1 (box_of t).x1 (below t e)
       | inr e ↦
           let one : t ≡ d = same_segment t (get_or boxes i d) e ∙ sym here in
-          max_right x d.hi.x t.hi.x (ap (λ (s : Segment). int_le s.hi.x d.hi.x) one ∙ le_itself d.hi.x)
+          max_right x (box_of d).x1 (box_of t).x1 (ap (λ (s : Segment). int_le (box_of s).x1 (box_of d).x1) one ∙ le_itself (box_of d).x1)
     ]

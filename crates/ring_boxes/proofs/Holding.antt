@@ -7,12 +7,12 @@ use Rattle.std.proofs.lemmas.Int.{ints}
 use Rattle.std.proofs.lemmas.List.Folds.{list_any_more, list_any_at}
 use Rattle.grid_geometry.specs.Position.{Position}
 use Rattle.grid_geometry.specs.Segment.{Segment, Box, box_of, boxes_meet, segment_eq}
-use Rattle.ring_machine.proofs.Members.{contains_in, same_answer}
+use Rattle.ring_machine.proofs.Members.{same_answer}
 use Rattle.ring_machine.proofs.Order.{or_true}
 use Rattle.segment_index.specs.Candidates.{SegmentSet, Gives, has, segment_is}
-use Rattle.segment_index.proofs.Singles.{same_segment, segment_eq-is, segment_total, is-itself, contains_inserted}
+use Rattle.segment_index.proofs.Singles.{same_segment, segment_eq-is, segment_total, is-itself}
 use Rattle.ring_boxes.specs.Covering.{lies_in, IsCovered, Keeps}
-use Rattle.ring_boxes.specs.Held.{AreAround, IsWider, IsWidened, StaysHeld}
+use Rattle.ring_boxes.specs.Held.{AreAround, IsWidened, StaysHeld}
 
 -- what holds where there is a value holds there in another form
 pub on_ok : {X E P Q : Type 0} (r : Result X E) → (P → Q) → OnOk r P → OnOk r Q

@@ -2,7 +2,7 @@ ghost use Rattle.std.specs.Prelude.{◌≡◌, ◌≤◌, ◌∷◌, true, List,
 ghost use Rattle.std.specs.Prelude.{Contains, IsTrue, IfOk, OnOk};
 ghost use Rattle.std.specs.FinSet as set;
 ghost use Rattle.grid_geometry.specs.Position.{Position};
-ghost use Rattle.grid_geometry.specs.Segment.{Segment};
+ghost use Rattle.grid_geometry.specs.Segment.{Segment, box_of};
 ghost use Rattle.ring_machine.specs.Ring.{is_distinct};
 ghost use Rattle.segment_index.specs.Candidates.{AreAmong, has};
 ghost use Rattle.ring_boxes.specs.Covering.{lies_in, IsCovered, Keeps};
@@ -73,7 +73,7 @@ impl<A: Allocator + Copy> RingBoxes<A> {
     pub fn reach(&self, p: Pos) -> Result<i64, AllocError>
         ensures least { IfOk result (λ x. int_le p.x x ≡ true) }
         ensures far { IfOk result (λ x. (d : Segment) → set.contains self.now d ≡ true
-            → lies_in d p ≡ true → int_le d.hi.x x ≡ true) }
+            → lies_in d p ≡ true → int_le (box_of d).x1 x ≡ true) }
         ensures range { IfOk result (λ x. unsigned_abs x ≤ 1000000000000) }
     {
         let near = self.around(p)?;

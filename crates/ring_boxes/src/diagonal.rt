@@ -2,7 +2,7 @@
 ghost use Rattle.std.specs.Prelude.{◌≡◌, ◌≤◌, ◌&&◌, true, int_le, length, Contains, IsTrue};
 ghost use Rattle.std.specs.Int.{int_min, int_max};
 ghost use Rattle.grid_geometry.specs.Position.{Position, position};
-ghost use Rattle.grid_geometry.specs.Segment.{Segment};
+ghost use Rattle.grid_geometry.specs.Segment.{Segment, box_of};
 ghost use Rattle.ring_machine.specs.Ring.{is_distinct};
 ghost use Rattle.segment_index.specs.Candidates.{has};
 ghost use Rattle.ring_boxes.specs.Covering.{box_at, lies_in};
@@ -72,14 +72,14 @@ fn farther(a: Pos, b: Pos) -> Pos
     if a.x_at_most(b) { b } else { a }
 }
 
-/// Of a position and the greater ends of segments, one with the greatest x.
+/// Of a position and the ends of segments, one with the greatest x.
 pub(crate) fn farthest(boxes: &[Seg], p: Pos) -> Pos
     ensures least { int_le p.x result.x ≡ true }
-    ensures far { (d : Segment) → has boxes.now d ≡ true → int_le d.hi.x result.x ≡ true }
+    ensures far { (d : Segment) → has boxes.now d ≡ true → int_le (box_of d).x1 result.x ≡ true }
 {
     let mut found = p;
     for d in boxes {
-        found = farther(found, d.hi);
+        found = farther(found, farther(d.lo, d.hi));
     }
     found
 }
