@@ -10,4 +10,7 @@ mod Passing
 mod PassedRings
 mod PassedSegments
 mod OddRings
+mod Telling
+mod Cancelling
+mod NearRings
 mod HeldFeatures
