@@ -1,6 +1,6 @@
 -- The features that hold a position, by rings that stand an odd number of times where they hold it.
 use Rattle.std.proofs.Common.{◌≡◌, ℕ, zero, suc, Bool, true, false, refl, sym, ap, ap₂, ◌∙◌, subst, ◌&&◌, arith}
-use Rattle.std.proofs.Common.{List, [], ◌∷◌, map, Option, Some, unwrap_or, inl, inr}
+use Rattle.std.proofs.Common.{List, [], ◌∷◌, map, Some, unwrap_or}
 use Rattle.std.specs.Prelude.{not, ◌==◌, is_some, slice_get, option_map}
 use Rattle.std.specs.List.{list_any, filter, fold, find}
 use Rattle.std.specs.BTreeSet.{BTreeSet, contains}

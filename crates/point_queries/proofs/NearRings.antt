@@ -1,13 +1,14 @@
 -- Which rings hold a position, by the segments that count as far as the boxes that have it.
 use Rattle.std.proofs.Common.{◌≡◌, ℤ, Bool, true, false, refl, sym, ap, ap₂, ◌∙◌, subst, cond, ◌&&◌, int_le, arith, not}
-use Rattle.std.proofs.Common.{List, [], ◌∷◌, ◌++◌, Option, None, Some, Result, Ok, Err}
+use mir.Val.{of_z, to_z}
+use Rattle.std.proofs.Common.{unsigned_abs, ◌≤◌, w64, List, [], ◌∷◌, Option, None, Some, Result, Ok, Err}
 use Rattle.std.specs.Prelude.{is_some, unwrap_or, IfOk, IfSome}
 use Rattle.std.specs.FinSet as set
 use Rattle.std.specs.List.{filter, list_all}
-use Rattle.std.proofs.lemmas.Int.{ints}
+use Rattle.std.proofs.lemmas.Int.{ints, to_z-of_z}
 use Rattle.grid_geometry.specs.Position.{Position}
 use Rattle.grid_geometry.specs.Ring.{Edge, edges, is_inside, xor}
-use Rattle.grid_geometry.specs.Segment.{Segment, box_of, boxes_meet, segment}
+use Rattle.grid_geometry.specs.Segment.{Segment, box_of, boxes_meet}
 use Rattle.ring_machine.specs.Document.{Document}
 use Rattle.ring_machine.specs.Parts.{rings}
 use Rattle.ring_machine.specs.Ring.{segment_of, segments, is_ring}
@@ -24,6 +25,10 @@ use Rattle.point_queries.proofs.Holding.{holds_in_diagonal, counted_within}
 use Rattle.point_queries.proofs.OddRings.{is_name-true}
 use Rattle.point_queries.proofs.Passing.{passed_edge}
 use Rattle.point_queries.proofs.Telling.{odd_within, are_there, ring_there}
+
+-- a coordinate as it is kept
+pub read_back : (x : ℤ) → unsigned_abs x ≤ 1000000000000 → to_z w64 (of_z w64 x) ≡ x
+read_back x h = to_z-of_z w64 x (omega (arith, ints))
 
 -- what holds of what was found has another form
 pub if_found : {V E : Type 0} (P Q : V → Type 0) (r : Result (Option V) E) → ((v : V) → P v → Q v)

@@ -1,5 +1,5 @@
 -- Which rings hold a position, by the rings of the segments that count for it.
-use Rattle.std.proofs.Common.{◌≡◌, Bool, true, false, refl, sym, ap, ap₂, ◌∙◌, subst, List, ◌∷◌, [], Option, Some, inl, inr}
+use Rattle.std.proofs.Common.{◌≡◌, Bool, true, refl, sym, ap, ap₂, ◌∙◌, subst, List, ◌∷◌, [], Option, Some, inl, inr}
 use Rattle.std.specs.Prelude.{is_some, unwrap_or}
 use Rattle.std.specs.List.{AllByRecursion, list_any, list_all}
 use Rattle.grid_geometry.specs.Position.{Position, InRange, position_eq}

@@ -1,4 +1,4 @@
-use Rattle.std.proofs.Common.{◌<◌, ◌≤◌, ◌∙◌, sym, ap, [], ◌∷◌, ◌++◌, length, get_or, arith}
+use Rattle.std.proofs.Common.{◌<◌, ◌∙◌, sym, ap, [], ◌∷◌, ◌++◌, length, get_or, arith}
 use Rattle.map_frame.specs.declared.names.RingName.{RingName}
 use Rattle.point_queries.specs.Odd.{holds}
 use Rattle.point_queries.proofs.Odds.{filter_yes, filter_no}
