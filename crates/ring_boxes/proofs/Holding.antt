@@ -1,5 +1,5 @@
 -- What is held after an add, and which rings that covers.
-use Rattle.std.proofs.Common.{◌≡◌, ◌<◌, ◌+◌, ℕ, zero, suc, ℤ, Bool, true, subst, ◌&&◌, ◌||◌, refl, sym, ap, ◌∙◌, int_le, List, [], ◌∷◌, ◌++◌, length, get_or, take, inl, inr, Result, Ok, Err, OnOk, OnErr, Contains, arith}
+use Rattle.std.proofs.Common.{◌≡◌, ◌≤◌, ◌<◌, ◌+◌, ℕ, ℤ, Bool, true, false, cond, None, subst, ◌&&◌, ◌||◌, refl, sym, ap, ◌∙◌, int_le, List, [], ◌∷◌, ◌++◌, length, get_or, take, inl, inr, Result, Ok, Err, OnOk, OnErr, arith}
 use Rattle.std.specs.FinSet as set
 use Rattle.std.specs.Int.{int_min, int_max}
 use Rattle.std.specs.List.{list_any}
@@ -7,11 +7,12 @@ use Rattle.std.proofs.lemmas.Int.{ints}
 use Rattle.std.proofs.lemmas.List.Folds.{list_any_more, list_any_at}
 use Rattle.grid_geometry.specs.Position.{Position}
 use Rattle.grid_geometry.specs.Segment.{Segment, Box, box_of, boxes_meet, segment_eq}
-use Rattle.ring_machine.proofs.Members.{contains_in, same_answer}
+use Rattle.ring_machine.proofs.Members.{same_answer}
 use Rattle.ring_machine.proofs.Order.{or_true}
-use Rattle.segment_index.specs.Candidates.{SegmentSet, Gives, has, segment_is}
-use Rattle.segment_index.proofs.Singles.{same_segment, segment_eq-is, segment_total, is-itself, contains_inserted}
-use Rattle.ring_boxes.specs.Covering.{lies_in, IsCovered, Keeps}
+use Rattle.segment_index.specs.Candidates.{SegmentSet, Gives, has, segment_is, times_in}
+use Rattle.segment_index.specs.Times.{times_by}
+use Rattle.segment_index.proofs.Singles.{same_segment, segment_eq-is, segment_total, is-itself, times-some}
+use Rattle.ring_boxes.specs.Covering.{box_at, lies_in}
 use Rattle.ring_boxes.specs.Held.{AreAround, IsWider, IsWidened, StaysHeld}
 
 -- what holds where there is a value holds there in another form
@@ -61,18 +62,21 @@ next_widened boxes i d p old new lt here stays w below t h =
 pub item_has : (boxes : List Segment) (i : ℕ) (d : Segment) → i < length boxes → d ≡ get_or boxes i d → has boxes d ≡ true
 item_has boxes i d lt here = list_any_at (segment_is d) boxes i d lt (ap (segment_is d) (sym here) ∙ is-itself d)
 
--- ---- the rings that lie in them
+-- ---- the boxes that are given for a position
 
-pub keeps : (old new : SegmentSet) → StaysHeld old new → Keeps old new
-keeps old new stays ring c = record { by = c.by; held = stays c.by c.held; within = c.within }
-
-pub grown : (old new : SegmentSet) (p q : Position) (near : List Segment) → AreAround old p near → ((d : Segment) → has near d ≡ true → IsWidened new d q)
-    → (ring : List Position) → IsCovered old ring → Contains ring p → IsCovered new (q ∷ ring)
-grown old new p q near around all ring c i = record { by = w.0; held = w.1; within = within }
+pub given_around : (boxes : SegmentSet) (p : Position) (old new : List Segment) → old ≡ [] → Gives boxes (times_by None) (box_at p) old new true → AreAround boxes p new
+given_around boxes p old new none g = record {
+  among = λ d h. g.among d (as_found d h);
+  around = λ d h. by d (boxes_meet (box_of d) (box_at p)) refl (times-some g.found d (as_found d h));
+  each = λ d h k. ap (λ ts. has ts d) found ∙ g.covers refl d h k;
+}
   where
-    w : IsWidened new c.by q
-    w = all c.by (around.each c.by c.held (c.within p i))
+    found : new ≡ g.found
+    found = g.appended ∙ ap (λ ts. ts ++ g.found) none
 
-    within : (r : Position) → Contains (q ∷ ring) r → lies_in w.0 r ≡ true
-    within r (zero, l, e) = ap (lies_in w.0) (sym e) ∙ w.2.has_it
-    within r (suc k, l, e) = w.2.has_all r (c.within r (k, omega (arith, l), e))
+    as_found : (d : Segment) → has new d ≡ true → has g.found d ≡ true
+    as_found d h = ap (λ ts. has ts d) (sym found) ∙ h
+
+    by : (d : Segment) (b : Bool) → lies_in d p ≡ b → 1 ≤ times_in g.found d → lies_in d p ≡ true
+    by d true e h = e
+    by d false e h = let k : cond {A = ℕ} (lies_in d p) 1 0 ≡ 0 = ap (λ b. cond {A = ℕ} b 1 0) e in absurd (omega (arith, h, k, g.few d))

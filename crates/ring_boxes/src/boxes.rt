@@ -5,7 +5,7 @@ ghost use Rattle.grid_geometry.specs.Position.{Position};
 ghost use Rattle.grid_geometry.specs.Segment.{Segment};
 ghost use Rattle.ring_machine.specs.Ring.{is_distinct};
 ghost use Rattle.segment_index.specs.Candidates.{AreAmong, has};
-ghost use Rattle.ring_boxes.specs.Covering.{lies_in, IsCovered, Keeps};
+ghost use Rattle.ring_boxes.specs.Covering.{lies_in, IsCovered, IsReached, Keeps};
 ghost use Rattle.ring_boxes.specs.Held.{AreAround, IsWidened, StaysHeld};
 
 use crate::diagonal::{box_at, diagonal_of, farthest, lies_in, widened};
@@ -74,6 +74,7 @@ impl<A: Allocator + Copy> RingBoxes<A> {
         ensures least { IfOk result (λ x. int_le p.x x ≡ true) }
         ensures far { IfOk result (λ x. (d : Segment) → set.contains self.now d ≡ true
             → lies_in d p ≡ true → int_le d.hi.x x ≡ true) }
+        ensures reached { IfOk result (λ x. IsReached self.now p x) }
         ensures range { IfOk result (λ x. unsigned_abs x ≤ 1000000000000) }
     {
         let near = self.around(p)?;

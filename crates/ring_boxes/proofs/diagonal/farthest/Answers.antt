@@ -1,7 +1,7 @@
 use Rattle.std.proofs.Common.{◌≡◌, ◌∙◌, ap, int_le}
 use Rattle.std.specs.Int.{int_max}
 use Rattle.grid_geometry.specs.Segment.{Segment}
-use Rattle.ring_boxes.proofs.Farthest.{next_up_to, max_left}
+use Rattle.ring_boxes.proofs.Farthest.{next_one_of, next_up_to, max_left}
 use Rattle.ring_boxes.proofs.diagonal.farthest.Goals as goal
 
 pub loop-d-preserved : goal.loop-d-preserved
@@ -11,4 +11,5 @@ loop-d-preserved c =
     record {
       least = ap (int_le c.args.p.x) most ∙ max_left x c.d-item.result.hi.x c.args.p.x c.loop-d.invariant.least;
       far = next_up_to c.args.boxes.now c.loop-d.d-index c.d-item.result x c.farther-found.result.x c.loop-d-test.true c.d-item.is most c.loop-d.invariant.far;
+      one = next_one_of c.args.p.x c.args.boxes.now c.loop-d.d-index c.d-item.result x c.farther-found.result.x c.loop-d-test.true c.d-item.is most c.loop-d.invariant.one;
     }
