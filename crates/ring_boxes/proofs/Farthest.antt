@@ -1,23 +1,13 @@
 -- The greatest x of the first so many boxes.
 use Rattle.std.proofs.Common.{◌≡◌, ◌<◌, ◌+◌, ℕ, ℤ, Bool, true, false, cond, ◌⊎◌, ◌||◌, refl, sym, ap, ◌∙◌, int_le, List, length, get_or, take, inl, inr, arith}
-use Rattle.std.specs.Prelude.{int_lt}
 use Rattle.std.specs.Int.{int_max}
-use Rattle.std.proofs.lemmas.Int.{ints}
 use Rattle.std.proofs.lemmas.List.Folds.{list_any_more, list_any_kept}
 use Rattle.grid_geometry.specs.Segment.{Segment}
 use Rattle.ring_machine.proofs.Order.{or_true, or_right}
 use Rattle.segment_index.specs.Candidates.{has, segment_is}
 use Rattle.segment_index.proofs.Singles.{same_segment, is-itself}
 use Rattle.ring_boxes.specs.Held.{IsOneOf}
-
-pub le_itself : (a : ℤ) → int_le a a ≡ true
-le_itself a = grind (arith, ints)
-
-pub max_left : (a b c : ℤ) → int_le c a ≡ true → int_le c (int_max a b) ≡ true
-max_left a b c h = grind (arith, ints)
-
-max_right : (a b c : ℤ) → int_le c b ≡ true → int_le c (int_max a b) ≡ true
-max_right a b c h = grind (arith, ints)
+use Rattle.ring_boxes.proofs.Coordinates.{le_itself, max_left, max_right, max_is}
 
 -- no box of the list reaches past x
 abbrev pub AllUpTo : List Segment → ℤ → Type 0
@@ -33,13 +23,6 @@ next_up_to boxes i d x y lt here most below t h =
           let one : t ≡ d = same_segment t (get_or boxes i d) e ∙ sym here in
           max_right x d.hi.x t.hi.x (ap (λ (s : Segment). int_le s.hi.x d.hi.x) one ∙ le_itself d.hi.x)
     ]
-
-max_is : (a b : ℤ) → (int_max a b ≡ a) ⊎ (int_max a b ≡ b)
-max_is a b = by (int_lt b a)
-  where
-    by : (c : Bool) → (cond c a b ≡ a) ⊎ (cond c a b ≡ b)
-    by true = inl refl
-    by false = inr refl
 
 pub next_one_of : (first : ℤ) (boxes : List Segment) (i : ℕ) (d : Segment) (x y : ℤ) → i < length boxes → d ≡ get_or boxes i d → y ≡ int_max x d.hi.x → IsOneOf first (take i boxes) x → IsOneOf first (take (i + 1) boxes) y
 next_one_of first boxes i d x y lt here most before = by (max_is x d.hi.x) before

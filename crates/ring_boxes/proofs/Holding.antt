@@ -22,17 +22,14 @@ on_ok (Err e) f p = p
 
 -- ---- the boxes that are held
 
-meets_itself : (s : Segment) → boxes_meet (box_of s) (box_of s) ≡ true
-meets_itself s = λ i. (side s.lo.x s.hi.x i && side s.lo.x s.hi.x i) && (side s.lo.y s.hi.y i && side s.lo.y s.hi.y i)
-  where
-    side : (a b : ℤ) → int_le (int_min a b) (int_max a b) ≡ true
-    side a b = grind (arith, ints)
+side : (a b : ℤ) → (int_le (int_min a b) a && int_le a (int_max a b)) ≡ true
+side a b = grind (arith, ints)
 
--- a box is held where it is given for itself
-pub held_given : (boxes : SegmentSet) (times : Segment → Box → ℕ) (d : Segment) (old new : List Segment) → old ≡ [] → Gives boxes times (box_of d) old new true → list_any (λ t. segment_eq t d) new ≡ set.contains boxes d
-held_given boxes times d old new none g =
-    (λ i. list_any (λ t. segment_eq-is d t i) new) ∙ ap (λ ts. has ts d) (g.appended ∙ ap (λ ts. ts ++ g.found) none)
-    ∙ same_answer (has g.found d) (set.contains boxes d) (g.among d) (λ h. g.covers refl d h (meets_itself d))
+-- a box is held where it is among those that have its first corner
+pub held_around : (boxes : SegmentSet) (d : Segment) (near : List Segment) → AreAround boxes d.lo near → list_any (λ t. segment_eq t d) near ≡ set.contains boxes d
+held_around boxes d near a =
+    (λ i. list_any (λ t. segment_eq-is d t i) near)
+    ∙ same_answer (has near d) (set.contains boxes d) (a.among d) (λ h. a.each d h (λ i. side d.lo.x d.hi.x i && side d.lo.y d.hi.y i))
 
 inserted : (old new : SegmentSet) (d : Segment) → new ≡ set.insert old d → StaysHeld old new
 inserted old new d e t h = ap (λ s. set.contains s t) e ∙ set.contains-insert segment_total old d t ∙ ap (λ b. segment_is t d || b) h ∙ or_itself (segment_is t d)

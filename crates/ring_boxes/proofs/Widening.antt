@@ -3,34 +3,11 @@ use Rattle.std.proofs.Common.{arith, ◌≡◌, ℤ, Bool, true, false, cond, �
 use Rattle.std.specs.Prelude.{IsNone, IfSome}
 use Rattle.std.specs.Int.{int_min, int_max}
 use Rattle.std.specs.Ordering.{is_gt}
-use Rattle.std.proofs.lemmas.Int.{ints}
 use Rattle.grid_geometry.specs.Position.{Position, position, position_cmp}
 use Rattle.grid_geometry.specs.Segment.{Segment, segment}
 use Rattle.ring_boxes.specs.Covering.{lies_in}
 use Rattle.ring_boxes.specs.Held.{IsWider}
-
--- ---- of one coordinate
-
-le_itself : (a : ℤ) → int_le a a ≡ true
-le_itself a = grind (arith, ints)
-
-min_left : (a b c : ℤ) → int_le a c ≡ true → int_le (int_min a b) c ≡ true
-min_left a b c h = grind (arith, ints)
-
-min_right : (a b c : ℤ) → int_le b c ≡ true → int_le (int_min a b) c ≡ true
-min_right a b c h = grind (arith, ints)
-
-max_left : (a b c : ℤ) → int_le c a ≡ true → int_le c (int_max a b) ≡ true
-max_left a b c h = grind (arith, ints)
-
-max_right : (a b c : ℤ) → int_le c b ≡ true → int_le c (int_max a b) ≡ true
-max_right a b c h = grind (arith, ints)
-
--- where the least and the greatest of three are one, so are all of them
-all_one : (a b c : ℤ) → int_min (int_min a b) c ≡ int_max (int_max a b) c → (int_le (int_min a b) c && int_le c (int_max a b)) ≡ true
-all_one a b c h = grind (arith, ints)
-
--- ---- of both
+use Rattle.ring_boxes.proofs.Coordinates.{le_itself, min_left, min_right, max_left, max_right, all_one}
 
 four : (a b c d : Bool) → ((a && b) && (c && d)) ≡ true → (a ≡ true) × (b ≡ true) × (c ≡ true) × (d ≡ true)
 four true true true true h = (refl, refl, refl, refl)

@@ -46,8 +46,8 @@ impl<A: Allocator + Copy> RingBoxes<A> {
         }
     }
 
-    /// Adds the box of a ring, unless it is held already. Fails only for want of memory; the boxes
-    /// are then as before.
+    /// Adds the box of a ring, unless it is held already. Fails only for want of memory; each ring
+    /// that lay in a box then still does.
     pub fn add(&mut self, ring: &[Pos]) -> Result<(), AllocError>
         requires some { 2 ≤ length ring.now }
         requires distinct { IsTrue (is_distinct ring.now) }
@@ -57,8 +57,9 @@ impl<A: Allocator + Copy> RingBoxes<A> {
         self.hold(diagonal_of(ring))
     }
 
-    /// Adds to each box that has p, and not q, the least box that has it and q. Fails only for want
-    /// of memory; some of these boxes may then have come.
+    /// Adds to each box that has p, and not q, the least box that has all of it, and q. Fails only
+    /// for want of memory; some of these boxes may then have come, and each ring that lay in a box
+    /// still does.
     pub fn grow(&mut self, p: Pos, q: Pos) -> Result<(), AllocError>
         ensures grown { OnOk result ((ring : List Position) → IsCovered self.old ring
             → Contains ring p → IsCovered self.new (q ∷ ring)) }
@@ -105,8 +106,7 @@ impl<A: Allocator + Copy> RingBoxes<A> {
     fn holds(&self, d: Seg) -> Result<bool, AllocError>
         ensures { IfOk result (λ held. held ≡ set.contains self.now d) }
     {
-        let mut near = Vec::new(self.alloc);
-        self.index.candidates(d.rect(), &mut near)?;
+        let near = self.around(d.lo)?;
         Ok(near.as_slice().contains(&d))
     }
 

@@ -1,7 +1,8 @@
 use Rattle.std.proofs.Common.{◌≡◌, ◌∙◌, ap, int_le}
 use Rattle.std.specs.Int.{int_max}
 use Rattle.grid_geometry.specs.Segment.{Segment}
-use Rattle.ring_boxes.proofs.Farthest.{next_one_of, next_up_to, max_left}
+use Rattle.ring_boxes.proofs.Coordinates.{max_left}
+use Rattle.ring_boxes.proofs.Farthest.{next_one_of, next_up_to}
 use Rattle.ring_boxes.proofs.diagonal.farthest.Goals as goal
 
 pub loop-d-preserved : goal.loop-d-preserved

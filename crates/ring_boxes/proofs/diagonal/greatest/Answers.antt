@@ -1,4 +1,4 @@
-use Rattle.ring_boxes.proofs.Corners.{greater_fits}
+use Rattle.ring_boxes.proofs.Coordinates.{greater_fits}
 use Rattle.ring_boxes.proofs.diagonal.greatest.Goals as goal
 
 pub unwrap-requires : goal.unwrap-requires

@@ -1,4 +1,4 @@
-use Rattle.ring_boxes.proofs.Corners.{lesser_fits}
+use Rattle.ring_boxes.proofs.Coordinates.{lesser_fits}
 use Rattle.ring_boxes.proofs.diagonal.least.Goals as goal
 
 pub unwrap-requires : goal.unwrap-requires
