@@ -1,5 +1,5 @@
 -- The greatest x of the first so many boxes.
-use Rattle.std.proofs.Common.{◌≡◌, ◌<◌, ◌+◌, ℕ, ℤ, Bool, true, false, cond, ◌⊎◌, ◌||◌, refl, sym, ap, ◌∙◌, int_le, List, length, get_or, take, inl, inr, arith}
+use Rattle.std.proofs.Common.{◌≡◌, ◌<◌, ◌+◌, ℕ, ℤ, true, ◌⊎◌, sym, ap, ◌∙◌, int_le, List, length, get_or, take, inl, inr}
 use Rattle.std.specs.Int.{int_max}
 use Rattle.std.proofs.lemmas.List.Folds.{list_any_more, list_any_kept}
 use Rattle.grid_geometry.specs.Segment.{Segment}

@@ -1,5 +1,5 @@
 -- Boxes that have all that others have.
-use Rattle.std.proofs.Common.{arith, ◌≡◌, ℤ, Bool, true, false, cond, ◌&&◌, refl, subst, sym, ap, ◌∙◌, int_le, Option, None, Some, unwrap_or}
+use Rattle.std.proofs.Common.{◌≡◌, Bool, true, false, cond, ◌&&◌, refl, subst, ap, ◌∙◌, int_le, Option, None, Some, unwrap_or}
 use Rattle.std.specs.Prelude.{IsNone, IfSome}
 use Rattle.std.specs.Int.{int_min, int_max}
 use Rattle.std.specs.Ordering.{is_gt}
