@@ -13,7 +13,8 @@ use Rattle.ring_boxes.proofs.Coordinates.{le_itself, max_left, max_right, max_is
 abbrev pub AllUpTo : List Segment → ℤ → Type 0
 AllUpTo boxes x = (t : Segment) → has boxes t ≡ true → int_le t.hi.x x ≡ true
 
-pub next_up_to : (boxes : List Segment) (i : ℕ) (d : Segment) (x y : ℤ) → i < length boxes → d ≡ get_or boxes i d → y ≡ int_max x d.hi.x → AllUpTo (take i boxes) x → AllUpTo (take (i + 1) boxes) y
+pub next_up_to : (boxes : List Segment) (i : ℕ) (d : Segment) (x y : ℤ) → i < length boxes
+    → d ≡ get_or boxes i d → y ≡ int_max x d.hi.x → AllUpTo (take i boxes) x → AllUpTo (take (i + 1) boxes) y
 next_up_to boxes i d x y lt here most below t h =
     let known = sym (list_any_more (segment_is t) boxes i d lt) ∙ h in
     ap (int_le t.hi.x) most
@@ -24,13 +25,17 @@ next_up_to boxes i d x y lt here most below t h =
           max_right x d.hi.x t.hi.x (ap (λ (s : Segment). int_le s.hi.x d.hi.x) one ∙ le_itself d.hi.x)
     ]
 
-pub next_one_of : (first : ℤ) (boxes : List Segment) (i : ℕ) (d : Segment) (x y : ℤ) → i < length boxes → d ≡ get_or boxes i d → y ≡ int_max x d.hi.x → IsOneOf first (take i boxes) x → IsOneOf first (take (i + 1) boxes) y
+pub next_one_of : (first : ℤ) (boxes : List Segment) (i : ℕ) (d : Segment) (x y : ℤ) → i < length boxes
+    → d ≡ get_or boxes i d → y ≡ int_max x d.hi.x → IsOneOf first (take i boxes) x → IsOneOf first (take (i + 1) boxes) y
 next_one_of first boxes i d x y lt here most before = by (max_is x d.hi.x) before
   where
     there : has (take (i + 1) boxes) d ≡ true
-    there = list_any_more (segment_is d) boxes i d lt ∙ or_right (has (take i boxes) d) (segment_is d (get_or boxes i d)) (ap (segment_is d) (sym here) ∙ is-itself d)
+    there =
+        list_any_more (segment_is d) boxes i d lt
+        ∙ or_right (has (take i boxes) d) (segment_is d (get_or boxes i d)) (ap (segment_is d) (sym here) ∙ is-itself d)
 
-    by : (int_max x d.hi.x ≡ x) ⊎ (int_max x d.hi.x ≡ d.hi.x) → IsOneOf first (take i boxes) x → IsOneOf first (take (i + 1) boxes) y
+    by : (int_max x d.hi.x ≡ x) ⊎ (int_max x d.hi.x ≡ d.hi.x) → IsOneOf first (take i boxes) x
+        → IsOneOf first (take (i + 1) boxes) y
     by (inr e) one = inr (d, there, sym (most ∙ e))
     by (inl e) (inl k) = inl (most ∙ e ∙ k)
     by (inl e) (inr k) = inr (k.0, list_any_kept (segment_is k.0) boxes i k.1, k.2 ∙ sym (most ∙ e))

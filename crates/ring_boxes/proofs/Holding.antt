@@ -1,5 +1,7 @@
--- What is held after an add, and which rings that covers.
-use Rattle.std.proofs.Common.{◌≡◌, ◌≤◌, ◌<◌, ◌+◌, ℕ, ℤ, Bool, true, false, cond, None, subst, ◌&&◌, ◌||◌, refl, sym, ap, ◌∙◌, int_le, List, [], ◌++◌, length, get_or, take, inl, inr, Result, Ok, Err, OnOk, OnErr, arith}
+-- What is held after an add, and what is given for a position.
+use Rattle.std.proofs.Common.{◌≡◌, ◌≤◌, ◌<◌, ◌+◌, ℕ, ℤ, Bool, true, false, cond, None, subst, ◌&&◌, ◌||◌}
+use Rattle.std.proofs.Common.{refl, sym, ap, ◌∙◌, int_le, List, [], ◌++◌, length, get_or, take, inl, inr, Result, Ok}
+use Rattle.std.proofs.Common.{Err, OnOk, OnErr, arith}
 use Rattle.std.specs.FinSet as set
 use Rattle.std.specs.Int.{int_min, int_max}
 use Rattle.std.specs.List.{list_any}
@@ -26,19 +28,22 @@ side : (a b : ℤ) → (int_le (int_min a b) a && int_le a (int_max a b)) ≡ tr
 side a b = grind (arith, ints)
 
 -- a box is held where it is among those that have its first corner
-pub held_around : (boxes : SegmentSet) (d : Segment) (near : List Segment) → AreAround boxes d.lo near → list_any (λ t. segment_eq t d) near ≡ set.contains boxes d
+pub held_around : (boxes : SegmentSet) (d : Segment) (near : List Segment) → AreAround boxes d.lo near
+    → list_any (λ t. segment_eq t d) near ≡ set.contains boxes d
 held_around boxes d near a =
     (λ i. list_any (λ t. segment_eq-is d t i) near)
     ∙ same_answer (has near d) (set.contains boxes d) (a.among d) (λ h. a.each d h (λ i. side d.lo.x d.hi.x i && side d.lo.y d.hi.y i))
 
 inserted : (old new : SegmentSet) (d : Segment) → new ≡ set.insert old d → StaysHeld old new
-inserted old new d e t h = ap (λ s. set.contains s t) e ∙ set.contains-insert segment_total old d t ∙ ap (λ b. segment_is t d || b) h ∙ or_itself (segment_is t d)
+inserted old new d e t h =
+    ap (λ s. set.contains s t) e ∙ set.contains-insert segment_total old d t ∙ ap (λ b. segment_is t d || b) h ∙ or_itself (segment_is t d)
   where
     or_itself : (b : Bool) → (b || true) ≡ true
     or_itself b = grind arith
 
 -- an add that may have failed
-pub added_stays : {X E : Type 0} (r : Result X E) (old new : SegmentSet) (d : Segment) → OnOk r (new ≡ set.insert old d) → OnErr r (new ≡ old) → StaysHeld old new
+pub added_stays : {X E : Type 0} (r : Result X E) (old new : SegmentSet) (d : Segment) → OnOk r (new ≡ set.insert old d)
+    → OnErr r (new ≡ old) → StaysHeld old new
 added_stays (Ok x) old new d ok err = inserted old new d ok
 added_stays (Err e) old new d ok err = λ t h. ap (λ s. set.contains s t) err ∙ h
 
@@ -47,8 +52,10 @@ added_stays (Err e) old new d ok err = λ t h. ap (λ s. set.contains s t) err �
 widened_stays : (old new : SegmentSet) (d : Segment) (p : Position) → StaysHeld old new → IsWidened old d p → IsWidened new d p
 widened_stays old new d p stays w = (w.0, stays w.0 w.1, w.2)
 
-pub next_widened : (boxes : List Segment) (i : ℕ) (d : Segment) (p : Position) (old new : SegmentSet) → i < length boxes → d ≡ get_or boxes i d → StaysHeld old new → IsWidened new d p
-    → ((t : Segment) → has (take i boxes) t ≡ true → IsWidened old t p) → (t : Segment) → has (take (i + 1) boxes) t ≡ true → IsWidened new t p
+pub next_widened : (boxes : List Segment) (i : ℕ) (d : Segment) (p : Position) (old new : SegmentSet) → i < length boxes
+    → d ≡ get_or boxes i d → StaysHeld old new → IsWidened new d p
+    → ((t : Segment) → has (take i boxes) t ≡ true → IsWidened old t p)
+    → (t : Segment) → has (take (i + 1) boxes) t ≡ true → IsWidened new t p
 next_widened boxes i d p old new lt here stays w below t h =
     elim (or_true (has (take i boxes) t) (segment_is t (get_or boxes i d)) (sym (list_any_more (segment_is t) boxes i d lt) ∙ h)) [
       | inl e ↦ widened_stays old new t p stays (below t e)
@@ -61,7 +68,8 @@ item_has boxes i d lt here = list_any_at (segment_is d) boxes i d lt (ap (segmen
 
 -- ---- the boxes that are given for a position
 
-pub given_around : (boxes : SegmentSet) (p : Position) (old new : List Segment) → old ≡ [] → Gives boxes (times_by None) (box_at p) old new true → AreAround boxes p new
+pub given_around : (boxes : SegmentSet) (p : Position) (old new : List Segment) → old ≡ []
+    → Gives boxes (times_by None) (box_at p) old new true → AreAround boxes p new
 given_around boxes p old new none g = record {
   among = λ d h. g.among d (as_found d h);
   around = λ d h. by d (boxes_meet (box_of d) (box_at p)) refl (times-some g.found d (as_found d h));

@@ -8,9 +8,12 @@ use Rattle.ring_boxes.proofs.diagonal.farthest.Goals as goal
 pub loop-d-preserved : goal.loop-d-preserved
 loop-d-preserved c =
     let x = c.loop-d.found.x in
-    let most : c.farther-found.result.x ≡ int_max x c.d-item.result.hi.x = c.farther-found.ensures ∙ ap (λ (s : Segment). int_max x s.hi.x) c.d.view_is in
+    let most : c.farther-found.result.x ≡ int_max x c.d-item.result.hi.x =
+    c.farther-found.ensures ∙ ap (λ (s : Segment). int_max x s.hi.x) c.d.view_is in
     record {
       least = ap (int_le c.args.p.x) most ∙ max_left x c.d-item.result.hi.x c.args.p.x c.loop-d.invariant.least;
-      far = next_up_to c.args.boxes.now c.loop-d.d-index c.d-item.result x c.farther-found.result.x c.loop-d-test.true c.d-item.is most c.loop-d.invariant.far;
-      one = next_one_of c.args.p.x c.args.boxes.now c.loop-d.d-index c.d-item.result x c.farther-found.result.x c.loop-d-test.true c.d-item.is most c.loop-d.invariant.one;
+      far = next_up_to c.args.boxes.now c.loop-d.d-index c.d-item.result x c.farther-found.result.x
+          c.loop-d-test.true c.d-item.is most c.loop-d.invariant.far;
+      one = next_one_of c.args.p.x c.args.boxes.now c.loop-d.d-index c.d-item.result x c.farther-found.result.x
+          c.loop-d-test.true c.d-item.is most c.loop-d.invariant.one;
     }

@@ -9,4 +9,5 @@ pub returns : goal.returns
 returns g c =
     subst (λ boxes. AreAround boxes c.args.p c.candidates.new.out.items) c.self.view_is
     (given_around c.self.inside.index c.args.p c.new-near.result.items c.candidates.new.out.items c.new-near.ensures.items
-    (subst (λ r. Gives c.self.inside.index (times_by None) r c.new-near.result.items c.candidates.new.out.items true) c.box_at.ensures c.in_ok-candidates.ensures))
+    (subst (λ r. Gives c.self.inside.index (times_by None) r c.new-near.result.items c.candidates.new.out.items true)
+    c.box_at.ensures c.in_ok-candidates.ensures))

@@ -9,4 +9,5 @@ pub returns : goal.returns
 returns g c =
     let near = c.in_ok-near.near.items in
     c.contains.ensures.value ∙ ap (list_any (λ t. segment_eq t c.args.d)) c.as_slice.ensures.value
-    ∙ held_around c.args.self.now c.args.d near (subst (λ (d : Segment). AreAround c.args.self.now d.lo near) c.d.view_is c.in_ok-near.ensures)
+    ∙ held_around c.args.self.now c.args.d near
+    (subst (λ (d : Segment). AreAround c.args.self.now d.lo near) c.d.view_is c.in_ok-near.ensures)
