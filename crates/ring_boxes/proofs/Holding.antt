@@ -15,7 +15,7 @@ use Rattle.segment_index.specs.Candidates.{SegmentSet, Gives, has, segment_is, t
 use Rattle.segment_index.specs.Times.{times_by}
 use Rattle.segment_index.proofs.Singles.{same_segment, segment_eq-is, segment_total, is-itself, times-some}
 use Rattle.ring_boxes.specs.Covering.{box_at, lies_in}
-use Rattle.ring_boxes.specs.Held.{AreAround, IsWidened, StaysHeld}
+use Rattle.ring_boxes.specs.Held.{AreBoxesOf, IsWidened, StaysHeld}
 
 -- what holds where there is a value holds there in another form
 pub on_ok : {X E P Q : Type 0} (r : Result X E) → (P → Q) → OnOk r P → OnOk r Q
@@ -28,9 +28,9 @@ side : (a b : ℤ) → (int_le (int_min a b) a && int_le a (int_max a b)) ≡ tr
 side a b = grind (arith, ints)
 
 -- a box is held where it is among those that have its first corner
-pub held_around : (boxes : SegmentSet) (d : Segment) (near : List Segment) → AreAround boxes d.lo near
+pub held_among : (boxes : SegmentSet) (d : Segment) (near : List Segment) → AreBoxesOf boxes d.lo near
     → list_any (λ t. segment_eq t d) near ≡ set.contains boxes d
-held_around boxes d near a =
+held_among boxes d near a =
     (λ i. list_any (λ t. segment_eq-is d t i) near)
     ∙ same_answer (has near d) (set.contains boxes d) (a.among d) (λ h. a.each d h (λ i. side d.lo.x d.hi.x i && side d.lo.y d.hi.y i))
 
@@ -68,11 +68,11 @@ item_has boxes i d lt here = list_any_at (segment_is d) boxes i d lt (ap (segmen
 
 -- ---- the boxes that are given for a position
 
-pub given_around : (boxes : SegmentSet) (p : Position) (old new : List Segment) → old ≡ []
-    → Gives boxes (times_by None) (box_at p) old new true → AreAround boxes p new
-given_around boxes p old new none g = record {
+pub given_boxes : (boxes : SegmentSet) (p : Position) (old new : List Segment) → old ≡ []
+    → Gives boxes (times_by None) (box_at p) old new true → AreBoxesOf boxes p new
+given_boxes boxes p old new none g = record {
   among = λ d h. g.among d (as_found d h);
-  around = λ d h. by d (boxes_meet (box_of d) (box_at p)) refl (times-some g.found d (as_found d h));
+  have_it = λ d h. by d (boxes_meet (box_of d) (box_at p)) refl (times-some g.found d (as_found d h));
   each = λ d h k. ap (λ ts. has ts d) found ∙ g.covers refl d h k;
 }
   where

@@ -11,9 +11,9 @@ abbrev pub StaysHeld : SegmentSet → SegmentSet → Type 0
 StaysHeld old new = (d : Segment) → set.contains old d ≡ true → set.contains new d ≡ true
 
 -- the list has the held boxes that the position lies in
-pub record AreAround (boxes : SegmentSet) (p : Position) (near : List Segment) : Type 0 where
+pub record AreBoxesOf (boxes : SegmentSet) (p : Position) (near : List Segment) : Type 0 where
   pub among : AreAmong boxes near
-  pub around : (d : Segment) → has near d ≡ true → lies_in d p ≡ true
+  pub have_it : (d : Segment) → has near d ≡ true → lies_in d p ≡ true
   pub each : (d : Segment) → set.contains boxes d ≡ true → lies_in d p ≡ true → has near d ≡ true
 
 -- the second box has the position, and all that the first one has

@@ -6,7 +6,7 @@ ghost use Rattle.grid_geometry.specs.Segment.{Segment};
 ghost use Rattle.ring_machine.specs.Ring.{is_distinct};
 ghost use Rattle.segment_index.specs.Candidates.{AreAmong, has};
 ghost use Rattle.ring_boxes.specs.Covering.{lies_in, IsCovered, IsReached, Keeps};
-ghost use Rattle.ring_boxes.specs.Held.{AreAround, IsWidened, StaysHeld};
+ghost use Rattle.ring_boxes.specs.Held.{AreBoxesOf, IsWidened, StaysHeld};
 
 use crate::diagonal::{box_at, diagonal_of, farthest, lies_in, widened};
 use grid_geometry::{Pos, Rect, Seg};
@@ -65,7 +65,7 @@ impl<A: Allocator + Copy> RingBoxes<A> {
             → Contains ring p → IsCovered self.new (q ∷ ring)) }
         ensures keeps { Keeps self.old self.new }
     {
-        let near = self.around(p)?;
+        let near = self.boxes_of(p)?;
         self.widen_all(near.as_slice(), q)
     }
 
@@ -78,7 +78,7 @@ impl<A: Allocator + Copy> RingBoxes<A> {
         ensures reached { IfOk result (λ x. IsReached self.now p x) }
         ensures range { IfOk result (λ x. unsigned_abs x ≤ 1000000000000) }
     {
-        let near = self.around(p)?;
+        let near = self.boxes_of(p)?;
         Ok(farthest(near.as_slice(), p).x())
     }
 
@@ -93,9 +93,9 @@ impl<A: Allocator + Copy> RingBoxes<A> {
         })
     }
 
-    /// The boxes that have a position.
-    fn around(&self, p: Pos) -> Result<Vec<Seg, A>, AllocError>
-        ensures { IfOk result (λ near. AreAround self.now p near.items) }
+    /// The boxes that a position lies in.
+    fn boxes_of(&self, p: Pos) -> Result<Vec<Seg, A>, AllocError>
+        ensures { IfOk result (λ near. AreBoxesOf self.now p near.items) }
     {
         let mut near = Vec::new(self.alloc);
         self.index.candidates(box_at(p), &mut near)?;
@@ -106,7 +106,7 @@ impl<A: Allocator + Copy> RingBoxes<A> {
     fn holds(&self, d: Seg) -> Result<bool, AllocError>
         ensures { IfOk result (λ held. held ≡ set.contains self.now d) }
     {
-        let near = self.around(d.lo)?;
+        let near = self.boxes_of(d.lo)?;
         Ok(near.as_slice().contains(&d))
     }
 
