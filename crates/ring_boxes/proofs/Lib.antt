@@ -1,4 +1,4 @@
-pub mod Corners
+pub mod Coordinates
 pub mod Widening
 pub mod Rings
 pub mod Farthest

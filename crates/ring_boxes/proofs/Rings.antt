@@ -10,7 +10,8 @@ use Rattle.ring_boxes.specs.Held.{IsWider}
 abbrev pub HasBelow : Segment → List Position → ℕ → Type 0
 HasBelow d ring i = (k : ℕ) → k < i → (z : Position) → lies_in d (get_or ring k z) ≡ true
 
-pub one_more : (d e : Segment) (ring : List Position) (i : ℕ) (p : Position) → i < length ring → p ≡ get_or ring i p → IsWider d p e → HasBelow d ring i → HasBelow e ring (i + 1)
+pub one_more : (d e : Segment) (ring : List Position) (i : ℕ) (p : Position) → i < length ring
+    → p ≡ get_or ring i p → IsWider d p e → HasBelow d ring i → HasBelow e ring (i + 1)
 one_more d e ring i p lt here wider below =
     below_more (λ k. (z : Position) → lies_in e (get_or ring k z) ≡ true) i
     (λ k h z. wider.has_all (get_or ring k z) (below k h z))

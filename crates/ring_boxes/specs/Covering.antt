@@ -1,5 +1,5 @@
 -- Boxes, each by a diagonal, that the rings of a map lie in.
-use Rattle.std.specs.Prelude.{◌≡◌, Bool, true, List, Contains}
+use Rattle.std.specs.Prelude.{◌≡◌, ◌⊎◌, ℤ, Bool, true, List, Contains}
 use Rattle.std.specs.FinSet as set
 use Rattle.grid_geometry.specs.Position.{Position}
 use Rattle.grid_geometry.specs.Segment.{Segment, Box, box_of, boxes_meet}
@@ -26,3 +26,9 @@ Covers boxes rings = (ring : List Position) → Contains rings ring → IsCovere
 -- each ring that lies in one of the old boxes lies in one of the new ones
 abbrev pub Keeps : SegmentSet → SegmentSet → Type 0
 Keeps old new = (ring : List Position) → IsCovered old ring → IsCovered new ring
+
+-- x is that of the position, or the greatest x of a box that the position lies in
+abbrev pub IsReached : SegmentSet → Position → ℤ → Type 0
+IsReached boxes p x =
+    (x ≡ p.x)
+    ⊎ ((d : Segment) × (set.contains boxes d ≡ true) × (lies_in d p ≡ true) × ((box_of d).x1 ≡ x))

@@ -5,8 +5,8 @@ ghost use Rattle.grid_geometry.specs.Position.{Position};
 ghost use Rattle.grid_geometry.specs.Segment.{Segment, box_of};
 ghost use Rattle.ring_machine.specs.Ring.{is_distinct};
 ghost use Rattle.segment_index.specs.Candidates.{AreAmong, has};
-ghost use Rattle.ring_boxes.specs.Covering.{lies_in, IsCovered, Keeps};
-ghost use Rattle.ring_boxes.specs.Held.{AreAround, IsWidened, StaysHeld};
+ghost use Rattle.ring_boxes.specs.Covering.{lies_in, IsCovered, IsReached, Keeps};
+ghost use Rattle.ring_boxes.specs.Held.{AreBoxesOf, IsWidened, StaysHeld};
 
 use crate::diagonal::{box_at, diagonal_of, farthest, lies_in, widened};
 use grid_geometry::{Pos, Rect, Seg};
@@ -46,8 +46,8 @@ impl<A: Allocator + Copy> RingBoxes<A> {
         }
     }
 
-    /// Adds the box of a ring, unless it is held already. Fails only for want of memory; the boxes
-    /// are then as before.
+    /// Adds the box of a ring, unless it is held already. Fails only for want of memory; each ring
+    /// that lay in a box then still does.
     pub fn add(&mut self, ring: &[Pos]) -> Result<(), AllocError>
         requires some { 2 ≤ length ring.now }
         requires distinct { IsTrue (is_distinct ring.now) }
@@ -57,14 +57,15 @@ impl<A: Allocator + Copy> RingBoxes<A> {
         self.hold(diagonal_of(ring))
     }
 
-    /// Adds to each box that has p, and not q, the least box that has it and q. Fails only for want
-    /// of memory; some of these boxes may then have come.
+    /// Adds to each box that has p, and not q, the least box that has all of it, and q. Fails only
+    /// for want of memory; some of these boxes may then have come, and each ring that lay in a box
+    /// still does.
     pub fn grow(&mut self, p: Pos, q: Pos) -> Result<(), AllocError>
         ensures grown { OnOk result ((ring : List Position) → IsCovered self.old ring
             → Contains ring p → IsCovered self.new (q ∷ ring)) }
         ensures keeps { Keeps self.old self.new }
     {
-        let near = self.around(p)?;
+        let near = self.boxes_of(p)?;
         self.widen_all(near.as_slice(), q)
     }
 
@@ -74,9 +75,10 @@ impl<A: Allocator + Copy> RingBoxes<A> {
         ensures least { IfOk result (λ x. int_le p.x x ≡ true) }
         ensures far { IfOk result (λ x. (d : Segment) → set.contains self.now d ≡ true
             → lies_in d p ≡ true → int_le (box_of d).x1 x ≡ true) }
+        ensures reached { IfOk result (λ x. IsReached self.now p x) }
         ensures range { IfOk result (λ x. unsigned_abs x ≤ 1000000000000) }
     {
-        let near = self.around(p)?;
+        let near = self.boxes_of(p)?;
         Ok(farthest(near.as_slice(), p).x())
     }
 
@@ -91,9 +93,9 @@ impl<A: Allocator + Copy> RingBoxes<A> {
         })
     }
 
-    /// The boxes that have a position.
-    fn around(&self, p: Pos) -> Result<Vec<Seg, A>, AllocError>
-        ensures { IfOk result (λ near. AreAround self.now p near.items) }
+    /// The boxes that a position lies in.
+    fn boxes_of(&self, p: Pos) -> Result<Vec<Seg, A>, AllocError>
+        ensures { IfOk result (λ near. AreBoxesOf self.now p near.items) }
     {
         let mut near = Vec::new(self.alloc);
         self.index.candidates(box_at(p), &mut near)?;
@@ -104,8 +106,7 @@ impl<A: Allocator + Copy> RingBoxes<A> {
     fn holds(&self, d: Seg) -> Result<bool, AllocError>
         ensures { IfOk result (λ held. held ≡ set.contains self.now d) }
     {
-        let mut near = Vec::new(self.alloc);
-        self.index.candidates(d.rect(), &mut near)?;
+        let near = self.boxes_of(d.lo)?;
         Ok(near.as_slice().contains(&d))
     }
 

@@ -6,7 +6,7 @@ ghost use Rattle.grid_geometry.specs.Segment.{Segment, box_of};
 ghost use Rattle.ring_machine.specs.Ring.{is_distinct};
 ghost use Rattle.segment_index.specs.Candidates.{has};
 ghost use Rattle.ring_boxes.specs.Covering.{box_at, lies_in};
-ghost use Rattle.ring_boxes.specs.Held.{IsWider};
+ghost use Rattle.ring_boxes.specs.Held.{IsOneOf, IsWider};
 
 use grid_geometry::{Pos, Rect, Seg};
 
@@ -76,6 +76,7 @@ fn farther(a: Pos, b: Pos) -> Pos
 pub(crate) fn farthest(boxes: &[Seg], p: Pos) -> Pos
     ensures least { int_le p.x result.x ≡ true }
     ensures far { (d : Segment) → has boxes.now d ≡ true → int_le (box_of d).x1 result.x ≡ true }
+    ensures reached { IsOneOf p.x boxes.now result.x }
 {
     let mut found = p;
     for d in boxes {

@@ -1,14 +1,13 @@
-use Rattle.std.proofs.Common.{ap, subst, ◌∙◌, true}
-use Rattle.std.specs.FinSet as set
+use Rattle.std.proofs.Common.{ap, subst, ◌∙◌}
 use Rattle.std.specs.List.{list_any}
-use Rattle.grid_geometry.specs.Segment.{segment_eq}
-use Rattle.segment_index.specs.Candidates.{Gives}
-use Rattle.ring_boxes.proofs.Holding.{held_given}
+use Rattle.grid_geometry.specs.Segment.{Segment, segment_eq}
+use Rattle.ring_boxes.specs.Held.{AreBoxesOf}
+use Rattle.ring_boxes.proofs.Holding.{held_among}
 use Rattle.ring_boxes.proofs.boxes.RingBoxes.holds.Goals as goal
 
 pub returns : goal.returns
 returns g c =
+    let near = c.in_ok-near.near.items in
     c.contains.ensures.value ∙ ap (list_any (λ t. segment_eq t c.args.d)) c.as_slice.ensures.value
-    ∙ held_given c.self.inside.index _ c.args.d c.new-near.result.items c.candidates.new.out.items c.new-near.ensures.items
-    (subst (λ r. Gives c.self.inside.index _ r c.new-near.result.items c.candidates.new.out.items true) c.rect.ensures c.in_ok-candidates.ensures)
-    ∙ ap (λ boxes. set.contains boxes c.args.d) c.self.view_is
+    ∙ held_among c.args.self.now c.args.d near
+    (subst (λ (d : Segment). AreBoxesOf c.args.self.now d.lo near) c.d.view_is c.in_ok-near.ensures)
