@@ -1,38 +1,33 @@
--- The features that hold a position, by the rings that have an odd number of the segments that count.
+-- The features that hold a position, by rings that stand an odd number of times where they hold it.
 use Rattle.std.proofs.Common.{◌≡◌, ℕ, zero, suc, Bool, true, false, refl, sym, ap, ap₂, ◌∙◌, subst, ◌&&◌, arith}
-use Rattle.std.proofs.Common.{List, [], ◌∷◌, map, Option, Some, unwrap_or, inl, inr}
-use Rattle.std.specs.Prelude.{not, ◌==◌, slice_get, option_map}
-use Rattle.std.specs.List.{list_any, list_all, filter, fold, find}
+use Rattle.std.proofs.Common.{List, [], ◌∷◌, map, Some, unwrap_or}
+use Rattle.std.specs.Prelude.{not, ◌==◌, is_some, slice_get, option_map}
+use Rattle.std.specs.List.{list_any, filter, fold, find}
 use Rattle.std.specs.BTreeSet.{BTreeSet, contains}
 use Rattle.std.proofs.lemmas.Bool.{false≢true}
 use Rattle.std.proofs.lemmas.Bool.Decides.{Decides-eqb}
 use Rattle.grid_geometry.specs.Position.{Position}
 use Rattle.grid_geometry.specs.Ring.{xor, is_inside}
-use Rattle.grid_geometry.specs.Segment.{Segment, segment_eq}
 use Rattle.ring_machine.specs.Document.{Document, Feature}
-use Rattle.ring_machine.specs.Parts.{features, feature, rings, rings_of}
+use Rattle.ring_machine.specs.Parts.{features, feature}
 use Rattle.ring_machine.specs.Query.{is_on_border, is_in_polygon, is_in_feature, border_at, inside_at}
-use Rattle.ring_machine.specs.Ring.{segments, is_ring}
 use Rattle.ring_machine.specs.WellFormed.{are_distinct}
 use Rattle.ring_machine.proofs.First.{In, filter-in}
 use Rattle.ring_machine.proofs.Found.{found}
 use Rattle.ring_machine.proofs.Members.{contains_in, in_contains, in_filter, in_mapped, any_in, in_any, there, mapped_there}
-use Rattle.ring_machine.proofs.Neighbours.{in-map, in-flat_map}
+use Rattle.ring_machine.proofs.Neighbours.{in-map}
 use Rattle.ring_machine.proofs.Order.{and_both}
 use Rattle.ring_machine.proofs.Removal.{not_true}
 use Rattle.map_frame.specs.declared.names.RingName.{RingName}
 use Rattle.map_frame.specs.Readers.{element, ring_at}
 use Rattle.arc_store.proofs.FrameNames.{place_of}
-use Rattle.arc_store.proofs.Indexed.{in_segments, segment_in}
 use Rattle.map_frame.proofs.NamedForgotten.{element_is}
 use Rattle.map_frame.proofs.ReadFeatures.{in_get}
 use Rattle.point_queries.specs.declared.odd.PolygonName.{PolygonName}
-use Rattle.point_queries.specs.Odd.{odd, ArePassed, AreOdd, ListsOdd, is_name, is_polygon, is_held, polygon_of, polygon_cmp, ring_of, ring_has}
+use Rattle.point_queries.specs.Odd.{odd, AreOdd, TellsInside, is_name, is_polygon, is_held, polygon_of, polygon_cmp, ring_of}
 use Rattle.point_queries.specs.Users.{IsSorted}
 use Rattle.point_queries.proofs.Ascending.{numbers_are, in_numbers, numbers_have}
 use Rattle.point_queries.proofs.Odds.{odd-alike, odd-exchange, odd-some, xor-assoc, xor-false}
-use Rattle.point_queries.proofs.OnBorders.{of_ends}
-use Rattle.point_queries.proofs.PassedRings.{odd_ring}
 use Rattle.point_queries.proofs.SharedBorders.{found_in}
 
 refuted : (b : Bool) → (b ≡ true → ⊥) → b ≡ false
@@ -41,11 +36,6 @@ refuted true h = absurd (h refl)
 
 both : (a b : Bool) → a ≡ true → b ≡ true → (a && b) ≡ true
 both a b e f = ap₂ (λ y z. y && z) e f
-
-all_true : {X : Type 0} (test : X → Bool) (xs : List X) (x : X) → list_all test xs ≡ true → In x xs → test x ≡ true
-all_true test [] x h i = absurd i
-all_true test (y ∷ ys) x h (inl e) = ap test (sym e) ∙ (and_both (test y) (list_all test ys) h).0
-all_true test (y ∷ ys) x h (inr i) = all_true test ys x (and_both (test y) (list_all test ys) h).1 i
 
 -- ---- the names of a polygon's rings
 
@@ -81,9 +71,8 @@ apart_and true true c h = absurd (false≢true (sym h))
 apart_and true false c h = refl
 apart_and false b c h = refl
 
-module _ (d : Document) (distinct : are_distinct (map (λ f. f.number) (features d)) ≡ true)
-    (are_rings : list_all is_ring (rings d) ≡ true) (p : Position) (ss : List Segment) (a : ArePassed d p ss)
-    (names : List RingName) (l : ListsOdd d ss [] names) where
+module _ (d : Document) (distinct : are_distinct (map (λ f. f.number) (features d)) ≡ true) (p : Position)
+    (names : List RingName) (tells : TellsInside d p names) where
   -- ---- one polygon
   module _ (g : Feature) (i : In g (features d)) (k : ℕ) (polygon : List (List Position)) (e : slice_get g.polygons k ≡ Some polygon) where
     abbrev name_of : ℕ → RingName
@@ -96,16 +85,7 @@ module _ (d : Document) (distinct : are_distinct (map (λ f. f.number) (features
 
     odd_here : (r : ℕ) (ring : List Position) → slice_get polygon r ≡ Some ring → odd (is_name (name_of r)) names ≡ is_inside p ring
     odd_here r ring f =
-        ap (odd (is_name (name_of r))) l.appended ∙ l.odds (name_of r)
-        ∙ odd-alike (ring_has d (name_of r)) (λ s. list_any (segment_eq s) (segments ring)) ss
-        (λ s j. ap₂ (λ (z : Segment) (o : Option (List Position)). list_any (segment_eq z) (segments (unwrap_or o []))) (of_ends d s (in_segments d s (a.among s (in_contains ss s j)).0)) (ring_here r ∙ f))
-        ∙ odd_ring p ss (λ s j. (a.among s (in_contains ss s j)).1) a.apart ring (all_true is_ring (rings d) ring are_rings in_rings)
-        (λ t j h. contains_in ss t (a.covers t (segment_in d t (in-flat_map segments ring t (rings d) in_rings j)) h))
-      where
-        in_rings : In ring (rings d)
-        in_rings =
-            in-flat_map rings_of g ring (features d) i
-            (in-flat_map (λ (polygon : List (List Position)). polygon) polygon ring g.polygons (in_get g.polygons k polygon e) (in_get polygon r ring f))
+        tells.odds (name_of r) (ap is_some (ring_here r ∙ f)) ∙ ap (λ o. is_inside p (unwrap_or o [])) (ring_here r ∙ f)
 
     abbrev here : PolygonName
     here = record { feature = g.number; polygon = k }
@@ -120,7 +100,7 @@ module _ (d : Document) (distinct : are_distinct (map (λ f. f.number) (features
             let same = and_both (g.number == name.feature) (k == name.polygon) f in
             let number : g.number ≡ name.feature = (Decides-eqb g.number name.feature).0 same.0 in
             let place : k ≡ name.polygon = (Decides-eqb k name.polygon).0 same.1 in
-            let ring = there (ring_of d name) (l.rings name (in_contains l.found name (subst (In name) l.appended j))) in
+            let ring = there (ring_of d name) (tells.rings name (in_contains names name j)) in
             sym (one_at (λ m. is_name m name) name_of polygon name.ring ring.0
             (sym (ring_here name.ring) ∙ ap₂ (λ n q. ring_at d n q name.ring) number place ∙ ring.1)
             (both (g.number == name.feature) (k == name.polygon && name.ring == name.ring) same.0 (both (k == name.polygon) (name.ring == name.ring) same.1 ((Decides-eqb name.ring name.ring).1 refl)))
@@ -139,7 +119,7 @@ module _ (d : Document) (distinct : are_distinct (map (λ f. f.number) (features
   polygon_named : (name : RingName) → In name names
       → (g : Feature) × In g (features d) × (g.number ≡ name.feature) × ((polygon : List (List Position)) × (slice_get g.polygons name.polygon ≡ Some polygon))
   polygon_named name j =
-      let ring = there (ring_of d name) (l.rings name (in_contains l.found name (subst (In name) l.appended j))) in
+      let ring = there (ring_of d name) (tells.rings name (in_contains names name j)) in
       let b = element_is (element (option_map (λ f. f.polygons) (feature d name.feature)) name.polygon) name.ring ring.0 ring.1 in
       let c = element_is (option_map (λ f. f.polygons) (feature d name.feature)) name.polygon b.0 b.1 in
       let g = mapped_there (λ (f : Feature). f.polygons) (feature d name.feature) c.0 c.1 in

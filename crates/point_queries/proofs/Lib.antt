@@ -5,8 +5,12 @@ mod Ascending
 mod SharedBorders
 mod OnBorders
 mod Odds
+mod Holding
 mod Passing
 mod PassedRings
 mod PassedSegments
 mod OddRings
+mod Telling
+mod Cancelling
+mod NearRings
 mod HeldFeatures

@@ -49,13 +49,21 @@ odd-append test [] ys = refl
 odd-append test (x ∷ xs) ys =
     ap (xor (test x)) (odd-append test xs ys) ∙ sym (xor-assoc (test x) (odd test xs) (odd test ys))
 
+-- an element at the end
+pub odd-pushed : {X : Type 0} (test : X → Bool) (xs : List X) (x : X) → odd test (xs ++ x ∷ []) ≡ xor (test x) (odd test xs)
+odd-pushed test xs x =
+    odd-append test xs (x ∷ []) ∙ ap (xor (odd test xs)) (xor-false (test x)) ∙ xor-comm (odd test xs) (test x)
+
+pub odd-popped : {X : Type 0} (test : X → Bool) (xs ys : List X) (x : X) → ys ≡ xs ++ x ∷ [] → odd test xs ≡ xor (test x) (odd test ys)
+odd-popped test xs ys x e =
+    sym (ap (xor (test x)) (ap (odd test) e ∙ odd-pushed test xs x) ∙ sym (xor-assoc (test x) (test x) (odd test xs))
+    ∙ ap (λ z. xor z (odd test xs)) (xor-same (test x)))
+
 -- one element more
 pub odd_more : {X : Type 0} (test : X → Bool) (xs : List X) (i : ℕ) (d : X) → i < length xs
     → odd test (take (i + 1) xs) ≡ xor (test (get_or xs i d)) (odd test (take i xs))
 odd_more test xs i d l =
-    ap (odd test) (take_more xs i d l) ∙ odd-append test (take i xs) (get_or xs i d ∷ [])
-    ∙ ap (xor (odd test (take i xs))) (xor-false (test (get_or xs i d)))
-    ∙ xor-comm (odd test (take i xs)) (test (get_or xs i d))
+    ap (odd test) (take_more xs i d l) ∙ odd-pushed test (take i xs) (get_or xs i d)
 
 pub odd-map : {X Y : Type 0} (f : X → Y) (test : Y → Bool) (xs : List X) → odd test (map f xs) ≡ odd (λ x. test (f x)) xs
 odd-map f test [] = refl

@@ -1,13 +1,13 @@
 -- What stands an odd number of times, and the segments that count for a position.
-use Rattle.std.specs.Prelude.{◌≡◌, ◌++◌, ◌==◌, ◌&&◌, not, ℕ, Bool, false, pos, is_some, unwrap_or}
+use Rattle.std.specs.Prelude.{◌≡◌, ◌++◌, ◌==◌, ◌&&◌, not, ℕ, Bool, true, false, pos, is_some, unwrap_or}
 use Rattle.std.specs.Prelude.{List, [], ◌∷◌, Contains, IsTrue, Option}
 use Rattle.std.specs.List.{list_any}
 use Rattle.std.specs.BTreeSet.{BTreeSet, contains}
 use Rattle.std.specs.Ordering.{nat_cmp, ordering_then}
 use Rattle.std.specs.declared.cmp.Ordering.{Ordering}
 use Rattle.grid_geometry.specs.Position.{Position}
-use Rattle.grid_geometry.specs.Ring.{is_counted, xor}
-use Rattle.grid_geometry.specs.Segment.{Segment, Box, segment, segment_eq}
+use Rattle.grid_geometry.specs.Ring.{is_counted, is_inside, xor}
+use Rattle.grid_geometry.specs.Segment.{Segment, Box, segment, segment_eq, box_of, boxes_meet}
 use Rattle.ring_machine.specs.Document.{Document}
 use Rattle.ring_machine.specs.Parts.{is_segment}
 use Rattle.ring_machine.specs.Ring.{segments}
@@ -35,10 +35,11 @@ ray p = record { x0 = p.x; y0 = p.y; x1 = pos 1000000000000; y1 = p.y }
 abbrev pub is_passed : Position → Segment → Bool
 is_passed p s = is_counted p s.lo s.hi
 
--- these are the segments of the document that count for p, each once
-pub record ArePassed (d : Document) (p : Position) (ss : List Segment) : Type 0 where
+-- segments of the document that count for p, each once, and among them each that meets the box
+pub record ArePassed (d : Document) (p : Position) (rect : Box) (ss : List Segment) : Type 0 where
   pub among : (s : Segment) → Contains ss s → IsTrue (is_segment d s) × IsTrue (is_passed p s)
-  pub covers : (s : Segment) → IsTrue (is_segment d s) → IsTrue (is_passed p s) → Contains ss s
+  pub covers : (s : Segment) → IsTrue (is_segment d s) → IsTrue (is_passed p s)
+      → boxes_meet (box_of s) rect ≡ true → Contains ss s
   pub apart : AreApart segment_eq ss
 
 -- ---- rings
@@ -62,6 +63,23 @@ pub record ListsOdd (d : Document) (ss : List Segment) (old new : List RingName)
   pub appended : new ≡ old ++ found
   pub rings : (name : RingName) → Contains found name → IsTrue (is_some (ring_of d name))
   pub odds : (name : RingName) → odd (is_name name) found ≡ odd (ring_has d name) ss
+
+-- the rings of segments that count for p, a ring for each of its own
+pub record HavePassed (d : Document) (p : Position) (rect : Box) (names : List RingName)
+    : Type 0 where
+  pub ss : List Segment
+  pub passed : ArePassed d p rect ss
+  pub listed : ListsOdd d ss [] names
+
+-- the ring with this name holds p
+abbrev pub holds : Document → Position → RingName → Bool
+holds d p name = is_inside p (unwrap_or (ring_of d name) [])
+
+-- rings, of which each ring of the document is one an odd number of times where it holds p
+pub record TellsInside (d : Document) (p : Position) (names : List RingName) : Type 0 where
+  pub rings : (name : RingName) → Contains names name → IsTrue (is_some (ring_of d name))
+  pub odds : (name : RingName) → IsTrue (is_some (ring_of d name))
+      → odd (is_name name) names ≡ holds d p name
 
 -- ---- polygons
 

@@ -1,14 +1,15 @@
 // The features at a position: those that hold it, and those on whose borders it lies.
 ghost use Rattle.std.specs.Prelude.{◌≡◌, ◌==◌, IfOk};
 ghost use Rattle.std.specs.List.{filter, list_any};
+ghost use Rattle.grid_geometry.specs.Position.{Position};
 ghost use Rattle.ring_machine.specs.Query as query;
 ghost use Rattle.point_queries.specs.Odd as odd;
 ghost use Rattle.point_queries.specs.Users.{Rises};
 
 use crate::border::{border_at, numbers_of};
 use crate::numbers::{At, Numbers, sort_once};
-use crate::odd::{PolygonName, odd_polygons, push_rings};
-use crate::passed::passed;
+use crate::odd::{PolygonName, odd_polygons, passed_rings};
+use crate::passed::ray_from;
 use arc_store::{Map, RingName};
 use grid_geometry::Pos;
 use segment_index::SegIndex;
@@ -59,8 +60,30 @@ fn held<A: Allocator + Copy>(
     Ok(found)
 }
 
+/// The numbers of the features that hold a position, off their borders: by rings of which each stands
+/// here an odd number of times where it holds the position, and by the numbers of the features on
+/// whose borders the position lies.
+pub(crate) fn inside_of<'a, I: SegIndex, A: Allocator + Copy>(
+    alloc: A,
+    map: &Map<'a, I, A>,
+    rings: &[RingName],
+    border: &[u32],
+) -> Result<Numbers<A>, AllocError>
+    requires { Rises border.now }
+    ensures { (p : Position) → border.now ≡ query.border_at map.now.doc p
+        → odd.TellsInside map.now.doc p rings.now
+        → IfOk result (λ found. found ≡ query.inside_at map.now.doc p) }
+{
+    let _ = map.frame(); // it tells that no two features have one number
+    let polygons = odd_polygons(alloc, rings)?;
+    let within = held(alloc, rings, &polygons, border)?;
+    let mut found = numbers_of(alloc, within.as_slice())?;
+    sort_once(&mut found);
+    Ok(Numbers(found))
+}
+
 /// The numbers of the features that hold p, off the borders, which have p on those of these features.
-fn inside_at<'a, I: SegIndex, A: Allocator + Copy>(
+pub(crate) fn inside_at<'a, I: SegIndex, A: Allocator + Copy>(
     alloc: A,
     map: &Map<'a, I, A>,
     p: Pos,
@@ -69,15 +92,9 @@ fn inside_at<'a, I: SegIndex, A: Allocator + Copy>(
     requires { border.now ≡ query.border_at map.now.doc p }
     ensures { IfOk result (λ found. found ≡ query.inside_at map.now.doc p) }
 {
-    let _ = map.frame(); // it tells that each ring is one
-    let segments = passed(alloc, map, p)?;
-    let mut rings = Vec::new(alloc);
-    push_rings(map, segments.as_slice(), &mut rings)?;
-    let polygons = odd_polygons(alloc, rings.as_slice())?;
-    let within = held(alloc, rings.as_slice(), &polygons, border)?;
-    let mut found = numbers_of(alloc, within.as_slice())?;
-    sort_once(&mut found);
-    Ok(Numbers(found))
+    let _ = map.frame(); // it tells that each ring is one, and in range
+    let rings = passed_rings(alloc, map, p, ray_from(p))?;
+    inside_of(alloc, map, rings.as_slice(), border)
 }
 
 /// The features at p: those that hold it by the even-odd rule, off their borders (RFC 7946, 3.1.6),

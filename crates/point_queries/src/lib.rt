@@ -4,6 +4,7 @@
 mod area;
 mod border;
 mod inside;
+mod near;
 mod numbers;
 mod odd;
 mod passed;
@@ -11,5 +12,6 @@ mod sharing;
 
 pub use area::{NoFeature, area2_of};
 pub use inside::at;
+pub use near::at_near;
 pub use numbers::{At, Numbers};
 pub use sharing::{QueryFault, neighbours};

@@ -1,9 +1,10 @@
 // The polygons that have an odd number of given segments.
 ghost use Rattle.std.specs.Prelude.{IfOk, OnOk};
-ghost use Rattle.point_queries.specs.Odd.{ListsOdd, Toggles, AreOdd};
+ghost use Rattle.point_queries.specs.Odd.{ListsOdd, HavePassed, Toggles, AreOdd};
 
+use crate::passed::passed;
 use arc_store::{Map, RingName};
-use grid_geometry::Seg;
+use grid_geometry::{Pos, Rect, Seg};
 use segment_index::SegIndex;
 use std::alloc::{AllocError, Allocator};
 use std::collections::BTreeSet;
@@ -17,7 +18,7 @@ pub(crate) struct PolygonName {
 
 /// Appends the rings that have these segments, a ring for each of its own. Fails for want of memory
 /// alone.
-pub(crate) fn push_rings<'a, I: SegIndex, A: Allocator + Copy>(
+fn push_rings<'a, I: SegIndex, A: Allocator + Copy>(
     map: &Map<'a, I, A>,
     segments: &[Seg],
     out: &mut Vec<RingName, A>,
@@ -28,6 +29,22 @@ pub(crate) fn push_rings<'a, I: SegIndex, A: Allocator + Copy>(
         map.push_users(s.lo, s.hi, out)?;
     }
     Ok(())
+}
+
+/// The rings of segments that count for p, a ring for each of its own, where each segment that counts
+/// and meets the box is among these.
+pub(crate) fn passed_rings<'a, I: SegIndex, A: Allocator + Copy>(
+    alloc: A,
+    map: &Map<'a, I, A>,
+    p: Pos,
+    rect: Rect,
+) -> Result<Vec<RingName, A>, AllocError>
+    ensures { IfOk result (λ rings. HavePassed map.now.doc p rect rings.items) }
+{
+    let segments = passed(alloc, map, p, rect)?;
+    let mut rings = Vec::new(alloc);
+    push_rings(map, segments.as_slice(), &mut rings)?;
+    Ok(rings)
 }
 
 /// Takes the polygon out where it is there, and else puts it in.

@@ -12,7 +12,7 @@ use std::alloc::{AllocError, Allocator};
 const REACH: i64 = 1_000_000_000_000;
 
 /// The box of the ray from p to the right: it is as high as one position.
-fn ray_from(p: Pos) -> Rect
+pub(crate) fn ray_from(p: Pos) -> Rect
     ensures { result ≡ ray p }
 {
     Rect {
@@ -36,17 +36,18 @@ fn counting<A: Allocator + Copy>(alloc: A, p: Pos, near: &[Seg]) -> Result<Vec<S
     Ok(found)
 }
 
-/// The segments of the map that count for p, each once. Reads the cells of the row of p from p on.
+/// Segments of the map that count for p, each once, and among them each that meets the box. Reads
+/// the cells of the box.
 pub(crate) fn passed<'a, I: SegIndex, A: Allocator + Copy>(
     alloc: A,
     map: &Map<'a, I, A>,
     p: Pos,
+    rect: Rect,
 ) -> Result<Vec<Seg, A>, AllocError>
-    ensures { IfOk result (λ found. ArePassed map.now.doc p found.items) }
+    ensures { IfOk result (λ found. ArePassed map.now.doc p rect found.items) }
 {
-    let _ = map.frame(); // it tells that the positions are in range
     let mut near = Vec::new(alloc);
-    map.candidates(ray_from(p), &mut near)?;
+    map.candidates(rect, &mut near)?;
     let mut found = counting(alloc, p, near.as_slice())?;
     found.sort_unstable();
     found.dedup();

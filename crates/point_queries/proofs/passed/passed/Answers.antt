@@ -1,7 +1,7 @@
 use Rattle.std.proofs.Common.{◌∙◌, ap, subst, []}
 use Rattle.std.specs.List.{filter}
 use Rattle.arc_store.specs.Near.{ListsNear}
-use Rattle.point_queries.specs.Odd.{is_passed, ray}
+use Rattle.point_queries.specs.Odd.{is_passed}
 use Rattle.point_queries.proofs.PassedSegments.{passed_are}
 use Rattle.point_queries.proofs.passed.passed.Goals as goal
 
@@ -10,9 +10,8 @@ returns g c =
     let d = c.args.map.now.doc in
     let p = c.args.p in
     let near = c.candidates.new.out.items in
-    let n : ListsNear d (ray p) [] near =
-    subst (λ z. ListsNear d z [] near) c.ray_from.ensures
-    (subst (λ z. ListsNear d c.ray_from.result z near) c.new-near.ensures.items c.in_ok-candidates.ensures.near) in
-    passed_are d p c.frame.ensures.range near n c.in_ok-found.found.items c.sort_unstable.new.self.items c.dedup.new.self.items
+    let n : ListsNear d c.args.rect [] near =
+    subst (λ z. ListsNear d c.args.rect z near) c.new-near.ensures.items c.in_ok-candidates.ensures.near in
+    passed_are d p c.args.rect near n c.in_ok-found.found.items c.sort_unstable.new.self.items c.dedup.new.self.items
     (c.in_ok-found.ensures ∙ ap (filter (is_passed p)) c.as_slice.ensures.value)
     c.sort_unstable.ensures.permutation c.sort_unstable.ensures.sorted c.dedup.ensures.filtered

@@ -1,0 +1,5 @@
+pub mod Coordinates
+pub mod Widening
+pub mod Rings
+pub mod Farthest
+pub mod Holding

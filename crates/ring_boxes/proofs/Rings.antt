@@ -1,0 +1,18 @@
+-- The positions of a ring, one after another, in a box that is widened by each.
+use Rattle.std.proofs.Common.{◌≡◌, ◌<◌, ◌+◌, ℕ, true, sym, ap, ◌∙◌, List, length, get_or, below_more}
+use Rattle.std.proofs.lemmas.List.{get_or_default}
+use Rattle.grid_geometry.specs.Position.{Position}
+use Rattle.grid_geometry.specs.Segment.{Segment}
+use Rattle.ring_boxes.specs.Covering.{lies_in}
+use Rattle.ring_boxes.specs.Held.{IsWider}
+
+-- a box has the positions below an index
+abbrev pub HasBelow : Segment → List Position → ℕ → Type 0
+HasBelow d ring i = (k : ℕ) → k < i → (z : Position) → lies_in d (get_or ring k z) ≡ true
+
+pub one_more : (d e : Segment) (ring : List Position) (i : ℕ) (p : Position) → i < length ring
+    → p ≡ get_or ring i p → IsWider d p e → HasBelow d ring i → HasBelow e ring (i + 1)
+one_more d e ring i p lt here wider below =
+    below_more (λ k. (z : Position) → lies_in e (get_or ring k z) ≡ true) i
+    (λ k h z. wider.has_all (get_or ring k z) (below k h z))
+    (λ z. ap (lies_in e) (get_or_default ring i z p lt ∙ sym here) ∙ wider.has_it)

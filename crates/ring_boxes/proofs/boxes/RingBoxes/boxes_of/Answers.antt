@@ -1,0 +1,13 @@
+use Rattle.std.proofs.Common.{subst, true, None}
+use Rattle.segment_index.specs.Candidates.{Gives}
+use Rattle.segment_index.specs.Times.{times_by}
+use Rattle.ring_boxes.specs.Held.{AreBoxesOf}
+use Rattle.ring_boxes.proofs.Holding.{given_boxes}
+use Rattle.ring_boxes.proofs.boxes.RingBoxes.boxes_of.Goals as goal
+
+pub returns : goal.returns
+returns g c =
+    subst (λ boxes. AreBoxesOf boxes c.args.p c.candidates.new.out.items) c.self.view_is
+    (given_boxes c.self.inside.index c.args.p c.new-near.result.items c.candidates.new.out.items c.new-near.ensures.items
+    (subst (λ r. Gives c.self.inside.index (times_by None) r c.new-near.result.items c.candidates.new.out.items true)
+    c.box_at.ensures c.in_ok-candidates.ensures))

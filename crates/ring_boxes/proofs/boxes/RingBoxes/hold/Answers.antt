@@ -1,0 +1,13 @@
+use Rattle.std.proofs.Common.{subst}
+use Rattle.segment_index.proofs.Singles.{contains_inserted}
+use Rattle.ring_boxes.specs.Held.{StaysHeld}
+use Rattle.ring_boxes.proofs.Holding.{on_ok, added_stays}
+use Rattle.ring_boxes.proofs.boxes.RingBoxes.hold.Goals as goal
+
+pub returns-clause-held : goal.returns-clause-held
+returns-clause-held g c = on_ok c.add.result (contains_inserted c.add.new.self c.self.inside.index c.args.d) c.add.ensures.added
+
+pub returns-clause-stays : goal.returns-clause-stays
+returns-clause-stays g c =
+    subst (λ old. StaysHeld old c.add.new.self) c.self.view_is
+    (added_stays c.add.result c.self.inside.index c.add.new.self c.args.d c.add.ensures.added c.add.ensures.unchanged)

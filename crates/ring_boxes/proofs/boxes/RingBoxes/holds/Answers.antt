@@ -1,0 +1,13 @@
+use Rattle.std.proofs.Common.{ap, subst, ◌∙◌}
+use Rattle.std.specs.List.{list_any}
+use Rattle.grid_geometry.specs.Segment.{Segment, segment_eq}
+use Rattle.ring_boxes.specs.Held.{AreBoxesOf}
+use Rattle.ring_boxes.proofs.Holding.{held_among}
+use Rattle.ring_boxes.proofs.boxes.RingBoxes.holds.Goals as goal
+
+pub returns : goal.returns
+returns g c =
+    let near = c.in_ok-near.near.items in
+    c.contains.ensures.value ∙ ap (list_any (λ t. segment_eq t c.args.d)) c.as_slice.ensures.value
+    ∙ held_among c.args.self.now c.args.d near
+    (subst (λ (d : Segment). AreBoxesOf c.args.self.now d.lo near) c.d.view_is c.in_ok-near.ensures)

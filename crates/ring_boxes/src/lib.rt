@@ -1,0 +1,10 @@
+//! The boxes of a map's rings, so that what may hold a position is found without a look along the
+//! whole map.
+#![tactic(auto)]
+
+mod boxes;
+mod diagonal;
+#[cfg(test)]
+mod tests;
+
+pub use boxes::RingBoxes;
