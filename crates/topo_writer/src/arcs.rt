@@ -10,7 +10,7 @@ ghost use Rattle.topo_writer.specs.Found.{found, first_edge, with_found, Fits};
 ghost use Rattle.topo_writer.specs.Tables.{Finds};
 ghost use Rattle.topo_writer.specs.Ways.{all_found, indexes_found, FitAll};
 
-use crate::cutting::Piece;
+use crate::cutting::CutRing;
 use crate::texts::push_next;
 use grid_geometry::Pos;
 use indexmap::IndexMap;
@@ -128,21 +128,21 @@ impl<A: Allocator + Copy> Arcs<A> {
     pub(crate) fn index_all(
         &mut self,
         alloc: A,
-        pieces: &[Piece<A>],
+        ring: &CutRing<A>,
     ) -> Result<Vec<i64, A>, AllocError>
-        requires long { AllByRecursion (λ piece. 2 ≤ length piece) pieces.now }
-        requires few { self.old.count + length pieces.now ≤ 4000000 }
+        requires long { AllByRecursion (λ piece. 2 ≤ length piece) ring.now }
+        requires few { self.old.count + length ring.now ≤ 4000000 }
         ensures rings { OnOk result (self.new.rings ≡ self.old.rings) }
         ensures delta { OnOk result (self.new.delta ≡ self.old.delta) }
         ensures arcs { OnOk result ((arcs : List (List Position)) → Finds self.old arcs
-            → FitAll arcs pieces.now → Finds self.new (all_found arcs pieces.now)) }
+            → FitAll arcs ring.now → Finds self.new (all_found arcs ring.now)) }
         ensures indexes { IfOk result (λ indexes. (arcs : List (List Position))
-            → Finds self.old arcs → FitAll arcs pieces.now
-            → indexes.items ≡ indexes_found arcs pieces.now) }
+            → Finds self.old arcs → FitAll arcs ring.now
+            → indexes.items ≡ indexes_found arcs ring.now) }
     {
         let mut indexes = Vec::new(alloc);
-        for i in 0..pieces.len() {
-            let index = self.index(pieces[i].positions())?;
+        for i in 0..ring.len() {
+            let index = self.index(ring.piece(i))?;
             indexes.push(index)?;
         }
         Ok(indexes)

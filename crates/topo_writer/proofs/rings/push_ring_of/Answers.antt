@@ -12,13 +12,13 @@ use Rattle.topo_writer.proofs.rings.push_ring_of.Goals as goal
 
 pub index_all-requires-clause-long : goal.index_all-requires-clause-long
 index_all-requires-clause-long g c =
-    named_long c.args.map.now c.requires.proper c.args.arcs.now.rings.items c.args.name c.requires.there c.as_slice.result.now
-    (c.as_slice.ensures.value ∙ c.in_ok-pieces.ensures)
+    named_long c.args.map.now c.requires.proper c.args.arcs.now.rings.items c.args.name c.requires.there c.in_ok-ring.ring
+    c.in_ok-ring.ensures
 
 pub index_all-requires-clause-few : goal.index_all-requires-clause-few
 index_all-requires-clause-few g c =
     let d = c.args.map.now in
-    let cut : c.as_slice.result.now ≡ pieces (is_junction d) (named_ring d c.args.name) = c.as_slice.ensures.value ∙ c.in_ok-pieces.ensures in
+    let cut : c.in_ok-ring.ring ≡ pieces (is_junction d) (named_ring d c.args.name) = c.in_ok-ring.ensures in
     omega (
       arith,
       c.requires.few,
@@ -33,11 +33,11 @@ returns-clause-table g c =
     let old = c.args.arcs.now.rings.items in
     let new = c.name_ring.new.self.rings.items in
     let name = c.args.name in
-    let cut : c.as_slice.result.now ≡ pieces (is_junction d) (named_ring d name) = c.as_slice.ensures.value ∙ c.in_ok-pieces.ensures in
+    let cut : c.in_ok-ring.ring ≡ pieces (is_junction d) (named_ring d name) = c.in_ok-ring.ensures in
     let more : new ≡ old ++ name ∷ [] = c.in_ok-name_ring.ensures.rings ∙ ap (λ r. r.items ++ name ∷ []) c.in_ok-indexes.ensures.rings in
-    let all = named_found d c.requires.proper old name c.requires.there c.as_slice.result.now cut new more in
+    let all = named_found d c.requires.proper old name c.requires.there c.in_ok-ring.ring cut new more in
     let finds =
-    c.in_ok-indexes.ensures.arcs (arcs_along d old) c.requires.table.finds (named_fits d c.requires.proper old name c.requires.there c.as_slice.result.now cut) in
+    c.in_ok-indexes.ensures.arcs (arcs_along d old) c.requires.table.finds (named_fits d c.requires.proper old name c.requires.there c.in_ok-ring.ring cut) in
     record {
       finds = record {
         has = record {
@@ -57,10 +57,10 @@ returns-clause-text g c =
     let old = c.args.arcs.now.rings.items in
     let new = c.name_ring.new.self.rings.items in
     let name = c.args.name in
-    let cut : c.as_slice.result.now ≡ pieces (is_junction d) (named_ring d name) = c.as_slice.ensures.value ∙ c.in_ok-pieces.ensures in
+    let cut : c.in_ok-ring.ring ≡ pieces (is_junction d) (named_ring d name) = c.in_ok-ring.ensures in
     let more : new ≡ old ++ name ∷ [] = c.in_ok-name_ring.ensures.rings ∙ ap (λ r. r.items ++ name ∷ []) c.in_ok-indexes.ensures.rings in
     c.in_ok-push_ring.ensures
     ∙ ap (λ z. c.args.text.now.items ++ ring_text z)
-    (c.as_slice-2.ensures.value
-    ∙ c.in_ok-indexes.ensures.indexes (arcs_along d old) c.requires.table.finds (named_fits d c.requires.proper old name c.requires.there c.as_slice.result.now cut)
-    ∙ named_indexes d c.requires.proper old name c.requires.there c.as_slice.result.now cut new more)
+    (c.as_slice.ensures.value
+    ∙ c.in_ok-indexes.ensures.indexes (arcs_along d old) c.requires.table.finds (named_fits d c.requires.proper old name c.requires.there c.in_ok-ring.ring cut)
+    ∙ named_indexes d c.requires.proper old name c.requires.there c.in_ok-ring.ring cut new more)

@@ -7,12 +7,12 @@ use Rattle.topo_writer.proofs.arcs.Arcs.index_all.Goals as goal
 
 pub loop-i-preserved : goal.loop-i-preserved
 loop-i-preserved g c =
-    let ps = c.args.pieces.now in
+    let ps = c.args.ring.now in
     let i = c.loop-i.i in
     let l : i < length ps = omega arith in
-    let p = c.positions.result.now in
+    let p = c.piece.result.now in
     let left : drop i ps ≡ p ∷ drop (i + 1) ps =
-    drop_more ps i c.index-pieces-i.result l ∙ ap (λ z. z ∷ drop (i + 1) ps) (sym (c.positions.ensures ∙ c.index-pieces-i.is)) in
+    drop_more ps i p l ∙ ap (λ z. z ∷ drop (i + 1) ps) (sym c.piece.ensures) in
     let items : c.push.new.self.items ≡ c.loop-i.indexes.items ++ c.in_ok-index.index ∷ [] = search (rules, to_z-of_z) in
     record {
       rings = c.in_ok-index.ensures.rings ∙ c.loop-i.invariant.rings;

@@ -10,6 +10,6 @@ invariant-loop-i g l = record {
   rings : l.self.rings ≡ l.fn.self.rings;
   delta : l.self.delta ≡ l.fn.self.delta;
   few : l.self.count ≤ l.fn.self.count + l.i;
-  indexing : (arcs : List (List Position)) → Finds l.fn.self arcs → FitAll arcs l.pieces
-      → Indexing l.self l.indexes.items (drop l.i l.pieces) (all_found arcs l.pieces) (indexes_found arcs l.pieces);
+  indexing : (arcs : List (List Position)) → Finds l.fn.self arcs → FitAll arcs l.ring
+      → Indexing l.self l.indexes.items (drop l.i l.ring) (all_found arcs l.ring) (indexes_found arcs l.ring);
 }
