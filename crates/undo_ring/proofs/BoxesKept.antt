@@ -1,11 +1,10 @@
 -- The boxes that cover a document cover it after a command, too.
-use Rattle.std.proofs.Common.{◌≡◌, ◌≤◌, ◌+◌, ◌-◌, ℕ, ℤ, zero, suc, refl, sym, ap, subst, ◌∙◌, List, [], ◌∷◌, take, Bool, true, false, cond, Option, None, Some, inl, inr, ◌⊎◌, arith, Result, Ok, Err, Contains}
+use Rattle.std.proofs.Common.{◌≡◌, ◌≤◌, ℕ, ℤ, zero, suc, refl, sym, subst, ◌∙◌, List, [], ◌∷◌, take, Bool, true, false, cond, Option, None, Some, inl, inr, ◌⊎◌, arith, Result, Ok, Err, Contains}
 use Rattle.std.proofs.lemmas.Bool.{false≢true}
 use Rattle.std.specs.Prelude.{◌==◌, MatchOption, IfSome, OnOk}
-use Rattle.std.specs.List.{AllByRecursion}
 use Rattle.grid_geometry.specs.Position.{Position}
 use Rattle.ring_machine.specs.Document.{Document, Feature, Text}
-use Rattle.ring_machine.specs.Parts.{features, rings, rings_of}
+use Rattle.ring_machine.specs.Parts.{rings}
 use Rattle.ring_machine.specs.Ring.{has}
 use Rattle.ring_machine.specs.Vertices.{put, ins, del}
 use Rattle.ring_machine.specs.Cut.{Path, path_of, cut}
@@ -14,7 +13,7 @@ use Rattle.ring_machine.specs.Thin.{thinned, IsThinnedPart}
 use Rattle.ring_machine.specs.Query.{vertices}
 use Rattle.ring_machine.specs.Refusals.{first_of, move_refusals, insert_refusals, remove_refusals, split_refusals, merge_refusals, feature_refusals, feature_at}
 use Rattle.ring_machine.specs.Command.{Command, Move, Insert, Remove, Thin, Split, Merge, Rename, Delete, Undo, Area, At, Neighbours, Rings, Count, Show, Refusal, Answer, Done, Thinned, Made, Refused}
-use Rattle.ring_machine.specs.Machine.{State, step, edit, query, changed, renamed, split_state, thin_step, undone}
+use Rattle.ring_machine.specs.Machine.{State, step, edit, query, changed, renamed, split_state, thin_step}
 use Rattle.ring_machine.proofs.Members.{contains_in, in_contains}
 use Rattle.ring_machine.proofs.Neighbours.{has-in, in-has}
 use Rattle.ring_machine.proofs.Steps.{step-move, step-insert, step-remove, step-thin, step-split, step-merge, step-rename, step-delete}
@@ -116,15 +115,12 @@ module _ (boxes : SegmentSet) where
 
   -- ---- one step of the machine
 
-  one_less : (n : ℕ) → n + 1 - 1 ≡ n
-  one_less n = omega arith
-
   module _ (st : State) (covers : Covers boxes (rings st.doc)) where
     -- the state after it is covered, where what came is
-    abbrev StaysCovered : Option ℕ → State → Type 0
-    StaysCovered touched after = HasCome boxes after.doc after.next touched → Covers boxes (rings after.doc)
+    abbrev StaysCovered : Option (ℕ × ℕ) → State → Type 0
+    StaysCovered touched after = HasCome boxes after.doc touched → Covers boxes (rings after.doc)
 
-    edit_covers : (rs : List (Option Refusal)) (a : Answer) (touched : Option ℕ) (after : State)
+    edit_covers : (rs : List (Option Refusal)) (a : Answer) (touched : Option (ℕ × ℕ)) (after : State)
         → StaysCovered touched after → StaysCovered touched (edit st rs a after).1
     edit_covers rs a touched after accepted = by (first_of rs) refl
       where
@@ -149,7 +145,7 @@ module _ (boxes : SegmentSet) where
     query_covers c rs a e =
         subst (λ (r : Answer × State). StaysCovered None r.1) (sym e) (edit_covers rs a None st (λ come. covers))
 
-    pub step_covers : (c : Command) → IsNoUndo c → IsReady st.doc c boxes → StaysCovered (touched_by c) (step 0 st c).1
+    pub step_covers : (c : Command) → IsNoUndo c → IsReady st.doc c boxes → StaysCovered (touched_by st.next c) (step 0 st c).1
     unfolding step
     step_covers (Move p q) edits ready =
         subst (λ (r : Answer × State). StaysCovered None r.1) (sym (step-move 0 st p q))
@@ -163,12 +159,13 @@ module _ (boxes : SegmentSet) where
     step_covers (Thin t) edits ready =
         subst (λ (r : Answer × State). StaysCovered None r.1) (sym (step-thin 0 st t)) (thin_covers t)
     step_covers (Split n id path) edits ready =
-        subst (λ (r : Answer × State). StaysCovered (Some n) r.1) (sym (step-split 0 st n id path))
-        (edit_covers (split_refusals st.doc st.next n id (path_of path)) (Made st.next) (Some n) (split_state 0 st n id path)
-        (λ come. cut_covers st.doc covers n id (path_of path) st.next come.0 (subst (CoversFeature boxes (cut st.doc n id (path_of path) st.next)) (one_less st.next) come.1)))
+        subst (λ (r : Answer × State). StaysCovered (Some (n, st.next)) r.1) (sym (step-split 0 st n id path))
+        (edit_covers (split_refusals st.doc st.next n id (path_of path)) (Made st.next) (Some (n, st.next)) (split_state 0 st n id path)
+        (λ come. cut_covers st.doc covers n id (path_of path) st.next come.0 come.1))
     step_covers (Merge n m) edits ready =
-        subst (λ (r : Answer × State). StaysCovered (Some n) r.1) (sym (step-merge 0 st n m))
-        (edit_covers (merge_refusals st.doc n m) Done (Some n) (changed 0 st (join st.doc n (feature_at st.doc m))) (λ come. join_covers st.doc covers n (feature_at st.doc m) come.0))
+        subst (λ (r : Answer × State). StaysCovered (Some (n, n)) r.1) (sym (step-merge 0 st n m))
+        (edit_covers (merge_refusals st.doc n m) Done (Some (n, n)) (changed 0 st (join st.doc n (feature_at st.doc m)))
+        (λ come. join_covers st.doc covers n (feature_at st.doc m) come.0))
     step_covers (Rename n id) edits ready =
         subst (λ (r : Answer × State). StaysCovered None r.1) (sym (step-rename 0 st n id))
         (edit_covers (feature_refusals st.doc n) Done None (changed 0 st (renamed st.doc n id)) (λ come. renamed_covers st.doc covers n id))
@@ -196,9 +193,10 @@ module _ (boxes : SegmentSet) where
     fault_covers (Some r) refuses = same_covers refuses.same
 
     pub answer_covers : {A : Type 0} (result : Result (Told A) EditFault) → AnswersMap m n c result
-        → OnOk result (IsReady m.doc c boxes) → HasCome boxes n.doc n.next (touched_by c) → Covers boxes (rings n.doc)
+        → OnOk result (IsReady m.doc c boxes) → HasCome boxes n.doc (touched_by m.next c) → Covers boxes (rings n.doc)
     answer_covers (Ok answer) accepts ready come =
-        subst (λ (r : Answer × State). HasCome boxes r.1.doc r.1.next (touched_by c) → Covers boxes (rings r.1.doc)) (sym (accepts.steps 0 []))
+        subst (λ (r : Answer × State). HasCome boxes r.1.doc (touched_by m.next c) → Covers boxes (rings r.1.doc))
+        (sym (accepts.steps 0 []))
         (step_covers (with_past m []) covers c commands ready) come
     answer_covers (Err fault) fails ready come = fault_covers (refusal_of fault) fails
 
@@ -222,14 +220,14 @@ bounded boxes (suc k) (suc c) (d ∷ docs) h = (h.0, bounded boxes k c docs h.1)
 
 module _ {A : Type 0} (before after : Near A) (d e : Document) (past : List Document) where
   -- after a change to the document e
-  pub changed_known : IsKnown before (d ∷ past) → (depth next : ℕ) (touched : Option ℕ) → Follows before after e next touched
+  pub changed_known : IsKnown before (d ∷ past) → (depth : ℕ) (touched : Option (ℕ × ℕ)) → Follows before after e touched
       → ((boxes : SegmentSet) → Covers boxes (rings d) → (was : SegmentSet) → before.boxes ≡ Some was → Keeps was boxes
-      → HasCome boxes e next touched → Covers boxes (rings e))
+      → HasCome boxes e touched → Covers boxes (rings e))
       → IsKnown after (e ∷ take depth (d ∷ past))
-  changed_known known depth next touched follows covers = by after.boxes refl follows.boxes
+  changed_known known depth touched follows covers = by after.boxes refl follows.boxes
     where
       by : (o : Option SegmentSet) → after.boxes ≡ o
-          → IfSome o (λ boxes. (was : SegmentSet) × (before.boxes ≡ Some was) × Keeps was boxes × HasCome boxes e next touched)
+          → IfSome o (λ boxes. (was : SegmentSet) × (before.boxes ≡ Some was) × Keeps was boxes × HasCome boxes e touched)
           → IfSome o (λ boxes. AreCovered boxes (take (suc after.since) (e ∷ take depth (d ∷ past))))
       by None same h = tt
       by (Some boxes) same h =
@@ -280,7 +278,7 @@ module _ {A B : Type 0} (before after : Near A) (m n : MapState) (past later : L
   c = command_of asked
 
   come_covers : (boxes : SegmentSet) → Covers boxes (rings m.doc) → (was : SegmentSet) → before.boxes ≡ Some was → Keeps was boxes
-      → HasCome boxes n.doc n.next (touched_by c) → Covers boxes (rings n.doc)
+      → HasCome boxes n.doc (touched_by m.next c) → Covers boxes (rings n.doc)
   come_covers boxes covers was same keeps come =
       answer_covers boxes m n c (no_undo asked) covers result answers (by result ready) come
     where
@@ -290,23 +288,25 @@ module _ {A B : Type 0} (before after : Near A) (m n : MapState) (past later : L
 
   pub known_after : (made : Bool)
       → ((made ≡ false) × (n.doc ≡ m.doc) × (later ≡ past)) ⊎ ((made ≡ true) × (later ≡ take depth (m.doc ∷ past)))
-      → (made ≡ true → Follows before after n.doc n.next (touched_by c)) → (made ≡ false → after ≡ before)
+      → (made ≡ true → Follows before after n.doc (touched_by m.next c)) → (made ≡ false → after ≡ before)
       → IsKnown after (n.doc ∷ later)
   known_after made (inl h) follows same =
       subst (λ (z : Near A). IsKnown z (n.doc ∷ later)) (sym (same h.0))
       (subst (λ d. IsKnown before (d ∷ later)) (sym h.1) (subst (λ ds. IsKnown before (m.doc ∷ ds)) (sym h.2) known))
   known_after made (inr h) follows same =
       subst (λ ds. IsKnown after (n.doc ∷ ds)) (sym h.1)
-      (changed_known before after m.doc n.doc past known depth n.next (touched_by c) (follows h.0) come_covers)
+      (changed_known before after m.doc n.doc past known depth (touched_by m.next c) (follows h.0) come_covers)
 
   -- the map has handed its record out
-  pub editor_known : (now : MapState) → now ≡ handed n → (made told : Bool) → told ≡ made → (touched : Option ℕ) → touched ≡ touched_by c
+  pub editor_known : (now : MapState) → now ≡ handed n → (made told : Bool) → told ≡ made
+      → (touched : Option (ℕ × ℕ)) → touched ≡ touched_by m.next c
       → ((made ≡ false) × (n.doc ≡ m.doc) × (later ≡ past)) ⊎ ((made ≡ true) × (later ≡ take depth (m.doc ∷ past)))
-      → (told ≡ true → Follows before after now.doc now.next touched) → (told ≡ false → after ≡ before)
+      → (told ≡ true → Follows before after now.doc touched) → (told ≡ false → after ≡ before)
       → IsKnown after (now.doc ∷ later)
   editor_known now is made told tells touched touches newer follows same =
-      let change : made ≡ true → Follows before after n.doc n.next (touched_by c) =
-      λ e. subst (Follows before after n.doc n.next) touches (subst (λ (z : MapState). Follows before after z.doc z.next touched) is (follows (tells ∙ e))) in
+      let change : made ≡ true → Follows before after n.doc (touched_by m.next c) =
+      λ e. subst (Follows before after n.doc) touches
+      (subst (λ (z : MapState). Follows before after z.doc touched) is (follows (tells ∙ e))) in
       subst (λ (z : MapState). IsKnown after (z.doc ∷ later)) (sym is)
       (known_after made newer change (λ e. same (tells ∙ e)))
 

@@ -1,5 +1,5 @@
 -- An edit's own clauses make a step of the machine, whatever the history.
-use Rattle.std.proofs.Common.{◌≡◌, ◌≢◌, ◌≤◌, ℕ, ℤ, ◌+◌, ap, ap₂, IfOk, refl, sym, subst, ◌∙◌, List, [], ◌∷◌, take, Bool, true, false, cond, Option, None, Some, IsTrue, Result, Ok, Err, OnOk, OnErr, IfErr, not, ◌&&◌, ◌==◌, arith, inl, inr, ◌⊎◌}
+use Rattle.std.proofs.Common.{◌≡◌, ◌≢◌, ◌≤◌, ℕ, ℤ, ap, ap₂, IfOk, refl, sym, subst, ◌∙◌, List, [], ◌∷◌, take, Bool, true, false, cond, Option, None, Some, IsTrue, Result, Ok, Err, OnOk, not, ◌&&◌, ◌==◌, arith, inl, inr}
 use Rattle.std.proofs.lemmas.Bool.Decides.{nat_tests}
 use Rattle.std.specs.Prelude.{MatchOption}
 use Rattle.std.specs.List.{fold}
@@ -26,9 +26,7 @@ use Rattle.arc_store.specs.declared.fault.EditFault.{EditFault}
 use Rattle.arc_store.specs.declared.fault.EditFault.TheVariants.{NoFeature, NoVertex, NoSegment, Occupied, Junction, RingShort, SegmentExists, NoCollection, NotOnOuterRing, RepeatedPoint, WrongSide, TooLarge, SameFeature, NotOnePolygon, NotNeighbours, Runs, CommonElse, SameSide, Conflict, Sweeps, OutOfMemory}
 use Rattle.point_queries.specs.declared.numbers.At.{At as AtFound}
 use Rattle.edit_vertex.specs.Kept.{IsThinRecorded}
-use Rattle.undo_ring.specs.Answers.{answer_of}
-use Rattle.undo_ring.specs.Answered.{with_past, past_after, is_change, StaysPlaced, IsGrown, Keeps, AcceptsOn, RefusesOn, StopsOn, FailsOn, AnswersMap, done_of, made_of}
-use Rattle.undo_ring.specs.declared.answer.Answer.{Answer}
+use Rattle.undo_ring.specs.Answered.{with_past, past_after, is_change, StaysPlaced, Keeps, AcceptsOn, RefusesOn, StopsOn, FailsOn, AnswersMap, done_of, made_of}
 use Rattle.undo_ring.specs.declared.answer.Answer.TheVariants as told
 
 step-area : (depth : ℕ) (st : State) (n : ℕ) → step depth st (Area n) ≡ query st (feature_refusals st.doc n) (machine.AreaIs (area_of (feature_at st.doc n)))

@@ -1,5 +1,5 @@
 -- The boxes that an editor keeps beside its history: what a ring more brings, and what they cover then.
-use Rattle.std.proofs.Common.{◌≡◌, ◌≤◌, ◌<◌, ◌+◌, ◌-◌, ℕ, zero, suc, refl, sym, ap, subst, ◌∙◌, List, [], ◌∷◌, ◌++◌, map, length, get_or, take, ◌&&◌, Bool, true, false, Option, None, Some, inl, inr, arith, Result, Ok, Err, OnOk, is_ok, Contains}
+use Rattle.std.proofs.Common.{◌≡◌, ◌≤◌, ◌<◌, ◌+◌, ℕ, suc, refl, sym, ap, subst, ◌∙◌, List, [], ◌∷◌, ◌++◌, length, get_or, take, ◌&&◌, Bool, true, Option, None, Some, inl, inr, arith, Result, Ok, Err, OnOk, is_ok, Contains}
 use Rattle.std.specs.Prelude.{Vec, IsTrue, IfSome, nat_le, ◌==◌}
 use Rattle.std.specs.List.{AllByRecursion, flat_map, list_all}
 use Rattle.std.proofs.lemmas.Bool.{cases_lt, leb-true, false≢true}
@@ -11,7 +11,7 @@ use Rattle.ring_machine.specs.Parts.{features, feature, rings, rings_of}
 use Rattle.ring_machine.specs.Planar.{Proper}
 use Rattle.ring_machine.specs.Refusals.{feature_at, or_else, no_feature}
 use Rattle.ring_machine.specs.WellFormed.{WellFormed}
-use Rattle.ring_machine.proofs.First.{In, in-append, in_left, in_right}
+use Rattle.ring_machine.proofs.First.{In, in-append}
 use Rattle.ring_machine.proofs.Found.{found_in}
 use Rattle.ring_machine.proofs.Members.{contains_in, in_contains, in_flat}
 use Rattle.ring_machine.proofs.Neighbours.{in-map, in-flat_map}
@@ -19,7 +19,7 @@ use Rattle.ring_machine.proofs.Order.{and_both}
 use Rattle.ring_parts.specs.Seen.{rings_seen, polygons_seen}
 use Rattle.segment_index.specs.Candidates.{SegmentSet}
 use Rattle.ring_boxes.specs.Covering.{Covers, IsCovered, Keeps}
-use Rattle.undo_ring.specs.Boxed.{AreCovered, IsKnown, HasGrown, HasCome, Follows, CoversFeature}
+use Rattle.undo_ring.specs.Boxed.{AreCovered, IsKnown, HasCome, Follows, CoversFeature}
 use Rattle.undo_ring.specs.declared.near.Near.{Near}
 use Rattle.undo_ring.proofs.RingOrigins.{of_number}
 
@@ -198,18 +198,18 @@ one_back None since d docs h = tt
 one_back (Some boxes) since d docs h = h.1
 
 -- a change that made no other rings
-pub follows_same : {A : Type 0} (old new : Near A) (d : Document) (next : ℕ) (touched : Option ℕ) → touched ≡ None
-    → new.boxes ≡ old.boxes → new.since ≤ suc old.since → Follows old new d next touched
-follows_same old new d next touched none same since = record {
+pub follows_same : {A : Type 0} (old new : Near A) (d : Document) (touched : Option (ℕ × ℕ)) → touched ≡ None
+    → new.boxes ≡ old.boxes → new.since ≤ suc old.since → Follows old new d touched
+follows_same old new d touched none same since = record {
   since = since;
-  boxes = subst (λ o. IfSome o (λ boxes. (before : SegmentSet) × (old.boxes ≡ Some before) × Keeps before boxes × HasCome boxes d next touched))
+  boxes = subst (λ o. IfSome o (λ boxes. (before : SegmentSet) × (old.boxes ≡ Some before) × Keeps before boxes × HasCome boxes d touched))
       (sym same) (by old.boxes refl);
 }
   where
     by : (o : Option SegmentSet) → old.boxes ≡ o
-        → IfSome o (λ boxes. (before : SegmentSet) × (old.boxes ≡ Some before) × Keeps before boxes × HasCome boxes d next touched)
+        → IfSome o (λ boxes. (before : SegmentSet) × (old.boxes ≡ Some before) × Keeps before boxes × HasCome boxes d touched)
     by None e = tt
-    by (Some b) e = (b, e, λ r h. h, subst (λ t. HasCome b d next t) (sym none) tt)
+    by (Some b) e = (b, e, λ r h. h, subst (λ t. HasCome b d t) (sym none) tt)
 
 -- what holds where there is a value holds, since there is one
 pub was_ok : {X E P : Type 0} (r : Result X E) → is_ok r ≡ true → OnOk r P → P
@@ -217,24 +217,24 @@ was_ok (Ok x) t p = p
 was_ok (Err e) t p = absurd (false≢true t)
 
 -- a change that made other rings of two features
-pub follows_more : {A : Type 0} (old new : Near A) (before between after : SegmentSet) (d : Document) (next n newest : ℕ)
-    (touched : Option ℕ) → touched ≡ Some n → newest ≡ next - 1 → old.boxes ≡ Some before → new.boxes ≡ Some after
+pub follows_more : {A : Type 0} (old new : Near A) (before between after : SegmentSet) (d : Document) (n m : ℕ)
+    (touched : Option (ℕ × ℕ)) → touched ≡ Some (n, m) → old.boxes ≡ Some before → new.boxes ≡ Some after
     → new.since ≤ suc old.since → Keeps before between → Keeps between after → CoversFeature between d n
-    → CoversFeature after d newest → Follows old new d next touched
-follows_more old new before between after d next n newest touched named last was is since first second covered most = record {
+    → CoversFeature after d m → Follows old new d touched
+follows_more old new before between after d n m touched named was is since first second covered last = record {
   since = since;
-  boxes = subst (λ o. IfSome o (λ boxes. (before : SegmentSet) × (old.boxes ≡ Some before) × Keeps before boxes × HasCome boxes d next touched))
-      (sym is) (before, was, λ r h. second r (first r h), subst (HasCome after d next) (sym named) come);
+  boxes = subst (λ o. IfSome o (λ boxes. (before : SegmentSet) × (old.boxes ≡ Some before) × Keeps before boxes × HasCome boxes d touched))
+      (sym is) (before, was, λ r h. second r (first r h), subst (HasCome after d) (sym named) come);
 }
   where
-    come : HasCome after d next (Some n)
-    come = (λ f i e r j. second r (covered f i e r j), subst (CoversFeature after d) last most)
+    come : HasCome after d (Some (n, m))
+    come = (λ f i e r j. second r (covered f i e r j), last)
 
 -- where there are no boxes, any change is followed
-pub follows_none : {A : Type 0} (old new : Near A) (d : Document) (next : ℕ) (touched : Option ℕ) → new.boxes ≡ None
-    → new.since ≤ suc old.since → Follows old new d next touched
-follows_none old new d next touched none since = record {
+pub follows_none : {A : Type 0} (old new : Near A) (d : Document) (touched : Option (ℕ × ℕ)) → new.boxes ≡ None
+    → new.since ≤ suc old.since → Follows old new d touched
+follows_none old new d touched none since = record {
   since = since;
-  boxes = subst (λ o. IfSome o (λ boxes. (before : SegmentSet) × (old.boxes ≡ Some before) × Keeps before boxes × HasCome boxes d next touched))
+  boxes = subst (λ o. IfSome o (λ boxes. (before : SegmentSet) × (old.boxes ≡ Some before) × Keeps before boxes × HasCome boxes d touched))
       (sym none) tt;
 }

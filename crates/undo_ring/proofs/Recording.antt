@@ -1,11 +1,11 @@
 -- A history of records is the machine's.
-use Rattle.std.proofs.Common.{◌≡◌, ◌≢◌, ◌≤◌, ◌+◌, ℕ, zero, suc, refl, sym, ap, subst, ◌∙◌, List, [], ◌∷◌, map, take, drop, length, Bool, true, false, cond, Option, None, Some, option_map, is_some, inl, inr, ◌⊎◌, arith, Result, Ok, Err, IfOk, IfErr}
+use Rattle.std.proofs.Common.{◌≡◌, ◌≢◌, ◌≤◌, ℕ, zero, suc, refl, sym, ap, subst, ◌∙◌, List, [], ◌∷◌, map, take, drop, length, Bool, true, false, cond, Option, None, Some, option_map, is_some, inl, inr, ◌⊎◌, arith, Result, Ok, Err, IfOk, IfErr}
 use Rattle.std.proofs.lemmas.List.{take_all}
 use Rattle.std.specs.Prelude.{MatchOption, slice_get}
 use Rattle.std.specs.List.{AllByRecursion}
 use Rattle.circular_buffer.specs.Buffer.{Buffer, buffer}
 use Rattle.ring_machine.specs.Document.{Document}
-use Rattle.ring_machine.specs.Command.{Command, Undo, Refusal, Done, Refused, NothingToUndo}
+use Rattle.ring_machine.specs.Command.{Command, Undo, Refusal, Refused, NothingToUndo}
 use Rattle.ring_machine.specs.Machine.{State, step, undone}
 use Rattle.ring_machine.specs.Parts.{has_feature}
 use Rattle.ring_machine.proofs.Steps.{step-undo}

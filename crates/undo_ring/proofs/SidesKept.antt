@@ -1,5 +1,5 @@
 -- A command that edits vertices leaves every position on its side of every ring, whatever its answer.
-use Rattle.std.proofs.Common.{◌≡◌, sym, ap, subst, [], Option, None, Some, ◌⊎◌, inl, inr, Result, Ok, Err}
+use Rattle.std.proofs.Common.{sym, ap, subst, [], Option, None, Some, ◌⊎◌, inl, inr, Result, Ok, Err}
 use Rattle.std.specs.Prelude.{MatchOption}
 use Rattle.ring_machine.specs.Planar.{Proper}
 use Rattle.ring_machine.specs.Sides.{KeepsSides}
@@ -10,7 +10,7 @@ use Rattle.arc_store.specs.declared.fault.EditFault.{EditFault}
 use Rattle.edit_vertex.proofs.SidesKept.{same_keeps, part_keeps}
 use Rattle.undo_ring.specs.Answers.{refusal_of}
 use Rattle.arc_store.specs.Outcomes.{IsSameMap}
-use Rattle.undo_ring.specs.Answered.{with_past, StopsOn, RefusesOn, FailsOn, AnswersMap}
+use Rattle.undo_ring.specs.Answered.{with_past, StopsOn, RefusesOn, AnswersMap}
 use Rattle.undo_ring.specs.Edited.{EditsVertices}
 use Rattle.undo_ring.specs.declared.answer.Answer.{Answer}
 use Rattle.undo_ring.proofs.StepSides.{step_keeps}

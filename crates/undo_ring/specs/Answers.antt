@@ -1,5 +1,5 @@
 -- The answers and the faults of the code as the machine's.
-use Rattle.std.specs.Prelude.{pos, Option, Some, None}
+use Rattle.std.specs.Prelude.{Option, Some, None}
 use Rattle.ring_machine.specs.Command.{Answer as Answered, Refusal}
 use Rattle.ring_machine.specs.Command as machine
 use Rattle.arc_store.specs.declared.fault.EditFault.{EditFault}

@@ -1,6 +1,6 @@
 -- Which documents the boxes of an editor cover: the one that it holds, and those from before its newest
 -- changes, so that a change that is taken back needs none anew.
-use Rattle.std.specs.Prelude.{ℕ, suc, ◌≡◌, ◌≤◌, ◌-◌, List, ◌∷◌, take, Option, None, Some, Contains, IfSome}
+use Rattle.std.specs.Prelude.{ℕ, suc, ◌≡◌, ◌≤◌, List, ◌∷◌, take, Option, None, Some, Contains, IfSome}
 use Rattle.std.specs.List.{AllByRecursion}
 use Rattle.grid_geometry.specs.Position.{Position}
 use Rattle.ring_machine.specs.Document.{Document, Feature}
@@ -29,26 +29,26 @@ IsReady d (Move p q) boxes = HasGrown d p q boxes
 IsReady d (Insert a b q) boxes = HasGrown d a q boxes
 IsReady d c boxes = Unit {0}
 
--- the feature whose rings become others by the command, if there is one
-abbrev pub touched_by : Command → Option ℕ
-touched_by (Split n id path) = Some n
-touched_by (Merge n m) = Some n
-touched_by c = None
+-- the features whose rings become others by the command, where it makes some: two, or one twice; a new
+-- one has the next number
+abbrev pub touched_by : ℕ → Command → Option (ℕ × ℕ)
+touched_by next (Split n id path) = Some (n, next)
+touched_by next (Merge n m) = Some (n, n)
+touched_by next c = None
 
 -- each ring of a feature with this number lies in one of the boxes
 abbrev pub CoversFeature : SegmentSet → Document → ℕ → Type 0
 CoversFeature boxes d n =
     (f : Feature) → Contains (features d) f → f.number ≡ n → Covers boxes (rings_of f)
 
--- after a change that made other rings of this feature: the boxes cover it, and the feature with the
--- greatest number
-abbrev pub HasCome : SegmentSet → Document → ℕ → Option ℕ → Type 0
-HasCome boxes d next touched =
-    IfSome touched (λ n. CoversFeature boxes d n × CoversFeature boxes d (next - 1))
+-- after a change that made other rings of these features: the boxes cover them
+abbrev pub HasCome : SegmentSet → Document → Option (ℕ × ℕ) → Type 0
+HasCome boxes d touched =
+    IfSome touched (λ both. CoversFeature boxes d both.0 × CoversFeature boxes d both.1)
 
 -- after one more change to the document, the boxes are those from before, and what came is in them
-pub record Follows {A : Type 0} (old new : Near A) (d : Document) (next : ℕ)
-    (touched : Option ℕ) : Type 0 where
+pub record Follows {A : Type 0} (old new : Near A) (d : Document) (touched : Option (ℕ × ℕ))
+    : Type 0 where
   pub since : new.since ≤ suc old.since
   pub boxes : IfSome new.boxes (λ boxes. (before : SegmentSet) × (old.boxes ≡ Some before)
-      × Keeps before boxes × HasCome boxes d next touched)
+      × Keeps before boxes × HasCome boxes d touched)

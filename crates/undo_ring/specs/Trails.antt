@@ -1,5 +1,5 @@
 -- The records of a map's newest changes.
-use Rattle.std.specs.Prelude.{ℕ, ◌≡◌, ◌∷◌, List, map, take, Option, None, Some}
+use Rattle.std.specs.Prelude.{◌≡◌, ◌∷◌, List, map, take, Option, None, Some}
 use Rattle.std.specs.List.{AllByRecursion}
 use Rattle.circular_buffer.specs.Buffer.{Buffer, buffer}
 use Rattle.edit_records.specs.Records.{Record}

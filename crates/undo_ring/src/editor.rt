@@ -103,8 +103,7 @@ impl<'a, I: SegIndex, A: Allocator + Copy> Editor<'a, I, A> {
         ensures sides { EditsVertices (command_of command)
             → KeepsSides self.old.map.doc self.new.map.doc }
     {
-        let _ = self.held.next_number(); // it tells where features stand
-        let touched = touched_by(&command);
+        let touched = touched_by(&command, self.held.next_number());
         let answer = answer_near(self.alloc, &mut self.held, &mut self.near, command);
         let made = self.held.take_record();
         self.near.follow(&self.held, touched, made.is_some());

@@ -88,12 +88,14 @@ fn boxes_of<'a, I: SegIndex, A: Allocator + Copy>(
     Ok(boxes)
 }
 
-/// The feature whose rings become others by a command, if there is one.
-pub(crate) fn touched_by(command: &Command) -> Option<u32>
-    ensures { result ≡ boxed.touched_by (command_of command.now) }
+/// The features whose rings become others by a command, where it makes some: two, or one twice. A new
+/// one has the next number.
+pub(crate) fn touched_by(command: &Command, next: u32) -> Option<(u32, u32)>
+    ensures { result ≡ boxed.touched_by next (command_of command.now) }
 {
     match command {
-        Command::Split(n, _, _) | Command::Merge(n, _) => Some(*n),
+        Command::Split(n, _, _) => Some((*n, next)),
+        Command::Merge(n, _) => Some((*n, *n)),
         _ => None,
     }
 }
@@ -153,30 +155,25 @@ impl<A: Allocator + Copy> Near<A> {
         }
     }
 
-    /// Takes in what came by a change, if there was one: it made other rings of this feature and of
-    /// the one with the greatest number.
+    /// Takes in what came by a change, if there was one: it made other rings of these features.
     pub(crate) fn follow<'a, I: SegIndex>(
         &mut self,
         map: &Map<'a, I, A>,
-        touched: Option<u32>,
+        touched: Option<(u32, u32)>,
         changed: bool,
     )
-        ensures changed { changed ≡ true
-            → Follows self.old self.new map.now.doc map.now.next touched }
+        ensures changed { changed ≡ true → Follows self.old self.new map.now.doc touched }
         ensures same { changed ≡ false → self.new ≡ self.old }
     {
         if !changed {
             return;
         }
         self.since = self.since.saturating_add(1);
-        let Some(n) = touched else {
+        let Some((n, m)) = touched else {
             return;
         };
-        let newest = map.next_number().saturating_sub(1);
         let came = match &mut self.boxes {
-            Some(boxes) => {
-                add_feature(map, boxes, n).is_ok() && add_feature(map, boxes, newest).is_ok()
-            }
+            Some(boxes) => add_feature(map, boxes, n).is_ok() && add_feature(map, boxes, m).is_ok(),
             None => true,
         };
         if !came {

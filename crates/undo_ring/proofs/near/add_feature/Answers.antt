@@ -1,4 +1,4 @@
-use Rattle.std.proofs.Common.{◌≡◌, subst, sym, ap, ◌∙◌}
+use Rattle.std.proofs.Common.{ap, ◌∙◌}
 use Rattle.ring_parts.specs.Seen.{polygons_seen}
 use Rattle.undo_ring.proofs.NearLemmas.{feature_rings, feature_covered, on_ok}
 use Rattle.undo_ring.proofs.near.add_feature.Goals as goal

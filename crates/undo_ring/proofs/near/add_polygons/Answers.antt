@@ -1,4 +1,4 @@
-use Rattle.std.proofs.Common.{◌≡◌, subst, sym, arith}
+use Rattle.std.proofs.Common.{subst, sym, arith}
 use Rattle.ring_parts.specs.Seen.{rings_seen}
 use Rattle.ring_boxes.specs.Covering.{Covers}
 use Rattle.undo_ring.proofs.NearLemmas.{AreRings, rings_at, next_polygon, all_polygons}

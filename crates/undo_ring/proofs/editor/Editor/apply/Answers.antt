@@ -1,9 +1,9 @@
-use Rattle.std.proofs.Common.{sym, subst, map, is_some}
+use Rattle.std.proofs.Common.{sym, subst, ap, ◌∙◌, map, is_some}
 use Rattle.edit_records.specs.Histories.{documents}
 use Rattle.ring_machine.specs.Sides.{KeepsSides}
 use Rattle.arc_store.specs.Recorded.{record_seen}
 use Rattle.arc_store.specs.State.{State}
-use Rattle.undo_ring.specs.Boxed.{IsReady}
+use Rattle.undo_ring.specs.Boxed.{IsReady, touched_by}
 use Rattle.undo_ring.specs.Commands.{command_of}
 use Rattle.undo_ring.specs.Edited.{Edited}
 use Rattle.undo_ring.proofs.BoxesKept.{editor_known, ready_at}
@@ -22,7 +22,8 @@ invariant_of-self g c =
           (documents e.held.places e.held.doc (map record_seen e.records.items)) _ e.records.capacity c.args.command
           (c.answer_near-answer.ensures.known _ c.self.invariant.known) c.answer_near-answer.result c.answer_near-answer.ensures.answers
           (ready_at e.near c.answer_near-answer.new.near.boxes e.held.doc _ (IsReady e.held.doc (command_of c.args.command)) c.answer_near-answer.result c.self.invariant.known c.answer_near-answer.ensures.ready)
-          c.take_record-made.new.self c.take_record-made.ensures.taken (is_some c.take_record-made.result) c.is_some.result c.is_some.ensures c.touched_by-touched.result c.touched_by-touched.ensures
+          c.take_record-made.new.self c.take_record-made.ensures.taken (is_some c.take_record-made.result) c.is_some.result c.is_some.ensures
+          c.touched_by-touched.result (c.touched_by-touched.ensures ∙ ap (λ n. touched_by n (command_of c.args.command)) c.next_number.ensures.next)
           (newer_after record_seen e.held c.answer_near-answer.new.map c.take_record-made.new.self e.records c.keep.new.records c.self.invariant.trail
           c.next_number.ensures.held c.next_number.ensures.keeps c.take_record-made.result c.take_record-made.ensures.handed c.take_record-made.ensures.taken c.keep.ensures
           c.answer_near-answer.result (command_of c.args.command) c.answer_near-answer.ensures.answers)
