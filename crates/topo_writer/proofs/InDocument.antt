@@ -6,7 +6,7 @@ use Rattle.std.specs.List.{flat_map, find, sum_by, AllByRecursion}
 use Rattle.std.proofs.lemmas.List.Sums.{sum_by-append}
 use Rattle.grid_geometry.specs.Position.{Position}
 use Rattle.ring_machine.specs.Document.{Document, Feature}
-use Rattle.ring_machine.specs.Parts.{feature, features, rings, rings_of, size}
+use Rattle.ring_machine.specs.Parts.{feature, features, rings, rings_of}
 use Rattle.ring_machine.specs.WellFormed.{WellFormed, fits_form}
 use Rattle.ring_machine.proofs.First.{In}
 use Rattle.ring_machine.proofs.Neighbours.{all_of, all_in, in-flat_map}
@@ -45,12 +45,3 @@ part_few own [] x i = absurd i
 part_few own (y ∷ ys) x (inl e) =
     omega (arith, ap (λ z. sum_by length (own z)) e, sum_by-append length (own y) (flat_map own ys))
 part_few own (y ∷ ys) x (inr i) = omega (arith, part_few own ys x i, sum_by-append length (own y) (flat_map own ys))
-
--- the rings of a feature have no more positions than those of the document
-pub feature_few : (d : Document) (n : ℕ) → sum_by length (all_rings_at d n) ≤ size d
-feature_few d n = by (feature d n) refl
-  where
-    by : (o : Option Feature) → feature d n ≡ o
-        → sum_by length (flat_map (λ polygon. polygon) (unwrap_or (option_map (λ f. f.polygons) o) [])) ≤ size d
-    by None e = omega arith
-    by (Some f) e = part_few rings_of (features d) f (feature_there d n f e)

@@ -1,5 +1,5 @@
 -- The pieces of a ring, found one after another.
-use Rattle.std.proofs.Common.{◌≡◌, ℤ, pos, refl, sym, ap, ◌∙◌, List, [], ◌∷◌, ◌++◌, append_assoc, Some}
+use Rattle.std.proofs.Common.{◌≡◌, ℤ, pos, sym, ap, ◌∙◌, List, [], ◌∷◌, ◌++◌, append_assoc, Some}
 use Rattle.std.specs.Prelude.{unwrap_or}
 use Rattle.grid_geometry.specs.Position.{Position}
 use Rattle.topo_writer.specs.declared.arcs.Arcs.{Arcs}
@@ -33,7 +33,3 @@ module _ {A : Type 0} where
             append_assoc indexes (i ∷ []) (indexes_found now left)
             ∙ ap (λ o. indexes ++ (unwrap_or o (pos 0) ∷ indexes_found now left)) (sym (f w.arcs w.finds w.fits.0)) ∙ w.names;
       }
-
-  pub index_begin : (table : Arcs A) (arcs pieces : List (List Position)) → Finds table arcs → FitAll arcs pieces
-      → Indexing table [] pieces (all_found arcs pieces) (indexes_found arcs pieces)
-  index_begin table arcs pieces h f = record { arcs = arcs; finds = h; fits = f; leads = refl; names = refl }

@@ -10,7 +10,7 @@ use Rattle.grid_geometry.specs.Position.{Position}
 use Rattle.ring_machine.specs.Document.{Document, Head, Close, Text}
 use Rattle.ring_machine.specs.Vertices.{is_junction}
 use Rattle.map_text.specs.Arcs.{pieces, with_pieces}
-use Rattle.map_text.specs.Text.{comma_if, closing_text, items_text}
+use Rattle.map_text.specs.Text.{comma_if, items_text}
 use Rattle.map_frame.specs.Readers.{ShownItem}
 use Rattle.topo_writer.specs.Items.{item_at, item_rings, written_at}
 use Rattle.topo_writer.specs.Opened.{is_begin, open_after, more_after}
@@ -25,10 +25,6 @@ use Rattle.topo_writer.proofs.OpenedLemmas.{items_both, begin_left}
 pub close_alike : (heads : List Head) (more : Bool) → items_text heads true (Close ∷ []) ≡ items_text heads more (Close ∷ [])
 close_alike [] more = refl
 close_alike (h ∷ heads) more = refl
-
-pub closed_text : (o : Text) (head : Head) (heads : List Head) (now : Text) → now ≡ o ++ closing_text head
-    → now ≡ o ++ items_text (head ∷ heads) true (Close ∷ [])
-closed_text o head heads now e = e ∙ ap (λ z. o ++ z) (sym (append-nil (closing_text head)))
 
 -- a text alone after a comma
 pub alone : (o : Text) (more : Bool) (t now : Text) → now ≡ o ++ (comma_if more ++ t) → now ≡ o ++ (comma_if more ++ (t ++ []))

@@ -12,13 +12,13 @@ use Rattle.ring_machine.specs.Vertices.{is_junction}
 use Rattle.ring_machine.proofs.First.{In}
 use Rattle.ring_machine.proofs.Order.{position_eq-true}
 use Rattle.ring_machine.proofs.Neighbours.{all_of, all_in, in-flat_map}
-use Rattle.ring_machine.proofs.Members.{contains_in, in_contains}
+use Rattle.ring_machine.proofs.Members.{contains_in}
 use Rattle.map_text.specs.Arcs.{pieces, with_pieces, indexes}
 use Rattle.map_text.specs.Saved.{IsCut}
 use Rattle.map_text.proofs.Lists.{each_in, each-flat_map}
 use Rattle.map_text.proofs.OnceEach.{Simple}
 use Rattle.map_text.proofs.Borders.{ends, goes, simple}
-use Rattle.map_text.proofs.Ends.{ring_cut, long_cut, with_pieces-each}
+use Rattle.map_text.proofs.Ends.{ring_cut, long_cut}
 use Rattle.map_text.proofs.RingsBack.{Apart, pieces_apart}
 use Rattle.topo_writer.specs.Ways.{all_found, indexes_found, FitAll, all_pieces, ArePieces}
 use Rattle.topo_writer.proofs.Ways.{Whole, Border, all_borders, fit_all, streamed}
@@ -90,8 +90,3 @@ module _ (d : Document) (proper : Proper d) where
     pub ring_indexes : (arcs : List (List Position)) → ArePieces d arcs
         → indexes_found arcs (pieces (is_junction d) ring) ≡ indexes (is_junction d) (with_pieces arcs (pieces (is_junction d) ring)) ring
     ring_indexes arcs h = (both arcs h).1
-
-    pub still_pieces : (arcs : List (List Position)) → ArePieces d arcs → ArePieces d (with_pieces arcs (pieces (is_junction d) ring))
-    still_pieces arcs h =
-        with_pieces-each (Contains (all_pieces d)) arcs (pieces (is_junction d) ring) h
-        (all_of (Contains (all_pieces d)) (pieces (is_junction d) ring) (λ piece i. in_contains (all_pieces d) piece (in_all piece i)))

@@ -97,7 +97,7 @@ impl<A: Allocator + Copy> Arcs<A> {
     }
 
     /// The index of a piece: that of the arc that it is, or of the next one, which it then becomes.
-    /// Its text is made then.
+    /// The text of a new arc is made here.
     fn index(&mut self, piece: &[Pos]) -> Result<i64, AllocError>
         requires long { 2 ≤ length piece.now }
         requires few { self.old.count < 4000000 }
@@ -123,8 +123,7 @@ impl<A: Allocator + Copy> Arcs<A> {
         Ok(index)
     }
 
-    /// The indexes of the pieces of a ring. A piece that is no arc yet becomes the
-    /// next one.
+    /// The indexes of the pieces of a ring. A piece that is no arc yet becomes the next one.
     pub(crate) fn index_all(
         &mut self,
         alloc: A,

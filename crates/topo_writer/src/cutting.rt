@@ -9,8 +9,8 @@ use grid_geometry::Pos;
 use std::alloc::{AllocError, Allocator, Global};
 use std::marker::Model;
 
-/// A ring that is cut: a way round it, and the places of the way at which it is cut, the first and
-/// the last one among them.
+/// A ring that is cut, which is seen as its pieces: a way round it, and the places of the way at
+/// which it is cut, the first and the last one among them.
 #[derive(Drop)]
 pub(crate) struct CutRing<A: Allocator + Copy = Global> {
     way: Vec<Pos, A>,
@@ -69,7 +69,7 @@ fn ends_at(way: &[Pos], marks: &[bool], i: usize) -> bool
     i + 1 == way.len() || marks[i]
 }
 
-/// Notes a place at which a piece ends.
+/// Notes a place where a piece ends there.
 fn note_end<A: Allocator + Copy>(
     cuts: &mut Vec<usize, A>,
     i: usize,

@@ -15,7 +15,7 @@ use arc_store::MarkedMap;
 use segment_index::SegIndex;
 use std::alloc::{AllocError, Allocator};
 
-/// The pieces of a ring of the map, from its first junction on; none where there is no such ring.
+/// A ring of the map, cut from its first junction on; no piece where there is no such ring.
 fn cut_named<'a, I: SegIndex, A: Allocator + Copy>(
     alloc: A,
     map: &MarkedMap<'_, 'a, I, A>,
