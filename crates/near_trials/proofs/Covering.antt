@@ -51,20 +51,23 @@ module _ {A : Type 0} where
       → ((polygon : Vec (Vec Position A) A) → In polygon polygons → Covers boxes (rings_seen polygon.items))
       → Covers boxes (flat_map (λ polygon. polygon) (polygons_seen polygons))
   polygons_covered boxes polygons h ring c =
-      let f = in_flat (λ (polygon : List (List Position)). polygon) ring (polygons_seen polygons) (contains_in (flat_map (λ polygon. polygon) (polygons_seen polygons)) ring c) in
+      let f = in_flat (λ (polygon : List (List Position)). polygon) ring (polygons_seen polygons)
+      (contains_in (flat_map (λ polygon. polygon) (polygons_seen polygons)) ring c) in
       let v = in_mapped (λ (polygon : Vec (Vec Position A) A). rings_seen polygon.items) f.0 polygons f.1 in
       h v.0 v.1 ring (in_contains (rings_seen (v.0).items) ring (subst (In ring) (sym v.2) f.2))
 
   -- each ring of a polygon is one where each ring of the polygons is
   pub rings_of_polygon : (P : List Position → Type 0) (polygons : List (Vec (Vec Position A) A)) (polygon : Vec (Vec Position A) A)
-      → AllByRecursion P (flat_map (λ polygon. polygon) (polygons_seen polygons)) → In polygon polygons → AllByRecursion P (rings_seen polygon.items)
+      → AllByRecursion P (flat_map (λ polygon. polygon) (polygons_seen polygons)) → In polygon polygons
+      → AllByRecursion P (rings_seen polygon.items)
   rings_of_polygon P polygons polygon h i =
       all_of P (rings_seen polygon.items) (λ ring j. in_recursion P (flat_map (λ polygon. polygon) (polygons_seen polygons)) ring h
       (in-flat_map (λ (polygon : List (List Position)). polygon) (rings_seen polygon.items) ring (polygons_seen polygons)
       (in-map (λ (polygon : Vec (Vec Position A) A). rings_seen polygon.items) polygon polygons i) j))
 
   -- an element of a list of rings, and of polygons
-  pub item_ring : (polygon : List (Vec Position A)) (i : ℕ) (v : Vec Position A) → AllByRecursion (λ ring. is_ring ring ≡ true) (rings_seen polygon)
+  pub item_ring : (polygon : List (Vec Position A)) (i : ℕ) (v : Vec Position A)
+      → AllByRecursion (λ ring. is_ring ring ≡ true) (rings_seen polygon)
       → i < length polygon → v ≡ get_or polygon i v → is_ring v.items ≡ true
   item_ring polygon i v h l is =
       in_recursion (λ ring. is_ring ring ≡ true) (rings_seen polygon) v.items h

@@ -136,8 +136,8 @@ fn at_nested_squares(rt: HostRuntime) {
     assert!(rt; missed(&rt, rt.alloc(), NESTED, AT_NESTED) == AT_NESTED.len());
 }
 
-/// In the L, where the ray that ends with its box passes one side of another ring, or two of them; in
-/// its box and not in it; in the others, and on borders.
+/// In the L, where the ray that ends with its box passes one side of another ring, or none; in its
+/// box and not in it; in the others, and on borders.
 const AT_CUT: &[Row<'static>] = &[
     ((2, 10), &[0], &[]),
     ((2, 18), &[0], &[]),

@@ -18,5 +18,6 @@ returns-clause-covered c =
     let d = c.args.map.now.doc in
     let new = c.add_polygons.new.boxes in
     let same = ap polygons_seen c.as_slice.ensures.value ∙ c.in_ok-polygons.ensures in
-    on_ok c.add_polygons.result (λ h. feature_covered d c.frame.ensures.formed.numbers new c.args.n (subst (λ ps. Covers new (flat_map (λ polygon. polygon) ps)) same h))
+    on_ok c.add_polygons.result (λ h. feature_covered d c.frame.ensures.formed.numbers new c.args.n
+    (subst (λ ps. Covers new (flat_map (λ polygon. polygon) ps)) same h))
     c.add_polygons.ensures.covered

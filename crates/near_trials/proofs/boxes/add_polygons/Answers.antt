@@ -20,8 +20,10 @@ loop-polygon-preserved c =
     let old = c.loop-polygon.boxes in
     let new = c.add_rings.new.boxes in
     record {
-      covered = each_more (λ v. Covers old (rings_seen v.items)) (λ v. Covers new (rings_seen v.items)) c.args.polygons.now c.loop-polygon.polygon-index c.polygon-item.result
-          (omega (arith, c.loop-polygon-test.true)) c.polygon-item.is c.loop-polygon.invariant.covered (λ v h r i. c.in_ok-add_rings.ensures.keeps r (h r i))
+      covered = each_more (λ v. Covers old (rings_seen v.items)) (λ v. Covers new (rings_seen v.items))
+          c.args.polygons.now c.loop-polygon.polygon-index c.polygon-item.result
+          (omega (arith, c.loop-polygon-test.true)) c.polygon-item.is c.loop-polygon.invariant.covered
+          (λ v h r i. c.in_ok-add_rings.ensures.keeps r (h r i))
           (subst (λ z. Covers new (rings_seen z)) c.as_slice.ensures.value c.in_ok-add_rings.ensures.covered);
       keeps = λ r h. c.in_ok-add_rings.ensures.keeps r (c.loop-polygon.invariant.keeps r h);
     }
@@ -29,4 +31,5 @@ loop-polygon-preserved c =
 pub returns-clause-covered : goal.returns-clause-covered
 returns-clause-covered c =
     polygons_covered c.loop-polygon.boxes c.args.polygons.now
-    (λ v i. c.loop-polygon.invariant.covered v (subst (In v) (sym (take_all c.loop-polygon.polygon-index c.args.polygons.now (omega (arith, c.loop-polygon-test.false)))) i))
+    (λ v i. c.loop-polygon.invariant.covered v
+    (subst (In v) (sym (take_all c.loop-polygon.polygon-index c.args.polygons.now (omega (arith, c.loop-polygon-test.false)))) i))
