@@ -14,6 +14,7 @@ import json
 import math
 import pathlib
 import random
+import re
 import subprocess
 import sys
 import tempfile
@@ -38,7 +39,7 @@ class Blurred:
         self.members = {name: [token, value] for name, token, value in entries(text.strip())}
         old = self.members.get("transform", ["", "null"])[1]
         self.transform = None if old == "null" else old
-        self.made, self.heights = {}, draw.random() < 0.3
+        self.made, self.heights, self.is_whole = {}, draw.random() < 0.3, True
         self.further = draw.random() < 0.5 and self.heights
         self.lines = draw.choice([0, 0, 1, 2])
         step = draw.choice([1, 1, 10, 1000])
@@ -78,6 +79,12 @@ class Blurred:
         return with_members(self.members, {"arcs": f"[{','.join(lines)}]", "objects": self.objects(True)}), count
 
     def number(self, value):
+        """A coordinate as JSON has it, and whether all so far are written as whole numbers."""
+        text = self.way(value)
+        self.is_whole = self.is_whole and re.fullmatch(r"-?[0-9]+([.]0+)?", text) is not None
+        return text
+
+    def way(self, value):
         """The number, in one of the ways that JSON has."""
         whole = decimal.Decimal(value.numerator) / decimal.Decimal(value.denominator)
         plain = format(whole, "f")
@@ -163,9 +170,9 @@ class Mender:
         return done.returncode, done.stdout, done.stderr, out.read_bytes() if out.exists() else None
 
 
-def wanted(grid, heights, lines, report):
+def wanted(grid, is_whole, heights, lines, report):
     """The report of the map on whole numbers, with what is told of the grid and of what was left out."""
-    told = [f"decimals {grid.decimals} digits {grid.digits} rounded {grid.rounded}\n"] * bool(grid.decimals)
+    told = [f"decimals {grid.decimals} digits {grid.digits} rounded {grid.rounded}\n"] * (not is_whole)
     told += [f"heights {heights}\n"] * bool(heights) + [f"lines {lines}\n"] * bool(lines)
     rest = [line for line in report.splitlines(keepends=True) if line != "opens\n" or not told]
     return "".join(rest[:1] + told + rest[1:] if rest[:1] == ["opens\n"] else told + rest)
@@ -186,7 +193,7 @@ def fault_of(mender, blurred, digits, finer):
     plain = mender.ran(grid.written(blurred), [])
     if plain[0] != status or plain[3] != saved or plain[2] != said:
         return f"status {status} and {plain[0]}, {said!r} and {plain[2]!r}, {saved == plain[3]}", "saved"
-    want = wanted(grid, heights, blurred.lines, plain[1])
+    want = wanted(grid, blurred.is_whole, heights, blurred.lines, plain[1])
     if status == 0 and report != want:
         return f"{report[:300]!r} in place of {want[:300]!r}", "saved"
     return None, "saved" if status == 0 else "not mended"

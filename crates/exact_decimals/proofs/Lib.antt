@@ -9,3 +9,4 @@ pub mod Power
 pub mod Written
 mod Examples
 pub mod Numbers
+pub mod Wholes

@@ -31,7 +31,7 @@ behind_some (digits {x = x} {xs = xs} e d) a = passed is_digit x xs e ∙ behind
 digits_some : {xs r : List ℕ} → SomeDigits xs r → 0 < digits_len xs
 digits_some (digits {x = x} {xs = xs} e d) = omega (arith, cond-true (is_digit x) (1 + digits_len xs) 0 e)
 
-digits_all : {xs : List ℕ} → Digits xs [] → digits_len xs ≡ length xs
+pub digits_all : {xs : List ℕ} → Digits xs [] → digits_len xs ≡ length xs
 digits_all no_digit = refl
 digits_all (digit {x = x} {xs = xs} e d) = omega (arith, cond-true (is_digit x) (1 + digits_len xs) 0 e, digits_all d)
 
@@ -41,7 +41,7 @@ some_all (digits {x = x} {xs = xs} e d) = omega (arith, cond-true (is_digit x) (
 not_e : (x : ℕ) → is_digit x ≡ true → is_e x ≡ false
 not_e x h = grind (arith, nat_tests)
 
-skipped : {xs r : List ℕ} → Digits xs r → behind_e xs ≡ behind_e r
+pub skipped : {xs r : List ℕ} → Digits xs r → behind_e xs ≡ behind_e r
 skipped no_digit = refl
 skipped (digit {x = x} {xs = xs} e d) = cond-false (is_e x) xs (behind_e xs) (not_e x e) ∙ skipped d
 

@@ -7,3 +7,5 @@ pub mod Naming
 pub mod Points
 pub mod Opened
 pub mod NewTransform
+pub mod WholeNumbers
+pub mod AsWhole

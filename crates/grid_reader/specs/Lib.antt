@@ -6,4 +6,5 @@ pub mod Transform
 pub mod TransformView
 pub mod Opening
 pub mod OnGridView
+pub mod Wholes
 pub mod Told

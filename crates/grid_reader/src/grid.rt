@@ -1,6 +1,6 @@
 // The grid that positions are put on: how many decimals it has, and where they stand on it.
 ghost use Rattle.std.specs.Prelude.{◌≡◌, ◌≤◌, ◌*◌, ◌+◌, ◌^◌, map, length, unsigned_abs, IfOk, IfSome, ◌-◌, ◌*ℤ◌, pos};
-ghost use Rattle.std.specs.List.{filter, AllByRecursion};
+ghost use Rattle.std.specs.List.{filter, list_all, AllByRecursion};
 ghost use Rattle.json_spans.specs.Left.{node};
 ghost use Rattle.json_spans.specs.Walk.{items};
 ghost use Rattle.exact_decimals.specs.Fine.{decimals, rounded};
@@ -8,12 +8,13 @@ ghost use Rattle.topo_reader.specs.Uses.{positions_of};
 ghost use Rattle.grid_reader.specs.Grid.{greater, lesser, greatest_from, most_decimals, furthest, fitting, digits_of, on_grid, is_moved, moved, has_further, heights};
 ghost use Rattle.grid_reader.specs.Near.{IsNear};
 ghost use Rattle.grid_reader.specs.Seen.{fine_seen, arcs_seen};
+ghost use Rattle.grid_reader.specs.Wholes.{is_whole, has_wholes, all_whole};
 
 use crate::fine_pos::FinePos;
 use crate::wants::Wants;
 use exact_decimals::{decimals, is_rounded, rounded};
 use grid_geometry::Pos;
-use json_spans::{Span, items};
+use json_spans::{Span, items, whole};
 use std::alloc::{AllocError, Allocator};
 
 /// How many decimals a unit has, and how many digits stand before them in the greatest coordinate.
@@ -246,4 +247,48 @@ pub(crate) fn heights(arcs: Span<'_>) -> Option<usize>
         count = heights_in_arc(count, arc)?;
     }
     Some(count)
+}
+
+/// Whether this is a whole number as the editor takes it.
+fn is_whole(span: Span<'_>) -> bool
+    ensures { result ≡ is_whole (node span.entry) }
+{
+    whole(span).is_ok()
+}
+
+/// Whether the first two numbers are whole.
+fn has_wholes(position: Span<'_>) -> bool
+    ensures { result ≡ has_wholes (node position.entry) }
+{
+    let mut parts = items(position);
+    match parts.next() {
+        None => true,
+        Some(first) => match parts.next() {
+            None => is_whole(first),
+            Some(second) => is_whole(first) && is_whole(second),
+        },
+    }
+}
+
+fn has_wholes_in_arc(arc: Span<'_>) -> bool
+    ensures { result ≡ list_all has_wholes (items (node arc.entry)) }
+{
+    for part in items(arc) {
+        if !has_wholes(part) {
+            return false;
+        }
+    }
+    true
+}
+
+/// Whether all coordinates are written as whole numbers.
+pub(crate) fn all_whole(arcs: Span<'_>) -> bool
+    ensures { result ≡ all_whole (node arcs.entry) }
+{
+    for arc in items(arcs) {
+        if !has_wholes_in_arc(arc) {
+            return false;
+        }
+    }
+    true
 }

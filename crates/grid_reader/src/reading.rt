@@ -17,7 +17,7 @@ ghost use Rattle.grid_reader.specs.Told.{IsToldOf, IsToldAt, IsTold};
 
 use crate::fine::fine_arcs;
 use crate::fine_pos::FinePos;
-use crate::grid::{arcs_on, digits_of, heights, most_decimals, moved};
+use crate::grid::{all_whole, arcs_on, digits_of, heights, most_decimals, moved};
 use crate::told::Told;
 use crate::transform::{Transform, transform_on};
 use crate::wants::Wants;
@@ -104,6 +104,7 @@ fn told_of<A: Allocator + Copy>(
         digits,
         rounded,
         heights,
+        whole: all_whole(arcs),
     })
 }
 

@@ -11,4 +11,7 @@ pub struct Told {
     pub rounded: usize,
     /// How many positions of arcs had further numbers, which were left out.
     pub heights: usize,
+    /// Whether all coordinates are written as whole numbers, as the editor takes them: without an
+    /// exponent, and with zeros alone behind the point (RFC 8259, 6).
+    pub whole: bool,
 }

@@ -1,5 +1,5 @@
 -- Worked examples: what is reported of small maps.
-use Rattle.std.proofs.Common.{◌≡◌, ℕ, Bool, refl, pos, List, [], ◌∷◌}
+use Rattle.std.proofs.Common.{◌≡◌, ℕ, Bool, true, refl, pos, List, [], ◌∷◌}
 use Rattle.std.specs.Prelude.{codes, if◌then◌else◌}
 use Rattle.std.specs.List.{fold}
 use Rattle.std.specs.Fmt.{digits}
@@ -37,7 +37,7 @@ sides m = fold (add segment_lt segment_eq) [] (all_segments (walks_of m))
 
 -- the grid of a map whose coordinates are whole numbers
 abbrev whole : Told
-whole = record { decimals = 0; digits = 0; rounded = 0; heights = 0 }
+whole = record { decimals = 0; digits = 0; rounded = 0; heights = 0; whole = true }
 
 -- the report of a map, of each kind at most so many lines
 abbrev report : ℕ → Map → List ℕ

@@ -1,7 +1,9 @@
 pub mod Appending
 pub mod ReportLemmas
 pub mod OpeningLemmas
+pub mod WholeLemmas
 pub mod PlaceLemmas
 pub mod AreaLemmas
+pub mod EditorOpens
 mod Examples
 mod FaultLemmas

@@ -4,8 +4,8 @@ use Rattle.std.specs.Prelude.{Result, Ok, Err, IfOk, is_some, if◌then◌else�
 use Rattle.std.proofs.lemmas.Bool.{false≢true, eqb-true}
 use Rattle.topo_reader.specs.Document.{Opened}
 use Rattle.topo_outline.specs.Layers.{OutlineText}
-use Rattle.grid_reader.specs.Fine.{fine_arcs}
-use Rattle.grid_reader.specs.Grid.{most_decimals, heights}
+use Rattle.grid_reader.specs.Grid.{heights}
+use Rattle.grid_reader.specs.Wholes.{all_whole}
 use Rattle.grid_reader.specs.Told.{IsTold}
 use Rattle.grid_reader.specs.declared.told.Told.{Told}
 use Rattle.grid_reader.specs.declared.wants.Wants.{Wants}
@@ -60,25 +60,23 @@ zero_if : (b : Bool) → ◌≡◌ {A = ℕ} (if b then 0 else 1) 0 → b ≡ tr
 zero_if true e = refl
 zero_if false e = absurd (omega arith)
 
-both_if : (a b : Bool) → (a && b) ≡ true → (a ≡ true) × (b ≡ true)
+pub both_if : (a b : Bool) → (a && b) ≡ true → (a ≡ true) × (b ≡ true)
 both_if true true e = (refl, refl)
 both_if false b e = absurd (false≢true e)
 both_if true false e = absurd (false≢true e)
 
 -- the bytes are one topology on a grid
-one : (wants : Wants) (bytes : List ℕ) (o p : Opened) → OpensOn wants bytes o → OpensOn wants bytes p → o ≡ p
+pub one : (wants : Wants) (bytes : List ℕ) (o p : Opened) → OpensOn wants bytes o → OpensOn wants bytes p → o ≡ p
 one wants bytes o p reads again = ok_same o p (sym reads.opens ∙ again.opens)
 
 -- and so is the grid
 plain_same : (wants : Wants) (bytes : List ℕ) (s t : Told) → IsTold wants bytes s → IsTold wants bytes t → is_plain s ≡ is_plain t
 plain_same wants bytes s t told again =
     let shape : told.shape ≡ again.shape = ok_same told.shape again.shape (sym told.outlined ∙ again.outlined) in
-    let fine : told.fine ≡ again.fine = ok_same told.fine again.fine
-    (sym told.are ∙ ap (λ (o : OutlineText). fine_arcs wants (is_some o.transform) o.arcs) shape ∙ again.are) in
-    let decimals : s.decimals ≡ t.decimals = told.is.decimals ∙ ap most_decimals fine ∙ sym again.is.decimals in
+    let whole : s.whole ≡ t.whole = told.is.whole ∙ ap (λ (o : OutlineText). all_whole o.arcs) shape ∙ sym again.is.whole in
     let same : s.heights ≡ t.heights =
     told.is.heights ∙ ap (λ (o : OutlineText). if wants.drop_heights then heights o.arcs else 0) shape ∙ sym again.is.heights in
-    ap (λ (z : ℕ). (z == 0) && (s.heights == 0)) decimals ∙ ap (λ (z : ℕ). (t.decimals == 0) && (z == 0)) same
+    ap (λ (b : Bool). b && (s.heights == 0)) whole ∙ ap (λ (z : ℕ). t.whole && (z == 0)) same
 
 pub status_opens : {A : Type 0} (asked : Asked) (bytes : List ℕ) (r : Report A) → Looked asked.grid bytes r.findings → IsTold asked.grid bytes r.grid
     → r.dropped ≡ asked.dropped → status_of (Ok r) ≡ 0 ↔ MapOpens asked bytes

@@ -1,5 +1,5 @@
 -- What looking at the bytes of a map comes to.
-use Rattle.std.specs.Prelude.{◌≡◌, ℕ, true, List, Option}
+use Rattle.std.specs.Prelude.{◌≡◌, ℕ, true, List, Option, None}
 use Rattle.grid_geometry.specs.Position.{Position}
 use Rattle.grid_reader.specs.Opening.{grid_opening}
 use Rattle.grid_reader.specs.Told.{IsTold}
@@ -7,9 +7,11 @@ use Rattle.grid_reader.specs.declared.told.Told.{Told}
 use Rattle.grid_reader.specs.declared.wants.Wants.{Wants}
 use Rattle.place_text.specs.Text.{IsPlaceText}
 use Rattle.ring_machine.specs.Document.{Text}
+use Rattle.ring_machine.specs.Planar.{first_pair}
 use Rattle.segment_paths.specs.Paths.{Path}
-use Rattle.topo_reader.specs.Document.{Opened}
-use Rattle.topo_reader.specs.Opening.{OpensIn, IsFaultIn}
+use Rattle.topo_reader.specs.Document.{Opened, document_of}
+use Rattle.topo_reader.specs.Opening.{OpensIn, OpensWalks, IsFaultIn}
+use Rattle.topo_reader.specs.Opening as reader
 use Rattle.walk_faults.specs.Findings.{Found, HasMore}
 use Rattle.walk_faults.specs.Opens.{Opens}
 use Rattle.walk_faults.specs.Walks.{walks_of}
@@ -38,12 +40,20 @@ abbrev pub HasPlaces : {A : Type 0}
 HasPlaces wants bytes findings paths text =
     (o : Opened) × OpensOn wants bytes o × IsPlaceText o.transform o.polygons findings paths text
 
--- no line was left out, and the bytes are a topology whose coordinates are whole numbers, two a
--- position; each walk is a linear ring, and no two segments conflict
+-- no line was left out, and the bytes are a topology whose coordinates are written as whole numbers,
+-- two a position; on the grid that is asked for each walk is a linear ring, and no two segments conflict
 abbrev pub MapOpens : Asked → List ℕ → Type 0
 MapOpens asked bytes =
     (o : Opened) × (grid : Told) × OpensOn asked.grid bytes o × IsTold asked.grid bytes grid
     × (is_plain grid ≡ true) × (asked.dropped ≡ 0) × Opens o.polygons
+
+-- the editor opens the map: its bytes are a topology of rings, no two of whose segments conflict
+abbrev pub EditorOpens : List ℕ → Type 0
+EditorOpens bytes = (p : Opened) × reader.Opens bytes p × (first_pair (document_of p) ≡ None)
+
+-- the bytes are a topology of whole numbers, with walks in the place of rings, as the editor reads it
+abbrev pub HasWalks : List ℕ → Type 0
+HasWalks bytes = (o : Opened) × OpensWalks bytes o
 
 -- of some kind there are more findings in the topology that the bytes are than can be listed
 abbrev pub AreTooMany : Wants → List ℕ → Type 0

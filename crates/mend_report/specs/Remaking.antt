@@ -5,6 +5,7 @@ use Rattle.ring_machine.specs.Planar.{Proper}
 use Rattle.ring_machine.specs.Ring.{canonical}
 use Rattle.ring_machine.specs.Parts.{in_rings}
 use Rattle.topo_reader.specs.Document.{Opened, document_of}
+use Rattle.topo_reader.specs.Reads.{ReadsWalks}
 use Rattle.grid_reader.specs.Opening.{ReadsOnGrid}
 use Rattle.grid_reader.specs.Told.{IsTold}
 use Rattle.grid_reader.specs.declared.told.Told.{Told}
@@ -50,6 +51,10 @@ pub record IsRemade {A : Type 0} (d : Document) (remade : Remade A) : Type 0 whe
 -- on the grid that is asked for, the bytes mean a document of walks, and that is mended
 abbrev pub Remakes : {A : Type 0} → Wants → List ℕ → Remade A → Type 0
 Remakes wants bytes remade = (d : Document) × ReadsOnGrid wants bytes d × IsRemade d remade
+
+-- the bytes mean a document of walks, as the editor reads it, and that is mended
+abbrev pub RemakesWhole : {A : Type 0} → List ℕ → Remade A → Type 0
+RemakesWhole bytes remade = (d : Document) × ReadsWalks bytes d × IsRemade d remade
 
 -- the report tells the grid, all that is found in a map, and what was done about it
 abbrev pub TellsRemade : {A : Type 0}

@@ -55,9 +55,9 @@ abbrev pub is_clear : List RingAt → List Repeat → List Touch → List Crossi
 is_clear short repeats touches crossings =
     length short == 0 && length repeats == 0 && length touches == 0 && length crossings == 0
 
--- every coordinate is a whole number, and nothing was left out
+-- every coordinate is written as a whole number, and nothing was left out
 abbrev pub is_plain : Told → Bool
-is_plain grid = grid.decimals == 0 && grid.heights == 0
+is_plain grid = grid.whole && grid.heights == 0
 
 -- the map opens as it is: "opens"
 abbrev pub opens_line : Bool → List ℕ
@@ -67,7 +67,7 @@ opens_line clear = if clear then codes "opens\n" else []
 -- "decimals D digits K rounded N"
 abbrev pub decimals_line : Told → List ℕ
 decimals_line grid =
-    if grid.decimals == 0 then [] else (codes "decimals " ++ (decimal grid.decimals
+    if grid.whole then [] else (codes "decimals " ++ (decimal grid.decimals
     ++ (codes " digits " ++ (decimal grid.digits ++ (codes " rounded " ++ (decimal grid.rounded
     ++ codes "\n"))))))
 

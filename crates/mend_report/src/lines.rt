@@ -17,14 +17,14 @@ use std::alloc::{AllocError, Allocator};
 use topo_outline::RingAt;
 use walk_faults::{Crossing, Repeat, Touch};
 
-/// Appends the line of the decimals of a grid, where coordinates have some.
+/// Appends the line of the decimals of a grid, where a coordinate is not written as a whole number.
 pub(crate) fn push_decimals<A: Allocator>(
     text: &mut Vec<u8, A>,
     grid: Told,
 ) -> Result<(), AllocError>
     ensures { OnOk result (text.new.items ≡ text.old.items ++ decimals_line grid) }
 {
-    if grid.decimals == 0 {
+    if grid.whole {
         return Ok(());
     }
     text.extend_from_slice(b"decimals ")?;

@@ -8,12 +8,12 @@ ghost use Rattle.place_text.specs.Text.{IsPlaceText};
 ghost use Rattle.mend_report.specs.Report.{short_line, repeat_line, touch_line, crossing_line};
 ghost use Rattle.mend_report.specs.Report.{is_plain, is_clear, opens_line, report_of, findings_text, grid_text};
 ghost use Rattle.mend_report.specs.Report.{path_line, parts_line, area_line, mended_report};
-ghost use Rattle.mend_report.specs.Remaking.{Remakes, TellsMending, PlacesMending, IsMendEnd};
+ghost use Rattle.mend_report.specs.Remaking.{Remakes, RemakesWhole, TellsMending, PlacesMending, IsMendEnd};
 ghost use Rattle.mend_report.specs.Remaking.{IsRemade, TellsRemade, PlacesRemade, EndsMending};
 ghost use Rattle.topo_reader.specs.Document.{document_of, IsOfWalks};
 ghost use Rattle.topo_reader.specs.DocumentView.{view_raw};
 ghost use Rattle.segment_paths.specs.Seen.{paths_seen};
-ghost use Rattle.mend_report.specs.Looking.{under, Looked, HasPlaces, MapOpens, IsEnd, EndsLook};
+ghost use Rattle.mend_report.specs.Looking.{under, Looked, HasPlaces, MapOpens, EditorOpens, HasWalks, IsEnd, EndsLook};
 ghost use Rattle.mend_report.specs.Status.{is_open, status_of};
 ghost use Rattle.grid_reader.specs.Told.{IsTold};
 
@@ -87,11 +87,11 @@ fn push_crossings<A: Allocator>(
     Ok(())
 }
 
-/// Whether every coordinate is a whole number, and nothing was left out.
+/// Whether every coordinate is written as a whole number, and nothing was left out.
 fn is_plain(grid: Told) -> bool
     ensures { result ≡ is_plain grid }
 {
-    grid.decimals == 0 && grid.heights == 0
+    grid.whole && grid.heights == 0
 }
 
 /// Whether nothing is found.
@@ -343,8 +343,8 @@ fn report_read<A: Allocator + Copy>(
 /// Looks at a map on the grid that is asked for, appends the report of that grid and of all that keeps
 /// the map from opening to `texts.report`, of each kind at most `asked.most` lines, and puts the places
 /// of it all into `texts.places`, where they are asked for. What is told is answered: nothing, and so
-/// the status 0, exactly where the map opens as it is. Fails as `map_of` and `look` do, and then `texts`
-/// may have a part of a report.
+/// the status 0, exactly where the map opens as it is: in the editor, unless its grid is made finer. Fails
+/// as `map_of` and `look` do, and then `texts` may have a part of a report.
 pub fn report_map<'a, A: Allocator + Copy>(
     alloc: A,
     heap: Global,
@@ -357,6 +357,8 @@ pub fn report_map<'a, A: Allocator + Copy>(
     ensures dropped { IfOk result (λ report. report.dropped ≡ asked.dropped) }
     ensures opens { IfOk result (λ report.
         status_of (Ok report) ≡ 0 ↔ MapOpens asked bytes.now) }
+    ensures editor { IfOk result (λ report. asked.grid.finer ≡ 0
+        → status_of (Ok report) ≡ 0 ↔ (asked.dropped ≡ 0) × EditorOpens bytes.now) }
     ensures told { IfOk result (λ report. texts.new.report.items
         ≡ texts.old.report.items ++ report_of asked.most report.grid report.dropped report.findings) }
     ensures asked { OnOk result (is_some texts.new.places ≡ is_some texts.old.places) }
@@ -477,7 +479,8 @@ fn mend_read<'x, 'a: 'x, A: Allocator + Copy>(
 /// that kept the map from opening, and of what was done about it, to `texts.report`, of each kind at most
 /// `asked.most` lines, and puts the places of what was found, and the paths, into `texts.places`, where
 /// they are asked for. Answers the paths, the polygons that were taken apart, how areas changed, and the
-/// text to be saved, which opens. Fails as `map_of`, `look` and `remake` do, and then `texts` may have a
+/// text to be saved, which opens. A map of whole numbers is read as the editor reads it, unless its grid
+/// is made finer. Fails as `map_of`, `look` and `remake` do, and then `texts` may have a
 /// part of a report.
 pub fn mend_map<'a, A: Allocator + Copy>(
     alloc: A,
@@ -487,6 +490,8 @@ pub fn mend_map<'a, A: Allocator + Copy>(
     texts: &mut Texts<A>,
 ) -> Result<Remade<A>, RepairFault<'a>>
     ensures mended { IfOk result (λ remade. Remakes asked.grid bytes.now remade) }
+    ensures whole { IfOk result (λ remade. asked.grid.finer ≡ 0 → HasWalks bytes.now
+        → RemakesWhole bytes.now remade) }
     ensures told { IfOk result (λ remade. TellsMending asked bytes.now remade
         texts.old.report.items texts.new.report.items) }
     ensures asked { OnOk result (is_some texts.new.places ≡ is_some texts.old.places) }

@@ -60,35 +60,6 @@ found_known arcs piece e i kept m f h =
     let known : found arcs (first_edge piece) ≡ Some i = ap (found arcs) (sym f) ∙ sym (m e) ∙ sym h in
     (ap (λ o. cond (is_some o) arcs (arcs ++ piece ∷ [])) known, known)
 
--- what is found stays when arcs come after
-found_on : (n : ℕ) (arcs new : List (List Position)) (e : Edge) (i : ℤ) → found_from n arcs e ≡ Some i → found_from n (arcs ++ new) e ≡ Some i
-found_on n [] new e i h = absurd cc
-found_on n (a ∷ arcs) new e i h = by (edge_eq (first_edge a) e) (edge_eq (last_edge a) e) h (found_on (n + 1) arcs new e i)
-  where
-    by : (b c : Bool) → cond b (Some (pos n)) (cond c (Some (negsuc n)) (found_from (n + 1) arcs e)) ≡ Some i
-        → (found_from (n + 1) arcs e ≡ Some i → found_from (n + 1) (arcs ++ new) e ≡ Some i)
-        → cond b (Some (pos n)) (cond c (Some (negsuc n)) (found_from (n + 1) (arcs ++ new) e)) ≡ Some i
-    by true c t f = t
-    by false true t f = t
-    by false false t f = f t
-
-pub found_kept : (arcs new : List (List Position)) (e : Edge) (i : ℤ) → found arcs e ≡ Some i → found (arcs ++ new) e ≡ Some i
-found_kept arcs new e i h = found_on 0 arcs new e i h
-
--- an index in an arc's direction is that of one of the arcs
-found_before : (n : ℕ) (arcs : List (List Position)) (e : Edge) (k : ℕ) → found_from n arcs e ≡ Some (pos k) → k < length arcs + n
-found_before n [] e k h = absurd cc
-found_before n (a ∷ arcs) e k h = by (edge_eq (first_edge a) e) (edge_eq (last_edge a) e) h (found_before (n + 1) arcs e k)
-  where
-    by : (b c : Bool) → cond b (Some (pos n)) (cond c (Some (negsuc n)) (found_from (n + 1) arcs e)) ≡ Some (pos k)
-        → (found_from (n + 1) arcs e ≡ Some (pos k) → k < length arcs + (n + 1)) → k < length (a ∷ arcs) + n
-    by true c t f = let same : n ≡ k = cc in omega (arith, same)
-    by false true t f = absurd cc
-    by false false t f = omega (arith, f t)
-
-pub found_below : (arcs : List (List Position)) (e : Edge) (k : ℕ) → found arcs e ≡ Some (pos k) → k < length arcs
-found_below arcs e k h = omega (arith, found_before 0 arcs e k h)
-
 -- two entries for one more arc, under edges that are its first and its last
 module _ (arcs : List (List Position)) (ps : List Position) (g0 g1 g2 : Edge → Option ℤ) (f l : Edge) (i k : ℤ)
     (fe : f ≡ first_edge ps) (le : l ≡ last_edge ps) (ie : i ≡ pos (length arcs)) (ke : k ≡ negsuc (length arcs))

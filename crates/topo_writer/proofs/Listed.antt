@@ -1,13 +1,14 @@
 -- Texts with commas between them, one after another.
 use Rattle.std.proofs.Common.{◌≡◌, ℕ, zero, suc, ◌+◌, ◌<◌, length, take, List, [], ◌∷◌, ◌++◌, map}
-use Rattle.std.proofs.Common.{true, refl, sym, ap, ◌∙◌, arith, append_assoc, get_or}
+use Rattle.std.proofs.Common.{true, refl, sym, ap, ap₂, ◌∙◌, arith, append_assoc, get_or}
 use Rattle.std.specs.Prelude.{Bool, codes, nat_lt}
 use Rattle.std.proofs.lemmas.List.{append-nil, map-append, take_more}
 use Rattle.std.proofs.lemmas.List.Concat.{flat_map-append}
 use Rattle.grid_geometry.specs.Position.{Position}
 use Rattle.ring_machine.specs.Document.{Text}
 use Rattle.map_text.specs.Arcs.{indexes}
-use Rattle.map_text.specs.Text.{further, commas, comma_if, ring_text}
+use Rattle.map_text.specs.Text.{arc_text, further, commas, comma_if, ring_text}
+use Rattle.topo_writer.specs.Named.{listed_arcs}
 use Rattle.topo_writer.specs.Ways.{written_ring, written_rings, written_polygon}
 
 pub further_push : (ts : List Text) (t : Text) → further (ts ++ t ∷ []) ≡ further ts ++ (codes "," ++ t)
@@ -48,15 +49,12 @@ commas_push f (y ∷ ys) x =
     ∙ sym (append_assoc (f y) (further (map f ys)) (codes "," ++ f x))
     ∙ ap (λ b. (f y ++ further (map f ys)) ++ (comma_if b ++ f x)) (sym (positive (length ys)))
 
--- the first items are written first
-pub commas_more : {A : Type 0} (f : A → Text) (xs ys : List A) → (later : Text) × (commas (map f (xs ++ ys)) ≡ commas (map f xs) ++ later)
-commas_more f [] ys = (commas (map f ys), refl)
-commas_more f (x ∷ xs) ys = (
-  further (map f ys),
-  ap (λ z. f x ++ further z) (map-append f xs ys)
-      ∙ ap (λ z. f x ++ z) (flat_map-append (λ u. codes "," ++ u) (map f xs) (map f ys))
-      ∙ sym (append_assoc (f x) (further (map f xs)) (further (map f ys))),
-)
+-- one more arc after all of them
+pub listed_push : (delta : Bool) (arcs : List (List Position)) (piece : List Position) (count : ℕ) (old new : Text)
+    → count ≡ length arcs → old ≡ listed_arcs delta arcs → new ≡ old ++ (comma_if (nat_lt 0 count) ++ arc_text delta piece)
+    → new ≡ listed_arcs delta (arcs ++ piece ∷ [])
+listed_push delta arcs piece count old new c e p =
+    p ∙ ap₂ (λ z n. z ++ (comma_if (nat_lt 0 n) ++ arc_text delta piece)) e c ∙ sym (commas_push (arc_text delta) arcs piece)
 
 -- a polygon is the list of its written rings
 pub polygon_is : (j : Position → Bool) (arcs polygon : List (List Position))

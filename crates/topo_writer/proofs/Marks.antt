@@ -1,16 +1,11 @@
 -- Ways and rings whose places are marked, cut at their marks.
 use Rattle.std.proofs.Common.{◌≡◌, ℕ, zero, suc, ◌+◌, ◌<◌, Bool, true, false, refl, sym, ap, ◌∙◌, List, [], ◌∷◌, ◌++◌, ◌||◌, if◌then◌else◌}
-use Rattle.std.proofs.Common.{map, take, drop, length, get_or, arith, append_assoc, append-nil, pos, Result, Ok, Err, IfOk}
+use Rattle.std.proofs.Common.{map, take, drop, length, get_or, arith, append_assoc, append-nil, pos}
 use Rattle.std.proofs.lemmas.List.{drop_more, take_more, map-append, drop-map, length-map}
 use Rattle.grid_geometry.specs.Position.{Position, position}
 use Rattle.map_text.specs.Arcs.{begun, from_first, before_first}
 use Rattle.topo_writer.specs.Found.{at_place}
 use Rattle.topo_writer.specs.Ways.{is_end, cut_after}
-
--- what holds of a value by another fact
-pub if_ok : {X E : Type 0} {P Q : X → Type 0} (r : Result X E) → ((x : X) → P x → Q x) → IfOk r P → IfOk r Q
-if_ok (Ok x) f p = f x p
-if_ok (Err e) f p = p
 
 -- before the end
 pub not_end : (way : List Position) (n : ℕ) → n < length way → is_end (drop n way) ≡ false

@@ -1,8 +1,8 @@
 -- The rings that are named, and the arcs along them.
-use Rattle.std.proofs.Common.{◌≡◌, ℕ, zero, suc, ◌+◌, ◌<◌, ◌≤◌, refl, sym, ap, ◌∙◌, subst, List, [], ◌∷◌, ◌++◌, map, length, take, drop, get_or}
+use Rattle.std.proofs.Common.{◌≡◌, ℕ, zero, suc, ◌≤◌, sym, ap, ◌∙◌, subst, List, [], ◌∷◌, ◌++◌, map, length, get_or}
 use Rattle.std.specs.Prelude.{Contains}
 use Rattle.std.specs.List.{flat_map, AllByRecursion}
-use Rattle.std.proofs.lemmas.List.{append-nil, map-append, take_more, take-append-drop}
+use Rattle.std.proofs.lemmas.List.{append-nil, map-append}
 use Rattle.std.proofs.lemmas.List.Concat.{flat_map-append}
 use Rattle.grid_geometry.specs.Position.{Position}
 use Rattle.ring_machine.specs.Document.{Document}
@@ -19,7 +19,7 @@ use Rattle.topo_writer.specs.Reading.{all_rings_at, polygons_at, rings_at}
 use Rattle.topo_writer.specs.Ways.{all_found, all_pieces, indexes_found, ArePieces, FitAll}
 use Rattle.topo_writer.specs.declared.arcs.RingName.{RingName}
 use Rattle.topo_writer.proofs.InDocument.{rings_there}
-use Rattle.topo_writer.proofs.Later.{with_pieces-append, with_pieces_new}
+use Rattle.topo_writer.proofs.Later.{with_pieces-append}
 use Rattle.topo_writer.proofs.LaterParts.{each_left, each_right}
 use Rattle.topo_writer.proofs.ReadRings.{ring_is}
 use Rattle.topo_writer.proofs.RingPieces.{ring_arcs, ring_fits, ring_indexes, ring_long}
@@ -83,25 +83,6 @@ module _ (d : Document) where
       → arcs_along d (names ++ name ∷ []) ≡ with_pieces (arcs_along d names) (pieces (is_junction d) (named_ring d name))
   along_more names name =
       along_both names (name ∷ []) ∙ ap (with_pieces (arcs_along d names)) (append-nil (pieces (is_junction d) (named_ring d name)))
-
-  pub along_next : (names : List RingName) (i : ℕ) (name : RingName) → i < length names → name ≡ get_or names i name
-      → with_pieces (arcs_along d (take i names)) (pieces (is_junction d) (named_ring d name)) ≡ arcs_along d (take (i + 1) names)
-  along_next names i name l e =
-      sym (ap (arcs_along d) (take_more names i name l ∙ ap (λ z. take i names ++ z ∷ []) (sym e)) ∙ along_more (take i names) name)
-
-  -- the arcs along the first rings come first
-  pub along_rest : (names : List RingName) (i : ℕ) → (later : List (List Position)) × (arcs_along d names ≡ arcs_along d (take i names) ++ later)
-  along_rest names i =
-      let rest = flat_map (pieces (is_junction d)) (map (named_ring d) (drop i names)) in
-      let new = with_pieces_new (arcs_along d (take i names)) rest in
-      (new.0, ap (arcs_along d) (sym (take-append-drop i names)) ∙ along_both (take i names) (drop i names) ∙ new.1)
-
-  -- arcs that are found by their edges are those that are found whole
-  pub along_found : Proper d → (arcs : List (List Position)) → ArePieces d arcs → (name : RingName)
-      → all_found arcs (pieces (is_junction d) (named_ring d name)) ≡ with_pieces arcs (pieces (is_junction d) (named_ring d name))
-  along_found proper arcs h name =
-      each_named d (λ ring. all_found arcs (pieces (is_junction d) ring) ≡ with_pieces arcs (pieces (is_junction d) ring)) refl
-      (λ ring c. ring_arcs d proper ring c arcs h) name
 
 -- ---- one ring more, which was cut into pieces
 

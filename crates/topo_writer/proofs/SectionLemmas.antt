@@ -1,12 +1,12 @@
 -- The sections of a text are the text, and a front of some of them is a front of it.
-use Rattle.std.proofs.Common.{◌≡◌, ◌≤◌, refl, sym, ap, ◌∙◌, subst, List, [], ◌∷◌, ◌++◌, map, append_assoc}
+use Rattle.std.proofs.Common.{◌≡◌, ◌≤◌, refl, sym, ap, ap₂, ◌∙◌, subst, List, [], ◌∷◌, ◌++◌, map, append_assoc}
 use Rattle.std.proofs.Common.{Bool, Option, Some, None, arith}
 use Rattle.std.specs.Prelude.{codes, is_some, option_map}
 use Rattle.std.specs.List.{AllByRecursion}
 use Rattle.device_io.specs.Sending.{TookFront}
 use Rattle.device_io.specs.declared.Sink as sink
 use Rattle.device_io.proofs.SendingLaws.{took_first}
-use Rattle.grid_geometry.specs.Position.{Position, InRange}
+use Rattle.grid_geometry.specs.Position.{InRange}
 use Rattle.ring_machine.specs.Document.{Text, Member, Layer, Document}
 use Rattle.ring_machine.specs.Parts.{in_layer, rings, size}
 use Rattle.ring_machine.specs.Planar.{Proper}
@@ -18,8 +18,10 @@ use Rattle.map_text.proofs.ReadingBack.{text_saves}
 use Rattle.map_text.specs.Arcs.{arcs_of}
 use Rattle.map_text.specs.Text.{commas, further, member, member_if, member_text, layer_member, object_text, arcs_text, text_of}
 use Rattle.topo_writer.specs.Items.{written_item}
+use Rattle.topo_writer.specs.declared.arcs.Arcs.{Arcs}
 use Rattle.topo_writer.specs.Named.{listed_arcs}
 use Rattle.topo_writer.specs.Sections.{begin_text, layer_text, layers_text, middle_text, end_text, IsMapFrame}
+use Rattle.topo_writer.specs.Tables.{arcs_in, FindsArcs}
 use Rattle.topo_writer.proofs.MemberLemmas.{further_both}
 use Rattle.topo_writer.proofs.Sent.{filled}
 
@@ -85,18 +87,21 @@ module _ (d : Document) (frame : ShownFrame) (is : IsMapFrame d frame) where
   begin_is old now sent t shown e p q =
       q ∙ filled old now (begin_text t) e p ∙ ap begin_text (shown ∙ ap (λ (f : ShownFrame). f.transform) is.shown)
 
-  -- the arcs of the document, as differences where there is a transform
-  pub arcs_are : (arcs : List (List Position)) → arcs ≡ arcs_of d → {X : Type 0} (text : X → Text) (r : Option X)
-      → option_map text r ≡ frame.transform → (delta : Bool) → delta ≡ is_some r → listed_arcs delta arcs ≡ list_of_arcs d
-  arcs_are arcs whole text r again delta there =
-      ap (λ z. listed_arcs z arcs) (there ∙ there_shown text r d.transform (again ∙ ap (λ (f : ShownFrame). f.transform) is.shown))
-      ∙ ap (listed_arcs (is_some d.transform)) whole
+  -- whether there is a transform
+  pub delta_is : {X : Type 0} (text : X → Text) (r : Option X) → option_map text r ≡ frame.transform
+      → (delta : Bool) → delta ≡ is_some r → delta ≡ is_some d.transform
+  delta_is text r shown delta there = there ∙ there_shown text r d.transform (shown ∙ ap (λ (f : ShownFrame). f.transform) is.shown)
 
   -- the end, in a buffer that was emptied
   pub end_is : (old now sent : Text) (members : List Member) → members ≡ frame.members
       → old ≡ [] → now ≡ old ++ end_text members → sent ≡ now → sent ≡ end_text d.members
   end_is old now sent members kept e p q =
       q ∙ filled old now (end_text members) e p ∙ ap end_text (kept ∙ ap (λ (f : ShownFrame). f.members) is.shown)
+
+-- the texts in a table that has the arcs of the document
+pub arcs_are : {A : Type 0} (d : Document) (table : Arcs A) → FindsArcs d table → arcs_in d table ≡ arcs_of d
+    → (sent : Text) → sent ≡ table.listed.items → sent ≡ list_of_arcs d
+arcs_are d table h whole sent p = p ∙ h.finds.listed ∙ ap₂ (λ delta arcs. listed_arcs delta arcs) h.delta whole
 
 -- ---- a front of some sections
 

@@ -1,6 +1,7 @@
 -- The table of a text's arcs, as it stands beside the document that is sent. It keeps no positions
--- but the names of the rings that were cut: its arcs are the pieces of these, each border once.
-use Rattle.std.specs.Prelude.{◌≡◌, ◌≤◌, ◌+◌, ℕ, pos, List, [], ◌∷◌, take, length, Some}
+-- but the names of the rings that were cut: its arcs are the pieces of these, each border once. Of
+-- the arcs it keeps their text.
+use Rattle.std.specs.Prelude.{◌≡◌, ◌≤◌, ◌+◌, ℕ, List, [], ◌∷◌, length, is_some}
 use Rattle.std.specs.List.{sum_by}
 use Rattle.indexmap.specs.IndexMap.{get}
 use Rattle.grid_geometry.specs.Position.{Position}
@@ -13,9 +14,9 @@ use Rattle.map_frame.specs.Shown.{view_item_view}
 use Rattle.map_text.specs.Arcs.{with_pieces}
 use Rattle.topo_writer.specs.declared.arcs.Arcs.{Arcs}
 use Rattle.topo_writer.specs.declared.arcs.RingName.{RingName}
-use Rattle.topo_writer.specs.Found.{first_edge, HasArcs}
+use Rattle.topo_writer.specs.Found.{HasArcs}
 use Rattle.topo_writer.specs.Items.{feature_at, item_rings, items_at, LeadsOn}
-use Rattle.topo_writer.specs.Named.{arcs_along, named_pieces, named_ring}
+use Rattle.topo_writer.specs.Named.{arcs_along, listed_arcs, named_pieces, named_ring}
 use Rattle.topo_writer.specs.Reading.{all_rings_at, rings_at}
 use Rattle.topo_writer.specs.Ways.{arcs_with}
 
@@ -26,21 +27,17 @@ module _ {A : Type 0} where
   abbrev pub arcs_in : Document → Arcs A → List (List Position)
   arcs_in d table = arcs_along d table.rings.items
 
-  -- the arcs of the rings that the table named first, so many of them
-  abbrev pub first_arcs : Document → Arcs A → ℕ → List (List Position)
-  first_arcs d table count = arcs_along d (take count table.rings.items)
+  -- the table finds exactly these arcs, each by the edges that it begins and ends with, and has
+  -- their texts
+  pub record Finds (table : Arcs A) (arcs : List (List Position)) : Type 0 where
+    pub has : HasArcs (get edge_eq table.starts) table.count arcs
+    pub listed : table.listed.items ≡ listed_arcs table.delta arcs
 
-  -- the table finds exactly these arcs, each by the edges that it begins and ends with
-  abbrev pub Finds : Arcs A → List (List Position) → Type 0
-  Finds table arcs = HasArcs (get edge_eq table.starts) table.count arcs
-
-  -- the table finds exactly the arcs that stand in it
-  abbrev pub FindsArcs : Document → Arcs A → Type 0
-  FindsArcs d table = Finds table (arcs_in d table)
-
-  -- the piece begins as the arc with this number does, in the arc's direction
-  abbrev pub IsArc : Arcs A → List Position → ℕ → Type 0
-  IsArc table piece number = get edge_eq table.starts (first_edge piece) ≡ Some (pos number)
+  -- the table finds exactly the arcs that stand in it, and writes them as the document's arcs are
+  -- written: as differences where there is a transform
+  pub record FindsArcs (d : Document) (table : Arcs A) : Type 0 where
+    pub finds : Finds table (arcs_in d table)
+    pub delta : table.delta ≡ is_some d.transform
 
   -- ---- room for more arcs: a ring has at most as many pieces as positions
 

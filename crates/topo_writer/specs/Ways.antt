@@ -1,6 +1,6 @@
 -- A way that is cut while one goes along it, and its pieces found one after another.
 use Rattle.std.specs.Prelude.{ℤ, pos, Bool, true, false, ◌||◌, if◌then◌else◌, List, [], ◌∷◌, ◌++◌}
-use Rattle.std.specs.Prelude.{map, unwrap_or, Contains, codes}
+use Rattle.std.specs.Prelude.{ℕ, ◌+◌, ◌-◌, ◌<◌, ◌≤◌, take, drop, map, unwrap_or, Contains, codes}
 use Rattle.std.specs.List.{flat_map, AllByRecursion}
 use Rattle.grid_geometry.specs.Position.{Position}
 use Rattle.ring_machine.specs.Document.{Document, Feature, Form, Text}
@@ -24,6 +24,18 @@ cut_after junction piece (p ∷ ps) =
     if is_end ps || junction p
     then ((piece ++ p ∷ []) ∷ cut_after junction (p ∷ []) ps)
     else cut_after junction (piece ++ p ∷ []) ps
+
+-- the parts of the way between these places, each with both its ends
+abbrev pub between : List Position → List ℕ → List (List Position)
+between way [] = []
+between way (from ∷ []) = []
+between way (from ∷ to ∷ cuts) = take (to + 1 - from) (drop from way) ∷ between way (to ∷ cuts)
+
+-- the places rise, and are among the first so many
+abbrev pub Rising : ℕ → List ℕ → Type 0
+Rising count [] = Unit {0}
+Rising count (from ∷ []) = from < count
+Rising count (from ∷ to ∷ cuts) = (from ≤ to) × ((to < count) × Rising count (to ∷ cuts))
 
 -- the arcs after these pieces
 abbrev pub all_found : List (List Position) → List (List Position) → List (List Position)

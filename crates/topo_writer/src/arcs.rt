@@ -1,16 +1,17 @@
 //! The arcs of a text, each border once, found by the edges that they begin and end with. Of their
-//! positions nothing is kept but which rings of the map they are cut of.
+//! positions nothing is kept but their text, and which rings of the map they are cut of.
 ghost use Rattle.std.specs.Prelude.{◌≡◌, ◌+◌, ◌<◌, ◌≤◌, pos, negsuc, true, false, Some, OnOk, IfOk};
-ghost use Rattle.std.specs.Prelude.{List, [], ◌∷◌, ◌++◌, get_or, length};
+ghost use Rattle.std.specs.Prelude.{List, [], ◌∷◌, ◌++◌, length};
 ghost use Rattle.std.specs.List.{AllByRecursion};
 ghost use Rattle.indexmap.specs.IndexMap.{get, Updates};
 ghost use Rattle.grid_geometry.specs.Position.{Position};
 ghost use Rattle.ring_machine.specs.Ring.{edge_eq};
 ghost use Rattle.topo_writer.specs.Found.{found, first_edge, with_found, Fits};
-ghost use Rattle.topo_writer.specs.Tables.{Finds, IsArc};
+ghost use Rattle.topo_writer.specs.Tables.{Finds};
 ghost use Rattle.topo_writer.specs.Ways.{all_found, indexes_found, FitAll};
 
-use crate::cutting::Piece;
+use crate::cutting::CutRing;
+use crate::texts::push_next;
 use grid_geometry::Pos;
 use indexmap::IndexMap;
 use std::alloc::{AllocError, Allocator, Global};
@@ -31,12 +32,16 @@ pub(crate) struct RingName {
 /// reverse.
 type Starts<A> = IndexMap<(Pos, Pos), i64, BuildHasherDefault<FoldHasher>, A>;
 
-/// The rings of which arcs were cut, one after another, and how the arcs are found.
+/// The rings of which arcs were cut, one after another, how the arcs are found, and their texts so
+/// far with commas between them.
 #[derive(Drop)]
 pub struct Arcs<A: Allocator + Copy = Global> {
     pub(crate) rings: Vec<RingName, A>,
     pub(crate) count: usize,
     starts: Starts<A>,
+    /// Whether positions are written as differences, which is where there is a transform.
+    delta: bool,
+    pub(crate) listed: Vec<u8, A>,
 }
 
 /// The index of an arc.
@@ -56,15 +61,18 @@ fn backward(n: usize) -> i64
 }
 
 impl<A: Allocator + Copy> Arcs<A> {
-    /// No arc. Takes no memory.
-    pub fn new(alloc: A) -> Self
+    /// No arc; whether positions are to be written as differences. Takes no memory.
+    pub fn new(alloc: A, delta: bool) -> Self
         ensures rings { result.rings.items ≡ [] }
         ensures arcs { Finds result [] }
+        ensures delta { result.delta ≡ delta }
     {
         Arcs {
             rings: Vec::new(alloc),
             count: 0,
             starts: IndexMap::new(alloc),
+            delta,
+            listed: Vec::new(alloc),
         }
     }
 
@@ -79,6 +87,8 @@ impl<A: Allocator + Copy> Arcs<A> {
     fn note(&mut self, from: Pos, to: Pos, index: i64) -> Result<(), AllocError>
         ensures rings { self.new.rings ≡ self.old.rings }
         ensures count { self.new.count ≡ self.old.count }
+        ensures delta { self.new.delta ≡ self.old.delta }
+        ensures listed { self.new.listed ≡ self.old.listed }
         ensures updates { OnOk result
             (Updates edge_eq self.old.starts self.new.starts (from, to) (Some index)) }
     {
@@ -87,10 +97,12 @@ impl<A: Allocator + Copy> Arcs<A> {
     }
 
     /// The index of a piece: that of the arc that it is, or of the next one, which it then becomes.
+    /// Its text is made then.
     fn index(&mut self, piece: &[Pos]) -> Result<i64, AllocError>
         requires long { 2 ≤ length piece.now }
         requires few { self.old.count < 4000000 }
         ensures rings { OnOk result (self.new.rings ≡ self.old.rings) }
+        ensures delta { OnOk result (self.new.delta ≡ self.old.delta) }
         ensures few { OnOk result (self.new.count ≤ self.old.count + 1) }
         ensures arcs { OnOk result ((arcs : List (List Position)) → Finds self.old arcs
             → Fits arcs piece.now → Finds self.new (with_found arcs piece.now)) }
@@ -104,6 +116,7 @@ impl<A: Allocator + Copy> Arcs<A> {
         let index = forward(self.count);
         let reversed = backward(self.count);
         let n = piece.len();
+        push_next(&mut self.listed, self.delta, piece, self.count > 0)?;
         self.note(piece[0], piece[1], index)?;
         self.note(piece[n - 1], piece[n - 2], reversed)?;
         self.count += 1;
@@ -115,20 +128,21 @@ impl<A: Allocator + Copy> Arcs<A> {
     pub(crate) fn index_all(
         &mut self,
         alloc: A,
-        pieces: &[Piece<A>],
+        ring: &CutRing<A>,
     ) -> Result<Vec<i64, A>, AllocError>
-        requires long { AllByRecursion (λ piece. 2 ≤ length piece) pieces.now }
-        requires few { self.old.count + length pieces.now ≤ 4000000 }
+        requires long { AllByRecursion (λ piece. 2 ≤ length piece) ring.now }
+        requires few { self.old.count + length ring.now ≤ 4000000 }
         ensures rings { OnOk result (self.new.rings ≡ self.old.rings) }
+        ensures delta { OnOk result (self.new.delta ≡ self.old.delta) }
         ensures arcs { OnOk result ((arcs : List (List Position)) → Finds self.old arcs
-            → FitAll arcs pieces.now → Finds self.new (all_found arcs pieces.now)) }
+            → FitAll arcs ring.now → Finds self.new (all_found arcs ring.now)) }
         ensures indexes { IfOk result (λ indexes. (arcs : List (List Position))
-            → Finds self.old arcs → FitAll arcs pieces.now
-            → indexes.items ≡ indexes_found arcs pieces.now) }
+            → Finds self.old arcs → FitAll arcs ring.now
+            → indexes.items ≡ indexes_found arcs ring.now) }
     {
         let mut indexes = Vec::new(alloc);
-        for i in 0..pieces.len() {
-            let index = self.index(pieces[i].positions())?;
+        for i in 0..ring.len() {
+            let index = self.index(ring.piece(i))?;
             indexes.push(index)?;
         }
         Ok(indexes)
@@ -139,29 +153,10 @@ impl<A: Allocator + Copy> Arcs<A> {
         ensures rings { OnOk result (self.new.rings.items ≡ self.old.rings.items ++ name ∷ []) }
         ensures count { OnOk result (self.new.count ≡ self.old.count) }
         ensures starts { OnOk result (self.new.starts ≡ self.old.starts) }
+        ensures delta { OnOk result (self.new.delta ≡ self.old.delta) }
+        ensures listed { OnOk result (self.new.listed ≡ self.old.listed) }
     {
         self.rings.push(name)?;
         Ok(())
-    }
-
-    /// The ring with this place among those named.
-    pub(crate) fn ring_name(&self, i: usize) -> RingName
-        requires { i < length self.now.rings.items }
-        ensures { result ≡ get_or self.now.rings.items i result }
-    {
-        self.rings[i]
-    }
-
-    /// Whether a piece is the arc with this number, in its direction.
-    pub(crate) fn is_arc(&self, piece: &[Pos], number: usize) -> bool
-        requires long { 2 ≤ length piece.now }
-        requires few { number ≤ 4000000 }
-        ensures yes { result ≡ true → IsArc self.now piece.now number }
-        ensures no { result ≡ false → IsArc self.now piece.now number → ⊥ }
-    {
-        match self.look(piece[0], piece[1]) {
-            Some(index) => index == forward(number),
-            None => false,
-        }
     }
 }

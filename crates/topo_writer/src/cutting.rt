@@ -1,48 +1,63 @@
 //! Ways and rings, cut at junctions (TopoJSON 1.0, 2.1.3).
-ghost use Rattle.std.specs.Prelude.{◌≡◌, ◌+◌, ◌<◌, ◌≤◌, ◌||◌, ◌++◌, ◌∷◌, [], map, drop, take, length};
+ghost use Rattle.std.specs.Prelude.{◌≡◌, ◌+◌, ◌-◌, ◌<◌, ◌≤◌, ◌||◌, ◌++◌, ◌∷◌, [], map, drop, take, length};
 ghost use Rattle.std.specs.Prelude.{if◌then◌else◌, Bool, List, true, false, get_or, OnOk, IfOk};
 ghost use Rattle.grid_geometry.specs.Position.{Position};
 ghost use Rattle.map_text.specs.Arcs.{begun, pieces};
-ghost use Rattle.topo_writer.specs.Ways.{is_end, cut_after};
+ghost use Rattle.topo_writer.specs.Ways.{between, cut_after, is_end, Rising};
 
 use grid_geometry::Pos;
 use std::alloc::{AllocError, Allocator, Global};
 use std::marker::Model;
 
-/// The positions of a piece of a ring.
+/// A ring that is cut: a way round it, and the places of the way at which it is cut, the first and
+/// the last one among them.
 #[derive(Drop)]
-pub(crate) struct Piece<A: Allocator + Copy = Global> {
-    positions: Vec<Pos, A>,
+pub(crate) struct CutRing<A: Allocator + Copy = Global> {
+    way: Vec<Pos, A>,
+    cuts: Vec<usize, A>,
 }
 
-impl<A: Allocator + Copy> Model for Piece<A> {
-    ghost use Rattle.std.specs.Prelude.{List};
+impl<A: Allocator + Copy> Model for CutRing<A> {
+    ghost use Rattle.std.specs.Prelude.{List, length};
     ghost use Rattle.std.specs.Coded.{coded_list};
     ghost use Rattle.grid_geometry.specs.Position.{Position};
     ghost use Rattle.vertex_index.specs.Placement.{position_code};
 
-    ghost Value = { List Position };
+    ghost Value = { List (List Position) };
 
-    ghost coded = { coded_list position_code };
+    ghost coded = { coded_list (coded_list position_code) };
 
-    ghost view = { λ a. a.positions.items };
+    ghost use Rattle.topo_writer.specs.Ways.{between, Rising};
+
+    ghost view = { λ r. between r.way.items r.cuts.items };
+
+    ghost invariant = { λ r. Rising (length r.way.items) r.cuts.items };
 }
 
-impl<A: Allocator + Copy> Piece<A> {
-    /// The piece with these positions.
-    fn new(alloc: A, positions: &[Pos]) -> Result<Self, AllocError>
-        ensures { IfOk result (λ a. a ≡ positions.now) }
+impl<A: Allocator + Copy> CutRing<A> {
+    /// How many pieces it has.
+    pub(crate) fn len(&self) -> usize
+        ensures { result ≡ length self.now }
     {
-        let positions = Vec::from_slice(alloc, positions)?;
-        Ok(Piece { positions })
+        self.cuts.len().saturating_sub(1)
     }
 
-    /// Its positions.
-    pub(crate) fn positions(&self) -> &[Pos]
-        ensures { result.now ≡ self.now }
+    /// The piece with this number.
+    pub(crate) fn piece(&self, i: usize) -> &[Pos]
+        requires { i < length self.now }
+        ensures { result.now ≡ get_or self.now i result.now }
     {
-        self.positions.as_slice()
+        part(self.way.as_slice(), self.cuts[i], self.cuts[i + 1])
     }
+}
+
+/// The part of a way between two places, with both its ends.
+fn part(way: &[Pos], from: usize, to: usize) -> &[Pos]
+    requires rising { from ≤ to }
+    requires there { to < length way.now }
+    ensures { result.now ≡ take (to + 1 - from) (drop from way.now) }
+{
+    &way[from..to + 1]
 }
 
 /// Whether a piece of the way, which is marked at its junctions, ends at a place.
@@ -54,48 +69,41 @@ fn ends_at(way: &[Pos], marks: &[bool], i: usize) -> bool
     i + 1 == way.len() || marks[i]
 }
 
-/// Takes one more position into the piece that is open. It may end there; the next one then begins
-/// there.
-fn go_on<A: Allocator + Copy>(
-    alloc: A,
-    done: &mut Vec<Piece<A>, A>,
-    piece: &mut Vec<Pos, A>,
-    p: Pos,
+/// Notes a place at which a piece ends.
+fn note_end<A: Allocator + Copy>(
+    cuts: &mut Vec<usize, A>,
+    i: usize,
     ends: bool,
 ) -> Result<(), AllocError>
-    ensures done { OnOk result (done.new.items
-        ≡ done.old.items ++ (if ends then ((piece.old.items ++ p ∷ []) ∷ []) else [])) }
-    ensures piece { OnOk result (piece.new.items
-        ≡ (if ends then (p ∷ []) else (piece.old.items ++ p ∷ []))) }
+    ensures { OnOk result (cuts.new.items
+        ≡ cuts.old.items ++ (if ends then (i ∷ []) else [])) }
 {
-    piece.push(p)?;
-    if !ends {
-        return Ok(());
+    if ends {
+        cuts.push(i)?;
     }
-    done.push(Piece::new(alloc, piece.as_slice())?)?;
-    piece.clear();
-    piece.push(p)?;
     Ok(())
 }
 
-/// The pieces of a way that is marked at its junctions.
+/// The places at which a way is cut that is marked at its junctions.
 fn cut_way<A: Allocator + Copy>(
     alloc: A,
     way: &[Pos],
     marks: &[bool],
-) -> Result<Vec<Piece<A>, A>, AllocError>
+) -> Result<Vec<usize, A>, AllocError>
     requires long { 2 ≤ length way.now }
     requires marks { length marks.now ≡ length way.now }
-    ensures { IfOk result (λ done. (junction : Position → Bool) → marks.now ≡ map junction way.now
-        → done.items ≡ cut_after junction (take 1 way.now) (drop 1 way.now)) }
+    ensures rising { IfOk result (λ cuts. Rising (length way.now) cuts.items) }
+    ensures pieces { IfOk result (λ cuts. (junction : Position → Bool)
+        → marks.now ≡ map junction way.now
+        → between way.now cuts.items ≡ cut_after junction (take 1 way.now) (drop 1 way.now)) }
 {
-    let mut done = Vec::new(alloc);
-    let mut piece = Vec::from_slice(alloc, &way[..1])?;
+    let mut cuts = Vec::new(alloc);
+    cuts.push(0)?;
     for i in 1..way.len() {
         let ends = ends_at(way, marks, i);
-        go_on(alloc, &mut done, &mut piece, way[i], ends)?;
+        note_end(&mut cuts, i, ends)?;
     }
-    Ok(done)
+    Ok(cuts)
 }
 
 /// The place of the first mark; the first place where there is none.
@@ -135,16 +143,20 @@ pub(crate) fn cut_ring<A: Allocator + Copy>(
     alloc: A,
     ring: &[Pos],
     marks: &[bool],
-) -> Result<Vec<Piece<A>, A>, AllocError>
+) -> Result<CutRing<A>, AllocError>
     requires { length marks.now ≡ length ring.now }
-    ensures { IfOk result (λ done. (junction : Position → Bool) → marks.now ≡ map junction ring.now
-        → done.items ≡ pieces junction ring.now) }
+    ensures { IfOk result (λ cut. (junction : Position → Bool) → marks.now ≡ map junction ring.now
+        → cut ≡ pieces junction ring.now) }
 {
     if ring.is_empty() {
-        return Ok(Vec::new(alloc));
+        return Ok(CutRing {
+            way: Vec::new(alloc),
+            cuts: Vec::new(alloc),
+        });
     }
     let start = first_mark(marks);
     let way = way_round(alloc, ring, start)?;
     let marks = way_round(alloc, marks, start)?;
-    cut_way(alloc, way.as_slice(), marks.as_slice())
+    let cuts = cut_way(alloc, way.as_slice(), marks.as_slice())?;
+    Ok(CutRing { way, cuts })
 }

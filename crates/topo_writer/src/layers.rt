@@ -6,7 +6,7 @@ ghost use Rattle.map_text.specs.Text.{comma_if};
 ghost use Rattle.topo_writer.specs.Faults.{of_device};
 ghost use Rattle.topo_writer.specs.Sections.{arcs_after, layer_at, layer_text, layers_text};
 ghost use Rattle.topo_writer.specs.Sections.{IsMapFrame};
-ghost use Rattle.topo_writer.specs.Tables.{arcs_in, Finds, FindsArcs};
+ghost use Rattle.topo_writer.specs.Tables.{arcs_in, FindsArcs};
 
 use crate::arcs::Arcs;
 use crate::fault::WriteFault;
@@ -74,7 +74,7 @@ pub(crate) fn send_layers<'m, 'a, I: SegIndex, A: Allocator + Copy, W: Sink>(
 ) -> Result<(), WriteFault>
     requires working { W.has_failed out.old ≡ false }
     requires frame { IsMapFrame map.now frame.now }
-    requires table { Finds arcs.old [] }
+    requires table { FindsArcs map.now arcs.old }
     requires none { arcs.old.rings.items ≡ [] }
     ensures table { OnOk result (FindsArcs map.now arcs.new) }
     ensures arcs { OnOk result (arcs_in map.now arcs.new ≡ arcs_of map.now) }

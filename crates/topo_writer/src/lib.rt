@@ -2,7 +2,6 @@
 //! stood.
 #![tactic(auto)]
 
-mod arc_section;
 mod arcs;
 mod cutting;
 mod fault;

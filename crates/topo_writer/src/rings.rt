@@ -9,19 +9,19 @@ ghost use Rattle.topo_writer.specs.Tables.{FindsArcs, HasRoom, HasRoomForRing};
 ghost use Rattle.topo_writer.specs.Tables.{TakesPolygon, TakesRing};
 
 use crate::arcs::{Arcs, RingName};
-use crate::cutting::{Piece, cut_ring};
+use crate::cutting::{CutRing, cut_ring};
 use crate::texts::{push_comma, push_ring};
 use arc_store::MarkedMap;
 use segment_index::SegIndex;
 use std::alloc::{AllocError, Allocator};
 
 /// The pieces of a ring of the map, from its first junction on; none where there is no such ring.
-pub(crate) fn cut_named<'a, I: SegIndex, A: Allocator + Copy>(
+fn cut_named<'a, I: SegIndex, A: Allocator + Copy>(
     alloc: A,
     map: &MarkedMap<'_, 'a, I, A>,
     name: RingName,
-) -> Result<Vec<Piece<A>, A>, AllocError>
-    ensures { IfOk result (λ done. done.items ≡ named_pieces map.now name) }
+) -> Result<CutRing<A>, AllocError>
+    ensures { IfOk result (λ cut. cut ≡ named_pieces map.now name) }
 {
     let mut positions = Vec::new(alloc);
     let mut marks = Vec::new(alloc);
@@ -53,8 +53,8 @@ fn push_ring_of<'a, I: SegIndex, A: Allocator + Copy>(
         ≡ text.old.items ++ text_of_ring map.now arcs.new name) }
 {
     let alloc = *text.allocator();
-    let pieces = cut_named(alloc, map, name)?;
-    let indexes = arcs.index_all(alloc, pieces.as_slice())?;
+    let ring = cut_named(alloc, map, name)?;
+    let indexes = arcs.index_all(alloc, &ring)?;
     arcs.name_ring(name)?;
     push_ring(text, indexes.as_slice())?;
     Ok(())

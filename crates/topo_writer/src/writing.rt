@@ -7,7 +7,6 @@ ghost use Rattle.topo_outline.specs.Views.{view_kept};
 ghost use Rattle.topo_writer.specs.Faults.{of_device};
 ghost use Rattle.topo_writer.specs.Sections.{begin_text, end_text, IsMapFrame};
 
-use crate::arc_section::send_arcs;
 use crate::arcs::Arcs;
 use crate::fault::WriteFault;
 use crate::layers::send_layers;
@@ -57,13 +56,12 @@ fn send_map<'m, 'a, I: SegIndex, A: Allocator + Copy, W: Sink>(
     ensures { Sends W.Sink of_device out.old out.new result (text_of map.now) }
 {
     let mut text = Vec::new(alloc);
-    let mut arcs = Arcs::new(alloc);
+    let mut arcs = Arcs::new(alloc, frame.transform().is_some());
     push_begin(&mut text, frame.transform())?;
     put_all(out, text.as_slice())?;
     send_layers(map, frame, &mut arcs, &mut text, out)?;
     put_all(out, b"},\"arcs\":[")?;
-    let delta = frame.transform().is_some();
-    send_arcs(map, &arcs, delta, &mut text, out)?;
+    put_all(out, arcs.listed.as_slice())?;
     text.clear();
     push_end(&mut text, frame.members())?;
     put_all(out, text.as_slice())?;

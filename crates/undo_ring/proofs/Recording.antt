@@ -1,5 +1,5 @@
 -- A history of records is the machine's.
-use Rattle.std.proofs.Common.{◌≡◌, ◌≢◌, ◌≤◌, ◌+◌, ℕ, zero, suc, refl, sym, ap, subst, ◌∙◌, List, [], ◌∷◌, map, take, drop, length, Bool, true, false, cond, Option, None, Some, option_map, inl, inr, ◌⊎◌, arith, Result, Ok, Err, IfOk, IfErr}
+use Rattle.std.proofs.Common.{◌≡◌, ◌≢◌, ◌≤◌, ◌+◌, ℕ, zero, suc, refl, sym, ap, subst, ◌∙◌, List, [], ◌∷◌, map, take, drop, length, Bool, true, false, cond, Option, None, Some, option_map, is_some, inl, inr, ◌⊎◌, arith, Result, Ok, Err, IfOk, IfErr}
 use Rattle.std.proofs.lemmas.List.{take_all}
 use Rattle.std.specs.Prelude.{MatchOption, slice_get}
 use Rattle.std.specs.List.{AllByRecursion}
@@ -144,6 +144,20 @@ module _ {X : Type 0} (seen : X → Record) where
           subst (λ o. IsTrail (handed n) (map seen (kept records o).items) × IsSame (edited_by seen m records) (edited_by seen (handed n) (kept records o)))
           (sym (none_made n same made given)) (trail_still n same, same_still n same)
 
+      -- nothing was recorded, and the documents are as they were; or the one from before is the newest of
+      -- those that are kept
+      abbrev pub IsNewer : Type 0
+      IsNewer =
+          ((is_some made ≡ false) × (n.doc ≡ m.doc) × (after.past ≡ past))
+          ⊎ ((is_some made ≡ true) × (after.past ≡ take records.capacity (m.doc ∷ past)))
+
+      by_same : IsSameMap m n → IsNewer
+      by_same same = inl (
+        ap is_some (none_made n same made given),
+        ap (λ (z : MapState). z.doc) same,
+        ap (λ (z : Edited). z.past) (when_same same).1,
+      )
+
       module _ (free : has_feature m.doc m.next ≡ false) (keeps : KeepsTexts m.doc) where
         when_changed : IsRecorded m n → StaysPlaced m n ⊎ IsGrown m n
             → Stays × ((after.past ≡ take records.capacity (m.doc ∷ past)) × (after.depth ≡ records.capacity))
@@ -154,6 +168,37 @@ module _ {X : Type 0} (seen : X → Record) where
                 × ((documents n.places n.doc (map seen (kept records o).items) ≡ take records.capacity (m.doc ∷ past)) × ((kept records o).capacity ≡ records.capacity))
             by None e = absurd (none_some (e ∙ recorded.1))
             by (Some r) e = (trail_pushed n free keeps recorded placed r e, (past_pushed n free keeps recorded placed r e, refl))
+
+        by_change : IsRecorded m n → StaysPlaced m n ⊎ IsGrown m n → IsNewer
+        by_change recorded placed = by made given
+          where
+            by : (o : Option X) → option_map seen o ≡ n.last
+                → ((is_some o ≡ false) × (n.doc ≡ m.doc) × (documents n.places n.doc (map seen (kept records o).items) ≡ past))
+                ⊎ ((is_some o ≡ true) × (documents n.places n.doc (map seen (kept records o).items) ≡ take records.capacity (m.doc ∷ past)))
+            by None e = absurd (none_some (e ∙ recorded.1))
+            by (Some r) e = inr (refl, past_pushed n free keeps recorded placed r e)
+
+        -- which documents stand after it
+        pub newer : {A : Type 0} (c : Command) (result : Result (Answer A) EditFault) → AnswersMap m n c result → IsNewer
+        newer c (Ok a) h = by (is_change a) h.kept
+          where
+            by : (b : Bool) → Keeps b m n → IsNewer
+            by true k = by_change k.0 k.1
+            by false k = by_same k
+        newer c (Err fault) h = by (refusal_of fault) h
+          where
+            stopped : StopsOn m n c → IsNewer
+            stopped s = on n.last refl s.recorded
+              where
+                on : (o : Option Record) → n.last ≡ o
+                    → MatchOption o (n.doc ≡ m.doc) (λ z. Takes n.places n.next m.doc n.doc z × (n.doc ≢ m.doc)) → IsNewer
+                on None e d = by_same (same_map m n d s.stays s.cells (e ∙ sym trail.taken))
+                on (Some z) e k = by_change (z, e, k.0) (inl s.stays)
+
+            by : (o : Option Refusal) → MatchOption o (IsSameMap m n ⊎ StopsOn m n c) (RefusesOn m n c) → IsNewer
+            by None (inl same) = by_same same
+            by None (inr s) = stopped s
+            by (Some r) k = by_same k.same
 
         -- an accepted command
         pub applied : {A : Type 0} (c : Command) (a : Answer A) → AcceptsOn m n c a
@@ -320,6 +365,18 @@ module _ {X : Type 0} (seen : X → Record) (m n now : MapState) (records after 
     trail_after =
         subst (λ z. IsTrail z (map seen after.items)) (sym is)
         (subst (λ (b : Buffer X). IsTrail (handed n) (map seen b.items)) (sym pushed) (answered result c h).0)
+
+    -- the documents that stand after it
+    pub newer_after : ((is_some made ≡ false) × (n.doc ≡ m.doc) × (new.past ≡ old.past))
+        ⊎ ((is_some made ≡ true) × (new.past ≡ take records.capacity (m.doc ∷ old.past)))
+    newer_after =
+        subst (λ (z : MapState). let later = documents z.places z.doc (map seen after.items) in
+        ((is_some made ≡ false) × (n.doc ≡ m.doc) × (later ≡ old.past))
+        ⊎ ((is_some made ≡ true) × (later ≡ take records.capacity (m.doc ∷ old.past)))) (sym is)
+        (subst (λ (b : Buffer X). let later = documents n.places n.doc (map seen b.items) in
+        ((is_some made ≡ false) × (n.doc ≡ m.doc) × (later ≡ old.past))
+        ⊎ ((is_some made ≡ true) × (later ≡ take records.capacity (m.doc ∷ old.past)))) (sym pushed)
+        (newer seen m records trail n made given free keeps c result h))
 
     module _ (e : Edited) (view : old ≡ e) where
       pub applied_after : IfOk result (λ a. Applies e new c a)

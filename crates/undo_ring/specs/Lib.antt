@@ -3,3 +3,4 @@ pub mod Answers
 pub mod Edited
 pub mod Answered
 pub mod Trails
+pub mod Boxed

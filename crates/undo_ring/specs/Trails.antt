@@ -6,7 +6,9 @@ use Rattle.edit_records.specs.Records.{Record}
 use Rattle.edit_records.specs.Histories.{documents, AreUndoing}
 use Rattle.topo_outline.specs.Kept.{KeepsTexts}
 use Rattle.arc_store.specs.State.{State as MapState}
+use Rattle.undo_ring.specs.Boxed.{IsKnown}
 use Rattle.undo_ring.specs.Edited.{Edited}
+use Rattle.undo_ring.specs.declared.near.Near.{Near}
 
 -- each record takes its change back to a document whose texts may be kept, and the map has handed out
 -- the record of its last edit
@@ -14,6 +16,11 @@ pub record IsTrail (now : MapState) (rs : List Record) : Type 0 where
   pub undoing : AreUndoing now.places now.next now.doc rs
   pub texts : AllByRecursion KeepsTexts (documents now.places now.doc rs)
   pub taken : now.last ≡ None
+
+-- the records are a trail, and the boxes cover the map's document and those before its newest changes
+pub record IsEditor {A : Type 0} (now : MapState) (rs : List Record) (near : Near A) : Type 0 where
+  pub trail : IsTrail now rs
+  pub known : IsKnown near (now.doc ∷ documents now.places now.doc rs)
 
 -- the records with one more in front, where there is one
 abbrev pub kept : {X : Type 0} → Buffer X → Option X → Buffer X

@@ -1,16 +1,23 @@
 // What a command makes of a map, whatever its history.
-ghost use Rattle.std.specs.Prelude.{◌≡◌, ◌≤◌, length, None, IfOk};
+ghost use Rattle.std.specs.Prelude.{◌≡◌, ◌≤◌, ◌∷◌, length, List, None, IfOk, IfSome, OnOk};
 ghost use Rattle.ring_machine.specs.Command.{Split, Rename, Thin, Area, At, Neighbours};
+ghost use Rattle.ring_machine.specs.Document.{Document};
+ghost use Rattle.ring_machine.specs.Parts.{rings};
+ghost use Rattle.ring_machine.specs.Query.{border_at, inside_at};
 ghost use Rattle.map_text.specs.Strings.{string_text};
+ghost use Rattle.ring_boxes.specs.Covering.{Covers};
+ghost use Rattle.undo_ring.specs.Boxed.{IsKnown, IsReady};
 ghost use Rattle.undo_ring.specs.Commands.{command_of, IsSound};
 ghost use Rattle.undo_ring.specs.Answered.{AnswersMap, done_of, made_of};
 
 use crate::answer::Answer;
 use crate::command::Command;
+use crate::near::Near;
 use arc_store::{EditFault, IdText, Map, Path};
 use edit_vertex::{insert_vertex, move_vertex, remove_vertex, thin};
 use grid_geometry::Pos;
-use point_queries::{QueryFault, area2_of, at, neighbours};
+use point_queries::{At as Found, QueryFault, area2_of, at, at_near, neighbours};
+use ring_boxes::RingBoxes;
 use segment_index::SegIndex;
 use split_merge::{delete, merge, rename, split};
 use std::alloc::{AllocError, Allocator};
@@ -117,15 +124,34 @@ fn area_on<'a, I: SegIndex, A: Allocator + Copy>(
     }
 }
 
+/// The features at a position, found near it where the boxes of the rings are told.
+fn found_at<'a, I: SegIndex, A: Allocator + Copy>(
+    alloc: A,
+    map: &Map<'a, I, A>,
+    boxes: Option<&RingBoxes<A>>,
+    position: Pos,
+) -> Result<Found<A>, AllocError>
+    requires { IfSome boxes (λ b. Covers b.now (rings map.now.doc)) }
+    ensures inside { IfOk result (λ at. at.inside ≡ inside_at map.now.doc position) }
+    ensures border { IfOk result (λ at. at.border ≡ border_at map.now.doc position) }
+{
+    match boxes {
+        Some(boxes) => at_near(alloc, map, boxes, position),
+        None => at(alloc, map, position),
+    }
+}
+
 /// The features at a position.
 fn at_on<'a, I: SegIndex, A: Allocator + Copy>(
     alloc: A,
     map: &Map<'a, I, A>,
+    boxes: Option<&RingBoxes<A>>,
     position: Pos,
 ) -> Result<Answer<A>, EditFault>
+    requires { IfSome boxes (λ b. Covers b.now (rings map.now.doc)) }
     ensures { AnswersMap map.now map.now (At position) result }
 {
-    match at(alloc, map, position) {
+    match found_at(alloc, map, boxes, position) {
         Ok(found) => Ok(Answer::At(found)),
         Err(_) => Err(EditFault::OutOfMemory),
     }
@@ -147,11 +173,13 @@ fn neighbours_on<'a, I: SegIndex, A: Allocator + Copy>(
 }
 
 /// Makes an edit of a map, or answers a query of it.
-pub(crate) fn answer<'a, I: SegIndex, A: Allocator + Copy>(
+fn answer<'a, I: SegIndex, A: Allocator + Copy>(
     alloc: A,
     map: &mut Map<'a, I, A>,
+    boxes: Option<&RingBoxes<A>>,
     command: Command,
 ) -> Result<Answer<A>, EditFault>
+    requires covered { IfSome boxes (λ b. Covers b.now (rings map.old.doc)) }
     requires taken { map.old.last ≡ None }
     requires sound { IsSound command }
     ensures { AnswersMap map.old map.new (command_of command) result }
@@ -166,7 +194,27 @@ pub(crate) fn answer<'a, I: SegIndex, A: Allocator + Copy>(
         Command::Rename(feature, id) => name(alloc, map, feature, &id),
         Command::Delete(feature) => done(delete(map, feature)),
         Command::Area(feature) => area_on(map, feature),
-        Command::At(position) => at_on(alloc, map, position),
+        Command::At(position) => at_on(alloc, map, boxes, position),
         Command::Neighbours(feature) => neighbours_on(alloc, map, feature),
     }
+}
+
+/// Makes an edit of a map, or answers a query of it, and has the boxes of its rings ready for that.
+pub(crate) fn answer_near<'a, I: SegIndex, A: Allocator + Copy>(
+    alloc: A,
+    map: &mut Map<'a, I, A>,
+    near: &mut Near<A>,
+    command: Command,
+) -> Result<Answer<A>, EditFault>
+    requires known { (docs : List Document) × IsKnown near.old (map.old.doc ∷ docs) }
+    requires taken { map.old.last ≡ None }
+    requires sound { IsSound command }
+    ensures answers { AnswersMap map.old map.new (command_of command) result }
+    ensures known { (docs : List Document) → IsKnown near.old (map.old.doc ∷ docs)
+        → IsKnown near.new (map.old.doc ∷ docs) }
+    ensures ready { OnOk result ((docs : List Document) → IsKnown near.old (map.old.doc ∷ docs)
+        → IfSome near.new.boxes (IsReady map.old.doc (command_of command))) }
+{
+    near.prepare(alloc, map, &command)?;
+    answer(alloc, map, near.boxes.as_ref(), command)
 }

@@ -5,8 +5,9 @@ ghost use Rattle.undo_ring.specs.Edited.{begun, Applies, EditsVertices, Fails, I
 ghost use Rattle.undo_ring.specs.Trails.{kept};
 
 use crate::answer::Answer;
-use crate::answering::answer;
+use crate::answering::answer_near;
 use crate::command::Command;
+use crate::near::{Near, touched_by};
 use arc_store::{EditFault, Map, Record};
 use circular_buffer::HeapCircularBuffer;
 use segment_index::SegIndex;
@@ -42,19 +43,20 @@ pub struct Editor<'a, I: SegIndex, A: Allocator + Copy = Global> {
     alloc: A,
     held: Map<'a, I, A>,
     records: HeapCircularBuffer<Record<'a, A>, A>,
+    near: Near<A>,
 }
 
 impl<'a, I: SegIndex, A: Allocator + Copy> Model for Editor<'a, I, A> {
     ghost use Rattle.std.specs.Prelude.{map};
     ghost use Rattle.arc_store.specs.Recorded.{record_seen};
     ghost use Rattle.undo_ring.specs.Edited.{Edited};
-    ghost use Rattle.undo_ring.specs.Trails.{IsTrail, edited_by};
+    ghost use Rattle.undo_ring.specs.Trails.{edited_by, IsEditor};
 
     ghost Value = { Edited };
 
     ghost view = { λ e. edited_by record_seen e.held e.records };
 
-    ghost invariant = { λ e. IsTrail e.held (map record_seen e.records.items) };
+    ghost invariant = { λ e. IsEditor e.held (map record_seen e.records.items) e.near };
 }
 
 impl<'a, I: SegIndex, A: Allocator + Copy> Editor<'a, I, A> {
@@ -73,6 +75,7 @@ impl<'a, I: SegIndex, A: Allocator + Copy> Editor<'a, I, A> {
                     alloc,
                     held: map,
                     records,
+                    near: Near::new(),
                 })
             }
             Err(_) => Err(map),
@@ -89,7 +92,8 @@ impl<'a, I: SegIndex, A: Allocator + Copy> Editor<'a, I, A> {
     /// Answers a command: it is a step of the machine. An edit that is not refused is one change, a
     /// thinning where it left something out. A refusal changes nothing but the count of tests. Want
     /// of memory may stop a thinning on the way: what was left out so far is one change then. An edit
-    /// of vertices leaves every position on its side of every ring.
+    /// of vertices leaves every position on its side of every ring. The first question for what is at
+    /// a position walks the map; the others look near the position.
     pub fn apply(&mut self, command: Command) -> Result<Answer<A>, EditFault>
         requires { IsSound command }
         ensures applied { IfOk result
@@ -100,8 +104,11 @@ impl<'a, I: SegIndex, A: Allocator + Copy> Editor<'a, I, A> {
             → KeepsSides self.old.map.doc self.new.map.doc }
     {
         let _ = self.held.next_number(); // it tells where features stand
-        let answer = answer(self.alloc, &mut self.held, command);
-        keep(&mut self.records, self.held.take_record());
+        let touched = touched_by(&command);
+        let answer = answer_near(self.alloc, &mut self.held, &mut self.near, command);
+        let made = self.held.take_record();
+        self.near.follow(&self.held, touched, made.is_some());
+        keep(&mut self.records, made);
         answer
     }
 
@@ -115,7 +122,10 @@ impl<'a, I: SegIndex, A: Allocator + Copy> Editor<'a, I, A> {
             return Err(UndoFault::NothingToUndo);
         };
         match self.held.restore(made) {
-            Ok(()) => Ok(()),
+            Ok(()) => {
+                self.near.step_back();
+                Ok(())
+            }
             Err(made) => {
                 let _ = self.records.push_front(made);
                 Err(UndoFault::OutOfMemory)

@@ -6,6 +6,7 @@ mod answer;
 mod answering;
 mod command;
 mod editor;
+mod near;
 
 pub use answer::Answer;
 pub use command::Command;

@@ -23,11 +23,15 @@ const DECIMALS: &str =
 const CROSSING: &str =
     r#"{"type":"Topology","objects":{"land":{"type":"GeometryCollection","geometries":[{"type":"Polygon","arcs":[[0]]},{"type":"Polygon","arcs":[[1]]}]}},"arcs":[[[0,0],[20,0],[20,7],[0,10],[0,0]],[[5,8],[30,8],[30,20],[5,20],[5,8]]]}"#;
 
+/// A triangle with a whole number that is written with an exponent.
+const EXPONENT: &str =
+    r#"{"type":"Topology","objects":{"a":{"type":"Polygon","arcs":[[0]]}},"arcs":[[[0,0],[1e1,0],[10,10],[0,0]]]}"#;
+
 /// A square with heights, and with tenths under a transform.
 const HEIGHTS: &str =
     r#"{"type":"Topology","transform":{"scale":[0.0001,2.5e-3],"translate":[-7,0.5]},"objects":{"a":{"type":"Polygon","arcs":[[0]]}},"arcs":[[[0,0,7],[0.5,0,1],[0,1e1,0],[-0.5,0],[0,-10]]]}"#;
 
-const ROWS: [Row; 4] = [
+const ROWS: [Row; 5] = [
     Row {
         map: DECIMALS,
         digits: 24,
@@ -43,6 +47,14 @@ const ROWS: [Row; 4] = [
         drop_heights: false,
         report: "decimals 2 digits 1 rounded 1\n",
         saved: r#"{"type":"Topology","transform":{"scale":[1e-1,1e-1],"translate":[0,0]},"objects":{"a":{"type":"Polygon","arcs":[[0]]}},"arcs":[[[0,0],[15,0],[0,3],[-15,7],[0,-10]]]}"#,
+    },
+    Row {
+        map: EXPONENT,
+        digits: 24,
+        finer: 0,
+        drop_heights: false,
+        report: "decimals 0 digits 0 rounded 0\n",
+        saved: r#"{"type":"Topology","objects":{"a":{"type":"Polygon","arcs":[[0]]}},"arcs":[[[0,0],[10,0],[10,10],[0,0]]]}"#,
     },
     Row {
         map: CROSSING,

@@ -1,9 +1,15 @@
-use Rattle.std.proofs.Common.{◌≡◌, ◌++◌, Bool, map, take, drop}
+use Rattle.std.proofs.Common.{◌≡◌, ◌<◌, ◌++◌, Bool, map, take, drop, length}
 use Rattle.grid_geometry.specs.Position.{Position}
-use Rattle.topo_writer.specs.Ways.{cut_after}
+use Rattle.topo_writer.specs.Ways.{between, cut_after, Rising}
+use Rattle.topo_writer.proofs.Cuts.{open_part}
 use Rattle.topo_writer.proofs.cutting.cut_way.Given as goal
 
 -- what is cut, and what is cut of the rest, are the pieces of the way
 abbrev pub invariant-loop-i : goal.invariant-loop-i
-invariant-loop-i g l = (junction : Position → Bool) → l.marks ≡ map junction l.way
-    → l.done.items ++ cut_after junction l.piece.items (drop l.i l.way) ≡ cut_after junction (take 1 l.way) (drop 1 l.way)
+invariant-loop-i g l = record {
+  some : 0 < length l.cuts.items;
+  rising : Rising l.i l.cuts.items;
+  pieces : (junction : Position → Bool) → l.marks ≡ map junction l.way
+      → between l.way l.cuts.items ++ cut_after junction (open_part l.way l.i l.cuts.items) (drop l.i l.way)
+      ≡ cut_after junction (take 1 l.way) (drop 1 l.way);
+}

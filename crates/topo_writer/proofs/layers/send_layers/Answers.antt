@@ -1,9 +1,8 @@
-use Rattle.std.proofs.Common.{◌≡◌, ◌<◌, sym, ap, subst, ◌∙◌, arith, length}
+use Rattle.std.proofs.Common.{◌≡◌, ◌<◌, ap, ◌∙◌, arith, length}
 use Rattle.device_io.proofs.SendingLaws.{sends_front, took_nothing}
 use Rattle.topo_writer.specs.Faults.{of_device}
 use Rattle.topo_writer.specs.Named.{arcs_along}
 use Rattle.topo_writer.specs.Sections.{arcs_after, layer_at, layer_text}
-use Rattle.topo_writer.specs.Tables.{Finds}
 use Rattle.topo_writer.proofs.LayerLemmas.{arcs_whole, layer_count, layer_there}
 use Rattle.topo_writer.proofs.Sent.{sent_step, sent_part}
 use Rattle.topo_writer.proofs.layers.send_layers.Goals as goal
@@ -36,8 +35,6 @@ returns-clause-arcs g c =
 pub loop-i-init : goal.loop-i-init
 loop-i-init g c = record {
   took = took_nothing c.requires.working;
-  table =
-      subst (λ r. Finds c.args.arcs.now (arcs_along c.args.map.now r)) (sym c.requires.none)
-      c.requires.table;
+  table = c.requires.table;
   arcs = ap (arcs_along c.args.map.now) c.requires.none;
 }

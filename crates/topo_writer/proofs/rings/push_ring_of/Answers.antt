@@ -1,28 +1,28 @@
-use Rattle.std.proofs.Common.{arith, ◌≡◌, ◌∷◌, [], ◌++◌, ap, ◌∙◌, length}
+use Rattle.std.proofs.Common.{arith, ◌≡◌, ◌∷◌, [], ◌++◌, sym, ap, ap₂, ◌∙◌, length}
 use Rattle.indexmap.specs.IndexMap.{get}
 use Rattle.ring_machine.specs.Ring.{edge_eq}
 use Rattle.ring_machine.specs.Vertices.{is_junction}
 use Rattle.map_text.specs.Arcs.{pieces}
 use Rattle.map_text.specs.Text.{ring_text}
 use Rattle.topo_writer.specs.Found.{found}
-use Rattle.topo_writer.specs.Named.{arcs_along, named_ring}
+use Rattle.topo_writer.specs.Named.{arcs_along, listed_arcs, named_ring}
 use Rattle.topo_writer.proofs.Later.{pieces_few}
 use Rattle.topo_writer.proofs.NamedRings.{named_fits, named_found, named_indexes, named_long}
 use Rattle.topo_writer.proofs.rings.push_ring_of.Goals as goal
 
 pub index_all-requires-clause-long : goal.index_all-requires-clause-long
 index_all-requires-clause-long g c =
-    named_long c.args.map.now c.requires.proper c.args.arcs.now.rings.items c.args.name c.requires.there c.as_slice.result.now
-    (c.as_slice.ensures.value ∙ c.in_ok-pieces.ensures)
+    named_long c.args.map.now c.requires.proper c.args.arcs.now.rings.items c.args.name c.requires.there c.in_ok-ring.ring
+    c.in_ok-ring.ensures
 
 pub index_all-requires-clause-few : goal.index_all-requires-clause-few
 index_all-requires-clause-few g c =
     let d = c.args.map.now in
-    let cut : c.as_slice.result.now ≡ pieces (is_junction d) (named_ring d c.args.name) = c.as_slice.ensures.value ∙ c.in_ok-pieces.ensures in
+    let cut : c.in_ok-ring.ring ≡ pieces (is_junction d) (named_ring d c.args.name) = c.in_ok-ring.ensures in
     omega (
       arith,
       c.requires.few,
-      c.requires.table.counts,
+      c.requires.table.finds.has.counts,
       ap length cut,
       pieces_few (is_junction d) (named_ring d c.args.name),
     )
@@ -33,14 +33,22 @@ returns-clause-table g c =
     let old = c.args.arcs.now.rings.items in
     let new = c.name_ring.new.self.rings.items in
     let name = c.args.name in
-    let cut : c.as_slice.result.now ≡ pieces (is_junction d) (named_ring d name) = c.as_slice.ensures.value ∙ c.in_ok-pieces.ensures in
+    let cut : c.in_ok-ring.ring ≡ pieces (is_junction d) (named_ring d name) = c.in_ok-ring.ensures in
     let more : new ≡ old ++ name ∷ [] = c.in_ok-name_ring.ensures.rings ∙ ap (λ r. r.items ++ name ∷ []) c.in_ok-indexes.ensures.rings in
-    let all = named_found d c.requires.proper old name c.requires.there c.as_slice.result.now cut new more in
-    let has =
-    c.in_ok-indexes.ensures.arcs (arcs_along d old) c.requires.table (named_fits d c.requires.proper old name c.requires.there c.as_slice.result.now cut) in
+    let all = named_found d c.requires.proper old name c.requires.there c.in_ok-ring.ring cut new more in
+    let finds =
+    c.in_ok-indexes.ensures.arcs (arcs_along d old) c.requires.table.finds (named_fits d c.requires.proper old name c.requires.there c.in_ok-ring.ring cut) in
     record {
-      mirrors = λ e. ap (λ s. get edge_eq s e) c.in_ok-name_ring.ensures.starts ∙ has.mirrors e ∙ ap (λ z. found z e) all;
-      counts = c.in_ok-name_ring.ensures.count ∙ has.counts ∙ ap length all;
+      finds = record {
+        has = record {
+          mirrors = λ e. ap (λ s. get edge_eq s e) c.in_ok-name_ring.ensures.starts ∙ finds.has.mirrors e ∙ ap (λ z. found z e) all;
+          counts = c.in_ok-name_ring.ensures.count ∙ finds.has.counts ∙ ap length all;
+        };
+        listed =
+            ap (λ v. v.items) c.in_ok-name_ring.ensures.listed ∙ finds.listed
+            ∙ ap₂ (λ b z. listed_arcs b z) (sym c.in_ok-name_ring.ensures.delta) all;
+      };
+      delta = c.in_ok-name_ring.ensures.delta ∙ c.in_ok-indexes.ensures.delta ∙ c.requires.table.delta;
     }
 
 pub returns-clause-text : goal.returns-clause-text
@@ -49,10 +57,10 @@ returns-clause-text g c =
     let old = c.args.arcs.now.rings.items in
     let new = c.name_ring.new.self.rings.items in
     let name = c.args.name in
-    let cut : c.as_slice.result.now ≡ pieces (is_junction d) (named_ring d name) = c.as_slice.ensures.value ∙ c.in_ok-pieces.ensures in
+    let cut : c.in_ok-ring.ring ≡ pieces (is_junction d) (named_ring d name) = c.in_ok-ring.ensures in
     let more : new ≡ old ++ name ∷ [] = c.in_ok-name_ring.ensures.rings ∙ ap (λ r. r.items ++ name ∷ []) c.in_ok-indexes.ensures.rings in
     c.in_ok-push_ring.ensures
     ∙ ap (λ z. c.args.text.now.items ++ ring_text z)
-    (c.as_slice-2.ensures.value
-    ∙ c.in_ok-indexes.ensures.indexes (arcs_along d old) c.requires.table (named_fits d c.requires.proper old name c.requires.there c.as_slice.result.now cut)
-    ∙ named_indexes d c.requires.proper old name c.requires.there c.as_slice.result.now cut new more)
+    (c.as_slice.ensures.value
+    ∙ c.in_ok-indexes.ensures.indexes (arcs_along d old) c.requires.table.finds (named_fits d c.requires.proper old name c.requires.there c.in_ok-ring.ring cut)
+    ∙ named_indexes d c.requires.proper old name c.requires.there c.in_ok-ring.ring cut new more)

@@ -1,7 +1,5 @@
 use Rattle.std.proofs.Common.{◌≡◌, ◌+◌, ◌≤◌, List, drop}
 use Rattle.grid_geometry.specs.Position.{Position}
-use Rattle.indexmap.specs.IndexMap.{get}
-use Rattle.ring_machine.specs.Ring.{edge_eq}
 use Rattle.topo_writer.specs.Tables.{Finds}
 use Rattle.topo_writer.specs.Ways.{all_found, indexes_found, FitAll}
 use Rattle.topo_writer.proofs.IndexWays.{Indexing}
@@ -10,7 +8,8 @@ use Rattle.topo_writer.proofs.arcs.Arcs.index_all.Given as goal
 abbrev pub invariant-loop-i : goal.invariant-loop-i
 invariant-loop-i g l = record {
   rings : l.self.rings ≡ l.fn.self.rings;
+  delta : l.self.delta ≡ l.fn.self.delta;
   few : l.self.count ≤ l.fn.self.count + l.i;
-  indexing : (arcs : List (List Position)) → Finds l.fn.self arcs → FitAll arcs l.pieces
-      → Indexing (get edge_eq l.self.starts) l.self.count l.indexes.items (drop l.i l.pieces) (all_found arcs l.pieces) (indexes_found arcs l.pieces);
+  indexing : (arcs : List (List Position)) → Finds l.fn.self arcs → FitAll arcs l.ring
+      → Indexing l.self l.indexes.items (drop l.i l.ring) (all_found arcs l.ring) (indexes_found arcs l.ring);
 }

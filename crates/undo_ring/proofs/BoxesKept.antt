@@ -1,0 +1,318 @@
+-- The boxes that cover a document cover it after a command, too.
+use Rattle.std.proofs.Common.{◌≡◌, ◌≤◌, ◌+◌, ◌-◌, ℕ, ℤ, zero, suc, refl, sym, ap, subst, ◌∙◌, List, [], ◌∷◌, take, Bool, true, false, cond, Option, None, Some, inl, inr, ◌⊎◌, arith, Result, Ok, Err, Contains}
+use Rattle.std.proofs.lemmas.Bool.{false≢true}
+use Rattle.std.specs.Prelude.{◌==◌, MatchOption, IfSome, OnOk}
+use Rattle.std.specs.List.{AllByRecursion}
+use Rattle.grid_geometry.specs.Position.{Position}
+use Rattle.ring_machine.specs.Document.{Document, Feature, Text}
+use Rattle.ring_machine.specs.Parts.{features, rings, rings_of}
+use Rattle.ring_machine.specs.Ring.{has}
+use Rattle.ring_machine.specs.Vertices.{put, ins, del}
+use Rattle.ring_machine.specs.Cut.{Path, path_of, cut}
+use Rattle.ring_machine.specs.Join.{join, take_out}
+use Rattle.ring_machine.specs.Thin.{thinned, IsThinnedPart}
+use Rattle.ring_machine.specs.Query.{vertices}
+use Rattle.ring_machine.specs.Refusals.{first_of, move_refusals, insert_refusals, remove_refusals, split_refusals, merge_refusals, feature_refusals, feature_at}
+use Rattle.ring_machine.specs.Command.{Command, Move, Insert, Remove, Thin, Split, Merge, Rename, Delete, Undo, Area, At, Neighbours, Rings, Count, Show, Refusal, Answer, Done, Thinned, Made, Refused}
+use Rattle.ring_machine.specs.Machine.{State, step, edit, query, changed, renamed, split_state, thin_step, undone}
+use Rattle.ring_machine.proofs.Members.{contains_in, in_contains}
+use Rattle.ring_machine.proofs.Neighbours.{has-in, in-has}
+use Rattle.ring_machine.proofs.Steps.{step-move, step-insert, step-remove, step-thin, step-split, step-merge, step-rename, step-delete}
+use Rattle.ring_machine.specs.Command.{AreaIs, NeighboursAre, RingsAre}
+use Rattle.ring_machine.specs.Query.{area_of, neighbours_of}
+use Rattle.segment_index.specs.Candidates.{SegmentSet}
+use Rattle.ring_boxes.specs.Covering.{Covers, IsCovered, Keeps}
+use Rattle.arc_store.specs.Outcomes.{IsSameMap}
+use Rattle.arc_store.specs.State.{State as MapState}
+use Rattle.arc_store.specs.declared.fault.EditFault.{EditFault}
+use Rattle.undo_ring.specs.Answers.{refusal_of}
+use Rattle.undo_ring.specs.Answered.{with_past, StopsOn, RefusesOn, AnswersMap}
+use Rattle.undo_ring.specs.declared.answer.Answer.{Answer as Told}
+use Rattle.undo_ring.specs.Commands.{command_of}
+use Rattle.undo_ring.specs.declared.command.Command.{Command as Asked}
+use Rattle.undo_ring.specs.declared.command.Command.TheVariants as told
+use Rattle.undo_ring.specs.Boxed.{AreCovered, IsKnown, HasGrown, IsReady, touched_by, HasCome, Follows, CoversFeature}
+use Rattle.undo_ring.specs.declared.near.Near.{Near}
+use Rattle.undo_ring.proofs.Recording.{handed}
+use Rattle.undo_ring.proofs.RingOrigins.{put_from, ins_from, del_from, thinned_from, thinned_over_from, renamed_from, take_out_from, cut_from, join_from}
+
+-- ---- one ring
+
+-- the command takes nothing back
+abbrev pub IsNoUndo : Command → Type 0
+IsNoUndo Undo = ⊥
+IsNoUndo c = Unit {0}
+
+module _ (boxes : SegmentSet) where
+  -- a part of what lies in a box
+  covered_part : (s r : List Position) → IsCovered boxes s → ((x : Position) → Contains r x → Contains s x) → IsCovered boxes r
+  covered_part s r h part = record { by = h.by; held = h.held; within = λ p i. h.within p (part p i) }
+
+  behind : (q x : Position) (s : List Position) → Contains s x → Contains (q ∷ s) x
+  behind q x s i = in_contains (q ∷ s) x (inr (contains_in s x i))
+
+  in_front : (q x : Position) (s : List Position) → x ≡ q → Contains (q ∷ s) x
+  in_front q x s e = in_contains (q ∷ s) x (inl (sym e))
+
+  -- q may stand in it where the other ring has p
+  grown_part : (p q : Position) (s r : List Position) → IsCovered boxes s → (Contains s p → IsCovered boxes (q ∷ s))
+      → ((x : Position) → Contains r x → Contains s x ⊎ ((x ≡ q) × Contains s p)) → IsCovered boxes r
+  grown_part p q s r h grown from = by (has s p) refl
+    where
+      by : (b : Bool) → has s p ≡ b → IsCovered boxes r
+      by true e = covered_part (q ∷ s) r (grown (in_contains s p (has-in p s e))) (λ x i. elim (from x i) [
+        | inl j ↦ behind q x s j
+        | inr j ↦ in_front q x s j.0
+      ])
+      by false e = covered_part s r h (λ x i. elim (from x i) [
+        | inl j ↦ j
+        | inr j ↦ absurd (false≢true (sym e ∙ in-has p s (contains_in s p j.1)))
+      ])
+
+  -- ---- one document
+
+  module _ (d : Document) (covers : Covers boxes (rings d)) where
+    put_covers : (p q : Position) → HasGrown d p q boxes → Covers boxes (rings (put d p q))
+    put_covers p q grown r i =
+        let f = put_from d p q r i in grown_part p q f.0 r (covers f.0 f.1) (grown f.0 f.1) f.2
+
+    ins_covers : (a b q : Position) → HasGrown d a q boxes → Covers boxes (rings (ins d a b q))
+    ins_covers a b q grown r i =
+        let f = ins_from d a b q r i in grown_part a q f.0 r (covers f.0 f.1) (grown f.0 f.1) f.2
+
+    del_covers : (p : Position) → Covers boxes (rings (del d p))
+    del_covers p r i = let f = del_from d p r i in covered_part f.0 r (covers f.0 f.1) f.2
+
+    pub part_covers : (t : ℤ) (e : Document) → IsThinnedPart t d e → Covers boxes (rings e)
+    part_covers t e part r i =
+        let f = thinned_over_from t d (take part.0 (vertices d)) r (subst (λ z. Contains (rings z) r) part.1 i) in
+        covered_part f.0 r (covers f.0 f.1) f.2
+
+    thinned_covers : (t : ℤ) → Covers boxes (rings (thinned t d).doc)
+    thinned_covers t r i = let f = thinned_from t d r i in covered_part f.0 r (covers f.0 f.1) f.2
+
+    renamed_covers : (n : ℕ) (id : Text) → Covers boxes (rings (renamed d n id))
+    renamed_covers n id r i = covers r (renamed_from d n id r i)
+
+    taken_covers : (n : ℕ) → Covers boxes (rings (take_out d n))
+    taken_covers n r i = covers r (take_out_from d n r i)
+
+    cut_covers : (n : ℕ) (id : Text) (path : Path) (next : ℕ)
+        → CoversFeature boxes (cut d n id path next) n → CoversFeature boxes (cut d n id path next) next
+        → Covers boxes (rings (cut d n id path next))
+    cut_covers n id path next first second r i = elim (cut_from d n id path next r i) [
+      | inl j ↦ covers r j
+      | inr f ↦ elim f.3 [
+        | inl e ↦ first f.0 f.1 e r f.2
+        | inr e ↦ second f.0 f.1 e r f.2
+      ]
+    ]
+
+    join_covers : (n : ℕ) (g : Feature) → CoversFeature boxes (join d n g) n → Covers boxes (rings (join d n g))
+    join_covers n g come r i = elim (join_from d n g r i) [
+      | inl j ↦ covers r j
+      | inr f ↦ come f.0 f.1 f.3 r f.2
+    ]
+
+  -- ---- one step of the machine
+
+  one_less : (n : ℕ) → n + 1 - 1 ≡ n
+  one_less n = omega arith
+
+  module _ (st : State) (covers : Covers boxes (rings st.doc)) where
+    -- the state after it is covered, where what came is
+    abbrev StaysCovered : Option ℕ → State → Type 0
+    StaysCovered touched after = HasCome boxes after.doc after.next touched → Covers boxes (rings after.doc)
+
+    edit_covers : (rs : List (Option Refusal)) (a : Answer) (touched : Option ℕ) (after : State)
+        → StaysCovered touched after → StaysCovered touched (edit st rs a after).1
+    edit_covers rs a touched after accepted = by (first_of rs) refl
+      where
+        by : (o : Option Refusal) → first_of rs ≡ o → StaysCovered touched (edit st rs a after).1
+        by None e =
+            let done : edit st rs a after ≡ (a, after) = rw e refl in
+            subst (λ (r : Answer × State). StaysCovered touched r.1) (sym done) accepted
+        by (Some refusal) e =
+            let stays : edit st rs a after ≡ (Refused refusal, st) = rw e refl in
+            subst (λ (r : Answer × State). StaysCovered touched r.1) (sym stays) (λ come. covers)
+
+    thin_covers : (t : ℤ) → StaysCovered None (thin_step 0 st t).1
+    thin_covers t = by ((thinned t st.doc).removed == 0)
+      where
+        by : (none : Bool)
+            → StaysCovered None (cond {A = Answer × State} none (Thinned 0, st) (Thinned (thinned t st.doc).removed, changed 0 st (thinned t st.doc).doc)).1
+        by true come = covers
+        by false come = thinned_covers st.doc covers t
+
+    -- a query leaves the state
+    query_covers : (c : Command) (rs : List (Option Refusal)) (a : Answer) → step 0 st c ≡ query st rs a → StaysCovered None (step 0 st c).1
+    query_covers c rs a e =
+        subst (λ (r : Answer × State). StaysCovered None r.1) (sym e) (edit_covers rs a None st (λ come. covers))
+
+    pub step_covers : (c : Command) → IsNoUndo c → IsReady st.doc c boxes → StaysCovered (touched_by c) (step 0 st c).1
+    unfolding step
+    step_covers (Move p q) edits ready =
+        subst (λ (r : Answer × State). StaysCovered None r.1) (sym (step-move 0 st p q))
+        (edit_covers (move_refusals st.doc p q) Done None (changed 0 st (put st.doc p q)) (λ come. put_covers st.doc covers p q ready))
+    step_covers (Insert a b q) edits ready =
+        subst (λ (r : Answer × State). StaysCovered None r.1) (sym (step-insert 0 st a b q))
+        (edit_covers (insert_refusals st.doc a b q) Done None (changed 0 st (ins st.doc a b q)) (λ come. ins_covers st.doc covers a b q ready))
+    step_covers (Remove p) edits ready =
+        subst (λ (r : Answer × State). StaysCovered None r.1) (sym (step-remove 0 st p))
+        (edit_covers (remove_refusals st.doc p) Done None (changed 0 st (del st.doc p)) (λ come. del_covers st.doc covers p))
+    step_covers (Thin t) edits ready =
+        subst (λ (r : Answer × State). StaysCovered None r.1) (sym (step-thin 0 st t)) (thin_covers t)
+    step_covers (Split n id path) edits ready =
+        subst (λ (r : Answer × State). StaysCovered (Some n) r.1) (sym (step-split 0 st n id path))
+        (edit_covers (split_refusals st.doc st.next n id (path_of path)) (Made st.next) (Some n) (split_state 0 st n id path)
+        (λ come. cut_covers st.doc covers n id (path_of path) st.next come.0 (subst (CoversFeature boxes (cut st.doc n id (path_of path) st.next)) (one_less st.next) come.1)))
+    step_covers (Merge n m) edits ready =
+        subst (λ (r : Answer × State). StaysCovered (Some n) r.1) (sym (step-merge 0 st n m))
+        (edit_covers (merge_refusals st.doc n m) Done (Some n) (changed 0 st (join st.doc n (feature_at st.doc m))) (λ come. join_covers st.doc covers n (feature_at st.doc m) come.0))
+    step_covers (Rename n id) edits ready =
+        subst (λ (r : Answer × State). StaysCovered None r.1) (sym (step-rename 0 st n id))
+        (edit_covers (feature_refusals st.doc n) Done None (changed 0 st (renamed st.doc n id)) (λ come. renamed_covers st.doc covers n id))
+    step_covers (Delete n) edits ready =
+        subst (λ (r : Answer × State). StaysCovered None r.1) (sym (step-delete 0 st n))
+        (edit_covers (feature_refusals st.doc n) Done None (changed 0 st (take_out st.doc n)) (λ come. taken_covers st.doc covers n))
+    step_covers (Area n) edits ready = query_covers (Area n) (feature_refusals st.doc n) (AreaIs (area_of (feature_at st.doc n))) refl
+    step_covers (At p) edits ready = λ come. covers
+    step_covers (Neighbours n) edits ready =
+        query_covers (Neighbours n) (feature_refusals st.doc n) (NeighboursAre (neighbours_of st.doc (feature_at st.doc n))) refl
+    step_covers (Rings n) edits ready = query_covers (Rings n) (feature_refusals st.doc n) (RingsAre (feature_at st.doc n).polygons) refl
+    step_covers Count edits ready = λ come. covers
+    step_covers Show edits ready = λ come. covers
+    step_covers Undo edits ready = absurd edits
+
+  -- ---- what a command makes of a map
+
+  module _ (m n : MapState) (c : Command) (commands : IsNoUndo c) (covers : Covers boxes (rings m.doc)) where
+    same_covers : IsSameMap m n → Covers boxes (rings n.doc)
+    same_covers same = subst (λ (s : MapState). Covers boxes (rings s.doc)) (sym same) covers
+
+    fault_covers : (o : Option Refusal) → MatchOption o (IsSameMap m n ⊎ StopsOn m n c) (RefusesOn m n c) → Covers boxes (rings n.doc)
+    fault_covers None (inl same) = same_covers same
+    fault_covers None (inr stops) = part_covers m.doc covers stops.bound n.doc stops.part
+    fault_covers (Some r) refuses = same_covers refuses.same
+
+    pub answer_covers : {A : Type 0} (result : Result (Told A) EditFault) → AnswersMap m n c result
+        → OnOk result (IsReady m.doc c boxes) → HasCome boxes n.doc n.next (touched_by c) → Covers boxes (rings n.doc)
+    answer_covers (Ok answer) accepts ready come =
+        subst (λ (r : Answer × State). HasCome boxes r.1.doc r.1.next (touched_by c) → Covers boxes (rings r.1.doc)) (sym (accepts.steps 0 []))
+        (step_covers (with_past m []) covers c commands ready) come
+    answer_covers (Err fault) fails ready come = fault_covers (refusal_of fault) fails
+
+-- ---- the newest documents
+
+all_keep : (a b : SegmentSet) (docs : List Document) → Keeps a b → AreCovered a docs → AreCovered b docs
+all_keep a b [] keeps h = tt
+all_keep a b (d ∷ docs) keeps h = ((λ r i. keeps r (h.0 r i)), all_keep a b docs keeps h.1)
+
+fewer : (boxes : SegmentSet) (j k : ℕ) (docs : List Document) → j ≤ k → AreCovered boxes (take k docs) → AreCovered boxes (take j docs)
+fewer boxes zero k docs le h = tt
+fewer boxes (suc j) zero docs le h = absurd (omega (arith, le))
+fewer boxes (suc j) (suc k) [] le h = tt
+fewer boxes (suc j) (suc k) (d ∷ docs) le h = (h.0, fewer boxes j k docs (omega (arith, le)) h.1)
+
+bounded : (boxes : SegmentSet) (k c : ℕ) (docs : List Document) → AreCovered boxes (take k docs) → AreCovered boxes (take k (take c docs))
+bounded boxes zero c docs h = tt
+bounded boxes (suc k) zero docs h = tt
+bounded boxes (suc k) (suc c) [] h = tt
+bounded boxes (suc k) (suc c) (d ∷ docs) h = (h.0, bounded boxes k c docs h.1)
+
+module _ {A : Type 0} (before after : Near A) (d e : Document) (past : List Document) where
+  -- after a change to the document e
+  pub changed_known : IsKnown before (d ∷ past) → (depth next : ℕ) (touched : Option ℕ) → Follows before after e next touched
+      → ((boxes : SegmentSet) → Covers boxes (rings d) → (was : SegmentSet) → before.boxes ≡ Some was → Keeps was boxes
+      → HasCome boxes e next touched → Covers boxes (rings e))
+      → IsKnown after (e ∷ take depth (d ∷ past))
+  changed_known known depth next touched follows covers = by after.boxes refl follows.boxes
+    where
+      by : (o : Option SegmentSet) → after.boxes ≡ o
+          → IfSome o (λ boxes. (was : SegmentSet) × (before.boxes ≡ Some was) × Keeps was boxes × HasCome boxes e next touched)
+          → IfSome o (λ boxes. AreCovered boxes (take (suc after.since) (e ∷ take depth (d ∷ past))))
+      by None same h = tt
+      by (Some boxes) same h =
+          let old : AreCovered h.0 (take (suc before.since) (d ∷ past)) =
+          subst (λ (o : Option SegmentSet). IfSome o (λ b. AreCovered b (take (suc before.since) (d ∷ past)))) h.1 known in
+          let kept = all_keep h.0 boxes (take (suc before.since) (d ∷ past)) h.2 old in (
+            covers boxes kept.0 h.0 h.1 h.2 h.3,
+            bounded boxes after.since depth (d ∷ past) (fewer boxes after.since (suc before.since) (d ∷ past) follows.since kept),
+          )
+
+-- what is ready in boxes is so in boxes that keep them
+ready_kept : (d : Document) (c : Command) (a b : SegmentSet) → Keeps a b → IsReady d c a → IsReady d c b
+ready_kept d (Move p q) a b keeps h = λ ring i j. keeps (q ∷ ring) (h ring i j)
+ready_kept d (Insert p r q) a b keeps h = λ ring i j. keeps (q ∷ ring) (h ring i j)
+ready_kept d (Remove p) a b keeps h = tt
+ready_kept d (Thin t) a b keeps h = tt
+ready_kept d (Split n id path) a b keeps h = tt
+ready_kept d (Merge n m) a b keeps h = tt
+ready_kept d (Rename n id) a b keeps h = tt
+ready_kept d (Delete n) a b keeps h = tt
+ready_kept d Undo a b keeps h = tt
+ready_kept d (Area n) a b keeps h = tt
+ready_kept d (At p) a b keeps h = tt
+ready_kept d (Neighbours n) a b keeps h = tt
+ready_kept d (Rings n) a b keeps h = tt
+ready_kept d Count a b keeps h = tt
+ready_kept d Show a b keeps h = tt
+
+no_undo : (c : Asked) → IsNoUndo (command_of c)
+no_undo (told.Move p q) = tt
+no_undo (told.Insert a b q) = tt
+no_undo (told.Remove p) = tt
+no_undo (told.Thin t) = tt
+no_undo (told.Split n name path) = tt
+no_undo (told.Merge n m) = tt
+no_undo (told.Rename n name) = tt
+no_undo (told.Delete n) = tt
+no_undo (told.Area n) = tt
+no_undo (told.At p) = tt
+no_undo (told.Neighbours n) = tt
+
+-- ---- a command, as the calls have it
+
+module _ {A B : Type 0} (before after : Near A) (m n : MapState) (past later : List Document) (depth : ℕ) (asked : Asked)
+    (known : IsKnown before (m.doc ∷ past)) (result : Result (Told B) EditFault) (answers : AnswersMap m n (command_of asked) result)
+    (ready : OnOk result (IfSome before.boxes (IsReady m.doc (command_of asked)))) where
+  abbrev c : Command
+  c = command_of asked
+
+  come_covers : (boxes : SegmentSet) → Covers boxes (rings m.doc) → (was : SegmentSet) → before.boxes ≡ Some was → Keeps was boxes
+      → HasCome boxes n.doc n.next (touched_by c) → Covers boxes (rings n.doc)
+  come_covers boxes covers was same keeps come =
+      answer_covers boxes m n c (no_undo asked) covers result answers (by result ready) come
+    where
+      by : (r : Result (Told B) EditFault) → OnOk r (IfSome before.boxes (IsReady m.doc c)) → OnOk r (IsReady m.doc c boxes)
+      by (Err fault) h = tt
+      by (Ok answer) h = ready_kept m.doc c was boxes keeps (subst (λ (o : Option SegmentSet). IfSome o (IsReady m.doc c)) same h)
+
+  pub known_after : (made : Bool)
+      → ((made ≡ false) × (n.doc ≡ m.doc) × (later ≡ past)) ⊎ ((made ≡ true) × (later ≡ take depth (m.doc ∷ past)))
+      → (made ≡ true → Follows before after n.doc n.next (touched_by c)) → (made ≡ false → after ≡ before)
+      → IsKnown after (n.doc ∷ later)
+  known_after made (inl h) follows same =
+      subst (λ (z : Near A). IsKnown z (n.doc ∷ later)) (sym (same h.0))
+      (subst (λ d. IsKnown before (d ∷ later)) (sym h.1) (subst (λ ds. IsKnown before (m.doc ∷ ds)) (sym h.2) known))
+  known_after made (inr h) follows same =
+      subst (λ ds. IsKnown after (n.doc ∷ ds)) (sym h.1)
+      (changed_known before after m.doc n.doc past known depth n.next (touched_by c) (follows h.0) come_covers)
+
+  -- the map has handed its record out
+  pub editor_known : (now : MapState) → now ≡ handed n → (made told : Bool) → told ≡ made → (touched : Option ℕ) → touched ≡ touched_by c
+      → ((made ≡ false) × (n.doc ≡ m.doc) × (later ≡ past)) ⊎ ((made ≡ true) × (later ≡ take depth (m.doc ∷ past)))
+      → (told ≡ true → Follows before after now.doc now.next touched) → (told ≡ false → after ≡ before)
+      → IsKnown after (now.doc ∷ later)
+  editor_known now is made told tells touched touches newer follows same =
+      let change : made ≡ true → Follows before after n.doc n.next (touched_by c) =
+      λ e. subst (Follows before after n.doc n.next) touches (subst (λ (z : MapState). Follows before after z.doc z.next touched) is (follows (tells ∙ e))) in
+      subst (λ (z : MapState). IsKnown after (z.doc ∷ later)) (sym is)
+      (known_after made newer change (λ e. same (tells ∙ e)))
+
+-- what is ready where the boxes cover these documents
+pub ready_at : {A B : Type 0} (near : Near A) (boxes : Option SegmentSet) (d : Document) (docs : List Document) (P : SegmentSet → Type 0)
+    (result : Result B EditFault) → IsKnown near (d ∷ docs)
+    → OnOk result ((docs : List Document) → IsKnown near (d ∷ docs) → IfSome boxes P) → OnOk result (IfSome boxes P)
+ready_at near boxes d docs P (Err fault) known h = tt
+ready_at near boxes d docs P (Ok answer) known h = h docs known

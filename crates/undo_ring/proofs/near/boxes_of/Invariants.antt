@@ -1,0 +1,7 @@
+use Rattle.std.proofs.Common.{ℕ, ◌<◌}
+use Rattle.undo_ring.specs.Boxed.{CoversFeature}
+use Rattle.undo_ring.proofs.near.boxes_of.Given as goal
+
+-- the features of the numbers so far lie in the boxes
+abbrev pub invariant-loop-n : goal.invariant-loop-n
+invariant-loop-n g l = (k : ℕ) → k < l.n → CoversFeature l.boxes l.map.doc k
