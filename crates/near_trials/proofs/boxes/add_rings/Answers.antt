@@ -1,4 +1,4 @@
-use Rattle.std.proofs.Common.{◌∙◌, sym, ap, subst, length, take_all, arith}
+use Rattle.std.proofs.Common.{◌<◌, ◌∙◌, sym, ap, subst, length, take_all, arith}
 use Rattle.ring_machine.proofs.First.{In}
 use Rattle.ring_machine.proofs.StaysProper.{ring_long, ring_distinct}
 use Rattle.ring_machine.specs.Ring.{is_distinct}
