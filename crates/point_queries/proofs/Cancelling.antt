@@ -14,9 +14,10 @@ pub have_more : (names : List RingName) (i : ℕ) (d : RingName) (a b : List Rin
     → HaveOdd (take i names) a → Cancels (get_or names i d) a b
     → ((x : RingName) → Contains b x → (x ≡ get_or names i d) ⊎ Contains a x) → HaveOdd (take (i + 1) names) b
 have_more names i d a b l h c among = record {
-  among = λ x m. subst (λ zs. Contains zs x) (sym (take_more names i d l)) (in_contains (take i names ++ get_or names i d ∷ []) x (elim (among x m) [
-    | inl e ↦ in_right x (take i names) (get_or names i d ∷ []) (inl (sym e))
-    | inr k ↦ in_left x (take i names) (get_or names i d ∷ []) (contains_in (take i names) x (h.among x k))
-  ]));
+  among = λ x m. subst (λ zs. Contains zs x) (sym (take_more names i d l))
+      (in_contains (take i names ++ get_or names i d ∷ []) x (elim (among x m) [
+        | inl e ↦ in_right x (take i names) (get_or names i d ∷ []) (inl (sym e))
+        | inr k ↦ in_left x (take i names) (get_or names i d ∷ []) (contains_in (take i names) x (h.among x k))
+      ]));
   odds = λ x. c x ∙ ap (xor (is_name x (get_or names i d))) (h.odds x) ∙ sym (odd_more (is_name x) names i d l);
 }

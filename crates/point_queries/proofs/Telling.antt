@@ -37,7 +37,8 @@ low_in_range : (d : Document) → AllByRecursion (AllByRecursion InRange) (rings
 low_in_range d h s i =
     let ring = any_in (λ (ring : List Position). has ring s.lo) (rings d) (end_vertex d s.lo s i (end_is s.lo s (inl refl))) in
     let p = any_in (position_eq s.lo) ring.0 ring.2 in
-    subst InRange (sym (position_eq-true s.lo p.0 p.2)) (in_recursion InRange ring.0 p.0 (in_recursion (AllByRecursion InRange) (rings d) ring.0 h ring.1) p.1)
+    subst InRange (sym (position_eq-true s.lo p.0 p.2))
+    (in_recursion InRange ring.0 p.0 (in_recursion (AllByRecursion InRange) (rings d) ring.0 h ring.1) p.1)
 
 module _ (d : Document) (are_rings : list_all is_ring (rings d) ≡ true) (p : Position) (rect : Box)
     (names : List RingName) (h : HavePassed d p rect names) where
@@ -48,8 +49,10 @@ module _ (d : Document) (are_rings : list_all is_ring (rings d) ≡ true) (p : P
   odd_within name ring e meet =
       ap (odd (is_name name)) h.listed.appended ∙ h.listed.odds name
       ∙ odd-alike (ring_has d name) (λ s. list_any (segment_eq s) (segments ring)) h.ss
-      (λ s j. ap₂ (λ (z : Segment) (o : Option (List Position)). list_any (segment_eq z) (segments (unwrap_or o []))) (of_ends d s (in_segments d s (h.passed.among s (in_contains h.ss s j)).0)) e)
-      ∙ odd_ring p h.ss (λ s j. (h.passed.among s (in_contains h.ss s j)).1) h.passed.apart ring (all_true is_ring (rings d) ring are_rings in_rings)
+      (λ s j. ap₂ (λ (z : Segment) (o : Option (List Position)). list_any (segment_eq z) (segments (unwrap_or o [])))
+      (of_ends d s (in_segments d s (h.passed.among s (in_contains h.ss s j)).0)) e)
+      ∙ odd_ring p h.ss (λ s j. (h.passed.among s (in_contains h.ss s j)).1) h.passed.apart ring
+      (all_true is_ring (rings d) ring are_rings in_rings)
       (λ t j k. contains_in h.ss t (h.passed.covers t (segment_in d t (in-flat_map segments ring t (rings d) in_rings j)) k (meet t j k)))
     where
       in_rings : In ring (rings d)
@@ -67,6 +70,7 @@ tells_far d are_rings range p names h = record {
   odds = λ name i.
       let ring = there (ring_of d name) i in
       odd_within d are_rings p (ray p) names h name ring.0 ring.1
-      (λ t j k. passed_meets p t (low_in_range d range t (segment_in d t (in-flat_map segments ring.0 t (rings d) (ring_there d name ring.0 ring.1) j))) k)
+      (λ t j k. passed_meets p t
+      (low_in_range d range t (segment_in d t (in-flat_map segments ring.0 t (rings d) (ring_there d name ring.0 ring.1) j))) k)
       ∙ ap (λ o. is_inside p (unwrap_or o [])) (sym ring.1);
 }

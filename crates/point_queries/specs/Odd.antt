@@ -1,6 +1,6 @@
 -- What stands an odd number of times, and the segments that count for a position.
-use Rattle.std.specs.Prelude.{◌≡◌, ◌++◌, ◌==◌, ◌&&◌, not, ℕ, Bool, true, false, pos, is_some, unwrap_or}
-use Rattle.std.specs.Prelude.{List, [], ◌∷◌, Contains, IsTrue, Option}
+use Rattle.std.specs.Prelude.{◌≡◌, ◌++◌, ◌==◌, ◌&&◌, not, ℕ, Bool, true, false, pos}
+use Rattle.std.specs.Prelude.{is_some, unwrap_or, List, [], ◌∷◌, Contains, IsTrue, Option}
 use Rattle.std.specs.List.{list_any}
 use Rattle.std.specs.BTreeSet.{BTreeSet, contains}
 use Rattle.std.specs.Ordering.{nat_cmp, ordering_then}

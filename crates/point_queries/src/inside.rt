@@ -60,9 +60,9 @@ fn held<A: Allocator + Copy>(
     Ok(found)
 }
 
-/// The numbers of the features that hold a position, off their borders: by rings of which each stands
-/// here an odd number of times where it holds the position, and by the numbers of the features on
-/// whose borders the position lies.
+/// The numbers of the features that hold a position, off their borders: by rings of which each
+/// stands here an odd number of times where it holds the position, and by the numbers of the
+/// features on whose borders the position lies.
 pub(crate) fn inside_of<'a, I: SegIndex, A: Allocator + Copy>(
     alloc: A,
     map: &Map<'a, I, A>,

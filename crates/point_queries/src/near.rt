@@ -22,8 +22,8 @@ use ring_boxes::RingBoxes;
 use segment_index::SegIndex;
 use std::alloc::{AllocError, Allocator};
 
-/// A ring of more positions is not gone round, since the ray to the edge of the map then passes fewer
-/// segments, most likely.
+/// A ring of more positions is not gone round, since the ray to the edge of the map then passes
+/// fewer segments, most likely.
 const LONG: usize = 1024;
 
 /// The box of the ray from p to x.
@@ -67,8 +67,8 @@ fn cancel<A: Allocator + Copy>(
     Ok(())
 }
 
-/// The names that stand among these an odd number of times; each once, where those of one ring stand
-/// together.
+/// The names that stand among these an odd number of times; each once, where those of one ring
+/// stand together.
 fn odd_names<A: Allocator + Copy>(
     alloc: A,
     names: &[RingName],
@@ -161,7 +161,8 @@ fn near_rings<'a, I: SegIndex, A: Allocator + Copy>(
     holding(alloc, map, p, suspects.as_slice())
 }
 
-/// The numbers of the features that hold p, off the borders, which have p on those of these features.
+/// The numbers of the features that hold p, off the borders, which have p on those of these
+/// features.
 fn inside_near<'a, I: SegIndex, A: Allocator + Copy>(
     alloc: A,
     map: &Map<'a, I, A>,
@@ -180,11 +181,12 @@ fn inside_near<'a, I: SegIndex, A: Allocator + Copy>(
     }
 }
 
-/// The features at p, as `at` finds them: those that hold it by the even-odd rule, off their borders
-/// (RFC 7946, 3.1.6), and those on whose borders it lies. Each ring of the map has to lie in one of
-/// the boxes. Reads the cells at p and those from it to the right as far as the boxes that have p,
-/// and goes round the rings of which an odd number of segments count there; where one of these is
-/// long it reads the cells to the edge of the map, as `at` does. Fails for want of memory alone.
+/// The features at p, as `at` finds them: those that hold it by the even-odd rule, off their
+/// borders (RFC 7946, 3.1.6), and those on whose borders it lies. Each ring of the map has to lie
+/// in one of the boxes. Reads the cells at p and those from it to the right as far as the boxes
+/// that have p, and goes round the rings of which an odd number of segments count there; where one
+/// of these has more than 1,024 positions, it reads the cells to the edge of the map, as `at` does.
+/// Fails for want of memory alone.
 pub fn at_near<'a, I: SegIndex, A: Allocator + Copy>(
     alloc: A,
     map: &Map<'a, I, A>,

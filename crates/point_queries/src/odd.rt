@@ -31,8 +31,8 @@ fn push_rings<'a, I: SegIndex, A: Allocator + Copy>(
     Ok(())
 }
 
-/// The rings of segments that count for p, a ring for each of its own, where each segment that counts
-/// and meets the box is among these.
+/// The rings of segments that count for p, a ring for each of its own, where each segment that
+/// counts and meets the box is among these.
 pub(crate) fn passed_rings<'a, I: SegIndex, A: Allocator + Copy>(
     alloc: A,
     map: &Map<'a, I, A>,
