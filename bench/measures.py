@@ -139,6 +139,7 @@ def rate(both, map_, lines_of, seconds, answer=".*"):
     """Lines a second, all of them accepted and answered by a text of this form, of scripts that `lines_of` makes about
     so long."""
     with both.session(map_) as session:
+        session.seconds(lines_of(2))  # a first question may make what the others use
         wanted, lines = max(seconds / PIECES_TIMED, LEAST_PIECE), lines_of(2)
         spent = session.seconds(lines)
         while spent < LEAST_PIECE and len(lines) < MOST_LINES:
