@@ -42,16 +42,21 @@ parts_of n =
 abbrev pub pair : Node → List Node
 pair n = take 2 (items n)
 
--- the coordinates of a geometry: of a Point, whose `coordinates` are one position, or of a
--- MultiPoint, whose `coordinates` are a list of positions
+-- the coordinates of a Point, whose `coordinates` are one position
+abbrev pub point : Node → List Node
+point n = flat_map pair (value_in (codes "coordinates") n)
+
+-- the coordinates of a MultiPoint, whose `coordinates` are a list of positions
+abbrev pub points : Node → List Node
+points n = flat_map pair (flat_map items (value_in (codes "coordinates") n))
+
+-- the coordinates of a geometry, where it is a Point or a MultiPoint
 abbrev pub coordinates_of : Node → List Node
 coordinates_of n =
-    if has_type (codes "Point") n then flat_map pair (value_in (codes "coordinates") n)
-    else (if has_type (codes "MultiPoint") n
-    then flat_map pair (flat_map items (value_in (codes "coordinates") n))
-    else [])
+    if has_type (codes "Point") n then point n
+    else (if has_type (codes "MultiPoint") n then points n else [])
 
--- the same of all that stands in a collection, depth first; the depth is more than any text of 100
+-- the same, and those of all that stands in a collection, depth first; the depth is more than any text of 100
 -- levels has
 unfoldable pub coordinates_in : ℕ → Node → List Node
 coordinates_in zero n = []

@@ -42,7 +42,7 @@ is_number _ = false
 -- so many units of 10^-24 are within 10^12 on a grid of so many decimals, 10^finer times as fine
 -- again
 abbrev pub is_within : ℕ → ℕ → ℤ → Bool
-is_within digits finer z = nat_le (unsigned_abs z) (10 ^ (36 - digits - finer))
+is_within digits finer z = nat_le (unsigned_abs z) (10 ^ (36 - finer - digits))
 
 -- a number, by its parts, as a whole number of the grid
 abbrev pub on_grid : ℕ → ℕ → ℕ → Option Parts → Result ℤ PointFault

@@ -4,7 +4,7 @@ ghost use Rattle.std.specs.List.{flat_map};
 ghost use Rattle.json_spans.specs.Left.{node};
 ghost use Rattle.json_spans.specs.Walk.{items};
 ghost use Rattle.point_rounding.specs.Found.{found};
-ghost use Rattle.point_rounding.specs.Points.{says, value_in, has_type, parts_of, pair, coordinates_of, coordinates_in, all_coordinates};
+ghost use Rattle.point_rounding.specs.Points.{says, value_in, has_type, parts_of, pair, point, points, coordinates_of, coordinates_in, all_coordinates};
 
 use json_spans::{Span, TextFault, items, members, text};
 use std::alloc::{AllocError, Allocator, Global};
@@ -87,6 +87,38 @@ fn push_pairs<'a, A: Allocator + Copy>(
     Ok(())
 }
 
+/// Appends the coordinates of a Point.
+fn push_point<'a, A: Allocator + Copy>(
+    heap: Global,
+    span: Span<'a>,
+    out: &mut Vec<Span<'a>, A>,
+) -> Result<(), AllocError>
+    ensures { OnOk result
+        (map node out.new.items ≡ map node out.old.items ++ point (node span.entry)) }
+{
+    let Some(position) = value_in(heap, "coordinates", span)? else {
+        return Ok(());
+    };
+    push_pair(position, out)?;
+    Ok(())
+}
+
+/// Appends the coordinates of a MultiPoint.
+fn push_points<'a, A: Allocator + Copy>(
+    heap: Global,
+    span: Span<'a>,
+    out: &mut Vec<Span<'a>, A>,
+) -> Result<(), AllocError>
+    ensures { OnOk result
+        (map node out.new.items ≡ map node out.old.items ++ points (node span.entry)) }
+{
+    let Some(positions) = value_in(heap, "coordinates", span)? else {
+        return Ok(());
+    };
+    push_pairs(positions, out)?;
+    Ok(())
+}
+
 /// Appends the coordinates of a geometry that is a Point or a MultiPoint.
 fn push_coordinates<'a, A: Allocator + Copy>(
     heap: Global,
@@ -97,18 +129,15 @@ fn push_coordinates<'a, A: Allocator + Copy>(
         (map node out.new.items ≡ map node out.old.items ++ coordinates_of (node span.entry)) }
 {
     let one = has_type(heap, "Point", span)?;
-    let many = has_type(heap, "MultiPoint", span)?;
-    if !one && !many {
+    if one {
+        push_point(heap, span, out)?;
         return Ok(());
     }
-    match value_in(heap, "coordinates", span)? {
-        Some(value) => if one {
-            push_pair(value, out)
-        } else {
-            push_pairs(value, out)
-        },
-        None => Ok(()),
+    let several = has_type(heap, "MultiPoint", span)?;
+    if several {
+        push_points(heap, span, out)?;
     }
+    Ok(())
 }
 
 /// Appends the coordinates of the points of a geometry, with less than `depth` collections one in

@@ -35,17 +35,18 @@ const DIGITS: usize = 36;
 /// Whether so many units of 10^-24 are within 10^12 on the grid.
 fn is_within(grid: Grid, units: i128) -> bool
     ensures value { result ≡ is_within grid.digits grid.finer units }
-    ensures reach { result ≡ true → unsigned_abs units ≤ 10 ^ (36 - grid.digits - grid.finer) }
+    ensures reach { result ≡ true → unsigned_abs units ≤ 10 ^ (36 - grid.finer - grid.digits) }
 {
-    units.unsigned_abs() <= 10u128.pow((DIGITS - grid.digits - grid.finer) as u32)
+    units.unsigned_abs() <= 10u128.pow((DIGITS - grid.finer - grid.digits) as u32)
 }
 
 /// So many units of 10^-24 as a whole number of the grid.
 fn on_axis(grid: Grid, units: i128) -> i128
-    requires { unsigned_abs units ≤ 10 ^ (36 - grid.digits - grid.finer) }
+    requires { unsigned_abs units ≤ 10 ^ (36 - grid.finer - grid.digits) }
     ensures { result ≡ rounded grid.digits units *ℤ pos (10 ^ grid.finer) }
 {
-    i128::from(rounded(grid.digits, units)) * 10i128.pow(grid.finer as u32)
+    let scale = 10u128.pow(grid.finer as u32) as i128;
+    i128::from(rounded(grid.digits, units)) * scale
 }
 
 /// A number as a whole number of the grid.
@@ -97,10 +98,11 @@ pub(crate) fn changes_of<'a, A: Allocator + Copy>(
 {
     let mut changes = Vec::new(alloc);
     for part in parts {
-        match change_of(grid, *part) {
-            Ok(change) => changes.push(change)?,
+        let change = match change_of(grid, *part) {
+            Ok(change) => change,
             Err(fault) => return Err(fault),
-        }
+        };
+        changes.push(change)?;
     }
     Ok(changes)
 }

@@ -31,16 +31,17 @@ fn end_of(span: Span<'_>) -> usize
     span.at + span.text.len()
 }
 
-/// Appends a whole number.
-fn push_number<A: Allocator>(text: &mut Vec<u8, A>, number: i128) -> Result<(), AllocError>
-    ensures { OnOk result (text.new.items ≡ text.old.items ++ signed_decimal number) }
+/// Appends the new text of a coordinate.
+fn push_number<A: Allocator>(text: &mut Vec<u8, A>, new: Change<'_>) -> Result<(), AllocError>
+    ensures { OnOk result (text.new.items ≡ text.old.items ++ signed_decimal new.number) }
 {
     let mut buffer = Buffer::new();
-    text.extend_from_slice(buffer.format(number).as_bytes())?;
+    text.extend_from_slice(buffer.format(new.number).as_bytes())?;
     Ok(())
 }
 
 /// The text in which each of these coordinates is its whole number.
+#[tactic(auto, using(crate::proofs::Splicing::spliced_step, crate::proofs::Splicing::spliced_end))]
 pub(crate) fn spliced<A: Allocator + Copy>(
     alloc: A,
     bytes: &[u8],
@@ -52,7 +53,7 @@ pub(crate) fn spliced<A: Allocator + Copy>(
     let mut from = 0;
     for change in changes {
         text.extend_from_slice(between(bytes, from, change.span.at))?;
-        push_number(&mut text, change.number)?;
+        push_number(&mut text, *change)?;
         from = end_of(change.span);
     }
     text.extend_from_slice(behind(bytes, from))?;

@@ -1,0 +1,4 @@
+pub mod Fits
+pub mod Finding
+pub mod Changing
+pub mod Splicing
