@@ -37,16 +37,15 @@ regroup : {A : Type 0} (front : List A) (p : A) (r : Result (List A) PointFault)
 regroup {A = A} front p (Ok ps) = ap (λ (qs : List A). Ok qs) (sym (append_assoc front (p ∷ []) ps))
 regroup front p (Err e) = refl
 
-pub each_first : {B : Type 0} (r : Result (List B) PointFault) → with_front [] r ≡ r
-each_first (Ok xs) = refl
-each_first (Err e) = refl
+-- what is left begins with the one that is reached
+pub here : {A : Type 0} (xs : List A) (i : ℕ) (a : A) → i < length xs → a ≡ get_or xs i a → drop i xs ≡ a ∷ drop (i + 1) xs
+here {A = A} xs i a lt is = drop-cons xs i a lt ∙ rw (add-one i) (ap (λ (b : A). b ∷ drop (suc i) xs) (sym is))
 
-pub each_turn : {B : Type 0} (f : Node → Result B PointFault) (front : List B) (b : B) (xs : List Span) (i : ℕ) (d : Span) (whole : Result (List B) PointFault) → i < length xs → f (node (get_or xs i d)) ≡ Ok b → with_front front (each f (map node (drop i xs))) ≡ whole → with_front (front ++ b ∷ []) (each f (map node (drop (i + 1) xs))) ≡ whole
-each_turn f front b xs i d whole lt is h =
-    rw (add-one i) (sym (regroup front b (each f (map node (drop (suc i) xs)))) ∙ rw (drop-cons xs i d lt, is) at h)
+pub each_turn : {B : Type 0} (f : Node → Result B PointFault) (front : List B) (b : B) (xs : List Span) (i : ℕ) (a : Span) (whole : Result (List B) PointFault) → i < length xs → a ≡ get_or xs i a → f (node a) ≡ Ok b → with_front front (each f (map node (drop i xs))) ≡ whole → with_front (front ++ b ∷ []) (each f (map node (drop (i + 1) xs))) ≡ whole
+each_turn f front b xs i a whole lt is fb h = sym (regroup front b (each f (map node (drop (i + 1) xs)))) ∙ rw (here xs i a lt is, fb) at h
 
-pub each_stop : {B : Type 0} (o : PointFault) (f : Node → Result B PointFault) (front : List B) (xs : List Span) (i : ℕ) (d : Span) (whole : Result (List B) PointFault) → i < length xs → Fails o (f (node (get_or xs i d))) → with_front front (each f (map node (drop i xs))) ≡ whole → Fails o whole
-each_stop o f front xs i d whole lt is h = carry o (f (node (get_or xs i d))) whole (λ x fx. sym (rw (drop-cons xs i d lt, fx) at h)) is
+pub each_stop : {B : Type 0} (o : PointFault) (f : Node → Result B PointFault) (front : List B) (xs : List Span) (i : ℕ) (a : Span) (whole : Result (List B) PointFault) → i < length xs → a ≡ get_or xs i a → Fails o (f (node a)) → with_front front (each f (map node (drop i xs))) ≡ whole → Fails o whole
+each_stop o f front xs i a whole lt is fo h = carry o (f (node a)) whole (λ x fx. sym (rw (here xs i a lt is, fx) at h)) fo
 
 pub each_end : {B : Type 0} (f : Node → Result B PointFault) (front : List B) (xs : List Span) (i : ℕ) (whole : Result (List B) PointFault) → length xs ≤ i → with_front front (each f (map node (drop i xs))) ≡ whole → whole ≡ Ok front
 each_end f front xs i whole le h = sym (rw (drop_all i xs le, append-nil front) at h)

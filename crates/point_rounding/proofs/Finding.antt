@@ -4,7 +4,7 @@ use Rattle.std.proofs.lemmas.List.{append-nil}
 use Rattle.std.specs.List.{flat_map}
 use Rattle.json_spans.specs.Nodes.{Node}
 use Rattle.json_spans.specs.Walk.{items}
-use Rattle.point_rounding.specs.Points.{says, value_named, parts_of, coordinates_of, coordinates_in}
+use Rattle.point_rounding.specs.Points.{says, value_named, parts_of, pair, coordinates_of, coordinates_in}
 
 -- ---- members
 
@@ -19,6 +19,20 @@ value_later name m ms left b whole e is wrong h = rw (e, sym is ∙ wrong) at h
 pub no_value : (name : List ℕ) (left : List (Node × Node)) (whole : List Node) → left ≡ [] → value_named name left ≡ whole → [] ≡ whole
 unfolding value_named
 no_value name left whole e h = rw e at h
+
+-- ---- points
+
+pub no_position : (vs old : List Node) → [] ≡ vs → old ≡ old ++ flat_map pair vs
+no_position vs old e = rw (← e, append-nil old) refl
+
+pub one_position : (v : Node) (vs old new : List Node) → v ∷ [] ≡ vs → new ≡ old ++ pair v → new ≡ old ++ flat_map pair vs
+one_position v vs old new e is = rw (← e, append-nil (pair v)) is
+
+pub no_list : (vs old : List Node) → [] ≡ vs → old ≡ old ++ flat_map pair (flat_map items vs)
+no_list vs old e = rw (← e, append-nil old) refl
+
+pub one_list : (v : Node) (vs old new : List Node) → v ∷ [] ≡ vs → new ≡ old ++ flat_map pair (items v) → new ≡ old ++ flat_map pair (flat_map items vs)
+one_list v vs old new e is = rw (← e, append-nil (items v)) is
 
 -- ---- a geometry
 

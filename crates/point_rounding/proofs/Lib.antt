@@ -1,4 +1,4 @@
 pub mod Fits
 pub mod Finding
 pub mod Changing
-pub mod Splicing
+pub mod NewTexts

@@ -56,8 +56,8 @@ coordinates_of n =
     if has_type (codes "Point") n then point n
     else (if has_type (codes "MultiPoint") n then points n else [])
 
--- the same, and those of all that stands in a collection, depth first; the depth is more than any text of 100
--- levels has
+-- the same, and those of all that stands in a collection, depth first; the depth is more than any
+-- text of 100 levels has
 unfoldable pub coordinates_in : ℕ → Node → List Node
 coordinates_in zero n = []
 coordinates_in (suc d) n =

@@ -1,4 +1,5 @@
-// Where the coordinates of the points of a topology stand in its text (TopoJSON 1.0, 2.2.1 and 2.2.2).
+// Where the coordinates of the points of a topology stand in its text (TopoJSON 1.0, 2.2.1 and
+// 2.2.2).
 ghost use Rattle.std.specs.Prelude.{◌≡◌, ◌++◌, map, IfOk, OnOk};
 ghost use Rattle.std.specs.List.{flat_map};
 ghost use Rattle.json_spans.specs.Left.{node};
@@ -59,7 +60,8 @@ fn push_pair<'a, A: Allocator + Copy>(
     position: Span<'a>,
     out: &mut Vec<Span<'a>, A>,
 ) -> Result<(), AllocError>
-    ensures { OnOk result (map node out.new.items ≡ map node out.old.items ++ pair (node position.entry)) }
+    ensures { OnOk result
+        (map node out.new.items ≡ map node out.old.items ++ pair (node position.entry)) }
 {
     let mut numbers = items(position);
     let Some(x) = numbers.next() else {
@@ -96,8 +98,9 @@ fn push_point<'a, A: Allocator + Copy>(
     ensures { OnOk result
         (map node out.new.items ≡ map node out.old.items ++ point (node span.entry)) }
 {
-    let Some(position) = value_in(heap, "coordinates", span)? else {
-        return Ok(());
+    let position = match value_in(heap, "coordinates", span)? {
+        Some(position) => position,
+        None => return Ok(()),
     };
     push_pair(position, out)?;
     Ok(())
@@ -112,8 +115,9 @@ fn push_points<'a, A: Allocator + Copy>(
     ensures { OnOk result
         (map node out.new.items ≡ map node out.old.items ++ points (node span.entry)) }
 {
-    let Some(positions) = value_in(heap, "coordinates", span)? else {
-        return Ok(());
+    let positions = match value_in(heap, "coordinates", span)? {
+        Some(positions) => positions,
+        None => return Ok(()),
     };
     push_pairs(positions, out)?;
     Ok(())

@@ -33,7 +33,7 @@ fn end_of(span: Span<'_>) -> usize
 
 /// Appends the new text of a coordinate.
 fn push_number<A: Allocator>(text: &mut Vec<u8, A>, new: Change<'_>) -> Result<(), AllocError>
-    ensures { OnOk result (text.new.items ≡ text.old.items ++ signed_decimal new.number) }
+    ensures { OnOk result (text.new.items ≡ text.old.items ++ signed_decimal new.entry.number) }
 {
     let mut buffer = Buffer::new();
     text.extend_from_slice(buffer.format(new.number).as_bytes())?;
@@ -41,7 +41,7 @@ fn push_number<A: Allocator>(text: &mut Vec<u8, A>, new: Change<'_>) -> Result<(
 }
 
 /// The text in which each of these coordinates is its whole number.
-#[tactic(auto, using(crate::proofs::Splicing::spliced_step, crate::proofs::Splicing::spliced_end))]
+#[tactic(auto, using(crate::proofs::NewTexts::spliced_end))]
 pub(crate) fn spliced<A: Allocator + Copy>(
     alloc: A,
     bytes: &[u8],
