@@ -2,3 +2,4 @@ pub mod Fits
 pub mod Finding
 pub mod Changing
 pub mod NewTexts
+mod Examples

@@ -5,8 +5,8 @@ use std::alloc::{AllocError, AllocFailed};
 pub enum PointFault {
     /// The coordinate at this place is no number.
     NotNumber { place: usize },
-    /// The coordinate at this place is beyond 10^12 on the grid, or its exponent has more than three
-    /// digits.
+    /// The coordinate at this place is beyond 10^12 on the grid, before it is rounded, or its
+    /// exponent has more than three digits.
     OutOfRange { place: usize },
     /// There is no memory for the new text.
     OutOfMemory,

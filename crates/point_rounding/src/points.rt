@@ -81,7 +81,8 @@ fn push_pairs<'a, A: Allocator + Copy>(
     out: &mut Vec<Span<'a>, A>,
 ) -> Result<(), AllocError>
     ensures { OnOk result
-        (map node out.new.items ≡ map node out.old.items ++ flat_map pair (items (node list.entry))) }
+        (map node out.new.items
+        ≡ map node out.old.items ++ flat_map pair (items (node list.entry))) }
 {
     for position in items(list) {
         push_pair(position, out)?;
@@ -153,7 +154,8 @@ fn coordinates_in<'a, A: Allocator + Copy>(
     out: &mut Vec<Span<'a>, A>,
 ) -> Result<(), AllocError>
     ensures { OnOk result
-        (map node out.new.items ≡ map node out.old.items ++ coordinates_in depth (node span.entry)) }
+        (map node out.new.items
+        ≡ map node out.old.items ++ coordinates_in depth (node span.entry)) }
 {
     if depth == 0 {
         return Ok(());

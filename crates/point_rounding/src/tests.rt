@@ -28,10 +28,12 @@ const ROWS: &[Row] = &[
     },
     // a MultiPoint, with spaces
     Row {
-        text: r#" {"objects":{"a":{"type":"MultiPoint","coordinates":[ [ 1.5 , 2.5 ] , [0.25,10] ]}}} "#,
+        text: r#" {"objects":{"a":{"type":"MultiPoint","coordinates":
+[ [ 1.5 , 2.5 ] , [0.25,10] ]}}} "#,
         digits: 2,
         finer: 0,
-        want: r#" {"objects":{"a":{"type":"MultiPoint","coordinates":[ [ 150 , 250 ] , [25,1000] ]}}} "#,
+        want: r#" {"objects":{"a":{"type":"MultiPoint","coordinates":
+[ [ 150 , 250 ] , [25,1000] ]}}} "#,
     },
     // points in a collection in a collection, and in two layers
     Row {
@@ -62,10 +64,12 @@ const ROWS: &[Row] = &[
     },
     // halves up
     Row {
-        text: r#"{"objects":{"a":{"type":"MultiPoint","coordinates":[[0.5,-0.5],[1.5,-1.5],[2.4999,-1.51]]}}}"#,
+        text: r#"{"objects":{"a":{"type":"MultiPoint","coordinates":
+[[0.5,-0.5],[1.5,-1.5],[2.4999,-1.51]]}}}"#,
         digits: 0,
         finer: 0,
-        want: r#"{"objects":{"a":{"type":"MultiPoint","coordinates":[[1,0],[2,-1],[2,-2]]}}}"#,
+        want: r#"{"objects":{"a":{"type":"MultiPoint","coordinates":
+[[1,0],[2,-1],[2,-2]]}}}"#,
     },
     // the greatest coordinate
     Row {
@@ -82,26 +86,32 @@ const ROWS: &[Row] = &[
     },
     // `coordinates` before `type`, a name with an escape, and the first of two members of a name
     Row {
-        text: r#"{"objects":{"a":{"coordinates":[1.5,2.5],"\u0074ype":"P\u006fint","coordinates":[3.5,4.5]}}}"#,
+        text: r#"{"objects":{"a":{"coordinates":[1.5,2.5],"\u0074ype":"P\u006fint",
+"coordinates":[3.5,4.5]}}}"#,
         digits: 1,
         finer: 0,
-        want: r#"{"objects":{"a":{"coordinates":[15,25],"\u0074ype":"P\u006fint","coordinates":[3.5,4.5]}}}"#,
+        want: r#"{"objects":{"a":{"coordinates":[15,25],"\u0074ype":"P\u006fint",
+"coordinates":[3.5,4.5]}}}"#,
     },
     // what looks like a point and is none: properties, and an object outside the layers
     Row {
-        text: r#"{"objects":{"a":{"type":"Polygon","properties":{"type":"Point","coordinates":[1.5,2.5]},"arcs":[[0]]}},
+        text: r#"{"objects":{"a":{"type":"Polygon",
+"properties":{"type":"Point","coordinates":[1.5,2.5]},"arcs":[[0]]}},
 "more":{"type":"Point","coordinates":[1.5,2.5]},"arcs":[[[1.5,2.5],[3.5,4.5]]]}"#,
         digits: 1,
         finer: 0,
-        want: r#"{"objects":{"a":{"type":"Polygon","properties":{"type":"Point","coordinates":[1.5,2.5]},"arcs":[[0]]}},
+        want: r#"{"objects":{"a":{"type":"Polygon",
+"properties":{"type":"Point","coordinates":[1.5,2.5]},"arcs":[[0]]}},
 "more":{"type":"Point","coordinates":[1.5,2.5]},"arcs":[[[1.5,2.5],[3.5,4.5]]]}"#,
     },
     // a point without coordinates, and one with an empty list
     Row {
-        text: r#"{"objects":{"a":{"type":"Point"},"b":{"type":"Point","coordinates":[]},"c":{"type":"MultiPoint","coordinates":[ ]}}}"#,
+        text: r#"{"objects":{"a":{"type":"Point"},"b":{"type":"Point","coordinates":[]},
+"c":{"type":"MultiPoint","coordinates":[ ]}}}"#,
         digits: 1,
         finer: 0,
-        want: r#"{"objects":{"a":{"type":"Point"},"b":{"type":"Point","coordinates":[]},"c":{"type":"MultiPoint","coordinates":[ ]}}}"#,
+        want: r#"{"objects":{"a":{"type":"Point"},"b":{"type":"Point","coordinates":[]},
+"c":{"type":"MultiPoint","coordinates":[ ]}}}"#,
     },
     // no objects, no JSON, and no bytes
     Row {

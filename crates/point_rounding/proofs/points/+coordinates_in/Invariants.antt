@@ -9,4 +9,6 @@ abbrev pub decreases-coordinates_in : goal.decreases-coordinates_in
 decreases-coordinates_in g l = l.depth
 
 abbrev pub invariant-loop-part : goal.invariant-loop-part
-invariant-loop-part g l = map node l.out.items ++ flat_map (coordinates_in (l.depth - 1)) (items_left l.part-iterator) ≡ map node l.fn.out.items ++ coordinates_in l.depth (node l.span)
+invariant-loop-part g l =
+    map node l.out.items ++ flat_map (coordinates_in (l.depth - 1)) (items_left l.part-iterator)
+    ≡ map node l.fn.out.items ++ coordinates_in l.depth (node l.span)

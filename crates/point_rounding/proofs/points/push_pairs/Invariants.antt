@@ -6,4 +6,6 @@ use Rattle.point_rounding.specs.Points.{pair}
 use Rattle.point_rounding.proofs.points.push_pairs.Given as goal
 
 abbrev pub invariant-loop-position : goal.invariant-loop-position
-invariant-loop-position g l = map node l.out.items ++ flat_map pair (items_left l.position-iterator) ≡ map node l.fn.out.items ++ flat_map pair (items (node l.fn.list))
+invariant-loop-position g l =
+    map node l.out.items ++ flat_map pair (items_left l.position-iterator)
+    ≡ map node l.fn.out.items ++ flat_map pair (items (node l.fn.list))

@@ -4,4 +4,5 @@ use Rattle.point_rounding.specs.Rounded.{spliced}
 use Rattle.point_rounding.proofs.splicing.spliced.Given as goal
 
 abbrev pub invariant-loop-change : goal.invariant-loop-change
-invariant-loop-change g l = l.text.items ++ spliced l.bytes l.from (map change (drop l.change-index l.changes)) ≡ spliced l.fn.bytes 0 (map change l.fn.changes)
+invariant-loop-change g l =
+    l.text.items ++ spliced l.bytes l.from (map change (drop l.change-index l.changes)) ≡ spliced l.fn.bytes 0 (map change l.fn.changes)
