@@ -1,6 +1,6 @@
 // The features at a position, by the segments that count for it as far as the boxes that have it.
 ghost use Rattle.std.specs.Prelude.{◌≡◌, ◌≤◌, ◌⊎◌, true, int_le, unsigned_abs, Contains};
-ghost use Rattle.std.specs.Prelude.{IfOk, OnOk, IfSome};
+ghost use Rattle.std.specs.Prelude.{◌<◌, [], length, unwrap_or, IfOk, OnOk, IfSome, IfNone};
 ghost use Rattle.std.specs.List.{filter};
 ghost use Rattle.std.specs.List.Sorted.{IsPermutation};
 ghost use Rattle.grid_geometry.specs.Ring as ring;
@@ -84,7 +84,8 @@ fn odd_names<A: Allocator + Copy>(
 
 /// Whether the ring of these positions holds p; `None` where it is long.
 fn is_inside<A: Allocator + Copy>(mut positions: RingIter<'_, A>, p: Pos) -> Option<bool>
-    ensures { IfSome result (λ inside. inside ≡ ring.is_inside p positions.entry) }
+    ensures inside { IfSome result (λ inside. inside ≡ ring.is_inside p positions.entry) }
+    ensures long { IfNone result (1024 < length positions.entry) }
 {
     let Some(first) = positions.next() else {
         return Some(false);
@@ -109,7 +110,8 @@ fn holds<'a, I: SegIndex, A: Allocator + Copy>(
     name: RingName,
     p: Pos,
 ) -> Option<bool>
-    ensures { IfSome result (λ holds. holds ≡ odd.holds map.now.doc p name) }
+    ensures holds { IfSome result (λ holds. holds ≡ odd.holds map.now.doc p name) }
+    ensures long { IfNone result (1024 < length (unwrap_or (odd.ring_of map.now.doc name) [])) }
 {
     match map.ring(name.feature, name.polygon, name.ring) {
         Some(positions) => is_inside(positions, p),

@@ -17,8 +17,8 @@ loop-name-preserved g c =
     elim c.if-holds.branch [
       | then-holds+in_ok-push w ↦
           ap (λ z. z.items) w.found-is ∙ w.in_ok-push.ensures.items ∙ ap (λ z. z ++ get_or names i none ∷ []) c.loop-name.invariant
-          ∙ sym (filter_yes test names i none within (sym c.in-Some.ensures ∙ w.if-holds.true))
+          ∙ sym (filter_yes test names i none within (sym c.in-Some.ensures.holds ∙ w.if-holds.true))
       | else-holds w ↦
           ap (λ z. z.items) w.found-is ∙ c.loop-name.invariant
-          ∙ sym (filter_no test names i none within (sym c.in-Some.ensures ∙ w.if-holds.false))
+          ∙ sym (filter_no test names i none within (sym c.in-Some.ensures.holds ∙ w.if-holds.false))
     ]
