@@ -4,10 +4,9 @@ ghost use Rattle.std.specs.FinSet as set;
 ghost use Rattle.ring_machine.specs.Parts.{rings};
 ghost use Rattle.ring_boxes.specs.Covering.{Covers};
 
-use crate::boxes::boxes_of;
 use arc_store::Map;
 use grid_geometry::Pos;
-use point_queries::{At, at, at_near};
+use point_queries::{At, at, at_near, boxes_of};
 use ring_boxes::RingBoxes;
 use segment_index::TreeIndex;
 use std::alloc::Global;

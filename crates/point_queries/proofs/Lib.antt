@@ -14,3 +14,4 @@ mod Telling
 mod Cancelling
 mod NearRings
 mod HeldFeatures
+mod RingsCovered

@@ -23,7 +23,7 @@ use Rattle.point_queries.proofs.PassedRings.{odd_ring}
 use Rattle.point_queries.proofs.Passing.{passed_meets}
 use Rattle.point_queries.proofs.SharedBorders.{named_ring}
 
-all_true : {X : Type 0} (test : X → Bool) (xs : List X) (x : X) → list_all test xs ≡ true → In x xs → test x ≡ true
+pub all_true : {X : Type 0} (test : X → Bool) (xs : List X) (x : X) → list_all test xs ≡ true → In x xs → test x ≡ true
 all_true test [] x h i = absurd i
 all_true test (y ∷ ys) x h (inl e) = ap test (sym e) ∙ (and_both (test y) (list_all test ys) h).0
 all_true test (y ∷ ys) x h (inr i) = all_true test ys x (and_both (test y) (list_all test ys) h).1 i

@@ -1,3 +1,4 @@
+pub mod Covered
 pub mod Near
 pub mod Odd
 pub mod Told

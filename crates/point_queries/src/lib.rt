@@ -3,6 +3,7 @@
 
 mod area;
 mod border;
+mod boxes;
 mod inside;
 mod near;
 mod numbers;
@@ -11,6 +12,7 @@ mod passed;
 mod sharing;
 
 pub use area::{NoFeature, area2_of};
+pub use boxes::{add_boxes, boxes_of};
 pub use inside::at;
 pub use near::at_near;
 pub use numbers::{At, Numbers};

@@ -185,10 +185,10 @@ fn inside_near<'a, I: SegIndex, A: Allocator + Copy>(
 
 /// The features at p, as `at` finds them: those that hold it by the even-odd rule, off their
 /// borders (RFC 7946, 3.1.6), and those on whose borders it lies. Each ring of the map has to lie
-/// in one of the boxes. Reads the cells at p and those from it to the right as far as the boxes
-/// that have p, and goes round the rings of which an odd number of segments count there; where one
-/// of these has more than 1,024 positions, it reads the cells to the edge of the map, as `at` does.
-/// Fails for want of memory alone.
+/// in one of the boxes, as in those that `boxes_of` makes. Reads the cells at p and those from it
+/// to the right as far as the boxes that have p, and goes round the rings of which an odd number of
+/// segments count there; where one of these has more than 1,024 positions, it reads the cells to
+/// the edge of the map, as `at` does. Fails for want of memory alone.
 pub fn at_near<'a, I: SegIndex, A: Allocator + Copy>(
     alloc: A,
     map: &Map<'a, I, A>,

@@ -30,7 +30,8 @@ use Rattle.undo_ring.specs.declared.answer.Answer.{Answer as Told}
 use Rattle.undo_ring.specs.Commands.{command_of}
 use Rattle.undo_ring.specs.declared.command.Command.{Command as Asked}
 use Rattle.undo_ring.specs.declared.command.Command.TheVariants as told
-use Rattle.undo_ring.specs.Boxed.{AreCovered, IsKnown, HasGrown, IsReady, touched_by, HasCome, Follows, CoversFeature}
+use Rattle.point_queries.specs.Covered.{CoversFeature}
+use Rattle.undo_ring.specs.Boxed.{AreCovered, IsKnown, HasGrown, IsReady, touched_by, HasCome, Follows}
 use Rattle.undo_ring.specs.declared.near.Near.{Near}
 use Rattle.undo_ring.proofs.Recording.{handed}
 use Rattle.undo_ring.proofs.RingOrigins.{put_from, ins_from, del_from, thinned_from, thinned_over_from, renamed_from, take_out_from, cut_from, join_from}

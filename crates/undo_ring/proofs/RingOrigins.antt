@@ -1,14 +1,14 @@
 -- From which rings the rings of an edited document come.
 use Rattle.std.proofs.Common.{◌≡◌, ℕ, ℤ, Bool, true, false, refl, sym, ap, ◌∙◌, subst, cond, List, [], ◌∷◌}
 use Rattle.std.proofs.Common.{◌++◌, map, ◌⊎◌, inl, inr, None, Some, Option, Contains}
-use Rattle.std.specs.Prelude.{not, ◌&&◌, IsTrue}
+use Rattle.std.specs.Prelude.{not, ◌&&◌}
 use Rattle.std.specs.List.{filter, flat_map, fold}
 use Rattle.grid_geometry.specs.Position.{Position, position_eq}
 use Rattle.grid_geometry.specs.Segment.{segment}
 use Rattle.grid_geometry.specs.Ring.{Edge, edges}
 use Rattle.ring_machine.specs.Ring.{segment_of, canonical}
 use Rattle.ring_machine.specs.Document.{Document, Feature, Text}
-use Rattle.ring_machine.specs.Parts.{features, feature, rings_of, rings, in_rings}
+use Rattle.ring_machine.specs.Parts.{features, rings_of, rings, in_rings}
 use Rattle.ring_machine.specs.Vertices.{put, ins, del, put_ring, ins_ring, del_ring, is_junction}
 use Rattle.ring_machine.specs.Query.{vertices}
 use Rattle.ring_machine.specs.Command.{Refusal}
@@ -17,7 +17,6 @@ use Rattle.ring_machine.specs.Thin.{Thinning, is_flat, without, thin_at, thinned
 use Rattle.ring_machine.specs.Cut.{Path, cut, is_cut_by, first_that, stays, parted, instead}
 use Rattle.ring_machine.specs.Join.{join, joined_feature, take_out}
 use Rattle.ring_machine.specs.Machine.{renamed}
-use Rattle.ring_machine.specs.WellFormed.{are_distinct}
 use Rattle.ring_machine.proofs.Order.{position_eq-true}
 use Rattle.ring_machine.proofs.Arcs.{is_of}
 use Rattle.ring_machine.proofs.Canonical.{canonical_parts}
@@ -31,7 +30,6 @@ use Rattle.ring_machine.proofs.Without.{in-take_out, part-rings}
 use Rattle.ring_machine.proofs.Renamed.{rings-renamed}
 use Rattle.ring_machine.proofs.Instead.{in-instead}
 use Rattle.ring_machine.proofs.SplitFeatures.{new_feature}
-use Rattle.ring_machine.proofs.Found.{found}
 
 -- ---- what is said of a ring
 
@@ -237,12 +235,3 @@ join_from d n g r i = of_features d (join d n g) (λ m. m ≡ n) old_or_named r 
           | inl old ↦ inl old.0
           | inr made ↦ inr (number_of made.0 k made.2 made.3)
         ]
-
--- ---- a feature by its number
-
--- of distinct numbers, a feature is the one that is found by its own
-pub of_number : (d : Document) (f : Feature) (n : ℕ)
-    → IsTrue (are_distinct (map (λ f. f.number) (features d))) → Contains (features d) f
-    → f.number ≡ n → feature d n ≡ Some f
-of_number d f n distinct i e =
-    subst (λ m. feature d m ≡ Some f) e (found f (features d) distinct (contains_in (features d) f i))

@@ -3,11 +3,12 @@
 use Rattle.std.specs.Prelude.{ℕ, suc, ◌≡◌, ◌≤◌, List, ◌∷◌, take, Option, None, Some, Contains, IfSome}
 use Rattle.std.specs.List.{AllByRecursion}
 use Rattle.grid_geometry.specs.Position.{Position}
-use Rattle.ring_machine.specs.Document.{Document, Feature}
-use Rattle.ring_machine.specs.Parts.{features, rings, rings_of}
+use Rattle.ring_machine.specs.Document.{Document}
+use Rattle.ring_machine.specs.Parts.{rings}
 use Rattle.ring_machine.specs.Command.{Command, Move, Insert, Split, Merge}
 use Rattle.segment_index.specs.Candidates.{SegmentSet}
 use Rattle.ring_boxes.specs.Covering.{Covers, IsCovered, Keeps}
+use Rattle.point_queries.specs.Covered.{CoversFeature}
 use Rattle.undo_ring.specs.declared.near.Near.{Near}
 
 -- each ring of these documents lies in one of the boxes
@@ -35,11 +36,6 @@ abbrev pub touched_by : ℕ → Command → Option (ℕ × ℕ)
 touched_by next (Split n id path) = Some (n, next)
 touched_by next (Merge n m) = Some (n, n)
 touched_by next c = None
-
--- each ring of a feature with this number lies in one of the boxes
-abbrev pub CoversFeature : SegmentSet → Document → ℕ → Type 0
-CoversFeature boxes d n =
-    (f : Feature) → Contains (features d) f → f.number ≡ n → Covers boxes (rings_of f)
 
 -- after a change that made other rings of these features: the boxes cover them
 abbrev pub HasCome : SegmentSet → Document → Option (ℕ × ℕ) → Type 0

@@ -1,19 +1,15 @@
 //! The boxes of a map's rings, kept beside its history, so that a position is asked for without a look
 //! along the whole map.
-ghost use Rattle.std.specs.Prelude.{◌≡◌, ◌∷◌, true, false, List, IfOk, IfSome, IsTrue, OnOk};
-ghost use Rattle.std.specs.List.{AllByRecursion, flat_map};
+ghost use Rattle.std.specs.Prelude.{◌≡◌, ◌∷◌, true, false, List, IfSome, OnOk};
 ghost use Rattle.ring_machine.specs.Document.{Document};
-ghost use Rattle.ring_machine.specs.Parts.{rings};
-ghost use Rattle.ring_machine.specs.Ring.{is_ring};
-ghost use Rattle.ring_parts.specs.Seen.{rings_seen, polygons_seen};
-ghost use Rattle.ring_boxes.specs.Covering.{Covers, Keeps};
-ghost use Rattle.undo_ring.specs.Boxed.{CoversFeature, HasGrown, IsKnown, IsReady, Follows};
+ghost use Rattle.undo_ring.specs.Boxed.{HasGrown, IsKnown, IsReady, Follows};
 ghost use Rattle.undo_ring.specs.Boxed as boxed;
 ghost use Rattle.undo_ring.specs.Commands.{command_of};
 
 use crate::command::Command;
 use arc_store::Map;
 use grid_geometry::Pos;
+use point_queries::{add_boxes, boxes_of};
 use ring_boxes::RingBoxes;
 use segment_index::SegIndex;
 use std::alloc::{AllocError, Allocator, Global};
@@ -25,67 +21,6 @@ use std::alloc::{AllocError, Allocator, Global};
 pub(crate) struct Near<A: Allocator + Copy = Global> {
     pub(crate) boxes: Option<RingBoxes<A>>,
     pub(crate) since: usize,
-}
-
-/// Adds the boxes of these rings.
-fn add_rings<A: Allocator + Copy>(
-    boxes: &mut RingBoxes<A>,
-    polygon: &[Vec<Pos, A>],
-) -> Result<(), AllocError>
-    requires { AllByRecursion (λ ring. IsTrue (is_ring ring)) (rings_seen polygon.now) }
-    ensures covered { OnOk result (Covers boxes.new (rings_seen polygon.now)) }
-    ensures keeps { Keeps boxes.old boxes.new }
-{
-    for ring in polygon {
-        boxes.add(ring.as_slice())?;
-    }
-    Ok(())
-}
-
-/// Adds the boxes of the rings of these polygons.
-fn add_polygons<A: Allocator + Copy>(
-    boxes: &mut RingBoxes<A>,
-    polygons: &[Vec<Vec<Pos, A>, A>],
-) -> Result<(), AllocError>
-    requires { AllByRecursion (λ ring. IsTrue (is_ring ring))
-        (flat_map (λ polygon. polygon) (polygons_seen polygons.now)) }
-    ensures covered { OnOk result
-        (Covers boxes.new (flat_map (λ polygon. polygon) (polygons_seen polygons.now))) }
-    ensures keeps { Keeps boxes.old boxes.new }
-{
-    for polygon in polygons {
-        add_rings(boxes, polygon.as_slice())?;
-    }
-    Ok(())
-}
-
-/// Adds the boxes of the rings of feature `n`; none where no feature has the number.
-fn add_feature<'a, I: SegIndex, A: Allocator + Copy>(
-    map: &Map<'a, I, A>,
-    boxes: &mut RingBoxes<A>,
-    n: u32,
-) -> Result<(), AllocError>
-    ensures covered { OnOk result (CoversFeature boxes.new map.now.doc n) }
-    ensures keeps { Keeps boxes.old boxes.new }
-{
-    let _ = map.frame(); // it tells that each ring is one
-    let polygons = map.polygons(n)?;
-    add_polygons(boxes, polygons.as_slice())
-}
-
-/// The boxes of all rings of a map. Walks it.
-fn boxes_of<'a, I: SegIndex, A: Allocator + Copy>(
-    alloc: A,
-    map: &Map<'a, I, A>,
-) -> Result<RingBoxes<A>, AllocError>
-    ensures { IfOk result (λ boxes. Covers boxes (rings map.now.doc)) }
-{
-    let _ = map.frame(); // it tells that no two features have one number
-    let mut boxes = RingBoxes::new(alloc, None);
-    for n in 0..map.next_number() {
-        add_feature(map, &mut boxes, n)?;
-    }
-    Ok(boxes)
 }
 
 /// The features whose rings become others by a command, where it makes some: two, or one twice. A new
@@ -173,7 +108,7 @@ impl<A: Allocator + Copy> Near<A> {
             return;
         };
         let came = match &mut self.boxes {
-            Some(boxes) => add_feature(map, boxes, n).is_ok() && add_feature(map, boxes, m).is_ok(),
+            Some(boxes) => add_boxes(map, boxes, n).is_ok() && add_boxes(map, boxes, m).is_ok(),
             None => true,
         };
         if !came {

@@ -18,14 +18,14 @@ returns-else-not-came-clause-changed g c =
     let more : c.saturating_add-self.result ≤ suc s.since = omega (arith, c.saturating_add-self.ensures) in
     λ t. elim c.match-self.branch [
       | in-Some-boxes+then-is_ok w ↦
-          let first = was_ok w.add_feature.result (sym w.is_ok.ensures.value ∙ w.if-is_ok.true) w.add_feature.ensures.covered in
-          let second = was_ok w.add_feature-then-is_ok.result
-          (sym w.is_ok-then-is_ok.ensures.value ∙ sym w.came-is ∙ c.if-not-came.false) w.add_feature-then-is_ok.ensures.covered in
-          follows_more s c.match-self.self w.in-Some-boxes.boxes w.add_feature.new.boxes w.add_feature-then-is_ok.new.boxes d
+          let first = was_ok w.add_boxes.result (sym w.is_ok.ensures.value ∙ w.if-is_ok.true) w.add_boxes.ensures.covered in
+          let second = was_ok w.add_boxes-then-is_ok.result
+          (sym w.is_ok-then-is_ok.ensures.value ∙ sym w.came-is ∙ c.if-not-came.false) w.add_boxes-then-is_ok.ensures.covered in
+          follows_more s c.match-self.self w.in-Some-boxes.boxes w.add_boxes.new.boxes w.add_boxes-then-is_ok.new.boxes d
           c.in-Some.n c.in-Some.m c.args.touched c.in-Some.is w.in-Some-boxes.is
           (ap (λ (z : Near g.row.A.Denot). z.boxes) w.self-is)
           (subst (λ (z : Near g.row.A.Denot). z.since ≤ suc s.since) (sym w.self-is) more)
-          w.add_feature.ensures.keeps w.add_feature-then-is_ok.ensures.keeps first second
+          w.add_boxes.ensures.keeps w.add_boxes-then-is_ok.ensures.keeps first second
       | in-Some-boxes+else-is_ok w ↦ absurd (false≢true (sym w.if-is_ok.false ∙ sym w.came-is ∙ c.if-not-came.false))
       | in-None w ↦
           follows_none s c.match-self.self d c.args.touched

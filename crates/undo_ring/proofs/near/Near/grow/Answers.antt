@@ -1,5 +1,6 @@
 use Rattle.std.proofs.Common.{◌∷◌, suc, take}
-use Rattle.undo_ring.proofs.NearLemmas.{keeps_covered, known_some, on_ok}
+use Rattle.std.proofs.lemmas.Result.{on_ok_weaker}
+use Rattle.undo_ring.proofs.NearLemmas.{keeps_covered, known_some}
 use Rattle.undo_ring.proofs.near.Near.grow.Goals as goal
 
 pub returns-in-Some-clause-known : goal.returns-in-Some-clause-known
@@ -11,6 +12,6 @@ returns-in-Some-clause-known g c =
 pub returns-in-Some-clause-grown : goal.returns-in-Some-clause-grown
 returns-in-Some-clause-grown g c =
     let s = c.args.self.now in
-    on_ok c.grow.result
+    on_ok_weaker c.grow.result
     (λ grown d docs h ring i p. grown ring ((known_some s c.in-Some.boxes (d ∷ docs) c.in-Some.is h).0 ring i) p)
     c.grow.ensures.grown

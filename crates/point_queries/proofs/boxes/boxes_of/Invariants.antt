@@ -1,6 +1,6 @@
 use Rattle.std.proofs.Common.{ℕ, ◌<◌}
-use Rattle.undo_ring.specs.Boxed.{CoversFeature}
-use Rattle.undo_ring.proofs.near.boxes_of.Given as goal
+use Rattle.point_queries.specs.Covered.{CoversFeature}
+use Rattle.point_queries.proofs.boxes.boxes_of.Given as goal
 
 -- the features of the numbers so far lie in the boxes
 abbrev pub invariant-loop-n : goal.invariant-loop-n

@@ -2,7 +2,7 @@ use Rattle.std.proofs.Common.{take}
 use Rattle.std.specs.List.{flat_map}
 use Rattle.ring_parts.specs.Seen.{polygons_seen}
 use Rattle.ring_boxes.specs.Covering.{Covers, Keeps}
-use Rattle.undo_ring.proofs.near.add_polygons.Given as goal
+use Rattle.point_queries.proofs.boxes.add_polygons.Given as goal
 
 -- the rings of the polygons so far lie in the boxes, as do all that did before
 abbrev pub invariant-loop-polygon : goal.invariant-loop-polygon

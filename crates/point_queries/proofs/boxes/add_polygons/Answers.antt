@@ -1,8 +1,8 @@
 use Rattle.std.proofs.Common.{subst, sym, arith}
 use Rattle.ring_parts.specs.Seen.{rings_seen}
 use Rattle.ring_boxes.specs.Covering.{Covers}
-use Rattle.undo_ring.proofs.NearLemmas.{AreRings, rings_at, next_polygon, all_polygons}
-use Rattle.undo_ring.proofs.near.add_polygons.Goals as goal
+use Rattle.point_queries.proofs.RingsCovered.{AreRings, rings_at, next_polygon, all_polygons}
+use Rattle.point_queries.proofs.boxes.add_polygons.Goals as goal
 
 pub add_rings-requires : goal.add_rings-requires
 add_rings-requires g c =

@@ -1,20 +1,23 @@
-// The boxes of the rings of a map.
+// The boxes of the rings of a map, in which `at_near` looks.
 ghost use Rattle.std.specs.Prelude.{IfOk, IsTrue, OnOk};
 ghost use Rattle.std.specs.List.{AllByRecursion, flat_map};
 ghost use Rattle.ring_machine.specs.Parts.{rings};
 ghost use Rattle.ring_machine.specs.Ring.{is_ring};
 ghost use Rattle.ring_parts.specs.Seen.{rings_seen, polygons_seen};
 ghost use Rattle.ring_boxes.specs.Covering.{Covers, Keeps};
-ghost use Rattle.near_trials.specs.Covered.{CoversFeature};
+ghost use Rattle.point_queries.specs.Covered.{CoversFeature};
 
 use arc_store::Map;
 use grid_geometry::Pos;
 use ring_boxes::RingBoxes;
-use segment_index::TreeIndex;
-use std::alloc::{AllocError, Global};
+use segment_index::SegIndex;
+use std::alloc::{AllocError, Allocator};
 
 /// Adds the boxes of these rings.
-fn add_rings(boxes: &mut RingBoxes, polygon: &[Vec<Pos>]) -> Result<(), AllocError>
+fn add_rings<A: Allocator + Copy>(
+    boxes: &mut RingBoxes<A>,
+    polygon: &[Vec<Pos, A>],
+) -> Result<(), AllocError>
     requires { AllByRecursion (λ ring. IsTrue (is_ring ring)) (rings_seen polygon.now) }
     ensures covered { OnOk result (Covers boxes.new (rings_seen polygon.now)) }
     ensures keeps { Keeps boxes.old boxes.new }
@@ -26,7 +29,10 @@ fn add_rings(boxes: &mut RingBoxes, polygon: &[Vec<Pos>]) -> Result<(), AllocErr
 }
 
 /// Adds the boxes of the rings of these polygons.
-fn add_polygons(boxes: &mut RingBoxes, polygons: &[Vec<Vec<Pos>>]) -> Result<(), AllocError>
+fn add_polygons<A: Allocator + Copy>(
+    boxes: &mut RingBoxes<A>,
+    polygons: &[Vec<Vec<Pos, A>, A>],
+) -> Result<(), AllocError>
     requires { AllByRecursion (λ ring. IsTrue (is_ring ring))
         (flat_map (λ polygon. polygon) (polygons_seen polygons.now)) }
     ensures covered { OnOk result
@@ -39,8 +45,15 @@ fn add_polygons(boxes: &mut RingBoxes, polygons: &[Vec<Vec<Pos>>]) -> Result<(),
     Ok(())
 }
 
-/// Adds the boxes of the rings of a feature.
-fn add_feature(map: &Map<'_, TreeIndex>, boxes: &mut RingBoxes, n: u32) -> Result<(), AllocError>
+/// Adds the boxes of the rings of feature `n`; none where no feature has the number. So boxes that
+/// cover the other features of a map cover this one too, after an edit that made other rings of it.
+/// Reads its rings alone. Fails for want of memory alone; each ring that lay in a box then still
+/// does.
+pub fn add_boxes<'a, I: SegIndex, A: Allocator + Copy>(
+    map: &Map<'a, I, A>,
+    boxes: &mut RingBoxes<A>,
+    n: u32,
+) -> Result<(), AllocError>
     ensures covered { OnOk result (CoversFeature boxes.new map.now.doc n) }
     ensures keeps { Keeps boxes.old boxes.new }
 {
@@ -49,14 +62,18 @@ fn add_feature(map: &Map<'_, TreeIndex>, boxes: &mut RingBoxes, n: u32) -> Resul
     add_polygons(boxes, polygons.as_slice())
 }
 
-/// The boxes of the rings of a map.
-pub(crate) fn boxes_of(alloc: Global, map: &Map<'_, TreeIndex>) -> Result<RingBoxes, AllocError>
+/// The boxes of all rings of a map, as `at_near` needs them. Walks it. Fails for want of memory
+/// alone.
+pub fn boxes_of<'a, I: SegIndex, A: Allocator + Copy>(
+    alloc: A,
+    map: &Map<'a, I, A>,
+) -> Result<RingBoxes<A>, AllocError>
     ensures { IfOk result (λ boxes. Covers boxes (rings map.now.doc)) }
 {
     let _ = map.frame(); // it tells that no two features have one number
     let mut boxes = RingBoxes::new(alloc, None);
     for n in 0..map.next_number() {
-        add_feature(map, &mut boxes, n)?;
+        add_boxes(map, &mut boxes, n)?;
     }
     Ok(boxes)
 }

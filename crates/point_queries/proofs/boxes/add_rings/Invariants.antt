@@ -1,7 +1,7 @@
 use Rattle.std.proofs.Common.{take}
 use Rattle.ring_parts.specs.Seen.{rings_seen}
 use Rattle.ring_boxes.specs.Covering.{Covers, Keeps}
-use Rattle.undo_ring.proofs.near.add_rings.Given as goal
+use Rattle.point_queries.proofs.boxes.add_rings.Given as goal
 
 -- the rings so far lie in the boxes, as do all that did before
 abbrev pub invariant-loop-ring : goal.invariant-loop-ring

@@ -1,18 +1,19 @@
 use Rattle.std.proofs.Common.{◌≡◌, ◌≤◌, true, subst, sym, arith, length}
 use Rattle.ring_machine.specs.Ring.{is_distinct}
+use Rattle.ring_machine.proofs.StaysProper.{ring_long, ring_distinct}
 use Rattle.ring_boxes.specs.Covering.{IsCovered}
-use Rattle.undo_ring.proofs.NearLemmas.{ring_at, long_and_distinct, next_ring, all_rings}
-use Rattle.undo_ring.proofs.near.add_rings.Goals as goal
+use Rattle.point_queries.proofs.RingsCovered.{ring_at, next_ring, all_rings}
+use Rattle.point_queries.proofs.boxes.add_rings.Goals as goal
 
 pub add-requires-clause-some : goal.add-requires-clause-some
 add-requires-clause-some g c =
     let is = ring_at c.args.polygon.now c.loop-ring.ring-index c.ring-item.result c.loop-ring-test.true c.ring-item.is c.requires in
-    subst (λ z. 2 ≤ length z) (sym c.as_slice.ensures.value) (long_and_distinct c.ring-item.result.items is).0
+    subst (λ z. 2 ≤ length z) (sym c.as_slice.ensures.value) (omega (arith, ring_long c.ring-item.result.items is))
 
 pub add-requires-clause-distinct : goal.add-requires-clause-distinct
 add-requires-clause-distinct g c =
     let is = ring_at c.args.polygon.now c.loop-ring.ring-index c.ring-item.result c.loop-ring-test.true c.ring-item.is c.requires in
-    subst (λ z. is_distinct z ≡ true) (sym c.as_slice.ensures.value) (long_and_distinct c.ring-item.result.items is).1
+    subst (λ z. is_distinct z ≡ true) (sym c.as_slice.ensures.value) (ring_distinct c.ring-item.result.items is)
 
 pub loop-ring-preserved : goal.loop-ring-preserved
 loop-ring-preserved g c = record {

@@ -1,11 +1,11 @@
 use Rattle.std.proofs.Common.{arith}
-use Rattle.undo_ring.proofs.NearLemmas.{next_number, all_covered}
-use Rattle.undo_ring.proofs.near.boxes_of.Goals as goal
+use Rattle.point_queries.proofs.RingsCovered.{next_number, all_covered}
+use Rattle.point_queries.proofs.boxes.boxes_of.Goals as goal
 
 pub loop-n-preserved : goal.loop-n-preserved
 loop-n-preserved g c =
-    next_number c.args.map.now.doc c.loop-n.n c.loop-n.boxes c.add_feature.new.boxes c.add_feature.ensures.keeps
-    c.in_ok-add_feature.ensures.covered c.loop-n.invariant
+    next_number c.args.map.now.doc c.loop-n.n c.loop-n.boxes c.add_boxes.new.boxes c.add_boxes.ensures.keeps
+    c.in_ok-add_boxes.ensures.covered c.loop-n.invariant
 
 pub returns : goal.returns
 returns g c =
