@@ -38,7 +38,8 @@ pub ring_at : {A : Type 0} (polygon : List (Vec Position A)) (i : ℕ) (ring : V
     → is_ring ring.items ≡ true
 ring_at {A} polygon i ring lt here all =
     let among = contains_in polygon ring (i, lt, sym here) in
-    in_recursion (λ ring. IsTrue (is_ring ring)) (rings_seen polygon) ring.items all (in-map (λ (ring : Vec Position A). ring.items) ring polygon among)
+    in_recursion (λ ring. IsTrue (is_ring ring)) (rings_seen polygon) ring.items all
+    (in-map (λ (ring : Vec Position A). ring.items) ring polygon among)
 
 -- the rings of an item of some polygons are rings
 pub rings_at : {A : Type 0} (polygons : List (Vec (Vec Position A) A)) (i : ℕ) (polygon : Vec (Vec Position A) A)
@@ -86,9 +87,11 @@ next_polygon {A} polygons i polygon old new lt here keeps h below r j =
     let more = map_more (λ (polygon : Vec (Vec Position A) A). rings_seen polygon.items) polygons i polygon lt in
     let e : polygons_seen (take (i + 1) polygons) ≡ polygons_seen (take i polygons) ++ rings_seen polygon.items ∷ [] =
     more ∙ ap (λ (z : Vec (Vec Position A) A). polygons_seen (take i polygons) ++ rings_seen z.items ∷ []) (sym here) in
-    let k = in_flat (λ polygon. polygon) r (polygons_seen (take (i + 1) polygons)) (contains_in (flat_map (λ polygon. polygon) (polygons_seen (take (i + 1) polygons))) r j) in
-    elim (in-append k.0 (polygons_seen (take i polygons)) (rings_seen polygon.items ∷ []) (subst (In k.0) e k.1)) [
-      | inl l ↦ keeps r (below r (in_contains (flat_map (λ polygon. polygon) (polygons_seen (take i polygons))) r (in-flat_map (λ polygon. polygon) k.0 r (polygons_seen (take i polygons)) l k.2)))
+    let front = polygons_seen (take i polygons) in
+    let longer = polygons_seen (take (i + 1) polygons) in
+    let k = in_flat (λ polygon. polygon) r longer (contains_in (flat_map (λ polygon. polygon) longer) r j) in
+    elim (in-append k.0 front (rings_seen polygon.items ∷ []) (subst (In k.0) e k.1)) [
+      | inl l ↦ keeps r (below r (in_contains (flat_map (λ polygon. polygon) front) r (in-flat_map (λ polygon. polygon) k.0 r front l k.2)))
       | inr l ↦ by k.0 l k.2
     ]
   where
@@ -121,7 +124,8 @@ pub feature_rings : (d : Document) (n : ℕ) (polygons : List (List (List Positi
     → polygons ≡ (feature_at d n).polygons → AreRings (flat_map (λ polygon. polygon) polygons)
 feature_rings d n polygons proper e =
     subst (λ z. AreRings (flat_map (λ polygon. polygon) z)) (sym e)
-    (all_of (λ ring. IsTrue (is_ring ring)) (rings_of (feature_at d n)) (λ ring i. all_true is_ring (rings d) ring proper.are_rings (rings_there d n ring i)))
+    (all_of (λ ring. IsTrue (is_ring ring)) (rings_of (feature_at d n))
+    (λ ring i. all_true is_ring (rings d) ring proper.are_rings (rings_there d n ring i)))
 
 -- the polygons of the number are those of each feature with it
 pub feature_covered : (d : Document) (n : ℕ) (polygons : List (List (List Position))) (boxes : SegmentSet) → WellFormed d

@@ -20,4 +20,5 @@ loop-polygon-preserved g c = record {
 
 pub returns-clause-covered : goal.returns-clause-covered
 returns-clause-covered g c =
-    all_polygons c.args.polygons.now c.loop-polygon.polygon-index c.loop-polygon.boxes (omega (arith, c.loop-polygon-test.false)) c.loop-polygon.invariant.covered
+    all_polygons c.args.polygons.now c.loop-polygon.polygon-index c.loop-polygon.boxes
+    (omega (arith, c.loop-polygon-test.false)) c.loop-polygon.invariant.covered

@@ -25,4 +25,5 @@ loop-ring-preserved g c = record {
 
 pub returns-clause-covered : goal.returns-clause-covered
 returns-clause-covered g c =
-    all_rings c.args.polygon.now c.loop-ring.ring-index c.loop-ring.boxes (omega (arith, c.loop-ring-test.false)) c.loop-ring.invariant.covered
+    all_rings c.args.polygon.now c.loop-ring.ring-index c.loop-ring.boxes
+    (omega (arith, c.loop-ring-test.false)) c.loop-ring.invariant.covered

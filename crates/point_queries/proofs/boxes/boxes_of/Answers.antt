@@ -9,5 +9,6 @@ loop-n-preserved g c =
 
 pub returns : goal.returns
 returns g c =
-    all_covered c.args.map.now.doc c.args.map.now.next c.loop-n.n c.loop-n.boxes c.frame.ensures.formed (omega (arith, c.loop-n-test.false, c.next_number-n-end.ensures.next))
+    all_covered c.args.map.now.doc c.args.map.now.next c.loop-n.n c.loop-n.boxes c.frame.ensures.formed
+    (omega (arith, c.loop-n-test.false, c.next_number-n-end.ensures.next))
     c.next_number-n-end.ensures.below c.loop-n.invariant
