@@ -1,0 +1,5 @@
+pub mod Fits
+pub mod Finding
+pub mod Changing
+pub mod NewTexts
+mod Examples

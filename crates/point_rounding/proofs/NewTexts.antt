@@ -1,0 +1,31 @@
+-- New texts, put in one after another.
+use Rattle.std.proofs.Common.{◌≡◌, ℕ, ◌+◌, ◌<◌, ◌≤◌, List, ◌++◌, length, map, drop, get_or, refl, append_assoc}
+use Rattle.std.specs.Fmt.{signed_decimal}
+use Rattle.std.proofs.lemmas.List.{drop_all}
+use Rattle.json_spans.specs.Left.{node}
+use Rattle.point_rounding.specs.declared.rounding.Change.{Change}
+use Rattle.point_rounding.specs.Changes.{change}
+use Rattle.point_rounding.specs.Rounded.{between, end_of, spliced}
+use Rattle.point_rounding.proofs.Changing.{here}
+
+pub spliced_turn : (bytes : List ℕ) (from to : ℕ) (changes : List Change) (i : ℕ) (a : Change) (text front one two whole : List ℕ)
+    → i < length changes → a ≡ get_or changes i a → front ≡ between from a.span.at bytes → one ≡ text ++ front
+    → two ≡ one ++ signed_decimal a.number → to ≡ end_of (node a.span)
+    → text ++ spliced bytes from (map change (drop i changes)) ≡ whole → two ++ spliced bytes to (map change (drop (i + 1) changes)) ≡ whole
+unfolding spliced
+spliced_turn bytes from to changes i a text front one two whole lt is f o w t h =
+    let rest = spliced bytes (end_of (node a.span)) (map change (drop (i + 1) changes)) in
+    rw (
+      t,
+      w,
+      o,
+      f,
+      append_assoc (text ++ between from a.span.at bytes) (signed_decimal a.number) rest,
+      append_assoc text (between from a.span.at bytes) (signed_decimal a.number ++ rest),
+    )
+    (rw (here changes i a lt is) at h)
+
+pub spliced_end : (bytes : List ℕ) (from : ℕ) (changes : List Change) (i : ℕ) → length changes ≤ i
+    → spliced bytes from (map change (drop i changes)) ≡ drop from bytes
+unfolding spliced
+spliced_end bytes from changes i le = rw (drop_all i changes le) refl

@@ -1,0 +1,19 @@
+use Rattle.std.proofs.Common.{ap, ◌∙◌}
+use Rattle.json_spans.specs.Left.{node}
+use Rattle.json_spans.specs.Walk.{items_left}
+use Rattle.point_rounding.proofs.Finding.{none_at_end, of_none, of_items}
+use Rattle.point_rounding.proofs.points.+coordinates_in.Goals as goal
+
+pub returns-then-depth-eq0 : goal.returns-then-depth-eq0
+returns-then-depth-eq0 g t c = none_at_end c.args.depth _ _ c.if-depth-eq0.true
+
+pub returns-in-None : goal.returns-in-None
+returns-in-None g t c =
+    of_none c.args.depth (node c.args.span) _ _ c.if-depth-eq0.false c.in_ok-push_coordinates.ensures
+    (rw c.in-None.is at c.in_ok-list.ensures)
+
+pub loop-part-init : goal.loop-part-init
+loop-part-init g t c =
+    of_items c.args.depth (node c.args.span) (node c.in-Some.list) _ _ _ c.if-depth-eq0.false c.in_ok-push_coordinates.ensures
+    (rw c.in-Some.is at c.in_ok-list.ensures)
+    (ap items_left c.into_iter-part-iterator.ensures.into_iter_gives ∙ c.items-part-items.ensures.value)

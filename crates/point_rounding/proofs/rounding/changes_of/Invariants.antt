@@ -1,0 +1,11 @@
+use Rattle.std.proofs.Common.{◌≡◌, map, drop}
+use Rattle.json_spans.specs.Left.{node}
+use Rattle.point_rounding.specs.Changes.{change}
+use Rattle.point_rounding.specs.Rounded.{each, new_text}
+use Rattle.point_rounding.proofs.Changing.{with_front}
+use Rattle.point_rounding.proofs.rounding.changes_of.Given as goal
+
+abbrev pub invariant-loop-part : goal.invariant-loop-part
+invariant-loop-part g l =
+    with_front (map change l.changes.items) (each (new_text l.grid.digits l.grid.finer) (map node (drop l.part-index l.parts)))
+    ≡ each (new_text l.fn.grid.digits l.fn.grid.finer) (map node l.fn.parts)

@@ -1,0 +1,8 @@
+use Rattle.std.proofs.Common.{◌≡◌, ◌++◌, map, drop}
+use Rattle.point_rounding.specs.Changes.{change}
+use Rattle.point_rounding.specs.Rounded.{spliced}
+use Rattle.point_rounding.proofs.splicing.spliced.Given as goal
+
+abbrev pub invariant-loop-change : goal.invariant-loop-change
+invariant-loop-change g l =
+    l.text.items ++ spliced l.bytes l.from (map change (drop l.change-index l.changes)) ≡ spliced l.fn.bytes 0 (map change l.fn.changes)
