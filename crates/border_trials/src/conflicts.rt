@@ -202,9 +202,10 @@ fn filled<R: Abort, I: SegIndex>(rt: &R, alloc: Global, mut index: I, segments: 
     ensures { AreApart (I.held result) }
 {
     let mut first = None;
+    let mut near = Vec::new(alloc);
     let mut tests = TestCount::new();
     for s in segments {
-        fill(alloc, &mut index, *s, &mut first, &mut tests).expect(rt, MEMORY);
+        fill(&mut index, *s, &mut first, &mut near, &mut tests).expect(rt, MEMORY);
     }
     assert!(rt; first.is_none());
     index
@@ -336,7 +337,8 @@ fn see_pair<R: Abort, I: SegIndex, A: Allocator + Copy>(
     first: &mut Option<(Seg, Seg)>,
     tests: &mut TestCount,
 ) -> Result<(), AllocError> {
-    fill(heap, index, seg(rt, *side), first, tests)?;
+    let mut near = Vec::new(heap);
+    fill(index, seg(rt, *side), first, &mut near, tests)?;
     assert!(rt; *first == pair(rt, *expected));
     Ok(())
 }

@@ -52,6 +52,26 @@ near_is held times leaving s old new near empty g kept = record {
     near_has : (t : Segment) → has near t ≡ (has g.found t && not (leaves leaving t))
     near_has t = ap (λ z. has z t) near_found ∙ has-filter (λ u. not (leaves leaving u)) g.found t
 
+-- where nothing leaves, all that is held stays
+pub stays_all : (held : SegmentSet) (t : Segment) → stays held Nothing t ≡ set.contains held t
+stays_all held t = alone (set.contains held t)
+  where
+    alone : (b : Bool) → (b && true) ≡ b
+    alone true = refl
+    alone false = refl
+
+-- all candidates, where nothing leaves
+pub near_all : (held : SegmentSet) (times : Segment → Box → ℕ) (s : Segment) (old near : List Segment) → old ≡ [] → Gives held times (box_of s) old near true
+    → IsNear held times Nothing s near
+near_all held times s old near empty g = record {
+  among = λ t h. stays_all held t ∙ g.among t (sym (ap (λ z. has z t) is_found) ∙ h);
+  few = λ t. omega (arith, ap (λ z. times_in z t) is_found, g.few t);
+  covers = λ t h m. ap (λ z. has z t) is_found ∙ g.covers refl t (sym (stays_all held t) ∙ h) m;
+}
+  where
+    is_found : near ≡ g.found
+    is_found = g.appended ∙ ap (λ z. z ++ g.found) empty
+
 -- ---- how many
 
 -- those that are one segment, and the others
@@ -102,14 +122,6 @@ near_many held times leaving s near ts n staying =
 -- all that stays is there after the edit
 pub after_has : (held : SegmentSet) (leaving : Leaving) (added ss : List Segment) → IsAfter held leaving added ss → (t : Segment) → stays held leaving t ≡ true → has ss t ≡ true
 after_has held leaving added ss e t h = e t ∙ ap (λ b. b || has added t) h
-
--- where nothing leaves, all that is held stays
-pub stays_all : (held : SegmentSet) (t : Segment) → stays held Nothing t ≡ set.contains held t
-stays_all held t = alone (set.contains held t)
-  where
-    alone : (b : Bool) → (b && true) ≡ b
-    alone true = refl
-    alone false = refl
 
 -- what stays is held
 pub held_has : (held : SegmentSet) (leaving : Leaving) (ss : List Segment) → IsHeld held ss → (t : Segment) → stays held leaving t ≡ true → has ss t ≡ true

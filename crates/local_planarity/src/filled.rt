@@ -5,21 +5,20 @@ ghost use Rattle.local_planarity.specs.Edits.{IsFilled, IsHeld};
 ghost use Rattle.local_planarity.specs.Tests.{most_given};
 
 use crate::count::TestCount;
-use crate::leaving::Leaving;
-use crate::near::staying_near;
 use crate::pairs::first_against;
 use grid_geometry::Seg;
 use segment_index::SegIndex;
 use std::alloc::{AllocError, Allocator};
 
 /// Puts a segment into the index, unless it is there, and makes `first` the least pair in conflict:
-/// for opening a map, segment by segment. The index is asked once. Fails only for want of memory;
-/// the count may then have grown.
-pub fn fill<I: SegIndex, A: Allocator + Copy>(
-    alloc: A,
+/// for opening a map, segment by segment. The index is asked once, and `near` has its answer
+/// afterwards: one list serves for all segments. Fails only for want of memory; the count may then
+/// have grown.
+pub fn fill<I: SegIndex, A: Allocator>(
     index: &mut I,
     s: Seg,
     first: &mut Option<(Seg, Seg)>,
+    near: &mut Vec<Seg, A>,
     tests: &mut TestCount,
 ) -> Result<(), AllocError>
     ensures filled { OnOk result ((ss : List Segment) → IsFilled (I.held index.old) first.old ss
@@ -28,7 +27,8 @@ pub fn fill<I: SegIndex, A: Allocator + Copy>(
         → tests.new ≤ tests.old + most_given (times_by (I.cells index.old)) ss s }
     ensures cells { I.cells index.new ≡ I.cells index.old }
 {
-    let near = staying_near(alloc, index, &Leaving::Nothing, s)?;
+    near.clear();
+    index.candidates(s.rect(), near)?;
     if near.as_slice().contains(&s) {
         return Ok(());
     }

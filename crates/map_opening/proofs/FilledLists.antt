@@ -1,16 +1,19 @@
 -- The segments of a ring in an index, edge by edge.
-use Rattle.std.proofs.Common.{◌≡◌, ℕ, sym, ap, ◌∙◌, subst, arith}
+use Rattle.std.proofs.Common.{◌≡◌, ℕ, true, sym, ap, ◌∙◌, subst, ◌||◌, arith}
+use Rattle.std.specs.FinSet as set
 use Rattle.std.proofs.Common.{List, [], ◌∷◌, ◌++◌, map, length, take, get_or, ◌<◌, ◌≤◌, ◌+◌, Option}
 use Rattle.std.proofs.Common.{append-nil, append_assoc}
 use Rattle.std.proofs.lemmas.List.{take_all}
+use Rattle.std.proofs.lemmas.List.Folds.{list_any-append}
 use Rattle.std.proofs.lemmas.Simd.{map-map}
 use Rattle.grid_geometry.specs.Segment.{Segment, segment}
 use Rattle.ring_machine.specs.Ring.{segments, segment_of}
 use Rattle.vertex_index.specs.Placement.{Placement, place}
-use Rattle.segment_index.specs.Candidates.{SegmentSet}
+use Rattle.segment_index.specs.Candidates.{SegmentSet, has, segment_is}
 use Rattle.arc_tables.specs.Ways.{Edge}
 use Rattle.arc_tables.specs.Rings.{edges}
 use Rattle.local_planarity.specs.Edits.{IsFilled}
+use Rattle.local_planarity.proofs.Filling.{filled_same}
 use Rattle.ring_store.specs.Round.{IsRound}
 use Rattle.ring_store.specs.Steps.{sides}
 use Rattle.ring_store.proofs.Edges.{length-edges, laid_edges}
@@ -22,6 +25,13 @@ pub sides_round : (places : Placement) (ks : List ℕ) → IsRound places ks
     → sides places (edges ks) ≡ segments (map (place places) ks)
 sides_round places ks r =
     sym (map-map segment_of (laid (place places)) (edges ks)) ∙ ap (map segment_of) (sym (laid_edges places ks r))
+
+-- a segment that was held is held still
+pub still_held : (held held' : SegmentSet) (first first' : Option (Segment × Segment)) (ss more : List Segment)
+    → IsFilled held first ss → IsFilled held' first' (ss ++ more) → (t : Segment) → set.contains held t ≡ true
+    → set.contains held' t ≡ true
+still_held held held' first first' ss more f f' t h =
+    sym (f'.are_held t) ∙ list_any-append (segment_is t) ss more ∙ ap (λ b. b || has more t) (f.are_held t ∙ h)
 
 module _ (places : Placement) (ks : List ℕ) (r : IsRound places ks) (at : ℕ) (held : SegmentSet)
     (first : Option (Segment × Segment)) (ss : List Segment) where
@@ -38,6 +48,15 @@ module _ (places : Placement) (ks : List ℕ) (r : IsRound places ks) (at : ℕ)
       subst (IsFilled held first)
       (append_assoc ss (sides places (take at (edges ks))) (segment (place places e.0) (place places e.1) ∷ [])
       ∙ ap (λ z. ss ++ z) (sym (map_more (λ (x : Edge). segment (place places x.0) (place places x.1)) (edges ks) at e within here))) f
+
+  -- one more, whose segment is held
+  pub sides_there : at < length ks → (e : Edge) → e ≡ get_or (edges ks) at e
+      → set.contains held (segment (place places e.0) (place places e.1)) ≡ true
+      → IsFilled held first (ss ++ sides places (take at (edges ks)))
+      → IsFilled held first (ss ++ sides places (take (at + 1) (edges ks)))
+  sides_there l e here there f =
+      sides_more l e here
+      (filled_same held first (segment (place places e.0) (place places e.1)) (ss ++ sides places (take at (edges ks))) there f)
 
   -- all edges
   pub sides_all : length ks ≤ at → IsFilled held first (ss ++ sides places (take at (edges ks)))

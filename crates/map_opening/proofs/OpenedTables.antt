@@ -1,50 +1,30 @@
 -- Rings that are laid along the keys of what was read: their tables stand, and hold what was read.
-use Rattle.std.proofs.Common.{◌≡◌, ℕ, true, sym, ap, ◌∙◌, subst, List, [], map, Some, is_some, Option}
+use Rattle.std.proofs.Common.{◌≡◌, ℕ, true, sym, ap, ◌∙◌, subst, List, [], map, Some, Option}
 use Rattle.std.specs.Prelude.{Contains, unwrap_or}
 use Rattle.std.specs.FinMap as table
-use Rattle.std.specs.FinSet as set
 use Rattle.std.specs.List.{list_all}
 use Rattle.std.proofs.lemmas.Simd.{map-map}
 use Rattle.grid_geometry.specs.Position.{Position}
-use Rattle.grid_geometry.specs.Segment.{Segment, segment}
-use Rattle.ring_machine.specs.Ring.{is_ring, segments}
+use Rattle.ring_machine.specs.Ring.{is_ring}
 use Rattle.ring_machine.proofs.First.{In}
-use Rattle.ring_machine.proofs.Members.{contains_in, in_contains, in_mapped, in_flat, any_in, in_any}
-use Rattle.ring_machine.proofs.Neighbours.{in-map, in-flat_map}
+use Rattle.ring_machine.proofs.Members.{contains_in, in_contains, in_flat}
 use Rattle.vertex_index.specs.Placement.{Placement, AreDistinct, place}
-use Rattle.segment_index.specs.Candidates.{SegmentSet, segment_is}
-use Rattle.segment_index.proofs.Singles.{same_segment, is-itself}
+use Rattle.segment_index.specs.Candidates.{SegmentSet}
 use Rattle.arc_tables.specs.Ways.{Edge}
 use Rattle.arc_tables.specs.Rings.{Rings, begins, edges}
 use Rattle.local_planarity.specs.Edits.{IsHeld}
 use Rattle.ring_store.specs.Laid.{ring_at}
 use Rattle.ring_store.specs.Round.{GoesRound, IsRound}
-use Rattle.ring_store.specs.Standing.{IsSide, Stands}
-use Rattle.ring_store.specs.Steps.{sides}
+use Rattle.ring_store.specs.Standing.{Stands}
 use Rattle.ring_store.proofs.AddedRings.{same_map}
 use Rattle.ring_store.proofs.KeyRings.{begins_edges, goes_round}
 use Rattle.map_opening.specs.Keyed.{all_keys, IsKeyed}
 use Rattle.map_opening.specs.Laying.{IsLaid, segments_along}
-use Rattle.map_opening.proofs.FilledLists.{sides_round}
+use Rattle.map_opening.proofs.LaidSides.{along_laid, laid_along, held_side, side_held}
 use Rattle.map_opening.proofs.KeyedRings.{round_keyed}
 
 module _ (places : Placement) (rings : List (List Position)) (keyed : List (List ℕ)) (k : IsKeyed places rings keyed)
     (m : Rings) (numbers : List ℕ) (l : IsLaid m numbers keyed) where
-  -- along each list of keys goes a ring
-  along_laid : (ks : List ℕ) → In ks keyed → (r : ℕ) × (table.get m r ≡ Some (edges ks))
-  along_laid ks i =
-      let f = in_mapped (table.get m) (Some (edges ks)) numbers
-      (subst (In (Some (edges ks))) (sym l.along) (in-map (λ js. Some (edges js)) ks keyed i)) in
-      (f.0, f.2)
-
-  -- and each ring goes along one
-  laid_along : (r : ℕ) (es : List Edge) → table.get m r ≡ Some es → (ks : List ℕ) × In ks keyed × (es ≡ edges ks)
-  laid_along r es e =
-      let here = contains_in numbers r (l.only r (ap is_some e)) in
-      let f = in_mapped (λ ks. Some (edges ks)) (table.get m r) keyed
-      (subst (In (table.get m r)) l.along (in-map (table.get m) r numbers here)) in
-      (f.0, f.1, ap (λ z. unwrap_or z []) (sym e ∙ sym f.2))
-
   -- the positions of the ring with each number
   pub rings_at : map (ring_at places m) numbers ≡ rings
   rings_at =
@@ -57,45 +37,17 @@ module _ (places : Placement) (rings : List (List Position)) (keyed : List (List
     round_key : (ks : List ℕ) → In ks keyed → IsRound places ks
     round_key = round_keyed places rings keyed k are
 
-    held_side : (t : Segment) → set.contains held t ≡ true → IsSide places m t
-    held_side t i =
-        let u = any_in (segment_is t) (segments_along places keyed) (h t ∙ i) in
-        let f = in_flat (λ ks. segments (map (place places) ks)) u.0 keyed u.1 in
-        let e = in_mapped (λ (x : Edge). segment (place places x.0) (place places x.1)) u.0 (edges f.0)
-        (subst (In u.0) (sym (sides_round places f.0 (round_key f.0 f.1))) f.2) in
-        let r = along_laid f.0 f.1 in
-        record {
-          ring = r.0;
-          edges = edges f.0;
-          held = r.1;
-          edge = e.0;
-          among = in_contains (edges f.0) e.0 e.1;
-          is = same_segment t u.0 u.2 ∙ sym e.2;
-        }
-
-    side_held : (t : Segment) → IsSide places m t → set.contains held t ≡ true
-    side_held t s =
-        let f = laid_along s.ring s.edges s.held in
-        let e = contains_in (edges f.0) s.edge (subst (λ z. Contains z s.edge) f.2 s.among) in
-        let i : In t (segments (map (place places) f.0))
-        = subst (In t) (sides_round places f.0 (round_key f.0 f.1))
-        (subst (λ z. In z (sides places (edges f.0))) (sym s.is)
-        (in-map (λ (x : Edge). segment (place places x.0) (place places x.1)) s.edge (edges f.0) e)) in
-        sym (h t)
-        ∙ in_any (segment_is t) t (segments_along places keyed)
-        (in-flat_map (λ ks. segments (map (place places) ks)) f.0 t keyed f.1 i) (is-itself t)
-
     -- the tables belong together
     pub laid_stands : AreDistinct places → Stands places m held
     laid_stands distinct = record {
       round = λ r es e.
-          let f = laid_along r es e in subst GoesRound (sym f.2) (goes_round places f.0 (round_key f.0 f.1));
+          let f = laid_along places keyed m numbers l r es e in subst GoesRound (sym f.2) (goes_round places f.0 (round_key f.0 f.1));
       placed = λ x v.
-          let f = laid_along v.ring v.edges v.held in
+          let f = laid_along places keyed m numbers l v.ring v.edges v.held in
           (round_key f.0 f.1).placed x (subst (λ z. Contains z x) (ap begins f.2 ∙ begins_edges f.0) v.visited);
       passed = λ x c.
           let f = in_flat (λ ks. ks) x keyed (contains_in (all_keys keyed) x (k.passed x c)) in
-          let r = along_laid f.0 f.1 in
+          let r = along_laid places keyed m numbers l f.0 f.1 in
           record {
             ring = r.0;
             edges = edges f.0;
@@ -103,5 +55,5 @@ module _ (places : Placement) (rings : List (List Position)) (keyed : List (List
             visited = subst (λ z. Contains z x) (sym (begins_edges f.0)) (in_contains f.0 x f.2);
           };
       distinct = distinct;
-      indexed = λ t. (held_side t, side_held t);
+      indexed = λ t. (held_side places keyed m numbers l round_key held h t, side_held places keyed m numbers l round_key held h t);
     }

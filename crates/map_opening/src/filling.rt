@@ -5,33 +5,39 @@ ghost use Rattle.ring_machine.specs.Ring.{segments};
 ghost use Rattle.vertex_index.specs.Placement.{place};
 ghost use Rattle.ring_store.specs.Round.{IsRound};
 ghost use Rattle.local_planarity.specs.Edits.{IsFilled};
+ghost use Rattle.map_opening.specs.Laying.{HasSides};
 
 use grid_geometry::Seg;
 use local_planarity::{TestCount, fill};
-use ring_store::{edge_at, side};
+use ring_store::{RingTables, edge_at, side};
 use segment_index::SegIndex;
 use std::alloc::{AllocError, Allocator};
-use vertex_index::{VertexKey, Vertices};
+use vertex_index::VertexKey;
 
-/// Puts the segments of the ring along these keys into the index, unless they are there, and makes
-/// `first` the least pair in conflict.
+/// Puts the segments of the ring along these keys into the index, but for those that a ring has that
+/// is laid already, and makes `first` the least pair in conflict.
 pub(crate) fn fill_ring<I: SegIndex, A: Allocator + Copy>(
-    alloc: A,
-    vertices: &Vertices<A>,
-    index: &mut I,
+    tables: &mut RingTables<I, A>,
     first: &mut Option<(Seg, Seg)>,
     keys: &[VertexKey],
 ) -> Result<(), AllocError>
-    requires round { IsRound vertices.now keys.now }
-    ensures filled { OnOk result ((ss : List Segment) → IsFilled (I.held index.old) first.old ss
-        → IsFilled (I.held index.new) first.new
-        (ss ++ segments (map (place vertices.now) keys.now))) }
-    ensures cells { I.cells index.new ≡ I.cells index.old }
+    requires round { IsRound tables.old.vertices keys.now }
+    ensures filled { OnOk result ((ss : List Segment) → HasSides tables.old
+        → IsFilled tables.old.index.held first.old ss → IsFilled tables.new.index.held first.new
+        (ss ++ segments (map (place tables.old.vertices) keys.now))) }
+    ensures vertices { tables.new.vertices ≡ tables.old.vertices }
+    ensures borders { tables.new.borders ≡ tables.old.borders }
+    ensures cells { tables.new.index.cells ≡ tables.old.index.cells }
 {
+    let mut near = Vec::new(tables.alloc);
     let mut tests = TestCount::new();
+    let mut found = None;
     for at in 0..keys.len() {
         let (a, b) = edge_at(keys, at);
-        fill(alloc, index, side(vertices, a, b), first, &mut tests)?;
+        if tables.borders.uses_along(&mut found, a, b) == 0 {
+            let s = side(&tables.vertices, a, b);
+            fill(&mut tables.index, s, first, &mut near, &mut tests)?;
+        }
     }
     Ok(())
 }

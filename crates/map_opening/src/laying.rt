@@ -23,16 +23,8 @@ fn lay_ring<I: SegIndex, A: Allocator + Copy>(
     ensures vertices { opened.new.tables.vertices ≡ opened.old.tables.vertices }
     ensures cells { opened.new.tables.index.cells ≡ opened.old.tables.index.cells }
 {
-    let tables = &mut opened.tables;
-    let index = &mut tables.index;
-    fill_ring(
-        tables.alloc,
-        &tables.vertices,
-        index,
-        &mut opened.first,
-        keys,
-    )?;
-    let number = tables.borders.add_ring(keys)?;
+    fill_ring(&mut opened.tables, &mut opened.first, keys)?;
+    let number = opened.tables.borders.add_ring(keys)?;
     opened.numbers.push(number)?;
     opened.positions += keys.len();
     Ok(())
