@@ -25,3 +25,5 @@ pub mod WalksAndRings
 pub mod Leaves
 pub mod Widening
 pub mod Boxed
+pub mod PlainItems
+pub mod PlainArcs

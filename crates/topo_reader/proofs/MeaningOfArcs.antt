@@ -24,7 +24,7 @@ use Rattle.topo_reader.proofs.Steps.{bind_ok, ok_same, at_least, at_most, each_o
 
 -- ---- what is meant is read
 
-within : (z sum : ℤ) → sum ≡ z → unsigned_abs sum ≤ 1000000000000 → is_within z ≡ true
+pub within : (z sum : ℤ) → sum ≡ z → unsigned_abs sum ≤ 1000000000000 → is_within z ≡ true
 within z sum e h = at_least (unsigned_abs z) 1000000000000 (subst (λ (y : ℤ). unsigned_abs y ≤ 1000000000000) e h)
 
 -- a difference of two coordinates is small
@@ -78,14 +78,14 @@ parts delta before n ns ps h =
     let rest = bind_ok (positions delta (before_next delta first.0) ns) (λ (qs : List Position). Ok (first.0 ∷ qs)) ps first.2 in
     (first.0, rest.0, first.1, rest.1, ok_same (first.0 ∷ rest.0) ps rest.2)
 
-count : (delta : Bool) (before : Position) (ns : List Node) (ps : List Position) → positions delta before ns ≡ Ok ps → length ps ≡ length ns
+pub count : (delta : Bool) (before : Position) (ns : List Node) (ps : List Position) → positions delta before ns ≡ Ok ps → length ps ≡ length ns
 unfolding positions
 count delta before [] ps h = ap (λ (qs : List Position). length qs) (sym (ok_same [] ps h))
 count delta before (n ∷ ns) ps h =
     let two = parts delta before n ns ps h in
     ap (λ (qs : List Position). length qs) (sym two.4) ∙ ap suc (count delta (before_next delta two.0) ns two.1 two.3)
 
-two_or_more : (ns : List Node) → 2 ≤ length ns → has_two ns ≡ true
+pub two_or_more : (ns : List Node) → 2 ≤ length ns → has_two ns ≡ true
 two_or_more [] h = absurd (omega (arith, h))
 two_or_more (a ∷ []) h = absurd (omega (arith, h))
 two_or_more (a ∷ b ∷ ns) h = refl

@@ -9,3 +9,4 @@ pub mod Document
 pub mod DocumentView
 pub mod Extent
 pub mod Opening
+pub mod Plain

@@ -6,6 +6,7 @@ ghost use Rattle.topo_outline.specs.Gives.{Gives};
 ghost use Rattle.topo_reader.specs.Arcs.{origin};
 ghost use Rattle.topo_reader.specs.Positions.{coordinate, position, positions, is_within, two_of, pair_of, before_next, has_two, arc, arcs};
 
+use crate::plain_arc::plain_arc;
 use grid_geometry::Pos;
 use json_spans::{Kind, NotWhole, Span, at, items, kind, whole};
 use std::alloc::Allocator;
@@ -77,13 +78,13 @@ fn position<'a>(before: Pos, part: Span<'a>) -> Result<Pos, OpenFault<'a>>
     }
 }
 
-fn origin() -> Pos
+pub(crate) fn origin() -> Pos
     ensures { result ≡ origin }
 {
     Pos::new(0, 0).unwrap()
 }
 
-fn before_next(delta: bool, pos: Pos) -> Pos
+pub(crate) fn before_next(delta: bool, pos: Pos) -> Pos
     ensures { result ≡ before_next delta pos }
 {
     if delta { pos } else { origin() }
@@ -123,9 +124,9 @@ fn has_two(span: Span<'_>) -> bool
     }
 }
 
-/// The positions of one arc.
+/// The positions of one arc, however it is written.
 #[tactic(auto, unfolding(crate::specs::Positions::arc))]
-fn arc<'a, A: Allocator + Copy>(
+fn any_arc<'a, A: Allocator + Copy>(
     alloc: A,
     delta: bool,
     span: Span<'a>,
@@ -139,6 +140,20 @@ fn arc<'a, A: Allocator + Copy>(
         return Err(OpenFault::BadPosition { place: at(span) });
     }
     positions(alloc, delta, span)
+}
+
+/// The positions of one arc.
+fn arc<'a, A: Allocator + Copy>(
+    alloc: A,
+    delta: bool,
+    span: Span<'a>,
+) -> Result<Vec<Pos, A>, OpenFault<'a>>
+    ensures { Gives (λ v. v.items) result (arc delta (node span.entry)) }
+{
+    match plain_arc(alloc, delta, span)? {
+        Some(found) => Ok(found),
+        None => any_arc(alloc, delta, span),
+    }
 }
 
 /// The positions of all arcs. With `delta`, each but the first of an arc is read as the difference

@@ -6,6 +6,7 @@ mod document;
 mod extent;
 mod indexes;
 mod limits;
+mod plain_arc;
 mod reading;
 mod rings;
 
