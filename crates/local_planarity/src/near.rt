@@ -16,6 +16,9 @@ fn drop_leaving<A: Allocator>(segments: &mut Vec<Seg, A>, leaving: &Leaving)
     segments.retain(|t| !leaves(*leaving, *t));
 }
 
+/// For how many candidates there is room at first. Most boxes that are asked for meet fewer.
+pub(crate) const ROOM: usize = 16;
+
 /// The candidates for the box of a segment that do not leave.
 pub(crate) fn staying_near<I: SegIndex, A: Allocator + Copy>(
     alloc: A,
@@ -26,7 +29,7 @@ pub(crate) fn staying_near<I: SegIndex, A: Allocator + Copy>(
     ensures { IfOk result
         (λ v. IsNear (I.held index.now) (times_by (I.cells index.now)) leaving.now s v.items) }
 {
-    let mut near = Vec::new(alloc);
+    let mut near = Vec::with_capacity(alloc, ROOM)?;
     index.candidates(s.rect(), &mut near)?;
     drop_leaving(&mut near, leaving);
     Ok(near)

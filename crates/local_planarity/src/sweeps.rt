@@ -12,7 +12,7 @@ ghost use Rattle.local_planarity.specs.Tests.{most_given};
 
 use crate::count::TestCount;
 use crate::leaving::Leaving;
-use crate::near::staying_near;
+use crate::near::{ROOM, staying_near};
 use crate::pairs::conflicts_with;
 use crate::span::box_of_three;
 use grid_geometry::{Pos, Seg, held};
@@ -59,7 +59,7 @@ pub fn holds_other<I: SegIndex, A: Allocator + Copy>(
     ensures { IfOk result (λ found. (ps : List Position) → IsEnds (I.held index.now) ps
         → found ≡ list_any (λ w. not (machine.has these.now w) && is_held w a b c) ps) }
 {
-    let mut near = Vec::new(alloc);
+    let mut near = Vec::with_capacity(alloc, ROOM)?;
     index.candidates(box_of_three(a, b, c), &mut near)?;
     Ok(holds_end(near.as_slice(), these, a, b, c))
 }

@@ -8,7 +8,7 @@ pub returns : goal.returns
 returns g c =
     let held = g.I.SegIndex.held c.args.index.now in
     let times = times_by (g.I.SegIndex.cells c.args.index.now) in
-    near_is held times c.args.leaving.now c.args.s c.new-near.result.items c.candidates.new.out.items c.drop_leaving.new.segments.items
-    c.new-near.ensures.items
-    (subst (λ r. Gives held times r c.new-near.result.items c.candidates.new.out.items true) c.rect.ensures (c.in_ok-candidates.ensures))
+    near_is held times c.args.leaving.now c.args.s c.in_ok-near.near.items c.candidates.new.out.items c.drop_leaving.new.segments.items
+    c.in_ok-near.ensures.items
+    (subst (λ r. Gives held times r c.in_ok-near.near.items c.candidates.new.out.items true) c.rect.ensures (c.in_ok-candidates.ensures))
     c.drop_leaving.ensures
