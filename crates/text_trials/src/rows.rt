@@ -80,11 +80,43 @@ null => not whole at 48
 [[0,0],[1,0.5]] => not whole at 50
 [[0.5,0],5] => not whole at 42
 
+# one arc, written in several ways
+{"type":"Topology","objects":{},"arcs":[@]}
+[[0,0],[-7,1000]] => ok
+[[0,0], [-7,1000]] => ok
+[[0,0],[-7,1000] ] => ok
+[[0,0],[-7 ,1000]] => ok
+[[0,0],[-7.0,1000]] => ok
+[[-0,0],[-7,1000]] => ok
+[[0,0],[-7,1000],[1,1,1]] => bad position at 57
+[[0,0],[-7,1000], [1,1,1]] => bad position at 58
+[[0,0],[-7,1000],[1]] => bad position at 57
+[[0,0],[-7,1000],[]] => bad position at 57
+[[0,0],[-7,1000],1] => bad position at 57
+[[0,0],[-7,1000],[[1,1]]] => bad position at 57
+[[0,0],[-7,1000],"[1,1]"] => bad position at 57
+[[0,0],[-7,"1000"]] => not whole at 51
+[[0,0],[-7,1000000000000000000]] => out of range at 51
+[[0,0],[-7,9999999999999999999]] => out of range at 51
+[[1000000000000,0],[1000000000001,0]] => out of range at 60
+[] => bad position at 40
+[[]] => bad position at 40
+[1,2] => bad position at 41
+{"0":[0,0]} => bad position at 40
+[[0,0],[-7,1000],] => not json at 57
+[[0,0],[-7,1-]] => not json at 52
+[[0,0],[-7,01]] => not json at 52
+
 # with a transform a position is the sum of the pairs so far, and the sum is to be in range
 {"type":"Topology","transform":{"scale":[1,1],"translate":[0,0]},"objects":{},"arcs":[[[1000000000000,0],[@]]]}
 -1,0 => ok
 0,1 => ok
 1,0 => out of range at 106
+1.0,0 => out of range at 106
+0,1000000000001 => out of range at 108
+-1,0],[1,0 => ok
+-1,0],[2,0 => out of range at 113
+-1,0], [2,0 => out of range at 114
 
 # without one it is not
 {"type":"Topology","objects":{},"arcs":[@]}

@@ -14,6 +14,14 @@ const CASES: &str = r#"# a ring that opens, begun where its arcs are
 {"type":"Topology","objects":{"a":{"type":"Polygon","arcs":[[0]]}},"arcs":[[[0,0],[4,0],[2,2],[4,4],[0,4],[2,2],[0,0]]]} => ring repeats 0 0 0 at 2 2 => |0 0, 4 0, 2 2, 4 4, 0 4, 2 2
 # out and back on a spike
 {"type":"Topology","objects":{"a":{"type":"Polygon","arcs":[[0]]}},"arcs":[[[0,0],[4,0],[9,0],[4,0],[0,4],[0,0]]]} => ring repeats 0 0 0 at 4 0 => |0 0, 4 0, 9 0, 4 0, 0 4
+# differences
+{"type":"Topology","transform":{"scale":[1,1],"translate":[0,0]},"objects":{"a":{"type":"Polygon","arcs":[[0]]}},"arcs":[[[4,0],[0,14],[-4,-14],[4,0]]]} => |0 0, 4 0, 4 14 => |4 0, 4 14, 0 0
+# the same with a space
+{"type":"Topology","transform":{"scale":[1,1],"translate":[0,0]},"objects":{"a":{"type":"Polygon","arcs":[[0]]}},"arcs":[[[4,0],[0,14], [-4,-14],[4,0]]]} => |0 0, 4 0, 4 14 => |4 0, 4 14, 0 0
+# the same with a fraction of zeros
+{"type":"Topology","transform":{"scale":[1,1],"translate":[0,0]},"objects":{"a":{"type":"Polygon","arcs":[[0]]}},"arcs":[[[4,0],[0,14.00],[-4,-14],[4,0]]]} => |0 0, 4 0, 4 14 => |4 0, 4 14, 0 0
+# the same with -0
+{"type":"Topology","transform":{"scale":[1,1],"translate":[0,0]},"objects":{"a":{"type":"Polygon","arcs":[[0]]}},"arcs":[[[4,-0],[-0,14],[-4,-14],[4,-0]]]} => |0 0, 4 0, 4 14 => |4 0, 4 14, 0 0
 # two positions
 {"type":"Topology","objects":{"a":{"type":"Polygon","arcs":[[0,-1]]}},"arcs":[[[4,0],[0,0]]]} => ring short 0 0 0 => |4 0, 0 0
 # one position
