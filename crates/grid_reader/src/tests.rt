@@ -25,6 +25,7 @@ fn wants(asked: Asked) -> Wants {
         digits,
         finer,
         drop_heights,
+        points_lie: false,
     }
 }
 
