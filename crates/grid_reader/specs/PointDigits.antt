@@ -1,6 +1,5 @@
 -- How many decimals the grid keeps, where a topology has points that lie on another one.
 use Rattle.std.specs.Prelude.{ℕ, ◌==◌, if◌then◌else◌, true, is_some, List, Option, Some, None, Result, Ok, Err}
-use Rattle.json_spans.specs.Nodes.{Node}
 use Rattle.topo_outline.specs.Faults.{Fault}
 use Rattle.topo_outline.specs.Layers.{OutlineText}
 use Rattle.topo_outline.specs.Outline.{outline}

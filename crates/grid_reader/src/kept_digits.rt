@@ -20,9 +20,9 @@ use std::alloc::{AllocError, Allocator, Global};
 use topo_outline::{OpenFault, Outline, read_outline};
 
 /// Nothing where something was not read, unless for want of memory.
-fn none_after(fault: OpenFault<'_>) -> Result<Option<usize>, AllocError>
+fn none_after(fault: &OpenFault<'_>) -> Result<Option<usize>, AllocError>
     ensures none { IfOk result (λ d. d ≡ None) }
-    ensures fault { OnOk result (fault.entry ≢ OpenFault.OutOfMemory) }
+    ensures fault { OnOk result (fault.now ≢ OpenFault.OutOfMemory) }
 {
     match fault {
         OpenFault::OutOfMemory => Err(AllocError),
@@ -53,8 +53,11 @@ fn digits_kept<A: Allocator + Copy>(
     let mut lying = wants;
     lying.points_lie = true;
     match opened_on(alloc, heap, lying, outline, fine) {
-        Ok(_) => Ok(Some(digits)),
-        Err(fault) => none_after(fault),
+        Ok(read) => {
+            drop(read);
+            Ok(Some(digits))
+        }
+        Err(fault) => none_after(&fault),
     }
 }
 
@@ -74,7 +77,7 @@ fn digits_at<A: Allocator + Copy>(
     }
     match fine_arcs(alloc, wants, outline.transform.is_some(), outline.arcs) {
         Ok(fine) => digits_kept(alloc, heap, wants, outline, fine.as_slice()),
-        Err(fault) => none_after(fault),
+        Err(fault) => none_after(&fault),
     }
 }
 
@@ -90,7 +93,7 @@ fn digits_in<A: Allocator + Copy>(
 {
     match read_outline(alloc, heap, root) {
         Ok(outline) => digits_at(alloc, heap, wants, outline),
-        Err(fault) => none_after(fault),
+        Err(fault) => none_after(&fault),
     }
 }
 
