@@ -3,9 +3,9 @@
 
 Each map is a real or a drawn one whose positions were divided by powers of ten and moved by small fractions, written
 as decimals in many ways, with and without third numbers, with lines and with points. Its grid is worked out here by
-exact fractions, from docs/MENDING.md alone, and the map is written once more with whole numbers on that grid, its points
-too. Both are mended: the saved bytes must be the same, their points as they were worked out, and so the reports but for
-what they tell of the grid. A line at the end counts maps and faults.
+exact fractions, from docs/MENDING.md alone, and the map is written once more with whole numbers on that grid, also of
+its points. Both are mended: the saved bytes must be the same, their points as they were worked out, and so the reports
+but for what they tell of the grid. A line at the end counts maps and faults.
 """
 import argparse
 import decimal
@@ -76,7 +76,8 @@ class Blurred:
         kind, parts = self.draw.random(), 10 ** self.draw.choice([0, 1, 2, 5, 9, 24, 26])
         if kind < 0.04:
             return fractions.Fraction(self.draw.choice([-1, 1]) * (REACH * 10 + self.draw.randint(-9, 9)), 10 * parts)
-        return fractions.Fraction(self.draw.randint(-60, 60) if kind < 0.6 else self.draw.randint(-10**9, 10**9), 2 * parts)
+        reach = 60 if kind < 0.6 else 10**9
+        return fractions.Fraction(self.draw.randint(-reach, reach), 2 * parts)
 
     def objects(self, has_lines):
         """The layers, with drawn points, and drawn lines or what is left of these, before all others."""
@@ -270,7 +271,8 @@ def fault_of(mender, blurred, digits, finer):
         return (None if is_told else f"{said!r} of a map out of range"), "out of range"
     point_fault = grid.point_fault(text)
     if point_fault:
-        return (None if (status, said) == (2, point_fault) else f"{said!r} in place of {point_fault!r}"), "points refused"
+        is_told = (status, said, saved) == (2, point_fault, None)
+        return (None if is_told else f"{said!r} in place of {point_fault!r}"), "points refused"
     whole = grid.written(blurred)
     plain = mender.ran(whole, [])
     if plain[0] != status or plain[3] != saved or plain[2] != said:
