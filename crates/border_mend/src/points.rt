@@ -1,8 +1,8 @@
 //! The points of a map, put on the grid that is asked for.
-ghost use Rattle.std.specs.Prelude.{◌≡◌, ◌≤◌, ◌<◌, length, true, IfOk, Ok};
+ghost use Rattle.std.specs.Prelude.{◌≡◌, ◌≤◌, ◌<◌, length, IfOk, Ok};
 ghost use Rattle.json_spans.specs.Grammar.{Json};
 ghost use Rattle.point_rounding.specs.Gives.{Gives};
-ghost use Rattle.border_mend.specs.Points.{on_grid, unread};
+ghost use Rattle.border_mend.specs.Points.{on_grid, AsksOfLying, unread};
 
 use grid_reader::point_digits;
 use mend_report::{Asked, LookFault};
@@ -24,8 +24,7 @@ pub(crate) fn with_points_on_grid(
         Gives (λ pair. pair.0.items) result (Ok text.items) }
     ensures too_long { 67108864 < length text.items →
         Gives (λ pair. pair.0.items) result (Ok text.items) }
-    ensures asked { IfOk result (λ pair.
-        pair.1 ≡ record asked { grid = record asked.grid { points_lie = true } }) }
+    ensures asked { IfOk result (λ pair. AsksOfLying asked pair.1) }
 {
     let mut asked = asked;
     let digits = point_digits(alloc, alloc, text.as_slice(), asked.grid)?;
