@@ -2,10 +2,10 @@
 """Checks what the built border_mend makes of coordinates with decimals, beside the same map on whole numbers.
 
 Each map is a real or a drawn one whose positions were divided by powers of ten and moved by small fractions, written
-as decimals in many ways, with and without third numbers, and with lines. Its grid is worked out here by exact
-fractions, from docs/MENDING.md alone, and the map is written once more with whole numbers on that grid. Both are
-mended: the saved bytes must be the same, and so the reports but for what they tell of the grid. A line at the end
-counts maps and faults.
+as decimals in many ways, with and without third numbers, with lines and with points. Its grid is worked out here by
+exact fractions, from docs/MENDING.md alone, and the map is written once more with whole numbers on that grid, also of
+its points. Both are mended: the saved bytes must be the same, their points as they were worked out, and so the reports
+but for what they tell of the grid. A line at the end counts maps and faults.
 """
 import argparse
 import decimal
@@ -20,7 +20,7 @@ import sys
 import tempfile
 
 import loose_maps
-from topology import differences, entries, read, sums
+from topology import after_space, differences, entries, read, sums, values
 
 TOP = pathlib.Path(__file__).resolve().parent.parent
 REACH = 10**12
@@ -42,6 +42,7 @@ class Blurred:
         self.made, self.heights, self.is_whole = {}, draw.random() < 0.3, True
         self.further = draw.random() < 0.5 and self.heights
         self.lines = draw.choice([0, 0, 1, 2])
+        self.points = [self.point() for _ in range(draw.choice([0, 0, 1, 2]))]
         step = draw.choice([1, 1, 10, 1000])
         arcs = [[self.position(p, step) for p in arc] for arc in read(text).arcs]
         self.pairs = [differences(arc) if self.transform else arc for arc in arcs]
@@ -55,14 +56,38 @@ class Blurred:
         part = self.draw.choice([0, 0, 5, self.draw.randrange(10**self.places)]) if self.places else 0
         return fractions.Fraction(c, step) + fractions.Fraction(part, 10**self.places * 10)
 
+    def point(self):
+        """A Point or a MultiPoint, perhaps in a collection."""
+        positions = [self.place() for _ in range(self.draw.choice([1, 1, 2, 3]))]
+        text = f'{{ "coordinates":[{",".join(positions)}],"type":"MultiPoint"}}'
+        if len(positions) == 1 and self.draw.random() < 0.8:
+            text = f'{{"type" : "\\u0050oint","properties":{{"type":"Point"}},"coordinates":{positions[0]}}}'
+        return text if self.draw.random() < 0.7 else f'{{"geometries":[{text}],"type":"GeometryCollection"}}'
+
+    def place(self):
+        """A position of a point, perhaps with a height, and seldom with what is no number."""
+        numbers = [self.way(self.far_or_near()) for _ in range(2)]
+        if self.draw.random() < 0.01:
+            numbers[self.draw.randrange(2)] = self.draw.choice(["null", '"1"', "[1]"])
+        return "[" + ", ".join(numbers + ["7.50"] * (self.draw.random() < 0.2)) + "]"
+
+    def far_or_near(self):
+        """A coordinate of a point: often a half of the last decimal that is kept, and seldom near the greatest."""
+        kind, parts = self.draw.random(), 10 ** self.draw.choice([0, 1, 2, 5, 9, 24, 26])
+        if kind < 0.04:
+            return fractions.Fraction(self.draw.choice([-1, 1]) * (REACH * 10 + self.draw.randint(-9, 9)), 10 * parts)
+        reach = 60 if kind < 0.6 else 10**9
+        return fractions.Fraction(self.draw.randint(-reach, reach), 2 * parts)
+
     def objects(self, has_lines):
-        """The layers, with drawn lines before all others, or with what is left of these."""
+        """The layers, with drawn points, and drawn lines or what is left of these, before all others."""
         left = '{"type" : null, "id":7,"properties":{"type":"LineString","arcs":[0]} }'
         line = '{"type" : "LineString", "id":7,"arcs" : [0],"properties":{"type":"LineString","arcs":[0]} }'
         several = '{"type":"GeometryCollection","geometries":[{ "arcs":[[0],[-1]],"\\u0074ype":"MultiLineString"}]}'
         empty = '{"type":"GeometryCollection","geometries":[{ "type":null}]}'
         made = [(line, left), (several, empty)][: self.lines]
-        more = ",".join(f'"line {n}":{pair[not has_lines]}' for n, pair in enumerate(made))
+        named = [f'"line {n}":{pair[not has_lines]}' for n, pair in enumerate(made)]
+        more = ",".join(named + [f'"point {n}":{point}' for n, point in enumerate(self.points)])
         inside = self.members["objects"][1].strip()[1:]
         return "{" + more + ("," if more and not inside.lstrip().startswith("}") else "") + inside
 
@@ -100,6 +125,34 @@ def with_members(members, changed):
     more = [f'"{name}":{value}' for name, value in changed.items() if name not in members]
     kept = [f"{token}:{changed.get(name, value)}" for name, (token, value) in members.items()]
     return "{" + ",".join(more + kept) + "}"
+
+
+# ---- its points
+
+def members_at(text, at):
+    """Where the values of an object's members begin and end, by their names."""
+    spans = list(values(text, at + 1))
+    return {json.loads(text[slice(*name)]): value for name, value in zip(spans[::2], spans[1::2])}
+
+
+def geometry_spans(text, at):
+    """Where the first two numbers of each position of a geometry's points begin and end, in their order."""
+    found = members_at(text, at)
+    kind = json.loads(text[slice(*found["type"])])
+    if kind == "Point":
+        yield from list(values(text, found["coordinates"][0] + 1))[:2]
+    elif kind == "MultiPoint":
+        for position, _ in values(text, found["coordinates"][0] + 1):
+            yield from list(values(text, position + 1))[:2]
+    elif kind == "GeometryCollection":
+        for item, _ in values(text, found["geometries"][0] + 1):
+            yield from geometry_spans(text, item)
+
+
+def point_spans(text):
+    """The same of all points of a topology."""
+    objects = members_at(text, after_space(text, 0))["objects"][0]
+    return [span for layer, _ in members_at(text, objects).values() for span in geometry_spans(text, layer)]
 
 
 # ---- its grid
@@ -141,6 +194,29 @@ class Grid:
         """The number on the grid, halves up."""
         return math.floor(number * 10**self.digits + fractions.Fraction(1, 2)) * 10**self.finer
 
+    def point_number(self, text):
+        """The text of a point's coordinate on the grid, or else the fault that it is told with."""
+        if not self.digits + self.finer:
+            return text, None
+        if not re.fullmatch(r"-?[0-9][0-9.eE+-]*", text):
+            return None, "not whole"
+        number = cut_number(fractions.Fraction(text))
+        if abs(number) * 10 ** (self.digits + self.finer) > REACH:
+            return None, "out of range"
+        return str(self.nearest(number)), None
+
+    def point_fault(self, text):
+        """What is told of the first coordinate of a point that is not put on the grid."""
+        told = ((start, self.point_number(text[start:end])[1]) for start, end in point_spans(text))
+        faults = (f"open: {fault} at {len(text[:start].encode())}\n" for start, fault in told if fault)
+        return next(faults, None)
+
+    def with_points(self, text):
+        """The text with its points on the grid."""
+        for start, end in reversed(point_spans(text)):
+            text = text[:start] + self.point_number(text[start:end])[0] + text[end:]
+        return text
+
     def written(self, blurred):
         """The text of the map with whole numbers on this grid."""
         power, changed = self.digits + self.finer, {}
@@ -152,7 +228,7 @@ class Grid:
         has_transform = bool(power or blurred.transform)
         arcs = [differences(arc) if has_transform else arc for arc in self.arcs]
         changed |= {"arcs": json.dumps(arcs, separators=(",", ":")), "objects": blurred.objects(False)}
-        return with_members(blurred.members, changed)
+        return self.with_points(with_members(blurred.members, changed))
 
 
 # ---- runs
@@ -178,6 +254,11 @@ def wanted(grid, is_whole, heights, lines, report):
     return "".join(rest[:1] + told + rest[1:] if rest[:1] == ["opens\n"] else told + rest)
 
 
+def coordinates(text):
+    """The texts of the points' coordinates, in their order."""
+    return [text[start:end] for start, end in point_spans(text)]
+
+
 def fault_of(mender, blurred, digits, finer):
     """What is wrong with one map, and what was tried of it."""
     text, heights = blurred.written()
@@ -188,15 +269,21 @@ def fault_of(mender, blurred, digits, finer):
     if not grid.fits:
         is_told = said.startswith("open: out of range at ")
         return (None if is_told else f"{said!r} of a map out of range"), "out of range"
-    if grid.digits + finer and any(f'"{name}"' in text for name in ("Point", "MultiPoint")):
-        return (None if said == "open: unsupported Point\n" else f"{said!r} of a map with points"), "points"
-    plain = mender.ran(grid.written(blurred), [])
+    point_fault = grid.point_fault(text)
+    if point_fault:
+        is_told = (status, said, saved) == (2, point_fault, None)
+        return (None if is_told else f"{said!r} in place of {point_fault!r}"), "points refused"
+    whole = grid.written(blurred)
+    plain = mender.ran(whole, [])
     if plain[0] != status or plain[3] != saved or plain[2] != said:
         return f"status {status} and {plain[0]}, {said!r} and {plain[2]!r}, {saved == plain[3]}", "saved"
+    if saved and coordinates(saved.decode()) != coordinates(whole):
+        return f"points {coordinates(saved.decode())} in place of {coordinates(whole)}", "saved"
     want = wanted(grid, blurred.is_whole, heights, blurred.lines, plain[1])
     if status == 0 and report != want:
         return f"{report[:300]!r} in place of {want[:300]!r}", "saved"
-    return None, "saved" if status == 0 else "not mended"
+    has_moved = grid.digits + finer and point_spans(text)
+    return None, "not mended" if status else "saved with points" if has_moved else "saved"
 
 
 def texts(given):

@@ -26,6 +26,7 @@ module _ (a : App) (m : ArgMatches) (words : List (List ℕ)) (is : a ≡ progra
     is_finer = subst (λ (v : Option (List ℕ)). IsCount 0 12 v asked.grid.finer) (value_of (codes "refine") n refine g t) is_asked.is_finer;
     are_dropped = subst (λ (v : Option (List ℕ)). dropped v ≡ Some (asked.grid.drop_heights, lines)) (value_of (codes "drop") o drop h u) is_asked.are_dropped;
     nothing_dropped = is_asked.nothing_dropped;
+    not_lying = is_asked.not_lying;
   }
 
 pub places_is : (a : App) (m : ArgMatches) (words : List (List ℕ)) (id key : List ℕ) (given : Option (Bor (List ℕ))) (copy : Option (List ℕ))

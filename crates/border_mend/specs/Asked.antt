@@ -49,7 +49,7 @@ dropped (Some text) =
     else (if bytes_eq text (codes "lines,heights") then Some (true, true)
     else None)))
 
--- what the values of --most, --digits, --refine and --drop ask for
+-- what the values of --most, --digits, --refine and --drop ask for; nothing was done about it yet
 pub record IsAsked (most digits refine drop : Option (List ℕ)) (asked : Asked) (lines : Bool)
     : Type 0 where
   pub is_most : IsCount 1000 4000000 most asked.most
@@ -57,6 +57,7 @@ pub record IsAsked (most digits refine drop : Option (List ℕ)) (asked : Asked)
   pub is_finer : IsCount 0 12 refine asked.grid.finer
   pub are_dropped : dropped drop ≡ Some (asked.grid.drop_heights, lines)
   pub nothing_dropped : asked.dropped ≡ 0
+  pub not_lying : asked.grid.points_lie ≡ false
 
 -- two paths that are given are not the same
 abbrev pub AreApart : Option (List ℕ) → Option (List ℕ) → Type 0

@@ -210,6 +210,7 @@ fn asked_of(
         digits,
         finer,
         drop_heights,
+        points_lie: false,
     };
     let asked = Asked {
         grid,

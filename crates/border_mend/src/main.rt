@@ -6,6 +6,7 @@ mod asked;
 mod command_line;
 mod ending;
 mod help;
+mod points;
 mod telling;
 
 use asked::Words;

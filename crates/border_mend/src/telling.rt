@@ -1,8 +1,9 @@
 //! The files of the program: what is read, what is written, and in which order.
 use crate::asked::Words;
 use crate::ending::{ending_of_mending, ending_of_report};
+use crate::points::{unread, with_points_on_grid};
 use line_dropping::{Dropped, without_lines};
-use mend_report::{Asked, Texts, mend_map, report_map};
+use mend_report::{Asked, RepairFault, Texts, mend_map, report_map};
 use program_ends::{Ending, Stop, end, map_bytes};
 use std::fs;
 use std::io::{Result as IoResult, Write};
@@ -63,8 +64,12 @@ fn tell_file<W: Write, E: Write>(
 ) -> Result<u8, Stop> {
     let alloc = rt.alloc();
     let (map, asked) = map_asked(rt, words)?;
+    let map = with_points_on_grid(alloc, map, asked);
     let mut texts = Texts::new(alloc, words.places.is_some());
-    let outcome = report_map(alloc, alloc, map.as_slice(), asked, &mut texts);
+    let outcome = match &map {
+        Ok((map, asked)) => report_map(alloc, alloc, map.as_slice(), *asked, &mut texts),
+        Err(fault) => Err(unread(*fault)),
+    };
     let ending = ending_of_report(&outcome, texts.report.as_slice());
     let ending = print_and_place(rt, words, &texts, ending, output);
     Ok(end(ending, errors))
@@ -80,8 +85,12 @@ fn mend_file<W: Write, E: Write>(
 ) -> Result<u8, Stop> {
     let alloc = rt.alloc();
     let (map, asked) = map_asked(rt, words)?;
+    let map = with_points_on_grid(alloc, map, asked);
     let mut texts = Texts::new(alloc, words.places.is_some());
-    let outcome = mend_map(alloc, alloc, map.as_slice(), asked, &mut texts);
+    let outcome = match &map {
+        Ok((map, asked)) => mend_map(alloc, alloc, map.as_slice(), *asked, &mut texts),
+        Err(fault) => Err(RepairFault::Look(unread(*fault))),
+    };
     let ending = ending_of_mending(&outcome, texts.report.as_slice());
     let ending = print_and_place(rt, words, &texts, ending, output);
     let ending = match &outcome {

@@ -2,4 +2,5 @@
 mod endings;
 mod mended;
 mod places;
+mod points;
 mod words;

@@ -18,7 +18,7 @@ use Rattle.topo_reader.proofs.Steps.{bind_ok, demand_ok, ok_same}
 use Rattle.grid_reader.specs.declared.wants.Wants.{Wants}
 use Rattle.grid_reader.specs.Fine.{FinePosition, fine_arcs}
 use Rattle.grid_reader.specs.Grid.{arcs_on, finer_by, digits_of, on_grid}
-use Rattle.grid_reader.specs.Opening.{has_points, demand_no_points, opened_on, grid_opening, AreOnGrid, ReadsOnGrid}
+use Rattle.grid_reader.specs.Opening.{has_points, demand_points_lie, opened_on, grid_opening, AreOnGrid, ReadsOnGrid}
 use Rattle.grid_reader.specs.Transform.{transform_on}
 use Rattle.grid_reader.proofs.NewTransform.{transform_kept}
 
@@ -29,7 +29,7 @@ put shape t ps = record { transform = t; layers = shape.layers; members = shape.
 
 module _ (wants : Wants) (shape : OutlineText) (fine : List (List FinePosition)) (digits : ℕ) (e : digits ≡ digits_of wants fine) (t : Option Text) (divides : transform_on (digits + wants.finer) shape.transform ≡ Ok t) where
   abbrev along : ℕ → Result (List Polygons) Fault
-  along d = demand_no_points (d + wants.finer) shape.layers (walks_read (map (map (on_grid d wants.finer)) fine) shape.layers)
+  along d = demand_points_lie wants.points_lie (d + wants.finer) shape.layers (walks_read (map (map (on_grid d wants.finer)) fine) shape.layers)
 
   pub goes_well : (ps : List Polygons) → along digits ≡ Ok ps → opened_on wants shape fine ≡ Ok (put shape t ps)
   goes_well ps h = rw (rw e at divides, rw e at h) refl
@@ -55,9 +55,9 @@ opened_parts wants root o h =
     let shape = bind_ok (outline root) (λ (shape : OutlineText). fine_arcs wants (is_some shape.transform) shape.arcs >>= λ fine. opened_on wants shape fine) o h in
     let fine = bind_ok (fine_arcs wants (is_some shape.0.transform) shape.0.arcs) (λ (fine : List (List FinePosition)). opened_on wants shape.0 fine) o shape.2 in
     let walks = walks_read (arcs_on wants fine.0) shape.0.layers in
-    let transform = bind_ok (transform_on (finer_by wants fine.0) shape.0.transform) (λ (t : Option Text). demand_no_points (finer_by wants fine.0) shape.0.layers walks >>= λ ps. Ok (put shape.0 t ps)) o fine.2 in
-    let ps = bind_ok (demand_no_points (finer_by wants fine.0) shape.0.layers walks) (λ (ps : List Polygons). Ok (put shape.0 transform.0 ps)) o transform.2 in
-    let along = demand_ok ((finer_by wants fine.0 == 0) || not (has_points shape.0.layers)) (unsupported (codes "Point")) walks ps.0 ps.1 in
+    let transform = bind_ok (transform_on (finer_by wants fine.0) shape.0.transform) (λ (t : Option Text). demand_points_lie wants.points_lie (finer_by wants fine.0) shape.0.layers walks >>= λ ps. Ok (put shape.0 t ps)) o fine.2 in
+    let ps = bind_ok (demand_points_lie wants.points_lie (finer_by wants fine.0) shape.0.layers walks) (λ (ps : List Polygons). Ok (put shape.0 transform.0 ps)) o transform.2 in
+    let along = demand_ok ((finer_by wants fine.0 == 0) || wants.points_lie || not (has_points shape.0.layers)) (unsupported (codes "Point")) walks ps.0 ps.1 in
     record {
       shape = shape.0;
       fine = fine.0;

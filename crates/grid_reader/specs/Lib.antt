@@ -8,3 +8,4 @@ pub mod Opening
 pub mod OnGridView
 pub mod Wholes
 pub mod Told
+pub mod PointDigits

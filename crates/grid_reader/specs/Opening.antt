@@ -28,16 +28,17 @@ has_text_in l = list_any is_text l.pieces
 abbrev pub has_points : List LayerText → Bool
 has_points layers = list_any has_text_in layers
 
--- points are kept as they stand, so the grid must stay as it is
-abbrev pub demand_no_points : {A : Type 0} → ℕ → List LayerText → Result A Fault → Result A Fault
-demand_no_points finer layers r =
-    demand ((finer == 0) || not (has_points layers)) (unsupported (codes "Point")) r
+-- points are kept as they stand, so the grid must stay as it is, or they lie on it already
+abbrev pub demand_points_lie : {A : Type 0} → Bool → ℕ → List LayerText → Result A Fault
+    → Result A Fault
+demand_points_lie lie finer layers r =
+    demand ((finer == 0) || lie || not (has_points layers)) (unsupported (codes "Point")) r
 
 -- a topology with this outline whose arcs have these positions
 abbrev pub opened_on : Wants → OutlineText → List (List FinePosition) → Result Opened Fault
 opened_on wants shape fine = do
   transform ← transform_on (finer_by wants fine) shape.transform
-  polygons ← demand_no_points (finer_by wants fine) shape.layers
+  polygons ← demand_points_lie wants.points_lie (finer_by wants fine) shape.layers
       (walks_read (arcs_on wants fine) shape.layers)
   Ok (record {
     transform = transform;

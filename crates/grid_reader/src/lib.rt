@@ -5,6 +5,7 @@
 mod fine;
 mod fine_pos;
 mod grid;
+mod kept_digits;
 mod reading;
 #[cfg(test)]
 mod tests;
@@ -12,6 +13,7 @@ mod told;
 mod transform;
 mod wants;
 
+pub use kept_digits::point_digits;
 pub use reading::{OnGrid, read_on_grid};
 pub use told::Told;
 pub use transform::Transform;

@@ -8,7 +8,7 @@ ghost use Rattle.topo_outline.specs.OutlineView.{view_outline, IsPlaced};
 ghost use Rattle.topo_reader.specs.Document.{document_of, IsOfWalks};
 ghost use Rattle.topo_reader.specs.Opening.{walks_read, OpensIn, IsFaultIn};
 ghost use Rattle.topo_reader.specs.Uses.{feature_positions};
-ghost use Rattle.grid_reader.specs.Opening.{is_text, has_points, demand_no_points, opened_on, grid_opening, ReadsOnGrid};
+ghost use Rattle.grid_reader.specs.Opening.{is_text, has_points, demand_points_lie, opened_on, grid_opening, ReadsOnGrid};
 ghost use Rattle.grid_reader.specs.Grid.{most_decimals, digits_of, on_grid};
 ghost use Rattle.grid_reader.specs.Near.{IsNear};
 ghost use Rattle.grid_reader.specs.OnGridView.{view_on_grid};
@@ -28,7 +28,7 @@ use topo_outline::{Item, KeptMember, Limit, OpenFault, Outline, RawLayer, Token,
 use topo_reader::walks_along;
 
 /// The most bytes of a text.
-const MAX_BYTES: usize = 67_108_864;
+pub(crate) const MAX_BYTES: usize = 67_108_864;
 
 /// A topology that was read on a grid: its layers as they stand in the text, and its walks.
 ///
@@ -69,7 +69,7 @@ fn has_text<A: Allocator + Copy>(items: &[Item<'_, A>]) -> bool
 }
 
 /// Whether there is a point, or several points (TopoJSON 1.0, 2.2.1 and 2.2.2).
-fn has_points<A: Allocator + Copy>(layers: &[RawLayer<'_, A>]) -> bool
+pub(crate) fn has_points<A: Allocator + Copy>(layers: &[RawLayer<'_, A>]) -> bool
     ensures { result ≡ has_points (map view_layer layers.now) }
 {
     for layer in layers {
@@ -109,34 +109,33 @@ fn told_of<A: Allocator + Copy>(
 }
 
 /// The polygons of all features along the arcs on the grid. Points are kept as they stand, so there
-/// may be none on a finer one.
+/// may be none on a finer one, unless they lie on it already.
 fn polygons<'a, A: Allocator + Copy>(
     alloc: A,
+    wants: Wants,
     digits: usize,
-    finer: usize,
     fine: &[Vec<FinePos, A>],
     outline: &Outline<'a, A>,
 ) -> Result<Vec<Vec<Vec<Vec<Pos, A>, A>, A>, A>, OpenFault<'a>>
     requires digits { digits ≤ 24 }
-    requires finer { finer ≤ 12 }
-    requires near { AllByRecursion (AllByRecursion (IsNear digits finer)) (arcs_seen fine.now) }
+    requires near { AllByRecursion (AllByRecursion (IsNear digits wants.finer)) (arcs_seen fine.now) }
     requires placed { IsPlaced outline.now }
     ensures { Gives (λ v. map feature_positions v.items) result
-        (demand_no_points (digits + finer) (view_outline outline.now).layers
-        (walks_read (map (map (on_grid digits finer)) (arcs_seen fine.now))
+        (demand_points_lie wants.points_lie (digits + wants.finer) (view_outline outline.now).layers
+        (walks_read (map (map (on_grid digits wants.finer)) (arcs_seen fine.now))
         (view_outline outline.now).layers)) }
 {
-    if digits + finer > 0 && has_points(outline.layers.as_slice()) {
+    if !wants.points_lie && digits + wants.finer > 0 && has_points(outline.layers.as_slice()) {
         return Err(OpenFault::Unsupported {
             type_name: Token { text: b"Point" },
         });
     }
-    let arcs = arcs_on(alloc, digits, finer, fine)?;
+    let arcs = arcs_on(alloc, digits, wants.finer, fine)?;
     walks_along(alloc, arcs.as_slice(), outline)
 }
 
 /// The topology with this outline, whose arcs have these positions.
-fn opened_on<'a, A: Allocator + Copy>(
+pub(crate) fn opened_on<'a, A: Allocator + Copy>(
     alloc: A,
     heap: Global,
     wants: Wants,
@@ -162,7 +161,7 @@ fn opened_on<'a, A: Allocator + Copy>(
         Ok(transform) => transform,
         Err(fault) => return Err(fault),
     };
-    match polygons(alloc, digits, wants.finer, fine, &outline) {
+    match polygons(alloc, wants, digits, fine, &outline) {
         Ok(polygons) => Ok(OnGrid {
             transform,
             layers: outline.layers,
@@ -203,7 +202,7 @@ fn opened<'a, A: Allocator + Copy>(
 /// position are left out. The phases and the faults are those of `topo_reader::read_walks`, where
 /// `OutOfRange` is told of a coordinate beyond 10^12 on a grid 10^`wants.finer` times as fine, and
 /// `Unsupported` of a point where the grid is finer than that of the text: points are kept as they
-/// stand.
+/// stand. With `wants.points_lie` they are said to lie on the grid already, and there is no such fault.
 ///
 /// All that the topology owns lies in `alloc`. `heap` holds decoded names while they are compared.
 pub fn read_on_grid<'a, A: Allocator + Copy>(

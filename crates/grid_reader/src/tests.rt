@@ -1,5 +1,5 @@
 //! Which walks and which transform a map has on a grid, and what is refused.
-use super::{OnGrid, Told, Transform, Wants, read_on_grid};
+use super::{OnGrid, Told, Transform, Wants, point_digits, read_on_grid};
 use grid_geometry::Pos;
 use std::alloc::{AllocError, Global};
 use std::process::Abort;
@@ -12,19 +12,22 @@ enum Asked {
     Tenths,
     Finer,
     Flat,
+    Lying,
 }
 
 fn wants(asked: Asked) -> Wants {
-    let (digits, finer, drop_heights) = match asked {
-        Asked::All => (24, 0, false),
-        Asked::Tenths => (1, 0, false),
-        Asked::Finer => (24, 1, false),
-        Asked::Flat => (24, 0, true),
+    let (digits, finer, drop_heights, points_lie) = match asked {
+        Asked::All => (24, 0, false, false),
+        Asked::Tenths => (1, 0, false, false),
+        Asked::Finer => (24, 1, false, false),
+        Asked::Flat => (24, 0, true, false),
+        Asked::Lying => (24, 1, false, true),
     };
     Wants {
         digits,
         finer,
         drop_heights,
+        points_lie,
     }
 }
 
@@ -169,6 +172,20 @@ const ROWS: &[Row] = &[
             whole: false,
         },
     },
+    // a point that lies on the grid already
+    Row {
+        text: br#"{"type":"Topology","objects":{"a":{"type":"Polygon","arcs":[[0]]},"b":{"type":"Point","coordinates":[10,20]}},"arcs":[[[1,0],[2,5],[0,1],[1,0]]]}"#,
+        asked: Asked::Lying,
+        transform: br#"{"scale":[1e-1,1e-1],"translate":[0,0]}"#,
+        corners: &[(10, 0), (20, 50), (0, 10)],
+        told: Told {
+            decimals: 0,
+            digits: 0,
+            rounded: 0,
+            heights: 0,
+            whole: true,
+        },
+    },
 ];
 
 fn has_corners(walk: &[Pos], corners: &[(i64, i64)]) -> bool {
@@ -277,5 +294,72 @@ fn is_refused(alloc: Global, text: &[u8], asked: Asked, want: &str) -> bool {
 fn faults_are_told(rt: HostRuntime) {
     for (text, asked, fault) in REFUSED {
         assert!(rt; is_refused(rt.alloc(), text, *asked, *fault));
+    }
+}
+
+/// A map, what is asked for, and how many decimals the grid keeps, where points are to be put on it.
+const DIGITS: &[(&[u8], Asked, Option<usize>)] = &[
+    (
+        br#"{"type":"Topology","objects":{"a":{"type":"Point","coordinates":[1.125,2]}},"arcs":[[[0,0],[1.5,0.25]]]}"#,
+        Asked::All,
+        Some(2),
+    ),
+    (
+        br#"{"type":"Topology","objects":{"a":{"type":"Point","coordinates":[1.125,2]}},"arcs":[[[0,0],[1.5,0.25]]]}"#,
+        Asked::Tenths,
+        Some(1),
+    ),
+    // among lines and collections, and said to lie there: that is told by who asks
+    (
+        br#"{"type":"Topology","objects":{"a":{"type":"Polygon","arcs":[[0,-1]]},"b":{"type":"GeometryCollection","geometries":[{"type":"GeometryCollection","geometries":[{"type":"MultiPoint","coordinates":[]}]}]}},"arcs":[[[0,0],[1,0]]]}"#,
+        Asked::Lying,
+        Some(0),
+    ),
+    // the grid stays
+    (
+        br#"{"type":"Topology","objects":{"a":{"type":"Point","coordinates":[1.125,2]}},"arcs":[[[0,0],[1e1,2.0]]]}"#,
+        Asked::All,
+        None,
+    ),
+    // there are no points
+    (
+        br#"{"type":"Topology","objects":{"a":{"type":null,"coordinates":[1,2]}},"arcs":[[[0,0],[1.5,0.25]]]}"#,
+        Asked::Finer,
+        None,
+    ),
+    // it can't be read: a coordinate, an index, the transform, the text
+    (
+        br#"{"type":"Topology","objects":{"a":{"type":"Point","coordinates":[1,2]}},"arcs":[[[0,0],[1.5,"2"]]]}"#,
+        Asked::All,
+        None,
+    ),
+    (
+        br#"{"type":"Topology","objects":{"a":{"type":"Point","coordinates":[1,2]},"b":{"type":"Polygon","arcs":[[1]]}},"arcs":[[[0,0],[1.5,0.25]]]}"#,
+        Asked::All,
+        None,
+    ),
+    (
+        br#"{"type":"Topology","transform":{"scale":1},"objects":{"a":{"type":"Point","coordinates":[1,2]}},"arcs":[[[0,0],[1.5,0.25]]]}"#,
+        Asked::All,
+        None,
+    ),
+    (
+        br#"{"type":"Topology","objects":{"a":{"type":"Point","coordinates":[1,2]}},"arcs":[[[0,0],[1.5,0.25]]]"#,
+        Asked::All,
+        None,
+    ),
+];
+
+fn keeps(alloc: Global, text: &[u8], asked: Asked, want: Option<usize>) -> bool {
+    match point_digits(alloc, alloc, text, wants(asked)) {
+        Ok(digits) => digits == want,
+        Err(_) => false,
+    }
+}
+
+#[test]
+fn decimals_are_kept(rt: HostRuntime) {
+    for (text, asked, want) in DIGITS {
+        assert!(rt; keeps(rt.alloc(), text, *asked, *want));
     }
 }

@@ -10,6 +10,8 @@ pub struct Wants {
     pub finer: usize,
     /// Whether further numbers of positions are left out.
     pub drop_heights: bool,
+    /// Whether points and several points lie on the grid that is asked for already.
+    pub points_lie: bool,
     ghost few_digits: { digits ≤ 24 },
     ghost not_too_fine: { finer ≤ 12 },
 }

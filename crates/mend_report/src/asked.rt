@@ -26,6 +26,7 @@ impl Asked {
             digits: 24,
             finer: 0,
             drop_heights: false,
+            points_lie: false,
         };
         Asked {
             grid,

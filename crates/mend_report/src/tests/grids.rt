@@ -80,6 +80,7 @@ fn asked_in(row: &Row) -> Asked {
         digits: row.digits.min(24),
         finer: row.finer.min(12),
         drop_heights: row.drop_heights,
+        points_lie: false,
     };
     Asked {
         grid,

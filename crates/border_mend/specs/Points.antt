@@ -1,0 +1,35 @@
+-- The points of a map, put on the grid that is asked for.
+use Rattle.std.specs.Prelude.{◌≡◌, ℕ, true, List, Option, Some, None, Result, Ok}
+use Rattle.grid_reader.specs.PointDigits.{point_digits}
+use Rattle.grid_reader.specs.declared.wants.Wants.{Wants}
+use Rattle.mend_report.specs.declared.asked.Asked.{Asked}
+use Rattle.mend_report.specs.declared.looking.LookFault.{LookFault}
+use Rattle.mend_report.specs.declared.looking.LookFault.TheVariants as look
+use Rattle.point_rounding.specs.Rounded.{rounded_points}
+use Rattle.point_rounding.specs.declared.fault.PointFault.{PointFault}
+use Rattle.point_rounding.specs.declared.fault.PointFault.TheVariants as point
+use Rattle.topo_outline.specs.declared.fault.OpenFault.TheVariants as open_fault
+
+-- where the grid has so many decimals; without them the text stays as it is
+abbrev pub rounded_to : Wants → List ℕ → Option ℕ → Result (List ℕ) PointFault
+rounded_to grid text None = Ok text
+rounded_to grid text (Some digits) = rounded_points digits grid.finer text
+
+-- the text with its points on the grid that is asked for
+abbrev pub on_grid : Wants → List ℕ → Result (List ℕ) PointFault
+on_grid grid text = rounded_to grid text (point_digits grid text)
+
+-- the same is asked, of a text whose points lie on the grid
+pub record AsksOfLying (before after : Asked) : Type 0 where
+  pub digits : after.grid.digits ≡ before.grid.digits
+  pub finer : after.grid.finer ≡ before.grid.finer
+  pub drop_heights : after.grid.drop_heights ≡ before.grid.drop_heights
+  pub lie : after.grid.points_lie ≡ true
+  pub most : after.most ≡ before.most
+  pub dropped : after.dropped ≡ before.dropped
+
+-- a coordinate of a point is at fault as one of an arc is
+abbrev pub unread : PointFault → LookFault
+unread (point.NotNumber place) = look.Open (open_fault.NotWhole place)
+unread (point.OutOfRange place) = look.Open (open_fault.OutOfRange place)
+unread point.OutOfMemory = look.OutOfMemory

@@ -1,0 +1,53 @@
+//! The points of a map, put on the grid that is asked for.
+ghost use Rattle.std.specs.Prelude.{◌≡◌, ◌≤◌, ◌<◌, length, IfOk, Ok};
+ghost use Rattle.json_spans.specs.Grammar.{Json};
+ghost use Rattle.point_rounding.specs.Gives.{Gives};
+ghost use Rattle.border_mend.specs.Points.{on_grid, AsksOfLying, unread};
+
+use grid_reader::point_digits;
+use mend_report::{Asked, LookFault};
+use point_rounding::{PointFault, rounded_points};
+use std::alloc::Global;
+use topo_outline::OpenFault;
+
+/// The text with its points (TopoJSON 1.0, 2.2.1 and 2.2.2) on the grid that is asked for, and the same
+/// asked of it, but that its points lie there. A text stays where it has no points, where its grid stays,
+/// and where it can't be read: then reading it tells its fault.
+pub(crate) fn with_points_on_grid(
+    alloc: Global,
+    text: Vec<u8>,
+    asked: Asked,
+) -> Result<(Vec<u8>, Asked), PointFault>
+    ensures text { length text.items ≤ 67108864 → Json 100 text.items →
+        Gives (λ pair. pair.0.items) result (on_grid asked.grid text.items) }
+    ensures no_json { (¬ Json 100 text.items) →
+        Gives (λ pair. pair.0.items) result (Ok text.items) }
+    ensures too_long { 67108864 < length text.items →
+        Gives (λ pair. pair.0.items) result (Ok text.items) }
+    ensures asked { IfOk result (λ pair. AsksOfLying asked pair.1) }
+{
+    let mut asked = asked;
+    let digits = point_digits(alloc, alloc, text.as_slice(), asked.grid)?;
+    asked.grid.points_lie = true;
+    match digits {
+        Some(digits) => {
+            match rounded_points(alloc, alloc, text.as_slice(), digits, asked.grid.finer) {
+                Ok(text) => Ok((text, asked)),
+                Err(fault) => Err(fault),
+            }
+        }
+        None => Ok((text, asked)),
+    }
+}
+
+/// Why a map is not looked through where a point is not put on the grid: as it is where a coordinate of
+/// an arc is not.
+pub(crate) fn unread(fault: PointFault) -> LookFault<'static>
+    ensures { result ≡ unread fault }
+{
+    match fault {
+        PointFault::NotNumber { place } => LookFault::Open(OpenFault::NotWhole { place }),
+        PointFault::OutOfRange { place } => LookFault::Open(OpenFault::OutOfRange { place }),
+        PointFault::OutOfMemory => LookFault::OutOfMemory,
+    }
+}

@@ -1,0 +1,206 @@
+//! Maps with points, on the grid that is asked for.
+use super::endings::words_for;
+use crate::asked::Words;
+use crate::telling::tell;
+use grid_reader::Wants;
+use std::fs;
+use std::test::Fail;
+
+/// A map with points and what is asked for: how many decimals are kept, how much finer the grid is, and
+/// whether heights and lines are left out.
+struct Given {
+    map: &'static str,
+    digits: usize,
+    finer: usize,
+    drops: bool,
+}
+
+/// A polygon with decimals, and points in a layer of their own and in a collection.
+const DECIMALS: &str =
+    r#"{"type":"Topology","objects":{"land":{"type":"Polygon","arcs":[[0]]},"town":{"type":"Point","id":"T","coordinates":[0.5, 0.25]},"posts":{"type":"MultiPoint","coordinates":[[0.75,0.5],[1.5,0]]},"more":{"type":"GeometryCollection","geometries":[{"coordinates":[1e-1,-0.25],"type":"Point"}]}},"arcs":[[[0,0],[1.5,0],[1.5,0.25],[0,1],[0,0]]]}"#;
+
+/// Whole numbers under a transform, where the position of a point is no difference.
+const WHOLE: &str =
+    r#"{"type":"Topology","transform":{"scale":[0.5,2],"translate":[10,20]},"objects":{"land":{"type":"Polygon","arcs":[[0]]},"posts":{"type":"MultiPoint","coordinates":[[3,-4],[1,1.25]]}},"arcs":[[[0,0],[10,0],[0,10],[-10,-10]]]}"#;
+
+/// Halves, which are rounded up.
+const HALVES: &str =
+    r#"{"type":"Topology","objects":{"land":{"type":"Polygon","arcs":[[0]]},"posts":{"type":"MultiPoint","coordinates":[[0.25,-0.25],[0.24,-0.26],[0.05,-0.05],[1.5e1,-2E0]]}},"arcs":[[[0,0],[1.5,0],[1.5,0.25],[0,1],[0,0]]]}"#;
+
+/// A line, and a point with a height.
+const HEIGHTS: &str =
+    r#"{"type":"Topology","objects":{"way":{"type":"LineString","id":7,"arcs":[0]},"top":{"type":"Point","coordinates":[0.5,0.5,12.5]},"land":{"type":"Polygon","arcs":[[0]]}},"arcs":[[[0,0,1],[1.5,0,2.5],[1.5,1.5],[0,0]]]}"#;
+
+/// Whole numbers, and a point that has others.
+const STAYS: &str =
+    r#"{"type":"Topology","objects":{"land":{"type":"Polygon","arcs":[[0]]},"town":{"type":"Point","coordinates":[0.5,1e1]}},"arcs":[[[0,0],[10,0],[10,10],[0,0]]]}"#;
+
+/// What is given, the lines before the last of the report, and what it is saved as.
+const SAVED: &[(Given, &str, &str)] = &[
+    (
+        Given {
+            map: DECIMALS,
+            digits: 24,
+            finer: 0,
+            drops: false,
+        },
+        "decimals 2 digits 2 rounded 0\n",
+        r#"{"type":"Topology","transform":{"scale":[1e-2,1e-2],"translate":[0,0]},"objects":{"land":{"type":"Polygon","arcs":[[0]]},"town":{"type":"Point","id":"T","coordinates":[50, 25]},"posts":{"type":"MultiPoint","coordinates":[[75,50],[150,0]]},"more":{"type":"GeometryCollection","geometries":[{"coordinates":[10,-25],"type":"Point"}]}},"arcs":[[[0,0],[150,0],[0,25],[-150,75],[0,-100]]]}"#,
+    ),
+    (
+        Given {
+            map: WHOLE,
+            digits: 24,
+            finer: 2,
+            drops: false,
+        },
+        "opens\n",
+        r#"{"type":"Topology","transform":{"scale":[5e-3,2e-2],"translate":[10,20]},"objects":{"land":{"type":"Polygon","arcs":[[0]]},"posts":{"type":"MultiPoint","coordinates":[[300,-400],[100,100]]}},"arcs":[[[0,0],[1000,0],[0,1000],[-1000,-1000]]]}"#,
+    ),
+    (
+        Given {
+            map: HALVES,
+            digits: 1,
+            finer: 0,
+            drops: false,
+        },
+        "decimals 2 digits 1 rounded 1\n",
+        r#"{"type":"Topology","transform":{"scale":[1e-1,1e-1],"translate":[0,0]},"objects":{"land":{"type":"Polygon","arcs":[[0]]},"posts":{"type":"MultiPoint","coordinates":[[3,-2],[2,-3],[1,0],[150,-20]]}},"arcs":[[[0,0],[15,0],[0,3],[-15,7],[0,-10]]]}"#,
+    ),
+    (
+        Given {
+            map: HEIGHTS,
+            digits: 24,
+            finer: 0,
+            drops: true,
+        },
+        "decimals 1 digits 1 rounded 0\nheights 2\nlines 1\n",
+        r#"{"type":"Topology","transform":{"scale":[1e-1,1e-1],"translate":[0,0]},"objects":{"way":{"type":null,"id":7},"top":{"type":"Point","coordinates":[5,5,12.5]},"land":{"type":"Polygon","arcs":[[0]]}},"arcs":[[[0,0],[15,0],[0,15],[-15,-15]]]}"#,
+    ),
+    (
+        Given {
+            map: STAYS,
+            digits: 24,
+            finer: 0,
+            drops: false,
+        },
+        "opens\n",
+        STAYS,
+    ),
+];
+
+/// A coordinate that is no number.
+const NO_NUMBER: &str =
+    r#"{"type":"Topology","objects":{"town":{"type":"Point","coordinates":[0.5,"2"]},"land":{"type":"Polygon","arcs":[[0]]}},"arcs":[[[0,0],[1.5,0],[1.5,1.5],[0,0]]]}"#;
+
+/// A coordinate beyond 1.
+const BEYOND: &str =
+    r#"{"type":"Topology","objects":{"town":{"type":"Point","coordinates":[0,2]},"land":{"type":"Polygon","arcs":[[0]]}},"arcs":[[[0,0],[1,0],[1,1],[0,0]]]}"#;
+
+/// An index of no arc, behind a point whose text changes.
+const NO_ARC: &str =
+    r#"{"type":"Topology","objects":{"town":{"type":"Point","coordinates":[0.5,0.5]},"land":{"type":"Polygon","arcs":[[1]]}},"arcs":[[[0,0],[1.5,0],[1.5,1.5],[0,0]]]}"#;
+
+/// What is given, and the line on standard error.
+const REFUSED: &[(Given, &str)] = &[
+    (
+        Given {
+            map: NO_NUMBER,
+            digits: 24,
+            finer: 0,
+            drops: false,
+        },
+        "open: not whole at 72\n",
+    ),
+    (
+        Given {
+            map: BEYOND,
+            digits: 24,
+            finer: 12,
+            drops: false,
+        },
+        "open: out of range at 70\n",
+    ),
+    (
+        Given {
+            map: NO_ARC,
+            digits: 24,
+            finer: 0,
+            drops: false,
+        },
+        "open: bad arc index at 112\n",
+    ),
+];
+
+/// What is asked of a map, which is mended in its place.
+fn asked_for(rt: &HostRuntime, given: &Given) -> Result<Words, Fail> {
+    let mut words = words_for(rt, "points")?;
+    let out = String::from_str(rt.alloc(), words.map.as_str())?;
+    words.out = Some(out);
+    words.drop_lines = given.drops;
+    words.asked.grid = Wants {
+        digits: given.digits.min(24),
+        finer: given.finer.min(12),
+        drop_heights: given.drops,
+        points_lie: false,
+    };
+    Ok(words)
+}
+
+/// What stands behind the lines of a map that is mended without a path.
+const COUNTS: &str = "counts short 0 repeats 0 on 0 cross 0 paths 0 parts 0 areas 0\n";
+
+/// A map with points is mended and saved with its points on the grid of its arcs.
+#[test]
+fn points_are_put_on_the_grid(rt: HostRuntime) -> Result<(), Fail> {
+    for (given, lines, saved) in SAVED {
+        let words = asked_for(&rt, given)?;
+        fs::write(&rt, words.map.as_str(), given.map)?;
+        let mut output = Vec::new(rt.alloc());
+        let mut errors = Vec::new(rt.alloc());
+        let ended = tell(&rt, &words, &mut output, &mut errors);
+        let found = fs::read(&rt, words.map.as_str())?;
+        fs::remove_file(&rt, words.map.as_str())?;
+        assert_eq!(rt; ended, 0, "{lines}");
+        let report = format!(in rt.alloc(); "{lines}{COUNTS}")?;
+        assert_eq!(rt; output.as_slice(), report.as_str().as_bytes());
+        assert_eq!(rt; found.as_slice(), saved.as_bytes(), "{lines}");
+    }
+    Ok(())
+}
+
+/// A point that can't be put there is told, and so is what can't be read, by their places in the map,
+/// which stays as it was.
+#[test]
+fn points_are_refused(rt: HostRuntime) -> Result<(), Fail> {
+    for (given, line) in REFUSED {
+        let words = asked_for(&rt, given)?;
+        fs::write(&rt, words.map.as_str(), given.map)?;
+        let mut output = Vec::new(rt.alloc());
+        let mut errors = Vec::new(rt.alloc());
+        let ended = tell(&rt, &words, &mut output, &mut errors);
+        let kept = fs::read(&rt, words.map.as_str())?;
+        fs::remove_file(&rt, words.map.as_str())?;
+        assert_eq!(rt; ended, 2, "{line}");
+        assert!(rt; output.is_empty(), "{line}");
+        assert_eq!(rt; errors.as_slice(), line.as_bytes());
+        assert_eq!(rt; kept.as_slice(), given.map.as_bytes(), "{line}");
+    }
+    Ok(())
+}
+
+/// Without FILE the report of such a map is the same, and the status tells that it is not open.
+#[test]
+fn points_are_reported(rt: HostRuntime) -> Result<(), Fail> {
+    let words = words_for(&rt, "reported")?;
+    fs::write(&rt, words.map.as_str(), DECIMALS)?;
+    let mut output = Vec::new(rt.alloc());
+    let mut errors = Vec::new(rt.alloc());
+    let ended = tell(&rt, &words, &mut output, &mut errors);
+    fs::remove_file(&rt, words.map.as_str())?;
+    assert_eq!(rt; ended, 1);
+    let report = "decimals 2 digits 2 rounded 0\ncounts short 0 repeats 0 on 0 cross 0\n";
+    assert_eq!(rt; output.as_slice(), report.as_bytes());
+    assert!(rt; errors.is_empty());
+    Ok(())
+}
