@@ -3,8 +3,10 @@ use crate::asked::Words;
 use crate::ending::{ending_of_mending, ending_of_report};
 use crate::points::{unread, with_points_on_grid};
 use line_dropping::{Dropped, without_lines};
-use mend_report::{Asked, RepairFault, Texts, mend_map, report_map};
+use mend_report::{Asked, LookFault, Remade, RepairFault, Report, Texts, mend_map, report_map};
+use point_rounding::PointFault;
 use program_ends::{Ending, Stop, end, map_bytes};
+use std::alloc::Global;
 use std::fs;
 use std::io::{Result as IoResult, Write};
 
@@ -55,6 +57,30 @@ fn map_asked(rt: &HostRuntime, words: &Words) -> Result<(Vec<u8>, Asked), Stop> 
     Ok((text, asked))
 }
 
+/// The report of a map, where its points were put on the grid that is asked for.
+fn reported<'a>(
+    alloc: Global,
+    map: &'a Result<(Vec<u8>, Asked), PointFault>,
+    texts: &mut Texts,
+) -> Result<Report, LookFault<'a>> {
+    match map {
+        Ok((text, asked)) => report_map(alloc, alloc, text.as_slice(), *asked, texts),
+        Err(fault) => Err(unread(*fault)),
+    }
+}
+
+/// What a map is mended to, where its points were put on the grid that is asked for.
+fn mended<'a>(
+    alloc: Global,
+    map: &'a Result<(Vec<u8>, Asked), PointFault>,
+    texts: &mut Texts,
+) -> Result<Remade, RepairFault<'a>> {
+    match map {
+        Ok((text, asked)) => mend_map(alloc, alloc, text.as_slice(), *asked, texts),
+        Err(fault) => Err(RepairFault::Look(unread(*fault))),
+    }
+}
+
 /// Reads MAP, writes its report and its places, and ends as the report did.
 fn tell_file<W: Write, E: Write>(
     rt: &HostRuntime,
@@ -66,10 +92,7 @@ fn tell_file<W: Write, E: Write>(
     let (map, asked) = map_asked(rt, words)?;
     let map = with_points_on_grid(alloc, map, asked);
     let mut texts = Texts::new(alloc, words.places.is_some());
-    let outcome = match &map {
-        Ok((map, asked)) => report_map(alloc, alloc, map.as_slice(), *asked, &mut texts),
-        Err(fault) => Err(unread(*fault)),
-    };
+    let outcome = reported(alloc, &map, &mut texts);
     let ending = ending_of_report(&outcome, texts.report.as_slice());
     let ending = print_and_place(rt, words, &texts, ending, output);
     Ok(end(ending, errors))
@@ -87,10 +110,7 @@ fn mend_file<W: Write, E: Write>(
     let (map, asked) = map_asked(rt, words)?;
     let map = with_points_on_grid(alloc, map, asked);
     let mut texts = Texts::new(alloc, words.places.is_some());
-    let outcome = match &map {
-        Ok((map, asked)) => mend_map(alloc, alloc, map.as_slice(), *asked, &mut texts),
-        Err(fault) => Err(RepairFault::Look(unread(*fault))),
-    };
+    let outcome = mended(alloc, &map, &mut texts);
     let ending = ending_of_mending(&outcome, texts.report.as_slice());
     let ending = print_and_place(rt, words, &texts, ending, output);
     let ending = match &outcome {
