@@ -1,18 +1,27 @@
 -- An arc that is written plainly: its positions with a comma between each two of them, without
 -- space, and each number with a minus and digits alone.
 -- Bytes: 44 `,`, 45 `-`, 91 `[`, 93 `]`.
-use Rattle.std.specs.Prelude.{◌≡◌, ℕ, ℤ, ◌+ℤ◌, List, [], ◌∷◌, ◌++◌, Bool, true, ◌==◌, ◌||◌, Option, Some, None, Ok, map}
+use Rattle.std.specs.Prelude.{◌≡◌, ℕ, ◌<◌, ◌^◌, ℤ, ◌+ℤ◌, List, [], ◌∷◌, ◌++◌, Bool, true, ◌==◌, ◌||◌, Option, Some, None, Ok, map, length}
 use Rattle.std.specs.List.{list_all}
 use Rattle.json_spans.specs.Bytes.{is_digit}
 use Rattle.json_spans.specs.Parts.{Node, parts_left}
 use Rattle.json_spans.specs.Trimmed.{trimmed}
-use Rattle.json_spans.specs.Whole.{whole_of}
+use Rattle.json_spans.specs.Whole.{value_from, whole_of}
 use Rattle.grid_geometry.specs.Position.{Position, position, InRange}
 use Rattle.topo_reader.specs.Positions.{positions}
 
 -- a minus or a digit
 abbrev pub is_plain : ℕ → Bool
 is_plain x = (x == 45) || is_digit x
+
+-- the bytes are one digit to eighteen that are the value, and the rest
+pub record PlainDigits (bytes : List ℕ) (value : ℕ) (rest : List ℕ) : Type 0 where
+  pub digits : List ℕ
+  pub is : bytes ≡ digits ++ rest
+  pub are : list_all is_digit digits ≡ true
+  pub some : 0 < length digits
+  pub value_is : value ≡ value_from 0 digits
+  pub small : value < 10 ^ 18
 
 -- the bytes are a word of minus and digits that is the number, and the rest
 pub record PlainNumber (bytes : List ℕ) (z : ℤ) (rest : List ℕ) : Type 0 where

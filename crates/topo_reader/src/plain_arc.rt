@@ -1,45 +1,36 @@
 // An arc that is written without space, and with whole numbers of a minus and digits alone, is
 // read in one walk over its bytes.
-ghost use Rattle.std.specs.Prelude.{◌≡◌, ◌≤◌, ◌∷◌, ◌+ℤ◌, length, drop, option_map, IfSome, IfOk};
-ghost use Rattle.std.specs.List.{prefix_len};
+ghost use Rattle.std.specs.Prelude.{◌≡◌, ◌∷◌, ◌+ℤ◌, drop, option_map, IfSome, IfOk};
 ghost use Rattle.grid_geometry.specs.Position.{position, InRange};
 ghost use Rattle.json_spans.specs.Left.{node};
 ghost use Rattle.topo_reader.specs.Arcs.{origin};
 ghost use Rattle.topo_reader.specs.Positions.{arc};
-ghost use Rattle.topo_reader.specs.Plain.{is_plain, PlainNumber, PlainPair, PlainStep, Follows, Reads};
+ghost use Rattle.topo_reader.specs.Plain.{PlainDigits, PlainNumber, PlainPair, PlainStep, Follows, Reads};
 
 use crate::arcs::{before_next, origin};
 use grid_geometry::Pos;
-use json_spans::{Span, bytes, whole_text};
+use json_spans::{Span, bytes};
 use std::alloc::{AllocError, Allocator};
 
-fn is_plain(x: u8) -> bool
-    ensures { result ≡ is_plain x }
-{
-    x == b'-' || x.is_ascii_digit()
-}
+/// Ten times a number below it, and a digit, is a number of at most eighteen digits.
+const LIMIT: u64 = 100_000_000_000_000_000;
 
-fn word_len(bytes: &[u8]) -> usize
-    ensures value { result ≡ prefix_len is_plain bytes.now }
-    ensures bound { result ≤ length bytes.now }
+/// The digits in front as a number, and what follows them; `None` where there is none, or where
+/// the number has more than eighteen.
+fn digits(bytes: &[u8]) -> Option<(u64, &[u8])>
+    ensures { IfSome result (λ n. PlainDigits bytes.now n.0 n.1.now) }
 {
+    let mut value = 0u64;
     for (i, x) in bytes.iter().enumerate() {
-        if !is_plain(*x) {
-            return i;
+        if !x.is_ascii_digit() {
+            return if i > 0 { Some((value, &bytes[i..])) } else { None };
         }
+        if value >= LIMIT {
+            return None;
+        }
+        value = value * 10 + u64::from(*x - b'0');
     }
-    bytes.len()
-}
-
-/// The number in front, and what follows it.
-fn plain_number(bytes: &[u8]) -> Option<(i64, &[u8])>
-    ensures { IfSome result (λ n. PlainNumber bytes.now n.0 n.1.now) }
-{
-    let (word, rest) = bytes.split_at(word_len(bytes));
-    match whole_text(word) {
-        Ok(z) => Some((z, rest)),
-        Err(_) => None,
-    }
+    None
 }
 
 fn after(byte: u8, bytes: &[u8]) -> Option<&[u8]>
@@ -48,6 +39,22 @@ fn after(byte: u8, bytes: &[u8]) -> Option<&[u8]>
     match bytes {
         [x, rest @ ..] if *x == byte => Some(rest),
         _ => None,
+    }
+}
+
+/// The number in front, and what follows it.
+fn plain_number(bytes: &[u8]) -> Option<(i64, &[u8])>
+    ensures { IfSome result (λ n. PlainNumber bytes.now n.0 n.1.now) }
+{
+    match after(b'-', bytes) {
+        Some(body) => {
+            let (value, rest) = digits(body)?;
+            Some((0 - value as i64, rest))
+        }
+        None => {
+            let (value, rest) = digits(bytes)?;
+            Some((value as i64, rest))
+        }
     }
 }
 
