@@ -28,3 +28,4 @@ pub mod Boxed
 pub mod PlainNumbers
 pub mod PlainItems
 pub mod PlainArcs
+pub mod PlainLists

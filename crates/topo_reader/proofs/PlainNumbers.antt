@@ -13,7 +13,7 @@ use Rattle.std.proofs.lemmas.Int.{to_z_pos, to_z-of_z, ints}
 use mir.Syntax.{w64}
 use mir.Val.{SFits}
 
-and_true : (a b : Bool) → a && b ≡ true → (a ≡ true) × (b ≡ true)
+pub and_true : (a b : Bool) → a && b ≡ true → (a ≡ true) × (b ≡ true)
 and_true true b e = (refl, e)
 and_true false b e = absurd cc
 
