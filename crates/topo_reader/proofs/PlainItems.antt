@@ -1,7 +1,7 @@
 -- The parts of a list whose first one is a pair of plain numbers, and the items of that pair.
-use Rattle.std.proofs.Common.{◌≡◌, ℕ, suc, ◌+◌, ◌-◌, List, [], ◌∷◌, ◌++◌, length, take, drop, map, Bool, true, false, refl, sym, ap, subst, ◌∙◌, one-add, cond, arith}
-use Rattle.std.specs.Prelude.{◌&&◌, ℤ, Option, Some, None, Ok, reverse}
-use Rattle.std.specs.List.{list_all, prefix_len, take_while}
+use Rattle.std.proofs.Common.{◌≡◌, ℕ, suc, ◌+◌, ◌-◌, List, [], ◌∷◌, ◌++◌, length, take, drop, map, true, false, refl, sym, ap, subst, ◌∙◌, arith}
+use Rattle.std.specs.Prelude.{ℤ, Some, None, Ok, reverse}
+use Rattle.std.specs.List.{list_all, take_while}
 use Rattle.std.proofs.lemmas.Bool.Decides.{nat_tests}
 use Rattle.std.proofs.lemmas.List.{append_assoc, reverse-append, length-append, take_all}
 use Rattle.std.proofs.lemmas.List.Folds.{list_all-append}

@@ -1,6 +1,6 @@
 -- What plain arcs are read as, one after another.
-use Rattle.std.proofs.Common.{◌≡◌, ℕ, suc, ◌+◌, ◌-◌, ◌<◌, ◌≤◌, List, [], ◌∷◌, ◌++◌, length, take, drop, get_or, map, Bool, true, false, refl, sym, ap, subst, ◌∙◌, arith, add-one, drop-cons}
-use Rattle.std.specs.Prelude.{None, Some, Ok, reverse}
+use Rattle.std.proofs.Common.{◌≡◌, ℕ, suc, ◌+◌, ◌-◌, ◌<◌, List, [], ◌∷◌, ◌++◌, length, take, drop, get_or, map, Bool, true, false, refl, sym, ap, subst, ◌∙◌, arith, add-one, drop-cons}
+use Rattle.std.specs.Prelude.{None, Some, Ok}
 use Rattle.std.proofs.lemmas.Bool.Decides.{nat_tests}
 use Rattle.std.proofs.lemmas.List.{length-append, append_assoc, append-nil, reverse-append, length-drop, take_all, map-append, nil_from_length}
 use Rattle.grid_geometry.specs.Position.{Position}
@@ -11,11 +11,11 @@ use Rattle.json_spans.specs.Parts.{Node, skip_step, part_len, has_first}
 use Rattle.json_spans.specs.Trimmed.{trimmed, spaces_before}
 use Rattle.json_spans.specs.Walk.{items}
 use Rattle.json_spans.specs.declared.parts.Skip.TheVariants.{Plain}
-use Rattle.json_spans.proofs.Framing.{Firm, Framed, space_framed, alone}
+use Rattle.json_spans.proofs.Framing.{Firm, space_framed, alone}
 use Rattle.json_spans.proofs.Padding.{Solid, trimmed_is, first_is}
 use Rattle.topo_outline.specs.Faults.{each}
 use Rattle.topo_reader.specs.Positions.{arc, arcs}
-use Rattle.topo_reader.specs.Plain.{PlainArc, Follows, nodes_from}
+use Rattle.topo_reader.specs.Plain.{nodes_from}
 use Rattle.topo_reader.specs.PlainList.{PlainItem, PlainItems, Begins}
 use Rattle.topo_reader.proofs.PlainItems.{first_part, last_part}
 use Rattle.topo_reader.proofs.PlainArcs.{left_len, arc_reads}

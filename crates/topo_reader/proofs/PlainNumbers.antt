@@ -1,5 +1,5 @@
 -- A number read digit by digit is the whole number of its word.
-use Rattle.std.proofs.Common.{rules, to_z, of_z, ◌≡◌, ℕ, zero, suc, ◌+◌, ◌-◌, ◌*◌, ◌<◌, ◌^◌, nat_lt, nat_le, List, [], ◌∷◌, ◌++◌, length, take, drop, get_or, Bool, true, false, refl, sym, ap, ◌∙◌, arith, add-one}
+use Rattle.std.proofs.Common.{rules, to_z, of_z, ◌≡◌, ℕ, zero, suc, ◌+◌, ◌-◌, ◌*◌, ◌<◌, ◌^◌, nat_lt, nat_le, List, [], ◌∷◌, ◌++◌, length, take, drop, get_or, Bool, true, false, refl, ap, ◌∙◌, arith, add-one}
 use Rattle.std.specs.Prelude.{◌&&◌, ◌==◌, ℤ, pos, ◌-ℤ◌, Some, Ok}
 use Rattle.std.specs.List.{list_all, prefix_len}
 use Rattle.std.proofs.lemmas.Bool.Decides.{nat_tests}

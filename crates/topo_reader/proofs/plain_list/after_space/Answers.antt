@@ -1,4 +1,4 @@
-use Rattle.std.proofs.Common.{◌≡◌, ◌<◌, ℕ, true, length, get_or, arith}
+use Rattle.std.proofs.Common.{◌≡◌, ◌<◌, true, length, get_or, arith}
 use Rattle.std.proofs.lemmas.Grind.{common_steps}
 use Rattle.json_spans.specs.Bytes.{is_space}
 use Rattle.topo_reader.proofs.PlainLists.{space_more, space_end, space_last}
