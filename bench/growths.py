@@ -7,8 +7,8 @@ decoded from the map and from a line. Such a run ends with status 3 and `out of 
 answers, and FILE as it was; or with `save fault` and all answers, where the saved text found no room; or,
 where the growth was not needed, as it would have ended. The script has an edit of each kind, as many
 undos, and questions. So it is with `--refused` and two lines more that are refused, where the run may also
-end so when FILE holds the map and FILE2 a front of the list. border_mend mends a map that has decimals, a line
-and sides that cross: such a run ends with the same statuses and lines, and FILE is as it was.
+end so when FILE holds the map and FILE2 a front of the list. border_mend mends a map that has decimals, a line,
+points and sides that cross: such a run ends with the same statuses and lines, and FILE is as it was.
 
 It needs the C compiler `cc`, for the few lines that stand before the C library. The program has to stand
 already (`rt ci` leaves it); another one can be named. The status is 0 where each run ended so.
@@ -35,8 +35,9 @@ SCRIPT = "\n".join(EDITS + ["undo"] * len(EDITS) + QUESTIONS)
 REFUSED = "\nmend\nmove 900 900 1 1"
 LISTED = "21\tbad line\tmend\n22\trefused no vertex\tmove 900 900 1 1\n"
 BEFORE = "what was saved before\n"
-# A bow tie with decimals, beside a line.
-BROKEN = """{"type":"Topology","objects":{"land":{"type":"Polygon","arcs":[[0]]},"way":{"type":"LineString","arcs":[0]}},
+# A bow tie with decimals, beside a line and points.
+BROKEN = """{"type":"Topology","objects":{"land":{"type":"Polygon","arcs":[[0]]},"way":{"type":"LineString","arcs":[0]},
+"posts":{"type":"MultiPoint","coordinates":[[0.25,1],[1e1,-0.5]]}},
 "arcs":[[[0,0],[10.5,10],[10.5,0],[0,10],[0,0]]]}"""
 # More than the growths of the run.
 MANY = 100_000
