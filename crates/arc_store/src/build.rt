@@ -13,12 +13,18 @@ use map_frame::Frame;
 use map_opening::{flattened, lay, regrouped};
 use segment_index::SegIndex;
 use std::alloc::Allocator;
+use std::hash::RandomState;
 use topo_reader::RawDoc;
 
 impl<'a, I: SegIndex, A: Allocator + Copy> Map<'a, I, A> {
-    /// The map of what was read, in an index that is empty. Fails with the least pair of segments in
+    /// The map of what was read, in an index that is empty; positions are hashed by a seed. Fails with the least pair of segments in
     /// conflict, or for want of memory.
-    pub fn build(alloc: A, raw: RawDoc<'a, A>, index: I) -> Result<Map<'a, I, A>, BuildFault>
+    pub fn build(
+        alloc: A,
+        seed: RandomState,
+        raw: RawDoc<'a, A>,
+        index: I,
+    ) -> Result<Map<'a, I, A>, BuildFault>
         requires rings { IsOfRings (view_raw raw) }
         requires empty { I.held index ≡ set.empty }
         ensures built { IfOk result (λ map. map.doc ≡ document_of (view_raw raw.entry)) }
@@ -37,7 +43,7 @@ impl<'a, I: SegIndex, A: Allocator + Copy> Map<'a, I, A> {
             polygons,
         } = raw;
         let flat = flattened(alloc, polygons)?;
-        let opened = lay(alloc, index, flat.rings.as_slice())?;
+        let opened = lay(alloc, seed, index, flat.rings.as_slice())?;
         if let Some((s, t)) = opened.first {
             return Err(BuildFault::Conflict { s, t });
         }

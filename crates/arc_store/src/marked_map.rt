@@ -11,6 +11,7 @@ use ring_store::RingTables;
 use segment_index::SegIndex;
 use shared_arcs::Neighbours;
 use std::alloc::{AllocError, Allocator, Global};
+use std::hash::RandomState;
 use std::marker::Model;
 
 /// A map that stays as it is, with its junctions known. It is seen as its document.
@@ -35,6 +36,11 @@ impl<'m, 'a, I: SegIndex, A: Allocator + Copy> Model for MarkedMap<'m, 'a, I, A>
 }
 
 impl<'m, 'a, I: SegIndex, A: Allocator + Copy> MarkedMap<'m, 'a, I, A> {
+    /// The seed by which the map hashes positions.
+    pub fn seed(&self) -> RandomState {
+        self.rings.vertices.seed()
+    }
+
     /// The feature with this number; `None` where no feature has it. Takes no walk and no memory.
     pub fn feature(&self, n: u32) -> Option<FeatureView<'_, 'a, A>>
         ensures { result ≡ option_map shown (feature self.now n) }

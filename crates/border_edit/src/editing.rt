@@ -3,10 +3,11 @@ ghost use Rattle.std.specs.Prelude.{◌≡◌, false};
 
 use device_io::{FromReader, Sink, Source, ToWriter};
 use edit_program::{KeptScript, NotedAnswers, Refusal, Words, ending_of_run, list_refused};
-use program_ends::{Ending, Stop, end, map_bytes};
+use program_ends::{Ending, Stop, end, hash_seed, map_bytes};
 use script_runner::run;
 use std::fs;
 use std::fs::File;
+use std::hash::RandomState;
 use std::io::{BufWriter, Read, Result as IoResult, Write};
 
 /// The SCRIPT that is standard input.
@@ -61,6 +62,7 @@ fn list<'a>(
 struct Editing<'a> {
     rt: &'a HostRuntime,
     words: &'a Words,
+    seed: RandomState,
     map: &'a [u8],
 }
 
@@ -78,7 +80,16 @@ impl Editing<'_> {
         let alloc = self.rt.alloc();
         let mut saved = ToWriter::new(Vec::new(alloc));
         let depth = self.words.depth;
-        let outcome = run(alloc, alloc, self.map, script, depth, answers, &mut saved);
+        let outcome = run(
+            alloc,
+            alloc,
+            self.seed,
+            self.map,
+            script,
+            depth,
+            answers,
+            &mut saved,
+        );
         let ending = ending_of_run(&outcome, saved.writer.as_slice());
         end(save(self.rt, self.words, ending, errors), errors)
     }
@@ -102,6 +113,7 @@ impl Editing<'_> {
         let outcome = run(
             alloc,
             alloc,
+            self.seed,
             self.map,
             &mut script,
             depth,
@@ -141,10 +153,16 @@ fn edit_files<W: Write + Drop, E: Write>(
     answers: W,
     errors: &mut E,
 ) -> Result<u8, Stop> {
+    let seed = hash_seed(rt)?;
     tell(words, "opening", words.map.as_str(), errors);
     let map = map_bytes(rt, words.map.as_str())?;
     let map = map.as_slice();
-    let editing = Editing { rt, words, map };
+    let editing = Editing {
+        rt,
+        words,
+        seed,
+        map,
+    };
     if words.script.as_str() == STANDARD_INPUT {
         return editing.edit_by(rt.stdin(), answers, errors);
     }
@@ -154,7 +172,7 @@ fn edit_files<W: Write + Drop, E: Write>(
 
 /// Runs a script on a map as the words ask, and saves the map where the whole script was answered.
 /// Answers the status that the program ends with; the answers and the line that says why it ends go
-/// to these two writers. Faults are found in this order: MAP, opening SCRIPT, the run, FILE, FILE2.
+/// to these two writers. Faults are found in this order: a seed, MAP, opening SCRIPT, the run, FILE, FILE2.
 pub(crate) fn edit<W: Write + Drop, E: Write>(
     rt: &HostRuntime,
     words: &Words,

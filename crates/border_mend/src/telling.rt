@@ -5,9 +5,10 @@ use crate::points::{unread, with_points_on_grid};
 use line_dropping::{Dropped, without_lines};
 use mend_report::{Asked, LookFault, Remade, RepairFault, Report, Texts, mend_map, report_map};
 use point_rounding::PointFault;
-use program_ends::{Ending, Stop, end, map_bytes};
+use program_ends::{Ending, Stop, end, hash_seed, map_bytes};
 use std::alloc::Global;
 use std::fs;
+use std::hash::RandomState;
 use std::io::{Result as IoResult, Write};
 
 /// Writes all of a text.
@@ -72,11 +73,12 @@ fn reported<'a>(
 /// What a map is mended to, where its points were put on the grid that is asked for.
 fn mended<'a>(
     alloc: Global,
+    seed: RandomState,
     map: &'a Result<(Vec<u8>, Asked), PointFault>,
     texts: &mut Texts,
 ) -> Result<Remade, RepairFault<'a>> {
     match map {
-        Ok((text, asked)) => mend_map(alloc, alloc, text.as_slice(), *asked, texts),
+        Ok((text, asked)) => mend_map(alloc, alloc, seed, text.as_slice(), *asked, texts),
         Err(fault) => Err(RepairFault::Look(unread(*fault))),
     }
 }
@@ -107,10 +109,11 @@ fn mend_file<W: Write, E: Write>(
     errors: &mut E,
 ) -> Result<u8, Stop> {
     let alloc = rt.alloc();
+    let seed = hash_seed(rt)?;
     let (map, asked) = map_asked(rt, words)?;
     let map = with_points_on_grid(alloc, map, asked);
     let mut texts = Texts::new(alloc, words.places.is_some());
-    let outcome = mended(alloc, &map, &mut texts);
+    let outcome = mended(alloc, seed, &map, &mut texts);
     let ending = ending_of_mending(&outcome, texts.report.as_slice());
     let ending = print_and_place(rt, words, &texts, ending, output);
     let ending = match &outcome {
@@ -121,8 +124,9 @@ fn mend_file<W: Write, E: Write>(
 }
 
 /// Tells what the words ask. Answers the status that the program ends with; the report and the line
-/// that says why it ends go to these two writers. Faults are found in this order: the file of the
-/// map, the map, standard output, the file of the places, FILE, which is written last.
+/// that says why it ends go to these two writers. Faults are found in this order: a seed, where the
+/// map is mended; the file of the map, the map, standard output, the file of the places, and FILE,
+/// which is written last.
 pub(crate) fn tell<W: Write, E: Write>(
     rt: &HostRuntime,
     words: &Words,

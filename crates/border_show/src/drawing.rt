@@ -3,7 +3,7 @@ use crate::asked::Words;
 use crate::ending::ending_of_drawing;
 use crate::showing::{show_change, show_map};
 use map_drawing::{View, Window};
-use program_ends::{Ending, Stop, end, map_bytes};
+use program_ends::{Ending, Stop, end, hash_seed, map_bytes};
 use std::fs;
 use std::io::Write;
 
@@ -30,9 +30,17 @@ fn view_of(words: &Words) -> View {
 /// Draws a map, and ends as the drawing did.
 fn draw_one<E: Write>(rt: &HostRuntime, words: &Words, errors: &mut E) -> Result<u8, Stop> {
     let alloc = rt.alloc();
+    let seed = hash_seed(rt)?;
     let map = map_bytes(rt, words.before.as_str())?;
     let mut text = Vec::new(alloc);
-    let outcome = show_map(alloc, alloc, map.as_slice(), view_of(words), &mut text);
+    let outcome = show_map(
+        alloc,
+        alloc,
+        seed,
+        map.as_slice(),
+        view_of(words),
+        &mut text,
+    );
     let ending = ending_of_drawing(&outcome, text.as_slice());
     Ok(end_with_file(rt, ending, words.out.as_str(), errors))
 }
@@ -45,12 +53,14 @@ fn draw_both<E: Write>(
     errors: &mut E,
 ) -> Result<u8, Stop> {
     let alloc = rt.alloc();
+    let seed = hash_seed(rt)?;
     let before = map_bytes(rt, words.before.as_str())?;
     let after = map_bytes(rt, after)?;
     let mut text = Vec::new(alloc);
     let outcome = show_change(
         alloc,
         alloc,
+        seed,
         before.as_slice(),
         after.as_slice(),
         view_of(words),

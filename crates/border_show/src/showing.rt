@@ -7,6 +7,7 @@ ghost use Rattle.border_show.specs.Shown.{IsEnd, IsEndOfBoth};
 use map_conflict::first_conflict;
 use map_drawing::{Conflict, View, draw_change, draw_map};
 use std::alloc::{AllocError, Allocator, Global};
+use std::hash::RandomState;
 use topo_outline::OpenFault;
 use topo_reader::{RawDoc, read};
 
@@ -48,27 +49,32 @@ fn map_of<'a, A: Allocator + Copy>(
 
 /// The first conflict of the map that the bytes are. They are read anew: a map that is opened is taken
 /// apart.
-fn conflict_of<'a>(heap: Global, bytes: &'a [u8]) -> Result<Option<Conflict>, ShowFault<'a>>
+fn conflict_of<'a>(
+    heap: Global,
+    seed: RandomState,
+    bytes: &'a [u8],
+) -> Result<Option<Conflict>, ShowFault<'a>>
     ensures { IfErr result (λ fault. IsEnd fault bytes.now) }
 {
     let map = match map_of(heap, heap, bytes) {
         Ok(map) => map,
         Err(fault) => return Err(fault),
     };
-    Ok(first_conflict(heap, map)?)
+    Ok(first_conflict(heap, seed, map)?)
 }
 
 /// Appends the picture of a map to `text`.
 pub(crate) fn show_map<'a, A: Allocator + Copy>(
     alloc: A,
     heap: Global,
+    seed: RandomState,
     bytes: &'a [u8],
     view: View,
     text: &mut Vec<u8, A>,
 ) -> Result<(), ShowFault<'a>>
     ensures { IfErr result (λ fault. IsEnd fault bytes.now) }
 {
-    let conflict = match conflict_of(heap, bytes) {
+    let conflict = match conflict_of(heap, seed, bytes) {
         Ok(conflict) => conflict,
         Err(fault) => return Err(fault),
     };
@@ -84,6 +90,7 @@ pub(crate) fn show_map<'a, A: Allocator + Copy>(
 pub(crate) fn show_change<'a, A: Allocator + Copy>(
     alloc: A,
     heap: Global,
+    seed: RandomState,
     before: &'a [u8],
     after: &'a [u8],
     view: View,
@@ -95,7 +102,7 @@ pub(crate) fn show_change<'a, A: Allocator + Copy>(
         Ok(map) => map,
         Err(fault) => return Err(fault),
     };
-    let conflict = match conflict_of(heap, after) {
+    let conflict = match conflict_of(heap, seed, after) {
         Ok(conflict) => conflict,
         Err(fault) => return Err(fault),
     };

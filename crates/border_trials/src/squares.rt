@@ -1,4 +1,5 @@
 //! Squares that share a side, and calls on their borders.
+use fixed_seed::fixed_seed;
 use grid_geometry::Pos;
 use shared_arcs::{Borders, Neighbours, Put};
 use std::alloc::{AllocError, Allocator, Global};
@@ -23,7 +24,8 @@ pub(crate) fn holds<R: Abort>(rt: &R, what: &str, is_so: bool) {
 
 /// The keys of so many vertices.
 pub(crate) fn vertex_keys<R: Abort>(rt: &R, alloc: Global, count: i64) -> Vec<VertexKey> {
-    let mut vertices = Vertices::new(alloc);
+    let seed = fixed_seed().expect(rt, "a seed");
+    let mut vertices = Vertices::new(alloc, seed);
     let mut keys = Vec::new(alloc);
     for n in 0..count {
         let p = Pos::new(n, 0).expect(rt, "in range");

@@ -1,5 +1,6 @@
 // A key through the changes of its vertex, and calls that are refused memory.
 use crate::squares::MEMORY;
+use fixed_seed::fixed_seed;
 use grid_geometry::Pos;
 use refusing_allocator::Refusing;
 use std::alloc::{Allocator, Global};
@@ -31,7 +32,8 @@ fn keep_key<R: Abort>(rt: &R, vertices: &mut Vertices) {
 
 #[test]
 fn a_key_stays_with_its_vertex(rt: HostRuntime) {
-    keep_key(&rt, &mut Vertices::new(rt.alloc()));
+    let seed = fixed_seed().expect(&rt, "a seed");
+    keep_key(&rt, &mut Vertices::new(rt.alloc(), seed));
 }
 
 /// Whether a vertex stands at the position under this key, by both looks.
@@ -96,7 +98,9 @@ fn fill<R: Abort, A: Allocator + Copy>(
 /// Whether the growth of this number is one of twenty additions.
 fn is_refused<R: Abort>(rt: &R, alloc: Global, nth: u64) -> bool {
     let refusing = Refusing::new(alloc, nth);
-    let refused = fill(rt, &mut Vertices::new(&refusing), &mut Vertices::new(alloc));
+    let seed = fixed_seed().expect(rt, "a seed");
+    let mut vertices = Vertices::new(&refusing, seed);
+    let refused = fill(rt, &mut vertices, &mut Vertices::new(alloc, seed));
     assert!(rt; refused == u32::from(refusing.was_refused()));
     refused == 1
 }

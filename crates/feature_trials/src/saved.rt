@@ -4,6 +4,7 @@ use crate::drawn::{Drawn, Tally, draw};
 use crate::squares::{map_of, squares_text};
 use arc_store::Map;
 use device_io::{FromReader, ToWriter};
+use fixed_seed::fixed_seed;
 use grid_geometry::Seg;
 use script_runner::run;
 use segment_index::GridIndex;
@@ -41,7 +42,18 @@ fn texts_of<R: Abort>(rt: &R, alloc: Global, map: &str, script: &str) -> Texts {
     let mut sink = ToWriter::new(Vec::new(alloc));
     let mut saved = ToWriter::new(Vec::new(alloc));
     let map = map.as_bytes();
-    let ended = run(alloc, alloc, map, &mut source, 100, &mut sink, &mut saved).is_ok();
+    let seed = fixed_seed().expect(rt, "a seed");
+    let ended = run(
+        alloc,
+        alloc,
+        seed,
+        map,
+        &mut source,
+        100,
+        &mut sink,
+        &mut saved,
+    )
+    .is_ok();
     assert!(rt; ended, "the run has no fault");
     Texts {
         answers: sink.writer,

@@ -3,6 +3,7 @@ ghost use Rattle.std.specs.Prelude.{◌≡◌};
 ghost use Rattle.std.specs.FinSet as set;
 
 use arc_store::Map;
+use fixed_seed::fixed_seed;
 use grid_geometry::Rect;
 use segment_index::GridIndex;
 use std::alloc::{AllocError, Global};
@@ -73,11 +74,12 @@ fn grid<R: Abort>(rt: &R, alloc: Global, extent: Option<Rect>) -> GridIndex
 
 /// The map of the text, in a grid of its extent.
 pub(crate) fn map_of<'a, R: Abort>(rt: &R, alloc: Global, text: &'a str) -> Map<'a, GridIndex> {
+    let seed = fixed_seed().expect(rt, "a seed");
     let Ok(raw) = read(alloc, alloc, text.as_bytes()) else {
         panic!(rt; "the text opens");
     };
     let index = grid(rt, alloc, raw.extent());
-    match Map::build(alloc, raw, index) {
+    match Map::build(alloc, seed, raw, index) {
         Ok(map) => map,
         Err(_) => panic!(rt; "no two segments conflict"),
     }

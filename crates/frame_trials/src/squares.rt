@@ -6,12 +6,14 @@ ghost use Rattle.ring_machine.specs.Ring.{is_ring};
 ghost use Rattle.ring_store.specs.Laid.{AreThere};
 ghost use Rattle.ring_store.specs.Tables.{AreStanding};
 
+use fixed_seed::fixed_seed;
 use grid_geometry::Pos;
 use refusing_allocator::Refusing;
 use ring_store::{Counted, LaidRing, RingTables, gather_rings, lay_rings, take_out_rings};
 use segment_index::ListIndex;
 use shared_arcs::Borders;
 use std::alloc::{AllocError, Allocator, Global};
+use std::hash::RandomState;
 use std::process::Abort;
 use vertex_index::{VertexKey, Vertices};
 
@@ -55,13 +57,13 @@ struct Squares<A: Allocator + Copy = Global> {
 
 impl<A: Allocator + Copy> Squares<A> {
     /// No ring.
-    fn new(alloc: A) -> Self
+    fn new(alloc: A, seed: RandomState) -> Self
         ensures { AreStanding result.tables }
     {
         Squares {
             tables: RingTables {
                 alloc,
-                vertices: Vertices::new(alloc),
+                vertices: Vertices::new(alloc, seed),
                 borders: Borders::new(alloc),
                 index: Counted::new(ListIndex::new(alloc), 0),
             },
@@ -139,7 +141,8 @@ fn share_a_side<R: Abort>(rt: &R, alloc: Global, squares: &mut Squares)
 
 #[test]
 fn squares_share_a_side(rt: HostRuntime) {
-    share_a_side(&rt, rt.alloc(), &mut Squares::new(rt.alloc()));
+    let seed = fixed_seed().expect(&rt, "a seed");
+    share_a_side(&rt, rt.alloc(), &mut Squares::new(rt.alloc(), seed));
 }
 
 /// The numbers of the two rings that were laid.
@@ -177,7 +180,8 @@ fn gather_right<R: Abort>(rt: &R, alloc: Global, squares: &mut Squares)
 // in the order in which they were given, each from its first position on
 #[test]
 fn rings_are_gathered_by_number(rt: HostRuntime) {
-    gather_right(&rt, rt.alloc(), &mut Squares::new(rt.alloc()));
+    let seed = fixed_seed().expect(&rt, "a seed");
+    gather_right(&rt, rt.alloc(), &mut Squares::new(rt.alloc(), seed));
 }
 
 /// Whether there are so many vertices and segments.
@@ -208,7 +212,8 @@ fn take_both_out<R: Abort>(rt: &R, alloc: Global, squares: &mut Squares)
 // the other square keeps its sides and corners, until it goes too
 #[test]
 fn squares_taken_out(rt: HostRuntime) {
-    take_both_out(&rt, rt.alloc(), &mut Squares::new(rt.alloc()));
+    let seed = fixed_seed().expect(&rt, "a seed");
+    take_both_out(&rt, rt.alloc(), &mut Squares::new(rt.alloc(), seed));
 }
 
 /// Lays rings, and again if a growth was refused. Gives whether it was.
@@ -232,9 +237,10 @@ fn lay_again<R: Abort, A: Allocator + Copy>(
 /// Lays both squares where the growth of this number is refused, and again if it was. Gives
 /// whether it was.
 fn is_refused<R: Abort>(rt: &R, alloc: Global, growth: u64) -> bool {
+    let seed = fixed_seed().expect(rt, "a seed");
     let refusing = Refusing::new(alloc, growth);
     let refused = match two_squares(rt, &refusing) {
-        Ok(rings) => lay_again(rt, &mut Squares::new(&refusing), rings.as_slice()),
+        Ok(rings) => lay_again(rt, &mut Squares::new(&refusing, seed), rings.as_slice()),
         Err(_) => true,
     };
     assert!(rt; refused == refusing.was_refused(), "growth {growth}");

@@ -11,6 +11,7 @@ use device_io::ToWriter;
 use grid_geometry::Pos;
 use segment_index::TreeIndex;
 use std::alloc::Global;
+use std::hash::RandomState;
 use std::process::ExitCode;
 use topo_reader::read;
 use topo_writer::write;
@@ -28,11 +29,12 @@ const DEPTH: usize = 10;
 /// An editor whose map is found through a tree, in the memory of the program.
 type MapEditor<'a> = Editor<'a, TreeIndex<Global>, Global>;
 
-/// An editor of the map of a text; `None` where the map does not open.
-fn opened(alloc: Global, text: &[u8]) -> Option<MapEditor<'_>> {
+/// An editor of the map of a text, whose positions are hashed by a seed; `None` where the map does not
+/// open.
+fn opened(alloc: Global, seed: RandomState, text: &[u8]) -> Option<MapEditor<'_>> {
     let raw = read(alloc, alloc, text).ok()?;
     let index = TreeIndex::new(alloc, raw.extent());
-    let map = Map::build(alloc, raw, index).ok()?;
+    let map = Map::build(alloc, seed, raw, index).ok()?;
     Editor::new(alloc, map, DEPTH).ok()
 }
 
@@ -83,7 +85,8 @@ fn edit(rt: &HostRuntime, editor: &mut MapEditor<'_>) -> Option<()> {
 
 /// Runs the example; `None` where that fails.
 fn run(rt: &HostRuntime) -> Option<()> {
-    edit(rt, &mut opened(rt.alloc(), SQUARES.as_bytes())?)
+    let seed = RandomState::new(rt).ok()?;
+    edit(rt, &mut opened(rt.alloc(), seed, SQUARES.as_bytes())?)
 }
 
 fn main(rt: HostRuntime) -> ExitCode {

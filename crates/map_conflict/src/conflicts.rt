@@ -9,6 +9,7 @@ use arc_store::{BuildFault, Map};
 use map_drawing::Conflict;
 use segment_index::TreeIndex;
 use std::alloc::{AllocError, Global};
+use std::hash::RandomState;
 use topo_reader::RawDoc;
 
 /// The conflict for which no map was built.
@@ -25,13 +26,17 @@ fn of_fault(fault: BuildFault) -> Result<Conflict, AllocError>
 }
 
 /// The least pair of segments in conflict, which an editor tells where it does not open the map.
-pub fn first_conflict(heap: Global, map: RawDoc<'_, Global>) -> Result<Option<Conflict>, AllocError>
+pub fn first_conflict(
+    heap: Global,
+    seed: RandomState,
+    map: RawDoc<'_, Global>,
+) -> Result<Option<Conflict>, AllocError>
     requires { IsOfRings (view_raw map) }
     ensures { IfOk result (λ conflict. pair_of conflict
         ≡ first_pair (document_of (view_raw map.entry))) }
 {
     let index = TreeIndex::new(heap, map.extent());
-    let fault = Map::build(heap, map, index).err();
+    let fault = Map::build(heap, seed, map, index).err();
     match fault {
         None => Ok(None),
         Some(fault) => Ok(Some(of_fault(fault)?)),

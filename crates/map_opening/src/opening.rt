@@ -15,11 +15,14 @@ use ring_store::{Counted, RingTables};
 use segment_index::SegIndex;
 use shared_arcs::Borders;
 use std::alloc::{AllocError, Allocator};
+use std::hash::RandomState;
 use vertex_index::Vertices;
 
-/// Lays these rings, in an index that is empty. Fails for want of memory alone.
+/// Lays these rings, in an index that is empty; positions are hashed by a seed. Fails for want of
+/// memory alone.
 pub fn lay<I: SegIndex, A: Allocator + Copy>(
     alloc: A,
+    seed: RandomState,
     index: I,
     rings: &[Vec<Pos, A>],
 ) -> Result<OpenedRings<I, A>, AllocError>
@@ -30,7 +33,7 @@ pub fn lay<I: SegIndex, A: Allocator + Copy>(
         o.first o.positions) }
     ensures cells { IfOk result (λ o. o.tables.index.cells ≡ I.cells index) }
 {
-    let mut vertices = Vertices::new(alloc);
+    let mut vertices = Vertices::new(alloc, seed);
     let keyed = key_all(alloc, &mut vertices, rings)?;
     let mut borders = Borders::new(alloc);
     mark_junctions(alloc, &mut borders, keyed.as_slice())?;

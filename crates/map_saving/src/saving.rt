@@ -13,6 +13,7 @@ use arc_store::{BuildFault, Map};
 use device_io::ToWriter;
 use segment_index::TreeIndex;
 use std::alloc::{Allocator, Global};
+use std::hash::RandomState;
 use topo_outline::OpenFault;
 use topo_reader::{RawDoc, read};
 use topo_writer::write;
@@ -31,6 +32,7 @@ fn unbuilt(fault: BuildFault) -> SaveFault
 fn written<'a, A: Allocator + Copy>(
     alloc: A,
     heap: Global,
+    seed: RandomState,
     raw: RawDoc<'a, A>,
 ) -> Result<Vec<u8, A>, SaveFault>
     requires { IsOfRings (view_raw raw) }
@@ -40,7 +42,7 @@ fn written<'a, A: Allocator + Copy>(
     ensures fault { IfErr result (IsUnsaved (document_of (view_raw raw.entry))) }
 {
     let index = TreeIndex::new(heap, raw.extent());
-    let map = match Map::build(alloc, raw, index) {
+    let map = match Map::build(alloc, seed, raw, index) {
         Ok(map) => map,
         Err(fault) => return Err(unbuilt(fault)),
     };
@@ -53,7 +55,12 @@ fn written<'a, A: Allocator + Copy>(
 }
 
 /// Opens a text, and lets the map go.
-fn opened<A: Allocator + Copy>(alloc: A, heap: Global, text: &[u8]) -> Result<(), SaveFault>
+fn opened<A: Allocator + Copy>(
+    alloc: A,
+    heap: Global,
+    seed: RandomState,
+    text: &[u8],
+) -> Result<(), SaveFault>
     ensures opened { OnOk result (HasOpened text.now) }
     ensures fault { IfErr result (IsUnopened text.now) }
 {
@@ -67,7 +74,7 @@ fn opened<A: Allocator + Copy>(alloc: A, heap: Global, text: &[u8]) -> Result<()
         }
     };
     let index = TreeIndex::new(heap, raw.extent());
-    match Map::build(alloc, raw, index) {
+    match Map::build(alloc, seed, raw, index) {
         Ok(_map) => Ok(()),
         Err(BuildFault::Conflict { .. }) => Err(SaveFault::Unopened),
         Err(BuildFault::OutOfMemory) => Err(SaveFault::OutOfMemory),
@@ -82,6 +89,7 @@ fn opened<A: Allocator + Copy>(alloc: A, heap: Global, text: &[u8]) -> Result<()
 pub fn saved_text<'a, A: Allocator + Copy>(
     alloc: A,
     heap: Global,
+    seed: RandomState,
     raw: RawDoc<'a, A>,
 ) -> Result<Vec<u8, A>, SaveFault>
     requires { IsOfRings (view_raw raw) }
@@ -92,8 +100,8 @@ pub fn saved_text<'a, A: Allocator + Copy>(
         (λ text. OpensAgain text.items (document_of (view_raw raw.entry))) }
     ensures fault { IfErr result (IsUnsaved (document_of (view_raw raw.entry))) }
 {
-    let text = written(alloc, heap, raw)?;
-    match opened(alloc, heap, text.as_slice()) {
+    let text = written(alloc, heap, seed, raw)?;
+    match opened(alloc, heap, seed, text.as_slice()) {
         Ok(()) => Ok(text),
         Err(fault) => Err(fault),
     }

@@ -13,6 +13,7 @@ use map_saving::{SaveFault, saved_text};
 use segment_index::TreeIndex;
 use segment_paths::SegmentPath;
 use std::alloc::{AllocError, Allocator, Global};
+use std::hash::RandomState;
 use topo_outline::Limit;
 use topo_reader::RawDoc;
 
@@ -99,6 +100,7 @@ impl From<SaveFault> for RemakeFault {
 pub(crate) fn remake<'a, A: Allocator + Copy>(
     alloc: A,
     heap: Global,
+    seed: RandomState,
     map: RawDoc<'a, A>,
     polygons: &[Vec<Vec<Vec<Pos, A>, A>, A>],
 ) -> Result<Remade<A>, RemakeFault>
@@ -110,7 +112,7 @@ pub(crate) fn remake<'a, A: Allocator + Copy>(
     let index = TreeIndex::new(heap, map.extent());
     let Mending { map, paths, parted } = mend(alloc, index, map)?;
     let areas = area_changes(alloc, paths.as_slice(), polygons, map.polygons.as_slice())?;
-    let text = saved_text(alloc, heap, map)?;
+    let text = saved_text(alloc, heap, seed, map)?;
     Ok(Remade {
         paths,
         parted,

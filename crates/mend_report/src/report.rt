@@ -32,6 +32,7 @@ use map_mending::Parted;
 use place_text::text_of_places;
 use segment_paths::SegmentPath;
 use std::alloc::{AllocError, Allocator, Global};
+use std::hash::RandomState;
 use topo_outline::RingAt;
 use topo_reader::RawDoc;
 use walk_faults::{Crossing, Findings, Repeat, Touch};
@@ -430,6 +431,7 @@ fn with_transform<'x, 'a: 'x, A: Allocator + Copy>(
 fn mend_read<'x, 'a: 'x, A: Allocator + Copy>(
     alloc: A,
     heap: Global,
+    seed: RandomState,
     transform: Option<&'x [u8]>,
     seen: Seen<'a, A>,
     texts: &mut Texts<A>,
@@ -464,7 +466,7 @@ fn mend_read<'x, 'a: 'x, A: Allocator + Copy>(
     };
     let walks = copied(alloc, map.polygons.as_slice())?;
     let map = with_transform(transform, map);
-    let remade = match remake(alloc, heap, map, walks.as_slice()) {
+    let remade = match remake(alloc, heap, seed, map, walks.as_slice()) {
         Ok(remade) => remade,
         Err(fault) => return Err(RepairFault::Remake(fault)),
     };
@@ -480,11 +482,12 @@ fn mend_read<'x, 'a: 'x, A: Allocator + Copy>(
 /// `asked.most` lines, and puts the places of what was found, and the paths, into `texts.places`, where
 /// they are asked for. Answers the paths, the polygons that were taken apart, how areas changed, and the
 /// text to be saved, which opens. A map of whole numbers is read as the editor reads it, unless its grid
-/// is made finer. Fails as `map_of`, `look` and `remake` do, and then `texts` may have a
+/// is made finer; positions are hashed by a seed. Fails as `map_of`, `look` and `remake` do, and then `texts` may have a
 /// part of a report.
 pub fn mend_map<'a, A: Allocator + Copy>(
     alloc: A,
     heap: Global,
+    seed: RandomState,
     bytes: &'a [u8],
     asked: Asked,
     texts: &mut Texts<A>,
@@ -520,5 +523,5 @@ pub fn mend_map<'a, A: Allocator + Copy>(
         most: asked.most,
         dropped: asked.dropped,
     };
-    mend_read(alloc, heap, transform.text(), seen, texts)
+    mend_read(alloc, heap, seed, transform.text(), seen, texts)
 }

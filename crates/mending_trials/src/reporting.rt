@@ -1,4 +1,5 @@
 // A small map, mended with its report and its places.
+use fixed_seed::fixed_seed;
 use mend_report::{Asked, LookFault, Remade, RemakeFault, RepairFault, Texts, mend_map};
 use refusing_allocator::Refusing;
 use std::alloc::{Allocator, Global};
@@ -31,7 +32,9 @@ fn is_refused_in_turn<R: Abort>(rt: &R, alloc: Global) -> Result<(), Fail> {
         let refusing = Refusing::new(alloc, nth);
         let mut texts = Texts::new(&refusing, true);
         let asked = Asked::with_most(1000);
-        let outcome = mend_map(&refusing, alloc, BOW_TIE.as_bytes(), asked, &mut texts);
+        let seed = fixed_seed().expect(rt, "a seed");
+        let map = BOW_TIE.as_bytes();
+        let outcome = mend_map(&refusing, alloc, seed, map, asked, &mut texts);
         if !refusing.was_refused() {
             assert!(rt; outcome.is_ok());
             assert_eq!(rt; texts.report.as_slice(), REPORT.as_bytes());

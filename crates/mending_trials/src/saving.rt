@@ -1,4 +1,5 @@
 // Small maps, saved.
+use fixed_seed::fixed_seed;
 use map_saving::{SaveFault, saved_text};
 use refusing_allocator::Refusing;
 use std::alloc::{Allocator, Global};
@@ -23,8 +24,11 @@ fn text_of<A: Allocator + Copy>(
     heap: A,
     map: &'static str,
 ) -> Result<Vec<u8, A>, SaveFault> {
+    let Some(seed) = fixed_seed() else {
+        return Err(SaveFault::OutOfMemory);
+    };
     match read(heap, alloc, map.as_bytes()) {
-        Ok(raw) => saved_text(heap, alloc, raw),
+        Ok(raw) => saved_text(heap, alloc, seed, raw),
         Err(_) => Err(SaveFault::OutOfMemory),
     }
 }

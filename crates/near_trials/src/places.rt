@@ -5,6 +5,7 @@ ghost use Rattle.ring_machine.specs.Parts.{rings};
 ghost use Rattle.ring_boxes.specs.Covering.{Covers};
 
 use arc_store::Map;
+use fixed_seed::fixed_seed;
 use grid_geometry::Pos;
 use point_queries::{At, at, at_near, boxes_of};
 use ring_boxes::RingBoxes;
@@ -27,11 +28,12 @@ const LONG: &str =
 
 /// The map of the text.
 fn map_of<'a, R: Abort>(rt: &R, alloc: Global, text: &'a str) -> Map<'a, TreeIndex> {
+    let seed = fixed_seed().expect(rt, "a seed");
     let Ok(raw) = read(alloc, alloc, text.as_bytes()) else {
         panic!(rt; "the text opens");
     };
     let index = TreeIndex::new(alloc, raw.extent());
-    match Map::build(alloc, raw, index) {
+    match Map::build(alloc, seed, raw, index) {
         Ok(map) => map,
         Err(_) => panic!(rt; "no two segments conflict"),
     }

@@ -4,7 +4,7 @@ use Rattle.std.specs.declared.io.ErrorKind.{ErrorKind}
 use Rattle.std.specs.declared.io.ErrorKind.TheVariants as kind
 use Rattle.topo_outline.specs.declared.fault.OpenFault.{OpenFault}
 use Rattle.program_ends.specs.declared.diagnostic.Diagnostic.{Diagnostic}
-use Rattle.program_ends.specs.declared.diagnostic.Diagnostic.TheVariants.{Open, Findings, TooLarge, Unmended, Unparted, Map, Script, Write, Save, Refused, NoMemory}
+use Rattle.program_ends.specs.declared.diagnostic.Diagnostic.TheVariants.{Open, Findings, TooLarge, Unmended, Unparted, Map, Script, Write, Save, Refused, NoSeed, NoMemory}
 use Rattle.program_ends.specs.declared.stop.Stop.{Stop}
 use Rattle.program_ends.specs.declared.stop.Stop.TheVariants as stop
 
@@ -18,6 +18,7 @@ abbrev pub stop_line : Stop → Option Diagnostic
 stop_line (stop.Words error) = None
 stop_line stop.Map = Some Map
 stop_line stop.Script = Some Script
+stop_line stop.NoSeed = Some NoSeed
 stop_line stop.NoMemory = Some NoMemory
 
 -- what is told where a file could not be written, by the kind of the error: a refused growth, or else
@@ -50,4 +51,5 @@ line_text Script = Some (codes "script fault")
 line_text Write = Some (codes "write fault")
 line_text Save = Some (codes "save fault")
 line_text Refused = Some (codes "refused fault")
+line_text NoSeed = Some (codes "no random seed")
 line_text NoMemory = Some (codes "out of memory")

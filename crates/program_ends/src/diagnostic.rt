@@ -30,6 +30,8 @@ pub enum Diagnostic<'a> {
     Save,
     /// The refused lines can't be written in FILE2: `refused fault`.
     Refused,
+    /// The operating system gave no random seed: `no random seed`.
+    NoSeed,
     /// A growth was refused: `out of memory`.
     NoMemory,
 }
@@ -91,6 +93,7 @@ impl<'a> fmt::Display for Diagnostic<'a> {
             Diagnostic::Write => f.write_str("write fault"),
             Diagnostic::Save => f.write_str("save fault"),
             Diagnostic::Refused => f.write_str("refused fault"),
+            Diagnostic::NoSeed => f.write_str("no random seed"),
             Diagnostic::NoMemory => f.write_str("out of memory"),
         }
     }

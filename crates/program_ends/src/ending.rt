@@ -56,6 +56,7 @@ impl<'a> Ending<'a> {
             Stop::Words(_) => None,
             Stop::Map => Some(Diagnostic::Map),
             Stop::Script => Some(Diagnostic::Script),
+            Stop::NoSeed => Some(Diagnostic::NoSeed),
             Stop::NoMemory => Some(Diagnostic::NoMemory),
         };
         Ending {

@@ -6,6 +6,7 @@ use crate::ending::Ending;
 use crate::stop::Stop;
 use std::env;
 use std::fs::File;
+use std::hash::RandomState;
 use std::io::{Read, Write};
 
 /// The words that the program was called with, its name first.
@@ -17,6 +18,13 @@ pub fn given_words(rt: &HostRuntime) -> Result<Vec<String>, Stop>
         given.push(word)?;
     }
     Ok(given)
+}
+
+/// A seed of the operating system, by which what a file holds is hashed.
+pub fn hash_seed(rt: &HostRuntime) -> Result<RandomState, Stop>
+    ensures { IfErr result (λ stop. stop ≡ Stop.NoSeed) }
+{
+    RandomState::new(rt).map_err(|_| Stop::NoSeed)
 }
 
 /// One byte more than a map may have, so that a longer one is found too large.

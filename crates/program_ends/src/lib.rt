@@ -9,7 +9,7 @@ mod stop;
 
 pub use diagnostic::Diagnostic;
 pub use ending::Ending;
-pub use files::{end, end_stopped, given_words, map_bytes};
+pub use files::{end, end_stopped, given_words, hash_seed, map_bytes};
 pub use stop::Stop;
 
 /// The version of the programs.

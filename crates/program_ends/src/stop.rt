@@ -15,6 +15,8 @@ pub enum Stop {
     Map,
     /// The file of a script can't be opened.
     Script,
+    /// The operating system gave no random seed.
+    NoSeed,
     /// A growth was refused.
     NoMemory,
 }
@@ -42,7 +44,7 @@ impl Stop {
                 Mistake::DisplayHelp | Mistake::DisplayVersion => 0,
                 _ => 64,
             },
-            Stop::Map | Stop::Script | Stop::NoMemory => 3,
+            Stop::Map | Stop::Script | Stop::NoSeed | Stop::NoMemory => 3,
         }
     }
 }

@@ -2,6 +2,7 @@
 ghost use Rattle.std.specs.Prelude.{◌≡◌, ◌≤◌, false};
 
 use device_io::{FailAt, FromReader, Source, ToWriter};
+use fixed_seed::fixed_seed;
 use script_runner::{RunFault, Summary, run};
 use std::alloc::{Allocator, Global};
 use std::process::Abort;
@@ -46,7 +47,17 @@ pub(crate) fn tell_by<R: Abort, A: Allocator + Copy, S: Source>(
 {
     let mut sink = ToWriter::new(Vec::new(alloc));
     let mut saved = ToWriter::new(Vec::new(alloc));
-    let outcome = run(heap, alloc, map, source, depth, &mut sink, &mut saved);
+    let seed = fixed_seed().expect(rt, "a seed");
+    let outcome = run(
+        heap,
+        alloc,
+        seed,
+        map,
+        source,
+        depth,
+        &mut sink,
+        &mut saved,
+    );
     let end = end_of(rt, alloc, &outcome);
     Told {
         answers: sink.writer,
@@ -71,7 +82,17 @@ pub(crate) fn tell_unwritten<R: Abort>(
     let mut sink = FailAt::new(ToWriter::new(Vec::new(alloc)), calls);
     let mut saved = ToWriter::new(Vec::new(alloc));
     let mut source = FromReader::new(script);
-    let outcome = run(alloc, alloc, map, &mut source, 100, &mut sink, &mut saved);
+    let seed = fixed_seed().expect(rt, "a seed");
+    let outcome = run(
+        alloc,
+        alloc,
+        seed,
+        map,
+        &mut source,
+        100,
+        &mut sink,
+        &mut saved,
+    );
     let end = end_of(rt, alloc, &outcome);
     Told {
         answers: sink.device.writer,
@@ -91,7 +112,17 @@ pub(crate) fn tell_unsaved<R: Abort>(
     let mut sink = ToWriter::new(Vec::new(alloc));
     let mut saved = FailAt::new(ToWriter::new(Vec::new(alloc)), calls);
     let mut source = FromReader::new(script);
-    let outcome = run(alloc, alloc, map, &mut source, 100, &mut sink, &mut saved);
+    let seed = fixed_seed().expect(rt, "a seed");
+    let outcome = run(
+        alloc,
+        alloc,
+        seed,
+        map,
+        &mut source,
+        100,
+        &mut sink,
+        &mut saved,
+    );
     let end = end_of(rt, alloc, &outcome);
     Told {
         answers: sink.writer,

@@ -76,6 +76,10 @@ impl<I: SegIndex> SegIndex for Counted<I> {
         self.index.candidates(rect, out)
     }
 
+    fn gives_once(&self) -> bool {
+        self.index.gives_once()
+    }
+
     fn copy(&self) -> Result<Self, AllocError> {
         let index = self.index.copy()?;
         Ok(Counted {

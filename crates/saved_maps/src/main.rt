@@ -6,6 +6,7 @@ use device_io::{FromReader, ToWriter};
 use script_runner::run;
 use std::alloc::{AllocError, Global};
 use std::fs;
+use std::hash::RandomState;
 use std::process::ExitCode;
 
 /// What a run gave to its two writers.
@@ -27,11 +28,21 @@ fn questions(alloc: Global, features: u32) -> Result<String, AllocError> {
 
 /// The answers to the script on the map, and the map that is saved. `None` where the run ended in a
 /// fault.
-fn texts_of(alloc: Global, map: &[u8], script: &[u8]) -> Option<Texts> {
+fn texts_of(alloc: Global, seed: RandomState, map: &[u8], script: &[u8]) -> Option<Texts> {
     let mut source = FromReader::new(script);
     let mut sink = ToWriter::new(Vec::new(alloc));
     let mut saved = ToWriter::new(Vec::new(alloc));
-    if run(alloc, alloc, map, &mut source, 100, &mut sink, &mut saved).is_err() {
+    let outcome = run(
+        alloc,
+        alloc,
+        seed,
+        map,
+        &mut source,
+        100,
+        &mut sink,
+        &mut saved,
+    );
+    if outcome.is_err() {
         return None;
     }
     Some(Texts {
@@ -52,14 +63,19 @@ fn weight(text: &[u8]) -> usize {
 }
 
 /// What is told of a map with this many features.
-fn told(alloc: Global, map: &[u8], features: u32) -> Result<&'static str, AllocError> {
+fn told(
+    alloc: Global,
+    seed: RandomState,
+    map: &[u8],
+    features: u32,
+) -> Result<&'static str, AllocError> {
     let counted = format!(in alloc; "features {features} ")?;
     let script = questions(alloc, features)?;
     let script = script.as_str().as_bytes();
-    let Some(first) = texts_of(alloc, map, script) else {
+    let Some(first) = texts_of(alloc, seed, map, script) else {
         return Ok("not opened");
     };
-    let Some(second) = texts_of(alloc, first.saved.as_slice(), script) else {
+    let Some(second) = texts_of(alloc, seed, first.saved.as_slice(), script) else {
         return Ok("not opened again");
     };
     Ok(if second.answers.as_slice() != first.answers.as_slice() {
@@ -86,11 +102,14 @@ fn main(rt: HostRuntime) -> ExitCode {
         ("ny8-tracts.json", 281),
         ("ne-countries50.json", 241),
     ];
+    let Ok(seed) = RandomState::new(&rt) else {
+        return ExitCode::from(1);
+    };
     for (name, features) in maps {
         let Ok(map) = fs::read(&rt, name) else {
             return ExitCode::from(1);
         };
-        let Ok(text) = told(rt.alloc(), map.as_slice(), features) else {
+        let Ok(text) = told(rt.alloc(), seed, map.as_slice(), features) else {
             return ExitCode::from(1);
         };
         if println!(rt; "{name}: {text}").is_err() {

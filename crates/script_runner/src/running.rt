@@ -15,6 +15,7 @@ use arc_store::{BuildFault, Map};
 use device_io::{Sink, Source};
 use segment_index::TreeIndex;
 use std::alloc::{Allocator, Global};
+use std::hash::RandomState;
 use topo_outline::OpenFault;
 use topo_reader::read;
 use topo_writer::{WriteFault, write};
@@ -41,6 +42,7 @@ fn not_built<'a>(fault: BuildFault) -> RunFault<'a>
 fn open<'a, A: Allocator + Copy>(
     alloc: A,
     heap: Global,
+    seed: RandomState,
     bytes: &'a [u8],
 ) -> Result<Map<'a, TreeIndex<A>, A>, RunFault<'a>>
     ensures opened { IfOk result (λ map. OpensAs bytes.now map.doc) }
@@ -54,7 +56,7 @@ fn open<'a, A: Allocator + Copy>(
         Err(fault) => return Err(RunFault::Open(fault)),
     };
     let index = TreeIndex::new(alloc, raw.extent());
-    match Map::build(alloc, raw, index) {
+    match Map::build(alloc, seed, raw, index) {
         Ok(map) => Ok(map),
         Err(fault) => Err(not_built(fault)),
     }
@@ -137,6 +139,7 @@ fn save<A: Allocator + Copy, V: Sink>(
 pub fn run<'a, A: Allocator + Copy, R: Source, W: Sink, V: Sink>(
     alloc: A,
     heap: Global,
+    seed: RandomState,
     map: &'a [u8],
     script: &mut R,
     depth: usize,
@@ -156,7 +159,7 @@ pub fn run<'a, A: Allocator + Copy, R: Source, W: Sink, V: Sink>(
         (devices_of R.Source W.Sink V.Sink script.old out.old saved.old)
         (devices_of R.Source W.Sink V.Sink script.new out.new saved.new)) }
 {
-    let opened = match open(alloc, heap, map) {
+    let opened = match open(alloc, heap, seed, map) {
         Ok(opened) => opened,
         Err(fault) => return Err(fault),
     };

@@ -7,6 +7,7 @@ use crate::columbus::COLUMBUS;
 use crate::made::{Cells, Drawn, cells_text};
 use arc_store::{EditFault, Map};
 use edit_vertex::{insert_vertex, move_vertex, remove_vertex, thin};
+use fixed_seed::fixed_seed;
 use grid_geometry::{Pos, Rect};
 use plain_rings::{EditFault as PlainFault, PlainMap};
 use segment_index::{GridIndex, ListIndex, SegIndex};
@@ -336,8 +337,9 @@ pub(crate) fn stored_map<'a, R: Abort, I: SegIndex>(
 ) -> Map<'a, I>
     requires { I.held index ≡ set.empty }
 {
+    let seed = fixed_seed().expect(rt, "a seed");
     match read(alloc, alloc, text.as_bytes()) {
-        Ok(raw) => match Map::build(alloc, raw, index) {
+        Ok(raw) => match Map::build(alloc, seed, raw, index) {
             Ok(map) => map,
             Err(_) => panic!(rt; "no two segments conflict"),
         },

@@ -2,6 +2,7 @@
 use crate::compared::at;
 use arc_store::{EditFault, Map};
 use edit_vertex::{move_vertex, remove_vertex};
+use fixed_seed::fixed_seed;
 use segment_index::GridIndex;
 use std::alloc::{AllocError, Global};
 use std::process::Abort;
@@ -47,9 +48,10 @@ fn push_squares(alloc: Global, text: &mut String, count: u32) -> Result<(), Allo
 
 /// The map of these squares in a grid of their extent.
 fn squares<'a, R: Abort>(rt: &R, alloc: Global, text: &'a str) -> Map<'a, GridIndex> {
+    let seed = fixed_seed().expect(rt, "a seed");
     match read(alloc, alloc, text.as_bytes()) {
         Ok(raw) => match GridIndex::new(alloc, raw.extent()) {
-            Ok(index) => match Map::build(alloc, raw, index) {
+            Ok(index) => match Map::build(alloc, seed, raw, index) {
                 Ok(map) => map,
                 Err(_) => panic!(rt; "no two segments conflict"),
             },

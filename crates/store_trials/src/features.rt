@@ -1,5 +1,6 @@
 //! Edits of features on small maps: each refusal once.
 use arc_store::{EditFault, IdText, ItemView, Map, Path};
+use fixed_seed::fixed_seed;
 use grid_geometry::{Pos, Seg};
 use segment_index::{ListIndex, SegIndex};
 use split_merge::{delete, merge, rename, split};
@@ -40,10 +41,11 @@ const ACROSS: &[(i64, i64)] = &[(0, 0), (10, 10)];
 
 /// The map of the text, which opens and is planar.
 fn map_of<R: Abort>(rt: &R, alloc: Global, text: &'static str) -> Map<'static, ListIndex> {
+    let seed = fixed_seed().expect(rt, "a seed");
     let Ok(raw) = read(alloc, alloc, text.as_bytes()) else {
         panic!(rt; "the text opens");
     };
-    let Ok(map) = Map::build(alloc, raw, ListIndex::new(alloc)) else {
+    let Ok(map) = Map::build(alloc, seed, raw, ListIndex::new(alloc)) else {
         panic!(rt; "it is planar");
     };
     map

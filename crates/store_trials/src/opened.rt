@@ -1,5 +1,6 @@
 //! Real maps.
 use arc_store::Map;
+use fixed_seed::fixed_seed;
 use segment_index::ListIndex;
 use std::alloc::Global;
 use std::process::Abort;
@@ -12,8 +13,9 @@ const SQUARES: &[u8] =
 #[test]
 fn two_squares(rt: HostRuntime) {
     let alloc = rt.alloc();
+    let seed = fixed_seed().expect(&rt, "a seed");
     match read(alloc, alloc, SQUARES) {
-        Ok(raw) => match Map::build(alloc, raw, ListIndex::new(alloc)) {
+        Ok(raw) => match Map::build(alloc, seed, raw, ListIndex::new(alloc)) {
             Ok(map) => {
                 assert_eq!(rt; map.vertex_count(), 6);
                 assert_eq!(rt; map.segment_count(), 7);

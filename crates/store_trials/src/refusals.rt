@@ -6,11 +6,13 @@ ghost use Rattle.topo_reader.specs.DocumentView.{view_raw};
 use crate::compared::{Edit, answer, at, has_rings, plain_map, vertex_total};
 use arc_store::{EditFault, Map};
 use edit_vertex::thin;
+use fixed_seed::fixed_seed;
 use grid_geometry::{Pos, Rect, Seg};
 use plain_rings::PlainMap;
 use refusing_allocator::Refusing;
 use segment_index::{GridIndex, SegIndex};
 use std::alloc::{Allocator, Global};
+use std::hash::RandomState;
 use std::process::Abort;
 use std::test::Fail;
 use topo_reader::{RawDoc, read};
@@ -61,12 +63,13 @@ fn all_uses<I: SegIndex, A: Allocator + Copy>(
 /// The map of what was read, in a grid; `None` where a growth was refused.
 fn built<A: Allocator + Copy>(
     heap: A,
+    seed: RandomState,
     raw: RawDoc<'static, A>,
 ) -> Option<Map<'static, GridIndex<A>, A>>
     requires rings { IsOfRings (view_raw raw) }
 {
     match GridIndex::new(heap, Rect::new(0, -10, 20, 10)) {
-        Ok(index) => Map::build(heap, raw, index).ok(),
+        Ok(index) => Map::build(heap, seed, raw, index).ok(),
         Err(_) => {
             drop(raw);
             None
@@ -80,8 +83,9 @@ pub(crate) fn refused_map<A: Allocator + Copy>(
     alloc: Global,
     text: &'static str,
 ) -> Option<Map<'static, GridIndex<A>, A>> {
+    let seed = fixed_seed()?;
     match read(heap, alloc, text.as_bytes()) {
-        Ok(raw) => built(heap, raw),
+        Ok(raw) => built(heap, seed, raw),
         Err(_) => None,
     }
 }

@@ -25,5 +25,7 @@ pub mod WalksAndRings
 pub mod Leaves
 pub mod Widening
 pub mod Boxed
+pub mod PlainNumbers
 pub mod PlainItems
 pub mod PlainArcs
+pub mod PlainLists

@@ -1,7 +1,7 @@
 -- The parts of a list whose first one is a pair of plain numbers, and the items of that pair.
-use Rattle.std.proofs.Common.{◌≡◌, ℕ, ◌+◌, ◌-◌, List, [], ◌∷◌, ◌++◌, length, take, drop, map, Bool, true, false, refl, sym, ap, subst, ◌∙◌, one-add, cond, arith}
-use Rattle.std.specs.Prelude.{◌&&◌, ℤ, Option, Some, None, Ok, reverse}
-use Rattle.std.specs.List.{list_all, prefix_len, take_while}
+use Rattle.std.proofs.Common.{◌≡◌, ℕ, suc, ◌+◌, ◌-◌, List, [], ◌∷◌, ◌++◌, length, take, drop, map, true, false, refl, sym, ap, subst, ◌∙◌, arith}
+use Rattle.std.specs.Prelude.{ℤ, Some, None, Ok, reverse}
+use Rattle.std.specs.List.{list_all, take_while}
 use Rattle.std.proofs.lemmas.Bool.Decides.{nat_tests}
 use Rattle.std.proofs.lemmas.List.{append_assoc, reverse-append, length-append, take_all}
 use Rattle.std.proofs.lemmas.List.Folds.{list_all-append}
@@ -14,7 +14,8 @@ use Rattle.json_spans.specs.Walk.{items}
 use Rattle.json_spans.specs.Whole.{whole_of}
 use Rattle.json_spans.specs.declared.parts.Skip.TheVariants.{Plain}
 use Rattle.json_spans.proofs.Parting.{parts_next, parts_last}
-use Rattle.topo_reader.specs.Plain.{is_plain, Follows, nodes_from}
+use Rattle.topo_reader.specs.Plain.{is_plain, nodes_from}
+use Rattle.topo_reader.proofs.PlainNumbers.{and_true}
 
 -- ---- bytes and words
 
@@ -26,19 +27,6 @@ no_space x e = grind (arith, nat_tests)
 
 no_end : (x : ℕ) → is_plain x ≡ true → closes x ≡ false
 no_end x e = grind (arith, nat_tests)
-
-and_true : (a b : Bool) → a && b ≡ true → (a ≡ true) × (b ≡ true)
-and_true true b e = (refl, e)
-and_true false b e = absurd cc
-
--- what stands before the first other byte is plain
-pub plain_word : (xs : List ℕ) → list_all is_plain (take (prefix_len is_plain xs) xs) ≡ true
-plain_word [] = refl
-plain_word (x ∷ xs) = by (is_plain x) refl (plain_word xs)
-  where
-    by : (b : Bool) → is_plain x ≡ b → list_all is_plain (take (prefix_len is_plain xs) xs) ≡ true → list_all is_plain (take (cond b (1 + prefix_len is_plain xs) 0) (x ∷ xs)) ≡ true
-    by true e h = rw (one-add, e) h
-    by false e h = refl
 
 -- a part goes on past a word of minus and digits
 word_len : (l : ℕ) (w rest : List ℕ) → list_all is_plain w ≡ true → part_len 44 Plain l (w ++ rest) ≡ length w + part_len 44 Plain l rest
@@ -100,13 +88,13 @@ pair_len a b rest ea eb =
 
 -- ---- parts
 
-first_part : (place : ℕ) (part rest : List ℕ) → part_len 44 Plain 0 (part ++ (44 ∷ rest)) ≡ length part → parts_left true place (part ++ (44 ∷ rest)) ≡ record { at_byte = place; bytes = part } ∷ parts_left true (place + length part + 1) rest
+pub first_part : (place : ℕ) (part rest : List ℕ) → part_len 44 Plain 0 (part ++ (44 ∷ rest)) ≡ length part → parts_left true place (part ++ (44 ∷ rest)) ≡ record { at_byte = place; bytes = part } ∷ parts_left true (place + length part + 1) rest
 first_part place part rest e =
     let behind : Some rest ≡ after_comma (drop (length part) (part ++ (44 ∷ rest))) = rw (drop-append_seam part (44 ∷ rest)) refl in
     let next = parts_next place (length part) (part ++ (44 ∷ rest)) rest (sym e) behind in
     rw (take-append_seam part (44 ∷ rest)) at next
 
-last_part : (place : ℕ) (part : List ℕ) → part_len 44 Plain 0 (part ++ (93 ∷ [])) ≡ length part → parts_left true place (part ++ (93 ∷ [])) ≡ record { at_byte = place; bytes = part } ∷ []
+pub last_part : (place : ℕ) (part : List ℕ) → part_len 44 Plain 0 (part ++ (93 ∷ [])) ≡ length part → parts_left true place (part ++ (93 ∷ [])) ≡ record { at_byte = place; bytes = part } ∷ []
 last_part place part e =
     let behind : None ≡ after_comma (drop (length part) (part ++ (93 ∷ []))) = rw (drop-append_seam part (93 ∷ [])) refl in
     let last = parts_last place (length part) place (part ++ (93 ∷ [])) [] (sym e) behind in
@@ -131,22 +119,50 @@ pair_stops a b x rest ea eb stop =
     let stops : part_len 44 Plain 0 (x ∷ rest) ≡ 0 = rw stop refl in
     pair_len a b (x ∷ rest) ea eb ∙ omega (arith, stops)
 
-regroup : (a b rest : List ℕ) → 91 ∷ (a ++ (44 ∷ (b ++ (93 ∷ rest)))) ≡ pair_text a b ++ rest
+pub regroup : (a b rest : List ℕ) → 91 ∷ (a ++ (44 ∷ (b ++ (93 ∷ rest)))) ≡ pair_text a b ++ rest
 regroup a b rest = simp append_assoc
 
--- the first part is the pair, and the others follow
-pub pair_parts : (place : ℕ) (a b rest : List ℕ) (others : Option (List ℕ)) → list_all is_plain a ≡ true → list_all is_plain b ≡ true → Follows rest others → nodes_from place (Some (91 ∷ (a ++ (44 ∷ (b ++ (93 ∷ rest)))))) ≡ record { at_byte = place; bytes = pair_text a b } ∷ nodes_from (place + length (pair_text a b) + 1) others
-pair_parts place a b rest (Some next) ea eb f =
-    let text : List ℕ = pair_text a b in
-    let whole : 91 ∷ (a ++ (44 ∷ (b ++ (93 ∷ rest)))) ≡ text ++ (44 ∷ next) = regroup a b rest ∙ ap (λ (r : List ℕ). text ++ r) f in
-    let len : part_len 44 Plain 0 (text ++ (44 ∷ next)) ≡ length text = subst (λ (bytes : List ℕ). part_len 44 Plain 0 bytes ≡ length text) (regroup a b (44 ∷ next)) (pair_stops a b 44 next ea eb refl) in
-    ap (λ (bytes : List ℕ). nodes_from place (Some bytes)) whole
-    ∙ ap (λ (ns : List Node). map trimmed ns) (first_part place text next len)
-    ∙ ap (λ (n : Node). n ∷ nodes_from (place + length text + 1) (Some next)) (tight_trimmed place text (pair_tight a b))
-pair_parts place a b rest None ea eb f =
-    let text : List ℕ = pair_text a b in
-    let whole : 91 ∷ (a ++ (44 ∷ (b ++ (93 ∷ rest)))) ≡ text ++ (93 ∷ []) = regroup a b rest ∙ ap (λ (r : List ℕ). text ++ r) f in
-    let len : part_len 44 Plain 0 (text ++ (93 ∷ [])) ≡ length text = subst (λ (bytes : List ℕ). part_len 44 Plain 0 bytes ≡ length text) (regroup a b (93 ∷ [])) (pair_stops a b 93 [] ea eb refl) in
-    ap (λ (bytes : List ℕ). nodes_from place (Some bytes)) whole
-    ∙ ap (λ (ns : List Node). map trimmed ns) (last_part place text len)
-    ∙ ap (λ (n : Node). n ∷ []) (tight_trimmed place text (pair_tight a b))
+pair_deep : (a b rest : List ℕ) → list_all is_plain a ≡ true → list_all is_plain b ≡ true → part_len 44 Plain 1 (91 ∷ (a ++ (44 ∷ (b ++ (93 ∷ rest))))) ≡ length (pair_text a b) + part_len 44 Plain 1 rest
+unfolding part_len
+pair_deep a b rest ea eb =
+    rw (word_len 2 a (44 ∷ (b ++ (93 ∷ rest))) ea, word_len 2 b (93 ∷ rest) eb)
+    (omega (arith, length-append a (44 ∷ (b ++ (93 ∷ []))), length-append b (93 ∷ [])))
+
+comma_passes : (r : List ℕ) → part_len 44 Plain 1 (44 ∷ r) ≡ suc (part_len 44 Plain 1 r)
+unfolding part_len
+comma_passes r = refl
+
+bracket_passes : (r : List ℕ) → part_len 44 Plain 1 (93 ∷ r) ≡ suc (part_len 44 Plain 0 r)
+unfolding part_len
+bracket_passes r = refl
+
+-- inside a list, a part goes on past the pair and what it goes on past behind it
+pair_long : (a b tail r : List ℕ) → list_all is_plain a ≡ true → list_all is_plain b ≡ true → part_len 44 Plain 1 (tail ++ r) ≡ length tail + part_len 44 Plain 0 r → part_len 44 Plain 1 ((pair_text a b ++ tail) ++ r) ≡ length (pair_text a b ++ tail) + part_len 44 Plain 0 r
+pair_long a b tail r ea eb e =
+    let pair : List ℕ = pair_text a b in
+    let whole : 91 ∷ (a ++ (44 ∷ (b ++ (93 ∷ (tail ++ r))))) ≡ (pair ++ tail) ++ r = regroup a b (tail ++ r) ∙ sym (append_assoc pair tail r) in
+    let deep : part_len 44 Plain 1 ((pair ++ tail) ++ r) ≡ length pair + part_len 44 Plain 1 (tail ++ r) = subst (λ (bytes : List ℕ). part_len 44 Plain 1 bytes ≡ length pair + part_len 44 Plain 1 (tail ++ r)) whole (pair_deep a b (tail ++ r) ea eb) in
+    deep ∙ omega (arith, e, length-append pair tail)
+
+pub comma_long : (a b text r : List ℕ) → list_all is_plain a ≡ true → list_all is_plain b ≡ true → part_len 44 Plain 1 (text ++ r) ≡ length text + part_len 44 Plain 0 r → part_len 44 Plain 1 ((pair_text a b ++ (44 ∷ text)) ++ r) ≡ length (pair_text a b ++ (44 ∷ text)) + part_len 44 Plain 0 r
+comma_long a b text r ea eb e = pair_long a b (44 ∷ text) r ea eb (comma_passes (text ++ r) ∙ omega (arith, e))
+
+pub bracket_long : (a b r : List ℕ) → list_all is_plain a ≡ true → list_all is_plain b ≡ true → part_len 44 Plain 1 ((pair_text a b ++ (93 ∷ [])) ++ r) ≡ length (pair_text a b ++ (93 ∷ [])) + part_len 44 Plain 0 r
+bracket_long a b r ea eb = pair_long a b (93 ∷ []) r ea eb (bracket_passes r ∙ omega arith)
+
+pair_here : (a b : List ℕ) (x : ℕ) (rest : List ℕ) → list_all is_plain a ≡ true → list_all is_plain b ≡ true → skip_step 44 Plain 0 x ≡ None → part_len 44 Plain 0 (pair_text a b ++ (x ∷ rest)) ≡ length (pair_text a b)
+pair_here a b x rest ea eb stop = subst (λ (bytes : List ℕ). part_len 44 Plain 0 bytes ≡ length (pair_text a b)) (regroup a b (x ∷ rest)) (pair_stops a b x rest ea eb stop)
+
+-- the first part is the pair, and the others follow its comma
+pub pair_comma : (place : ℕ) (a b text : List ℕ) → list_all is_plain a ≡ true → list_all is_plain b ≡ true → nodes_from true place (pair_text a b ++ (44 ∷ text)) ≡ record { at_byte = place; bytes = pair_text a b } ∷ nodes_from true (place + length (pair_text a b) + 1) text
+pair_comma place a b text ea eb =
+    let pair : List ℕ = pair_text a b in
+    ap (λ (ns : List Node). map trimmed ns) (first_part place pair text (pair_here a b 44 text ea eb refl))
+    ∙ ap (λ (n : Node). n ∷ nodes_from true (place + length pair + 1) text) (tight_trimmed place pair (pair_tight a b))
+
+-- the pair is the last part before the bracket
+pub pair_last : (place : ℕ) (a b : List ℕ) → list_all is_plain a ≡ true → list_all is_plain b ≡ true → nodes_from true place (pair_text a b ++ (93 ∷ [])) ≡ record { at_byte = place; bytes = pair_text a b } ∷ []
+pair_last place a b ea eb =
+    let pair : List ℕ = pair_text a b in
+    ap (λ (ns : List Node). map trimmed ns) (last_part place pair (pair_here a b 93 [] ea eb refl))
+    ∙ ap (λ (n : Node). n ∷ []) (tight_trimmed place pair (pair_tight a b))

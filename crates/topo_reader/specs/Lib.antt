@@ -10,3 +10,4 @@ pub mod DocumentView
 pub mod Extent
 pub mod Opening
 pub mod Plain
+pub mod PlainList

@@ -7,6 +7,7 @@ ghost use Rattle.topo_reader.specs.Arcs.{origin};
 ghost use Rattle.topo_reader.specs.Positions.{coordinate, position, positions, is_within, two_of, pair_of, before_next, has_two, arc, arcs};
 
 use crate::plain_arc::plain_arc;
+use crate::plain_list::plain_arcs;
 use grid_geometry::Pos;
 use json_spans::{Kind, NotWhole, Span, at, items, kind, whole};
 use std::alloc::Allocator;
@@ -156,9 +157,8 @@ fn arc<'a, A: Allocator + Copy>(
     }
 }
 
-/// The positions of all arcs. With `delta`, each but the first of an arc is read as the difference
-/// to the one before it (TopoJSON 1.0, 2.1.2).
-pub(crate) fn arcs<'a, A: Allocator + Copy>(
+/// The positions of all arcs, however they are written.
+fn any_arcs<'a, A: Allocator + Copy>(
     alloc: A,
     delta: bool,
     span: Span<'a>,
@@ -173,4 +173,19 @@ pub(crate) fn arcs<'a, A: Allocator + Copy>(
         }
     }
     Ok(found)
+}
+
+/// The positions of all arcs. With `delta`, each but the first of an arc is read as the difference
+/// to the one before it (TopoJSON 1.0, 2.1.2).
+pub(crate) fn arcs<'a, A: Allocator + Copy>(
+    alloc: A,
+    delta: bool,
+    span: Span<'a>,
+) -> Result<Vec<Vec<Pos, A>, A>, OpenFault<'a>>
+    ensures { Gives (λ v. map (λ a. a.items) v.items) result (arcs delta (node span.entry)) }
+{
+    match plain_arcs(alloc, delta, span)? {
+        Some(found) => Ok(found),
+        None => any_arcs(alloc, delta, span),
+    }
 }

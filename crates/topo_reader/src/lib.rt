@@ -7,6 +7,7 @@ mod extent;
 mod indexes;
 mod limits;
 mod plain_arc;
+mod plain_list;
 mod reading;
 mod rings;
 

@@ -1,53 +1,64 @@
 // An arc that is written without space, and with whole numbers of a minus and digits alone, is
 // read in one walk over its bytes.
-ghost use Rattle.std.specs.Prelude.{◌≡◌, ◌≤◌, ◌∷◌, ◌+ℤ◌, length, drop, option_map, IfSome, IfOk};
-ghost use Rattle.std.specs.List.{prefix_len};
+ghost use Rattle.std.specs.Prelude.{◌≡◌, ◌∷◌, ◌+ℤ◌, true, drop, IfSome, IfOk};
 ghost use Rattle.grid_geometry.specs.Position.{position, InRange};
 ghost use Rattle.json_spans.specs.Left.{node};
 ghost use Rattle.topo_reader.specs.Arcs.{origin};
 ghost use Rattle.topo_reader.specs.Positions.{arc};
-ghost use Rattle.topo_reader.specs.Plain.{is_plain, PlainNumber, PlainPair, PlainStep, Follows, Reads};
+ghost use Rattle.topo_reader.specs.Plain.{PlainDigits, PlainNumber, PlainPair, PlainStep, PlainFront, PlainArc, Follows};
 
 use crate::arcs::{before_next, origin};
 use grid_geometry::Pos;
-use json_spans::{Span, bytes, whole_text};
+use json_spans::{Span, bytes};
 use std::alloc::{AllocError, Allocator};
 
-fn is_plain(x: u8) -> bool
-    ensures { result ≡ is_plain x }
+/// Ten times a number below it, and a digit, is a number of at most eighteen digits.
+const LIMIT: u64 = 100_000_000_000_000_000;
+
+/// The digits in front as a number, and what follows them; `None` where there is none, or where
+/// the number has more than eighteen.
+fn digits(bytes: &[u8]) -> Option<(u64, &[u8])>
+    ensures { IfSome result (λ n. PlainDigits bytes.now n.0 n.1.now) }
 {
-    x == b'-' || x.is_ascii_digit()
+    let mut value = 0u64;
+    for (i, x) in bytes.iter().enumerate() {
+        if !x.is_ascii_digit() {
+            return if i > 0 {
+                Some((value, &bytes[i..]))
+            } else {
+                None
+            };
+        }
+        if value >= LIMIT {
+            return None;
+        }
+        value = value * 10 + u64::from(*x - b'0');
+    }
+    None
 }
 
-fn word_len(bytes: &[u8]) -> usize
-    ensures value { result ≡ prefix_len is_plain bytes.now }
-    ensures bound { result ≤ length bytes.now }
+pub(crate) fn after(byte: u8, bytes: &[u8]) -> Option<&[u8]>
+    ensures { IfSome result (λ rest. bytes.now ≡ byte ∷ rest.now) }
 {
-    for (i, x) in bytes.iter().enumerate() {
-        if !is_plain(*x) {
-            return i;
-        }
+    match bytes {
+        [x, rest @ ..] if *x == byte => Some(rest),
+        _ => None,
     }
-    bytes.len()
 }
 
 /// The number in front, and what follows it.
 fn plain_number(bytes: &[u8]) -> Option<(i64, &[u8])>
     ensures { IfSome result (λ n. PlainNumber bytes.now n.0 n.1.now) }
 {
-    let (word, rest) = bytes.split_at(word_len(bytes));
-    match whole_text(word) {
-        Ok(z) => Some((z, rest)),
-        Err(_) => None,
-    }
-}
-
-fn after(byte: u8, bytes: &[u8]) -> Option<&[u8]>
-    ensures { IfSome result (λ rest. bytes.now ≡ byte ∷ rest.now) }
-{
-    match bytes {
-        [x, rest @ ..] if *x == byte => Some(rest),
-        _ => None,
+    match after(b'-', bytes) {
+        Some(body) => {
+            let (value, rest) = digits(body)?;
+            Some((0 - value as i64, rest))
+        }
+        None => {
+            let (value, rest) = digits(bytes)?;
+            Some((value as i64, rest))
+        }
     }
 }
 
@@ -60,13 +71,13 @@ fn plain_pair(bytes: &[u8]) -> Option<(i64, i64, &[u8])>
     Some((x, y, after(b']', end)?))
 }
 
-/// What follows the comma in front, and nothing where the closing bracket alone is left.
-fn others(bytes: &[u8]) -> Option<Option<&[u8]>>
-    ensures { IfSome result (λ next. Follows bytes.now (option_map (λ rest. rest.now) next)) }
+/// What follows the comma or the closing bracket in front, and whether it is the comma.
+pub(crate) fn others(bytes: &[u8]) -> Option<(bool, &[u8])>
+    ensures { IfSome result (λ n. Follows bytes.now n.0 n.1.now) }
 {
     match bytes {
-        [b',', rest @ ..] => Some(Some(rest)),
-        [b']'] => Some(None),
+        [b',', rest @ ..] => Some((true, rest)),
+        [b']', rest @ ..] => Some((false, rest)),
         _ => None,
     }
 }
@@ -78,42 +89,45 @@ fn moved(before: Pos, x: i64, y: i64) -> Option<Pos>
     Pos::new(before.x().checked_add(x)?, before.y().checked_add(y)?)
 }
 
-/// The position that a pair leads to, and what follows the comma behind it.
+/// The position that a pair leads to, whether a comma stands behind it, and what follows.
 #[derive(Clone, Copy)]
 struct Step<'a> {
     to: Pos,
-    others: Option<&'a [u8]>,
+    more: bool,
+    left: &'a [u8],
 }
 
 fn plain_step(before: Pos, bytes: &[u8]) -> Option<Step<'_>>
-    ensures { IfSome result (λ s. PlainStep before s.to bytes.now (option_map (λ rest. rest.now) s.others)) }
+    ensures { IfSome result (λ s. PlainStep before s.to bytes.now s.more s.left.now) }
 {
     let (x, y, rest) = plain_pair(bytes)?;
     let to = moved(before, x, y)?;
-    let others = others(rest)?;
-    Some(Step { to, others })
+    let (more, left) = others(rest)?;
+    Some(Step { to, more, left })
 }
 
-/// The positions of the pairs behind the bracket, up to the bracket at the end.
-fn plain_positions<A: Allocator + Copy>(
+/// The positions of the pairs behind the bracket, and what follows the one that closes the list.
+fn plain_positions<'a, A: Allocator + Copy>(
     alloc: A,
     delta: bool,
-    inside: &[u8],
-) -> Result<Option<Vec<Pos, A>>, AllocError>
-    ensures { IfOk result (λ r. IfSome r (λ v. Reads delta origin (Some inside.now) v.items)) }
+    inside: &'a [u8],
+) -> Result<Option<(Vec<Pos, A>, &'a [u8])>, AllocError>
+    ensures { IfOk result (λ r. IfSome r (λ v. PlainFront delta origin true inside.now v.0.items v.1.now)) }
 {
     let mut found = Vec::new(alloc);
     let mut before = origin();
-    let mut left = Some(inside);
-    while let Some(rest) = left {
-        let Some(step) = plain_step(before, rest) else {
+    let mut more = true;
+    let mut left = inside;
+    while more {
+        let Some(step) = plain_step(before, left) else {
             return Ok(None);
         };
         found.push(step.to)?;
         before = before_next(delta, step.to);
-        left = step.others;
+        more = step.more;
+        left = step.left;
     }
-    Ok(Some(found))
+    Ok(Some((found, left)))
 }
 
 /// What follows the bracket in front, where another one does.
@@ -126,6 +140,23 @@ fn inside(text: &[u8]) -> Option<&[u8]>
     }
 }
 
+/// The positions of the arc in front, and what follows it; `None` where none is written plainly.
+pub(crate) fn arc_in_front<'a, A: Allocator + Copy>(
+    alloc: A,
+    delta: bool,
+    text: &'a [u8],
+) -> Result<Option<(Vec<Pos, A>, &'a [u8])>, AllocError>
+    ensures { IfOk result (λ r. IfSome r (λ v. PlainArc delta text.now v.0.items v.1.now)) }
+{
+    let Some(inside) = inside(text) else {
+        return Ok(None);
+    };
+    match plain_positions(alloc, delta, inside)? {
+        Some((found, rest)) if found.len() >= 2 => Ok(Some((found, rest))),
+        _ => Ok(None),
+    }
+}
+
 /// The positions of an arc that is written plainly; `None` for any other.
 pub(crate) fn plain_arc<A: Allocator + Copy>(
     alloc: A,
@@ -134,11 +165,8 @@ pub(crate) fn plain_arc<A: Allocator + Copy>(
 ) -> Result<Option<Vec<Pos, A>>, AllocError>
     ensures { IfOk result (λ r. IfSome r (λ v. arc delta (node span.entry) ≡ Ok v.items)) }
 {
-    let Some(inside) = inside(bytes(span)) else {
-        return Ok(None);
-    };
-    match plain_positions(alloc, delta, inside)? {
-        Some(found) if found.len() >= 2 => Ok(Some(found)),
+    match arc_in_front(alloc, delta, bytes(span))? {
+        Some((found, rest)) if rest.is_empty() => Ok(Some(found)),
         _ => Ok(None),
     }
 }

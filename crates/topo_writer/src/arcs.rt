@@ -15,7 +15,7 @@ use crate::texts::push_next;
 use grid_geometry::Pos;
 use indexmap::IndexMap;
 use std::alloc::{AllocError, Allocator, Global};
-use std::hash::{BuildHasherDefault, FoldHasher};
+use std::hash::RandomState;
 
 /// Names a ring of a map.
 #[derive(Clone, Copy)]
@@ -30,7 +30,7 @@ pub(crate) struct RingName {
 
 /// The index of each arc under its first edge, and under its last one reversed that of the arc in
 /// reverse.
-type Starts<A> = IndexMap<(Pos, Pos), i64, BuildHasherDefault<FoldHasher>, A>;
+type Starts<A> = IndexMap<(Pos, Pos), i64, RandomState, A>;
 
 /// The rings of which arcs were cut, one after another, how the arcs are found, and their texts so
 /// far with commas between them.
@@ -61,8 +61,9 @@ fn backward(n: usize) -> i64
 }
 
 impl<A: Allocator + Copy> Arcs<A> {
-    /// No arc; whether positions are to be written as differences. Takes no memory.
-    pub fn new(alloc: A, delta: bool) -> Self
+    /// No arc; the seed by which edges are hashed, and whether positions are to be written as
+    /// differences. Takes no memory.
+    pub fn new(alloc: A, seed: RandomState, delta: bool) -> Self
         ensures rings { result.rings.items ≡ [] }
         ensures arcs { Finds result [] }
         ensures delta { result.delta ≡ delta }
@@ -70,7 +71,7 @@ impl<A: Allocator + Copy> Arcs<A> {
         Arcs {
             rings: Vec::new(alloc),
             count: 0,
-            starts: IndexMap::new(alloc),
+            starts: IndexMap::with_hasher(alloc, seed),
             delta,
             listed: Vec::new(alloc),
         }

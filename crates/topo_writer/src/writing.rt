@@ -56,7 +56,7 @@ fn send_map<'m, 'a, I: SegIndex, A: Allocator + Copy, W: Sink>(
     ensures { Sends W.Sink of_device out.old out.new result (text_of map.now) }
 {
     let mut text = Vec::new(alloc);
-    let mut arcs = Arcs::new(alloc, frame.transform().is_some());
+    let mut arcs = Arcs::new(alloc, map.seed(), frame.transform().is_some());
     push_begin(&mut text, frame.transform())?;
     put_all(out, text.as_slice())?;
     send_layers(map, frame, &mut arcs, &mut text, out)?;

@@ -4,9 +4,11 @@ ghost use Rattle.topo_reader.specs.Document.{IsOfRings};
 ghost use Rattle.topo_reader.specs.DocumentView.{view_raw};
 
 use arc_store::Map;
+use fixed_seed::fixed_seed;
 use refusing_allocator::Refusing;
 use segment_index::GridIndex;
 use std::alloc::{Allocator, Global};
+use std::hash::RandomState;
 use std::process::Abort;
 use topo_reader::{RawDoc, read};
 use undo_ring::Editor;
@@ -25,11 +27,15 @@ pub(crate) const SQUARES: &str =
     "{\"type\":\"Topology\",\"objects\":{\"l\":{\"type\":\"GeometryCollection\",\"geometries\":[{\"type\":\"Polygon\",\"id\":\"A\",\"properties\":{\"n\":1},\"arcs\":[[0],[1]]},{\"type\":\"Polygon\",\"id\":7,\"k\":[1],\"arcs\":[[2]]},{\"type\":null,\"id\":\"N\"},{\"type\":\"Point\",\"coordinates\":[3,4]},{\"type\":\"GeometryCollection\",\"id\":\"c\",\"m\":0,\"geometries\":[{\"type\":\"Polygon\",\"arcs\":[[3]]}]}]},\"s\":{\"type\":\"Polygon\",\"arcs\":[[4]]}},\"arcs\":[[[0,0],[10,0],[10,2],[10,3],[10,5],[10,7],[10,8],[10,10],[0,10],[0,0]],[[4,4],[4,6],[6,6],[6,4],[4,4]],[[10,0],[20,0],[20,10],[10,10],[10,8],[10,7],[10,5],[10,3],[10,2],[10,0]],[[0,-10],[20,-10],[20,0],[10,0],[0,0],[0,-10]],[[30,0],[40,0],[40,10],[30,10],[30,0]]],\"note\":\"kept\"}";
 
 /// The map of what was read, in a grid; `None` where a growth was refused.
-fn built<'a, A: Allocator + Copy>(heap: A, raw: RawDoc<'a, A>) -> Option<Map<'a, GridIndex<A>, A>>
+fn built<'a, A: Allocator + Copy>(
+    heap: A,
+    seed: RandomState,
+    raw: RawDoc<'a, A>,
+) -> Option<Map<'a, GridIndex<A>, A>>
     requires rings { IsOfRings (view_raw raw) }
 {
     match GridIndex::new(heap, raw.extent()) {
-        Ok(index) => Map::build(heap, raw, index).ok(),
+        Ok(index) => Map::build(heap, seed, raw, index).ok(),
         Err(_) => {
             drop(raw);
             None
@@ -43,8 +49,9 @@ pub(crate) fn map_of<'a, A: Allocator + Copy>(
     alloc: Global,
     text: &'a [u8],
 ) -> Option<Map<'a, GridIndex<A>, A>> {
+    let seed = fixed_seed()?;
     match read(heap, alloc, text) {
-        Ok(raw) => built(heap, raw),
+        Ok(raw) => built(heap, seed, raw),
         Err(_) => None,
     }
 }

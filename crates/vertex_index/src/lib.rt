@@ -22,11 +22,11 @@ use indexmap::IndexMap;
 pub use key::VertexKey;
 use slab::Slab;
 use std::alloc::{AllocError, Allocator, Global};
-use std::hash::{BuildHasherDefault, FoldHasher};
+use std::hash::RandomState;
 use std::marker::Model;
 
 /// The key of each position.
-type Keys<A> = IndexMap<Pos, VertexKey, BuildHasherDefault<FoldHasher>, A>;
+type Keys<A> = IndexMap<Pos, VertexKey, RandomState, A>;
 
 /// Distinct positions, each under a key. It is seen as the map from keys to positions.
 #[derive(Drop)]
@@ -52,14 +52,19 @@ impl<A: Allocator + Copy> Model for Vertices<A> {
 }
 
 impl<A: Allocator + Copy> Vertices<A> {
-    /// No vertex. Takes no memory.
-    pub fn new(alloc: A) -> Self
+    /// No vertex, and the seed by which positions are hashed. Takes no memory.
+    pub fn new(alloc: A, seed: RandomState) -> Self
         ensures { result ≡ map.empty }
     {
         Vertices {
             slots: Slab::new(alloc),
-            keys: IndexMap::new(alloc),
+            keys: IndexMap::with_hasher(alloc, seed),
         }
+    }
+
+    /// The seed by which positions are hashed.
+    pub fn seed(&self) -> RandomState {
+        *self.keys.hasher()
     }
 
     /// How many vertices there are.

@@ -2,6 +2,7 @@
 ghost use Rattle.std.specs.Prelude.{◌≤◌};
 
 use device_io::{FromReader, ToWriter};
+use fixed_seed::fixed_seed;
 use script_runner::{RunFault, Summary, run};
 use std::alloc::Global;
 use std::process::Abort;
@@ -33,7 +34,17 @@ pub(crate) fn tell<R: Abort>(rt: &R, alloc: Global, map: &[u8], script: &[u8], d
     let mut source = FromReader::new(script);
     let mut sink = ToWriter::new(Vec::new(alloc));
     let mut saved = ToWriter::new(Vec::new(alloc));
-    let outcome = run(alloc, alloc, map, &mut source, depth, &mut sink, &mut saved);
+    let seed = fixed_seed().expect(rt, "a seed");
+    let outcome = run(
+        alloc,
+        alloc,
+        seed,
+        map,
+        &mut source,
+        depth,
+        &mut sink,
+        &mut saved,
+    );
     let end = end_of(rt, alloc, &outcome);
     Told {
         answers: sink.writer,

@@ -1,4 +1,5 @@
 //! What the program reads of real files, and what FILE holds once it has ended.
+use std::hash::RandomState;
 use super::{Editing, edit, map_bytes};
 use edit_program::Words;
 use std::alloc::{AllocError, Global};
@@ -475,6 +476,7 @@ fn piped(rt: &HostRuntime, test: &impl Abort, folder: &str) -> Result<(), Fail> 
     let editing = Editing {
         rt,
         words: &words,
+        seed: RandomState::new(rt)?,
         map: SQUARES.as_bytes(),
     };
     let ended = editing.edit_by(MIXED.as_bytes(), unread(rt.alloc()), &mut errors);

@@ -3,7 +3,9 @@ use crate::asked::Asked;
 use crate::report::{Texts, mend_map, report_map};
 use grid_reader::Wants;
 use std::alloc::Global;
+use std::hash::RandomState;
 use std::process::Abort;
+use std::random::RandomSource;
 
 /// A map, the grid that is asked for, the lines before the last of its report, and what it is saved as.
 struct Row {
@@ -89,9 +91,11 @@ fn asked_in(row: &Row) -> Asked {
 }
 
 /// The map of the row is saved so, and the report begins so.
-fn is_saved<R: Abort>(rt: &R, alloc: Global, row: &Row) {
+fn is_saved<R: Abort + RandomSource>(rt: &R, alloc: Global, row: &Row) {
     let mut texts = Texts::new(alloc, false);
-    match mend_map(alloc, alloc, row.map.as_bytes(), asked_in(row), &mut texts) {
+    let seed = RandomState::new(rt).expect(rt, "a seed");
+    let map = row.map.as_bytes();
+    match mend_map(alloc, alloc, seed, map, asked_in(row), &mut texts) {
         Ok(remade) => assert_eq!(rt; remade.text.as_slice(), row.saved.as_bytes(), "{}", row.map),
         Err(_) => assert!(rt; false, "{}", row.map),
     }

@@ -1,4 +1,6 @@
 //! Small maps, and what is reported of them as they are mended.
+use std::hash::RandomState;
+use std::random::RandomSource;
 use super::rows::ROWS;
 use crate::asked::Asked;
 use crate::report::{Texts, mend_map};
@@ -23,11 +25,13 @@ const REPORTS: [&str; 12] = [
 ];
 
 /// The map is mended with this report.
-fn is_told<R: Abort>(rt: &R, alloc: Global, map: &str, most: usize, want: &str) {
+fn is_told<R: Abort + RandomSource>(rt: &R, alloc: Global, map: &str, most: usize, want: &str) {
     let mut texts = Texts::new(alloc, false);
+    let seed = RandomState::new(rt).expect(rt, "a seed");
     let outcome = mend_map(
         alloc,
         alloc,
+        seed,
         map.as_bytes(),
         Asked::with_most(most),
         &mut texts,
@@ -73,7 +77,9 @@ fn the_paths_are_placed(rt: HostRuntime) -> Result<(), Fail> {
     for (map, want) in [(MAP, PLACES), (OPENS, NOTHING)] {
         let mut texts = Texts::new(rt.alloc(), true);
         let asked = Asked::with_most(1000);
-        let outcome = mend_map(rt.alloc(), rt.alloc(), map.as_bytes(), asked, &mut texts);
+        let seed = RandomState::new(&rt)?;
+        let alloc = rt.alloc();
+        let outcome = mend_map(alloc, alloc, seed, map.as_bytes(), asked, &mut texts);
         assert!(rt; outcome.is_ok());
         let places = texts.places.ok_or("no places")?;
         assert_eq!(rt; places.as_slice(), want.as_bytes());

@@ -1,4 +1,4 @@
-use Rattle.std.proofs.Common.{rules, is_ok, false, true, arith, ◌≡◌, ◌+◌, refl, sym, ◌++◌, ◌∙◌}
+use Rattle.std.proofs.Common.{rules, is_ok, false, arith, ◌≡◌, ◌+◌, refl, sym, ◌++◌, ◌∙◌}
 use Rattle.segment_index.specs.Candidates.{times_in}
 use Rattle.segment_index.specs.Trees.{listed}
 use Rattle.segment_index.proofs.Singles.{times-append}

@@ -6,8 +6,8 @@ use Rattle.segment_index.proofs.tree.tightened_around.Goals as goal
 
 pub returns-then-touches : goal.returns-then-touches
 returns-then-touches g c =
-    let l = listed c.args.low.now in
-    let r = listed c.args.high.now in
+    let l = listed c.args.sides.now.low in
+    let r = listed c.args.sides.now.high in
     let both = joined c.bounds.result c.bounds-then-touches.result in
     let e : c.unwrap_or.result ≡ unwrap_or both c.args.bounds = c.unwrap_or.ensures ∙ ap (λ o. unwrap_or o c.args.bounds) c.joined.ensures in
     subst (λ b. LieIn b (l ++ r)) (sym e) (lies-or both c.args.bounds (l ++ r) (lies-joined c.bounds.result c.bounds-then-touches.result l r c.bounds.ensures c.bounds-then-touches.ensures))

@@ -1,11 +1,12 @@
-use Rattle.std.proofs.Common.{List, ℕ, ◌≤◌, rules, sym, drop, length, ◌∙◌}
+use Rattle.std.proofs.Common.{◌≡◌, length, sym, ◌∙◌}
+use Rattle.std.proofs.lemmas.Bool.{eqb-true}
 use Rattle.json_spans.specs.Left.{node}
-use Rattle.topo_reader.proofs.PlainArcs.{arc_reads}
+use Rattle.topo_reader.specs.Plain.{PlainArc}
+use Rattle.topo_reader.proofs.PlainArcs.{whole_reads}
 use Rattle.topo_reader.proofs.plain_arc.plain_arc.Goals as goal
 
-pub returns-in-Some-2 : goal.returns-in-Some-2
-returns-in-Some-2 g c =
-    let inside : List ℕ = c.in-Some.inside.now in
-    let starts = c.in-Some.ensures in
-    let long : 2 ≤ length c.in-Some-2.found.items = search rules in
-    arc_reads c.args.delta (node c.args.span) inside (drop 1 inside) c.in-Some-2.found.items (sym c.bytes.ensures ∙ starts.0) starts.1 long (rw c.in-Some-2.is at c.in_ok-found.ensures)
+pub returns-in-Some : goal.returns-in-Some
+returns-in-Some g c =
+    let zero : length c.in-Some.rest.now ≡ 0 = eqb-true (length c.in-Some.rest.now) 0 (sym c.is_empty.ensures ∙ c.if-is_empty.true) in
+    let front : PlainArc c.args.delta c.bytes.result.now c.in-Some.found.items c.in-Some.rest.now = rw (c.in-Some.is) at c.in_ok-rest.ensures in
+    whole_reads c.args.delta (node c.args.span) c.bytes.result.now c.in-Some.found.items c.in-Some.rest.now c.bytes.ensures zero front
