@@ -6,6 +6,8 @@ files, on devices that are full, with little memory, and with a terminal as stan
 the status, the answers, what stands on standard error, and what FILE holds at the end, and FILE2 where
 one is named.
 
+Without a C compiler the ends without a seed are left out, and that is said.
+
 The program has to stand already (`rt ci` leaves it); another one can be named. There is one line for
 each end that differs; the status is 0 where none does.
 """
@@ -17,6 +19,7 @@ import pathlib
 import pty
 import re
 import resource
+import shutil
 import subprocess
 import sys
 import tempfile
@@ -36,7 +39,11 @@ VERSION = "border_edit " + re.search('VERSION: &str = "(.*)"', SHARED).group(1) 
 # What stands on standard error, or standard output, where its text is not fixed: something.
 SOME = object()
 
-Row = collections.namedtuple("Row", "what words status answers said file output memory given listed terminal", defaults=(None,) * 5)
+FIELDS = "what words status answers said file output memory given listed terminal unseeded"
+Row = collections.namedtuple("Row", FIELDS, defaults=(None,) * 6)
+
+# The call by which the operating system gives random bytes, which gives none.
+UNSEEDED = "int getentropy(void *bytes, unsigned long count) { (void)bytes; (void)count; return -1; }\n"
 
 FILES = {
     "squares.json": (DATA / "two_squares.json").read_text(),
@@ -115,6 +122,20 @@ def ends():
     said = "opening cut.json\nopen: not json at 1\n"
     yield Row("progress, not opened", unopened, 2, "", said, KEPT, terminal=True)
 
+    for map_file, script in ("squares.json", "accepted.txt"), ("none.json", "none.txt"):
+        yield Row(f"no seed, {map_file}", words(map_file, script), 3, "", "no random seed\n", KEPT, unseeded=True)
+
+
+def compiler():
+    return shutil.which("cc") or shutil.which("gcc")
+
+
+def unseeded(folder):
+    """A library with which a program is given no random bytes."""
+    library = folder / "unseeded.so"
+    subprocess.run([compiler(), "-shared", "-fPIC", "-x", "c", "-", "-o", library], input=UNSEEDED.encode(), check=True)
+    return library
+
 
 def put_files(folder):
     for name, text in FILES.items():
@@ -151,7 +172,9 @@ def ran(program, row, folder):
         if row.memory:
             resource.setrlimit(resource.RLIMIT_AS, (row.memory, row.memory))
 
-    how = {"input": FILES[row.given].encode() if row.given else b"", "cwd": folder, "timeout": 60, "preexec_fn": limit}
+    env = {**os.environ, "LD_PRELOAD": str(unseeded(folder))} if row.unseeded else None
+    given = FILES[row.given].encode() if row.given else b""
+    how = {"input": given, "cwd": folder, "timeout": 60, "preexec_fn": limit, "env": env}
     with open(row.output or folder / "answers", "wb") as output:
         if not row.terminal:
             done = subprocess.run([program, *row.words], stdout=output, stderr=subprocess.PIPE, **how)
@@ -190,7 +213,11 @@ def main():
     words.add_argument("program", nargs="?", default=str(TOP / "crates/border_edit/out/border_edit"))
     program = os.path.abspath(words.parse_args().program)
     count = wrong = 0
+    if not compiler():
+        print("no compiler: the ends without a seed are left out")
     for row in ends():
+        if row.unseeded and not compiler():
+            continue
         count += 1
         fault = faults(program, row)
         if fault:

@@ -4,6 +4,7 @@ pub mod Faults
 pub mod Kept
 pub mod Named
 pub mod Near
+pub mod NearMove
 pub mod Outcomes
 pub mod Recorded
 pub mod Splits

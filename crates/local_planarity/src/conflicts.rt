@@ -8,7 +8,7 @@ ghost use Rattle.local_planarity.specs.Tests.{fewest_tests, most_tests};
 
 use crate::count::TestCount;
 use crate::leaving::Leaving;
-use crate::near::staying_near;
+use crate::near::{ROOM, gather_staying};
 use crate::pairs::first_against;
 use grid_geometry::Seg;
 use segment_index::SegIndex;
@@ -32,9 +32,10 @@ pub fn first_conflict<I: SegIndex, A: Allocator + Copy>(
     ensures counted { OnOk result ((ts : List Segment) → AreStaying (I.held index.now) leaving ts
         → min (tests.old + fewest_tests ts added.now) u64.MAX ≤ tests.new) }
 {
+    let mut near = Vec::with_capacity(alloc, ROOM)?;
     let mut first = None;
     for (at, s) in added.iter().enumerate() {
-        let near = staying_near(alloc, index, &leaving, *s)?;
+        gather_staying(index, &leaving, *s, &mut near)?;
         first = first_against(*s, near.as_slice(), first, tests);
         first = first_against(*s, &added[..at], first, tests);
     }

@@ -15,4 +15,4 @@ pub use conflicts::first_conflict;
 pub use count::TestCount;
 pub use filled::fill;
 pub use leaving::Leaving;
-pub use sweeps::{crosses_on_way, holds_other};
+pub use sweeps::{crosses_on_way, holds_end, holds_other};

@@ -1,4 +1,4 @@
-ghost use Rattle.std.specs.Prelude.{◌≡◌, IfOk, not};
+ghost use Rattle.std.specs.Prelude.{◌≡◌, OnOk, not};
 ghost use Rattle.std.specs.List.{filter};
 ghost use Rattle.segment_index.specs.Times.{times_by};
 ghost use Rattle.local_planarity.specs.Edits.{leaves};
@@ -19,18 +19,19 @@ fn drop_leaving<A: Allocator>(segments: &mut Vec<Seg, A>, leaving: &Leaving)
 /// For how many candidates there is room at first. Most boxes that are asked for meet fewer.
 pub(crate) const ROOM: usize = 16;
 
-/// The candidates for the box of a segment that do not leave.
-pub(crate) fn staying_near<I: SegIndex, A: Allocator + Copy>(
-    alloc: A,
+/// Puts the candidates for the box of a segment that do not leave into a list, in the place of what
+/// it has.
+pub(crate) fn gather_staying<I: SegIndex, A: Allocator>(
     index: &I,
     leaving: &Leaving,
     s: Seg,
-) -> Result<Vec<Seg, A>, AllocError>
-    ensures { IfOk result
-        (λ v. IsNear (I.held index.now) (times_by (I.cells index.now)) leaving.now s v.items) }
+    near: &mut Vec<Seg, A>,
+) -> Result<(), AllocError>
+    ensures { OnOk result (IsNear (I.held index.now) (times_by (I.cells index.now)) leaving.now s
+        near.new.items) }
 {
-    let mut near = Vec::with_capacity(alloc, ROOM)?;
-    index.candidates(s.rect(), &mut near)?;
-    drop_leaving(&mut near, leaving);
-    Ok(near)
+    near.clear();
+    index.candidates(s.rect(), near)?;
+    drop_leaving(near, leaving);
+    Ok(())
 }

@@ -12,7 +12,7 @@ ghost use Rattle.local_planarity.specs.Tests.{most_given};
 
 use crate::count::TestCount;
 use crate::leaving::Leaving;
-use crate::near::{ROOM, staying_near};
+use crate::near::{ROOM, gather_staying};
 use crate::pairs::conflicts_with;
 use crate::span::box_of_three;
 use grid_geometry::{Pos, Seg, held};
@@ -34,7 +34,7 @@ fn is_other_held(w: Pos, these: &[Pos], a: Pos, b: Pos, c: Pos) -> bool
 }
 
 /// Whether the triangle a, b, c holds an end of one of the segments that is not among these.
-fn holds_end(segments: &[Seg], these: &[Pos], a: Pos, b: Pos, c: Pos) -> bool
+pub fn holds_end(segments: &[Seg], these: &[Pos], a: Pos, b: Pos, c: Pos) -> bool
     ensures { result ≡ list_any (λ t. (not (machine.has these.now t.lo) && is_held t.lo a b c)
         || (not (machine.has these.now t.hi) && is_held t.hi a b c)) segments.now }
 {
@@ -81,7 +81,8 @@ pub fn crosses_on_way<I: SegIndex, A: Allocator + Copy>(
 {
     match Seg::new(p, q) {
         Some(way) => {
-            let near = staying_near(alloc, index, &Leaving::EndingAt(p), way)?;
+            let mut near = Vec::with_capacity(alloc, ROOM)?;
+            gather_staying(index, &Leaving::EndingAt(p), way, &mut near)?;
             Ok(conflicts_with(way, near.as_slice(), tests))
         }
         None => Ok(false),

@@ -20,8 +20,8 @@ loop-at-preserved g c =
     let added = c.args.added.now in
     let at = c.loop-at.at in
     let s = c.index-added-at.result in
-    let near = c.in_ok-near.near.items in
-    let there = c.in_ok-near.ensures in
+    let near = c.gather_staying.new.near.items in
+    let there = c.in_ok-gather_staying.ensures in
     let one = c.first_against-first.ensures in
     let two = c.first_against-first-in-loop-at.ensures in
     let known : c.first_against-first.result ≡ first_against s near c.loop-at.first = one.first ∙ ap (λ z. first_against s z c.loop-at.first) c.as_slice.ensures.value in
@@ -41,6 +41,6 @@ returns g c = record {
   counted = λ ts e. omega (arith, all_counted ts c.args.added.now c.loop-at.at c.loop-at.tests c.args.tests.now (omega (arith, c.loop-at-test.false, c.loop-at.auto.at-end)) (c.loop-at.invariant.counted ts e));
 }
 
-pub returns-in_err-near-clause-few : goal.returns-in_err-near-clause-few
-returns-in_err-near-clause-few g c = λ ss e.
+pub returns-in_err-gather_staying-clause-few : goal.returns-in_err-gather_staying-clause-few
+returns-in_err-gather_staying-clause-few g c = λ ss e.
     omega (arith, c.loop-at.invariant.few ss e, no_more (times_by (g.I.SegIndex.cells c.args.index.now)) ss c.args.added.now c.loop-at.at c.loop-at.auto.at-end)
