@@ -49,8 +49,8 @@ static uint64_t times_to_block(uint64_t factor) {
     return times;
 }
 
-// Adds the positions whose x goes into a number from `from` to below `to`, of which the lower half of the product is less
-// than BLOCK above `low`. From one of these numbers to the next it is one of two steps, or both.
+// Adds the positions whose x makes of the seed a number from `from` to below `to` of which the lower half of the
+// product is less than BLOCK above `low`. From one such number to the next it is one of two steps, or both.
 static void search(uint64_t from, uint64_t to, uint64_t low, std::vector<Position>& found) {
     static const uint64_t up = times_to_block(FACTOR), down = times_to_block(-FACTOR);
     const uint64_t rise = up * FACTOR, fall = down * -FACTOR;
@@ -66,9 +66,9 @@ static void search(uint64_t from, uint64_t to, uint64_t low, std::vector<Positio
     }
 }
 
-// All positions with the hash of (0, 0) that have the same number before the last multiplication: for each x there is one
-// y. It is in range only where the upper bits of that number and of what is left after x are alike, or all differ. The
-// upper half of the product has the same upper bits for many x, so that those of the lower half are known.
+// All positions for which the second multiplication is that of (0, 0): for each x there is one y. It is in range only
+// where what is left after x has the upper bits of WANTED, or the opposite of each. The upper half of the product has
+// the same upper bits for many x, so that those of the lower half are known.
 static std::vector<Position> all_found() {
     std::vector<Position> found;
     for (uint64_t block : {SEED / BLOCK * BLOCK, ~SEED / BLOCK * BLOCK}) {
@@ -158,7 +158,8 @@ public:
 static int count() {
     Table table;
     Position position;
-    while (scanf("%" SCNd64 " %" SCNd64, &position.first, &position.second) == 2) table.insert(half_of(hash_of(position)));
+    while (scanf("%" SCNd64 " %" SCNd64, &position.first, &position.second) == 2)
+        table.insert(half_of(hash_of(position)));
     printf("%" PRIu64 " %" PRIu64 "\n", table.looked_at, table.compared);
     return 0;
 }

@@ -11,13 +11,13 @@ use Rattle.local_planarity.proofs.Sweeping.{crosses_is}
 use Rattle.local_planarity.proofs.Nearby.{near_few, held_has}
 use Rattle.local_planarity.proofs.sweeps.crosses_on_way.Goals as goal
 
-pub returns-in_ok-near-in-Some : goal.returns-in_ok-near-in-Some
-returns-in_ok-near-in-Some g c =
+pub returns-in_ok-gather_staying-in-Some : goal.returns-in_ok-gather_staying-in-Some
+returns-in_ok-gather_staying-in-Some g c =
     let held = g.I.SegIndex.held c.args.index.now in
     let times = times_by (g.I.SegIndex.cells c.args.index.now) in
-    let near = c.in_ok-near-in-Some.near.items in
+    let near = c.gather_staying.new.near.items in
     let way = segment c.args.p c.args.q in
-    let there : IsNear held times (EndingAt c.args.p) way near = subst (λ s. IsNear held times (EndingAt c.args.p) s near) c.in-Some.ensures.some (c.in_ok-near-in-Some.ensures) in
+    let there : IsNear held times (EndingAt c.args.p) way near = subst (λ s. IsNear held times (EndingAt c.args.p) s near) c.in-Some.ensures.some c.in_ok-gather_staying-in-Some.ensures in
     let is : c.conflicts_with.result ≡ list_any (conflict way) near =
     c.conflicts_with.ensures.some ∙ ap (λ z. list_any (conflict c.in-Some.way) z) c.as_slice.ensures.value ∙ ap (λ s. list_any (conflict s) near) c.in-Some.ensures.some in
     record {
