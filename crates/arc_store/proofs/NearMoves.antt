@@ -1,9 +1,8 @@
 -- What is found among the segments near a move is what is found among all that are held.
-use Rattle.std.proofs.Common.{◌≡◌, ◌≤◌, ◌<◌, ◌+◌, ℕ, Bool, true, false, not, refl, sym, ap, ◌∙◌, subst}
-use Rattle.std.proofs.Common.{List, [], ◌∷◌, length, take, get_or, map, ◌&&◌, ◌||◌, inl, inr, None, arith, zero, suc}
+use Rattle.std.proofs.Common.{◌≡◌, ◌≤◌, ◌<◌, ◌+◌, ℕ, Bool, true, false, not, sym, ap, ◌∙◌}
+use Rattle.std.proofs.Common.{List, [], ◌∷◌, length, take, get_or, ◌&&◌, ◌||◌, inl, inr, None, arith, zero, suc}
 use Rattle.std.specs.FinSet as set
 use Rattle.std.specs.List.{list_any}
-use Rattle.std.proofs.lemmas.Bool.{false≢true}
 use Rattle.std.proofs.lemmas.List.Folds.{list_any_more}
 use Rattle.grid_geometry.specs.Position.{Position}
 use Rattle.grid_geometry.specs.Segment.{Segment, Box, box_of, is_end, segment}
@@ -17,13 +16,13 @@ use Rattle.ring_machine.specs.Sweep.{edge_sweeps, crosses_on_way}
 use Rattle.ring_machine.proofs.Neighbours.{in-map}
 use Rattle.ring_machine.proofs.Order.{or_true}
 use Rattle.segment_index.specs.Bounds.{box_around, is_within}
-use Rattle.segment_index.specs.Candidates.{SegmentSet, HasNear, has, segment_is, set_of}
+use Rattle.segment_index.specs.Candidates.{SegmentSet, has, segment_is, set_of}
 use Rattle.segment_index.specs.Times.{times_by}
 use Rattle.segment_index.proofs.Singles.{contains-set_of, same_segment}
 use Rattle.local_planarity.specs.declared.leaving.Leaving.TheVariants.{EndingAt}
-use Rattle.local_planarity.specs.Edits.{AreApart, IsAfter, IsEnds, IsHeld}
+use Rattle.local_planarity.specs.Edits.{AreApart, IsAfter, IsHeld}
 use Rattle.local_planarity.specs.Tests.{most_given, most_tests}
-use Rattle.local_planarity.proofs.Lists.{in-has}
+use Rattle.local_planarity.proofs.Lists.{has-in}
 use Rattle.feature_exchange.specs.Holds.{IsIndexed}
 use Rattle.ring_store.specs.Planned.{spokes}
 use Rattle.ring_machine.proofs.First.{In}
@@ -53,7 +52,7 @@ reach_more ss i s r k l here wide before t h =
 -- the item at a place is in the list
 pub in_at : {A : Type 0} (xs : List A) (i : ℕ) (x : A) → i < length xs → x ≡ get_or xs i x → In x xs
 in_at [] i x l e = absurd (omega (arith, l))
-in_at (y ∷ xs) zero x l e = inl e
+in_at (y ∷ xs) zero x l e = inl (sym e)
 in_at (y ∷ xs) (suc i) x l e = inr (in_at xs i x (omega (arith, l)) e)
 
 -- ---- what is near a move
@@ -92,7 +91,7 @@ module _ (d : Document) (held near : SegmentSet) (p q : Position) (around : List
       → found ≡ list_any (λ t. (not (machine.has (x ∷ p ∷ []) t.lo) && is_held t.lo x p q) || (not (machine.has (x ∷ p ∷ []) t.hi) && is_held t.hi x p q)) items
       → found ≡ edge_sweeps d p q x
   near_edge x i items found all is =
-      let spoke = m.come (segment x q) (in-has (spokes q around) (segment x q) (in-map (λ z. segment z q) x around i)) in
+      let spoke = m.come (segment x q) (has-in (spokes q around) (segment x q) (in-map (λ z. segment z q) x around i)) in
       edge_found d held indexed p q x found
       (whole_held held near m.rect m.has_near (x ∷ p ∷ []) x p q items found (three_within x p q m.rect spoke m.way)
       (λ t. sym (contains-set_of items t) ∙ ap (λ z. set.contains z t) all) is)

@@ -1,6 +1,6 @@
 -- What is found among the segments near a box is what is found among all that are held.
-use Rattle.std.proofs.Common.{◌≡◌, ◌≤◌, ◌+◌, ◌≤ℤ◌, ℕ, ℤ, Bool, true, false, not, cond, refl, sym, ap, ◌∙◌, subst}
-use Rattle.std.proofs.Common.{List, [], ◌∷◌, length, ◌&&◌, ◌||◌, int_le, arith, inl, inr, Option, None}
+use Rattle.std.proofs.Common.{◌≡◌, ◌≤◌, ◌+◌, ℕ, ℤ, Bool, true, false, not, cond, refl, sym, ap, ◌∙◌, subst}
+use Rattle.std.proofs.Common.{List, [], ◌∷◌, ◌&&◌, ◌||◌, int_le, arith, inl, inr, Option, None}
 use Rattle.std.specs.FinSet as set
 use Rattle.std.specs.Int.{int_min, int_max}
 use Rattle.std.specs.Ordering.{is_gt}
@@ -21,7 +21,7 @@ use Rattle.ring_machine.proofs.Members.{any_in, in_any, same_answer}
 use Rattle.ring_machine.proofs.Neighbours.{has-in as in-has_position, in-has as has_position-in}
 use Rattle.ring_machine.proofs.Order.{and_both, or_true, or_right, position_eq-true, position_eq-refl}
 use Rattle.segment_index.specs.Bounds.{box_around, is_within}
-use Rattle.segment_index.specs.Candidates.{SegmentSet, HasNear, has, segment_is}
+use Rattle.segment_index.specs.Candidates.{SegmentSet, HasNear, has}
 use Rattle.segment_index.specs.Times.{times_by}
 use Rattle.local_planarity.specs.declared.leaving.Leaving.{Leaving}
 use Rattle.local_planarity.specs.Edits.{AreApart, IsAfter, IsEnds, IsHeld, leaves, stays}

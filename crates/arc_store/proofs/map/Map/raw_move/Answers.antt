@@ -87,6 +87,11 @@ returns-in_err-test_planar-clause-edits g c =
     (held_apart (stored c.self.inside.frame c.self.inside.rings.borders c.self.inside.rings.vertices) c.self.inside.rings.index.held c.self.invariant.holds) c.in_err-test_planar.field-0.0 c.in_err-test_planar.ensures.refused))
     (tested c.self.invariant c.self.view_is c.self.inside.rings.borders c.self.inside.rings.vertices c.self.inside.rings.index.cells c.test_planar.new.tests refl refl refl)
 
+pub returns-in_err-sweeps-clause-edits : goal.returns-in_err-sweeps-clause-edits
+returns-in_err-sweeps-clause-edits g c =
+    hands_on fault.OutOfMemory c.from_residual-in_err-sweeps.result c.from_residual-in_err-sweeps.ensures.1 tt
+    (tested c.self.invariant c.self.view_is c.self.inside.rings.borders c.self.inside.rings.vertices c.self.inside.rings.index.cells c.sweeps.new.tests refl refl refl)
+
 pub returns-then-branch-clause-edits : goal.returns-then-branch-clause-edits
 returns-then-branch-clause-edits g c =
     let m = c.in_ok-moving.moving in
