@@ -201,8 +201,8 @@ module _ (held near : SegmentSet) (rect : Box) (h : HasNear held rect near) wher
             arith,
             few part (part_after ss e),
             sum_less (most_given (times_by None) part) (most_given times ss)
-            (λ s. part_sum (λ t. times_by None t (box_of s)) (λ t. times t (box_of s)) (λ t. no_less s t) near_after ss)
-            added,
+                (λ s. part_sum (λ t. times_by None t (box_of s)) (λ t. times t (box_of s)) (λ t. no_less s t) near_after ss)
+                added,
           )
 
   -- ---- a way

@@ -81,14 +81,7 @@ impl Editing<'_> {
         let mut saved = ToWriter::new(Vec::new(alloc));
         let depth = self.words.depth;
         let outcome = run(
-            alloc,
-            alloc,
-            self.seed,
-            self.map,
-            script,
-            depth,
-            answers,
-            &mut saved,
+            alloc, alloc, self.seed, self.map, script, depth, answers, &mut saved,
         );
         let ending = ending_of_run(&outcome, saved.writer.as_slice());
         end(save(self.rt, self.words, ending, errors), errors)

@@ -48,16 +48,7 @@ pub(crate) fn tell_by<R: Abort, A: Allocator + Copy, S: Source>(
     let mut sink = ToWriter::new(Vec::new(alloc));
     let mut saved = ToWriter::new(Vec::new(alloc));
     let seed = fixed_seed().expect(rt, "a seed");
-    let outcome = run(
-        heap,
-        alloc,
-        seed,
-        map,
-        source,
-        depth,
-        &mut sink,
-        &mut saved,
-    );
+    let outcome = run(heap, alloc, seed, map, source, depth, &mut sink, &mut saved);
     let end = end_of(rt, alloc, &outcome);
     Told {
         answers: sink.writer,

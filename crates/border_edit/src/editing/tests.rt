@@ -1,9 +1,9 @@
 //! What the program reads of real files, and what FILE holds once it has ended.
-use std::hash::RandomState;
 use super::{Editing, edit, map_bytes};
 use edit_program::Words;
 use std::alloc::{AllocError, Global};
 use std::fs::File;
+use std::hash::RandomState;
 use std::io::{Error, ErrorKind, Result as IoResult, Write};
 use std::process::Abort;
 use std::test::Fail;

@@ -1,11 +1,11 @@
 //! Small maps, and what is reported of them as they are mended.
-use std::hash::RandomState;
-use std::random::RandomSource;
 use super::rows::ROWS;
 use crate::asked::Asked;
 use crate::report::{Texts, mend_map};
 use std::alloc::Global;
+use std::hash::RandomState;
 use std::process::Abort;
+use std::random::RandomSource;
 use std::test::Fail;
 
 /// The reports of the maps of `ROWS`.

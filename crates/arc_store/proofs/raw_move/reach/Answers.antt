@@ -14,7 +14,8 @@ pub loop-s-preserved : goal.loop-s-preserved
 loop-s-preserved c = (
   ap (is_within c.rect-rect.result) c.widen.ensures ∙ within-first c.rect-rect.result c.loop-s.rect c.rect.result c.loop-s.invariant.0,
   reach_more c.args.segments.now c.loop-s.s-index c.s-item.result c.loop-s.rect c.widen.new.bounds c.loop-s-test.true c.s-item.is
-  (c.widen.ensures ∙ ap (box_around c.loop-s.rect) c.rect.ensures) c.loop-s.invariant.1)
+      (c.widen.ensures ∙ ap (box_around c.loop-s.rect) c.rect.ensures) c.loop-s.invariant.1,
+)
 
 pub returns-clause-way : goal.returns-clause-way
 returns-clause-way c = ap (λ z. is_within z c.loop-s.rect) (sym c.rect-rect.ensures) ∙ c.loop-s.invariant.0
