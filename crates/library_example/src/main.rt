@@ -32,7 +32,9 @@ type MapEditor<'a> = Editor<'a, TreeIndex<Global>, Global>;
 /// An editor of the map of a text, whose positions are hashed by a seed; `None` where the map does not
 /// open.
 fn opened(alloc: Global, seed: RandomState, text: &[u8]) -> Option<MapEditor<'_>> {
-    let raw = read(alloc, alloc, text).ok()?;
+    let Ok(raw) = read(alloc, alloc, text) else {
+        return None;
+    };
     let index = TreeIndex::new(alloc, raw.extent());
     let map = Map::build(alloc, seed, raw, index).ok()?;
     Editor::new(alloc, map, DEPTH).ok()
