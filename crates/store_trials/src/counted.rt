@@ -63,14 +63,14 @@ fn squares<'a, R: Abort>(rt: &R, alloc: Global, text: &'a str) -> Map<'a, GridIn
 
 /// A corner of the first square moves, and then none is found where it was. In cells of 99 by 1 the
 /// first square stands alone in a column. Its right and upper sides leave. The new right side is
-/// tested against the lower side, with which it has one cell in common, and the new upper side
-/// against the left side, with which it has two; the boxes of the others do not meet. The two new
-/// sides are tested against each other. No side that stays has its box at the way of the corner.
+/// tested against the lower side, and the new upper side against the left side, once each, though
+/// these two have two cells in common; the boxes of the others do not meet. The two new sides are
+/// tested against each other. No side that stays has its box at the way of the corner.
 fn move_a_corner<R: Abort>(rt: &R, map: &mut Map<'_, GridIndex>) {
     let (p, q) = (at(rt, 10, 10), at(rt, 9, 9));
     assert_eq!(rt; map.tests(), 0);
     assert_eq!(rt; move_vertex(map, p, q), Ok(()));
-    assert_eq!(rt; map.tests(), 1 + 2 + 1);
+    assert_eq!(rt; map.tests(), 1 + 1 + 1);
     assert_eq!(rt; remove_vertex(map, p), Err(EditFault::NoVertex));
     assert_eq!(rt; map.tests(), 0);
 }
