@@ -11,8 +11,6 @@ mod digits;
 mod fine;
 mod reading;
 mod shifted;
-#[cfg(test)]
-mod tests;
 
 pub use decimal::Decimal;
 pub use fine::{decimals, is_rounded, rounded};

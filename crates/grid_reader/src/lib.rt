@@ -7,8 +7,6 @@ mod fine_pos;
 mod grid;
 mod kept_digits;
 mod reading;
-#[cfg(test)]
-mod tests;
 mod told;
 mod transform;
 mod wants;

@@ -14,6 +14,3 @@ pub use asked::{Asked, Report};
 pub use looking::LookFault;
 pub use remaking::{Remade, RemakeFault};
 pub use report::{RepairFault, Texts, is_open, mend_map, report_map};
-
-#[cfg(test)]
-mod tests;

@@ -8,8 +8,6 @@ mod fault;
 mod points;
 mod rounding;
 mod splicing;
-#[cfg(test)]
-mod tests;
 mod whole;
 
 pub use fault::PointFault;

@@ -4,7 +4,5 @@
 
 mod boxes;
 mod diagonal;
-#[cfg(test)]
-mod tests;
 
 pub use boxes::RingBoxes;

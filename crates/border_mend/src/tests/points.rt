@@ -1,9 +1,8 @@
 //! Maps with points, on the grid that is asked for.
-use super::endings::words_for;
+use super::endings::{told_of, words_for};
+use super::mended::mending_for;
 use crate::asked::Words;
-use crate::telling::tell;
 use grid_reader::Wants;
-use std::fs;
 use std::test::Fail;
 
 /// A map with points and what is asked for: how many decimals are kept, how much finer the grid is, and
@@ -134,9 +133,7 @@ const REFUSED: &[(Given, &str)] = &[
 
 /// What is asked of a map, which is mended in its place.
 fn asked_for(rt: &HostRuntime, given: &Given) -> Result<Words, Fail> {
-    let mut words = words_for(rt, "points")?;
-    let out = String::from_str(rt.alloc(), words.map.as_str())?;
-    words.out = Some(out);
+    let mut words = mending_for(rt, "points")?;
     words.drop_lines = given.drops;
     words.asked.grid = Wants {
         digits: given.digits.min(24),
@@ -150,23 +147,29 @@ fn asked_for(rt: &HostRuntime, given: &Given) -> Result<Words, Fail> {
 /// What stands behind the lines of a map that is mended without a path.
 const COUNTS: &str = "counts short 0 repeats 0 on 0 cross 0 paths 0 parts 0 areas 0\n";
 
+/// Whether a map with points is mended with these lines of its report, and saved as this.
+fn is_saved(rt: &HostRuntime, row: &(Given, &str, &str)) -> Result<bool, Fail> {
+    let (given, lines, saved) = row;
+    let words = asked_for(rt, given)?;
+    let (told, found) = told_of(rt, &words, given.map)?;
+    let report = format!(in rt.alloc(); "{lines}{COUNTS}")?;
+    Ok(told.is(0, report.as_str(), "") && found.as_slice() == saved.as_bytes())
+}
+
 /// A map with points is mended and saved with its points on the grid of its arcs.
 #[test]
 fn points_are_put_on_the_grid(rt: HostRuntime) -> Result<(), Fail> {
-    for (given, lines, saved) in SAVED {
-        let words = asked_for(&rt, given)?;
-        fs::write(&rt, words.map.as_str(), given.map)?;
-        let mut output = Vec::new(rt.alloc());
-        let mut errors = Vec::new(rt.alloc());
-        let ended = tell(&rt, &words, &mut output, &mut errors);
-        let found = fs::read(&rt, words.map.as_str())?;
-        fs::remove_file(&rt, words.map.as_str())?;
-        assert_eq!(rt; ended, 0, "{lines}");
-        let report = format!(in rt.alloc(); "{lines}{COUNTS}")?;
-        assert_eq!(rt; output.as_slice(), report.as_str().as_bytes());
-        assert_eq!(rt; found.as_slice(), saved.as_bytes(), "{lines}");
+    for row in SAVED {
+        assert!(rt; is_saved(&rt, row)?, "{}", row.1);
     }
     Ok(())
+}
+
+/// Whether a map is refused with this line, and stays as it was.
+fn is_refused(rt: &HostRuntime, given: &Given, line: &str) -> Result<bool, Fail> {
+    let words = asked_for(rt, given)?;
+    let (told, kept) = told_of(rt, &words, given.map)?;
+    Ok(told.is(2, "", line) && kept.as_slice() == given.map.as_bytes())
 }
 
 /// A point that can't be put there is told, and so is what can't be read, by their places in the map,
@@ -174,17 +177,7 @@ fn points_are_put_on_the_grid(rt: HostRuntime) -> Result<(), Fail> {
 #[test]
 fn points_are_refused(rt: HostRuntime) -> Result<(), Fail> {
     for (given, line) in REFUSED {
-        let words = asked_for(&rt, given)?;
-        fs::write(&rt, words.map.as_str(), given.map)?;
-        let mut output = Vec::new(rt.alloc());
-        let mut errors = Vec::new(rt.alloc());
-        let ended = tell(&rt, &words, &mut output, &mut errors);
-        let kept = fs::read(&rt, words.map.as_str())?;
-        fs::remove_file(&rt, words.map.as_str())?;
-        assert_eq!(rt; ended, 2, "{line}");
-        assert!(rt; output.is_empty(), "{line}");
-        assert_eq!(rt; errors.as_slice(), line.as_bytes());
-        assert_eq!(rt; kept.as_slice(), given.map.as_bytes(), "{line}");
+        assert!(rt; is_refused(&rt, given, line)?, "{line}");
     }
     Ok(())
 }
@@ -193,14 +186,8 @@ fn points_are_refused(rt: HostRuntime) -> Result<(), Fail> {
 #[test]
 fn points_are_reported(rt: HostRuntime) -> Result<(), Fail> {
     let words = words_for(&rt, "reported")?;
-    fs::write(&rt, words.map.as_str(), DECIMALS)?;
-    let mut output = Vec::new(rt.alloc());
-    let mut errors = Vec::new(rt.alloc());
-    let ended = tell(&rt, &words, &mut output, &mut errors);
-    fs::remove_file(&rt, words.map.as_str())?;
-    assert_eq!(rt; ended, 1);
+    let (told, _) = told_of(&rt, &words, DECIMALS)?;
     let report = "decimals 2 digits 2 rounded 0\ncounts short 0 repeats 0 on 0 cross 0\n";
-    assert_eq!(rt; output.as_slice(), report.as_bytes());
-    assert!(rt; errors.is_empty());
+    assert!(rt; told.is(1, report, ""));
     Ok(())
 }

@@ -1,6 +1,5 @@
 //! Small maps, and what is reported of them.
-use crate::asked::Asked;
-use crate::report::{Texts, report_map};
+use mend_report::{Asked, Texts, report_map};
 use std::alloc::Global;
 use std::process::Abort;
 use std::test::Fail;

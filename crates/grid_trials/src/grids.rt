@@ -1,6 +1,6 @@
 //! Which walks and which transform a map has on a grid, and what is refused.
-use super::{OnGrid, Told, Transform, Wants, point_digits, read_on_grid};
 use grid_geometry::Pos;
+use grid_reader::{OnGrid, Told, Transform, Wants, point_digits, read_on_grid};
 use std::alloc::{AllocError, Global};
 use std::process::Abort;
 use topo_outline::OpenFault;

@@ -1,6 +1,5 @@
 //! A text that can't be read is told by the fault that reading tells.
-use crate::asked::Asked;
-use crate::looking::{LookFault, map_of};
+use mend_report::{Asked, LookFault, Texts, report_map};
 use std::alloc::Global;
 use std::process::Abort;
 use std::test::Fail;
@@ -12,7 +11,8 @@ const MAP: &str =
 
 /// Looking tells of the text what reading tells.
 fn is_same<R: Abort>(rt: &R, alloc: Global, text: &[u8]) {
-    let looked = map_of(alloc, alloc, text, Asked::with_most(0).grid).err();
+    let mut texts = Texts::new(alloc, false);
+    let looked = report_map(alloc, alloc, text, Asked::with_most(0), &mut texts).err();
     let read = read_walks(alloc, alloc, text).err();
     match (looked, read) {
         (Some(LookFault::Open(told)), Some(fault)) => assert_eq!(rt; told, fault, "{text:?}"),
@@ -80,8 +80,9 @@ const FAULTS: [(&str, &str); 10] = [
 #[test]
 fn each_fault_of_reading_is_told(rt: HostRuntime) -> Result<(), Fail> {
     for (text, want) in FAULTS {
-        let grid = Asked::with_most(0).grid;
-        let fault = map_of(rt.alloc(), rt.alloc(), text.as_bytes(), grid).err();
+        let mut texts = Texts::new(rt.alloc(), false);
+        let asked = Asked::with_most(0);
+        let fault = report_map(rt.alloc(), rt.alloc(), text.as_bytes(), asked, &mut texts).err();
         match fault {
             Some(LookFault::Open(fault)) => {
                 let told = format!(in rt.alloc(); "{fault}")?;

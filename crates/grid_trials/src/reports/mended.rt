@@ -1,7 +1,6 @@
 //! Small maps, and what is reported of them as they are mended.
 use super::rows::ROWS;
-use crate::asked::Asked;
-use crate::report::{Texts, mend_map};
+use mend_report::{Asked, Texts, mend_map};
 use std::alloc::Global;
 use std::hash::RandomState;
 use std::process::Abort;

@@ -1,6 +1,6 @@
 //! How far the boxes of a few rings reach.
-use crate::RingBoxes;
 use grid_geometry::Pos;
+use ring_boxes::RingBoxes;
 use std::alloc::{AllocError, Global};
 use std::process::Abort;
 

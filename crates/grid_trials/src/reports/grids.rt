@@ -1,7 +1,6 @@
 //! Maps whose coordinates have decimals or further numbers, and what they are on their grid.
-use crate::asked::Asked;
-use crate::report::{Texts, mend_map, report_map};
 use grid_reader::Wants;
+use mend_report::{Asked, Texts, mend_map, report_map};
 use std::alloc::Global;
 use std::hash::RandomState;
 use std::process::Abort;
