@@ -1,15 +1,12 @@
 // Neighbours of features, and the features at positions, on maps made by hand.
 use crate::squares::map_of;
 use arc_store::Map;
+use given_maps::UNION_ABOVE;
 use grid_geometry::Pos;
 use point_queries::{Numbers, QueryFault, at, neighbours};
 use segment_index::GridIndex;
 use std::alloc::Global;
 use std::process::Abort;
-
-// two squares with a common side, and above them a layer that is their union
-const UNION_ABOVE: &str =
-    "{\"type\":\"Topology\",\"objects\":{\"land\":{\"type\":\"GeometryCollection\",\"geometries\":[{\"type\":\"Polygon\",\"id\":\"A\",\"arcs\":[[0,1]]},{\"arcs\":[[-1,2]],\"type\":\"Polygon\",\"id\":\"B\"}]},\"state\":{\"type\":\"Polygon\",\"arcs\":[[1,2]]}},\"arcs\":[[[10,0],[10,10]],[[10,10],[0,10],[0,0],[10,0]],[[10,0],[20,0],[20,10],[10,10]]]}";
 
 // two squares with a common side
 const SQUARES: &str =

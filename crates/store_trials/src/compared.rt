@@ -3,11 +3,11 @@
 ghost use Rattle.std.specs.Prelude.{◌≡◌};
 ghost use Rattle.std.specs.FinSet as set;
 
-use crate::columbus::COLUMBUS;
 use crate::made::{Cells, Drawn, cells_text};
 use arc_store::{EditFault, Map};
 use edit_vertex::{insert_vertex, move_vertex, remove_vertex, thin};
 use fixed_seed::fixed_seed;
+use given_maps::{COLUMBUS, UNION_ABOVE};
 use grid_geometry::{Pos, Rect};
 use plain_rings::{EditFault as PlainFault, PlainMap};
 use segment_index::{GridIndex, ListIndex, SegIndex};
@@ -15,10 +15,6 @@ use std::alloc::{AllocError, Allocator, Global};
 use std::process::Abort;
 use std::test::Fail;
 use topo_reader::read;
-
-// two squares with a common side, and above them a layer that is their union
-const UNION_ABOVE: &str =
-    "{\"type\":\"Topology\",\"objects\":{\"land\":{\"type\":\"GeometryCollection\",\"geometries\":[{\"type\":\"Polygon\",\"id\":\"A\",\"arcs\":[[0,1]]},{\"arcs\":[[-1,2]],\"type\":\"Polygon\",\"id\":\"B\"}]},\"state\":{\"type\":\"Polygon\",\"arcs\":[[1,2]]}},\"arcs\":[[[10,0],[10,10]],[[10,10],[0,10],[0,0],[10,0]],[[10,0],[20,0],[20,10],[10,10]]]}";
 
 // a polygon with a hole at its corner, and another hole that turns right
 const HOLES: &str =

@@ -1,6 +1,7 @@
 //! Edits of features on small maps: each refusal once.
 use arc_store::{EditFault, IdText, ItemView, Map, Path};
 use fixed_seed::fixed_seed;
+use given_maps::TWO_SQUARES;
 use grid_geometry::{Pos, Seg};
 use segment_index::{ListIndex, SegIndex};
 use split_merge::{delete, merge, rename, split};
@@ -8,10 +9,6 @@ use std::alloc::{AllocError, Allocator, Global};
 use std::process::Abort;
 use std::test::Fail;
 use topo_reader::read;
-
-// two squares with a common side
-const SQUARES: &str =
-    "{\"type\":\"Topology\",\"objects\":{\"l\":{\"type\":\"GeometryCollection\",\"geometries\":[{\"type\":\"Polygon\",\"id\":\"A\",\"arcs\":[[0]]},{\"type\":\"Polygon\",\"id\":\"B\",\"arcs\":[[1]]}]}},\"arcs\":[[[0,0],[10,0],[10,10],[0,10],[0,0]],[[10,0],[20,0],[20,10],[10,10],[10,0]]]}";
 
 // a square, and below it a polygon with a dent, each the geometry of its layer
 const ALONE: &str =
@@ -153,7 +150,7 @@ fn refuse_splits<R: Abort>(rt: &R, alloc: Global, map: &mut Map<'_, ListIndex>) 
 
 #[test]
 fn splits_are_refused(rt: HostRuntime) {
-    let mut map = map_of(&rt, rt.alloc(), SQUARES);
+    let mut map = map_of(&rt, rt.alloc(), TWO_SQUARES);
     refuse_splits(&rt, rt.alloc(), &mut map);
     drop(map);
 }
@@ -185,9 +182,9 @@ fn merges_are_refused(rt: HostRuntime) {
     let alloc = rt.alloc();
     let pos = at(&rt, (0, 4));
     for (text, f, g, fault) in [
-        (SQUARES, 0, 9, EditFault::NoFeature),
-        (SQUARES, 9, 9, EditFault::NoFeature),
-        (SQUARES, 1, 1, EditFault::SameFeature),
+        (TWO_SQUARES, 0, 9, EditFault::NoFeature),
+        (TWO_SQUARES, 9, 9, EditFault::NoFeature),
+        (TWO_SQUARES, 1, 1, EditFault::SameFeature),
         (NULL, 0, 1, EditFault::NotOnePolygon),
         (ALONE, 0, 1, EditFault::NotNeighbours),
         (GAP, 0, 1, EditFault::Runs { n: 2 }),
@@ -207,7 +204,7 @@ fn refuse_missing<R: Abort>(rt: &R, map: &mut Map<'_, ListIndex>, f: u32, id: Id
 #[test]
 fn no_such_feature(rt: HostRuntime) -> Result<(), Fail> {
     let id = IdText(String::from_str(rt.alloc(), "x")?);
-    let mut map = map_of(&rt, rt.alloc(), SQUARES);
+    let mut map = map_of(&rt, rt.alloc(), TWO_SQUARES);
     refuse_missing(&rt, &mut map, 2, id);
     drop(map);
     Ok(())
@@ -244,7 +241,7 @@ fn split_and_merge<R: Abort>(
 
 #[test]
 fn split_and_merged(rt: HostRuntime) -> Result<(), Fail> {
-    let mut map = map_of(&rt, rt.alloc(), SQUARES);
+    let mut map = map_of(&rt, rt.alloc(), TWO_SQUARES);
     let done = split_and_merge(&rt, rt.alloc(), &mut map);
     drop(map);
     done
@@ -287,7 +284,7 @@ fn an_id_is_escaped(rt: HostRuntime) -> Result<(), Fail> {
         "a\"/\\\n\t\u{8}\u{c}\r\u{1}\u{1f}\u{7f}\u{e9}\u{20ac}\u{1f5fa}",
     )?);
     let want = "\"a\\\"/\\\\\\n\\t\\b\\f\\r\\u0001\\u001f\u{7f}\u{e9}\u{20ac}\u{1f5fa}\"";
-    let mut map = map_of(&rt, rt.alloc(), SQUARES);
+    let mut map = map_of(&rt, rt.alloc(), TWO_SQUARES);
     rename_to(&rt, &mut map, id, want);
     drop(map);
     Ok(())
@@ -320,7 +317,7 @@ fn delete_a_square<R: Abort>(rt: &R, map: &mut Map<'_, ListIndex>) {
 
 #[test]
 fn features_are_deleted(rt: HostRuntime) {
-    let mut map = map_of(&rt, rt.alloc(), SQUARES);
+    let mut map = map_of(&rt, rt.alloc(), TWO_SQUARES);
     delete_a_square(&rt, &mut map);
     drop(map);
 }

@@ -1,10 +1,10 @@
 // A thousand drawn commands on a part of a real map: about each fourth is an undo, and in the end as
 // many changes are taken back as are kept.
-use crate::columbus::COLUMBUS;
 use crate::drawing::{Drawn, drawn_command};
 use crate::edits::check_path;
 use crate::maps::editor_of;
 use crate::trail::{Trail, give, take_all_back, take_back};
+use given_maps::COLUMBUS;
 use segment_index::GridIndex;
 use std::alloc::Global;
 use std::process::Abort;

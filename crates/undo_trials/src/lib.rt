@@ -3,8 +3,6 @@
 #![tactic(auto)]
 
 #[cfg(test)]
-mod columbus;
-#[cfg(test)]
 mod drawing;
 #[cfg(test)]
 mod drawn;

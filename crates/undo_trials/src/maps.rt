@@ -16,10 +16,6 @@ use undo_ring::Editor;
 /// More than the growths of any run below.
 pub(crate) const MANY: u64 = 4000;
 
-/// Two squares with a common side.
-pub(crate) const TWO_SQUARES: &str =
-    "{\"type\":\"Topology\",\"objects\":{\"l\":{\"type\":\"GeometryCollection\",\"geometries\":[{\"type\":\"Polygon\",\"id\":\"A\",\"arcs\":[[0]]},{\"type\":\"Polygon\",\"id\":\"B\",\"arcs\":[[1]]}]}},\"arcs\":[[[0,0],[10,0],[10,10],[0,10],[0,0]],[[10,0],[20,0],[20,10],[10,10],[10,0]]]}";
-
 /// A square with a hole, its neighbours to the right and below, an object without a geometry, a point,
 /// a collection in the collection, and a square that is itself a layer. Five vertices of the border to
 /// the right are flat.

@@ -1,9 +1,10 @@
 // Growths that are refused in turn: a command that was refused one has changed nothing, or is a
 // thinning that left some out, which is one change; an undo that was refused one has changed nothing.
 use crate::edits::{EACH_KIND, Edit, is_made};
-use crate::maps::{MANY, SQUARES, TWO_SQUARES, editor_of, first_growth, map_of};
+use crate::maps::{MANY, SQUARES, editor_of, first_growth, map_of};
 use crate::written::{Counts, counts_of, is_written, written};
 use arc_store::Map;
+use given_maps::TWO_SQUARES;
 use refusing_allocator::Refusing;
 use segment_index::{GridIndex, SegIndex};
 use std::alloc::{Allocator, Global};

@@ -2,8 +2,9 @@
 ghost use Rattle.std.specs.Prelude.{◌≤◌};
 
 use crate::edits::{EACH_KIND, Edit, check_path, command_of};
-use crate::maps::{SQUARES, TWO_SQUARES, editor_of};
+use crate::maps::{SQUARES, editor_of};
 use crate::trail::{Trail, give, take_all_back};
+use given_maps::TWO_SQUARES;
 use segment_index::GridIndex;
 use std::alloc::Global;
 use std::process::Abort;

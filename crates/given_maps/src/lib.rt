@@ -1,25 +1,26 @@
-// A part of a real map.
+//! Maps that tests of several crates open.
+#![tactic(auto)]
 
 /// The first sixteen of the 49 neighbourhoods of Columbus, Ohio, without their properties: 265 vertices. Of the
 /// data set `columbus` of spData, CC0.
-pub(crate) const COLUMBUS: &str =
-    "{\"type\":\"Topology\",\"transform\":{\"scale\":[5.412513256e-06,5.412513256e-06],\"translate\":[5.874907017,10.788629532]},\"objects\":{\"land\":{\"type\":\"GeometryCollection\",\"geometries\":[
-{\"type\":\"Polygon\",\"id\":\"0\",\"arcs\":[[0,1,2]]},
-{\"type\":\"Polygon\",\"id\":\"1\",\"arcs\":[[-2,3,4,5]]},
-{\"type\":\"Polygon\",\"id\":\"2\",\"arcs\":[[-1,6,7,8,-4]]},
-{\"type\":\"Polygon\",\"id\":\"3\",\"arcs\":[[-5,-9,9,10,11]]},
-{\"type\":\"Polygon\",\"id\":\"4\",\"arcs\":[[-8,12,13,14,15,16,17,-10]]},
-{\"type\":\"Polygon\",\"id\":\"5\",\"arcs\":[[-14,18,19]]},
-{\"type\":\"Polygon\",\"id\":\"6\",\"arcs\":[[20,21,22,23]]},
-{\"type\":\"Polygon\",\"id\":\"7\",\"arcs\":[[24,-11,-18,25,26,-21]]},
-{\"type\":\"Polygon\",\"id\":\"8\",\"arcs\":[[27,-15,-20,28,29,30,31]]},
-{\"type\":\"Polygon\",\"id\":\"9\",\"arcs\":[[-30,32,33,34]]},
-{\"type\":\"Polygon\",\"id\":\"10\",\"arcs\":[[-26,-17,35,36]]},
-{\"type\":\"Polygon\",\"id\":\"11\",\"arcs\":[[-27,-37,37,38,39]]},
-{\"type\":\"Polygon\",\"id\":\"12\",\"arcs\":[[-22,-40,40]]},
-{\"type\":\"Polygon\",\"id\":\"13\",\"arcs\":[[-23,-41,-39,41,42,43,44]]},
-{\"type\":\"Polygon\",\"id\":\"14\",\"arcs\":[[-16,-28,45,46]]},
-{\"type\":\"Polygon\",\"id\":\"15\",\"arcs\":[[-38,-36,-47,47,48,49,-42]]}]}},\"arcs\":[
+pub const COLUMBUS: &str =
+    r#"{"type":"Topology","transform":{"scale":[5.412513256e-06,5.412513256e-06],"translate":[5.874907017,10.788629532]},"objects":{"land":{"type":"GeometryCollection","geometries":[
+{"type":"Polygon","id":"0","arcs":[[0,1,2]]},
+{"type":"Polygon","id":"1","arcs":[[-2,3,4,5]]},
+{"type":"Polygon","id":"2","arcs":[[-1,6,7,8,-4]]},
+{"type":"Polygon","id":"3","arcs":[[-5,-9,9,10,11]]},
+{"type":"Polygon","id":"4","arcs":[[-8,12,13,14,15,16,17,-10]]},
+{"type":"Polygon","id":"5","arcs":[[-14,18,19]]},
+{"type":"Polygon","id":"6","arcs":[[20,21,22,23]]},
+{"type":"Polygon","id":"7","arcs":[[24,-11,-18,25,26,-21]]},
+{"type":"Polygon","id":"8","arcs":[[27,-15,-20,28,29,30,31]]},
+{"type":"Polygon","id":"9","arcs":[[-30,32,33,34]]},
+{"type":"Polygon","id":"10","arcs":[[-26,-17,35,36]]},
+{"type":"Polygon","id":"11","arcs":[[-27,-37,37,38,39]]},
+{"type":"Polygon","id":"12","arcs":[[-22,-40,40]]},
+{"type":"Polygon","id":"13","arcs":[[-23,-41,-39,41,42,43,44]]},
+{"type":"Polygon","id":"14","arcs":[[-16,-28,45,46]]},
+{"type":"Polygon","id":"15","arcs":[[-38,-36,-47,47,48,49,-42]]}]}},"arcs":[
 [[579037,592411],[-35254,1291],[-30454,1116]],
 [[513329,594818],[-1922,15080],[-1905,14943],[-1250,9807],[-314,2459]],
 [[507938,637107],[-11904,93389],[46144,-1481],[-192,-18090],[20488,366],[31008,-1480],[2370,-71254],[-15689,-552],[-1126,-45594]],
@@ -69,4 +70,12 @@ pub(crate) const COLUMBUS: &str =
 [[537765,322168],[-1423,17674],[-3720,43060]],
 [[537765,322168],[-5022,-6562],[-5887,-7694],[-3149,-5154]],
 [[523707,302758],[-2748,-1815],[-6831,-4800],[-9583,-4354],[-2970,-1181]],
-[[501575,290608],[-14180,78823]]]}";
+[[501575,290608],[-14180,78823]]]}"#;
+
+/// Two squares with a common side, which is written once for each of them.
+pub const TWO_SQUARES: &str =
+    r#"{"type":"Topology","objects":{"l":{"type":"GeometryCollection","geometries":[{"type":"Polygon","id":"A","arcs":[[0]]},{"type":"Polygon","id":"B","arcs":[[1]]}]}},"arcs":[[[0,0],[10,0],[10,10],[0,10],[0,0]],[[10,0],[20,0],[20,10],[10,10],[10,0]]]}"#;
+
+/// Two squares with a common side, and above them a layer that is their union.
+pub const UNION_ABOVE: &str =
+    r#"{"type":"Topology","objects":{"land":{"type":"GeometryCollection","geometries":[{"type":"Polygon","id":"A","arcs":[[0,1]]},{"arcs":[[-1,2]],"type":"Polygon","id":"B"}]},"state":{"type":"Polygon","arcs":[[1,2]]}},"arcs":[[[10,0],[10,10]],[[10,10],[0,10],[0,0],[10,0]],[[10,0],[20,0],[20,10],[10,10]]]}"#;
