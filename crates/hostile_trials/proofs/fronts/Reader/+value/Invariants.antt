@@ -1,4 +1,4 @@
-use Rattle.hostile_texts.proofs.fronts.Reader.+value.Given as goal
+use Rattle.hostile_trials.proofs.fronts.Reader.+value.Given as goal
 
 abbrev pub decreases-value : goal.decreases-value
 decreases-value l = l.room
