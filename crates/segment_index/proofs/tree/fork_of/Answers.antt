@@ -15,4 +15,4 @@ returns-clause-bounded g c =
 
 pub returns-clause-more : goal.returns-clause-more
 returns-clause-more g c =
-    rw c.in_ok-new.ensures.ok (fork-gained c.args.s c.args.cell.now c.part.new.low c.part.new.high c.put_either.new.low c.put_either.new.high (listed c.tree_of-low.result) (listed c.tree_of-high.result) c.in_ok-part.ensures c.in_ok-put_either.ensures c.tree_of-low.ensures.same c.tree_of-high.ensures.same)
+    rw c.in_ok-new.ensures.ok (fork-gained c.args.entry.now c.args.cell.now c.part.new.low c.part.new.high c.put_either.new.low c.put_either.new.high (listed c.tree_of-low.result) (listed c.tree_of-high.result) c.in_ok-part.ensures (rw c.segment.ensures at c.in_ok-put_either.ensures) c.tree_of-low.ensures.same c.tree_of-high.ensures.same)
