@@ -1,5 +1,5 @@
 -- Want of memory is not the other fault.
-use Rattle.std.proofs.Common.{◌≡◌, ◌≢◌, ◌∙◌, Result, Ok, Err, sym, ap}
+use Rattle.std.proofs.Common.{◌≡◌, ◌≢◌, ◌∙◌, Result, Ok, Err, OnErr, sym, ap}
 use Rattle.std.specs.Result.{IsErrAnd}
 use Rattle.vertex_index.specs.declared.fault.AddFault.{AddFault}
 use Rattle.vertex_index.specs.declared.fault.AddFault.TheVariants as add
@@ -17,3 +17,7 @@ pub no_room_to_shift : {T : Type 0} (r : Result T ShiftFault)
 no_room_to_shift (Ok x) is same = absurd is
 no_room_to_shift (Err e) is same =
     let bad : Err shift.OutOfMemory ≡ Err shift.Occupied = ap Err (sym is) ∙ same in absurd (cc)
+
+pub on_err : {T E : Type 0} {P : Type 0} (r : Result T E) → P → OnErr r P
+on_err (Ok x) h = tt
+on_err (Err e) h = h

@@ -1,3 +1,5 @@
+pub mod EntryLemmas
 pub mod FaultLemmas
 pub mod MirrorLemmas
 pub mod PlacementLemmas
+pub mod PutLemmas
