@@ -145,14 +145,6 @@ module _ (s : List (Option Position)) (es : List (Position × ℕ)) (m : Mirrors
 
 -- ---- what a look-up tells
 
-pub no_key : (es : List (Position × ℕ)) (p : Position) → is_some (key_in es p) ≡ false
-    → key_in es p ≡ None
-no_key es p h = by (key_in es p) h
-  where
-    by : (o : Option ℕ) → is_some o ≡ false → o ≡ None
-    by None e = refl
-    by (Some k) e = cc
-
 pub IsSome-copied : {X : Type 0} (o : Option (Bor X))
     → is_some (option_copied o) ≡ true → is_some o ≡ true
 IsSome-copied None h = h
@@ -196,16 +188,13 @@ module _ (s : List (Option Position)) (es : List (Position × ℕ)) (m : Mirrors
       by None e i = cc
       by (Some k) e i = (k, found_key p (Some k) e)
 
-  pub unoccupied : (p : Position) → is_some (key_in es p) ≡ false → (k : ℕ) → map.get v k ≢ Some p
-  unoccupied p h = free p (no_key es p h)
-
   -- an answer that comes exactly where a vertex stands: the keys have the position, or not
   pub refuses : {R : Type 0} (p : Position) → is_some (key_in es p) ≡ true → R → R ↔ IsOccupied v p
   refuses p h r = (λ _. occupied p h, λ _. r)
 
-  pub accepts : {R : Type 0} (p : Position) → is_some (key_in es p) ≡ false → (R → ⊥)
+  pub accepts : {R : Type 0} (p : Position) → key_in es p ≡ None → (R → ⊥)
       → R ↔ IsOccupied v p
-  accepts p h not_so = (λ r. absurd (not_so r), λ stands. absurd (unoccupied p h stands.0 stands.1))
+  accepts p none not_so = (λ r. absurd (not_so r), λ stands. absurd (free p none stands.0 stands.1))
 
   -- no two keys have the same position, since each is the key of it
   pub distinct : AreDistinct v

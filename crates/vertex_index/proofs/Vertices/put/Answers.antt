@@ -4,7 +4,7 @@ use Rattle.indexmap.specs.Entry.{entry_value, map_with_value}
 use Rattle.grid_geometry.specs.Position.{Position, position_eq}
 use Rattle.vertex_index.specs.Mirrors.{Mirrors, placement_of, in_slot, key_in}
 use Rattle.vertex_index.proofs.PlacementLemmas.{placement-changed}
-use Rattle.vertex_index.proofs.FaultLemmas.{on_err}
+use Rattle.vertex_index.proofs.PutLemmas.{on_err}
 use Rattle.vertex_index.proofs.EntryLemmas.{no_entry}
 use Rattle.vertex_index.proofs.MirrorLemmas.{slot_has, Mirrors-add, free, found_key, distinct}
 use Rattle.vertex_index.proofs.Vertices.put.Given.{Over}

@@ -20,14 +20,14 @@ returns-in-Ok-Occupied-clause-occupied g c =
 
 pub returns-in-Err-clause-occupied : goal.returns-in-Err-clause-occupied
 returns-in-Err-clause-occupied g c =
-    accepts _ _ c.self.invariant _ c.self.view_is c.args.q (ap is_some c.in-Err.ensures.absent) (λ is. cc)
+    accepts _ _ c.self.invariant _ c.self.view_is c.args.q c.in-Err.ensures.absent (λ is. cc)
 
 no_key_here : (g : Over) (c : goal.After-swap_remove g) → key_in c.self.inside.keys.entries c.args.q ≡ None
 no_key_here g c = no_entry _ _ c.in-Ok-Vacant.field-0 c.in-Ok-Vacant.room c.in-Ok-Vacant.field-0-is c.in-Ok-Vacant.ensures.found
 
 pub returns-clause-occupied : goal.returns-clause-occupied
 returns-clause-occupied g c =
-    accepts _ _ c.self.invariant _ c.self.view_is c.args.q (ap is_some (no_key_here g c)) (λ is. cc)
+    accepts _ _ c.self.invariant _ c.self.view_is c.args.q (no_key_here g c) (λ is. cc)
 
 pub returns-clause-new : goal.returns-clause-new
 returns-clause-new g c = free _ _ c.self.invariant _ c.self.view_is c.args.q (no_key_here g c)
