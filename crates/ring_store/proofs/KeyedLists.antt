@@ -33,9 +33,11 @@ of_one k j h = by h.0 h.1 h.2
 one : (k : ℕ) → Contains (k ∷ []) k
 one k = (0, omega arith, refl)
 
-pub put_new : (places places' : Placement) (k : ℕ) (p : Position) → table.get places k ≡ None
+-- a position put under a key that no other position had
+pub put_at : (places places' : Placement) (k : ℕ) (p : Position)
+    → ((q : Position) → table.get places k ≡ Some q → q ≡ p)
     → places' ≡ table.insert places k p → ArePut places places' (k ∷ [])
-put_new places places' k p new e = subst (λ z. ArePut places z (k ∷ [])) (sym e) (record {
+put_at places places' k p only e = subst (λ z. ArePut places z (k ∷ [])) (sym e) (record {
   kept = λ j q h. kept j q h (ℕ_discrete j k);
   placed = λ j h. subst (IsKept (table.insert places k p)) (of_one k j h) (place_kept (table.insert places k p) k p (get-inserted places k p));
   passed = λ j h. passed j h (ℕ_discrete j k);
@@ -43,7 +45,9 @@ put_new places places' k p new e = subst (λ z. ArePut places z (k ∷ [])) (sym
   where
     kept : (j : ℕ) (q : Position) → table.get places j ≡ Some q → Dec (j ≡ k)
         → table.get (table.insert places k p) j ≡ Some q
-    kept j q h (yes s) = let f : table.get places j ≡ None = ap (table.get places) s ∙ new in absurd cc
+    kept j q h (yes s) =
+        ap (table.get (table.insert places k p)) s ∙ get-inserted places k p
+        ∙ ap Some (sym (only q (ap (table.get places) (sym s) ∙ h)))
     kept j q h (no f) = insert_other places k p j f ∙ h
 
     passed : (j : ℕ) → IsKept (table.insert places k p) j → Dec (j ≡ k)

@@ -1,41 +1,20 @@
 -- Keys of the positions of a ring, and that they differ as the positions do.
-use Rattle.std.proofs.Common.{◌≡◌, ◌≢◌, ℕ, zero, suc, true, false, refl, sym, ap, ap₂, ◌∙◌, subst}
-use Rattle.std.proofs.Common.{List, [], ◌∷◌, map, Some, take, length, ◌||◌, ◌&&◌, inl, arith}
-use Rattle.std.specs.Prelude.{not, unwrap_or}
+use Rattle.std.proofs.Common.{◌≡◌, ℕ, zero, suc, true, false, refl, sym, ap, ap₂, ◌∙◌, subst}
+use Rattle.std.proofs.Common.{List, [], ◌∷◌, map, take, length, ◌||◌, ◌&&◌, inl, arith}
+use Rattle.std.specs.Prelude.{not}
 use Rattle.std.specs.FinMap as table
 use Rattle.std.proofs.lemmas.List.{length-map}
-use native.Mathlib.Decide.{ℕ_discrete}
 use Rattle.grid_geometry.specs.Position.{Position, position_eq}
 use Rattle.ring_machine.specs.Ring.{has, is_distinct, is_ring}
 use Rattle.ring_machine.specs.WellFormed.{are_distinct}
 use Rattle.ring_machine.proofs.Order.{and_both}
 use Rattle.ring_machine.proofs.Removal.{none_parts, not_true}
 use Rattle.ring_machine.proofs.StaysProper.{ring_long}
-use Rattle.vertex_index.specs.Placement.{Placement, AreDistinct, place}
-use Rattle.vertex_index.proofs.PlacementLemmas.{get-inserted}
+use Rattle.vertex_index.specs.Placement.{Placement, place}
 use Rattle.ring_store.specs.Keyed.{ArePut}
 use Rattle.ring_store.specs.Round.{IsRound}
-use Rattle.ring_store.proofs.Places.{keys_distinct, insert_other}
+use Rattle.ring_store.proofs.Places.{keys_distinct}
 use Rattle.ring_store.proofs.KeyedLists.{AreRead, singles}
-
--- ---- a position that comes in
-
-same_value : {X : Type 0} (x y : X) → Some x ≡ Some y → x ≡ y
-same_value x y e = ap (λ o. unwrap_or o x) e
-
-pub distinct_more : (m : Placement) (n : ℕ) (p : Position) → AreDistinct m → ((k : ℕ) → table.get m k ≢ Some p)
-    → (m' : Placement) → m' ≡ table.insert m n p → AreDistinct m'
-distinct_more m n p d new m' e = subst AreDistinct (sym e) (λ j k q a b. by j k q a b (ℕ_discrete j n) (ℕ_discrete k n))
-  where
-    here : (j : ℕ) (q : Position) → table.get (table.insert m n p) j ≡ Some q → j ≡ n → q ≡ p
-    here j q a s = same_value q p (sym a ∙ ap (table.get (table.insert m n p)) s ∙ get-inserted m n p)
-
-    by : (j k : ℕ) (q : Position) → table.get (table.insert m n p) j ≡ Some q
-        → table.get (table.insert m n p) k ≡ Some q → Dec (j ≡ n) → Dec (k ≡ n) → j ≡ k
-    by j k q a b (yes s) (yes t) = s ∙ sym t
-    by j k q a b (yes s) (no g) = absurd (new k (sym (insert_other m n p k g) ∙ b ∙ ap Some (here j q a s)))
-    by j k q a b (no f) (yes t) = absurd (new j (sym (insert_other m n p j f) ∙ a ∙ ap Some (here k q b t)))
-    by j k q a b (no f) (no g) = d j k q (sym (insert_other m n p j f) ∙ a) (sym (insert_other m n p k g) ∙ b)
 
 -- ---- different positions
 

@@ -1,3 +1,4 @@
-pub mod FaultLemmas
+pub mod EntryLemmas
 pub mod MirrorLemmas
 pub mod PlacementLemmas
+pub mod PutLemmas

@@ -11,6 +11,7 @@ use Rattle.std.specs.FinMap as map
 use Rattle.std.proofs.lemmas.Bool.Decides.{nat_tests}
 use Rattle.std.proofs.lemmas.List.{get_or-set_same, get_or-set_other}
 use Rattle.std.proofs.lemmas.List.Elements.{same_from_all_zip}
+use native.Mathlib.Decide.{ℕ_discrete}
 use Rattle.slab.specs.Slab as slab
 use Rattle.grid_geometry.specs.Position.{Position, InRange, position_eq}
 use Rattle.vertex_index.specs.Placement.{Placement, IsOccupied, AreDistinct, AreInRange}
@@ -144,14 +145,6 @@ module _ (s : List (Option Position)) (es : List (Position × ℕ)) (m : Mirrors
 
 -- ---- what a look-up tells
 
-pub no_key : (es : List (Position × ℕ)) (p : Position) → is_some (key_in es p) ≡ false
-    → key_in es p ≡ None
-no_key es p h = by (key_in es p) h
-  where
-    by : (o : Option ℕ) → is_some o ≡ false → o ≡ None
-    by None e = refl
-    by (Some k) e = cc
-
 pub IsSome-copied : {X : Type 0} (o : Option (Bor X))
     → is_some (option_copied o) ≡ true → is_some o ≡ true
 IsSome-copied None h = h
@@ -173,7 +166,7 @@ module _ (s : List (Option Position)) (es : List (Position × ℕ)) (m : Mirrors
   pub slot_has : (k i : ℕ) → i ≡ k → in_slot s i ≡ map.get v k
   slot_has k i same = ap (in_slot s) same ∙ in_map k
 
-  free : (p : Position) → key_in es p ≡ None → (k : ℕ) → map.get v k ≢ Some p
+  pub free : (p : Position) → key_in es p ≡ None → (k : ℕ) → map.get v k ≢ Some p
   free p none k e =
       let bad : None ≡ Some k = sym none ∙ m.there k p (in_map k ∙ e) in
       absurd (let b : ⊥ = cc in b)
@@ -195,16 +188,13 @@ module _ (s : List (Option Position)) (es : List (Position × ℕ)) (m : Mirrors
       by None e i = cc
       by (Some k) e i = (k, found_key p (Some k) e)
 
-  pub unoccupied : (p : Position) → is_some (key_in es p) ≡ false → (k : ℕ) → map.get v k ≢ Some p
-  unoccupied p h = free p (no_key es p h)
-
   -- an answer that comes exactly where a vertex stands: the keys have the position, or not
   pub refuses : {R : Type 0} (p : Position) → is_some (key_in es p) ≡ true → R → R ↔ IsOccupied v p
   refuses p h r = (λ _. occupied p h, λ _. r)
 
-  pub accepts : {R : Type 0} (p : Position) → is_some (key_in es p) ≡ false → (R → ⊥)
+  pub accepts : {R : Type 0} (p : Position) → key_in es p ≡ None → (R → ⊥)
       → R ↔ IsOccupied v p
-  accepts p h not_so = (λ r. absurd (not_so r), λ stands. absurd (unoccupied p h stands.0 stands.1))
+  accepts p none not_so = (λ r. absurd (not_so r), λ stands. absurd (free p none stands.0 stands.1))
 
   -- no two keys have the same position, since each is the key of it
   pub distinct : AreDistinct v
@@ -232,28 +222,77 @@ pub set_others : (l : List (Option Position)) (k : ℕ) (q : Position) → (j : 
     → in_slot (set l k (Some q)) j ≡ in_slot l j
 set_others l k q j elsewhere = get_or-set_other l k j (Some q) None elsewhere
 
--- it takes the place of the other as if that had gone first
-pub Mirrors-shift : (s : List (Option Position)) (es : List (Position × ℕ)) → Mirrors s es
-    → (fs gs : List (Position × ℕ)) (k : ℕ) (p q : Position)
-    → InRange q → in_slot s k ≡ Some p → key_in es q ≡ None
-    → ((r : Position) → key_in fs r ≡ cond (position_eq p r) None (key_in es r))
-    → ((r : Position) → key_in gs r ≡ cond (position_eq q r) (Some k) (key_in fs r))
-    → Mirrors (set s k (Some q)) gs
-Mirrors-shift s es m fs gs k p q good was new gone found =
-    let emptied = Mirrors-remove s es m (set s k None) fs k p was vacant rest gone in
-    let still_new : key_in fs q ≡ None = gone q ∙ by (position_eq p q) in
-    Mirrors-add (set s k None) fs emptied (set s k (Some q)) gs k q good vacant still_new
-    (set_here s k p q was) (λ j ne. set_others s k q j ne ∙ sym (rest j ne)) found
-  where
-    vacant : in_slot (set s k None) k ≡ None
-    vacant = get_or-set_same s k None None (within s k p was)
+-- the keys took it in, and then let the other go
+module _ (s : List (Option Position)) (es : List (Position × ℕ)) (m : Mirrors s es)
+    (fs gs : List (Position × ℕ)) (k : ℕ) (p q : Position)
+    (was : in_slot s k ≡ Some p) (new : key_in es q ≡ None)
+    (gone : (r : Position) → key_in gs r ≡ cond (position_eq p r) None (key_in fs r))
+    (came : (r : Position) → key_in fs r ≡ cond (position_eq q r) (Some k) (key_in es r)) where
+  abbrev t : List (Option Position)
+  t = set s k (Some q)
 
-    rest : (j : ℕ) → j ≢ k → in_slot (set s k None) j ≡ in_slot s j
-    rest j ne = get_or-set_other s k j None None ne
+  -- what the keys have after both
+  let_go : (r : Position) → position_eq p r ≡ true → key_in gs r ≡ None
+  let_go r pr = gone r ∙ ap (λ b. cond b None (key_in fs r)) pr
 
-    by : (b : Bool) → cond b None (key_in es q) ≡ None
-    by true = refl
-    by false = new
+  taken_in : (r : Position) → position_eq p r ≡ false → position_eq q r ≡ true → key_in gs r ≡ Some k
+  taken_in r pr qr =
+      gone r ∙ ap (λ b. cond b None (key_in fs r)) pr ∙ came r
+      ∙ ap (λ b. cond b (Some k) (key_in es r)) qr
+
+  as_before : (r : Position) → position_eq p r ≡ false → position_eq q r ≡ false
+      → key_in gs r ≡ key_in es r
+  as_before r pr qr =
+      gone r ∙ ap (λ b. cond b None (key_in fs r)) pr ∙ came r
+      ∙ ap (λ b. cond b (Some k) (key_in es r)) qr
+
+  -- the slot has the new position, and each other slot what it had
+  only_q : (j : ℕ) (r : Position) → in_slot t j ≡ Some r → j ≡ k → q ≡ r
+  only_q j r e at_k =
+      let one : Some q ≡ Some r = sym (set_here s k p q was) ∙ ap (in_slot t) (sym at_k) ∙ e in cc
+
+  stood : (j : ℕ) (r : Position) → in_slot t j ≡ Some r → j ≢ k → in_slot s j ≡ Some r
+  stood j r e ne = sym (set_others s k q j ne) ∙ e
+
+  shifted_there : (j : ℕ) (r : Position) → in_slot t j ≡ Some r → Dec (j ≡ k)
+      → (c : Bool) → position_eq p r ≡ c → (d : Bool) → position_eq q r ≡ d → key_in gs r ≡ Some j
+  shifted_there j r e (yes at_k) true pr d qr =
+      let same : p ≡ q = position_eq-same p r pr ∙ sym (only_q j r e at_k) in
+      let bad : None ≡ Some k = sym new ∙ ap (key_in es) (sym same) ∙ m.there k p was in cc
+  shifted_there j r e (yes at_k) false pr true qr = taken_in r pr qr ∙ ap (λ n. Some n) (sym at_k)
+  shifted_there j r e (yes at_k) false pr false qr =
+      absurd (not_apart q r (ap (λ x. Some x) (only_q j r e at_k)) qr)
+  shifted_there j r e (no ne) true pr d qr =
+      let kj : Some k ≡ Some j =
+      sym (m.there k p was) ∙ ap (key_in es) (position_eq-same p r pr) ∙ m.there j r (stood j r e ne) in
+      let at_k : j ≡ k = cc in
+      absurd (ne at_k)
+  shifted_there j r e (no ne) false pr true qr =
+      let bad : None ≡ Some j =
+      sym new ∙ ap (key_in es) (position_eq-same q r qr) ∙ m.there j r (stood j r e ne) in cc
+  shifted_there j r e (no ne) false pr false qr = as_before r pr qr ∙ m.there j r (stood j r e ne)
+
+  shifted_back : (r : Position) (j : ℕ) → key_in gs r ≡ Some j
+      → (c : Bool) → position_eq p r ≡ c → (d : Bool) → position_eq q r ≡ d → in_slot t j ≡ Some r
+  shifted_back r j e true pr d qr = let bad : None ≡ Some j = sym (let_go r pr) ∙ e in cc
+  shifted_back r j e false pr true qr =
+      let kj : Some k ≡ Some j = sym (taken_in r pr qr) ∙ e in
+      let at_k : k ≡ j = cc in
+      ap (in_slot t) (sym at_k) ∙ set_here s k p q was ∙ ap (λ x. Some x) (position_eq-same q r qr)
+  shifted_back r j e false pr false qr =
+      let stands = m.back r j (sym (as_before r pr qr) ∙ e) in
+      set_others s k q j (λ at_k. not_apart p r (sym was ∙ ap (in_slot s) (sym at_k) ∙ stands) pr) ∙ stands
+
+  shifted_range : InRange q → (j : ℕ) (r : Position) → in_slot t j ≡ Some r → Dec (j ≡ k) → InRange r
+  shifted_range good j r e (yes at_k) = subst InRange (only_q j r e at_k) good
+  shifted_range good j r e (no ne) = m.range j r (stood j r e ne)
+
+  pub Mirrors-shift : InRange q → Mirrors (set s k (Some q)) gs
+  Mirrors-shift good = record {
+    there = λ j r e. shifted_there j r e (ℕ_discrete j k) (position_eq p r) refl (position_eq q r) refl;
+    back = λ r j e. shifted_back r j e (position_eq p r) refl (position_eq q r) refl;
+    range = λ j r e. shifted_range good j r e (ℕ_discrete j k);
+  }
 
 -- ---- clones
 

@@ -101,3 +101,11 @@ pub get-inserted : (m : Placement) (k : ℕ) (p : Position) → map.get (map.ins
 get-inserted m k p =
     let e : eq_by_cmp nat_cmp k k ≡ true = grind (arith, nat_tests) in
     map.get-insert nat_cmp_total m k p k ∙ ap (λ b. cond b (Some p) (map.get m k)) e
+
+-- and what was there already changes nothing
+pub insert-same : (m : Placement) (k : ℕ) (p : Position) → map.get m k ≡ Some p → map.insert m k p ≡ m
+insert-same m k p here = same _ _ (λ j. map.get-insert nat_cmp_total m k p j ∙ by j (eq_by_cmp nat_cmp j k) refl)
+  where
+    by : (j : ℕ) (b : Bool) → eq_by_cmp nat_cmp j k ≡ b → cond b (Some p) (map.get m j) ≡ map.get m j
+    by j true e = let at_k : j ≡ k = grind (arith, nat_tests) in sym here ∙ ap (map.get m) (sym at_k)
+    by j false e = refl

@@ -1,2 +1,3 @@
 pub mod Mirrors
 pub mod Placement
+pub mod Put

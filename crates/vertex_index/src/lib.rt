@@ -2,14 +2,16 @@
 //! changes.
 //!
 //! Each call takes time that does not grow with the number of vertices, but for `copy`, and for
-//! `add` and `shift` where they grow a table.
+//! `add`, `key_or_add` and `shift` where they grow a table.
 #![tactic(auto)]
 
-ghost use Rattle.std.specs.Prelude.{◌≡◌, ◌≢◌, ◌↔◌, ℕ, Some, None, Err, true};
+ghost use Rattle.std.specs.Prelude.{◌≡◌, ◌≢◌, ◌↔◌, ℕ, Some, None, Err, true, false};
 ghost use Rattle.std.specs.Prelude.{IfSome, IfNone, IfOk, OnOk, OnErr};
 ghost use Rattle.std.specs.Ordering.{nat_cmp};
 ghost use Rattle.std.specs.FinMap as map;
+ghost use Rattle.grid_geometry.specs.Position.{Position};
 ghost use Rattle.vertex_index.specs.Placement.{IsOccupied, AreDistinct, AreInRange};
+ghost use Rattle.vertex_index.specs.Put.{IsHere, IsNew};
 ghost use Rattle.vertex_index.specs.declared.fault.AddFault.{AddFault};
 ghost use Rattle.vertex_index.specs.declared.fault.ShiftFault.{ShiftFault};
 
@@ -19,6 +21,7 @@ mod key;
 pub use fault::{AddFault, ShiftFault};
 use grid_geometry::Pos;
 use indexmap::IndexMap;
+use indexmap::map::Entry;
 pub use key::VertexKey;
 use slab::Slab;
 use std::alloc::{AllocError, Allocator, Global};
@@ -104,15 +107,46 @@ impl<A: Allocator + Copy> Vertices<A> {
         ensures occupied { result ≡ Err AddFault.Occupied ↔ IsOccupied self.old p }
         ensures err { OnErr result (self.new ≡ self.old) }
     {
-        if self.keys.contains_key(&p) {
+        let (key, is_new) = self.put(p)?;
+        if !is_new {
             return Err(AddFault::Occupied);
         }
-        self.slots.reserve(1)?;
-        self.keys.reserve(1)?;
-        let _ = p.x(); // so that it is known to be in range
-        let key = VertexKey::new(self.slots.insert_reserved(p));
-        self.keys.insert(p, key).unwrap();
         Ok(key)
+    }
+
+    /// The key of the vertex at a position, where one is put if none stands there. Fails for want
+    /// of memory alone, and only where none stands.
+    pub fn key_or_add(&mut self, p: Pos) -> Result<VertexKey, AllocError>
+        ensures found { IfOk result (λ k. (j : ℕ) → map.get self.old j ≡ Some p → k ≡ j) }
+        ensures key { IfOk result (λ k. (q : Position) → map.get self.old k ≡ Some q → q ≡ p) }
+        ensures ok { IfOk result (λ k. self.new ≡ map.insert self.old k p) }
+        ensures held { IfOk result (λ k. map.get self.new k ≡ Some p) }
+        ensures distinct { AreDistinct self.new }
+        ensures absent { OnErr result ((k : ℕ) → map.get self.old k ≢ Some p) }
+        ensures err { OnErr result (self.new ≡ self.old) }
+    {
+        let (key, _) = self.put(p)?;
+        Ok(key)
+    }
+
+    /// The same, and whether the vertex was put. The position is hashed once.
+    fn put(&mut self, p: Pos) -> Result<(VertexKey, bool), AllocError>
+        ensures there { IfOk result (λ r. r.1 ≡ false → IsHere self.old self.new r.0 p) }
+        ensures new { IfOk result (λ r. r.1 ≡ true → IsNew self.old self.new r.0 p) }
+        ensures distinct { AreDistinct self.new }
+        ensures absent { OnErr result ((k : ℕ) → map.get self.old k ≢ Some p) }
+        ensures err { OnErr result (self.new ≡ self.old) }
+    {
+        let _ = p.x(); // so that it is known to be in range
+        match self.keys.entry(p)? {
+            Entry::Occupied(held) => Ok((*held.get(), false)),
+            Entry::Vacant(room) => {
+                self.slots.reserve(1)?;
+                let key = VertexKey::new(self.slots.insert_reserved(p));
+                room.insert(key);
+                Ok((key, true))
+            }
+        }
     }
 
     /// Moves the vertex of a key that is held to a position. `Occupied` where a vertex stands
@@ -125,16 +159,16 @@ impl<A: Allocator + Copy> Vertices<A> {
         ensures occupied { result ≡ Err ShiftFault.Occupied ↔ IsOccupied self.old q }
         ensures err { OnErr result (self.new ≡ self.old) }
     {
-        if self.keys.contains_key(&q) {
-            return Err(ShiftFault::Occupied);
-        }
-        self.keys.reserve(1)?;
         let _ = q.x(); // so that it is known to be in range
+        match self.keys.entry(q) {
+            Ok(Entry::Vacant(room)) => room.insert(k),
+            Ok(Entry::Occupied(_held)) => return Err(ShiftFault::Occupied),
+            Err(_) => return Err(ShiftFault::OutOfMemory),
+        };
         let place = self.slots.get_mut(k.index()).unwrap();
         let before = *place;
         *place = q;
         self.keys.swap_remove(&before);
-        self.keys.insert(q, k).unwrap();
         Ok(())
     }
 

@@ -2,7 +2,8 @@ use Rattle.std.proofs.Common.{◌∷◌, [], ◌++◌, ◌+◌, ◌∙◌, sym, 
 use Rattle.std.proofs.lemmas.List.{take_all, take_more}
 use Rattle.vertex_index.specs.Placement.{place}
 use Rattle.ring_store.specs.Keyed.{ArePut}
-use Rattle.ring_store.proofs.KeyedLists.{read_next, place_stays}
+use Rattle.ring_store.proofs.KeyedLists.{read_next, place_stays, put_at}
+use Rattle.ring_store.proofs.Places.{place_is}
 use Rattle.ring_store.proofs.Keys.{read_none, read_put, read_different}
 use Rattle.ring_store.proofs.keying.key_ring.Goals as goal
 
@@ -15,11 +16,12 @@ loop-p-init g c = record {
 
 pub loop-p-preserved : goal.loop-p-preserved
 loop-p-preserved g c = record {
-  read = read_next place (λ k. k ∷ []) place_stays c.args.vertices.now c.loop-p.vertices c.key_at.new.vertices c.loop-p.keys.items c.push_reserved.new.self.items
+  read = read_next place (λ k. k ∷ []) place_stays c.args.vertices.now c.loop-p.vertices c.key_or_add.new.self c.loop-p.keys.items c.push_reserved.new.self.items
       (take c.loop-p.p-index c.args.ring.now) (take (c.loop-p.p-index + 1) c.args.ring.now) c.in_ok-k.k c.p-item.result c.push_reserved.ensures.items
       (take_more c.args.ring.now c.loop-p.p-index c.p-item.result c.loop-p-test.true ∙ ap (λ z. take c.loop-p.p-index c.args.ring.now ++ z ∷ []) (sym c.p-item.is))
-      c.loop-p.invariant.read c.in_ok-k.ensures.at c.in_ok-k.ensures.put;
-  distinct = c.key_at.ensures.distinct;
+      c.loop-p.invariant.read (place_is c.key_or_add.new.self c.in_ok-k.k c.p-item.result c.in_ok-k.ensures.held)
+      (put_at c.loop-p.vertices c.key_or_add.new.self c.in_ok-k.k c.p-item.result c.in_ok-k.ensures.key c.in_ok-k.ensures.ok);
+  distinct = c.key_or_add.ensures.distinct;
   room = omega (arith, c.loop-p.invariant.room, c.push_reserved.ensures.len, c.push_reserved.ensures.capacity);
 }
 
