@@ -20,6 +20,7 @@ use Rattle.ring_machine.proofs.Neighbours.{vertex_in}
 use Rattle.ring_machine.proofs.RingSegments.{segment_eq-true}
 use Rattle.ring_machine.proofs.StaysProper.{edges_start}
 use Rattle.segment_index.specs.Candidates.{SegmentSet, has}
+use Rattle.local_planarity.specs.Edits.{IsEnds}
 use Rattle.feature_exchange.specs.Holds.{IsIndexed}
 use Rattle.ring_store.proofs.SegmentLists.{has-eq}
 use Rattle.ring_machine.proofs.Members.{in_mapped, in_flat, any_in, in_any, same_answer}
@@ -100,15 +101,13 @@ module _ (d : Document) (held : SegmentSet) (indexed : IsIndexed d held) where
   indexed_has t = has-eq (all_segments d) t ∙ sym (indexed t)
 
   -- the positions of the document are the ends of the held segments
-  pub indexed_ends : (p : Position) (t : Segment) → set.contains held t ≡ true → is_end p t ≡ true
-      → machine.has (positions d) p ≡ true
-  indexed_ends p t h i = has_positions d p ∙ end_vertex d p t (sym (indexed t) ∙ h) i
-
-  pub indexed_only : (p : Position) → machine.has (positions d) p ≡ true
-      → (t : Segment) × (set.contains held t ≡ true) × (is_end p t ≡ true)
-  indexed_only p h =
-      let e = vertex_end d p (sym (has_positions d p) ∙ h) in
-      (e.0, indexed e.0 ∙ e.1, e.2)
+  pub indexed_ends : IsEnds held (positions d)
+  indexed_ends = record {
+    each = λ p t h i. has_positions d p ∙ end_vertex d p t (sym (indexed t) ∙ h) i;
+    only = λ p h.
+        let e = vertex_end d p (sym (has_positions d p) ∙ h) in
+        (e.0, indexed e.0 ∙ e.1, e.2);
+  }
 
   -- no two held segments conflict
   pub indexed_apart : Proper d → (s t : Segment) → set.contains held s ≡ true

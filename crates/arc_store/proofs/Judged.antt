@@ -24,10 +24,9 @@ use Rattle.local_planarity.specs.declared.leaving.Leaving.TheVariants.{One}
 use Rattle.arc_store.specs.declared.fault.EditFault.{EditFault}
 use Rattle.arc_store.specs.Edits.{IsInsertable}
 use Rattle.arc_store.specs.Faults.{Refuses}
-use Rattle.feature_exchange.specs.Holds.{IsIndexed}
 use Rattle.ring_store.specs.Planned.{spokes}
 use Rattle.ring_store.proofs.SegmentLists.{has-eq}
-use Rattle.arc_store.proofs.Indexed.{indexed_ends, indexed_only}
+use Rattle.arc_store.proofs.Indexed.{indexed_ends}
 use Rattle.arc_store.proofs.Insertions.{segments_ins}
 use Rattle.ring_machine.proofs.RingSegments.{segment_eq-sym}
 use Rattle.arc_store.proofs.MovePlan.{refuses_first}
@@ -36,10 +35,6 @@ use Rattle.arc_store.proofs.MovePlan.{refuses_first}
 
 pub at_most : (m n : ℕ) → m ≤ n → nat_le m n ≡ true
 at_most m n h = grind arith
-
-pub ends_of : (d : Document) (held : SegmentSet) → IsIndexed d held → IsEnds held (positions d)
-ends_of d held indexed =
-    record { each = indexed_ends d held indexed; only = indexed_only d held indexed }
 
 -- ---- an insertion
 
@@ -89,4 +84,4 @@ module _ (d : Document) (held : SegmentSet) (a b q : Position) (i : IsInsertable
     insert_decided found h s =
         insert_first
         ∙ ap (λ o. first_of (conflict_of o ∷ (Sweeps unless not (insert_sweeps d a b q)) ∷ [])) (h (all_segments (ins d a b q)) insert_passed)
-        ∙ ap (λ y. first_of ((Sweeps unless not y) ∷ [])) (sym (s (positions d) (ends_of d held i.indexed)))
+        ∙ ap (λ y. first_of ((Sweeps unless not y) ∷ [])) (sym (s (positions d) (indexed_ends d held i.indexed)))

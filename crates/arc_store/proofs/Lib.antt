@@ -20,8 +20,6 @@ pub mod InsertPlan
 pub mod RemovePlan
 pub mod LeftOut
 pub mod SegmentCounts
-pub mod NearPart
-pub mod NearMoves
 pub mod MovePlan
 pub mod Tested
 pub mod FrameReads

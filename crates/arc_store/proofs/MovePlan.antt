@@ -1,18 +1,14 @@
 -- The plan of a move: what stands around the vertex, what comes and goes, and when it is refused.
-use Rattle.std.proofs.Common.{◌≡◌, ◌<◌, ◌+◌, ℕ, Bool, true, false, sym, ap, ap₂, ◌∙◌}
-use Rattle.std.proofs.Common.{subst, List, [], ◌∷◌, map, length, take, get_or, ◌||◌, ◌&&◌, Some, None, Option}
+use Rattle.std.proofs.Common.{◌≡◌, ℕ, Bool, true, false, sym, ap, ap₂, ◌∙◌}
+use Rattle.std.proofs.Common.{subst, List, [], ◌∷◌, map, ◌||◌, ◌&&◌, Some, None, Option}
 use Rattle.std.proofs.Common.{Result, Ok, Err, OnOk, OnErr}
 use Rattle.std.specs.Prelude.{not}
 use Rattle.std.specs.List.{list_any}
 use Rattle.std.specs.FinMap as table
 use Rattle.std.specs.FinSet as set
-use Rattle.std.proofs.lemmas.List.Folds.{list_any_more}
 use Rattle.std.proofs.lemmas.Simd.{map-map}
-use Rattle.grid_geometry.specs.Conflict.{conflict}
-use Rattle.grid_geometry.specs.Held.{is_held}
 use Rattle.grid_geometry.specs.Position.{Position}
 use Rattle.grid_geometry.specs.Segment.{Segment, segment, is_end}
-use Rattle.ring_machine.specs.Ring.{has}
 use Rattle.ring_machine.specs.Document.{Document}
 use Rattle.ring_machine.specs.Command.{Refusal, NoVertex, Occupied, Sweeps}
 use Rattle.ring_machine.specs.Parts.{is_vertex, is_segment, positions, all_segments}
@@ -44,8 +40,7 @@ use Rattle.ring_store.proofs.Places.{place_is}
 use Rattle.feature_exchange.proofs.Base.{joined_kept, joined_apart, segments_to, segments_at, vertex_key}
 use Rattle.feature_exchange.proofs.Base.{sweeps_by_joined}
 use Rattle.ring_store.proofs.SegmentLists.{has-eq}
-use Rattle.arc_store.proofs.Indexed.{indexed_ends, indexed_only, indexed_has}
-use Rattle.ring_store.proofs.Planned.{any_at}
+use Rattle.arc_store.proofs.Indexed.{indexed_ends, indexed_has}
 use Rattle.arc_store.proofs.Insertions.{any_mapped}
 use Rattle.arc_store.proofs.Moved.{segments_to_single, not_there, added_new, added_single}
 use Rattle.arc_store.proofs.Moved.{indexed_moved, reindexed, holds_moved, size_moved, document_moved}
@@ -152,38 +147,6 @@ move_refuses d p q v f fault h =
     subst (Refuses fault) (sym (move_first d p q v f))
     (refuses_first fault (conflict_of (least_conflict (all_segments (put d p q)))) ((Sweeps unless not (move_sweeps d p q)) ∷ []) h)
 
--- ---- what a move sweeps over, as an index tells it
-
-pub edge_found : (d : Document) (held : SegmentSet) → IsIndexed d held → (p q x : Position) (found : Bool)
-    → ((ps : List Position) → IsEnds held ps → found ≡ list_any (λ w. not (has (x ∷ p ∷ []) w) && is_held w x p q) ps)
-    → found ≡ edge_sweeps d p q x
-edge_found d held i p q x found h =
-    h (positions d) (record { each = indexed_ends d held i; only = indexed_only d held i })
-
--- one more edge that sweeps over nothing
-pub edges_more : (d : Document) (p q : Position) (around : List Position) (i : ℕ) (x : Position)
-    → i < length around → x ≡ get_or around i x
-    → list_any (edge_sweeps d p q) (take i around) ≡ false → edge_sweeps d p q x ≡ false
-    → list_any (edge_sweeps d p q) (take (i + 1) around) ≡ false
-edges_more d p q around i x l e h n =
-    list_any_more (edge_sweeps d p q) around i x l ∙ ap₂ (λ a b. a || b) h (ap (edge_sweeps d p q) (sym e) ∙ n)
-
--- an edge that sweeps over a position
-pub edge_some : (d : Document) (p q : Position) (around : List Position) (i : ℕ) (x : Position)
-    → i < length around → x ≡ get_or around i x → edge_sweeps d p q x ≡ true
-    → true ≡ (list_any (edge_sweeps d p q) around || crosses_on_way d p q)
-edge_some d p q around i x l e h =
-    sym (ap (λ b. b || crosses_on_way d p q) (any_at (edge_sweeps d p q) around i x l (ap (edge_sweeps d p q) (sym e) ∙ h)))
-
--- no edge does, and then the way decides
-pub way_found : (d : Document) (held : SegmentSet) → IsIndexed d held → (p q : Position)
-    (around : List Position) (found : Bool)
-    → ((ss : List Segment) → IsHeld held ss → found ≡ list_any (λ t. not (is_end p t) && conflict (segment p q) t) ss)
-    → list_any (edge_sweeps d p q) around ≡ false
-    → found ≡ (list_any (edge_sweeps d p q) around || crosses_on_way d p q)
-way_found d held i p q around found h none =
-    h (all_segments d) (indexed_has d held i) ∙ ap (λ b. b || crosses_on_way d p q) (sym none)
-
 -- ---- the tests of a move, as the code makes them
 
 -- no two held segments conflict
@@ -210,12 +173,12 @@ module _ (s : Stored) (held : SegmentSet) (h : Holds s held) (d : Document) (is 
   -- where no two are in conflict, what was found to be swept over decides
   pub move_decided : (seen : List Position) → seen ≡ around → (found : Bool)
       → ((ss : List Segment) → IsAfter held (EndingAt p) after ss → least_conflict ss ≡ None)
-      → ((e : Document) → IsIndexed e held → found ≡ (list_any (edge_sweeps e p q) seen || crosses_on_way e p q))
+      → ((e : Document) → IsEnds held (positions e) → IsHeld held (all_segments e) → found ≡ (list_any (edge_sweeps e p q) seen || crosses_on_way e p q))
       → first_of (move_refusals d p q) ≡ first_of ((Sweeps unless not found) ∷ [])
   move_decided seen all found f g =
       move_first d p q vertex free
       ∙ ap₂ (λ o b. first_of (conflict_of o ∷ (Sweeps unless not b) ∷ [])) (f (all_segments (put d p q)) passed)
-      (sym (g (document_of s) h.indexed ∙ ap (λ z. list_any (edge_sweeps (document_of s) p q) z || crosses_on_way (document_of s) p q) all
+      (sym (g (document_of s) (indexed_ends (document_of s) held h.indexed) (indexed_has (document_of s) held h.indexed) ∙ ap (λ z. list_any (edge_sweeps (document_of s) p q) z || crosses_on_way (document_of s) p q) all
       ∙ plan_sweeps s held h k p q at was_free around r ∙ ap (λ z. move_sweeps z p q) is))
 
 -- ---- the map after the last call of a move

@@ -23,7 +23,7 @@ use Rattle.arc_store.specs.Edits.{IsRemovable}
 use Rattle.arc_store.specs.Faults.{Refuses}
 use Rattle.ring_store.proofs.SegmentLists.{has-eq}
 use Rattle.arc_store.proofs.MovePlan.{refuses_first}
-use Rattle.arc_store.proofs.Judged.{ends_of}
+use Rattle.arc_store.proofs.Indexed.{indexed_ends}
 
 or_none : (y : Bool) → y ≡ (y || false)
 or_none true = refl
@@ -67,7 +67,7 @@ module _ (d : Document) (held : SegmentSet) (p : Position) (t : Segment) (i : Is
   remove_decided ends same found h s =
       remove_first
       ∙ ap (λ o. first_of (conflict_of o ∷ (Sweeps unless not (remove_sweeps d p)) ∷ [])) (h (all_segments (del d p)) remove_after)
-      ∙ ap (λ y. first_of ((Sweeps unless not y) ∷ [])) (i.sweeps ∙ sym (s (positions d) (ends_of d held i.indexed) ∙ ap swept same))
+      ∙ ap (λ y. first_of ((Sweeps unless not y) ∷ [])) (i.sweeps ∙ sym (s (positions d) (indexed_ends d held i.indexed) ∙ ap swept same))
     where
       swept : Segment → Bool
       swept z = list_any (λ w. not (machine.has (z.lo ∷ p ∷ z.hi ∷ []) w) && is_held w z.lo p z.hi) (positions d)

@@ -4,7 +4,6 @@ pub mod Faults
 pub mod Kept
 pub mod Named
 pub mod Near
-pub mod NearMove
 pub mod Outcomes
 pub mod Recorded
 pub mod Splits

@@ -1,89 +1,22 @@
-ghost use Rattle.std.specs.Prelude.{◌≡◌, ◌≢◌, ◌≤◌, ◌+◌, ◌||◌, true, false, List, None, Some};
-ghost use Rattle.std.specs.Prelude.{OnOk, OnErr, IfOk};
-ghost use Rattle.std.specs.List.{list_any};
-ghost use Rattle.grid_geometry.specs.Segment.{Segment, box_of, segment};
-ghost use Rattle.ring_machine.specs.Document.{Document};
-ghost use Rattle.ring_machine.specs.Sweep.{edge_sweeps, crosses_on_way};
+ghost use Rattle.std.specs.Prelude.{◌≡◌, ◌≤◌, ◌+◌, true, false, Some, OnOk, OnErr};
 ghost use Rattle.ring_machine.specs.Parts.{is_vertex};
 ghost use Rattle.ring_machine.specs.Refusals.{first_of, move_refusals};
 ghost use Rattle.ring_machine.specs.Vertices.{put};
 ghost use Rattle.edit_records.specs.Records as made;
-ghost use Rattle.segment_index.specs.Bounds.{is_within};
-ghost use Rattle.segment_index.specs.Candidates.{SegmentSet, has};
 ghost use Rattle.segment_index.specs.Times.{times_by};
-ghost use Rattle.local_planarity.specs.Edits.{IsHeld};
-ghost use Rattle.local_planarity.specs.Tests.{most_for_move, most_given};
-ghost use Rattle.ring_store.specs.Planned.{spokes};
+ghost use Rattle.local_planarity.specs.Tests.{most_for_move};
 ghost use Rattle.arc_store.specs.Edits.{IsMovable};
-ghost use Rattle.arc_store.specs.NearMove.{HasNearMove};
 ghost use Rattle.arc_store.specs.Outcomes.{Edits};
-ghost use Rattle.feature_exchange.specs.Holds.{IsIndexed};
 
 use crate::edit_record::Record;
 use crate::fault::EditFault;
 use crate::map::Map;
 use crate::plan::test_planar;
-use grid_geometry::{Pos, Rect, Seg};
-use local_planarity::{Leaving, TestCount, crosses_on_way, holds_end};
+use grid_geometry::Pos;
+use local_planarity::{Leaving, move_sweeps, near_move};
 use ring_store::{read_moving, shift};
-use segment_index::{ListIndex, SegIndex, widen};
+use segment_index::SegIndex;
 use std::alloc::{AllocError, Allocator};
-
-/// A box that has a way, and segments.
-fn reach(way: Seg, segments: &[Seg]) -> Rect
-    ensures way { is_within (box_of way) result ≡ true }
-    ensures segments { (s : Segment) → has segments.now s ≡ true
-        → is_within (box_of s) result ≡ true }
-{
-    let mut rect = way.rect();
-    for s in segments {
-        widen(&mut rect, s.rect());
-    }
-    rect
-}
-
-/// The segments near a move from p to q after which these come, so that the index is asked once.
-/// Fails for want of memory alone.
-fn near_move<I: SegIndex, A: Allocator + Copy>(
-    alloc: A,
-    index: &I,
-    p: Pos,
-    q: Pos,
-    after: &[Seg],
-) -> Result<ListIndex<A>, AllocError>
-    requires { p ≢ q }
-    ensures near { IfOk result (λ near. HasNearMove (I.held index.now) p q after.now near) }
-    ensures no_less { OnOk result ((s t : Segment)
-        → times_by None t (box_of s) ≤ times_by (I.cells index.now) t (box_of s)) }
-{
-    let way = Seg::new(p, q).unwrap();
-    ListIndex::near(alloc, index, reach(way, after))
-}
-
-/// Whether the edge to one of these sweeps over a position when p moves to q, or p itself passes
-/// over a segment, as the segments near the move tell.
-fn sweeps<A: Allocator + Copy>(
-    alloc: A,
-    near: &ListIndex<A>,
-    around: &[Pos],
-    p: Pos,
-    q: Pos,
-    tests: &mut TestCount,
-) -> Result<bool, AllocError>
-    requires { p ≢ q }
-    ensures sweeps { IfOk result (λ found. (d : Document) (held : SegmentSet)
-        → HasNearMove held p q (spokes q around.now) near.now → IsIndexed d held
-        → found ≡ (list_any (edge_sweeps d p q) around.now || crosses_on_way d p q)) }
-    ensures few { (ss : List Segment) → IsHeld near.now ss
-        → tests.new ≤ tests.old + most_given (times_by None) ss (segment p q) }
-{
-    for a in around {
-        if holds_end(near.segments(), &[*a, p], *a, p, q) {
-            return Ok(true);
-        }
-    }
-    crosses_on_way(alloc, near, p, q, tests)
-}
 
 impl<'a, I: SegIndex, A: Allocator + Copy> Map<'a, I, A> {
     /// Moves the vertex at p to q, which is none, in every ring that has it. Refused where two
@@ -104,7 +37,7 @@ impl<'a, I: SegIndex, A: Allocator + Copy> Map<'a, I, A> {
         let alloc = self.rings.alloc;
         let near = near_move(alloc, &self.rings.index, p, q, after)?;
         test_planar(alloc, &near, Leaving::EndingAt(p), after, &mut self.tests)?;
-        if sweeps(alloc, &near, around, p, q, &mut self.tests)? {
+        if move_sweeps(alloc, &near, around, p, q, &mut self.tests)? {
             return Err(EditFault::Sweeps);
         }
         shift(&mut self.rings, moving.key, q, before, after)?;

@@ -5,5 +5,6 @@ pub mod Counts
 pub mod Added
 pub mod Spans
 pub mod Sweeping
+pub mod NearMoves
 pub mod Filling
 pub mod Examples

@@ -1,5 +1,5 @@
 -- What the candidates say of all held segments.
-use Rattle.std.proofs.Common.{◌≡◌, ℕ, Bool, true, not, refl, sym, ap, ◌∙◌, List, [], ◌++◌, ◌&&◌, ◌||◌, inl, inr}
+use Rattle.std.proofs.Common.{◌≡◌, ℕ, Bool, true, not, sym, ap, ◌∙◌, List, ◌&&◌, ◌||◌, inl, inr}
 use Rattle.std.specs.FinSet as set
 use Rattle.std.specs.List.{list_any}
 use Rattle.grid_geometry.specs.Position.{Position, position_eq}
@@ -10,37 +10,35 @@ use Rattle.grid_geometry.proofs.Boxes.{conflict-boxes_meet}
 use Rattle.grid_geometry.proofs.Conflicts.{conflict-comm}
 use Rattle.ring_machine.specs.Ring as machine
 use Rattle.ring_machine.proofs.Order.{and_both, or_true, or_right, position_eq-true, position_eq-refl}
-use Rattle.segment_index.specs.Candidates.{SegmentSet, Gives, has}
+use Rattle.segment_index.specs.Candidates.{AreAmong, Covers, SegmentSet, has}
 use Rattle.local_planarity.specs.declared.leaving.Leaving.TheVariants.{EndingAt}
 use Rattle.local_planarity.specs.Edits.{IsHeld, IsEnds}
 use Rattle.local_planarity.specs.Near.{IsNear}
 use Rattle.local_planarity.specs.Spans.{box_of_three}
 use Rattle.ring_machine.proofs.Members.{any_in, in_any, same_answer}
 use Rattle.ring_machine.proofs.Neighbours.{has-in as in-has_position, in-has as has_position-in}
-use Rattle.local_planarity.proofs.Lists.{in-has, has-in}
+use Rattle.local_planarity.proofs.Lists.{in-has, has-in, same_any}
 use Rattle.local_planarity.proofs.Spans.{held_end_meets}
 
 -- a way conflicts with one of those near it that do not end at p where it does with a held one
 pub crosses_is : (held : SegmentSet) (times : Segment → Box → ℕ) (p : Position) (way : Segment) (near ss : List Segment) (r : Bool)
     → IsNear held times (EndingAt p) way near → r ≡ list_any (conflict way) near → IsHeld held ss
     → r ≡ list_any (λ t. not (is_end p t) && conflict way t) ss
-crosses_is held times p way near ss r n is e = is ∙ same_answer _ _
-    (λ h.
-    let k = any_in (conflict way) near h in
-    let both = and_both (set.contains held k.0) (not (is_end p k.0)) (n.among k.0 (has-in near k.0 k.1)) in
-    in_any (λ t. not (is_end p t) && conflict way t) k.0 ss (in-has ss k.0 (e k.0 ∙ both.0)) (λ i. both.1 i && k.2 i))
-    (λ h.
-    let k = any_in (λ t. not (is_end p t) && conflict way t) ss h in
-    let both = and_both (not (is_end p k.0)) (conflict way k.0) k.2 in
-    let held_there : set.contains held k.0 ≡ true = sym (e k.0) ∙ has-in ss k.0 k.1 in
-    in_any (conflict way) k.0 near (in-has near k.0 (n.covers k.0 (λ i. held_there i && both.0 i) (conflict-boxes_meet k.0 way (conflict-comm k.0 way ∙ both.1)))) both.1)
+crosses_is held times p way near ss r n is e =
+    is ∙ same_any (conflict way) (λ t. not (is_end p t) && conflict way t) near ss
+    (λ t h k.
+    let both = and_both (set.contains held t) (not (is_end p t)) (n.among t h) in
+    (e t ∙ both.0, λ i. both.1 i && k i))
+    (λ t h k.
+    let both = and_both (not (is_end p t)) (conflict way t) k in
+    (n.covers t (λ i. (sym (e t) ∙ h) i && both.0 i) (conflict-boxes_meet t way (conflict-comm t way ∙ both.1)), both.1))
 
--- a triangle holds an end of a candidate where it holds one of a held segment
-pub holds_is : (held : SegmentSet) (times : Segment → Box → ℕ) (these : List Position) (a b c : Position) (old new : List Segment) (ps : List Position) (r : Bool)
-    → old ≡ [] → Gives held times (box_of_three a b c) old new true
-    → r ≡ list_any (λ t. (not (machine.has these t.lo) && is_held t.lo a b c) || (not (machine.has these t.hi) && is_held t.hi a b c)) new
+-- a triangle holds an end of one of the segments near it where it holds one of a held segment
+pub ends_held : (held : SegmentSet) (these : List Position) (a b c : Position) (items : List Segment) (ps : List Position) (r : Bool)
+    → AreAmong held items → Covers held (box_of_three a b c) items
+    → r ≡ list_any (λ t. (not (machine.has these t.lo) && is_held t.lo a b c) || (not (machine.has these t.hi) && is_held t.hi a b c)) items
     → IsEnds held ps → r ≡ list_any (λ w. not (machine.has these w) && is_held w a b c) ps
-holds_is held times these a b c old new ps r empty g is ends = is ∙ ap (list_any ends_in) found ∙ same_answer _ _ there back
+ends_held held these a b c items ps r among covers is ends = is ∙ same_answer _ _ there back
   where
     other : Position → Bool
     other w = not (machine.has these w) && is_held w a b c
@@ -48,19 +46,16 @@ holds_is held times these a b c old new ps r empty g is ends = is ∙ ap (list_a
     ends_in : Segment → Bool
     ends_in t = other t.lo || other t.hi
 
-    found : new ≡ g.found
-    found = g.appended ∙ ap (λ z. z ++ g.found) empty
+    at_end : (t : Segment) (w : Position) → has items t ≡ true → is_end w t ≡ true → other w ≡ true → list_any other ps ≡ true
+    at_end t w h e k = in_any other w ps (in-has_position w ps (ends.each w t (among t h) e)) k
 
-    at_end : (t : Segment) (w : Position) → has g.found t ≡ true → is_end w t ≡ true → other w ≡ true → list_any other ps ≡ true
-    at_end t w h e k = in_any other w ps (in-has_position w ps (ends.each w t (g.among t h) e)) k
-
-    there : list_any ends_in g.found ≡ true → list_any other ps ≡ true
+    there : list_any ends_in items ≡ true → list_any other ps ≡ true
     there h =
-        let k = any_in ends_in g.found h in
+        let k = any_in ends_in items h in
         let t = k.0 in
         elim (or_true (other t.lo) (other t.hi) k.2) [
-          | inl l ↦ at_end t t.lo (has-in g.found t k.1) (ap (λ z. z || position_eq t.lo t.hi) (position_eq-refl t.lo)) l
-          | inr l ↦ at_end t t.hi (has-in g.found t k.1) (or_right (position_eq t.hi t.lo) (position_eq t.hi t.hi) (position_eq-refl t.hi)) l
+          | inl l ↦ at_end t t.lo (has-in items t k.1) (ap (λ z. z || position_eq t.lo t.hi) (position_eq-refl t.lo)) l
+          | inr l ↦ at_end t t.hi (has-in items t k.1) (or_right (position_eq t.hi t.lo) (position_eq t.hi t.hi) (position_eq-refl t.hi)) l
         ]
 
     end_in : (t : Segment) (w : Position) → is_end w t ≡ true → other w ≡ true → ends_in t ≡ true
@@ -69,11 +64,11 @@ holds_is held times these a b c old new ps r empty g is ends = is ∙ ap (list_a
       | inr l ↦ or_right (other t.lo) (other t.hi) (ap other (sym (position_eq-true w t.hi l)) ∙ k)
     ]
 
-    back : list_any other ps ≡ true → list_any ends_in g.found ≡ true
+    back : list_any other ps ≡ true → list_any ends_in items ≡ true
     back h =
         let k = any_in other ps h in
         let end = ends.only k.0 (has_position-in k.0 ps k.1) in
         let inside = (and_both (not (machine.has these k.0)) (is_held k.0 a b c) k.2).1 in
-        in_any ends_in end.0 g.found
-        (in-has g.found end.0 (g.covers refl end.0 end.1 (held_end_meets end.0 k.0 a b c end.2 inside)))
+        in_any ends_in end.0 items
+        (in-has items end.0 (covers end.0 end.1 (held_end_meets end.0 k.0 a b c end.2 inside)))
         (end_in end.0 k.0 end.2 k.2)

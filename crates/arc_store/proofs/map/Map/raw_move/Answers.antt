@@ -1,19 +1,20 @@
-use Rattle.std.proofs.Common.{◌∙◌, refl, sym, ap, subst, [], ◌∷◌}
+use Rattle.std.proofs.Common.{◌≡◌, ◌∙◌, None, refl, sym, ap, subst, [], ◌∷◌}
 use Rattle.std.specs.Prelude.{not}
 use Rattle.ring_machine.specs.Parts.{is_vertex}
 use Rattle.ring_machine.specs.Command.{Sweeps}
-use Rattle.ring_machine.specs.Refusals.{first_of, ◌unless◌}
+use Rattle.ring_machine.specs.Refusals.{conflict_of, first_of, ◌unless◌}
 use Rattle.segment_index.specs.Candidates.{AreAmong, AreSingle}
 use Rattle.segment_index.specs.Times.{times_by}
+use Rattle.local_planarity.specs.NearMove.{HasNearMove}
+use Rattle.local_planarity.proofs.NearMoves.{near_apart, near_first, near_tests, near_way_tests}
 use Rattle.feature_exchange.specs.Stored.{stored}
 use Rattle.ring_store.specs.Planned.{AreNew, spokes}
-use Rattle.arc_store.specs.NearMove.{HasNearMove}
+use Rattle.arc_store.specs.Faults.{Refuses}
 use Rattle.arc_store.specs.State.{State}
 use Rattle.arc_store.specs.declared.fault.EditFault.TheVariants as fault
 use Rattle.arc_store.proofs.Accepted.{move_may}
 use Rattle.arc_store.proofs.MovePlan.{held_apart, move_conflicts, move_decided}
 use Rattle.arc_store.proofs.MovePlan.{has_moving, plan_new, plan_single, plan_held, plan_once, document_after, kept_after}
-use Rattle.arc_store.proofs.NearMoves.{near_apart, near_passed, near_refuses, near_tests, near_way_tests}
 use Rattle.arc_store.proofs.Outcomes.{is_made, is_refused, hands_on}
 use Rattle.arc_store.proofs.StateKept.{tested, with_record}
 use Rattle.arc_store.proofs.Tested.{conflicts_few, sweeps_few}
@@ -66,10 +67,10 @@ invariant_of-self-2 g c =
     (move_may c.args.self.now.doc c.args.p c.args.q
     (move_decided (stored c.self.inside.frame c.self.inside.rings.borders c.self.inside.rings.vertices) c.self.inside.rings.index.held c.self.invariant.holds c.args.self.now.doc (ap (λ z. z.doc) c.self.view_is) m.key c.args.p c.args.q r.here c.requires.vertex c.requires.free m.around.items r.all c.as_slice-after.result.now
     (c.as_slice-after.ensures.value ∙ r.comes)
-    c.as_slice-around.result.now c.as_slice-around.ensures.value c.in_ok-sweeps.field-0 (near_passed c.self.inside.rings.index.held c.in_ok-near.near c.args.p c.args.q c.as_slice-after.result.now c.in_ok-near.ensures.near
-    (held_apart (stored c.self.inside.frame c.self.inside.rings.borders c.self.inside.rings.vertices) c.self.inside.rings.index.held c.self.invariant.holds) c.in_ok-test_planar.ensures.apart)
-    (λ e i. c.in_ok-sweeps.ensures.sweeps e c.self.inside.rings.index.held
-    (subst (λ ss. HasNearMove c.self.inside.rings.index.held c.args.p c.args.q ss c.in_ok-near.near) (c.as_slice-after.ensures.value ∙ r.comes ∙ ap (spokes c.args.q) (sym c.as_slice-around.ensures.value)) c.in_ok-near.ensures.near) i)
+    c.as_slice-around.result.now c.as_slice-around.ensures.value c.in_ok-move_sweeps.field-0 (near_first c.self.inside.rings.index.held c.in_ok-near.near c.args.p c.args.q c.as_slice-after.result.now c.in_ok-near.ensures.near
+    (held_apart (stored c.self.inside.frame c.self.inside.rings.borders c.self.inside.rings.vertices) c.self.inside.rings.index.held c.self.invariant.holds) (λ o. o ≡ None) c.in_ok-test_planar.ensures.apart)
+    (λ e. c.in_ok-move_sweeps.ensures.sweeps e c.self.inside.rings.index.held
+    (subst (λ ss. HasNearMove c.self.inside.rings.index.held c.args.p c.args.q ss c.in_ok-near.near) (c.as_slice-after.ensures.value ∙ r.comes ∙ ap (spokes c.args.q) (sym c.as_slice-around.ensures.value)) c.in_ok-near.ensures.near))
     ∙ ap (λ z. first_of ((Sweeps unless not z) ∷ [])) c.if-branch.false))
     m.around.items r.all c.as_slice-after.result.now c.as_slice-before.result.now (c.as_slice-after.ensures.value ∙ r.comes) (c.as_slice-before.ensures.value ∙ r.goes)
     c.shift.ensures.moved c.shift.ensures.exchanged c.shift.ensures.borders c.shift.ensures.unchanged
@@ -83,14 +84,14 @@ returns-in_err-test_planar-clause-edits g c =
     hands_on c.in_err-test_planar.field-0.0 c.from_residual-in_err-test_planar.result c.from_residual-in_err-test_planar.ensures.1
     (move_conflicts (stored c.self.inside.frame c.self.inside.rings.borders c.self.inside.rings.vertices) c.self.inside.rings.index.held c.self.invariant.holds c.args.self.now.doc (ap (λ z. z.doc) c.self.view_is) m.key c.args.p c.args.q r.here c.requires.vertex c.requires.free m.around.items r.all c.as_slice-after.result.now
     (c.as_slice-after.ensures.value ∙ r.comes) c.in_err-test_planar.field-0.0
-    (near_refuses c.self.inside.rings.index.held c.in_ok-near.near c.args.p c.args.q c.as_slice-after.result.now c.in_ok-near.ensures.near
-    (held_apart (stored c.self.inside.frame c.self.inside.rings.borders c.self.inside.rings.vertices) c.self.inside.rings.index.held c.self.invariant.holds) c.in_err-test_planar.field-0.0 c.in_err-test_planar.ensures.refused))
+    (near_first c.self.inside.rings.index.held c.in_ok-near.near c.args.p c.args.q c.as_slice-after.result.now c.in_ok-near.ensures.near
+    (held_apart (stored c.self.inside.frame c.self.inside.rings.borders c.self.inside.rings.vertices) c.self.inside.rings.index.held c.self.invariant.holds) (λ o. Refuses c.in_err-test_planar.field-0.0 (conflict_of o)) c.in_err-test_planar.ensures.refused))
     (tested c.self.invariant c.self.view_is c.self.inside.rings.borders c.self.inside.rings.vertices c.self.inside.rings.index.cells c.test_planar.new.tests refl refl refl)
 
-pub returns-in_err-sweeps-clause-edits : goal.returns-in_err-sweeps-clause-edits
-returns-in_err-sweeps-clause-edits g c =
-    hands_on fault.OutOfMemory c.from_residual-in_err-sweeps.result c.from_residual-in_err-sweeps.ensures.1 tt
-    (tested c.self.invariant c.self.view_is c.self.inside.rings.borders c.self.inside.rings.vertices c.self.inside.rings.index.cells c.sweeps.new.tests refl refl refl)
+pub returns-in_err-move_sweeps-clause-edits : goal.returns-in_err-move_sweeps-clause-edits
+returns-in_err-move_sweeps-clause-edits g c =
+    hands_on fault.OutOfMemory c.from_residual-in_err-move_sweeps.result c.from_residual-in_err-move_sweeps.ensures.1 tt
+    (tested c.self.invariant c.self.view_is c.self.inside.rings.borders c.self.inside.rings.vertices c.self.inside.rings.index.cells c.move_sweeps.new.tests refl refl refl)
 
 pub returns-then-branch-clause-edits : goal.returns-then-branch-clause-edits
 returns-then-branch-clause-edits g c =
@@ -99,17 +100,17 @@ returns-then-branch-clause-edits g c =
     is_refused
     (move_decided (stored c.self.inside.frame c.self.inside.rings.borders c.self.inside.rings.vertices) c.self.inside.rings.index.held c.self.invariant.holds c.args.self.now.doc (ap (λ z. z.doc) c.self.view_is) m.key c.args.p c.args.q r.here c.requires.vertex c.requires.free m.around.items r.all c.as_slice-after.result.now
     (c.as_slice-after.ensures.value ∙ r.comes)
-    c.as_slice-around.result.now c.as_slice-around.ensures.value c.in_ok-sweeps.field-0 (near_passed c.self.inside.rings.index.held c.in_ok-near.near c.args.p c.args.q c.as_slice-after.result.now c.in_ok-near.ensures.near
-    (held_apart (stored c.self.inside.frame c.self.inside.rings.borders c.self.inside.rings.vertices) c.self.inside.rings.index.held c.self.invariant.holds) c.in_ok-test_planar.ensures.apart)
-    (λ e i. c.in_ok-sweeps.ensures.sweeps e c.self.inside.rings.index.held
-    (subst (λ ss. HasNearMove c.self.inside.rings.index.held c.args.p c.args.q ss c.in_ok-near.near) (c.as_slice-after.ensures.value ∙ r.comes ∙ ap (spokes c.args.q) (sym c.as_slice-around.ensures.value)) c.in_ok-near.ensures.near) i)
+    c.as_slice-around.result.now c.as_slice-around.ensures.value c.in_ok-move_sweeps.field-0 (near_first c.self.inside.rings.index.held c.in_ok-near.near c.args.p c.args.q c.as_slice-after.result.now c.in_ok-near.ensures.near
+    (held_apart (stored c.self.inside.frame c.self.inside.rings.borders c.self.inside.rings.vertices) c.self.inside.rings.index.held c.self.invariant.holds) (λ o. o ≡ None) c.in_ok-test_planar.ensures.apart)
+    (λ e. c.in_ok-move_sweeps.ensures.sweeps e c.self.inside.rings.index.held
+    (subst (λ ss. HasNearMove c.self.inside.rings.index.held c.args.p c.args.q ss c.in_ok-near.near) (c.as_slice-after.ensures.value ∙ r.comes ∙ ap (spokes c.args.q) (sym c.as_slice-around.ensures.value)) c.in_ok-near.ensures.near))
     ∙ ap (λ z. first_of ((Sweeps unless not z) ∷ [])) c.if-branch.true)
-    (tested c.self.invariant c.self.view_is c.self.inside.rings.borders c.self.inside.rings.vertices c.self.inside.rings.index.cells c.sweeps.new.tests refl refl refl)
+    (tested c.self.invariant c.self.view_is c.self.inside.rings.borders c.self.inside.rings.vertices c.self.inside.rings.index.cells c.move_sweeps.new.tests refl refl refl)
 
 pub returns-in_err-shift-clause-edits : goal.returns-in_err-shift-clause-edits
 returns-in_err-shift-clause-edits g c =
     hands_on fault.OutOfMemory c.from_residual-in_err-shift.result c.from_residual-in_err-shift.ensures.1 tt
-    (tested c.self.invariant c.self.view_is c.shift.new.tables.borders c.shift.new.tables.vertices c.shift.new.tables.index.cells c.sweeps.new.tests c.shift.ensures.borders (ap (λ t. t.vertices) c.in_err-shift.ensures.unchanged) c.shift.ensures.cells)
+    (tested c.self.invariant c.self.view_is c.shift.new.tables.borders c.shift.new.tables.vertices c.shift.new.tables.index.cells c.move_sweeps.new.tests c.shift.ensures.borders (ap (λ t. t.vertices) c.in_err-shift.ensures.unchanged) c.shift.ensures.cells)
 
 pub returns-clause-edits : goal.returns-clause-edits
 returns-clause-edits g c =
@@ -118,10 +119,10 @@ returns-clause-edits g c =
     is_made
     (move_decided (stored c.self.inside.frame c.self.inside.rings.borders c.self.inside.rings.vertices) c.self.inside.rings.index.held c.self.invariant.holds c.args.self.now.doc (ap (λ z. z.doc) c.self.view_is) m.key c.args.p c.args.q r.here c.requires.vertex c.requires.free m.around.items r.all c.as_slice-after.result.now
     (c.as_slice-after.ensures.value ∙ r.comes)
-    c.as_slice-around.result.now c.as_slice-around.ensures.value c.in_ok-sweeps.field-0 (near_passed c.self.inside.rings.index.held c.in_ok-near.near c.args.p c.args.q c.as_slice-after.result.now c.in_ok-near.ensures.near
-    (held_apart (stored c.self.inside.frame c.self.inside.rings.borders c.self.inside.rings.vertices) c.self.inside.rings.index.held c.self.invariant.holds) c.in_ok-test_planar.ensures.apart)
-    (λ e i. c.in_ok-sweeps.ensures.sweeps e c.self.inside.rings.index.held
-    (subst (λ ss. HasNearMove c.self.inside.rings.index.held c.args.p c.args.q ss c.in_ok-near.near) (c.as_slice-after.ensures.value ∙ r.comes ∙ ap (spokes c.args.q) (sym c.as_slice-around.ensures.value)) c.in_ok-near.ensures.near) i)
+    c.as_slice-around.result.now c.as_slice-around.ensures.value c.in_ok-move_sweeps.field-0 (near_first c.self.inside.rings.index.held c.in_ok-near.near c.args.p c.args.q c.as_slice-after.result.now c.in_ok-near.ensures.near
+    (held_apart (stored c.self.inside.frame c.self.inside.rings.borders c.self.inside.rings.vertices) c.self.inside.rings.index.held c.self.invariant.holds) (λ o. o ≡ None) c.in_ok-test_planar.ensures.apart)
+    (λ e. c.in_ok-move_sweeps.ensures.sweeps e c.self.inside.rings.index.held
+    (subst (λ ss. HasNearMove c.self.inside.rings.index.held c.args.p c.args.q ss c.in_ok-near.near) (c.as_slice-after.ensures.value ∙ r.comes ∙ ap (spokes c.args.q) (sym c.as_slice-around.ensures.value)) c.in_ok-near.ensures.near))
     ∙ ap (λ z. first_of ((Sweeps unless not z) ∷ [])) c.if-branch.false)
     (with_record c.self.invariant c.self.view_is c.shift.new.tables.borders c.shift.new.tables.vertices c.shift.new.tables.index.cells
     (document_after c.self.inside.frame c.self.inside.rings c.shift.new.tables c.self.invariant.holds.whole c.args.self.now.doc (ap (λ z. z.doc) c.self.view_is) m.key c.args.p c.args.q r.here c.requires.free c.shift.ensures.borders c.in_ok-shift.ensures.moved)
@@ -136,26 +137,26 @@ returns-in_err-test_planar-clause-few g c =
     conflicts_few c.self.invariant c.self.view_is m.key c.args.p c.args.q r.here c.requires.free m.around.items r.all c.as_slice-after.result.now
     (c.as_slice-after.ensures.value ∙ r.comes) c.test_planar.new.tests (near_tests c.self.inside.rings.index.held c.in_ok-near.near c.args.p c.args.q c.as_slice-after.result.now c.in_ok-near.ensures.near (times_by c.self.inside.rings.index.cells) c.in_ok-near.ensures.no_less _ _ c.test_planar.ensures.few)
 
-pub returns-in_err-sweeps-clause-few : goal.returns-in_err-sweeps-clause-few
-returns-in_err-sweeps-clause-few g c =
+pub returns-in_err-move_sweeps-clause-few : goal.returns-in_err-move_sweeps-clause-few
+returns-in_err-move_sweeps-clause-few g c =
     let m = c.in_ok-moving.moving in
     let r = c.in_ok-moving.ensures.read in
     sweeps_few c.self.invariant c.self.view_is m.key c.args.p c.args.q r.here c.requires.free m.around.items r.all c.as_slice-after.result.now
-    (c.as_slice-after.ensures.value ∙ r.comes) c.test_planar.new.tests (near_tests c.self.inside.rings.index.held c.in_ok-near.near c.args.p c.args.q c.as_slice-after.result.now c.in_ok-near.ensures.near (times_by c.self.inside.rings.index.cells) c.in_ok-near.ensures.no_less _ _ c.test_planar.ensures.few) c.sweeps.new.tests (near_way_tests c.self.inside.rings.index.held c.in_ok-near.near c.args.p c.args.q c.as_slice-after.result.now c.in_ok-near.ensures.near (times_by c.self.inside.rings.index.cells) c.in_ok-near.ensures.no_less _ _ c.sweeps.ensures.few)
+    (c.as_slice-after.ensures.value ∙ r.comes) c.test_planar.new.tests (near_tests c.self.inside.rings.index.held c.in_ok-near.near c.args.p c.args.q c.as_slice-after.result.now c.in_ok-near.ensures.near (times_by c.self.inside.rings.index.cells) c.in_ok-near.ensures.no_less _ _ c.test_planar.ensures.few) c.move_sweeps.new.tests (near_way_tests c.self.inside.rings.index.held c.in_ok-near.near c.args.p c.args.q c.as_slice-after.result.now c.in_ok-near.ensures.near (times_by c.self.inside.rings.index.cells) c.in_ok-near.ensures.no_less _ _ c.move_sweeps.ensures.few)
 
 pub returns-then-branch-clause-few : goal.returns-then-branch-clause-few
 returns-then-branch-clause-few g c =
     let m = c.in_ok-moving.moving in
     let r = c.in_ok-moving.ensures.read in
     sweeps_few c.self.invariant c.self.view_is m.key c.args.p c.args.q r.here c.requires.free m.around.items r.all c.as_slice-after.result.now
-    (c.as_slice-after.ensures.value ∙ r.comes) c.test_planar.new.tests (near_tests c.self.inside.rings.index.held c.in_ok-near.near c.args.p c.args.q c.as_slice-after.result.now c.in_ok-near.ensures.near (times_by c.self.inside.rings.index.cells) c.in_ok-near.ensures.no_less _ _ c.test_planar.ensures.few) c.sweeps.new.tests (near_way_tests c.self.inside.rings.index.held c.in_ok-near.near c.args.p c.args.q c.as_slice-after.result.now c.in_ok-near.ensures.near (times_by c.self.inside.rings.index.cells) c.in_ok-near.ensures.no_less _ _ c.sweeps.ensures.few)
+    (c.as_slice-after.ensures.value ∙ r.comes) c.test_planar.new.tests (near_tests c.self.inside.rings.index.held c.in_ok-near.near c.args.p c.args.q c.as_slice-after.result.now c.in_ok-near.ensures.near (times_by c.self.inside.rings.index.cells) c.in_ok-near.ensures.no_less _ _ c.test_planar.ensures.few) c.move_sweeps.new.tests (near_way_tests c.self.inside.rings.index.held c.in_ok-near.near c.args.p c.args.q c.as_slice-after.result.now c.in_ok-near.ensures.near (times_by c.self.inside.rings.index.cells) c.in_ok-near.ensures.no_less _ _ c.move_sweeps.ensures.few)
 
 pub returns-in_err-shift-clause-few : goal.returns-in_err-shift-clause-few
 returns-in_err-shift-clause-few g c =
     let m = c.in_ok-moving.moving in
     let r = c.in_ok-moving.ensures.read in
     sweeps_few c.self.invariant c.self.view_is m.key c.args.p c.args.q r.here c.requires.free m.around.items r.all c.as_slice-after.result.now
-    (c.as_slice-after.ensures.value ∙ r.comes) c.test_planar.new.tests (near_tests c.self.inside.rings.index.held c.in_ok-near.near c.args.p c.args.q c.as_slice-after.result.now c.in_ok-near.ensures.near (times_by c.self.inside.rings.index.cells) c.in_ok-near.ensures.no_less _ _ c.test_planar.ensures.few) c.sweeps.new.tests (near_way_tests c.self.inside.rings.index.held c.in_ok-near.near c.args.p c.args.q c.as_slice-after.result.now c.in_ok-near.ensures.near (times_by c.self.inside.rings.index.cells) c.in_ok-near.ensures.no_less _ _ c.sweeps.ensures.few)
+    (c.as_slice-after.ensures.value ∙ r.comes) c.test_planar.new.tests (near_tests c.self.inside.rings.index.held c.in_ok-near.near c.args.p c.args.q c.as_slice-after.result.now c.in_ok-near.ensures.near (times_by c.self.inside.rings.index.cells) c.in_ok-near.ensures.no_less _ _ c.test_planar.ensures.few) c.move_sweeps.new.tests (near_way_tests c.self.inside.rings.index.held c.in_ok-near.near c.args.p c.args.q c.as_slice-after.result.now c.in_ok-near.ensures.near (times_by c.self.inside.rings.index.cells) c.in_ok-near.ensures.no_less _ _ c.move_sweeps.ensures.few)
 
 pub returns-clause-few : goal.returns-clause-few
 returns-clause-few g c =
@@ -163,4 +164,4 @@ returns-clause-few g c =
     let r = c.in_ok-moving.ensures.read in
     rw (ap (λ (s : State). s.tests) c.keep.ensures)
     (sweeps_few c.self.invariant c.self.view_is m.key c.args.p c.args.q r.here c.requires.free m.around.items r.all c.as_slice-after.result.now
-    (c.as_slice-after.ensures.value ∙ r.comes) c.test_planar.new.tests (near_tests c.self.inside.rings.index.held c.in_ok-near.near c.args.p c.args.q c.as_slice-after.result.now c.in_ok-near.ensures.near (times_by c.self.inside.rings.index.cells) c.in_ok-near.ensures.no_less _ _ c.test_planar.ensures.few) c.sweeps.new.tests (near_way_tests c.self.inside.rings.index.held c.in_ok-near.near c.args.p c.args.q c.as_slice-after.result.now c.in_ok-near.ensures.near (times_by c.self.inside.rings.index.cells) c.in_ok-near.ensures.no_less _ _ c.sweeps.ensures.few))
+    (c.as_slice-after.ensures.value ∙ r.comes) c.test_planar.new.tests (near_tests c.self.inside.rings.index.held c.in_ok-near.near c.args.p c.args.q c.as_slice-after.result.now c.in_ok-near.ensures.near (times_by c.self.inside.rings.index.cells) c.in_ok-near.ensures.no_less _ _ c.test_planar.ensures.few) c.move_sweeps.new.tests (near_way_tests c.self.inside.rings.index.held c.in_ok-near.near c.args.p c.args.q c.as_slice-after.result.now c.in_ok-near.ensures.near (times_by c.self.inside.rings.index.cells) c.in_ok-near.ensures.no_less _ _ c.move_sweeps.ensures.few))

@@ -1,0 +1,16 @@
+use Rattle.std.proofs.Common.{◌≡◌, map, take, false}
+use Rattle.std.specs.List.{list_any}
+use Rattle.grid_geometry.specs.Segment.{segment}
+use Rattle.ring_machine.specs.Document.{Document}
+use Rattle.ring_machine.specs.Parts.{positions}
+use Rattle.ring_machine.specs.Sweep.{edge_sweeps}
+use Rattle.segment_index.specs.Candidates.{SegmentSet}
+use Rattle.local_planarity.specs.Edits.{IsEnds}
+use Rattle.local_planarity.specs.NearMove.{HasNearMove}
+use Rattle.local_planarity.proofs.moving.move_sweeps.Given as goal
+
+-- no edge so far sweeps over a position
+abbrev pub invariant-loop-a : goal.invariant-loop-a
+invariant-loop-a g l =
+    (d : Document) (held : SegmentSet) → HasNearMove held l.p l.q (map (λ x. segment x l.q) l.around) l.near
+    → IsEnds held (positions d) → list_any (edge_sweeps d l.p l.q) (take l.a-index l.around) ≡ false

@@ -1,0 +1,7 @@
+use Rattle.std.proofs.Common.{◌∷◌, take}
+use Rattle.segment_index.specs.Trees.{LieIn}
+use Rattle.local_planarity.proofs.moving.reach.Given as goal
+
+-- the way, and the segments so far, lie in the box
+abbrev pub invariant-loop-s : goal.invariant-loop-s
+invariant-loop-s l = LieIn l.rect (l.fn.way ∷ take l.s-index l.segments)
