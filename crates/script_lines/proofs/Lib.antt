@@ -1,4 +1,5 @@
 pub mod WordLemmas
+pub mod NumberLemmas
 pub mod TokenLemmas
 pub mod PathLemmas
 pub mod IdLemmas

@@ -12,6 +12,12 @@ abbrev pub EndsWord : List ℕ → Type 0
 EndsWord [] = Unit {0}
 EndsWord (b ∷ bs) = b ≡ 32
 
+-- digits are one, or more of which the first is not 0
+abbrev pub WithoutNeedlessZero : List ℕ → Type 0
+WithoutNeedlessZero [] = ⊥
+WithoutNeedlessZero (d ∷ []) = Unit {0}
+WithoutNeedlessZero (d ∷ ds) = d ≢ 48
+
 -- behind a space stands the number z, and the rest follows
 pub record IsSpaced (bytes : List ℕ) (z : ℤ) (rest : List ℕ) : Type 0 where
   pub whole : bytes ≡ spaced z ++ rest

@@ -3,6 +3,7 @@
 
 mod ids;
 mod lines;
+mod numbers;
 mod parsing;
 mod paths;
 mod words;

@@ -6,6 +6,7 @@ ghost use Rattle.std.specs.Str.{bytes_eq};
 ghost use Rattle.grid_geometry.specs.Position.{Position};
 ghost use Rattle.script_lines.specs.Words.{is_letter, is_unmarked, IsSpaced, IsFeature, IsPlace, IsToken};
 
+use crate::numbers::short_number;
 use grid_geometry::Pos;
 use itoa::{Buffer, Integer};
 use json_spans::whole_text;
@@ -89,6 +90,9 @@ pub(crate) fn spaced_number(bytes: &[u8]) -> Option<(i64, &[u8])>
     let Some(tail) = behind(b" ", bytes) else {
         return None;
     };
+    if let Some(found) = short_number(tail) {
+        return Some(found);
+    }
     let (word, rest) = split_word(tail);
     match number(word) {
         Some(number) => Some((number, rest)),
