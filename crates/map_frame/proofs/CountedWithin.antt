@@ -12,7 +12,7 @@ use Rattle.ring_machine.proofs.Members.{any_in}
 use Rattle.map_frame.specs.declared.tables.Tables.{Tables}
 use Rattle.map_frame.specs.Kept.{IsFramed, all_numbers}
 use Rattle.map_frame.proofs.EditedFeatures.{head_apart, tail_distinct}
-use Rattle.map_frame.proofs.SlotsEntries.{entry, features_of}
+use Rattle.map_frame.proofs.PlacesSeen.{entry, features_of}
 
 distinct_is : (ns : List ℕ) → are_distinct ns ≡ true → IsDistinct eqb ns
 unfolding IsDistinct

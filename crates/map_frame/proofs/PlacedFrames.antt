@@ -22,9 +22,8 @@ use Rattle.map_frame.specs.Seen.{framed, doc_of, places_of, view_feature}
 use Rattle.map_frame.specs.Texts.{texts_of}
 use Rattle.map_frame.proofs.CountedWithin.{all_recursion_at}
 use Rattle.map_frame.proofs.EditedStands.{entry_is}
-use Rattle.map_frame.proofs.PlacesSeen.{layers_filled, layers_formed, layers_placed}
+use Rattle.map_frame.proofs.PlacesSeen.{entry, layers_filled, layers_formed, layers_placed}
 use Rattle.map_frame.proofs.ReadFeatures.{number_stands}
-use Rattle.map_frame.proofs.SlotsEntries.{entry}
 
 pub all_placed : {A : Type 0} (t : Tables A) → IsFramed t
     → ArePlaced (places_of t.layers.items) (length t.features.items) (doc_of t)
