@@ -32,6 +32,7 @@ use Rattle.map_frame.specs.Seen.{leaf_of, items_at, items_of, view_layer}
 use Rattle.edit_records.specs.Places.{or_empty}
 use Rattle.map_frame.proofs.Built.{Whole, Waits, leaves_of, next_whole, next_stands, came_next, came_slot, came_slots, came_geometry, came_layers}
 use Rattle.map_frame.proofs.NamedOnce.{same_some}
+use Rattle.map_frame.proofs.ReadLists.{got_behind}
 
 -- ---- lists
 
@@ -40,10 +41,6 @@ got_first (z ∷ xs) zero x ys e = ap (λ zs. slice_get zs 0) e
 got_first (z ∷ xs) (suc n) x ys e = got_first xs n x ys e
 got_first [] zero x ys e = absurd cc
 got_first [] (suc n) x ys e = absurd cc
-
-got_behind : {X : Type 0} (xs : List X) (x : X) (ys : List X) → slice_get (xs ++ x ∷ ys) (length xs) ≡ Some x
-got_behind [] x ys = refl
-got_behind (z ∷ xs) x ys = got_behind xs x ys
 
 module _ {A : Type 0} where
   -- ---- the next feature

@@ -83,7 +83,7 @@ module _ {R : Type 0} where
       ∙ ap₂ (λ (y z : ℕ). y + z) (items_length n all l.pieces) (layers_length (n + length (leaves_in l.pieces)) all ls)
       ∙ sym (length-append (leaves_in l.pieces) (leaves ls))
 
-  layers_numbered : (n : ℕ) (all : List (List (List R))) (ls : List LayerText)
+  pub layers_numbered : (n : ℕ) (all : List (List (List R))) (ls : List LayerText)
       → AreNumbered n (within_layers (layers_from n all ls))
   layers_numbered n all [] = tt
   layers_numbered n all (l ∷ ls) =

@@ -1,10 +1,9 @@
 -- Tables in which a new number stands directly after another.
 use Rattle.std.proofs.Common.{◌≡◌, ◌≢◌, ◌+◌, ◌<◌, ℕ, zero, suc, Bool, true, false, refl, sym, ap, ap₂, ◌∙◌, subst, List, [], ◌∷◌, ◌++◌, ◌&&◌, map}
-use Rattle.std.proofs.Common.{length, slice_set, cond, inl, inr, Option, Some, None, option_map, arith, Contains}
+use Rattle.std.proofs.Common.{ne_eqb, length, slice_set, cond, inl, inr, Option, Some, None, option_map, arith, Contains}
 use Rattle.std.specs.Prelude.{slice_get, Vec, ◌==◌}
 use Rattle.std.specs.List.{flat_map, list_all, AllByRecursion}
-use Rattle.std.proofs.lemmas.Bool.Decides.{Decides-eqb}
-use Rattle.std.proofs.lemmas.List.{length-append, map-append}
+use Rattle.std.proofs.lemmas.List.{length_push, map-append}
 use Rattle.std.proofs.lemmas.Option.{slice_get_within}
 use Rattle.std.proofs.lemmas.List.Concat.{flat_map-append, flat_map_single}
 use native.Mathlib.Decide.{ℕ_discrete}
@@ -13,8 +12,9 @@ use Rattle.ring_machine.specs.Parts.{features as feature_list}
 use Rattle.ring_machine.specs.WellFormed.{WellFormed, are_distinct}
 use Rattle.ring_machine.proofs.First.{In}
 use Rattle.ring_machine.proofs.Members.{contains_in, in_contains}
+use Rattle.ring_machine.proofs.Neighbours.{all_in}
 use Rattle.ring_machine.proofs.Order.{and_both}
-use Rattle.edit_records.specs.Places.{Place, Begins, Ends, Text_of, Number, LayerTree, number_of, filled, grown, tree_with}
+use Rattle.edit_records.specs.Places.{Place, Number, LayerTree, number_of, filled, grown, tree_with}
 use Rattle.edit_records.specs.Places as tree
 use Rattle.edit_records.proofs.PlacesBack.{filled-agree, filled-grown}
 use Rattle.map_frame.specs.declared.feature.Feature.{Feature}
@@ -34,6 +34,8 @@ use Rattle.map_frame.specs.Seen.{doc_of, framed, view_feature, places_at, tree_o
 use Rattle.map_frame.proofs.CountedWithin.{all_recursion_at}
 use Rattle.map_frame.proofs.EditedFeatures.{first_distinct}
 use Rattle.map_frame.proofs.NamedOnce.{in_part, one_part, same_some, rest_distinct}
+use Rattle.map_frame.proofs.ReadFeatures.{in_get}
+use Rattle.map_frame.proofs.ReadLists.{got_behind}
 use Rattle.map_frame.proofs.PlacesSeen.{entry, layers_filled, slot_placed, geometry_placed}
 use Rattle.map_frame.proofs.SlotsFresh.{grown_distinct, grown_below, grown_keeps, grown_has}
 use Rattle.map_frame.proofs.SlotsGrown.{part_set, grown_off}
@@ -46,13 +48,6 @@ module _ {X : Type 0} where
   get_front [] ys i l = absurd (omega arith)
   get_front (x ∷ xs) ys zero l = refl
   get_front (x ∷ xs) ys (suc i) l = get_front xs ys i (omega arith)
-
-  get_end : (xs : List X) (y : X) → slice_get (xs ++ y ∷ []) (length xs) ≡ Some y
-  get_end [] y = refl
-  get_end (x ∷ xs) y = get_end xs y
-
-length_push : {X : Type 0} (xs : List X) (y : X) → length (xs ++ y ∷ []) ≡ length xs + 1
-length_push xs y = length-append xs (y ∷ [])
 
 -- a part of distinct numbers
 part_distinct : {X : Type 0} (g : X → List ℕ) (xs : List X) (i : ℕ) (x : X) → are_distinct (flat_map g xs) ≡ true
@@ -79,11 +74,6 @@ all_set p [] i y h here = refl
 all_set p (x ∷ xs) zero y h here = ap₂ (λ a b. a && b) here (and_both (p x) (list_all p xs) h).1
 all_set p (x ∷ xs) (suc i) y h here =
     let b = and_both (p x) (list_all p xs) h in ap₂ (λ a c. a && c) b.0 (all_set p xs i y b.1 here)
-
-all_got : {X : Type 0} (p : X → Bool) (xs : List X) (i : ℕ) (x : X) → list_all p xs ≡ true → slice_get xs i ≡ Some x → p x ≡ true
-all_got p [] i x h e = absurd cc
-all_got p (y ∷ xs) zero x h e = ap p (sym (same_some y x e)) ∙ (and_both (p y) (list_all p xs) h).0
-all_got p (y ∷ xs) (suc i) x h e = all_got p xs i x (and_both (p y) (list_all p xs) h).1 e
 
 -- other features in a slot leave the collections as they are
 module _ {A : Type 0} (ns ns' : Vec ℕ A) where
@@ -117,29 +107,20 @@ module _ (n new : ℕ) where
       by true = refl
       by false = refl
 
-  map-both : (us vs : List ℕ) → map Number (us ++ vs) ≡ map Number us ++ map Number vs
-  map-both [] vs = refl
-  map-both (u ∷ us) vs = ap (λ z. Number u ∷ z) (map-both us vs)
-
   -- the numbers of a slot with the new one
   numbers_after_places : (ns : List ℕ) → map Number (with_new n new ns) ≡ flat_map (tree.with_new n new) (map Number ns)
   numbers_after_places [] = refl
   numbers_after_places (m ∷ ns) =
-      map-both (new_after n new m) (with_new n new ns)
+      map-append Number (new_after n new m) (with_new n new ns)
       ∙ ap₂ (λ y z. y ++ z) (sym (number_after m)) (numbers_after_places ns)
 
   -- places without n stay
   places_off : (ps : List Place) → (In n (flat_map number_of ps) → ⊥) → flat_map (tree.with_new n new) ps ≡ ps
   places_off [] off = refl
-  places_off (Begins h ∷ ps) off = ap (λ z. Begins h ∷ z) (places_off ps off)
-  places_off (Ends ∷ ps) off = ap (λ z. Ends ∷ z) (places_off ps off)
-  places_off (Text_of t ∷ ps) off = ap (λ z. Text_of t ∷ z) (places_off ps off)
   places_off (Number m ∷ ps) off =
-      ap₂ (λ y z. y ++ z) (by (m == n) refl) (places_off ps (λ i. off (inr i)))
-    where
-      by : (b : Bool) → (m == n) ≡ b → cond b (Number n ∷ Number new ∷ []) (Number m ∷ []) ≡ Number m ∷ []
-      by true e = absurd (off (inl ((Decides-eqb m n).0 e)))
-      by false e = refl
+      ap₂ (λ b z. cond b (Number n ∷ Number new ∷ []) (Number m ∷ []) ++ z) (ne_eqb m n (λ e. off (inl e)))
+      (places_off ps (λ i. off (inr i)))
+  places_off (p ∷ ps) off = ap (λ z. p ∷ z) (places_off ps off)
 
   tree_off : {A : Type 0} (g : Geometry A) → (In n (numbers_in g) → ⊥) → tree_with n new (tree_of g) ≡ tree_of g
   tree_off (geometry.Alone m) off = refl
@@ -279,7 +260,7 @@ module _ {A : Type 0} (t : Tables A) (k : IsFramed t) (n : ℕ) (s : Stand) (l :
       by : Dec (m ≡ length t.stands.items) → StandsAt ls'.items m x
       by (yes q) =
           let same : s ≡ x = same_some s x
-          (sym (get_end t.stands.items s) ∙ ap₂ (λ z i. slice_get z i) (sym stood) (sym q) ∙ e) in
+          (sym (got_behind t.stands.items s []) ∙ ap₂ (λ z i. slice_get z i) (sym stood) (sym q) ∙ e) in
           subst (λ z. StandsAt ls'.items m z) same
           (in_contains _ m (subst (λ z. In z (numbers_under (slice_get ls'.items s.layer) s.slot)) (sym (q ∙ k.alike)) new_under))
       by (no off) =
@@ -346,7 +327,7 @@ module _ {A : Type 0} (t : Tables A) (k : IsFramed t) (n : ℕ) (s : Stand) (l :
       ap (list_all (λ z. is_enclosed z.geometry)) layers
       ∙ all_set (λ z. is_enclosed z.geometry) t.layers.items s.layer (record l { geometry = geometry.Items ss' }) k.enclosed
       (ap is_whole slots ∙ whole_set ns ns' ss.items s.slot place
-      ∙ ap is_enclosed (sym in_items) ∙ all_got (λ z. is_enclosed z.geometry) t.layers.items s.layer l k.enclosed layer)
+      ∙ ap is_enclosed (sym in_items) ∙ all_in (λ z. is_enclosed z.geometry) t.layers.items l k.enclosed (in_get t.layers.items s.layer l layer))
 
   kept_after : new < 200000 → IsFramed after
   kept_after few = record {

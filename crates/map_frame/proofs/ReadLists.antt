@@ -1,5 +1,5 @@
 -- A list's element by its number, as the code reads it.
-use Rattle.std.proofs.Common.{◌≡◌, ℕ, ◌<◌, ◌≤◌, refl, sym, ap, ◌∙◌, List, length, map, get_or}
+use Rattle.std.proofs.Common.{◌≡◌, ℕ, ◌<◌, ◌≤◌, refl, sym, ap, ◌∙◌, List, [], ◌∷◌, ◌++◌, length, map, get_or}
 use Rattle.std.proofs.Common.{Option, Some, None, option_map}
 use Rattle.std.specs.Prelude.{Vec}
 use Rattle.std.specs.List.{slice_get}
@@ -15,6 +15,11 @@ module _ {X : Type 0} (xs s : List X) (i : ℕ) (same : s ≡ xs) where
   -- and past its end
   pub got_none : length s ≤ i → slice_get xs i ≡ None
   got_none l = ap (λ z. slice_get z i) (sym same) ∙ slice_get_past s i l
+
+-- the element behind a list
+pub got_behind : {X : Type 0} (xs : List X) (x : X) (ys : List X) → slice_get (xs ++ x ∷ ys) (length xs) ≡ Some x
+got_behind [] x ys = refl
+got_behind (z ∷ xs) x ys = got_behind xs x ys
 
 -- what is made of an element, as the code makes it
 pub mapped_got : {X Y : Type 0} (g : X → Y) (xs : List X) (i : ℕ) (x : X) (y : Y) → i < length xs → x ≡ get_or xs i x

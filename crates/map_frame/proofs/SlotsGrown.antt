@@ -1,10 +1,8 @@
 -- Numbers in which a new one stands directly after another.
-use Rattle.std.proofs.Common.{◌≡◌, ◌≢◌, ℕ, zero, suc, Bool, true, false, refl, sym, ap, ap₂, ◌∙◌, List, [], ◌∷◌, ◌++◌}
+use Rattle.std.proofs.Common.{ne_eqb, eq-eqb, ◌≡◌, ◌≢◌, ℕ, zero, suc, refl, sym, ap, ap₂, ◌∙◌, List, [], ◌∷◌, ◌++◌}
 use Rattle.std.proofs.Common.{slice_set, inl, inr, Some, arith}
-use Rattle.std.specs.Prelude.{◌==◌, if◌then◌else◌, slice_get}
+use Rattle.std.specs.Prelude.{if◌then◌else◌, slice_get}
 use Rattle.std.specs.List.{flat_map}
-use Rattle.std.proofs.lemmas.Bool.{false≢true}
-use Rattle.std.proofs.lemmas.Bool.Decides.{Decides-eqb}
 use Rattle.ring_machine.proofs.First.{In}
 use Rattle.map_frame.specs.Growing.{with_new, new_after}
 use Rattle.map_frame.proofs.NamedOnce.{same_some}
@@ -37,18 +35,10 @@ module _ {X Y : Type 0} (g : X → List Y) (H : List Y → List Y) (none : H [] 
 
 module _ (n new : ℕ) where
   pub new_after_here : new_after n new n ≡ n ∷ new ∷ []
-  new_after_here = by (n == n) ((Decides-eqb n n).1 refl)
-    where
-      by : (b : Bool) → b ≡ true → (if b then n ∷ new ∷ [] else (n ∷ [])) ≡ n ∷ new ∷ []
-      by true e = refl
-      by false e = absurd (false≢true e)
+  new_after_here = ap (λ b. if b then n ∷ new ∷ [] else (n ∷ [])) (eq-eqb n n refl)
 
   pub new_after_other : (m : ℕ) → m ≢ n → new_after n new m ≡ m ∷ []
-  new_after_other m f = by (m == n) refl
-    where
-      by : (b : Bool) → (m == n) ≡ b → (if b then n ∷ new ∷ [] else (m ∷ [])) ≡ m ∷ []
-      by true e = absurd (f ((Decides-eqb m n).0 e))
-      by false e = refl
+  new_after_other m f = ap (λ b. if b then n ∷ new ∷ [] else (m ∷ [])) (ne_eqb m n f)
 
   -- numbers without n stay
   pub grown_off : (ns : List ℕ) → (In n ns → ⊥) → with_new n new ns ≡ ns
