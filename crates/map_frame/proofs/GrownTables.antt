@@ -79,23 +79,19 @@ all_set p (x ∷ xs) (suc i) y h here =
 module _ {A : Type 0} (ns ns' : Vec ℕ A) where
   closing_set : (n : ℕ) (ss : List (Slot A)) (i : ℕ) → slice_get ss i ≡ Some (slot.Leaves ns)
       → is_closing n (slice_set ss i (slot.Leaves ns')) ≡ is_closing n ss
-  closing_set n [] i e = refl
   closing_set zero (s ∷ ss) zero e = refl
-  closing_set zero (s ∷ ss) (suc i) e = refl
   closing_set (suc n) (s ∷ ss) zero e = ap (λ z. is_closing (suc n) (z ∷ ss)) (sym (same_some s (slot.Leaves ns) e))
   closing_set (suc n) (slot.Open h ∷ ss) (suc i) e = closing_set (suc (suc n)) ss i e
   closing_set (suc n) (slot.Close ∷ ss) (suc i) e = closing_set n ss i e
-  closing_set (suc n) (slot.Kept t ∷ ss) (suc i) e = closing_set (suc n) ss i e
-  closing_set (suc n) (slot.Leaves ms ∷ ss) (suc i) e = closing_set (suc n) ss i e
+  closing_set (suc n) (s ∷ ss) (suc i) e = closing_set (suc n) ss i e
+  closing_set _ _ _ e = refl
 
   whole_set : (ss : List (Slot A)) (i : ℕ) → slice_get ss i ≡ Some (slot.Leaves ns)
       → is_whole (slice_set ss i (slot.Leaves ns')) ≡ is_whole ss
-  whole_set [] i e = refl
   whole_set (s ∷ ss) zero e = ap (λ z. is_whole (z ∷ ss)) (sym (same_some s (slot.Leaves ns) e))
   whole_set (slot.Open h ∷ ss) (suc i) e = closing_set 1 ss i e
-  whole_set (slot.Close ∷ ss) (suc i) e = refl
   whole_set (slot.Kept t ∷ ss) (suc i) e = closing_set 0 ss i e
-  whole_set (slot.Leaves ms ∷ ss) (suc i) e = refl
+  whole_set _ _ e = refl
 
 -- ---- places
 
@@ -205,9 +201,8 @@ module _ {A : Type 0} (t : Tables A) (k : IsFramed t) (n : ℕ) (s : Stand) (l :
 
   below_after : AllByRecursion (λ m. m < length fs'.items) (all_numbers ls'.items)
   below_after =
-      subst (λ z. AllByRecursion (λ m. m < length fs'.items) z) (sym numbers_after)
-      (subst (λ z. AllByRecursion (λ m. m < z) (with_new n (length t.features.items) (all_numbers t.layers.items)))
-      (sym length_after) (grown_below n (length t.features.items) (all_numbers t.layers.items) within k.below))
+      rw (numbers_after, length_after)
+      (grown_below n (length t.features.items) (all_numbers t.layers.items) within k.below)
 
   -- ---- where features stand
 
