@@ -7,8 +7,8 @@ use Rattle.std.proofs.lemmas.List.{length-map}
 use Rattle.std.proofs.lemmas.List.Folds.{list_all-append}
 use Rattle.std.proofs.lemmas.List.{map-append, take_more}
 use Rattle.ring_machine.specs.Document.{Polygon, MultiPolygon, Null}
-use Rattle.ring_machine.specs.Parts.{feature_of}
-use Rattle.ring_machine.specs.WellFormed.{is_inner, is_geometry, fits_form, are_distinct}
+use Rattle.ring_machine.specs.Parts.{feature_of, features}
+use Rattle.ring_machine.specs.WellFormed.{is_inner, is_geometry, fits_form}
 use Rattle.map_frame.specs.Numbers.{polygon_numbers, feature_numbers}
 use Rattle.topo_outline.specs.Outline.{leaves_in}
 use Rattle.topo_outline.specs.Shape.{LayerText, Piece, starts, ends, leaf, text}
@@ -17,7 +17,9 @@ use Rattle.topo_reader.specs.declared.document.RawDoc.{RawDoc}
 use Rattle.topo_reader.specs.Document.{polygons_at, items_from, layers_from, IsOfRings}
 use Rattle.topo_reader.specs.DocumentView.{view_raw}
 use Rattle.topo_reader.specs.Uses.{polygon_positions, feature_positions}
-use Rattle.map_frame.specs.Opened.{CanStand}
+use Rattle.map_frame.specs.Opened.{opened, CanStand}
+use Rattle.ring_machine.proofs.Numbered.{numbered_distinct}
+use Rattle.map_frame.proofs.BuiltNumbers.{layers_numbered}
 
 -- one more element with a number of elements that is known
 pub lengths_more : {X Y : Type 0} (f : X → ℕ) (g : Y → ℕ) (ys : List Y) (i : ℕ) (y : Y) (ns new : List X) (n : X) → i < length ys
@@ -38,41 +40,26 @@ module _ {R S : Type 0} where
 
   module _ (all : List (List (List R))) (other : List (List (List S))) (e : map length all ≡ map length other) where
     inner_same : (k n : ℕ) (ps : List Piece) → is_inner k (items_from n all ps) ≡ is_inner k (items_from n other ps)
-    inner_same zero n [] = refl
-    inner_same zero n (starts h ∷ ps) = refl
     inner_same zero n (ends ∷ ps) = refl
-    inner_same zero n (leaf form h arcs ∷ ps) = refl
-    inner_same zero n (text t ∷ ps) = refl
-    inner_same (suc k) n [] = refl
     inner_same (suc k) n (starts h ∷ ps) = inner_same (suc (suc k)) n ps
     inner_same (suc k) n (ends ∷ ps) = inner_same k n ps
     inner_same (suc k) n (leaf form h arcs ∷ ps) = inner_same (suc k) (n + 1) ps
     inner_same (suc k) n (text t ∷ ps) = inner_same (suc k) n ps
+    inner_same _ n _ = refl
 
     geometry_same : (n : ℕ) (ps : List Piece) → is_geometry (items_from n all ps) ≡ is_geometry (items_from n other ps)
-    geometry_same n [] = refl
     geometry_same n (starts h ∷ ps) = inner_same 1 n ps
-    geometry_same n (ends ∷ ps) = refl
     geometry_same n (leaf form h arcs ∷ ps) = inner_same 0 (n + 1) ps
     geometry_same n (text t ∷ ps) = inner_same 0 n ps
+    geometry_same n _ = refl
 
     forms_same : (n : ℕ) (ps : List Piece)
         → list_all fits_form (filter_map feature_of (items_from n all ps)) ≡ list_all fits_form (filter_map feature_of (items_from n other ps))
     forms_same n [] = refl
-    forms_same n (starts h ∷ ps) = forms_same n ps
-    forms_same n (ends ∷ ps) = forms_same n ps
-    forms_same n (text t ∷ ps) = forms_same n ps
     forms_same n (leaf Polygon h arcs ∷ ps) = ap₂ (λ k b. (k == 1) && b) (at_length all other e n) (forms_same (n + 1) ps)
     forms_same n (leaf MultiPolygon h arcs ∷ ps) = forms_same (n + 1) ps
     forms_same n (leaf Null h arcs ∷ ps) = ap₂ (λ k b. (k == 0) && b) (at_length all other e n) (forms_same (n + 1) ps)
-
-    numbers_same : (n : ℕ) (ps : List Piece)
-        → map (λ f. f.number) (filter_map feature_of (items_from n all ps)) ≡ map (λ f. f.number) (filter_map feature_of (items_from n other ps))
-    numbers_same n [] = refl
-    numbers_same n (starts h ∷ ps) = numbers_same n ps
-    numbers_same n (ends ∷ ps) = numbers_same n ps
-    numbers_same n (text t ∷ ps) = numbers_same n ps
-    numbers_same n (leaf form h arcs ∷ ps) = ap (λ ns. n ∷ ns) (numbers_same (n + 1) ps)
+    forms_same n (p ∷ ps) = forms_same n ps
 
     layers_geometries : (n : ℕ) (ls : List LayerText)
         → list_all (λ l. is_geometry l.items) (layers_from n all ls) ≡ list_all (λ l. is_geometry l.items) (layers_from n other ls)
@@ -88,16 +75,6 @@ module _ {R S : Type 0} where
         list_all-append fits_form (filter_map feature_of (items_from n all l.pieces)) (flat_map (λ l. filter_map feature_of l.items) (layers_from m all ls))
         ∙ ap₂ (λ y z. y && z) (forms_same n l.pieces) (layers_forms m ls)
         ∙ sym (list_all-append fits_form (filter_map feature_of (items_from n other l.pieces)) (flat_map (λ l. filter_map feature_of l.items) (layers_from m other ls)))
-
-    layers_same_numbers : (n : ℕ) (ls : List LayerText)
-        → map (λ f. f.number) (flat_map (λ l. filter_map feature_of l.items) (layers_from n all ls))
-        ≡ map (λ f. f.number) (flat_map (λ l. filter_map feature_of l.items) (layers_from n other ls))
-    layers_same_numbers n [] = refl
-    layers_same_numbers n (l ∷ ls) =
-        let m = n + length (leaves_in l.pieces) in
-        map-append (λ f. f.number) (filter_map feature_of (items_from n all l.pieces)) (flat_map (λ l. filter_map feature_of l.items) (layers_from m all ls))
-        ∙ ap₂ (λ y z. y ++ z) (numbers_same n l.pieces) (layers_same_numbers m ls)
-        ∙ sym (map-append (λ f. f.number) (filter_map feature_of (items_from n other l.pieces)) (flat_map (λ l. filter_map feature_of l.items) (layers_from m other ls)))
 
 -- how many elements each list has
 pub lengths_of : {X Y : Type 0} (h : X → List Y) (g : X → ℕ) → ((x : X) → length (h x) ≡ g x) → (xs : List X)
@@ -126,6 +103,6 @@ module _ {A : Type 0} where
         formed = record {
           geometries = layers_geometries numbers all alike 0 ls ∙ h.formed.geometries;
           forms = layers_forms numbers all alike 0 ls ∙ h.formed.forms;
-          numbers = ap are_distinct (layers_same_numbers numbers all alike 0 ls) ∙ h.formed.numbers;
+          numbers = numbered_distinct 0 (features (opened (option_map (λ t. t.now) raw.transform) raw.layers.items (map view_kept raw.members.items) ns)) (layers_numbered 0 numbers ls);
         };
       }

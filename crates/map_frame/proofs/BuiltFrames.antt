@@ -1,5 +1,5 @@
 -- What the layers that were built mean, and where their features stand.
-use Rattle.std.proofs.Common.{◌≡◌, ◌≢◌, ◌∙◌, ℕ, zero, suc, ◌+◌, ◌<◌, ◌≤◌, refl, sym, ap, ap₂, subst, arith, append_assoc}
+use Rattle.std.proofs.Common.{◌≡◌, ◌≢◌, ◌∙◌, ℕ, zero, suc, ◌+◌, ◌<◌, ◌≤◌, refl, sym, ap, ap₂, subst, arith}
 use Rattle.std.proofs.Common.{List, [], ◌∷◌, ◌++◌, length, map, drop, Option, Some, option_map, true, ◌&&◌, inl, Contains}
 use Rattle.std.specs.Prelude.{Vec, not, IsTrue, slice_get, unwrap_or}
 use Rattle.std.specs.List.{flat_map, list_all}
@@ -28,75 +28,34 @@ use Rattle.map_frame.specs.declared.layers.Geometry.TheVariants as geometry
 use Rattle.map_frame.specs.declared.layers.Layer.{Layer}
 use Rattle.map_frame.specs.Building.{Progress, IsNext, IsLeaf, IsSlot, AreSlots, is_lone, IsGeometry, AreLayers}
 use Rattle.map_frame.specs.Kept.{numbers_at, numbers_under, is_closing, is_whole, is_enclosed}
-use Rattle.map_frame.specs.Seen.{view_feature, leaf_of, items_at, items_of, view_layer}
+use Rattle.map_frame.specs.Seen.{leaf_of, items_at, items_of, view_layer}
 use Rattle.edit_records.specs.Places.{or_empty}
-use Rattle.map_frame.proofs.Built.{leaves_of, came_next, came_geometry}
+use Rattle.map_frame.proofs.Built.{Whole, Waits, leaves_of, next_whole, next_stands, came_next, came_slot, came_slots, came_geometry, came_layers}
+use Rattle.map_frame.proofs.NamedOnce.{same_some}
+use Rattle.map_frame.proofs.ReadLists.{got_behind}
 
 -- ---- lists
 
-drop_more : {X : Type 0} (xs : List X) (n : ℕ) (x : X) (ys : List X) → drop n xs ≡ x ∷ ys → drop (suc n) xs ≡ ys
-drop_more [] zero x ys e = absurd cc
-drop_more [] (suc n) x ys e = absurd cc
-drop_more (z ∷ xs) zero x ys e = ap (drop 1) e
-drop_more (z ∷ xs) (suc n) x ys e = drop_more xs n x ys e
-
 got_first : {X : Type 0} (xs : List X) (n : ℕ) (x : X) (ys : List X) → drop n xs ≡ x ∷ ys → slice_get xs n ≡ Some x
-got_first [] zero x ys e = absurd cc
-got_first [] (suc n) x ys e = absurd cc
 got_first (z ∷ xs) zero x ys e = ap (λ zs. slice_get zs 0) e
 got_first (z ∷ xs) (suc n) x ys e = got_first xs n x ys e
-
-got_behind : {X : Type 0} (xs : List X) (x : X) (ys : List X) → slice_get (xs ++ x ∷ ys) (length xs) ≡ Some x
-got_behind [] x ys = refl
-got_behind (z ∷ xs) x ys = got_behind xs x ys
-
-same_element : {X : Type 0} (x y : X) (o : Option X) → o ≡ Some x → o ≡ Some y → x ≡ y
-same_element x y o e f = ap (λ z. unwrap_or z x) (sym e ∙ f)
+got_first [] zero x ys e = absurd cc
+got_first [] (suc n) x ys e = absurd cc
 
 module _ {A : Type 0} where
-  -- these are all features and where they stand, some of which came so far
-  pub record Whole (fs : List (Option (Feature A))) (ss : List Stand) (p : Progress A) : Type 0 where
-    pub more : List (Option (Feature A))
-    pub whole : fs ≡ p.features ++ more
-    pub more_stands : List Stand
-    pub whole_stands : ss ≡ p.stands ++ more_stands
-
-  -- these are the polygons of all features, some of which wait still
-  pub record Waits (all : List (Vec (Vec ℕ A) A)) (p : Progress A) : Type 0 where
-    pub waits : drop (length p.features) all ≡ p.waiting
-
   -- ---- the next feature
 
   module _ (fs : List (Option (Feature A))) (ss : List Stand) (all : List (Vec (Vec ℕ A) A)) (raw : RawFeature A) (layer at : ℕ) (old new : Progress A)
       (h : IsNext raw layer at old new) where
-    next_whole : (w : Whole fs ss new) → fs ≡ old.features ++ Some h.feature ∷ w.more
-    next_whole w = w.whole ∙ ap (λ z. z ++ w.more) h.appended ∙ append_assoc old.features (Some h.feature ∷ []) w.more
-
-    next_stands : (w : Whole fs ss new) → ss ≡ old.stands ++ record { layer = layer; slot = at } ∷ w.more_stands
-    next_stands w =
-        w.whole_stands ∙ ap (λ z. z ++ w.more_stands) h.stood
-        ∙ append_assoc old.stands (record { layer = layer; slot = at } ∷ []) w.more_stands
-
-    whole_next : Whole fs ss new → Whole fs ss old
-    whole_next w = record {
-      more = Some h.feature ∷ w.more;
-      whole = next_whole w;
-      more_stands = record { layer = layer; slot = at } ∷ w.more_stands;
-      whole_stands = next_stands w;
-    }
-
-    waits_next : Waits all old → Waits all new
-    waits_next v =
-        let long : length new.features ≡ suc (length old.features) = omega (arith, (came_next layer at old new h).more) in
-        record { waits = ap (λ n. drop n all) long ∙ drop_more all (length old.features) h.polygons new.waiting (v.waits ∙ h.taken) }
-
-    feature_there : Whole fs ss new → slice_get fs (length old.features) ≡ Some (Some h.feature)
-    feature_there w = ap (λ z. slice_get z (length old.features)) (next_whole w) ∙ got_behind old.features (Some h.feature) w.more
-
     stand_there : Whole fs ss new → slice_get ss (length old.features) ≡ Some (record { layer = layer; slot = at })
     stand_there w =
-        ap₂ (λ z i. slice_get z i) (next_stands w) (sym h.alike)
+        ap₂ (λ z i. slice_get z i) (next_stands layer at old new h fs ss w) (sym h.alike)
         ∙ got_behind old.stands (record { layer = layer; slot = at }) w.more_stands
+
+    feature_there : Whole fs ss new → slice_get fs (length old.features) ≡ Some (Some h.feature)
+    feature_there w =
+        ap (λ z. slice_get z (length old.features)) (next_whole layer at old new h fs ss w)
+        ∙ got_behind old.features (Some h.feature) w.more
 
     polygons_there : Waits all old → polygons_at (map feature_numbers all) (length old.features) ≡ feature_numbers h.polygons
     polygons_there v =
@@ -104,19 +63,13 @@ module _ {A : Type 0} where
         (slice_get-map feature_numbers all (length old.features)
         ∙ ap (option_map feature_numbers) (got_first all (length old.features) h.polygons new.waiting (v.waits ∙ h.taken)))
 
-  leaf_at : (fs : List (Option (Feature A))) (n : ℕ) (f : Feature A) → slice_get fs n ≡ Some (Some f)
-      → leaf_of fs n ≡ Leaf (view_feature n f) ∷ []
-  leaf_at fs n f e = rw e refl
-
-  leaf_seen : (fs : List (Option (Feature A))) (ss : List Stand) (all : List (Vec (Vec ℕ A) A)) (raw : RawFeature A) (layer at : ℕ) (old new : Progress A)
-      → IsNext raw layer at old new → Whole fs ss new → Waits all old
-      → leaf_of fs (length old.features)
-      ≡ Leaf (numbered (length old.features) (form_of raw.form) (view_head raw.head) (polygons_at (map feature_numbers all) (length old.features))) ∷ []
-  leaf_seen fs ss all raw layer at old new h w v =
-      let n = length old.features in
-      leaf_at fs n h.feature (feature_there fs ss all raw layer at old new h w)
-      ∙ ap (λ z. Leaf z ∷ [])
-      (h.read.seen n ∙ ap (λ z. numbered n (form_of raw.form) (view_head raw.head) z) (sym (polygons_there fs ss all raw layer at old new h v)))
+    leaf_seen : Whole fs ss new → Waits all old → leaf_of fs (length old.features)
+        ≡ Leaf (numbered (length old.features) (form_of raw.form) (view_head raw.head) (polygons_at (map feature_numbers all) (length old.features))) ∷ []
+    leaf_seen w v =
+        let there = feature_there w in
+        let n = length old.features in
+        rw there (ap (λ z. Leaf z ∷ [])
+        (h.read.seen n ∙ ap (λ z. numbered n (form_of raw.form) (view_head raw.head) z) (sym (polygons_there v))))
 
   -- ---- what is meant
 
@@ -127,57 +80,22 @@ module _ {A : Type 0} where
     slot_seen : (layer at : ℕ) (i : Item A) (s : Slot A) (old now : Progress A) → IsSlot layer at i s old now
         → Whole fs ss now → Waits all old → (ps : List Piece)
         → items_at fs s ++ items_from (length now.features) rings ps ≡ items_from (length old.features) rings (view_item i ∷ ps)
-    slot_seen layer at (item.Open h) s old now k w v ps =
-        ap₂ (λ y n. y ++ items_from n rings ps) (ap (items_at fs) k.0) (ap (λ p. length p.features) k.1)
-    slot_seen layer at item.Close s old now k w v ps =
-        ap₂ (λ y n. y ++ items_from n rings ps) (ap (items_at fs) k.0) (ap (λ p. length p.features) k.1)
-    slot_seen layer at (item.Kept t) s old now k w v ps =
-        ap₂ (λ y n. y ++ items_from n rings ps) (ap (items_at fs) k.0) (ap (λ p. length p.features) k.1)
     slot_seen layer at (item.Leaf raw) s old now k w v ps =
         ap₂ (λ y n. y ++ items_from n rings ps)
         (ap (items_at fs) k.0.1 ∙ ap (λ ns. flat_map (leaf_of fs) ns) k.0.2 ∙ ap (λ z. z ++ []) (leaf_seen fs ss all raw layer at old now k.1 w v))
         (came_next layer at old now k.1).more
-
-    whole_slot : (layer at : ℕ) (i : Item A) (s : Slot A) (old now : Progress A) → IsSlot layer at i s old now
-        → Whole fs ss now → Whole fs ss old
-    whole_slot layer at (item.Open h) s old now k w = subst (λ p. Whole fs ss p) k.1 w
-    whole_slot layer at item.Close s old now k w = subst (λ p. Whole fs ss p) k.1 w
-    whole_slot layer at (item.Kept t) s old now k w = subst (λ p. Whole fs ss p) k.1 w
-    whole_slot layer at (item.Leaf raw) s old now k w = whole_next fs ss all raw layer at old now k.1 w
-
-    waits_slot : (layer at : ℕ) (i : Item A) (s : Slot A) (old now : Progress A) → IsSlot layer at i s old now
-        → Waits all old → Waits all now
-    waits_slot layer at (item.Open h) s old now k v = subst (λ p. Waits all p) (sym k.1) v
-    waits_slot layer at item.Close s old now k v = subst (λ p. Waits all p) (sym k.1) v
-    waits_slot layer at (item.Kept t) s old now k v = subst (λ p. Waits all p) (sym k.1) v
-    waits_slot layer at (item.Leaf raw) s old now k v = waits_next fs ss all raw layer at old now k.1 v
-
-    whole_slots : (layer at : ℕ) (items : List (Item A)) (slots : List (Slot A)) (old new : Progress A)
-        → AreSlots layer at items slots old new → Whole fs ss new → Whole fs ss old
-    whole_slots layer at [] [] old new h w = subst (λ p. Whole fs ss p) h w
-    whole_slots layer at [] (s ∷ slots) old new h w = absurd h
-    whole_slots layer at (i ∷ items) [] old new h w = absurd h
-    whole_slots layer at (i ∷ items) (s ∷ slots) old new h w =
-        whole_slot layer at i s old h.0 h.1 (whole_slots layer (at + 1) items slots h.0 new h.2 w)
-
-    waits_slots : (layer at : ℕ) (items : List (Item A)) (slots : List (Slot A)) (old new : Progress A)
-        → AreSlots layer at items slots old new → Waits all old → Waits all new
-    waits_slots layer at [] [] old new h v = subst (λ p. Waits all p) (sym h) v
-    waits_slots layer at [] (s ∷ slots) old new h v = absurd h
-    waits_slots layer at (i ∷ items) [] old new h v = absurd h
-    waits_slots layer at (i ∷ items) (s ∷ slots) old new h v =
-        waits_slots layer (at + 1) items slots h.0 new h.2 (waits_slot layer at i s old h.0 h.1 v)
+    slot_seen layer at i s old now k w v ps =
+        ap₂ (λ y n. y ++ items_from n rings ps) (ap (items_at fs) k.0) (ap (λ p. length p.features) k.1)
 
     slots_seen : (layer at : ℕ) (items : List (Item A)) (slots : List (Slot A)) (old new : Progress A)
         → AreSlots layer at items slots old new → Whole fs ss new → Waits all old
         → flat_map (items_at fs) slots ≡ items_from (length old.features) rings (map view_item items)
     slots_seen layer at [] [] old new h w v = refl
-    slots_seen layer at [] (s ∷ slots) old new h w v = absurd h
-    slots_seen layer at (i ∷ items) [] old new h w v = absurd h
     slots_seen layer at (i ∷ items) (s ∷ slots) old new h w v =
         ap (λ z. items_at fs s ++ z)
-        (slots_seen layer (at + 1) items slots h.0 new h.2 w (waits_slot layer at i s old h.0 h.1 v))
-        ∙ slot_seen layer at i s old h.0 h.1 (whole_slots layer (at + 1) items slots h.0 new h.2 w) v (map view_item items)
+        (slots_seen layer (at + 1) items slots h.0 new h.2 w ((came_slot layer at i s old h.0 h.1).waits all v))
+        ∙ slot_seen layer at i s old h.0 h.1 ((came_slots layer (at + 1) items slots h.0 new h.2).whole fs ss w) v (map view_item items)
+    slots_seen layer at _ _ old new h w v = absurd h
 
     geometry_seen : (at : ℕ) (items : List (Item A)) (g : Geometry A) (old new : Progress A) → IsGeometry at items g old new
         → Whole fs ss new → Waits all old
@@ -187,24 +105,6 @@ module _ {A : Type 0} where
         ∙ ap (λ z. items_from (length old.features) rings (map view_item z)) (sym h.1)
     geometry_seen at items (geometry.Items slots) old new h w v = slots_seen at 0 items slots.items old new h.1 w v
 
-    whole_geometry : (at : ℕ) (items : List (Item A)) (g : Geometry A) (old new : Progress A) → IsGeometry at items g old new
-        → Whole fs ss new → Whole fs ss old
-    whole_geometry at items (geometry.Alone n) old new h w = whole_next fs ss all h.0 at 0 old new h.3 w
-    whole_geometry at items (geometry.Items slots) old new h w = whole_slots at 0 items slots.items old new h.1 w
-
-    waits_geometry : (at : ℕ) (items : List (Item A)) (g : Geometry A) (old new : Progress A) → IsGeometry at items g old new
-        → Waits all old → Waits all new
-    waits_geometry at items (geometry.Alone n) old new h v = waits_next fs ss all h.0 at 0 old new h.3 v
-    waits_geometry at items (geometry.Items slots) old new h v = waits_slots at 0 items slots.items old new h.1 v
-
-    whole_layers : (at : ℕ) (raws : List (RawLayer A)) (layers : List (Layer A)) (old new : Progress A) → AreLayers at raws layers old new
-        → Whole fs ss new → Whole fs ss old
-    whole_layers at [] [] old new h w = subst (λ p. Whole fs ss p) h w
-    whole_layers at [] (l ∷ layers) old new h w = absurd h
-    whole_layers at (r ∷ raws) [] old new h w = absurd h
-    whole_layers at (r ∷ raws) (l ∷ layers) old new h w =
-        whole_geometry at r.items.items l.geometry old h.0 h.2 (whole_layers (at + 1) raws layers h.0 new h.3 w)
-
     abbrev named_items : Text → List (ItemOf ℕ) → LayerOf ℕ
     named_items name items = record { name = name; items = items }
 
@@ -213,13 +113,12 @@ module _ {A : Type 0} where
         → Whole fs ss new → Waits all old
         → map (view_layer fs) layers ≡ layers_from (length old.features) rings (map read.view_layer raws)
     layers_seen at [] [] old new h w v = refl
-    layers_seen at [] (l ∷ layers) old new h w v = absurd h
-    layers_seen at (r ∷ raws) [] old new h w v = absurd h
     layers_seen at (r ∷ raws) (l ∷ layers) old new h w v =
         ap₂ (λ (y : LayerOf ℕ) (ys : List (LayerOf ℕ)). y ∷ ys)
-        (ap₂ named_items (ap (λ t. t.now) h.1) (geometry_seen at r.items.items l.geometry old h.0 h.2 (whole_layers (at + 1) raws layers h.0 new h.3 w) v))
-        (layers_seen (at + 1) raws layers h.0 new h.3 w (waits_geometry at r.items.items l.geometry old h.0 h.2 v)
+        (ap₂ named_items (ap (λ t. t.now) h.1) (geometry_seen at r.items.items l.geometry old h.0 h.2 ((came_layers (at + 1) raws layers h.0 new h.3).whole fs ss w) v))
+        (layers_seen (at + 1) raws layers h.0 new h.3 w ((came_geometry at r.items.items l.geometry old h.0 h.2).waits all v)
         ∙ ap (λ n. layers_from n rings (map read.view_layer raws)) (came_geometry at r.items.items l.geometry old h.0 h.2).more)
+    layers_seen at _ _ old new h w v = absurd h
 
   -- ---- where features stand
 
@@ -243,12 +142,11 @@ module _ {A : Type 0} where
     has = k.has;
   }
 
-  module _ (fs : List (Option (Feature A))) (ss : List Stand) (all : List (Vec (Vec ℕ A) A)) (n : ℕ) (x : Stand) (got : slice_get ss n ≡ Some x) where
+  module _ (fs : List (Option (Feature A))) (ss : List Stand) (n : ℕ) (x : Stand) (got : slice_get ss n ≡ Some x) where
     next_is : (raw : RawFeature A) (layer at : ℕ) (old new : Progress A) (h : IsNext raw layer at old new) → Whole fs ss new
         → n ≡ length old.features → x ≡ record { layer = layer; slot = at }
     next_is raw layer at old new h w e =
-        same_element x (record { layer = layer; slot = at }) (slice_get ss n) got
-        (ap (slice_get ss) e ∙ stand_there fs ss all raw layer at old new h w)
+        same_some x (record { layer = layer; slot = at }) (sym got ∙ ap (slice_get ss) e ∙ stand_there fs ss [] raw layer at old new h w)
 
     leaf_here : (raw : RawFeature A) (layer at : ℕ) (s : Slot A) (slots : List (Slot A)) (old new : Progress A)
         → IsLeaf (length old.features) s → IsNext raw layer at old new → Whole fs ss new → n ≡ length old.features
@@ -268,14 +166,6 @@ module _ {A : Type 0} where
         → AreSlots layer at items slots old new → Whole fs ss new → length old.features ≤ n → n < length new.features
         → SlotStands layer at slots n x
     slots_standing layer at [] [] old new h w lo hi = absurd (omega (arith, ap (λ p. length p.features) h))
-    slots_standing layer at [] (s ∷ slots) old new h w lo hi = absurd h
-    slots_standing layer at (i ∷ items) [] old new h w lo hi = absurd h
-    slots_standing layer at (item.Open hd ∷ items) (s ∷ slots) old new h w lo hi =
-        later layer at s slots n x (slots_standing layer (at + 1) items slots h.0 new h.2 w (omega (arith, ap (λ p. length p.features) h.1.1)) hi)
-    slots_standing layer at (item.Close ∷ items) (s ∷ slots) old new h w lo hi =
-        later layer at s slots n x (slots_standing layer (at + 1) items slots h.0 new h.2 w (omega (arith, ap (λ p. length p.features) h.1.1)) hi)
-    slots_standing layer at (item.Kept t ∷ items) (s ∷ slots) old new h w lo hi =
-        later layer at s slots n x (slots_standing layer (at + 1) items slots h.0 new h.2 w (omega (arith, ap (λ p. length p.features) h.1.1)) hi)
     slots_standing layer at (item.Leaf raw ∷ items) (s ∷ slots) old new h w lo hi =
         by (ℕ_discrete n (length old.features)) (slots_standing layer (at + 1) items slots h.0 new h.2 w)
       where
@@ -283,13 +173,16 @@ module _ {A : Type 0} where
             → (length h.0.features ≤ n → n < length new.features → SlotStands layer (at + 1) slots n x)
             → SlotStands layer at (s ∷ slots) n x
         by (yes e) rest =
-            leaf_here raw layer at s slots old h.0 h.1.0 h.1.1 (whole_slots fs ss all layer (at + 1) items slots h.0 new h.2 w) e
+            leaf_here raw layer at s slots old h.0 h.1.0 h.1.1 ((came_slots layer (at + 1) items slots h.0 new h.2).whole fs ss w) e
         by (no f) rest =
             later layer at s slots n x
             (rest (above (length old.features) (length h.0.features) lo f (came_next layer at old h.0 h.1.1).more) hi)
           where
             above : (a b : ℕ) → a ≤ n → n ≢ a → b ≡ a + 1 → b ≤ n
             above a b l f e = omega arith
+    slots_standing layer at (i ∷ items) (s ∷ slots) old new h w lo hi =
+        later layer at s slots n x (slots_standing layer (at + 1) items slots h.0 new h.2 w (omega (arith, ap (λ p. length p.features) h.1.1)) hi)
+    slots_standing layer at _ _ old new h w lo hi = absurd h
 
     under_items : (l : Layer A) (slots : Vec (Slot A) A) (j k : ℕ) (s : Slot A) → l.geometry ≡ geometry.Items slots → j ≡ 0 + k
         → slice_get slots.items k ≡ Some s → In n (numbers_at s) → Contains (numbers_under (Some l) j) n
@@ -316,8 +209,6 @@ module _ {A : Type 0} where
         → Whole fs ss new → length old.features ≤ n → n < length new.features
         → (k : ℕ) × (x.layer ≡ at + k) × Contains (numbers_under (slice_get layers k) x.slot) n
     layers_standing at [] [] old new h w lo hi = absurd (omega (arith, ap (λ p. length p.features) h))
-    layers_standing at [] (l ∷ layers) old new h w lo hi = absurd h
-    layers_standing at (r ∷ raws) [] old new h w lo hi = absurd h
     layers_standing at (r ∷ raws) (l ∷ layers) old new h w lo hi =
         by (dec_lt n (length h.0.features)) (layers_standing (at + 1) raws layers h.0 new h.3 w)
       where
@@ -326,7 +217,7 @@ module _ {A : Type 0} where
             → (k : ℕ) × (x.layer ≡ at + 1 + k) × Contains (numbers_under (slice_get layers k) x.slot) n)
             → (k : ℕ) × (x.layer ≡ at + k) × Contains (numbers_under (slice_get (l ∷ layers) k) x.slot) n
         by (yes below) rest =
-            let k = layer_standing at r.items.items l l.geometry old h.0 refl h.2 (whole_layers fs ss all (at + 1) raws layers h.0 new h.3 w) lo below in
+            let k = layer_standing at r.items.items l l.geometry old h.0 refl h.2 ((came_layers (at + 1) raws layers h.0 new h.3).whole fs ss w) lo below in
             (0, omega (arith, k.0), k.1)
         by (no f) rest =
             let k = rest (above (length h.0.features) f) hi in
@@ -334,6 +225,7 @@ module _ {A : Type 0} where
           where
             above : (b : ℕ) → (n < b → ⊥) → b ≤ n
             above b f = omega arith
+    layers_standing at _ _ old new h w lo hi = absurd h
 
   -- ---- lone features stand as such
 
@@ -341,13 +233,9 @@ module _ {A : Type 0} where
       → AreSlots layer at items slots old new → is_inner k (items_from n all (map view_item items)) ≡ true
       → is_closing k slots ≡ true
   closing_built layer at n zero all [] [] old new h e = refl
-  closing_built layer at n (suc k) all [] [] old new h e = absurd (false≢true e)
   closing_built layer at n k all [] (s ∷ slots) old new h e = absurd h
   closing_built layer at n k all (i ∷ items) [] old new h e = absurd h
-  closing_built layer at n zero all (item.Open hd ∷ items) (s ∷ slots) old new h e = absurd (false≢true e)
   closing_built layer at n zero all (item.Close ∷ items) (s ∷ slots) old new h e = absurd (false≢true e)
-  closing_built layer at n zero all (item.Kept t ∷ items) (s ∷ slots) old new h e = absurd (false≢true e)
-  closing_built layer at n zero all (item.Leaf raw ∷ items) (s ∷ slots) old new h e = absurd (false≢true e)
   closing_built layer at n (suc k) all (item.Open hd ∷ items) (s ∷ slots) old new h e =
       ap (λ z. is_closing (suc k) (z ∷ slots)) h.1.0
       ∙ closing_built layer (at + 1) n (suc (suc k)) all items slots h.0 new h.2 e
@@ -359,23 +247,20 @@ module _ {A : Type 0} where
   closing_built layer at n (suc k) all (item.Leaf raw ∷ items) (s ∷ slots) old new h e =
       ap (λ z. is_closing (suc k) (z ∷ slots)) h.1.0.1
       ∙ closing_built layer (at + 1) (n + 1) (suc k) all items slots h.0 new h.2 e
+  closing_built layer at n _ all _ _ old new h e = absurd (false≢true e)
 
   whole_built : (at n : ℕ) (all : List (List (List ℕ))) (items : List (Item A)) (slots : List (Slot A)) (old new : Progress A)
       → IsTrue (not (is_lone items)) → AreSlots at 0 items slots old new
       → is_geometry (items_from n all (map view_item items)) ≡ true → is_whole slots ≡ true
-  whole_built at n all [] slots old new lone h e = absurd (false≢true e)
   whole_built at n all (item.Open hd ∷ items) [] old new lone h e = absurd h
   whole_built at n all (item.Open hd ∷ items) (s ∷ slots) old new lone h e =
       ap (λ z. is_whole (z ∷ slots)) h.1.0 ∙ closing_built at 1 n 1 all items slots h.0 new h.2 e
-  whole_built at n all (item.Close ∷ items) slots old new lone h e = absurd (false≢true e)
   whole_built at n all (item.Kept t ∷ items) [] old new lone h e = absurd h
   whole_built at n all (item.Kept t ∷ items) (s ∷ slots) old new lone h e =
       ap (λ z. is_whole (z ∷ slots)) h.1.0 ∙ closing_built at 1 n 0 all items slots h.0 new h.2 e
   whole_built at n all (item.Leaf raw ∷ []) slots old new lone h e = absurd (false≢true lone)
-  whole_built at n all (item.Leaf raw ∷ item.Open hd ∷ items) slots old new lone h e = absurd (false≢true e)
   whole_built at n all (item.Leaf raw ∷ item.Close ∷ items) slots old new lone h e = absurd (false≢true e)
-  whole_built at n all (item.Leaf raw ∷ item.Kept t ∷ items) slots old new lone h e = absurd (false≢true e)
-  whole_built at n all (item.Leaf raw ∷ item.Leaf other ∷ items) slots old new lone h e = absurd (false≢true e)
+  whole_built at n all _ slots old new lone h e = absurd (false≢true e)
 
   geometry_enclosed : (at n : ℕ) (all : List (List (List ℕ))) (items : List (Item A)) (g : Geometry A) (old new : Progress A)
       → IsGeometry at items g old new → is_geometry (items_from n all (map view_item items)) ≡ true → is_enclosed g ≡ true
@@ -387,11 +272,10 @@ module _ {A : Type 0} where
       → list_all (λ l. is_geometry l.items) (layers_from n all (map read.view_layer raws)) ≡ true
       → list_all (λ l. is_enclosed l.geometry) layers ≡ true
   layers_enclosed at n all [] [] old new h e = refl
-  layers_enclosed at n all [] (l ∷ layers) old new h e = absurd h
-  layers_enclosed at n all (r ∷ raws) [] old new h e = absurd h
   layers_enclosed at n all (r ∷ raws) (l ∷ layers) old new h e =
       let m = n + leaves_of r.items.items in
       let both = and_both (is_geometry (items_from n all (map view_item r.items.items)))
       (list_all (λ l. is_geometry l.items) (layers_from m all (map read.view_layer raws))) e in
       ap₂ (λ y z. y && z) (geometry_enclosed at n all r.items.items l.geometry old h.0 h.2 both.0)
       (layers_enclosed (at + 1) m all raws layers h.0 new h.3 both.1)
+  layers_enclosed at n all _ _ old new h e = absurd h

@@ -1,5 +1,5 @@
 -- The numbers of features that were built: 0, 1, 2 and so on in the order of the text.
-use Rattle.std.proofs.Common.{◌≡◌, ◌≢◌, ◌∙◌, ℕ, ◌+◌, ◌<◌, ◌≤◌, refl, sym, ap, ap₂, subst, arith}
+use Rattle.std.proofs.Common.{◌≡◌, ◌≢◌, ◌∙◌, ℕ, ◌+◌, ◌<◌, ◌≤◌, refl, sym, ap, ap₂, arith}
 use Rattle.std.proofs.Common.{List, [], ◌∷◌, ◌++◌, length, Some, option_map, Bool, true, false, cond, ◌&&◌, ◌||◌}
 use Rattle.std.specs.Prelude.{◌==◌, not, slice_get}
 use Rattle.std.specs.List.{flat_map, filter_map, list_any, find, AllByRecursion}
@@ -11,29 +11,11 @@ use Rattle.ring_machine.specs.Parts.{feature_of}
 use Rattle.ring_machine.specs.WellFormed.{are_distinct}
 use Rattle.ring_machine.proofs.Numbered.{AreNumbered, numbered-append}
 use Rattle.topo_outline.specs.Outline.{leaves_in, leaves}
-use Rattle.topo_outline.specs.Shape.{Piece, starts, ends, leaf, text, LayerText}
-use Rattle.topo_outline.specs.declared.document.Item.{Item}
-use Rattle.topo_outline.specs.declared.document.Item.TheVariants as item
-use Rattle.topo_outline.specs.declared.document.RawLayer.{RawLayer}
+use Rattle.topo_outline.specs.Shape.{Piece, leaf, LayerText}
 use Rattle.topo_reader.specs.Document.{polygons_at, items_from, layers_from}
-use Rattle.map_frame.specs.declared.layers.Slot.{Slot}
-use Rattle.map_frame.specs.declared.layers.Geometry.{Geometry}
-use Rattle.map_frame.specs.declared.layers.Geometry.TheVariants as geometry
-use Rattle.map_frame.specs.declared.layers.Layer.{Layer}
-use Rattle.map_frame.specs.Building.{Progress, IsSlot, AreSlots, IsGeometry, AreLayers}
-use Rattle.map_frame.specs.Kept.{numbers_at, numbers_in, all_numbers}
-use Rattle.map_frame.proofs.Built.{came_next}
+use Rattle.map_frame.proofs.Built.{AreFrom}
 
 -- ---- numbers in order
-
--- the numbers go from n on, and m is the next one
-abbrev pub AreFrom : ℕ → List ℕ → ℕ → Type 0
-AreFrom n [] m = n ≡ m
-AreFrom n (x ∷ xs) m = (x ≡ n) × AreFrom (n + 1) xs m
-
-from-append : (n m k : ℕ) (xs ys : List ℕ) → AreFrom n xs m → AreFrom m ys k → AreFrom n (xs ++ ys) k
-from-append n m k [] ys h i = subst (λ z. AreFrom z ys k) (sym h) i
-from-append n m k (x ∷ xs) ys h i = (h.0, from-append (n + 1) m k xs ys h.1 i)
 
 from_le : (n m : ℕ) (xs : List ℕ) → AreFrom n xs m → n ≤ m
 from_le n m [] h = omega (arith, h)
@@ -56,41 +38,6 @@ from_distinct n m [] h = refl
 from_distinct n m (x ∷ xs) h =
     ap₂ (λ y z. not y && z) (lacks x (n + 1) m xs h.1 (omega (arith, h.0))) (from_distinct (n + 1) m xs h.1)
 
-module _ {A : Type 0} where
-  slot_numbers : (layer at : ℕ) (i : Item A) (s : Slot A) (old now : Progress A) → IsSlot layer at i s old now
-      → AreFrom (length old.features) (numbers_at s) (length now.features)
-  slot_numbers layer at (item.Open h) s old now k =
-      subst (λ z. AreFrom (length old.features) z (length now.features)) (sym (ap numbers_at k.0)) (ap (λ p. length p.features) (sym k.1))
-  slot_numbers layer at item.Close s old now k =
-      subst (λ z. AreFrom (length old.features) z (length now.features)) (sym (ap numbers_at k.0)) (ap (λ p. length p.features) (sym k.1))
-  slot_numbers layer at (item.Kept t) s old now k =
-      subst (λ z. AreFrom (length old.features) z (length now.features)) (sym (ap numbers_at k.0)) (ap (λ p. length p.features) (sym k.1))
-  slot_numbers layer at (item.Leaf raw) s old now k =
-      subst (λ z. AreFrom (length old.features) z (length now.features)) (sym (ap numbers_at k.0.1 ∙ k.0.2)) (refl, sym (came_next layer at old now k.1).more)
-
-  slots_numbers : (layer at : ℕ) (items : List (Item A)) (slots : List (Slot A)) (old new : Progress A)
-      → AreSlots layer at items slots old new → AreFrom (length old.features) (flat_map numbers_at slots) (length new.features)
-  slots_numbers layer at [] [] old new h = ap (λ p. length p.features) (sym h)
-  slots_numbers layer at [] (s ∷ slots) old new h = absurd h
-  slots_numbers layer at (i ∷ items) [] old new h = absurd h
-  slots_numbers layer at (i ∷ items) (s ∷ slots) old new h =
-      from-append (length old.features) (length h.0.features) (length new.features) (numbers_at s) (flat_map numbers_at slots)
-      (slot_numbers layer at i s old h.0 h.1) (slots_numbers layer (at + 1) items slots h.0 new h.2)
-
-  geometry_numbers : (at : ℕ) (items : List (Item A)) (g : Geometry A) (old new : Progress A) → IsGeometry at items g old new
-      → AreFrom (length old.features) (numbers_in g) (length new.features)
-  geometry_numbers at items (geometry.Alone n) old new h = (h.2, sym (came_next at 0 old new h.3).more)
-  geometry_numbers at items (geometry.Items slots) old new h = slots_numbers at 0 items slots.items old new h.1
-
-  pub layers_numbers : (at : ℕ) (raws : List (RawLayer A)) (layers : List (Layer A)) (old new : Progress A)
-      → AreLayers at raws layers old new → AreFrom (length old.features) (all_numbers layers) (length new.features)
-  layers_numbers at [] [] old new h = ap (λ p. length p.features) (sym h)
-  layers_numbers at [] (l ∷ layers) old new h = absurd h
-  layers_numbers at (r ∷ raws) [] old new h = absurd h
-  layers_numbers at (r ∷ raws) (l ∷ layers) old new h =
-      from-append (length old.features) (length h.0.features) (length new.features) (numbers_in l.geometry) (all_numbers layers)
-      (geometry_numbers at r.items.items l.geometry old h.0 h.2) (layers_numbers (at + 1) raws layers h.0 new h.3)
-
 -- ---- the features of what was read
 
 all-append : {X : Type 0} (P : X → Type 0) (xs ys : List X) → AllByRecursion P xs → AllByRecursion P ys → AllByRecursion P (xs ++ ys)
@@ -112,26 +59,20 @@ module _ {R : Type 0} where
       → length (within_items (items_from n all ps)) ≡ length (leaves_in ps)
   unfolding leaves_in
   items_length n all [] = refl
-  items_length n all (starts head ∷ ps) = items_length n all ps
-  items_length n all (ends ∷ ps) = items_length n all ps
-  items_length n all (text t ∷ ps) = items_length n all ps
   items_length n all (leaf form head node ∷ ps) = omega (arith, items_length (n + 1) all ps)
+  items_length n all (p ∷ ps) = items_length n all ps
 
   items_numbered : (n : ℕ) (all : List (List (List R))) (ps : List Piece)
       → AreNumbered n (within_items (items_from n all ps))
   items_numbered n all [] = tt
-  items_numbered n all (starts head ∷ ps) = items_numbered n all ps
-  items_numbered n all (ends ∷ ps) = items_numbered n all ps
-  items_numbered n all (text t ∷ ps) = items_numbered n all ps
   items_numbered n all (leaf form head node ∷ ps) = (refl, items_numbered (n + 1) all ps)
+  items_numbered n all (p ∷ ps) = items_numbered n all ps
 
   items_own : (n : ℕ) (all : List (List (List R))) (ps : List Piece)
       → AllByRecursion (HasOwn all) (within_items (items_from n all ps))
   items_own n all [] = tt
-  items_own n all (starts head ∷ ps) = items_own n all ps
-  items_own n all (ends ∷ ps) = items_own n all ps
-  items_own n all (text t ∷ ps) = items_own n all ps
   items_own n all (leaf form head node ∷ ps) = (refl, items_own (n + 1) all ps)
+  items_own n all (p ∷ ps) = items_own n all ps
 
   pub layers_length : (n : ℕ) (all : List (List (List R))) (ls : List LayerText)
       → length (within_layers (layers_from n all ls)) ≡ length (leaves ls)
@@ -142,7 +83,7 @@ module _ {R : Type 0} where
       ∙ ap₂ (λ (y z : ℕ). y + z) (items_length n all l.pieces) (layers_length (n + length (leaves_in l.pieces)) all ls)
       ∙ sym (length-append (leaves_in l.pieces) (leaves ls))
 
-  layers_numbered : (n : ℕ) (all : List (List (List R))) (ls : List LayerText)
+  pub layers_numbered : (n : ℕ) (all : List (List (List R))) (ls : List LayerText)
       → AreNumbered n (within_layers (layers_from n all ls))
   layers_numbered n all [] = tt
   layers_numbered n all (l ∷ ls) =

@@ -1,5 +1,5 @@
 -- The tables that were built belong together.
-use Rattle.std.proofs.Common.{◌≡◌, ◌∙◌, ℕ, refl, sym, ap, subst, arith, append-nil}
+use Rattle.std.proofs.Common.{◌≡◌, ◌∙◌, ℕ, refl, sym, ap, ap₂, subst, arith, append-nil}
 use Rattle.std.proofs.Common.{List, [], length, map, Option, Some, option_map, Contains}
 use Rattle.std.specs.Prelude.{Vec, slice_get}
 use Rattle.std.specs.List.{flat_map}
@@ -15,18 +15,19 @@ use Rattle.topo_outline.specs.Views as read
 use Rattle.topo_outline.specs.declared.document.RawLayer.{RawLayer}
 use Rattle.map_frame.specs.declared.feature.Feature.{Feature}
 use Rattle.map_frame.specs.declared.feature.Stand.{Stand}
+use Rattle.map_frame.specs.declared.layers.Layer.{Layer}
 use Rattle.map_frame.specs.declared.names.RingName.{RingName}
 use Rattle.map_frame.specs.declared.tables.Tables.{Tables}
-use Rattle.map_frame.specs.Building.{Progress, AreLayers}
+use Rattle.map_frame.specs.Building.{Progress, progress, AreLayers}
 use Rattle.map_frame.specs.Kept.{numbers_under, all_numbers, StandsAt, IsFramed}
 use Rattle.map_frame.specs.Named.{number_at, AreNamed}
 use Rattle.map_frame.specs.Naming.{number_among, AllNamed}
 use Rattle.map_frame.specs.Opened.{opened, CanStand}
 use Rattle.map_frame.specs.Readers.{element}
 use Rattle.map_frame.specs.Seen.{items_at, doc_of}
-use Rattle.map_frame.proofs.Built.{came_layers}
-use Rattle.map_frame.proofs.BuiltFrames.{Whole, Waits, layers_seen, layers_standing, layers_enclosed}
-use Rattle.map_frame.proofs.BuiltNumbers.{layers_numbers, from_distinct, from_below, layers_length, polygons_found}
+use Rattle.map_frame.proofs.Built.{Whole, Waits, Came, all_leaves, came_layers}
+use Rattle.map_frame.proofs.BuiltFrames.{layers_seen, layers_standing, layers_enclosed}
+use Rattle.map_frame.proofs.BuiltNumbers.{from_distinct, from_below, layers_length, polygons_found}
 
 -- nothing was built so far
 abbrev pub begin : {A : Type 0} → List (Vec (Vec ℕ A) A) → Progress A
@@ -35,6 +36,15 @@ begin polygons = record { features = []; stands = []; waiting = polygons }
 -- the tables so far
 abbrev pub so_far : {A : Type 0} → Tables A → List (Vec (Vec ℕ A) A) → Progress A
 so_far t left = record { features = t.features.items; stands = t.stands.items; waiting = left }
+
+-- layers that were built from empty lists
+pub laid_from : {A : Type 0} (raws : List (RawLayer A)) (layers : List (Layer A)) (features : Vec (Option (Feature A)) A) (stands : Vec Stand A)
+    (waiting polygons : List (Vec (Vec ℕ A) A)) (end : Progress A) → features.items ≡ [] → stands.items ≡ [] → waiting ≡ polygons
+    → AreLayers 0 raws layers (progress (record { features = features; stands = stands }) waiting) end
+    → AreLayers 0 raws layers (begin polygons) end
+laid_from raws layers features stands waiting polygons end e f w h =
+    subst (λ p. AreLayers 0 raws layers p end)
+    (ap₂ (λ fs ss. record { features = fs; stands = ss; waiting = waiting }) e f ∙ ap begin w) h
 
 module _ {A : Type 0} (t : Tables A) (raws : List (RawLayer A)) (polygons left : List (Vec (Vec ℕ A) A))
     (built : AreLayers 0 raws t.layers.items (begin polygons) (so_far t left)) where
@@ -62,6 +72,9 @@ module _ {A : Type 0} (t : Tables A) (raws : List (RawLayer A)) (polygons left :
     members = map view_kept t.members.items;
   }
 
+  came : Came (all_leaves raws) (all_numbers t.layers.items) (begin polygons) (so_far t left)
+  came = came_layers 0 raws t.layers.items (begin polygons) (so_far t left) built
+
   -- they mean what was read
   pub tables_seen : doc_of t ≡ what_was_read
   tables_seen =
@@ -70,8 +83,7 @@ module _ {A : Type 0} (t : Tables A) (raws : List (RawLayer A)) (polygons left :
   module _ (stand : CanStand (option_map (λ x. x.now) t.transform) raws (map view_kept t.members.items) polygons) where
     -- there are as many features as lists of polygons
     pub as_many : length t.features.items ≡ length polygons
-    as_many =
-        omega (arith, (came_layers 0 raws t.layers.items (begin polygons) (so_far t left) built).more, stand.counted)
+    as_many = omega (arith, came.more, stand.counted)
 
     features_counted : length (features (doc_of t)) ≡ length t.features.items
     features_counted =
@@ -79,14 +91,12 @@ module _ {A : Type 0} (t : Tables A) (raws : List (RawLayer A)) (polygons left :
 
     -- and each stands somewhere
     stood : length t.stands.items ≡ length t.features.items
-    stood =
-        let c = came_layers 0 raws t.layers.items (begin polygons) (so_far t left) built in
-        omega (arith, c.more, c.stood)
+    stood = omega (arith, came.more, came.stood)
 
     stands : (n : ℕ) (x : Stand) → slice_get t.stands.items n ≡ Some x → StandsAt t.layers.items n x
     stands n x got =
         let within = slice_get_within t.stands.items n x got in
-        let k = layers_standing t.features.items t.stands.items polygons n x got 0 raws t.layers.items (begin polygons) (so_far t left) built whole (omega arith)
+        let k = layers_standing t.features.items t.stands.items n x got 0 raws t.layers.items (begin polygons) (so_far t left) built whole (omega arith)
         (omega (arith, within, stood)) in
         let place : k.0 ≡ x.layer = omega (arith, k.1) in
         subst (λ j. Contains (numbers_under (slice_get t.layers.items j) x.slot) n) place k.2
@@ -106,17 +116,15 @@ module _ {A : Type 0} (t : Tables A) (raws : List (RawLayer A)) (polygons left :
     pub tables_framed : AllNamed t.names.items all → t.count ≡ length t.features.items
         → ((features : List (Option (Feature A))) → flat_map (items_at features) t.empty.items ≡ empty_collection)
         → IsFramed t
-    tables_framed named counted empty =
-        let numbers = layers_numbers 0 raws t.layers.items (begin polygons) (so_far t left) built in
-        record {
-          formed = subst (λ d. WellFormed d) (sym tables_seen) stand.formed;
-          enclosed = layers_enclosed 0 0 all raws t.layers.items (begin polygons) (so_far t left) built stand.formed.geometries;
-          once = from_distinct 0 (length t.features.items) (all_numbers t.layers.items) numbers;
-          below = from_below 0 (length t.features.items) (all_numbers t.layers.items) numbers;
-          alike = stood;
-          standing = stands;
-          counted = counted ∙ sym features_counted;
-          few = omega (arith, as_many, stand.few);
-          named = all_named named;
-          empty = empty;
-        }
+    tables_framed named counted empty = record {
+      formed = subst (λ d. WellFormed d) (sym tables_seen) stand.formed;
+      enclosed = layers_enclosed 0 0 all raws t.layers.items (begin polygons) (so_far t left) built stand.formed.geometries;
+      once = from_distinct 0 (length t.features.items) (all_numbers t.layers.items) came.numbers;
+      below = from_below 0 (length t.features.items) (all_numbers t.layers.items) came.numbers;
+      alike = stood;
+      standing = stands;
+      counted = counted ∙ sym features_counted;
+      few = omega (arith, as_many, stand.few);
+      named = all_named named;
+      empty = empty;
+    }

@@ -1,32 +1,36 @@
 -- A copy of a frame's tables means the same, and belongs together as they do.
 use Rattle.std.proofs.Common.{◌≡◌, ◌∙◌, ℕ, zero, suc, ◌<◌, ◌≤◌, refl, sym, ap, ap₂, subst}
-use Rattle.std.proofs.Common.{List, [], ◌∷◌, ◌++◌, length, map, Option, Some, None, option_map, Bool, true, false, ◌&&◌, Contains}
+use Rattle.std.proofs.Common.{List, [], ◌∷◌, length, map, drop, Option, Some, None, option_map, Contains}
 use Rattle.std.specs.Prelude.{Vec, slice_get}
 use Rattle.std.specs.List.{flat_map, list_all, AllZip, each_same, AllByRecursion}
 use Rattle.std.specs.Vec.{vec_len}
 use Rattle.std.proofs.lemmas.List.{length-map}
+use Rattle.std.proofs.lemmas.List.Folds.{flat_map-map, list_all-map}
 use Rattle.std.proofs.lemmas.Option.{slice_get-map}
-use Rattle.ring_machine.specs.Document.{Text, Member, FeatureOf, ItemOf, Open, Close, Leaf, Kept, LayerOf, DocumentOf}
+use Rattle.ring_machine.specs.Document.{Text, Member, FeatureOf, LayerOf, DocumentOf}
 use Rattle.ring_machine.specs.Parts.{features}
 use Rattle.ring_machine.specs.WellFormed.{WellFormed, are_distinct}
 use Rattle.topo_outline.proofs.Copied.{copied_map}
 use Rattle.topo_outline.specs.Views.{view_kept}
+use Rattle.edit_records.specs.Places.{Places, LayerTree, number_of, numbers_placed, item_at, filled}
+use Rattle.edit_records.proofs.PlacesBack.{filled-agree}
 use Rattle.map_frame.specs.Numbers.{polygon_numbers}
 use Rattle.map_frame.specs.declared.feature.Feature.{Feature}
+use Rattle.map_frame.specs.declared.feature.Stand.{Stand}
 use Rattle.map_frame.specs.declared.layers.Slot.{Slot}
 use Rattle.map_frame.specs.declared.layers.Slot.TheVariants as slot
 use Rattle.map_frame.specs.declared.layers.Geometry.{Geometry}
 use Rattle.map_frame.specs.declared.layers.Geometry.TheVariants as geometry
 use Rattle.map_frame.specs.declared.layers.Layer.{Layer}
 use Rattle.map_frame.specs.declared.tables.Tables.{Tables}
-use Rattle.map_frame.specs.Copied.{SlotText, opens, closes, keeps, stand, GeometryText, alone, holds, LayerText, slot_text, geometry_text, layer_text, seen, AreCopied}
+use Rattle.map_frame.specs.Copied.{slot_text, geometry_text, layer_text, seen, AreCopied}
 use Rattle.map_frame.specs.Framed.{Framed}
-use Rattle.map_frame.specs.Kept.{numbers_at, numbers_in, all_numbers, numbers_under, StandsAt, is_closing, is_whole, is_enclosed, IsFramed}
+use Rattle.map_frame.specs.Kept.{all_numbers, numbers_under, StandsAt, is_closing, is_whole, is_enclosed, IsFramed}
+use Rattle.map_frame.specs.Live.{live}
 use Rattle.map_frame.specs.Named.{AreNamed}
-use Rattle.map_frame.specs.Seen.{leaf_of, items_at, items_of, view_layer, doc_of, framed, places_at, tree_of, places_of}
-use Rattle.edit_records.specs.Places.{or_empty, Place, Begins, Ends, Text_of, Number, Tree, Alone, Places, LayerTree}
-use Rattle.map_frame.specs.declared.feature.Stand.{Stand}
+use Rattle.map_frame.specs.Seen.{view_feature, view_layer, doc_of, framed, places_at, tree_of, layer_tree, places_of}
 use Rattle.map_frame.specs.Texts.{with_texts}
+use Rattle.map_frame.proofs.PlacesSeen.{entry, layers_filled, layers_placed, slots_filled, slot_placed}
 
 -- ---- lists of numbers
 
@@ -52,204 +56,105 @@ module _ {X Y : Type 0} (Same : Option X → Option X → Type 0) (f : X → Y) 
 
 -- ---- what the texts and numbers mean
 
-abbrev leaf_text : List (Option (FeatureOf ℕ)) → ℕ → List (ItemOf ℕ)
-leaf_text fs n = there (slice_get fs n)
-  where
-    there : Option (Option (FeatureOf ℕ)) → List (ItemOf ℕ)
-    there (Some (Some p)) = Leaf (record p { number = n }) ∷ []
-    there (Some None) = []
-    there None = []
+module _ {X Y T : Type 0} (f : X → T) (g : X → Y) (same : (x c : X) → f c ≡ f x → g c ≡ g x) where
+  -- what is made of elements that are seen alike
+  maps_same : (xs cs : List X) → map f cs ≡ map f xs → map g cs ≡ map g xs
+  maps_same [] [] e = refl
+  maps_same (x ∷ xs) (c ∷ cs) e =
+      ap₂ (λ y ys. y ∷ ys) (same x c (let h : f c ≡ f x = cc in h)) (maps_same xs cs (ap (drop 1) e))
+  maps_same _ _ e = absurd cc
 
-abbrev items_text : List (Option (FeatureOf ℕ)) → SlotText → List (ItemOf ℕ)
-items_text fs (opens h) = Open h ∷ []
-items_text fs closes = Close ∷ []
-items_text fs (keeps t) = Kept t ∷ []
-items_text fs (stand ns) = flat_map (leaf_text fs) ns
-
-abbrev geometry_items : List (Option (FeatureOf ℕ)) → GeometryText → List (ItemOf ℕ)
-geometry_items fs (alone n) = or_empty (leaf_text fs n)
-geometry_items fs (holds ss) = flat_map (items_text fs) ss
-
-abbrev layer_of : List (Option (FeatureOf ℕ)) → LayerText → LayerOf ℕ
-layer_of fs l = record { name = l.name; items = geometry_items fs l.geometry }
-
-abbrev numbers_of : SlotText → List ℕ
-numbers_of (opens h) = []
-numbers_of closes = []
-numbers_of (keeps t) = []
-numbers_of (stand ns) = ns
-
-abbrev numbers_text : GeometryText → List ℕ
-numbers_text (alone n) = n ∷ []
-numbers_text (holds ss) = flat_map numbers_of ss
-
-abbrev slot_numbers : Option SlotText → List ℕ
-slot_numbers None = []
-slot_numbers (Some s) = numbers_of s
-
-abbrev place_numbers : GeometryText → ℕ → List ℕ
-place_numbers (alone n) at = n ∷ []
-place_numbers (holds ss) at = slot_numbers (slice_get ss at)
-
-abbrev under_text : Option LayerText → ℕ → List ℕ
-under_text None at = []
-under_text (Some l) at = place_numbers l.geometry at
-
-abbrev closing_text : ℕ → List SlotText → Bool
-closing_text zero [] = true
-closing_text zero (s ∷ ss) = false
-closing_text (suc n) [] = false
-closing_text (suc n) (opens h ∷ ss) = closing_text (suc (suc n)) ss
-closing_text (suc n) (closes ∷ ss) = closing_text n ss
-closing_text (suc n) (keeps t ∷ ss) = closing_text (suc n) ss
-closing_text (suc n) (stand ns ∷ ss) = closing_text (suc n) ss
-
-abbrev whole_text : List SlotText → Bool
-whole_text [] = false
-whole_text (opens h ∷ ss) = closing_text 1 ss
-whole_text (keeps t ∷ ss) = closing_text 0 ss
-whole_text (closes ∷ ss) = false
-whole_text (stand ns ∷ ss) = false
-
-abbrev enclosed_text : GeometryText → Bool
-enclosed_text (alone n) = true
-enclosed_text (holds ss) = whole_text ss
-
-abbrev place_text : SlotText → List Place
-place_text (opens h) = Begins h ∷ []
-place_text closes = Ends ∷ []
-place_text (keeps t) = Text_of t ∷ []
-place_text (stand ns) = map Number ns
-
-abbrev tree_text : GeometryText → Tree
-tree_text (alone n) = Alone n
-tree_text (holds ss) = Places (flat_map place_text ss)
-
-abbrev layer_tree_text : LayerText → LayerTree
-layer_tree_text l = record { name = l.name; tree = tree_text l.geometry }
-
-abbrev named_items : Text → List (ItemOf ℕ) → LayerOf ℕ
-named_items name items = record { name = name; items = items }
+-- the feature with this number
+abbrev renumbered : ℕ → FeatureOf ℕ → FeatureOf ℕ
+renumbered n f = record f { number = n }
 
 module _ {A : Type 0} where
-  leaf_is : (fs : List (Option (Feature A))) (n : ℕ) → leaf_of fs n ≡ leaf_text (map (option_map seen) fs) n
-  leaf_is fs n = by (slice_get fs n) (slice_get (map (option_map seen) fs) n) refl refl (slice_get-map (option_map seen) fs n)
+  places_same : (s c : Slot A) → slot_text c ≡ slot_text s → places_at c ≡ places_at s
+  places_same (slot.Open h) (slot.Open k) e = cc
+  places_same slot.Close slot.Close e = cc
+  places_same (slot.Kept t) (slot.Kept u) e = cc
+  places_same (slot.Leaves ns) (slot.Leaves ms) e = cc
+  places_same _ _ e = absurd cc
+
+  slots_same : (ss cs : List (Slot A)) → map slot_text cs ≡ map slot_text ss
+      → flat_map places_at cs ≡ flat_map places_at ss
+  slots_same ss cs e =
+      sym (flat_map-map (λ ps. ps) places_at cs)
+      ∙ ap (flat_map (λ ps. ps)) (maps_same slot_text places_at places_same ss cs e)
+      ∙ flat_map-map (λ ps. ps) places_at ss
+
+  closing_same : (n : ℕ) (ss cs : List (Slot A)) → map slot_text cs ≡ map slot_text ss → is_closing n cs ≡ is_closing n ss
+  closing_same zero [] [] e = refl
+  closing_same zero (s ∷ ss) (c ∷ cs) e = refl
+  closing_same (suc n) [] [] e = refl
+  closing_same (suc n) (slot.Open h ∷ ss) (slot.Open k ∷ cs) e = closing_same (suc (suc n)) ss cs (ap (drop 1) e)
+  closing_same (suc n) (slot.Close ∷ ss) (slot.Close ∷ cs) e = closing_same n ss cs (ap (drop 1) e)
+  closing_same (suc n) (slot.Kept t ∷ ss) (slot.Kept u ∷ cs) e = closing_same (suc n) ss cs (ap (drop 1) e)
+  closing_same (suc n) (slot.Leaves ns ∷ ss) (slot.Leaves ms ∷ cs) e = closing_same (suc n) ss cs (ap (drop 1) e)
+  closing_same _ _ _ e = absurd cc
+
+  whole_same : (ss cs : List (Slot A)) → map slot_text cs ≡ map slot_text ss → is_whole cs ≡ is_whole ss
+  whole_same [] [] e = refl
+  whole_same (slot.Open h ∷ ss) (slot.Open k ∷ cs) e = closing_same 1 ss cs (ap (drop 1) e)
+  whole_same (slot.Close ∷ ss) (slot.Close ∷ cs) e = refl
+  whole_same (slot.Kept t ∷ ss) (slot.Kept u ∷ cs) e = closing_same 0 ss cs (ap (drop 1) e)
+  whole_same (slot.Leaves ns ∷ ss) (slot.Leaves ms ∷ cs) e = refl
+  whole_same _ _ e = absurd cc
+
+  -- ---- layers
+
+  tree_same : (g c : Geometry A) → geometry_text c ≡ geometry_text g
+      → (tree_of c ≡ tree_of g) × (is_enclosed c ≡ is_enclosed g)
+  tree_same (geometry.Alone n) (geometry.Alone m) e = (cc, refl)
+  tree_same (geometry.Items ss) (geometry.Items cs) e =
+      let same : map slot_text cs.items ≡ map slot_text ss.items = cc in
+      (ap Places (slots_same ss.items cs.items same), whole_same ss.items cs.items same)
+  tree_same _ _ e = absurd cc
+
+  layer_same : (l c : Layer A) → layer_text c ≡ layer_text l
+      → (layer_tree c ≡ layer_tree l) × (is_enclosed c.geometry ≡ is_enclosed l.geometry)
+  layer_same l c e =
+      let same = tree_same l.geometry c.geometry (ap (λ z. z.geometry) e) in
+      (ap₂ (λ y z. record { name = y; tree = z }) (ap (λ z. z.name) e) same.0, same.1)
+
+  -- the numbers at a place are those of its slot
+  under_slot : (l c : Layer A) (ss cs : Vec (Slot A) A) (at : ℕ) → l.geometry ≡ geometry.Items ss
+      → c.geometry ≡ geometry.Items cs → map slot_text cs.items ≡ map slot_text ss.items
+      → numbers_under (Some c) at ≡ numbers_under (Some l) at
+  under_slot l c ss cs at g h e =
+      by (slice_get ss.items at) (slice_get cs.items at) refl refl
+      (sym (slice_get-map slot_text cs.items at) ∙ ap (λ z. slice_get z at) e ∙ slice_get-map slot_text ss.items at)
     where
-      by : (o : Option (Option (Feature A))) (p : Option (Option (FeatureOf ℕ))) → slice_get fs n ≡ o
-          → slice_get (map (option_map seen) fs) n ≡ p
-          → slice_get (map (option_map seen) fs) n ≡ option_map (option_map seen) (slice_get fs n)
-          → leaf_of fs n ≡ leaf_text (map (option_map seen) fs) n
-      by None p e f s = rw (e, s ∙ ap (option_map (option_map seen)) e) refl
-      by (Some None) p e f s = rw (e, s ∙ ap (option_map (option_map seen)) e) refl
-      by (Some (Some x)) p e f s = rw (e, s ∙ ap (option_map (option_map seen)) e) refl
+      by : (o u : Option (Slot A)) → slice_get ss.items at ≡ o → slice_get cs.items at ≡ u
+          → option_map slot_text (slice_get cs.items at) ≡ option_map slot_text (slice_get ss.items at)
+          → numbers_under (Some c) at ≡ numbers_under (Some l) at
+      by None None p q k = rw (g, h, p, q) refl
+      by (Some s) (Some z) p q k =
+          let text : Some (slot_text z) ≡ Some (slot_text s) = rw (p, q) at k in
+          rw (g, h, p, q) (sym (slot_placed z) ∙ ap (flat_map number_of) (places_same s z cc) ∙ slot_placed s)
+      by _ _ p q k = let text = rw (p, q) at k in absurd cc
 
-  leaves_are : (fs : List (Option (Feature A))) (ns : List ℕ) → flat_map (leaf_of fs) ns ≡ flat_map (leaf_text (map (option_map seen) fs)) ns
-  leaves_are fs [] = refl
-  leaves_are fs (n ∷ ns) = ap₂ (λ y z. y ++ z) (leaf_is fs n) (leaves_are fs ns)
+  under_same : (o u : Option (Layer A)) (at : ℕ) → option_map layer_text u ≡ option_map layer_text o
+      → numbers_under u at ≡ numbers_under o at
+  under_same None None at e = refl
+  under_same (Some l) (Some c) at e =
+      let same : layer_text c ≡ layer_text l = cc in
+      by l.geometry c.geometry refl refl (ap (λ z. z.geometry) same)
+    where
+      by : (g h : Geometry A) → l.geometry ≡ g → c.geometry ≡ h → geometry_text h ≡ geometry_text g
+          → numbers_under (Some c) at ≡ numbers_under (Some l) at
+      by (geometry.Alone n) (geometry.Alone m) p q k = rw (p, q) cc
+      by (geometry.Items ss) (geometry.Items cs) p q k = under_slot l c ss cs at p q cc
+      by _ _ p q k = absurd cc
+  under_same _ _ at e = absurd cc
 
-  items_are : (fs : List (Option (Feature A))) (s : Slot A) → items_at fs s ≡ items_text (map (option_map seen) fs) (slot_text s)
-  items_are fs (slot.Open h) = refl
-  items_are fs slot.Close = refl
-  items_are fs (slot.Kept t) = refl
-  items_are fs (slot.Leaves numbers) = leaves_are fs numbers.items
-
-  slots_are : (fs : List (Option (Feature A))) (ss : List (Slot A))
-      → flat_map (items_at fs) ss ≡ flat_map (items_text (map (option_map seen) fs)) (map slot_text ss)
-  slots_are fs [] = refl
-  slots_are fs (s ∷ ss) = ap₂ (λ y z. y ++ z) (items_are fs s) (slots_are fs ss)
-
-  geometry_is : (fs : List (Option (Feature A))) (g : Geometry A) → items_of fs g ≡ geometry_items (map (option_map seen) fs) (geometry_text g)
-  geometry_is fs (geometry.Alone n) = ap or_empty (leaf_is fs n)
-  geometry_is fs (geometry.Items slots) = slots_are fs slots.items
-
-  layers_are : (fs : List (Option (Feature A))) (ls : List (Layer A))
-      → map (view_layer fs) ls ≡ map (layer_of (map (option_map seen) fs)) (map layer_text ls)
-  layers_are fs [] = refl
-  layers_are fs (l ∷ ls) = ap₂ (λ y z. y ∷ z) (ap (named_items l.name.now) (geometry_is fs l.geometry)) (layers_are fs ls)
-
-  -- ---- numbers
-
-  number_is : (s : Slot A) → numbers_at s ≡ numbers_of (slot_text s)
-  number_is (slot.Open h) = refl
-  number_is slot.Close = refl
-  number_is (slot.Kept t) = refl
-  number_is (slot.Leaves numbers) = refl
-
-  slot_numbers_are : (ss : List (Slot A)) → flat_map numbers_at ss ≡ flat_map numbers_of (map slot_text ss)
-  slot_numbers_are [] = refl
-  slot_numbers_are (s ∷ ss) = ap₂ (λ y z. y ++ z) (number_is s) (slot_numbers_are ss)
-
-  numbers_in_is : (g : Geometry A) → numbers_in g ≡ numbers_text (geometry_text g)
-  numbers_in_is (geometry.Alone n) = refl
-  numbers_in_is (geometry.Items slots) = slot_numbers_are slots.items
-
-  numbers_are : (ls : List (Layer A)) → all_numbers ls ≡ flat_map (λ l. numbers_text l.geometry) (map layer_text ls)
-  numbers_are [] = refl
-  numbers_are (l ∷ ls) = ap₂ (λ y z. y ++ z) (numbers_in_is l.geometry) (numbers_are ls)
-
-  under_slots : (l : Layer A) (slots : Vec (Slot A) A) (at : ℕ) (o : Option (Slot A)) → l.geometry ≡ geometry.Items slots
-      → slice_get slots.items at ≡ o
-      → numbers_under (Some l) at ≡ slot_numbers (option_map slot_text o)
-  under_slots l slots at None e f = rw (e, f) refl
-  under_slots l slots at (Some s) e f = rw (e, f) (number_is s)
-
-  under_layer : (l : Layer A) (at : ℕ) (g : Geometry A) → l.geometry ≡ g
-      → numbers_under (Some l) at ≡ place_numbers (geometry_text g) at
-  under_layer l at (geometry.Alone n) e = rw e refl
-  under_layer l at (geometry.Items slots) e =
-      under_slots l slots at (slice_get slots.items at) e refl
-      ∙ ap slot_numbers (sym (slice_get-map slot_text slots.items at))
-
-  under_is : (o : Option (Layer A)) (at : ℕ) → numbers_under o at ≡ under_text (option_map layer_text o) at
-  under_is None at = refl
-  under_is (Some l) at = under_layer l at l.geometry refl
-
-  -- ---- enclosed
-
-  closing_is : (n : ℕ) (ss : List (Slot A)) → is_closing n ss ≡ closing_text n (map slot_text ss)
-  closing_is zero [] = refl
-  closing_is zero (s ∷ ss) = refl
-  closing_is (suc n) [] = refl
-  closing_is (suc n) (slot.Open h ∷ ss) = closing_is (suc (suc n)) ss
-  closing_is (suc n) (slot.Close ∷ ss) = closing_is n ss
-  closing_is (suc n) (slot.Kept t ∷ ss) = closing_is (suc n) ss
-  closing_is (suc n) (slot.Leaves ns ∷ ss) = closing_is (suc n) ss
-
-  whole_is : (ss : List (Slot A)) → is_whole ss ≡ whole_text (map slot_text ss)
-  whole_is [] = refl
-  whole_is (slot.Open h ∷ ss) = closing_is 1 ss
-  whole_is (slot.Close ∷ ss) = refl
-  whole_is (slot.Kept t ∷ ss) = closing_is 0 ss
-  whole_is (slot.Leaves ns ∷ ss) = refl
-
-  enclosed_is : (g : Geometry A) → is_enclosed g ≡ enclosed_text (geometry_text g)
-  enclosed_is (geometry.Alone n) = refl
-  enclosed_is (geometry.Items slots) = whole_is slots.items
-
-  enclosed_are : (ls : List (Layer A))
-      → list_all (λ l. is_enclosed l.geometry) ls ≡ list_all (λ l. enclosed_text l.geometry) (map layer_text ls)
-  enclosed_are [] = refl
-  enclosed_are (l ∷ ls) = ap₂ (λ y z. y && z) (enclosed_is l.geometry) (enclosed_are ls)
-
-  -- ---- places
-
-  place_is : (s : Slot A) → places_at s ≡ place_text (slot_text s)
-  place_is (slot.Open h) = refl
-  place_is slot.Close = refl
-  place_is (slot.Kept t) = refl
-  place_is (slot.Leaves ns) = refl
-
-  slot_places_are : (ss : List (Slot A)) → flat_map places_at ss ≡ flat_map place_text (map slot_text ss)
-  slot_places_are [] = refl
-  slot_places_are (s ∷ ss) = ap₂ (λ y z. y ++ z) (place_is s) (slot_places_are ss)
-
-  tree_is : (g : Geometry A) → tree_of g ≡ tree_text (geometry_text g)
-  tree_is (geometry.Alone n) = refl
-  tree_is (geometry.Items slots) = ap Places (slot_places_are slots.items)
-
-  places_are : (ls : List (Layer A)) → places_of ls ≡ map layer_tree_text (map layer_text ls)
-  places_are [] = refl
-  places_are (l ∷ ls) = ap₂ (λ y z. record { name = l.name.now; tree = y } ∷ z) (tree_is l.geometry) (places_are ls)
+  -- the feature with a number, by what is seen of the features
+  entry_seen : (n m : ℕ) (fs : List (Option (Feature A)))
+      → option_map (view_feature n) (live fs m) ≡ option_map (renumbered n) (live (map (option_map seen) fs) m)
+  entry_seen n m [] = refl
+  entry_seen n zero (None ∷ fs) = refl
+  entry_seen n zero (Some f ∷ fs) = refl
+  entry_seen n (suc m) (o ∷ fs) = entry_seen n m fs
 
   -- ---- a copy
 
@@ -264,21 +169,26 @@ module _ {A : Type 0} where
     abbrev doc_as : Option Text → List (LayerOf ℕ) → List Member → DocumentOf ℕ
     doc_as transform layers members = record { transform = transform; layers = layers; members = members }
 
-    same_layers : map (view_layer copy.features.items) copy.layers.items ≡ map (view_layer t.features.items) t.layers.items
-    same_layers =
-        layers_are copy.features.items copy.layers.items
-        ∙ ap₂ (λ fs ls. map (layer_of fs) ls) h.features h.layers
-        ∙ sym (layers_are t.features.items t.layers.items)
-
-    same_doc : doc_of copy ≡ doc_of t
-    same_doc =
-        ap (λ z. doc_as (option_map (λ x. x.now) z) (map (view_layer copy.features.items) copy.layers.items) (map view_kept copy.members.items)) h.transform
-        ∙ ap (λ z. doc_as (option_map (λ x. x.now) t.transform) z (map view_kept copy.members.items)) same_layers
-        ∙ ap (λ z. doc_as (option_map (λ x. x.now) t.transform) (map (view_layer t.features.items) t.layers.items) z) h.members
+    same_entry : (m : ℕ) → entry copy.features.items m ≡ entry t.features.items m
+    same_entry m =
+        entry_seen m m copy.features.items
+        ∙ ap (λ fs. option_map (renumbered m) (live fs m)) h.features ∙ sym (entry_seen m m t.features.items)
 
     same_places : places_of copy.layers.items ≡ places_of t.layers.items
     same_places =
-        places_are copy.layers.items ∙ ap (map layer_tree_text) h.layers ∙ sym (places_are t.layers.items)
+        maps_same layer_text layer_tree (λ l c e. (layer_same l c e).0) t.layers.items copy.layers.items h.layers
+
+    same_layers : map (view_layer copy.features.items) copy.layers.items ≡ map (view_layer t.features.items) t.layers.items
+    same_layers =
+        layers_filled copy.features.items copy.layers.items
+        ∙ filled-agree _ _ (places_of copy.layers.items) (λ m i. same_entry m)
+        ∙ ap (filled (entry t.features.items)) same_places
+        ∙ sym (layers_filled t.features.items t.layers.items)
+
+    same_doc : doc_of copy ≡ doc_of t
+    same_doc =
+        ap₂ (λ x ls. doc_as (option_map (λ z. z.now) x) ls (map view_kept copy.members.items)) h.transform same_layers
+        ∙ ap (doc_as (option_map (λ z. z.now) t.transform) (map (view_layer t.features.items) t.layers.items)) h.members
 
     same_length : length copy.features.items ≡ length t.features.items
     same_length =
@@ -286,14 +196,19 @@ module _ {A : Type 0} where
 
     same_numbers : all_numbers copy.layers.items ≡ all_numbers t.layers.items
     same_numbers =
-        numbers_are copy.layers.items ∙ ap (λ ls. flat_map (λ l. numbers_text l.geometry) ls) h.layers ∙ sym (numbers_are t.layers.items)
+        sym (layers_placed copy.layers.items) ∙ ap numbers_placed same_places ∙ layers_placed t.layers.items
+
+    same_enclosed : list_all (λ l. is_enclosed l.geometry) copy.layers.items ≡ list_all (λ l. is_enclosed l.geometry) t.layers.items
+    same_enclosed =
+        sym (list_all-map (λ b. b) (λ (l : Layer A). is_enclosed l.geometry) copy.layers.items)
+        ∙ ap (list_all (λ b. b))
+        (maps_same layer_text (λ l. is_enclosed l.geometry) (λ l c e. (layer_same l c e).1) t.layers.items copy.layers.items h.layers)
+        ∙ list_all-map (λ b. b) (λ (l : Layer A). is_enclosed l.geometry) t.layers.items
 
     same_under : (j at : ℕ) → numbers_under (slice_get copy.layers.items j) at ≡ numbers_under (slice_get t.layers.items j) at
     same_under j at =
-        under_is (slice_get copy.layers.items j) at
-        ∙ ap (λ o. under_text o at)
+        under_same (slice_get t.layers.items j) (slice_get copy.layers.items j) at
         (sym (slice_get-map layer_text copy.layers.items j) ∙ ap (λ ls. slice_get ls j) h.layers ∙ slice_get-map layer_text t.layers.items j)
-        ∙ sym (under_is (slice_get t.layers.items j) at)
 
     stands : ((n : ℕ) (s : Stand) → slice_get t.stands.items n ≡ Some s → StandsAt t.layers.items n s)
         → (n : ℕ) (s : Stand) → slice_get copy.stands.items n ≡ Some s → StandsAt copy.layers.items n s
@@ -314,8 +229,7 @@ module _ {A : Type 0} where
     pub copy_framed : IsFramed t → IsFramed copy
     copy_framed k = record {
       formed = subst (λ d. WellFormed d) (sym same_doc) k.formed;
-      enclosed = enclosed_are copy.layers.items ∙ ap (λ ls. list_all (λ l. enclosed_text l.geometry) ls) h.layers
-          ∙ sym (enclosed_are t.layers.items) ∙ k.enclosed;
+      enclosed = same_enclosed ∙ k.enclosed;
       once = ap are_distinct same_numbers ∙ k.once;
       below = subst (λ m. AllByRecursion (λ n. n < m) (all_numbers copy.layers.items)) (sym same_length)
           (subst (λ ns. AllByRecursion (λ n. n < length t.features.items) ns) (sym same_numbers) k.below);
@@ -325,7 +239,7 @@ module _ {A : Type 0} where
       few = subst (λ m. m ≤ 200000) (sym same_length) k.few;
       named = subst (λ d. AreNamed copy.names.items d) (sym same_doc)
           (subst (λ ns. AreNamed ns (doc_of t)) (sym h.names) k.named);
-      empty = λ fs. slots_are fs copy.empty.items
-          ∙ ap (flat_map (items_text (map (option_map seen) fs))) h.empty
-          ∙ sym (slots_are fs t.empty.items) ∙ k.empty fs;
+      empty = λ fs. slots_filled fs copy.empty.items
+          ∙ ap (flat_map (item_at (entry fs))) (slots_same t.empty.items copy.empty.items h.empty)
+          ∙ sym (slots_filled fs t.empty.items) ∙ k.empty fs;
     }

@@ -1,8 +1,6 @@
 -- There are at most as many features as places in the table.
-use Rattle.std.proofs.Common.{◌≡◌, ◌≤◌, ◌<◌, ℕ, suc, Bool, true, false, refl, sym, ap, ◌∙◌, subst, List, [], ◌∷◌, length}
+use Rattle.std.proofs.Common.{◌≡◌, ◌<◌, ◌≤◌, ℕ, suc, true, false, eqb, ne_eqb, sym, ap, ◌∙◌, subst, List, [], ◌∷◌, length}
 use Rattle.std.proofs.Common.{inl, inr, Option, Some, None, arith}
-use Rattle.std.specs.List.{filter_map, cons_option, AllByRecursion}
-use Rattle.std.proofs.Common.{◌≡◌, ◌<◌, ◌≤◌, ℕ, suc, Bool, true, false, eqb, refl, sym, ap, ◌∙◌, subst, List, [], ◌∷◌}
 use Rattle.std.specs.List.{filter_map, cons_option, AllByRecursion, IsDistinct}
 use Rattle.std.proofs.lemmas.Bool.Decides.{Decides-eqb}
 use Rattle.std.proofs.lemmas.Map.Steps.{length-le_from_distinct_below}
@@ -12,7 +10,7 @@ use Rattle.ring_machine.proofs.Members.{any_in}
 use Rattle.map_frame.specs.declared.tables.Tables.{Tables}
 use Rattle.map_frame.specs.Kept.{IsFramed, all_numbers}
 use Rattle.map_frame.proofs.EditedFeatures.{head_apart, tail_distinct}
-use Rattle.map_frame.proofs.SlotsEntries.{entry, features_of}
+use Rattle.map_frame.proofs.PlacesSeen.{entry, features_of}
 
 distinct_is : (ns : List ℕ) → are_distinct ns ≡ true → IsDistinct eqb ns
 unfolding IsDistinct
@@ -21,11 +19,7 @@ distinct_is (n ∷ ns) d = (apart ns (head_apart n ns d), distinct_is ns (tail_d
   where
     apart : (ms : List ℕ) → (In n ms → ⊥) → AllByRecursion (λ m. eqb n m ≡ false) ms
     apart [] off = tt
-    apart (m ∷ ms) off = (by (eqb n m) refl, apart ms (λ i. off (inr i)))
-      where
-        by : (b : Bool) → eqb n m ≡ b → b ≡ false
-        by true e = absurd (off (inl (sym ((Decides-eqb n m).0 e))))
-        by false e = refl
+    apart (m ∷ ms) off = (ne_eqb n m (λ e. off (inl (sym e))), apart ms (λ i. off (inr i)))
 
 pub all_recursion_at : {X : Type 0} (P : X → Type 0) (xs : List X) (x : X) → AllByRecursion P xs → In x xs → P x
 all_recursion_at P [] x h i = absurd i

@@ -6,7 +6,7 @@ use Rattle.ring_machine.specs.WellFormed.{are_distinct}
 use Rattle.map_frame.specs.declared.names.RingName.{RingName}
 use native.Mathlib.Decide.{ℕ_discrete}
 use Rattle.map_frame.specs.Named.{IsNamed, number_at, AreNamed}
-use Rattle.map_frame.specs.Naming.{Gain, Loss, SameNames}
+use Rattle.map_frame.specs.Naming.{Gain, Loss}
 use Rattle.map_frame.proofs.NamedOnce.{ring_of, ring_in, one_owner}
 
 -- names are kept for the same rings
@@ -15,19 +15,6 @@ pub named_alike : (names : List (Option RingName)) (d e : DocumentOf ℕ)
 named_alike names d e same named = record {
   each = λ r o i. named.each r o (sym (same o) ∙ i);
   right = λ r o i. same o ∙ named.right r o i;
-}
-
-pub named_same : (old new : List (Option RingName)) (d : DocumentOf ℕ) → SameNames old new → AreNamed old d → AreNamed new d
-named_same old new d same named = record {
-  each = λ r o i. let m = named.each r o i in (m.0, same.to r m.0 m.1);
-  right = λ r o i. named.right r o (same.from r o i);
-}
-
-pub gain_none : (names : List (Option RingName)) → Gain names names (λ o k. ⊥)
-gain_none names = record {
-  right = λ r o e. inl e;
-  kept = λ r o e. (o, e);
-  each = λ r o i. absurd i;
 }
 
 -- some rings lost their names, and then some got names

@@ -1,33 +1,35 @@
 -- Tables in which other features stand at the same places.
-use Rattle.std.proofs.Common.{◌≡◌, ◌<◌, ◌≤◌, ℕ, true, refl, sym, ap, ◌∙◌, subst, List, length}
-use Rattle.std.proofs.Common.{Option, Some, None, option_map, map}
-use Rattle.std.specs.Prelude.{slice_get, Vec}
+use Rattle.std.proofs.Common.{◌≡◌, ◌<◌, ◌≤◌, ℕ, true, sym, ap, ◌∙◌, subst, List, length}
+use Rattle.std.proofs.Common.{Option, Some, map, option_map, is_some}
+use Rattle.std.specs.Prelude.{Vec}
 use Rattle.std.specs.List.{list_all, filter_map, AllByRecursion}
 use Rattle.std.proofs.lemmas.Option.{slice_get_within}
 use Rattle.ring_machine.specs.Document.{FeatureOf}
-use Rattle.ring_machine.specs.Parts.{feature}
+use Rattle.ring_machine.specs.Parts.{features, feature, has_feature}
 use Rattle.ring_machine.specs.WellFormed.{fits_form, are_distinct}
+use Rattle.ring_machine.proofs.Found.{has_feature-found, feature_in}
+use Rattle.ring_machine.proofs.Members.{is_some-mapped, mapped_there}
+use Rattle.ring_machine.proofs.Neighbours.{all_in}
 use Rattle.edit_records.specs.Places.{filled}
 use Rattle.edit_records.proofs.PlacesBack.{filled-agree}
 use Rattle.map_frame.specs.declared.feature.Feature.{Feature}
 use Rattle.map_frame.specs.declared.names.RingName.{RingName}
 use Rattle.map_frame.specs.declared.tables.Tables.{Tables}
-use Rattle.map_frame.specs.Seen.{doc_of, places_of, view_feature}
+use Rattle.map_frame.specs.Framed.{Framed}
+use Rattle.map_frame.specs.Seen.{doc_of, framed, places_of, view_feature}
 use Rattle.map_frame.specs.Named.{AreNamed}
 use Rattle.map_frame.specs.Kept.{IsFramed, all_numbers}
-use Rattle.map_frame.proofs.EditedFeatures.{forms_at, forms_all, distinct_numbers}
-use Rattle.map_frame.proofs.PlacesSeen.{layers_filled, layers_geometries}
-use Rattle.map_frame.proofs.ReadFeatures.{number_stands}
-use Rattle.map_frame.proofs.SlotsEntries.{entry, entry_number, inner, feature_of_frame, features_of}
+use Rattle.map_frame.specs.Live.{live}
+use Rattle.map_frame.proofs.EditedFeatures.{forms_all, distinct_numbers}
+use Rattle.map_frame.proofs.PlacesSeen.{entry, entry_number, feature_of_frame, features_of, layers_filled, layers_geometries}
+use Rattle.map_frame.proofs.ReadFeatures.{live_there, number_stands}
 
 module _ {A : Type 0} where
   -- a feature that is there has a number of the table
   pub entry_within : (fs : List (Option (Feature A))) (n : ℕ) (x : FeatureOf ℕ) → entry fs n ≡ Some x → n < length fs
-  entry_within fs n x e = by (slice_get fs n) refl
-    where
-      by : (o : Option (Option (Feature A))) → slice_get fs n ≡ o → n < length fs
-      by None is = absurd (let h : None ≡ Some x = sym (ap (λ z. option_map (view_feature n) (inner z)) is) ∙ e in cc)
-      by (Some o) is = slice_get_within fs n o is
+  entry_within fs n x e =
+      let y = mapped_there (view_feature n) (live fs n) x e in
+      slice_get_within fs n (Some y.0) (live_there fs n y.0 y.1)
 
 module _ {A : Type 0} (t : Tables A) (k : IsFramed t) where
   -- a feature is that of the table
@@ -35,12 +37,23 @@ module _ {A : Type 0} (t : Tables A) (k : IsFramed t) where
   entry_is n =
       feature_of_frame t n (λ x e. number_stands t k n (entry_within t.features.items n x e))
 
+  -- what is said of a feature that was read in the table
+  pub read_as : {Y : Type 0} (h : FeatureOf ℕ → Y) (n : ℕ) (fs : List (Option (Feature A))) (o : Option (Feature A))
+      → o ≡ live fs n → fs ≡ t.features.items → (f : Framed) → framed t ≡ f
+      → option_map h (option_map (view_feature n) o) ≡ option_map h (feature f.doc n)
+  read_as h n fs o e same f is =
+      ap (λ z. option_map h (option_map (view_feature n) z)) (e ∙ ap (λ z. live z n) same)
+      ∙ ap (option_map h) (sym (entry_is n)) ∙ ap (λ (z : Framed). option_map h (feature z.doc n)) is
+
   -- and its form fits
   pub entry_fits : (n : ℕ) (y : FeatureOf ℕ) → entry t.features.items n ≡ Some y → fits_form y ≡ true
   entry_fits n y e =
-      forms_at fits_form (entry t.features.items) (all_numbers t.layers.items) n y
-      (ap (list_all fits_form) (sym (features_of t)) ∙ k.formed.forms)
-      (number_stands t k n (entry_within t.features.items n y e)) e
+      all_in fits_form (features (doc_of t)) y k.formed.forms (feature_in (doc_of t) n y (entry_is n ∙ e)).0
+
+  -- some feature has this number
+  pub has_is : (n : ℕ) → has_feature (doc_of t) n ≡ is_some (live t.features.items n)
+  has_is n =
+      has_feature-found (doc_of t) n ∙ ap is_some (entry_is n) ∙ is_some-mapped (view_feature n) (live t.features.items n)
 
   module _ (fs' : Vec (Option (Feature A)) A) (count : ℕ) (names : Vec (Option RingName) A)
       (len : length fs'.items ≡ length t.features.items) where
@@ -72,7 +85,7 @@ module _ {A : Type 0} (t : Tables A) (k : IsFramed t) where
       formed = record {
         geometries = layers_geometries fs'.items t.layers.items k.enclosed;
         forms = ap (list_all fits_form) (features_of edited)
-            ∙ forms_all fits_form (entry fs'.items) ns (λ m y i e. fits m y e);
+            ∙ forms_all fits_form (entry fs'.items) ns fits;
         numbers = ap (λ xs. are_distinct (map (λ f. f.number) xs)) (features_of edited)
             ∙ distinct_numbers (entry fs'.items) (λ f. f.number) (entry_number fs'.items) ns k.once;
       };

@@ -1,12 +1,12 @@
 -- A frame in which a new number stands directly after that of a feature.
-use Rattle.std.proofs.Common.{◌≡◌, ◌+◌, ◌<◌, ℕ, true, false, refl, sym, ap, ◌∙◌, [], ◌∷◌, ◌++◌, length, slice_set}
-use Rattle.std.proofs.Common.{Option, Some, None, is_some}
+use Rattle.std.proofs.Common.{◌≡◌, ◌+◌, ◌<◌, ℕ, true, false, refl, sym, ap, ◌∙◌, subst, [], ◌∷◌, ◌++◌, length, get_or, slice_set}
+use Rattle.std.proofs.Common.{Option, Some, None}
 use Rattle.std.specs.Prelude.{slice_get, Vec}
 use Rattle.std.specs.Vec.{with_item}
-use Rattle.std.proofs.lemmas.Bool.{false≢true}
 use Rattle.std.proofs.lemmas.Option.{slice_get_within}
 use Rattle.ring_machine.specs.Parts.{has_feature}
 use Rattle.ring_machine.specs.Refusals.{is_layer}
+use Rattle.ring_machine.proofs.Members.{there as there_is}
 use Rattle.edit_records.specs.Places.{grown}
 use Rattle.map_frame.specs.declared.feature.Feature.{Feature}
 use Rattle.map_frame.specs.declared.feature.Stand.{Stand}
@@ -19,20 +19,23 @@ use Rattle.map_frame.specs.Kept.{IsFramed, numbers_under}
 use Rattle.map_frame.specs.Live.{live}
 use Rattle.map_frame.specs.Seen.{doc_of, framed, places_of}
 use Rattle.map_frame.proofs.GrownPlace.{GrownPlace, grown_place}
-use Rattle.map_frame.proofs.GrownTables.{framed_after, kept_after}
+use Rattle.map_frame.proofs.GrownTables.{after_is}
 use Rattle.map_frame.proofs.NamedOnce.{same_some}
-use Rattle.map_frame.proofs.ReadFeatures.{has_is, live_there}
-
-some_there : {X : Type 0} (o : Option X) → is_some o ≡ true → (x : X) × (o ≡ Some x)
-some_there None e = absurd (false≢true e)
-some_there (Some x) e = (x, refl)
+use Rattle.map_frame.proofs.EditedStands.{has_is}
+use Rattle.map_frame.proofs.ReadFeatures.{live_there}
+use Rattle.map_frame.proofs.ReadLists.{got}
 
 module _ {A : Type 0} (t : Tables A) (k : IsFramed t) (n : ℕ) (there : has_feature (doc_of t) n ≡ true) where
   pub found : (f : Feature A) × (live t.features.items n ≡ Some f)
-  found = some_there (live t.features.items n) (sym (has_is t k n) ∙ there)
+  found = there_is (live t.features.items n) (sym (has_is t k n) ∙ there)
 
   pub number_within : n < length t.features.items
   number_within = slice_get_within t.features.items n (Some found.0) (live_there t.features.items n found.0 found.1)
+
+  -- where it is said to stand
+  pub stand_got : (s : Stand) → s ≡ get_or t.stands.items n s → slice_get t.stands.items n ≡ Some s
+  stand_got s e =
+      got t.stands.items t.stands.items n refl s (subst (λ z. n < z) (sym k.alike) number_within) e
 
   module _ (inside : is_layer (doc_of t) n ≡ false) (s : Stand) (at : slice_get t.stands.items n ≡ Some s) where
     pub number_place : GrownPlace t s
@@ -43,6 +46,9 @@ module _ {A : Type 0} (t : Tables A) (k : IsFramed t) (n : ℕ) (there : has_fea
 
     pub layer_within : s.layer < length t.layers.items
     layer_within = slice_get_within t.layers.items s.layer number_place.layer number_place.at_layer
+
+    pub layer_got : (l : Layer A) → l ≡ get_or t.layers.items s.layer l → slice_get t.layers.items s.layer ≡ Some l
+    layer_got l e = got t.layers.items t.layers.items s.layer refl l layer_within e
 
     module _ (old new : Layer A) (at_layer : slice_get t.layers.items s.layer ≡ Some old) (ns : Vec ℕ A)
         (numbers : ns.items ≡ with_new n (length t.features.items) (numbers_under (slice_get t.layers.items s.layer) s.slot))
@@ -66,16 +72,13 @@ module _ {A : Type 0} (t : Tables A) (k : IsFramed t) (n : ℕ) (there : has_fea
           (record p.layer { geometry = geometry.Items (with_item p.slots s.slot (slot.Leaves ns)) })
       layers_are = layers ∙ ap (slice_set t.layers.items s.layer) new_is
 
-      pub grow_framed : framed (record t { features = fs'; stands = stands'; layers = ls' })
+      -- the new number stands there, and the tables belong together
+      pub grow_all : (framed (record t { features = fs'; stands = stands'; layers = ls' })
           ≡ record (framed t) {
             next = length t.features.items + 1;
             places = grown n (length t.features.items) (places_of t.layers.items);
-          }
-      grow_framed =
-          framed_after t k n s p.layer p.slots (with_item p.slots s.slot (slot.Leaves ns)) p.numbers ns number_within at
+          })
+          × (length t.features.items < 200000 → IsFramed (record t { features = fs'; stands = stands'; layers = ls' }))
+      grow_all =
+          after_is t k n s p.layer p.slots (with_item p.slots s.slot (slot.Leaves ns)) p.numbers ns number_within at
           p.at_layer p.in_items p.at_slot numbers_are refl fs' features stands' stood ls' layers_are
-
-      pub grow_kept : length t.features.items < 200000 → IsFramed (record t { features = fs'; stands = stands'; layers = ls' })
-      grow_kept few =
-          kept_after t k n s p.layer p.slots (with_item p.slots s.slot (slot.Leaves ns)) p.numbers ns number_within at
-          p.at_layer p.in_items p.at_slot numbers_are refl fs' features stands' stood ls' layers_are few

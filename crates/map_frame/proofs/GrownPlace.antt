@@ -38,18 +38,14 @@ module _ {A : Type 0} (t : Tables A) (n : ℕ) (f : Feature A) (s : Stand) (k : 
   in_slot : (l : Layer A) (ss : Vec (Slot A) A) → slice_get t.layers.items s.layer ≡ Some l
       → l.geometry ≡ geometry.Items ss → In n (numbers_under (Some l) s.slot)
       → (o : Option (Slot A)) → slice_get ss.items s.slot ≡ o → GrownPlace t s
-  in_slot l ss e g i None q = absurd (rw q at (rw g at i))
-  in_slot l ss e g i (Some (slot.Open h)) q = absurd (rw q at (rw g at i))
-  in_slot l ss e g i (Some slot.Close) q = absurd (rw q at (rw g at i))
-  in_slot l ss e g i (Some (slot.Kept text)) q = absurd (rw q at (rw g at i))
   in_slot l ss e g i (Some (slot.Leaves ns)) q =
       record { layer = l; slots = ss; numbers = ns; at_layer = e; in_items = g; at_slot = q }
+  in_slot l ss e g i _ q = absurd (rw q at (rw g at i))
 
   in_geometry : (l : Layer A) → slice_get t.layers.items s.layer ≡ Some l
       → In n (numbers_under (Some l) s.slot) → (g : Geometry A) → l.geometry ≡ g → GrownPlace t s
   in_geometry l e i (geometry.Alone m) g =
-      absurd (false≢true (sym inside
-      ∙ sym (is_alone t k n f here s at l m e g)))
+      absurd (false≢true (sym inside ∙ sym (is_alone t k n f here s at l e m g)))
   in_geometry l e i (geometry.Items ss) g = in_slot l ss e g i (slice_get ss.items s.slot) refl
 
   -- a feature that is no layer's geometry stands in a slot

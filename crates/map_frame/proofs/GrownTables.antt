@@ -1,20 +1,20 @@
 -- Tables in which a new number stands directly after another.
 use Rattle.std.proofs.Common.{◌≡◌, ◌≢◌, ◌+◌, ◌<◌, ℕ, zero, suc, Bool, true, false, refl, sym, ap, ap₂, ◌∙◌, subst, List, [], ◌∷◌, ◌++◌, ◌&&◌, map}
-use Rattle.std.proofs.Common.{length, slice_set, cond, inl, inr, Option, Some, None, option_map, arith, Contains}
+use Rattle.std.proofs.Common.{ne_eqb, length, slice_set, cond, inl, inr, Option, Some, None, option_map, arith, Contains}
 use Rattle.std.specs.Prelude.{slice_get, Vec, ◌==◌}
 use Rattle.std.specs.List.{flat_map, list_all, AllByRecursion}
-use Rattle.std.proofs.lemmas.Bool.Decides.{Decides-eqb}
-use Rattle.std.proofs.lemmas.List.{length-append}
+use Rattle.std.proofs.lemmas.List.{length_push, map-append}
 use Rattle.std.proofs.lemmas.Option.{slice_get_within}
-use Rattle.std.proofs.lemmas.List.Concat.{flat_map-append}
+use Rattle.std.proofs.lemmas.List.Concat.{flat_map-append, flat_map_single}
 use native.Mathlib.Decide.{ℕ_discrete}
 use Rattle.ring_machine.specs.Document.{DocumentOf}
 use Rattle.ring_machine.specs.Parts.{features as feature_list}
 use Rattle.ring_machine.specs.WellFormed.{WellFormed, are_distinct}
-use Rattle.ring_machine.proofs.First.{In, in_left}
+use Rattle.ring_machine.proofs.First.{In}
 use Rattle.ring_machine.proofs.Members.{contains_in, in_contains}
+use Rattle.ring_machine.proofs.Neighbours.{all_in}
 use Rattle.ring_machine.proofs.Order.{and_both}
-use Rattle.edit_records.specs.Places.{Place, Begins, Ends, Text_of, Number, LayerTree, number_of, numbers_of, filled, grown, tree_with}
+use Rattle.edit_records.specs.Places.{Place, Number, LayerTree, number_of, filled, grown, tree_with}
 use Rattle.edit_records.specs.Places as tree
 use Rattle.edit_records.proofs.PlacesBack.{filled-agree, filled-grown}
 use Rattle.map_frame.specs.declared.feature.Feature.{Feature}
@@ -28,13 +28,15 @@ use Rattle.map_frame.specs.declared.tables.Tables.{Tables}
 use Rattle.map_frame.specs.Framed.{Framed}
 use Rattle.map_frame.specs.Growing.{with_new, new_after}
 use Rattle.map_frame.specs.Kept.{IsFramed, StandsAt, is_closing, is_whole, is_enclosed, numbers_at, numbers_in, numbers_under, all_numbers}
+use Rattle.map_frame.specs.Live.{live}
 use Rattle.map_frame.specs.Named.{AreNamed}
 use Rattle.map_frame.specs.Seen.{doc_of, framed, view_feature, places_at, tree_of, layer_tree, places_of}
 use Rattle.map_frame.proofs.CountedWithin.{all_recursion_at}
 use Rattle.map_frame.proofs.EditedFeatures.{first_distinct}
 use Rattle.map_frame.proofs.NamedOnce.{in_part, one_part, same_some, rest_distinct}
-use Rattle.map_frame.proofs.PlacesSeen.{layers_filled, slot_placed, geometry_placed}
-use Rattle.map_frame.proofs.SlotsEntries.{entry, inner}
+use Rattle.map_frame.proofs.ReadFeatures.{in_get}
+use Rattle.map_frame.proofs.ReadLists.{got_behind}
+use Rattle.map_frame.proofs.PlacesSeen.{entry, layers_filled, slot_placed, geometry_placed}
 use Rattle.map_frame.proofs.SlotsFresh.{grown_distinct, grown_below, grown_keeps, grown_has}
 use Rattle.map_frame.proofs.SlotsGrown.{part_set, grown_off}
 use Rattle.map_frame.proofs.SlotsSet.{set_here, set_other, absent_past}
@@ -47,15 +49,8 @@ module _ {X : Type 0} where
   get_front (x ∷ xs) ys zero l = refl
   get_front (x ∷ xs) ys (suc i) l = get_front xs ys i (omega arith)
 
-  get_end : (xs : List X) (y : X) → slice_get (xs ++ y ∷ []) (length xs) ≡ Some y
-  get_end [] y = refl
-  get_end (x ∷ xs) y = get_end xs y
-
-length_push : {X : Type 0} (xs : List X) (y : X) → length (xs ++ y ∷ []) ≡ length xs + 1
-length_push xs y = length-append xs (y ∷ [])
-
 -- a part of distinct numbers
-pub part_distinct : {X : Type 0} (g : X → List ℕ) (xs : List X) (i : ℕ) (x : X) → are_distinct (flat_map g xs) ≡ true
+part_distinct : {X : Type 0} (g : X → List ℕ) (xs : List X) (i : ℕ) (x : X) → are_distinct (flat_map g xs) ≡ true
     → slice_get xs i ≡ Some x → are_distinct (g x) ≡ true
 part_distinct g [] i x d e = absurd cc
 part_distinct g (y ∷ xs) zero x d e =
@@ -63,20 +58,14 @@ part_distinct g (y ∷ xs) zero x d e =
 part_distinct g (y ∷ xs) (suc i) x d e = part_distinct g xs i x (rest_distinct (g y) (flat_map g xs) d) e
 
 -- one element of a list was written, and what is made of it is what the change makes of the old one
-pub map_set : {X Y : Type 0} (g : X → Y) (h : Y → Y) (xs : List X) (i : ℕ) (x y : X) → slice_get xs i ≡ Some x
+map_set : {X Y : Type 0} (g : X → Y) (h : Y → Y) (xs : List X) (i : ℕ) (x y : X) → slice_get xs i ≡ Some x
     → g y ≡ h (g x) → ((j : ℕ) (z : X) → j ≢ i → slice_get xs j ≡ Some z → g z ≡ h (g z))
     → map g (slice_set xs i y) ≡ map h (map g xs)
-map_set g h [] i x y e here others = refl
-map_set {X} {Y} g h (z ∷ xs) zero x y e here others =
-    ap₂ (λ a b. a ∷ b) (here ∙ ap (λ w. h (g w)) (sym (same_some z x e)))
-    (from xs (λ j w f. others (suc j) w (λ q. absurd (omega (arith, q))) f))
-  where
-    from : (ys : List X) → ((j : ℕ) (w : X) → slice_get ys j ≡ Some w → g w ≡ h (g w)) → map g ys ≡ map h (map g ys)
-    from [] each = refl
-    from (w ∷ ys) each = ap₂ (λ a b. a ∷ b) (each 0 w refl) (from ys (λ j v f. each (suc j) v f))
-map_set g h (z ∷ xs) (suc i) x y e here others =
-    ap₂ (λ a b. a ∷ b) (others 0 z (λ q. absurd (omega (arith, q))) refl)
-    (map_set g h xs i x y e here (λ j w off f. others (suc j) w (λ q. off (let r : j ≡ i = omega (arith, q) in r)) f))
+map_set g h xs i x y e here others =
+    sym (flat_map_single g (slice_set xs i y))
+    ∙ part_set (λ z. g z ∷ []) (map h) refl (map-append h) xs i x y e (ap (λ z. z ∷ []) here)
+    (λ j z off f. ap (λ w. w ∷ []) (others j z off f))
+    ∙ ap (map h) (flat_map_single g xs)
 
 -- what is true of each element, and of the one that was written
 all_set : {X : Type 0} (p : X → Bool) (xs : List X) (i : ℕ) (y : X) → list_all p xs ≡ true → p y ≡ true
@@ -86,36 +75,23 @@ all_set p (x ∷ xs) zero y h here = ap₂ (λ a b. a && b) here (and_both (p x)
 all_set p (x ∷ xs) (suc i) y h here =
     let b = and_both (p x) (list_all p xs) h in ap₂ (λ a c. a && c) b.0 (all_set p xs i y b.1 here)
 
-all_got : {X : Type 0} (p : X → Bool) (xs : List X) (i : ℕ) (x : X) → list_all p xs ≡ true → slice_get xs i ≡ Some x → p x ≡ true
-all_got p [] i x h e = absurd cc
-all_got p (y ∷ xs) zero x h e = ap p (sym (same_some y x e)) ∙ (and_both (p y) (list_all p xs) h).0
-all_got p (y ∷ xs) (suc i) x h e = all_got p xs i x (and_both (p y) (list_all p xs) h).1 e
-
 -- other features in a slot leave the collections as they are
 module _ {A : Type 0} (ns ns' : Vec ℕ A) where
   closing_set : (n : ℕ) (ss : List (Slot A)) (i : ℕ) → slice_get ss i ≡ Some (slot.Leaves ns)
       → is_closing n (slice_set ss i (slot.Leaves ns')) ≡ is_closing n ss
-  closing_set n [] i e = refl
   closing_set zero (s ∷ ss) zero e = refl
-  closing_set zero (s ∷ ss) (suc i) e = refl
-  closing_set (suc n) (s ∷ ss) zero e =
-      let same : s ≡ slot.Leaves ns = same_some s (slot.Leaves ns) e in
-      ap (λ z. is_closing (suc n) (z ∷ ss)) (sym same)
+  closing_set (suc n) (s ∷ ss) zero e = ap (λ z. is_closing (suc n) (z ∷ ss)) (sym (same_some s (slot.Leaves ns) e))
   closing_set (suc n) (slot.Open h ∷ ss) (suc i) e = closing_set (suc (suc n)) ss i e
   closing_set (suc n) (slot.Close ∷ ss) (suc i) e = closing_set n ss i e
-  closing_set (suc n) (slot.Kept t ∷ ss) (suc i) e = closing_set (suc n) ss i e
-  closing_set (suc n) (slot.Leaves ms ∷ ss) (suc i) e = closing_set (suc n) ss i e
+  closing_set (suc n) (s ∷ ss) (suc i) e = closing_set (suc n) ss i e
+  closing_set _ _ _ e = refl
 
   whole_set : (ss : List (Slot A)) (i : ℕ) → slice_get ss i ≡ Some (slot.Leaves ns)
       → is_whole (slice_set ss i (slot.Leaves ns')) ≡ is_whole ss
-  whole_set [] i e = refl
-  whole_set (s ∷ ss) zero e =
-      let same : s ≡ slot.Leaves ns = same_some s (slot.Leaves ns) e in
-      ap (λ z. is_whole (z ∷ ss)) (sym same)
+  whole_set (s ∷ ss) zero e = ap (λ z. is_whole (z ∷ ss)) (sym (same_some s (slot.Leaves ns) e))
   whole_set (slot.Open h ∷ ss) (suc i) e = closing_set 1 ss i e
-  whole_set (slot.Close ∷ ss) (suc i) e = refl
   whole_set (slot.Kept t ∷ ss) (suc i) e = closing_set 0 ss i e
-  whole_set (slot.Leaves ms ∷ ss) (suc i) e = refl
+  whole_set _ _ e = refl
 
 -- ---- places
 
@@ -127,29 +103,20 @@ module _ (n new : ℕ) where
       by true = refl
       by false = refl
 
-  map-both : (us vs : List ℕ) → map Number (us ++ vs) ≡ map Number us ++ map Number vs
-  map-both [] vs = refl
-  map-both (u ∷ us) vs = ap (λ z. Number u ∷ z) (map-both us vs)
-
   -- the numbers of a slot with the new one
-  pub numbers_after_places : (ns : List ℕ) → map Number (with_new n new ns) ≡ flat_map (tree.with_new n new) (map Number ns)
+  numbers_after_places : (ns : List ℕ) → map Number (with_new n new ns) ≡ flat_map (tree.with_new n new) (map Number ns)
   numbers_after_places [] = refl
   numbers_after_places (m ∷ ns) =
-      map-both (new_after n new m) (with_new n new ns)
+      map-append Number (new_after n new m) (with_new n new ns)
       ∙ ap₂ (λ y z. y ++ z) (sym (number_after m)) (numbers_after_places ns)
 
   -- places without n stay
-  pub places_off : (ps : List Place) → (In n (flat_map number_of ps) → ⊥) → flat_map (tree.with_new n new) ps ≡ ps
+  places_off : (ps : List Place) → (In n (flat_map number_of ps) → ⊥) → flat_map (tree.with_new n new) ps ≡ ps
   places_off [] off = refl
-  places_off (Begins h ∷ ps) off = ap (λ z. Begins h ∷ z) (places_off ps off)
-  places_off (Ends ∷ ps) off = ap (λ z. Ends ∷ z) (places_off ps off)
-  places_off (Text_of t ∷ ps) off = ap (λ z. Text_of t ∷ z) (places_off ps off)
   places_off (Number m ∷ ps) off =
-      ap₂ (λ y z. y ++ z) (by (m == n) refl) (places_off ps (λ i. off (inr i)))
-    where
-      by : (b : Bool) → (m == n) ≡ b → cond b (Number n ∷ Number new ∷ []) (Number m ∷ []) ≡ Number m ∷ []
-      by true e = absurd (off (inl ((Decides-eqb m n).0 e)))
-      by false e = refl
+      ap₂ (λ b z. cond b (Number n ∷ Number new ∷ []) (Number m ∷ []) ++ z) (ne_eqb m n (λ e. off (inl e)))
+      (places_off ps (λ i. off (inr i)))
+  places_off (p ∷ ps) off = ap (λ z. p ∷ z) (places_off ps off)
 
   tree_off : {A : Type 0} (g : Geometry A) → (In n (numbers_in g) → ⊥) → tree_with n new (tree_of g) ≡ tree_of g
   tree_off (geometry.Alone m) off = refl
@@ -208,35 +175,34 @@ module _ {A : Type 0} (t : Tables A) (k : IsFramed t) (n : ℕ) (s : Stand) (l :
   slots_numbers : flat_map numbers_at ss'.items ≡ with_new n (length t.features.items) (flat_map numbers_at ss.items)
   slots_numbers =
       ap (flat_map numbers_at) slots
-      ∙ part_set numbers_at numbers_at (with_new n (length t.features.items)) refl
+      ∙ part_set numbers_at (with_new n (length t.features.items)) refl
       (flat_map-append (new_after n (length t.features.items))) ss.items s.slot (slot.Leaves ns) (slot.Leaves ns') place numbers
       (λ j x off e. sym (grown_off n (length t.features.items) (numbers_at x) (slot_off j x off e)))
 
   -- the new number stands directly after n
-  pub numbers_after : all_numbers ls'.items ≡ with_new n (length t.features.items) (all_numbers t.layers.items)
+  numbers_after : all_numbers ls'.items ≡ with_new n (length t.features.items) (all_numbers t.layers.items)
   numbers_after =
       ap (flat_map (λ z. numbers_in z.geometry)) layers
-      ∙ part_set (λ z. numbers_in z.geometry) (λ z. numbers_in z.geometry) (with_new n (length t.features.items)) refl
+      ∙ part_set (λ z. numbers_in z.geometry) (with_new n (length t.features.items)) refl
       (flat_map-append (new_after n (length t.features.items))) t.layers.items s.layer l
       (record l { geometry = geometry.Items ss' }) layer
       (slots_numbers ∙ ap (λ z. with_new n (length t.features.items) (numbers_in z)) (sym in_items))
       (λ j z off e. sym (grown_off n (length t.features.items) (numbers_in z.geometry) (layer_off j z off e)))
 
-  pub once_after : are_distinct (all_numbers ls'.items) ≡ true
+  once_after : are_distinct (all_numbers ls'.items) ≡ true
   once_after =
       ap are_distinct numbers_after
       ∙ grown_distinct n (length t.features.items) (all_numbers t.layers.items) k.once
       (λ i. let l = below (length t.features.items) i in absurd (omega (arith, l)))
 
-  pub length_after : length fs'.items ≡ length t.features.items + 1
+  length_after : length fs'.items ≡ length t.features.items + 1
   length_after =
       ap length features ∙ length_push t.features.items None
 
-  pub below_after : AllByRecursion (λ m. m < length fs'.items) (all_numbers ls'.items)
+  below_after : AllByRecursion (λ m. m < length fs'.items) (all_numbers ls'.items)
   below_after =
-      subst (λ z. AllByRecursion (λ m. m < length fs'.items) z) (sym numbers_after)
-      (subst (λ z. AllByRecursion (λ m. m < z) (with_new n (length t.features.items) (all_numbers t.layers.items)))
-      (sym length_after) (grown_below n (length t.features.items) (all_numbers t.layers.items) within k.below))
+      rw (numbers_after, length_after)
+      (grown_below n (length t.features.items) (all_numbers t.layers.items) within k.below)
 
   -- ---- where features stand
 
@@ -289,7 +255,7 @@ module _ {A : Type 0} (t : Tables A) (k : IsFramed t) (n : ℕ) (s : Stand) (l :
       by : Dec (m ≡ length t.stands.items) → StandsAt ls'.items m x
       by (yes q) =
           let same : s ≡ x = same_some s x
-          (sym (get_end t.stands.items s) ∙ ap₂ (λ z i. slice_get z i) (sym stood) (sym q) ∙ e) in
+          (sym (got_behind t.stands.items s []) ∙ ap₂ (λ z i. slice_get z i) (sym stood) (sym q) ∙ e) in
           subst (λ z. StandsAt ls'.items m z) same
           (in_contains _ m (subst (λ z. In z (numbers_under (slice_get ls'.items s.layer) s.slot)) (sym (q ∙ k.alike)) new_under))
       by (no off) =
@@ -305,13 +271,13 @@ module _ {A : Type 0} (t : Tables A) (k : IsFramed t) (n : ℕ) (s : Stand) (l :
   slots_places : flat_map places_at ss'.items ≡ flat_map (tree.with_new n new) (flat_map places_at ss.items)
   slots_places =
       ap (flat_map places_at) slots
-      ∙ part_set places_at places_at (flat_map (tree.with_new n new)) refl
+      ∙ part_set places_at (flat_map (tree.with_new n new)) refl
       (flat_map-append (tree.with_new n new)) ss.items s.slot (slot.Leaves ns) (slot.Leaves ns') place
       (ap (map Number) numbers ∙ numbers_after_places n new ns.items)
       (λ j x off e. sym (places_off n new (places_at x)
       (λ i. slot_off j x off e (subst (In n) (slot_placed x) i))))
 
-  pub trees_after : places_of ls'.items ≡ grown n new (places_of t.layers.items)
+  trees_after : places_of ls'.items ≡ grown n new (places_of t.layers.items)
   trees_after =
       ap places_of layers
       ∙ map_set layer_tree (λ z. record { name = z.name; tree = tree_with n new z.tree }) t.layers.items s.layer l
@@ -321,11 +287,9 @@ module _ {A : Type 0} (t : Tables A) (k : IsFramed t) (n : ℕ) (s : Stand) (l :
       (λ j z off e. ap (λ y. record { name = z.name.now; tree = y }) (sym (tree_off n new z.geometry (layer_off j z off e))))
 
   entry_after : (m : ℕ) → entry fs'.items m ≡ entry t.features.items m
-  entry_after m = ap (λ z. option_map (view_feature m) (inner (slice_get z m))) features ∙ longer t.features.items m
+  entry_after m = ap (λ z. entry z m) features ∙ ap (option_map (view_feature m)) (longer t.features.items m)
     where
-      longer : (fs : List (Option (Feature A))) (i : ℕ)
-          → option_map (view_feature m) (inner (slice_get (fs ++ None ∷ []) i))
-          ≡ option_map (view_feature m) (inner (slice_get fs i))
+      longer : (fs : List (Option (Feature A))) (i : ℕ) → live (fs ++ None ∷ []) i ≡ live fs i
       longer [] zero = refl
       longer [] (suc i) = refl
       longer (x ∷ fs) zero = refl
@@ -334,7 +298,7 @@ module _ {A : Type 0} (t : Tables A) (k : IsFramed t) (n : ℕ) (s : Stand) (l :
   none_new : entry t.features.items new ≡ None
   none_new = absent_past t.features.items new (omega arith)
 
-  pub doc_after : doc_of after ≡ doc_of t
+  doc_after : doc_of after ≡ doc_of t
   doc_after =
       ap (λ z. record { transform = (doc_of t).transform; layers = z; members = (doc_of t).members })
       (layers_filled fs'.items ls'.items
@@ -348,7 +312,7 @@ module _ {A : Type 0} (t : Tables A) (k : IsFramed t) (n : ℕ) (s : Stand) (l :
   abbrev framed_as : ℕ → List LayerTree → DocumentOf ℕ → Framed
   framed_as next places d = record { doc = d; next = next; places = places; room = length t.names.items }
 
-  pub framed_after : framed after ≡ record (framed t) { next = new + 1; places = grown n new (places_of t.layers.items) }
+  framed_after : framed after ≡ record (framed t) { next = new + 1; places = grown n new (places_of t.layers.items) }
   framed_after =
       ap (framed_as (length fs'.items) (places_of ls'.items)) doc_after
       ∙ ap₂ (λ a b. framed_as a b (doc_of t)) length_after trees_after
@@ -358,9 +322,9 @@ module _ {A : Type 0} (t : Tables A) (k : IsFramed t) (n : ℕ) (s : Stand) (l :
       ap (list_all (λ z. is_enclosed z.geometry)) layers
       ∙ all_set (λ z. is_enclosed z.geometry) t.layers.items s.layer (record l { geometry = geometry.Items ss' }) k.enclosed
       (ap is_whole slots ∙ whole_set ns ns' ss.items s.slot place
-      ∙ ap is_enclosed (sym in_items) ∙ all_got (λ z. is_enclosed z.geometry) t.layers.items s.layer l k.enclosed layer)
+      ∙ ap is_enclosed (sym in_items) ∙ all_in (λ z. is_enclosed z.geometry) t.layers.items l k.enclosed (in_get t.layers.items s.layer l layer))
 
-  pub kept_after : new < 200000 → IsFramed after
+  kept_after : new < 200000 → IsFramed after
   kept_after few = record {
     formed = subst (λ d. WellFormed d) (sym doc_after) k.formed;
     enclosed = enclosed_after;
@@ -373,3 +337,7 @@ module _ {A : Type 0} (t : Tables A) (k : IsFramed t) (n : ℕ) (s : Stand) (l :
     named = subst (λ d. AreNamed t.names.items d) (sym doc_after) k.named;
     empty = k.empty;
   }
+
+  pub after_is : (framed after ≡ record (framed t) { next = new + 1; places = grown n new (places_of t.layers.items) })
+      × (new < 200000 → IsFramed after)
+  after_is = (framed_after, kept_after)

@@ -24,9 +24,7 @@ pub mod ReadAlone
 pub mod ReadFeatures
 pub mod ReadItems
 pub mod ReadLists
-pub mod RenamedFeature
 pub mod RenamedTables
-pub mod SlotsEntries
 pub mod SlotsFresh
 pub mod SlotsGrown
 pub mod SlotsSet

@@ -1,67 +1,36 @@
 -- The table of rings' names: how it grows, and how rings get names.
-use Rattle.std.proofs.Common.{◌≡◌, ℕ, zero, suc, ◌+◌, ◌<◌, ◌≤◌, sym, ap, ◌∙◌, subst, List, [], ◌∷◌, ◌++◌}
-use Rattle.std.proofs.Common.{length, slice_set, ◌⊎◌, inl, inr, arith, Option, Some, None}
+use Rattle.std.proofs.Common.{◌≡◌, ℕ, ◌+◌, ◌<◌, ◌≤◌, sym, ap, ◌∙◌, List}
+use Rattle.std.proofs.Common.{length, slice_set, ◌⊎◌, inl, inr, arith, Option, Some}
 use Rattle.std.specs.Prelude.{slice_get}
 use Rattle.std.proofs.lemmas.Option.{slice_get_within}
 use native.Mathlib.Decide.{ℕ_discrete}
 use Rattle.map_frame.specs.declared.names.RingName.{RingName}
 use Rattle.map_frame.specs.Named.{IsNamed}
-use Rattle.map_frame.specs.Naming.{Gain, HasRoom, SameNames}
+use Rattle.map_frame.specs.Naming.{Gain}
 use Rattle.map_frame.proofs.NamedOnce.{same_some}
 use Rattle.map_frame.proofs.SlotsSet.{set_here, set_other}
 
--- ---- the table grows
-
--- with none behind, the same rings have names
-pub padded : (names : List (Option RingName)) (r : ℕ) (o : RingName)
-    → IsNamed (names ++ None ∷ []) r o → IsNamed names r o
-padded [] zero o e = absurd cc
-padded [] (suc r) o e = absurd cc
-padded (n ∷ names) zero o e = e
-padded (n ∷ names) (suc r) o e = padded names r o e
-
-pub still_padded : (names : List (Option RingName)) (r : ℕ) (o : RingName)
-    → IsNamed names r o → IsNamed (names ++ None ∷ []) r o
-still_padded [] r o e = absurd cc
-still_padded (n ∷ names) zero o e = e
-still_padded (n ∷ names) (suc r) o e = still_padded names r o e
-
--- names with none behind
-pub same_padded : (old now : List (Option RingName)) → SameNames old now → SameNames old (now ++ None ∷ [])
-same_padded old now s = record {
-  from = λ r o e. s.from r o (padded now r o e);
-  to = λ r o e. still_padded now r o (s.to r o e);
-}
-
--- there is still room in a longer table
-pub room_longer : (rings : List ℕ) (a b : List (Option RingName)) → length a ≤ length b → HasRoom rings a → HasRoom rings b
-room_longer rings a b l h r i = let m : r < length a = h r i in omega (arith, l, m)
-
 -- one name is put over what stood at a ring's number
-pub put_name : (old names : List (Option RingName)) (r : ℕ) (name : RingName)
-    → ((k : ℕ) (o : RingName) → IsNamed names k o → IsNamed old k o)
-    → ((k : ℕ) (o : RingName) → IsNamed old k o → IsNamed names k o)
-    → r < length names
-    → Gain old (slice_set names r (Some name)) (λ o k. (o ≡ name) × (k ≡ r))
-put_name old names r name from to l = record {
+pub put_name : (names : List (Option RingName)) (r : ℕ) (name : RingName) → r < length names
+    → Gain names (slice_set names r (Some name)) (λ o k. (o ≡ name) × (k ≡ r))
+put_name names r name l = record {
   right = λ k o e. right k o (ℕ_discrete k r) e;
   kept = λ k o e. kept k o (ℕ_discrete k r) e;
-  each = λ k o i. (name, subst (λ z. IsNamed (slice_set names r (Some name)) z name) (sym i.1) (set_here names r (Some name) l));
+  each = λ k o i. (name, put k i.1);
 }
   where
-    right : (k : ℕ) (o : RingName) → Dec (k ≡ r) → IsNamed (slice_set names r (Some name)) k o
-        → IsNamed old k o ⊎ ((o ≡ name) × (k ≡ r))
-    right k o (yes s) e =
-        inr (
-          same_some o name (same_some (Some o) (Some name) (sym e ∙ ap (slice_get (slice_set names r (Some name))) s ∙ set_here names r (Some name) l)),
-          s,
-        )
-    right k o (no f) e = inl (from k o (sym (set_other names r k (Some name) f) ∙ e))
+    put : (k : ℕ) → k ≡ r → IsNamed (slice_set names r (Some name)) k name
+    put k s = ap (slice_get (slice_set names r (Some name))) s ∙ set_here names r (Some name) l
 
-    kept : (k : ℕ) (o : RingName) → Dec (k ≡ r) → IsNamed old k o
+    right : (k : ℕ) (o : RingName) → Dec (k ≡ r) → IsNamed (slice_set names r (Some name)) k o
+        → IsNamed names k o ⊎ ((o ≡ name) × (k ≡ r))
+    right k o (yes s) e = inr (same_some o name (same_some (Some o) (Some name) (sym e ∙ put k s)), s)
+    right k o (no f) e = inl (sym (set_other names r k (Some name) f) ∙ e)
+
+    kept : (k : ℕ) (o : RingName) → Dec (k ≡ r) → IsNamed names k o
         → (p : RingName) × IsNamed (slice_set names r (Some name)) k p
-    kept k o (yes s) e = (name, ap (slice_get (slice_set names r (Some name))) s ∙ set_here names r (Some name) l)
-    kept k o (no f) e = (o, set_other names r k (Some name) f ∙ to k o e)
+    kept k o (yes s) e = (name, put k s)
+    kept k o (no f) e = (o, set_other names r k (Some name) f ∙ e)
 
 pub gain_none : (names : List (Option RingName)) (Is : RingName → ℕ → Type 0)
     → ((o : RingName) (k : ℕ) → Is o k → ⊥) → Gain names names Is

@@ -1,6 +1,6 @@
 -- A ring's number stands in one feature alone, where the numbers of a document's rings are distinct.
 use Rattle.std.proofs.Common.{◌≡◌, ℕ, zero, suc, Bool, true, false, refl, sym, ap, ◌∙◌, subst, cond, List}
-use Rattle.std.proofs.Common.{[], ◌∷◌, ◌++◌, inl, inr, Option, Some, None, option_map}
+use Rattle.std.proofs.Common.{[], ◌∷◌, ◌++◌, Option, Some, None, option_map}
 use Rattle.std.specs.Prelude.{◌==◌, slice_get, unwrap_or}
 use Rattle.std.specs.List.{flat_map, find}
 use Rattle.std.proofs.lemmas.Bool.Decides.{Decides-eqb}
@@ -8,29 +8,17 @@ use Rattle.ring_machine.specs.Document.{FeatureOf, DocumentOf}
 use Rattle.ring_machine.specs.Parts.{features, feature, rings, rings_of}
 use Rattle.ring_machine.specs.WellFormed.{are_distinct}
 use Rattle.ring_machine.proofs.First.{In, in_left, in_right}
+use Rattle.ring_machine.proofs.Found.{distinct_parts}
 use Rattle.map_frame.specs.declared.names.RingName.{RingName}
 use Rattle.map_frame.specs.Readers.{element}
-use Rattle.map_frame.proofs.EditedFeatures.{head_apart, tail_distinct}
 use Rattle.map_frame.proofs.NamedForgotten.{element_is}
+use Rattle.map_frame.proofs.ReadFeatures.{in_get}
 
 pub same_some : {X : Type 0} (x y : X) → Some x ≡ Some y → x ≡ y
 same_some x y e = ap (λ o. unwrap_or o x) e
 
-in_get : {X : Type 0} (xs : List X) (i : ℕ) (x : X) → slice_get xs i ≡ Some x → In x xs
-in_get [] i x e = absurd cc
-in_get (z ∷ xs) zero x e = inl (same_some z x e)
-in_get (z ∷ xs) (suc i) x e = inr (in_get xs i x e)
-
--- what distinct numbers of two parts have in common is nothing
-parts_apart : (us vs : List ℕ) → are_distinct (us ++ vs) ≡ true → (r : ℕ) → In r us → In r vs → ⊥
-parts_apart [] vs d r i j = absurd i
-parts_apart (u ∷ us) vs d r (inl e) j =
-    head_apart u (us ++ vs) d (in_right u us vs (subst (λ z. In z vs) (sym e) j))
-parts_apart (u ∷ us) vs d r (inr i) j = parts_apart us vs (tail_distinct u (us ++ vs) d) r i j
-
 pub rest_distinct : (us vs : List ℕ) → are_distinct (us ++ vs) ≡ true → are_distinct vs ≡ true
-rest_distinct [] vs d = d
-rest_distinct (u ∷ us) vs d = rest_distinct us vs (tail_distinct u (us ++ vs) d)
+rest_distinct us vs d = (distinct_parts us vs d).right
 
 pub in_part : {X Y : Type 0} (g : X → List Y) (xs : List X) (i : ℕ) (x : X) (r : Y) → slice_get xs i ≡ Some x
     → In r (g x) → In r (flat_map g xs)
@@ -44,9 +32,9 @@ pub one_part : {X : Type 0} (g : X → List ℕ) (xs : List X) → are_distinct 
 one_part g [] d i j x y r e f k l = absurd cc
 one_part g (z ∷ xs) d zero zero x y r e f k l = refl
 one_part g (z ∷ xs) d zero (suc j) x y r e f k l =
-    absurd (parts_apart (g z) (flat_map g xs) d r (subst (λ w. In r (g w)) (sym (same_some z x e)) k) (in_part g xs j y r f l))
+    absurd ((distinct_parts (g z) (flat_map g xs) d).apart r (subst (λ w. In r (g w)) (sym (same_some z x e)) k) (in_part g xs j y r f l))
 one_part g (z ∷ xs) d (suc i) zero x y r e f k l =
-    absurd (parts_apart (g z) (flat_map g xs) d r (subst (λ w. In r (g w)) (sym (same_some z y f)) l) (in_part g xs i x r e k))
+    absurd ((distinct_parts (g z) (flat_map g xs) d).apart r (subst (λ w. In r (g w)) (sym (same_some z y f)) l) (in_part g xs i x r e k))
 one_part g (z ∷ xs) d (suc i) (suc j) x y r e f k l =
     ap suc (one_part g xs (rest_distinct (g z) (flat_map g xs) d) i j x y r e f k l)
 

@@ -7,7 +7,7 @@ use Rattle.map_frame.specs.Naming.{IsOf}
 use Rattle.map_frame.proofs.NamedOnce.{in_part}
 use Rattle.map_frame.proofs.ReadFeatures.{in_get}
 
-pub of_in : (xs : List ℕ) (r : ℕ) → In r xs → IsOf xs r
+pub of_in : {X : Type 0} (xs : List X) (r : X) → In r xs → (i : ℕ) × (slice_get xs i ≡ Some r)
 of_in [] r i = absurd i
 of_in (x ∷ xs) r (inl e) = (0, ap Some e)
 of_in (x ∷ xs) r (inr i) = let j = of_in xs r i in (suc j.0, j.1)

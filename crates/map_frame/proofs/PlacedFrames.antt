@@ -1,9 +1,11 @@
 -- What is true of the places of every frame, and of tables whose lists were only moved.
-use Rattle.std.proofs.Common.{◌≡◌, ◌<◌, ◌≤◌, ℕ, refl, sym, ap, ◌∙◌, subst, List, [], ◌∷◌, length, slice_set, zero, suc}
+use Rattle.std.proofs.Common.{◌≡◌, ◌<◌, ◌≤◌, ℕ, refl, sym, ap, ◌∙◌, subst, List, length, slice_set}
 use Rattle.std.proofs.Common.{Option, Some, None, option_map}
 use Rattle.std.specs.Prelude.{slice_get, Vec, ◌==◌}
 use Rattle.std.specs.List.{list_any, AllByRecursion}
 use Rattle.std.proofs.lemmas.Bool.Decides.{Decides-eqb}
+use Rattle.std.proofs.lemmas.List.{set-get_or}
+use Rattle.std.proofs.lemmas.Option.{get_or_from_slice_get}
 use Rattle.ring_machine.specs.Document.{Text, FeatureOf}
 use Rattle.ring_machine.specs.Parts.{features, feature}
 use Rattle.ring_machine.specs.WellFormed.{WellFormed, are_distinct}
@@ -19,12 +21,10 @@ use Rattle.map_frame.specs.Named.{AreNamed}
 use Rattle.map_frame.specs.Placed.{ArePlaced}
 use Rattle.map_frame.specs.Renaming.{id_or}
 use Rattle.map_frame.specs.Seen.{framed, doc_of, places_of, view_feature}
-use Rattle.map_frame.specs.Texts.{texts_of}
 use Rattle.map_frame.proofs.CountedWithin.{all_recursion_at}
 use Rattle.map_frame.proofs.EditedStands.{entry_is}
-use Rattle.map_frame.proofs.PlacesSeen.{layers_filled, layers_formed, layers_placed}
+use Rattle.map_frame.proofs.PlacesSeen.{entry, layers_filled, layers_formed, layers_placed}
 use Rattle.map_frame.proofs.ReadFeatures.{number_stands}
-use Rattle.map_frame.proofs.SlotsEntries.{entry}
 
 pub all_placed : {A : Type 0} (t : Tables A) → IsFramed t
     → ArePlaced (places_of t.layers.items) (length t.features.items) (doc_of t)
@@ -77,9 +77,7 @@ module _ {A : Type 0} (t : Tables A) (fs' : Vec (Option (Feature A)) A) (ss' : V
 
 -- what stands there is written there
 pub set_same : {X : Type 0} (xs : List X) (i : ℕ) (x : X) → slice_get xs i ≡ Some x → slice_set xs i x ≡ xs
-set_same [] i x e = refl
-set_same (y ∷ xs) zero x e = let same : y ≡ x = (let h : Some y ≡ Some x = e in cc) in ap (λ z. z ∷ xs) (sym same)
-set_same (y ∷ xs) (suc i) x e = ap (λ z. y ∷ z) (set_same xs i x e)
+set_same xs i x e = ap (slice_set xs i) (sym (get_or_from_slice_get xs i x x e)) ∙ set-get_or xs i x
 
 -- ---- one feature
 
@@ -95,7 +93,3 @@ module _ {A : Type 0} (n : ℕ) where
   pub id_none : (id : Option Text) (o : Option (Feature A)) → option_map (view_feature n) o ≡ None → id_or id o ≡ id
   id_none id None e = refl
   id_none id (Some x) e = absurd cc
-
-  -- the texts of the feature
-  pub texts_seen : (f : Feature A) → texts_of (view_feature n f) ≡ f.texts
-  texts_seen f = refl

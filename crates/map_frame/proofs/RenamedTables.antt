@@ -1,96 +1,126 @@
 -- Tables in which a feature got another id.
-use Rattle.std.proofs.Common.{◌≡◌, ◌<◌, ℕ, true, refl, sym, ap, ap₂, ◌∙◌, List, length, map, slice_set}
-use Rattle.std.proofs.Common.{Option, Some, None, option_map, is_some}
-use Rattle.std.specs.Prelude.{slice_get, Vec}
-use Rattle.std.proofs.lemmas.List.{length-set}
+use Rattle.std.proofs.Common.{◌≡◌, ◌<◌, ℕ, Bool, true, false, refl, sym, ap, ◌∙◌, List, [], ◌∷◌, length, map, slice_set}
+use Rattle.std.proofs.Common.{Option, Some, None, option_map, cond, eqb-true}
+use Rattle.std.specs.Prelude.{slice_get, Vec, ◌==◌}
+use Rattle.std.proofs.lemmas.List.{length-map}
 use Rattle.ring_machine.specs.Document.{Text, FeatureOf, DocumentOf}
-use Rattle.ring_machine.specs.Parts.{in_item, in_layer}
+use Rattle.ring_machine.specs.Parts.{features, feature, in_item, in_layer}
 use Rattle.ring_machine.specs.WellFormed.{fits_form}
+use Rattle.ring_machine.proofs.Found.{features-in_features, feature-in_features}
+use Rattle.edit_records.specs.Places.{exchanged, exchanged_features}
 use Rattle.edit_records.specs.Records.{with_id}
 use Rattle.edit_records.proofs.PlacesBack.{filled-agree}
 use Rattle.edit_records.proofs.PlacesFilled.{filled-changed}
 use Rattle.map_frame.specs.declared.feature.Feature.{Feature}
+use Rattle.map_frame.specs.declared.names.RingName.{RingName}
 use Rattle.map_frame.specs.declared.tables.Tables.{Tables}
 use Rattle.map_frame.specs.Framed.{Framed}
-use Rattle.map_frame.specs.Kept.{IsFramed, all_numbers}
+use Rattle.map_frame.specs.Kept.{IsFramed}
 use Rattle.map_frame.specs.Renaming.{with_own_id}
 use Rattle.map_frame.specs.Seen.{framed, doc_of, places_of, view_feature}
-use Rattle.map_frame.proofs.EditedFeatures.{length_alike}
 use Rattle.map_frame.proofs.EditedNames.{named_alike}
-use Rattle.map_frame.proofs.EditedStands.{entry_is, entry_fits, edited_entry, edited_kept}
+use Rattle.map_frame.proofs.EditedStands.{entry_is, entry_fits}
 use Rattle.map_frame.proofs.NamedOnce.{ring_of}
-use Rattle.map_frame.proofs.PlacesSeen.{layers_filled}
-use Rattle.map_frame.proofs.RenamedFeature.{only, only_set, only_absent, only_fits, set_id, ring_kept}
-use Rattle.map_frame.proofs.SlotsEntries.{entry, inner, features_of}
+use Rattle.map_frame.proofs.PlacesSeen.{entry, entry_number, features_of, layers_filled}
+use Rattle.map_frame.proofs.TakenTables.{taken_none, set_framed, set_kept}
 
-module _ {A : Type 0} (t : Tables A) (n : ℕ) (id : Option Text) where
+unchanged : {X : Type 0} (o : Option X) → option_map (λ x. x) o ≡ o
+unchanged None = refl
+unchanged (Some x) = refl
+
+-- the feature with another id, or none
+abbrev set_id : Option Text → FeatureOf ℕ → FeatureOf ℕ
+set_id id f = record f { id = id }
+
+id_kept : (id : Option Text) (b : Bool) (f : FeatureOf ℕ)
+    → ((cond b (set_id id f) f).number ≡ f.number) × ((cond b (set_id id f) f).polygons ≡ f.polygons)
+id_kept id true f = (refl, refl)
+id_kept id false f = (refl, refl)
+
+module _ {A : Type 0} (t : Tables A) (k : IsFramed t) (n : ℕ) (id : Option Text) where
   abbrev fs : List (Option (Feature A))
   fs = t.features.items
 
+  -- a change of feature n alone
   abbrev change : FeatureOf ℕ → FeatureOf ℕ
-  change = only n (set_id id)
+  change f = cond (f.number == n) (set_id id f) f
 
-  -- each feature is changed in its place
-  doc_changed : (fs' : Vec (Option (Feature A)) A) → ((m : ℕ) → entry fs'.items m ≡ option_map change (entry fs m))
-      → doc_of (record t { features = fs' }) ≡ with_id (doc_of t) n id
-  doc_changed fs' each =
+  changed_at : (m : ℕ) → option_map change (entry fs m)
+      ≡ exchanged_features ((n, option_map (set_id id) (entry fs n)) ∷ []) (feature (doc_of t)) m
+  changed_at m = own (entry fs m) refl ∙ by (m == n) refl
+    where
+      own : (o : Option (FeatureOf ℕ)) → entry fs m ≡ o
+          → option_map change o ≡ option_map (λ f. cond (m == n) (set_id id f) f) o
+      own None e = refl
+      own (Some f) e = ap (λ i. Some (cond (i == n) (set_id id f) f)) (entry_number fs m f e)
+
+      by : (b : Bool) → (m == n) ≡ b → option_map (λ f. cond b (set_id id f) f) (entry fs m)
+          ≡ cond b (option_map (set_id id) (entry fs n)) (feature (doc_of t) m)
+      by true q = ap (λ i. option_map (set_id id) (entry fs i)) (eqb-true m n q)
+      by false q = unchanged (entry fs m) ∙ sym (entry_is t k m)
+
+  abbrev framed_as : DocumentOf ℕ → Framed
+  framed_as d = record (framed t) { doc = d }
+
+  -- the feature is exchanged for itself with another id
+  exchanged_is : exchanged (places_of t.layers.items) ((n, option_map (set_id id) (entry fs n)) ∷ []) (doc_of t)
+      ≡ with_id (doc_of t) n id
+  exchanged_is =
       ap (λ z. record { transform = (doc_of t).transform; layers = z; members = (doc_of t).members })
-      (layers_filled fs'.items t.layers.items
-      ∙ filled-agree (entry fs'.items) (λ m. option_map change (entry fs m)) (places_of t.layers.items) (λ m i. each m)
+      (filled-agree _ _ (places_of t.layers.items) (λ m i. sym (changed_at m))
       ∙ sym (filled-changed change (entry fs) (places_of t.layers.items))
       ∙ ap (map (in_layer (map (in_item change)))) (sym (layers_filled fs t.layers.items)))
 
-  abbrev framed_as : DocumentOf ℕ → ℕ → Framed
-  framed_as d next = record { doc = d; next = next; places = places_of t.layers.items; room = length t.names.items }
-
   -- no feature has the number
-  pub renamed_none : entry fs n ≡ None → framed t ≡ record (framed t) { doc = with_id (doc_of t) n id }
+  pub renamed_none : entry fs n ≡ None → framed t ≡ framed_as (with_id (doc_of t) n id)
   renamed_none gone =
-      ap (λ d. framed_as d (length fs)) (doc_changed t.features (only_absent n (set_id id) fs gone))
+      taken_none t k n gone
+      ∙ ap (λ o. framed_as (exchanged (places_of t.layers.items) ((n, option_map (set_id id) o) ∷ []) (doc_of t))) (sym gone)
+      ∙ ap framed_as exchanged_is
 
   module _ (place was : Option (Feature A)) (fs' : Vec (Option (Feature A)) A)
       (items : fs'.items ≡ slice_set fs n place) (l : n < length fs)
       (here : slice_get fs n ≡ Some was) (is : place ≡ with_own_id id was) where
-    given_id : (u : Option (Feature A)) → option_map (view_feature n) (with_own_id id u)
-        ≡ option_map (set_id id) (option_map (view_feature n) u)
+    abbrev after : Tables A
+    after = record t { features = fs' }
+
+    given_id : (o : Option (Feature A)) → option_map (view_feature n) (with_own_id id o)
+        ≡ option_map (set_id id) (option_map (view_feature n) o)
     given_id None = refl
     given_id (Some f) = refl
 
-    each : (m : ℕ) → entry fs'.items m ≡ option_map change (entry fs m)
-    each m =
-        ap (λ z. entry z m) items
-        ∙ only_set n (set_id id) fs place l
-        (ap (option_map (view_feature n)) is ∙ given_id was
-        ∙ ap (λ z. option_map (set_id id) (option_map (view_feature n) (inner z))) (sym here)) m
+    was_there : entry fs n ≡ option_map (view_feature n) was
+    was_there = rw here refl
 
-    long : length fs'.items ≡ length fs
-    long = ap length items ∙ length-set fs n place
+    pub renamed_doc : framed after ≡ framed_as (with_id (doc_of t) n id)
+    renamed_doc =
+        set_framed t k n fs' place items l t.count t.names refl
+        ∙ ap (λ o. framed_as (exchanged (places_of t.layers.items) ((n, o) ∷ []) (doc_of t)))
+        (ap (option_map (view_feature n)) is ∙ given_id was ∙ ap (option_map (set_id id)) (sym was_there))
+        ∙ ap framed_as exchanged_is
 
-    pub renamed_doc : framed (record t { features = fs' }) ≡ record (framed t) { doc = with_id (doc_of t) n id }
-    renamed_doc = ap₂ (λ d z. framed_as d z) (doc_changed fs' each) long
+    fits : (o : Option (Feature A)) → was ≡ o → (f : Feature A) → with_own_id id o ≡ Some f → fits_form (view_feature n f) ≡ true
+    fits None e f h = absurd cc
+    fits (Some g) e f h =
+        let same : record g { texts = record g.texts { id = id } } ≡ f = cc in
+        ap (λ z. fits_form (view_feature n z)) (sym same)
+        ∙ entry_fits t k n (view_feature n g) (was_there ∙ ap (option_map (view_feature n)) e)
 
-    some_mapped : (o : Option (FeatureOf ℕ)) → is_some (option_map change o) ≡ is_some o
-    some_mapped None = refl
-    some_mapped (Some f) = refl
+    -- each ring has its number
+    same_rings : (o : RingName) → ring_of (feature (doc_of after) o.feature) o ≡ ring_of (feature (doc_of t) o.feature) o
+    same_rings o =
+        ap (λ (f : Framed). ring_of (feature f.doc o.feature) o) renamed_doc
+        ∙ ap (λ z. ring_of z o) (feature-in_features change (λ f. (id_kept id (f.number == n) f).0) (doc_of t) o.feature)
+        ∙ by (feature (doc_of t) o.feature)
+      where
+        by : (u : Option (FeatureOf ℕ)) → ring_of (option_map change u) o ≡ ring_of u o
+        by None = refl
+        by (Some f) = ap (λ ps. ring_of (Some (record f { polygons = ps })) o) (id_kept id (f.number == n) f).1
 
-    module _ (k : IsFramed t) where
-      fits : (m : ℕ) (y : FeatureOf ℕ) → entry fs'.items m ≡ Some y → fits_form y ≡ true
-      fits m y e = by (entry fs m) refl
-        where
-          by : (o : Option (FeatureOf ℕ)) → entry fs m ≡ o → fits_form y ≡ true
-          by None h = absurd (let q : None ≡ Some y = ap (option_map change) (sym h) ∙ sym (each m) ∙ e in cc)
-          by (Some f) h =
-              let q : Some (change f) ≡ Some y = ap (option_map change) (sym h) ∙ sym (each m) ∙ e in
-              let same : change f ≡ y = cc in
-              ap fits_form (sym same) ∙ only_fits n id f (entry_fits t k m f h)
-
-      pub renamed_kept : IsFramed (record t { features = fs' })
-      renamed_kept =
-          edited_kept t k fs' t.count t.names long fits
-          (k.counted ∙ ap length (features_of t)
-          ∙ length_alike (entry fs) (entry fs'.items) (λ m. sym (ap is_some (each m) ∙ some_mapped (entry fs m))) (all_numbers t.layers.items))
-          (named_alike t.names.items (doc_of t) (doc_of (record t { features = fs' }))
-          (λ o. ap (λ z. ring_of z o) (edited_entry t k fs' t.count t.names long o.feature ∙ each o.feature)
-          ∙ ring_kept n id (entry fs o.feature) o
-          ∙ ap (λ z. ring_of z o) (sym (entry_is t k o.feature)))
-          k.named)
+    pub renamed_kept : IsFramed after
+    renamed_kept =
+        set_kept t k n fs' place items l t.count t.names (λ f e. fits was refl f (sym is ∙ e))
+        (k.counted ∙ sym (length-map (features (doc_of t)) change)
+        ∙ ap length (sym (features-in_features change (doc_of t)))
+        ∙ ap (λ (f : Framed). length (features f.doc)) (sym renamed_doc) ∙ ap length (features_of after))
+        (named_alike t.names.items (doc_of t) (doc_of after) same_rings k.named)

@@ -1,43 +1,31 @@
 -- Numbers in which a new one stands directly after another.
-use Rattle.std.proofs.Common.{◌≡◌, ◌≢◌, ℕ, zero, suc, Bool, true, false, refl, sym, ap, ap₂, ◌∙◌, List, [], ◌∷◌, ◌++◌}
+use Rattle.std.proofs.Common.{ne_eqb, eq-eqb, ◌≡◌, ◌≢◌, ℕ, zero, suc, refl, sym, ap, ap₂, ◌∙◌, List, [], ◌∷◌, ◌++◌}
 use Rattle.std.proofs.Common.{slice_set, inl, inr, Some, arith}
-use Rattle.std.specs.Prelude.{◌==◌, if◌then◌else◌, slice_get}
+use Rattle.std.specs.Prelude.{if◌then◌else◌, slice_get}
 use Rattle.std.specs.List.{flat_map}
-use Rattle.std.proofs.lemmas.Bool.{false≢true}
-use Rattle.std.proofs.lemmas.Bool.Decides.{Decides-eqb}
 use Rattle.ring_machine.proofs.First.{In}
 use Rattle.map_frame.specs.Growing.{with_new, new_after}
 use Rattle.map_frame.proofs.NamedOnce.{same_some}
 
 -- ---- one part of a list of parts is changed
 
-module _ {X Y : Type 0} (g g' : X → List Y) (H : List Y → List Y) (none : H [] ≡ [])
+module _ {X Y : Type 0} (g : X → List Y) (H : List Y → List Y) (none : H [] ≡ [])
     (both : (a b : List Y) → H (a ++ b) ≡ H a ++ H b) where
   -- the parts are changed where they stand
-  pub parts_alike : (xs : List X) → ((x : X) → In x xs → g' x ≡ H (g x)) → flat_map g' xs ≡ H (flat_map g xs)
+  parts_alike : (xs : List X) → ((j : ℕ) (z : X) → slice_get xs j ≡ Some z → g z ≡ H (g z)) → flat_map g xs ≡ H (flat_map g xs)
   parts_alike [] each = sym none
   parts_alike (x ∷ xs) each =
-      ap₂ (λ y z. y ++ z) (each x (inl refl)) (parts_alike xs (λ y i. each y (inr i))) ∙ sym (both (g x) (flat_map g xs))
+      ap₂ (λ y z. y ++ z) (each 0 x refl) (parts_alike xs (λ j z e. each (suc j) z e)) ∙ sym (both (g x) (flat_map g xs))
 
   -- one part was written
-  pub part_set : (xs : List X) (i : ℕ) (x y : X) → slice_get xs i ≡ Some x → g' y ≡ H (g x)
-      → ((j : ℕ) (z : X) → j ≢ i → slice_get xs j ≡ Some z → g' z ≡ H (g z))
-      → flat_map g' (slice_set xs i y) ≡ H (flat_map g xs)
+  pub part_set : (xs : List X) (i : ℕ) (x y : X) → slice_get xs i ≡ Some x → g y ≡ H (g x)
+      → ((j : ℕ) (z : X) → j ≢ i → slice_get xs j ≡ Some z → g z ≡ H (g z))
+      → flat_map g (slice_set xs i y) ≡ H (flat_map g xs)
   part_set [] i x y e h others = absurd cc
   part_set (z ∷ xs) zero x y e h others =
       ap₂ (λ a b. a ++ b) (h ∙ ap (λ w. H (g w)) (sym (same_some z x e)))
-      (parts_after xs 1 (λ j w k f. others j w k f))
+      (parts_alike xs (λ j w f. others (suc j) w (λ q. absurd (omega (arith, q))) f))
       ∙ sym (both (g z) (flat_map g xs))
-    where
-      parts_after : (ys : List X) (n : ℕ) → ((j : ℕ) (w : X) → j ≢ 0 → slice_get (z ∷ xs) j ≡ Some w → g' w ≡ H (g w))
-          → flat_map g' xs ≡ H (flat_map g xs)
-      parts_after ys n k = from xs 1 (λ j w f. k (suc j) w (λ q. absurd (omega (arith, q))) f)
-        where
-          from : (ys : List X) (n : ℕ) → ((j : ℕ) (w : X) → slice_get ys j ≡ Some w → g' w ≡ H (g w))
-              → flat_map g' ys ≡ H (flat_map g ys)
-          from [] n k = sym none
-          from (w ∷ ys) n k =
-              ap₂ (λ a b. a ++ b) (k 0 w refl) (from ys n (λ j v f. k (suc j) v f)) ∙ sym (both (g w) (flat_map g ys))
   part_set (z ∷ xs) (suc i) x y e h others =
       ap₂ (λ a b. a ++ b) (others 0 z (λ q. absurd (omega (arith, q))) refl)
       (part_set xs i x y e h (λ j w f k. others (suc j) w (λ q. f (let r : j ≡ i = omega (arith, q) in r)) k))
@@ -47,18 +35,10 @@ module _ {X Y : Type 0} (g g' : X → List Y) (H : List Y → List Y) (none : H 
 
 module _ (n new : ℕ) where
   pub new_after_here : new_after n new n ≡ n ∷ new ∷ []
-  new_after_here = by (n == n) ((Decides-eqb n n).1 refl)
-    where
-      by : (b : Bool) → b ≡ true → (if b then n ∷ new ∷ [] else (n ∷ [])) ≡ n ∷ new ∷ []
-      by true e = refl
-      by false e = absurd (false≢true e)
+  new_after_here = ap (λ b. if b then n ∷ new ∷ [] else (n ∷ [])) (eq-eqb n n refl)
 
   pub new_after_other : (m : ℕ) → m ≢ n → new_after n new m ≡ m ∷ []
-  new_after_other m f = by (m == n) refl
-    where
-      by : (b : Bool) → (m == n) ≡ b → (if b then n ∷ new ∷ [] else (m ∷ [])) ≡ m ∷ []
-      by true e = absurd (f ((Decides-eqb m n).0 e))
-      by false e = refl
+  new_after_other m f = ap (λ b. if b then n ∷ new ∷ [] else (m ∷ [])) (ne_eqb m n f)
 
   -- numbers without n stay
   pub grown_off : (ns : List ℕ) → (In n ns → ⊥) → with_new n new ns ≡ ns

@@ -23,12 +23,13 @@ use Rattle.map_frame.specs.Naming.{Loss, Gain}
 use Rattle.map_frame.specs.Readers.{element}
 use Rattle.map_frame.specs.Seen.{framed, doc_of, places_of, view_feature}
 use Rattle.map_frame.proofs.CountedFeatures.{length_less}
-use Rattle.map_frame.proofs.EditedNames.{named_anew, named_put, gain_none}
+use Rattle.map_frame.proofs.EditedNames.{named_anew, named_put}
 use Rattle.map_frame.proofs.EditedStands.{entry_is, entry_fits, edited_entry, edited_doc, edited_kept}
+use Rattle.map_frame.proofs.NamedLists.{gain_none}
 use Rattle.map_frame.proofs.NamedAs.{loss_as, gain_as, rings_to, rings_from}
 use Rattle.map_frame.proofs.NamedOnce.{ring_of}
 use Rattle.map_frame.proofs.ReadFeatures.{number_stands}
-use Rattle.map_frame.proofs.SlotsEntries.{entry, inner, features_of}
+use Rattle.map_frame.proofs.PlacesSeen.{entry, features_of}
 use Rattle.map_frame.proofs.SlotsSet.{entry_here, entry_other}
 
 module _ {A : Type 0} (t : Tables A) (k : IsFramed t) (n : ℕ) where
@@ -100,10 +101,10 @@ module _ {A : Type 0} (t : Tables A) (k : IsFramed t) (n : ℕ) where
         by (yes s) = at place refl (sym here ∙ ap (entry fs'.items) (sym s) ∙ e)
         by (no f) = entry_fits t k m y (sym (other m f) ∙ e)
 
-    same_features : (m : ℕ) → m ≢ n → feature (doc_of after) m ≡ feature (doc_of t) m
+    pub same_features : (m : ℕ) → m ≢ n → feature (doc_of after) m ≡ feature (doc_of t) m
     same_features m f = edited_entry t k fs' count names long m ∙ other m f ∙ sym (entry_is t k m)
 
-    feature_here : feature (doc_of after) n ≡ option_map (view_feature n) place
+    pub feature_here : feature (doc_of after) n ≡ option_map (view_feature n) place
     feature_here = edited_entry t k fs' count names long n ∙ here
 
     pub set_kept : ((f : Feature A) → place ≡ Some f → fits_form (view_feature n f) ≡ true)
@@ -115,7 +116,7 @@ module _ {A : Type 0} (t : Tables A) (k : IsFramed t) (n : ℕ) where
 
   module _ (f : Feature A) (was : slice_get fs n ≡ Some (Some f)) where
     pub there_seen : entry fs n ≡ Some (view_feature n f)
-    there_seen = ap (λ z. option_map (view_feature n) (inner z)) was
+    there_seen = rw was refl
 
     pub taken_within : n < length fs
     taken_within = slice_get_within fs n (Some f) was
@@ -152,7 +153,7 @@ module _ {A : Type 0} (t : Tables A) (k : IsFramed t) (n : ℕ) where
           (gain_as (λ o k. ⊥) (λ o k. (o.feature ≡ n) × (number_at e o ≡ Some k)) names.items names.items
           (λ o k i. absurd i)
           (λ o k i. let h : None ≡ Some k = sym (ap (λ z. ring_of z o) (ap (feature e) i.0 ∙ gone)) ∙ i.1 in absurd cc)
-          (gain_none names.items))
+          (gain_none names.items (λ o k. ⊥) (λ o k i. i)))
           (same_features fs' None items taken_within count names)
 
       pub taken_kept : are_distinct (rings (doc_of t)) ≡ true → count + 1 ≡ t.count

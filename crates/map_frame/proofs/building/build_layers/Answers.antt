@@ -1,7 +1,7 @@
-use Rattle.std.proofs.Common.{◌∙◌, refl, sym, subst}
+use Rattle.std.proofs.Common.{◌∙◌, refl, sym, ap, subst}
 use Rattle.std.specs.Vec.Iter.{into_iter_items, into_iter_len}
 use Rattle.map_frame.specs.Building.{progress, IsGeometry, AreLayers}
-use Rattle.map_frame.proofs.Built.{HasRoom, LayersSoFar, nothing_left, layer_room, layers_begin, layers_more, layers_end, all_leaves}
+use Rattle.map_frame.proofs.Built.{HasRoom, LayersSoFar, nothing_left, room_first, layers_begin, layers_more, layers_end, leaves_of, all_leaves, all_leaves-cons}
 use Rattle.map_frame.proofs.building.build_layers.Goals as goal
 
 pub loop-raw-init : goal.loop-raw-init
@@ -12,18 +12,13 @@ loop-raw-init g c =
     (subst (λ z. HasRoom (all_leaves z) (progress c.args.gathered.now (into_iter_items c.args.waiting.now))) (sym it.ensures.into_iter_gives.0)
     (record { few = c.requires.few; there = c.requires.there; alike = c.requires.alike }))
 
-pub build_geometry-requires-clause-few : goal.build_geometry-requires-clause-few
-build_geometry-requires-clause-few g c =
-    (layer_room (into_iter_items c.loop-raw.raw-iterator) (into_iter_items c.next.new.self) c.in-Some.raw
-    (progress c.loop-raw.gathered (into_iter_items c.loop-raw.waiting)) c.loop-raw.invariant.room c.in-Some.ensures.steps.0).few
-
-pub build_geometry-requires-clause-there : goal.build_geometry-requires-clause-there
-build_geometry-requires-clause-there g c =
-    (layer_room (into_iter_items c.loop-raw.raw-iterator) (into_iter_items c.next.new.self) c.in-Some.raw
-    (progress c.loop-raw.gathered (into_iter_items c.loop-raw.waiting)) c.loop-raw.invariant.room c.in-Some.ensures.steps.0).there
-
-pub build_geometry-requires-clause-alike : goal.build_geometry-requires-clause-alike
-build_geometry-requires-clause-alike g c = c.loop-raw.invariant.room.alike
+pub build_geometry-requires : goal.build_geometry-requires
+build_geometry-requires g c =
+    let left = into_iter_items c.next.new.self in
+    let now = progress c.loop-raw.gathered (into_iter_items c.loop-raw.waiting) in
+    let room = room_first (leaves_of c.in-Some.raw.items.items) (all_leaves left) (all_leaves (into_iter_items c.loop-raw.raw-iterator)) now
+    c.loop-raw.invariant.room (ap all_leaves c.in-Some.ensures.steps.0 ∙ all_leaves-cons c.in-Some.raw left) in
+    record { few = room.few; there = room.there; alike = room.alike }
 
 pub loop-raw-preserved : goal.loop-raw-preserved
 loop-raw-preserved g c =

@@ -1,29 +1,24 @@
-use Rattle.std.proofs.Common.{◌∙◌, refl, sym, subst}
+use Rattle.std.proofs.Common.{◌∙◌, sym, ap, subst, [], ◌∷◌}
 use Rattle.std.specs.Vec.Iter.{into_iter_items, into_iter_len}
 use Rattle.map_frame.specs.Building.{progress, IsSlot, AreSlots}
-use Rattle.map_frame.proofs.Built.{HasRoom, SlotsSoFar, nothing_left, room_first, slots_begin, slots_more, slots_end, leaves_of}
+use Rattle.map_frame.proofs.Built.{HasRoom, SlotsSoFar, nothing_left, room_first, slots_begin, slots_more, slots_end, leaves_of, leaves_of-cons}
 use Rattle.map_frame.proofs.building.build_slots.Goals as goal
 
 pub loop-item-init : goal.loop-item-init
 loop-item-init g c =
     let it = c.into_iter-item-iterator in
-    slots_begin c.args.layer (into_iter_items it.result) (into_iter_items it.result) c.new-slots.result.items
-    (progress c.args.gathered.now (into_iter_items c.args.waiting.now)) refl c.new-slots.ensures.items
+    slots_begin c.args.layer (into_iter_items it.result) c.new-slots.result.items
+    (progress c.args.gathered.now (into_iter_items c.args.waiting.now)) c.new-slots.ensures.items
     (subst (λ z. HasRoom (leaves_of z) (progress c.args.gathered.now (into_iter_items c.args.waiting.now))) (sym it.ensures.into_iter_gives.0)
     (record { few = c.requires.few; there = c.requires.there; alike = c.requires.alike }))
 
-pub build_slot-requires-clause-few : goal.build_slot-requires-clause-few
-build_slot-requires-clause-few g c =
-    (room_first (into_iter_items c.loop-item.item-iterator) (into_iter_items c.next.new.self) c.in-Some.item
-    (progress c.loop-item.gathered (into_iter_items c.loop-item.waiting)) c.loop-item.invariant.room c.in-Some.ensures.steps.0).few
-
-pub build_slot-requires-clause-there : goal.build_slot-requires-clause-there
-build_slot-requires-clause-there g c =
-    (room_first (into_iter_items c.loop-item.item-iterator) (into_iter_items c.next.new.self) c.in-Some.item
-    (progress c.loop-item.gathered (into_iter_items c.loop-item.waiting)) c.loop-item.invariant.room c.in-Some.ensures.steps.0).there
-
-pub build_slot-requires-clause-alike : goal.build_slot-requires-clause-alike
-build_slot-requires-clause-alike g c = c.loop-item.invariant.room.alike
+pub build_slot-requires : goal.build_slot-requires
+build_slot-requires g c =
+    let left = into_iter_items c.next.new.self in
+    let now = progress c.loop-item.gathered (into_iter_items c.loop-item.waiting) in
+    let room = room_first (leaves_of (c.in-Some.item ∷ [])) (leaves_of left) (leaves_of (into_iter_items c.loop-item.item-iterator)) now
+    c.loop-item.invariant.room (ap leaves_of c.in-Some.ensures.steps.0 ∙ leaves_of-cons c.in-Some.item left) in
+    record { few = room.few; there = room.there; alike = room.alike }
 
 pub loop-item-preserved : goal.loop-item-preserved
 loop-item-preserved g c =

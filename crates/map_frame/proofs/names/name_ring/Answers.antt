@@ -3,4 +3,4 @@ use Rattle.map_frame.proofs.names.name_ring.Goals as goal
 
 pub returns-clause-gained : goal.returns-clause-gained
 returns-clause-gained g c =
-    put_name c.args.names.now.items c.args.names.now.items c.args.r c.args.name (λ k o e. e) (λ k o e. e) c.requires
+    put_name c.args.names.now.items c.args.r c.args.name c.requires

@@ -2,7 +2,7 @@ use Rattle.std.proofs.Common.{sym, ap, ◌∙◌, is_some}
 use Rattle.ring_machine.specs.Parts.{has_feature}
 use Rattle.ring_machine.proofs.Members.{is_some-mapped}
 use Rattle.map_frame.specs.Live.{live}
-use Rattle.map_frame.proofs.ReadFeatures.{has_is}
+use Rattle.map_frame.proofs.EditedStands.{has_is}
 use Rattle.map_frame.proofs.frame.Frame.has_feature.Goals as goal
 
 pub returns : goal.returns

@@ -1,5 +1,4 @@
 use Rattle.std.proofs.Common.{◌≡◌, sym, ap, ◌∙◌, length, Some, arith}
-use Rattle.std.specs.Prelude.{slice_get}
 use Rattle.std.proofs.lemmas.Option.{slice_get_within}
 use Rattle.ring_machine.specs.Refusals.{is_layer}
 use Rattle.map_frame.specs.Live.{live}
@@ -28,40 +27,31 @@ pub returns-in-Alone : goal.returns-in-Alone
 returns-in-Alone g c =
     let t = c.self.inside.tables in
     let n = c.args.n in
-    let f = c.in-Some._feature.now in
     let s = c.in-Some-get.stand.now in
-    let at : slice_get t.stands.items n ≡ Some s =
-    got t.stands.items c.deref.result.now n c.deref.ensures.value s c.in-Some-get.ensures.lookup.3.0 c.in-Some-get.ensures.lookup.1 in
-    let there : live t.features.items n ≡ Some f = sym (c.in-Some.ensures ∙ ap (λ fs. live fs n) c.as_slice.ensures.value) in
     let l = c.in-Some-get-2.layer.now in
-    let layer : slice_get t.layers.items s.layer ≡ Some l =
-    got t.layers.items c.deref-2.result.now s.layer c.deref-2.ensures.value l c.in-Some-get-2.ensures.lookup.3.0 c.in-Some-get-2.ensures.lookup.1 in
-    is_alone t c.self.invariant n f there s at l c.in-Alone.field-0 layer c.in-Alone.is
+    is_alone t c.self.invariant n c.in-Some._feature.now (sym (c.in-Some.ensures ∙ ap (λ fs. live fs n) c.as_slice.ensures.value)) s
+    (got t.stands.items c.deref.result.now n c.deref.ensures.value s c.in-Some-get.ensures.lookup.3.0 c.in-Some-get.ensures.lookup.1) l
+    (got t.layers.items c.deref-2.result.now s.layer c.deref-2.ensures.value l c.in-Some-get-2.ensures.lookup.3.0 c.in-Some-get-2.ensures.lookup.1)
+    c.in-Alone.field-0 c.in-Alone.is
     ∙ ap (λ f. is_layer f.doc n) c.self.view_is
 
 pub returns-in_default-matches : goal.returns-in_default-matches
 returns-in_default-matches g c =
     let t = c.self.inside.tables in
     let n = c.args.n in
-    let f = c.in-Some._feature.now in
     let s = c.in-Some-get.stand.now in
-    let at : slice_get t.stands.items n ≡ Some s =
-    got t.stands.items c.deref.result.now n c.deref.ensures.value s c.in-Some-get.ensures.lookup.3.0 c.in-Some-get.ensures.lookup.1 in
-    let there : live t.features.items n ≡ Some f = sym (c.in-Some.ensures ∙ ap (λ fs. live fs n) c.as_slice.ensures.value) in
     let l = c.in-Some-get-2.layer.now in
-    let layer : slice_get t.layers.items s.layer ≡ Some l =
-    got t.layers.items c.deref-2.result.now s.layer c.deref-2.ensures.value l c.in-Some-get-2.ensures.lookup.3.0 c.in-Some-get-2.ensures.lookup.1 in
-    not_alone t c.self.invariant n f there s at l c.in_default-matches.field-0 layer c.in_default-matches.is
+    not_alone t c.self.invariant n c.in-Some._feature.now (sym (c.in-Some.ensures ∙ ap (λ fs. live fs n) c.as_slice.ensures.value)) s
+    (got t.stands.items c.deref.result.now n c.deref.ensures.value s c.in-Some-get.ensures.lookup.3.0 c.in-Some-get.ensures.lookup.1) l
+    (got t.layers.items c.deref-2.result.now s.layer c.deref-2.ensures.value l c.in-Some-get-2.ensures.lookup.3.0 c.in-Some-get-2.ensures.lookup.1)
+    c.in_default-matches.field-0 c.in_default-matches.is
     ∙ ap (λ f. is_layer f.doc n) c.self.view_is
 
 pub returns-in-None : goal.returns-in-None
 returns-in-None g c =
     let t = c.self.inside.tables in
     let n = c.args.n in
-    let f = c.in-Some._feature.now in
     let s = c.in-Some-get.stand.now in
-    let at : slice_get t.stands.items n ≡ Some s =
-    got t.stands.items c.deref.result.now n c.deref.ensures.value s c.in-Some-get.ensures.lookup.3.0 c.in-Some-get.ensures.lookup.1 in
-    let there : live t.features.items n ≡ Some f = sym (c.in-Some.ensures ∙ ap (λ fs. live fs n) c.as_slice.ensures.value) in
-    absurd (in_some_layer t c.self.invariant n f there s at
+    absurd (in_some_layer t c.self.invariant n s
+    (got t.stands.items c.deref.result.now n c.deref.ensures.value s c.in-Some-get.ensures.lookup.3.0 c.in-Some-get.ensures.lookup.1)
     (got_none t.layers.items c.deref-2.result.now s.layer c.deref-2.ensures.value c.in-None.ensures.lookup.3))

@@ -1,7 +1,8 @@
 use Rattle.std.proofs.Common.{◌≤◌, sym, ap, ◌∙◌, subst, option_map}
 use Rattle.ring_machine.specs.Parts.{feature}
 use Rattle.map_frame.specs.Seen.{view_feature}
-use Rattle.map_frame.proofs.ReadFeatures.{feature_is, live_past}
+use Rattle.map_frame.proofs.EditedStands.{entry_is}
+use Rattle.map_frame.proofs.ReadFeatures.{live_past}
 use Rattle.map_frame.specs.Placed.{ArePlaced}
 use Rattle.map_frame.proofs.PlacedFrames.{all_placed}
 use Rattle.map_frame.proofs.frame.Frame.next.Goals as goal
@@ -10,7 +11,7 @@ pub returns-clause-below : goal.returns-clause-below
 returns-clause-below g c = λ m past.
     let t = c.self.inside.tables in
     ap (λ f. feature f.doc m) (sym c.self.view_is)
-    ∙ feature_is t c.self.invariant m
+    ∙ entry_is t c.self.invariant m
     ∙ ap (option_map (view_feature m)) (live_past t.features.items m (subst (λ f. f.next ≤ m) (sym c.self.view_is) past))
 
 pub returns-clause-placed : goal.returns-clause-placed

@@ -2,7 +2,7 @@ use Rattle.std.proofs.Common.{sym, ap, ◌∙◌}
 use Rattle.ring_machine.specs.Parts.{feature}
 use Rattle.map_frame.specs.Live.{live}
 use Rattle.map_frame.proofs.PlacedFrames.{id_seen, id_none}
-use Rattle.map_frame.proofs.ReadFeatures.{feature_is}
+use Rattle.map_frame.proofs.EditedStands.{entry_is}
 use Rattle.map_frame.proofs.frame.Frame.rename.Goals as goal
 
 pub returns-clause-old : goal.returns-clause-old
@@ -11,7 +11,7 @@ returns-clause-old g c = λ f e.
     let n = c.args.n in
     c.rename.ensures.old
     ∙ id_seen n c.args.id (live t.features.items n) f
-    (sym (feature_is t c.self.invariant n) ∙ ap (λ z. feature z.doc n) c.self.view_is ∙ e)
+    (sym (entry_is t c.self.invariant n) ∙ ap (λ z. feature z.doc n) c.self.view_is ∙ e)
 
 pub returns-clause-none : goal.returns-clause-none
 returns-clause-none g c = λ e.
@@ -19,4 +19,4 @@ returns-clause-none g c = λ e.
     let n = c.args.n in
     c.rename.ensures.old
     ∙ id_none n c.args.id (live t.features.items n)
-    (sym (feature_is t c.self.invariant n) ∙ ap (λ z. feature z.doc n) c.self.view_is ∙ e)
+    (sym (entry_is t c.self.invariant n) ∙ ap (λ z. feature z.doc n) c.self.view_is ∙ e)

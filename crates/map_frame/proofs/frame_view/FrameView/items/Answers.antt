@@ -1,6 +1,5 @@
-use Rattle.std.proofs.Common.{Some, sym, ap, ◌∙◌, option_map}
-use Rattle.std.specs.List.{slice_get}
-use Rattle.map_frame.proofs.ReadItems.{layer_shown, none_shown}
+use Rattle.std.proofs.Common.{None, Some, ap, ◌∙◌}
+use Rattle.map_frame.proofs.ReadItems.{layer_as}
 use Rattle.map_frame.proofs.ReadLists.{got, got_none}
 use Rattle.map_frame.proofs.frame_view.FrameView.items.Goals as goal
 
@@ -9,8 +8,7 @@ returns-in_err-layer g c =
     let t = c.self.inside.tables.now in
     let i = c.args.layer in
     c.from_residual.ensures
-    ∙ ap (option_map (λ k. k.items)) (sym (none_shown t i (got_none t.layers.items c.deref.result.now i c.deref.ensures.value c.in_err-layer.ensures.lookup.3)))
-    ∙ ap (λ f. option_map (λ k. k.items) (slice_get f.layers i)) c.self.view_is
+    ∙ layer_as t i (λ k. k.items) None (got_none t.layers.items c.deref.result.now i c.deref.ensures.value c.in_err-layer.ensures.lookup.3) _ c.self.view_is
 
 pub returns : goal.returns
 returns g c =
@@ -18,5 +16,5 @@ returns g c =
     let i = c.args.layer in
     let l = c.in_ok-layer.layer.now in
     ap Some c.items_in.ensures
-    ∙ ap (option_map (λ k. k.items)) (sym (layer_shown t i l (got t.layers.items c.deref.result.now i c.deref.ensures.value l c.in_ok-layer.ensures.lookup.3.0 c.in_ok-layer.ensures.lookup.1)))
-    ∙ ap (λ f. option_map (λ k. k.items) (slice_get f.layers i)) c.self.view_is
+    ∙ layer_as t i (λ k. k.items) (Some l)
+    (got t.layers.items c.deref.result.now i c.deref.ensures.value l c.in_ok-layer.ensures.lookup.3.0 c.in_ok-layer.ensures.lookup.1) _ c.self.view_is
