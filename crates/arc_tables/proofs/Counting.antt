@@ -1,12 +1,12 @@
 -- How many rings have a segment: as many as the arc that has it.
-use Rattle.std.proofs.Common.{◌≡◌, ◌≢◌, ℕ, zero, suc, ◌<◌, ◌≤◌, ◌+◌, Bool, true, false, cond, ◌&&◌, ◌||◌, refl, sym, ap, ap₂, ◌∙◌, subst, arith}
-use Rattle.std.proofs.Common.{List, [], ◌∷◌, map, length, get_or, Contains, ◌⊎◌, inl, inr, Option, Some, None}
+use Rattle.std.proofs.Common.{◌≡◌, ℕ, zero, suc, ◌<◌, ◌≤◌, ◌+◌, Bool, true, false, cond, refl, sym, ap, ◌∙◌, subst, arith}
+use Rattle.std.proofs.Common.{List, [], ◌∷◌, map, length, Contains, inl, inr, Option, Some, None}
 use Rattle.std.specs.Prelude.{◌==◌, count_by, slice_index_or}
 use Rattle.std.specs.Ordering.{nat_cmp}
 use Rattle.std.specs.declared.cmp.Ordering.TheVariants.{Less}
 use Rattle.std.specs.Cmp.{nat_cmp_is}
 use Rattle.std.proofs.lemmas.Cmp.{nat_cmp_total}
-use Rattle.std.proofs.lemmas.Bool.{false≢true, or_left, or_right, or_cases, cases_Bool, both_ways}
+use Rattle.std.proofs.lemmas.Bool.{false≢true, or_left, or_right, cases_Bool, both_ways}
 use Rattle.std.proofs.lemmas.List.{nil_from_length}
 use Rattle.std.proofs.lemmas.List.Sums.{sum_by-cons}
 use Rattle.std.proofs.lemmas.Bool.Decides.{Decides-eqb, nat_tests}
@@ -16,9 +16,9 @@ use Rattle.slab.specs.Slab.{get}
 use Rattle.arc_tables.specs.declared.arc.Use.{Use}
 use Rattle.arc_tables.specs.declared.arc.Ring.{Ring}
 use Rattle.arc_tables.specs.declared.tables.Tables.{Tables}
-use Rattle.arc_tables.specs.Ways.{Edge, links, walk, chain, is_seg, one, times}
+use Rattle.arc_tables.specs.Ways.{Edge, links, walk, chain, times}
 use Rattle.arc_tables.specs.Rings.{has_segment, users_of}
-use Rattle.arc_tables.specs.Stores.{path_of, users_in, uses_in, uses_arc, AllDifferent, IsPlace}
+use Rattle.arc_tables.specs.Stores.{path_of, users_in, uses_in, uses_arc, AllDifferent}
 use Rattle.arc_tables.specs.ShortLists.{without}
 use Rattle.arc_tables.specs.Sound.{edges_in, rings_of, Sound}
 use Rattle.arc_tables.proofs.Different.{in_without, from_without, different_without, length-without}
@@ -60,12 +60,12 @@ module _ {X : Type 0} (p : X → Bool) where
   count_slots (Some v ∷ rest) i xs d from to =
       sum_by-cons (λ x. cond (p x) 1 0) v (map (λ e. e.1) (slab.entries_from (i + 1) rest)) ∙ elim (cases_Bool (p v)) [
         | inl f ↦
-          let here : Contains xs i = subst (Contains xs) (omega arith) (to 0 f) in
-          let rest_is = count_slots rest (i + 1) (without i xs) (different_without i xs d) (λ k m. let n = from_without i xs k m in later k (λ e. absurd (n.1 e)) (from k n.0)) (λ j h. in_without i xs (i + 1 + j) (λ e. absurd (omega arith)) (subst (Contains xs) (omega arith) (to (suc j) h))) in
-          omega (arith, ap {B = ℕ} (λ b. cond b 1 0) f, rest_is, length-without i xs d here)
+            let here : Contains xs i = subst (Contains xs) (omega arith) (to 0 f) in
+            let rest_is = count_slots rest (i + 1) (without i xs) (different_without i xs d) (λ k m. let n = from_without i xs k m in later k (λ e. absurd (n.1 e)) (from k n.0)) (λ j h. in_without i xs (i + 1 + j) (λ e. absurd (omega arith)) (subst (Contains xs) (omega arith) (to (suc j) h))) in
+            omega (arith, ap {B = ℕ} (λ b. cond b 1 0) f, rest_is, length-without i xs d here)
         | inr f ↦
-          let rest_is = count_slots rest (i + 1) xs d (λ k m. later k (λ e. f) (from k m)) (λ j h. subst (Contains xs) (omega arith) (to (suc j) h)) in
-          omega (arith, ap {B = ℕ} (λ b. cond b 1 0) f, rest_is)
+            let rest_is = count_slots rest (i + 1) xs d (λ k m. later k (λ e. f) (from k m)) (λ j h. subst (Contains xs) (omega arith) (to (suc j) h)) in
+            omega (arith, ap {B = ℕ} (λ b. cond b 1 0) f, rest_is)
       ]
     where
       later : (k : ℕ) → (k ≡ i → p v ≡ false) → (j : ℕ) × (k ≡ i + j) × (passes p (slice_index_or (Some v ∷ rest) j None) ≡ true) → (j : ℕ) × (k ≡ i + 1 + j) × (passes p (slice_index_or rest j None) ≡ true)

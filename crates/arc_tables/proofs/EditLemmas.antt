@@ -1,6 +1,5 @@
 -- An edit of each arc edge by edge is the edit of each ring.
 use Rattle.std.proofs.Common.{◌≡◌, refl, sym, ap, ap₂, ◌∙◌, ℕ, Bool, true, false, List, [], ◌∷◌, ◌++◌, Option, Some, None, option_map, is_some, subst, Contains, arith, ◌≢◌, ◌⊎◌, inl, inr}
-use native.Mathlib.Decide.{ℕ_discrete}
 use Rattle.std.specs.List.{flat_map}
 use Rattle.std.proofs.lemmas.List.{append-nil}
 use Rattle.std.proofs.lemmas.List.Concat.{flat_map-append}

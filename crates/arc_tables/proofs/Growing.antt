@@ -1,17 +1,16 @@
 -- What the arcs know of their rings, after a ring goes on.
-use Rattle.std.proofs.Common.{◌≡◌, ℕ, ◌≤◌, true, false, ◌||◌, refl, sym, ap, ◌∙◌, subst, arith, List, ◌≢◌, ◌++◌, ◌&&◌}
+use Rattle.std.proofs.Common.{◌≡◌, ℕ, ◌≤◌, ◌||◌, sym, ap, ◌∙◌, subst, arith, List, ◌≢◌, ◌++◌, ◌&&◌}
 use Rattle.std.proofs.Common.{[], ◌∷◌, ◌⊎◌, inl, inr, Contains, length, Some, is_some}
 use Rattle.std.specs.Prelude.{◌==◌}
-use native.Mathlib.Decide.{ℕ_discrete}
-use Rattle.std.proofs.lemmas.Bool.{false≢true, cases_eq}
-use Rattle.std.proofs.lemmas.Bool.Decides.{Decides-eqb, nat_tests}
+use Rattle.std.proofs.lemmas.Bool.{cases_eq}
+use Rattle.std.proofs.lemmas.Bool.Decides.{nat_tests}
 use Rattle.std.proofs.lemmas.List.Folds.{list_any-append}
 use Rattle.slab.specs.Slab.{Slab, get, ContainsKey, Updates}
 use Rattle.arc_tables.specs.declared.arc.Use.{Use}
 use Rattle.arc_tables.specs.declared.arc.Arc.{Arc}
 use Rattle.arc_tables.specs.declared.arc.Ring.{Ring}
 use Rattle.arc_tables.specs.Stores.{users_in, uses_in, uses_arc, including, AllDifferent, Known, GoesOn, SameRings, SameUsers, Learns}
-use Rattle.arc_tables.proofs.Different.{itself_including, in_including, from_including, different_including, some_contained, any_including}
+use Rattle.arc_tables.proofs.Different.{itself_including, different_including, some_contained, any_including}
 use Rattle.arc_tables.proofs.Knowing.{known_of, known_by_uses}
 use Rattle.std.specs.List.{list_any}
 

@@ -1,11 +1,9 @@
 -- Which segments the arcs have, and which arcs a vertex stands in, after each move.
-use Rattle.std.proofs.Common.{◌≡◌, ◌≢◌, ℕ, ◌+◌, Bool, true, false, ◌||◌, ◌&&◌, refl, sym, ap, ap₂, ◌∙◌, subst, List, [], ◌∷◌, ◌⊎◌, inl, inr, arith, Contains}
-use Rattle.std.specs.Prelude.{◌==◌}
-use native.Mathlib.Decide.{ℕ_discrete}
-use Rattle.std.proofs.lemmas.Bool.Decides.{Decides-eqb, nat_tests}
-use Rattle.std.proofs.lemmas.List.Elements.{Contains-append_left, Contains-append_right, Contains-append_cases, Contains-push_cases}
-use Rattle.slab.proofs.SlabLemmas.{Contains-cons, Contains-cons_cases}
-use Rattle.arc_tables.specs.Ways.{links, times, one, Store, Cuts}
+use Rattle.std.proofs.Common.{◌≡◌, ◌≢◌, ℕ, refl, sym, ap, ◌∙◌, subst, List, [], ◌∷◌, ◌⊎◌, inl, inr, arith, Contains}
+use Rattle.std.proofs.lemmas.Bool.Decides.{nat_tests}
+use Rattle.std.proofs.lemmas.List.Elements.{Contains-append_left, Contains-append_right, Contains-push_cases}
+use Rattle.slab.proofs.SlabLemmas.{Contains-cons}
+use Rattle.arc_tables.specs.Ways.{links, times, Store, Cuts}
 use Rattle.std.proofs.lemmas.Bool.{cases_eq}
 
 -- ---- which arcs a vertex stands in: at least these are listed

@@ -1,5 +1,5 @@
 -- A vertex comes between two others.
-use Rattle.std.proofs.Common.{◌≡◌, ◌≢◌, ℕ, ◌+◌, ◌≤◌, ◌<◌, zero, suc, Bool, true, false, cond, refl, sym, ap, ap₂, ◌∙◌, subst, List, [], ◌∷◌, ◌++◌, take, drop, length, get_or, ◌⊎◌, inl, inr, arith, Contains, drop-cons, append_assoc}
+use Rattle.std.proofs.Common.{◌≡◌, ◌≢◌, ℕ, ◌+◌, ◌≤◌, ◌<◌, suc, Bool, true, cond, refl, sym, ap, ap₂, ◌∙◌, subst, List, [], ◌∷◌, ◌++◌, take, drop, length, get_or, ◌⊎◌, inl, inr, arith, Contains, drop-cons, append_assoc}
 use native.Mathlib.Decide.{ℕ_discrete}
 use Rattle.std.specs.List.{insert}
 use Rattle.std.proofs.lemmas.List.{take-append-drop, take_more}
@@ -11,8 +11,8 @@ use Rattle.arc_tables.specs.declared.arc.Arc.{Arc}
 use Rattle.arc_tables.specs.Ways.{Edge, links, is_seg, one, times, Once}
 use Rattle.arc_tables.specs.Edited.{AreApart, over, through}
 use Rattle.arc_tables.specs.Stores.{IsPlace, path_in}
-use Rattle.arc_tables.proofs.Moves.{flip, flipped, is_seg-flip, links-append, times-append}
-use Rattle.arc_tables.proofs.Segments.{ends_of, is_forth, is_back, times_comm, counts_none, counted, StandsFor, once_for}
+use Rattle.arc_tables.proofs.Moves.{is_seg-flip, links-append, times-append}
+use Rattle.arc_tables.proofs.Segments.{times_comm, StandsFor, once_for}
 use Rattle.arc_tables.proofs.EditLemmas.{Turns, EditsArcs}
 use Rattle.std.proofs.lemmas.Bool.{cases_eq}
 use Rattle.std.proofs.lemmas.Bool.Decides.{nat_tests}

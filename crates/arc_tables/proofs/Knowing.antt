@@ -1,11 +1,9 @@
 -- Whether an arc knows a ring is told by the arc's rings, and by the ring's uses as well.
-use Rattle.std.proofs.Common.{◌≡◌, ℕ, Bool, true, false, ◌||◌, refl, sym, ◌∙◌, List, [], ◌∷◌, Contains, ◌⊎◌, inl, inr, arith, IsSome, Option, Some, None, length, ◌≤◌}
+use Rattle.std.proofs.Common.{◌≡◌, ℕ, refl, sym, ◌∙◌, Contains, arith, IsSome, Option, Some, None, length, ◌≤◌}
 use Rattle.std.specs.Prelude.{◌==◌}
 use Rattle.std.specs.List.{list_any}
-use Rattle.std.proofs.lemmas.Bool.{false≢true}
-use Rattle.std.proofs.lemmas.Bool.Decides.{Decides-eqb, same_from_decides}
+use Rattle.std.proofs.lemmas.Bool.Decides.{same_from_decides}
 use Rattle.slab.specs.Slab.{Slab, get, ContainsKey}
-use Rattle.slab.proofs.SlabLemmas.{Contains-cons_cases}
 use Rattle.arc_tables.specs.declared.arc.Arc.{Arc}
 use Rattle.arc_tables.specs.declared.arc.Ring.{Ring}
 use Rattle.arc_tables.specs.Stores.{users_in, uses_in, uses_arc, Known, AllDifferent}

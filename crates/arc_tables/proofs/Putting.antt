@@ -1,6 +1,5 @@
 -- Vertices come in one after the other, and go out again.
-use Rattle.std.proofs.Common.{◌≡◌, ◌≢◌, ℕ, ◌+◌, ◌≤◌, zero, suc, Bool, true, false, cond, refl, sym, ap, ap₂, ◌∙◌, subst, List, [], ◌∷◌, ◌++◌, take, ◌-◌, inl, inr, arith, get_or, length, Contains}
-use native.Mathlib.Decide.{ℕ_discrete}
+use Rattle.std.proofs.Common.{◌≡◌, ◌≢◌, ℕ, ◌+◌, ◌≤◌, zero, suc, Bool, true, false, refl, sym, ap, ap₂, ◌∙◌, subst, List, [], ◌∷◌, ◌++◌, take, ◌-◌, inl, inr, arith, get_or, length, Contains}
 use Rattle.std.specs.List.{flat_map, AllByRecursion}
 use Rattle.std.proofs.lemmas.List.{get_or_default, take_more}
 use Rattle.std.proofs.lemmas.List.Concat.{flat_map-append}
@@ -11,16 +10,15 @@ use Rattle.arc_tables.specs.declared.arc.Arc.{Arc}
 use Rattle.arc_tables.specs.declared.arc.Use.{Use}
 use Rattle.arc_tables.specs.declared.batch.Put.{Put}
 use Rattle.arc_tables.specs.declared.tables.Tables.{Tables}
-use Rattle.arc_tables.specs.Ways.{Edge, links, walk, chain, is_seg, one, times, Once}
-use Rattle.arc_tables.specs.Edited.{AreApart, over, through, onto, drawn, collapsed, Collapses, IsOff, throughs, taken_back, ArePuts, WerePut}
+use Rattle.arc_tables.specs.Ways.{Edge, links, walk, chain, is_seg, times, Once}
+use Rattle.arc_tables.specs.Edited.{AreApart, over, through, drawn, collapsed, Collapses, IsOff, throughs, taken_back, ArePuts, WerePut}
 use Rattle.arc_tables.specs.Stores.{IsPlace, path_in, path_of, uses_in}
 use Rattle.arc_tables.specs.Sound.{rings_of}
-use Rattle.arc_tables.proofs.Segments.{ends_of, is_forth, is_back, times_comm, counts_none, counted, StandsFor, once_for}
+use Rattle.arc_tables.proofs.Segments.{once_for}
 use Rattle.arc_tables.proofs.Moves.{flipped, links-reverse, times-append, same_seg}
 use Rattle.arc_tables.proofs.RingLemmas.{rings_kept}
 use Rattle.arc_tables.proofs.EditLemmas.{Turns, EditsArcs, edit-flipped, edited_everywhere}
 use Rattle.arc_tables.proofs.Inserting.{over-turns, placed, with_q, once_through}
-use Rattle.arc_tables.proofs.Removing.{onto_p, onto_other}
 use Rattle.std.proofs.lemmas.Bool.{cases_eq, cases_Bool}
 use Rattle.std.proofs.lemmas.Bool.Decides.{nat_tests}
 
@@ -126,6 +124,10 @@ pub taken_last : (ps : List Put) (n : ℕ) (p : Put) → 1 ≤ n → n ≤ lengt
 taken_last ps n p some within is =
     let e : n ≡ (n - 1) + 1 = omega (arith, some) in
     ap (λ m. take m ps) e ∙ take_more ps (n - 1) p (omega (arith, some, within)) ∙ ap (λ z. take (n - 1) ps ++ z ∷ []) (sym is)
+
+-- these were put in, the last of them last
+pub last_of : (ps : List Put) (n : ℕ) (p : Put) (path : ℕ → List ℕ) → 1 ≤ n → n ≤ length ps → p ≡ get_or ps (n - 1) p → WerePut (take n ps) path → WerePut (take (n - 1) ps ++ p ∷ []) path
+last_of ps n p path some within is = subst (λ z. WerePut z path) (taken_last ps n p some within is)
 
 -- the last of some puts
 abbrev pub IsLast : (ℕ → Type 0) → List Put → Put → Type 0

@@ -1,10 +1,8 @@
 -- A vertex moves onto its neighbour.
-use Rattle.std.proofs.Common.{◌≡◌, ◌≢◌, ℕ, ◌+◌, ◌≤◌, ◌<◌, zero, suc, Bool, true, false, cond, refl, sym, ap, ap₂, ◌∙◌, subst, List, [], ◌∷◌, ◌++◌, map, take, drop, set, length, get_or, ◌⊎◌, inl, inr, arith, Contains, append_assoc}
-use Rattle.std.specs.Prelude.{◌==◌}
-use native.Mathlib.Decide.{ℕ_discrete}
+use Rattle.std.proofs.Common.{◌≡◌, ◌≢◌, ℕ, ◌+◌, ◌≤◌, ◌<◌, suc, true, false, cond, refl, sym, ap, ap₂, ◌∙◌, subst, List, [], ◌∷◌, ◌++◌, map, take, drop, set, length, get_or, ◌⊎◌, inl, inr, arith, Contains, append_assoc}
 use Rattle.std.specs.List.{remove}
-use Rattle.std.proofs.lemmas.Bool.{false≢true, cases_eq, cases_Bool}
-use Rattle.std.proofs.lemmas.Bool.Decides.{Decides-eqb, nat_tests}
+use Rattle.std.proofs.lemmas.Bool.{cases_eq, cases_Bool}
+use Rattle.std.proofs.lemmas.Bool.Decides.{nat_tests}
 use Rattle.std.proofs.lemmas.List.{take-append-drop, take_more, map-append, get_or_default, length-take, length-drop, length-append, length-map}
 use Rattle.std.proofs.lemmas.List.Edits.{map_over_more}
 use Rattle.std.proofs.lemmas.List.Concat.{flat_map-append}
@@ -16,10 +14,10 @@ use Rattle.arc_tables.specs.Edited.{AreApart, onto, drawn, collapsed, Collapses,
 use Rattle.arc_tables.specs.declared.arc.Arc.{Arc}
 use Rattle.arc_tables.specs.declared.arc.Stand.{Stand}
 use Rattle.arc_tables.specs.Stores.{IsPlace, path_in, stand_at, Listed, ListsMore, SameUsers}
-use Rattle.arc_tables.proofs.Moves.{flipped, is_seg-flip, links-append, times-append, same_seg}
+use Rattle.arc_tables.proofs.Moves.{is_seg-flip, links-append, times-append, same_seg}
 use Rattle.arc_tables.proofs.StoreLemmas.{taken_cases}
 use Rattle.arc_tables.proofs.Held.{none_at}
-use Rattle.arc_tables.proofs.Segments.{ends_of, is_forth, is_back, times_comm, counts_none, counted, StandsFor, once_for}
+use Rattle.arc_tables.proofs.Segments.{once_for}
 use Rattle.arc_tables.proofs.EditLemmas.{Turns, EditsArcs}
 use Rattle.arc_tables.proofs.Inserting.{parted, of_place, at_next}
 

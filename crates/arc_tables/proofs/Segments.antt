@@ -1,8 +1,6 @@
 -- When an edge is of a segment, and how often a segment stands.
-use Rattle.std.proofs.Common.{◌≡◌, ℕ, ◌+◌, ◌≤◌, Bool, true, false, ◌&&◌, ◌||◌, refl, ap₂, ◌∙◌, List, [], ◌∷◌, ◌⊎◌, inl, inr, arith, Result, Ok, Err, IfOk, OnOk, OnErr}
-use Rattle.std.specs.Prelude.{◌==◌}
-use Rattle.std.proofs.lemmas.Bool.{false≢true}
-use Rattle.std.proofs.lemmas.Bool.Decides.{Decides-eqb, nat_tests}
+use Rattle.std.proofs.Common.{◌≡◌, ℕ, ◌≤◌, Bool, true, refl, List, [], ◌∷◌, ◌⊎◌, arith, Result, Ok, Err, IfOk, OnOk, OnErr}
+use Rattle.std.proofs.lemmas.Bool.Decides.{nat_tests}
 use Rattle.arc_tables.specs.Ways.{Edge, links, is_seg, one, times, Once}
 
 -- the ends of an edge of the segment

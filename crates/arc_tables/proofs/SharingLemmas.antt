@@ -1,5 +1,5 @@
 -- The rings that have a segment in common with a ring: those of its arcs that have a segment.
-use Rattle.std.proofs.Common.{◌≡◌, ℕ, ◌≤◌, true, false, refl, sym, subst, arith, inl, inr, ◌⊎◌}
+use Rattle.std.proofs.Common.{◌≡◌, ℕ, ◌≤◌, true, false, refl, sym, subst, arith, inl, inr}
 use Rattle.std.proofs.Common.{List, [], ◌∷◌, ◌++◌, Contains}
 use Rattle.std.specs.Prelude.{◌==◌}
 use Rattle.std.specs.List.{flat_map}
