@@ -23,10 +23,14 @@ module _ {T : Type 0} (is_clone : T → T → Type 0) where
   cloned_at : (s t : Slab T) → IsSlabClone is_clone s t → (k : ℕ) → IsSlotClone is_clone (get s k) (get t k)
   cloned_at s t c k = cloned_place s.slots t.slots k c.slots
 
-  cloned_there : (o p : Option T) → IsSlotClone is_clone o p → is_some p ≡ is_some o
-  cloned_there None p h = ap is_some h
-  cloned_there (Some v) None h = absurd h
-  cloned_there (Some v) (Some w) h = refl
+  -- what is alike in an element and its clone
+  cloned_as : {B : Type 0} (f : Option T → B) → ((v w : T) → is_clone v w → f (Some w) ≡ f (Some v)) → (s t : Slab T) → IsSlabClone is_clone s t → (k : ℕ) → f (get t k) ≡ f (get s k)
+  cloned_as f alike s t c k = by (get s k) (get t k) (cloned_at s t c k)
+    where
+      by : (o p : Option T) → IsSlotClone is_clone o p → f p ≡ f o
+      by None p h = ap f h
+      by (Some v) None h = absurd h
+      by (Some v) (Some w) h = alike v w h
 
 module _ {A : Type 0} where
   -- copies have the same keys, rings, uses and arcs
@@ -39,35 +43,14 @@ module _ {A : Type 0} where
   abbrev pub SameStand : Stand A → Stand A → Type 0
   SameStand stand copy = (copy.arcs ≡ stand.arcs) × (copy.ends ≡ stand.ends)
 
-  cloned_path : (o p : Option (Arc A)) → IsSlotClone SameArc o p → path_in p ≡ path_in o
-  cloned_path None p h = ap path_in h
-  cloned_path (Some v) None h = absurd h
-  cloned_path (Some v) (Some w) h = h.0
-
-  cloned_users : (o p : Option (Arc A)) → IsSlotClone SameArc o p → users_in p ≡ users_in o
-  cloned_users None p h = ap users_in h
-  cloned_users (Some v) None h = absurd h
-  cloned_users (Some v) (Some w) h = h.1
-
-  cloned_uses : (o p : Option (Ring A)) → IsSlotClone SameUses o p → uses_in p ≡ uses_in o
-  cloned_uses None p h = ap uses_in h
-  cloned_uses (Some v) None h = absurd h
-  cloned_uses (Some v) (Some w) h = h
-
   pub cloned_arcs : (s t : Slab (Arc A)) → IsSlabClone SameArc s t → SamePaths s t × SameUsers s t
   cloned_arcs s t c = (
-    (λ j. cloned_path (get s j) (get t j) (cloned_at SameArc s t c j)),
-    record {
-      there = λ j. cloned_there SameArc (get s j) (get t j) (cloned_at SameArc s t c j);
-      users = λ j. cloned_users (get s j) (get t j) (cloned_at SameArc s t c j);
-    },
+    cloned_as SameArc path_in (λ v w h. h.0) s t c,
+    record { there = cloned_as SameArc is_some (λ v w h. refl) s t c; users = cloned_as SameArc users_in (λ v w h. h.1) s t c },
   )
 
   pub cloned_rings : (s t : Slab (Ring A)) → IsSlabClone SameUses s t → SameRings s t × SameKeys s t
-  cloned_rings s t c = (
-    (λ k. cloned_uses (get s k) (get t k) (cloned_at SameUses s t c k)),
-    (λ k. cloned_there SameUses (get s k) (get t k) (cloned_at SameUses s t c k)),
-  )
+  cloned_rings s t c = (cloned_as SameUses uses_in (λ v w h. h) s t c, cloned_as SameUses is_some (λ v w h. refl) s t c)
 
   cloned_lists : (ss ts : List (Stand A)) → AllZip SameStand ss ts → map (λ (s : Stand A). s.arcs) ts ≡ map (λ (s : Stand A). s.arcs) ss
   cloned_lists [] [] h = refl

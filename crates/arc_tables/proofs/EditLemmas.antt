@@ -1,6 +1,5 @@
 -- An edit of each arc edge by edge is the edit of each ring.
 use Rattle.std.proofs.Common.{◌≡◌, refl, sym, ap, ap₂, ◌∙◌, ℕ, Bool, true, false, List, [], ◌∷◌, ◌++◌, Option, Some, None, option_map, is_some, subst, Contains, arith, ◌≢◌, ◌⊎◌, inl, inr}
-use native.Mathlib.Decide.{ℕ_discrete}
 use Rattle.std.specs.List.{flat_map}
 use Rattle.std.proofs.lemmas.List.{append-nil}
 use Rattle.std.proofs.lemmas.List.Concat.{flat_map-append}
@@ -17,6 +16,7 @@ use Rattle.arc_tables.specs.Sound.{edges_in, rings_of}
 use Rattle.arc_tables.proofs.Moves.{flip, flipped, flipped-append, links-reverse, keeps_same}
 use Rattle.arc_tables.proofs.RingLemmas.{get_rings, rings_kept}
 use Rattle.arc_tables.proofs.Segments.{once_for}
+use Rattle.arc_tables.proofs.WholeLemmas.{listed_but}
 
 -- the edit of an edge in reverse is the reverse of its edit
 abbrev pub Turns : (Edge → List Edge) → Type 0
@@ -61,14 +61,7 @@ module _ {A : Type 0} where
   -- one arc has other keys, the vertices of which list it
   pub listed_edited : (arcs arcs' : Slab (Arc A)) (ss ss' : List (Stand A)) (i q : ℕ) → ((k : ℕ) → Contains (path_in (get arcs' i)) k → Contains (path_in (get arcs i)) k ⊎ (k ≡ q)) → ((j : ℕ) → j ≢ i → get arcs' j ≡ get arcs j) →
       ListsMore ss ss' → Contains (stand_at ss' q) i → Listed arcs ss → Listed arcs' ss'
-  listed_edited arcs arcs' ss ss' i q keys others more noted h j k m = by (ℕ_discrete j i)
-    where
-      by : Dec (j ≡ i) → Contains (stand_at ss' k) j
-      by (yes e) = subst (λ n. Contains (stand_at ss' k) n) (sym e) (elim (keys k (subst (λ n. Contains (path_in (get arcs' n)) k) e m)) [
-        | inl y ↦ more k i (h i k y)
-        | inr f ↦ subst (λ n. Contains (stand_at ss' n) i) (sym f) noted
-      ])
-      by (no f) = more k j (h j k (subst (λ o. Contains (path_in o) k) (others j f) m))
+  listed_edited arcs arcs' ss ss' i q keys others more noted h = listed_but arcs arcs' ss ss' i (λ k m. elim (keys k m) [ inl y ↦ more k i (h i k y) | inr f ↦ subst (λ n. Contains (stand_at ss' n) i) (sym f) noted ]) others more h
 
 -- the same paths
 pub once_alike : (s t : ℕ → List ℕ) → ((i : ℕ) → t i ≡ s i) → Once s → Once t

@@ -1,25 +1,17 @@
 -- Where a segment stands, or that it stands nowhere.
-use Rattle.std.proofs.Common.{◌≡◌, ℕ, zero, suc, ◌<◌, ◌≤◌, ◌+◌, ◌-◌, false, refl, ◌||◌, ◌&&◌, sym, ap, ap₂, ◌∙◌, subst, List, [], ◌∷◌, ◌++◌, take, length, get_or, arith, append_assoc, ◌⊎◌, inl, inr, Contains, Option, Some, None, IfNone}
+use Rattle.std.proofs.Common.{◌≡◌, ℕ, zero, suc, ◌<◌, ◌≤◌, ◌+◌, ◌-◌, false, refl, ◌&&◌, sym, ap, ◌∙◌, subst, List, [], ◌∷◌, ◌++◌, take, length, get_or, arith, append_assoc, inl, inr, Contains, Option, Some, None, IfNone}
 use Rattle.std.specs.Prelude.{◌==◌}
-use native.Mathlib.Decide.{ℕ_discrete}
 use Rattle.std.proofs.lemmas.List.{take_more}
-use Rattle.slab.proofs.SlabLemmas.{Contains-cons, Contains-cons_cases}
 use Rattle.arc_tables.proofs.Held.{none_at}
-use Rattle.arc_tables.specs.Ways.{links, times, is_seg, one}
+use Rattle.arc_tables.specs.Ways.{links, times, one}
 use Rattle.arc_tables.proofs.Moves.{links-append, times-append}
+use Rattle.std.proofs.lemmas.Bool.{cases_Bool, both_ways, or_from}
+use Rattle.std.specs.List.{list_any}
+use Rattle.arc_tables.proofs.Different.{contained_any, any_contained}
 
 -- a path without the vertex has none of its segments, so it is enough to look where it stands
 pub none_unless : (a b : ℕ) (ps : List ℕ) → (Contains ps a → times a b (links ps) ≡ 0) → times a b (links ps) ≡ 0
-none_unless a b ps h = elim (stands_or_not a ps) [ inl m ↦ h m | inr n ↦ none_at a b ps n ]
-  where
-    stands_or_not : (k : ℕ) (qs : List ℕ) → Contains qs k ⊎ (Contains qs k → ⊥)
-    stands_or_not k [] = inr (λ m. absurd (omega (arith, m.1)))
-    stands_or_not k (q ∷ qs) = by (ℕ_discrete q k) (stands_or_not k qs)
-      where
-        by : Dec (q ≡ k) → Contains qs k ⊎ (Contains qs k → ⊥) → Contains (q ∷ qs) k ⊎ (Contains (q ∷ qs) k → ⊥)
-        by (yes e) _ = inl (0, omega arith, e)
-        by (no f) (inl m) = inl (Contains-cons q k qs m)
-        by (no f) (inr n) = inr (λ m. elim (Contains-cons_cases q k qs m) [ inl e ↦ f e | inr x ↦ n x ])
+none_unless a b ps h = elim (cases_Bool (list_any (λ k. k == a) ps)) [ inl e ↦ h (any_contained a ps e) | inr e ↦ none_at a b ps (λ m. both_ways _ e (contained_any a ps m)) ]
 
 pub if_none_map : {X : Type 0} {P Q : Type 0} (o : Option X) → (P → Q) → IfNone o P → IfNone o Q
 if_none_map None f p = f p
@@ -30,15 +22,18 @@ pub none_begun : (a b : ℕ) (ps : List ℕ) (n : ℕ) → n ≤ 1 → times a b
 none_begun a b ps zero l = refl
 none_begun a b [] (suc n) l = refl
 none_begun a b (p ∷ ps) (suc zero) l = refl
-none_begun a b (p ∷ ps) (suc (suc n)) l = absurd (omega (arith, l))
+none_begun a b (p ∷ ps) (suc (suc n)) l = absurd (omega arith)
+
+-- one more key is one more link
+pub links_more : (ps : List ℕ) (at p q : ℕ) → 1 ≤ at → at < length ps → p ≡ get_or ps (at - 1) p → q ≡ get_or ps at q → links (take (at + 1) ps) ≡ links (take at ps) ++ (p, q) ∷ []
+links_more ps at p q l m ep eq =
+    let before : take at ps ≡ take (at - 1) ps ++ p ∷ [] = subst (λ k. take k ps ≡ take (at - 1) ps ++ p ∷ []) (omega arith) (take_more ps (at - 1) p (omega arith) ∙ ap (λ z. take (at - 1) ps ++ z ∷ []) (sym ep)) in
+    ap links (take_more ps at q m ∙ ap (λ z. take at ps ++ z ∷ []) (sym eq) ∙ ap (λ z. z ++ q ∷ []) before ∙ append_assoc (take (at - 1) ps) (p ∷ []) (q ∷ []))
+    ∙ links-append (take (at - 1) ps) p (q ∷ [])
+    ∙ ap (λ z. links z ++ (p, q) ∷ []) (sym before)
 
 -- one more edge, which is not of the segment
 pub times_more : (a b p q : ℕ) (ps : List ℕ) (at : ℕ) → 1 ≤ at → at < length ps → p ≡ get_or ps (at - 1) p → q ≡ get_or ps at q → times a b (links (take at ps)) ≡ 0 →
     (p == a && q == b) ≡ false → (p == b && q == a) ≡ false → times a b (links (take (at + 1) ps)) ≡ 0
 times_more a b p q ps at l m ep eq h f g =
-    let before : take at ps ≡ take (at - 1) ps ++ p ∷ [] = subst (λ k. take k ps ≡ take (at - 1) ps ++ p ∷ []) (omega arith) (take_more ps (at - 1) p (omega arith) ∙ ap (λ z. take (at - 1) ps ++ z ∷ []) (sym ep)) in
-    let here : is_seg a b (p, q) ≡ false = ap₂ (λ y z. y || z) f g in
-    ap (λ z. times a b (links z)) (take_more ps at q m ∙ ap (λ z. take at ps ++ z ∷ []) (sym eq) ∙ ap (λ z. z ++ q ∷ []) before ∙ append_assoc (take (at - 1) ps) (p ∷ []) (q ∷ []))
-    ∙ ap (times a b) (links-append (take (at - 1) ps) p (q ∷ []))
-    ∙ times-append a b (links (take (at - 1) ps ++ p ∷ [])) ((p, q) ∷ [])
-    ∙ ap₂ (λ y z. y + (one z + 0)) (ap (λ z. times a b (links z)) (sym before) ∙ h) here ∙ omega arith
+    omega (arith, ap (times a b) (links_more ps at p q l m ep eq), times-append a b (links (take at ps)) ((p, q) ∷ []), ap one (or_from _ _ f g))

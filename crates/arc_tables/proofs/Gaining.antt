@@ -1,8 +1,8 @@
 -- How many positions rings gain while vertices come in one after the other.
-use Rattle.std.proofs.Common.{◌≡◌, ℕ, ◌+◌, ◌<◌, ◌≤◌, ◌&&◌, Bool, true, false, cond, refl, sym, ap, ap₂, ◌∙◌, subst, arith}
-use Rattle.std.proofs.Common.{List, [], ◌∷◌, map, length, drop, get_or, Some, option_map}
+use Rattle.std.proofs.Common.{◌≡◌, ℕ, ◌+◌, ◌<◌, ◌≤◌, ◌&&◌, refl, sym, ap, ap₂, ◌∙◌, subst, arith}
+use Rattle.std.proofs.Common.{List, [], ◌∷◌, map, length, drop, get_or, option_map}
 use Rattle.std.specs.Prelude.{T}
-use Rattle.std.specs.Ordering.{nat_cmp, is_lt, eq_by_cmp}
+use Rattle.std.specs.Ordering.{nat_cmp, is_lt}
 use Rattle.std.proofs.lemmas.Cmp.{nat_cmp_total}
 use Rattle.std.proofs.lemmas.List.{at_drop_more, at_drop_all}
 use Rattle.std.proofs.lemmas.Simd.{map-map}
@@ -35,12 +35,7 @@ module _ {X Y : Type 0} (f : X → Y) where
 
   find_each : (k : ℕ) (es : List (ℕ × X)) → rings.find nat_cmp k (each es) ≡ option_map f (rings.find nat_cmp k es)
   find_each k [] = refl
-  find_each k (e ∷ es) = by (eq_by_cmp nat_cmp k e.0) (find_each k es)
-    where
-      by : (b : Bool) → rings.find nat_cmp k (each es) ≡ option_map f (rings.find nat_cmp k es)
-          → cond b (Some (f e.1)) (rings.find nat_cmp k (each es)) ≡ option_map f (cond b (Some e.1) (rings.find nat_cmp k es))
-      by true rest = refl
-      by false rest = rest
+  find_each k (e ∷ es) = grind (arith, find_each k es)
 
   -- a map that has the edited value under every key has the edited values in order
   pub values_each : (m : rings.FinMap nat_cmp X) (n : rings.FinMap nat_cmp Y)

@@ -1,8 +1,8 @@
 -- A vertex comes between two others.
-use Rattle.std.proofs.Common.{◌≡◌, ◌≢◌, ℕ, ◌+◌, ◌≤◌, ◌<◌, zero, suc, Bool, true, false, cond, refl, sym, ap, ap₂, ◌∙◌, subst, List, [], ◌∷◌, ◌++◌, take, drop, length, get_or, ◌⊎◌, inl, inr, arith, Contains}
+use Rattle.std.proofs.Common.{◌≡◌, ◌≢◌, ℕ, ◌+◌, ◌≤◌, ◌<◌, suc, Bool, true, cond, refl, sym, ap, ap₂, ◌∙◌, subst, List, [], ◌∷◌, ◌++◌, take, drop, length, get_or, ◌⊎◌, inl, inr, arith, Contains, drop-cons, append_assoc}
 use native.Mathlib.Decide.{ℕ_discrete}
 use Rattle.std.specs.List.{insert}
-use Rattle.std.proofs.lemmas.List.{take-append-drop}
+use Rattle.std.proofs.lemmas.List.{take-append-drop, take_more}
 use Rattle.std.proofs.lemmas.List.Concat.{flat_map-append}
 use Rattle.std.proofs.lemmas.List.Elements.{Contains-append_left, Contains-append_right, Contains-append_cases}
 use Rattle.slab.specs.Slab.{Slab, get}
@@ -11,27 +11,21 @@ use Rattle.arc_tables.specs.declared.arc.Arc.{Arc}
 use Rattle.arc_tables.specs.Ways.{Edge, links, is_seg, one, times, Once}
 use Rattle.arc_tables.specs.Edited.{AreApart, over, through}
 use Rattle.arc_tables.specs.Stores.{IsPlace, path_in}
-use Rattle.arc_tables.proofs.Moves.{flip, flipped, is_seg-flip, links-append, times-append}
-use Rattle.arc_tables.proofs.Segments.{ends_of, is_forth, is_back, times_comm, counts_none, counted, StandsFor, once_for}
+use Rattle.arc_tables.proofs.Moves.{is_seg-flip, links-append, times-append}
+use Rattle.arc_tables.proofs.Segments.{times_comm, StandsFor, once_for}
 use Rattle.arc_tables.proofs.EditLemmas.{Turns, EditsArcs}
+use Rattle.std.proofs.lemmas.Bool.{cases_eq}
+use Rattle.std.proofs.lemmas.Bool.Decides.{nat_tests}
 
 pub over-turns : (a b q : ℕ) → Turns (over a b q)
-over-turns a b q e = ap (λ t. cond t ((e.1, q) ∷ (q, e.0) ∷ []) (flip e ∷ [])) (is_seg-flip a b e) ∙ by (is_seg a b e)
-  where
-    by : (t : Bool) → cond t ((e.1, q) ∷ (q, e.0) ∷ []) (flip e ∷ []) ≡ flipped (cond t ((e.0, q) ∷ (q, e.1) ∷ []) (e ∷ []))
-    by true = refl
-    by false = refl
+over-turns a b q e = grind (arith, is_seg-flip a b e)
 
 -- ---- in one arc
 
 -- where the segment does not stand, nothing changes
 pub untouched : (a b q : ℕ) (es : List Edge) → times a b es ≡ 0 → through a b q es ≡ es
 untouched a b q [] h = refl
-untouched a b q (e ∷ es) h = by (is_seg a b e) refl (untouched a b q es (omega arith))
-  where
-    by : (t : Bool) → is_seg a b e ≡ t → through a b q es ≡ es → cond t ((e.0, q) ∷ (q, e.1) ∷ []) (e ∷ []) ++ through a b q es ≡ e ∷ es
-    by true f k = absurd (counted (is_seg a b e) (omega arith) f)
-    by false f k = ap (λ z. e ∷ z) k
+untouched a b q (e ∷ es) h = grind (arith, untouched a b q es)
 
 -- between two keys of a path, where their segment stands there alone
 pub between : (a b q : ℕ) (us : List ℕ) (x y : ℕ) (vs : List ℕ) → is_seg a b (x, y) ≡ true → times a b (links (us ++ x ∷ y ∷ vs)) ≤ 1 →
@@ -45,31 +39,22 @@ between a b q us x y vs h once =
     ∙ flat_map-append (over a b q) (links (us ++ x ∷ [])) ((x, y) ∷ links (y ∷ vs))
     ∙ ap₂ (λ u v. u ++ v) (untouched a b q (links (us ++ x ∷ [])) (omega arith)) (ap₂ (λ t z. cond t ((x, q) ∷ (q, y) ∷ []) ((x, y) ∷ []) ++ z) h (untouched a b q (links (y ∷ vs)) (omega arith))))
 
+pub at_next : (ps : List ℕ) (at here next : ℕ) → here ≡ at → next ≡ at + 1 → at < length ps → drop here ps ≡ get_or ps at 0 ∷ drop next ps
+at_next ps at here next d e l =
+    let f : suc at ≡ next = omega arith in
+    ap (λ k. drop k ps) d ∙ drop-cons ps at 0 l ∙ ap (λ k. get_or ps at 0 ∷ drop k ps) f
+
 -- the path around a place
 pub parted : (ps : List ℕ) (at : ℕ) → at + 1 < length ps → ps ≡ take at ps ++ get_or ps at 0 ∷ get_or ps (at + 1) 0 ∷ drop (at + 2) ps
-parted [] at l = absurd (omega arith)
-parted (x ∷ []) at l = absurd (omega arith)
-parted (x ∷ y ∷ ps) zero l = refl
-parted (x ∷ y ∷ ps) (suc at) l = ap (λ z. x ∷ z) (parted (y ∷ ps) at (omega arith) ∙ rest)
-  where
-    rest : take at (y ∷ ps) ++ get_or (y ∷ ps) at 0 ∷ get_or (y ∷ ps) (at + 1) 0 ∷ drop (at + 2) (y ∷ ps) ≡ take at (y ∷ ps) ++ get_or (y ∷ ps) at 0 ∷ get_or (x ∷ y ∷ ps) (suc at + 1) 0 ∷ drop (suc at + 2) (x ∷ y ∷ ps)
-    rest = let e : suc at + 1 ≡ suc (at + 1) = omega arith in let f : suc at + 2 ≡ suc (at + 2) = omega arith in rw (e, f) refl
+parted ps at l =
+    sym (take-append-drop at ps) ∙ ap (λ z. take at ps ++ z) (at_next ps at at (at + 1) refl refl (omega arith) ∙ ap (λ z. get_or ps at 0 ∷ z) (at_next ps (at + 1) (at + 1) (at + 2) refl (omega arith) l))
 
 pub inserted : (ps : List ℕ) (at q : ℕ) → at + 1 < length ps → insert ps (at + 1) q ≡ take at ps ++ get_or ps at 0 ∷ q ∷ get_or ps (at + 1) 0 ∷ drop (at + 2) ps
-inserted [] at q l = absurd (omega arith)
-inserted (x ∷ []) at q l = absurd (omega arith)
-inserted (x ∷ y ∷ ps) zero q l = refl
-inserted (x ∷ y ∷ ps) (suc at) q l =
-    let e : suc at + 1 ≡ suc (at + 1) = omega arith in
-    let f : suc at + 2 ≡ suc (at + 2) = omega arith in
-    rw (e, f) (ap (λ z. x ∷ z) (inserted (y ∷ ps) at q (omega arith)))
+inserted ps at q l =
+    ap₂ (λ y z. y ++ q ∷ z) (take_more ps at 0 (omega arith)) (at_next ps (at + 1) (at + 1) (at + 2) refl (omega arith) l) ∙ append_assoc (take at ps) (get_or ps at 0 ∷ []) (q ∷ get_or ps (at + 1) 0 ∷ drop (at + 2) ps)
 
 pub of_place : (a b at : ℕ) (back : Bool) (ps : List ℕ) → IsPlace ps at back a b → is_seg a b (get_or ps at 0, get_or ps (at + 1) 0) ≡ true
-of_place a b at back ps p = by back p.here p.next
-  where
-    by : (t : Bool) → get_or ps at 0 ≡ cond t b a → get_or ps (at + 1) 0 ≡ cond t a b → is_seg a b (get_or ps at 0, get_or ps (at + 1) 0) ≡ true
-    by true h n = is_back a b (get_or ps at 0, get_or ps (at + 1) 0) h n
-    by false h n = is_forth a b (get_or ps at 0, get_or ps (at + 1) 0) h n
+of_place a b at back ps p = grind (arith, nat_tests, p.here, p.next)
 
 -- the segment stands at its place
 pub placed : (a b at : ℕ) (back : Bool) (ps : List ℕ) → IsPlace ps at back a b → 1 ≤ times a b (links ps)
@@ -104,15 +89,15 @@ module _ {A : Type 0} where
   -- the one arc with the segment leads over q, and the others have it not
   pub inserted_arcs : (arcs arcs' : Slab (Arc A)) (i a b q at : ℕ) (back : Bool) → IsPlace (path_in (get arcs i)) at back a b → Once (λ j. path_in (get arcs j)) →
       path_in (get arcs' i) ≡ insert (path_in (get arcs i)) (at + 1) q → ((j : ℕ) → j ≢ i → get arcs' j ≡ get arcs j) → EditsArcs (over a b q) (λ j. path_in (get arcs j)) (λ j. path_in (get arcs' j))
-  inserted_arcs arcs arcs' i a b q at back p once e others j = by (ℕ_discrete j i) (times a b (links (path_in (get arcs j)))) refl
+  inserted_arcs arcs arcs' i a b q at back p once e others j =
+      let here : 1 ≤ times a b (links (path_in (get arcs i))) = placed a b at back (path_in (get arcs i)) p in
+      elim (cases_eq j i) [
+        | inl f ↦ subst (λ k. links (path_in (get arcs' k)) ≡ through a b q (links (path_in (get arcs k)))) (sym f) (ap links e ∙ inserted_at a b q at back (path_in (get arcs i)) p (once.single a b i))
+        | inr f ↦ ap (λ o. links (path_in o)) (others j f) ∙ sym (untouched a b q (links (path_in (get arcs j))) (none_besides j f here))
+      ]
     where
-      here : 1 ≤ times a b (links (path_in (get arcs i)))
-      here = placed a b at back (path_in (get arcs i)) p
-
-      by : Dec (j ≡ i) → (n : ℕ) → times a b (links (path_in (get arcs j))) ≡ n → links (path_in (get arcs' j)) ≡ through a b q (links (path_in (get arcs j)))
-      by (yes f) n t = subst (λ k. links (path_in (get arcs' k)) ≡ through a b q (links (path_in (get arcs k)))) (sym f) (ap links e ∙ inserted_at a b q at back (path_in (get arcs i)) p (once.single a b i))
-      by (no f) zero t = ap (λ o. links (path_in o)) (others j f) ∙ sym (untouched a b q (links (path_in (get arcs j))) t)
-      by (no f) (suc n) t = absurd (f (once.apart a b j i (omega arith) here))
+      none_besides : (j : ℕ) → j ≢ i → 1 ≤ times a b (links (path_in (get arcs i))) → times a b (links (path_in (get arcs j))) ≡ 0
+      none_besides j f here = grind (arith, once.apart a b j i)
 
 -- ---- each segment once
 
@@ -120,47 +105,12 @@ module _ (a b q : ℕ) (ne : AreApart a b q) where
   -- a segment of q comes in where that of a and b was
   pub with_q : (x : ℕ) (es : List Edge) → ((y : ℕ) → times q y es ≡ 0) → times q x (through a b q es) ≤ times a b es
   with_q x [] h = omega arith
-  with_q x (e ∷ es) h = omega (arith, times-append q x (over a b q e) (through a b q es), by (is_seg a b e) refl, with_q x es (λ y. omega (arith, h y)))
-    where
-      first : e.0 ≢ q
-      first f = counted (is_seg q e.1 e) (omega (arith, h e.1)) (is_forth q e.1 e f refl)
-
-      second : e.1 ≢ q
-      second f = counted (is_seg q e.0 e) (omega (arith, h e.0)) (is_back q e.0 e refl f)
-
-      at_most : (s t : Bool) → (s ≡ true → t ≡ true → ⊥) → one s + (one t + 0) ≤ 1
-      at_most true true k = absurd (k refl refl)
-      at_most true false k = omega arith
-      at_most false true k = omega arith
-      at_most false false k = omega arith
-
-      from_q : is_seg q x (e.0, q) ≡ true → e.0 ≡ x
-      from_q k = elim (ends_of q x (e.0, q) k) [ inl f ↦ absurd (first f.0) | inr f ↦ f.0 ]
-
-      to_q : is_seg q x (q, e.1) ≡ true → e.1 ≡ x
-      to_q k = elim (ends_of q x (q, e.1) k) [ inl f ↦ f.1 | inr f ↦ absurd (second f.1) ]
-
-      differ : is_seg a b e ≡ true → e.0 ≡ e.1 → ⊥
-      differ k f = elim (ends_of a b e k) [ inl g ↦ ne.0 (sym g.0 ∙ f ∙ g.1) | inr g ↦ ne.0 (sym g.1 ∙ sym f ∙ g.0) ]
-
-      by : (t : Bool) → is_seg a b e ≡ t → times q x (cond t ((e.0, q) ∷ (q, e.1) ∷ []) (e ∷ [])) ≤ one t
-      by true k = at_most (is_seg q x (e.0, q)) (is_seg q x (q, e.1)) (λ f g. differ k (from_q f ∙ sym (to_q g)))
-      by false k = omega (arith, h x)
+  with_q x (e ∷ es) h = grind (arith, nat_tests, times-append q x (over a b q e) (through a b q es), h x, h e.0, h e.1, ne.0, with_q x es (λ y. omega (arith, h y)))
 
   -- and any other stays
   without_q : (c d : ℕ) → c ≢ q → d ≢ q → (es : List Edge) → times c d (through a b q es) ≤ times c d es
   without_q c d f g [] = omega arith
-  without_q c d f g (e ∷ es) = omega (arith, times-append c d (over a b q e) (through a b q es), by (is_seg a b e), without_q c d f g es)
-    where
-      to_q : is_seg c d (e.0, q) ≡ true → ⊥
-      to_q k = elim (ends_of c d (e.0, q) k) [ inl h ↦ g (sym h.1) | inr h ↦ f (sym h.1) ]
-
-      from_q : is_seg c d (q, e.1) ≡ true → ⊥
-      from_q k = elim (ends_of c d (q, e.1) k) [ inl h ↦ f (sym h.0) | inr h ↦ g (sym h.0) ]
-
-      by : (t : Bool) → times c d (cond t ((e.0, q) ∷ (q, e.1) ∷ []) (e ∷ [])) ≤ one (is_seg c d e)
-      by true = omega (arith, counts_none (is_seg c d (e.0, q)) to_q, counts_none (is_seg c d (q, e.1)) from_q)
-      by false = omega arith
+  without_q c d f g (e ∷ es) = grind (arith, nat_tests, times-append c d (over a b q e) (through a b q es), without_q c d f g es)
 
   pub once_through : (s t : ℕ → List ℕ) → EditsArcs (over a b q) s t → ((x i : ℕ) → times q x (links (s i)) ≡ 0) → Once s → Once t
   once_through s t k new = once_for s t (λ c d. by c d (ℕ_discrete c q) (ℕ_discrete d q))

@@ -1,12 +1,11 @@
 -- What each move does to the rings, and that no segment comes to stand twice.
-use Rattle.std.proofs.Common.{◌≡◌, ◌≢◌, ℕ, ◌+◌, ◌≤◌, Bool, true, false, ◌&&◌, ◌||◌, refl, sym, ap, ap₂, ◌∙◌, subst, cond, List, [], ◌∷◌, ◌++◌, map, reverse, append_assoc, ◌⊎◌, inl, inr, arith}
+use Rattle.std.proofs.Common.{◌≡◌, ◌≢◌, ℕ, ◌+◌, ◌≤◌, Bool, true, false, refl, sym, ap, ap₂, ◌∙◌, subst, cond, List, [], ◌∷◌, ◌++◌, map, reverse, append_assoc, ◌⊎◌, inl, inr, arith}
 use Rattle.std.specs.Prelude.{◌==◌}
 use Rattle.std.specs.List.{flat_map, AllByRecursion}
 use Rattle.std.proofs.lemmas.List.{append-nil, map-append, reverse-append}
 use Rattle.std.proofs.lemmas.List.Concat.{flat_map-append}
-use Rattle.std.proofs.lemmas.Bool.{false≢true}
-use Rattle.std.proofs.lemmas.Bool.Decides.{Decides-eqb}
-use native.Mathlib.Decide.{ℕ_discrete}
+use Rattle.std.proofs.lemmas.Bool.{false≢true, cases_eq, cases_Bool}
+use Rattle.std.proofs.lemmas.Bool.Decides.{Decides-eqb, nat_tests}
 use Rattle.arc_tables.specs.declared.arc.Use.{Use}
 use Rattle.arc_tables.specs.Ways.{Edge, links, walk, chain, is_seg, one, times, Once, Store, edges_of, Keeps, Grows, Lacks, both_parts, Cuts, Takes, Starts, Extends, IsNew, TakesOut, OpenAt, Spoils}
 
@@ -43,7 +42,7 @@ pub replaced : (s t : ℕ → List ℕ) (g : Use → List Use) (us : List Use) �
 replaced s t g [] h = refl
 replaced s t g (u ∷ us) h = flat_map-append (λ v. links (walk v.back (t v.arc))) (g u) (flat_map g us) ∙ ap₂ (λ y z. y ++ z) h.0 (replaced s t g us h.1)
 
-all_of : {P Q : Use → Type 0} → ((u : Use) → P u → Q u) → (us : List Use) → AllByRecursion P us → AllByRecursion Q us
+pub all_of : {P Q : Use → Type 0} → ((u : Use) → P u → Q u) → (us : List Use) → AllByRecursion P us → AllByRecursion Q us
 all_of f [] h = tt
 all_of f (u ∷ us) h = (f u h.0, all_of f us h.1)
 
@@ -65,36 +64,12 @@ pub times-append : (a b : ℕ) (es fs : List Edge) → times a b (es ++ fs) ≡ 
 times-append a b [] fs = omega arith
 times-append a b (e ∷ es) fs = omega (arith, times-append a b es fs)
 
-either_way : (w x y z : Bool) → ((w && x) || (y && z)) ≡ ((z && y) || (x && w))
-either_way true true true true = refl
-either_way true true true false = refl
-either_way true true false true = refl
-either_way true true false false = refl
-either_way true false true true = refl
-either_way true false true false = refl
-either_way true false false true = refl
-either_way true false false false = refl
-either_way false true true true = refl
-either_way false true true false = refl
-either_way false true false true = refl
-either_way false true false false = refl
-either_way false false true true = refl
-either_way false false true false = refl
-either_way false false false true = refl
-either_way false false false false = refl
-
 pub is_seg-flip : (a b : ℕ) (e : Edge) → is_seg a b (flip e) ≡ is_seg a b e
-is_seg-flip a b e = either_way (e.1 == a) (e.0 == b) (e.1 == b) (e.0 == a)
+is_seg-flip a b e = grind arith
 
 pub times-flipped : (a b : ℕ) (es : List Edge) → times a b (flipped es) ≡ times a b es
 times-flipped a b [] = refl
 times-flipped a b (e ∷ es) = ap (times a b) (flipped-append (e ∷ []) es) ∙ times-append a b (flipped es) (flip e ∷ []) ∙ ap₂ (λ y z. y + (one z + 0)) (times-flipped a b es) (is_seg-flip a b e) ∙ omega arith
-
--- an arc is the one that is cut, the new one, or another
-pub data Place (i n j : ℕ) : Type 0 where
-  at_i : j ≡ i → Place i n j
-  at_n : j ≡ n → Place i n j
-  other : j ≢ i → j ≢ n → Place i n j
 
 -- the segments of s's arc i stand in t's arcs i and n
 pub record Pieces (s t : ℕ → List ℕ) (i n : ℕ) : Type 0 where
@@ -106,51 +81,11 @@ pub record Pieces (s t : ℕ → List ℕ) (i n : ℕ) : Type 0 where
 pub once_pieces : (s t : ℕ → List ℕ) (i n : ℕ) → Pieces s t i n → Once s → Once t
 once_pieces s t i n p h = record { apart = apart; single = single }
   where
-    place : (j : ℕ) → Place i n j
-    place j = by (ℕ_discrete j i) (ℕ_discrete j n)
-      where
-        by : Dec (j ≡ i) → Dec (j ≡ n) → Place i n j
-        by (yes e) d = at_i e
-        by (no f) (yes e) = at_n e
-        by (no f) (no g) = other f g
-
     single : (a b j : ℕ) → times a b (links (t j)) ≤ 1
-    single a b j = by (place j)
-      where
-        by : Place i n j → times a b (links (t j)) ≤ 1
-        by (at_i e) = subst (λ k. times a b (links (t k)) ≤ 1) (sym e) (omega (arith, p.sum a b, h.single a b i))
-        by (at_n e) = subst (λ k. times a b (links (t k)) ≤ 1) (sym e) (omega (arith, p.sum a b, h.single a b i))
-        by (other f g) = subst (λ z. times a b (links z) ≤ 1) (sym (p.others j f g)) (h.single a b j)
+    single a b j = grind (arith, cases_eq j i, cases_eq j n, p.sum a b, p.others j, h.single a b i, h.single a b j)
 
     apart : (a b j k : ℕ) → 1 ≤ times a b (links (t j)) → 1 ≤ times a b (links (t k)) → j ≡ k
-    apart a b j k x y = by (place j) (place k)
-      where
-        -- an old arc other than i and n has no segment of i
-        clash : (l : ℕ) → l ≢ i → l ≢ n → 1 ≤ times a b (links (t l)) → 1 ≤ times a b (links (s i)) → ⊥
-        clash l f g z w = f (h.apart a b l i (subst (λ q. 1 ≤ times a b (links q)) (p.others l f g) z) w)
-
-        in_i : 1 ≤ times a b (links (t i)) → 1 ≤ times a b (links (s i))
-        in_i z = omega (arith, p.sum a b)
-
-        in_n : 1 ≤ times a b (links (t n)) → 1 ≤ times a b (links (s i))
-        in_n z = omega (arith, p.sum a b)
-
-        both : 1 ≤ times a b (links (t i)) → 1 ≤ times a b (links (t n)) → ⊥
-        both z w = absurd (omega (arith, p.sum a b, h.single a b i))
-
-        to : (l m : ℕ) → l ≡ m → 1 ≤ times a b (links (t l)) → 1 ≤ times a b (links (t m))
-        to l m e z = subst (λ q. 1 ≤ times a b (links (t q))) e z
-
-        by : Place i n j → Place i n k → j ≡ k
-        by (at_i e) (at_i f) = e ∙ sym f
-        by (at_n e) (at_n f) = e ∙ sym f
-        by (at_i e) (at_n f) = absurd (both (to j i e x) (to k n f y))
-        by (at_n e) (at_i f) = absurd (both (to k i f y) (to j n e x))
-        by (at_i e) (other f g) = absurd (clash k f g y (in_i (to j i e x)))
-        by (at_n e) (other f g) = absurd (clash k f g y (in_n (to j n e x)))
-        by (other f g) (at_i e) = absurd (clash j f g x (in_i (to k i e y)))
-        by (other f g) (at_n e) = absurd (clash j f g x (in_n (to k n e y)))
-        by (other f g) (other f' g') = h.apart a b j k (subst (λ q. 1 ≤ times a b (links q)) (p.others j f g) x) (subst (λ q. 1 ≤ times a b (links q)) (p.others k f' g') y)
+    apart a b j k x y = grind (arith, cases_eq j i, cases_eq j n, cases_eq k i, cases_eq k n, p.sum a b, p.others j, p.others k, h.single a b i, h.apart a b j k, h.apart a b j i, h.apart a b i k)
 
 -- ---- cut
 
@@ -193,51 +128,23 @@ module _ (r i : ℕ) (back : Bool) (s t : Store) (c : Takes r i back s t) where
   }
 
 -- the ends of equal segments
-same_seg : (a b c d : ℕ) → is_seg c d (a, b) ≡ true → (es : List Edge) → times c d es ≡ times a b es
-same_seg a b c d h es = by (a == c) (b == d) (a == d) (b == c) refl refl refl refl h
-  where
-    swap : (es : List Edge) → times a b es ≡ times b a es
-    swap [] = refl
-    swap (e ∷ es) = ap₂ (λ y z. one y + z) (or_swap (e.0 == a && e.1 == b) (e.0 == b && e.1 == a)) (swap es)
-      where
-        or_swap : (x y : Bool) → (x || y) ≡ (y || x)
-        or_swap true true = refl
-        or_swap true false = refl
-        or_swap false true = refl
-        or_swap false false = refl
-
-    by : (w x y z : Bool) → (a == c) ≡ w → (b == d) ≡ x → (a == d) ≡ y → (b == c) ≡ z → ((w && x) || (y && z)) ≡ true → times c d es ≡ times a b es
-    by true true y z e f g i h = sym (ap₂ (λ p q. times p q es) ((Decides-eqb a c).0 e) ((Decides-eqb b d).0 f))
-    by true false true true e f g i h = sym (swap es ∙ ap₂ (λ p q. times p q es) ((Decides-eqb b c).0 i) ((Decides-eqb a d).0 g))
-    by false x true true e f g i h = sym (swap es ∙ ap₂ (λ p q. times p q es) ((Decides-eqb b c).0 i) ((Decides-eqb a d).0 g))
-    by true false true false e f g i h = absurd (false≢true h)
-    by true false false z e f g i h = absurd (false≢true h)
-    by false x true false e f g i h = absurd (false≢true h)
-    by false x false z e f g i h = absurd (false≢true h)
+-- the ends of equal segments
+pub same_seg : (a b c d : ℕ) → is_seg c d (a, b) ≡ true → (es : List Edge) → times c d es ≡ times a b es
+same_seg a b c d h [] = refl
+same_seg a b c d h (e ∷ es) = grind (arith, nat_tests, same_seg a b c d h es)
 
 -- the segment of a and b, which is new, comes into arc n
 once_more : (s t : ℕ → List ℕ) (n a b : ℕ) → IsNew a b s → ((c d : ℕ) → times c d (links (t n)) ≡ times c d (links (s n)) + times c d ((a, b) ∷ [])) → ((j : ℕ) → j ≢ n → t j ≡ s j) → Once s → Once t
-once_more s t n a b new sum others h = record { apart = λ c d. (cases c d (is_seg c d (a, b)) refl).0; single = λ c d. (cases c d (is_seg c d (a, b)) refl).1 }
+once_more s t n a b new sum others h = record { apart = apart; single = single }
   where
-    cases : (c d : ℕ) (x : Bool) → is_seg c d (a, b) ≡ x → ((i j : ℕ) → 1 ≤ times c d (links (t i)) → 1 ≤ times c d (links (t j)) → i ≡ j) × ((i : ℕ) → times c d (links (t i)) ≤ 1)
-    cases c d true e = ((λ i j x y. is_n i x ∙ sym (is_n j y)), (λ i. at i (ℕ_discrete i n)))
-      where
-        none : (i : ℕ) → times c d (links (s i)) ≡ 0
-        none i = same_seg a b c d e (links (s i)) ∙ new i
+    none : (c d i : ℕ) → is_seg c d (a, b) ≡ true → times c d (links (s i)) ≡ 0
+    none c d i e = same_seg a b c d e (links (s i)) ∙ new i
 
-        at_other : (i : ℕ) → i ≢ n → times c d (links (t i)) ≡ 0
-        at_other i f = ap (λ z. times c d (links z)) (others i f) ∙ none i
+    single : (c d i : ℕ) → times c d (links (t i)) ≤ 1
+    single c d i = grind (arith, cases_eq i n, cases_Bool (is_seg c d (a, b)), none c d i, sum c d, others i, h.single c d i)
 
-        is_n : (i : ℕ) → 1 ≤ times c d (links (t i)) → i ≡ n
-        is_n i x = elim (ℕ_discrete i n) [ yes f ↦ f | no f ↦ absurd (omega (arith, at_other i f)) ]
-
-        at : (i : ℕ) → Dec (i ≡ n) → times c d (links (t i)) ≤ 1
-        at i (yes f) = subst (λ k. times c d (links (t k)) ≤ 1) (sym f) (omega (arith, sum c d, none n, ap one e))
-        at i (no f) = omega (arith, at_other i f)
-    cases c d false e = ((λ i j x y. h.apart c d i j (omega (arith, same i)) (omega (arith, same j))), (λ i. omega (arith, same i, h.single c d i)))
-      where
-        same : (i : ℕ) → times c d (links (t i)) ≡ times c d (links (s i))
-        same i = elim (ℕ_discrete i n) [ yes f ↦ subst (λ k. times c d (links (t k)) ≡ times c d (links (s k))) (sym f) (omega (arith, sum c d, ap one e)) | no f ↦ ap (λ z. times c d (links z)) (others i f) ]
+    apart : (c d i j : ℕ) → 1 ≤ times c d (links (t i)) → 1 ≤ times c d (links (t j)) → i ≡ j
+    apart c d i j x y = grind (arith, cases_eq i n, cases_eq j n, cases_Bool (is_seg c d (a, b)), none c d i, none c d j, sum c d, others i, others j, h.apart c d i j)
 
 module _ (r n a b : ℕ) (s t : Store) (c : Starts r n a b s t) where
   paths_same : (k : ℕ) → AllByRecursion (λ u. t.path u.arc ≡ s.path u.arc) (s.ring k)
@@ -272,12 +179,9 @@ module _ (r n : ℕ) (ps : List ℕ) (a b : ℕ) (before : List Use) (s t : Stor
 
 once_fewer : (s t : ℕ → List ℕ) → ((j : ℕ) → (t j ≡ s j) ⊎ (t j ≡ [])) → Once s → Once t
 once_fewer s t g h = record {
-  apart = λ a b i j x y. h.apart a b i j (le a b i x) (le a b j y);
-  single = λ a b j. elim (g j) [ inl e ↦ subst (λ z. times a b (links z) ≤ 1) (sym e) (h.single a b j) | inr e ↦ subst (λ z. times a b (links z) ≤ 1) (sym e) (omega arith) ];
+  apart = λ a b i j x y. grind (arith, g i, g j, h.apart a b i j);
+  single = λ a b j. grind (arith, g j, h.single a b j);
 }
-  where
-    le : (a b i : ℕ) → 1 ≤ times a b (links (t i)) → 1 ≤ times a b (links (s i))
-    le a b i x = elim (g i) [ inl e ↦ subst (λ z. 1 ≤ times a b (links z)) e x | inr e ↦ absurd (omega (arith, subst (λ z. 1 ≤ times a b (links z)) e x)) ]
 
 pub record Leaves (r : ℕ) (s t : Store) : Type 0 where
   pub others : (k : ℕ) → k ≢ r → edges_of t k ≡ edges_of s k
@@ -331,14 +235,16 @@ extended r n a b s t o p q w = record {
 
 -- a ring that was laid in part and taken out again leaves what was before
 pub keeps_after_all : (r : ℕ) (s o t u : Store) → ((j : ℕ) → o.path j ≡ s.path j) → ((k : ℕ) → o.ring k ≡ s.ring k) → s.ring r ≡ [] → Spoils r o t → TakesOut r t u → Keeps s u
-keeps_after_all r s o t u p q e h c = record { same = λ k. by k (ℕ_discrete k r); once = λ x. l.once (h.once (same.once x)) }
+keeps_after_all r s o t u p q e h c = record { same = same; once = λ x. l.once (h.once (k.once x)) }
   where
-    same : Keeps s o
-    same = keeps_same s o p q
+    k : Keeps s o
+    k = keeps_same s o p q
 
     l : Leaves r t u
     l = takes_out_leaves r t u c
 
-    by : (k : ℕ) → Dec (k ≡ r) → edges_of u k ≡ edges_of s k
-    by k (yes f) = ap (edges_of u) f ∙ l.gone ∙ sym (ap (edges_of s) f ∙ ap (chain s.path) e)
-    by k (no f) = l.others k f ∙ h.others k f ∙ same.same k
+    same : (j : ℕ) → edges_of u j ≡ edges_of s j
+    same j = elim (cases_eq j r) [
+      | inl f ↦ ap (edges_of u) f ∙ l.gone ∙ sym (ap (edges_of s) f ∙ ap (chain s.path) e)
+      | inr f ↦ l.others j f ∙ h.others j f ∙ k.same j
+    ]

@@ -1,6 +1,5 @@
 -- Vertices come in one after the other, and go out again.
-use Rattle.std.proofs.Common.{◌≡◌, ◌≢◌, ℕ, ◌+◌, ◌≤◌, zero, suc, Bool, true, false, cond, refl, sym, ap, ap₂, ◌∙◌, subst, List, [], ◌∷◌, ◌++◌, take, ◌-◌, inl, inr, arith, get_or, length, Contains}
-use native.Mathlib.Decide.{ℕ_discrete}
+use Rattle.std.proofs.Common.{◌≡◌, ◌≢◌, ℕ, ◌+◌, ◌≤◌, zero, suc, Bool, true, false, refl, sym, ap, ap₂, ◌∙◌, subst, List, [], ◌∷◌, ◌++◌, take, ◌-◌, inl, inr, arith, get_or, length, Contains}
 use Rattle.std.specs.List.{flat_map, AllByRecursion}
 use Rattle.std.proofs.lemmas.List.{get_or_default, take_more}
 use Rattle.std.proofs.lemmas.List.Concat.{flat_map-append}
@@ -11,119 +10,69 @@ use Rattle.arc_tables.specs.declared.arc.Arc.{Arc}
 use Rattle.arc_tables.specs.declared.arc.Use.{Use}
 use Rattle.arc_tables.specs.declared.batch.Put.{Put}
 use Rattle.arc_tables.specs.declared.tables.Tables.{Tables}
-use Rattle.arc_tables.specs.Ways.{Edge, links, walk, chain, is_seg, one, times, Once}
-use Rattle.arc_tables.specs.Edited.{AreApart, over, through, onto, drawn, collapsed, Collapses, IsOff, throughs, taken_back, ArePuts, WerePut}
+use Rattle.arc_tables.specs.Ways.{Edge, links, walk, chain, is_seg, times, Once}
+use Rattle.arc_tables.specs.Edited.{AreApart, over, through, drawn, collapsed, Collapses, IsOff, throughs, taken_back, ArePuts, WerePut}
 use Rattle.arc_tables.specs.Stores.{IsPlace, path_in, path_of, uses_in}
 use Rattle.arc_tables.specs.Sound.{rings_of}
-use Rattle.arc_tables.proofs.Segments.{ends_of, is_forth, is_back, times_comm, counts_none, counted, StandsFor, once_for}
-use Rattle.arc_tables.proofs.Moves.{flipped, links-reverse, times-append}
+use Rattle.arc_tables.proofs.Segments.{once_for}
+use Rattle.arc_tables.proofs.Moves.{flipped, links-reverse, times-append, same_seg}
 use Rattle.arc_tables.proofs.RingLemmas.{rings_kept}
 use Rattle.arc_tables.proofs.EditLemmas.{Turns, EditsArcs, edit-flipped, edited_everywhere}
 use Rattle.arc_tables.proofs.Inserting.{over-turns, placed, with_q, once_through}
-use Rattle.arc_tables.proofs.Removing.{onto_p, onto_other}
+use Rattle.std.proofs.lemmas.Bool.{cases_eq, cases_Bool}
+use Rattle.std.proofs.lemmas.Bool.Decides.{nat_tests}
 
 -- ---- edges of which none ends at a vertex
 
 off_first : (q : ℕ) (e : Edge) (es : List Edge) → IsOff q (e ∷ es) → e.0 ≢ q
-off_first q e es h f = counted (is_seg q e.1 e) (omega (arith, h e.1)) (is_forth q e.1 e f refl)
+off_first q e es h = grind (arith, nat_tests, h e.1)
 
 off_second : (q : ℕ) (e : Edge) (es : List Edge) → IsOff q (e ∷ es) → e.1 ≢ q
-off_second q e es h f = counted (is_seg q e.0 e) (omega (arith, h e.0)) (is_back q e.0 e refl f)
+off_second q e es h = grind (arith, nat_tests, h e.0)
 
 off_tail : (q : ℕ) (e : Edge) (es : List Edge) → IsOff q (e ∷ es) → IsOff q es
 off_tail q e es h x = omega (arith, h x)
 
-off_cons : (q : ℕ) (e : Edge) (es : List Edge) → e.0 ≢ q → e.1 ≢ q → IsOff q es → IsOff q (e ∷ es)
-off_cons q e es f g h x = omega (arith, counts_none (is_seg q x e) (λ k. elim (ends_of q x e k) [ inl z ↦ f z.0 | inr z ↦ g z.1 ]), h x)
-
 -- they stay where the vertex moves
 pub unmoved : (p b : ℕ) (es : List Edge) → IsOff p es → collapsed p b es ≡ es
 unmoved p b [] h = refl
-unmoved p b (e ∷ es) h = by (is_seg p b e) refl (unmoved p b es (off_tail p e es h))
-  where
-    by : (t : Bool) → is_seg p b e ≡ t → collapsed p b es ≡ es → cond t [] ((onto p b e.0, onto p b e.1) ∷ []) ++ collapsed p b es ≡ e ∷ es
-    by true f k = absurd (counted (is_seg p b e) (omega (arith, h b)) f)
-    by false f k = ap₂ (λ x y. (x, y) ∷ collapsed p b es) (onto_other p b e.0 (off_first p e es h)) (onto_other p b e.1 (off_second p e es h)) ∙ ap (λ z. e ∷ z) k
+unmoved p b (e ∷ es) h = grind (arith, nat_tests, h b, h e.0, h e.1, unmoved p b es (off_tail p e es h))
 
 -- another vertex that comes in leaves it so
 pub off_through : (a b q r : ℕ) → r ≢ q → (es : List Edge) → IsOff r es → IsOff r (through a b q es)
-off_through a b q r ne [] h = h
-off_through a b q r ne (e ∷ es) h = by (is_seg a b e) (off_through a b q r ne es (off_tail r e es h))
-  where
-    by : (t : Bool) → IsOff r (through a b q es) → IsOff r (cond t ((e.0, q) ∷ (q, e.1) ∷ []) (e ∷ []) ++ through a b q es)
-    by true k = off_cons r (e.0, q) ((q, e.1) ∷ through a b q es) (off_first r e es h) (λ f. ne (sym f)) (off_cons r (q, e.1) (through a b q es) (λ f. ne (sym f)) (off_second r e es h) k)
-    by false k = off_cons r e (through a b q es) (off_first r e es h) (off_second r e es h) k
+off_through a b q r ne [] h x = h x
+off_through a b q r ne (e ∷ es) h x = grind (arith, nat_tests, times-append r x (over a b q e) (through a b q es), h x, h e.0, h e.1, off_through a b q r ne es (off_tail r e es h) x)
 
 -- ---- one vertex
 
-not_true : (t : Bool) → (t ≡ true → ⊥) → t ≡ false
-not_true true h = absurd (h refl)
-not_true false h = refl
+undone_edge : (a b q : ℕ) → AreApart a b q → (e : Edge) → e.0 ≢ q → e.1 ≢ q → collapsed q b (over a b q e) ≡ e ∷ []
+undone_edge a b q ne e f g = grind (arith, nat_tests, ne.0, ne.1, ne.2)
 
 -- it goes out again
 pub undone : (a b q : ℕ) → AreApart a b q → (es : List Edge) → IsOff q es → collapsed q b (through a b q es) ≡ es
 undone a b q ne [] h = refl
-undone a b q ne (e ∷ es) h = flat_map-append (drawn q b) (over a b q e) (through a b q es) ∙ ap₂ (λ u v. u ++ v) (by (is_seg a b e) refl) (undone a b q ne es (off_tail q e es h))
-  where
-    drawn_as : (s t : Bool) → is_seg q b (e.0, q) ≡ s → is_seg q b (q, e.1) ≡ t
-        → collapsed q b ((e.0, q) ∷ (q, e.1) ∷ []) ≡ cond s [] ((onto q b e.0, onto q b q) ∷ []) ++ (cond t [] ((onto q b q, onto q b e.1) ∷ []) ++ [])
-    drawn_as s t f g = ap₂ (λ y z. cond y [] ((onto q b e.0, onto q b q) ∷ []) ++ (cond z [] ((onto q b q, onto q b e.1) ∷ []) ++ [])) f g
-
-    forth : e.0 ≡ a → e.1 ≡ b → collapsed q b ((e.0, q) ∷ (q, e.1) ∷ []) ≡ e ∷ []
-    forth f g =
-        drawn_as false true (not_true (is_seg q b (e.0, q)) (λ k. elim (ends_of q b (e.0, q) k) [ inl z ↦ ne.2 (sym z.1) | inr z ↦ ne.0 (sym f ∙ z.0) ])) (is_forth q b (q, e.1) refl g)
-        ∙ ap₂ (λ y z. (y, z) ∷ []) (onto_other q b e.0 (off_first q e es h)) (onto_p q b q refl ∙ sym g)
-
-    back : e.0 ≡ b → e.1 ≡ a → collapsed q b ((e.0, q) ∷ (q, e.1) ∷ []) ≡ e ∷ []
-    back f g =
-        drawn_as true false (is_back q b (e.0, q) f refl) (not_true (is_seg q b (q, e.1)) (λ k. elim (ends_of q b (q, e.1) k) [ inl z ↦ ne.0 (sym g ∙ z.1) | inr z ↦ ne.2 (sym z.0) ]))
-        ∙ ap₂ (λ y z. (y, z) ∷ []) (onto_p q b q refl ∙ sym f) (onto_other q b e.1 (off_second q e es h))
-
-    by : (t : Bool) → is_seg a b e ≡ t → collapsed q b (cond t ((e.0, q) ∷ (q, e.1) ∷ []) (e ∷ [])) ≡ e ∷ []
-    by true k = elim (ends_of a b e k) [ inl z ↦ forth z.0 z.1 | inr z ↦ back z.0 z.1 ]
-    by false k = unmoved q b (e ∷ []) (off_cons q e [] (off_first q e es h) (off_second q e es h) (λ x. refl))
+undone a b q ne (e ∷ es) h = flat_map-append (drawn q b) (over a b q e) (through a b q es) ∙ ap₂ (λ u v. u ++ v) (undone_edge a b q ne e (off_first q e es h) (off_second q e es h)) (undone a b q ne es (off_tail q e es h))
 
 -- it has a segment with b wherever that of a and b was
 with_b : (a b q : ℕ) (es : List Edge) → times a b es ≤ times q b (through a b q es)
 with_b a b q [] = omega arith
-with_b a b q (e ∷ es) = omega (arith, times-append q b (over a b q e) (through a b q es), by (is_seg a b e) refl, with_b a b q es)
-  where
-    by : (t : Bool) → is_seg a b e ≡ t → one t ≤ times q b (cond t ((e.0, q) ∷ (q, e.1) ∷ []) (e ∷ []))
-    by true k = elim (ends_of a b e k) [
-      | inl z ↦ omega (arith, ap one (is_forth q b (q, e.1) refl z.1))
-      | inr z ↦ omega (arith, ap one (is_back q b (e.0, q) z.0 refl))
-    ]
-    by false k = omega arith
+with_b a b q (e ∷ es) = grind (arith, nat_tests, times-append q b (over a b q e) (through a b q es), with_b a b q es)
 
 -- and nowhere else a segment
 pub stands_beside : (a b q : ℕ) → AreApart a b q → (es : List Edge) → IsOff q es → (x : ℕ) → 1 ≤ times q x (through a b q es) → 1 ≤ times q b (through a b q es)
 stands_beside a b q ne es h x k = omega (arith, k, with_q a b q ne x es h, with_b a b q es)
 
 -- any other segment stays
-other_stays : (a b q c d : ℕ) → is_seg a b (c, d) ≡ false → (es : List Edge) → times c d es ≤ times c d (through a b q es)
+other_stays : (a b q c d : ℕ) → is_seg c d (a, b) ≡ false → (es : List Edge) → times c d es ≤ times c d (through a b q es)
 other_stays a b q c d f [] = omega arith
-other_stays a b q c d f (e ∷ es) = omega (arith, times-append c d (over a b q e) (through a b q es), by (is_seg a b e) refl, other_stays a b q c d f es)
-  where
-    same : is_seg a b e ≡ true → is_seg c d e ≡ true → is_seg a b (c, d) ≡ true
-    same g k = elim (ends_of a b e g) [
-      | inl y ↦ elim (ends_of c d e k) [ inl z ↦ is_forth a b (c, d) (sym z.0 ∙ y.0) (sym z.1 ∙ y.1) | inr z ↦ is_back a b (c, d) (sym z.1 ∙ y.1) (sym z.0 ∙ y.0) ]
-      | inr y ↦ elim (ends_of c d e k) [ inl z ↦ is_back a b (c, d) (sym z.0 ∙ y.0) (sym z.1 ∙ y.1) | inr z ↦ is_forth a b (c, d) (sym z.1 ∙ y.1) (sym z.0 ∙ y.0) ]
-    ]
-
-    by : (t : Bool) → is_seg a b e ≡ t → one (is_seg c d e) ≤ times c d (cond t ((e.0, q) ∷ (q, e.1) ∷ []) (e ∷ []))
-    by true g = omega (arith, counts_none (is_seg c d e) (λ k. counted (is_seg a b (c, d)) (ap one f) (same g k)))
-    by false g = omega arith
+other_stays a b q c d f (e ∷ es) = grind (arith, nat_tests, times-append c d (over a b q e) (through a b q es), other_stays a b q c d f es)
 
 -- where each segment stands once with the vertex, it did without
 pub once_before : (a b q : ℕ) (s t : ℕ → List ℕ) → ((i : ℕ) → links (s i) ≡ through a b q (links (t i))) → Once s → Once t
-once_before a b q s t k = once_for s t (λ c d. by c d (is_seg a b (c, d)) refl)
-  where
-    as_ab : (c d : ℕ) → is_seg a b (c, d) ≡ true → (es : List Edge) → times c d es ≡ times a b es
-    as_ab c d f es = elim (ends_of a b (c, d) f) [ inl z ↦ ap₂ (λ x y. times x y es) z.0 z.1 | inr z ↦ ap₂ (λ x y. times x y es) z.0 z.1 ∙ times_comm b a es ]
-
-    by : (c d : ℕ) (u : Bool) → is_seg a b (c, d) ≡ u → StandsFor s t c d
-    by c d true f = (q, b, λ i. omega (arith, as_ab c d f (links (t i)), with_b a b q (links (t i)), ap (times q b) (k i)))
-    by c d false f = (c, d, λ i. omega (arith, other_stays a b q c d f (links (t i)), ap (times c d) (k i)))
+once_before a b q s t k = once_for s t (λ c d. elim (cases_Bool (is_seg c d (a, b))) [
+  | inl f ↦ (q, b, λ i. omega (arith, same_seg a b c d f (links (t i)), with_b a b q (links (t i)), ap (times q b) (k i)))
+  | inr f ↦ (c, d, λ i. omega (arith, other_stays a b q c d f (links (t i)), ap (times c d) (k i)))
+])
 
 -- the same edges
 pub once_linked : (s t : ℕ → List ℕ) → ((i : ℕ) → links (t i) ≡ links (s i)) → Once s → Once t
@@ -133,31 +82,23 @@ once_linked s t same = once_for s t (λ c d. (c, d, λ i. omega (arith, ap (time
 
 -- the vertex has no segment in an arc in which it has none with b
 pub off_unless : (q b : ℕ) (es : List Edge) → ((x : ℕ) → 1 ≤ times q x es → 1 ≤ times q b es) → (1 ≤ times q b es → ⊥) → IsOff q es
-off_unless q b es beside h x = by (times q x es) refl
-  where
-    by : (n : ℕ) → times q x es ≡ n → times q x es ≡ 0
-    by zero e = e
-    by (suc n) e = absurd (h (beside x (omega (arith, e))))
+off_unless q b es beside h x = grind (arith, beside x)
 
 -- both keys of a place stand in the path
 pub second_there : (q b at : ℕ) (back : Bool) (ps : List ℕ) → IsPlace ps at back q b → Contains ps b
-second_there q b at back ps p = by back p.here p.next
-  where
-    by : (t : Bool) → get_or ps at 0 ≡ cond t b q → get_or ps (at + 1) 0 ≡ cond t q b → Contains ps b
-    by true h n = (at, omega (arith, p.within), get_or_default ps at b 0 (omega (arith, p.within)) ∙ h)
-    by false h n = (at + 1, omega (arith, p.within), get_or_default ps (at + 1) b 0 (omega (arith, p.within)) ∙ n)
+second_there q b at true ps p = (at, omega (arith, p.within), get_or_default ps at b 0 (omega (arith, p.within)) ∙ p.here)
+second_there q b at false ps p = (at + 1, omega (arith, p.within), get_or_default ps (at + 1) b 0 (omega (arith, p.within)) ∙ p.next)
 
 module _ {A : Type 0} where
   -- the one arc with the segment changes, and no other has the vertex
   pub collapsed_at : (arcs arcs' : Slab (Arc A)) (i q b at : ℕ) (back : Bool) → IsPlace (path_in (get arcs i)) at back q b → Once (λ j. path_in (get arcs j)) →
       ((j x : ℕ) → 1 ≤ times q x (links (path_in (get arcs j))) → 1 ≤ times q b (links (path_in (get arcs j)))) →
       Collapses q b (path_in (get arcs i)) (path_in (get arcs' i)) → ((j : ℕ) → j ≢ i → get arcs' j ≡ get arcs j) → EditsArcs (drawn q b) (λ j. path_in (get arcs j)) (λ j. path_in (get arcs' j))
-  collapsed_at arcs arcs' i q b at back p once beside here others j = by (ℕ_discrete j i)
-    where
-      by : Dec (j ≡ i) → links (path_in (get arcs' j)) ≡ collapsed q b (links (path_in (get arcs j)))
-      by (yes f) = subst (λ k. links (path_in (get arcs' k)) ≡ collapsed q b (links (path_in (get arcs k)))) (sym f) here.edges
-      by (no f) = ap (λ o. links (path_in o)) (others j f)
-          ∙ sym (unmoved q b (links (path_in (get arcs j))) (off_unless q b (links (path_in (get arcs j))) (beside j) (λ k. f (once.apart q b j i k (placed q b at back (path_in (get arcs i)) p)))))
+  collapsed_at arcs arcs' i q b at back p once beside here others j = elim (cases_eq j i) [
+    | inl f ↦ subst (λ k. links (path_in (get arcs' k)) ≡ collapsed q b (links (path_in (get arcs k)))) (sym f) here.edges
+    | inr f ↦ ap (λ o. links (path_in o)) (others j f)
+        ∙ sym (unmoved q b (links (path_in (get arcs j))) (off_unless q b (links (path_in (get arcs j))) (beside j) (λ k. f (once.apart q b j i k (placed q b at back (path_in (get arcs i)) p)))))
+  ]
 
 -- ---- many vertices
 
@@ -183,6 +124,10 @@ pub taken_last : (ps : List Put) (n : ℕ) (p : Put) → 1 ≤ n → n ≤ lengt
 taken_last ps n p some within is =
     let e : n ≡ (n - 1) + 1 = omega (arith, some) in
     ap (λ m. take m ps) e ∙ take_more ps (n - 1) p (omega (arith, some, within)) ∙ ap (λ z. take (n - 1) ps ++ z ∷ []) (sym is)
+
+-- these were put in, the last of them last
+pub last_of : (ps : List Put) (n : ℕ) (p : Put) (path : ℕ → List ℕ) → 1 ≤ n → n ≤ length ps → p ≡ get_or ps (n - 1) p → WerePut (take n ps) path → WerePut (take (n - 1) ps ++ p ∷ []) path
+last_of ps n p path some within is = subst (λ z. WerePut z path) (taken_last ps n p some within is)
 
 -- the last of some puts
 abbrev pub IsLast : (ℕ → Type 0) → List Put → Put → Type 0

@@ -1,10 +1,8 @@
 -- A vertex moves onto its neighbour.
-use Rattle.std.proofs.Common.{◌≡◌, ◌≢◌, ℕ, ◌+◌, ◌≤◌, ◌<◌, zero, suc, Bool, true, false, cond, refl, sym, ap, ap₂, ◌∙◌, subst, List, [], ◌∷◌, ◌++◌, map, take, drop, set, length, get_or, ◌⊎◌, inl, inr, arith, Contains}
-use Rattle.std.specs.Prelude.{◌==◌}
-use native.Mathlib.Decide.{ℕ_discrete}
+use Rattle.std.proofs.Common.{◌≡◌, ◌≢◌, ℕ, ◌+◌, ◌≤◌, ◌<◌, suc, true, false, cond, refl, sym, ap, ap₂, ◌∙◌, subst, List, [], ◌∷◌, ◌++◌, map, take, drop, set, length, get_or, ◌⊎◌, inl, inr, arith, Contains, append_assoc}
 use Rattle.std.specs.List.{remove}
-use Rattle.std.proofs.lemmas.Bool.{false≢true}
-use Rattle.std.proofs.lemmas.Bool.Decides.{Decides-eqb}
+use Rattle.std.proofs.lemmas.Bool.{cases_eq, cases_Bool}
+use Rattle.std.proofs.lemmas.Bool.Decides.{nat_tests}
 use Rattle.std.proofs.lemmas.List.{take-append-drop, take_more, map-append, get_or_default, length-take, length-drop, length-append, length-map}
 use Rattle.std.proofs.lemmas.List.Edits.{map_over_more}
 use Rattle.std.proofs.lemmas.List.Concat.{flat_map-append}
@@ -16,12 +14,12 @@ use Rattle.arc_tables.specs.Edited.{AreApart, onto, drawn, collapsed, Collapses,
 use Rattle.arc_tables.specs.declared.arc.Arc.{Arc}
 use Rattle.arc_tables.specs.declared.arc.Stand.{Stand}
 use Rattle.arc_tables.specs.Stores.{IsPlace, path_in, stand_at, Listed, ListsMore, SameUsers}
-use Rattle.arc_tables.proofs.Moves.{flipped, is_seg-flip, links-append, times-append}
+use Rattle.arc_tables.proofs.Moves.{is_seg-flip, links-append, times-append, same_seg}
 use Rattle.arc_tables.proofs.StoreLemmas.{taken_cases}
 use Rattle.arc_tables.proofs.Held.{none_at}
-use Rattle.arc_tables.proofs.Segments.{ends_of, is_forth, is_back, times_comm, counts_none, counted, StandsFor, once_for}
+use Rattle.arc_tables.proofs.Segments.{once_for}
 use Rattle.arc_tables.proofs.EditLemmas.{Turns, EditsArcs}
-use Rattle.arc_tables.proofs.Inserting.{parted, of_place}
+use Rattle.arc_tables.proofs.Inserting.{parted, of_place, at_next}
 
 -- one more place of a list that is changed in place
 pub put_step : (f : ℕ → ℕ) (xs ys : List ℕ) (i r y : ℕ) → i < length xs → ys ≡ map f (take i xs) ++ drop i xs → y ≡ f (get_or ys i r) → set ys i y ≡ map f (take (i + 1) xs) ++ drop (i + 1) xs
@@ -31,41 +29,24 @@ put_step f xs ys i r y l h e =
     ap (set ys i) e ∙ map_over_more f xs ys i (get_or ys i r) l h (get_or_default ys i r (get_or ys i r) m)
 
 pub drawn-turns : (p b : ℕ) → Turns (drawn p b)
-drawn-turns p b e = ap (λ t. cond t [] ((onto p b e.1, onto p b e.0) ∷ [])) (is_seg-flip p b e) ∙ by (is_seg p b e)
-  where
-    by : (t : Bool) → cond t [] ((onto p b e.1, onto p b e.0) ∷ []) ≡ flipped (cond t [] ((onto p b e.0, onto p b e.1) ∷ []))
-    by true = refl
-    by false = refl
+drawn-turns p b e = grind (arith, is_seg-flip p b e)
 
 -- ---- in one path
 
 pub onto_p : (p b k : ℕ) → k ≡ p → onto p b k ≡ b
-onto_p p b k e = ap (λ t. cond t b k) ((Decides-eqb k p).1 e)
+onto_p p b k e = grind (arith, nat_tests)
 
 pub onto_other : (p b k : ℕ) → k ≢ p → onto p b k ≡ k
-onto_other p b k f = by (k == p) refl
-  where
-    by : (t : Bool) → (k == p) ≡ t → cond t b k ≡ k
-    by true e = absurd (f ((Decides-eqb k p).0 e))
-    by false e = refl
+onto_other p b k f = grind (arith, nat_tests)
 
 pub onto_b : (p b : ℕ) → onto p b b ≡ b
-onto_b p b = by (b == p)
-  where
-    by : (t : Bool) → cond t b b ≡ b
-    by true = refl
-    by false = refl
+onto_b p b = grind (arith, nat_tests)
 
 -- where the segment does not stand
 pub moved_links : (p b : ℕ) (ps : List ℕ) → times p b (links ps) ≡ 0 → links (map (onto p b) ps) ≡ collapsed p b (links ps)
 moved_links p b [] h = refl
 moved_links p b (x ∷ []) h = refl
-moved_links p b (x ∷ y ∷ ps) h = by (is_seg p b (x, y)) refl (moved_links p b (y ∷ ps) (omega arith))
-  where
-    by : (t : Bool) → is_seg p b (x, y) ≡ t → links (map (onto p b) (y ∷ ps)) ≡ collapsed p b (links (y ∷ ps))
-        → (onto p b x, onto p b y) ∷ links (map (onto p b) (y ∷ ps)) ≡ cond t [] ((onto p b x, onto p b y) ∷ []) ++ collapsed p b (links (y ∷ ps))
-    by true e k = absurd (counted (is_seg p b (x, y)) (omega arith) e)
-    by false e k = ap (λ z. (onto p b x, onto p b y) ∷ z) k
+moved_links p b (x ∷ y ∷ ps) h = grind (arith, moved_links p b (y ∷ ps))
 
 -- and where it stands once
 pub drawn_links : (p b : ℕ) (us : List ℕ) (x y z : ℕ) (vs : List ℕ) → is_seg p b (x, y) ≡ true → onto p b z ≡ b → times p b (links (us ++ x ∷ y ∷ vs)) ≤ 1 →
@@ -77,35 +58,25 @@ drawn_links p b us x y z vs h at_b once =
     let here : one (is_seg p b (x, y)) ≡ 1 = ap one h in
     let first : links (map f us ++ f x ∷ []) ≡ collapsed p b (links (us ++ x ∷ [])) = ap links (sym (map-append f us (x ∷ []))) ∙ moved_links p b (us ++ x ∷ []) (omega arith) in
     let second : links (f y ∷ map f vs) ≡ collapsed p b (links (y ∷ vs)) = moved_links p b (y ∷ vs) (omega arith) in
+    let ends = both_at p b x y h in
     ap links (map-append f us (z ∷ vs))
     ∙ links-append (map f us) (f z) (map f vs)
-    ∙ ap₂ (λ u v. links (map f us ++ u ∷ []) ++ links (v ∷ map f vs)) (at_b ∙ sym (ends x (elim (ends_of p b (x, y) h) [ inl k ↦ inl k.0 | inr k ↦ inr k.0 ]))) (at_b ∙ sym (ends y (elim (ends_of p b (x, y) h) [ inl k ↦ inr k.1 | inr k ↦ inl k.1 ])))
+    ∙ ap₂ (λ u v. links (map f us ++ u ∷ []) ++ links (v ∷ map f vs)) (at_b ∙ sym ends.0) (at_b ∙ sym ends.1)
     ∙ ap₂ (λ u v. u ++ v) first second
     ∙ sym (ap (collapsed p b) whole
     ∙ flat_map-append (drawn p b) (links (us ++ x ∷ [])) ((x, y) ∷ links (y ∷ vs))
     ∙ ap (λ t. collapsed p b (links (us ++ x ∷ [])) ++ (cond t [] ((f x, f y) ∷ []) ++ collapsed p b (links (y ∷ vs)))) h)
   where
-    ends : (k : ℕ) → (k ≡ p) ⊎ (k ≡ b) → onto p b k ≡ b
-    ends k (inl e) = onto_p p b k e
-    ends k (inr e) = ap (onto p b) e ∙ onto_b p b
+    both_at : (p b x y : ℕ) → is_seg p b (x, y) ≡ true → (onto p b x ≡ b) × (onto p b y ≡ b)
+    both_at p b x y h = grind (arith, nat_tests)
 
 pub removed_first : (ps : List ℕ) (at : ℕ) → at + 1 < length ps → remove ps at ≡ take at ps ++ get_or ps (at + 1) 0 ∷ drop (at + 2) ps
-removed_first [] at l = absurd (omega arith)
-removed_first (x ∷ []) at l = absurd (omega arith)
-removed_first (x ∷ y ∷ ps) zero l = refl
-removed_first (x ∷ y ∷ ps) (suc at) l =
-    let e : suc at + 1 ≡ suc (at + 1) = omega arith in
-    let f : suc at + 2 ≡ suc (at + 2) = omega arith in
-    rw (e, f) (ap (λ z. x ∷ z) (removed_first (y ∷ ps) at (omega arith)))
+removed_first ps at l = ap (λ z. take at ps ++ z) (at_next ps (at + 1) (suc at) (at + 2) (omega arith) (omega arith) l)
 
 pub removed_second : (ps : List ℕ) (at : ℕ) → at + 1 < length ps → remove ps (at + 1) ≡ take at ps ++ get_or ps at 0 ∷ drop (at + 2) ps
-removed_second [] at l = absurd (omega arith)
-removed_second (x ∷ []) at l = absurd (omega arith)
-removed_second (x ∷ y ∷ ps) zero l = refl
-removed_second (x ∷ y ∷ ps) (suc at) l =
-    let e : suc at + 1 ≡ suc (at + 1) = omega arith in
-    let f : suc at + 2 ≡ suc (at + 2) = omega arith in
-    rw (e, f) (ap (λ z. x ∷ z) (removed_second (y ∷ ps) at (omega arith)))
+removed_second ps at l =
+    let e : suc (at + 1) ≡ at + 2 = omega arith in
+    ap₂ (λ y k. y ++ drop k ps) (take_more ps at 0 (omega arith)) e ∙ append_assoc (take at ps) (get_or ps at 0 ∷ []) (drop (at + 2) ps)
 
 -- the place's key of p goes
 pub removed_at : (p b at : ℕ) (ps : List ℕ) → IsPlace ps at false p b → times p b (links ps) ≤ 1 → links (map (onto p b) (remove ps at)) ≡ collapsed p b (links ps)
@@ -135,13 +106,12 @@ in_removed ps i k m = elim (Contains-append_cases (take i ps) (drop (suc i) ps) 
 pub in_moved : (p b : ℕ) → b ≢ p → (ps : List ℕ) (k : ℕ) → Contains (map (onto p b) ps) k → (k ≢ p) × (Contains ps k ⊎ (k ≡ b))
 in_moved p b ne [] k m = absurd (omega (arith, m.1))
 in_moved p b ne (x ∷ ps) k m = elim (Contains-cons_cases (onto p b x) k (map (onto p b) ps) m) [
-  | inl e ↦ here (ℕ_discrete x p) e
+  | inl e ↦ elim (cases_eq x p) [
+    | inl f ↦ let at_b : b ≡ k = sym (onto_p p b x f) ∙ e in ((λ g. ne (at_b ∙ g)), inr (sym at_b))
+    | inr f ↦ let at_x : x ≡ k = sym (onto_other p b x f) ∙ e in ((λ g. f (at_x ∙ g)), inl (0, omega arith, at_x))
+  ]
   | inr y ↦ let r = in_moved p b ne ps k y in (r.0, elim r.1 [ inl z ↦ inl (Contains-cons x k ps z) | inr f ↦ inr f ])
 ]
-  where
-    here : Dec (x ≡ p) → onto p b x ≡ k → (k ≢ p) × (Contains (x ∷ ps) k ⊎ (k ≡ b))
-    here (yes f) e = let at_b : b ≡ k = sym (onto_p p b x f) ∙ e in ((λ g. ne (at_b ∙ g)), inr (sym at_b))
-    here (no f) e = let at_x : x ≡ k = sym (onto_other p b x f) ∙ e in ((λ g. f (at_x ∙ g)), inl (0, omega arith, at_x))
 
 pub collapses_by : (p b : ℕ) (old mid new : List ℕ) → b ≢ p → links (map (onto p b) mid) ≡ collapsed p b (links old) → ((k : ℕ) → Contains mid k → Contains old k) → new ≡ map (onto p b) mid → Collapses p b old new
 collapses_by p b old mid new ne e keys is = record {
@@ -170,25 +140,25 @@ pub among_once : (among : List ℕ) (j p b : ℕ) (old now : List ℕ) → Colla
 among_once among j p b old now (inl f) h = omega (arith, none_at p b now (λ m. (f.1.keys p m).0 refl))
 among_once among j p b old now (inr f) h = subst (λ z. times p b (links z) ≤ 1) (sym f.0) h
 
-pub among_none : (j p b : ℕ) (ps : List ℕ) → CollapsesAmong [] j p b ps ps
-among_none j p b ps = inr (refl, λ m. absurd (omega (arith, m.1)))
-
 -- one arc more
 pub among_next : (among : List ℕ) (i j p b : ℕ) (old now new : List ℕ) → i < length among → CollapsesAmong (take i among) j p b old now → (j ≡ get_or among i 0 → Collapses p b now new) → (j ≢ get_or among i 0 → new ≡ now) →
     CollapsesAmong (take (i + 1) among) j p b old new
-among_next among i j p b old now new l was here other = by (ℕ_discrete j (get_or among i 0)) was
+among_next among i j p b old now new l was here other = elim (cases_eq j (get_or among i 0)) [
+  | inl e ↦ elim was [
+    | inl f ↦ inl (more f.0, collapses_twice p b old now new f.1 (here e))
+    | inr f ↦ inl (it e, subst (λ z. Collapses p b z new) f.0 (here e))
+  ]
+  | inr g ↦ elim was [
+    | inl f ↦ inl (more f.0, subst (Collapses p b old) (sym (other g)) f.1)
+    | inr f ↦ inr (other g ∙ f.0, λ m. elim (taken_cases among i j l m) [ inl y ↦ f.1 y | inr e ↦ g (sym e) ])
+  ]
+]
   where
     more : Contains (take i among) j → Contains (take (i + 1) among) j
     more m = subst (λ z. Contains z j) (sym (take_more among i 0 l)) (Contains-append_left (take i among) (get_or among i 0 ∷ []) j m)
 
     it : j ≡ get_or among i 0 → Contains (take (i + 1) among) j
     it e = subst (λ z. Contains z j) (sym (take_more among i 0 l)) (Contains-append_right (take i among) (get_or among i 0 ∷ []) j (0, omega arith, sym e))
-
-    by : Dec (j ≡ get_or among i 0) → CollapsesAmong (take i among) j p b old now → CollapsesAmong (take (i + 1) among) j p b old new
-    by (yes e) (inl f) = inl (more f.0, collapses_twice p b old now new f.1 (here e))
-    by (yes e) (inr f) = inl (it e, subst (λ z. Collapses p b z new) f.0 (here e))
-    by (no g) (inl f) = inl (more f.0, subst (Collapses p b old) (sym (other g)) f.1)
-    by (no g) (inr f) = inr (other g ∙ f.0, λ m. elim (taken_cases among i j l m) [ inl y ↦ f.1 y | inr e ↦ g (sym e) ])
 
 -- ---- each segment once
 
@@ -200,88 +170,21 @@ module _ (a b p : ℕ) (ne : AreApart a b p) where
   between_tail : (e : Edge) (es : List Edge) → Between (e ∷ es) → Between es
   between_tail e es h = ((λ x k. h.0 x (omega arith)), omega (arith, h.1))
 
-  -- an edge that stays has p at one end, and then a at the other, or at none
-  data Kind (e : Edge) : Type 0 where
-    from_p : e.0 ≡ p → e.1 ≡ a → Kind e
-    to_p : e.0 ≡ a → e.1 ≡ p → Kind e
-    off_p : e.0 ≢ p → e.1 ≢ p → Kind e
-
-  kind_of : (e : Edge) (es : List Edge) → Between (e ∷ es) → is_seg p b e ≡ false → Kind e
-  kind_of e es h f = by (ℕ_discrete e.0 p) (ℕ_discrete e.1 p)
-    where
-      first : e.0 ≡ p → (e.1 ≡ a) ⊎ (e.1 ≡ b)
-      first g = h.0 e.1 (omega (arith, ap one (is_forth p e.1 e g refl)))
-
-      second : e.1 ≡ p → (e.0 ≡ a) ⊎ (e.0 ≡ b)
-      second g = h.0 e.0 (omega (arith, ap one (is_back p e.0 e refl g)))
-
-      by : Dec (e.0 ≡ p) → Dec (e.1 ≡ p) → Kind e
-      by (yes g) _ = elim (first g) [ inl k ↦ from_p g k | inr k ↦ absurd (false≢true (sym f ∙ is_forth p b e g k)) ]
-      by (no g) (yes k) = elim (second k) [ inl z ↦ to_p z k | inr z ↦ absurd (false≢true (sym f ∙ is_back p b e z k)) ]
-      by (no g) (no k) = off_p g k
-
   -- the segment of a and b comes in where that of p and a was
   with_ab : (es : List Edge) → Between es → times a b (collapsed p b es) ≤ times p a es
   with_ab [] h = omega arith
-  with_ab (e ∷ es) h = omega (arith, times-append a b (drawn p b e) (collapsed p b es), by (is_seg p b e) refl, with_ab es (between_tail e es h))
-    where
-      on : Kind e → one (is_seg a b (onto p b e.0, onto p b e.1)) ≤ one (is_seg p a e)
-      on (from_p f g) = omega (arith, ap one (is_forth p a e f g), at_most (is_seg a b (onto p b e.0, onto p b e.1)))
-        where
-          at_most : (t : Bool) → one t ≤ 1
-          at_most true = omega arith
-          at_most false = omega arith
-      on (to_p f g) = omega (arith, ap one (is_back p a e f g), at_most (is_seg a b (onto p b e.0, onto p b e.1)))
-        where
-          at_most : (t : Bool) → one t ≤ 1
-          at_most true = omega arith
-          at_most false = omega arith
-      on (off_p f g) = omega (arith, ap₂ (λ x y. one (is_seg a b (x, y))) (onto_other p b e.0 f) (onto_other p b e.1 g), h.1)
-
-      by : (t : Bool) → is_seg p b e ≡ t → times a b (cond t [] ((onto p b e.0, onto p b e.1) ∷ [])) ≤ one (is_seg p a e)
-      by true f = omega arith
-      by false f = omega (arith, on (kind_of e es h f))
+  with_ab (e ∷ es) h = grind (arith, nat_tests, times-append a b (drawn p b e) (collapsed p b es), h.0 e.0, h.0 e.1, h.1, with_ab es (between_tail e es h))
 
   -- any other that p does not end stays
-  without_ab : (c d : ℕ) → (((c ≡ a) × (d ≡ b)) ⊎ ((c ≡ b) × (d ≡ a)) → ⊥) → (es : List Edge) → Between es → times c d (collapsed p b es) ≤ times c d es
+  without_ab : (c d : ℕ) → is_seg c d (a, b) ≡ false → (es : List Edge) → Between es → times c d (collapsed p b es) ≤ times c d es
   without_ab c d off [] h = omega arith
-  without_ab c d off (e ∷ es) h = omega (arith, times-append c d (drawn p b e) (collapsed p b es), by (is_seg p b e) refl, without_ab c d off es (between_tail e es h))
-    where
-      clash : (x y : ℕ) → ((x ≡ a) × (y ≡ b)) ⊎ ((x ≡ b) × (y ≡ a)) → is_seg c d (x, y) ≡ true → ⊥
-      clash x y (inl k) s = elim (ends_of c d (x, y) s) [ inl z ↦ off (inl (sym z.0 ∙ k.0, sym z.1 ∙ k.1)) | inr z ↦ off (inr (sym z.1 ∙ k.1, sym z.0 ∙ k.0)) ]
-      clash x y (inr k) s = elim (ends_of c d (x, y) s) [ inl z ↦ off (inr (sym z.0 ∙ k.0, sym z.1 ∙ k.1)) | inr z ↦ off (inl (sym z.1 ∙ k.1, sym z.0 ∙ k.0)) ]
-
-      on : Kind e → one (is_seg c d (onto p b e.0, onto p b e.1)) ≤ one (is_seg c d e)
-      on (from_p f g) = omega (arith, counts_none (is_seg c d (onto p b e.0, onto p b e.1)) (clash (onto p b e.0) (onto p b e.1) (inr (onto_p p b e.0 f, onto_other p b e.1 (λ z. ne.1 (sym g ∙ z)) ∙ g))))
-      on (to_p f g) = omega (arith, counts_none (is_seg c d (onto p b e.0, onto p b e.1)) (clash (onto p b e.0) (onto p b e.1) (inl (onto_other p b e.0 (λ z. ne.1 (sym f ∙ z)) ∙ f, onto_p p b e.1 g))))
-      on (off_p f g) = omega (arith, ap₂ (λ x y. one (is_seg c d (x, y))) (onto_other p b e.0 f) (onto_other p b e.1 g))
-
-      by : (t : Bool) → is_seg p b e ≡ t → times c d (cond t [] ((onto p b e.0, onto p b e.1) ∷ [])) ≤ one (is_seg c d e)
-      by true f = omega arith
-      by false f = omega (arith, on (kind_of e es h f))
+  without_ab c d off (e ∷ es) h = grind (arith, nat_tests, times-append c d (drawn p b e) (collapsed p b es), h.0 e.0, h.0 e.1, without_ab c d off es (between_tail e es h))
 
   pub once_collapsed : (s t : ℕ → List ℕ) → EditsArcs (drawn p b) s t → ((i : ℕ) → Between (links (s i))) → Once s → Once t
-  once_collapsed s t k h = once_for s t (λ c d. by c d (ℕ_discrete c a) (ℕ_discrete d b) (ℕ_discrete c b) (ℕ_discrete d a))
-    where
-      ab : (i : ℕ) → times a b (links (t i)) ≤ times p a (links (s i))
-      ab i = omega (arith, ap (times a b) (k i), with_ab (links (s i)) (h i))
-
-      other : (c d : ℕ) → (((c ≡ a) × (d ≡ b)) ⊎ ((c ≡ b) × (d ≡ a)) → ⊥) → StandsFor s t c d
-      other c d off = (c, d, λ i. omega (arith, ap (times c d) (k i), without_ab c d off (links (s i)) (h i)))
-
-      forth : (c d : ℕ) → c ≡ a → d ≡ b → StandsFor s t c d
-      forth c d f g = (p, a, λ i. omega (arith, ap₂ (λ x y. times x y (links (t i))) f g, ab i))
-
-      back : (c d : ℕ) → c ≡ b → d ≡ a → StandsFor s t c d
-      back c d f g = (p, a, λ i. omega (arith, ap₂ (λ x y. times x y (links (t i))) f g, times_comm b a (links (t i)), ab i))
-
-      by : (c d : ℕ) → Dec (c ≡ a) → Dec (d ≡ b) → Dec (c ≡ b) → Dec (d ≡ a) → StandsFor s t c d
-      by c d (yes f) (yes g) _ _ = forth c d f g
-      by c d _ _ (yes f) (yes g) = back c d f g
-      by c d (no f) _ (no g) _ = other c d (λ z. elim z [ inl y ↦ f y.0 | inr y ↦ g y.0 ])
-      by c d (no f) _ _ (no g) = other c d (λ z. elim z [ inl y ↦ f y.0 | inr y ↦ g y.1 ])
-      by c d _ (no f) (no g) _ = other c d (λ z. elim z [ inl y ↦ f y.1 | inr y ↦ g y.0 ])
-      by c d _ (no f) _ (no g) = other c d (λ z. elim z [ inl y ↦ f y.1 | inr y ↦ g y.1 ])
+  once_collapsed s t k h = once_for s t (λ c d. elim (cases_Bool (is_seg c d (a, b))) [
+    | inl f ↦ (p, a, λ i. omega (arith, same_seg a b c d f (links (t i)), ap (times a b) (k i), with_ab (links (s i)) (h i)))
+    | inr f ↦ (c, d, λ i. omega (arith, ap (times c d) (k i), without_ab c d f (links (s i)) (h i)))
+  ])
 
 module _ {A : Type 0} where
   pub users_then : (r s t : Slab (Arc A)) → SameUsers r s → SameUsers s t → SameUsers r t

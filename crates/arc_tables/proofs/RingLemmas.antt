@@ -4,7 +4,6 @@ use Rattle.std.specs.Prelude.{slice_index_or}
 use Rattle.std.specs.Ordering.{nat_cmp, eq_by_cmp}
 use Rattle.std.proofs.lemmas.Cmp.{nat_cmp_total}
 use Rattle.std.proofs.lemmas.Bool.Decides.{nat_tests}
-use Rattle.std.proofs.lemmas.Bool.{false≢true}
 use Rattle.std.specs.FinMap as rings
 use Rattle.std.specs.FinMap.{same_map, nat_cmp-IsAntisymmetric}
 use Rattle.slab.specs.Slab as slab
@@ -24,22 +23,14 @@ module _ {X : Type 0} where
   find_below : (slots : List (Option X)) (q i : ℕ) → q < i → rings.find nat_cmp q (slab.entries_from i slots) ≡ None
   find_below [] q i h = refl
   find_below (None ∷ rest) q i h = find_below rest q (i + 1) (omega arith)
-  find_below (Some p ∷ rest) q i h =
-      let e : eq_by_cmp nat_cmp q i ≡ false = grind (arith, nat_tests) in
-      ap (λ b. cond b (Some p) (rings.find nat_cmp q (slab.entries_from (i + 1) rest))) e
-      ∙ find_below rest q (i + 1) (omega arith)
+  find_below (Some p ∷ rest) q i h = grind (arith, nat_tests, find_below rest q (i + 1))
 
   find_slot : (slots : List (Option X)) (q i j : ℕ) → q ≡ i + j → rings.find nat_cmp q (slab.entries_from i slots) ≡ slice_index_or slots j None
   find_slot [] q i j h = refl
   find_slot (None ∷ rest) q i zero h = find_below rest q (i + 1) (omega arith)
   find_slot (None ∷ rest) q i (suc j) h = find_slot rest q (i + 1) j (omega arith)
-  find_slot (Some p ∷ rest) q i zero h =
-      let e : eq_by_cmp nat_cmp q i ≡ true = grind (arith, nat_tests) in
-      ap (λ b. cond b (Some p) (rings.find nat_cmp q (slab.entries_from (i + 1) rest))) e
-  find_slot (Some p ∷ rest) q i (suc j) h =
-      let e : eq_by_cmp nat_cmp q i ≡ false = grind (arith, nat_tests) in
-      ap (λ b. cond b (Some p) (rings.find nat_cmp q (slab.entries_from (i + 1) rest))) e
-      ∙ find_slot rest q (i + 1) j (omega arith)
+  find_slot (Some p ∷ rest) q i zero h = grind (arith, nat_tests)
+  find_slot (Some p ∷ rest) q i (suc j) h = grind (arith, nat_tests, find_slot rest q (i + 1) j (omega arith))
 
 pub mapped_slot : {X Y : Type 0} (f : Option X → Option Y) → f None ≡ None → (slots : List (Option X)) (k : ℕ) → slice_index_or (map f slots) k None ≡ f (slice_index_or slots k None)
 mapped_slot f e [] k = sym e
@@ -62,14 +53,10 @@ module _ {A : Type 0} where
       ∙ mapped_slot (edges_in (path_of t)) refl t.rings.slots k
 
   edges_here : (path : ℕ → List ℕ) (o : Option (Ring A)) → is_some o ≡ true → edges_in path o ≡ Some (chain path (uses_in o))
-  edges_here path None h = absurd (false≢true h)
-  edges_here path (Some r) h = refl
+  edges_here path o h = grind arith
 
   edges_alike : (path path' : ℕ → List ℕ) (o o' : Option (Ring A)) → is_some o' ≡ is_some o → chain path' (uses_in o') ≡ chain path (uses_in o) → edges_in path' o' ≡ edges_in path o
-  edges_alike path path' None None h e = refl
-  edges_alike path path' None (Some r) h e = absurd (false≢true (sym h))
-  edges_alike path path' (Some r) None h e = absurd (false≢true h)
-  edges_alike path path' (Some r) (Some q) h e = ap (λ z. Some z) e
+  edges_alike path path' o o' h e = grind arith
 
   pub none_there : (t : Tables A) (k : ℕ) → get t.rings k ≡ None → rings.get (rings_of t) k ≡ None
   none_there t k e = get_rings t k ∙ ap (edges_in (path_of t)) e
@@ -77,20 +64,15 @@ module _ {A : Type 0} where
   ring_alike : (s t : Tables A) (k : ℕ) → is_some (get t.rings k) ≡ is_some (get s.rings k) → edges_of (store t) k ≡ edges_of (store s) k → rings.get (rings_of t) k ≡ rings.get (rings_of s) k
   ring_alike s t k h e = get_rings t k ∙ edges_alike (path_of s) (path_of t) (get s.rings k) (get t.rings k) h e ∙ sym (get_rings s k)
 
+  kept_some : (path : ℕ → List ℕ) (o : Option (Ring A)) → is_some (edges_in path o) ≡ is_some o
+  kept_some path o = grind arith
+
   pub holds_ring : (t : Tables A) (k : ℕ) (m : Rings) → rings_of t ≡ m → rings.contains_key m k ≡ is_some (get t.rings k)
-  holds_ring t k m e = ap (λ z. is_some (rings.get z k)) (sym e) ∙ ap is_some (get_rings t k) ∙ by (get t.rings k)
-    where
-      by : (o : Option (Ring A)) → is_some (edges_in (path_of t) o) ≡ is_some o
-      by None = refl
-      by (Some r) = refl
+  holds_ring t k m e = ap (λ z. is_some (rings.get z k)) (sym e) ∙ ap is_some (get_rings t k) ∙ kept_some (path_of t) (get t.rings k)
 
   -- a ring that is held, and its edges
   pub held_ring : (t : Tables A) (k : ℕ) → rings.contains_key (rings_of t) k ≡ true → is_some (get t.rings k) ≡ true
-  held_ring t k h = by (get t.rings k) (sym (ap is_some (get_rings t k)) ∙ h)
-    where
-      by : (o : Option (Ring A)) → is_some (edges_in (path_of t) o) ≡ true → is_some o ≡ true
-      by None e = e
-      by (Some r) e = refl
+  held_ring t k h = sym (holds_ring t k (rings_of t) refl) ∙ h
 
   pub ring_here : (t : Tables A) (k : ℕ) → is_some (get t.rings k) ≡ true → rings.get (rings_of t) k ≡ Some (edges_of (store t) k)
   ring_here t k h = get_rings t k ∙ edges_here (path_of t) (get t.rings k) h

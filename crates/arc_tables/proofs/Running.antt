@@ -15,7 +15,7 @@ module _ {A : Type 0} where
       ((k : ℕ) → k ≤ length xs → k ≤ length ys → take k xs ≡ take k ys → k ≤ m) → 2 ≤ m
   agreed_two o arc xs ys m e x l k a all =
       let same : xs ≡ path_in o = x ∙ ap path_in (sym e) in
-      all 2 (subst (λ z. 2 ≤ length z) (sym same) l) k (ap (take 2) same ∙ a)
+      all 2 (omega (arith, ap length same)) k (ap (take 2) same ∙ a)
 
   pub ends_by_cut : (s t : Tables A) (i n m : ℕ) → 1 ≤ m → m ≤ length (path_of s i) →
       Cuts i n (take (m - 1) (path_of s i)) (get_or (path_of s i) (m - 1) 0) (drop (m - 1 + 1) (path_of s i)) (store s) (store t) → EndsAt s t i m

@@ -1,51 +1,28 @@
 -- When an edge is of a segment, and how often a segment stands.
-use Rattle.std.proofs.Common.{◌≡◌, ℕ, ◌+◌, ◌≤◌, Bool, true, false, ◌&&◌, ◌||◌, refl, ap₂, ◌∙◌, List, [], ◌∷◌, ◌⊎◌, inl, inr, arith, Result, Ok, Err, IfOk, OnOk, OnErr}
-use Rattle.std.specs.Prelude.{◌==◌}
-use Rattle.std.proofs.lemmas.Bool.{false≢true}
-use Rattle.std.proofs.lemmas.Bool.Decides.{Decides-eqb}
+use Rattle.std.proofs.Common.{◌≡◌, ℕ, ◌≤◌, Bool, true, refl, List, [], ◌∷◌, ◌⊎◌, arith, Result, Ok, Err, IfOk, OnOk, OnErr}
+use Rattle.std.proofs.lemmas.Bool.Decides.{nat_tests}
 use Rattle.arc_tables.specs.Ways.{Edge, links, is_seg, one, times, Once}
 
 -- the ends of an edge of the segment
 pub ends_of : (a b : ℕ) (e : Edge) → is_seg a b e ≡ true → ((e.0 ≡ a) × (e.1 ≡ b)) ⊎ ((e.0 ≡ b) × (e.1 ≡ a))
-ends_of a b e h = by (e.0 == a) (e.1 == b) (e.0 == b) (e.1 == a) refl refl refl refl h
-  where
-    by : (w x y z : Bool) → (e.0 == a) ≡ w → (e.1 == b) ≡ x → (e.0 == b) ≡ y → (e.1 == a) ≡ z → ((w && x) || (y && z)) ≡ true → ((e.0 ≡ a) × (e.1 ≡ b)) ⊎ ((e.0 ≡ b) × (e.1 ≡ a))
-    by true true y z f g i j t = inl ((Decides-eqb e.0 a).0 f, (Decides-eqb e.1 b).0 g)
-    by true false true true f g i j t = inr ((Decides-eqb e.0 b).0 i, (Decides-eqb e.1 a).0 j)
-    by false x true true f g i j t = inr ((Decides-eqb e.0 b).0 i, (Decides-eqb e.1 a).0 j)
-    by true false true false f g i j t = absurd (false≢true t)
-    by true false false z f g i j t = absurd (false≢true t)
-    by false x true false f g i j t = absurd (false≢true t)
-    by false x false z f g i j t = absurd (false≢true t)
+ends_of a b e h = grind (arith, nat_tests)
 
 pub is_forth : (a b : ℕ) (e : Edge) → e.0 ≡ a → e.1 ≡ b → is_seg a b e ≡ true
-is_forth a b e f g = ap₂ (λ y z. (y && z) || (e.0 == b && e.1 == a)) ((Decides-eqb e.0 a).1 f) ((Decides-eqb e.1 b).1 g)
+is_forth a b e f g = grind (arith, nat_tests)
 
 pub is_back : (a b : ℕ) (e : Edge) → e.0 ≡ b → e.1 ≡ a → is_seg a b e ≡ true
-is_back a b e f g = ap₂ (λ y z. (e.0 == a && e.1 == b) || (y && z)) ((Decides-eqb e.0 b).1 f) ((Decides-eqb e.1 a).1 g) ∙ or_true (e.0 == a && e.1 == b)
-  where
-    or_true : (t : Bool) → (t || true) ≡ true
-    or_true true = refl
-    or_true false = refl
-
-pub or_comm : (x y : Bool) → (x || y) ≡ (y || x)
-or_comm true true = refl
-or_comm true false = refl
-or_comm false true = refl
-or_comm false false = refl
+is_back a b e f g = grind (arith, nat_tests)
 
 pub times_comm : (a b : ℕ) (es : List Edge) → times a b es ≡ times b a es
 times_comm a b [] = refl
-times_comm a b (e ∷ es) = ap₂ (λ y z. one y + z) (or_comm (e.0 == a && e.1 == b) (e.0 == b && e.1 == a)) (times_comm a b es)
+times_comm a b (e ∷ es) = grind (arith, times_comm a b es)
 
 -- one that is not true counts nothing
 pub counts_none : (t : Bool) → (t ≡ true → ⊥) → one t ≡ 0
-counts_none true h = absurd (h refl)
-counts_none false h = refl
+counts_none t h = grind arith
 
 pub counted : (t : Bool) → one t ≡ 0 → t ≡ true → ⊥
-counted true h e = absurd (omega arith)
-counted false h e = false≢true e
+counted t h e = grind arith
 
 -- each segment of t stands where one of s stood, and no more often
 abbrev pub StandsFor : (ℕ → List ℕ) → (ℕ → List ℕ) → ℕ → ℕ → Type 0

@@ -1,9 +1,9 @@
 -- The rings that have a segment in common with a ring: those of its arcs that have a segment.
-use Rattle.std.proofs.Common.{◌≡◌, ℕ, ◌≤◌, true, false, refl, sym, subst, arith, inl, inr, ◌⊎◌}
+use Rattle.std.proofs.Common.{◌≡◌, ℕ, ◌≤◌, true, false, refl, sym, subst, arith, inl, inr}
 use Rattle.std.proofs.Common.{List, [], ◌∷◌, ◌++◌, Contains}
 use Rattle.std.specs.Prelude.{◌==◌}
 use Rattle.std.specs.List.{flat_map}
-use Rattle.std.proofs.lemmas.Bool.{false≢true}
+use Rattle.std.proofs.lemmas.Bool.{false≢true, or_left, or_right, or_cases}
 use Rattle.std.proofs.lemmas.Bool.Decides.{Decides-eqb}
 use Rattle.std.proofs.lemmas.List.Elements.{Contains-append_cases, Contains-append_left, Contains-append_right}
 use Rattle.slab.specs.Slab.{Slab, get}
@@ -14,8 +14,7 @@ use Rattle.arc_tables.specs.Ways.{links, times}
 use Rattle.arc_tables.specs.Stores.{path_of, users_in, uses_in, uses_arc}
 use Rattle.arc_tables.specs.Sound.{rings_of, Sound}
 use Rattle.arc_tables.specs.Users.{ListsSharing, where_some, sharers_in}
-use Rattle.arc_tables.proofs.Counting.{place_has}
-use Rattle.arc_tables.proofs.CutLemmas.{or_split, or_left, or_right}
+use Rattle.arc_tables.proofs.Inserting.{placed}
 use Rattle.arc_tables.proofs.UserLemmas.{arc_used, has_used}
 
 -- a path with a segment has its first
@@ -23,8 +22,7 @@ first_segment : (path users : List ℕ) (x : ℕ) → Contains (where_some path 
     → (a : ℕ) × (b : ℕ) × (1 ≤ times a b (links path)) × Contains users x
 first_segment [] users x m = absurd (omega (arith, m.1))
 first_segment (p ∷ []) users x m = absurd (omega (arith, m.1))
-first_segment (p ∷ q ∷ path) users x m =
-    (p, q, place_has p q (p ∷ q ∷ path) 0 false (record { within = omega arith; here = refl; next = refl }), m)
+first_segment (p ∷ q ∷ path) users x m = (p, q, placed p q 0 false (p ∷ q ∷ path) (record { within = omega arith; here = refl; next = refl }), m)
 
 where_segment : (path users : List ℕ) (a b x : ℕ) → 1 ≤ times a b (links path) → Contains users x
     → Contains (where_some path users) x
@@ -40,25 +38,18 @@ module _ {A : Type 0} where
   sharers_from : (arcs : Slab (Arc A)) (us : List Use) (x : ℕ) → Contains (sharers arcs us) x
       → (n : ℕ) × (uses_arc n us ≡ true) × Contains (sharers_in (get arcs n)) x
   sharers_from arcs [] x m = absurd (omega (arith, m.1))
-  sharers_from arcs (u ∷ us) x m = by (Contains-append_cases (sharers_in (get arcs u.arc)) (sharers arcs us) x m) (sharers_from arcs us x)
-    where
-      by : Contains (sharers_in (get arcs u.arc)) x ⊎ Contains (sharers arcs us) x
-          → (Contains (sharers arcs us) x → (n : ℕ) × (uses_arc n us ≡ true) × Contains (sharers_in (get arcs n)) x)
-          → (n : ℕ) × (uses_arc n (u ∷ us) ≡ true) × Contains (sharers_in (get arcs n)) x
-      by (inl h) later = (u.arc, or_left (u.arc == u.arc) (uses_arc u.arc us) ((Decides-eqb u.arc u.arc).1 refl), h)
-      by (inr h) later = let n = later h in (n.0, or_right (u.arc == n.0) (uses_arc n.0 us) n.1, n.2)
+  sharers_from arcs (u ∷ us) x m = elim (Contains-append_cases (sharers_in (get arcs u.arc)) (sharers arcs us) x m) [
+    | inl h ↦ (u.arc, or_left (u.arc == u.arc) (uses_arc u.arc us) ((Decides-eqb u.arc u.arc).1 refl), h)
+    | inr h ↦ let n = sharers_from arcs us x h in (n.0, or_right (u.arc == n.0) (uses_arc n.0 us) n.1, n.2)
+  ]
 
   sharers_to : (arcs : Slab (Arc A)) (us : List Use) (n x : ℕ) → uses_arc n us ≡ true
       → Contains (sharers_in (get arcs n)) x → Contains (sharers arcs us) x
   sharers_to arcs [] n x h m = absurd (false≢true h)
-  sharers_to arcs (u ∷ us) n x h m = by (or_split (u.arc == n) (uses_arc n us) h) (λ k. sharers_to arcs us n x k m)
-    where
-      by : ((u.arc == n) ≡ true) ⊎ (uses_arc n us ≡ true) → (uses_arc n us ≡ true → Contains (sharers arcs us) x)
-          → Contains (sharers arcs (u ∷ us)) x
-      by (inl e) later =
-          Contains-append_left (sharers_in (get arcs u.arc)) (sharers arcs us) x
-          (subst (λ z. Contains (sharers_in (get arcs z)) x) (sym ((Decides-eqb u.arc n).0 e)) m)
-      by (inr k) later = Contains-append_right (sharers_in (get arcs u.arc)) (sharers arcs us) x (later k)
+  sharers_to arcs (u ∷ us) n x h m = elim (or_cases (u.arc == n) (uses_arc n us) h) [
+    | inl e ↦ Contains-append_left (sharers_in (get arcs u.arc)) (sharers arcs us) x (subst (λ z. Contains (sharers_in (get arcs z)) x) (sym ((Decides-eqb u.arc n).0 e)) m)
+    | inr k ↦ Contains-append_right (sharers_in (get arcs u.arc)) (sharers arcs us) x (sharers_to arcs us n x k m)
+  ]
 
   -- the rings of all arcs of ring r
   pub sharing_listed : (t : Tables A) → Sound t → (r : ℕ) (old new : List ℕ)

@@ -1,7 +1,6 @@
 -- What the steps of the loops over slabs need.
 use Rattle.std.proofs.Common.{◌≡◌, ◌≢◌, ℕ, ◌<◌, ◌+◌, refl, sym, ap, ◌∙◌, subst, List, [], ◌∷◌, ◌++◌, ◌⊎◌, inl, inr, Contains, take, get_or, length, arith, Some, None, IsSome, is_some}
-use native.Mathlib.Decide.{ℕ_discrete}
-use Rattle.std.proofs.lemmas.Bool.{false≢true}
+use Rattle.std.proofs.lemmas.Bool.{false≢true, cases_eq}
 use Rattle.std.proofs.lemmas.List.{take_more, get_or_default}
 use Rattle.std.proofs.lemmas.List.Elements.{Contains-append_left, Contains-push, Contains-push_cases}
 use Rattle.slab.specs.Slab.{Slab, get, ContainsKey, Updates}
@@ -16,12 +15,13 @@ use Rattle.arc_tables.specs.Stores.{uses_in, HasRing, IsPut, Doubles}
 module _ {A : Type 0} where
   -- one more list of uses is put
   pub put_more : (e : NewUses A) (done : List (NewUses A)) (r : ℕ) (old now after : List Use) → IsPut done r old now → (r ≡ e.ring → after ≡ e.uses.items) → (r ≢ e.ring → after ≡ now) → IsPut (e ∷ done) r old after
-  put_more e done r old now after h here else' = by (ℕ_discrete r e.ring) h
-    where
-      by : Dec (r ≡ e.ring) → IsPut done r old now → IsPut (e ∷ done) r old after
-      by (yes f) _ = inr (e, (0, omega arith, refl), sym f, here f)
-      by (no f) (inl k) = inl ((λ m. elim (Contains-cons_cases e m.0 done m.1) [ inl z ↦ f (sym m.2 ∙ sym (ap (λ (x : NewUses A). x.ring) z)) | inr z ↦ k.0 (m.0, z, m.2) ]), else' f ∙ k.1)
-      by (no f) (inr k) = inr (k.0, Contains-cons e k.0 done k.1, k.2, else' f ∙ k.3)
+  put_more e done r old now after h here else' = elim (cases_eq r e.ring) [
+    | inl f ↦ inr (e, (0, omega arith, refl), sym f, here f)
+    | inr f ↦ elim h [
+      | inl k ↦ inl ((λ m. elim (Contains-cons_cases e m.0 done m.1) [ inl z ↦ f (sym m.2 ∙ sym (ap (λ (x : NewUses A). x.ring) z)) | inr z ↦ k.0 (m.0, z, m.2) ]), else' f ∙ k.1)
+      | inr k ↦ inr (k.0, Contains-cons e k.0 done k.1, k.2, else' f ∙ k.3)
+    ]
+  ]
 
 pub none_put : {A : Type 0} (r : ℕ) (old : List Use) → IsPut {A = A} [] r old old
 none_put r old = inl ((λ m. absurd (omega (arith, m.1.1))), refl)
@@ -29,18 +29,10 @@ none_put r old = inl ((λ m. absurd (omega (arith, m.1.1))), refl)
 module _ {A : Type 0} where
   -- a changed ring is still there, and so are the others
   pub still_there : (old new : Slab (Ring A)) (k : ℕ) (v : Ring A) → Updates old new k (Some v) → (r : ℕ) → ContainsKey old r → ContainsKey new r
-  still_there old new k v u r h = by (ℕ_discrete r k)
-    where
-      by : Dec (r ≡ k) → ContainsKey new r
-      by (yes e) = subst (λ o. IsSome o) (sym (ap (get new) e ∙ u.changed)) refl
-      by (no f) = subst (λ o. IsSome o) (sym (u.others r f)) h
+  still_there old new k v u r h = grind (arith, cases_eq r k, u.changed, u.others r)
 
   pub still_held : (old new : Slab (Ring A)) (k : ℕ) (v : Ring A) → ContainsKey old k → Updates old new k (Some v) → (r : ℕ) → is_some (get new r) ≡ is_some (get old r)
-  still_held old new k v h u r = by (ℕ_discrete r k)
-    where
-      by : Dec (r ≡ k) → is_some (get new r) ≡ is_some (get old r)
-      by (yes e) = ap is_some (ap (get new) e ∙ u.changed) ∙ sym (ap (λ z. is_some (get old z)) e ∙ h)
-      by (no f) = ap is_some (u.others r f)
+  still_held old new k v h u r = grind (arith, cases_eq r k, u.changed, u.others r)
 
   pub uses_changed : (old new : Slab (Ring A)) (k : ℕ) (v : Ring A) → Updates old new k (Some v) → (r : ℕ) → r ≡ k → uses_in (get new r) ≡ v.uses.items
   uses_changed old new k v u r e = ap uses_in (ap (get new) e ∙ u.changed)

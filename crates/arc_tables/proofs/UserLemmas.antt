@@ -1,7 +1,6 @@
 -- Which rings have a segment: those of the arc that has it.
-use Rattle.std.proofs.Common.{◌≡◌, ℕ, ◌≤◌, true, refl, sym, ap, ◌∙◌, subst, arith}
-use Rattle.std.proofs.Common.{List, [], ◌++◌, Option, Some, None, is_some}
-use Rattle.std.proofs.lemmas.Bool.{false≢true}
+use Rattle.std.proofs.Common.{◌≡◌, ℕ, ◌≤◌, true, sym, ap, ◌∙◌, subst, arith}
+use Rattle.std.proofs.Common.{List, [], ◌++◌, Option, Some, None}
 use Rattle.std.proofs.lemmas.List.{append-nil}
 use Rattle.slab.specs.Slab.{get}
 use Rattle.arc_tables.specs.declared.arc.Ring.{Ring}
@@ -13,12 +12,9 @@ use Rattle.arc_tables.specs.Sound.{edges_in, rings_of, Sound}
 use Rattle.arc_tables.specs.Users.{HasSegment, ListsUsers}
 use Rattle.arc_tables.proofs.Counting.{segment_times, times_segment, chain_has, chain_uses}
 use Rattle.arc_tables.proofs.RingLemmas.{get_rings, ring_here}
+use Rattle.arc_tables.proofs.CutLemmas.{present}
 
 module _ {A : Type 0} where
-  used_there : (i : ℕ) (o : Option (Ring A)) → uses_arc i (uses_in o) ≡ true → is_some o ≡ true
-  used_there i None h = absurd (false≢true h)
-  used_there i (Some r) h = refl
-
   edges_there : (path : ℕ → List ℕ) (o : Option (Ring A)) (es : List Edge) → edges_in path o ≡ Some es
       → es ≡ chain path (uses_in o)
   edges_there path None es e = absurd cc
@@ -38,7 +34,7 @@ module _ {A : Type 0} where
         → HasSegment (rings_of t) a b r
     has_used s n r l u = record {
       edges = chain (path_of t) (uses_in (get t.rings r));
-      held = ring_here t r (used_there n (get t.rings r) u);
+      held = ring_here t r (present n (get t.rings r) u);
       has = times_segment a b (chain (path_of t) (uses_in (get t.rings r))) (chain_has a b (path_of t) n (uses_in (get t.rings r)) l u);
     }
 

@@ -1,18 +1,17 @@
 -- Tables that hold the same belong together still.
-use Rattle.std.proofs.Common.{◌≡◌, ◌≢◌, ℕ, refl, sym, ap, ◌∙◌, subst, List, Contains, Some, None, is_some, [], ◌∷◌, ◌++◌, inl, inr, arith}
-use native.Mathlib.Decide.{ℕ_discrete}
+use Rattle.std.proofs.Common.{◌≡◌, ◌≢◌, ℕ, refl, sym, ap, ◌∙◌, subst, List, Contains, Some, None, [], ◌∷◌, ◌++◌, inl, inr, arith}
 use Rattle.slab.specs.Slab.{Slab, get}
 use Rattle.arc_tables.specs.declared.arc.Use.{Use}
 use Rattle.arc_tables.specs.declared.arc.Arc.{Arc}
 use Rattle.arc_tables.specs.declared.arc.Ring.{Ring}
 use Rattle.arc_tables.specs.declared.arc.Stand.{Stand}
-use Rattle.std.proofs.lemmas.List.Elements.{Contains-append_cases}
-use Rattle.slab.proofs.SlabLemmas.{Contains-cons_cases}
+use Rattle.std.proofs.lemmas.List.Elements.{Contains-push_cases}
 use Rattle.arc_tables.specs.Ways.{Edge, Grows}
 use Rattle.arc_tables.proofs.Moves.{kept_grows, keeps_same}
 use Rattle.arc_tables.proofs.Growing.{known_alike, same_users}
 use Rattle.arc_tables.specs.declared.tables.Tables.{Tables}
-use Rattle.arc_tables.specs.Stores.{path_in, uses_in, stand_at, Listed, ListsMore, Whole, SameRings, SamePaths, SameKeys, SameUsers, GoesOn, store, store_of}
+use Rattle.arc_tables.specs.Stores.{path_in, stand_at, Listed, ListsMore, Whole, SameRings, SamePaths, SameKeys, SameUsers, GoesOn, store, store_of}
+use Rattle.std.proofs.lemmas.Bool.{cases_eq}
 
 module _ {A : Type 0} where
   -- the same arcs and uses, and no vertex forgot an arc
@@ -40,40 +39,37 @@ module _ {A : Type 0} where
   }
 
   -- arc n, which is new, is listed for its vertices
+  -- one arc changed, and its vertices list it
+  pub listed_but : (arcs arcs' : Slab (Arc A)) (ss ss' : List (Stand A)) (n : ℕ) → ((k : ℕ) → Contains (path_in (get arcs' n)) k → Contains (stand_at ss' k) n) → ((j : ℕ) → j ≢ n → get arcs' j ≡ get arcs j) →
+      ListsMore ss ss' → Listed arcs ss → Listed arcs' ss'
+  listed_but arcs arcs' ss ss' n here o more h j k m = elim (cases_eq j n) [
+    | inl f ↦ subst (λ z. Contains (stand_at ss' k) z) (sym f) (here k (subst (λ z. Contains (path_in (get arcs' z)) k) f m))
+    | inr f ↦ more k j (h j k (subst (λ q. Contains (path_in q) k) (o j f) m))
+  ]
+
+  -- arc n, which is new, is listed for its vertices
   pub listed_new : (arcs arcs' : Slab (Arc A)) (ss ss' : List (Stand A)) (n : ℕ) (keys : List ℕ) → path_in (get arcs' n) ≡ keys → ((j : ℕ) → j ≢ n → get arcs' j ≡ get arcs j) →
       ListsMore ss ss' → ((k : ℕ) → Contains keys k → Contains (stand_at ss' k) n) → Listed arcs ss → Listed arcs' ss'
-  listed_new arcs arcs' ss ss' n keys e o more noted h j k m = by (ℕ_discrete j n)
-    where
-      by : Dec (j ≡ n) → Contains (stand_at ss' k) j
-      by (yes f) = subst (λ z. Contains (stand_at ss' k) z) (sym f) (noted k (subst (λ z. Contains z k) (ap (λ z. path_in (get arcs' z)) f ∙ e) m))
-      by (no f) = more k j (h j k (subst (λ q. Contains (path_in q) k) (o j f) m))
+  listed_new arcs arcs' ss ss' n keys e o more noted = listed_but arcs arcs' ss ss' n (λ k m. noted k (subst (λ z. Contains z k) e m)) o more
 
   -- arc n goes on to b
   pub whole_longer : (s t : Tables A) (n b : ℕ) → SameUsers s.arcs t.arcs → SameRings s.rings t.rings → path_in (get t.arcs n) ≡ path_in (get s.arcs n) ++ b ∷ [] → ((j : ℕ) → j ≢ n → get t.arcs j ≡ get s.arcs j) →
       ListsMore s.stands.items t.stands.items → Contains (stand_at t.stands.items b) n → Whole s → Whole t
   whole_longer s t n b m rings e o more noted w = record {
     known = known_alike s.arcs t.arcs s.rings t.rings m rings w.known;
-    listed = listed_new s.arcs t.arcs s.stands.items t.stands.items n (path_in (get s.arcs n) ++ b ∷ []) e o more (λ k x. elim (Contains-append_cases (path_in (get s.arcs n)) (b ∷ []) k x) [
+    listed = listed_new s.arcs t.arcs s.stands.items t.stands.items n (path_in (get s.arcs n) ++ b ∷ []) e o more (λ k x. elim (Contains-push_cases (path_in (get s.arcs n)) b k x) [
       | inl y ↦ more k n (w.listed n k y)
-      | inr y ↦ elim (Contains-cons_cases b k [] y) [ inl z ↦ subst (λ z. Contains (stand_at t.stands.items z) n) z noted | inr z ↦ absurd (omega (arith, z.1)) ]
+      | inr y ↦ subst (λ z. Contains (stand_at t.stands.items z) n) y noted
     ]) w.listed;
   }
 
   -- a ring without uses comes in
   pub empty_ring : (old new : Slab (Ring A)) (r : ℕ) (v : Ring A) → get old r ≡ None → get new r ≡ Some v → v.uses.items ≡ [] → ((k : ℕ) → k ≢ r → get new k ≡ get old k) → SameRings old new
-  empty_ring old new r v was is e o k = by (ℕ_discrete k r)
-    where
-      by : Dec (k ≡ r) → uses_in (get new k) ≡ uses_in (get old k)
-      by (yes f) = ap (λ z. uses_in (get new z)) f ∙ ap uses_in is ∙ e ∙ sym (ap (λ z. uses_in (get old z)) f ∙ ap uses_in was)
-      by (no f) = ap uses_in (o k f)
+  empty_ring old new r v was is e o k = grind (arith, cases_eq k r, o k)
 
   -- a ring came in, was changed, and went again
   pub one_fewer : (old mid after new : Slab (Ring A)) (r : ℕ) → get old r ≡ None → ((k : ℕ) → k ≢ r → get mid k ≡ get old k) → SameKeys mid after → get new r ≡ None → ((k : ℕ) → k ≢ r → get new k ≡ get after k) → SameKeys old new
-  one_fewer old mid after new r was o same gone p k = by (ℕ_discrete k r)
-    where
-      by : Dec (k ≡ r) → is_some (get new k) ≡ is_some (get old k)
-      by (yes f) = ap (λ z. is_some (get new z)) f ∙ ap is_some gone ∙ sym (ap (λ z. is_some (get old z)) f ∙ ap is_some was)
-      by (no f) = ap is_some (p k f) ∙ same k ∙ ap is_some (o k f)
+  one_fewer old mid after new r was o same gone p k = grind (arith, cases_eq k r, o k, same k, p k)
 
   -- a ring came in, and was laid
   pub laid_grows : (s t : Tables A) (rings : Slab (Ring A)) (r : ℕ) (es : List Edge) → SameRings s.rings rings → Grows r es (store_of s.arcs rings) (store t) → Grows r es (store s) (store t)

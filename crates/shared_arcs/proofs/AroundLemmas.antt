@@ -1,28 +1,23 @@
 -- What stands around a vertex, from the arcs that it stands in.
-use Rattle.std.proofs.Common.{◌≡◌, ◌≢◌, ℕ, ◌≤◌, ◌<◌, ◌+◌, ◌-◌, Bool, true, false, cond, ◌||◌, ◌&&◌, refl, sym, ap, ap₂, ◌∙◌, subst, List, [], ◌∷◌, ◌++◌, take, length, get_or, append_assoc, ◌⊎◌, inl, inr, ◌↔◌, arith, Contains}
+use Rattle.std.proofs.Common.{◌≡◌, ◌≢◌, ℕ, ◌≤◌, ◌<◌, ◌+◌, ◌-◌, false, refl, sym, ap, ◌∙◌, subst, List, [], ◌∷◌, ◌++◌, take, length, get_or, ◌⊎◌, inl, inr, ◌↔◌, arith, Contains}
 use Rattle.std.specs.Prelude.{◌==◌}
-use Rattle.std.specs.List.{flat_map}
-use Rattle.std.proofs.lemmas.Bool.{false≢true}
-use Rattle.std.proofs.lemmas.Bool.Decides.{Decides-eqb}
+use Rattle.std.specs.List.{flat_map, list_any}
+use Rattle.std.proofs.lemmas.Bool.{cases_Bool, both_ways}
+use Rattle.std.proofs.lemmas.Bool.Decides.{Decides-eqb, nat_tests}
 use Rattle.std.proofs.lemmas.List.{take_more, append-nil}
 use Rattle.std.proofs.lemmas.List.Concat.{flat_map-append}
 use Rattle.std.proofs.lemmas.List.Elements.{Contains-append_left, Contains-append_right, Contains-append_cases}
 use Rattle.slab.proofs.SlabLemmas.{Contains-cons, Contains-cons_cases}
 use Rattle.shared_arcs.specs.declared.around.Neighbours.{Neighbours}
 use Rattle.shared_arcs.specs.declared.around.Neighbours.TheVariants.{None, One, Two, More}
-use Rattle.arc_tables.specs.Ways.{Edge, links, times, is_seg, one}
+use Rattle.arc_tables.specs.Ways.{Edge, links, times}
 use Rattle.shared_arcs.specs.Around.{noted, noted_all, other_end, other_ends, ends_among}
-use Rattle.arc_tables.proofs.Moves.{links-append}
+use Rattle.arc_tables.proofs.Finding.{links_more}
+use Rattle.arc_tables.proofs.Different.{any_contained, contained_any}
+use Rattle.arc_tables.proofs.Counting.{segment_times, times_segment}
+use Rattle.arc_tables.specs.Rings.{has_segment}
 
 -- ---- what was seen
-
--- one more key is one more link
-pub links_more : (ps : List ℕ) (at p q : ℕ) → 1 ≤ at → at < length ps → p ≡ get_or ps (at - 1) p → q ≡ get_or ps at q → links (take (at + 1) ps) ≡ links (take at ps) ++ (p, q) ∷ []
-links_more ps at p q l m ep eq =
-    let before : take at ps ≡ take (at - 1) ps ++ p ∷ [] = subst (λ k. take k ps ≡ take (at - 1) ps ++ p ∷ []) (omega arith) (take_more ps (at - 1) p (omega arith) ∙ ap (λ z. take (at - 1) ps ++ z ∷ []) (sym ep)) in
-    ap links (take_more ps at q m ∙ ap (λ z. take at ps ++ z ∷ []) (sym eq) ∙ ap (λ z. z ++ q ∷ []) before ∙ append_assoc (take (at - 1) ps) (p ∷ []) (q ∷ []))
-    ∙ links-append (take (at - 1) ps) p (q ∷ [])
-    ∙ ap (λ z. links z ++ (p, q) ∷ []) (sym before)
 
 pub noted_all-append : (n : Neighbours) (xs ys : List ℕ) → noted_all n (xs ++ ys) ≡ noted_all (noted_all n xs) ys
 noted_all-append n [] ys = refl
@@ -68,20 +63,23 @@ sees_alike P Q f g (One a) h = λ x. ((λ q. (h x).0 (g x q)), (λ e. f x ((h x)
 sees_alike P Q f g (Two a b) h = (h.0, λ x. ((λ q. (h.1 x).0 (g x q)), (λ e. f x ((h.1 x).1 e))))
 sees_alike P Q f g More h = (h.0, h.1, h.2, h.3, (f h.0 h.4.0, f h.1 h.4.1, f h.2 h.4.2))
 
+ne_from : (a b : ℕ) → (a == b) ≡ false → a ≢ b
+ne_from a b e f = both_ways _ e ((Decides-eqb a b).1 f)
+
 -- one more is seen
 pub sees_more : (P : ℕ → Type 0) (n : Neighbours) (x : ℕ) → Sees P n → Sees (λ y. P y ⊎ (y ≡ x)) (noted n x)
 sees_more P None x h = λ y. ((λ k. elim k [ inl p ↦ absurd (h y p) | inr e ↦ e ]), (λ e. inr e))
-sees_more P (One a) x h = by (a == x) refl
-  where
-    by : (t : Bool) → (a == x) ≡ t → Sees (λ y. P y ⊎ (y ≡ x)) (cond t (One a) (Two a x))
-    by true e = let same : a ≡ x = (Decides-eqb a x).0 e in λ y. ((λ k. elim k [ inl p ↦ (h y).0 p | inr f ↦ f ∙ sym same ]), (λ f. inr (f ∙ same)))
-    by false e = ((λ f. false≢true (sym e ∙ (Decides-eqb a x).1 f)), λ y. ((λ k. elim k [ inl p ↦ inl ((h y).0 p) | inr f ↦ inr f ]), (λ k. elim k [ inl f ↦ inl ((h y).1 f) | inr f ↦ inr f ])))
-sees_more P (Two a b) x h = by (a == x) (b == x) refl refl
-  where
-    by : (s t : Bool) → (a == x) ≡ s → (b == x) ≡ t → Sees (λ y. P y ⊎ (y ≡ x)) (cond (s || t) (Two a b) More)
-    by true t e f = let same : a ≡ x = (Decides-eqb a x).0 e in (h.0, λ y. ((λ k. elim k [ inl p ↦ (h.1 y).0 p | inr g ↦ inl (g ∙ sym same) ]), (λ k. inl ((h.1 y).1 k))))
-    by false true e f = let same : b ≡ x = (Decides-eqb b x).0 f in (h.0, λ y. ((λ k. elim k [ inl p ↦ (h.1 y).0 p | inr g ↦ inr (g ∙ sym same) ]), (λ k. inl ((h.1 y).1 k))))
-    by false false e f = (a, b, x, (h.0, (λ g. false≢true (sym e ∙ (Decides-eqb a x).1 g)), (λ g. false≢true (sym f ∙ (Decides-eqb b x).1 g))), (inl ((h.1 a).1 (inl refl)), inl ((h.1 b).1 (inr refl)), inr refl))
+sees_more P (One a) x h = elim (cases_Bool (a == x)) [
+  | inl e ↦ let same : a ≡ x = (Decides-eqb a x).0 e in rw e (λ y. ((λ k. elim k [ inl p ↦ (h y).0 p | inr f ↦ f ∙ sym same ]), (λ f. inr (f ∙ same))))
+  | inr e ↦ rw e (ne_from a x e, λ y. ((λ k. elim k [ inl p ↦ inl ((h y).0 p) | inr f ↦ inr f ]), (λ k. elim k [ inl f ↦ inl ((h y).1 f) | inr f ↦ inr f ])))
+]
+sees_more P (Two a b) x h = elim (cases_Bool (a == x)) [
+  | inl e ↦ let same : a ≡ x = (Decides-eqb a x).0 e in rw e (h.0, λ y. ((λ k. elim k [ inl p ↦ (h.1 y).0 p | inr g ↦ inl (g ∙ sym same) ]), (λ k. inl ((h.1 y).1 k))))
+  | inr e ↦ elim (cases_Bool (b == x)) [
+    | inl f ↦ let same : b ≡ x = (Decides-eqb b x).0 f in rw (e, f) (h.0, λ y. ((λ k. elim k [ inl p ↦ (h.1 y).0 p | inr g ↦ inr (g ∙ sym same) ]), (λ k. inl ((h.1 y).1 k))))
+    | inr f ↦ rw (e, f) (a, b, x, (h.0, ne_from a x e, ne_from b x f), (inl ((h.1 a).1 (inl refl)), inl ((h.1 b).1 (inr refl)), inr refl))
+  ]
+]
 sees_more P More x h = (h.0, h.1, h.2, h.3, (inl h.4.0, inl h.4.1, inl h.4.2))
 
 pub sees_all : (P : ℕ → Type 0) (n : Neighbours) (xs : List ℕ) → Sees P n → Sees (λ y. P y ⊎ Contains xs y) (noted_all n xs)
@@ -97,48 +95,16 @@ sees_list xs = sees_alike (λ y. ⊥ ⊎ Contains xs y) (Contains xs) (λ y k. e
 
 -- ---- the other ends
 
-pub times_ends : (k x : ℕ) (es : List Edge) → 1 ≤ times k x es → Contains (other_ends k es) x
-times_ends k x [] h = absurd (omega arith)
-times_ends k x (e ∷ es) h = by (is_seg k x e) refl (λ j. times_ends k x es j)
-  where
-    here : (w y z v : Bool) → (e.0 == k) ≡ w → (e.1 == x) ≡ y → (e.0 == x) ≡ z → (e.1 == k) ≡ v → ((w && y) || (z && v)) ≡ true → Contains (cond w (e.1 ∷ []) [] ++ cond v (e.0 ∷ []) []) x
-    here true true z v a b c d t = (0, omega arith, (Decides-eqb e.1 x).0 b)
-    here true false true true a b c d t = (1, omega arith, (Decides-eqb e.0 x).0 c)
-    here false y true true a b c d t = (0, omega arith, (Decides-eqb e.0 x).0 c)
-    here true false true false a b c d t = absurd (false≢true t)
-    here true false false v a b c d t = absurd (false≢true t)
-    here false y true false a b c d t = absurd (false≢true t)
-    here false y false v a b c d t = absurd (false≢true t)
+-- the other ends at k are the vertices that have a segment with it
+ends_any : (k x : ℕ) (es : List Edge) → list_any (λ y. y == x) (other_ends k es) ≡ has_segment k x es
+ends_any k x [] = refl
+ends_any k x (e ∷ es) = grind (arith, nat_tests, ends_any k x es)
 
-    by : (t : Bool) → is_seg k x e ≡ t → (1 ≤ times k x es → Contains (other_ends k es) x) → Contains (other_ends k (e ∷ es)) x
-    by true t go = Contains-append_left (other_end k e) (other_ends k es) x (here (e.0 == k) (e.1 == x) (e.0 == x) (e.1 == k) refl refl refl refl t)
-    by false t go = Contains-append_right (other_end k e) (other_ends k es) x (go (omega (arith, ap one t)))
+pub times_ends : (k x : ℕ) (es : List Edge) → 1 ≤ times k x es → Contains (other_ends k es) x
+times_ends k x es h = any_contained x (other_ends k es) (ends_any k x es ∙ times_segment k x es h)
 
 pub ends_times : (k x : ℕ) (es : List Edge) → Contains (other_ends k es) x → 1 ≤ times k x es
-ends_times k x [] h = absurd (omega (arith, h.1))
-ends_times k x (e ∷ es) h = elim (Contains-append_cases (other_end k e) (other_ends k es) x h) [
-  | inl m ↦ omega (arith, ap one (here (e.0 == k) (e.1 == k) refl refl m))
-  | inr m ↦ omega (arith, ends_times k x es m)
-]
-  where
-    forth : (e.0 == k) ≡ true → e.1 ≡ x → is_seg k x e ≡ true
-    forth a b = ap₂ (λ y z. (y && z) || (e.0 == x && e.1 == k)) a ((Decides-eqb e.1 x).1 b)
-
-    back : (e.1 == k) ≡ true → e.0 ≡ x → is_seg k x e ≡ true
-    back a b = ap₂ (λ y z. (e.0 == k && e.1 == x) || (y && z)) ((Decides-eqb e.0 x).1 b) a ∙ or_true (e.0 == k && e.1 == x)
-      where
-        or_true : (t : Bool) → (t || true) ≡ true
-        or_true true = refl
-        or_true false = refl
-
-    only : (y : ℕ) → Contains (y ∷ []) x → y ≡ x
-    only y m = elim (Contains-cons_cases y x [] m) [ inl f ↦ f | inr z ↦ absurd (omega (arith, z.1)) ]
-
-    here : (w v : Bool) → (e.0 == k) ≡ w → (e.1 == k) ≡ v → Contains (cond w (e.1 ∷ []) [] ++ cond v (e.0 ∷ []) []) x → is_seg k x e ≡ true
-    here true true a b m = elim (Contains-cons_cases e.1 x (e.0 ∷ []) m) [ inl f ↦ forth a f | inr z ↦ back b (only e.0 z) ]
-    here true false a b m = forth a (only e.1 m)
-    here false true a b m = back b (only e.0 m)
-    here false false a b m = absurd (omega (arith, m.1))
+ends_times k x es m = segment_times k x es (sym (ends_any k x es) ∙ contained_any x (other_ends k es) m)
 
 -- an element of a flat_map is one of an element's
 pub in_flat_map : {X : Type 0} (f : X → List ℕ) (xs : List X) (y : ℕ) → Contains (flat_map f xs) y → (x : X) × Contains xs x × Contains (f x) y

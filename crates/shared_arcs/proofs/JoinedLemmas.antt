@@ -1,73 +1,34 @@
 -- The segments of rings are those of the arcs that they use.
-use Rattle.std.proofs.Common.{◌≡◌, ℕ, ◌≤◌, ◌+◌, Bool, true, false, ◌||◌, ◌&&◌, refl, sym, ap, ◌∙◌, subst, List, [], ◌∷◌, zero, suc, inl, inr, arith, Contains, is_some, IsSome, Option, get_or, length}
+use Rattle.std.proofs.Common.{◌≡◌, ℕ, ◌≤◌, true, refl, sym, ap, ◌∙◌, subst, List, [], inl, inr, arith, Contains, is_some, IsSome, Option, get_or, length}
 use Rattle.std.proofs.lemmas.List.{get_or_default}
 use Rattle.std.proofs.Common.{None as Absent, Some}
 use Rattle.std.specs.Prelude.{◌==◌}
 use Rattle.std.specs.Option.{unwrap_or}
-use Rattle.std.proofs.lemmas.Bool.{false≢true}
-use Rattle.std.proofs.lemmas.Bool.Decides.{Decides-eqb}
 use Rattle.std.specs.FinMap as rings
 use Rattle.slab.specs.Slab.{get, ContainsKey}
-use Rattle.slab.proofs.SlabLemmas.{Contains-cons}
-use Rattle.arc_tables.specs.declared.arc.Use.{Use}
 use Rattle.arc_tables.specs.declared.arc.Arc.{Arc}
 use Rattle.arc_tables.specs.declared.tables.Tables.{Tables}
 use Rattle.shared_arcs.specs.declared.around.Neighbours.{Neighbours}
 use Rattle.shared_arcs.specs.declared.around.Neighbours.TheVariants.{None, One, Two, More}
-use Rattle.arc_tables.specs.Ways.{Edge, links, walk, chain, times, is_seg, one, edges_of}
+use Rattle.arc_tables.specs.Ways.{Edge, links, times, edges_of}
 use Rattle.shared_arcs.specs.Around.{noted_all, other_ends, ends_among}
 use Rattle.shared_arcs.specs.Joined.{Joined, AreNeighbours}
 use Rattle.arc_tables.specs.Stores.{path_of, path_in, users_in, uses_in, uses_arc, store, stand_at, Known, Listed}
 use Rattle.arc_tables.specs.Sound.{rings_of}
 use Rattle.shared_arcs.specs.Listing.{ListsJoined, gathered, including_all}
-use Rattle.arc_tables.proofs.Moves.{times-append, times-flipped, links-reverse}
-use Rattle.arc_tables.proofs.CutLemmas.{or_split, or_left, or_right, present}
+use Rattle.arc_tables.proofs.CutLemmas.{present}
+use Rattle.arc_tables.proofs.Counting.{chain_has, chain_uses}
+use Rattle.arc_tables.proofs.Different.{any_contained, contained_any}
+use Rattle.arc_tables.proofs.Held.{none_at}
+use Rattle.std.specs.List.{list_any}
+use Rattle.std.proofs.lemmas.Bool.{cases_Bool, both_ways}
 use Rattle.arc_tables.proofs.RingLemmas.{held_ring, ring_here}
 use Rattle.shared_arcs.proofs.AroundLemmas.{Sees, sees_alike, sees_list, in_flat_map, to_flat_map, ends_times, times_ends}
 use Rattle.shared_arcs.proofs.Gathering.{gathered_behind, only_including, themselves_including, different_including_all}
 
-times_walk : (a b : ℕ) (back : Bool) (ps : List ℕ) → times a b (links (walk back ps)) ≡ times a b (links ps)
-times_walk a b true ps = ap (times a b) (links-reverse ps) ∙ times-flipped a b (links ps)
-times_walk a b false ps = refl
-
--- a segment of a ring stands in an arc that the ring uses
-pub arc_of_segment : (path : ℕ → List ℕ) (a b : ℕ) (us : List Use) → 1 ≤ times a b (chain path us) → (i : ℕ) × (uses_arc i us ≡ true) × (1 ≤ times a b (links (path i)))
-arc_of_segment path a b [] h = absurd (omega arith)
-arc_of_segment path a b (u ∷ us) h = by (times a b (links (path u.arc))) refl (λ k. arc_of_segment path a b us k)
-  where
-    sum : times a b (chain path (u ∷ us)) ≡ times a b (links (path u.arc)) + times a b (chain path us)
-    sum = times-append a b (links (walk u.back (path u.arc))) (chain path us) ∙ ap (λ n. n + times a b (chain path us)) (times_walk a b u.back (path u.arc))
-
-    by : (n : ℕ) → times a b (links (path u.arc)) ≡ n → (1 ≤ times a b (chain path us) → (i : ℕ) × (uses_arc i us ≡ true) × (1 ≤ times a b (links (path i)))) → (i : ℕ) × (uses_arc i (u ∷ us) ≡ true) × (1 ≤ times a b (links (path i)))
-    by zero e go = let k = go (omega (arith, sum, e)) in (k.0, or_right (u.arc == k.0) (uses_arc k.0 us) k.1, k.2)
-    by (suc n) e go = (u.arc, or_left (u.arc == u.arc) (uses_arc u.arc us) ((Decides-eqb u.arc u.arc).1 refl), omega (arith, e))
-
--- a ring that uses an arc has its segments
-pub segment_of_arc : (path : ℕ → List ℕ) (a b i : ℕ) (us : List Use) → uses_arc i us ≡ true → 1 ≤ times a b (links (path i)) → 1 ≤ times a b (chain path us)
-segment_of_arc path a b i [] h k = absurd (false≢true h)
-segment_of_arc path a b i (u ∷ us) h k = elim (or_split (u.arc == i) (uses_arc i us) h) [
-  | inl e ↦ omega (arith, sum, subst (λ n. 1 ≤ times a b (links (path n))) (sym ((Decides-eqb u.arc i).0 e)) k)
-  | inr e ↦ omega (arith, sum, segment_of_arc path a b i us e k)
-]
-  where
-    sum : times a b (chain path (u ∷ us)) ≡ times a b (links (path u.arc)) + times a b (chain path us)
-    sum = times-append a b (links (walk u.back (path u.arc))) (chain path us) ∙ ap (λ n. n + times a b (chain path us)) (times_walk a b u.back (path u.arc))
-
 -- a path with a segment of the vertex has the vertex
 pub stands_in : (a b : ℕ) (ps : List ℕ) → 1 ≤ times a b (links ps) → Contains ps a
-stands_in a b [] h = absurd (omega arith)
-stands_in a b (p ∷ []) h = absurd (omega arith)
-stands_in a b (p ∷ q ∷ ps) h = by (is_seg a b (p, q)) refl (λ k. stands_in a b (q ∷ ps) k)
-  where
-    here : (w x y z : Bool) → (p == a) ≡ w → (q == a) ≡ z → ((w && x) || (y && z)) ≡ true → Contains (p ∷ q ∷ ps) a
-    here true x y z e f t = (0, omega arith, (Decides-eqb p a).0 e)
-    here false x true true e f t = (1, omega arith, (Decides-eqb q a).0 f)
-    here false x true false e f t = absurd (false≢true t)
-    here false x false z e f t = absurd (false≢true t)
-
-    by : (t : Bool) → is_seg a b (p, q) ≡ t → (1 ≤ times a b (links (q ∷ ps)) → Contains (q ∷ ps) a) → Contains (p ∷ q ∷ ps) a
-    by true e go = here (p == a) (q == b) (p == b) (q == a) refl refl e
-    by false e go = Contains-cons p a (q ∷ ps) (go (omega (arith, ap one e)))
+stands_in a b ps h = elim (cases_Bool (list_any (λ k. k == a) ps)) [ inl e ↦ any_contained a ps e | inr e ↦ absurd (omega (arith, none_at a b ps (λ m. both_ways _ e (contained_any a ps m)))) ]
 
 module _ {A : Type 0} where
   -- each arc that is there has a ring
@@ -96,13 +57,13 @@ module _ {A : Type 0} where
         ring = u.0;
         edges = edges_of (store t) u.0;
         held = ring_here t u.0 (present i (get t.rings u.0) u.1);
-        has = segment_of_arc (path_of t) k x i (uses_in (get t.rings u.0)) u.1 h;
+        has = chain_has k x (path_of t) i (uses_in (get t.rings u.0)) h u.1;
       }
 
   -- and a ring's segment stands in an arc
   pub joined_arc : (t : Tables A) (k x : ℕ) → Joined (rings_of t) k x → (i : ℕ) × (1 ≤ times k x (links (path_of t i)))
   joined_arc t k x j =
-      let f = arc_of_segment (path_of t) k x (uses_in (get t.rings j.ring)) (subst (λ es. 1 ≤ times k x es) (sym (edges_held t j.ring j.edges j.held)) j.has) in
+      let f = chain_uses k x (path_of t) (uses_in (get t.rings j.ring)) (subst (λ es. 1 ≤ times k x es) (sym (edges_held t j.ring j.edges j.held)) j.has) in
       (f.0, f.2)
 
   -- the vertices that are joined to k are the other ends in the arcs that are listed for it
@@ -144,8 +105,6 @@ module _ {A : Type 0} where
 
   -- what is not joined in the rings stands beside it in no arc
   pub not_joined : (t : Tables A) → EachUsed t → (k x : ℕ) → ¬ (Joined (rings_of t) k x) → (i : ℕ) → times k x (links (path_of t i)) ≡ 0
-  not_joined t used k x h i = by (times k x (links (path_of t i))) refl
-    where
-      by : (n : ℕ) → times k x (links (path_of t i)) ≡ n → times k x (links (path_of t i)) ≡ 0
-      by zero e = e
-      by (suc n) e = absurd (h (arc_joined t used k x i (omega arith)))
+  not_joined t used k x h i =
+      let none : 1 ≤ times k x (links (path_of t i)) → ⊥ = λ l. h (arc_joined t used k x i l) in
+      grind arith

@@ -1,5 +1,5 @@
 -- The keys of a ring, read from its uses.
-use Rattle.std.proofs.Common.{◌≡◌, ℕ, zero, suc, ◌+◌, ◌-◌, ◌<◌, ◌≤◌, Bool, true, false, cond, List, [], ◌∷◌, ◌++◌, take, reverse, length, get_or, Option, Some, None, is_some, IsSome, refl, sym, ap, ◌∙◌, arith, take_all}
+use Rattle.std.proofs.Common.{◌≡◌, ℕ, zero, suc, ◌+◌, ◌-◌, ◌<◌, ◌≤◌, Bool, true, false, cond, List, [], ◌∷◌, ◌++◌, take, reverse, length, get_or, Option, is_some, IsSome, refl, sym, ap, ◌∙◌, arith, take_all}
 use Rattle.std.specs.Prelude.{◌==◌}
 use Rattle.std.specs.Option.{option_copied}
 use Rattle.std.specs.Borrow.{Bor}
@@ -10,7 +10,7 @@ use Rattle.arc_tables.specs.Ways.{links, walk, chain}
 use Rattle.arc_tables.specs.Rings.{begins}
 use Rattle.arc_tables.specs.Stores.{uses_arc}
 use Rattle.arc_tables.proofs.Moves.{chain_append}
-use Rattle.arc_tables.proofs.CutLemmas.{or_left, or_right}
+use Rattle.std.proofs.lemmas.Bool.{or_left, or_right}
 
 -- the links of a path begin at its keys but for the last
 pub begins_links : (ps : List ℕ) → begins (links ps) ≡ take (length ps - 1) ps
@@ -51,12 +51,10 @@ uses_at (v ∷ us) zero d l = or_left (v.arc == v.arc) (uses_arc v.arc us) ((Dec
 uses_at (v ∷ us) (suc i) d l = or_right (v.arc == (get_or us i d).arc) (uses_arc (get_or us i d).arc us) (uses_at us i d (omega arith))
 
 pub copied_is_some : {X : Type 0} (o : Option (Bor X)) → is_some o ≡ is_some (option_copied o)
-copied_is_some None = refl
-copied_is_some (Some b) = refl
+copied_is_some o = grind arith
 
 pub copied_some : {X : Type 0} (o : Option (Bor X)) → IsSome (option_copied o) → IsSome o
-copied_some None h = h
-copied_some (Some b) h = refl
+copied_some o h = copied_is_some o ∙ h
 
 -- one more use of the ring was read
 pub read_more : (path : ℕ → List ℕ) (us : List Use) (i : ℕ) (d : Use) → i < length us →

@@ -1,9 +1,8 @@
 -- What stands around every vertex, by a table.
-use Rattle.std.proofs.Common.{◌≡◌, ℕ, zero, suc, ◌<◌, ◌≤◌, Bool, true, false, cond, refl, sym, ap, ◌∙◌, List, [], ◌∷◌, ◌++◌, length, get_or, set, arith, Contains, Some, Option}
+use Rattle.std.proofs.Common.{◌≡◌, ℕ, zero, suc, ◌<◌, ◌≤◌, refl, sym, ap, ◌∙◌, List, [], ◌∷◌, ◌++◌, length, get_or, set, arith, Contains, Some, Option}
 use Rattle.std.proofs.Common.{None as Absent}
-use Rattle.std.specs.Prelude.{◌==◌}
-use native.Mathlib.Decide.{ℕ_discrete}
-use Rattle.std.proofs.lemmas.Bool.Decides.{Decides-eqb}
+use Rattle.std.proofs.lemmas.Bool.Decides.{nat_tests}
+use Rattle.std.proofs.lemmas.Bool.{cases_eq}
 use Rattle.std.proofs.lemmas.List.{get_or-set_same, get_or-set_other}
 use Rattle.slab.specs.Slab.{get, entries}
 use Rattle.slab.proofs.SlabLemmas.{Contains-entries}
@@ -32,20 +31,7 @@ sees_then a b c f g h i j = i j ∙ ap (λ n. noted_all n (g j)) (h j) ∙ sym (
 
 -- one more is seen at k
 pub sees_here : (ts : List Neighbours) (k x : ℕ) → k < length ts → SeesMore ts (set ts k (noted (get_or ts k None) x)) (ending k x)
-sees_here ts k x l j = by (ℕ_discrete k j)
-  where
-    new : List Neighbours
-    new = set ts k (noted (get_or ts k None) x)
-
-    differ : (b : Bool) → (k == j) ≡ b → ¬ (k ≡ j) → get_or ts j None ≡ noted_all (get_or ts j None) (cond b (x ∷ []) [])
-    differ true e f = absurd (f ((Decides-eqb k j).0 e))
-    differ false e f = refl
-
-    by : Dec (k ≡ j) → get_or new j None ≡ noted_all (get_or ts j None) (ending k x j)
-    by (yes e) =
-        ap (λ i. get_or new i None) (sym e) ∙ get_or-set_same ts k (noted (get_or ts k None) x) None l ∙ ap (λ i. noted (get_or ts i None) x) e
-        ∙ ap (λ b. noted_all (get_or ts j None) (cond b (x ∷ []) [])) (sym ((Decides-eqb k j).1 e))
-    by (no f) = get_or-set_other ts k j (noted (get_or ts k None) x) None (λ e. f (sym e)) ∙ differ (k == j) refl f
+sees_here ts k x l j = grind (arith, nat_tests, cases_eq k j, get_or-set_same ts k (noted (get_or ts k None) x) None l, get_or-set_other ts k j (noted (get_or ts k None) x) None)
 
 module _ {A : Type 0} where
   -- the other ends at k in the arcs that are there are what is joined to it

@@ -1,5 +1,5 @@
 -- The least edge count of the rings at a vertex.
-use Rattle.std.proofs.Common.{◌≡◌, ℕ, ◌+◌, ◌-◌, ◌≤◌, ◌<◌, Bool, true, false, cond, refl, sym, ap, ◌∙◌, subst, List, [], ◌∷◌, ◌++◌, map, take, length, get_or, ◌⊎◌, inl, inr, arith, Contains, Option, Some, None, IfSome, IfNone}
+use Rattle.std.proofs.Common.{◌≡◌, ℕ, ◌+◌, ◌-◌, ◌≤◌, ◌<◌, true, cond, refl, sym, ap, ◌∙◌, subst, List, [], ◌∷◌, ◌++◌, map, take, length, get_or, ◌⊎◌, inl, inr, arith, Contains, Option, Some, None, IfSome, IfNone}
 use Rattle.std.specs.Prelude.{min}
 use Rattle.std.proofs.Math.Nat.{min-eq_left, min-eq_right, min-le_left}
 use Rattle.std.proofs.lemmas.Bool.{false≢true, cases_lt}
@@ -21,10 +21,14 @@ use Rattle.arc_tables.specs.Sound.{rings_of}
 use Rattle.arc_tables.specs.Stores.{path_of, users_in, uses_in, store, stand_at, Known, Listed, Whole}
 use Rattle.arc_tables.proofs.Moves.{chain_append}
 use Rattle.arc_tables.proofs.CutLemmas.{present}
+use Rattle.arc_tables.proofs.Counting.{chain_has, chain_uses}
+use Rattle.arc_tables.proofs.Different.{none_contained}
+use Rattle.std.proofs.lemmas.List.Concat.{flat_map_single}
+use Rattle.std.proofs.lemmas.Bool.{cases_Bool}
 use Rattle.shared_arcs.proofs.ReadLemmas.{length-walk}
 use Rattle.arc_tables.proofs.RingLemmas.{ring_here}
 use Rattle.shared_arcs.proofs.AroundLemmas.{Sees, sees_list, in_flat_map, to_flat_map, ends_times, times_ends}
-use Rattle.shared_arcs.proofs.JoinedLemmas.{arc_of_segment, segment_of_arc, stands_in, edges_held}
+use Rattle.shared_arcs.proofs.JoinedLemmas.{stands_in, edges_held}
 
 -- ---- edge counts
 
@@ -35,11 +39,7 @@ length-links (p ∷ q ∷ ps) = omega (arith, length-links (q ∷ ps))
 
 -- a sum that stops at a limit
 min_add : (a d limit : ℕ) → min (min a limit + d) limit ≡ min (a + d) limit
-min_add a d limit = by (cases_lt limit a)
-  where
-    by : (limit < a) ⊎ (a ≤ limit) → min (min a limit + d) limit ≡ min (a + d) limit
-    by (inl f) = ap (λ z. min (z + d) limit) (min-eq_right {n = limit} {m = a} (omega arith)) ∙ min-eq_right {n = limit} {m = limit + d} (omega arith) ∙ sym (min-eq_right {n = limit} {m = a + d} (omega arith))
-    by (inr f) = ap (λ z. min (z + d) limit) (min-eq_left {n = a} {m = limit} f)
+min_add a d limit = omega arith
 
 -- one use more
 pub count_more : (limit : ℕ) (path : ℕ → List ℕ) (us : List Use) (i : ℕ) (d : Use) → i < length us →
@@ -97,18 +97,12 @@ pub least_list : (ns : List ℕ) → IsLeastOf (Contains ns) (least_of None ns)
 least_list ns = least_alike (λ m. ⊥ ⊎ Contains ns m) (Contains ns) (λ m k. elim k [ inl p ↦ absurd p | inr z ↦ z ]) (λ m z. inr z) (least_of None ns) (all_more (λ m. ⊥) None ns (λ m p. p))
 
 in_map : (f : ℕ → ℕ) (xs : List ℕ) (y : ℕ) → Contains (map f xs) y → (x : ℕ) × Contains xs x × (f x ≡ y)
-in_map f [] y m = absurd (omega (arith, m.1))
-in_map f (x ∷ xs) y m = elim (Contains-cons_cases (f x) y (map f xs) m) [
-  | inl e ↦ (x, (0, omega arith, refl), e)
-  | inr z ↦ let r = in_map f xs y z in (r.0, Contains-cons x r.0 xs r.1, r.2)
-]
+in_map f xs y m =
+    let r = in_flat_map (λ x. f x ∷ []) xs y (subst (λ z. Contains z y) (sym (flat_map_single f xs)) m) in
+    (r.0, r.1, elim (Contains-cons_cases (f r.0) y [] r.2) [ inl e ↦ e | inr z ↦ absurd (none_contained y [] refl z) ])
 
 to_map : (f : ℕ → ℕ) (xs : List ℕ) (x : ℕ) → Contains xs x → Contains (map f xs) (f x)
-to_map f [] x m = absurd (omega (arith, m.1))
-to_map f (y ∷ ys) x m = elim (Contains-cons_cases y x ys m) [
-  | inl e ↦ (0, omega arith, ap f e)
-  | inr z ↦ Contains-cons (f y) (f x) (map f ys) (to_map f ys x z)
-]
+to_map f xs x m = subst (λ z. Contains z (f x)) (flat_map_single f xs) (to_flat_map (λ y. f y ∷ []) xs x (f x) m (0, omega arith, refl))
 
 -- ---- which rings these are
 
@@ -134,11 +128,10 @@ to_users : (path users : ℕ → List ℕ) (k i r : ℕ) → touches k (path i) 
 to_users path users k i r e m = subst (λ b. Contains (cond b (users i) []) r) (sym e) m
 
 from_users : (path users : ℕ → List ℕ) (k i r : ℕ) → Contains (users_at path users k i) r → (touches k (path i) ≡ true) × Contains (users i) r
-from_users path users k i r m = by (touches k (path i)) refl m
-  where
-    by : (b : Bool) → touches k (path i) ≡ b → Contains (cond b (users i) []) r → (touches k (path i) ≡ true) × Contains (users i) r
-    by true e z = (e, z)
-    by false e z = absurd (omega (arith, z.1))
+from_users path users k i r m = elim (cases_Bool (touches k (path i))) [
+  | inl e ↦ (e, subst (λ b. Contains (cond b (users i) []) r) e m)
+  | inr e ↦ absurd (none_contained r [] refl (subst (λ b. Contains (cond b (users i) []) r) e m))
+]
 
 -- what a call says of the shortest ring at a vertex
 pub record SaysShortest (passes : List Edge → Type 0) (limit : ℕ) (o : Option ℕ) : Type 0 where
@@ -158,7 +151,7 @@ module _ {A : Type 0} where
     passes_ring : (es : List Edge) → Passes (rings_of t) k es → (r : ℕ) × Contains rings_here r × (edges_of (store t) r ≡ es)
     passes_ring es p =
         let e = edges_held t p.ring es p.held in
-        let f = arc_of_segment (path_of t) k p.other (uses_in (get t.rings p.ring)) (subst (λ z. 1 ≤ times k p.other z) (sym e) p.has) in
+        let f = chain_uses k p.other (path_of t) (uses_in (get t.rings p.ring)) (subst (λ z. 1 ≤ times k p.other z) (sym e) p.has) in
         (p.ring, to_flat_map (users_at (path_of t) (λ i. users_in (get t.arcs i)) k) (stand_at t.stands.items k) f.0 p.ring (listed f.0 k (stands_in k p.other (path_of t f.0) f.2)) (to_users (path_of t) (λ i. users_in (get t.arcs i)) k f.0 p.ring (touched k p.other (path_of t f.0) f.2) (known.users p.ring f.0 f.1)), e)
 
     ring_passes : (r : ℕ) → Contains rings_here r → Passes (rings_of t) k (edges_of (store t) r)
@@ -171,7 +164,7 @@ module _ {A : Type 0} where
           ring = r;
           other = x.0;
           held = ring_here t r (present f.0 (get t.rings r) used);
-          has = segment_of_arc (path_of t) k x.0 f.0 (uses_in (get t.rings r)) used x.1;
+          has = chain_has k x.0 (path_of t) f.0 (uses_in (get t.rings r)) x.1 used;
         }
 
     pub shortest_seen : (limit : ℕ) → SaysShortest (Passes (rings_of t) k) limit (least_of None (map (λ r. edge_count limit (path_of t) (uses_in (get t.rings r))) rings_here))

@@ -1,10 +1,14 @@
 -- The rings at a vertex, and the least of their edge counts.
-use Rattle.std.specs.Prelude.{ℕ, ◌-◌, ◌^◌, Bool, true, false, List, [], ◌∷◌, Option, Some, None, length, min, if◌then◌else◌}
+use Rattle.std.specs.Prelude.{ℕ, ◌-◌, ◌^◌, Bool, true, false, List, [], ◌∷◌, map, Option, Some, None, length, min, if◌then◌else◌}
 use Rattle.std.specs.List.{flat_map}
+use Rattle.slab.specs.Slab.{Slab, get}
 use Rattle.arc_tables.specs.declared.arc.Use.{Use}
+use Rattle.arc_tables.specs.declared.arc.Arc.{Arc}
+use Rattle.arc_tables.specs.declared.arc.Ring.{Ring}
 use Rattle.shared_arcs.specs.declared.around.Neighbours.{Neighbours}
 use Rattle.shared_arcs.specs.declared.around.Neighbours.TheVariants as neighbours
 use Rattle.arc_tables.specs.Ways.{chain, links}
+use Rattle.arc_tables.specs.Stores.{path_in, users_in, uses_in}
 use Rattle.shared_arcs.specs.Around.{noted_all, other_ends}
 
 -- whether there is a neighbour
@@ -41,3 +45,16 @@ users_at path users k i = if touches k (path i) then users i else []
 -- the rings that have one of these arcs, where a segment of it ends at k
 abbrev pub rings_among : (ℕ → List ℕ) → (ℕ → List ℕ) → List ℕ → ℕ → List ℕ
 rings_among path users among k = flat_map (users_at path users k) among
+
+module _ {A : Type 0} where
+  -- the edge counts of these rings
+  abbrev pub edge_counts : Slab (Arc A) → Slab (Ring A) → List ℕ → List ℕ
+  edge_counts arcs rings rs = map (λ r. edge_count most (λ i. path_in (get arcs i)) (uses_in (get rings r))) rs
+
+  -- those that pass k along one of these arcs
+  abbrev pub rings_along : Slab (Arc A) → List ℕ → ℕ → List ℕ
+  rings_along arcs among k = rings_among (λ i. path_in (get arcs i)) (λ i. users_in (get arcs i)) among k
+
+  -- and along arc i
+  abbrev pub rings_of_arc : Slab (Arc A) → ℕ → ℕ → List ℕ
+  rings_of_arc arcs i k = users_at (λ j. path_in (get arcs j)) (λ j. users_in (get arcs j)) k i

@@ -1,9 +1,10 @@
 //! What stands around a vertex: its neighbours, and the rings that pass it.
-ghost use Rattle.std.specs.Prelude.{◌≡◌, map};
+ghost use Rattle.std.specs.Prelude.{◌≡◌};
 ghost use Rattle.slab.specs.Slab.{get};
 ghost use Rattle.arc_tables.specs.Ways.{links};
 ghost use Rattle.shared_arcs.specs.Around.{noted, noted_all, other_end, other_ends, ends_among};
-ghost use Rattle.shared_arcs.specs.Shortest.{most, edge_count, less_of, least_of, touches, users_at, rings_among};
+ghost use Rattle.shared_arcs.specs.Shortest.{most, edge_count, less_of, least_of, touches};
+ghost use Rattle.shared_arcs.specs.Shortest.{edge_counts, rings_along, rings_of_arc};
 ghost use Rattle.arc_tables.specs.Stores.{path_in, path_of, users_in, uses_in, stand_at};
 ghost use Rattle.shared_arcs.specs.declared.around.Neighbours.{Neighbours};
 
@@ -149,7 +150,7 @@ fn shortest_of<A: Allocator + Copy>(
     users: &[usize],
     best: Option<usize>,
 ) -> Option<usize>
-    ensures { result ≡ least_of best (map (λ r. edge_count most (λ i. path_in (get arcs.now i)) (uses_in (get rings.now r))) users.now) }
+    ensures { result ≡ least_of best (edge_counts arcs.now rings.now users.now) }
 {
     let mut least = best;
     for r in users {
@@ -177,8 +178,8 @@ fn shortest_at<A: Allocator + Copy>(
     k: VertexKey,
     best: Option<usize>,
 ) -> Option<usize>
-    ensures { result ≡ least_of best (map (λ r. edge_count most (λ j. path_in (get arcs.now j)) (uses_in (get rings.now r)))
-        (users_at (λ j. path_in (get arcs.now j)) (λ j. users_in (get arcs.now j)) k i)) }
+    ensures { result
+        ≡ least_of best (edge_counts arcs.now rings.now (rings_of_arc arcs.now i k)) }
 {
     if touches(path_at(arcs, i), k) {
         shortest_of(arcs, rings, users_of(arcs, i), best)
@@ -194,8 +195,8 @@ fn shortest_among<A: Allocator + Copy>(
     among: &[usize],
     k: VertexKey,
 ) -> Option<usize>
-    ensures { result ≡ least_of None (map (λ r. edge_count most (λ j. path_in (get arcs.now j)) (uses_in (get rings.now r)))
-        (rings_among (λ j. path_in (get arcs.now j)) (λ j. users_in (get arcs.now j)) among.now k)) }
+    ensures { result
+        ≡ least_of None (edge_counts arcs.now rings.now (rings_along arcs.now among.now k)) }
 {
     let mut least = None;
     for i in among {
@@ -214,8 +215,8 @@ pub(crate) fn neighbours_at<A: Allocator + Copy>(tables: &Tables<A>, k: VertexKe
 
 /// The edge count of the shortest ring that passes `k`.
 pub(crate) fn shortest_ring<A: Allocator + Copy>(tables: &Tables<A>, k: VertexKey) -> Option<usize>
-    ensures { result ≡ least_of None (map (λ r. edge_count most (path_of tables.now) (uses_in (get tables.now.rings r)))
-        (rings_among (path_of tables.now) (λ j. users_in (get tables.now.arcs j)) (stand_at tables.now.stands.items k) k)) }
+    ensures { result ≡ least_of None (edge_counts tables.now.arcs tables.now.rings
+        (rings_along tables.now.arcs (stand_at tables.now.stands.items k) k)) }
 {
     shortest_among(&tables.arcs, &tables.rings, arcs_at(&tables.stands, k), k)
 }

@@ -1,10 +1,10 @@
 use Rattle.std.proofs.Common.{ℕ, ap, subst, Contains, ◌≡◌, sym, ◌∙◌, Some, None, IsSome, false, refl}
-use Rattle.std.proofs.lemmas.Bool.{false≢true}
+use Rattle.std.proofs.lemmas.Bool.{false≢true, false_from_ne_true}
 use Rattle.slab.specs.Slab.{get, Updates}
 use Rattle.arc_tables.specs.declared.arc.Arc.{Arc}
 use Rattle.arc_tables.specs.Stores.{path_in, users_in, including, GoesOn}
 use Rattle.arc_tables.proofs.WholeLemmas.{whole_alike, listed_new, goes_on_after}
-use Rattle.arc_tables.proofs.CutLemmas.{not_used, lacks_of}
+use Rattle.arc_tables.proofs.CutLemmas.{lacks_of}
 use Rattle.arc_tables.proofs.Growing.{known_goes_on, learns}
 use Rattle.arc_tables.proofs.tables.Tables.start.Given.{Over}
 use Rattle.arc_tables.proofs.tables.Tables.start.Goals as goal
@@ -32,7 +32,7 @@ went g c = goes_on_after c.args.self.now.rings c.reserve_use.new.rings c.go_on.n
 pub returns-clause-ok : goal.returns-clause-ok
 returns-clause-ok g c = record {
   vacant = ap path_in (vacant g c);
-  unused = λ k. lacks_of c.vacant_key-n.result _ (not_used _ (λ h. false≢true (subst (λ o. IsSome o) (vacant g c) (c.requires.whole.known.there k c.vacant_key-n.result h))));
+  unused = λ k. lacks_of c.vacant_key-n.result _ (false_from_ne_true _ (λ h. false≢true (subst (λ o. IsSome o) (vacant g c) (c.requires.whole.known.there k c.vacant_key-n.result h))));
   path = ap path_in (updates g c).changed ∙ c.in_ok-keys.ensures.items;
   other_paths = λ j f. ap path_in ((updates g c).others j f);
   ring = (went g c).ring;

@@ -2,26 +2,16 @@ use Rattle.std.proofs.Common.{◌-◌, [], ◌∷◌, sym, ap, ◌∙◌, subst,
 use Rattle.arc_tables.specs.Ways.{links}
 use Rattle.arc_tables.specs.Edited.{taken_back, WerePut}
 use Rattle.arc_tables.specs.Stores.{path_of}
-use Rattle.arc_tables.proofs.Putting.{taken_last, taken_back-append, last_apart, last_beside, were_before, once_left}
+use Rattle.arc_tables.proofs.Putting.{taken_last, last_of, taken_back-append, last_apart, last_beside, were_before, once_left}
 use Rattle.arc_tables.proofs.tables.Tables.take_back_all.Goals as goal
 
 pub take_back-requires-clause-apart : goal.take_back-requires-clause-apart
 take_back-requires-clause-apart g c =
-    let puts = c.args.puts.now in
-    let p = c.index-puts-left.result in
-    let left = c.loop-left.left in
-    let path = path_of c.loop-left.self in
-    let last = taken_last puts left p (omega (arith, c.loop-left-test.true)) c.loop-left.invariant.within c.index-puts-left.is in
-    last_apart (take (left - 1) puts) p path (subst (λ z. WerePut z path) last c.loop-left.invariant.put)
+    last_apart _ _ _ (last_of c.args.puts.now c.loop-left.left c.index-puts-left.result (path_of c.loop-left.self) (omega (arith, c.loop-left-test.true)) c.loop-left.invariant.within c.index-puts-left.is c.loop-left.invariant.put)
 
 pub take_back-requires-clause-beside : goal.take_back-requires-clause-beside
 take_back-requires-clause-beside g c =
-    let puts = c.args.puts.now in
-    let p = c.index-puts-left.result in
-    let left = c.loop-left.left in
-    let path = path_of c.loop-left.self in
-    let last = taken_last puts left p (omega (arith, c.loop-left-test.true)) c.loop-left.invariant.within c.index-puts-left.is in
-    last_beside (take (left - 1) puts) p path (subst (λ z. WerePut z path) last c.loop-left.invariant.put)
+    last_beside _ _ _ (last_of c.args.puts.now c.loop-left.left c.index-puts-left.result (path_of c.loop-left.self) (omega (arith, c.loop-left-test.true)) c.loop-left.invariant.within c.index-puts-left.is c.loop-left.invariant.put)
 
 pub loop-left-preserved : goal.loop-left-preserved
 loop-left-preserved g c =

@@ -1,5 +1,6 @@
-use Rattle.std.proofs.Common.{◌≡◌, ℕ, true, sym, ap, ◌∙◌, subst, [], Option, None, is_some, arith}
-use Rattle.std.specs.Prelude.{slice_index_or}
+use Rattle.std.proofs.Common.{◌≡◌, ℕ, sym, ap, ◌∙◌, subst, [], Option, None, is_some, arith}
+use Rattle.std.specs.Prelude.{◌==◌, slice_index_or}
+use Rattle.std.specs.List.{list_any}
 use Rattle.std.proofs.lemmas.Bool.{false≢true}
 use Rattle.slab.specs.Slab.{get}
 use Rattle.arc_tables.specs.declared.arc.Arc.{Arc}
@@ -9,19 +10,17 @@ use Rattle.arc_tables.specs.Ways.{links, times}
 use Rattle.arc_tables.specs.Stores.{path_in, path_of, users_in, uses_in, uses_arc, AllDifferent}
 use Rattle.arc_tables.specs.Sound.{Sound}
 use Rattle.arc_tables.proofs.Different.{none_contained}
+use Rattle.arc_tables.proofs.Knowing.{known_of}
 use Rattle.shared_arcs.proofs.borders.Borders.new.Goals as goal
 
 -- tables with no arc and no ring belong together
 empty_sound : {A : Type 0} (t : Tables A) → t.arcs.slots ≡ [] → t.rings.slots ≡ [] → Sound t
 empty_sound {A} t arcs rings = record {
   whole = record {
-    known = record {
-      users = λ r i h. absurd (unused r i h);
-      there = λ r i h. absurd (unused r i h);
-      used = λ r i m. absurd (none_contained r (users_in (get t.arcs i)) (ap users_in (no_arc i)) m);
-      single = λ i. subst AllDifferent (sym (ap users_in (no_arc i))) tt;
-      some = λ i h. absurd (false≢true (sym (ap is_some (no_arc i)) ∙ h));
-    };
+    known = known_of t.arcs t.rings
+        (λ r i. ap (λ o. uses_arc i (uses_in o)) (no_ring r) ∙ ap (λ o. list_any (λ k. k == r) (users_in o)) (sym (no_arc i)))
+        (λ i. subst AllDifferent (sym (ap users_in (no_arc i))) tt)
+        (λ i h. absurd (false≢true (sym (ap is_some (no_arc i)) ∙ h)));
     listed = λ j k m. absurd (none_contained k (path_of t j) (ap path_in (no_arc j)) m);
   };
   once = record {
@@ -35,9 +34,6 @@ empty_sound {A} t arcs rings = record {
 
     no_ring : (r : ℕ) → get t.rings r ≡ None
     no_ring r = ap (λ slots. let o : Option (Ring A) = slice_index_or slots r None in o) rings
-
-    unused : (r i : ℕ) → uses_arc i (uses_in (get t.rings r)) ≡ true → ⊥
-    unused r i h = false≢true (sym (ap (λ o. uses_arc i (uses_in o)) (no_ring r)) ∙ h)
 
     none_here : (a b i : ℕ) → times a b (links (path_of t i)) ≡ 0
     none_here a b i = ap (λ o. times a b (links (path_in o))) (no_arc i)
