@@ -60,17 +60,6 @@ find-mapped h test other same (x ∷ xs) =
     by true e = refl
     by false e = e
 
--- the first of some features, where it has the number
-pub find_first : {R : Type 0} (n : ℕ) (f : FeatureOf R) (fs : List (FeatureOf R)) → f.number ≡ n
-    → find (λ k. k.number == n) (f ∷ fs) ≡ Some f
-find_first n f fs e = ap (λ b. cond b (Some f) (find (λ k. k.number == n) fs)) (eq-eqb f.number n e)
-
--- the second of them, where the first has another number
-pub find_second : {R : Type 0} (n : ℕ) (f h : FeatureOf R) (fs : List (FeatureOf R))
-    → (f.number == n) ≡ false → h.number ≡ n → find (λ k. k.number == n) (f ∷ h ∷ fs) ≡ Some h
-find_second n f h fs o e =
-    ap (λ b. cond b (Some f) (find (λ k. k.number == n) (h ∷ fs))) o ∙ find_first n h fs e
-
 -- ---- distinct numbers
 
 -- no number is in both lists

@@ -277,15 +277,6 @@ module _ {R : Type 0} (d : DocumentOf R) (n : ℕ) where
       differ true s = absurd (false≢true (sym new ∙ ap (has_feature d) (eqb-true h.number f.number s ∙ e) ∙ there))
       differ false s = s
 
-  -- none, in a collection
-  pub replaces_none : is_layer d n ≡ false → Replaces d n []
-  replaces_none collected = record {
-    forms = refl;
-    numbers = refl;
-    new = λ j i. absurd i;
-    alone = λ t. absurd (false≢true (sym collected ∙ t));
-  }
-
 -- ---- another id
 
 pub formed-renamed : {R : Type 0} (d : DocumentOf R) (n : ℕ) (id : Text) → WellFormed d

@@ -75,13 +75,3 @@ module _ {R : Type 0} (n : ℕ) where
           → cond (not b) (f ∷ without n fs) (without n fs) ≡ cond b [] (f ∷ []) ++ swapped n (λ f. []) fs
       by true e = e
       by false e = ap (λ z. f ∷ z) e
-
-  -- the number is found no more
-  pub find_gone : (fs : List (FeatureOf R)) → find (λ k. k.number == n) (without n fs) ≡ None
-  find_gone [] = refl
-  find_gone (f ∷ fs) = by (f.number == n) refl (find_gone fs)
-    where
-      by : (b : Bool) → (f.number == n) ≡ b → find (λ k. k.number == n) (without n fs) ≡ None
-          → find (λ k. k.number == n) (cond (not b) (f ∷ without n fs) (without n fs)) ≡ None
-      by true e ih = ih
-      by false e ih = ap (λ b. cond b (Some f) (find (λ k. k.number == n) (without n fs))) e ∙ ih
