@@ -18,22 +18,18 @@ use Rattle.ring_machine.specs.Sweep.{move_sweeps, insert_sweeps, remove_sweeps}
 use Rattle.ring_machine.specs.Sides.{ring_at, KeepsSides}
 use Rattle.ring_machine.specs.Query.{vertices}
 use Rattle.ring_machine.specs.Command.{Refusal}
-use Rattle.ring_machine.specs.Refusals.{◌unless◌, first_of, planar, conflict_of, is_small, are_long}
+use Rattle.ring_machine.specs.Refusals.{first_of, planar, conflict_of, is_small, are_long}
 use Rattle.ring_machine.specs.Refusals.{is_bridged, move_refusals, insert_refusals, remove_refusals}
 use Rattle.ring_machine.specs.Thin.{Thinning, is_flat, without, thin_at, thinned}
-use Rattle.ring_machine.proofs.Order.{or_true, or_right}
+use Rattle.ring_machine.proofs.Order.{or_true, or_right, refuted}
 use Rattle.ring_machine.proofs.Canonical.{canonical_parts}
 use Rattle.ring_machine.proofs.Removal.{not_true}
+use Rattle.ring_machine.proofs.MergeAccepted.{passes}
 use Rattle.ring_machine.proofs.RingsOf.{rings-in_rings}
 use Rattle.ring_machine.proofs.StaysProper.{put_is_proper, ins_is_proper, del_is_proper}
 use Rattle.ring_machine.proofs.SidesKept.{ring_at-mapped, move-keeps, insert-keeps, remove-keeps}
 
 -- ---- no refusal: each condition holds
-
-passes : (r : Refusal) (b : Bool) (rest : List (Option Refusal))
-    → first_of (r unless b ∷ rest) ≡ None → (b ≡ true) × (first_of rest ≡ None)
-passes r true rest h = (refl, h)
-passes r false rest h = absurd cc
 
 stays_apart : (d : Document) (rest : List (Option Refusal)) → first_of (planar d ∷ rest) ≡ None
     → (first_pair d ≡ None) × (first_of rest ≡ None)
@@ -199,10 +195,6 @@ one_more before now p t h =
   where
     some_same : (s r : List Position) → Some s ≡ Some r → s ≡ r
     some_same s r e = cc
-
-    refuted : (b : Bool) → (b ≡ true → ⊥) → b ≡ false
-    refuted false h = refl
-    refuted true h = absurd (h refl)
 
     was : (o : Option (List Position)) (s : List Position)
         → option_and_then (λ a. Some (del_ring p a)) o ≡ Some s

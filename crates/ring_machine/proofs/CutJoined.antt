@@ -15,7 +15,7 @@ use Rattle.ring_machine.specs.Join.{take_out, joined_polygons, joined_feature, j
 use Rattle.ring_machine.specs.Refusals.{is_layer}
 use Rattle.ring_machine.specs.WellFormed.{fits_form, WellFormed}
 use Rattle.ring_machine.proofs.Neighbours.{all_in}
-use Rattle.ring_machine.proofs.Found.{Stands, has_feature-found, feature_in, feature_stands}
+use Rattle.ring_machine.proofs.Found.{has_feature-found, feature_in}
 use Rattle.ring_machine.proofs.Instead.{feature-instead_other}
 use Rattle.ring_machine.proofs.Without.{feature-take_out_other}
 use Rattle.ring_machine.proofs.StaysFormed.{Replaces, replaces_one, replaces_two, formed-instead, formed-take_out}
@@ -85,10 +85,6 @@ module _ (d : Document) (n : ℕ) (id : Text) (path : Path) (number : ℕ) where
       ap (λ e. feature e m) cut_is
       ∙ feature-instead_other d n parts m o (λ f i e.
       ap₂ (λ a b. a || b) (ap (λ j. j == m) e ∙ o) (new_in m f (first_that (is_cut_by path) f.polygons) k))
-
-  module _ (formed : WellFormed d) (f : Feature) (at : feature d n ≡ Some f) where
-    place : Stands n f (features d)
-    place = feature_stands d formed n f at
 
   -- a feature of a collection that is cut leaves the document well formed
   pub formed-cut : WellFormed d → is_layer d n ≡ false → has_feature d number ≡ false

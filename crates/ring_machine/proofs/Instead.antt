@@ -1,10 +1,9 @@
 -- A document with other features in the place of one.
 use Rattle.std.proofs.Common.{◌≡◌, ℕ, Bool, true, false, refl, ap, ap₂, ◌∙◌, subst, cond}
-use Rattle.std.proofs.Common.{List, [], ◌∷◌, ◌++◌, map, ◌⊎◌, inl, inr, Option, Some, None}
+use Rattle.std.proofs.Common.{List, [], ◌∷◌, ◌++◌, map, ◌⊎◌, inl, inr}
 use Rattle.std.specs.Prelude.{◌==◌}
 use Rattle.std.proofs.lemmas.Bool.{eqb-true, eqb-false}
 use Rattle.std.specs.List.{list_any, find, flat_map, filter_map}
-use Rattle.std.specs.Option.{option_or}
 use Rattle.std.proofs.lemmas.List.Concat.{flat_map-append}
 use Rattle.std.proofs.lemmas.List.Elements.{filter_map-append}
 use Rattle.ring_machine.specs.Document.{FeatureOf, ItemOf, DocumentOf, Open, Close, Leaf, Kept}
@@ -17,14 +16,14 @@ use Rattle.ring_machine.proofs.InItems.{features-in_items, in_items-left}
 use Rattle.ring_machine.proofs.Found.{Stands, none_found}
 use Rattle.ring_machine.proofs.Swapped.{for_one, swapped, swapped_alone, find_other}
 
-features_leaves : {R : Type 0} (fs : List (FeatureOf R)) → filter_map feature_of (map Leaf fs) ≡ fs
+pub features_leaves : {R : Type 0} (fs : List (FeatureOf R)) → filter_map feature_of (map Leaf fs) ≡ fs
 features_leaves [] = refl
 features_leaves (f ∷ fs) = ap (λ z. f ∷ z) (features_leaves fs)
 
 module _ {R : Type 0} (n : ℕ) (g : FeatureOf R → List (FeatureOf R)) where
   -- ---- features
 
-  features_becomes : (is : List (ItemOf R))
+  pub features_becomes : (is : List (ItemOf R))
       → filter_map feature_of (flat_map (becomes n g) is) ≡ swapped n g (filter_map feature_of is)
   features_becomes [] = refl
   features_becomes (Open h ∷ is) = features_becomes is
@@ -46,7 +45,7 @@ module _ {R : Type 0} (n : ℕ) (g : FeatureOf R → List (FeatureOf R)) where
 
   -- ---- where no feature has the number
 
-  becomes_none : (is : List (ItemOf R))
+  pub becomes_none : (is : List (ItemOf R))
       → list_any (λ f. f.number == n) (filter_map feature_of is) ≡ false
       → flat_map (becomes n g) is ≡ is
   becomes_none [] h = refl
@@ -82,10 +81,6 @@ module _ {R : Type 0} (n : ℕ) (g : FeatureOf R → List (FeatureOf R)) (d : Do
       by f false e there (inr j) = absurd j
 
 -- ---- what is found
-
-or_none : {A : Type 0} (o : Option A) → option_or o None ≡ o
-or_none None = refl
-or_none (Some a) = refl
 
 module _ {R : Type 0} (d : DocumentOf R) (n : ℕ) (g : FeatureOf R → List (FeatureOf R)) where
   -- another number is found as before, where the new features do not have it

@@ -15,9 +15,10 @@ use Rattle.ring_machine.specs.Join.{is_leaf, empty_collection, take_out, joined_
 use Rattle.ring_machine.specs.WellFormed.{is_geometry, WellFormed}
 use Rattle.ring_machine.proofs.First.{In, in_left, in_right}
 use Rattle.ring_machine.proofs.Order.{and_both}
-use Rattle.ring_machine.proofs.Removal.{none_parts}
 use Rattle.ring_machine.proofs.InItems.{of_layers}
-use Rattle.ring_machine.proofs.TakenOut.{taken, take_out_is}
+use Rattle.ring_machine.proofs.TakenOut.{taken, take_out_is, filtered_none, taken_none}
+use Rattle.ring_machine.proofs.Instead.{features_leaves}
+use Rattle.std.proofs.lemmas.List.{append-nil}
 use Rattle.ring_machine.proofs.CutJoined.{join_is}
 
 module _ {R S : Type 0} (h h' : R → S) where
@@ -49,10 +50,7 @@ module _ {R : Type 0} (n m : ℕ) (g : FeatureOf R → List (FeatureOf R)) (diff
 
   leaves_lack : (fs : List (FeatureOf R)) → list_any (λ k. k.number == m) fs ≡ false
       → filter (λ i. not (is_leaf m i)) (map Leaf fs) ≡ map Leaf fs
-  leaves_lack [] h = refl
-  leaves_lack (f ∷ fs) h =
-      let h' = none_parts (f.number == m) (list_any (λ k. k.number == m) fs) h in
-      ap₂ (λ b z. cond (not b) (Leaf f ∷ z) z) h'.0 (leaves_lack fs h'.1)
+  leaves_lack fs h = filtered_none m (map Leaf fs) (ap (list_any (λ k. k.number == m)) (features_leaves fs) ∙ h)
 
   filtered_becomes : (is : List (ItemOf R)) → Lack (filter_map feature_of is)
       → filter (λ i. not (is_leaf m i)) (flat_map (becomes n g) is)
@@ -84,12 +82,10 @@ module _ {R : Type 0} (n m : ℕ) (g : FeatureOf R → List (FeatureOf R)) (diff
 
   taken_leaves : (fs : List (FeatureOf R)) → list_any (λ k. k.number == m) fs ≡ false
       → taken m (map Leaf fs ++ []) ≡ map Leaf fs ++ []
-  taken_leaves [] h = refl
-  taken_leaves (f ∷ []) h =
-      ap (λ b. cond b empty_collection (Leaf f ∷ [])) (none_parts (f.number == m) false h).0
-  taken_leaves (f ∷ k ∷ fs) h =
-      filter-append (λ i. not (is_leaf m i)) (map Leaf (f ∷ k ∷ fs)) []
-      ∙ ap (λ z. z ++ []) (leaves_lack (f ∷ k ∷ fs) h)
+  taken_leaves fs h =
+      taken_none m (map Leaf fs ++ [])
+      (ap (λ is. list_any (λ k. k.number == m) (filter_map feature_of is)) (append-nil (map Leaf fs))
+      ∙ ap (list_any (λ k. k.number == m)) (features_leaves fs) ∙ h)
 
   taken_becomes : (is : List (ItemOf R)) → is_geometry is ≡ true → Lack (filter_map feature_of is)
       → taken m (flat_map (becomes n g) is) ≡ flat_map (becomes n g) (taken m is)

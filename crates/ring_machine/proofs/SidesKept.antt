@@ -35,7 +35,7 @@ use Rattle.ring_machine.proofs.StaysProper.{ring_distinct, edges_start, others_l
 use Rattle.ring_machine.proofs.Neighbours.{all_of, in-flat_map, none_in, all_in, has-in, vertex_in}
 use Rattle.ring_machine.proofs.Neighbours.{begin_place, end_place, place_around, first_end}
 use Rattle.ring_machine.proofs.Neighbours.{second_end, edge_in}
-use Rattle.ring_machine.proofs.Walks.{is_counted-reverse}
+use Rattle.ring_machine.proofs.Walks.{is_counted-reverse, xor-comm}
 use Rattle.ring_machine.proofs.Sides.{is_inside-canonical, Unswept, unswept, unbridged, two_sides}
 use Rattle.ring_machine.proofs.Sides.{put-inside, ins-inside, del-inside}
 
@@ -216,13 +216,7 @@ bridged : (w a p b : Position) → (is_held w a p b ≡ false) ⊎ (is_held w b 
     → is_counted w a b ≡ xor (is_counted w a p) (is_counted w p b)
 bridged w a p b (inl h) = sym (is_counted-reverse w a b) ∙ two_sides w a p b h
 bridged w a p b (inr h) =
-    two_sides w b p a h ∙ ap₂ xor (is_counted-reverse w p b) (is_counted-reverse w a p) ∙ turned (is_counted w p b) (is_counted w a p)
-  where
-    turned : (x y : Bool) → xor x y ≡ xor y x
-    turned true true = refl
-    turned true false = refl
-    turned false true = refl
-    turned false false = refl
+    two_sides w b p a h ∙ ap₂ xor (is_counted-reverse w p b) (is_counted-reverse w a p) ∙ xor-comm (is_counted w p b) (is_counted w a p)
 
 pub remove-keeps : (d : Document) (p : Position) → Proper d → is_junction d p ≡ false
     → are_long d p ≡ true → remove_sweeps d p ≡ false → KeepsSides d (del d p)
