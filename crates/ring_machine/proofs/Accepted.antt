@@ -1,5 +1,5 @@
 -- What an accepted edit of a vertex gives: a proper document, with every position on its side.
-use Rattle.std.proofs.Common.{◌≡◌, ℕ, ℤ, Bool, true, false, refl, sym, ap, ◌∙◌, cond, List, [], ◌∷◌}
+use Rattle.std.proofs.Common.{◌≡◌, ℕ, ℤ, Bool, true, false, refl, sym, ap, ◌∙◌, cond, List, [], ◌∷◌, arith}
 use Rattle.std.proofs.Common.{◌++◌, map, ◌||◌, ◌&&◌, Option, None, Some, inl, inr}
 use Rattle.std.specs.Prelude.{not}
 use Rattle.std.specs.List.{list_any, fold, filter}
@@ -117,10 +117,7 @@ has-canonical ring w h =
     ap (λ r. has r w) parts.2 ∙ swapped parts.0 parts.1 (ap (λ r. has r w) (sym parts.3) ∙ h)
   where
     turn_or : (x y : Bool) → (x || y) ≡ true → (y || x) ≡ true
-    turn_or true true k = refl
-    turn_or true false k = refl
-    turn_or false true k = refl
-    turn_or false false k = k
+    turn_or x y k = grind arith
 
     swapped : (us vs : List Position) → has (vs ++ us) w ≡ true → has (us ++ vs) w ≡ true
     swapped us vs k = list_any-append (position_eq w) us vs ∙ turn_or (has vs w) (has us w) (sym (list_any-append (position_eq w) vs us) ∙ k)
@@ -128,16 +125,7 @@ has-canonical ring w h =
 has-filter : (test : Position → Bool) (ps : List Position) (w : Position)
     → has (filter test ps) w ≡ true → has ps w ≡ true
 has-filter test [] w h = h
-has-filter test (p ∷ ps) w h = by (test p) (position_eq w p) h (has-filter test ps w)
-  where
-    by : (t e : Bool) → has (cond t (p ∷ filter test ps) (filter test ps)) w ≡ true
-        → (has (filter test ps) w ≡ true → has ps w ≡ true) → (position_eq w p || has ps w) ≡ true
-    by true e h ih = or_cases (position_eq w p) h
-      where
-        or_cases : (u : Bool) → (u || has (filter test ps) w) ≡ true → (u || has ps w) ≡ true
-        or_cases true k = refl
-        or_cases false k = ih k
-    by false e h ih = or_right (position_eq w p) (has ps w) (ih h)
+has-filter test (p ∷ ps) w h = grind (arith, has-filter test ps w)
 
 has-del : (p : Position) (ring : List Position) (w : Position) → has (del_ring p ring) w ≡ true
     → has ring w ≡ true

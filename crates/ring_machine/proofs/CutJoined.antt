@@ -1,6 +1,6 @@
 -- A feature cut in two, and two features joined: which features there are, and that the document
 -- stays well formed.
-use Rattle.std.proofs.Common.{◌≡◌, ℕ, suc, ◌≤◌, Bool, true, false, refl, sym, ap, ap₂, ◌∙◌, subst, cond}
+use Rattle.std.proofs.Common.{◌≡◌, ℕ, ◌≤◌, Bool, true, false, refl, sym, ap, ap₂, ◌∙◌, subst}
 use Rattle.std.proofs.Common.{List, [], ◌∷◌, map, length, ◌||◌, Some, arith}
 use Rattle.std.specs.Prelude.{◌==◌}
 use Rattle.std.specs.Option.{is_some}
@@ -25,21 +25,12 @@ use Rattle.ring_machine.proofs.StaysFormed.{Replaces, replaces_one, replaces_two
 -- at most one element is the first
 pub first_that_short : {A : Type 0} (test : A → Bool) (xs : List A) → length (first_that test xs) ≤ 1
 first_that_short test [] = omega arith
-first_that_short test (x ∷ xs) = by (test x) (first_that_short test xs)
-  where
-    by : (b : Bool) → length (first_that test xs) ≤ 1 → length (cond b (x ∷ []) (first_that test xs)) ≤ 1
-    by true h = omega arith
-    by false h = h
+first_that_short test (x ∷ xs) = grind (arith, first_that_short test xs)
 
 pub length-change_first : {A : Type 0} (test : A → Bool) (g : A → A) (xs : List A)
     → length (change_first test g xs) ≡ length xs
 length-change_first test g [] = refl
-length-change_first test g (x ∷ xs) = by (test x) (length-change_first test g xs)
-  where
-    by : (b : Bool) → length (change_first test g xs) ≡ length xs
-        → length (cond b (g x ∷ xs) (x ∷ change_first test g xs)) ≡ suc (length xs)
-    by true h = refl
-    by false h = ap suc h
+length-change_first test g (x ∷ xs) = grind (arith, length-change_first test g xs)
 
 -- as many polygons fit a form alike
 pub fits-count : {R : Type 0} (f : FeatureOf R) (ps : List (List R)) → length ps ≡ length f.polygons

@@ -1,5 +1,5 @@
 -- What is among the elements of a list, and what a test of a whole list answers.
-use Rattle.std.proofs.Common.{◌≡◌, ◌<◌, ℕ, zero, suc, Bool, true, false, refl, sym, ap, ap₂, ◌∙◌}
+use Rattle.std.proofs.Common.{◌≡◌, ◌<◌, ℕ, zero, suc, Bool, true, refl, ap, ap₂, ◌∙◌}
 use Rattle.std.proofs.Common.{List, [], ◌∷◌, ◌++◌, map, length, ◌||◌, inl, inr, arith}
 use Rattle.std.proofs.Common.{Option, Some, None, is_some, Contains}
 use Rattle.std.specs.Prelude.{slice_index_or, option_map}
@@ -76,10 +76,7 @@ any_alike f g h (x ∷ xs) = ap₂ (λ a b. a || b) (h x) (any_alike f g h xs)
 
 -- two answers that follow from each other
 pub same_answer : (a b : Bool) → (a ≡ true → b ≡ true) → (b ≡ true → a ≡ true) → a ≡ b
-same_answer true true f g = refl
-same_answer true false f g = sym (f refl)
-same_answer false true f g = g refl
-same_answer false false f g = refl
+same_answer a b f g = grind arith
 
 -- ---- what is there
 

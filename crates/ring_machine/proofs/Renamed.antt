@@ -1,5 +1,5 @@
 -- A document with another id for one feature.
-use Rattle.std.proofs.Common.{◌≡◌, ℕ, Bool, true, false, refl, ap, ap₂, ◌∙◌, cond, List, [], ◌∷◌}
+use Rattle.std.proofs.Common.{◌≡◌, ℕ, false, refl, ap, ap₂, ◌∙◌, cond, List, [], ◌∷◌}
 use Rattle.std.proofs.Common.{◌++◌, map, length, Option, Some, None, option_map, arith}
 use Rattle.std.specs.Prelude.{◌==◌}
 use Rattle.std.specs.List.{flat_map, list_all, sum_by}
@@ -22,18 +22,10 @@ module _ {R : Type 0} (n : ℕ) (id : Text) where
   -- ---- one feature
 
   same_number : (f : FeatureOf R) → (with_id n id f).number ≡ f.number
-  same_number f = by (f.number == n)
-    where
-      by : (b : Bool) → (cond b (record f { id = Some id }) f).number ≡ f.number
-      by true = refl
-      by false = refl
+  same_number f = grind arith
 
   same_rings : (f : FeatureOf R) → rings_of (with_id n id f) ≡ rings_of f
-  same_rings f = by (f.number == n)
-    where
-      by : (b : Bool) → rings_of (cond b (record f { id = Some id }) f) ≡ rings_of f
-      by true = refl
-      by false = refl
+  same_rings f = grind arith
 
   rings_same : (fs : List (FeatureOf R))
       → flat_map rings_of (map (with_id n id) fs) ≡ flat_map rings_of fs
@@ -54,14 +46,7 @@ module _ {R : Type 0} (n : ℕ) (id : Text) where
       items (Open h ∷ is) = ap (λ z. Open h ∷ z) (items is)
       items (Close ∷ is) = ap (λ z. Close ∷ z) (items is)
       items (Kept t ∷ is) = ap (λ z. Kept t ∷ z) (items is)
-      items (Leaf f ∷ is) = by (f.number == n) (items is)
-        where
-          by : (b : Bool)
-              → map (in_item (with_id n id)) is ≡ flat_map (becomes n (λ k. record k { id = Some id } ∷ [])) is
-              → Leaf (cond b (record f { id = Some id }) f) ∷ map (in_item (with_id n id)) is
-              ≡ cond b (Leaf (record f { id = Some id }) ∷ []) (Leaf f ∷ []) ++ flat_map (becomes n (λ k. record k { id = Some id } ∷ [])) is
-          by true e = ap (λ z. Leaf (record f { id = Some id }) ∷ z) e
-          by false e = ap (λ z. Leaf f ∷ z) e
+      items (Leaf f ∷ is) = grind (arith, items is)
 
   module _ (d : DocumentOf R) where
     pub features-renamed : features (renamed d n id) ≡ map (with_id n id) (features d)

@@ -57,25 +57,13 @@ slice-in (x ∷ xs) (suc i) a e = inr (slice-in xs i a e)
 
 find-in : {A : Type 0} (test : A → Bool) (xs : List A) (a : A) → find test xs ≡ Some a → In a xs
 find-in test [] a e = absurd cc
-find-in {A} test (x ∷ xs) a e = by (test x) e (find-in test xs a)
-  where
-    by : (t : Bool) → cond t (Some x) (find test xs) ≡ Some a → (find test xs ≡ Some a → In a xs)
-        → In a (x ∷ xs)
-    by true k ih = inl cc
-    by false k ih = inr (ih k)
+find-in {A} test (x ∷ xs) a e = grind (arith, find-in test xs a)
 
 find-mapped : (g : List Position → List Position) (n : ℕ) (fs : List Feature)
     → find (λ f. f.number == n) (map (in_feature g) fs)
     ≡ mapped (in_feature g) (find (λ f. f.number == n) fs)
 find-mapped g n [] = refl
-find-mapped g n (f ∷ fs) = by (f.number == n) (find-mapped g n fs)
-  where
-    by : (t : Bool)
-        → find (λ f. f.number == n) (map (in_feature g) fs)
-        ≡ mapped (in_feature g) (find (λ f. f.number == n) fs)
-        → cond t (Some (in_feature g f)) (find (λ f. f.number == n) (map (in_feature g) fs)) ≡ mapped (in_feature g) (cond t (Some f) (find (λ f. f.number == n) fs))
-    by true h = refl
-    by false h = h
+find-mapped g n (f ∷ fs) = grind (arith, find-mapped g n fs)
 
 pub ring_at-mapped : (g : List Position → List Position) (d : Document) (n i j : ℕ)
     → ring_at (in_rings g d) n i j ≡ mapped g (ring_at d n i j)
@@ -227,8 +215,7 @@ remove-keeps d p proper single long still = keeps_by d (del_ring p) (λ ring w i
     alike = back (all_equal (around d p)) single
       where
         back : (t : Bool) → not t ≡ false → t ≡ true
-        back true h = refl
-        back false h = absurd (false≢true (sym h))
+        back t h = grind arith
 
     -- w, off the ring, is not held on the way past p
     free : (ring : List Position) (w a b : Position) → In w (positions d) → has ring w ≡ false
@@ -243,8 +230,7 @@ remove-keeps d p proper single long still = keeps_by d (del_ring p) (λ ring w i
       where
         ordered : (t : Bool)
             → (cond {A = Segment} t (record { lo = b; hi = a }) (record { lo = a; hi = b }) ≡ record { lo = a; hi = b }) ⊎ (cond {A = Segment} t (record { lo = b; hi = a }) (record { lo = a; hi = b }) ≡ record { lo = b; hi = a })
-        ordered true = inr refl
-        ordered false = inl refl
+        ordered t = grind arith
 
         off : (c e : Position) → In c ring → In e ring → has (c ∷ p ∷ e ∷ []) w ≡ false
         off c e ic ie = ap₂ (λ s t. s || t) (apart ring w c o ic) (ap₂ (λ s t. s || (t || false)) (apart ring w p o ip) (apart ring w e o ie))

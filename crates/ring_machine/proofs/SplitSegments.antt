@@ -1,5 +1,5 @@
 -- The segments and the positions of the two parts are those of the ring and of the path.
-use Rattle.std.proofs.Common.{◌≡◌, ◌+◌, ◌*◌, Bool, true, false, refl, sym, ap, ap₂, ◌∙◌, List, [], ◌∷◌}
+use Rattle.std.proofs.Common.{◌≡◌, ◌+◌, ◌*◌, Bool, refl, sym, ap, ap₂, ◌∙◌, List, [], ◌∷◌}
 use Rattle.std.proofs.Common.{◌++◌, map, length, reverse, ◌||◌, arith}
 use Rattle.std.specs.List.{list_any}
 use Rattle.std.proofs.lemmas.List.{length-append, length-reverse, map-append, reverse-append}
@@ -55,11 +55,7 @@ flipped_segments test es =
     alike (e ∷ es) = ap₂ (λ a b. a || b) (ap test (segment-comm e.1 e.0)) (alike es)
 
 shared : (a b c : Bool) → ((a || c) || (b || c)) ≡ ((a || b) || c)
-shared true b c = refl
-shared false true true = refl
-shared false true false = refl
-shared false false true = refl
-shared false false false = refl
+shared a b c = grind arith
 
 both_ways : (test : Segment → Bool) (p : Position) (xs : List Position) (q : Position) (ys : List Position)
     → list_any test (segments (p ∷ xs ++ q ∷ ys))

@@ -12,7 +12,7 @@ use Rattle.ring_machine.specs.Document.{Text, Member}
 use Rattle.ring_machine.specs.Parts.{feature_of, features, feature, has_feature, in_feature, in_item}
 use Rattle.ring_machine.specs.Parts.{in_layer, in_rings}
 use Rattle.ring_machine.specs.Cut.{becomes, instead}
-use Rattle.ring_machine.specs.Join.{take_out, empty_collection}
+use Rattle.ring_machine.specs.Join.{take_out}
 use Rattle.ring_machine.specs.Refusals.{is_layer}
 use Rattle.ring_machine.specs.Machine.{renamed}
 use Rattle.ring_machine.specs.WellFormed.{is_inner, is_geometry, fits_form, are_distinct, WellFormed}
@@ -260,8 +260,7 @@ module _ {R : Type 0} (d : DocumentOf R) (n : ℕ) where
   }
     where
       differ : (b : Bool) → (h.number == f.number) ≡ b → (h.number == f.number) ≡ false
-      differ true s = absurd (false≢true (sym new ∙ ap (has_feature d) (eqb-true h.number f.number s ∙ e) ∙ there))
-      differ false s = s
+      differ b s = grind arith
 
 -- ---- a feature taken out
 
@@ -272,11 +271,7 @@ geometry_taken n (Open a ∷ is) h = ap (is_inner 1) (filtered_is n is) ∙ inne
 geometry_taken n (Close ∷ is) h = absurd (false≢true h)
 geometry_taken n (Kept t ∷ is) h = ap (is_inner 0) (filtered_is n is) ∙ inner_becomes n (λ f. []) 0 is h
 geometry_taken n (Leaf f ∷ i ∷ is) h = absurd (false≢true h)
-geometry_taken {R} n (Leaf f ∷ []) h = by (f.number == n)
-  where
-    by : (b : Bool) → is_geometry (cond {A = List (ItemOf R)} b empty_collection (Leaf f ∷ [])) ≡ true
-    by true = refl
-    by false = refl
+geometry_taken {R} n (Leaf f ∷ []) h = grind arith
 
 pub formed-take_out : {R : Type 0} (d : DocumentOf R) (n : ℕ) → WellFormed d → WellFormed (take_out d n)
 formed-take_out {R} d n h = record {

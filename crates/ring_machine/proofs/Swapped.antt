@@ -1,5 +1,5 @@
 -- Lists of features in which those of one number become others, or none.
-use Rattle.std.proofs.Common.{◌≡◌, ℕ, Bool, true, false, refl, sym, ap, ap₂, ◌∙◌, cond, List, []}
+use Rattle.std.proofs.Common.{◌≡◌, ℕ, Bool, true, false, refl, sym, ap, ap₂, ◌∙◌, cond, List, [], arith}
 use Rattle.std.proofs.Common.{◌∷◌, ◌++◌, inl, inr, Some, None, option_map}
 use Rattle.std.proofs.Common.{eqb-true, eq-eqb}
 use Rattle.std.specs.Prelude.{◌==◌, not}
@@ -59,8 +59,7 @@ module _ {R : Type 0} (n : ℕ) (g : FeatureOf R → List (FeatureOf R)) where
           or : (b : Bool) → find (λ k. k.number == m) (swapped fs) ≡ find (λ k. k.number == m) fs
               → option_or (cond b (Some f) None) (find (λ k. k.number == m) (swapped fs))
               ≡ cond b (Some f) (find (λ k. k.number == m) fs)
-          or true ih = refl
-          or false ih = ih
+          or b ih = grind arith
 
   -- one in the place of each is found as it was
   pub find_one : (h : FeatureOf R → FeatureOf R) → ((f : FeatureOf R) → (h f).number ≡ f.number)
@@ -89,9 +88,4 @@ module _ {R : Type 0} (n : ℕ) where
   -- without a feature is with none in its place
   pub without_swapped : (fs : List (FeatureOf R)) → without n fs ≡ swapped n (λ f. []) fs
   without_swapped [] = refl
-  without_swapped (f ∷ fs) = by (f.number == n) (without_swapped fs)
-    where
-      by : (b : Bool) → without n fs ≡ swapped n (λ f. []) fs
-          → cond (not b) (f ∷ without n fs) (without n fs) ≡ cond b [] (f ∷ []) ++ swapped n (λ f. []) fs
-      by true e = e
-      by false e = ap (λ z. f ∷ z) e
+  without_swapped (f ∷ fs) = grind (arith, without_swapped fs)

@@ -1,6 +1,6 @@
 -- What a document is without one of its features.
-use Rattle.std.proofs.Common.{◌≡◌, ℕ, Bool, true, false, refl, ap, ◌∙◌, cond, List}
-use Rattle.std.proofs.Common.{[], ◌∷◌, ◌++◌, map, Option, sym}
+use Rattle.std.proofs.Common.{◌≡◌, ℕ, false, refl, ap, ◌∙◌, cond, List, arith}
+use Rattle.std.proofs.Common.{[], ◌∷◌, map, Option, sym}
 use Rattle.std.specs.Prelude.{◌==◌, not}
 use Rattle.std.specs.List.{filter, filter_map, flat_map, list_any}
 use Rattle.std.proofs.lemmas.List.Elements.{filter-append}
@@ -50,13 +50,7 @@ module _ {R : Type 0} (n : ℕ) where
   filtered_is (Open h ∷ is) = ap (λ z. Open h ∷ z) (filtered_is is)
   filtered_is (Close ∷ is) = ap (λ z. Close ∷ z) (filtered_is is)
   filtered_is (Kept t ∷ is) = ap (λ z. Kept t ∷ z) (filtered_is is)
-  filtered_is (Leaf f ∷ is) = by (f.number == n) (filtered_is is)
-    where
-      by : (b : Bool) → filter (λ i. not (is_leaf n i)) is ≡ flat_map (becomes n (λ f. [])) is
-          → cond (not b) (Leaf f ∷ filter (λ i. not (is_leaf n i)) is) (filter (λ i. not (is_leaf n i)) is)
-          ≡ cond b [] (Leaf f ∷ []) ++ flat_map (becomes n (λ f. [])) is
-      by true e = e
-      by false e = ap (λ z. Leaf f ∷ z) e
+  filtered_is (Leaf f ∷ is) = grind (arith, filtered_is is)
 
   features_filtered : (is : List (ItemOf R))
       → filter_map feature_of (filter (λ i. not (is_leaf n i)) is) ≡ without n (filter_map feature_of is)
@@ -71,12 +65,7 @@ module _ {R : Type 0} (n : ℕ) where
   features_taken (Close ∷ is) = features_filtered is
   features_taken (Kept t ∷ is) = features_filtered is
   features_taken (Leaf f ∷ i ∷ is) = features_filtered (Leaf f ∷ i ∷ is)
-  features_taken (Leaf f ∷ []) = by (f.number == n)
-    where
-      by : (b : Bool)
-          → filter_map feature_of (cond b empty_collection (Leaf f ∷ [])) ≡ cond (not b) (f ∷ []) []
-      by true = refl
-      by false = refl
+  features_taken (Leaf f ∷ []) = grind arith
 
   -- the features are the others, in their order
   pub features-take_out : (d : DocumentOf R) → features (take_out d n) ≡ without n (features d)
