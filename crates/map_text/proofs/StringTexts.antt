@@ -8,9 +8,7 @@ use Rattle.std.proofs.lemmas.Str.{encode_ascii}
 use Rattle.std.proofs.lemmas.Grind.{flat_map-append}
 use Rattle.std.proofs.Math.Utf8.{scalar, scalars, encode, encodes, next, scalar_cases}
 use Rattle.json.specs.Print.{escape_letter, escape_byte, escape}
-use Rattle.json.specs.Json as json
 use Rattle.json.proofs.Printed.Strings.{escape_byte_plain}
-use Rattle.serde_json.specs.Data.{string}
 use Rattle.json_spans.specs.Bytes.{is_ascii, is_escape, is_hex, is_three, is_tail, is_tail_e0, is_tail_ed, is_tail_f0, is_tail_f4}
 use Rattle.json_spans.specs.Grammar.{Chars, quote, ascii, two, three, three_e0, three_ed, four, four_f0, four_f4, escape as escaped, code}
 use Rattle.json_spans.specs.Grammar as grammar
