@@ -43,14 +43,6 @@ copies_apart given word copy bytes is_same told apart copied same equal =
     subst (λ (b : Bool). MatchBool b (option_map (λ s. s.now) given ≡ Some word.now) (option_map (λ s. s.now) given ≢ Some word.now)) apart told
     (sym copied ∙ (equal ∙ ap (λ (b : List ℕ). Some b) same))
 
--- paths of which neither is the other are apart
-pub not_both : (one : Option (Bor (List ℕ))) (path : Bor (List ℕ)) (is_same : Bool)
-    → MatchBool is_same (option_map (λ s. s.now) one ≡ Some path.now) (option_map (λ s. s.now) one ≢ Some path.now) → is_same ≡ false
-    → AreApart (option_map (λ s. s.now) one) (Some path.now)
-not_both one path is_same told apart text is same =
-    subst (λ (b : Bool). MatchBool b (option_map (λ s. s.now) one ≡ Some path.now) (option_map (λ s. s.now) one ≢ Some path.now)) apart told
-    (is ∙ sym same)
-
 -- paths that are apart are apart once they are copied
 pub files_apart : (one other : Option (Bor (List ℕ))) (copy second : Option (List ℕ)) → AreApart (option_map (λ s. s.now) one) (option_map (λ s. s.now) other)
     → copy ≡ option_map (λ s. s.now) one → second ≡ option_map (λ s. s.now) other → AreApart copy second

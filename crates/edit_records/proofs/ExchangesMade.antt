@@ -27,9 +27,7 @@ use Rattle.edit_records.specs.Places.{Place, Begins, Ends, Text_of, Number, Tree
 use Rattle.edit_records.specs.Places.{number_of, numbers_of}
 use Rattle.edit_records.specs.Places.{is_formed, AreFormed, numbers_placed, has_place, leaf, or_empty}
 use Rattle.edit_records.specs.Places.{item_at, items_of, filled, Fills, exchanged_features, AreNumbered}
-use Rattle.edit_records.specs.Places.{exchanged, had_before, with_changed, with_new, tree_with, grown}
-use Rattle.edit_records.specs.Records.{AreChanged}
-use Rattle.edit_records.proofs.ExchangesBack.{exchanged-back}
+use Rattle.edit_records.specs.Places.{exchanged, with_changed, with_new, tree_with, grown}
 use Rattle.edit_records.proofs.PlacesBack.{filled-agree}
 use Rattle.edit_records.proofs.PlacesFilled.{AreOwn, found-filled, filled-changed}
 
@@ -55,18 +53,6 @@ module _ {R : Type 0} where
   features-append [] cs j k m e = e
   features-append (b ∷ bs) cs j k m e = ap (cond (m == b.0) b.1) (features-append bs cs j k m e)
 
-  features-twice : (cs : List (ℕ × Option (FeatureOf R))) (j k : ℕ → Option (FeatureOf R)) (m : ℕ)
-      → j m ≡ exchanged_features cs k m
-      → exchanged_features (map (λ c. (c.0, k c.0)) cs) j m ≡ k m
-  features-twice [] j k m e = e
-  features-twice (c ∷ cs) j k m e = by (m == c.0) refl e (features-twice cs j k m)
-    where
-      by : (b : Bool) → (m == c.0) ≡ b → j m ≡ cond b c.1 (exchanged_features cs k m)
-          → (j m ≡ exchanged_features cs k m → exchanged_features (map (λ c. (c.0, k c.0)) cs) j m ≡ k m)
-          → cond b (k c.0) (exchanged_features (map (λ c. (c.0, k c.0)) cs) j m) ≡ k m
-      by true t e rest = ap k (sym (eqb-true m c.0 t))
-      by false t e rest = rest e
-
   -- ---- an exchange
 
   module _ (trees : List LayerTree) (cs : List (ℕ × Option (FeatureOf R))) (d : DocumentOf R)
@@ -81,11 +67,6 @@ module _ {R : Type 0} where
     pub exchanged-feature : (m : ℕ) → has_place trees m ≡ true
         → feature (exchanged trees cs d) m ≡ exchanged_features cs (feature d) m
     exchanged-feature m e = found m ∙ ap (λ b. cond b (exchanged_features cs (feature d) m) None) e
-
-    -- a number without a place has none
-    pub exchanged-nowhere : (m : ℕ) → has_place trees m ≡ false
-        → feature (exchanged trees cs d) m ≡ None
-    exchanged-nowhere m e = found m ∙ ap (λ b. cond b (exchanged_features cs (feature d) m) None) e
 
     placed : (m : ℕ) → In m (numbers_placed trees)
         → feature (exchanged trees cs d) m ≡ exchanged_features cs (feature d) m
@@ -103,18 +84,6 @@ module _ {R : Type 0} where
         ap (λ z. record { transform = d.transform; layers = z; members = d.members })
         (filled-agree (exchanged_features bs (feature (exchanged trees cs d))) (exchanged_features (bs ++ cs) (feature d)) trees
         (λ m i. features-append bs cs (feature (exchanged trees cs d)) (feature d) m (placed m i)))
-
-    -- exchanged for what they had, the document is as it was
-    pub exchanged-twice : Fills trees d
-        → exchanged trees (had_before d cs) (exchanged trees cs d) ≡ d
-    exchanged-twice fills =
-        exchanged-back trees (had_before d cs) d (exchanged trees cs d) fills refl refl
-        (λ m i. features-twice cs (feature (exchanged trees cs d)) (feature d) m (placed m i))
-
--- what is given back has its numbers
-pub changed-numbered : (next : ℕ) (cs : List (ℕ × Option Feature)) → AreChanged next cs → AreNumbered cs
-changed-numbered next [] h = h
-changed-numbered next (c ∷ cs) h = (h.1, changed-numbered next cs h.2)
 
 -- ---- other rings
 

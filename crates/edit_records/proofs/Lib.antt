@@ -4,7 +4,6 @@ pub mod PlacesBack
 pub mod ExchangedSizes
 pub mod ExchangesBack
 pub mod PlacesFilled
-pub mod PlacesGrown
 pub mod ExchangesMade
 pub mod ExchangesSeen
 pub mod Examples

@@ -5,7 +5,6 @@ use Rattle.std.specs.Prelude.{not, ◌&&◌, pos, unsigned_abs, int_le}
 use Rattle.std.specs.List.{fold}
 use Rattle.std.proofs.lemmas.Bool.{false≢true}
 use Rattle.std.proofs.lemmas.List.{take_more}
-use Rattle.std.proofs.lemmas.List.Sums.{fold-append}
 use Rattle.grid_geometry.specs.Position.{Position}
 use Rattle.grid_geometry.specs.Segment.{Segment, Box, segment}
 use Rattle.grid_geometry.specs.Orientation.{orientation}
@@ -106,16 +105,6 @@ module _ (t : ℤ) (d : Document) (p : Position) (n : ℕ) where
       by false e h =
           ap (thin_by (not (is_junction d p) && is_flat t d p)) (remove_no_vertex d p e)
           ∙ either (not (is_junction d p) && is_flat t d p)
-
--- one vertex more
-pub thinned_more : (t : ℤ) (d now : Document) (n : ℕ) (ps : List Position) (i : ℕ) (p : Position)
-    → i < length ps → p ≡ get_or ps i p
-    → fold (thin_at t) (with_count d 0) (take i ps) ≡ with_count now n
-    → fold (thin_at t) (with_count d 0) (take (i + 1) ps) ≡ thin_at t (with_count now n) p
-thinned_more t d now n ps i p l e h =
-    ap (fold (thin_at t) (with_count d 0)) (take_more ps i p l ∙ ap (λ z. take i ps ++ z ∷ []) (sym e))
-    ∙ fold-append (thin_at t) (with_count d 0) (take i ps) (p ∷ [])
-    ∙ ap (λ s. thin_at t s p) h
 
 -- ---- how many tests the pass takes
 

@@ -19,13 +19,11 @@ use Rattle.ring_machine.specs.WellFormed.{are_distinct}
 use Rattle.ring_machine.specs.Sweep.{holds_other, crosses_on_way, edge_sweeps, move_sweeps}
 use Rattle.ring_machine.proofs.Order.{and_both, or_true, or_right, position_eq-true}
 use Rattle.ring_machine.proofs.Orders.{segment_ordered}
-use Rattle.ring_machine.proofs.Canonical.{canonical_parts}
 use Rattle.ring_machine.proofs.First.{In}
 use Rattle.ring_machine.proofs.Neighbours.{in-map, in-flat_map, has-in, in-has, end_place, begin_place}
 use Rattle.ring_machine.proofs.Neighbours.{place_around, first_end, second_end}
 use Rattle.ring_machine.proofs.RingSegments.{segment_eq-true, same_ends}
 use Rattle.ring_machine.proofs.RingsOf.{rings-in_rings}
-use Rattle.ring_machine.proofs.Spots.{Rotated}
 use Rattle.ring_machine.proofs.StaysRing.{canonical_is_ring}
 use Rattle.vertex_index.specs.Placement.{Placement, AreDistinct, place}
 use Rattle.arc_tables.specs.Ways.{Edge}
@@ -119,22 +117,6 @@ module _ (s : Stored) (w : IsWhole s) where
   ring_is_ring r es e =
       ap is_ring (ring_under_is r es e) ∙ canonical_is_ring (positions_along s.places es) (positions_long r es e) (positions_distinct r es e)
 
-  -- it is the positions of its edges, begun elsewhere
-  pub ring_turned : (r : ℕ) (es : List Edge) → table.get s.rings r ≡ Some es
-      → Rotated (positions_along s.places es) (ring_under s r)
-  ring_turned r es e =
-      let parts = canonical_parts (positions_along s.places es) in
-      record { us = parts.0; vs = parts.1; from = parts.2; to = ring_under_is r es e ∙ parts.3 }
-
-  pub ring_has : (r : ℕ) (es : List Edge) → table.get s.rings r ≡ Some es → (p : Position)
-      → (has (ring_under s r) p ≡ true) ↔ ((k : ℕ) × Contains (begins es) k × (place s.places k ≡ p))
-  ring_has r es e p = (
-    λ h. let i = of_canonical (positions_along s.places es) p (has-in p _ (ap (λ z. has z p) (sym (ring_under_is r es e)) ∙ h)) in
-        let k = in_mapped (place s.places) p (begins es) i in
-        (k.0, in_contains (begins es) k.0 k.1, k.2),
-    λ h. ap (λ z. has z p) (ring_under_is r es e) ∙ in-has p _ (in_canonical (positions_along s.places es) p (subst (λ z. In z (positions_along s.places es)) h.2 (in-map (place s.places) h.0 (begins es) (contains_in (begins es) h.0 h.1)))),
-  )
-
   pub rings_are : rings (document_of s) ≡ map (ring_under s) (rings s.frame)
   rings_are = rings-in_rings (ring_under s) s.frame
 
@@ -188,11 +170,6 @@ module _ (s : Stored) (w : IsWhole s) where
       → is_vertex (document_of s) p ≡ true
   key_vertex k p e =
       ap (is_vertex (document_of s)) (sym (place_is s.places k p e)) ∙ kept_vertex k (place_kept s.places k p e)
-
-  -- the vertices of the document are the positions with keys
-  pub vertex_iff : (p : Position)
-      → (is_vertex (document_of s) p ≡ true) ↔ ((k : ℕ) × (table.get s.places k ≡ Some p))
-  vertex_iff p = (vertex_key p, λ h. key_vertex h.0 p h.1)
 
   -- ---- segments
 
@@ -305,11 +282,6 @@ module _ (s : Stored) (w : IsWhole s) where
           let before = (joined_at (x ∷ y ∷ zs) l k h (b.0, u.0) b.3).0 (sym e) in
           let after = (joined_at (x ∷ y ∷ zs) l k h (u.0, b.1) b.4).1 (sym e) in
           record { a = before.0; b = after.0; joined_a = before.1; joined_b = after.1; is = sym g ∙ b.2 ∙ ap₂ segment (sym before.2) (sym after.2) }
-
-  pub around_joined : (k : ℕ) (p : Position) → table.get s.places k ≡ Some p → (t : Segment)
-      → In t (around (document_of s) p) → Beside s k t
-  around_joined k p e t i =
-      around_place k (place_kept s.places k p e) t (subst (λ z. In t (around (document_of s) z)) (sym (place_is s.places k p e)) i)
 
   -- each that is joined to a vertex is an end of a segment around it
   place_around_joined : (k x : ℕ) → Joined s.rings k x

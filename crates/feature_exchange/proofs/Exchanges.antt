@@ -8,7 +8,7 @@ use Rattle.grid_geometry.specs.Position.{Position}
 use Rattle.ring_machine.specs.Parts.{rings, size}
 use Rattle.ring_machine.specs.Planar.{Proper}
 use Rattle.ring_machine.specs.Ring.{canonical}
-use Rattle.ring_machine.specs.WellFormed.{are_distinct, WellFormed}
+use Rattle.ring_machine.specs.WellFormed.{WellFormed}
 use Rattle.ring_machine.proofs.First.{In}
 use Rattle.ring_machine.proofs.Members.{contains_in, in_contains}
 use Rattle.topo_outline.specs.Kept.{KeepsTexts}
@@ -48,9 +48,6 @@ module _ (old mid new : Stored) (h i j : SegmentSet) (came gone : List ℕ)
   pub came_new : (r : ℕ) → In r came → In r (rings old.frame) → ⊥
   came_new r k l =
       false≢true (sym (ap is_some (e.added.free r (in_contains came r k))) ∙ old_there r l)
-
-  pub came_different : are_distinct came ≡ true
-  came_different = e.added.different
 
   -- ---- rings that stay, and rings that came
 

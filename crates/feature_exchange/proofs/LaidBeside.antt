@@ -5,14 +5,12 @@ use Rattle.std.specs.FinMap as table
 use Rattle.std.proofs.lemmas.Bool.{false≢true}
 use Rattle.std.proofs.lemmas.List.{map-append}
 use Rattle.ring_machine.specs.WellFormed.{are_distinct}
-use Rattle.ring_machine.proofs.First.{In}
 use Rattle.ring_machine.proofs.Found.{distinct-append}
 use Rattle.ring_machine.proofs.Members.{in_contains, there}
 use Rattle.vertex_index.specs.Placement.{Placement}
 use Rattle.segment_index.specs.Candidates.{SegmentSet}
 use Rattle.arc_tables.specs.Rings.{Rings, edges}
-use Rattle.ring_store.proofs.AddedRings.{same_map}
-use Rattle.ring_store.specs.Laid.{numbers_of, ring_at, AreThere, AreAdded, KeepsPlaces}
+use Rattle.ring_store.specs.Laid.{numbers_of, AreThere, AreAdded, KeepsPlaces}
 use Rattle.ring_store.specs.Standing.{Stands}
 use Rattle.ring_store.specs.declared.laid.LaidRing.{LaidRing}
 use Rattle.ring_store.proofs.Series.{number_there, there_still, there_none, added_first}
@@ -81,12 +79,6 @@ module _ {A : Type 0} where
       stands = λ r k. ap is_some (held r k) ∙ k;
       still = λ r k. ring_at-stays p q q m n h i stands stands' kept (λ x z e. e) r k (held r k);
     }
-
-  -- lists of rings stay where they were laid
-  pub lists_stay : (p : Placement) (m : Rings) (laid : List (LaidRing A)) (q : Placement) (n : Rings) (more : List (LaidRing A))
-      → AreLaid p m laid q n more → (xs : List ℕ) → ((r : ℕ) → In r xs → IsTrue (table.contains_key m r))
-      → map (ring_at q n) xs ≡ map (ring_at p m) xs
-  lists_stay p m laid q n more a xs held = same_map (ring_at q n) (ring_at p m) xs (λ r k. a.still r (held r k))
 
   -- where none had been laid before
   pub laid_there : (p : Placement) (m : Rings) (q : Placement) (n : Rings) (more : List (LaidRing A))

@@ -1,6 +1,5 @@
 pub mod Ends
 pub mod Base
-pub mod SegmentBound
 pub mod Under
 pub mod Changes
 pub mod Whole

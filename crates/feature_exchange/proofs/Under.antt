@@ -1,15 +1,15 @@
 -- The numbers of the rings of a feature, among those of the document.
-use Rattle.std.proofs.Common.{◌≡◌, ◌≤◌, ℕ, true, refl, sym, ap, ◌∙◌, subst, List, [], ◌++◌}
-use Rattle.std.proofs.Common.{map, length, Option, Some, None, option_map, arith}
+use Rattle.std.proofs.Common.{◌≡◌, ℕ, true, refl, sym, ap, ◌∙◌, subst, List, [], ◌++◌}
+use Rattle.std.proofs.Common.{map, Option, Some, None, option_map}
 use Rattle.std.specs.Prelude.{unwrap_or, Vec}
 use Rattle.std.specs.List.{flat_map}
 use Rattle.std.proofs.lemmas.List.Folds.{flat_map-map}
 use Rattle.ring_machine.specs.Document.{FeatureOf, DocumentOf}
-use Rattle.ring_machine.specs.Parts.{features, feature, rings, rings_of, in_feature, in_rings}
+use Rattle.ring_machine.specs.Parts.{features, feature, rings, rings_of}
 use Rattle.ring_machine.specs.WellFormed.{are_distinct, WellFormed}
 use Rattle.ring_machine.proofs.First.{In}
 use Rattle.ring_machine.proofs.Found.{distinct_parts, feature_in, feature_stands}
-use Rattle.ring_machine.proofs.Found.{feature_found, feature-in_rings}
+use Rattle.ring_machine.proofs.Found.{feature_found}
 use Rattle.ring_machine.proofs.Instead.{rings_at}
 use Rattle.ring_machine.proofs.Neighbours.{in-flat_map}
 use Rattle.map_frame.specs.Numbers.{polygon_numbers}
@@ -38,14 +38,6 @@ module _ {R : Type 0} (d : DocumentOf R) (n : ℕ) where
       by (Some f) e =
           in-flat_map rings_of f r (features d) (feature_in d n f e).0 (subst (In r) (under_found f e) i)
 
-  -- a feature with polygons is there
-  pub polygon_found : 1 ≤ length (polygons_of d n) → (f : FeatureOf R) × (feature d n ≡ Some f)
-  polygon_found l = by (feature d n) refl
-    where
-      by : (o : Option (FeatureOf R)) → feature d n ≡ o → (f : FeatureOf R) × (feature d n ≡ Some f)
-      by None e = absurd (omega (arith, l, ap length (polygons_none e)))
-      by (Some f) e = (f, e)
-
 -- the numbers that were read are those of the feature
 pub numbers_read : {A : Type 0} (d : DocumentOf ℕ) (n : ℕ) (ps : List (Vec ℕ A))
     → Some (map polygon_numbers ps) ≡ option_map (λ (f : FeatureOf ℕ). f.polygons) (feature d n)
@@ -53,18 +45,6 @@ pub numbers_read : {A : Type 0} (d : DocumentOf ℕ) (n : ℕ) (ps : List (Vec �
 numbers_read d n ps e =
     sym (flat_map-map (λ polygon. polygon) polygon_numbers ps)
     ∙ ap (λ (o : Option (List (List ℕ))). flat_map (λ polygon. polygon) (unwrap_or o [])) e
-
--- as many polygons as before the rings were changed
-pub polygons-in_rings : {R S : Type 0} (g : R → S) (d : DocumentOf R) (n : ℕ)
-    → polygons_of (in_rings g d) n ≡ map (map g) (polygons_of d n)
-polygons-in_rings {R} {S} g d n =
-    ap (λ o. unwrap_or (option_map (λ (x : FeatureOf S). x.polygons) o) []) (feature-in_rings g d n) ∙ by (feature d n)
-  where
-    by : (o : Option (FeatureOf R))
-        → unwrap_or (option_map (λ (x : FeatureOf S). x.polygons) (option_map (in_feature g) o)) []
-        ≡ map (map g) (unwrap_or (option_map (λ (x : FeatureOf R). x.polygons) o) [])
-    by None = refl
-    by (Some f) = refl
 
 -- ---- numbers that do not stand twice
 

@@ -1,27 +1,23 @@
 -- A map that is kept: its tables stand, and tables that stand make it whole.
-use Rattle.std.proofs.Common.{◌≡◌, ◌≤◌, ◌↔◌, ℕ, Bool, true, false, refl, sym, ap, ap₂, ◌∙◌, subst, List, [], ◌∷◌}
-use Rattle.std.proofs.Common.{length, inl, inr, is_some, cond, ◌-◌, ◌&&◌, ◌||◌, Contains, arith}
-use Rattle.std.specs.Prelude.{IsTrue, not}
+use Rattle.std.proofs.Common.{◌≡◌, ◌≤◌, ◌↔◌, ℕ, true, refl, sym, ap, ap₂, ◌∙◌, subst}
+use Rattle.std.proofs.Common.{inl, inr, is_some, ◌-◌, Contains}
+use Rattle.std.specs.Prelude.{IsTrue}
 use Rattle.std.specs.FinMap as table
 use Rattle.std.specs.FinSet as set
-use Rattle.std.proofs.lemmas.Bool.{false≢true}
-use Rattle.grid_geometry.specs.Segment.{Segment, segment, segment_cmp}
+use Rattle.grid_geometry.specs.Segment.{Segment, segment}
 use Rattle.grid_geometry.proofs.Conflicts.{segment-comm}
-use Rattle.ring_machine.specs.Parts.{rings, size, is_segment, all_segments}
+use Rattle.ring_machine.specs.Parts.{rings, size, is_segment}
 use Rattle.ring_machine.specs.Planar.{Proper}
 use Rattle.ring_machine.specs.WellFormed.{are_distinct, WellFormed}
 use Rattle.ring_machine.proofs.Members.{contains_in, in_contains, same_answer}
 use Rattle.topo_outline.specs.Kept.{KeepsTexts}
 use Rattle.vertex_index.specs.Placement.{place}
-use Rattle.segment_index.specs.Candidates.{SegmentSet, segment_is, has}
-use Rattle.segment_index.proofs.Singles.{segment_total, same_sets}
+use Rattle.segment_index.specs.Candidates.{SegmentSet, has}
 use Rattle.ring_store.proofs.KeyRings.{times_edge, edge_times}
-use Rattle.ring_store.proofs.SegmentLists.{has-eq}
 use Rattle.ring_store.specs.Standing.{IsSide, Stands}
 use Rattle.feature_exchange.specs.Holds.{IsWhole, Holds}
 use Rattle.feature_exchange.specs.Stored.{Stored, document_of}
 use Rattle.feature_exchange.proofs.Base.{segment_between, segment_iff}
-use Rattle.feature_exchange.proofs.SegmentBound.{length_all}
 
 -- ---- segments of the document are sides of the rings
 
@@ -97,45 +93,6 @@ module _ (s : Stored) (held : SegmentSet) (stands : Stands s.places s.rings held
         (λ i. side_segment s whole_of t ((stands.indexed t).0 i))
         (λ i. (stands.indexed t).1 (segment_side s whole_of t i));
   }
-
--- ---- how many segments an index holds
-
--- a set whose segments are all in a list has no more than the list
-held_bound : (held : SegmentSet) (xs : List Segment)
-    → ((t : Segment) → set.contains held t ≡ true → has xs t ≡ true) → set.len held ≤ length xs
-held_bound held [] h = omega (
-  arith,
-  ap set.len (same_sets held set.empty (λ t. same_answer (set.contains held t) (set.contains set.empty t)
-      (λ i. absurd (false≢true (h t i)))
-      (λ i. absurd (false≢true (sym (set.contains-empty segment_cmp t) ∙ i))))),
-  set.len-empty segment_cmp,
-)
-held_bound held (x ∷ xs) h =
-    by (set.contains held x) (set.len-remove segment_total held x) (held_bound (set.remove held x) xs rest)
-  where
-    rest : (t : Segment) → set.contains (set.remove held x) t ≡ true → has xs t ≡ true
-    rest t i = left (segment_is t x) (set.contains held t) refl (sym (set.contains-remove segment_total held x t) ∙ i) (h t)
-      where
-        left : (b c : Bool) → segment_is t x ≡ b → (not b && c) ≡ true → (c ≡ true → (segment_is t x || has xs t) ≡ true)
-            → has xs t ≡ true
-        left true c e j k = absurd (false≢true j)
-        left false c e j k = sym (ap (λ b. b || has xs t) e) ∙ k j
-
-    by : (b : Bool) → set.len (set.remove held x) ≡ cond b (set.len held - 1) (set.len held)
-        → set.len (set.remove held x) ≤ length xs → set.len held ≤ length (x ∷ xs)
-    by true e k = omega (arith, e, k)
-    by false e k = omega (arith, e, k)
-
--- an index of a map has no more segments than the map has positions
-pub segments_few : (s : Stored) (held : SegmentSet) → Holds s held → set.len held ≤ 4000000
-segments_few s held h =
-    let d = document_of s in
-    omega (
-      arith,
-      held_bound held (all_segments d) (λ t i. has-eq (all_segments d) t ∙ sym (h.indexed t) ∙ i),
-      length_all (rings d),
-      h.small,
-    )
 
 -- ---- nothing changed
 

@@ -1,18 +1,14 @@
 -- How far a coordinate may be from 0.
 use mir.Syntax.{w128}
 use mir.Val.{SFits}
-use Rattle.std.proofs.Common.{◌≡◌, ℕ, ◌-◌, ◌<◌, ◌≤◌, ◌^◌, true, false, arith}
+use Rattle.std.proofs.Common.{◌≡◌, ℕ, ◌-◌, ◌<◌, ◌≤◌, ◌^◌, false, arith}
 use Rattle.std.specs.Prelude.{ℤ, pos, negsuc, ◌+ℤ◌, unsigned_abs, nat_le}
 use Rattle.std.proofs.lemmas.Int.{ints}
-use Rattle.topo_reader.proofs.Steps.{at_most}
 use Rattle.exact_decimals.proofs.Powers.{power_mono}
 use Rattle.grid_reader.specs.Fine.{is_within}
 
 pub power_fits : (finer : ℕ) → 10 ^ (36 - finer) ≤ 10 ^ 36
 power_fits finer = power_mono (36 - finer) 36 (omega arith)
-
-pub within_reach : (finer : ℕ) (z : ℤ) → is_within finer z ≡ true → unsigned_abs z ≤ 10 ^ 36
-within_reach finer z h = omega (arith, at_most (unsigned_abs z) (10 ^ (36 - finer)) h, power_fits finer)
 
 pub not_at_least : (m n : ℕ) → n < m → nat_le m n ≡ false
 not_at_least m n h = grind arith

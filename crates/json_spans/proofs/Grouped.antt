@@ -189,11 +189,6 @@ root_padded n xs (json s v t) =
 pub root_value : (n : ℕ) (xs : List ℕ) → Json n xs → IsValue n (trimmed (record { at_byte = 0; bytes = xs })).bytes
 root_value n xs h = padded_value {A = IsValue n} 0 xs (trimmed (record { at_byte = 0; bytes = xs })) (root_padded n xs h)
 
--- a value with space round it is a whole text
-pub padded_json : {n place : ℕ} {xs : List ℕ} {root : Node} → Padded (IsValue n) place xs root → Json n xs
-padded_json (padded {bytes = v} {back = back} a d b) =
-    json (stands (space_framed a) (v ++ back)) (stands (value_framed d) back) b
-
 -- and the value is what is left without the space
 pub padded_root : {n : ℕ} {xs : List ℕ} {root : Node} → Padded (IsValue n) 0 xs root → root ≡ trimmed (record { at_byte = 0; bytes = xs })
 padded_root {n = n} d = sym (trimmed_is (value_solid n) d)

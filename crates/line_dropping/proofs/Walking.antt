@@ -1,5 +1,5 @@
 -- Lines, one after another, as a loop meets them.
-use Rattle.std.proofs.Common.{◌≡◌, ℕ, zero, suc, ◌+◌, ◌<◌, ◌≤◌, ◌-◌, ◌≢◌, List, [], ◌∷◌, ◌++◌, length, map, drop, get_or, Bool, true, false, refl, sym, ◌∙◌, append_assoc, sub-one, add-one, drop-cons}
+use Rattle.std.proofs.Common.{◌≡◌, ℕ, zero, suc, ◌+◌, ◌<◌, ◌≤◌, ◌-◌, ◌≢◌, List, [], ◌∷◌, ◌++◌, length, map, drop, get_or, Bool, true, false, refl, sym, ◌∙◌, sub-one, add-one, drop-cons}
 use Rattle.std.proofs.lemmas.List.{append-nil, map-append, drop_all}
 use Rattle.std.specs.List.{flat_map, fold}
 use Rattle.json_spans.specs.Nodes.{Node}
@@ -22,14 +22,6 @@ value_later name m ms left b whole e is wrong h = rw (e, sym is ∙ wrong) at h
 pub no_value : (name : List ℕ) (left : List (Node × Node)) (whole : List Node) → left ≡ [] → value_named name left ≡ whole → [] ≡ whole
 unfolding value_named
 no_value name left whole e h = rw e at h
-
--- ---- what a loop appends
-
-pub joined_turn : {A : Type 0} (f : A → List Node) (old new : List Node) (a : A) (as' left : List A) (whole : List Node) → left ≡ a ∷ as' → new ≡ old ++ f a → old ++ flat_map f left ≡ whole → new ++ flat_map f as' ≡ whole
-joined_turn f old new a as' left whole e is h = rw (is, append_assoc) (rw e at h)
-
-pub joined_end : {A : Type 0} (f : A → List Node) (old : List Node) (left : List A) (whole : List Node) → left ≡ [] → old ++ flat_map f left ≡ whole → old ≡ whole
-joined_end f old left whole e h = rw (e, append-nil) at h
 
 -- ---- a geometry
 
@@ -60,9 +52,6 @@ lines_of_items d n list old left b z is wrong e l = rw (lines_of_parts d n (list
 
 pub no_layer : (layers : List Node) → [] ≡ layers → [] ≡ flat_map (λ m. lines_in 100 m.1) (flat_map members layers)
 no_layer layers e = rw (← e) refl
-
-pub lines_of_layers : (objects : Node) (layers : List Node) (left : List (Node × Node)) → objects ∷ [] ≡ layers → left ≡ members objects → [] ++ flat_map (λ m. lines_in 100 m.1) left ≡ flat_map (λ m. lines_in 100 m.1) (flat_map members layers)
-lines_of_layers objects layers left e l = rw (← e, l, append-nil (members objects)) refl
 
 -- ---- line after line
 

@@ -1,19 +1,14 @@
 -- One element more of lists that are mapped.
 use Rattle.std.proofs.Common.{◌≡◌, ℕ, ◌+◌, ◌<◌, List, [], ◌∷◌, ◌++◌, length, map, take, get_or, sym, ap, ◌∙◌}
-use Rattle.std.specs.List.{fold, flat_map}
+use Rattle.std.specs.List.{flat_map}
 use Rattle.std.proofs.lemmas.List.{take_more, map-append, append-nil}
 use Rattle.std.proofs.lemmas.List.Concat.{flat_map-append}
-use Rattle.std.proofs.lemmas.List.Sums.{fold-append}
 
 pub one_more : {A B : Type 0} (of : A → B) (xs : List A) (i : ℕ) (x : A) → i < length xs → x ≡ get_or xs i x
     → map of (take (i + 1) xs) ≡ map of (take i xs) ++ of x ∷ []
 one_more of xs i x l e =
     ap (map of) (take_more xs i x l) ∙ map-append of (take i xs) (get_or xs i x ∷ [])
     ∙ ap (λ z. map of (take i xs) ++ of z ∷ []) (sym e)
-
-pub fold_one_more : {A B C : Type 0} (f : C → B → C) (z : C) (of : A → B) (xs : List A) (i : ℕ) (x : A) → i < length xs → x ≡ get_or xs i x
-    → fold f z (map of (take (i + 1) xs)) ≡ f (fold f z (map of (take i xs))) (of x)
-fold_one_more f z of xs i x l e = ap (fold f z) (one_more of xs i x l e) ∙ fold-append f z (map of (take i xs)) (of x ∷ [])
 
 pub flat_one_more : {A B C : Type 0} (f : B → List C) (of : A → B) (xs : List A) (i : ℕ) (x : A) → i < length xs → x ≡ get_or xs i x
     → flat_map f (map of (take (i + 1) xs)) ≡ flat_map f (map of (take i xs)) ++ f (of x)

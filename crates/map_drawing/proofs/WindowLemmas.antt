@@ -19,10 +19,6 @@ starts_before least margin low = omega (arith, ints, low)
 pub ends_behind : (least most margin : ℤ) → pos 1 ≤ℤ margin → most ≤ℤ (least -ℤ margin +ℤ (most -ℤ least +ℤ pos 2 *ℤ margin))
 ends_behind least most margin low = omega (arith, ints, low)
 
--- a coordinate, and the far side of a window
-pub as_it_is : (z : ℤ) → unsigned_abs z ≤ 4000000000000 → to_z w64 (of_z w64 z) ≡ z
-as_it_is z h = omega (arith, ints, h)
-
 pub far_side : (near extent : ℤ) → unsigned_abs near ≤ 4000000000000 → pos 1 ≤ℤ extent → extent ≤ℤ pos 4000000000000
     → to_z w64 (of_z w64 (to_z w64 (of_z w64 near) +ℤ to_z w64 (of_z w64 extent))) ≡ near +ℤ extent
 far_side near extent h low high = omega (arith, ints, h, low, high)

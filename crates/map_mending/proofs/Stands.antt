@@ -1,5 +1,5 @@
 -- One polygon more, and one feature more.
-use Rattle.std.proofs.Common.{◌≡◌, ℕ, suc, ◌+◌, ◌<◌, List, [], ◌∷◌, ◌++◌, map, length, take, get_or, refl, sym, ap, ap₂, ◌∙◌, subst, append_assoc, arith}
+use Rattle.std.proofs.Common.{◌≡◌, ℕ, suc, ◌+◌, ◌<◌, List, [], ◌∷◌, ◌++◌, map, length, take, get_or, sym, ap, ap₂, ◌∙◌, subst, append_assoc, arith}
 use Rattle.std.specs.List.{AllZip}
 use Rattle.std.proofs.lemmas.List.{append-nil, length-map, length-take-le, map-append, map_more}
 use Rattle.std.proofs.lemmas.List.Concat.{flat_map-append}
@@ -28,14 +28,6 @@ module _ (paths : List Path) where
   told_from-push n k m (v ∷ ws) (p ∷ parts) w q h e =
       ap (λ z. told_of paths n k v p ++ z) (told_from-push n (suc k) m ws parts w q h.1 (omega (arith, e)))
       ∙ sym (append_assoc (told_of paths n k v p) (told_from paths n (suc k) ws parts) (told_of paths n m w q))
-
-  pub stands_none : (n : ℕ) (before : List Parted) → StandsFor paths n [] [] before before
-  stands_none n before = record {
-    parts = [];
-    each = tt;
-    joins = refl;
-    tells = sym (append-nil before);
-  }
 
   pub stands_more : (n k : ℕ) (ws ps : Polygons) (before after after' : List Parted) (w : List (List Position)) (q : Polygons)
       → StandsFor paths n ws ps before after → k ≡ length ws → MendsPolygon paths w q
@@ -74,9 +66,6 @@ module _ (paths : List Path) where
   told_in-push n m (g ∷ fs) (a ∷ all) f parts h e =
       ap (λ z. told_from paths n 0 g a ++ z) (told_in-push (suc n) m fs all f parts h.1 (omega (arith, e)))
       ∙ sym (append_assoc (told_from paths n 0 g a) (told_in paths (suc n) fs all) (told_from paths m 0 f parts))
-
-  pub tells_none : TellsParted paths [] [] []
-  tells_none = record { parts = []; each = tt; joins = refl; tells = refl }
 
   pub tells_more : (n : ℕ) (fs ms : List Polygons) (told told' : List Parted) (f m : Polygons)
       → TellsParted paths fs ms told → n ≡ length fs → StandsFor paths n f m told told'

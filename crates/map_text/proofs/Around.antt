@@ -4,7 +4,6 @@ use Rattle.std.proofs.Common.{List, [], ◌∷◌, ◌++◌, inl, inr, arith, le
 use Rattle.std.specs.Prelude.{not}
 use Rattle.std.specs.Ordering.{is_gt}
 use Rattle.std.specs.List.{list_all}
-use Rattle.std.proofs.lemmas.Bool.{false≢true}
 use Rattle.std.proofs.lemmas.List.{length-append}
 use Rattle.grid_geometry.specs.Position.{Position, position, position_eq, position_cmp}
 use Rattle.grid_geometry.specs.Segment.{Segment, segment_eq}
@@ -120,8 +119,7 @@ first_of_equal (t ∷ ts) s h (inr i) = go ts h i
     go (u ∷ us) k (inr i) = go us (and_both (segment_eq t u) _ k).1 i
 
 not_false : (b : Bool) → not b ≡ false → b ≡ true
-not_false true h = refl
-not_false false h = absurd (false≢true (sym h))
+not_false b h = grind arith
 
 -- at a position that is no junction each ring has the same two neighbours
 pub neighbours : (d : Document) (ring : List Position) → In ring (rings d) → (u v x : Position) (rest : List Position)

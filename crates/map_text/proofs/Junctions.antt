@@ -41,11 +41,7 @@ ring_parts ps h =
 
 both_parts : (j : Position → Bool) (ps : List Position) → before_first j ps ++ from_first j ps ≡ ps
 both_parts j [] = refl
-both_parts j (p ∷ ps) = by (j p) (both_parts j ps)
-  where
-    by : (b : Bool) → before_first j ps ++ from_first j ps ≡ ps → cond b [] (p ∷ before_first j ps) ++ cond b (p ∷ ps) (from_first j ps) ≡ p ∷ ps
-    by true h = refl
-    by false h = ap (λ z. p ∷ z) h
+both_parts j (p ∷ ps) = grind (arith, both_parts j ps)
 
 pub begun_rotated : (j : Position → Bool) (ps : List Position) → Rotated ps (begun j ps)
 begun_rotated j ps = record { us = before_first j ps; vs = from_first j ps; from = sym (both_parts j ps); to = refl }

@@ -2,7 +2,7 @@
 use Rattle.std.proofs.Common.{◌≡◌, not, ◌&&◌, ℕ, List, [], ◌∷◌, ◌++◌, map, Bool, true, false, refl, sym, ap, ap₂, ◌∙◌, subst, cond, true≢false, bytes_eq}
 use Rattle.std.specs.Prelude.{Option, Some, None, option_map, ◌==◌, if◌then◌else◌}
 use Rattle.std.specs.List.{AllByRecursion, AllZip, IsDistinct}
-use Rattle.std.proofs.lemmas.Bool.{eqb-true, eq-eqb}
+use Rattle.std.proofs.lemmas.Bool.{eqb-true, eq-eqb, false_from_ne_true}
 use Rattle.std.proofs.lemmas.Slice.Eq.{bytes_eq-Decides}
 use Rattle.std.proofs.lemmas.Map.Made.{AllPairs-from_IsDistinct, IsDistinct-from_AllPairs}
 use Rattle.ring_machine.specs.Document.{Text, Member}
@@ -89,26 +89,9 @@ word_back word.Translate = refl
 word_back word.Other = refl
 
 codes_differ : (o : Owner) (u w : Word) → is_known o u ≡ false → is_known o w ≡ true → (code u == code w) ≡ false
-codes_differ o u w unknown known = by (code u == code w) refl
-  where
-    by : (b : Bool) → (code u == code w) ≡ b → (code u == code w) ≡ false
-    by true e =
-        let same : u ≡ w = sym (word_back u) ∙ ap word_at (eqb-true (code u) (code w) e) ∙ word_back w in
-        absurd (true≢false (sym known ∙ ap (is_known o) (sym same) ∙ unknown))
-    by false e = e
-
-names_differ : (s t : List ℕ) → (code (word_of s) == code (word_of t)) ≡ false → bytes_eq s t ≡ false
-names_differ s t h = by (bytes_eq s t) refl
-  where
-    by : (b : Bool) → bytes_eq s t ≡ b → bytes_eq s t ≡ false
-    by true e =
-        let same : s ≡ t = (bytes_eq-Decides s t).0 e in
-        let one : (code (word_of s) == code (word_of s)) ≡ false = subst (λ z. (code (word_of s) == code (word_of z)) ≡ false) (sym same) h in
-        absurd (true≢false (sym (reflexive (code (word_of s))) ∙ one))
-      where
-        reflexive : (n : ℕ) → (n == n) ≡ true
-        reflexive n = eq-eqb n n refl
-    by false e = e
+codes_differ o u w unknown known = false_from_ne_true (code u == code w) (λ e.
+    let same : u ≡ w = sym (word_back u) ∙ ap word_at (eqb-true (code u) (code w) e) ∙ word_back w in
+    true≢false (sym known ∙ ap (is_known o) (sym same) ∙ unknown))
 
 -- ---- what is seen
 
@@ -203,16 +186,10 @@ unlike_kept : (o : Owner) (s : List ℕ) (ms : List Member) (ts : List (List ℕ
 unlike_kept o s [] [] known k = tt
 unlike_kept o s [] (t ∷ ts) known k = absurd k
 unlike_kept o s (m ∷ ms) [] known k = absurd k
-unlike_kept o s (m ∷ ms) (t ∷ ts) known k =
-    let apart : (code (word_of t) == code (word_of s)) ≡ false = codes_differ o (word_of t) (word_of s) k.0.unknown known in
-    (names_differ s t (turned (code (word_of t)) (code (word_of s)) apart), unlike_kept o s ms ts known k.1)
-  where
-    turned : (a b : ℕ) → (a == b) ≡ false → (b == a) ≡ false
-    turned a b e = by (b == a) refl
-      where
-        by : (c : Bool) → (b == a) ≡ c → (b == a) ≡ false
-        by true f = absurd (true≢false (sym (subst (λ z. (z == b) ≡ true) (eqb-true b a f) (eq-eqb b b refl)) ∙ e))
-        by false f = f
+unlike_kept o s (m ∷ ms) (t ∷ ts) known k = (
+  false_from_ne_true (bytes_eq s t) (λ e. true≢false (sym known ∙ ap (λ z. is_known o (word_of z)) ((bytes_eq-Decides s t).0 e) ∙ k.0.unknown)),
+  unlike_kept o s ms ts known k.1,
+)
 
 unlike_fields : (o : Owner) (s : List ℕ) (fs : List Field) (ts : List (List ℕ)) → has_no (code (word_of s)) fs ≡ true → AllByRecursion (IsField o) fs → Unlike s ts → Unlike s (names_of fs ++ ts)
 unlike_fields o s [] ts h k u = u
@@ -221,19 +198,14 @@ unlike_fields o s (f ∷ fs) ts h k u = by f.value (unlike_fields o s fs ts (and
     apart : (code f.word == code (word_of s)) ≡ false
     apart = not_true (code f.word == code (word_of s)) (and_both (not (code f.word == code (word_of s))) (has_no (code (word_of s)) fs) h).0
 
-    other : bytes_eq f.says s ≡ false
-    other = names_differ f.says s (rw k.0.word_is apart)
-
-    turned : bytes_eq s f.says ≡ false
-    turned = by_test (bytes_eq s f.says) refl
-      where
-        by_test : (b : Bool) → bytes_eq s f.says ≡ b → bytes_eq s f.says ≡ false
-        by_test true e = absurd (true≢false (sym ((bytes_eq-Decides f.says s).1 (sym ((bytes_eq-Decides s f.says).0 e))) ∙ other))
-        by_test false e = e
+    other : bytes_eq s f.says ≡ false
+    other = false_from_ne_true (bytes_eq s f.says) (λ e.
+        let same : f.word ≡ word_of s = sym k.0.word_is ∙ ap word_of (sym ((bytes_eq-Decides s f.says).0 e)) in
+        true≢false (sym (eq-eqb (code f.word) (code (word_of s)) (ap code same)) ∙ apart))
 
     by : (v : Option Text) → Unlike s (names_of fs ++ ts) → Unlike s ((name_if f.says v ++ names_of fs) ++ ts)
     by None e = e
-    by (Some t) e = (turned, e)
+    by (Some t) e = (other, e)
 
 all_distinct : (o : Owner) (fs : List Field) (ms : List Member) (ts : List (List ℕ)) → are_apart fs ≡ true → AllByRecursion (IsField o) fs → AllZip (IsKeptMember o) ms ts → IsDistinct bytes_eq ts → IsDistinct bytes_eq (names_of fs ++ ts)
 unfolding IsDistinct

@@ -1,6 +1,6 @@
 -- The JSON string that is written for a text is one, and stands for that text.
 use Rattle.std.proofs.Common.{◌≡◌, ℕ, zero, suc, ◌+◌, ◌/◌, ◌%◌, ◌<◌, ◌≤◌, ◌⊎◌, Bool, true, false, cond, ◌&&◌, nat_lt, nat_le, List, [], ◌∷◌, ◌++◌, refl, sym, ap, ◌∙◌, subst, inl, inr, arith, append_assoc, append-nil, lt-ltb, le-ltb, le-leb}
-use Rattle.std.specs.Prelude.{Some, IsUtf8, option_and_then}
+use Rattle.std.specs.Prelude.{IsUtf8}
 use Rattle.std.specs.Char.{digit_char}
 use Rattle.std.proofs.lemmas.Bool.{cases_lt, cases_eq, and_parts}
 use Rattle.std.proofs.lemmas.Bool.Decides.{nat_tests}
@@ -8,23 +8,13 @@ use Rattle.std.proofs.lemmas.Str.{encode_ascii}
 use Rattle.std.proofs.lemmas.Grind.{flat_map-append}
 use Rattle.std.proofs.Math.Utf8.{scalar, scalars, encode, encodes, next, scalar_cases}
 use Rattle.json.specs.Print.{escape_letter, escape_byte, escape}
-use Rattle.json.specs.Lex.{tokens}
-use Rattle.json.specs.Json as json
-use Rattle.json.specs.Tree.{json_tokens}
 use Rattle.json.proofs.Printed.Strings.{escape_byte_plain}
-use Rattle.json.proofs.Printed.Utf8.{IsUtf8-quoted}
-use Rattle.json.proofs.Printed.Tokens.{tokens-print}
-use Rattle.json.proofs.Printed.Trees.{value-json_tokens, ArePrintable-json_tokens}
-use Rattle.serde_json.specs.Data.{string}
-use Rattle.serde_json.specs.Read.{read, of_json, max_depth}
-use Rattle.serde_json.proofs.Texts.{print-outline}
 use Rattle.json_spans.specs.Bytes.{is_ascii, is_escape, is_hex, is_three, is_tail, is_tail_e0, is_tail_ed, is_tail_f0, is_tail_f4}
 use Rattle.json_spans.specs.Grammar.{Chars, quote, ascii, two, three, three_e0, three_ed, four, four_f0, four_f4, escape as escaped, code}
 use Rattle.json_spans.specs.Grammar as grammar
 use Rattle.json_spans.specs.Inside.{IsText}
 use Rattle.json_spans.specs.Inside as inside
-use Rattle.json_spans.proofs.Decoding.{decoded_as}
-use Rattle.topo_outline.specs.Kept.{IsJson, IsName}
+use Rattle.topo_outline.specs.Kept.{IsJson}
 use Rattle.map_text.specs.Strings.{string_text}
 
 -- before the characters of a string more of them stand
@@ -168,19 +158,3 @@ json_text t (inside.quoted k) = (0, grammar.text k)
 -- and so it is JSON
 pub string_is_json : (text : List ℕ) → IsUtf8 text → IsJson (string_text text)
 string_is_json text u = json_text (string_text text) (string_is_text text u)
-
-string_tokens : (text : List ℕ) → tokens (string_text text) ≡ json_tokens (json.string text)
-string_tokens text =
-    ap tokens (sym (print-outline (string text))) ∙ tokens-print (json_tokens (json.string text)) (ArePrintable-json_tokens (json.string text) tt)
-
-string_read : (text : List ℕ) → read (string_text text) ≡ Some (string text)
-string_read text =
-    ap (λ v. option_and_then of_json (option_and_then (λ p. json.if_last p.0 p.1) v)) (ap (json.value max_depth) (string_tokens text ∙ sym (append-nil _))
-    ∙ value-json_tokens (json.string text) max_depth [] (omega arith))
-
--- and it stands for the text
-pub string_stands : (text : List ℕ) → IsUtf8 text → IsName (string_text text) text
-string_stands text u = record {
-  string = string_is_text text u;
-  says = decoded_as (string_text text) (string text) (IsUtf8-quoted text u) (string_read text);
-}

@@ -6,4 +6,3 @@ pub mod PlaceLemmas
 pub mod AreaLemmas
 pub mod EditorOpens
 mod Examples
-mod FaultLemmas

@@ -5,20 +5,11 @@ use Rattle.std.proofs.lemmas.Bool.{false≢true}
 use Rattle.segment_paths.specs.Paths.{Path}
 use Rattle.segment_paths.specs.Seen.{paths_seen}
 use Rattle.topo_reader.specs.Document.{Opened, Polygons}
-use Rattle.grid_reader.specs.declared.wants.Wants.{Wants}
-use Rattle.ring_machine.specs.Document.{Text}
 use Rattle.walk_faults.specs.declared.findings.Findings.{Findings}
 use Rattle.place_text.specs.Text.{IsPlaceText}
-use Rattle.mend_report.specs.Looking.{OpensOn, HasPlaces}
 use Rattle.mend_report.specs.Remaking.{PlacesRemade}
 use Rattle.walk_faults.specs.Findings.{Found}
 use Rattle.mend_report.specs.declared.remaking.Remade.{Remade}
-
--- what is told of the map is told of the bytes that it was read from
-pub all_placed : {A : Type 0} (wants : Wants) (bytes : List ℕ) (o : Opened) (transform : Option Text) (found : Findings A) (places : Option (Vec ℕ A)) → OpensOn wants bytes o
-    → transform ≡ o.transform → IfSome places (λ text. IsPlaceText transform o.polygons found None text.items) → IfSome places (λ text. HasPlaces wants bytes found None text.items)
-all_placed wants bytes o transform found None opens e h = h
-all_placed wants bytes o transform found (Some text) opens e h = (o, opens, subst (λ t. IsPlaceText t o.polygons found None text.items) e h)
 
 -- where nothing is asked for, all that is asked for holds
 pub none_holds : {X : Type 0} (o : Option X) (none : Bool) (P : X → Type 0) → is_some o ≡ not none → none ≡ true → IfSome o P

@@ -3,13 +3,10 @@ use Rattle.std.proofs.Common.{◌≡◌, ◌<◌, ◌+◌, ℕ, sym, ap, subst, 
 use Rattle.std.specs.Prelude.{All, IsTrue}
 use Rattle.std.specs.List.{AllZip}
 use Rattle.std.proofs.lemmas.List.{take_more}
-use Rattle.std.proofs.lemmas.List.Elements.{Contains-get_or}
 use Rattle.grid_geometry.specs.Position.{Position}
 use Rattle.grid_geometry.specs.Conflict.{cross}
 use Rattle.snap_geometry.specs.Crossing.{IsRoundedCrossing}
 use Rattle.walk_faults.specs.declared.findings.Crossing.{Crossing}
-use Rattle.walk_faults.specs.declared.findings.Findings.{Findings}
-use Rattle.walk_faults.specs.Findings.{Found}
 use Rattle.place_text.specs.Places.{AreCrossings}
 
 both_more : {X Y : Type 0} (R : X → Y → Type 0) (xs : List X) (ys : List Y) (x : X) (y : Y) → AllZip R xs ys → R x y → AllZip R (xs ++ x ∷ []) (ys ++ y ∷ [])
@@ -30,9 +27,3 @@ crossings_more pairs i pair ps after p l e so_far here is =
 pub one_crosses : (pairs : List Crossing) (i : ℕ) (pair : Crossing) → i < length pairs → pair ≡ get_or pairs i pair
     → All (λ c. IsTrue (cross c.first c.second)) pairs → IsTrue (cross pair.first pair.second)
 one_crosses pairs i pair l e all = subst (λ (c : Crossing). IsTrue (cross c.first c.second)) (sym e) (all i pair l)
-
--- each pair that was found crosses
-pub each_crosses : {A : Type 0} (features : List (List (List (List Position)))) (found : Findings A) → Found features found
-    → All (λ pair. IsTrue (cross pair.first pair.second)) found.crossings.items
-each_crosses features found are k d l =
-    let c = get_or found.crossings.items k d in ((are.crossings.all c).0 (Contains-get_or found.crossings.items k d l)).crosses

@@ -18,7 +18,7 @@ use Rattle.place_text.specs.declared.tables.Tables.{Tables}
 use Rattle.place_text.specs.Owners.{feature_positions, feature_segments, has_vertex, has_segment, numbers_where}
 use Rattle.place_text.specs.Tables.{is_among, once, once_if, numbers_in, Tells, TellsAll}
 use Rattle.place_text.proofs.Numbered.{so_many}
-use Rattle.place_text.proofs.Told.{both_told, none_told, next_number}
+use Rattle.place_text.proofs.Told.{both_told, next_number}
 
 -- ---- one edge
 
@@ -70,12 +70,6 @@ module _ {A : Type 0} where
   tells_both n ps qs ss ts a b c h k = record {
     vertices = λ p. k.vertices p ∙ ap (option_map (once_if position_cmp n qs p)) (h.vertices p) ∙ both_told position_cmp n ps qs p (numbers_in position_cmp a.vertices p);
     segments = λ s. k.segments s ∙ ap (option_map (once_if segment_cmp n ts s)) (h.segments s) ∙ both_told segment_cmp n ss ts s (numbers_in segment_cmp a.segments s);
-  }
-
-  pub tells_none : (n : ℕ) (a : Tables A) → Tells n [] [] a a
-  tells_none n a = record {
-    vertices = λ p. none_told position_cmp n p (numbers_in position_cmp a.vertices p);
-    segments = λ s. none_told segment_cmp n s (numbers_in segment_cmp a.segments s);
   }
 
   -- ---- a walk: what is told of an edge and of what is left

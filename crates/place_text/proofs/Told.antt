@@ -60,10 +60,6 @@ module _ {K : Type 0} (cmp : K → K → Ordering) where
   both_told n xs ys k None = refl
   both_told n xs ys k (Some ns) = ap Some (sym (both_keys n xs ys k ns))
 
-  pub none_told : (n : ℕ) (k : K) (o : Option (List ℕ)) → o ≡ option_map (once_if cmp n [] k) o
-  none_told n k None = refl
-  none_told n k (Some ns) = refl
-
 -- ---- the numbers of the features that pass
 
 module _ {X : Type 0} (test : X → Bool) where

@@ -1,5 +1,5 @@
 -- Ascending segments: each is at most those after it, and past the reach of a segment none is in conflict with it.
-use Rattle.std.proofs.Common.{◌≡◌, ℕ, suc, ◌+◌, ◌≤◌, ◌<◌, Bool, true, false, refl, sym, ap, ap₂, ◌∙◌, cond, List, [], ◌∷◌, length, drop, get_or, arith, ℤ, ◌≤ℤ◌, ◌<ℤ◌, int_le, int_lt, None, Some}
+use Rattle.std.proofs.Common.{◌≡◌, ℕ, suc, ◌+◌, ◌≤◌, ◌<◌, Bool, true, false, refl, sym, ap, ◌∙◌, cond, List, [], ◌∷◌, length, drop, get_or, arith, ℤ, ◌≤ℤ◌, ◌<ℤ◌, int_le, int_lt, None, Some}
 use Rattle.std.specs.Cmp.{IsStrictWeakOrder}
 use Rattle.std.specs.List.{All, find, AllByRecursion}
 use Rattle.std.specs.List.Sorted.{IsSorted}
@@ -54,14 +54,6 @@ from_far (s ∷ ss) h = (
 
 pub ascends : (ss : List Segment) → IsSorted segment_cmp ss → Ascends ss
 ascends ss h = from_far ss (sorted_far segment_lt segment_order ss h)
-
--- what is left of ascending segments ascends
-pub sorted-drop : (ss : List Segment) (n : ℕ) → IsSorted segment_cmp ss → IsSorted segment_cmp (drop n ss)
-sorted-drop ss n h k d z l =
-    let e1 = get_or-drop n ss (k + 1) d in
-    let e0 = get_or-drop n ss k d in
-    let r : n + (k + 1) ≡ n + k + 1 = omega arith in
-    ap₂ segment_lt (e1 ∙ ap (λ m. get_or ss m d) r) e0 ∙ h (n + k) d (omega arith) (omega (arith, length-drop n ss))
 
 -- ---- past the reach of a segment
 

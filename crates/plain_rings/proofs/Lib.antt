@@ -9,7 +9,6 @@ pub mod Placing
 pub mod Summing
 pub mod MovedRings
 pub mod OnceEach
-pub mod Gathering
 pub mod Places
 pub mod EditedRings
 pub mod RefusingEdits

@@ -1,5 +1,5 @@
 -- The conditions of a move, asked of the rings of a document.
-use Rattle.std.proofs.Common.{◌≡◌, Bool, true, false, refl, ap, ap₂, ◌∙◌, cond, List, [], ◌∷◌, map, ◌||◌, ◌&&◌, Option, None, Some}
+use Rattle.std.proofs.Common.{◌≡◌, Bool, true, false, refl, ap, ap₂, ◌∙◌, cond, List, [], ◌∷◌, map, ◌||◌, ◌&&◌, Option}
 use Rattle.std.specs.Prelude.{not}
 use Rattle.std.specs.List.{list_any, flat_map, filter}
 use Rattle.std.proofs.lemmas.List.Folds.{list_any-append}
@@ -11,8 +11,8 @@ use Rattle.ring_machine.specs.Parts.{rings}
 use Rattle.ring_machine.specs.Vertices.{put_ring, around}
 use Rattle.ring_machine.specs.Planar.{first_pair, least_conflict}
 use Rattle.ring_machine.specs.Sweep as machine
-use Rattle.ring_machine.specs.Command.{Refusal, NoVertex, Occupied, Conflict, Sweeps}
-use Rattle.ring_machine.specs.Refusals.{◌unless◌, first_of, conflict_of, move_refusals}
+use Rattle.ring_machine.specs.Command.{NoVertex, Occupied, Sweeps}
+use Rattle.ring_machine.specs.Refusals.{◌unless◌, conflict_of, move_refusals}
 use Rattle.ring_machine.proofs.RingsOf.{rings-in_rings}
 use Rattle.plain_rings.specs.Rings.{has_vertex, is_other, edge_sweeps, spot_sweeps, edges_sweep, crosses_on_way, refusals}
 
@@ -55,34 +55,12 @@ refusals_are d p q =
     ap₂ (λ after sweeps. NoVertex unless has_vertex (rings d) p ∷ Occupied unless not (has_vertex (rings d) q) ∷ conflict_of (least_conflict (flat_map segments after)) ∷ Sweeps unless not sweeps ∷ [])
     (rings-in_rings (put_ring p q) d) (sweeps_are d p q)
 
--- the first refusal by the four answers
-abbrev first_by : Bool → Bool → Option (Segment × Segment) → Bool → Option Refusal
-first_by vertex occupied pair sweeps = first_of (NoVertex unless vertex ∷ Occupied unless not occupied ∷ conflict_of pair ∷ Sweeps unless not sweeps ∷ [])
-
 module _ (rings : List (List Position)) (p q : Position) where
   abbrev vertex : Bool
   vertex = has_vertex rings p
-
-  abbrev occupied : Bool
-  occupied = has_vertex rings q
 
   abbrev pair : Option (Segment × Segment)
   pair = least_conflict (flat_map segments (map (put_ring p q) rings))
 
   abbrev sweeps : Bool
   sweeps = edges_sweep rings p q || crosses_on_way (flat_map segments rings) p q
-
-  pub no_vertex : vertex ≡ false → first_of (refusals rings p q) ≡ Some NoVertex
-  no_vertex h = ap (λ b. first_by b occupied pair sweeps) h
-
-  pub is_occupied : vertex ≡ true → occupied ≡ true → first_of (refusals rings p q) ≡ Some Occupied
-  is_occupied h k = ap₂ (λ a b. first_by a b pair sweeps) h k
-
-  pub in_conflict : vertex ≡ true → occupied ≡ false → (s t : Segment) → pair ≡ Some (s, t) → first_of (refusals rings p q) ≡ Some (Conflict s t)
-  in_conflict h k s t l = ap₂ (λ a b. first_by a b pair sweeps) h k ∙ ap (λ c. first_by true false c sweeps) l
-
-  pub has_swept : vertex ≡ true → occupied ≡ false → pair ≡ None → sweeps ≡ true → first_of (refusals rings p q) ≡ Some Sweeps
-  has_swept h k l m = ap₂ (λ a b. first_by a b pair sweeps) h k ∙ ap₂ (λ c b. first_by true false c b) l m
-
-  pub no_refusal : vertex ≡ true → occupied ≡ false → pair ≡ None → sweeps ≡ false → first_of (refusals rings p q) ≡ None
-  no_refusal h k l m = ap₂ (λ a b. first_by a b pair sweeps) h k ∙ ap₂ (λ c b. first_by true false c b) l m

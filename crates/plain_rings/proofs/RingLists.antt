@@ -5,7 +5,7 @@ use Rattle.std.specs.List.{list_all, list_any, fold}
 use Rattle.std.proofs.lemmas.List.Sums.{sum_by-cons}
 use Rattle.std.proofs.lemmas.Bool.{false≢true}
 use Rattle.std.proofs.lemmas.List.{take_all, length-map}
-use Rattle.std.proofs.lemmas.List.Folds.{list_all-map, list_all_at, list_all-append}
+use Rattle.std.proofs.lemmas.List.Folds.{list_all-map, list_all_at}
 use Rattle.grid_geometry.specs.Position.{Position, position_eq}
 use Rattle.ring_machine.specs.Ring.{has, is_ring}
 use Rattle.ring_machine.proofs.Removal.{position_eq-sym}
@@ -47,10 +47,6 @@ list_of_two (x ∷ []) first second l e k = absurd (omega arith)
 list_of_two (x ∷ y ∷ xs) first second l e k = ap₂ (λ a bs. a ∷ bs) e (ap₂ (λ a bs. a ∷ bs) k (take_all (length (x ∷ y ∷ xs) - 2) xs (omega arith)))
 
 module _ {A B : Type 0} (of : A → B) (test : B → Bool) where
-  -- all so far, and this one
-  pub all_more : (xs : List A) (i : ℕ) (x : A) → i < length xs → x ≡ get_or xs i x → list_all test (map of (take i xs)) ≡ true → test (of x) ≡ true → list_all test (map of (take (i + 1) xs)) ≡ true
-  all_more xs i x l e h k = ap (list_all test) (one_more of xs i x l e) ∙ list_all-append test (map of (take i xs)) (of x ∷ []) ∙ ap₂ (λ a b. a && (b && true)) h k
-
   -- not this one
   pub not_all : (xs : List A) (i : ℕ) (x : A) → i < length xs → x ≡ get_or xs i x → test (of x) ≡ false → list_all test (map of xs) ≡ false
   not_all [] i x l e k = absurd (omega arith)
@@ -60,10 +56,6 @@ module _ {A B : Type 0} (of : A → B) (test : B → Bool) where
       right : (a : Bool) → list_all test (map of ys) ≡ false → (a && list_all test (map of ys)) ≡ false
       right true h = h
       right false h = refl
-
-  -- all of them
-  pub all_at_all : (xs : List A) (i : ℕ) → length xs ≤ i → list_all test (map of (take i xs)) ≡ true → list_all test (map of xs) ≡ true
-  all_at_all xs i l h = ap (λ ys. list_all test (map of ys)) (sym (take_all i xs l)) ∙ h
 
 -- as many after a change as before
 pub lengths_same : {A B : Type 0} (of : A → B) (g : B → B) (xs ys : List A) → map of xs ≡ map g (map of ys) → length xs ≡ length ys

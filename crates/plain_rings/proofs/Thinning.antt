@@ -1,8 +1,6 @@
 -- One vertex of a pass of thinning, and the pass as far as it has come.
-use Rattle.std.proofs.Common.{◌≡◌, ℕ, ◌+◌, ◌<◌, Bool, true, false, refl, sym, ap, ap₂, ◌∙◌, cond, ℤ, List, [], ◌∷◌, ◌++◌, take, length, get_or, Option, None, Some, arith}
+use Rattle.std.proofs.Common.{◌≡◌, ℕ, ◌+◌, Bool, true, false, refl, sym, ap, ap₂, ◌∙◌, cond, ℤ, Option, None, Some, arith}
 use Rattle.std.specs.Prelude.{not, ◌&&◌}
-use Rattle.std.specs.List.{fold}
-use Rattle.std.proofs.lemmas.List.{take_more}
 use Rattle.grid_geometry.specs.Position.{Position}
 use Rattle.ring_machine.specs.Document.{Document}
 use Rattle.ring_machine.specs.Vertices.{del, is_junction}
@@ -13,7 +11,6 @@ use Rattle.plain_rings.specs.Faults.{Refuses}
 use Rattle.plain_rings.specs.declared.fault.EditFault.{EditFault}
 use Rattle.plain_rings.specs.declared.fault.EditFault.TheVariants.{OutOfMemory}
 use Rattle.plain_rings.specs.declared.fault.EditFault.TheVariants as edit
-use Rattle.plain_rings.proofs.RingLists.{fold-append}
 
 -- so many were left out of the document
 abbrev pub with_count : Document → ℕ → Thinning
@@ -47,10 +44,3 @@ module _ (t : ℤ) (d : Document) (p : Position) (n : ℕ) where
   thin_passed h =
       let same : n ≡ n + 0 = omega arith in
       ap (λ b. thin_by b (first_of (remove_refusals d p))) h ∙ ap (with_count d) same
-
--- one vertex more
-pub thinned_more : (t : ℤ) (d now : Document) (n : ℕ) (ps : List Position) (i : ℕ) (p : Position) → i < length ps → p ≡ get_or ps i p → fold (thin_at t) (with_count d 0) (take i ps) ≡ with_count now n → fold (thin_at t) (with_count d 0) (take (i + 1) ps) ≡ thin_at t (with_count now n) p
-thinned_more t d now n ps i p l e h =
-    ap (fold (thin_at t) (with_count d 0)) (take_more ps i p l ∙ ap (λ z. take i ps ++ z ∷ []) (sym e))
-    ∙ fold-append (thin_at t) (with_count d 0) (take i ps) (p ∷ [])
-    ∙ ap (λ s. thin_at t s p) h

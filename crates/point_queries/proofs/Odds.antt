@@ -1,6 +1,6 @@
 -- Odd numbers: of lists one after another, of lists in another order, and of pairs of two lists.
 use Rattle.std.proofs.Common.{◌≡◌, ℕ, zero, suc, ◌+◌, Bool, true, false, refl, sym, ap, ap₂, ◌∙◌, cond, not}
-use Rattle.std.proofs.Common.{List, [], ◌∷◌, ◌++◌, map, take, get_or, length, ◌<◌, ◌||◌, inl, inr, arith}
+use Rattle.std.proofs.Common.{List, [], ◌∷◌, ◌++◌, take, get_or, length, ◌<◌, ◌||◌, inl, inr, arith}
 use Rattle.std.specs.Prelude.{sum_by}
 use Rattle.std.specs.List.{list_any, filter}
 use Rattle.std.specs.List.Sorted.{IsPermutation}
@@ -64,10 +64,6 @@ pub odd_more : {X : Type 0} (test : X → Bool) (xs : List X) (i : ℕ) (d : X) 
     → odd test (take (i + 1) xs) ≡ xor (test (get_or xs i d)) (odd test (take i xs))
 odd_more test xs i d l =
     ap (odd test) (take_more xs i d l) ∙ odd-pushed test (take i xs) (get_or xs i d)
-
-pub odd-map : {X Y : Type 0} (f : X → Y) (test : Y → Bool) (xs : List X) → odd test (map f xs) ≡ odd (λ x. test (f x)) xs
-odd-map f test [] = refl
-odd-map f test (x ∷ xs) = ap (xor (test (f x))) (odd-map f test xs)
 
 -- tests that agree at each element
 pub odd-alike : {X : Type 0} (f g : X → Bool) (xs : List X) → ((x : X) → In x xs → f x ≡ g x) → odd f xs ≡ odd g xs

@@ -1,5 +1,5 @@
 -- What an accepted edit of a vertex gives: a proper document, with every position on its side.
-use Rattle.std.proofs.Common.{◌≡◌, ℕ, ℤ, Bool, true, false, refl, sym, ap, ◌∙◌, cond, List, [], ◌∷◌}
+use Rattle.std.proofs.Common.{◌≡◌, ℕ, ℤ, Bool, true, false, refl, sym, ap, ◌∙◌, cond, List, [], ◌∷◌, arith}
 use Rattle.std.proofs.Common.{◌++◌, map, ◌||◌, ◌&&◌, Option, None, Some, inl, inr}
 use Rattle.std.specs.Prelude.{not}
 use Rattle.std.specs.List.{list_any, fold, filter}
@@ -18,22 +18,18 @@ use Rattle.ring_machine.specs.Sweep.{move_sweeps, insert_sweeps, remove_sweeps}
 use Rattle.ring_machine.specs.Sides.{ring_at, KeepsSides}
 use Rattle.ring_machine.specs.Query.{vertices}
 use Rattle.ring_machine.specs.Command.{Refusal}
-use Rattle.ring_machine.specs.Refusals.{◌unless◌, first_of, planar, conflict_of, is_small, are_long}
+use Rattle.ring_machine.specs.Refusals.{first_of, planar, conflict_of, is_small, are_long}
 use Rattle.ring_machine.specs.Refusals.{is_bridged, move_refusals, insert_refusals, remove_refusals}
 use Rattle.ring_machine.specs.Thin.{Thinning, is_flat, without, thin_at, thinned}
-use Rattle.ring_machine.proofs.Order.{or_true, or_right}
+use Rattle.ring_machine.proofs.Order.{or_true, or_right, refuted}
 use Rattle.ring_machine.proofs.Canonical.{canonical_parts}
 use Rattle.ring_machine.proofs.Removal.{not_true}
+use Rattle.ring_machine.proofs.MergeAccepted.{passes}
 use Rattle.ring_machine.proofs.RingsOf.{rings-in_rings}
 use Rattle.ring_machine.proofs.StaysProper.{put_is_proper, ins_is_proper, del_is_proper}
 use Rattle.ring_machine.proofs.SidesKept.{ring_at-mapped, move-keeps, insert-keeps, remove-keeps}
 
 -- ---- no refusal: each condition holds
-
-passes : (r : Refusal) (b : Bool) (rest : List (Option Refusal))
-    → first_of (r unless b ∷ rest) ≡ None → (b ≡ true) × (first_of rest ≡ None)
-passes r true rest h = (refl, h)
-passes r false rest h = absurd cc
 
 stays_apart : (d : Document) (rest : List (Option Refusal)) → first_of (planar d ∷ rest) ≡ None
     → (first_pair d ≡ None) × (first_of rest ≡ None)
@@ -121,10 +117,7 @@ has-canonical ring w h =
     ap (λ r. has r w) parts.2 ∙ swapped parts.0 parts.1 (ap (λ r. has r w) (sym parts.3) ∙ h)
   where
     turn_or : (x y : Bool) → (x || y) ≡ true → (y || x) ≡ true
-    turn_or true true k = refl
-    turn_or true false k = refl
-    turn_or false true k = refl
-    turn_or false false k = k
+    turn_or x y k = grind arith
 
     swapped : (us vs : List Position) → has (vs ++ us) w ≡ true → has (us ++ vs) w ≡ true
     swapped us vs k = list_any-append (position_eq w) us vs ∙ turn_or (has vs w) (has us w) (sym (list_any-append (position_eq w) vs us) ∙ k)
@@ -132,16 +125,7 @@ has-canonical ring w h =
 has-filter : (test : Position → Bool) (ps : List Position) (w : Position)
     → has (filter test ps) w ≡ true → has ps w ≡ true
 has-filter test [] w h = h
-has-filter test (p ∷ ps) w h = by (test p) (position_eq w p) h (has-filter test ps w)
-  where
-    by : (t e : Bool) → has (cond t (p ∷ filter test ps) (filter test ps)) w ≡ true
-        → (has (filter test ps) w ≡ true → has ps w ≡ true) → (position_eq w p || has ps w) ≡ true
-    by true e h ih = or_cases (position_eq w p) h
-      where
-        or_cases : (u : Bool) → (u || has (filter test ps) w) ≡ true → (u || has ps w) ≡ true
-        or_cases true k = refl
-        or_cases false k = ih k
-    by false e h ih = or_right (position_eq w p) (has ps w) (ih h)
+has-filter test (p ∷ ps) w h = grind (arith, has-filter test ps w)
 
 has-del : (p : Position) (ring : List Position) (w : Position) → has (del_ring p ring) w ≡ true
     → has ring w ≡ true
@@ -199,10 +183,6 @@ one_more before now p t h =
   where
     some_same : (s r : List Position) → Some s ≡ Some r → s ≡ r
     some_same s r e = cc
-
-    refuted : (b : Bool) → (b ≡ true → ⊥) → b ≡ false
-    refuted false h = refl
-    refuted true h = absurd (h refl)
 
     was : (o : Option (List Position)) (s : List Position)
         → option_and_then (λ a. Some (del_ring p a)) o ≡ Some s

@@ -1,11 +1,10 @@
 -- A feature cut in two, and two features joined: which features there are, and that the document
 -- stays well formed.
-use Rattle.std.proofs.Common.{◌≡◌, ℕ, suc, ◌≤◌, Bool, true, false, refl, sym, ap, ap₂, ◌∙◌, subst, cond}
-use Rattle.std.proofs.Common.{List, [], ◌∷◌, map, length, ◌||◌, inl, inr, Some, None, arith}
+use Rattle.std.proofs.Common.{◌≡◌, ℕ, ◌≤◌, Bool, true, false, refl, sym, ap, ap₂, ◌∙◌, subst}
+use Rattle.std.proofs.Common.{List, [], ◌∷◌, map, length, ◌||◌, Some, arith}
 use Rattle.std.specs.Prelude.{◌==◌}
 use Rattle.std.specs.Option.{is_some}
-use Rattle.std.specs.List.{find, list_any}
-use Rattle.std.proofs.lemmas.Bool.{false≢true, eqb-true}
+use Rattle.std.specs.List.{list_any}
 use Rattle.grid_geometry.specs.Position.{Position}
 use Rattle.ring_machine.specs.Document.{Form, Polygon, MultiPolygon, Null, FeatureOf, Feature, Document}
 use Rattle.ring_machine.specs.Document.{Text}
@@ -16,11 +15,9 @@ use Rattle.ring_machine.specs.Join.{take_out, joined_polygons, joined_feature, j
 use Rattle.ring_machine.specs.Refusals.{is_layer}
 use Rattle.ring_machine.specs.WellFormed.{fits_form, WellFormed}
 use Rattle.ring_machine.proofs.Neighbours.{all_in}
-use Rattle.ring_machine.proofs.Found.{Stands, find_first, find_second, has_feature-found, feature_in, feature_stands}
-use Rattle.ring_machine.proofs.TakenOut.{without, features-take_out}
-use Rattle.ring_machine.proofs.Swapped.{swapped}
-use Rattle.ring_machine.proofs.Instead.{features-instead, feature-instead_other, feature-instead_at}
-use Rattle.ring_machine.proofs.Without.{feature-take_out_other, feature-take_out_gone}
+use Rattle.ring_machine.proofs.Found.{has_feature-found, feature_in}
+use Rattle.ring_machine.proofs.Instead.{feature-instead_other}
+use Rattle.ring_machine.proofs.Without.{feature-take_out_other}
 use Rattle.ring_machine.proofs.StaysFormed.{Replaces, replaces_one, replaces_two, formed-instead, formed-take_out}
 
 -- ---- lists
@@ -28,21 +25,12 @@ use Rattle.ring_machine.proofs.StaysFormed.{Replaces, replaces_one, replaces_two
 -- at most one element is the first
 pub first_that_short : {A : Type 0} (test : A → Bool) (xs : List A) → length (first_that test xs) ≤ 1
 first_that_short test [] = omega arith
-first_that_short test (x ∷ xs) = by (test x) (first_that_short test xs)
-  where
-    by : (b : Bool) → length (first_that test xs) ≤ 1 → length (cond b (x ∷ []) (first_that test xs)) ≤ 1
-    by true h = omega arith
-    by false h = h
+first_that_short test (x ∷ xs) = grind (arith, first_that_short test xs)
 
 pub length-change_first : {A : Type 0} (test : A → Bool) (g : A → A) (xs : List A)
     → length (change_first test g xs) ≡ length xs
 length-change_first test g [] = refl
-length-change_first test g (x ∷ xs) = by (test x) (length-change_first test g xs)
-  where
-    by : (b : Bool) → length (change_first test g xs) ≡ length xs
-        → length (cond b (g x ∷ xs) (x ∷ change_first test g xs)) ≡ suc (length xs)
-    by true h = refl
-    by false h = ap suc h
+length-change_first test g (x ∷ xs) = grind (arith, length-change_first test g xs)
 
 -- as many polygons fit a form alike
 pub fits-count : {R : Type 0} (f : FeatureOf R) (ps : List (List R)) → length ps ≡ length f.polygons
@@ -76,9 +64,6 @@ module _ (d : Document) (n : ℕ) (id : Text) (path : Path) (number : ℕ) where
   unfolding cut
   cut_is = refl
 
-  pub features-cut : features (cut d n id path number) ≡ swapped n parts (features d)
-  features-cut = ap features cut_is ∙ features-instead n parts d
-
   new_in : (m : ℕ) (f : Feature) (ps : List (List (List Position))) → (number == m) ≡ false
       → list_any (λ (k : Feature). k.number == m) (map (new_part path number id f) ps) ≡ false
   new_in m f [] h = refl
@@ -91,39 +76,6 @@ module _ (d : Document) (n : ℕ) (id : Text) (path : Path) (number : ℕ) where
       ap (λ e. feature e m) cut_is
       ∙ feature-instead_other d n parts m o (λ f i e.
       ap₂ (λ a b. a || b) (ap (λ j. j == m) e ∙ o) (new_in m f (first_that (is_cut_by path) f.polygons) k))
-
-  pub has_feature-cut_other : (m : ℕ) → (n == m) ≡ false → (number == m) ≡ false
-      → has_feature (cut d n id path number) m ≡ has_feature d m
-  has_feature-cut_other m o k =
-      has_feature-found (cut d n id path number) m ∙ ap is_some (feature-cut_other m o k)
-      ∙ sym (has_feature-found d m)
-
-  module _ (formed : WellFormed d) (f : Feature) (at : feature d n ≡ Some f) where
-    place : Stands n f (features d)
-    place = feature_stands d formed n f at
-
-    -- what stays has its number
-    pub feature-cut_at : feature (cut d n id path number) n ≡ Some (stays path f)
-    feature-cut_at =
-        ap (λ e. feature e n) cut_is
-        ∙ feature-instead_at d n parts f place n (inl refl)
-        ∙ find_first n (stays path f) (map (new_part path number id f) (first_that (is_cut_by path) f.polygons)) place.number
-
-    -- the new part has the new number
-    pub feature-cut_new : has_feature d number ≡ false → (p : List (List Position))
-        → first_that (is_cut_by path) f.polygons ≡ p ∷ []
-        → feature (cut d n id path number) number ≡ Some (new_part path number id f p)
-    feature-cut_new new p e =
-        ap (λ e. feature e number) cut_is
-        ∙ feature-instead_at d n parts f place number (inr new)
-        ∙ ap (λ ps. find (λ (k : Feature). k.number == number) (stays path f ∷ map (new_part path number id f) ps)) e
-        ∙ find_second number (stays path f) (new_part path number id f p) [] (by (f.number == number) refl) refl
-      where
-        by : (b : Bool) → (f.number == number) ≡ b → (f.number == number) ≡ false
-        by true k =
-            let same : number ≡ n = sym (eqb-true f.number number k) ∙ place.number in
-            absurd (false≢true (sym new ∙ ap (has_feature d) same ∙ has_feature-found d n ∙ ap is_some at))
-        by false k = k
 
   -- a feature of a collection that is cut leaves the document well formed
   pub formed-cut : WellFormed d → is_layer d n ≡ false → has_feature d number ≡ false
@@ -162,16 +114,6 @@ module _ (d : Document) (n : ℕ) (g : Feature) where
   unfolding join
   join_is = refl
 
-  pub features-join : features (join d n g) ≡ without g.number (swapped n (joined_feature g) (features d))
-  features-join =
-      ap features join_is ∙ features-take_out g.number (instead n (joined_feature g) d)
-      ∙ ap (without g.number) (features-instead n (joined_feature g) d)
-
-  -- the feature that is joined with n is gone
-  pub feature-join_gone : feature (join d n g) g.number ≡ None
-  feature-join_gone =
-      ap (λ e. feature e g.number) join_is ∙ feature-take_out_gone (instead n (joined_feature g) d) g.number
-
   -- every other number is found as before
   pub feature-join_other : (m : ℕ) → (n == m) ≡ false → (g.number == m) ≡ false
       → feature (join d n g) m ≡ feature d m
@@ -179,25 +121,6 @@ module _ (d : Document) (n : ℕ) (g : Feature) where
       ap (λ e. feature e m) join_is
       ∙ feature-take_out_other (instead n (joined_feature g) d) g.number m k
       ∙ feature-instead_other d n (joined_feature g) m o (λ f i e. ap (λ j. (j == m) || false) e ∙ ap (λ b. b || false) o)
-
-  pub has_feature-join_gone : has_feature (join d n g) g.number ≡ false
-  has_feature-join_gone = has_feature-found (join d n g) g.number ∙ ap is_some feature-join_gone
-
-  pub has_feature-join_other : (m : ℕ) → (n == m) ≡ false → (g.number == m) ≡ false
-      → has_feature (join d n g) m ≡ has_feature d m
-  has_feature-join_other m o k =
-      has_feature-found (join d n g) m ∙ ap is_some (feature-join_other m o k)
-      ∙ sym (has_feature-found d m)
-
-  -- the number n is that of the joined feature
-  pub feature-join_at : WellFormed d → (f : Feature) → feature d n ≡ Some f → (g.number == n) ≡ false
-      → feature (join d n g) n ≡ Some (record f { polygons = joined_polygons f.polygons g.polygons })
-  feature-join_at formed f at o =
-      let place = feature_stands d formed n f at in
-      ap (λ e. feature e n) join_is
-      ∙ feature-take_out_other (instead n (joined_feature g) d) g.number n o
-      ∙ feature-instead_at d n (joined_feature g) f place n (inl refl)
-      ∙ find_first n (record f { polygons = joined_polygons f.polygons g.polygons }) [] place.number
 
   -- the document stays well formed
   pub formed-join : WellFormed d → WellFormed (join d n g)

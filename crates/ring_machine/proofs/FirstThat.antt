@@ -60,8 +60,5 @@ module _ {A : Type 0} (test : A → Bool) where
     pub first_that-is : first_that test xs ≡ f.it ∷ []
     first_that-is = ap (first_that test) f.is ∙ found f.before f.it f.after f.others f.passes
 
-    pub find-is : find test xs ≡ Some f.it
-    find-is = ap (find test) f.is ∙ find_it f.before f.it f.after f.others f.passes
-
     pub change_first-is : (g : A → A) → change_first test g xs ≡ f.before ++ g f.it ∷ f.after
     change_first-is g = ap (change_first test g) f.is ∙ changed g f.before f.it f.after f.others f.passes

@@ -1,5 +1,5 @@
 -- Features by their numbers: which one is found, and where it stands among the others.
-use Rattle.std.proofs.Common.{◌≡◌, ℕ, Bool, true, false, refl, sym, ap, ap₂, ◌∙◌, subst, cond, List, []}
+use Rattle.std.proofs.Common.{◌≡◌, ℕ, Bool, true, false, refl, sym, ap, ap₂, ◌∙◌, subst, cond, List, [], arith}
 use Rattle.std.proofs.Common.{◌∷◌, ◌++◌, map, ◌||◌, ◌&&◌, inl, inr, Some, None, option_map, is_some}
 use Rattle.std.proofs.Common.{eqb-true, eq-eqb}
 use Rattle.std.specs.Prelude.{◌==◌, not}
@@ -23,21 +23,11 @@ module _ {A : Type 0} (test : A → Bool) where
   -- some element passes where one is found
   pub any_found : (xs : List A) → list_any test xs ≡ is_some (find test xs)
   any_found [] = refl
-  any_found (x ∷ xs) = by (test x) (any_found xs)
-    where
-      by : (b : Bool) → list_any test xs ≡ is_some (find test xs)
-          → (b || list_any test xs) ≡ is_some (cond b (Some x) (find test xs))
-      by true e = refl
-      by false e = e
+  any_found (x ∷ xs) = grind (arith, any_found xs)
 
   pub found_in : (xs : List A) (a : A) → find test xs ≡ Some a → In a xs × (test a ≡ true)
   found_in [] a e = absurd cc
-  found_in (x ∷ xs) a e = by (test x) refl e (found_in xs a)
-    where
-      by : (b : Bool) → test x ≡ b → cond b (Some x) (find test xs) ≡ Some a
-          → (find test xs ≡ Some a → In a xs × (test a ≡ true)) → In a (x ∷ xs) × (test a ≡ true)
-      by true t k ih = let e : x ≡ a = cc in (inl e, ap test (sym e) ∙ t)
-      by false t k ih = (inr (ih k).0, (ih k).1)
+  found_in (x ∷ xs) a e = grind (arith, found_in xs a)
 
   -- where none passes, none is found
   pub none_found : (xs : List A) → list_any test xs ≡ false → find test xs ≡ None
@@ -57,19 +47,7 @@ find-mapped h test other same (x ∷ xs) =
   where
     by : (b : Bool) → find other (map h xs) ≡ option_map h (find test xs)
         → cond b (Some (h x)) (find other (map h xs)) ≡ option_map h (cond b (Some x) (find test xs))
-    by true e = refl
-    by false e = e
-
--- the first of some features, where it has the number
-pub find_first : {R : Type 0} (n : ℕ) (f : FeatureOf R) (fs : List (FeatureOf R)) → f.number ≡ n
-    → find (λ k. k.number == n) (f ∷ fs) ≡ Some f
-find_first n f fs e = ap (λ b. cond b (Some f) (find (λ k. k.number == n) fs)) (eq-eqb f.number n e)
-
--- the second of them, where the first has another number
-pub find_second : {R : Type 0} (n : ℕ) (f h : FeatureOf R) (fs : List (FeatureOf R))
-    → (f.number == n) ≡ false → h.number ≡ n → find (λ k. k.number == n) (f ∷ h ∷ fs) ≡ Some h
-find_second n f h fs o e =
-    ap (λ b. cond b (Some f) (find (λ k. k.number == n) (h ∷ fs))) o ∙ find_first n h fs e
+    by b e = grind arith
 
 -- ---- distinct numbers
 
@@ -79,12 +57,7 @@ AreApart xs ys = (m : ℕ) → In m xs → In m ys → ⊥
 
 not_among : (m : ℕ) (ns : List ℕ) → (In m ns → ⊥) → list_any (λ k. k == m) ns ≡ false
 not_among m [] h = refl
-not_among m (n ∷ ns) h = by (n == m) refl (not_among m ns (λ i. h (inr i)))
-  where
-    by : (b : Bool) → (n == m) ≡ b → list_any (λ k. k == m) ns ≡ false
-        → (b || list_any (λ k. k == m) ns) ≡ false
-    by true e k = absurd (h (inl (eqb-true n m e)))
-    by false e k = k
+not_among m (n ∷ ns) h = grind (arith, not_among m ns (λ i. h (inr i)))
 
 pub among : (m : ℕ) (ns : List ℕ) → In m ns → list_any (λ k. k == m) ns ≡ true
 among m ns i = in_any (λ k. k == m) m ns i (eq-eqb m m refl)

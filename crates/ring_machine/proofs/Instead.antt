@@ -1,14 +1,11 @@
 -- A document with other features in the place of one.
-use Rattle.std.proofs.Common.{◌≡◌, ℕ, ◌+◌, Bool, true, false, refl, sym, ap, ap₂, ◌∙◌, subst, cond}
-use Rattle.std.proofs.Common.{List, [], ◌∷◌, ◌++◌, map, length, ◌⊎◌, inl, inr, Option, Some, None, is_some, arith}
+use Rattle.std.proofs.Common.{◌≡◌, ℕ, Bool, true, false, refl, ap, ap₂, ◌∙◌, subst, cond}
+use Rattle.std.proofs.Common.{List, [], ◌∷◌, ◌++◌, map, ◌⊎◌, inl, inr}
 use Rattle.std.specs.Prelude.{◌==◌}
 use Rattle.std.proofs.lemmas.Bool.{eqb-true, eqb-false}
 use Rattle.std.specs.List.{list_any, find, flat_map, filter_map}
-use Rattle.std.specs.Option.{option_or}
-use Rattle.std.proofs.lemmas.List.{length-append}
 use Rattle.std.proofs.lemmas.List.Concat.{flat_map-append}
 use Rattle.std.proofs.lemmas.List.Elements.{filter_map-append}
-use Rattle.std.proofs.lemmas.List.Folds.{find-append, list_any-append}
 use Rattle.ring_machine.specs.Document.{FeatureOf, ItemOf, DocumentOf, Open, Close, Leaf, Kept}
 use Rattle.ring_machine.specs.Parts.{feature_of, features, feature, has_feature, rings_of, rings}
 use Rattle.ring_machine.specs.Cut.{becomes, instead}
@@ -16,17 +13,17 @@ use Rattle.ring_machine.proofs.Removal.{none_parts}
 use Rattle.ring_machine.proofs.First.{In}
 use Rattle.ring_machine.proofs.Members.{in_flat}
 use Rattle.ring_machine.proofs.InItems.{features-in_items, in_items-left}
-use Rattle.ring_machine.proofs.Found.{Stands, any_found, none_found, has_feature-found}
+use Rattle.ring_machine.proofs.Found.{Stands, none_found}
 use Rattle.ring_machine.proofs.Swapped.{for_one, swapped, swapped_alone, find_other}
 
-features_leaves : {R : Type 0} (fs : List (FeatureOf R)) → filter_map feature_of (map Leaf fs) ≡ fs
+pub features_leaves : {R : Type 0} (fs : List (FeatureOf R)) → filter_map feature_of (map Leaf fs) ≡ fs
 features_leaves [] = refl
 features_leaves (f ∷ fs) = ap (λ z. f ∷ z) (features_leaves fs)
 
 module _ {R : Type 0} (n : ℕ) (g : FeatureOf R → List (FeatureOf R)) where
   -- ---- features
 
-  features_becomes : (is : List (ItemOf R))
+  pub features_becomes : (is : List (ItemOf R))
       → filter_map feature_of (flat_map (becomes n g) is) ≡ swapped n g (filter_map feature_of is)
   features_becomes [] = refl
   features_becomes (Open h ∷ is) = features_becomes is
@@ -48,7 +45,7 @@ module _ {R : Type 0} (n : ℕ) (g : FeatureOf R → List (FeatureOf R)) where
 
   -- ---- where no feature has the number
 
-  becomes_none : (is : List (ItemOf R))
+  pub becomes_none : (is : List (ItemOf R))
       → list_any (λ f. f.number == n) (filter_map feature_of is) ≡ false
       → flat_map (becomes n g) is ≡ is
   becomes_none [] h = refl
@@ -85,10 +82,6 @@ module _ {R : Type 0} (n : ℕ) (g : FeatureOf R → List (FeatureOf R)) (d : Do
 
 -- ---- what is found
 
-or_none : {A : Type 0} (o : Option A) → option_or o None ≡ o
-or_none None = refl
-or_none (Some a) = refl
-
 module _ {R : Type 0} (d : DocumentOf R) (n : ℕ) (g : FeatureOf R → List (FeatureOf R)) where
   -- another number is found as before, where the new features do not have it
   pub feature-instead_other : (m : ℕ) → (n == m) ≡ false
@@ -98,58 +91,10 @@ module _ {R : Type 0} (d : DocumentOf R) (n : ℕ) (g : FeatureOf R → List (Fe
       ap (find (λ k. k.number == m)) (features-instead n g d)
       ∙ find_other n g m o (features d) (λ f i e. none_found (λ k. k.number == m) (g f) (h f i e))
 
-  pub has_feature-instead_other : (m : ℕ) → (n == m) ≡ false
-      → ((f : FeatureOf R) → In f (features d) → f.number ≡ n → list_any (λ k. k.number == m) (g f) ≡ false)
-      → has_feature (instead n g d) m ≡ has_feature d m
-  has_feature-instead_other m o h =
-      has_feature-found (instead n g d) m ∙ ap is_some (feature-instead_other m o h)
-      ∙ sym (has_feature-found d m)
-
   module _ (f : FeatureOf R) (place : Stands n f (features d)) where
     -- the features before it, the new ones, and those after it
     pub features-instead_at : features (instead n g d) ≡ place.us ++ (g f ++ place.vs)
     features-instead_at = features-instead n g d ∙ swapped_alone n g f (features d) place
-
-    others_lack : (m : ℕ) → (m ≡ n) ⊎ (has_feature d m ≡ false)
-        → (list_any (λ k. k.number == m) place.us ≡ false) × (list_any (λ k. k.number == m) place.vs ≡ false)
-    others_lack m (inl e) = (
-      subst (λ z. list_any (λ k. k.number == z) place.us ≡ false) (sym e) place.none_before,
-      subst (λ z. list_any (λ k. k.number == z) place.vs ≡ false) (sym e) place.none_after,
-    )
-    others_lack m (inr h) =
-        let test : FeatureOf R → Bool = λ k. k.number == m in
-        let all = none_parts (list_any test place.us) (list_any test (f ∷ place.vs))
-        (sym (list_any-append test place.us (f ∷ place.vs)) ∙ ap (list_any test) (sym place.is) ∙ h) in
-        (all.0, (none_parts (test f) (list_any test place.vs) all.1).1)
-
-    -- its own number, and one that no feature had, are those of the new features
-    pub feature-instead_at : (m : ℕ) → (m ≡ n) ⊎ (has_feature d m ≡ false)
-        → feature (instead n g d) m ≡ find (λ k. k.number == m) (g f)
-    feature-instead_at m h =
-        let test : FeatureOf R → Bool = λ k. k.number == m in
-        let lack = others_lack m h in
-        ap (find test) features-instead_at
-        ∙ find-append test place.us (g f ++ place.vs)
-        ∙ ap₂ (λ y z. option_or y z) (none_found test place.us lack.0) (find-append test (g f) place.vs)
-        ∙ ap (option_or (find test (g f))) (none_found test place.vs lack.1)
-        ∙ or_none (find test (g f))
-
-    pub has_feature-instead_at : (m : ℕ) → (m ≡ n) ⊎ (has_feature d m ≡ false)
-        → has_feature (instead n g d) m ≡ list_any (λ k. k.number == m) (g f)
-    has_feature-instead_at m h =
-        has_feature-found (instead n g d) m ∙ ap is_some (feature-instead_at m h)
-        ∙ sym (any_found (λ k. k.number == m) (g f))
-
-    -- one feature less, and as many more as there are new ones
-    pub count-instead : length (features (instead n g d)) + 1 ≡ length (features d) + length (g f)
-    count-instead = omega (
-      arith,
-      ap length features-instead_at,
-      ap length place.is,
-      length-append place.us (g f ++ place.vs),
-      length-append (g f) place.vs,
-      length-append place.us (f ∷ place.vs),
-    )
 
     -- ---- rings
 

@@ -7,7 +7,7 @@ use Rattle.std.proofs.lemmas.Bool.{false≢true}
 use Rattle.std.proofs.lemmas.Int.{ints}
 use Rattle.grid_geometry.specs.Position.{Position}
 use Rattle.grid_geometry.specs.Ring.{Edge, edges, signed_area, total_area}
-use Rattle.ring_machine.specs.Ring.{is_ring, canonical}
+use Rattle.ring_machine.specs.Ring.{is_ring}
 use Rattle.ring_machine.specs.Join.{is_common, passed_alike, positive, runs, same_side}
 use Rattle.ring_machine.specs.Join.{same_segments, joined}
 use Rattle.ring_machine.specs.Query.{absolute_area}
@@ -16,7 +16,7 @@ use Rattle.ring_machine.proofs.Areas.{total_area-append, total_area-flipped, tot
 use Rattle.ring_machine.proofs.Removal.{none_parts}
 use Rattle.ring_machine.proofs.Spots.{Rotated}
 use Rattle.ring_machine.proofs.First.{In, in_left}
-use Rattle.ring_machine.proofs.Cycles.{in_rotated, rotated-sym, edges_canonical, edges_reversed}
+use Rattle.ring_machine.proofs.Cycles.{in_rotated, rotated-sym, edges_reversed}
 use Rattle.ring_machine.proofs.Cycles.{in_flipped}
 use Rattle.ring_machine.proofs.JoinedRuns.{Shared, shared, other_of, alike_in, in_alike}
 use Rattle.ring_machine.proofs.JoinedRuns.{in_reverse}
@@ -26,9 +26,6 @@ use Rattle.ring_machine.proofs.JoinedRests.{joined_edges, run_in}
 
 pub total_area-rotated : (es fs : List Edge) → Rotated es fs → total_area fs ≡ total_area es
 total_area-rotated es fs r = ap total_area r.to ∙ total_area_swap r.vs r.us ∙ ap total_area (sym r.from)
-
-pub signed_area-canonical : (ring : List Position) → signed_area (canonical ring) ≡ signed_area ring
-signed_area-canonical ring = total_area-rotated (edges ring) (edges (canonical ring)) (edges_canonical ring)
 
 opposite_of : (a b : ℤ) → a +ℤ b ≡ pos 0 → b ≡ neg_ℤ a
 opposite_of a b h = omega (arith, ints, h)
@@ -56,12 +53,6 @@ joined_signed r s ring second k =
     (sym (total_area-rotated (edges r) (run ++ k.own) k.here) ∙ total_area-append run k.own)
     (sym (total_area-rotated (edges (other_of r s)) (flipped run ++ k.others) k.there) ∙ total_area-append (flipped run) k.others)
     (total_area-flipped run)
-
--- with the run given by the conditions
-pub joined_signed_area : (r s : List Position) → is_ring r ≡ true → is_ring s ≡ true
-    → list_any (is_common s) (edges r) ≡ true → runs (is_common s) (edges r) ≤ 1
-    → signed_area (joined r s) ≡ signed_area r +ℤ signed_area (other_of r s)
-joined_signed_area r s ring second some one = joined_signed r s ring second (shared r s ring second some one)
 
 -- ---- both on their sides of the run
 

@@ -1,14 +1,14 @@
 -- Two rings with one common run: the edges of the joined ring are those that only one of them has.
-use Rattle.std.proofs.Common.{◌≡◌, ◌≤◌, true, false, refl, sym, ap, ap₂, ◌∙◌, subst}
+use Rattle.std.proofs.Common.{◌≡◌, true, false, refl, sym, ap, ap₂, ◌∙◌, subst}
 use Rattle.std.proofs.Common.{List, [], ◌∷◌, ◌++◌, ◌&&◌, inl, inr}
-use Rattle.std.specs.List.{list_any, list_all}
+use Rattle.std.specs.List.{list_all}
 use Rattle.std.proofs.lemmas.Bool.{false≢true}
 use Rattle.std.proofs.lemmas.List.{append-nil}
 use Rattle.grid_geometry.specs.Position.{Position}
 use Rattle.grid_geometry.specs.Ring.{Edge, edges}
 use Rattle.ring_machine.specs.Ring.{is_ring, canonical}
 use Rattle.ring_machine.specs.Arcs.{Chain}
-use Rattle.ring_machine.specs.Join.{is_common, same_segments, joined, runs}
+use Rattle.ring_machine.specs.Join.{is_common, same_segments, joined}
 use Rattle.ring_machine.proofs.Edges.{starts, chain_append, closed}
 use Rattle.ring_machine.proofs.Arcs.{flip, flipped}
 use Rattle.ring_machine.proofs.Spots.{Rotated}
@@ -20,7 +20,7 @@ use Rattle.ring_machine.proofs.Cycles.{chain_parts, chain-flipped, in_flipped, f
 use Rattle.ring_machine.proofs.Cycles.{edges_canonical}
 use Rattle.ring_machine.proofs.Passed.{pass_all, in_common, flip_common}
 use Rattle.ring_machine.proofs.Neighbours.{all_in, in-map}
-use Rattle.ring_machine.proofs.JoinedRuns.{Shared, shared, other_of, in_other, cycle_other}
+use Rattle.ring_machine.proofs.JoinedRuns.{Shared, other_of, in_other, cycle_other}
 
 -- where a way begins and ends
 same_way : (e : Edge) (es : List Edge) (p q p' q' : Position) → Chain p (e ∷ es) q
@@ -160,23 +160,3 @@ module _ (r s : List Position) (ring : is_ring r ≡ true) (second : is_ring s �
 
   pub some_others : same_segments r s ≡ false → k.others ≡ [] → ⊥
   some_others h e = false≢true (sym h ∙ all_shared (none_of_own e) e)
-
--- what the definition of the joined ring asks of two rings with a common segment and one run of these
-pub record BothParted (r s : List Position) : Type 0 where
-  pub own : List Edge
-  pub others : List Edge
-  pub first : Parted (is_common s) r own
-  pub second : Parted (is_common r) (other_of r s) others
-  pub is : joined r s ≡ canonical (starts (own ++ others))
-
-pub both_parted : (r s : List Position) → is_ring r ≡ true → is_ring s ≡ true
-    → list_any (is_common s) (edges r) ≡ true → runs (is_common s) (edges r) ≤ 1 → BothParted r s
-both_parted r s ring second some one =
-    let k = shared r s ring second some one in
-    record {
-      own = k.own;
-      others = k.others;
-      first = first_parted r s ring second k;
-      second = second_parted r s ring second k;
-      is = joined_rests r s ring second k;
-    }

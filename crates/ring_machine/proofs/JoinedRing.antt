@@ -8,9 +8,9 @@ use Rattle.std.specs.List.{list_any, filter, reduce}
 use Rattle.std.proofs.lemmas.Bool.{false≢true}
 use Rattle.std.proofs.lemmas.List.{map-append, length-append, length-map, reverse-append}
 use Rattle.grid_geometry.specs.Position.{Position, position_eq, position_cmp, position_lt}
-use Rattle.grid_geometry.specs.Segment.{Segment, segment_eq, is_end}
-use Rattle.grid_geometry.specs.Ring.{Edge, edges, xor}
-use Rattle.ring_machine.specs.Ring.{has, is_distinct, is_ring, segment_of, segments}
+use Rattle.grid_geometry.specs.Segment.{is_end}
+use Rattle.grid_geometry.specs.Ring.{Edge, edges}
+use Rattle.ring_machine.specs.Ring.{has, is_distinct, is_ring, segment_of}
 use Rattle.ring_machine.specs.Arcs.{Chain}
 use Rattle.ring_machine.specs.Join.{is_common, passed_alike, same_segments, same_side, common_else}
 use Rattle.ring_machine.specs.Join.{joined, positive}
@@ -18,25 +18,19 @@ use Rattle.ring_machine.proofs.Order.{and_both, or_true, position_eq-true}
 use Rattle.ring_machine.proofs.Edges.{starts}
 use Rattle.ring_machine.proofs.Arcs.{flip, flipped}
 use Rattle.ring_machine.proofs.Removal.{none_parts}
-use Rattle.ring_machine.proofs.RingSegments.{segment_eq-true}
 use Rattle.ring_machine.proofs.StaysRing.{canonical_is_ring}
 use Rattle.ring_machine.proofs.StaysProper.{edges_start}
-use Rattle.ring_machine.proofs.First.{In, in-append, in_left, in_right, filter-in}
-use Rattle.ring_machine.proofs.Members.{in_mapped, any_in, same_answer}
-use Rattle.ring_machine.proofs.Neighbours.{in-map, in-has, all_in, none_in}
+use Rattle.ring_machine.proofs.First.{In, in-append, in_right, filter-in}
+use Rattle.ring_machine.proofs.Members.{in_mapped, any_in}
+use Rattle.ring_machine.proofs.Neighbours.{in-map, in-has, none_in}
 use Rattle.ring_machine.proofs.Distinct.{distinct_right, distinct_apart, distinct_both}
-use Rattle.ring_machine.proofs.Cycles.{in_rotated, rotated-sym, in_flipped, flipped_in}
-use Rattle.ring_machine.proofs.Passed.{in_common, flip_common, common-flip}
-use Rattle.ring_machine.proofs.JoinedRuns.{Shared, shared, other_of, other_common, in_other}
-use Rattle.ring_machine.proofs.JoinedRests.{between, here_cycle, there_cycle, run_in}
+use Rattle.ring_machine.proofs.Cycles.{in_rotated, rotated-sym, in_flipped}
+use Rattle.ring_machine.proofs.Passed.{flip_common}
+use Rattle.ring_machine.proofs.JoinedRuns.{Shared, other_of}
+use Rattle.ring_machine.proofs.JoinedRests.{between, here_cycle, there_cycle}
 use Rattle.ring_machine.proofs.JoinedRests.{joined_rests, joined_edges, some_own, some_others}
-use Rattle.ring_machine.proofs.MergeAccepted.{Joinable}
 
 -- ---- positions of both rings
-
--- t is a segment of the ring
-abbrev among : Segment → List Position → Bool
-among t ps = list_any (segment_eq t) (segments ps)
 
 -- p is an end of a common segment
 abbrev on_run : List Position → List Position → Position → Bool
@@ -163,66 +157,3 @@ module _ (r s : List Position) (ring : is_ring r ≡ true) (second : is_ring s �
     | inl j ↦ inl (own_in x j, none_in (is_common s) k.own x k.are_own j)
     | inr j ↦ inr (others_in x j, none_in (is_common r) k.others x k.are_others j)
   ]
-
-  in_joined_first : (x : Edge) → In x (edges r) → is_common s x ≡ false → In x (edges (joined r s))
-  in_joined_first x i c = in_rotated (k.own ++ k.others) (edges (joined r s)) x (joined_edges r s ring second k) (elim (in-append x run k.own (in_rotated (edges r) (run ++ k.own) x k.here i)) [
-    | inl j ↦ absurd (false≢true (sym c ∙ all_in (is_common s) run x k.are_common j))
-    | inr j ↦ in_left x k.own k.others j
-  ])
-
-  in_joined_second : (x : Edge) → In x (edges (other_of r s)) → is_common r x ≡ false
-      → In x (edges (joined r s))
-  in_joined_second x i c = in_rotated (k.own ++ k.others) (edges (joined r s)) x (joined_edges r s ring second k) (elim (in-append x (flipped run) k.others (in_rotated (edges (other_of r s)) (flipped run ++ k.others) x k.there i)) [
-    | inl j ↦ absurd (false≢true (sym c ∙ flip_common r x (run_in r s ring second k (flip x) (flipped_in x run j))))
-    | inr j ↦ in_right x k.own k.others j
-  ])
-
-  -- a segment is one of the joined ring exactly where it is one of one ring alone
-  pub joined_segments : (t : Segment)
-      → list_any (segment_eq t) (segments (joined r s))
-      ≡ xor (list_any (segment_eq t) (segments r)) (list_any (segment_eq t) (segments s))
-  joined_segments t = same_answer (among t (joined r s)) (xor (among t r) (among t s)) forth (λ h. back (among t r) (among t s) refl refl h)
-    where
-      edge_of : (ps : List Position) → among t ps ≡ true
-          → (x : Edge) × In x (edges ps) × (segment_of x ≡ t)
-      edge_of ps h =
-          let a = any_in (segment_eq t) (segments ps) h in
-          let b = in_mapped segment_of a.0 (edges ps) a.1 in
-          (b.0, b.1, b.2 ∙ sym (segment_eq-true t a.0 a.2))
-
-      same_at : (ps : List Position) (x : Edge) → segment_of x ≡ t → among t ps ≡ is_common ps x
-      same_at ps x e = ap (λ u. list_any (segment_eq u) (segments ps)) (sym e)
-
-      forth : among t (joined r s) ≡ true → xor (among t r) (among t s) ≡ true
-      forth h =
-          let x = edge_of (joined r s) h in
-          elim (joined_in x.0 x.1) [
-            | inl j ↦ ap₂ xor (same_at r x.0 x.2 ∙ in_common r x.0 j.0) (same_at s x.0 x.2 ∙ j.1)
-            | inr j ↦ ap₂ xor (same_at r x.0 x.2 ∙ j.1) (same_at s x.0 x.2 ∙ other_common r s x.0 j.0)
-          ]
-
-      back : (a b : Bool) → among t r ≡ a → among t s ≡ b → xor a b ≡ true → among t (joined r s)
-          ≡ true
-      back true true f g h = absurd (false≢true h)
-      back false false f g h = absurd (false≢true h)
-      back true false f g h =
-          let x = edge_of r f in
-          same_at (joined r s) x.0 x.2 ∙ in_common (joined r s) x.0 (in_joined_first x.0 x.1 (sym (same_at s x.0 x.2) ∙ g))
-      back false true f g h =
-          let x = edge_of s g in
-          same_at (joined r s) x.0 x.2 ∙ elim (in_other r s x.0 x.1) [
-            | inl j ↦ in_common (joined r s) x.0 (in_joined_second x.0 j (sym (same_at r x.0 x.2) ∙ f))
-            | inr j ↦ flip_common (joined r s) x.0 (in_joined_second (flip x.0) j (common-flip r x.0 ∙ sym (same_at r x.0 x.2) ∙ f))
-          ]
-
--- the same from the conditions of a merge
-
-pub joinable_is_ring : (r s : List Position) → is_ring r ≡ true → is_ring s ≡ true → Joinable r s
-    → is_ring (joined r s) ≡ true
-joinable_is_ring r s ring second j = joined_is_ring r s ring second (shared r s ring second j.some j.one) j.none_else j.sides
-
-pub joinable_segments : (r s : List Position) → is_ring r ≡ true → is_ring s ≡ true → Joinable r s
-    → (t : Segment)
-    → list_any (segment_eq t) (segments (joined r s))
-    ≡ xor (list_any (segment_eq t) (segments r)) (list_any (segment_eq t) (segments s))
-joinable_segments r s ring second j = joined_segments r s ring second (shared r s ring second j.some j.one)

@@ -11,7 +11,7 @@ use Rattle.grid_geometry.proofs.Conflicts.{segment-comm}
 use Rattle.ring_machine.specs.Ring.{edge_eq, is_distinct, is_ring, segment_of}
 use Rattle.ring_machine.specs.Arcs.{Chain}
 use Rattle.ring_machine.specs.Join.{is_common, passed_alike, runs}
-use Rattle.ring_machine.proofs.Order.{and_both, position_eq-true, position_eq-refl}
+use Rattle.ring_machine.proofs.Order.{and_both, position_eq-true, position_eq-refl, refuted}
 use Rattle.ring_machine.proofs.Edges.{starts}
 use Rattle.ring_machine.proofs.Arcs.{flip, flipped}
 use Rattle.ring_machine.proofs.Once.{times, times-append}
@@ -179,10 +179,6 @@ module _ (r s : List Position) (ring : is_ring r ≡ true) (second : is_ring s �
     | inr j ↦ twice (subst (λ t. 1 ≤ times t (run.first ∷ run.more)) (segment-comm x.1 x.0) (times_in (flip x) (run.first ∷ run.more) (in_run (flip x) j (common-flip s x ∙ shared))))
   ])
     where
-      refuted : (b : Bool) → (b ≡ true → ⊥) → b ≡ false
-      refuted false h = refl
-      refuted true h = absurd (h refl)
-
       shared : is_common s x ≡ true
       shared = other_common r s x (in_rotated (flipped (run.first ∷ run.more) ++ g) (edges (other_of r s)) x (rotated-sym (edges (other_of r s)) (flipped (run.first ∷ run.more) ++ g) there) (in_right x (flipped (run.first ∷ run.more)) g i))
 

@@ -1,10 +1,9 @@
 -- Lists with some elements left out.
-use Rattle.std.proofs.Common.{◌≡◌, ℕ, ◌≤◌, Bool, true, false, refl, sym, ap, ap₂, ◌∙◌, subst, cond}
-use Rattle.std.proofs.Common.{List, [], ◌∷◌, ◌++◌, map, length, ◌&&◌, inl, inr, arith, None}
+use Rattle.std.proofs.Common.{◌≡◌, ℕ, Bool, true, false, refl, sym, ap, ap₂, ◌∙◌, subst, cond}
+use Rattle.std.proofs.Common.{List, [], ◌∷◌, ◌++◌, map, ◌&&◌, inl, inr, None}
 use Rattle.std.specs.Prelude.{◌==◌, not}
-use Rattle.std.specs.List.{list_any, list_all, filter, flat_map, sum_by, reduce}
+use Rattle.std.specs.List.{list_any, list_all, filter, flat_map, reduce}
 use Rattle.std.proofs.lemmas.Bool.{false≢true}
-use Rattle.std.proofs.lemmas.List.Sums.{sum_by-cons}
 use Rattle.grid_geometry.specs.Segment.{Segment, segment_lt}
 use Rattle.grid_geometry.specs.Conflict.{conflict}
 use Rattle.ring_machine.specs.Planar.{pair_lt, conflicts, least_conflict}
@@ -24,9 +23,6 @@ module _ {A : Type 0} where
   pub part_whole : (xs : List A) → IsPart xs xs
   part_whole [] = none
   part_whole (x ∷ xs) = keep (part_whole xs)
-
-  pub part_of : (xs ys : List A) → xs ≡ ys → IsPart xs ys
-  part_of xs ys e = subst (IsPart xs) e (part_whole xs)
 
   pub part_behind : (us : List A) {xs ys : List A} → IsPart xs ys → IsPart xs (us ++ ys)
   part_behind [] p = p
@@ -85,16 +81,6 @@ module _ {A : Type 0} where
       → list_any test ys ≡ true
   part_any test xs ys p h =
       let k = any_in test xs h in in_any test k.0 ys (part_in k.0 p k.1) k.2
-
-  pub part_sum : (f : A → ℕ) {xs ys : List A} → IsPart xs ys → sum_by f xs ≤ sum_by f ys
-  part_sum f none = omega arith
-  part_sum f (skip {x} {xs} {ys} p) = omega (arith, sum_by-cons f x ys, part_sum f p)
-  part_sum f (keep {x} {xs} {ys} p) = omega (arith, sum_by-cons f x xs, sum_by-cons f x ys, part_sum f p)
-
-  pub part_length : {xs ys : List A} → IsPart xs ys → length xs ≤ length ys
-  part_length none = omega arith
-  part_length (skip p) = omega (arith, part_length p)
-  part_length (keep p) = omega (arith, part_length p)
 
 module _ {A B : Type 0} where
   pub part_map : (f : A → B) {xs ys : List A} → IsPart xs ys → IsPart (map f xs) (map f ys)

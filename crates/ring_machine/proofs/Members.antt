@@ -1,12 +1,12 @@
 -- What is among the elements of a list, and what a test of a whole list answers.
-use Rattle.std.proofs.Common.{◌≡◌, ◌<◌, ℕ, zero, suc, Bool, true, false, refl, sym, ap, ap₂, ◌∙◌}
-use Rattle.std.proofs.Common.{cond, List, [], ◌∷◌, ◌++◌, map, length, ◌||◌, inl, inr, arith}
+use Rattle.std.proofs.Common.{◌≡◌, ◌<◌, ℕ, zero, suc, Bool, true, refl, ap, ap₂, ◌∙◌}
+use Rattle.std.proofs.Common.{List, [], ◌∷◌, ◌++◌, map, length, ◌||◌, inl, inr, arith}
 use Rattle.std.proofs.Common.{Option, Some, None, is_some, Contains}
 use Rattle.std.specs.Prelude.{slice_index_or, option_map}
 use Rattle.std.specs.List.{list_any, filter, flat_map}
 use Rattle.std.proofs.lemmas.Bool.{false≢true}
 use Rattle.ring_machine.proofs.Order.{or_true, or_right}
-use Rattle.ring_machine.proofs.First.{In, in-append, in_left, in_right}
+use Rattle.ring_machine.proofs.First.{In, in-append, in_left, in_right, in-filter}
 
 -- ---- by index
 
@@ -50,14 +50,7 @@ in_flat f b (x ∷ xs) h = elim (in-append b (f x) (flat_map f xs) h) [
 
 pub in_filter : {A : Type 0} (test : A → Bool) (a : A) (xs : List A) → In a (filter test xs)
     → In a xs × (test a ≡ true)
-in_filter test a [] h = absurd h
-in_filter {A} test a (x ∷ xs) h = by (test x) refl h (in_filter test a xs)
-  where
-    by : (b : Bool) → test x ≡ b → In a (cond b (x ∷ filter test xs) (filter test xs))
-        → (In a (filter test xs) → In a xs × (test a ≡ true)) → In a (x ∷ xs) × (test a ≡ true)
-    by true e (inl i) k = (inl i, ap test (sym i) ∙ e)
-    by true e (inr i) k = (inr (k i).0, (k i).1)
-    by false e i k = (inr (k i).0, (k i).1)
+in_filter test a xs h = in-filter test a xs h
 
 -- ---- tests of a whole list
 
@@ -83,10 +76,7 @@ any_alike f g h (x ∷ xs) = ap₂ (λ a b. a || b) (h x) (any_alike f g h xs)
 
 -- two answers that follow from each other
 pub same_answer : (a b : Bool) → (a ≡ true → b ≡ true) → (b ≡ true → a ≡ true) → a ≡ b
-same_answer true true f g = refl
-same_answer true false f g = sym (f refl)
-same_answer false true f g = g refl
-same_answer false false f g = refl
+same_answer a b f g = grind arith
 
 -- ---- what is there
 

@@ -1,9 +1,8 @@
 -- What a merge without a refusal gives: two features of one polygon each, whose outer rings can be joined.
-use Rattle.std.proofs.Common.{◌≡◌, ◌≤◌, ℕ, Bool, true, false, refl, sym, ap₂, ◌∙◌, cond, List, [], ◌∷◌}
-use Rattle.std.proofs.Common.{◌&&◌, ◌||◌, Option, None, Some, inl, inr, eqb-true, arith}
+use Rattle.std.proofs.Common.{◌≡◌, ◌≤◌, ℕ, Bool, true, false, refl, sym, ap₂, ◌∙◌, List, [], ◌∷◌}
+use Rattle.std.proofs.Common.{◌&&◌, Option, None, Some, eqb-true, arith}
 use Rattle.std.specs.Prelude.{◌==◌, not, nat_le}
 use Rattle.std.specs.List.{list_any, find}
-use Rattle.std.proofs.lemmas.Bool.{false≢true}
 use Rattle.grid_geometry.specs.Position.{Position}
 use Rattle.grid_geometry.specs.Ring.{edges}
 use Rattle.ring_machine.specs.Document.{Document, Feature}
@@ -15,6 +14,8 @@ use Rattle.ring_machine.specs.Refusals.{or_else, no_feature}
 use Rattle.ring_machine.proofs.Order.{and_both}
 use Rattle.ring_machine.proofs.Removal.{not_true}
 use Rattle.ring_machine.proofs.First.{In}
+use Rattle.ring_machine.proofs.Members.{there}
+use Rattle.ring_machine.proofs.Found.{any_found, found_in}
 
 -- a common segment, one run of them, no other common position, and areas on both sides of the run
 pub record Joinable (r s : List Position) : Type 0 where
@@ -25,7 +26,7 @@ pub record Joinable (r s : List Position) : Type 0 where
 
 -- ---- no refusal: each condition holds
 
-passes : (r : Refusal) (b : Bool) (rest : List (Option Refusal))
+pub passes : (r : Refusal) (b : Bool) (rest : List (Option Refusal))
     → first_of (r unless b ∷ rest) ≡ None → (b ≡ true) × (first_of rest ≡ None)
 passes r true rest h = (refl, h)
 passes r false rest h = absurd cc
@@ -92,14 +93,10 @@ pair f g h = by (outer_of f) (outer_of g) refl refl h
 -- the first feature with this number
 pub found : (n : ℕ) (fs : List Feature) → list_any (λ f. f.number == n) fs ≡ true
     → (f : Feature) × (find (λ f. f.number == n) fs ≡ Some f) × In f fs × (f.number ≡ n)
-found n [] h = absurd (false≢true h)
-found n (f ∷ fs) h = by (f.number == n) refl h (λ k. found n fs k)
-  where
-    by : (b : Bool) → (f.number == n) ≡ b → (b || list_any (λ g. g.number == n) fs) ≡ true
-        → (list_any (λ g. g.number == n) fs ≡ true → (k : Feature) × (find (λ g. g.number == n) fs ≡ Some k) × In k fs × (k.number ≡ n))
-        → (k : Feature) × (cond b (Some f) (find (λ g. g.number == n) fs) ≡ Some k) × In k (f ∷ fs) × (k.number ≡ n)
-    by true e k rest = (f, refl, inl refl, eqb-true f.number n e)
-    by false e k rest = let r = rest k in (r.0, r.1, inr r.2, r.3)
+found n fs h =
+    let k = there (find (λ f. f.number == n) fs) (sym (any_found (λ f. f.number == n) fs) ∙ h) in
+    let i = found_in (λ f. f.number == n) fs k.0 k.1 in
+    (k.0, k.1, i.0, eqb-true k.0.number n i.1)
 
 pub record MergeAccepted (d : Document) (n m : ℕ) : Type 0 where
   pub first : Feature
@@ -119,9 +116,9 @@ unfolding merge_refusals
 merge-accepted d n m h =
     let a = passes _ (has_feature d n && has_feature d m) _ h in
     let b = passes _ (not (n == m)) _ a.1 in
-    let there = and_both (has_feature d n) (has_feature d m) a.0 in
-    let f = found n (features d) there.0 in
-    let g = found m (features d) there.1 in
+    let both = and_both (has_feature d n) (has_feature d m) a.0 in
+    let f = found n (features d) both.0 in
+    let g = found m (features d) both.1 in
     record {
       first = f.0;
       second = g.0;

@@ -1,52 +1,34 @@
 -- A document in which two features are merged stays proper.
-use Rattle.std.proofs.Common.{◌≡◌, ℕ, Bool, true, false, refl, sym, ap, ap₂, ◌∙◌, subst, cond, List, []}
-use Rattle.std.proofs.Common.{◌∷◌, ◌++◌, map, ◌⊎◌, inl, inr, None, eqb-true}
-use Rattle.std.specs.Prelude.{◌==◌, not}
-use Rattle.std.specs.List.{list_any, flat_map}
-use Rattle.std.proofs.lemmas.Bool.{false≢true}
-use Rattle.std.proofs.lemmas.Bool.Decides.{Decides-eqb}
+use Rattle.std.proofs.Common.{◌≡◌, ℕ, true, sym, ap, ap₂, ◌∙◌, subst, List, []}
+use Rattle.std.proofs.Common.{◌∷◌, ◌++◌, ◌⊎◌, inl, inr, None}
+use Rattle.std.specs.List.{flat_map}
 use Rattle.grid_geometry.specs.Position.{Position}
 use Rattle.grid_geometry.specs.Segment.{Segment, segment_eq}
 use Rattle.grid_geometry.specs.Ring.{Edge, edges}
 use Rattle.ring_machine.specs.Ring.{is_ring, segment_of, segments}
 use Rattle.ring_machine.specs.Document.{Document, Feature}
 use Rattle.ring_machine.specs.Parts.{features, rings_of, rings, all_segments}
-use Rattle.ring_machine.specs.WellFormed.{WellFormed, are_distinct}
+use Rattle.ring_machine.specs.WellFormed.{WellFormed}
 use Rattle.ring_machine.specs.Planar.{Proper}
-use Rattle.ring_machine.specs.Join.{is_common, joined, joined_polygons, join}
+use Rattle.ring_machine.specs.Join.{is_common, joined, joined_polygons, joined_feature, join}
+use Rattle.ring_machine.specs.Cut.{instead}
 use Rattle.ring_machine.specs.Refusals.{first_of, merge_refusals, feature_at, or_else, no_feature}
-use Rattle.ring_machine.proofs.Order.{and_both}
-use Rattle.ring_machine.proofs.Removal.{not_true}
 use Rattle.ring_machine.proofs.RingSegments.{segment_eq-true}
 use Rattle.ring_machine.proofs.Steps.{first_pair-is}
 use Rattle.ring_machine.proofs.First.{In, in-append, in_left}
-use Rattle.ring_machine.proofs.Members.{in_mapped, in_flat, in_filter, any_in}
-use Rattle.ring_machine.proofs.Neighbours.{in-map, in-flat_map, all_in, none_in}
+use Rattle.ring_machine.proofs.Members.{in_mapped, in_flat, any_in}
+use Rattle.ring_machine.proofs.Neighbours.{in-map, in-flat_map, all_in}
 use Rattle.ring_machine.proofs.Passed.{pass_all}
 use Rattle.ring_machine.proofs.JoinedRuns.{Shared, shared, other_common}
 use Rattle.ring_machine.proofs.JoinedRing.{joined_is_ring, joined_in}
 use Rattle.ring_machine.proofs.Fewer.{fewer_apart}
 use Rattle.ring_machine.proofs.MergeAccepted.{Pair, MergeAccepted, merge-accepted}
-use Rattle.ring_machine.proofs.MergedFeatures.{merged, merged_at, features-join}
+use Rattle.ring_machine.proofs.MergedFeatures.{merged}
+use Rattle.ring_machine.proofs.Found.{feature_found}
+use Rattle.ring_machine.proofs.Instead.{in-instead}
+use Rattle.ring_machine.proofs.Without.{in-take_out}
+use Rattle.ring_machine.proofs.CutJoined.{join_is}
 use Rattle.ring_machine.proofs.MergeAreas.{outer_in}
-
--- features with distinct numbers are known by them
-one_number : (fs : List Feature) (f g : Feature) → are_distinct (map (λ f. f.number) fs) ≡ true
-    → In f fs → In g fs → f.number ≡ g.number → f ≡ g
-one_number [] f g d h k e = absurd h
-one_number (x ∷ fs) f g d h k e = by h k (λ a b. one_number fs f g parts.1 a b e)
-  where
-    parts : (not (list_any (λ m. m == x.number) (map (λ f. f.number) fs)) ≡ true) × (are_distinct (map (λ f. f.number) fs) ≡ true)
-    parts = and_both (not (list_any (λ m. m == x.number) (map (λ f. f.number) fs))) (are_distinct (map (λ f. f.number) fs)) d
-
-    alone : (y : Feature) → In y fs → y.number ≡ x.number → ⊥
-    alone y i s = false≢true (sym (none_in (λ m. m == x.number) (map (λ f. f.number) fs) y.number (not_true _ parts.0) (in-map (λ (z : Feature). z.number) y fs i)) ∙ (Decides-eqb y.number x.number).1 s)
-
-    by : In f (x ∷ fs) → In g (x ∷ fs) → (In f fs → In g fs → f ≡ g) → f ≡ g
-    by (inl a) (inl b) rest = sym a ∙ b
-    by (inl a) (inr b) rest = absurd (alone g b (sym e ∙ ap (λ (z : Feature). z.number) (sym a)))
-    by (inr a) (inl b) rest = absurd (alone f a (e ∙ ap (λ (z : Feature). z.number) (sym b)))
-    by (inr a) (inr b) rest = rest a b
 
 -- a common edge's segment is one of the ring's
 common_segment : (ring : List Position) (e : Edge) → is_common ring e ≡ true
@@ -84,17 +66,18 @@ module _ (d : Document) (n m : ℕ) (formed : WellFormed d) (a : MergeAccepted d
       → In ring (rings d) ⊎ (joined pair.r pair.s ≡ ring)
   rings_after ring h =
       let k = in_flat rings_of ring (features (join d n a.second)) h in
-      let l = in_filter (λ f. not (f.number == a.second.number)) k.0 (map (merged_at n a.second) (features d)) (subst (In k.0) (features-join d n a.second) k.1) in
-      let o = in_mapped (merged_at n a.second) k.0 (features d) l.0 in
-      by o.0 o.1 (o.0.number == n) refl (subst (λ f. In ring (rings_of f)) (sym o.2) k.2)
-    where
-      by : (f : Feature) → In f (features d) → (b : Bool) → (f.number == n) ≡ b
-          → In ring (rings_of (cond (f.number == n) (merged a.second f) f))
-          → In ring (rings d) ⊎ (joined pair.r pair.s ≡ ring)
-      by f i false e j = inl (in-flat_map rings_of f ring (features d) i (subst (λ b. In ring (rings_of (cond b (merged a.second f) f))) e j))
-      by f i true e j =
-          let same : f ≡ a.first = one_number (features d) f a.first formed.numbers i a.first_in (eqb-true f.number n e ∙ sym a.first_number) in
-          merged_rings ring (subst (λ g. In ring (rings_of (merged a.second g))) same (subst (λ b. In ring (rings_of (cond b (merged a.second f) f))) e j))
+      let l = in-take_out (instead n (joined_feature a.second) d) a.second.number k.0 (subst (λ e. In k.0 (features e)) (join_is d n a.second) k.1) in
+      elim (in-instead n (joined_feature a.second) d k.0 l.0) [
+        | inl i ↦ inl (in-flat_map rings_of k.0 ring (features d) i.0 k.2)
+        | inr o ↦ elim o.3 [
+          | inl e ↦
+              let found = feature_found d formed o.0 n o.1 o.2 in
+              let known = a.first_is in
+              let same : o.0 ≡ a.first = cc in
+              merged_rings ring (subst (λ f. In ring (rings_of f)) (sym e ∙ ap (merged a.second) same) k.2)
+          | inr e ↦ absurd e
+        ]
+      ]
 
   module _ (proper : Proper d) where
     first_ring : is_ring pair.r ≡ true

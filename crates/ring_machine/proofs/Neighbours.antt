@@ -1,10 +1,9 @@
 -- The neighbours of a position: by the edges of a ring, and by its places in the document.
-use Rattle.std.proofs.Common.{◌≡◌, Bool, true, false, refl, sym, ap, ◌∙◌, subst, cond, List, []}
+use Rattle.std.proofs.Common.{◌≡◌, Bool, true, false, refl, sym, ap, ◌∙◌, subst, List, [], arith}
 use Rattle.std.proofs.Common.{◌∷◌, ◌++◌, map, append_assoc, ◌||◌, ◌⊎◌, inl, inr}
 use Rattle.std.specs.List.{list_any, list_all, flat_map, filter, AllByRecursion}
-use Rattle.std.specs.Ordering.{is_gt}
 use Rattle.std.proofs.lemmas.Bool.{false≢true}
-use Rattle.grid_geometry.specs.Position.{Position, position_eq, position_cmp}
+use Rattle.grid_geometry.specs.Position.{Position, position_eq}
 use Rattle.grid_geometry.specs.Segment.{Segment, segment}
 use Rattle.grid_geometry.specs.Ring.{Edge, links, edges}
 use Rattle.ring_machine.specs.Ring.{has, between_each, spots}
@@ -54,11 +53,7 @@ has-in p (q ∷ ps) h = elim (or_true (position_eq p q) (has ps p) h) [ inl i �
 pub in-has : (p : Position) (ps : List Position) → In p ps → has ps p ≡ true
 in-has p [] h = absurd h
 in-has p (q ∷ ps) (inl i) = ap (λ t. t || has ps p) (ap (position_eq p) i ∙ position_eq-refl p)
-in-has p (q ∷ ps) (inr i) = by (position_eq p q) (in-has p ps i)
-  where
-    by : (t : Bool) → has ps p ≡ true → (t || has ps p) ≡ true
-    by true k = refl
-    by false k = k
+in-has p (q ∷ ps) (inr i) = grind (arith, in-has p ps i)
 
 pub vertex_in : (d : Document) (w : Position) → is_vertex d w ≡ true → In w (positions d)
 vertex_in d w h = over (rings d) h
@@ -116,20 +111,10 @@ place_around d ring p s h k =
 
 -- a is an end of each segment that it is given to
 pub first_end : (a c : Position) → ((segment a c).lo ≡ a) ⊎ ((segment a c).hi ≡ a)
-first_end a c = by (is_gt (position_cmp a c))
-  where
-    by : (t : Bool)
-        → ((cond {A = Segment} t (record { lo = c; hi = a }) (record { lo = a; hi = c })).lo ≡ a) ⊎ ((cond {A = Segment} t (record { lo = c; hi = a }) (record { lo = a; hi = c })).hi ≡ a)
-    by true = inr refl
-    by false = inl refl
+first_end a c = grind arith
 
 pub second_end : (c a : Position) → ((segment c a).lo ≡ a) ⊎ ((segment c a).hi ≡ a)
-second_end c a = by (is_gt (position_cmp c a))
-  where
-    by : (t : Bool)
-        → ((cond {A = Segment} t (record { lo = a; hi = c }) (record { lo = c; hi = a })).lo ≡ a) ⊎ ((cond {A = Segment} t (record { lo = a; hi = c }) (record { lo = c; hi = a })).hi ≡ a)
-    by true = inl refl
-    by false = inr refl
+second_end c a = grind arith
 
 -- both ends of an edge are positions of the ring
 links_in : (as' : List Position) (e : Edge) → In e (links as') → In e.0 as' × In e.1 as'

@@ -1,7 +1,7 @@
 -- Features that are numbered in order.
-use Rattle.std.proofs.Common.{◌≡◌, ℕ, suc, ◌+◌, ◌<◌, Bool, true, false, arith, refl, sym, ap, ap₂, ◌∙◌}
+use Rattle.std.proofs.Common.{◌≡◌, ℕ, ◌+◌, ◌<◌, Bool, true, false, arith, refl, sym, ap, ap₂, ◌∙◌}
 use Rattle.std.proofs.Common.{subst, List, [], ◌∷◌, ◌++◌, length, map, ◌&&◌, ◌||◌}
-use Rattle.std.specs.Prelude.{◌==◌, nat_lt, nat_le, not}
+use Rattle.std.specs.Prelude.{◌==◌, not}
 use Rattle.std.specs.List.{list_any}
 use Rattle.std.proofs.lemmas.Bool.Decides.{nat_tests}
 use Rattle.ring_machine.specs.Document.{FeatureOf}
@@ -18,18 +18,6 @@ module _ {R : Type 0} where
   numbered-append n m [] gs h k e = subst (λ z. AreNumbered z gs) (omega (arith, e)) k
   numbered-append n m (f ∷ fs) gs h k e =
       (h.0, numbered-append (n + 1) m fs gs h.1 k (omega (arith, e)))
-
-  -- some feature has the number where it is less than how many they are
-  pub numbered_has : (n m : ℕ) (fs : List (FeatureOf R)) → AreNumbered n fs
-      → list_any (λ f. f.number == m) fs ≡ (nat_le n m && nat_lt m (n + length fs))
-  numbered_has n m [] h = grind (arith, nat_tests)
-  numbered_has n m (f ∷ fs) h =
-      ap₂ (λ (y : ℕ) (z : Bool). (y == m) || z) h.0 (numbered_has (n + 1) m fs h.1)
-      ∙ step (length fs)
-    where
-      step : (k : ℕ) → ((n == m) || (nat_le (n + 1) m && nat_lt m (n + 1 + k)))
-          ≡ (nat_le n m && nat_lt m (n + suc k))
-      step k = grind (arith, nat_tests)
 
   pub numbered_distinct : (n : ℕ) (fs : List (FeatureOf R)) → AreNumbered n fs
       → are_distinct (map (λ f. f.number) fs) ≡ true

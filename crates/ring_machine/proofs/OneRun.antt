@@ -45,20 +45,11 @@ module _ {A : Type 0} (c : A → Bool) where
   -- one that passes is reached
   one_up : (x : A) (ys : List A) (z : A) → c x ≡ false → c z ≡ true → 1 ≤ ups x ys z
   one_up x [] z h k = omega (arith, begins x z h k)
-  one_up x (y ∷ ys) z h k = by (c y) refl (λ l. one_up y ys z l k)
-    where
-      by : (b : Bool) → c y ≡ b → (c y ≡ false → 1 ≤ ups y ys z) → 1 ≤ begin x y + ups y ys z
-      by true e f = omega (arith, begins x y h e)
-      by false e f = omega (arith, f e)
+  one_up x (y ∷ ys) z h k = grind (arith, one_up y ys z)
 
   all_off : (x : A) (ys : List A) (z : A) → c x ≡ false → ups x ys z ≤ 0 → list_any c ys ≡ false
   all_off x [] z h n = refl
-  all_off x (y ∷ ys) z h n = by (c y) refl (λ l. all_off y ys z l (omega (arith, n)))
-    where
-      by : (b : Bool) → c y ≡ b → (c y ≡ false → list_any c ys ≡ false) → (c y || list_any c ys)
-          ≡ false
-      by true e f = absurd (omega (arith, n, begins x y h e))
-      by false e f = ap₂ (λ a b. a || b) e (f e)
+  all_off x (y ∷ ys) z h n = grind (arith, all_off y ys z)
 
   all_on : (x : A) (ys : List A) (z : A) → c x ≡ true → c z ≡ true → ups x ys z ≤ 0
       → list_all c ys ≡ true

@@ -1,29 +1,24 @@
 -- A feature replaced or taken out while the rings of the document are read anew: only the rings of
 -- the other features have to be what they were.
-use Rattle.std.proofs.Common.{◌≡◌, ℕ, Bool, true, false, refl, sym, ap, ap₂, ◌∙◌, subst, cond, List}
-use Rattle.std.proofs.Common.{[], ◌∷◌, ◌++◌, map, ◌||◌, inl, inr, Some}
+use Rattle.std.proofs.Common.{◌≡◌, ℕ, Bool, true, false, refl, sym, ap, ap₂, ◌∙◌, cond, List}
+use Rattle.std.proofs.Common.{[], ◌∷◌, ◌++◌, map, ◌||◌, inl, inr}
 use Rattle.std.specs.Prelude.{◌==◌, not}
 use Rattle.std.specs.List.{filter, filter_map, flat_map, list_any, list_all}
-use Rattle.std.proofs.lemmas.Bool.{eqb-true, eqb-false, false≢true}
-use Rattle.std.proofs.lemmas.List.{map-append}
+use Rattle.std.proofs.lemmas.Bool.{eqb-true, false≢true}
 use Rattle.std.proofs.lemmas.List.Elements.{filter-append}
 use Rattle.ring_machine.specs.Document.{FeatureOf, ItemOf, LayerOf, DocumentOf, Document, Feature}
 use Rattle.ring_machine.specs.Document.{Open, Close, Leaf, Kept}
-use Rattle.ring_machine.specs.Parts.{feature_of, features, feature, rings_of, in_feature, in_item}
-use Rattle.ring_machine.specs.Parts.{in_layer, in_rings}
+use Rattle.ring_machine.specs.Parts.{feature_of, features, rings_of, in_feature}
+use Rattle.ring_machine.specs.Parts.{in_layer}
 use Rattle.ring_machine.specs.Cut.{becomes, instead}
 use Rattle.ring_machine.specs.Join.{is_leaf, empty_collection, take_out, joined_feature, join}
 use Rattle.ring_machine.specs.WellFormed.{is_geometry, WellFormed}
 use Rattle.ring_machine.proofs.First.{In, in_left, in_right}
 use Rattle.ring_machine.proofs.Order.{and_both}
-use Rattle.ring_machine.proofs.Removal.{none_parts}
-use Rattle.ring_machine.proofs.Members.{in_mapped}
-use Rattle.ring_machine.proofs.RingsOf.{features-in_rings}
-use Rattle.ring_machine.proofs.FormedRings.{formed-in_rings}
 use Rattle.ring_machine.proofs.InItems.{of_layers}
-use Rattle.ring_machine.proofs.Found.{feature_found}
-use Rattle.ring_machine.proofs.TakenOut.{taken, take_out_is}
-use Rattle.ring_machine.proofs.Without.{in-take_out}
+use Rattle.ring_machine.proofs.TakenOut.{taken, take_out_is, filtered_none, taken_none}
+use Rattle.ring_machine.proofs.Instead.{features_leaves}
+use Rattle.std.proofs.lemmas.List.{append-nil}
 use Rattle.ring_machine.proofs.CutJoined.{join_is}
 
 module _ {R S : Type 0} (h h' : R → S) where
@@ -46,131 +41,6 @@ module _ {R S : Type 0} (h h' : R → S) where
   in_feature-agrees f a =
       ap (λ ps. record { number = f.number; id = f.id; form = f.form; properties = f.properties; members = f.members; polygons = ps }) (polygons_agree f.polygons a)
 
-module _ {R S : Type 0} (h h' : R → S) (n : ℕ) where
-  -- each feature with another number than n stays
-  abbrev pub OthersStay : List (FeatureOf R) → Type 0
-  OthersStay fs = (f : FeatureOf R) → In f fs → (f.number ≡ n → ⊥) → in_feature h' f ≡ in_feature h f
-
-  -- ---- taken out
-
-  filtered_anew : (is : List (ItemOf R)) → OthersStay (filter_map feature_of is)
-      → map (in_item (in_feature h')) (filter (λ i. not (is_leaf n i)) is)
-      ≡ filter (λ i. not (is_leaf n i)) (map (in_item (in_feature h)) is)
-  filtered_anew [] a = refl
-  filtered_anew (Open b ∷ is) a = ap (λ z. Open b ∷ z) (filtered_anew is a)
-  filtered_anew (Close ∷ is) a = ap (λ z. Close ∷ z) (filtered_anew is a)
-  filtered_anew (Kept t ∷ is) a = ap (λ z. Kept t ∷ z) (filtered_anew is a)
-  filtered_anew (Leaf f ∷ is) a = by (f.number == n) refl (filtered_anew is (λ k i. a k (inr i)))
-    where
-      by : (b : Bool) → (f.number == n) ≡ b
-          → map (in_item (in_feature h')) (filter (λ i. not (is_leaf n i)) is) ≡ filter (λ i. not (is_leaf n i)) (map (in_item (in_feature h)) is)
-          → map (in_item (in_feature h')) (cond (not b) (Leaf f ∷ filter (λ i. not (is_leaf n i)) is) (filter (λ i. not (is_leaf n i)) is))
-          ≡ cond (not b) (Leaf (in_feature h f) ∷ filter (λ i. not (is_leaf n i)) (map (in_item (in_feature h)) is)) (filter (λ i. not (is_leaf n i)) (map (in_item (in_feature h)) is))
-      by true e k = k
-      by false e k = ap₂ (λ y z. Leaf y ∷ z) (a f (inl refl) (eqb-false f.number n e)) k
-
-  taken_anew : (is : List (ItemOf R)) → OthersStay (filter_map feature_of is)
-      → map (in_item (in_feature h')) (taken n is) ≡ taken n (map (in_item (in_feature h)) is)
-  taken_anew [] a = refl
-  taken_anew (Open b ∷ is) a = filtered_anew (Open b ∷ is) a
-  taken_anew (Close ∷ is) a = filtered_anew (Close ∷ is) a
-  taken_anew (Kept t ∷ is) a = filtered_anew (Kept t ∷ is) a
-  taken_anew (Leaf f ∷ i ∷ is) a = filtered_anew (Leaf f ∷ i ∷ is) a
-  taken_anew (Leaf f ∷ []) a = by (f.number == n) refl
-    where
-      by : (b : Bool) → (f.number == n) ≡ b
-          → map (in_item (in_feature h')) (cond b empty_collection (Leaf f ∷ []))
-          ≡ cond b empty_collection (Leaf (in_feature h f) ∷ [])
-      by true e = refl
-      by false e = ap (λ y. Leaf y ∷ []) (a f (inl refl) (eqb-false f.number n e))
-
-  layers_taken_anew : (ls : List (LayerOf R)) → OthersStay (of_layers ls)
-      → map (in_layer (map (in_item (in_feature h')))) (map (in_layer (taken n)) ls)
-      ≡ map (in_layer (taken n)) (map (in_layer (map (in_item (in_feature h)))) ls)
-  layers_taken_anew [] a = refl
-  layers_taken_anew (l ∷ ls) a =
-      ap₂ (λ y z. record { name = l.name; items = y } ∷ z)
-      (taken_anew l.items (λ f i. a f (in_left f (filter_map feature_of l.items) (of_layers ls) i)))
-      (layers_taken_anew ls (λ f i. a f (in_right f (filter_map feature_of l.items) (of_layers ls) i)))
-
-  -- what is left has the rings that the others had
-  pub take_out_anew : (d : DocumentOf R) → OthersStay (features d)
-      → in_rings h' (take_out d n) ≡ take_out (in_rings h d) n
-  take_out_anew d a =
-      ap (in_rings h') (take_out_is n d)
-      ∙ ap (λ z. record { transform = d.transform; layers = z; members = d.members }) (layers_taken_anew d.layers a)
-      ∙ sym (take_out_is n (in_rings h d))
-
-  -- ---- replaced
-
-  module _ (g : FeatureOf R → List (FeatureOf R)) (g' : FeatureOf S → List (FeatureOf S)) where
-    -- the new features of f with the new rings are those of f with the rings that were
-    abbrev pub NewAgree : List (FeatureOf R) → Type 0
-    NewAgree fs =
-        (f : FeatureOf R) → In f fs → f.number ≡ n → map (in_feature h') (g f) ≡ g' (in_feature h f)
-
-    leaves_anew : (fs : List (FeatureOf R))
-        → map (in_item (in_feature h')) (map Leaf fs) ≡ map Leaf (map (in_feature h') fs)
-    leaves_anew [] = refl
-    leaves_anew (f ∷ fs) = ap (λ z. Leaf (in_feature h' f) ∷ z) (leaves_anew fs)
-
-    becomes_anew : (is : List (ItemOf R)) → NewAgree (filter_map feature_of is)
-        → OthersStay (filter_map feature_of is)
-        → map (in_item (in_feature h')) (flat_map (becomes n g) is)
-        ≡ flat_map (becomes n g') (map (in_item (in_feature h)) is)
-    becomes_anew [] a o = refl
-    becomes_anew (Open b ∷ is) a o = ap (λ z. Open b ∷ z) (becomes_anew is a o)
-    becomes_anew (Close ∷ is) a o = ap (λ z. Close ∷ z) (becomes_anew is a o)
-    becomes_anew (Kept t ∷ is) a o = ap (λ z. Kept t ∷ z) (becomes_anew is a o)
-    becomes_anew (Leaf f ∷ is) a o =
-        map-append (in_item (in_feature h')) (becomes n g (Leaf f)) (flat_map (becomes n g) is)
-        ∙ ap₂ (λ y z. y ++ z) (by (f.number == n) refl) (becomes_anew is (λ k i. a k (inr i)) (λ k i. o k (inr i)))
-      where
-        by : (b : Bool) → (f.number == n) ≡ b
-            → map (in_item (in_feature h')) (cond b (map Leaf (g f)) (Leaf f ∷ []))
-            ≡ cond b (map Leaf (g' (in_feature h f))) (Leaf (in_feature h f) ∷ [])
-        by true e = leaves_anew (g f) ∙ ap (map Leaf) (a f (inl refl) (eqb-true f.number n e))
-        by false e = ap (λ y. Leaf y ∷ []) (o f (inl refl) (eqb-false f.number n e))
-
-    layers_become_anew : (ls : List (LayerOf R)) → NewAgree (of_layers ls) → OthersStay (of_layers ls)
-        → map (in_layer (map (in_item (in_feature h')))) (map (in_layer (flat_map (becomes n g))) ls)
-        ≡ map (in_layer (flat_map (becomes n g'))) (map (in_layer (map (in_item (in_feature h)))) ls)
-    layers_become_anew [] a o = refl
-    layers_become_anew (l ∷ ls) a o =
-        ap₂ (λ y z. record { name = l.name; items = y } ∷ z)
-        (becomes_anew l.items (λ f i. a f (in_left f (filter_map feature_of l.items) (of_layers ls) i))
-        (λ f i. o f (in_left f (filter_map feature_of l.items) (of_layers ls) i)))
-        (layers_become_anew ls (λ f i. a f (in_right f (filter_map feature_of l.items) (of_layers ls) i))
-        (λ f i. o f (in_right f (filter_map feature_of l.items) (of_layers ls) i)))
-
-    -- the new features have the new rings, and the others the rings that they had
-    pub instead_anew : (d : DocumentOf R) → NewAgree (features d) → OthersStay (features d)
-        → in_rings h' (instead n g d) ≡ instead n g' (in_rings h d)
-    instead_anew d a o =
-        ap (λ z. record { transform = d.transform; layers = z; members = d.members }) (layers_become_anew d.layers a o)
-
-    -- of a well-formed document, only what stands for the feature that is found has to agree
-    pub instead_anew_found : (d : DocumentOf R) → WellFormed d
-        → ((f : FeatureOf R) → feature d n ≡ Some f → map (in_feature h') (g f) ≡ g' (in_feature h f))
-        → OthersStay (features d) → in_rings h' (instead n g d) ≡ instead n g' (in_rings h d)
-    instead_anew_found d formed a o = instead_anew d (λ f i e. a f (feature_found d formed f n i e)) o
-
--- ---- rings changed before or after
-
-module _ {R S : Type 0} (h : R → S) (n : ℕ) where
-  pub in_rings-take_out : (d : DocumentOf R) → in_rings h (take_out d n) ≡ take_out (in_rings h d) n
-  in_rings-take_out d = take_out_anew h h n d (λ f i e. refl)
-
-  module _ (g : FeatureOf R → List (FeatureOf R)) (g' : FeatureOf S → List (FeatureOf S)) where
-    pub in_rings-instead : (d : DocumentOf R) → NewAgree h h n g g' (features d)
-        → in_rings h (instead n g d) ≡ instead n g' (in_rings h d)
-    in_rings-instead d a = instead_anew h h n g g' d a (λ f i e. refl)
-
-    pub in_rings-instead_found : (d : DocumentOf R) → WellFormed d
-        → ((f : FeatureOf R) → feature d n ≡ Some f → map (in_feature h) (g f) ≡ g' (in_feature h f))
-        → in_rings h (instead n g d) ≡ instead n g' (in_rings h d)
-    in_rings-instead_found d formed a = instead_anew_found h h n g g' d formed a (λ f i e. refl)
-
 -- ---- in either order
 
 module _ {R : Type 0} (n m : ℕ) (g : FeatureOf R → List (FeatureOf R)) (differ : (n == m) ≡ false) where
@@ -180,10 +50,7 @@ module _ {R : Type 0} (n m : ℕ) (g : FeatureOf R → List (FeatureOf R)) (diff
 
   leaves_lack : (fs : List (FeatureOf R)) → list_any (λ k. k.number == m) fs ≡ false
       → filter (λ i. not (is_leaf m i)) (map Leaf fs) ≡ map Leaf fs
-  leaves_lack [] h = refl
-  leaves_lack (f ∷ fs) h =
-      let h' = none_parts (f.number == m) (list_any (λ k. k.number == m) fs) h in
-      ap₂ (λ b z. cond (not b) (Leaf f ∷ z) z) h'.0 (leaves_lack fs h'.1)
+  leaves_lack fs h = filtered_none m (map Leaf fs) (ap (list_any (λ k. k.number == m)) (features_leaves fs) ∙ h)
 
   filtered_becomes : (is : List (ItemOf R)) → Lack (filter_map feature_of is)
       → filter (λ i. not (is_leaf m i)) (flat_map (becomes n g) is)
@@ -215,12 +82,10 @@ module _ {R : Type 0} (n m : ℕ) (g : FeatureOf R → List (FeatureOf R)) (diff
 
   taken_leaves : (fs : List (FeatureOf R)) → list_any (λ k. k.number == m) fs ≡ false
       → taken m (map Leaf fs ++ []) ≡ map Leaf fs ++ []
-  taken_leaves [] h = refl
-  taken_leaves (f ∷ []) h =
-      ap (λ b. cond b empty_collection (Leaf f ∷ [])) (none_parts (f.number == m) false h).0
-  taken_leaves (f ∷ k ∷ fs) h =
-      filter-append (λ i. not (is_leaf m i)) (map Leaf (f ∷ k ∷ fs)) []
-      ∙ ap (λ z. z ++ []) (leaves_lack (f ∷ k ∷ fs) h)
+  taken_leaves fs h =
+      taken_none m (map Leaf fs ++ [])
+      (ap (λ is. list_any (λ k. k.number == m) (filter_map feature_of is)) (append-nil (map Leaf fs))
+      ∙ ap (list_any (λ k. k.number == m)) (features_leaves fs) ∙ h)
 
   taken_becomes : (is : List (ItemOf R)) → is_geometry is ≡ true → Lack (filter_map feature_of is)
       → taken m (flat_map (becomes n g) is) ≡ flat_map (becomes n g) (taken m is)
@@ -264,37 +129,6 @@ module _ {R : Type 0} (n m : ℕ) (g : FeatureOf R → List (FeatureOf R)) (diff
       ∙ ap (instead n g) (sym (take_out_is m d))
 
 -- ---- one replaced and another taken out
-
-module _ {R S : Type 0} (h h' : R → S) (n m : ℕ) (g : FeatureOf R → List (FeatureOf R))
-    (g' : FeatureOf S → List (FeatureOf S)) (differ : (n == m) ≡ false) (d : DocumentOf R)
-    (formed : WellFormed d) (lack : Lack n m g differ (features d))
-    (new : NewAgree h h' n g g' (features d))
-    (others : (f : FeatureOf R) → In f (features d) → (f.number ≡ n → ⊥) → (f.number ≡ m → ⊥)
-    → in_feature h' f ≡ in_feature h f) where
-  any_changed : (fs : List (FeatureOf R))
-      → list_any (λ k. k.number == m) (map (in_feature h') fs) ≡ list_any (λ k. k.number == m) fs
-  any_changed [] = refl
-  any_changed (f ∷ fs) = ap (λ z. (f.number == m) || z) (any_changed fs)
-
-  lack_anew : Lack n m g' differ (features (in_rings h d))
-  lack_anew f i e =
-      let k = in_mapped (in_feature h) f (features d) (subst (In f) (features-in_rings h d) i) in
-      let at : k.0.number ≡ n = ap (λ (j : FeatureOf S). j.number) k.2 ∙ e in
-      ap (λ j. list_any (λ (x : FeatureOf S). x.number == m) (g' j)) (sym k.2)
-      ∙ ap (list_any (λ (x : FeatureOf S). x.number == m)) (sym (new k.0 k.1 at))
-      ∙ any_changed (g k.0) ∙ lack k.0 k.1 at
-
-  -- the feature that takes the place of n has the new rings, the one with the number m is gone, and
-  -- the others have the rings that they had
-  pub replaced_anew : in_rings h' (take_out (instead n g d) m)
-      ≡ take_out (instead n g' (in_rings h d)) m
-  replaced_anew =
-      ap (in_rings h') (take_out-instead n m g differ d formed lack)
-      ∙ instead_anew h h' n g g' (take_out d m)
-      (λ f i e. new f (in-take_out d m f i).0 e)
-      (λ f i e. let k = in-take_out d m f i in others f k.0 e k.1)
-      ∙ ap (instead n g') (in_rings-take_out h m d)
-      ∙ sym (take_out-instead n m g' differ (in_rings h d) (formed-in_rings h d formed) lack_anew)
 
 -- the second feature may be taken out before they are joined
 pub join_order : (d : Document) (n : ℕ) (g : Feature) → WellFormed d → (n == g.number) ≡ false

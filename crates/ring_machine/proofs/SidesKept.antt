@@ -35,7 +35,7 @@ use Rattle.ring_machine.proofs.StaysProper.{ring_distinct, edges_start, others_l
 use Rattle.ring_machine.proofs.Neighbours.{all_of, in-flat_map, none_in, all_in, has-in, vertex_in}
 use Rattle.ring_machine.proofs.Neighbours.{begin_place, end_place, place_around, first_end}
 use Rattle.ring_machine.proofs.Neighbours.{second_end, edge_in}
-use Rattle.ring_machine.proofs.Walks.{is_counted-reverse}
+use Rattle.ring_machine.proofs.Walks.{is_counted-reverse, xor-comm}
 use Rattle.ring_machine.proofs.Sides.{is_inside-canonical, Unswept, unswept, unbridged, two_sides}
 use Rattle.ring_machine.proofs.Sides.{put-inside, ins-inside, del-inside}
 
@@ -57,25 +57,13 @@ slice-in (x ∷ xs) (suc i) a e = inr (slice-in xs i a e)
 
 find-in : {A : Type 0} (test : A → Bool) (xs : List A) (a : A) → find test xs ≡ Some a → In a xs
 find-in test [] a e = absurd cc
-find-in {A} test (x ∷ xs) a e = by (test x) e (find-in test xs a)
-  where
-    by : (t : Bool) → cond t (Some x) (find test xs) ≡ Some a → (find test xs ≡ Some a → In a xs)
-        → In a (x ∷ xs)
-    by true k ih = inl cc
-    by false k ih = inr (ih k)
+find-in {A} test (x ∷ xs) a e = grind (arith, find-in test xs a)
 
 find-mapped : (g : List Position → List Position) (n : ℕ) (fs : List Feature)
     → find (λ f. f.number == n) (map (in_feature g) fs)
     ≡ mapped (in_feature g) (find (λ f. f.number == n) fs)
 find-mapped g n [] = refl
-find-mapped g n (f ∷ fs) = by (f.number == n) (find-mapped g n fs)
-  where
-    by : (t : Bool)
-        → find (λ f. f.number == n) (map (in_feature g) fs)
-        ≡ mapped (in_feature g) (find (λ f. f.number == n) fs)
-        → cond t (Some (in_feature g f)) (find (λ f. f.number == n) (map (in_feature g) fs)) ≡ mapped (in_feature g) (cond t (Some f) (find (λ f. f.number == n) fs))
-    by true h = refl
-    by false h = h
+find-mapped g n (f ∷ fs) = grind (arith, find-mapped g n fs)
 
 pub ring_at-mapped : (g : List Position → List Position) (d : Document) (n i j : ℕ)
     → ring_at (in_rings g d) n i j ≡ mapped g (ring_at d n i j)
@@ -216,13 +204,7 @@ bridged : (w a p b : Position) → (is_held w a p b ≡ false) ⊎ (is_held w b 
     → is_counted w a b ≡ xor (is_counted w a p) (is_counted w p b)
 bridged w a p b (inl h) = sym (is_counted-reverse w a b) ∙ two_sides w a p b h
 bridged w a p b (inr h) =
-    two_sides w b p a h ∙ ap₂ xor (is_counted-reverse w p b) (is_counted-reverse w a p) ∙ turned (is_counted w p b) (is_counted w a p)
-  where
-    turned : (x y : Bool) → xor x y ≡ xor y x
-    turned true true = refl
-    turned true false = refl
-    turned false true = refl
-    turned false false = refl
+    two_sides w b p a h ∙ ap₂ xor (is_counted-reverse w p b) (is_counted-reverse w a p) ∙ xor-comm (is_counted w p b) (is_counted w a p)
 
 pub remove-keeps : (d : Document) (p : Position) → Proper d → is_junction d p ≡ false
     → are_long d p ≡ true → remove_sweeps d p ≡ false → KeepsSides d (del d p)
@@ -233,8 +215,7 @@ remove-keeps d p proper single long still = keeps_by d (del_ring p) (λ ring w i
     alike = back (all_equal (around d p)) single
       where
         back : (t : Bool) → not t ≡ false → t ≡ true
-        back true h = refl
-        back false h = absurd (false≢true (sym h))
+        back t h = grind arith
 
     -- w, off the ring, is not held on the way past p
     free : (ring : List Position) (w a b : Position) → In w (positions d) → has ring w ≡ false
@@ -249,8 +230,7 @@ remove-keeps d p proper single long still = keeps_by d (del_ring p) (λ ring w i
       where
         ordered : (t : Bool)
             → (cond {A = Segment} t (record { lo = b; hi = a }) (record { lo = a; hi = b }) ≡ record { lo = a; hi = b }) ⊎ (cond {A = Segment} t (record { lo = b; hi = a }) (record { lo = a; hi = b }) ≡ record { lo = b; hi = a })
-        ordered true = inr refl
-        ordered false = inl refl
+        ordered t = grind arith
 
         off : (c e : Position) → In c ring → In e ring → has (c ∷ p ∷ e ∷ []) w ≡ false
         off c e ic ie = ap₂ (λ s t. s || t) (apart ring w c o ic) (ap₂ (λ s t. s || (t || false)) (apart ring w p o ip) (apart ring w e o ie))

@@ -13,7 +13,7 @@ use Rattle.std.proofs.lemmas.List.Kept.{IsStrictlySortedBy-dedup}
 use Rattle.std.proofs.lemmas.List.Sorted.{All-permutation, IsPermutation-sym}
 use Rattle.grid_geometry.specs.Position.{Position, position_cmp, position_eq, position_lt}
 use Rattle.ring_machine.specs.Query.{add_position}
-use Rattle.ring_machine.proofs.Order.{position_eq-true, position_eq-refl, position_lt-trans, position_lt-irrefl, position_lt-asym, position_lt-total}
+use Rattle.ring_machine.proofs.Order.{position_eq-true, position_lt-trans, position_lt-irrefl, position_lt-asym}
 use Rattle.ring_machine.proofs.First.{In}
 
 -- ---- the same elements
@@ -64,8 +64,7 @@ module _ {A : Type 0} (eq : A → A → Bool) (same_by : (a b : A) → eq a b �
       other (inr j) there = inr (there j)
 
       by : (b : Bool) → eq x k ≡ b → (In a (k ∷ xs) → In a (dedup_from eq k xs)) → (In a (x ∷ xs) → In a (dedup_from eq x xs)) → In a (cond b (dedup_from eq k xs) (k ∷ dedup_from eq x xs))
-      by true e there next = there (same e i)
-      by false e there next = other i next
+      by b e there next = grind arith
 
   pub none_new : (xs : List A) (a : A) → In a (dedup eq xs) → In a xs
   none_new [] a i = i
@@ -110,12 +109,7 @@ same_rising (p ∷ ps) (q ∷ qs) h k f g =
 
 all_with : (P : Position → Type 0) (qs : List Position) (p : Position) → AllByRecursion P qs → P p → AllByRecursion P (add_position qs p)
 all_with P [] p h k = (k, tt)
-all_with P (q ∷ qs) p h k = by (position_lt p q) (position_eq p q) (all_with P qs p h.1 k)
-  where
-    by : (a b : Bool) → AllByRecursion P (add_position qs p) → AllByRecursion P (cond a (p ∷ q ∷ qs) (cond b (q ∷ qs) (q ∷ add_position qs p)))
-    by true b rest = (k, h)
-    by false true rest = h
-    by false false rest = (h.0, rest)
+all_with P (q ∷ qs) p h k = grind (arith, all_with P qs p h.1 k)
 
 all_beyond : (p q : Position) (qs : List Position) → position_lt p q ≡ true → AllByRecursion (λ r. position_lt q r ≡ true) qs → AllByRecursion (λ r. position_lt p r ≡ true) qs
 all_beyond p q [] l h = tt
@@ -126,8 +120,7 @@ rises_with [] p h = (tt, tt)
 rises_with (q ∷ qs) p h = by (position_lt p q) refl (position_eq p q) refl (rises_with qs p h.1)
   where
     beyond : (b : Bool) → position_lt q p ≡ b → position_lt p q ≡ false → position_eq p q ≡ false → position_lt q p ≡ true
-    beyond true e k l = e
-    beyond false e k l = absurd (false≢true (sym l ∙ ap (position_eq p) (sym (position_lt-total p q k e)) ∙ position_eq-refl p))
+    beyond b e k l = grind arith
 
     by : (a : Bool) → position_lt p q ≡ a → (b : Bool) → position_eq p q ≡ b → Rising (add_position qs p) → Rising (cond a (p ∷ q ∷ qs) (cond b (q ∷ qs) (q ∷ add_position qs p)))
     by true e b f rest = ((e, all_beyond p q qs e h.0), h)
@@ -137,28 +130,12 @@ rises_with (q ∷ qs) p h = by (position_lt p q) refl (position_eq p q) refl (ri
 in_with : (qs : List Position) (p a : Position) → In a (add_position qs p) → (p ≡ a) ⊎ In a qs
 in_with [] p a (inl e) = inl e
 in_with [] p a (inr i) = inr i
-in_with (q ∷ qs) p a i = by (position_lt p q) (position_eq p q) i (in_with qs p a)
-  where
-    by : (u v : Bool) → In a (cond u (p ∷ q ∷ qs) (cond v (q ∷ qs) (q ∷ add_position qs p))) → (In a (add_position qs p) → (p ≡ a) ⊎ In a qs) → (p ≡ a) ⊎ In a (q ∷ qs)
-    by true v (inl e) rest = inl e
-    by true v (inr j) rest = inr j
-    by false true j rest = inr j
-    by false false (inl e) rest = inr (inl e)
-    by false false (inr j) rest = elim (rest j) [ inl e ↦ inl e | inr k ↦ inr (inr k) ]
+in_with (q ∷ qs) p a i = grind (arith, in_with qs p a)
 
 with_in : (qs : List Position) (p a : Position) → (p ≡ a) ⊎ In a qs → In a (add_position qs p)
 with_in [] p a (inl e) = inl e
 with_in [] p a (inr i) = inr i
-with_in (q ∷ qs) p a i = by (position_lt p q) (position_eq p q) refl i (with_in qs p a)
-  where
-    by : (u v : Bool) → position_eq p q ≡ v → (p ≡ a) ⊎ In a (q ∷ qs) → ((p ≡ a) ⊎ In a qs → In a (add_position qs p)) → In a (cond u (p ∷ q ∷ qs) (cond v (q ∷ qs) (q ∷ add_position qs p)))
-    by true v f (inl e) rest = inl e
-    by true v f (inr j) rest = inr j
-    by false true f (inl e) rest = inl (sym (position_eq-true p q f) ∙ e)
-    by false true f (inr j) rest = j
-    by false false f (inl e) rest = inr (rest (inl e))
-    by false false f (inr (inl e)) rest = inl e
-    by false false f (inr (inr j)) rest = inr (rest (inr j))
+with_in (q ∷ qs) p a i = grind (arith, with_in qs p a)
 
 -- ---- all of them
 

@@ -5,14 +5,14 @@ use Rattle.std.specs.Prelude.{pos, not, unsigned_abs}
 use Rattle.std.specs.List.{filter, fold}
 use Rattle.std.proofs.lemmas.Int.{ints}
 use Rattle.std.proofs.lemmas.List.Sums.{fold-append}
-use Rattle.grid_geometry.specs.Position.{Position, position_eq}
+use Rattle.grid_geometry.specs.Position.{Position}
 use Rattle.grid_geometry.specs.Ring.{total_area, signed_area}
-use Rattle.ring_machine.specs.Ring.{canonical, has, is_ring}
+use Rattle.ring_machine.specs.Ring.{canonical}
 use Rattle.ring_machine.specs.Cut.{Path, first_part, second_part, same_sign, goes_first}
 use Rattle.ring_machine.specs.Cut.{is_wrong_side, first_polygon, second_polygon}
 use Rattle.ring_machine.specs.Query.{absolute_area, polygon_area}
 use Rattle.ring_machine.proofs.Areas.{total_area_swap}
-use Rattle.ring_machine.proofs.CutRings.{CutRing, cut_ring, first_is, second_is, rotated_edges}
+use Rattle.ring_machine.proofs.CutRings.{CutRing, first_is, second_is, rotated_edges}
 use Rattle.ring_machine.proofs.CutRings.{canonical_turns}
 use Rattle.ring_machine.proofs.Order.{and_both}
 use Rattle.ring_machine.proofs.Spots.{Rotated}
@@ -33,13 +33,6 @@ parts_area ring path c =
     ap₂ (λ y z. signed_area y +ℤ signed_area z) (first_is ring path c) (second_is ring path c)
     ∙ cut_area path.first path.last c.xs c.ys path.inner
     ∙ sym (signed_area-turned ring _ c.turned)
-
--- the same of a ring with both ends of the path, which are two
-pub cut_parts_area : (ring : List Position) (path : Path) → is_ring ring ≡ true
-    → has ring path.first ≡ true → has ring path.last ≡ true
-    → position_eq path.first path.last ≡ false
-    → signed_area (first_part ring path) +ℤ signed_area (second_part ring path) ≡ signed_area ring
-cut_parts_area ring path r p q other = parts_area ring path (cut_ring ring path.first path.last r p q other)
 
 -- ---- polygons
 

@@ -1,34 +1,22 @@
--- The segments, the vertices and the size of a document that is split.
-use Rattle.std.proofs.Common.{◌≡◌, ℕ, ◌+◌, ◌*◌, Bool, true, false, refl, sym, ap, ◌∙◌, subst}
-use Rattle.std.proofs.Common.{List, [], ◌∷◌, ◌++◌, length, ◌||◌, ◌⊎◌, inl, inr, None, arith}
+-- The rings of a document that is split.
+use Rattle.std.proofs.Common.{◌≡◌, ℕ, Bool, true, false, refl, sym, ap, ◌∙◌, subst}
+use Rattle.std.proofs.Common.{List, [], ◌∷◌, ◌++◌, ◌||◌, ◌⊎◌, inl, inr}
 use Rattle.std.specs.Prelude.{not}
-use Rattle.std.specs.List.{list_any, flat_map, filter, sum_by}
-use Rattle.std.proofs.lemmas.List.Concat.{flat_map-append}
-use Rattle.std.proofs.lemmas.List.Filters.{sum_by-filter_both}
-use Rattle.std.proofs.lemmas.List.Folds.{list_any-append}
-use Rattle.std.proofs.lemmas.List.Sums.{sum_by-append, sum_by-cons}
-use Rattle.grid_geometry.specs.Position.{Position, position_eq}
-use Rattle.grid_geometry.specs.Segment.{Segment, segment_eq}
-use Rattle.ring_machine.specs.Ring.{canonical, has, segments}
+use Rattle.std.specs.List.{list_any}
+use Rattle.grid_geometry.specs.Position.{Position}
+use Rattle.ring_machine.specs.Ring.{canonical}
 use Rattle.ring_machine.specs.Document.{Document, Feature, Text}
-use Rattle.ring_machine.specs.Parts.{features, rings_of, rings, is_vertex, is_segment, size}
-use Rattle.ring_machine.specs.WellFormed.{WellFormed}
-use Rattle.ring_machine.specs.Planar.{Proper}
+use Rattle.ring_machine.specs.Parts.{features, rings_of, rings}
 use Rattle.ring_machine.specs.Cut.{Path, cut, stays, first_part, second_part, first_polygon}
 use Rattle.ring_machine.specs.Cut.{second_polygon, goes_first}
-use Rattle.ring_machine.specs.Refusals.{first_of, split_refusals}
-use Rattle.ring_machine.proofs.CutRings.{CutRing}
 use Rattle.ring_machine.proofs.First.{In, in-append, in_left, in_right, filter-in}
 use Rattle.ring_machine.proofs.Members.{in_flat, any_in, in_any, same_answer}
 use Rattle.ring_machine.proofs.Neighbours.{in-flat_map}
 use Rattle.ring_machine.proofs.Order.{or_true, or_right}
 use Rattle.ring_machine.proofs.SplitFeatures.{new_feature, SplitFeature}
-use Rattle.ring_machine.proofs.SplitDocuments.{SplitDocument, split-accepted, accepted_split}
+use Rattle.ring_machine.proofs.SplitDocuments.{SplitDocument}
 use Rattle.ring_machine.proofs.SplitDocuments.{new_one}
-use Rattle.ring_machine.proofs.SplitProper.{target_there, rings_after, cuts_target}
-use Rattle.ring_machine.proofs.SplitRings.{cut_of}
-use Rattle.ring_machine.proofs.SplitSegments.{path_segments, canonical_parts_segments}
-use Rattle.ring_machine.proofs.SplitSegments.{parts_positions, parts_length}
+use Rattle.ring_machine.proofs.SplitProper.{target_there, rings_after}
 
 -- ---- rings of the two features
 
@@ -165,77 +153,3 @@ module _ (d : Document) (next n : ℕ) (id : Text) (path : Path) (s : SplitDocum
         ]
         | inr t ↦ both (inr t)
       ]
-
--- ---- segments and vertices
-
-any_flat : {A B : Type 0} (test : B → Bool) (g : A → List B) (xs : List A)
-    → list_any test (flat_map g xs) ≡ list_any (λ x. list_any test (g x)) xs
-any_flat test g [] = refl
-any_flat test g (x ∷ xs) = list_any-append test (g x) (flat_map g xs) ∙ ap (λ z. list_any test (g x) || z) (any_flat test g xs)
-
-module _ (d : Document) (next n : ℕ) (id : Text) (path : Path) (formed : WellFormed d) (proper : Proper d) (h : first_of (split_refusals d next n id path) ≡ None) where
-  the_split : SplitDocument d next n id path
-  the_split = accepted_split d next n id path formed h
-
-  the_cut : CutRing the_split.split.outer path.first path.last
-  the_cut = cut_of the_split.split.outer path (cuts_target d next n id path the_split proper (split-accepted d next n id path h))
-
-  -- the segments after the split are those before and those of the path
-  pub split_segments : (s : Segment)
-      → is_segment (cut d n id path next) s ≡ (is_segment d s || list_any (segment_eq s) (path_segments path))
-  split_segments s =
-      any_flat (segment_eq s) segments (rings (cut d n id path next))
-      ∙ any_ring_after d next n id path the_split (λ r. list_any (segment_eq s) (segments r)) (list_any (segment_eq s) (path_segments path)) (canonical_parts_segments (segment_eq s) the_split.split.outer path the_cut)
-      ∙ ap (λ z. z || list_any (segment_eq s) (path_segments path)) (sym (any_flat (segment_eq s) segments (rings d)))
-
-  -- the vertices after the split are those before and the inner positions of the path
-  pub split_vertices : (p : Position)
-      → is_vertex (cut d n id path next) p ≡ (is_vertex d p || has path.inner p)
-  split_vertices p = any_ring_after d next n id path the_split (λ r. has r p) (has path.inner p) (parts_positions (position_eq p) the_split.split.outer path the_cut)
-
--- ---- size
-
-sum_flat : {A B : Type 0} (f : B → ℕ) (g : A → List B) (us : List A) (x : A) (vs : List A)
-    → sum_by f (flat_map g (us ++ x ∷ vs))
-    ≡ sum_by f (flat_map g us) + (sum_by f (g x) + sum_by f (flat_map g vs))
-sum_flat f g us x vs =
-    ap (sum_by f) (flat_map-append g us (x ∷ vs)) ∙ sum_by-append f (flat_map g us) (g x ++ flat_map g vs)
-    ∙ ap (λ z. sum_by f (flat_map g us) + z) (sum_by-append f (g x) (flat_map g vs))
-
--- the positions of the feature's rings, each ring counted for itself
-abbrev pub feature_size : Feature → ℕ
-feature_size f = sum_by length (rings_of f)
-
-features_size : (path : Path) (number : ℕ) (id : Text) (f : Feature) (s : SplitFeature path number id f)
-    → CutRing s.outer path.first path.last →
-    feature_size (stays path f) + feature_size (new_feature path number id f (s.outer ∷ s.holes))
-    ≡ feature_size f + 2 + 2 * length path.inner
-features_size path number id f s c =
-    let p : List (List Position) = s.outer ∷ s.holes in
-    let test = goes_first (first_part s.outer path) in
-    omega (
-      arith,
-      ap (λ z. sum_by length (flat_map (λ q. q) z)) s.is ∙ sum_flat length (λ q. q) s.before p s.after,
-      ap (λ z. sum_by length (flat_map (λ q. q) z)) s.kept ∙ sum_flat length (λ q. q) s.before (first_polygon path p) s.after,
-      sum_by-append length (second_polygon path p) [],
-      sum_by-cons length s.outer s.holes,
-      sum_by-cons length (canonical (first_part s.outer path)) (filter test s.holes),
-      sum_by-cons length (canonical (second_part s.outer path)) (filter (λ h. not (test h)) s.holes),
-      sum_by-filter_both test (λ h. not (test h)) (λ h. refl) length s.holes,
-      parts_length s.outer path c,
-    )
-
--- both ends of the path and its inner positions are counted once more
-pub split_size : (d : Document) (next n : ℕ) (id : Text) (path : Path) → WellFormed d → Proper d
-    → first_of (split_refusals d next n id path) ≡ None
-    → size (cut d n id path next) ≡ size d + 2 + 2 * length path.inner
-split_size d next n id path formed proper h =
-    let s = the_split d next n id path formed proper h in
-    let new = new_one d next n id path s in
-    omega (
-      arith,
-      ap (λ z. sum_by length (flat_map rings_of z)) s.is ∙ sum_flat length rings_of s.before s.old s.after,
-      ap (λ z. sum_by length (flat_map rings_of z)) s.result ∙ sum_flat length rings_of s.before (stays path s.old) (new ∷ s.after),
-      sum_by-append length (rings_of new) (flat_map rings_of s.after),
-      features_size path next id s.old s.split (the_cut d next n id path formed proper h),
-    )

@@ -1,26 +1,24 @@
 -- A document whose feature n is cut: its features, and the accepted conditions.
-use Rattle.std.proofs.Common.{◌≡◌, ℕ, Bool, true, false, refl, sym, ap, ap₂, ◌∙◌, List, [], ◌∷◌, ◌++◌}
-use Rattle.std.proofs.Common.{cond, map, ◌||◌, Option, None, Some}
+use Rattle.std.proofs.Common.{◌≡◌, ℕ, Bool, true, false, refl, sym, ap, ◌∙◌, List, [], ◌∷◌, ◌++◌}
+use Rattle.std.proofs.Common.{Option, None, Some}
 use Rattle.std.specs.Prelude.{not, ◌==◌, nat_lt}
-use Rattle.std.specs.List.{list_any, flat_map, filter_map, AllByRecursion}
-use Rattle.std.proofs.lemmas.Bool.Decides.{Decides-eqb}
-use Rattle.std.proofs.lemmas.List.Concat.{flat_map-append}
-use Rattle.std.proofs.lemmas.List.Elements.{filter_map-append}
+use Rattle.std.specs.List.{list_any, AllByRecursion}
 use Rattle.ring_machine.specs.Ring.{is_distinct}
-use Rattle.ring_machine.specs.Document.{FeatureOf, ItemOf, LayerOf, DocumentOf, Open, Close, Leaf}
-use Rattle.ring_machine.specs.Document.{Kept, Document, Feature, Text}
-use Rattle.ring_machine.specs.Parts.{feature_of, features, has_feature, is_vertex, in_layer}
-use Rattle.ring_machine.specs.WellFormed.{WellFormed, are_distinct}
+use Rattle.ring_machine.specs.Document.{Document, Feature, Text}
+use Rattle.ring_machine.specs.Parts.{features, feature, has_feature, is_vertex}
+use Rattle.ring_machine.specs.WellFormed.{WellFormed}
 use Rattle.ring_machine.specs.Planar.{first_pair}
-use Rattle.ring_machine.specs.Cut.{Path, becomes, instead, cut, stays, parted, is_cut_by}
+use Rattle.ring_machine.specs.Cut.{Path, cut, stays, parted, is_cut_by}
 use Rattle.ring_machine.specs.Cut.{is_wrong_side, first_that}
 use Rattle.ring_machine.specs.Command.{Refusal}
 use Rattle.ring_machine.specs.Refusals.{◌unless◌, first_of, planar, conflict_of, is_small, is_layer}
 use Rattle.ring_machine.specs.Refusals.{feature_at, or_else, no_feature, positions_of}
 use Rattle.ring_machine.specs.Refusals.{is_path_segment, split_refusals}
-use Rattle.ring_machine.proofs.FirstThat.{FirstThat, first_passing, find-is}
+use Rattle.ring_machine.proofs.Members.{there}
+use Rattle.ring_machine.proofs.Found.{has_feature-found, feature_stands}
+use Rattle.ring_machine.proofs.Instead.{features-instead_at}
 use Rattle.ring_machine.proofs.Order.{and_both}
-use Rattle.ring_machine.proofs.Removal.{none_parts, not_true}
+use Rattle.ring_machine.proofs.Removal.{not_true}
 use Rattle.ring_machine.proofs.Steps.{cut-is}
 use Rattle.ring_machine.proofs.SplitFeatures.{SplitFeature, split_feature, new_feature}
 
@@ -75,72 +73,6 @@ split-accepted d next n id path h =
       small = limits.1;
     }
 
--- ---- features in the place of feature n
-
-module _ {R : Type 0} (n : ℕ) (g : FeatureOf R → List (FeatureOf R)) where
-  abbrev pub instead_of : FeatureOf R → List (FeatureOf R)
-  instead_of f = cond (f.number == n) (g f) (f ∷ [])
-
-  leaves : (fs : List (FeatureOf R)) → filter_map feature_of (map Leaf fs) ≡ fs
-  leaves [] = refl
-  leaves (f ∷ fs) = ap (λ z. f ∷ z) (leaves fs)
-
-  items-instead : (is : List (ItemOf R))
-      → filter_map feature_of (flat_map (becomes n g) is)
-      ≡ flat_map instead_of (filter_map feature_of is)
-  items-instead [] = refl
-  items-instead (Leaf f ∷ is) = filter_map-append feature_of (becomes n g (Leaf f)) (flat_map (becomes n g) is) ∙ ap₂ (λ y z. y ++ z) (by (f.number == n)) (items-instead is)
-    where
-      by : (b : Bool)
-          → filter_map feature_of (cond b (map Leaf (g f)) (Leaf f ∷ [])) ≡ cond b (g f) (f ∷ [])
-      by true = leaves (g f)
-      by false = refl
-  items-instead (Open h ∷ is) = items-instead is
-  items-instead (Close ∷ is) = items-instead is
-  items-instead (Kept t ∷ is) = items-instead is
-
-  layers-instead : (ls : List (LayerOf R))
-      → flat_map (λ l. filter_map feature_of l.items) (map (in_layer (flat_map (becomes n g))) ls)
-      ≡ flat_map instead_of (flat_map (λ l. filter_map feature_of l.items) ls)
-  layers-instead [] = refl
-  layers-instead (l ∷ ls) =
-      ap₂ (λ y z. y ++ z) (items-instead l.items) (layers-instead ls)
-      ∙ sym (flat_map-append instead_of (filter_map feature_of l.items) (flat_map (λ l. filter_map feature_of l.items) ls))
-
-  pub features-instead : (d : DocumentOf R)
-      → features (instead n g d) ≡ flat_map instead_of (features d)
-  features-instead d = layers-instead d.layers
-
-  others-stay : (fs : List (FeatureOf R)) → list_any (λ f. f.number == n) fs ≡ false
-      → flat_map instead_of fs ≡ fs
-  others-stay [] h = refl
-  others-stay (f ∷ fs) h =
-      let h' = none_parts (f.number == n) (list_any (λ f. f.number == n) fs) h in
-      ap₂ (λ b z. cond b (g f) (f ∷ []) ++ z) h'.0 (others-stay fs h'.1)
-
-  -- one feature has the number
-  pub features-one : (before : List (FeatureOf R)) (old : FeatureOf R) (after : List (FeatureOf R))
-      → list_any (λ f. f.number == n) before ≡ false → old.number ≡ n
-      → list_any (λ f. f.number == n) after ≡ false
-      → flat_map instead_of (before ++ old ∷ after) ≡ before ++ (g old ++ after)
-  features-one before old after h e k =
-      flat_map-append instead_of before (old ∷ after)
-      ∙ ap₂ (λ y z. y ++ z) (others-stay before h) (ap₂ (λ b z. cond b (g old) (old ∷ []) ++ z) ((Decides-eqb old.number n).1 e) (others-stay after k))
-
--- numbers are distinct: none after the feature has its number
-one_number : {R : Type 0} (before : List (FeatureOf R)) (old : FeatureOf R) (after : List (FeatureOf R))
-    → are_distinct (map (λ f. f.number) (before ++ old ∷ after)) ≡ true
-    → list_any (λ f. f.number == old.number) after ≡ false
-one_number {R = R} [] old after h = of_map after (not_true _ (and_both (not (list_any (λ m. m == old.number) (map (λ f. f.number) after))) _ h).0)
-  where
-    of_map : (fs : List (FeatureOf R)) → list_any (λ m. m == old.number) (map (λ f. f.number) fs) ≡ false
-        → list_any (λ f. f.number == old.number) fs ≡ false
-    of_map [] k = refl
-    of_map (f ∷ fs) k =
-        let k' = none_parts (f.number == old.number) (list_any (λ m. m == old.number) (map (λ f. f.number) fs)) k in
-        ap₂ (λ a b. a || b) k'.0 (of_map fs k'.1)
-one_number (f ∷ before) old after h = one_number before old after (and_both (not (list_any (λ m. m == f.number) (map (λ f. f.number) (before ++ old ∷ after)))) _ h).1
-
 -- ---- the document
 
 -- the feature that is cut, and the features after the cut
@@ -159,29 +91,24 @@ pub record SplitDocument (d : Document) (next n : ℕ) (id : Text) (path : Path)
 pub split_document : (d : Document) (next n : ℕ) (id : Text) (path : Path) → WellFormed d
     → has_feature d n ≡ true → list_any (is_cut_by path) (feature_at d n).polygons ≡ true
     → SplitDocument d next n id path
-split_document d next n id path formed there cuts = by (first_passing (λ f. f.number == n) (features d) there)
-  where
-    by : FirstThat (λ f. f.number == n) (features d) → SplitDocument d next n id path
-    by t =
-        let number : t.it.number ≡ n = (Decides-eqb t.it.number n).0 t.passes in
-        let found : feature_at d n ≡ t.it = ap (or_else no_feature) (find-is (λ f. f.number == n) (features d) t) in
-        let split : SplitFeature path next id t.it = split_feature path next id t.it (ap (λ z. list_any (is_cut_by path) z.polygons) (sym found) ∙ cuts) in
-        let rest : list_any (λ f. f.number == n) t.after ≡ false = ap (λ m. list_any (λ f. f.number == m) t.after) (sym number) ∙ one_number t.before t.it t.after (ap (λ z. are_distinct (map (λ f. f.number) z)) (sym t.is) ∙ formed.numbers) in
-        record {
-          before = t.before;
-          old = t.it;
-          after = t.after;
-          is = t.is;
-          others = t.others;
-          number = number;
-          found = found;
-          split = split;
-          result = ap features (cut-is d n id path next)
-              ∙ features-instead n (λ f. stays path f ∷ parted path next id f) d
-              ∙ ap (flat_map (instead_of n (λ f. stays path f ∷ parted path next id f))) t.is
-              ∙ features-one n (λ f. stays path f ∷ parted path next id f) t.before t.it t.after t.others number rest
-              ∙ ap (λ z. t.before ++ (stays path t.it ∷ (z ++ t.after))) split.parted_is;
-        }
+split_document d next n id path formed has cuts =
+    let f = there (feature d n) (sym (has_feature-found d n) ∙ has) in
+    let place = feature_stands d formed n f.0 f.1 in
+    let found : feature_at d n ≡ f.0 = ap (or_else no_feature) f.1 in
+    let split = split_feature path next id f.0 (ap (λ z. list_any (is_cut_by path) z.polygons) (sym found) ∙ cuts) in
+    record {
+      before = place.us;
+      old = f.0;
+      after = place.vs;
+      is = place.is;
+      others = place.none_before;
+      number = place.number;
+      found = found;
+      split = split;
+      result = ap features (cut-is d n id path next)
+          ∙ features-instead_at d n (λ f. stays path f ∷ parted path next id f) f.0 place
+          ∙ ap (λ z. place.us ++ (stays path f.0 ∷ (z ++ place.vs))) split.parted_is;
+    }
 
 -- an accepted split cuts a feature
 pub accepted_split : (d : Document) (next n : ℕ) (id : Text) (path : Path) → WellFormed d

@@ -1,6 +1,6 @@
--- What an accepted split gives: areas that add up, and numbers below the next but one.
-use Rattle.std.proofs.Common.{◌≡◌, ℕ, ◌+◌, ◌+ℤ◌, Bool, true, false, refl, sym, ap, ap₂, ◌∙◌, List, [], ◌∷◌}
-use Rattle.std.proofs.Common.{◌++◌, append_assoc, ◌&&◌, ◌||◌, None, arith}
+-- What an accepted split gives: areas that add up.
+use Rattle.std.proofs.Common.{◌≡◌, ℕ, ◌+ℤ◌, Bool, true, false, refl, sym, ap, ap₂, ◌∙◌, List, [], ◌∷◌}
+use Rattle.std.proofs.Common.{◌++◌, append_assoc, ◌||◌, None, arith}
 use Rattle.std.specs.Prelude.{◌==◌, nat_lt}
 use Rattle.std.specs.List.{list_any, list_all, flat_map, find}
 use Rattle.std.proofs.lemmas.Bool.Decides.{Decides-eqb, nat_tests}
@@ -76,29 +76,3 @@ split_areas d next n id path formed proper below h =
     (ends_differ path a.distinct)
     (ap (λ f. list_any (is_wrong_side path) (first_that (is_cut_by path) f.polygons)) (sym s.found) ∙ a.sides)
     ∙ ap area_of (sym s.found)
-
-below_next : (next : ℕ) (fs : List Feature) → are_below next fs ≡ true
-    → are_below (next + 1) fs ≡ true
-below_next next [] h = refl
-below_next next (f ∷ fs) h =
-    let h' = and_both (nat_lt f.number next) (are_below next fs) h in
-    ap₂ (λ a b. a && b) (later f.number h'.0) (below_next next fs h'.1)
-  where
-    later : (m : ℕ) → nat_lt m next ≡ true → nat_lt m (next + 1) ≡ true
-    later m l = grind (arith, nat_tests)
-
--- the numbers after the split are below the next but one
-pub split_numbers : (d : Document) (next n : ℕ) (id : Text) (path : Path) → WellFormed d
-    → are_below next (features d) ≡ true → first_of (split_refusals d next n id path) ≡ None
-    → are_below (next + 1) (features (cut d n id path next)) ≡ true
-split_numbers d next n id path formed below h =
-    let s = accepted_split d next n id path formed h in
-    let test = λ (f : Feature). nat_lt f.number (next + 1) in
-    let old = below_next next (s.before ++ s.old ∷ s.after) (ap (are_below next) (sym s.is) ∙ below) in
-    let parts = and_both (are_below (next + 1) s.before) (are_below (next + 1) (s.old ∷ s.after)) (sym (list_all-append test s.before (s.old ∷ s.after)) ∙ old) in
-    let here = and_both (nat_lt s.old.number (next + 1)) (are_below (next + 1) s.after) parts.1 in
-    ap (are_below (next + 1)) s.result ∙ list_all-append test s.before (stays path s.old ∷ new_one d next n id path s ∷ s.after)
-    ∙ ap₂ (λ a b. a && b) parts.0 (ap₂ (λ a b. a && b) here.0 (ap₂ (λ a b. a && b) (first_below next) here.1))
-  where
-    first_below : (m : ℕ) → nat_lt m (m + 1) ≡ true
-    first_below m = grind (arith, nat_tests)

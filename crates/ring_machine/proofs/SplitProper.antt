@@ -1,8 +1,8 @@
 -- An accepted split of a proper document gives a proper document.
 use Rattle.std.proofs.Common.{◌≡◌, ℕ, Bool, true, false, refl, sym, ap, ap₂, ◌∙◌, subst, List, []}
-use Rattle.std.proofs.Common.{◌∷◌, ◌++◌, ◌||◌, ◌&&◌, ◌⊎◌, inl, inr, None}
+use Rattle.std.proofs.Common.{◌∷◌, ◌++◌, ◌||◌, ◌⊎◌, inl, inr, None}
 use Rattle.std.specs.Prelude.{not}
-use Rattle.std.specs.List.{list_any, list_all}
+use Rattle.std.specs.List.{list_any}
 use Rattle.std.proofs.lemmas.Bool.{false≢true}
 use Rattle.grid_geometry.specs.Position.{Position}
 use Rattle.grid_geometry.specs.Segment.{Segment, segment_eq}
@@ -18,17 +18,14 @@ use Rattle.ring_machine.specs.Refusals.{first_of, positions_of, split_refusals}
 use Rattle.ring_machine.proofs.First.{In, in-append, in_left, in_right}
 use Rattle.ring_machine.proofs.Members.{in_flat, in_filter, any_in}
 use Rattle.ring_machine.proofs.Neighbours.{in-flat_map, none_in, all_in}
+use Rattle.ring_machine.proofs.Order.{refuted}
 use Rattle.ring_machine.proofs.Removal.{none_parts}
+use Rattle.ring_machine.proofs.Passed.{pass_all}
 use Rattle.ring_machine.proofs.SplitFeatures.{new_feature, SplitFeature}
 use Rattle.ring_machine.proofs.SplitDocuments.{SplitAccepted, split-accepted, SplitDocument}
 use Rattle.ring_machine.proofs.SplitDocuments.{accepted_split, new_one}
 use Rattle.ring_machine.proofs.SplitRings.{CutsRing, is_edge_of, first_part_is_ring}
 use Rattle.ring_machine.proofs.SplitRings.{second_part_is_ring}
-
-pass_all : {A : Type 0} (test : A → Bool) (xs : List A) → ((x : A) → In x xs → test x ≡ true)
-    → list_all test xs ≡ true
-pass_all test [] h = refl
-pass_all test (x ∷ xs) h = ap₂ (λ a b. a && b) (h x (inl refl)) (pass_all test xs (λ y i. h y (inr i)))
 
 -- what is weaker than a test that none passes
 none_weaker : {A : Type 0} (strong weak : A → Bool) → ((x : A) → strong x ≡ false → weak x ≡ false)
@@ -37,10 +34,6 @@ none_weaker strong weak h [] k = refl
 none_weaker strong weak h (x ∷ xs) k =
     let k' = none_parts (strong x) (list_any strong xs) k in
     ap₂ (λ a b. a || b) (h x k'.0) (none_weaker strong weak h xs k'.1)
-
-refuted : (b : Bool) → (b ≡ true → ⊥) → b ≡ false
-refuted false h = refl
-refuted true h = absurd (h refl)
 
 -- ---- the rings of the two features
 

@@ -26,10 +26,7 @@ use Rattle.ring_machine.proofs.StaysRing.{canonical_is_ring, distinct_swap}
 -- ---- distinct positions
 
 or_turned : (a b : Bool) → (a || b) ≡ (b || a)
-or_turned true true = refl
-or_turned true false = refl
-or_turned false true = refl
-or_turned false false = refl
+or_turned a b = grind arith
 
 -- a turned list has the same elements
 pub any_turned : {A : Type 0} (test : A → Bool) (xs ys : List A) → Rotated xs ys

@@ -1,5 +1,5 @@
 -- The segments and the positions of the two parts are those of the ring and of the path.
-use Rattle.std.proofs.Common.{◌≡◌, ◌+◌, ◌*◌, Bool, true, false, refl, sym, ap, ap₂, ◌∙◌, List, [], ◌∷◌}
+use Rattle.std.proofs.Common.{◌≡◌, ◌+◌, ◌*◌, Bool, refl, sym, ap, ap₂, ◌∙◌, List, [], ◌∷◌}
 use Rattle.std.proofs.Common.{◌++◌, map, length, reverse, ◌||◌, arith}
 use Rattle.std.specs.List.{list_any}
 use Rattle.std.proofs.lemmas.List.{length-append, length-reverse, map-append, reverse-append}
@@ -55,11 +55,7 @@ flipped_segments test es =
     alike (e ∷ es) = ap₂ (λ a b. a || b) (ap test (segment-comm e.1 e.0)) (alike es)
 
 shared : (a b c : Bool) → ((a || c) || (b || c)) ≡ ((a || b) || c)
-shared true b c = refl
-shared false true true = refl
-shared false true false = refl
-shared false false true = refl
-shared false false false = refl
+shared a b c = grind arith
 
 both_ways : (test : Segment → Bool) (p : Position) (xs : List Position) (q : Position) (ys : List Position)
     → list_any test (segments (p ∷ xs ++ q ∷ ys))
@@ -92,32 +88,6 @@ pub canonical_parts_segments : (test : Segment → Bool) (ring : List Position) 
 canonical_parts_segments test ring path c =
     ap₂ (λ y z. y || z) (sym (segments_turned test (first_part ring path) _ (canonical_turns (first_part ring path)))) (sym (segments_turned test (second_part ring path) _ (canonical_turns (second_part ring path))))
     ∙ parts_segments test ring path c
-
--- ---- positions
-
-with_ends : (test : Position → Bool) (p : Position) (xs : List Position) (q : Position) (ys : List Position)
-    → list_any test (p ∷ xs ++ q ∷ ys) ≡ ((test p || test q) || (list_any test xs || list_any test ys))
-with_ends test p xs q ys = ap (λ z. test p || z) (list_any-append test xs (q ∷ ys)) ∙ by (test p) (list_any test xs) (test q) (list_any test ys)
-  where
-    by : (a b c e : Bool) → (a || (b || (c || e))) ≡ ((a || c) || (b || e))
-    by a b c e = grind arith
-
--- a position is of one of the parts where it is of the ring or inside the path
-pub parts_positions : (test : Position → Bool) (ring : List Position) (path : Path)
-    → CutRing ring path.first path.last →
-    (list_any test (canonical (first_part ring path)) || list_any test (canonical (second_part ring path)))
-    ≡ (list_any test ring || list_any test path.inner)
-parts_positions test ring path c =
-    let p = path.first in
-    let q = path.last in
-    ap₂ (λ y z. y || z) (sym (any_turned test (first_part ring path) _ (canonical_turns (first_part ring path))) ∙ ap (list_any test) (first_is ring path c) ∙ with_ends test p c.xs q (reverse path.inner)) (sym (any_turned test (second_part ring path) _ (canonical_turns (second_part ring path))) ∙ ap (list_any test) (second_is ring path c) ∙ with_ends test q c.ys p path.inner)
-    ∙ ap (λ z. ((test p || test q) || (list_any test c.xs || z)) || ((test q || test p) || (list_any test c.ys || list_any test path.inner))) (any_reversed test path.inner)
-    ∙ by (test p) (test q) (list_any test c.xs) (list_any test c.ys) (list_any test path.inner)
-    ∙ ap (λ z. z || list_any test path.inner) (sym (any_turned test ring (p ∷ c.xs ++ q ∷ c.ys) c.turned ∙ with_ends test p c.xs q c.ys))
-  where
-    by : (a b x y i : Bool)
-        → (((a || b) || (x || i)) || ((b || a) || (y || i))) ≡ (((a || b) || (x || y)) || i)
-    by a b x y i = grind arith
 
 -- ---- lengths
 

@@ -24,7 +24,7 @@ use Rattle.ring_machine.proofs.InItems.{geometries-in_items}
 use Rattle.ring_machine.proofs.LeftOut.{part_map, part_all, part_distinct}
 use Rattle.ring_machine.proofs.Found.{distinct-append, distinct_parts, numbers_of, Stands}
 use Rattle.ring_machine.proofs.Found.{has_feature-found, feature_in, feature_stands, feature_found}
-use Rattle.ring_machine.proofs.TakenOut.{taken, take_out_is, geometry_taken}
+use Rattle.ring_machine.proofs.TakenOut.{taken, take_out_is, filtered_is}
 use Rattle.ring_machine.proofs.Instead.{instead_none, features-instead_at}
 use Rattle.ring_machine.proofs.Renamed.{renamed_is}
 use Rattle.ring_machine.proofs.Without.{part-features}
@@ -81,20 +81,6 @@ is_layer-in_rings {R} {S} g d n = is_layer_is n (in_rings g d) ∙ layers d.laye
         ≡ list_any (λ l. alone n l.items) ls
     layers [] = refl
     layers (l ∷ ls) = ap₂ (λ y z. y || z) (items l.items) (layers ls)
-
--- ---- a feature taken out
-
-pub formed-take_out : {R : Type 0} (d : DocumentOf R) (n : ℕ) → WellFormed d → WellFormed (take_out d n)
-formed-take_out {R} d n h = record {
-  geometries = ap (λ (e : DocumentOf R). list_all (λ l. is_geometry l.items) e.layers) (take_out_is n d)
-      ∙ geometries-in_items (taken n) (λ is. true) (λ is g t. geometry_taken n is g) d.layers h.geometries (all_true d.layers);
-  forms = part_all fits_form (part-features d n) h.forms;
-  numbers = part_distinct (part_map (λ f. f.number) (part-features d n)) h.numbers;
-}
-  where
-    all_true : (ls : List (LayerOf R)) → list_all (λ l. true) ls ≡ true
-    all_true [] = refl
-    all_true (l ∷ ls) = all_true ls
 
 -- ---- others in the place of a feature
 
@@ -274,17 +260,30 @@ module _ {R : Type 0} (d : DocumentOf R) (n : ℕ) where
   }
     where
       differ : (b : Bool) → (h.number == f.number) ≡ b → (h.number == f.number) ≡ false
-      differ true s = absurd (false≢true (sym new ∙ ap (has_feature d) (eqb-true h.number f.number s ∙ e) ∙ there))
-      differ false s = s
+      differ b s = grind arith
 
-  -- none, in a collection
-  pub replaces_none : is_layer d n ≡ false → Replaces d n []
-  replaces_none collected = record {
-    forms = refl;
-    numbers = refl;
-    new = λ j i. absurd i;
-    alone = λ t. absurd (false≢true (sym collected ∙ t));
-  }
+-- ---- a feature taken out
+
+geometry_taken : {R : Type 0} (n : ℕ) (is : List (ItemOf R)) → is_geometry is ≡ true
+    → is_geometry (taken n is) ≡ true
+geometry_taken n [] h = h
+geometry_taken n (Open a ∷ is) h = ap (is_inner 1) (filtered_is n is) ∙ inner_becomes n (λ f. []) 1 is h
+geometry_taken n (Close ∷ is) h = absurd (false≢true h)
+geometry_taken n (Kept t ∷ is) h = ap (is_inner 0) (filtered_is n is) ∙ inner_becomes n (λ f. []) 0 is h
+geometry_taken n (Leaf f ∷ i ∷ is) h = absurd (false≢true h)
+geometry_taken {R} n (Leaf f ∷ []) h = grind arith
+
+pub formed-take_out : {R : Type 0} (d : DocumentOf R) (n : ℕ) → WellFormed d → WellFormed (take_out d n)
+formed-take_out {R} d n h = record {
+  geometries = ap (λ (e : DocumentOf R). list_all (λ l. is_geometry l.items) e.layers) (take_out_is n d)
+      ∙ geometries-in_items (taken n) (λ is. true) (λ is g t. geometry_taken n is g) d.layers h.geometries (all_true d.layers);
+  forms = part_all fits_form (part-features d n) h.forms;
+  numbers = part_distinct (part_map (λ f. f.number) (part-features d n)) h.numbers;
+}
+  where
+    all_true : (ls : List (LayerOf R)) → list_all (λ l. true) ls ≡ true
+    all_true [] = refl
+    all_true (l ∷ ls) = all_true ls
 
 -- ---- another id
 

@@ -1,6 +1,6 @@
 -- An accepted edit of a vertex gives a proper document.
 use Rattle.std.proofs.Common.{◌≡◌, ◌≤◌, ◌+◌, ℕ, Bool, true, false, refl, ap, ap₂, ◌∙◌, subst, cond}
-use Rattle.std.proofs.Common.{List, [], ◌∷◌, ◌++◌, map, length, ◌||◌, ◌&&◌, arith, None}
+use Rattle.std.proofs.Common.{List, [], ◌∷◌, map, length, ◌||◌, ◌&&◌, arith, None}
 use Rattle.std.specs.Prelude.{not, nat_le, nat_lt}
 use Rattle.std.specs.List.{list_any, list_all, flat_map}
 use Rattle.std.proofs.lemmas.Bool.{false≢true}
@@ -78,12 +78,7 @@ with_between s q es = flat_map (λ e. cond (is_of s e) (e.0 ∷ q ∷ []) (e.0 �
 
 longer : (s : Segment) (q : Position) (es : List Edge) → length es ≤ length (with_between s q es)
 longer s q [] = omega arith
-longer s q (e ∷ es) = by (is_of s e) (longer s q es)
-  where
-    by : (t : Bool) → length es ≤ length (with_between s q es)
-        → length (e ∷ es) ≤ length (cond t (e.0 ∷ q ∷ []) (e.0 ∷ []) ++ with_between s q es)
-    by true h = omega (arith, h)
-    by false h = omega (arith, h)
+longer s q (e ∷ es) = grind (arith, longer s q es)
 
 pub ins_is_ring : (a b q : Position) (ring : List Position) → is_ring ring ≡ true → has ring q ≡ false
     → is_ring (ins_ring a b q ring) ≡ true

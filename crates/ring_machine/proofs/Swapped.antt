@@ -1,9 +1,9 @@
 -- Lists of features in which those of one number become others, or none.
-use Rattle.std.proofs.Common.{◌≡◌, ℕ, Bool, true, false, refl, sym, ap, ap₂, ◌∙◌, cond, List, []}
-use Rattle.std.proofs.Common.{◌∷◌, ◌++◌, inl, inr, Some, None}
+use Rattle.std.proofs.Common.{◌≡◌, ℕ, Bool, true, false, refl, sym, ap, ap₂, ◌∙◌, cond, List, [], arith}
+use Rattle.std.proofs.Common.{◌∷◌, ◌++◌, inl, inr, Some, None, option_map}
 use Rattle.std.proofs.Common.{eqb-true, eq-eqb}
 use Rattle.std.specs.Prelude.{◌==◌, not}
-use Rattle.std.specs.List.{list_any, find, flat_map}
+use Rattle.std.specs.List.{list_any, filter, find, flat_map}
 use Rattle.std.specs.Option.{option_or}
 use Rattle.std.proofs.lemmas.List.Concat.{flat_map-append}
 use Rattle.std.proofs.lemmas.List.Folds.{find-append}
@@ -11,7 +11,6 @@ use Rattle.ring_machine.specs.Document.{FeatureOf}
 use Rattle.ring_machine.proofs.Removal.{none_parts}
 use Rattle.ring_machine.proofs.First.{In}
 use Rattle.ring_machine.proofs.Found.{Stands}
-use Rattle.ring_machine.proofs.TakenOut.{without}
 
 module _ {R : Type 0} (n : ℕ) (g : FeatureOf R → List (FeatureOf R)) where
   -- what stands for a feature
@@ -60,28 +59,33 @@ module _ {R : Type 0} (n : ℕ) (g : FeatureOf R → List (FeatureOf R)) where
           or : (b : Bool) → find (λ k. k.number == m) (swapped fs) ≡ find (λ k. k.number == m) fs
               → option_or (cond b (Some f) None) (find (λ k. k.number == m) (swapped fs))
               ≡ cond b (Some f) (find (λ k. k.number == m) fs)
-          or true ih = refl
-          or false ih = ih
+          or b ih = grind arith
+
+  -- one in the place of each is found as it was
+  pub find_one : (h : FeatureOf R → FeatureOf R) → ((f : FeatureOf R) → (h f).number ≡ f.number)
+      → ((f : FeatureOf R) → g f ≡ h f ∷ []) → (fs : List (FeatureOf R))
+      → find (λ k. k.number == n) (swapped fs) ≡ option_map h (find (λ k. k.number == n) fs)
+  find_one h same one [] = refl
+  find_one h same one (f ∷ fs) =
+      ap (λ z. find (λ k. k.number == n) (cond (f.number == n) z (f ∷ []) ++ swapped fs)) (one f)
+      ∙ by (f.number == n) refl (find_one h same one fs)
+    where
+      by : (b : Bool) → (f.number == n) ≡ b
+          → find (λ k. k.number == n) (swapped fs) ≡ option_map h (find (λ k. k.number == n) fs)
+          → find (λ k. k.number == n) (cond b (h f ∷ []) (f ∷ []) ++ swapped fs)
+          ≡ option_map h (cond b (Some f) (find (λ k. k.number == n) fs))
+      by true e ih =
+          ap (λ b. cond b (Some (h f)) (find (λ k. k.number == n) (swapped fs))) (ap (λ m. m == n) (same f) ∙ e)
+      by false e ih = ap (λ b. cond b (Some f) (find (λ k. k.number == n) (swapped fs))) e ∙ ih
 
 -- ---- without one
+
+-- the features without feature n
+abbrev pub without : {R : Type 0} → ℕ → List (FeatureOf R) → List (FeatureOf R)
+without n fs = filter (λ f. not (f.number == n)) fs
 
 module _ {R : Type 0} (n : ℕ) where
   -- without a feature is with none in its place
   pub without_swapped : (fs : List (FeatureOf R)) → without n fs ≡ swapped n (λ f. []) fs
   without_swapped [] = refl
-  without_swapped (f ∷ fs) = by (f.number == n) (without_swapped fs)
-    where
-      by : (b : Bool) → without n fs ≡ swapped n (λ f. []) fs
-          → cond (not b) (f ∷ without n fs) (without n fs) ≡ cond b [] (f ∷ []) ++ swapped n (λ f. []) fs
-      by true e = e
-      by false e = ap (λ z. f ∷ z) e
-
-  -- the number is found no more
-  pub find_gone : (fs : List (FeatureOf R)) → find (λ k. k.number == n) (without n fs) ≡ None
-  find_gone [] = refl
-  find_gone (f ∷ fs) = by (f.number == n) refl (find_gone fs)
-    where
-      by : (b : Bool) → (f.number == n) ≡ b → find (λ k. k.number == n) (without n fs) ≡ None
-          → find (λ k. k.number == n) (cond (not b) (f ∷ without n fs) (without n fs)) ≡ None
-      by true e ih = ih
-      by false e ih = ap (λ b. cond b (Some f) (find (λ k. k.number == n) (without n fs))) e ∙ ih
+  without_swapped (f ∷ fs) = grind (arith, without_swapped fs)

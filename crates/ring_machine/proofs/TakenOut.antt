@@ -1,27 +1,24 @@
 -- What a document is without one of its features.
-use Rattle.std.proofs.Common.{◌≡◌, ℕ, zero, suc, Bool, true, false, refl, ap, ap₂, ◌∙◌, cond, List}
-use Rattle.std.proofs.Common.{[], ◌∷◌, map, Option}
+use Rattle.std.proofs.Common.{◌≡◌, ℕ, false, refl, ap, ◌∙◌, cond, List, arith}
+use Rattle.std.proofs.Common.{[], ◌∷◌, map, Option, sym}
 use Rattle.std.specs.Prelude.{◌==◌, not}
-use Rattle.std.specs.List.{filter, filter_map, list_any}
+use Rattle.std.specs.List.{filter, filter_map, flat_map, list_any}
 use Rattle.std.proofs.lemmas.List.Elements.{filter-append}
-use Rattle.std.proofs.lemmas.Bool.{false≢true}
-use Rattle.ring_machine.specs.Document.{FeatureOf, ItemOf, LayerOf, DocumentOf, Open, Close, Leaf, Kept}
+use Rattle.ring_machine.specs.Document.{ItemOf, LayerOf, DocumentOf, Open, Close, Leaf, Kept}
 use Rattle.ring_machine.specs.Document.{Text, Member}
 use Rattle.ring_machine.specs.Parts.{feature_of, features, in_layer, in_items}
 use Rattle.ring_machine.specs.Parts.{has_feature}
+use Rattle.ring_machine.specs.Cut.{becomes}
 use Rattle.ring_machine.specs.Join.{is_leaf, empty_collection, take_out}
-use Rattle.ring_machine.specs.WellFormed.{is_inner, is_geometry}
 use Rattle.ring_machine.proofs.Removal.{none_parts}
 use Rattle.ring_machine.proofs.InItems.{features-in_items, in_items-left}
+use Rattle.ring_machine.proofs.Swapped.{without, without_swapped}
+use Rattle.ring_machine.proofs.Instead.{features_becomes, becomes_none}
 
 -- a layer's items without feature n
 abbrev pub taken : {R : Type 0} → ℕ → List (ItemOf R) → List (ItemOf R)
 taken n (Leaf f ∷ []) = cond (f.number == n) empty_collection (Leaf f ∷ [])
 taken n items = filter (λ i. not (is_leaf n i)) items
-
--- the features without feature n
-abbrev pub without : {R : Type 0} → ℕ → List (FeatureOf R) → List (FeatureOf R)
-without n fs = filter (λ f. not (f.number == n)) fs
 
 module _ {R : Type 0} (n : ℕ) where
   -- ---- items
@@ -46,20 +43,20 @@ module _ {R : Type 0} (n : ℕ) where
   take_out_is d =
       ap (λ z. record { transform = d.transform; layers = z; members = d.members }) (layers_taken d.transform d.members d.layers)
 
+  -- without its leaves is with none in their place
+  pub filtered_is : (is : List (ItemOf R))
+      → filter (λ i. not (is_leaf n i)) is ≡ flat_map (becomes n (λ f. [])) is
+  filtered_is [] = refl
+  filtered_is (Open h ∷ is) = ap (λ z. Open h ∷ z) (filtered_is is)
+  filtered_is (Close ∷ is) = ap (λ z. Close ∷ z) (filtered_is is)
+  filtered_is (Kept t ∷ is) = ap (λ z. Kept t ∷ z) (filtered_is is)
+  filtered_is (Leaf f ∷ is) = grind (arith, filtered_is is)
+
   features_filtered : (is : List (ItemOf R))
       → filter_map feature_of (filter (λ i. not (is_leaf n i)) is) ≡ without n (filter_map feature_of is)
-  features_filtered [] = refl
-  features_filtered (Open h ∷ is) = features_filtered is
-  features_filtered (Close ∷ is) = features_filtered is
-  features_filtered (Kept t ∷ is) = features_filtered is
-  features_filtered (Leaf f ∷ is) = by (f.number == n) (features_filtered is)
-    where
-      by : (b : Bool)
-          → filter_map feature_of (filter (λ i. not (is_leaf n i)) is) ≡ without n (filter_map feature_of is)
-          → filter_map feature_of (cond (not b) (Leaf f ∷ filter (λ i. not (is_leaf n i)) is) (filter (λ i. not (is_leaf n i)) is))
-          ≡ cond (not b) (f ∷ without n (filter_map feature_of is)) (without n (filter_map feature_of is))
-      by true e = e
-      by false e = ap (λ z. f ∷ z) e
+  features_filtered is =
+      ap (filter_map feature_of) (filtered_is is) ∙ features_becomes n (λ f. []) is
+      ∙ sym (without_swapped n (filter_map feature_of is))
 
   features_taken : (is : List (ItemOf R))
       → filter_map feature_of (taken n is) ≡ without n (filter_map feature_of is)
@@ -68,12 +65,7 @@ module _ {R : Type 0} (n : ℕ) where
   features_taken (Close ∷ is) = features_filtered is
   features_taken (Kept t ∷ is) = features_filtered is
   features_taken (Leaf f ∷ i ∷ is) = features_filtered (Leaf f ∷ i ∷ is)
-  features_taken (Leaf f ∷ []) = by (f.number == n)
-    where
-      by : (b : Bool)
-          → filter_map feature_of (cond b empty_collection (Leaf f ∷ [])) ≡ cond (not b) (f ∷ []) []
-      by true = refl
-      by false = refl
+  features_taken (Leaf f ∷ []) = grind arith
 
   -- the features are the others, in their order
   pub features-take_out : (d : DocumentOf R) → features (take_out d n) ≡ without n (features d)
@@ -81,49 +73,14 @@ module _ {R : Type 0} (n : ℕ) where
       ap features (take_out_is d)
       ∙ features-in_items (taken n) (without n) refl (filter-append (λ f. not (f.number == n))) features_taken d
 
-  -- ---- brackets
-
-  inner_filtered : (k : ℕ) (is : List (ItemOf R)) → is_inner k is ≡ true
-      → is_inner k (filter (λ i. not (is_leaf n i)) is) ≡ true
-  inner_filtered zero [] h = refl
-  inner_filtered zero (i ∷ is) h = absurd (false≢true h)
-  inner_filtered (suc k) [] h = h
-  inner_filtered (suc k) (Open a ∷ is) h = inner_filtered (suc (suc k)) is h
-  inner_filtered (suc k) (Close ∷ is) h = inner_filtered k is h
-  inner_filtered (suc k) (Kept t ∷ is) h = inner_filtered (suc k) is h
-  inner_filtered (suc k) (Leaf f ∷ is) h = by (f.number == n) (inner_filtered (suc k) is h)
-    where
-      by : (b : Bool) → is_inner (suc k) (filter (λ i. not (is_leaf n i)) is) ≡ true
-          → is_inner (suc k) (cond (not b) (Leaf f ∷ filter (λ i. not (is_leaf n i)) is) (filter (λ i. not (is_leaf n i)) is)) ≡ true
-      by true e = e
-      by false e = e
-
-  pub geometry_taken : (is : List (ItemOf R)) → is_geometry is ≡ true → is_geometry (taken n is) ≡ true
-  geometry_taken [] h = h
-  geometry_taken (Open a ∷ is) h = inner_filtered 1 is h
-  geometry_taken (Close ∷ is) h = absurd (false≢true h)
-  geometry_taken (Kept t ∷ is) h = inner_filtered 0 is h
-  geometry_taken (Leaf f ∷ i ∷ is) h = absurd (false≢true h)
-  geometry_taken (Leaf f ∷ []) h = by (f.number == n)
-    where
-      by : (b : Bool) → is_geometry (cond b empty_collection (Leaf f ∷ [])) ≡ true
-      by true = refl
-      by false = refl
-
   -- ---- where no feature has the number
 
-  filtered_none : (is : List (ItemOf R))
+  pub filtered_none : (is : List (ItemOf R))
       → list_any (λ f. f.number == n) (filter_map feature_of is) ≡ false
       → filter (λ i. not (is_leaf n i)) is ≡ is
-  filtered_none [] h = refl
-  filtered_none (Open a ∷ is) h = ap (λ z. Open a ∷ z) (filtered_none is h)
-  filtered_none (Close ∷ is) h = ap (λ z. Close ∷ z) (filtered_none is h)
-  filtered_none (Kept t ∷ is) h = ap (λ z. Kept t ∷ z) (filtered_none is h)
-  filtered_none (Leaf f ∷ is) h =
-      let h' = none_parts (f.number == n) (list_any (λ k. k.number == n) (filter_map feature_of is)) h in
-      ap₂ (λ b z. cond (not b) (Leaf f ∷ z) z) h'.0 (filtered_none is h'.1)
+  filtered_none is h = filtered_is is ∙ becomes_none n (λ f. []) is h
 
-  taken_none : (is : List (ItemOf R))
+  pub taken_none : (is : List (ItemOf R))
       → list_any (λ f. f.number == n) (filter_map feature_of is) ≡ false → taken n is ≡ is
   taken_none [] h = refl
   taken_none (Open a ∷ is) h = filtered_none (Open a ∷ is) h

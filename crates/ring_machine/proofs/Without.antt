@@ -1,28 +1,24 @@
 -- What is found in a document without one of its features, and its rings.
-use Rattle.std.proofs.Common.{◌≡◌, ℕ, ◌≤◌, ◌+◌, true, false, refl, sym, ap, ◌∙◌, subst, List, []}
-use Rattle.std.proofs.Common.{◌∷◌, ◌++◌, length, is_some, None, arith}
+use Rattle.std.proofs.Common.{◌≡◌, ℕ, ◌+◌, false, refl, sym, ap, ◌∙◌, subst, List, []}
+use Rattle.std.proofs.Common.{◌++◌, length, None, arith}
 use Rattle.std.specs.Prelude.{◌==◌, not}
 use Rattle.std.specs.List.{find, flat_map, sum_by}
-use Rattle.std.proofs.lemmas.List.{length-append}
 use Rattle.std.proofs.lemmas.List.Concat.{flat_map-append}
 use Rattle.std.proofs.lemmas.List.Sums.{sum_by-append}
-use Rattle.grid_geometry.specs.Position.{Position}
-use Rattle.grid_geometry.specs.Segment.{Segment, segment_eq}
-use Rattle.ring_machine.specs.Ring.{segments, has, is_ring}
+use Rattle.ring_machine.specs.Ring.{segments, is_ring}
 use Rattle.ring_machine.specs.Document.{FeatureOf, Feature, DocumentOf, Document}
-use Rattle.ring_machine.specs.Parts.{features, feature, has_feature, rings_of, rings, all_segments, size}
-use Rattle.ring_machine.specs.Parts.{is_vertex, is_segment, positions}
+use Rattle.ring_machine.specs.Parts.{features, feature, rings_of, rings, all_segments, size}
 use Rattle.ring_machine.specs.Planar.{Proper, first_pair}
 use Rattle.ring_machine.specs.Cut.{instead}
 use Rattle.ring_machine.specs.Join.{take_out}
 use Rattle.ring_machine.proofs.First.{In}
 use Rattle.ring_machine.proofs.Members.{in_filter}
 use Rattle.std.proofs.lemmas.Bool.{eq-eqb, false≢true}
-use Rattle.ring_machine.proofs.LeftOut.{IsPart, part_filter, part_flat_map, part_all, part_any}
-use Rattle.ring_machine.proofs.LeftOut.{part_sum, part_apart}
-use Rattle.ring_machine.proofs.Found.{Stands, has_feature-found}
+use Rattle.ring_machine.proofs.LeftOut.{IsPart, part_filter, part_flat_map, part_all}
+use Rattle.ring_machine.proofs.LeftOut.{part_apart}
+use Rattle.ring_machine.proofs.Found.{Stands}
 use Rattle.ring_machine.proofs.TakenOut.{features-take_out}
-use Rattle.ring_machine.proofs.Swapped.{swapped_alone, find_other, without_swapped, find_gone}
+use Rattle.ring_machine.proofs.Swapped.{swapped_alone, find_other, without_swapped}
 use Rattle.ring_machine.proofs.Instead.{rings_at, rings-instead_at}
 
 module _ {R : Type 0} (d : DocumentOf R) (n : ℕ) where
@@ -33,19 +29,6 @@ module _ {R : Type 0} (d : DocumentOf R) (n : ℕ) where
   feature-take_out_other m o =
       ap (find (λ k. k.number == m)) (features-take_out n d ∙ without_swapped n (features d))
       ∙ find_other n (λ f. []) m o (features d) (λ f i e. refl)
-
-  pub has_feature-take_out_other : (m : ℕ) → (n == m) ≡ false
-      → has_feature (take_out d n) m ≡ has_feature d m
-  has_feature-take_out_other m o =
-      has_feature-found (take_out d n) m ∙ ap is_some (feature-take_out_other m o)
-      ∙ sym (has_feature-found d m)
-
-  -- the number is found no more
-  pub feature-take_out_gone : feature (take_out d n) n ≡ None
-  feature-take_out_gone = ap (find (λ k. k.number == n)) (features-take_out n d) ∙ find_gone n (features d)
-
-  pub has_feature-take_out_gone : has_feature (take_out d n) n ≡ false
-  has_feature-take_out_gone = has_feature-found (take_out d n) n ∙ ap is_some feature-take_out_gone
 
   -- ---- what is left
 
@@ -69,16 +52,6 @@ module _ {R : Type 0} (d : DocumentOf R) (n : ℕ) where
     features-take_out_at =
         features-take_out n d ∙ without_swapped n (features d) ∙ swapped_alone n (λ f. []) f (features d) place
 
-    -- one feature less
-    pub count-take_out : length (features (take_out d n)) + 1 ≡ length (features d)
-    count-take_out = omega (
-      arith,
-      ap length features-take_out_at,
-      ap length place.is,
-      length-append place.us place.vs,
-      length-append place.us (f ∷ place.vs),
-    )
-
     -- the rings before it and those after it
     pub rings-take_out_at : rings (take_out d n)
         ≡ flat_map rings_of place.us ++ flat_map rings_of place.vs
@@ -87,21 +60,8 @@ module _ {R : Type 0} (d : DocumentOf R) (n : ℕ) where
 -- ---- rings of positions
 
 module _ (d : Document) (n : ℕ) where
-  pub size-take_out : size (take_out d n) ≤ size d
-  size-take_out = part_sum length (part-rings d n)
-
   pub part-segments : IsPart (all_segments (take_out d n)) (all_segments d)
   part-segments = part_flat_map segments (part-rings d n)
-
-  pub part-positions : IsPart (positions (take_out d n)) (positions d)
-  part-positions = part_flat_map (λ ring. ring) (part-rings d n)
-
-  pub is_segment-take_out : (s : Segment) → is_segment (take_out d n) s ≡ true → is_segment d s ≡ true
-  is_segment-take_out s h =
-      part_any (segment_eq s) (all_segments (take_out d n)) (all_segments d) part-segments h
-
-  pub is_vertex-take_out : (p : Position) → is_vertex (take_out d n) p ≡ true → is_vertex d p ≡ true
-  is_vertex-take_out p h = part_any (λ ring. has ring p) (rings (take_out d n)) (rings d) (part-rings d n) h
 
   pub first_pair-take_out : first_pair d ≡ None → first_pair (take_out d n) ≡ None
   unfolding first_pair

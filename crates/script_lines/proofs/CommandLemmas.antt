@@ -12,7 +12,7 @@ use Rattle.ring_machine.specs.Document.{Text}
 use Rattle.ring_machine.specs.Command.{Command, Move, Insert, Remove, Thin, Split, Merge, Rename, Delete, Undo, Area, At, Neighbours, Rings, Count, Show}
 use Rattle.topo_outline.specs.Kept.{IsName}
 use Rattle.map_text.specs.Strings.{string_text}
-use Rattle.script_lines.specs.Lines.{spaced, spaced_position, spaced_token, spaced_path, most_bound, Gives, ArePositions, AreFeatures, AreNaming, word_of, AskedWith, Asks, is_comment, Says}
+use Rattle.script_lines.specs.Lines.{spaced, spaced_position, spaced_token, spaced_path, most_bound, Gives, ArePositions, AreFeatures, AreNaming, word_of, AskedWith, Asks, Says}
 use Rattle.script_lines.specs.Words.{is_letter, EndsWord, NoMark, IsFeature, IsPlace, IsToken, IsPathTail}
 use Rattle.script_lines.specs.Commands.{says_of, IsRefused, Finds, FindsCommand, AskedBy}
 use Rattle.script_lines.specs.declared.lines.Line.{Line}
@@ -303,14 +303,6 @@ said_utf8 line (Some c) h = asked_utf8 line c h.1
 pub said_asked : (line : List ℕ) (o : Option Command) → length line ≤ 8192 → IsSomeAnd o (Asks line) → Says line o
 said_asked line None short h = absurd h
 said_asked line (Some c) short h = (short, h)
-
--- a line that is no comment and asks for no command says nothing, nor does one that is too long
-pub says_nothing : (line : List ℕ) → is_comment line ≡ false → ((c : Command) → Asks line c → ⊥) → (asked : Option Command) → Says line asked → ⊥
-says_nothing line plain never None h = false≢true (sym plain ∙ h.1.1)
-says_nothing line plain never (Some c) h = never c h.1
-
-pub too_long : (line : List ℕ) → 8192 < length line → (asked : Option Command) → Says line asked → ⊥
-too_long line long asked h = let short : length line ≤ 8192 = h.0 in absurd (omega arith)
 
 -- nothing is said of a line for which there was no memory
 pub no_memory : (f : LineFault) (line : List ℕ) → f ≡ fault.OutOfMemory → IsRefused f line

@@ -122,25 +122,10 @@ spaced_once (b ∷ tail) r t y z s k = (
   sym (spaced_rest b tail r y s) ∙ spaced_rest b tail t z k,
 )
 
-pub space_first : (b : ℕ) (tail r : List ℕ) (z : ℤ) → IsSpaced (b ∷ tail) z r → b ≡ 32
-space_first b tail r z s = first s.whole
-  where
-    first : b ∷ tail ≡ spaced z ++ r → b ≡ 32
-    first h = cc
-
-pub never_spaced : (r : List ℕ) (z : ℤ) → ¬ IsSpaced [] z r
-never_spaced r z s = nothing s.whole
-  where
-    nothing : [] ≡ spaced z ++ r → ⊥
-    nothing h = cc
-
 -- ---- the number of a feature
 
 pub feature_spaced : (bs r : List ℕ) (n : ℕ) → IsFeature bs n r → IsSpaced bs (pos n) r
 feature_spaced bs r n f = record { whole = f.whole; ends = f.ends; fits = record { sfits = omega (arith, f.range) } }
-
-pub feature_found : (bs r : List ℕ) (z : ℤ) (n : ℕ) → IsSpaced bs z r → z ≡ pos n → n < 2 ^ 32 → IsFeature bs n r
-feature_found bs r z n s e h = record { whole = subst (λ y. bs ≡ spaced y ++ r) e s.whole; ends = s.ends; range = h }
 
 pub feature_huge : (bs r t : List ℕ) (z : ℤ) (n : ℕ) → IsSpaced bs z r → ((m : ℕ) → z ≡ pos m → m < 2 ^ 32 → ⊥) → IsFeature bs n t → ⊥
 feature_huge bs r t z n s out f = out n (spaced_once bs r t z (pos n) s (feature_spaced bs t n f)).0 f.range
@@ -162,13 +147,6 @@ feature_once bs r t m n s k =
 pub fits_in_range : (z : ℤ) → unsigned_abs z ≤ 1000000000000 → FitsSigned w64 z
 fits_in_range (pos n) h = record { sfits = omega arith }
 fits_in_range (negsuc n) h = record { sfits = omega arith }
-
-pub place_found : (bs ys r : List ℕ) (x y : ℤ) → IsSpaced bs x ys → IsSpaced ys y r → InRange (position x y) → IsPlace bs (position x y) r
-place_found bs ys r x y s k h = record {
-  whole = s.whole ∙ ap (λ t. spaced x ++ t) k.whole ∙ sym (append_assoc (spaced x) (spaced y) r);
-  ends = k.ends;
-  range = h;
-}
 
 spaced_ends : (z : ℤ) (r : List ℕ) → EndsWord (spaced z ++ r)
 spaced_ends z r = refl

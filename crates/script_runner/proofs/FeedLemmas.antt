@@ -196,9 +196,6 @@ pub record Fed (old now : Option (List ℕ)) (p q : Progress) (piece rest : List
   pub put : Appends old now text
   pub fed : Feeds p done text q
 
-pub fed_start : (a : Option (List ℕ)) (p : Progress) (piece : List ℕ) → Fed a a p p piece piece
-fed_start a p piece = record { done = []; text = []; whole = refl; put = Appends-nil a; fed = (refl, refl) }
-
 -- the rest goes on with bytes that are fed whole
 pub fed_on : (old now new : Option (List ℕ)) (p q r : Progress) (piece rest line next text : List ℕ) → Fed old now p q piece rest → rest ≡ line ++ next
     → Appends now new text → Feeds q line text r → Fed old new p r piece next

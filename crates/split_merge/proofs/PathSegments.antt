@@ -1,5 +1,5 @@
 -- The segments along a path, and those of the map.
-use Rattle.std.proofs.Common.{◌≡◌, ℕ, suc, ◌+◌, ◌<◌, ◌≤◌, Bool, true, false, refl, sym, ap, ◌∙◌, cond, List, [], ◌∷◌, ◌||◌, length, drop, get_or, drop_of_length-le, arith}
+use Rattle.std.proofs.Common.{◌≡◌, ℕ, suc, ◌+◌, ◌<◌, Bool, true, false, refl, sym, ap, ◌∙◌, cond, List, [], ◌∷◌, ◌||◌, length, drop, get_or, arith}
 use Rattle.std.specs.Prelude.{nat_lt}
 use Rattle.std.specs.List.{list_any, filter}
 use Rattle.std.proofs.lemmas.Bool.Decides.{nat_tests}
@@ -45,10 +45,3 @@ module _ (from to : Position) (rest : List Position) (i : ℕ) (l : i < length r
   pub none_here : test (from, to) ≡ false
       → list_any test (links (to ∷ drop (i + 1) rest)) ≡ list_any test (links (from ∷ drop i rest))
   none_here h = sym (along ∙ ap (λ b. b || list_any test (links (to ∷ drop (i + 1) rest))) h)
-
-  pub one_here : test (from, to) ≡ true → list_any test (links (from ∷ drop i rest)) ≡ true
-  one_here h = along ∙ ap (λ b. b || list_any test (links (to ∷ drop (i + 1) rest))) h
-
-pub none_left : (test : Edge → Bool) (from : Position) (rest : List Position) (i : ℕ)
-    → length rest ≤ i → list_any test (links (from ∷ drop i rest)) ≡ false
-none_left test from rest i l = ap (λ ps. list_any test (links (from ∷ ps))) (drop_of_length-le rest l)

@@ -14,7 +14,6 @@ use Rattle.ring_machine.specs.WellFormed.{fits_form, WellFormed}
 use Rattle.ring_machine.proofs.First.{In, in_left, in_right}
 use Rattle.ring_machine.proofs.Neighbours.{all_in}
 use Rattle.ring_machine.proofs.InItems.{of_layers}
-use Rattle.ring_machine.proofs.Found.{feature_found}
 use Rattle.ring_machine.proofs.TakenOut.{taken, take_out_is}
 use Rattle.ring_machine.proofs.Renamed.{renamed_is}
 use Rattle.ring_machine.proofs.CutJoined.{new_part, parts, cut_is, join_is}
@@ -136,12 +135,6 @@ module _ {R : Type 0} (n : ℕ) (g : FeatureOf R → List (FeatureOf R)) where
   pub keeps-instead : (d : DocumentOf R) → KeepsTexts d → StandsKept (features d)
       → KeepsTexts (instead n g d)
   keeps-instead d h a = keeps-in_items (flat_map (becomes n g)) d h (layers_become d.layers a h.items)
-
-  -- of a well-formed document, only what stands for the feature that is found counts
-  pub keeps-instead_found : (d : DocumentOf R) → WellFormed d → KeepsTexts d
-      → ((f : FeatureOf R) → feature d n ≡ Some f → KeepsItem (Leaf f) → KeepsFeatures (g f))
-      → KeepsTexts (instead n g d)
-  keeps-instead_found d formed h a = keeps-instead d h (λ f i e. a f (feature_found d formed f n i e))
 
 -- ---- another id
 

@@ -1,7 +1,6 @@
 -- Reading one after another, as a loop does.
-use Rattle.std.proofs.Common.{◌+◌, suc, ◌<◌, ◌≤◌, length, get_or, drop, map, drop-cons, add-one, ◌≡◌, ℕ, List, [], ◌∷◌, ◌++◌, refl, sym, ap, ◌∙◌, append_assoc}
+use Rattle.std.proofs.Common.{◌+◌, suc, ◌<◌, length, get_or, drop, map, drop-cons, add-one, ◌≡◌, ℕ, List, [], ◌∷◌, ◌++◌, refl, sym, ap, ◌∙◌, append_assoc}
 use Rattle.std.specs.Prelude.{Result, Ok, Err}
-use Rattle.std.proofs.lemmas.List.{append-nil, drop_all}
 use Rattle.topo_outline.specs.Gives.{Fails}
 use Rattle.topo_outline.specs.declared.fault.Limit.TheVariants as limit
 use Rattle.topo_outline.specs.declared.fault.OpenFault.{OpenFault}
@@ -41,12 +40,6 @@ regroup front p (Err e) = refl
 pub each_turn : {A B : Type 0} (f : A → Result B Fault) (front : List B) (b : B) (a : A) (as' left : List A) (whole : Result (List B) Fault) → left ≡ a ∷ as' → f a ≡ Ok b → with_front front (each f left) ≡ whole → with_front (front ++ b ∷ []) (each f as') ≡ whole
 each_turn f front b a as' left whole e is h = sym (regroup front b (each f as')) ∙ rw (e, is) at h
 
-pub each_end : {A B : Type 0} (f : A → Result B Fault) (front : List B) (left : List A) (whole : Result (List B) Fault) → left ≡ [] → with_front front (each f left) ≡ whole → whole ≡ Ok front
-each_end f front left whole e h = sym (rw (e, append-nil front) at h)
-
-pub each_stop : {A B : Type 0} (o : OpenFault) (f : A → Result B Fault) (front : List B) (a : A) (as' left : List A) (whole : Result (List B) Fault) → left ≡ a ∷ as' → Fails o (f a) → with_front front (each f left) ≡ whole → Fails o whole
-each_stop o f front a as' left whole e is h = carry o (f a) whole (λ x fx. sym (rw (e, fx) at h)) is
-
 -- ---- one by one, with numbers
 
 tail_at : {A : Type 0} (a : A) (xs : List A) (i : ℕ) → i < length xs → a ≡ get_or xs i a → drop i xs ≡ a ∷ drop (i + 1) xs
@@ -56,9 +49,6 @@ pub each_at_turn : {A B C : Type 0} (f : ℕ → B → Result C Fault) (v : A �
 each_at_turn f v front c xs i a whole lt is fc h =
     let gone : drop i xs ≡ a ∷ drop (i + 1) xs = tail_at a xs i lt is in
     sym (regroup front c (each_at f (i + 1) (map v (drop (i + 1) xs)))) ∙ rw (gone, fc) at h
-
-pub each_at_end : {A B C : Type 0} (f : ℕ → B → Result C Fault) (v : A → B) (front : List C) (xs : List A) (i : ℕ) (whole : Result (List C) Fault) → length xs ≤ i → with_front front (each_at f i (map v (drop i xs))) ≡ whole → whole ≡ Ok front
-each_at_end f v front xs i whole le h = sym (rw (drop_all i xs le, append-nil front) at h)
 
 pub each_at_stop : {A B C : Type 0} (o : OpenFault) (f : ℕ → B → Result C Fault) (v : A → B) (front : List C) (xs : List A) (i : ℕ) (a : A) (whole : Result (List C) Fault) → i < length xs → a ≡ get_or xs i a → Fails o (f i (v a)) → with_front front (each_at f i (map v (drop i xs))) ≡ whole → Fails o whole
 each_at_stop o f v front xs i a whole lt is fc h =

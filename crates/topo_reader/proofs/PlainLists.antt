@@ -9,11 +9,9 @@ use Rattle.json_spans.specs.Grammar.{Space, no_space, space}
 use Rattle.json_spans.specs.Inside.{Padded, padded}
 use Rattle.json_spans.specs.Parts.{Node, skip_step, part_len, has_first}
 use Rattle.json_spans.specs.Trimmed.{trimmed, spaces_before}
-use Rattle.json_spans.specs.Walk.{items}
 use Rattle.json_spans.specs.declared.parts.Skip.TheVariants.{Plain}
 use Rattle.json_spans.proofs.Framing.{Firm, space_framed, alone}
 use Rattle.json_spans.proofs.Padding.{Solid, trimmed_is, first_is}
-use Rattle.topo_outline.specs.Faults.{each}
 use Rattle.topo_reader.specs.Positions.{arc, arcs}
 use Rattle.topo_reader.specs.Plain.{nodes_from}
 use Rattle.topo_reader.specs.PlainList.{PlainItem, PlainItems, Begins}
@@ -171,10 +169,3 @@ shorter delta bytes ps true left i =
 
 pub item_shorter : (delta : Bool) (now : Bool) (bytes : List ℕ) (ps : List Position) (more : Bool) (left : List ℕ) → now ≡ true → PlainItem delta bytes ps more left → left_len more left < left_len now bytes
 item_shorter delta now bytes ps more left is i = rw is (shorter delta bytes ps more left i)
-
--- behind the bracket, these are all arcs of the value
-pub list_reads : (delta : Bool) (n : Node) (bytes inside : List ℕ) (as' : List (List Position)) → bytes ≡ n.bytes → bytes ≡ 91 ∷ inside → PlainItems delta true inside as' → arcs delta n ≡ Ok as'
-list_reads delta n bytes inside as' same is h =
-    let here : n.bytes ≡ 91 ∷ inside = sym same ∙ is in
-    let all : items n ≡ nodes_from true (n.at_byte + 1) inside = rw (here, h.begins) refl in
-    ap (λ (ns : List Node). each (arc delta) ns) all ∙ h.reads (n.at_byte + 1)

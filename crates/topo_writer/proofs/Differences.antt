@@ -1,8 +1,7 @@
 -- The pairs of an arc, place by place.
-use Rattle.std.proofs.Common.{◌≡◌, ℕ, ℤ, zero, suc, ◌<◌, ◌-◌, ◌-ℤ◌, pos, length, List, [], ◌∷◌, true, refl, sym, ap, ap₂}
+use Rattle.std.proofs.Common.{◌≡◌, ℕ, zero, suc, ◌<◌, ◌-◌, ◌-ℤ◌, pos, length, List, [], ◌∷◌, true, refl, sym, ap, ap₂}
 use Rattle.std.proofs.Common.{◌∙◌, arith, get_or, Bool, false}
 use Rattle.std.proofs.lemmas.Bool.{false≢true}
-use Rattle.std.proofs.lemmas.Int.{ints}
 use Rattle.std.proofs.lemmas.List.{get_or_default}
 use Rattle.grid_geometry.specs.Position.{Position, position}
 use Rattle.map_text.specs.Text.{differences, pairs}
@@ -14,14 +13,6 @@ differences-length before (p ∷ ps) = ap suc (differences-length p ps)
 pub pairs-length : (delta : Bool) (ps : List Position) → length (pairs delta ps) ≡ length ps
 pairs-length true ps = differences-length (position (pos 0) (pos 0)) ps
 pairs-length false ps = refl
-
-less_none : (z : ℤ) → z -ℤ pos 0 ≡ z
-less_none z = grind (arith, ints)
-
--- the first pair is the first position
-pub first_pair : (ps : List Position) (d : Position) → 0 < length ps → get_or (differences (position (pos 0) (pos 0)) ps) 0 d ≡ get_or ps 0 d
-first_pair [] d h = absurd (omega (arith, h))
-first_pair (p ∷ ps) d h = ap₂ (λ x y. position x y) (less_none p.x) (less_none p.y)
 
 -- each later one is a difference
 pub later_pair : (before : Position) (ps : List Position) (i : ℕ) (d : Position) → suc i < length ps

@@ -1,10 +1,8 @@
 -- The rings of a feature are rings of its document, and no more than those.
-use Rattle.std.proofs.Common.{◌≡◌, ℕ, ◌≤◌, Bool, true, false, refl, ap, cond, List, [], ◌∷◌}
-use Rattle.std.proofs.Common.{length, arith, Option, Some, None, inl, inr}
+use Rattle.std.proofs.Common.{◌≡◌, ℕ, Bool, true, false, refl, cond, List, [], ◌∷◌}
+use Rattle.std.proofs.Common.{Option, Some, None, inl, inr}
 use Rattle.std.specs.Prelude.{option_map, unwrap_or, Contains, ◌==◌}
-use Rattle.std.specs.List.{flat_map, find, sum_by, AllByRecursion}
-use Rattle.std.proofs.lemmas.List.Sums.{sum_by-append}
-use Rattle.grid_geometry.specs.Position.{Position}
+use Rattle.std.specs.List.{flat_map, find, AllByRecursion}
 use Rattle.ring_machine.specs.Document.{Document, Feature}
 use Rattle.ring_machine.specs.Parts.{feature, features, rings, rings_of}
 use Rattle.ring_machine.specs.WellFormed.{WellFormed, fits_form}
@@ -38,10 +36,3 @@ rings_there d n = by (feature d n) refl
 -- its form is as its polygons are
 pub form_fits : (d : Document) → WellFormed d → (n : ℕ) (f : Feature) → feature d n ≡ Some f → fits_form f ≡ true
 form_fits d formed n f e = all_in fits_form (features d) f formed.forms (feature_there d n f e)
-
-part_few : {X : Type 0} (own : X → List (List Position)) (xs : List X) (x : X) → In x xs
-    → sum_by length (own x) ≤ sum_by length (flat_map own xs)
-part_few own [] x i = absurd i
-part_few own (y ∷ ys) x (inl e) =
-    omega (arith, ap (λ z. sum_by length (own z)) e, sum_by-append length (own y) (flat_map own ys))
-part_few own (y ∷ ys) x (inr i) = omega (arith, part_few own ys x i, sum_by-append length (own y) (flat_map own ys))

@@ -1,5 +1,5 @@
 -- One item more of a layer.
-use Rattle.std.proofs.Common.{◌≡◌, Bool, true, false, refl, sym, ap, ap₂, ◌∙◌, subst, List, [], ◌∷◌, ◌++◌, map, append_assoc}
+use Rattle.std.proofs.Common.{◌≡◌, Bool, true, false, sym, ap, ap₂, ◌∙◌, subst, List, [], ◌∷◌, ◌++◌, map, append_assoc}
 use Rattle.std.specs.List.{flat_map}
 use Rattle.std.proofs.lemmas.List.{append-nil, map-append}
 use Rattle.std.proofs.lemmas.List.Concat.{flat_map-append}
@@ -7,7 +7,7 @@ use Rattle.device_io.specs.Sending.{Took, TookFront}
 use Rattle.device_io.specs.declared.Sink as sink
 use Rattle.device_io.proofs.SendingLaws.{took_both, took_first, took_second}
 use Rattle.grid_geometry.specs.Position.{Position}
-use Rattle.ring_machine.specs.Document.{Document, Head, Close, Text}
+use Rattle.ring_machine.specs.Document.{Document, Head, Text}
 use Rattle.ring_machine.specs.Vertices.{is_junction}
 use Rattle.map_text.specs.Arcs.{pieces, with_pieces}
 use Rattle.map_text.specs.Text.{comma_if, items_text}
@@ -20,11 +20,6 @@ use Rattle.topo_writer.proofs.Leading.{item_rings-append}
 use Rattle.topo_writer.proofs.OpenedLemmas.{items_both, begin_left}
 
 -- ---- the text of one item
-
--- the end of a collection needs no comma
-pub close_alike : (heads : List Head) (more : Bool) → items_text heads true (Close ∷ []) ≡ items_text heads more (Close ∷ [])
-close_alike [] more = refl
-close_alike (h ∷ heads) more = refl
 
 -- a text alone after a comma
 pub alone : (o : Text) (more : Bool) (t now : Text) → now ≡ o ++ (comma_if more ++ t) → now ≡ o ++ (comma_if more ++ (t ++ []))

@@ -1,6 +1,5 @@
 -- A history of records is the machine's.
-use Rattle.std.proofs.Common.{◌≡◌, ◌≢◌, ◌≤◌, ℕ, zero, suc, refl, sym, ap, subst, ◌∙◌, List, [], ◌∷◌, map, take, drop, length, Bool, true, false, cond, Option, None, Some, option_map, is_some, inl, inr, ◌⊎◌, arith, Result, Ok, Err, IfOk, IfErr}
-use Rattle.std.proofs.lemmas.List.{take_all}
+use Rattle.std.proofs.Common.{◌≡◌, ◌≢◌, ◌≤◌, ℕ, zero, suc, refl, sym, ap, subst, ◌∙◌, List, [], ◌∷◌, map, take, drop, Bool, true, false, cond, Option, None, Some, option_map, is_some, inl, inr, ◌⊎◌, arith, Result, Ok, Err, IfOk, IfErr}
 use Rattle.std.specs.Prelude.{MatchOption, slice_get}
 use Rattle.std.specs.List.{AllByRecursion}
 use Rattle.circular_buffer.specs.Buffer.{Buffer, buffer}
@@ -300,12 +299,6 @@ module _ {X : Type 0} (seen : X → Record) (m : MapState) (records popped : Buf
     all : IsTrail m (seen x ∷ map seen rest)
     all = subst (λ xs. IsTrail m (map seen xs)) front trail
 
-    pub first_undoes : Undoes m.places m.next m.doc (seen x)
-    first_undoes = all.undoing.0
-
-    pub first_texts : KeepsTexts (back m.places (seen x) m.doc)
-    first_texts = all.texts.0
-
     module _ (n : MapState) where
       pub taken_back : n ≡ record m { doc = back m.places (seen x) m.doc; tests = 0; last = None }
           → IsTrail n (map seen popped.items) × IsUndone (edited_by seen m records) (edited_by seen n popped)
@@ -320,25 +313,6 @@ module _ {X : Type 0} (seen : X → Record) (m : MapState) (records popped : Buf
               stays = record { depth = refl; cells = refl };
             },
           ))
-
-      -- the record is in front again
-      pub not_back : n ≡ record m { tests = 0; last = None } → length records.items ≤ records.capacity
-          → (y : X) → seen y ≡ seen x → (pushed : Buffer X) → pushed ≡ buffer (take popped.capacity (y ∷ popped.items)) popped.capacity
-          → IsTrail n (map seen pushed.items) × IsSame (edited_by seen m records) (edited_by seen n pushed)
-      not_back is within y same pushed put =
-          let list : pushed ≡ buffer (y ∷ rest) records.capacity =
-          put ∙ ap (λ (b : Buffer X). buffer (take b.capacity (y ∷ b.items)) b.capacity) gone
-          ∙ ap (λ xs. buffer xs records.capacity) (take_all records.capacity (y ∷ rest) (omega (arith, within, ap length front))) in
-          let seen_same : map seen (y ∷ rest) ≡ map seen records.items =
-          ap (λ z. z ∷ map seen rest) same ∙ ap (map seen) (sym front) in
-          let now : n ≡ record m { tests = 0 } = is ∙ ap (λ z. record m { tests = 0; last = z }) (sym trail.taken) in
-          subst (λ (b : Buffer X). IsTrail n (map seen b.items) × IsSame (edited_by seen m records) (edited_by seen n b)) (sym list) (
-            subst (IsTrail n) (sym seen_same) (subst (λ z. IsTrail z (map seen records.items)) (sym now)
-                (record { undoing = trail.undoing; texts = trail.texts; taken = trail.taken })),
-            subst (λ z. IsSame (edited_by seen m records) (record { map = n; past = documents n.places n.doc z; depth = records.capacity })) (sym seen_same)
-                (ap (λ (z : MapState). let e : Edited = record { map = z; past = documents z.places z.doc (map seen records.items); depth = records.capacity } in e) now
-                ∙ ap (λ k. record (edited_by seen m records) { map = record m { tests = k } }) (sym (ap (λ (z : MapState). z.tests) now))),
-          )
 
 -- ---- a command, as the calls have it
 

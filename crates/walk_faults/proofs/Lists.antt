@@ -1,9 +1,8 @@
 -- The elements of a list so far, and all of them.
-use Rattle.std.proofs.Common.{◌≡◌, ◌<◌, ◌≤◌, ◌+◌, ℕ, true, refl, sym, ap, ◌∙◌, List, [], ◌∷◌, ◌++◌, map, length, take, drop, get_or, inl, inr, ◌||◌, arith, append-nil}
+use Rattle.std.proofs.Common.{◌≡◌, ◌<◌, ◌≤◌, ◌+◌, ℕ, true, refl, sym, ap, ◌∙◌, List, [], ◌∷◌, ◌++◌, map, length, take, drop, get_or, inl, inr, ◌||◌, arith}
 use Rattle.std.specs.List.{flat_map}
 use Rattle.std.proofs.lemmas.Bool.{false≢true}
-use Rattle.std.proofs.lemmas.List.{take_more, drop_more, map-append}
-use Rattle.std.proofs.lemmas.List.Concat.{flat_map-append}
+use Rattle.std.proofs.lemmas.List.{drop_more}
 use Rattle.std.proofs.lemmas.List.Folds.{length-flat_map-take}
 use Rattle.grid_geometry.specs.Segment.{Segment}
 use Rattle.ring_machine.proofs.First.{In}
@@ -27,29 +26,10 @@ has-in (s ∷ ss) t (inr i) = or_right (segment_is t s) (has ss t) (has-in ss t 
 
 -- ---- one element more
 
--- what is mapped
-pub map_more : {X Y : Type 0} (f : X → Y) (xs : List X) (i : ℕ) (x : X) → i < length xs → x ≡ get_or xs i x
-    → map f (take (i + 1) xs) ≡ map f (take i xs) ++ f x ∷ []
-map_more f xs i x l e =
-    ap (map f) (take_more xs i x l ∙ ap (λ z. take i xs ++ z ∷ []) (sym e)) ∙ map-append f (take i xs) (x ∷ [])
-
--- what each element gives
-pub flat_more : {X Y : Type 0} (f : X → List Y) (xs : List X) (i : ℕ) (x : X) → i < length xs → x ≡ get_or xs i x
-    → flat_map f (take (i + 1) xs) ≡ flat_map f (take i xs) ++ f x
-flat_more f xs i x l e =
-    ap (flat_map f) (take_more xs i x l ∙ ap (λ z. take i xs ++ z ∷ []) (sym e)) ∙ flat_map-append f (take i xs) (x ∷ [])
-    ∙ ap (λ z. flat_map f (take i xs) ++ z) (append-nil (f x))
-
 -- what each element gives as it is seen
 pub flat_seen : {X Y Z : Type 0} (f : Y → List Z) (seen : X → Y) (xs : List X) → flat_map f (map seen xs) ≡ flat_map (λ x. f (seen x)) xs
 flat_seen f seen [] = refl
 flat_seen f seen (x ∷ xs) = ap (λ z. f (seen x) ++ z) (flat_seen f seen xs)
-
-pub seen_more : {X Y Z : Type 0} (f : Y → List Z) (seen : X → Y) (xs : List X) (i : ℕ) (x : X) → i < length xs → x ≡ get_or xs i x
-    → flat_map f (map seen (take (i + 1) xs)) ≡ flat_map f (map seen (take i xs)) ++ f (seen x)
-seen_more f seen xs i x l e =
-    flat_seen f seen (take (i + 1) xs) ∙ flat_more (λ y. f (seen y)) xs i x l e
-    ∙ ap (λ z. z ++ f (seen x)) (sym (flat_seen f seen (take i xs)))
 
 -- so many of all
 pub seen_among : {X Y Z : Type 0} (f : Y → List Z) (seen : X → Y) (xs : List X) (i : ℕ) (x : X) → i < length xs → x ≡ get_or xs i x

@@ -1,5 +1,5 @@
 -- Walks led along paths, one edge after another.
-use Rattle.std.proofs.Common.{◌≡◌, length, arith, true, false, refl, sym, ap, ◌∙◌, subst, cond, List, [], ◌∷◌, ◌++◌, reverse}
+use Rattle.std.proofs.Common.{◌≡◌, length, arith, true, false, refl, sym, subst, cond, List, [], ◌∷◌, ◌++◌, reverse}
 use Rattle.std.specs.List.{flat_map}
 use Rattle.std.specs.Ordering.{is_lt, is_gt}
 use Rattle.std.specs.declared.cmp.Ordering.{Ordering}
@@ -32,16 +32,6 @@ down a b h = by (position_cmp a b) refl h
     by Less e k = absurd (false≢true (sym k))
     by Equal e k = let same = position_cmp-exact a b e in λ i. record { lo = same i; hi = sym same i }
     by Greater e k = refl
-
-pub along_up : (paths : List Path) (a b : Position) → position_lt a b ≡ true → edge_along paths (a, b) ≡ a ∷ inner_of paths (from_to a b)
-along_up paths a b h =
-    ap (λ t. a ∷ cond t (inner_of paths (segment a b)) (reverse (inner_of paths (segment a b)))) h
-    ∙ ap (λ s. a ∷ inner_of paths s) (up a b h)
-
-pub along_down : (paths : List Path) (a b : Position) → position_lt a b ≡ false → edge_along paths (a, b) ≡ a ∷ reverse (inner_of paths (from_to b a))
-along_down paths a b h =
-    ap (λ t. a ∷ cond t (inner_of paths (segment a b)) (reverse (inner_of paths (segment a b)))) h
-    ∙ ap (λ s. a ∷ reverse (inner_of paths s)) (down a b h)
 
 -- ---- nothing is left out, and the order stays
 

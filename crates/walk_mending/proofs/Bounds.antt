@@ -1,10 +1,10 @@
 -- Which segments bound: all of rings, the odd ones of other walks, and those of one polygon more.
-use Rattle.std.proofs.Common.{◌≡◌, ◌<◌, ◌+◌, ℕ, Bool, true, false, refl, sym, ap, ap₂, ◌∙◌, cond, List, [], ◌∷◌, ◌++◌, map, take, get_or, length, ◌||◌, Contains, arith}
+use Rattle.std.proofs.Common.{◌≡◌, ◌<◌, ◌+◌, ℕ, Bool, true, false, refl, sym, ap, ◌∙◌, cond, List, [], ◌∷◌, map, get_or, length, ◌||◌, Contains, arith}
 use Rattle.std.specs.Prelude.{nat_lt, IsTrue}
 use Rattle.std.specs.List.{count_by, flat_map, list_all, list_any}
 use Rattle.std.specs.List.Sorted.{IsPermutation}
 use Rattle.std.proofs.lemmas.Bool.Decides.{nat_tests}
-use Rattle.std.proofs.lemmas.List.Folds.{list_any-append, list_all-map, list_all_at}
+use Rattle.std.proofs.lemmas.List.Folds.{list_all-map, list_all_at}
 use Rattle.std.proofs.lemmas.List.Sorted.{sum_by-IsPermutation}
 use Rattle.std.proofs.lemmas.List.Sums.{sum_by-cons}
 use Rattle.grid_geometry.specs.Position.{Position}
@@ -48,40 +48,6 @@ pub odd_bound : (walks : List (List Position)) (sorted found : List Segment) →
 odd_bound walks sorted found h p odd s =
     odd s ∙ ap is_odd (as_often s (flat_map walk_segments walks) sorted p)
     ∙ sym (ap (λ b. cond b (nat_lt 0 (times_in walks s)) (is_odd_in walks s)) h)
-
--- ---- one more
-
-or_nothing : (a b : Bool) → (a || (b || false)) ≡ (a || b)
-or_nothing true b = refl
-or_nothing false true = refl
-or_nothing false false = refl
-
-or_assoc : (a b c : Bool) → ((a || b) || c) ≡ (a || (b || c))
-or_assoc true b c = refl
-or_assoc false b c = refl
-
-module _ {X Y : Type 0} (seen : X → Y) (test : Y → Bool) where
-  -- one element more passes or not
-  pub any_more : (xs : List X) (i : ℕ) (x : X) → i < length xs → x ≡ get_or xs i x
-      → list_any test (map seen (take (i + 1) xs)) ≡ (list_any test (map seen (take i xs)) || test (seen x))
-  any_more xs i x l e =
-      ap (list_any test) (lists.one_more seen xs i x l e) ∙ list_any-append test (map seen (take i xs)) (seen x ∷ [])
-      ∙ or_nothing (list_any test (map seen (take i xs))) (test (seen x))
-
-  -- with the segments that one element gives
-  pub more_bound : (xs : List X) (i : ℕ) (x : X) (old before more after : List Segment) (s : Segment) → i < length xs → x ≡ get_or xs i x
-      → after ≡ before ++ more → is_among before s ≡ (is_among old s || list_any test (map seen (take i xs))) → is_among more s ≡ test (seen x)
-      → is_among after s ≡ (is_among old s || list_any test (map seen (take (i + 1) xs)))
-  more_bound xs i x old before more after s l e is h k =
-      ap (λ z. is_among z s) is ∙ list_any-append (segment_eq s) before more ∙ ap₂ (λ a b. a || b) h k
-      ∙ or_assoc (is_among old s) (list_any test (map seen (take i xs))) (test (seen x))
-      ∙ ap (λ b. is_among old s || b) (sym (any_more xs i x l e))
-
-  -- with those that one element adds
-  pub added_bound : (xs : List X) (i : ℕ) (x : X) (before after : List Segment) (s : Segment) → i < length xs → x ≡ get_or xs i x
-      → is_among before s ≡ list_any test (map seen (take i xs)) → is_among after s ≡ (is_among before s || test (seen x))
-      → is_among after s ≡ list_any test (map seen (take (i + 1) xs))
-  added_bound xs i x before after s l e h k = k ∙ ap (λ b. b || test (seen x)) h ∙ sym (any_more xs i x l e)
 
 -- ---- as a list
 

@@ -1,13 +1,11 @@
 -- Polygons as parts of one: their rings, and each odd segment once.
-use Rattle.std.proofs.Common.{◌≡◌, ◌<◌, ◌+◌, ℕ, zero, suc, ◌==◌, Bool, true, false, refl, sym, ap, ◌∙◌, subst, cond, List, [], ◌∷◌, ◌++◌, map, take, get_or, length, ◌&&◌, ◌||◌, arith}
+use Rattle.std.proofs.Common.{◌≡◌, ◌<◌, ◌+◌, ℕ, zero, suc, ◌==◌, Bool, true, false, refl, sym, ap, ◌∙◌, subst, cond, List, [], ◌∷◌, length, ◌&&◌, ◌||◌, arith}
 use Rattle.std.specs.Bool.{Decides}
 use Rattle.std.specs.List.{flat_map, list_all}
 use Rattle.std.specs.List.Sorted.{IsPermutation, IsStrictlySortedBy}
 use Rattle.std.specs.declared.cmp.Ordering.TheVariants.{Less}
 use Rattle.std.proofs.lemmas.Bool.{and_parts, and_from}
 use Rattle.std.proofs.lemmas.Bool.Decides.{nat_tests}
-use Rattle.std.proofs.lemmas.List.{append-nil}
-use Rattle.std.proofs.lemmas.List.Concat.{flat_map-append}
 use Rattle.std.proofs.lemmas.List.Folds.{list_all-append}
 use Rattle.std.proofs.lemmas.List.Sums.{sum_by-cons}
 use Rattle.grid_geometry.specs.Position.{Position}
@@ -73,14 +71,6 @@ are_parts walks parts odd h up is p = record {
 }
 
 -- ---- the segments of one part more
-
-pub part_more : {X : Type 0} (seen : X → List (List Position)) (xs : List X) (i : ℕ) (x : X) (before after : List Segment) → i < length xs → x ≡ get_or xs i x
-    → before ≡ flat_map walk_segments (all_rings (map seen (take i xs))) → after ≡ before ++ flat_map walk_segments (seen x)
-    → after ≡ flat_map walk_segments (all_rings (map seen (take (i + 1) xs)))
-part_more seen xs i x before after l e h k =
-    k ∙ ap (λ z. z ++ flat_map walk_segments (seen x)) h
-    ∙ sym (flat_map-append walk_segments (all_rings (map seen (take i xs))) (seen x))
-    ∙ sym (ap (flat_map walk_segments) (ap all_rings (lists.one_more seen xs i x l e) ∙ flat_map-append (λ z. z) (map seen (take i xs)) (seen x ∷ []) ∙ ap (λ z. all_rings (map seen (take i xs)) ++ z) (append-nil (seen x))))
 
 -- segments are equal exactly where the test says so
 pub segment_decides : (s t : Segment) → Decides (segment_eq s t) (s ≡ t)
