@@ -1,29 +1,26 @@
 -- What stands around a vertex of a kept map: it is no junction where exactly two are joined to it.
-use Rattle.std.proofs.Common.{◌≡◌, ◌≢◌, ◌↔◌, ◌≤◌, ◌<◌, ℕ, arith, length, ◌||◌, ◌&&◌, Bool, true}
+use Rattle.std.proofs.Common.{◌≡◌, ◌≢◌, ◌↔◌, ◌≤◌, ℕ, arith, length, ◌||◌, ◌&&◌, Bool, true}
 use Rattle.std.proofs.Common.{false, refl, sym, ap, ap₂, ◌∙◌, subst, List, [], ◌∷◌, ◌⊎◌, inl, inr}
 use Rattle.std.proofs.Common.{Some, None, is_some}
-use Rattle.std.specs.List.{list_all}
 use Rattle.std.proofs.lemmas.List.{length-map}
-use Rattle.std.specs.Prelude.{nat_lt, ℤ, pos, not, int_le, unsigned_abs}
+use Rattle.std.specs.Prelude.{not}
 use Rattle.std.specs.FinMap as table
 use Rattle.std.proofs.lemmas.Bool.{false≢true}
 use Rattle.grid_geometry.specs.Position.{Position}
 use Rattle.grid_geometry.specs.Segment.{Segment, segment, segment_eq, is_end, IsSegment}
-use Rattle.grid_geometry.specs.Orientation.{orientation}
 use Rattle.grid_geometry.proofs.Conflicts.{segment-comm}
 use Rattle.ring_machine.specs.Parts.{rings, is_vertex, is_segment}
 use Rattle.ring_machine.specs.Ring.{has, canonical}
-use Rattle.ring_machine.specs.Refusals.{is_bridged, are_long}
+use Rattle.ring_machine.specs.Refusals.{is_bridged}
 use Rattle.ring_machine.specs.Sweep.{holds_other, remove_sweeps}
-use Rattle.ring_machine.specs.Thin.{is_flat}
 use Rattle.ring_machine.specs.Vertices.{del, around, all_equal, is_junction}
 use Rattle.ring_machine.proofs.First.{In}
-use Rattle.ring_machine.proofs.Neighbours.{place_around, has-in, in-has, in-map, all_in}
+use Rattle.ring_machine.proofs.Neighbours.{place_around, has-in, in-has, in-map}
 use Rattle.ring_machine.proofs.RingSegments.{same_ends}
 use Rattle.ring_machine.proofs.StaysProper.{ring_distinct}
 use Rattle.arc_tables.specs.Edited.{AreApart}
 use Rattle.shared_arcs.specs.declared.around.Neighbours.TheVariants as Neighbours
-use Rattle.shared_arcs.specs.declared.around.Neighbours.TheVariants.{One, Two, More}
+use Rattle.shared_arcs.specs.declared.around.Neighbours.TheVariants.{One, More}
 use Rattle.shared_arcs.specs.Joined.{Joined, Three, Passes, AreNeighbours}
 use Rattle.arc_tables.specs.Ways.{Edge, times}
 use Rattle.arc_tables.specs.Rings.{begins}
@@ -31,7 +28,7 @@ use Rattle.vertex_index.specs.Placement.{place}
 use Rattle.feature_exchange.specs.Stored.{Stored, positions_along, document_of}
 use Rattle.feature_exchange.specs.Holds.{IsWhole}
 use Rattle.ring_store.proofs.Places.{IsKept, place_is, place_kept, one_key}
-use Rattle.feature_exchange.proofs.Base.{joined_apart, Laid, ring_laid, begin_kept}
+use Rattle.feature_exchange.proofs.Base.{joined_apart, Laid, begin_kept}
 use Rattle.feature_exchange.proofs.Base.{segment_between, joined_back}
 use Rattle.feature_exchange.proofs.Base.{key_vertex, document_ring, laid_ring, joined_at, joined_kept}
 use Rattle.feature_exchange.proofs.Base.{joined_around, joined_segment, joined_differ}
@@ -41,8 +38,8 @@ use Rattle.ring_machine.proofs.Members.{any_in, in_mapped}
 use Rattle.ring_store.proofs.KeyRings.{length-canonical, times_edge, edge_times, edge_ends}
 use Rattle.ring_store.proofs.KeyRings.{in_canonical, of_canonical}
 use Rattle.arc_store.proofs.Removals.{segments_del, HasSides, begun_there, spot_is, spot_of}
-use Rattle.arc_store.proofs.Removals.{all_equal_in, no_junction, around_is, around_has, bridged_by}
-use Rattle.arc_store.proofs.Removals.{sweeps_by, flat_by}
+use Rattle.arc_store.proofs.Removals.{all_equal_in, no_junction, around_is, bridged_by}
+use Rattle.arc_store.proofs.Removals.{sweeps_by}
 use Rattle.arc_store.proofs.RingEdits.{BegunAt, edge_on, edge_back, sides_differ}
 
 -- ---- joined
@@ -89,15 +86,6 @@ come_over s w a b q h free = segments_come (document_of s) a b q (segment_differ
 pub none_joined : (s : Stored) (w : IsWhole s) (n : ℕ) → table.get s.places n ≡ None → (x : ℕ)
     → ¬ Joined s.rings n x
 none_joined s w n e x h = false≢true (sym (ap is_some e) ∙ (joined_kept s w n x h).0)
-
--- the ends of a segment and a key without a position are three keys
-pub new_apart : (s : Stored) (w : IsWhole s) (j k n : ℕ) → Joined s.rings j k
-    → table.get s.places n ≡ None → AreApart j k n
-new_apart s w j k n h e = (
-  joined_differ s w j k h,
-  λ f. false≢true (sym (ap is_some (ap (table.get s.places) f ∙ e)) ∙ (joined_kept s w j k h).0),
-  λ f. false≢true (sym (ap is_some (ap (table.get s.places) f ∙ e)) ∙ (joined_kept s w j k h).1),
-)
 
 -- ---- two
 
@@ -196,10 +184,6 @@ module _ (s : Stored) (w : IsWhole s) (m : ℕ) (p : Position) (here : table.get
       → t ≡ segment (place s.places j) (place s.places k)
   around_two j k two = around_is (document_of s) p are_rings (segment (place s.places j) (place s.places k)) (two_sides j k two) is_there
 
-  pub around_two_has : (j k : ℕ) → AreTwo s m j k
-      → In (segment (place s.places j) (place s.places k)) (around (document_of s) p)
-  around_two_has j k two = around_has (document_of s) p are_rings (segment (place s.places j) (place s.places k)) (two_sides j k two) is_there
-
   pub bridged_two : (j k : ℕ) → AreTwo s m j k
       → is_bridged (document_of s) p ≡ is_segment (document_of s) (segment (place s.places j) (place s.places k))
   bridged_two j k two = bridged_by (document_of s) p are_rings (segment (place s.places j) (place s.places k)) (two_sides j k two) is_there
@@ -209,12 +193,6 @@ module _ (s : Stored) (w : IsWhole s) (m : ℕ) (p : Position) (here : table.get
       → let t = segment (place s.places j) (place s.places k) in
       remove_sweeps (document_of s) p ≡ holds_other (document_of s) (t.lo ∷ p ∷ t.hi ∷ []) t.lo p t.hi
   sweeps_two j k two = sweeps_by (document_of s) p are_rings (segment (place s.places j) (place s.places k)) (two_sides j k two) is_there
-
-  -- m is flat where that triangle is small
-  pub flat_two : (j k : ℕ) → AreTwo s m j k → (most : ℤ)
-      → let t = segment (place s.places j) (place s.places k) in
-      is_flat most (document_of s) p ≡ int_le (pos (unsigned_abs (orientation t.lo p t.hi))) most
-  flat_two j k two most = flat_by (document_of s) p are_rings (segment (place s.places j) (place s.places k)) (two_sides j k two) is_there most
 
   -- without m the segments at it go, and that of the two comes
   pub segments_two : (j k : ℕ) → AreTwo s m j k → (t : Segment)
@@ -263,10 +241,6 @@ module _ (s : Stored) (w : IsWhole s) (m : ℕ) (p : Position) (here : table.get
             | inr e ↦ inr (one_key s.places w.distinct z u.y kept (joined_kept s w m u.y u.joined_y).1 e)
           ]
 
-  -- a vertex is no junction where exactly two vertices are joined to it
-  pub single_iff_two : (is_junction (document_of s) p ≡ false) ↔ ((j : ℕ) × (k : ℕ) × AreTwo s m j k)
-  single_iff_two = (single_two, λ h. two_no_junction h.0 h.1 h.2)
-
   -- and is one where there are more
   pub three_junction : Three s.rings m → is_junction (document_of s) p ≡ true
   three_junction t = by (is_junction (document_of s) p) refl
@@ -297,9 +271,6 @@ module _ (s : Stored) (w : IsWhole s) (m : ℕ) (p : Position) (here : table.get
       let u = joined_pair in
       u.apart ((h u.x).0 u.joined_x ∙ sym ((h u.y).0 u.joined_y))
 
-  pub neighbours_two : (j k : ℕ) → AreNeighbours s.rings m (Two j k) → AreTwo s m j k
-  neighbours_two j k h = h
-
   pub neighbours_more : AreNeighbours s.rings m More → is_junction (document_of s) p ≡ true
   neighbours_more h = three_junction h
 
@@ -326,33 +297,3 @@ module _ (s : Stored) (w : IsWhole s) (m : ℕ) (p : Position) (here : table.get
       let same = one_key s.places w.distinct y.0 m (begin_kept s w l.number l.along l.held y.0 y.1) (place_kept s.places m p here) (y.2 ∙ sym p_is) in
       let e = in_mapped (λ (e : Edge). e.0) y.0 l.along y.1 in
       record { ring = l.number; other = e.0.1; held = l.held; has = edge_times m e.0.1 l.along e.0 e.1 (inl (e.2 ∙ same, refl)) }
-
-  -- the rings with p are long enough where each that passes m has more than three edges
-  pub long_iff : (are_long (document_of s) p ≡ true) ↔ ((es : List Edge) → Passes s.rings m es → 3 < length es)
-  long_iff = (long_each, λ h. all_there (rings (document_of s)) (λ ring i. each_long h ring i (has ring p) refl))
-    where
-      all_there : (rs : List (List Position)) → ((ring : List Position) → In ring rs → (not (has ring p) || nat_lt 3 (length ring)) ≡ true)
-          → list_all (λ ring. not (has ring p) || nat_lt 3 (length ring)) rs ≡ true
-      all_there [] f = refl
-      all_there (r ∷ rs) f = ap₂ (λ y z. y && z) (f r (inl refl)) (all_there rs (λ q i. f q (inr i)))
-
-      more : (n : ℕ) → nat_lt 3 n ≡ true → 3 < n
-      more n e = grind arith
-
-      less : (n : ℕ) → 3 < n → nat_lt 3 n ≡ true
-      less n e = grind arith
-
-      long_each : are_long (document_of s) p ≡ true → (es : List Edge) → Passes s.rings m es → 3 < length es
-      long_each h es v =
-          let ring = canonical (positions_along s.places es) in
-          let u = all_in (λ ring. not (has ring p) || nat_lt 3 (length ring)) (rings (document_of s)) ring h (ring_laid s w v.ring es v.held) in
-          subst (λ z. 3 < z) (ring_length es) (more (length ring) (sym (ap (λ z. not z || nat_lt 3 (length ring)) (passes_has v.ring es v.held v.other v.has)) ∙ u))
-
-      each_long : ((es : List Edge) → Passes s.rings m es → 3 < length es) → (ring : List Position)
-          → In ring (rings (document_of s)) → (b : Bool) → has ring p ≡ b
-          → (not (has ring p) || nat_lt 3 (length ring)) ≡ true
-      each_long h ring i false e = ap (λ z. not z || nat_lt 3 (length ring)) e
-      each_long h ring i true e =
-          let l = laid_ring s w ring i in
-          ap (λ z. not z || nat_lt 3 (length ring)) e
-          ∙ less (length ring) (subst (λ z. 3 < z) (sym (ap length l.is ∙ ring_length l.along)) (h l.along (has_passes ring l e)))

@@ -1,9 +1,9 @@
 -- What a path that may cut a feature makes of the document: its segments come, its ends and inner
 -- positions are counted once more, and each ring is one.
-use Rattle.std.proofs.Common.{◌≡◌, ℕ, ◌+◌, ◌*◌, Bool, true, false, refl, sym, ap, ap₂, ◌∙◌, subst}
-use Rattle.std.proofs.Common.{List, [], ◌∷◌, ◌++◌, map, length, ◌||◌, inl, inr, Some, arith}
+use Rattle.std.proofs.Common.{◌≡◌, ℕ, ◌+◌, ◌*◌, Bool, false, refl, sym, ap, ap₂, ◌∙◌}
+use Rattle.std.proofs.Common.{List, [], ◌∷◌, ◌++◌, map, length, ◌||◌, Some, arith}
 use Rattle.std.specs.Prelude.{not}
-use Rattle.std.specs.List.{list_any, list_all, flat_map, filter, sum_by}
+use Rattle.std.specs.List.{list_any, flat_map, filter, sum_by}
 use Rattle.std.proofs.lemmas.List.{append-nil}
 use Rattle.std.proofs.lemmas.List.Concat.{flat_map-append}
 use Rattle.std.proofs.lemmas.List.Filters.{sum_by-filter_both}
@@ -13,21 +13,19 @@ use Rattle.grid_geometry.specs.Segment.{Segment, segment_eq}
 use Rattle.grid_geometry.specs.Ring.{Edge, links}
 use Rattle.ring_machine.specs.Ring.{canonical, has, is_ring, segment_of}
 use Rattle.ring_machine.specs.Document.{Document, Feature, Text}
-use Rattle.ring_machine.specs.Parts.{features, feature, rings_of, rings, size, is_vertex, is_segment}
-use Rattle.ring_machine.specs.Planar.{Proper}
-use Rattle.ring_machine.specs.Cut.{Path, cut, instead, stays, is_cut_by, first_that, first_part}
+use Rattle.ring_machine.specs.Parts.{feature, rings_of, rings, size, is_vertex, is_segment}
+use Rattle.ring_machine.specs.Cut.{Path, cut, instead, stays, first_part}
 use Rattle.ring_machine.specs.Cut.{second_part, first_polygon, second_polygon, goes_first}
-use Rattle.ring_machine.specs.Refusals.{feature_at, or_else, no_feature, positions_of}
+use Rattle.ring_machine.specs.Refusals.{or_else, no_feature, positions_of}
 use Rattle.ring_machine.proofs.CutJoined.{new_part, parts, cut_is}
 use Rattle.ring_machine.proofs.CutRings.{CutRing}
-use Rattle.ring_machine.proofs.First.{In, in_right}
+use Rattle.ring_machine.proofs.First.{In}
 use Rattle.ring_machine.proofs.Found.{has_feature-found, feature_stands}
 use Rattle.ring_machine.proofs.Members.{there}
-use Rattle.ring_machine.proofs.Neighbours.{in-flat_map, none_in, all_in}
-use Rattle.ring_machine.proofs.Passed.{pass_all}
+use Rattle.ring_machine.proofs.Neighbours.{none_in, all_in}
 use Rattle.ring_machine.proofs.Removal.{none_parts}
 use Rattle.ring_machine.proofs.SplitBorders.{any_ring_after}
-use Rattle.ring_machine.proofs.SplitDocuments.{SplitDocument, split_document, new_one}
+use Rattle.ring_machine.proofs.SplitDocuments.{SplitDocument, split_document}
 use Rattle.ring_machine.proofs.SplitFeatures.{SplitFeature}
 use Rattle.ring_machine.proofs.SplitProper.{target_there}
 use Rattle.ring_machine.proofs.SplitRings.{CutsRing, is_edge_of, cut_of}
@@ -43,9 +41,6 @@ none_weaker strong weak h [] k = refl
 none_weaker strong weak h (x ∷ xs) k =
     let k' = none_parts (strong x) (list_any strong xs) k in
     ap₂ (λ a b. a || b) (h x k'.0) (none_weaker strong weak h xs k'.1)
-
-same_one : {A : Type 0} (x y : A) → x ∷ [] ≡ y ∷ [] → x ≡ y
-same_one x y e = cc
 
 -- ---- positions counted
 
@@ -138,47 +133,3 @@ module _ (d : Document) (next n : ℕ) (id : Text) (path : Path) (a : IsCuttable
         size-instead_at d n f (feature_stands d a.formed n f feature_is) (parts d n id path next),
         parts_size path next id f split.split the_cut,
       )
-
-  -- ---- rings
-
-  -- the polygon that is found is that one
-  polygon_is : (p : List (List Position))
-      → first_that (is_cut_by path) (feature_at d n).polygons ≡ p ∷ [] → p ≡ polygon
-  polygon_is p e =
-      same_one p polygon (sym e ∙ ap (λ (k : Feature). first_that (is_cut_by path) k.polygons) split.found ∙ split.split.target)
-
-  of_feature : (f : Feature) (r : List Position)
-      → In f (split.before ++ stays path split.old ∷ new_one d next n id path split ∷ split.after)
-      → In r (rings_of f) → In r (rings (cut d n id path next))
-  of_feature f r i j =
-      in-flat_map rings_of f r (features (cut d n id path next)) (subst (In f) (sym split.result) i) j
-
-  module _ (proper : Proper (cut d n id path next)) (p : List (List Position))
-      (e : first_that (is_cut_by path) (feature_at d n).polygons ≡ p ∷ []) where
-    first_there : (r : List Position) → In r (first_polygon path polygon)
-        → In r (rings (cut d n id path next))
-    first_there r i =
-        let new = new_one d next n id path split in
-        of_feature (stays path split.old) r (in_right (stays path split.old) split.before (stays path split.old ∷ new ∷ split.after) (inl refl))
-        (in-flat_map (λ q. q) (first_polygon path polygon) r (stays path split.old).polygons
-        (subst (In (first_polygon path polygon)) (sym split.split.kept) (in_right (first_polygon path polygon) split.split.before (first_polygon path polygon ∷ split.split.after) (inl refl))) i)
-
-    second_there : (r : List Position) → In r (second_polygon path polygon)
-        → In r (rings (cut d n id path next))
-    second_there r i =
-        let new = new_one d next n id path split in
-        of_feature new r (in_right new split.before (stays path split.old ∷ new ∷ split.after) (inr (inl refl)))
-        (in-flat_map (λ q. q) (second_polygon path polygon) r (second_polygon path polygon ∷ []) (inl refl) i)
-
-    is_ring_there : (r : List Position) → In r (rings (cut d n id path next)) → is_ring r ≡ true
-    is_ring_there r i = all_in is_ring (rings (cut d n id path next)) r proper.are_rings i
-
-    pub first_rings : list_all is_ring (first_polygon path p) ≡ true
-    first_rings =
-        ap (λ q. list_all is_ring (first_polygon path q)) (polygon_is p e)
-        ∙ pass_all is_ring (first_polygon path polygon) (λ r i. is_ring_there r (first_there r i))
-
-    pub second_rings : list_all is_ring (second_polygon path p) ≡ true
-    second_rings =
-        ap (λ q. list_all is_ring (second_polygon path q)) (polygon_is p e)
-        ∙ pass_all is_ring (second_polygon path polygon) (λ r i. is_ring_there r (second_there r i))

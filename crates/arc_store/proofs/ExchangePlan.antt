@@ -20,7 +20,7 @@ use Rattle.feature_exchange.specs.Changed.{seen, places_after, next_after, numbe
 use Rattle.feature_exchange.specs.Stored.{stored, ring_under, document_of}
 use Rattle.feature_exchange.specs.declared.change.Change.{Change}
 use Rattle.feature_exchange.proofs.ExchangedWhole.{whole_size}
-use Rattle.arc_store.specs.Exchanged.{asked_document, exchanged_state}
+use Rattle.arc_store.specs.Exchanged.{asked_document, exchanged_state, MayExchange}
 use Rattle.arc_store.specs.Kept.{IsKept, state_of}
 use Rattle.arc_store.specs.State.{State}
 use Rattle.arc_store.proofs.ChangesCounted.{weights_asked, sizes_after, had_few, below_seen, apart_numbers}
@@ -29,28 +29,26 @@ use Rattle.arc_store.proofs.PlacedMap.{placed-in_rings, fills_after}
 module _ {A : Type 0} {frame : Framed} {rings : Rings} {places : Placement} {held : SegmentSet} {positions : ℕ}
     (kept : IsKept frame rings places held positions) {l : ℕ} {cells : Option GridFrame} {o : Option Record} {now : State}
     (is : state_of frame rings places l cells o ≡ now) (placed : ArePlaced frame.places frame.next frame.doc)
-    (after : Option ℕ) (cs : List (Change A)) (apart : are_distinct (map (λ c. c.0) (seen cs)) ≡ true)
-    (below : AllByRecursion (λ c. c.0 < number_after after now.next) (seen cs))
-    (grows : IfSome after (MayGrow now.doc now.next)) (map_is : IsMap (asked_document after (seen cs) now)) where
+    {after : Option ℕ} (cs : List (Change A)) (may : MayExchange after (seen cs) now) where
   abbrev d : Document
   d = document_of (stored frame rings places)
 
   pub apart_tables : are_distinct (map (λ c. c.number) cs) ≡ true
-  apart_tables = apart_numbers cs apart
+  apart_tables = apart_numbers cs may.apart
 
   pub below_tables : AllByRecursion (λ c. c.number < next_after after frame) cs
   below_tables =
       subst (λ k. AllByRecursion (λ c. c.number < k) cs) (sym (ap (λ (s : State). number_after after s.next) is))
-      (below_seen (number_after after now.next) cs below)
+      (below_seen (number_after after now.next) cs may.below)
 
   pub grows_tables : IfSome after (MayGrow d frame.next)
-  grows_tables = subst (λ (s : State). IfSome after (MayGrow s.doc s.next)) (sym is) grows
+  grows_tables = subst (λ (s : State). IfSome after (MayGrow s.doc s.next)) (sym is) may.grows
 
   pub map_tables : IsMap (changed_as after frame cs d)
-  map_tables = subst (λ (s : State). IsMap (asked_document after (seen cs) s)) (sym is) map_is
+  map_tables = subst (λ (s : State). IsMap (asked_document after (seen cs) s)) (sym is) may.is_map
 
-  pub texts_tables : KeepsTexts (asked_document after (seen cs) now) → KeepsTexts (changed_as after frame cs d)
-  texts_tables h = subst (λ (s : State). KeepsTexts (asked_document after (seen cs) s)) (sym is) h
+  pub texts_tables : KeepsTexts (changed_as after frame cs d)
+  texts_tables = subst (λ (s : State). KeepsTexts (asked_document after (seen cs) s)) (sym is) may.texts
 
   pub came_few : weights (seen cs) ≤ 4000000
   came_few =

@@ -1,8 +1,7 @@
 -- What is kept when features were exchanged.
 use Rattle.std.proofs.Common.{◌≡◌, ◌≤◌, ℕ, ◌+◌, ◌-◌, refl, sym, ap, ◌∙◌, subst, Option, None, Some, is_some}
-use Rattle.std.proofs.Common.{List, length, arith}
+use Rattle.std.proofs.Common.{length, arith}
 use Rattle.std.specs.List.{sum_by}
-use Rattle.grid_geometry.specs.Position.{Position}
 use Rattle.ring_machine.specs.Document.{Document, Feature, Text}
 use Rattle.ring_machine.specs.Machine.{renamed}
 use Rattle.ring_machine.specs.Parts.{feature, size}
@@ -45,9 +44,6 @@ module _ {frame : Framed} {rings : Rings} {places : Placement} {held : SegmentSe
     pub seen_doc : document_of (stored frame rings places) ≡ now.doc
     seen_doc = ap (λ (z : State). z.doc) is
 
-    pub seen_next : frame.next ≡ now.next
-    seen_next = ap (λ (z : State). z.next) is
-
     pub seen_formed : WellFormed now.doc
     seen_formed = subst WellFormed seen_doc (formed-in_rings (ring_under (stored frame rings places)) frame.doc kept.holds.formed)
 
@@ -75,27 +71,6 @@ gone_size d formed n = by (feature d n) refl
     by None e = omega (arith, ap size (take_out_none n d (has_feature-found d n ∙ ap is_some e)))
     by (Some f) e =
         omega (arith, counted_flat length f.polygons, size-take_out_at d n f (feature_stands d formed n f e))
-
-module _ {frame : Framed} {rings : Rings} {places : Placement} {held : SegmentSet} {positions : ℕ}
-    (kept : IsKept frame rings places held positions) (n : ℕ) (polygons : List (List (List Position)))
-    (read : polygons ≡ (feature_at (document_of (stored frame rings places)) n).polygons) where
-  gone_law : size (take_out (document_of (stored frame rings places)) n) + sum_by (sum_by length) polygons ≡ positions
-  gone_law = omega (
-    arith,
-    ap (sum_by (sum_by length)) read,
-    gone_size (document_of (stored frame rings places)) (formed-in_rings (ring_under (stored frame rings places)) frame.doc kept.holds.formed) n,
-    kept.sized,
-  )
-
-  pub gone_few : sum_by (sum_by length) polygons ≤ positions
-  gone_few = omega (arith, gone_law)
-
-  pub gone_bounded : sum_by (sum_by length) polygons ≤ 4000000
-  gone_bounded = omega (arith, gone_law, kept.sized, kept.holds.small)
-
-  pub gone_sized : (gone : ℕ) → gone ≡ sum_by (sum_by length) polygons
-      → positions - gone ≡ size (take_out (document_of (stored frame rings places)) n)
-  gone_sized gone e = omega (arith, gone_law, e)
 
 -- ---- a feature that gets another id
 

@@ -11,7 +11,7 @@ use native.Mathlib.Decide.{ℕ_discrete}
 use Rattle.grid_geometry.specs.Position.{Position}
 use Rattle.grid_geometry.specs.Segment.{Segment, segment, segment_eq}
 use Rattle.ring_machine.specs.Ring.{canonical, is_ring, segment_of}
-use Rattle.ring_machine.specs.Parts.{rings, all_segments, size, is_segment}
+use Rattle.ring_machine.specs.Parts.{rings, size, is_segment}
 use Rattle.ring_machine.specs.Vertices.{ins, ins_ring}
 use Rattle.ring_machine.specs.Planar.{Proper}
 use Rattle.ring_machine.proofs.Arcs.{g_ins, ins_is}
@@ -253,14 +253,6 @@ module _ (s : Stored) (after : Rings) (j k n : ℕ) (a b q : Position) (w : IsWh
   size_inserted = size_over s w j k a b q i.first i.second
 
   -- ---- the index
-
-  -- in the words of an index
-  pub indexed_inserted : (held : SegmentSet) → IsIndexed (document_of s) held → (t : Segment)
-      → among (all_segments (ins (document_of s) a b q)) t
-      ≡ ((set.contains held t && not (segment_eq t (segment a b))) || among (segment a q ∷ segment q b ∷ []) t)
-  indexed_inserted held x t =
-      has-eq (all_segments (ins (document_of s) a b q)) t ∙ segments_inserted t
-      ∙ ap₂ (λ y z. (y && not (segment_eq t (segment a b))) || z) (sym (x t)) (sym (has-eq (segment a q ∷ segment q b ∷ []) t))
 
   -- after the two segments came into the index and that of a and b went, it is that of the new map
   pub reindexed_inserted : (held held' : SegmentSet) → IsIndexed (document_of s) held

@@ -3,25 +3,22 @@
 use Rattle.std.proofs.Common.{◌≡◌, ◌≤◌, ℕ, ◌+◌, Bool, true, false, refl, sym, ap, ap₂, ◌∙◌, cond}
 use Rattle.std.proofs.Common.{List, [], ◌∷◌, ◌++◌, map, length, reverse, take, drop, Some, None, arith}
 use Rattle.std.specs.Prelude.{◌==◌, not}
-use Rattle.std.specs.List.{list_all, flat_map, filter, sum_by, prefix_len}
+use Rattle.std.specs.List.{flat_map, filter, sum_by, prefix_len}
 use Rattle.std.proofs.lemmas.Bool.{eqb-true, eqb-false}
 use Rattle.std.proofs.lemmas.List.{append-nil, length-append, length-map, length-reverse, take-append-drop}
 use Rattle.std.proofs.lemmas.List.Sums.{sum_by-append, sum_by-cons}
 use Rattle.grid_geometry.specs.Position.{Position}
 use Rattle.grid_geometry.specs.Ring.{Edge, edges}
-use Rattle.ring_machine.specs.Ring.{canonical, is_ring}
+use Rattle.ring_machine.specs.Ring.{canonical}
 use Rattle.ring_machine.specs.Document.{Document, Feature}
-use Rattle.ring_machine.specs.Parts.{features, feature, rings_of, rings, size}
-use Rattle.ring_machine.specs.Planar.{Proper}
+use Rattle.ring_machine.specs.Parts.{feature, rings_of, size}
 use Rattle.ring_machine.specs.WellFormed.{WellFormed}
 use Rattle.ring_machine.specs.Join.{take_out, join, joined, joined_polygons, joined_feature, is_common}
 use Rattle.ring_machine.specs.Join.{passed_alike, off_run}
 use Rattle.ring_machine.specs.Refusals.{feature_at, or_else, no_feature}
-use Rattle.ring_machine.proofs.Found.{feature_in, feature_stands}
+use Rattle.ring_machine.proofs.Found.{feature_stands}
 use Rattle.ring_machine.proofs.MergeAccepted.{MergeAccepted}
-use Rattle.ring_machine.proofs.Neighbours.{all_in, in-flat_map}
 use Rattle.ring_machine.proofs.OtherRings.{join_order}
-use Rattle.ring_machine.proofs.Passed.{pass_all}
 use Rattle.ring_machine.proofs.StaysFormed.{formed-take_out}
 use Rattle.ring_machine.proofs.StaysProper.{edges_start}
 use Rattle.ring_machine.proofs.Without.{feature-take_out_other, size-take_out_at, size-instead_at}
@@ -83,13 +80,6 @@ joined_short r s = by (passed_alike r s)
     by : (b : Bool) → length (canonical (map (λ e. e.0) (rests r s (cond b (reverse s) s)))) ≤ length r + length s
     by true = rests_short r s (reverse s) (length-reverse s)
     by false = rests_short r s s refl
-
--- ---- the rings of a feature that is found
-
-found_rings : (d : Document) (n : ℕ) (f : Feature) → Proper d → feature d n ≡ Some f
-    → list_all is_ring (rings_of f) ≡ true
-found_rings d n f proper e = pass_all is_ring (rings_of f) (λ r i.
-    all_in is_ring (rings d) r proper.are_rings (in-flat_map rings_of f r (features d) (feature_in d n f e).0 i))
 
 -- ---- the document
 

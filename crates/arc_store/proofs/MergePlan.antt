@@ -1,8 +1,7 @@
 -- The plan of a merge: the rings of both features, and what is asked of the exchange.
-use Rattle.std.proofs.Common.{◌≡◌, ◌<◌, ℕ, true, false, sym, ap, ap₂, ◌∙◌, subst, List}
+use Rattle.std.proofs.Common.{◌≡◌, ◌<◌, ℕ, true, sym, ap, ap₂, ◌∙◌, subst, List}
 use Rattle.std.proofs.Common.{[], ◌∷◌, length, get_or, Option, Some, None, is_some, arith}
-use Rattle.std.specs.Prelude.{Vec, ◌==◌}
-use Rattle.std.specs.List.{AllByRecursion}
+use Rattle.std.specs.Prelude.{Vec}
 use Rattle.std.proofs.lemmas.List.{length-map}
 use Rattle.grid_geometry.specs.Position.{Position}
 use Rattle.ring_machine.specs.Document.{Document, Feature}
@@ -15,12 +14,14 @@ use Rattle.ring_machine.proofs.MergeAccepted.{MergeAccepted, merge-accepted}
 use Rattle.ring_machine.proofs.MergeProper.{merge_is_proper}
 use Rattle.ring_parts.specs.Merges.{joined_rings}
 use Rattle.ring_parts.specs.Seen.{rings_seen, polygons_seen}
-use Rattle.edit_records.specs.Places.{LayerTree, exchanged}
+use Rattle.edit_records.specs.Places.{exchanged}
 use Rattle.edit_records.specs.Records.{IsMap}
 use Rattle.topo_outline.specs.Kept.{KeepsTexts}
 use Rattle.topo_outline.proofs.KeptShapes.{keeps-join}
 use Rattle.map_frame.specs.Placed.{ArePlaced}
-use Rattle.arc_store.specs.Exchanged.{with_polygons}
+use Rattle.arc_store.specs.Exchanged.{MayExchange, asked_document, with_polygons}
+use Rattle.arc_store.specs.State.{State}
+use Rattle.arc_store.proofs.ChangesCounted.{two_apart}
 use Rattle.arc_store.proofs.JoinParted.{merged, merge_made, join_size, merged_short, differ}
 use Rattle.arc_store.proofs.PlacedMap.{there_below}
 
@@ -58,39 +59,42 @@ module _ (d : Document) (n m : ℕ) (asked : first_of (merge_refusals d n m) ≡
     length-map ps (λ (p : Vec (Vec Position A) A). rings_seen p.items),
   )
 
-  -- the numbers differ
-  pub numbers_differ : (m == n) ≡ false
-  numbers_differ = differ n m a.differ
+-- ---- what is asked of the exchange
 
-  module _ (trees : List LayerTree) (next : ℕ) (placed : ArePlaced trees next d) (is_map : IsMap d) (keeps : KeepsTexts d)
-      (ones others : List (List (List Position))) (u : ones ≡ (feature_at d n).polygons)
-      (v : others ≡ (feature_at d m).polygons) (one other made : List (List Position))
-      (x : one ≡ get_or ones 0 []) (y : other ≡ get_or others 0 []) (w : made ≡ joined_rings one other) where
-    made_is : made ≡ merged d n m is_map.formed a
-    made_is =
-        w ∙ ap₂ joined_rings (x ∙ ap (λ z. get_or z 0 []) (u ∙ first_is)) (y ∙ ap (λ z. get_or z 0 []) (v ∙ second_is))
+module _ (st : State) (n m : ℕ) (asked : first_of (merge_refusals st.doc n m) ≡ None) (placed : ArePlaced st.places st.next st.doc)
+    (is_map : IsMap st.doc) (keeps : KeepsTexts st.doc) (made : List (List Position))
+    (w : made ≡ joined_rings (get_or (feature_at st.doc n).polygons 0 []) (get_or (feature_at st.doc m).polygons 0 [])) where
+  -- n with these rings, and m taken out
+  abbrev asked_for : List (ℕ × Option Feature)
+  asked_for = (n, Some (with_polygons st.doc n (made ∷ []))) ∷ (m, None) ∷ []
 
-    -- what is asked for
-    abbrev pub asked_for : List (ℕ × Option Feature)
-    asked_for = (n, Some (with_polygons d n (made ∷ []))) ∷ (m, None) ∷ []
+  abbrev accepted : MergeAccepted st.doc n m
+  accepted = a st.doc n m asked
 
-    pub merge_is : exchanged trees asked_for d ≡ join d n (feature_at d m)
-    merge_is =
-        ap (λ z. exchanged trees ((n, Some (with_polygons d n (z ∷ []))) ∷ (m, None) ∷ []) d) made_is
-        ∙ merge_made d n m is_map.formed a trees placed.fills placed.formed
+  made_is : made ≡ merged st.doc n m is_map.formed accepted
+  made_is =
+      w ∙ ap₂ joined_rings (ap (λ z. get_or z 0 []) (first_is st.doc n m asked)) (ap (λ z. get_or z 0 []) (second_is st.doc n m asked))
 
-    join_map : IsMap (join d n (feature_at d m))
-    join_map = record {
-      proper = merge_is_proper d n m is_map.formed is_map.proper asked;
-      formed = formed-join d n (feature_at d m) is_map.formed;
-      small = omega (arith, join_size d n m is_map.formed a, merged_short d n m is_map.formed a, is_map.small);
-    }
+  pub merge_is : asked_document None asked_for st ≡ join st.doc n (feature_at st.doc m)
+  merge_is =
+      ap (λ z. exchanged st.places ((n, Some (with_polygons st.doc n (z ∷ []))) ∷ (m, None) ∷ []) st.doc) made_is
+      ∙ merge_made st.doc n m is_map.formed accepted st.places placed.fills placed.formed
 
-    pub merge_map : IsMap (exchanged trees asked_for d)
-    merge_map = subst IsMap (sym merge_is) join_map
+  join_map : IsMap (join st.doc n (feature_at st.doc m))
+  join_map = record {
+    proper = merge_is_proper st.doc n m is_map.formed is_map.proper asked;
+    formed = formed-join st.doc n (feature_at st.doc m) is_map.formed;
+    small = omega (arith, join_size st.doc n m is_map.formed accepted, merged_short st.doc n m is_map.formed accepted, is_map.small);
+  }
 
-    pub merge_keeps : KeepsTexts (exchanged trees asked_for d)
-    merge_keeps = subst KeepsTexts (sym merge_is) (keeps-join d n (feature_at d m) keeps)
-
-    pub merge_below : AllByRecursion (λ c. c.0 < next) asked_for
-    merge_below = (there_below trees next d placed n first_has, (there_below trees next d placed m second_has, tt))
+  pub merge_may : MayExchange None asked_for st
+  merge_may = record {
+    apart = two_apart n m (differ n m accepted.differ);
+    below = (
+      there_below st.places st.next st.doc placed n (first_has st.doc n m asked),
+      (there_below st.places st.next st.doc placed m (second_has st.doc n m asked), tt),
+    );
+    grows = tt;
+    is_map = subst IsMap (sym merge_is) join_map;
+    texts = subst KeepsTexts (sym merge_is) (keeps-join st.doc n (feature_at st.doc m) keeps);
+  }

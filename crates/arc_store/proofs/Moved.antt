@@ -11,7 +11,7 @@ use Rattle.std.proofs.lemmas.Bool.Decides.{Decides-eqb}
 use Rattle.std.proofs.lemmas.List.{map-append, length-map}
 use native.Mathlib.Decide.{ℕ_discrete}
 use Rattle.grid_geometry.specs.Position.{Position, position, position_eq}
-use Rattle.grid_geometry.specs.Segment.{Segment, segment, segment_eq, is_end, IsSegment}
+use Rattle.grid_geometry.specs.Segment.{Segment, segment, segment_eq, is_end}
 use Rattle.grid_geometry.proofs.Conflicts.{segment-comm}
 use Rattle.ring_machine.specs.Ring.{canonical, has, is_distinct}
 use Rattle.ring_machine.specs.Document.{Document}
@@ -41,7 +41,7 @@ use Rattle.shared_arcs.specs.Joined.{Joined}
 use Rattle.feature_exchange.specs.Stored.{Stored, positions_along, ring_under, document_of}
 use Rattle.feature_exchange.specs.Holds.{Visits, IsWhole, IsIndexed, Holds}
 use Rattle.ring_machine.proofs.Members.{contains_in, in_contains, in_mapped, any_in, in_any, same_answer}
-use Rattle.feature_exchange.proofs.Ends.{two_positions, end_of_two, two_ends}
+use Rattle.feature_exchange.proofs.Ends.{end_of_two, two_ends}
 use Rattle.ring_store.proofs.KeyRings.{in_canonical, length-canonical, has_key}
 use Rattle.ring_store.proofs.Places.{insert_other, IsKept, place_is, kept_place, place_kept, one_key}
 use Rattle.feature_exchange.proofs.Base.{joined_back, framed, ring_laid, key_vertex}
@@ -304,14 +304,6 @@ module _ (s : Stored) (w : IsWhole s) (k : ℕ) (p q : Position) (at : table.get
         λ m. false≢true (sym n ∙ ap (is_end p) e ∙ ap (λ z. is_end z (segment (place s.places a) (place s.places b))) (sym here ∙ ap (place s.places) (sym m)) ∙ (two_ends (place s.places a) (place s.places b)).0),
         λ m. false≢true (sym n ∙ ap (is_end p) e ∙ ap (λ z. is_end z (segment (place s.places a) (place s.places b))) (sym here ∙ ap (place s.places) (sym m)) ∙ (two_ends (place s.places a) (place s.places b)).1),
       )
-
-  -- each new segment is one
-  pub added_segment : (xs : List ℕ) → AreJoined s k xs → (t : Segment)
-      → In t (segments_to s.places q xs) → IsSegment t
-  added_segment xs j t i =
-      let x = in_mapped (λ x. segment (place s.places x) q) t xs i in
-      let joined = (j x.0).0 (in_contains xs x.0 x.1) in
-      subst IsSegment x.2 (two_positions (place s.places x.0) q (not_there x.0 (joined_kept s w k x.0 joined).1))
 
   -- and is new
   pub added_new : (xs : List ℕ) (t : Segment) → In t (segments_to s.places q xs)

@@ -1,10 +1,10 @@
 -- Vertices put back one after the other: what becomes of the vertices and the segments of a document.
-use Rattle.std.proofs.Common.{◌≡◌, ◌≤◌, ◌+◌, ◌*◌, Bool, true, false, refl, sym, ap, ap₂, ◌∙◌}
-use Rattle.std.proofs.Common.{cond, List, [], ◌∷◌, ◌++◌, map, length, ◌⊎◌, inl, inr, ◌&&◌, ◌||◌, arith}
+use Rattle.std.proofs.Common.{◌≡◌, ◌≤◌, ◌+◌, Bool, true, false, refl, sym, ap, ap₂, ◌∙◌}
+use Rattle.std.proofs.Common.{cond, List, [], ◌∷◌, ◌++◌, map, ◌⊎◌, inl, inr, ◌&&◌, ◌||◌, arith}
 use Rattle.std.specs.Prelude.{not, reverse}
 use Rattle.std.specs.List.{list_any, fold}
 use Rattle.std.proofs.lemmas.Bool.{false≢true}
-use Rattle.std.proofs.lemmas.List.{length-map, map-append, reverse-append}
+use Rattle.std.proofs.lemmas.List.{map-append, reverse-append}
 use Rattle.grid_geometry.specs.Position.{Position}
 use Rattle.grid_geometry.specs.Segment.{Segment, segment, segment_eq, is_end}
 use Rattle.grid_geometry.proofs.Conflicts.{segment-comm}
@@ -269,14 +269,6 @@ segments_back d (r ∷ rs) h t =
     by was true false false true gone f = absurd (false≢true (sym (f refl)))
     by was true false false false gone f = grind arith
     by was false first second later gone f = grind arith
-
--- two come and one goes with each
-pub length_comings : (rs : List Removal) → length (comings rs) ≡ 2 * length rs
-length_comings [] = omega arith
-length_comings (r ∷ rs) = omega (arith, length_comings rs)
-
-pub length_goings : (rs : List Removal) → length (goings rs) ≡ length rs
-length_goings rs = length-map rs (λ r. segment r.a r.b)
 
 -- what is true of the document, and of every map's, is true of the document with all
 pub true_of_all : (P : Document → Type 0) → ((d : Document) → IsMap d → P d) → (d : Document)

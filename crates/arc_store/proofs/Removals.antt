@@ -1,16 +1,15 @@
 -- What a removal of a position makes of the segments and the size of a document, where it has the
 -- same neighbours in each ring; and what stands around it then.
-use Rattle.std.proofs.Common.{◌≡◌, ◌+◌, ℤ, pos, Bool, true, false, refl, sym, ap, ap₂, ◌∙◌, subst}
+use Rattle.std.proofs.Common.{◌≡◌, ◌+◌, Bool, true, false, refl, sym, ap, ap₂, ◌∙◌, subst}
 use Rattle.std.proofs.Common.{cond, List, [], ◌∷◌, ◌++◌, length, inl, inr, ◌&&◌, ◌||◌, arith}
 use Rattle.std.proofs.Common.{append_assoc}
-use Rattle.std.specs.Prelude.{not, int_le, unsigned_abs}
+use Rattle.std.specs.Prelude.{not}
 use Rattle.std.specs.List.{flat_map, list_any, list_all, filter, sum_by}
 use Rattle.std.proofs.lemmas.Bool.{false≢true}
 use Rattle.std.proofs.lemmas.List.{length-append}
 use Rattle.std.proofs.lemmas.List.Elements.{filter-append}
 use Rattle.std.proofs.lemmas.List.Folds.{list_any-append}
 use Rattle.grid_geometry.specs.Position.{Position, position_eq}
-use Rattle.grid_geometry.specs.Orientation.{orientation}
 use Rattle.grid_geometry.specs.Segment.{Segment, segment, segment_eq, is_end}
 use Rattle.grid_geometry.specs.Ring.{Edge, edges, links}
 use Rattle.grid_geometry.proofs.Conflicts.{segment-comm}
@@ -19,7 +18,6 @@ use Rattle.ring_machine.specs.Document.{Document}
 use Rattle.ring_machine.specs.Parts.{rings, size, is_vertex, is_segment}
 use Rattle.ring_machine.specs.Refusals.{is_bridged}
 use Rattle.ring_machine.specs.Sweep.{holds_other, remove_sweeps}
-use Rattle.ring_machine.specs.Thin.{is_flat}
 use Rattle.ring_machine.specs.Vertices.{del, del_ring, around, all_equal, is_junction}
 use Rattle.ring_machine.proofs.Order.{position_eq-true, position_eq-refl}
 use Rattle.ring_machine.proofs.Orders.{segment_ordered}
@@ -218,10 +216,6 @@ any_one : (f : Segment → Bool) (s : Segment) (ss : List Segment) → ((t : Seg
     → In s ss → list_any f ss ≡ f s
 any_one f s ss h i = same_answer _ (f s) (λ e. let t = any_in f ss e in ap f (sym (h t.0 t.1)) ∙ t.2) (λ e. in_any f s ss i e)
 
-all_one : (f : Segment → Bool) (s : Segment) (ss : List Segment) → ((t : Segment) → In t ss → t ≡ s)
-    → In s ss → list_all f ss ≡ f s
-all_one f s ss h i = same_answer _ (f s) (λ e. all_in f ss s e i) (λ e. all_same f s ss h e)
-
 all_equal_one : (s : Segment) (ss : List Segment) → ((t : Segment) → In t ss → t ≡ s)
     → all_equal ss ≡ true
 all_equal_one s [] h = refl
@@ -332,6 +326,3 @@ module _ (d : Document) (p : Position) (are : AreRings d) where
     pub sweeps_by : remove_sweeps d p ≡ holds_other d (bridge.lo ∷ p ∷ bridge.hi ∷ []) bridge.lo p bridge.hi
     unfolding remove_sweeps
     sweeps_by = any_one (λ s. holds_other d (s.lo ∷ p ∷ s.hi ∷ []) s.lo p s.hi) bridge (around d p) around_is around_has
-
-    pub flat_by : (t : ℤ) → is_flat t d p ≡ int_le (pos (unsigned_abs (orientation bridge.lo p bridge.hi))) t
-    flat_by t = all_one (λ s. int_le (pos (unsigned_abs (orientation s.lo p s.hi))) t) bridge (around d p) around_is around_has

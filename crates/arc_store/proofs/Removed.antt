@@ -10,11 +10,11 @@ use Rattle.std.proofs.lemmas.Bool.Decides.{Decides-eqb}
 use Rattle.std.specs.FinSet as set
 use native.Mathlib.Decide.{ℕ_discrete}
 use Rattle.grid_geometry.specs.Position.{Position, position_eq}
-use Rattle.grid_geometry.specs.Segment.{Segment, segment, segment_eq, is_end, IsSegment}
+use Rattle.grid_geometry.specs.Segment.{Segment, segment, segment_eq, is_end}
 use Rattle.grid_geometry.specs.Ring as geometry
 use Rattle.grid_geometry.proofs.Conflicts.{segment-comm}
 use Rattle.ring_machine.specs.Ring.{canonical, has, is_ring}
-use Rattle.ring_machine.specs.Parts.{rings, all_segments, size, is_segment}
+use Rattle.ring_machine.specs.Parts.{rings, size, is_segment}
 use Rattle.ring_machine.specs.Vertices.{del, del_ring}
 use Rattle.ring_machine.specs.Planar.{Proper}
 use Rattle.ring_machine.proofs.Arcs.{is_of}
@@ -43,7 +43,7 @@ use Rattle.ring_store.proofs.SegmentLists.{has-eq}
 use Rattle.ring_machine.proofs.Members.{in_any, contains_in, in_contains, in_mapped, in_flat}
 use Rattle.ring_machine.proofs.Members.{same_answer, is_some-mapped, mapped_there}
 use Rattle.arc_store.specs.Edits.{IsLeavable}
-use Rattle.arc_store.proofs.Around.{AreTwo, two_ways, bridged_two, segments_two, bridge_two}
+use Rattle.arc_store.proofs.Around.{AreTwo, two_ways, bridged_two, segments_two}
 use Rattle.ring_store.proofs.Sums.{filter-mapped}
 use Rattle.feature_exchange.proofs.Ends.{two_ends}
 use Rattle.arc_store.proofs.Insertions.{has_segment, has_segment_by}
@@ -378,10 +378,6 @@ module _ (s : Stored) (after : Rings) (m j k : ℕ) (p : Position) (w : IsWhole 
       ≡ ((is_segment (document_of s) t && not (is_end p t)) || segment_eq t (segment (place s.places j) (place s.places k)))
   segments_removed = segments_two s w m p i.here j k i.two
 
-  -- the one that comes in is a segment, and is new
-  pub bridge_segment : IsSegment (segment (place s.places j) (place s.places k))
-  bridge_segment = bridge_two s w m p i.here j k i.two
-
   pub bridge_new : is_segment (document_of s) (segment (place s.places j) (place s.places k)) ≡ false
   bridge_new = sym (bridged_two s w m p i.here j k i.two) ∙ i.may.unjoined
 
@@ -410,17 +406,6 @@ module _ (s : Stored) (after : Rings) (m j k : ℕ) (p : Position) (w : IsWhole 
       (λ r h. has_by_segment (ring_under s r) (ring_there r h) ∙ ap (λ z. has_segment (segment z (place s.places k)) (ring_under s r)) (sym p_is) ∙ framed_has s w m k m_kept k_kept r h))
 
   -- ---- the index
-
-  -- in the words of an index
-  pub indexed_removed : (held : SegmentSet) → IsIndexed (document_of s) held → (t : Segment)
-      → among (all_segments (del (document_of s) p)) t
-      ≡ ((set.contains held t && not (is_end p t)) || among (segment (place s.places j) (place s.places k) ∷ []) t)
-  indexed_removed held x t =
-      has-eq (all_segments (del (document_of s) p)) t ∙ segments_removed t
-      ∙ ap₂ (λ y z. (y && not (is_end p t)) || z) (sym (x t)) (one_of (segment_eq t (segment (place s.places j) (place s.places k))) ∙ sym (has-eq (segment (place s.places j) (place s.places k) ∷ []) t))
-    where
-      one_of : (y : Bool) → y ≡ (y || false)
-      one_of y = grind arith
 
   -- the two neighbours, as a list
   two_joined : AreJoined s m (j ∷ k ∷ [])

@@ -1,14 +1,14 @@
 -- What a record says of the way back, as the changes of the tables ask it.
-use Rattle.std.proofs.Common.{◌≡◌, ◌<◌, ℕ, List, [], ◌∷◌, Option, None, refl, sym, ap, ◌∙◌, subst}
-use Rattle.std.specs.List.{fold, AllByRecursion}
+use Rattle.std.proofs.Common.{◌≡◌, ◌<◌, ℕ, List, [], ◌∷◌, Option, None, sym, ap, ◌∙◌, subst}
+use Rattle.std.specs.List.{AllByRecursion}
 use Rattle.grid_geometry.specs.Position.{Position}
-use Rattle.ring_machine.specs.Document.{Document, Feature, Text}
-use Rattle.ring_machine.specs.Vertices.{put, ins, del}
+use Rattle.ring_machine.specs.Document.{Document, Feature}
 use Rattle.edit_records.specs.Places.{LayerTree, exchanged}
-use Rattle.edit_records.specs.Records.{Record, Removal, Moved, Inserted, Removed, Thinned, Renamed, Exchanged}
-use Rattle.edit_records.specs.Records.{back, put_back, with_id, IsMap, AreChanged, Undoes}
+use Rattle.edit_records.specs.Records.{Record, Moved, Inserted, Exchanged}
+use Rattle.edit_records.specs.Records.{back, IsMap, AreChanged, Undoes}
 use Rattle.topo_outline.specs.Kept.{KeepsTexts}
-use Rattle.arc_store.specs.Edits.{IsMovable, IsPlaceable, IsLeavable}
+use Rattle.arc_store.specs.Edits.{IsMovable, IsLeavable}
+use Rattle.arc_store.specs.Exchanged.{MayExchange}
 use Rattle.arc_store.specs.State.{State}
 
 module _ (trees : List LayerTree) (next : ℕ) (d : Document) where
@@ -25,41 +25,6 @@ module _ (trees : List LayerTree) (next : ℕ) (d : Document) where
     unjoined = u.fits.unjoined;
     apart = u.map.proper.apart;
   }
-
-  pub placeable_back : (r : Removal) → Undoes trees next d (Removed r) → IsPlaceable d r.a r.b r.at
-  unfolding back
-  placeable_back r u = record {
-    different = u.fits.apart;
-    border = u.fits.joined;
-    free = u.fits.free;
-    small = u.map.small;
-    apart = u.map.proper.apart;
-  }
-
-  -- the document before, kind by kind
-  pub back_moved : (p q : Position) → put d q p ≡ back trees (Moved p q) d
-  unfolding back
-  back_moved p q = refl
-
-  pub back_inserted : (q : Position) → del d q ≡ back trees (Inserted q) d
-  unfolding back
-  back_inserted q = refl
-
-  pub back_removed : (r : Removal) → ins d r.a r.b r.at ≡ back trees (Removed r) d
-  unfolding back
-  back_removed r = refl
-
-  pub back_thinned : (rs : List Removal) → fold put_back d rs ≡ back trees (Thinned rs) d
-  unfolding back
-  back_thinned rs = refl
-
-  pub back_renamed : (n : ℕ) (id : Option Text) → with_id d n id ≡ back trees (Renamed n id) d
-  unfolding back
-  back_renamed n id = refl
-
-  pub back_exchanged : (cs : List (ℕ × Option Feature)) → exchanged trees cs d ≡ back trees (Exchanged cs) d
-  unfolding back
-  back_exchanged cs = refl
 
 -- ---- after the edit began
 
@@ -91,9 +56,13 @@ below_each : (next : ℕ) (cs : List (ℕ × Option Feature)) → AreChanged nex
 below_each next [] h = tt
 below_each next (c ∷ cs) h = (h.0, below_each next cs h.2)
 
-module _ (now : State) (cs : List (ℕ × Option Feature)) (u : Undoes now.places now.next now.doc (Exchanged cs)) where
-  pub below_back : AllByRecursion (λ c. c.0 < now.next) cs
-  below_back = below_each now.next cs u.fits.1
-
-  pub map_back : IsMap (exchanged now.places cs now.doc)
-  map_back = subst IsMap (sym (back_exchanged now.places now.next now.doc cs)) u.map
+pub may_back : (now : State) (cs : List (ℕ × Option Feature)) → Undoes now.places now.next now.doc (Exchanged cs)
+    → KeepsTexts (exchanged now.places cs now.doc) → MayExchange None cs now
+unfolding back
+may_back now cs u keeps = record {
+  apart = u.fits.0;
+  below = below_each now.next cs u.fits.1;
+  grows = tt;
+  is_map = u.map;
+  texts = keeps;
+}

@@ -44,6 +44,12 @@ some_there : {X : Type 0} (o : Option X) → is_some o ≡ true → (x : X) × (
 some_there None e = absurd (false≢true e)
 some_there (Some x) e = (x, refl)
 
+-- what is asked for: both parts of feature n, cut in the polygon p at this place
+abbrev pub both_parts : Document → ℕ → ℕ → Text → Path → ℕ → List (List Position) → List (ℕ × Option Feature)
+both_parts d n new id path place p =
+    (n, Some (with_polygons d n (slice_set (feature_at d n).polygons place (first_polygon path p))))
+    ∷ (new, Some (part_of d n new id (second_polygon path p))) ∷ []
+
 module _ (trees : List LayerTree) (d : Document) (n new : ℕ) (id : Text) (path : Path) (place : ℕ)
     (p : List (List Position)) (placed : ArePlaced trees new d) (a : IsCuttable d n path)
     (c : IsFirstCut (feature_at d n).polygons path place p) where
@@ -73,13 +79,7 @@ module _ (trees : List LayerTree) (d : Document) (n new : ℕ) (id : Text) (path
   new_is =
       ap (λ (f : Feature). with_texts new (record (texts_of f) { id = Some id; form = Polygon }) (second_polygon path p ∷ [])) (sym at)
 
-  -- what is asked for
-  abbrev pub both_parts : List (ℕ × Option Feature)
-  both_parts =
-      (n, Some (with_polygons d n (slice_set (feature_at d n).polygons place (first_polygon path p))))
-      ∷ (new, Some (part_of d n new id (second_polygon path p))) ∷ []
-
-  pub split_made : exchanged (grown n new trees) both_parts d ≡ cut d n id path new
+  pub split_made : exchanged (grown n new trees) (both_parts d n new id path place p) d ≡ cut d n id path new
   split_made =
       ap₂ (λ x y. exchanged (grown n new trees) ((n, Some x) ∷ (new, Some y) ∷ []) d) (sym stays_is) (sym new_is)
       ∙ sym (cut-made trees d n id path new found.0 p placed.fills found.1 first_cut.first a.inside (next_free trees new d placed))

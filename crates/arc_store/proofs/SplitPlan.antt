@@ -1,8 +1,8 @@
 -- The plan of a split: what the tests are asked of, what they decide, and what is kept.
-use Rattle.std.proofs.Common.{◌≡◌, ◌≤◌, ◌<◌, ℕ, ◌+◌, Bool, true, false, refl, sym, ap, subst}
-use Rattle.std.proofs.Common.{List, [], ◌∷◌, map, length, slice_set, zero, suc, Option, None, eqb-true, arith}
-use Rattle.std.specs.Prelude.{not, nat_le, nat_lt, ◌==◌}
-use Rattle.std.specs.List.{list_any, sum_by, AllByRecursion}
+use Rattle.std.proofs.Common.{◌≡◌, ◌≤◌, ◌<◌, ℕ, ◌+◌, Bool, true, false, refl, sym, ap, ap₂, ◌∙◌, subst}
+use Rattle.std.proofs.Common.{List, [], ◌∷◌, map, length, slice_set, zero, suc, Option, Some, None, eqb-true, arith}
+use Rattle.std.specs.Prelude.{Vec, not, nat_le, nat_lt, ◌==◌}
+use Rattle.std.specs.List.{list_any, sum_by}
 use Rattle.std.proofs.lemmas.Bool.Decides.{nat_tests}
 use Rattle.std.proofs.lemmas.List.{length-append}
 use Rattle.std.proofs.lemmas.List.Sums.{sum_by-cons, sum_by_more_le}
@@ -20,7 +20,7 @@ use Rattle.ring_machine.specs.Refusals.{feature_at, split_refusals, ◌unless◌
 use Rattle.ring_machine.proofs.SplitDocuments.{split-accepted}
 use Rattle.ring_machine.proofs.SplitProper.{split_is_proper}
 use Rattle.ring_machine.proofs.SplitSegments.{path_segments}
-use Rattle.ring_parts.specs.Seen.{outer_length}
+use Rattle.ring_parts.specs.Seen.{outer_length, rings_seen, polygons_seen}
 use Rattle.vertex_index.specs.Placement.{Placement}
 use Rattle.segment_index.specs.Candidates.{SegmentSet}
 use Rattle.segment_index.specs.Frames.{Frame as GridFrame}
@@ -29,16 +29,16 @@ use Rattle.arc_tables.specs.Rings.{Rings}
 use Rattle.local_planarity.specs.Edits.{IsAfter}
 use Rattle.local_planarity.specs.Tests.{most_for, most_tests}
 use Rattle.local_planarity.specs.declared.leaving.Leaving.TheVariants.{Nothing}
-use Rattle.edit_records.specs.Places.{LayerTree, grown, exchanged}
 use Rattle.edit_records.specs.Records.{IsMap, Record}
 use Rattle.topo_outline.specs.Kept.{KeepsTexts, IsJson}
 use Rattle.topo_outline.proofs.KeptShapes.{keeps-cut}
 use Rattle.map_frame.specs.Placed.{ArePlaced}
-use Rattle.feature_exchange.specs.Changed.{MayGrow}
 use Rattle.arc_store.proofs.PlacedMap.{next_new, there_below}
 use Rattle.arc_store.proofs.SplitMade.{both_parts, split_made}
+use Rattle.arc_store.proofs.ChangesCounted.{two_apart}
 use Rattle.ring_machine.proofs.CutJoined.{formed-cut}
 use Rattle.map_frame.specs.Framed.{Framed}
+use Rattle.arc_store.specs.Exchanged.{asked_document, MayExchange}
 use Rattle.arc_store.specs.Kept.{IsKept, state_of}
 use Rattle.arc_store.specs.Splits.{IsCuttable, IsFirstCut, IsTested}
 use Rattle.arc_store.specs.State.{State}
@@ -108,52 +108,49 @@ module _ {frame : Framed} {rings : Rings} {places : Placement} {held : SegmentSe
 
 -- ---- what is asked of the exchange
 
-module _ (trees : List LayerTree) (next : ℕ) (d : Document) (n : ℕ) (id : Text) (p : Path) (place : ℕ) (q : List (List Position))
-    (placed : ArePlaced trees next d) (is_map : IsMap d) (keeps : KeepsTexts d) (json : IsJson id) (a : IsCuttable d n p)
-    (c : IsFirstCut (feature_at d n).polygons p place q) (accepted : first_of (split_refusals d next n id p) ≡ None) where
-  abbrev pub asked_for : List (ℕ × Option Feature)
-  asked_for = both_parts trees d n next id p place q placed a c
+module _ (st : State) (n : ℕ) (id : Text) (p : Path) (place : ℕ) (q : List (List Position))
+    (placed : ArePlaced st.places st.next st.doc) (keeps : KeepsTexts st.doc) (json : IsJson id) (a : IsCuttable st.doc n p)
+    (c : IsFirstCut (feature_at st.doc n).polygons p place q) (accepted : first_of (split_refusals st.doc st.next n id p) ≡ None) where
+  abbrev asked_for : List (ℕ × Option Feature)
+  asked_for = both_parts st.doc n st.next id p place q
 
-  pub split_is : exchanged (grown n next trees) asked_for d ≡ cut d n id p next
-  split_is = split_made trees d n next id p place q placed a c
+  pub split_is : asked_document (Some n) asked_for st ≡ cut st.doc n id p st.next
+  split_is = split_made st.places st.doc n st.next id p place q placed a c
 
-  cut_map : IsMap (cut d n id p next)
+  cut_map : IsMap (cut st.doc n id p st.next)
   cut_map = record {
-    proper = split_is_proper d next n id p a.formed a.proper accepted;
-    formed = formed-cut d n id p next a.formed a.inside (next_new trees next d placed);
-    small = at_most (size (cut d n id p next)) (split-accepted d next n id p accepted).small;
+    proper = split_is_proper st.doc st.next n id p a.formed a.proper accepted;
+    formed = formed-cut st.doc n id p st.next a.formed a.inside (next_new st.places st.next st.doc placed);
+    small = at_most (size (cut st.doc n id p st.next)) (split-accepted st.doc st.next n id p accepted).small;
   }
 
-  pub split_map : IsMap (exchanged (grown n next trees) asked_for d)
-  split_map = subst IsMap (sym split_is) cut_map
-
-  pub split_keeps : KeepsTexts (exchanged (grown n next trees) asked_for d)
-  split_keeps = subst KeepsTexts (sym split_is) (keeps-cut d n id p next a.formed json keeps)
-
-  pub split_grows : MayGrow d next n
-  split_grows = record {
-    there = a.there;
-    inside = a.inside;
-    few = below next (split-accepted d next n id p accepted).numbers_left;
-  }
+  number_below : n < st.next
+  number_below = there_below st.places st.next st.doc placed n a.there
 
   -- the number of the part is another one
-  pub split_differ : (next == n) ≡ false
-  split_differ = by (next == n) refl
+  differ : (st.next == n) ≡ false
+  differ = by (st.next == n) refl
     where
-      by : (b : Bool) → (next == n) ≡ b → b ≡ false
+      by : (b : Bool) → (st.next == n) ≡ b → b ≡ false
       by false e = refl
-      by true e = absurd (let l = there_below trees next d placed n a.there in let s : next ≡ n = eqb-true next n e in omega (arith, l, s))
+      by true e = absurd (let s : st.next ≡ n = eqb-true st.next n e in omega (arith, number_below, s))
 
-  pub split_below : AllByRecursion (λ x. x.0 < next + 1) asked_for
-  split_below =
-      let l = there_below trees next d placed n a.there in
-      let first : n < next + 1 = omega (arith, l) in
-      (first, (let second : next < next + 1 = omega arith in second, tt))
+  pub split_may : MayExchange (Some n) asked_for st
+  split_may = record {
+    apart = two_apart n st.next differ;
+    below = (let first : n < st.next + 1 = omega (arith, number_below) in first, (let second : st.next < st.next + 1 = omega arith in second, tt));
+    grows = record {
+      there = a.there;
+      inside = a.inside;
+      few = below st.next (split-accepted st.doc st.next n id p accepted).numbers_left;
+    };
+    is_map = subst IsMap (sym split_is) cut_map;
+    texts = subst KeepsTexts (sym split_is) (keeps-cut st.doc n id p st.next a.formed json keeps);
+  }
 
 -- ---- lists that were written twice
 
-pub set_again : {X : Type 0} (xs : List X) (i : ℕ) (x y : X) → slice_set (slice_set xs i x) i y ≡ slice_set xs i y
+set_again : {X : Type 0} (xs : List X) (i : ℕ) (x y : X) → slice_set (slice_set xs i x) i y ≡ slice_set xs i y
 set_again [] i x y = refl
 set_again (z ∷ xs) zero x y = refl
 set_again (z ∷ xs) (suc i) x y = ap (λ w. z ∷ w) (set_again xs i x y)
@@ -162,6 +159,15 @@ pub set_mapped : {X Y : Type 0} (f : X → Y) (xs : List X) (i : ℕ) (x : X) �
 set_mapped f [] i x = refl
 set_mapped f (z ∷ xs) zero x = refl
 set_mapped f (z ∷ xs) (suc i) x = ap (λ w. f z ∷ w) (set_mapped f xs i x)
+
+-- the rings that stay come where those of the cut polygon were taken out
+pub put_first : {A : Type 0} (others : List (Vec (Vec Position A) A)) (polygons : List (List (List Position))) (place : ℕ)
+    (first : Vec (Vec Position A) A) (made : List (List Position))
+    → polygons_seen others ≡ slice_set polygons place [] → rings_seen first.items ≡ made
+    → polygons_seen (slice_set others place first) ≡ slice_set polygons place made
+put_first {A} others polygons place first made e h =
+    set_mapped (λ (v : Vec (Vec Position A) A). rings_seen v.items) others place first
+    ∙ ap₂ (λ z y. slice_set z place y) e h ∙ set_again polygons place [] made
 
 -- ---- what the tests decide
 

@@ -132,15 +132,10 @@ module _ {frame : Framed} {rings : Rings} {places : Placement} {held : SegmentSe
       → (m : ℕ) → ((ss : List Segment) → IsAfter held (One before) after ss → m ≤ l + most_tests (times_by cells) ss after)
       → m ≤ now.tests + most_for (times_by now.cells) now.doc (ins now.doc a b q)
   inserted_few a b q border free small before after goes comes m few =
-      let s = stored frame rings places in
-      let border' : is_segment doc (segment a b) ≡ true = ap (λ (z : State). is_segment z.doc (segment a b)) is ∙ border in
-      let free' : is_vertex doc q ≡ false = ap (λ (z : State). is_vertex z.doc q) is ∙ free in
-      let small' : size (ins doc a b q) ≤ 4000000 = subst (λ (z : State). size (ins z.doc a b q) ≤ 4000000) (sym is) small in
       subst (λ (z : State). m ≤ z.tests + most_for (times_by z.cells) z.doc (ins z.doc a b q)) is
       (edit_few doc (ins doc a b q) held kept.holds.indexed (One before) after
-      (insert_passed doc held a b q (insertable s held kept.holds a b q border' free' small') before after goes comes) (times_by cells)
-      (subst (AreNew held) (sym comes) (insert_new s held kept.holds a b q border' free'))
-      (subst AreSingle (sym comes) (insert_single s held kept.holds a b q border' free')) l m few)
+      (insert_passed doc held a b q (insertable kept is a b q border free small) before after goes comes) (times_by cells)
+      (insert_new kept is a b q border free comes) (insert_single kept is a b q border free comes) l m few)
 
   -- a removal of p, for which a segment comes
   pub removed_few : (p : Position) (after : Segment) (before : List Segment)

@@ -23,7 +23,8 @@ use Rattle.arc_tables.specs.Edited.{through, throughs, gained}
 use Rattle.arc_tables.specs.Rings.{Rings}
 use Rattle.map_frame.specs.Framed.{Framed}
 use Rattle.ring_store.proofs.Places.{insert_other}
-use Rattle.edit_records.specs.Records.{IsRemoved}
+use Rattle.edit_records.specs.Records.{IsRemoved, Record}
+use Rattle.segment_index.specs.Frames.{Frame as GridFrame}
 use Rattle.feature_exchange.specs.Stored.{Stored, stored, document_of}
 use Rattle.feature_exchange.specs.Holds.{IsWhole, IsIndexed}
 use Rattle.feature_exchange.proofs.Base.{vertex_key, key_vertex}
@@ -31,7 +32,8 @@ use Rattle.ring_store.specs.Many.{ArePlaceable, comings, goings, AreKeyed, ArePu
 use Rattle.ring_store.specs.Planned.{AreNew, Exchanges}
 use Rattle.ring_store.specs.declared.removal.Removal.{Removal}
 use Rattle.arc_store.specs.Edits.{IsPlaceable}
-use Rattle.arc_store.specs.Kept.{IsKept}
+use Rattle.arc_store.specs.Kept.{IsKept, state_of}
+use Rattle.arc_store.specs.State.{State}
 use Rattle.arc_store.specs.Recorded.{removal_seen}
 use Rattle.arc_store.proofs.Inserted.{Insertion, with_vertex, document_inserted, whole_inserted, size_inserted}
 use Rattle.arc_store.proofs.PutBack.{with_one, with_all, AreOut, vertex_stays, vertex_new, vertex_came, border_there}
@@ -182,9 +184,14 @@ back_again s (r ∷ rs) (p ∷ ps) rings places w proper h k e =
 
 -- ---- the map
 
-module _ (frame : Framed) (rings : Rings) (places : Placement) (held : SegmentSet) (positions : ℕ) (m : IsKept frame rings places held positions) (rs : List Removal) (h : AreOut (document_of (stored frame rings places)) rs) where
+module _ {frame : Framed} {rings : Rings} {places : Placement} {held : SegmentSet} {positions : ℕ} (m : IsKept frame rings places held positions)
+    {l : ℕ} {cells : Option GridFrame} {o : Option Record} {now : State} (is : state_of frame rings places l cells o ≡ now)
+    (rs : List Removal) (fits : AreOut now.doc rs) where
   abbrev was : Stored
   was = stored frame rings places
+
+  h : AreOut (document_of was) rs
+  h = subst (λ (s : State). AreOut s.doc rs) (sym is) fits
 
   pub small_again : size (with_all (document_of was) rs) ≤ 4000000
   small_again = true_of_all (λ d. size d ≤ 4000000) (λ d i. i.small) (document_of was) rs h m.holds.small
@@ -211,12 +218,12 @@ module _ (frame : Framed) (rings : Rings) (places : Placement) (held : SegmentSe
         let again = back_again was rs puts (mapped (throughs puts) rings) places' m.holds.whole m.holds.proper h k (get-mapped (throughs puts) rings) in
         omega (arith, again.grown, small_again)
 
-  module _ (rings' : Rings) (places' : Placement) (n : ℕ) (b : ArePutBack places places' rings rings' rs n) where
+  module _ {rings' : Rings} {places' : Placement} {n : ℕ} (b : ArePutBack places places' rings rings' rs n) where
     again : BackAgain was rs b.puts (stored frame rings' places')
     again = back_again was rs b.puts rings' places' m.holds.whole m.holds.proper h b.keyed b.edited
 
-    pub document_again : document_of (stored frame rings' places') ≡ with_all (document_of was) rs
-    document_again = again.document
+    pub document_now : document_of (stored frame rings' places') ≡ with_all now.doc rs
+    document_now = again.document ∙ ap (λ (s : State). with_all s.doc rs) is
 
     pub size_again : size (with_all (document_of was) rs) ≡ positions + n
     size_again = omega (arith, again.grown, b.many, m.sized)
@@ -233,9 +240,9 @@ module _ (frame : Framed) (rings : Rings) (places : Placement) (held : SegmentSe
           whole = again.whole;
           formed = m.holds.formed;
           keeps = m.holds.keeps;
-          proper = subst Proper (sym document_again) (true_of_all Proper (λ d i. i.proper) (document_of was) rs h m.holds.proper);
-          small = subst (λ d. size d ≤ 4000000) (sym document_again) small_again;
-          indexed = subst (λ d. IsIndexed d held') (sym document_again) indexed_again;
+          proper = subst Proper (sym again.document) (true_of_all Proper (λ d i. i.proper) (document_of was) rs h m.holds.proper);
+          small = subst (λ d. size d ≤ 4000000) (sym again.document) small_again;
+          indexed = subst (λ d. IsIndexed d held') (sym again.document) indexed_again;
         };
-        sized = sym size_again ∙ sym (ap size document_again);
+        sized = sym size_again ∙ sym (ap size again.document);
       }

@@ -1,11 +1,15 @@
 -- Features exchanged in a map, and the features that an edit asks for.
-use Rattle.std.specs.Prelude.{ℕ, List, [], ◌∷◌, Option, Some}
+use Rattle.std.specs.Prelude.{ℕ, List, [], ◌∷◌, ◌≡◌, ◌<◌, true, map, Option, Some, IfSome}
+use Rattle.std.specs.List.{AllByRecursion}
 use Rattle.grid_geometry.specs.Position.{Position}
 use Rattle.ring_machine.specs.Document.{Text, Polygon, Feature, Document}
 use Rattle.ring_machine.specs.Refusals.{feature_at}
+use Rattle.ring_machine.specs.WellFormed.{are_distinct}
 use Rattle.edit_records.specs.Places.{exchanged}
+use Rattle.edit_records.specs.Records.{IsMap}
+use Rattle.topo_outline.specs.Kept.{KeepsTexts}
 use Rattle.map_frame.specs.Texts.{texts_of, with_texts}
-use Rattle.feature_exchange.specs.Changed.{trees_after, number_after}
+use Rattle.feature_exchange.specs.Changed.{trees_after, number_after, MayGrow}
 use Rattle.arc_store.specs.State.{State}
 
 -- the document in which these numbers have these features, or none; where a new number is to come
@@ -20,6 +24,15 @@ exchanged_state after cs st = record st {
   next = number_after after st.next;
   places = trees_after after st.next st.places;
 }
+
+-- these numbers may be given these features, or none: each is named once, and is made; what comes of
+-- it is a map again
+pub record MayExchange (after : Option ℕ) (cs : List (ℕ × Option Feature)) (st : State) : Type 0 where
+  pub apart : are_distinct (map (λ c. c.0) cs) ≡ true
+  pub below : AllByRecursion (λ c. c.0 < number_after after st.next) cs
+  pub grows : IfSome after (MayGrow st.doc st.next)
+  pub is_map : IsMap (asked_document after cs st)
+  pub texts : KeepsTexts (asked_document after cs st)
 
 -- feature n with these polygons
 abbrev pub with_polygons : Document → ℕ → List (List (List Position)) → Feature

@@ -1,14 +1,10 @@
 // Features exchanged in a map: what every edit of features goes through.
-ghost use Rattle.std.specs.Prelude.{◌≡◌, ◌<◌, ◌∷◌, [], true, Some, map, IsTrue, IfOk, IfSome, OnOk, OnErr};
-ghost use Rattle.std.specs.List.{AllByRecursion};
+ghost use Rattle.std.specs.Prelude.{◌≡◌, ◌∷◌, [], true, Some, IfOk, OnOk, OnErr};
 ghost use Rattle.edit_records.specs.Places.{had_before};
-ghost use Rattle.edit_records.specs.Records.{IsMap};
 ghost use Rattle.ring_machine.specs.Parts.{has_feature};
-ghost use Rattle.ring_machine.specs.WellFormed.{are_distinct};
 ghost use Rattle.ring_parts.specs.Seen.{rings_seen, polygons_seen};
-ghost use Rattle.topo_outline.specs.Kept.{KeepsTexts};
-ghost use Rattle.feature_exchange.specs.Changed.{seen, number_after, MayGrow};
-ghost use Rattle.arc_store.specs.Exchanged.{asked_document, exchanged_state, with_polygons, part_of};
+ghost use Rattle.feature_exchange.specs.Changed.{seen};
+ghost use Rattle.arc_store.specs.Exchanged.{MayExchange, exchanged_state, with_polygons, part_of};
 
 use crate::map::Map;
 use feature_exchange::{Change, WholeFeature, count_changes, exchange_features, one_polygon};
@@ -70,12 +66,7 @@ impl<'a, I: SegIndex, A: Allocator + Copy> Map<'a, I, A> {
         after: Option<u32>,
         changes: &mut [Change<'a, A>],
     ) -> Result<(), AllocError>
-        requires apart { IsTrue (are_distinct (map (λ c. c.0) (seen changes.old))) }
-        requires below { AllByRecursion (λ c. c.0 < number_after after self.old.next)
-            (seen changes.old) }
-        requires grows { IfSome after (MayGrow self.old.doc self.old.next) }
-        requires map { IsMap (asked_document after (seen changes.old) self.old) }
-        requires texts { KeepsTexts (asked_document after (seen changes.old) self.old) }
+        requires { MayExchange after (seen changes.old) self.old }
         ensures exchanged { OnOk result (self.new ≡ exchanged_state after (seen changes.old) self.old) }
         ensures had { OnOk result (seen changes.new ≡ had_before self.old.doc (seen changes.old)) }
         ensures unchanged { OnErr result (self.new ≡ self.old) }

@@ -2,37 +2,28 @@ use Rattle.std.proofs.Common.{sym, subst, ap, ◌∙◌, arith}
 use Rattle.std.proofs.lemmas.Result.{err_from_is_err_and}
 use Rattle.ring_machine.specs.Parts.{is_segment}
 use Rattle.ring_machine.specs.Vertices.{ins}
-use Rattle.segment_index.specs.Candidates.{AreSingle}
 use Rattle.feature_exchange.specs.Stored.{stored, document_of}
 use Rattle.arc_store.specs.Edits.{IsPlaceable}
-use Rattle.ring_store.specs.Planned.{AreNew}
 use Rattle.arc_store.specs.State.{State}
+use Rattle.arc_store.proofs.Around.{none_joined}
 use Rattle.arc_store.proofs.InsertPlan.{first_key, second_key, insert_off, insert_new, insert_single}
-use Rattle.arc_store.proofs.InsertPlan.{insert_unjoined, doc_inserted, size_grows, kept_inserted}
+use Rattle.arc_store.proofs.InsertPlan.{doc_inserted, size_grows, kept_inserted}
 use Rattle.arc_store.proofs.StateKept.{with_document, same_tables}
 use Rattle.arc_store.proofs.map.Map.insert_tables.Goals as goal
 
 pub read_parting-requires-clause-first : goal.read_parting-requires-clause-first
-read_parting-requires-clause-first g c =
-    let m = c.self.inside in
-    first_key (stored m.frame m.rings.borders m.rings.vertices) m.rings.index.held c.self.invariant.holds c.args.a c.args.b c.args.q (rw (← c.self.view_is) at c.requires.placeable.border) (rw (← c.self.view_is) at c.requires.placeable.free)
+read_parting-requires-clause-first g c = first_key c.self.invariant c.self.view_is c.args.a c.args.b c.args.q c.requires.placeable.border c.requires.placeable.free
 
 pub read_parting-requires-clause-second : goal.read_parting-requires-clause-second
-read_parting-requires-clause-second g c =
-    let m = c.self.inside in
-    second_key (stored m.frame m.rings.borders m.rings.vertices) m.rings.index.held c.self.invariant.holds c.args.a c.args.b c.args.q (rw (← c.self.view_is) at c.requires.placeable.border) (rw (← c.self.view_is) at c.requires.placeable.free)
+read_parting-requires-clause-second g c = second_key c.self.invariant c.self.view_is c.args.a c.args.b c.args.q c.requires.placeable.border c.requires.placeable.free
 
 pub read_parting-requires-clause-apart : goal.read_parting-requires-clause-apart
-read_parting-requires-clause-apart g c =
-    let m = c.self.inside in
-    insert_off (stored m.frame m.rings.borders m.rings.vertices) m.rings.index.held c.self.invariant.holds c.args.a c.args.b c.args.q (rw (← c.self.view_is) at c.requires.placeable.border) (rw (← c.self.view_is) at c.requires.placeable.free)
+read_parting-requires-clause-apart g c = insert_off c.self.invariant c.self.view_is c.args.a c.args.b c.args.q c.requires.placeable.border c.requires.placeable.free
 
 pub put_in-requires-clause-unjoined : goal.put_in-requires-clause-unjoined
-put_in-requires-clause-unjoined g c =
+put_in-requires-clause-unjoined g c = λ k x e.
     let m = c.self.inside in
-    let p = c.in_ok-parting.parting in
-    let r = c.in_ok-parting.ensures.read in
-    insert_unjoined (stored m.frame m.rings.borders m.rings.vertices) m.rings.index.held c.self.invariant.holds c.args.a c.args.b c.args.q (rw (← c.self.view_is) at c.requires.placeable.border) (rw (← c.self.view_is) at c.requires.placeable.free) p.ends.0 p.ends.1 r.first r.second
+    none_joined (stored m.frame m.rings.borders m.rings.vertices) c.self.invariant.holds.whole k e x
 
 pub put_in-requires-clause-held : goal.put_in-requires-clause-held
 put_in-requires-clause-held g c =
@@ -42,47 +33,30 @@ put_in-requires-clause-held g c =
     ∙ rw (← c.self.view_is) at c.requires.placeable.border
 
 pub put_in-requires-clause-new : goal.put_in-requires-clause-new
-put_in-requires-clause-new g c =
-    let m = c.self.inside in
-    subst (AreNew m.rings.index.held) (sym (c.as_slice-after.ensures.value ∙ c.in_ok-parting.ensures.read.comes))
-    (insert_new (stored m.frame m.rings.borders m.rings.vertices) m.rings.index.held c.self.invariant.holds c.args.a c.args.b c.args.q (rw (← c.self.view_is) at c.requires.placeable.border) (rw (← c.self.view_is) at c.requires.placeable.free))
+put_in-requires-clause-new g c = insert_new c.self.invariant c.self.view_is c.args.a c.args.b c.args.q c.requires.placeable.border c.requires.placeable.free (c.as_slice-after.ensures.value ∙ c.in_ok-parting.ensures.read.comes)
 
 pub put_in-requires-clause-single : goal.put_in-requires-clause-single
-put_in-requires-clause-single g c =
-    let m = c.self.inside in
-    subst AreSingle (sym (c.as_slice-after.ensures.value ∙ c.in_ok-parting.ensures.read.comes))
-    (insert_single (stored m.frame m.rings.borders m.rings.vertices) m.rings.index.held c.self.invariant.holds c.args.a c.args.b c.args.q (rw (← c.self.view_is) at c.requires.placeable.border) (rw (← c.self.view_is) at c.requires.placeable.free))
+put_in-requires-clause-single g c = insert_single c.self.invariant c.self.view_is c.args.a c.args.b c.args.q c.requires.placeable.border c.requires.placeable.free (c.as_slice-after.ensures.value ∙ c.in_ok-parting.ensures.read.comes)
 
 pub overflow_add-self : goal.overflow_add-self
 overflow_add-self g c =
-    let m = c.self.inside in
-    let p = c.in_ok-parting.parting in
-    let r = c.in_ok-parting.ensures.read in
     let may = subst (λ (z : State). IsPlaceable z.doc c.args.a c.args.b c.args.q) (sym c.self.view_is) c.requires.placeable in
     omega (
       arith,
       may.small,
-      size_grows m.frame m.rings.borders c.put_in.new.tables.borders m.rings.vertices c.put_in.new.tables.vertices m.rings.index.held c.put_in.new.tables.index.held m.positions c.self.invariant p.ends.0 p.ends.1 c.args.a c.args.b c.args.q r.first r.second may c.in_ok-rings.ensures.put c.in_ok-rings.rings c.in_ok-rings.ensures.rings,
+      size_grows c.self.invariant c.in_ok-parting.ensures.read may c.in_ok-rings.ensures.put c.in_ok-rings.ensures.rings,
     )
 
 pub invariant_of-self-2 : goal.invariant_of-self-2
 invariant_of-self-2 g c =
-    let m = c.self.inside in
-    let p = c.in_ok-parting.parting in
-    let r = c.in_ok-parting.ensures.read in
     let may = subst (λ (z : State). IsPlaceable z.doc c.args.a c.args.b c.args.q) (sym c.self.view_is) c.requires.placeable in
-    kept_inserted m.frame m.rings.borders c.put_in.new.tables.borders m.rings.vertices c.put_in.new.tables.vertices m.rings.index.held c.put_in.new.tables.index.held m.positions c.self.invariant p.ends.0 p.ends.1 c.args.a c.args.b c.args.q r.first r.second may c.in_ok-rings.ensures.put c.in_ok-rings.rings c.in_ok-rings.ensures.rings
-    p.before c.as_slice-after.result.now r.goes (c.as_slice-after.ensures.value ∙ r.comes) c.in_ok-rings.ensures.exchanged
+    kept_inserted c.self.invariant c.in_ok-parting.ensures.read may c.in_ok-rings.ensures.put c.in_ok-rings.ensures.rings c.put_in.new.tables.index.held c.as_slice-after.ensures.value c.in_ok-rings.ensures.exchanged
 
 pub returns-clause-inserted : goal.returns-clause-inserted
 returns-clause-inserted g c =
-    let m = c.self.inside in
-    let p = c.in_ok-parting.parting in
-    let r = c.in_ok-parting.ensures.read in
     let may = subst (λ (z : State). IsPlaceable z.doc c.args.a c.args.b c.args.q) (sym c.self.view_is) c.requires.placeable in
     with_document c.self.invariant c.self.view_is c.put_in.new.tables.borders c.put_in.new.tables.vertices c.put_in.new.tables.index.cells
-    (doc_inserted m.frame m.rings.borders c.put_in.new.tables.borders m.rings.vertices c.put_in.new.tables.vertices m.rings.index.held c.put_in.new.tables.index.held m.positions c.self.invariant p.ends.0 p.ends.1 c.args.a c.args.b c.args.q r.first r.second may c.in_ok-rings.ensures.put
-    ∙ ap (λ z. ins z.doc c.args.a c.args.b c.args.q) c.self.view_is)
+    (doc_inserted c.self.invariant c.in_ok-parting.ensures.read may c.in_ok-rings.ensures.put ∙ ap (λ z. ins z.doc c.args.a c.args.b c.args.q) c.self.view_is)
     c.put_in.ensures.cells
 
 pub returns-in_err-rings-clause-unchanged : goal.returns-in_err-rings-clause-unchanged

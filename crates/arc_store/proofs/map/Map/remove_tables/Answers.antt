@@ -5,7 +5,7 @@ use Rattle.feature_exchange.specs.Stored.{stored}
 use Rattle.ring_machine.specs.Vertices.{del, is_junction}
 use Rattle.arc_store.specs.Edits.{IsLeavable}
 use Rattle.arc_store.specs.State.{State}
-use Rattle.arc_store.proofs.RemovePlan.{has_bridging, found, found_planned, not_joined, three_apart, taken}
+use Rattle.arc_store.proofs.RemovePlan.{has_bridging, found, planned, not_joined, three_apart, taken}
 use Rattle.arc_store.proofs.StateKept.{with_document, same_tables}
 use Rattle.arc_store.proofs.map.Map.remove_tables.Goals as goal
 
@@ -21,59 +21,41 @@ pub take_out-requires-clause-between : goal.take_out-requires-clause-between
 take_out-requires-clause-between g c x = (c.in_ok-bridging.ensures.read.two.1 x).0
 
 pub take_out-requires-clause-unjoined : goal.take_out-requires-clause-unjoined
-take_out-requires-clause-unjoined g c =
-    let r = c.in_ok-bridging.ensures.read in
-    let f = found c.self.invariant (ap (λ z. z.doc) c.self.view_is) r.here r.two c.requires.leavable.inner c.requires.leavable.long c.requires.leavable.unjoined in
-    not_joined f
+take_out-requires-clause-unjoined g c = not_joined (found c.self.invariant c.self.view_is c.in_ok-bridging.ensures.read c.as_slice-before.ensures.value c.requires.leavable.inner c.requires.leavable.long c.requires.leavable.unjoined)
 
 pub take_out-requires-clause-apart : goal.take_out-requires-clause-apart
-take_out-requires-clause-apart g c =
-    let r = c.in_ok-bridging.ensures.read in
-    let f = found c.self.invariant (ap (λ z. z.doc) c.self.view_is) r.here r.two c.requires.leavable.inner c.requires.leavable.long c.requires.leavable.unjoined in
-    three_apart f
+take_out-requires-clause-apart g c = three_apart (found c.self.invariant c.self.view_is c.in_ok-bridging.ensures.read c.as_slice-before.ensures.value c.requires.leavable.inner c.requires.leavable.long c.requires.leavable.unjoined)
 
 pub take_out-requires-clause-new : goal.take_out-requires-clause-new
-take_out-requires-clause-new g c =
-    let r = c.in_ok-bridging.ensures.read in
-    let f = found c.self.invariant (ap (λ z. z.doc) c.self.view_is) r.here r.two c.requires.leavable.inner c.requires.leavable.long c.requires.leavable.unjoined in
-    (found_planned f r.a r.b r.first r.second c.in_ok-bridging.bridging.after c.as_slice-before.result.now r.comes (c.as_slice-before.ensures.value ∙ r.goes)).new
+take_out-requires-clause-new g c = (planned (found c.self.invariant c.self.view_is c.in_ok-bridging.ensures.read c.as_slice-before.ensures.value c.requires.leavable.inner c.requires.leavable.long c.requires.leavable.unjoined)).new
 
 pub take_out-requires-clause-held : goal.take_out-requires-clause-held
-take_out-requires-clause-held g c =
-    let r = c.in_ok-bridging.ensures.read in
-    let f = found c.self.invariant (ap (λ z. z.doc) c.self.view_is) r.here r.two c.requires.leavable.inner c.requires.leavable.long c.requires.leavable.unjoined in
-    (found_planned f r.a r.b r.first r.second c.in_ok-bridging.bridging.after c.as_slice-before.result.now r.comes (c.as_slice-before.ensures.value ∙ r.goes)).among
+take_out-requires-clause-held g c = (planned (found c.self.invariant c.self.view_is c.in_ok-bridging.ensures.read c.as_slice-before.ensures.value c.requires.leavable.inner c.requires.leavable.long c.requires.leavable.unjoined)).among
 
 pub take_out-requires-clause-single : goal.take_out-requires-clause-single
-take_out-requires-clause-single g c =
-    let r = c.in_ok-bridging.ensures.read in
-    let f = found c.self.invariant (ap (λ z. z.doc) c.self.view_is) r.here r.two c.requires.leavable.inner c.requires.leavable.long c.requires.leavable.unjoined in
-    (found_planned f r.a r.b r.first r.second c.in_ok-bridging.bridging.after c.as_slice-before.result.now r.comes (c.as_slice-before.ensures.value ∙ r.goes)).single
+take_out-requires-clause-single g c = (planned (found c.self.invariant c.self.view_is c.in_ok-bridging.ensures.read c.as_slice-before.ensures.value c.requires.leavable.inner c.requires.leavable.long c.requires.leavable.unjoined)).single
 
 -- ---- what is kept
 
 pub overflow_sub-self : goal.overflow_sub-self
 overflow_sub-self g c =
-    let r = c.in_ok-bridging.ensures.read in
-    let f = found c.self.invariant (ap (λ z. z.doc) c.self.view_is) r.here r.two c.requires.leavable.inner c.requires.leavable.long c.requires.leavable.unjoined in
+    let f = found c.self.invariant c.self.view_is c.in_ok-bridging.ensures.read c.as_slice-before.ensures.value c.requires.leavable.inner c.requires.leavable.long c.requires.leavable.unjoined in
     let may = subst (λ (z : State). IsLeavable z.doc c.args.p) (sym c.self.view_is) c.requires.leavable in
-    let t = taken f r.first r.second r.comes (c.as_slice-before.ensures.value ∙ r.goes) may c.in_ok-rings.ensures.taken c.take_out.new.tables.index.held c.in_ok-rings.ensures.exchanged in
+    let t = taken f may c.in_ok-rings.ensures.taken c.take_out.new.tables.index.held c.in_ok-rings.ensures.exchanged in
     omega (arith, t.positions_there, c.in_ok-rings.ensures.rings)
 
 pub invariant_of-self-2 : goal.invariant_of-self-2
 invariant_of-self-2 g c =
-    let r = c.in_ok-bridging.ensures.read in
-    let f = found c.self.invariant (ap (λ z. z.doc) c.self.view_is) r.here r.two c.requires.leavable.inner c.requires.leavable.long c.requires.leavable.unjoined in
+    let f = found c.self.invariant c.self.view_is c.in_ok-bridging.ensures.read c.as_slice-before.ensures.value c.requires.leavable.inner c.requires.leavable.long c.requires.leavable.unjoined in
     let may = subst (λ (z : State). IsLeavable z.doc c.args.p) (sym c.self.view_is) c.requires.leavable in
-    rw c.in_ok-rings.ensures.rings (taken f r.first r.second r.comes (c.as_slice-before.ensures.value ∙ r.goes) may c.in_ok-rings.ensures.taken c.take_out.new.tables.index.held c.in_ok-rings.ensures.exchanged).kept
+    rw c.in_ok-rings.ensures.rings (taken f may c.in_ok-rings.ensures.taken c.take_out.new.tables.index.held c.in_ok-rings.ensures.exchanged).kept
 
 pub returns-clause-removed : goal.returns-clause-removed
 returns-clause-removed g c =
-    let r = c.in_ok-bridging.ensures.read in
-    let f = found c.self.invariant (ap (λ z. z.doc) c.self.view_is) r.here r.two c.requires.leavable.inner c.requires.leavable.long c.requires.leavable.unjoined in
+    let f = found c.self.invariant c.self.view_is c.in_ok-bridging.ensures.read c.as_slice-before.ensures.value c.requires.leavable.inner c.requires.leavable.long c.requires.leavable.unjoined in
     let may = subst (λ (z : State). IsLeavable z.doc c.args.p) (sym c.self.view_is) c.requires.leavable in
     with_document c.self.invariant c.self.view_is c.take_out.new.tables.borders c.take_out.new.tables.vertices c.take_out.new.tables.index.cells
-    ((taken f r.first r.second r.comes (c.as_slice-before.ensures.value ∙ r.goes) may c.in_ok-rings.ensures.taken c.take_out.new.tables.index.held c.in_ok-rings.ensures.exchanged).doc
+    ((taken f may c.in_ok-rings.ensures.taken c.take_out.new.tables.index.held c.in_ok-rings.ensures.exchanged).doc
     ∙ ap (λ z. del z.doc c.args.p) c.self.view_is)
     c.take_out.ensures.cells
 

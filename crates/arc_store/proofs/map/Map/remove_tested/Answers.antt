@@ -12,7 +12,7 @@ use Rattle.arc_store.proofs.Accepted.{remove_may}
 use Rattle.arc_store.proofs.Indexed.{indexed_apart}
 use Rattle.arc_store.proofs.LeftOut.{found_left}
 use Rattle.arc_store.proofs.Outcomes.{is_made, hands_on}
-use Rattle.arc_store.proofs.RemovePlan.{has_bridging, found, found_planned, not_joined, three_apart, taken}
+use Rattle.arc_store.proofs.RemovePlan.{has_bridging, found, planned, not_joined, three_apart, taken}
 use Rattle.arc_store.proofs.StateKept.{tested, with_document_tested}
 use Rattle.arc_store.proofs.Tested.{removed_few}
 use Rattle.arc_store.proofs.map.Map.remove_tested.Goals as goal
@@ -36,98 +36,72 @@ pub take_out-requires-clause-between : goal.take_out-requires-clause-between
 take_out-requires-clause-between g c x = (c.in_ok-bridging.ensures.read.two.1 x).0
 
 pub take_out-requires-clause-unjoined : goal.take_out-requires-clause-unjoined
-take_out-requires-clause-unjoined g c =
-    let r = c.in_ok-bridging.ensures.read in
-    let f = found c.self.invariant (ap (λ z. z.doc) c.self.view_is) r.here r.two c.requires.inner c.requires.long c.requires.unjoined in
-    not_joined f
+take_out-requires-clause-unjoined g c = not_joined (found c.self.invariant c.self.view_is c.in_ok-bridging.ensures.read c.as_slice-before.ensures.value c.requires.inner c.requires.long c.requires.unjoined)
 
 pub take_out-requires-clause-apart : goal.take_out-requires-clause-apart
-take_out-requires-clause-apart g c =
-    let r = c.in_ok-bridging.ensures.read in
-    let f = found c.self.invariant (ap (λ z. z.doc) c.self.view_is) r.here r.two c.requires.inner c.requires.long c.requires.unjoined in
-    three_apart f
+take_out-requires-clause-apart g c = three_apart (found c.self.invariant c.self.view_is c.in_ok-bridging.ensures.read c.as_slice-before.ensures.value c.requires.inner c.requires.long c.requires.unjoined)
 
 pub take_out-requires-clause-new : goal.take_out-requires-clause-new
-take_out-requires-clause-new g c =
-    let r = c.in_ok-bridging.ensures.read in
-    let f = found c.self.invariant (ap (λ z. z.doc) c.self.view_is) r.here r.two c.requires.inner c.requires.long c.requires.unjoined in
-    (found_planned f r.a r.b r.first r.second c.in_ok-bridging.bridging.after c.as_slice-before.result.now r.comes (c.as_slice-before.ensures.value ∙ r.goes)).new
+take_out-requires-clause-new g c = (planned (found c.self.invariant c.self.view_is c.in_ok-bridging.ensures.read c.as_slice-before.ensures.value c.requires.inner c.requires.long c.requires.unjoined)).new
 
 pub take_out-requires-clause-held : goal.take_out-requires-clause-held
-take_out-requires-clause-held g c =
-    let r = c.in_ok-bridging.ensures.read in
-    let f = found c.self.invariant (ap (λ z. z.doc) c.self.view_is) r.here r.two c.requires.inner c.requires.long c.requires.unjoined in
-    (found_planned f r.a r.b r.first r.second c.in_ok-bridging.bridging.after c.as_slice-before.result.now r.comes (c.as_slice-before.ensures.value ∙ r.goes)).among
+take_out-requires-clause-held g c = (planned (found c.self.invariant c.self.view_is c.in_ok-bridging.ensures.read c.as_slice-before.ensures.value c.requires.inner c.requires.long c.requires.unjoined)).among
 
 pub take_out-requires-clause-single : goal.take_out-requires-clause-single
-take_out-requires-clause-single g c =
-    let r = c.in_ok-bridging.ensures.read in
-    let f = found c.self.invariant (ap (λ z. z.doc) c.self.view_is) r.here r.two c.requires.inner c.requires.long c.requires.unjoined in
-    (found_planned f r.a r.b r.first r.second c.in_ok-bridging.bridging.after c.as_slice-before.result.now r.comes (c.as_slice-before.ensures.value ∙ r.goes)).single
+take_out-requires-clause-single g c = (planned (found c.self.invariant c.self.view_is c.in_ok-bridging.ensures.read c.as_slice-before.ensures.value c.requires.inner c.requires.long c.requires.unjoined)).single
 
 -- ---- what is kept
 
 pub overflow_sub-self : goal.overflow_sub-self
 overflow_sub-self g c =
-    let r = c.in_ok-bridging.ensures.read in
-    let f = found c.self.invariant (ap (λ z. z.doc) c.self.view_is) r.here r.two c.requires.inner c.requires.long c.requires.unjoined in
-    let plan = found_planned f r.a r.b r.first r.second c.in_ok-bridging.bridging.after c.as_slice-before.result.now r.comes (c.as_slice-before.ensures.value ∙ r.goes) in
+    let f = found c.self.invariant c.self.view_is c.in_ok-bridging.ensures.read c.as_slice-before.ensures.value c.requires.inner c.requires.long c.requires.unjoined in
     let s = stored c.self.inside.frame c.self.inside.rings.borders c.self.inside.rings.vertices in
-    let may = remove_may (document_of s) c.args.p (c.in_ok-test_remove.ensures.accepted (document_of s) plan.removable) in
-    let t = taken f r.first r.second r.comes (c.as_slice-before.ensures.value ∙ r.goes) may c.in_ok-rings.ensures.taken c.take_out.new.tables.index.held c.in_ok-rings.ensures.exchanged in
+    let may = remove_may (document_of s) c.args.p (c.in_ok-test_remove.ensures.accepted (document_of s) (planned f).removable) in
+    let t = taken f may c.in_ok-rings.ensures.taken c.take_out.new.tables.index.held c.in_ok-rings.ensures.exchanged in
     omega (arith, t.positions_there, c.in_ok-rings.ensures.rings)
 
 pub invariant_of-self-2 : goal.invariant_of-self-2
 invariant_of-self-2 g c =
-    let r = c.in_ok-bridging.ensures.read in
-    let f = found c.self.invariant (ap (λ z. z.doc) c.self.view_is) r.here r.two c.requires.inner c.requires.long c.requires.unjoined in
-    let plan = found_planned f r.a r.b r.first r.second c.in_ok-bridging.bridging.after c.as_slice-before.result.now r.comes (c.as_slice-before.ensures.value ∙ r.goes) in
+    let f = found c.self.invariant c.self.view_is c.in_ok-bridging.ensures.read c.as_slice-before.ensures.value c.requires.inner c.requires.long c.requires.unjoined in
     let s = stored c.self.inside.frame c.self.inside.rings.borders c.self.inside.rings.vertices in
-    let may = remove_may (document_of s) c.args.p (c.in_ok-test_remove.ensures.accepted (document_of s) plan.removable) in
-    rw c.in_ok-rings.ensures.rings (taken f r.first r.second r.comes (c.as_slice-before.ensures.value ∙ r.goes) may c.in_ok-rings.ensures.taken c.take_out.new.tables.index.held c.in_ok-rings.ensures.exchanged).kept
+    let may = remove_may (document_of s) c.args.p (c.in_ok-test_remove.ensures.accepted (document_of s) (planned f).removable) in
+    rw c.in_ok-rings.ensures.rings (taken f may c.in_ok-rings.ensures.taken c.take_out.new.tables.index.held c.in_ok-rings.ensures.exchanged).kept
 
 -- ---- what the edit makes
 
 pub returns-in_err-test_remove-clause-edits : goal.returns-in_err-test_remove-clause-edits
 returns-in_err-test_remove-clause-edits g c =
     let m = c.self.inside in
-    let r = c.in_ok-bridging.ensures.read in
-    let f = found c.self.invariant (ap (λ z. z.doc) c.self.view_is) r.here r.two c.requires.inner c.requires.long c.requires.unjoined in
-    let plan = found_planned f r.a r.b r.first r.second c.in_ok-bridging.bridging.after c.as_slice-before.result.now r.comes (c.as_slice-before.ensures.value ∙ r.goes) in
+    let f = found c.self.invariant c.self.view_is c.in_ok-bridging.ensures.read c.as_slice-before.ensures.value c.requires.inner c.requires.long c.requires.unjoined in
     hands_on c.in_err-test_remove.field-0.0 c.from_residual-in_err-test_remove.result c.from_residual-in_err-test_remove.ensures.1
-    (subst (λ (z : State). Refuses c.in_err-test_remove.field-0.0 (first_of (remove_refusals z.doc c.args.p))) c.self.view_is (c.in_err-test_remove.ensures.refused (document_of (stored m.frame m.rings.borders m.rings.vertices)) plan.removable))
+    (subst (λ (z : State). Refuses c.in_err-test_remove.field-0.0 (first_of (remove_refusals z.doc c.args.p))) c.self.view_is (c.in_err-test_remove.ensures.refused (document_of (stored m.frame m.rings.borders m.rings.vertices)) (planned f).removable))
     (tested c.self.invariant c.self.view_is m.rings.borders m.rings.vertices m.rings.index.cells c.test_remove.new.tests refl refl refl)
 
 pub returns-clause-edits : goal.returns-clause-edits
 returns-clause-edits g c =
     let m = c.self.inside in
-    let r = c.in_ok-bridging.ensures.read in
-    let f = found c.self.invariant (ap (λ z. z.doc) c.self.view_is) r.here r.two c.requires.inner c.requires.long c.requires.unjoined in
-    let plan = found_planned f r.a r.b r.first r.second c.in_ok-bridging.bridging.after c.as_slice-before.result.now r.comes (c.as_slice-before.ensures.value ∙ r.goes) in
+    let f = found c.self.invariant c.self.view_is c.in_ok-bridging.ensures.read c.as_slice-before.ensures.value c.requires.inner c.requires.long c.requires.unjoined in
     let s = stored m.frame m.rings.borders m.rings.vertices in
-    let none = c.in_ok-test_remove.ensures.accepted (document_of s) plan.removable in
+    let none = c.in_ok-test_remove.ensures.accepted (document_of s) (planned f).removable in
     let may = remove_may (document_of s) c.args.p none in
     is_made (subst (λ (z : State). first_of (remove_refusals z.doc c.args.p) ≡ None) c.self.view_is none)
     (with_document_tested c.self.invariant c.self.view_is c.take_out.new.tables.borders c.take_out.new.tables.vertices c.take_out.new.tables.index.cells c.test_remove.new.tests
-    ((taken f r.first r.second r.comes (c.as_slice-before.ensures.value ∙ r.goes) may c.in_ok-rings.ensures.taken c.take_out.new.tables.index.held c.in_ok-rings.ensures.exchanged).doc
+    ((taken f may c.in_ok-rings.ensures.taken c.take_out.new.tables.index.held c.in_ok-rings.ensures.exchanged).doc
     ∙ ap (λ z. del z.doc c.args.p) c.self.view_is)
     c.take_out.ensures.cells)
 
 pub returns-clause-left : goal.returns-clause-left
 returns-clause-left g c =
-    let r = c.in_ok-bridging.ensures.read in
-    let f = found c.self.invariant (ap (λ z. z.doc) c.self.view_is) r.here r.two c.requires.inner c.requires.long c.requires.unjoined in
+    let f = found c.self.invariant c.self.view_is c.in_ok-bridging.ensures.read c.as_slice-before.ensures.value c.requires.inner c.requires.long c.requires.unjoined in
     subst (λ (z : Segment). IsLeftOut c.args.self.now.doc c.args.p (record { at = c.args.p; a = z.lo; b = z.hi })) (sym c.after.view_is)
-    (found_left f (ap (λ z. z.doc) c.self.view_is) r.first r.second r.comes)
+    (found_left f c.self.view_is)
 
 -- ---- how many tests
 
 pub returns-in_err-test_remove-clause-few : goal.returns-in_err-test_remove-clause-few
 returns-in_err-test_remove-clause-few g c =
-    let r = c.in_ok-bridging.ensures.read in
-    let f = found c.self.invariant (ap (λ z. z.doc) c.self.view_is) r.here r.two c.requires.inner c.requires.long c.requires.unjoined in
-    let plan = found_planned f r.a r.b r.first r.second c.in_ok-bridging.bridging.after c.as_slice-before.result.now r.comes (c.as_slice-before.ensures.value ∙ r.goes) in
-    removed_few c.self.invariant c.self.view_is c.args.p c.in_ok-bridging.bridging.after c.as_slice-before.result.now plan c.test_remove.new.tests c.test_remove.ensures.few
+    let f = found c.self.invariant c.self.view_is c.in_ok-bridging.ensures.read c.as_slice-before.ensures.value c.requires.inner c.requires.long c.requires.unjoined in
+    removed_few c.self.invariant c.self.view_is c.args.p c.in_ok-bridging.bridging.after c.as_slice-before.result.now (planned f) c.test_remove.new.tests c.test_remove.ensures.few
 
 pub returns-in_err-rings-clause-edits : goal.returns-in_err-rings-clause-edits
 returns-in_err-rings-clause-edits g c =
@@ -137,14 +111,10 @@ returns-in_err-rings-clause-edits g c =
 
 pub returns-in_err-rings-clause-few : goal.returns-in_err-rings-clause-few
 returns-in_err-rings-clause-few g c =
-    let r = c.in_ok-bridging.ensures.read in
-    let f = found c.self.invariant (ap (λ z. z.doc) c.self.view_is) r.here r.two c.requires.inner c.requires.long c.requires.unjoined in
-    let plan = found_planned f r.a r.b r.first r.second c.in_ok-bridging.bridging.after c.as_slice-before.result.now r.comes (c.as_slice-before.ensures.value ∙ r.goes) in
-    removed_few c.self.invariant c.self.view_is c.args.p c.in_ok-bridging.bridging.after c.as_slice-before.result.now plan c.test_remove.new.tests c.test_remove.ensures.few
+    let f = found c.self.invariant c.self.view_is c.in_ok-bridging.ensures.read c.as_slice-before.ensures.value c.requires.inner c.requires.long c.requires.unjoined in
+    removed_few c.self.invariant c.self.view_is c.args.p c.in_ok-bridging.bridging.after c.as_slice-before.result.now (planned f) c.test_remove.new.tests c.test_remove.ensures.few
 
 pub returns-clause-few : goal.returns-clause-few
 returns-clause-few g c =
-    let r = c.in_ok-bridging.ensures.read in
-    let f = found c.self.invariant (ap (λ z. z.doc) c.self.view_is) r.here r.two c.requires.inner c.requires.long c.requires.unjoined in
-    let plan = found_planned f r.a r.b r.first r.second c.in_ok-bridging.bridging.after c.as_slice-before.result.now r.comes (c.as_slice-before.ensures.value ∙ r.goes) in
-    removed_few c.self.invariant c.self.view_is c.args.p c.in_ok-bridging.bridging.after c.as_slice-before.result.now plan c.test_remove.new.tests c.test_remove.ensures.few
+    let f = found c.self.invariant c.self.view_is c.in_ok-bridging.ensures.read c.as_slice-before.ensures.value c.requires.inner c.requires.long c.requires.unjoined in
+    removed_few c.self.invariant c.self.view_is c.args.p c.in_ok-bridging.bridging.after c.as_slice-before.result.now (planned f) c.test_remove.new.tests c.test_remove.ensures.few
