@@ -93,7 +93,8 @@ fn neighbours_among<A: Allocator + Copy>(
     among: &[usize],
     k: VertexKey,
 ) -> Neighbours
-    ensures { result ≡ noted_all Neighbours.None (ends_among (λ i. path_in (get arcs.now i)) among.now k) }
+    ensures { result ≡ noted_all Neighbours.None
+        (ends_among (λ i. path_in (get arcs.now i)) among.now k) }
 {
     let mut all = Neighbours::None;
     for i in among {
