@@ -8,7 +8,7 @@ use Rattle.std.specs.List.Sorted.{IsPermutation, IsStrictlySortedBy, IsBinarySea
 use Rattle.std.specs.List.Retain.{IsFiltered, DiffersFromLast}
 use Rattle.std.specs.Ordering.{nat_cmp, eq_by_cmp}
 use Rattle.std.specs.declared.cmp.Ordering.TheVariants.{Less}
-use Rattle.std.proofs.lemmas.Bool.{false≢true}
+use Rattle.std.proofs.lemmas.Bool.{false≢true, cases_lt}
 use Rattle.std.proofs.lemmas.Bool.Decides.{Decides-eqb, nat_tests}
 use Rattle.std.proofs.lemmas.Cmp.{nat_cmp_total}
 use Rattle.std.proofs.lemmas.List.Filters.{dedup_is}
@@ -21,25 +21,20 @@ use Rattle.ring_machine.proofs.First.{In, filter-in}
 use Rattle.ring_machine.proofs.Neighbours.{in-map}
 use Rattle.ring_machine.proofs.Order.{and_both}
 use Rattle.ring_machine.proofs.Removal.{not_true}
-use Rattle.ring_machine.proofs.Members.{contains_in, in_contains, in_filter, in_any, any_in}
-use Rattle.ring_machine.proofs.SortedOnce.{in_at, in_permuted, none_new, none_lost}
+use Rattle.ring_machine.proofs.Members.{contains_in, in_contains, in_filter, in_any, any_in, in_mapped}
+use Rattle.ring_machine.proofs.SortedOnce.{in_at, in_recursion, in_permuted, none_new, none_lost}
 use Rattle.point_queries.specs.Users.{Rises, IsSorted}
 
 -- ---- one list for the same numbers
-
-in_all : (P : ℕ → Type 0) (ns : List ℕ) → AllByRecursion P ns → (m : ℕ) → In m ns → P m
-in_all P [] h m i = absurd i
-in_all P (n ∷ ns) h m (inl e) = subst P e h.0
-in_all P (n ∷ ns) h m (inr i) = in_all P ns h.1 m i
 
 first_same : (n m : ℕ) (ns ms : List ℕ) → Rises (n ∷ ns) → Rises (m ∷ ms) → In n (m ∷ ms) → In m (n ∷ ns) → n ≡ m
 first_same n m ns ms h k (inl e) j = sym e
 first_same n m ns ms h k (inr i) (inl e) = e
 first_same n m ns ms h k (inr i) (inr j) =
-    absurd (omega (arith, in_all (λ z. m < z) ms k.0 n i, in_all (λ z. n < z) ns h.0 m j))
+    absurd (omega (arith, in_recursion (λ z. m < z) ms n k.0 i, in_recursion (λ z. n < z) ns m h.0 j))
 
 rest_in : (n m : ℕ) (ns ms : List ℕ) → n ≡ m → AllByRecursion (λ z. n < z) ns → (a : ℕ) → In a ns → In a (m ∷ ms) → In a ms
-rest_in n m ns ms same h a i (inl e) = absurd (omega (arith, in_all (λ z. n < z) ns h a i, e, same))
+rest_in n m ns ms same h a i (inl e) = absurd (omega (arith, in_recursion (λ z. n < z) ns a h i, e, same))
 rest_in n m ns ms same h a i (inr j) = j
 
 pub same_rises : (ns ms : List ℕ) → Rises ns → Rises ms → ((a : ℕ) → In a ns → In a ms)
@@ -87,11 +82,7 @@ numbers_sorted ns sorted once permutation ascending filtered =
 
 all_with : (P : ℕ → Type 0) (n : ℕ) (ms : List ℕ) → P n → AllByRecursion P ms → AllByRecursion P (add_number n ms)
 all_with P n [] h k = (h, tt)
-all_with P n (m ∷ ms) h k = by (nat_le n m) (all_with P n ms h k.1)
-  where
-    by : (b : Bool) → AllByRecursion P (add_number n ms) → AllByRecursion P (cond b (n ∷ m ∷ ms) (m ∷ add_number n ms))
-    by true rest = (h, k)
-    by false rest = (k.0, rest)
+all_with P n (m ∷ ms) h k = grind (arith, all_with P n ms h k.1)
 
 all_beyond : (n m : ℕ) (ms : List ℕ) → n < m → AllByRecursion (λ z. m < z) ms → AllByRecursion (λ z. n < z) ms
 all_beyond n m [] l h = tt
@@ -114,27 +105,12 @@ rises_with n (m ∷ ms) new h = by (nat_le n m) refl (rises_with n ms (λ i. new
         (all_with (λ z. m < z) n ms l h.0, rest)
 
 in_with : (n : ℕ) (ms : List ℕ) (a : ℕ) → In a (add_number n ms) → (n ≡ a) ⊎ In a ms
-in_with n [] a (inl e) = inl e
-in_with n [] a (inr i) = inr i
-in_with n (m ∷ ms) a i = by (nat_le n m) i (in_with n ms a)
-  where
-    by : (b : Bool) → In a (cond b (n ∷ m ∷ ms) (m ∷ add_number n ms)) → (In a (add_number n ms) → (n ≡ a) ⊎ In a ms)
-        → (n ≡ a) ⊎ In a (m ∷ ms)
-    by true (inl e) rest = inl e
-    by true (inr j) rest = inr j
-    by false (inl e) rest = inr (inl e)
-    by false (inr j) rest = elim (rest j) [ inl e ↦ inl e | inr k ↦ inr (inr k) ]
+in_with n [] a i = i
+in_with n (m ∷ ms) a i = grind (arith, in_with n ms a)
 
 with_in : (n : ℕ) (ms : List ℕ) (a : ℕ) → (n ≡ a) ⊎ In a ms → In a (add_number n ms)
 with_in n [] a i = i
-with_in n (m ∷ ms) a i = by (nat_le n m) i (with_in n ms a)
-  where
-    by : (b : Bool) → (n ≡ a) ⊎ In a (m ∷ ms) → ((n ≡ a) ⊎ In a ms → In a (add_number n ms))
-        → In a (cond b (n ∷ m ∷ ms) (m ∷ add_number n ms))
-    by true j rest = j
-    by false (inl e) rest = inr (rest (inl e))
-    by false (inr (inl e)) rest = inl e
-    by false (inr (inr j)) rest = inr (rest (inr j))
+with_in n (m ∷ ms) a i = grind (arith, with_in n ms a)
 
 abbrev added : List ℕ → Feature → List ℕ
 added ns f = add_number f.number ns
@@ -183,15 +159,19 @@ rises_fold (f ∷ fs) ns d new h =
     (λ g i j. elim (in_with f.number ns g.number j) [ inl e ↦ d.0 g i (sym e) | inr k ↦ new g (inr i) k ])
     (rises_with f.number ns (λ i. new f (inl refl) i) h)
 
+-- the numbers of features that have numbers of their own
+pub numbers_rise : (test : Feature → Bool) (fs : List Feature) → are_distinct (map (λ f. f.number) fs) ≡ true
+    → Rises (numbers (filter test fs))
+numbers_rise test fs d = rises_fold (filter test fs) [] (apart_among test fs (apart fs d)) (λ g i j. j) tt
+
 -- an ascending list with the numbers of the features that pass, and no others
-pub numbers_are : (test : Feature → Bool) (fs : List Feature) (ns : List ℕ)
+numbers_are : (test : Feature → Bool) (fs : List Feature) (ns : List ℕ)
     → are_distinct (map (λ f. f.number) fs) ≡ true → Rises ns
     → ((m : ℕ) → In m ns → (g : Feature) × In g fs × (test g ≡ true) × (g.number ≡ m))
     → ((g : Feature) → In g fs → test g ≡ true → In g.number ns)
     → ns ≡ numbers (filter test fs)
 numbers_are test fs ns d h from to =
-    same_rises ns (numbers (filter test fs)) h
-    (rises_fold (filter test fs) [] (apart_among test fs (apart fs d)) (λ g i j. j) tt)
+    same_rises ns (numbers (filter test fs)) h (numbers_rise test fs d)
     (λ m i. let g = from m i in
     subst (λ z. In z (numbers (filter test fs))) g.3 (each_in (filter test fs) [] g.0 (filter-in test g.0 fs g.1 g.2)))
     (λ m i. elim (in_fold (filter test fs) [] m i) [
@@ -199,10 +179,22 @@ numbers_are test fs ns d h from to =
       | inr g ↦ let k = in_filter test g.0 fs g.1 in subst (λ z. In z ns) g.2 (to g.0 k.0 k.1)
     ])
 
--- the numbers of features that have numbers of their own
-pub numbers_rise : (test : Feature → Bool) (fs : List Feature) → are_distinct (map (λ f. f.number) fs) ≡ true
-    → Rises (numbers (filter test fs))
-numbers_rise test fs d = rises_fold (filter test fs) [] (apart_among test fs (apart fs d)) (λ g i j. j) tt
+-- the same of numbers that were found, sorted, where each is that of a feature that passes
+pub numbers_found : {X : Type 0} (number : X → ℕ) (xs : List X) (test : Feature → Bool) (fs : List Feature) (found sorted : List ℕ)
+    → are_distinct (map (λ f. f.number) fs) ≡ true → found ≡ map number xs → IsSorted found sorted
+    → ((x : X) → In x xs → (g : Feature) × In g fs × (test g ≡ true) × (g.number ≡ number x))
+    → ((g : Feature) → In g fs → test g ≡ true → (x : X) × In x xs × (number x ≡ g.number))
+    → sorted ≡ numbers (filter test fs)
+numbers_found number xs test fs found sorted distinct e s from to =
+    numbers_are test fs sorted distinct s.rises
+    (λ m i.
+    let x = in_mapped number m xs (subst (In m) e (contains_in found m ((s.same m).0 (in_contains sorted m i)))) in
+    let g = from x.0 x.1 in
+    (g.0, g.1, g.2, g.3 ∙ x.2))
+    (λ g i h.
+    let x = to g i h in
+    let among : In g.number found = subst (In g.number) (sym e) (subst (λ n. In n (map number xs)) x.2 (in-map number x.0 xs x.1)) in
+    contains_in sorted g.number ((s.same g.number).1 (in_contains found g.number among)))
 
 pub in_numbers : (fs : List Feature) (m : ℕ) → In m (numbers fs) → (g : Feature) × In g fs × (g.number ≡ m)
 in_numbers fs m i = elim (in_fold fs [] m i) [
@@ -219,7 +211,7 @@ rises_far : (ns : List ℕ) → Rises ns → (i j : ℕ) → i ≤ j → j < len
 rises_far [] h i j l k = absurd (omega arith)
 rises_far (n ∷ ns) h zero zero l k = omega arith
 rises_far (n ∷ ns) h zero (suc j) l k =
-    omega (arith, in_all (λ z. n < z) ns h.0 (get_or ns j 0) (in_at ns j 0 (omega arith)))
+    omega (arith, in_recursion (λ z. n < z) ns (get_or ns j 0) h.0 (in_at ns j 0 (omega arith)))
 rises_far (n ∷ ns) h (suc i) zero l k = absurd (omega arith)
 rises_far (n ∷ ns) h (suc i) (suc j) l k = rises_far ns h.1 i j (omega arith) (omega arith)
 
@@ -231,11 +223,6 @@ at_index (m ∷ ns) n (inr i) = let k = at_index ns n i in (suc k.0, omega (arit
 abbrev Found : List ℕ → ℕ → Result ℕ ℕ → Type 0
 Found ns n r = MatchResult r (λ i. (i < length ns) × (get_or ns i 0 ≡ n)) (λ i. (i ≤ length ns) × ((k : ℕ) → k < i → get_or ns k 0 < n) × ((k : ℕ) → i ≤ k → k < length ns → n < get_or ns k 0))
 
-below_or : (k i : ℕ) → (k < i) ⊎ (i ≤ k)
-below_or k zero = inr (omega arith)
-below_or zero (suc i) = inl (omega arith)
-below_or (suc k) (suc i) = elim (below_or k i) [ inl h ↦ inl (omega (arith, h)) | inr h ↦ inr (omega (arith, h)) ]
-
 among_by : (ns : List ℕ) (n : ℕ) (r : Result ℕ ℕ) → Found ns n r → is_ok r ≡ list_any (λ m. m == n) ns
 among_by ns n (Ok i) h = sym (in_any (λ m. m == n) (get_or ns i 0) ns (in_at ns i 0 h.0) ((Decides-eqb (get_or ns i 0) n).1 h.1))
 among_by ns n (Err i) h = sym (by (list_any (λ m. m == n) ns) refl)
@@ -246,7 +233,7 @@ among_by ns n (Err i) h = sym (by (list_any (λ m. m == n) ns) refl)
         let m = any_in (λ m. m == n) ns e in
         let same : m.0 ≡ n = (Decides-eqb m.0 n).0 m.2 in
         let k = at_index ns m.0 m.1 in
-        elim (below_or k.0 i) [
+        elim (cases_lt k.0 i) [
           | inl u ↦ absurd (omega (arith, h.1 k.0 u, k.2, same))
           | inr u ↦ absurd (omega (arith, h.2 k.0 u k.1, k.2, same))
         ]

@@ -14,8 +14,7 @@ use Rattle.ring_machine.specs.Query.{is_on_border, is_in_polygon, is_in_feature,
 use Rattle.ring_machine.specs.WellFormed.{are_distinct}
 use Rattle.ring_machine.proofs.First.{In, filter-in}
 use Rattle.ring_machine.proofs.Found.{found}
-use Rattle.ring_machine.proofs.Members.{contains_in, in_contains, in_filter, in_mapped, any_in, in_any, there, mapped_there}
-use Rattle.ring_machine.proofs.Neighbours.{in-map}
+use Rattle.ring_machine.proofs.Members.{in_contains, in_filter, any_in, in_any, there, mapped_there}
 use Rattle.ring_machine.proofs.Order.{and_both}
 use Rattle.ring_machine.proofs.Removal.{not_true}
 use Rattle.map_frame.specs.declared.names.RingName.{RingName}
@@ -26,16 +25,13 @@ use Rattle.map_frame.proofs.ReadFeatures.{in_get}
 use Rattle.point_queries.specs.declared.odd.PolygonName.{PolygonName}
 use Rattle.point_queries.specs.Odd.{odd, AreOdd, TellsInside, is_name, is_polygon, is_held, polygon_of, polygon_cmp, ring_of}
 use Rattle.point_queries.specs.Users.{IsSorted}
-use Rattle.point_queries.proofs.Ascending.{numbers_are, in_numbers, numbers_have}
-use Rattle.point_queries.proofs.Odds.{odd-alike, odd-exchange, odd-some, xor-assoc, xor-false}
+use Rattle.point_queries.proofs.Ascending.{numbers_found, in_numbers, numbers_have}
+use Rattle.point_queries.proofs.Odds.{both, odd-alike, odd-exchange, odd-some, xor-assoc, xor-false}
 use Rattle.point_queries.proofs.SharedBorders.{found_in}
 
 refuted : (b : Bool) → (b ≡ true → ⊥) → b ≡ false
 refuted false h = refl
 refuted true h = absurd (h refl)
-
-both : (a b : Bool) → a ≡ true → b ≡ true → (a && b) ≡ true
-both a b e f = ap₂ (λ y z. y && z) e f
 
 -- ---- the names of a polygon's rings
 
@@ -67,9 +63,7 @@ fold_at p test name (ring ∷ polygon) b h =
     ∙ ap (λ z. xor b (xor z (odd test (names_at (λ i. name (suc i)) polygon)))) (sym (h 0 ring refl))
 
 apart_and : (a b c : Bool) → (a && b) ≡ false → (a && (b && c)) ≡ false
-apart_and true true c h = absurd (false≢true (sym h))
-apart_and true false c h = refl
-apart_and false b c h = refl
+apart_and a b c h = grind arith
 
 module _ (d : Document) (distinct : are_distinct (map (λ f. f.number) (features d)) ≡ true) (p : Position)
     (names : List RingName) (tells : TellsInside d p names) where
@@ -193,15 +187,8 @@ module _ (d : Document) (distinct : are_distinct (map (λ f. f.number) (features
           → (found sorted : List ℕ) → found ≡ map (λ name. name.feature) within → IsSorted found sorted
           → sorted ≡ inside_at d p
       inside_are within w found sorted e s =
-          numbers_are (is_in_feature p) (features d) sorted distinct s.rises
-          (λ m j.
-          let b = subst (In m) e (contains_in found m ((s.same m).0 (in_contains sorted m j))) in
-          let name = in_mapped (λ (name : RingName). name.feature) m within b in
-          let k = in_filter (is_held polygons border) name.0 names (subst (In name.0) w name.1) in
-          let g = held_in name.0 k.0 k.1 in
-          (g.0, g.1, g.2, g.3 ∙ name.2))
+          numbers_found (λ name. name.feature) within (is_in_feature p) (features d) found sorted distinct e s
+          (λ name j. let k = in_filter (is_held polygons border) name names (subst (In name) w j) in held_in name k.0 k.1)
           (λ g j h.
           let name = in_held g j h in
-          let kept : In name.0 within = subst (In name.0) (sym w) (filter-in (is_held polygons border) name.0 names name.1 name.2) in
-          let among : In g.number found = subst (λ z. In g.number z) (sym e) (subst (λ z. In z (map (λ (name : RingName). name.feature) within)) name.3 (in-map (λ (name : RingName). name.feature) name.0 within kept)) in
-          contains_in sorted g.number ((s.same g.number).1 (in_contains found g.number among)))
+          (name.0, subst (In name.0) (sym w) (filter-in (is_held polygons border) name.0 names name.1 name.2), name.3))

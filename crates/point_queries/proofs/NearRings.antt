@@ -1,5 +1,5 @@
 -- Which rings hold a position, by the segments that count as far as the boxes that have it.
-use Rattle.std.proofs.Common.{◌≡◌, ℤ, Bool, true, false, refl, sym, ap, ap₂, ◌∙◌, subst, cond, ◌&&◌, int_le, arith, not}
+use Rattle.std.proofs.Common.{◌≡◌, ℤ, Bool, true, false, refl, sym, ap, ◌∙◌, subst, cond, ◌&&◌, int_le, arith}
 use mir.Val.{of_z, to_z}
 use Rattle.std.proofs.Common.{unsigned_abs, ◌≤◌, w64, List, [], ◌∷◌, Option, None, Some, Result, Ok, Err}
 use Rattle.std.specs.Prelude.{is_some, unwrap_or, IfOk, IfSome}
@@ -41,28 +41,20 @@ if_found P Q (Err e) f h = h
 
 pub odd_kept : (test : RingName → Bool) (name : RingName) (names : List RingName)
     → odd (is_name name) (filter test names) ≡ (test name && odd (is_name name) names)
-odd_kept test name [] = by (test name)
+odd_kept test name [] = grind arith
+odd_kept test name (x ∷ names) = by (test x) (λ e. ap test (is_name-true name x e)) (odd_kept test name names)
   where
-    by : (b : Bool) → false ≡ (b && false)
-    by true = refl
-    by false = refl
-odd_kept test name (x ∷ names) = by (test x) refl (is_name name x) refl (odd_kept test name names)
-  where
-    same : is_name name x ≡ true → test name ≡ test x
-    same e = ap test (is_name-true name x e)
+    more : (t c u : Bool) → (c ≡ true → t ≡ true) → xor c (t && u) ≡ (t && xor c u)
+    more t c u same = grind arith
 
-    by : (b : Bool) → test x ≡ b → (c : Bool) → is_name name x ≡ c
+    less : (t c u : Bool) → (c ≡ true → t ≡ false) → (t && u) ≡ (t && xor c u)
+    less t c u same = grind arith
+
+    by : (b : Bool) → (is_name name x ≡ true → test name ≡ b)
         → odd (is_name name) (filter test names) ≡ (test name && odd (is_name name) names)
-        → odd (is_name name) (cond b (x ∷ filter test names) (filter test names)) ≡ (test name && xor c (odd (is_name name) names))
-    by true e true f h =
-        let t : test name ≡ true = same f ∙ e in
-        ap₂ xor f (h ∙ ap (λ z. z && odd (is_name name) names) t)
-        ∙ ap (λ z. z && not (odd (is_name name) names)) (sym t)
-    by true e false f h = ap₂ xor f h
-    by false e true f h =
-        let t : test name ≡ false = same f ∙ e in
-        h ∙ ap (λ z. z && odd (is_name name) names) t ∙ ap (λ z. z && not (odd (is_name name) names)) (sym t)
-    by false e false f h = h
+        → odd (is_name name) (cond b (x ∷ filter test names) (filter test names)) ≡ (test name && xor (is_name name x) (odd (is_name name) names))
+    by true same h = ap (xor (is_name name x)) h ∙ more (test name) (is_name name x) (odd (is_name name) names) same
+    by false same h = h ∙ less (test name) (is_name name x) (odd (is_name name) names) same
 
 -- ---- no farther than the boxes
 

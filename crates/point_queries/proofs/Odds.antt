@@ -1,12 +1,12 @@
 -- Odd numbers: of lists one after another, of lists in another order, and of pairs of two lists.
 use Rattle.std.proofs.Common.{◌≡◌, ℕ, zero, suc, ◌+◌, Bool, true, false, refl, sym, ap, ap₂, ◌∙◌, cond, not}
-use Rattle.std.proofs.Common.{List, [], ◌∷◌, ◌++◌, take, get_or, length, ◌<◌, ◌||◌, inl, inr, arith}
+use Rattle.std.proofs.Common.{List, [], ◌∷◌, ◌++◌, take, get_or, length, ◌<◌, ◌||◌, ◌&&◌, inl, inr, arith}
 use Rattle.std.specs.Prelude.{sum_by}
 use Rattle.std.specs.List.{list_any, filter}
 use Rattle.std.specs.List.Sorted.{IsPermutation}
 use Rattle.std.proofs.lemmas.Bool.{false≢true}
 use Rattle.std.proofs.lemmas.List.{append-nil, take_more}
-use Rattle.std.proofs.lemmas.List.Elements.{filter-append}
+use Rattle.std.proofs.lemmas.List.Elements.{filter_more}
 use Rattle.std.proofs.lemmas.List.Sorted.{sum_by-IsPermutation}
 use Rattle.std.proofs.lemmas.List.Sums.{sum_by-cons}
 use Rattle.grid_geometry.specs.Ring.{xor}
@@ -16,31 +16,23 @@ use Rattle.point_queries.specs.Odd.{odd, AreApart}
 -- ---- of two truths
 
 pub xor-assoc : (a b c : Bool) → xor (xor a b) c ≡ xor a (xor b c)
-xor-assoc false b c = refl
-xor-assoc true false c = refl
-xor-assoc true true false = refl
-xor-assoc true true true = refl
+xor-assoc a b c = grind arith
 
 pub xor-comm : (a b : Bool) → xor a b ≡ xor b a
-xor-comm false false = refl
-xor-comm false true = refl
-xor-comm true false = refl
-xor-comm true true = refl
+xor-comm a b = grind arith
 
 pub xor-same : (a : Bool) → xor a a ≡ false
-xor-same false = refl
-xor-same true = refl
+xor-same a = grind arith
 
 pub xor-false : (a : Bool) → xor a false ≡ a
-xor-false false = refl
-xor-false true = refl
+xor-false a = grind arith
 
 -- the sums of two sums
 xor-cross : (a b c d : Bool) → xor (xor a b) (xor c d) ≡ xor (xor a c) (xor b d)
-xor-cross a b c d =
-    xor-assoc a b (xor c d)
-    ∙ ap (xor a) (sym (xor-assoc b c d) ∙ ap (λ z. xor z d) (xor-comm b c) ∙ xor-assoc c b d)
-    ∙ sym (xor-assoc a c (xor b d))
+xor-cross a b c d = grind arith
+
+pub both : (a b : Bool) → a ≡ true → b ≡ true → (a && b) ≡ true
+both a b e f = ap₂ (λ y z. y && z) e f
 
 -- ---- of lists
 
@@ -138,11 +130,10 @@ module _ {X : Type 0} (eq : X → X → Bool) (same_by : (x y : X) → eq x y �
 pub filter_yes : {X : Type 0} (test : X → Bool) (xs : List X) (i : ℕ) (d : X) → i < length xs → test (get_or xs i d) ≡ true
     → filter test (take (i + 1) xs) ≡ filter test (take i xs) ++ get_or xs i d ∷ []
 filter_yes test xs i d l h =
-    ap (filter test) (take_more xs i d l) ∙ filter-append test (take i xs) (get_or xs i d ∷ [])
-    ∙ ap (λ b. filter test (take i xs) ++ cond b (get_or xs i d ∷ []) []) h
+    filter_more test xs i d l ∙ ap (λ b. filter test (take i xs) ++ cond b (get_or xs i d ∷ []) []) h
 
 pub filter_no : {X : Type 0} (test : X → Bool) (xs : List X) (i : ℕ) (d : X) → i < length xs → test (get_or xs i d) ≡ false
     → filter test (take (i + 1) xs) ≡ filter test (take i xs)
 filter_no test xs i d l h =
-    ap (filter test) (take_more xs i d l) ∙ filter-append test (take i xs) (get_or xs i d ∷ [])
-    ∙ ap (λ b. filter test (take i xs) ++ cond b (get_or xs i d ∷ []) []) h ∙ append-nil (filter test (take i xs))
+    filter_more test xs i d l ∙ ap (λ b. filter test (take i xs) ++ cond b (get_or xs i d ∷ []) []) h
+    ∙ append-nil (filter test (take i xs))

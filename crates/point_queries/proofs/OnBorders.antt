@@ -3,7 +3,6 @@ use Rattle.std.proofs.Common.{◌≡◌, ℕ, ℤ, Bool, true, false, refl, sym,
 use Rattle.std.proofs.Common.{List, [], ◌∷◌, map, inl, inr, int_le}
 use Rattle.std.specs.List.{flat_map}
 use Rattle.std.specs.Int.{int_min, int_max}
-use Rattle.std.proofs.lemmas.Bool.{false≢true}
 use Rattle.std.proofs.lemmas.Int.{ints, clamps}
 use Rattle.grid_geometry.specs.Orientation.{is_on, is_between, is_in_box}
 use Rattle.grid_geometry.specs.Position.{Position}
@@ -16,7 +15,7 @@ use Rattle.ring_machine.specs.Query.{segments_of, is_on_border, border_at}
 use Rattle.ring_machine.specs.Ring.{segment_of, segments}
 use Rattle.ring_machine.specs.WellFormed.{are_distinct}
 use Rattle.ring_machine.proofs.First.{In}
-use Rattle.ring_machine.proofs.Neighbours.{in-map, in-flat_map}
+use Rattle.ring_machine.proofs.Neighbours.{in-flat_map}
 use Rattle.ring_machine.proofs.Order.{and_both}
 use Rattle.ring_machine.proofs.Orders.{segment_ordered}
 use Rattle.ring_machine.proofs.RingSegments.{segment_eq-true}
@@ -27,7 +26,8 @@ use Rattle.arc_store.proofs.Indexed.{in_segments, segment_in}
 use Rattle.ring_machine.proofs.Members.{contains_in, in_contains, in_mapped, in_flat, any_in, in_any}
 use Rattle.arc_store.specs.Users.{HasOne, ListsUsers}
 use Rattle.point_queries.specs.Users.{IsSorted, on_edge}
-use Rattle.point_queries.proofs.Ascending.{numbers_are}
+use Rattle.point_queries.proofs.Ascending.{numbers_found}
+use Rattle.point_queries.proofs.Odds.{both}
 use Rattle.arc_store.proofs.FrameNames.{ring_named}
 use Rattle.point_queries.proofs.SharedBorders.{named_ring}
 
@@ -66,10 +66,6 @@ box_at p = record { x0 = p.x; y0 = p.y; x1 = p.x; y1 = p.y }
 between_meets : (a b z : ℤ) → is_between a b z ≡ true
     → (int_le (int_min a b) z && int_le z (int_max a b)) ≡ true
 between_meets a b z h = grind (arith, ints, clamps)
-
-both : (a b : Bool) → a ≡ true → b ≡ true → (a && b) ≡ true
-both true b h k = k
-both false b h k = absurd (false≢true h)
 
 on_meets : (p : Position) (s : Segment) → is_on p s.lo s.hi ≡ true → boxes_meet (box_of s) (box_at p) ≡ true
 unfolding is_on
@@ -127,14 +123,8 @@ module _ (d : Document) (distinct : are_distinct (map (λ f. f.number) (features
       → (found sorted : List ℕ) → found ≡ map (λ name. name.feature) names → IsSorted found sorted
       → sorted ≡ border_at d p
   border_are names l found sorted e o =
-      numbers_are (is_on_border p) (features d) sorted distinct o.rises
-      (λ m i.
-      let a = subst (In m) e (contains_in found m ((o.same m).0 (in_contains sorted m i))) in
-      let name = in_mapped (λ (name : RingName). name.feature) m names a in
-      let g = border_of name.0 ((l.all name.0).0 (in_contains l.found name.0 (subst (In name.0) l.appended name.1))) in
-      (g.0, g.1, g.2, g.3 ∙ name.2))
+      numbers_found (λ name. name.feature) names (is_on_border p) (features d) found sorted distinct e o
+      (λ name i. border_of name ((l.all name).0 (in_contains l.found name (subst (In name) l.appended i))))
       (λ g i h.
       let name = of_border g i h in
-      let there : In name.0 names = subst (In name.0) (sym l.appended) (contains_in l.found name.0 ((l.all name.0).1 name.2)) in
-      let among : In g.number found = subst (λ z. In g.number z) (sym e) (subst (λ z. In z (map (λ (name : RingName). name.feature) names)) name.1 (in-map (λ (name : RingName). name.feature) name.0 names there)) in
-      contains_in sorted g.number ((o.same g.number).1 (in_contains found g.number among)))
+      (name.0, subst (In name.0) (sym l.appended) (contains_in l.found name.0 ((l.all name.0).1 name.2)), name.1))

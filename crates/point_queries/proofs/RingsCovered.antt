@@ -14,19 +14,14 @@ use Rattle.ring_machine.specs.WellFormed.{WellFormed}
 use Rattle.ring_machine.proofs.First.{In, in-append}
 use Rattle.ring_machine.proofs.Found.{feature_found, found_in}
 use Rattle.ring_machine.proofs.Members.{contains_in, in_contains, in_flat}
-use Rattle.ring_machine.proofs.Neighbours.{in-map, in-flat_map}
+use Rattle.ring_machine.proofs.Neighbours.{in-map, in-flat_map, all_of, all_in}
 use Rattle.ring_machine.proofs.SortedOnce.{in_recursion}
 use Rattle.ring_parts.specs.Seen.{rings_seen, polygons_seen}
 use Rattle.segment_index.specs.Candidates.{SegmentSet}
 use Rattle.ring_boxes.specs.Covering.{Covers, IsCovered, Keeps}
 use Rattle.point_queries.specs.Covered.{CoversFeature}
-use Rattle.point_queries.proofs.Telling.{all_true}
 
--- ---- what holds of each of some rings
-
-all_of : {X : Type 0} (P : X → Type 0) (xs : List X) → ((x : X) → In x xs → P x) → AllByRecursion P xs
-all_of P [] each = tt
-all_of P (x ∷ xs) each = (each x (inl refl), all_of P xs (λ y i. each y (inr i)))
+-- ---- rings
 
 -- all elements of these are rings
 abbrev pub AreRings : List (List Position) → Type 0
@@ -125,7 +120,7 @@ pub feature_rings : (d : Document) (n : ℕ) (polygons : List (List (List Positi
 feature_rings d n polygons proper e =
     subst (λ z. AreRings (flat_map (λ polygon. polygon) z)) (sym e)
     (all_of (λ ring. IsTrue (is_ring ring)) (rings_of (feature_at d n))
-    (λ ring i. all_true is_ring (rings d) ring proper.are_rings (rings_there d n ring i)))
+    (λ ring i. all_in is_ring (rings d) ring proper.are_rings (rings_there d n ring i)))
 
 -- the polygons of the number are those of each feature with it
 pub feature_covered : (d : Document) (n : ℕ) (polygons : List (List (List Position))) (boxes : SegmentSet) → WellFormed d

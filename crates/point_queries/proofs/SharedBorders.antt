@@ -1,9 +1,8 @@
 -- Two features have a segment in common where a ring of one has the segment of an edge of the other.
-use Rattle.std.proofs.Common.{◌≡◌, ℕ, Bool, true, false, refl, sym, ap, ap₂, ◌∙◌, subst, cond}
-use Rattle.std.proofs.Common.{List, [], ◌∷◌, map, inl, inr, Option, Some, None, option_map, ◌&&◌}
-use Rattle.std.specs.Prelude.{not, ◌==◌, unwrap_or}
+use Rattle.std.proofs.Common.{◌≡◌, ℕ, Bool, true, refl, sym, ap, ap₂, ◌∙◌, subst, arith}
+use Rattle.std.proofs.Common.{List, [], ◌∷◌, map, Option, Some, None, option_map, ◌&&◌}
+use Rattle.std.specs.Prelude.{not, ◌==◌}
 use Rattle.std.specs.List.{find, filter, flat_map, list_any}
-use Rattle.std.proofs.lemmas.Bool.{false≢true}
 use Rattle.std.proofs.lemmas.Bool.Decides.{Decides-eqb}
 use Rattle.grid_geometry.specs.Position.{Position}
 use Rattle.grid_geometry.specs.Ring.{Edge, edges}
@@ -15,38 +14,29 @@ use Rattle.ring_machine.specs.Refusals.{feature_at, or_else, no_feature}
 use Rattle.ring_machine.specs.Ring.{segment_of, segments}
 use Rattle.ring_machine.specs.WellFormed.{are_distinct}
 use Rattle.ring_machine.proofs.First.{In, filter-in}
+use Rattle.ring_machine.proofs.Found as finding
 use Rattle.ring_machine.proofs.Neighbours.{in-map, in-flat_map}
 use Rattle.ring_machine.proofs.Order.{and_both}
 use Rattle.map_frame.specs.declared.names.RingName.{RingName}
 use Rattle.map_frame.specs.Readers.{Shown, shown, element, ring_at}
-use Rattle.ring_machine.proofs.Members.{contains_in, in_contains, in_filter, in_mapped, in_flat, any_in, in_any}
+use Rattle.ring_machine.proofs.Members.{contains_in, in_contains, in_filter, in_mapped, in_flat, any_in, in_any, mapped_there}
 use Rattle.map_frame.proofs.NamedForgotten.{element_is}
 use Rattle.map_frame.proofs.ReadFeatures.{in_get}
 use Rattle.arc_store.proofs.FrameNames.{ring_named}
 use Rattle.arc_store.specs.Users.{HasOne, ListsUsers}
 use Rattle.point_queries.specs.Users.{IsSorted}
-use Rattle.point_queries.proofs.Ascending.{numbers_are}
+use Rattle.point_queries.proofs.Ascending.{numbers_found}
+use Rattle.point_queries.proofs.Odds.{both}
 
 -- ---- the feature with a number
 
 pub found_in : (n : ℕ) (fs : List Feature) (g : Feature) → find (λ f. f.number == n) fs ≡ Some g
     → In g fs × (g.number ≡ n)
-found_in n [] g e = absurd cc
-found_in n (f ∷ fs) g e = by (f.number == n) refl e (found_in n fs g)
-  where
-    by : (b : Bool) → (f.number == n) ≡ b → cond b (Some f) (find (λ f. f.number == n) fs) ≡ Some g
-        → (find (λ f. f.number == n) fs ≡ Some g → In g fs × (g.number ≡ n)) → In g (f ∷ fs) × (g.number ≡ n)
-    by true t h rest =
-        let same : f ≡ g = ap (λ o. unwrap_or o f) h in
-        (inl same, ap (λ (z : Feature). z.number) (sym same) ∙ (Decides-eqb f.number n).0 t)
-    by false t h rest = let k = rest h in (inr k.0, k.1)
+found_in n fs g e =
+    let k = finding.found_in (λ f. f.number == n) fs g e in
+    (k.0, (Decides-eqb g.number n).0 k.1)
 
 -- ---- rings by their names
-
-mapped_some : {X Y : Type 0} (f : X → Y) (o : Option X) (y : Y) → option_map f o ≡ Some y
-    → (x : X) × (o ≡ Some x) × (f x ≡ y)
-mapped_some f None y e = absurd cc
-mapped_some f (Some x) y e = (x, refl, ap (λ o. unwrap_or o y) e)
 
 -- a ring with a name is a ring of the feature that the name has
 pub named_ring : (d : Document) (name : RingName) (ps : List Position)
@@ -55,10 +45,14 @@ pub named_ring : (d : Document) (name : RingName) (ps : List Position)
 named_ring d name ps e =
     let a = element_is (element (option_map (λ f. f.polygons) (feature d name.feature)) name.polygon) name.ring ps e in
     let b = element_is (option_map (λ f. f.polygons) (feature d name.feature)) name.polygon a.0 a.1 in
-    let g = mapped_some (λ f. f.polygons) (feature d name.feature) b.0 b.1 in
+    let g = mapped_there (λ (f : Feature). f.polygons) (feature d name.feature) b.0 b.1 in
     let at = found_in name.feature (features d) g.0 g.1 in
     let polygon : In a.0 (g.0).polygons = subst (In a.0) (sym g.2) (in_get b.0 name.polygon a.0 b.2) in
     (g.0, at.0, at.1, in-flat_map (λ (polygon : List (List Position)). polygon) a.0 ps (g.0).polygons polygon (in_get a.0 name.ring ps a.2))
+
+filter_mapped : {X Y : Type 0} (test : Y → Bool) (f : X → Y) (xs : List X) → filter test (map f xs) ≡ map f (filter (λ x. test (f x)) xs)
+filter_mapped test f [] = refl
+filter_mapped test f (x ∷ xs) = grind (arith, filter_mapped test f xs)
 
 -- ---- edges and segments of a feature
 
@@ -124,39 +118,20 @@ module _ (d : Document) (distinct : are_distinct (map (λ f. f.number) (features
       → (found sorted : List ℕ) → found ≡ filter (λ m. not (m == n)) (map (λ name. name.feature) names)
       → IsSorted found sorted → sorted ≡ neighbours_of d f
   neighbours_are n number names l found sorted e o =
-      numbers_are test (features d) sorted distinct o.rises from to
+      numbers_found (λ name. name.feature) (filter other names) (λ g. not (g.number == f.number) && have_common f g) (features d)
+      found sorted distinct (e ∙ filter_mapped (λ m. not (m == n)) (λ (name : RingName). name.feature) names) o
+      (λ name i.
+      let k = in_filter other name names i in
+      let g = common_of name ((l.all name).0 (in_contains l.found name (subst (In name) l.appended k.0))) in
+      (g.0, g.1, both _ (have_common f g.0) (ap₂ (λ y z. not (y == z)) g.2 number ∙ k.1) g.3, g.2))
+      (λ g i h.
+      let t = and_both (not (g.number == f.number)) (have_common f g) h in
+      let name = of_common g i t.1 in
+      let there : In name.0 names = subst (In name.0) (sym l.appended) (contains_in l.found name.0 ((l.all name.0).1 name.2)) in
+      (name.0, filter-in other name.0 names there (ap₂ (λ y z. not (y == z)) name.1 (sym number) ∙ t.0), name.1))
     where
-      test : Feature → Bool
-      test g = not (g.number == f.number) && have_common f g
-
-      other : ℕ → Bool
-      other m = not (m == n)
-
-      both : (a b : Bool) → a ≡ true → b ≡ true → (a && b) ≡ true
-      both true b h k = k
-      both false b h k = absurd (false≢true h)
-
-      from : (m : ℕ) → In m sorted → (g : Feature) × In g (features d) × (test g ≡ true) × (g.number ≡ m)
-      from m i =
-          let a = subst (In m) e (contains_in found m ((o.same m).0 (in_contains sorted m i))) in
-          let b = in_filter other m (map (λ (name : RingName). name.feature) names) a in
-          let name = in_mapped (λ (name : RingName). name.feature) m names b.0 in
-          let one = (l.all name.0).0 (in_contains l.found name.0 (subst (In name.0) l.appended name.1)) in
-          let g = common_of name.0 one in (
-            g.0,
-            g.1,
-            both (not ((g.0).number == f.number)) (have_common f g.0) (ap₂ (λ y z. not (y == z)) (g.2 ∙ name.2) number ∙ b.1) g.3,
-            g.2 ∙ name.2,
-          )
-
-      to : (g : Feature) → In g (features d) → test g ≡ true → In g.number sorted
-      to g i h =
-          let t = and_both (not (g.number == f.number)) (have_common f g) h in
-          let name = of_common g i t.1 in
-          let there : In name.0 names = subst (In name.0) (sym l.appended) (contains_in l.found name.0 ((l.all name.0).1 name.2)) in
-          let among : In g.number (map (λ (name : RingName). name.feature) names) = subst (λ z. In z (map (λ (name : RingName). name.feature) names)) name.1 (in-map (λ (name : RingName). name.feature) name.0 names there) in
-          let kept = filter-in other g.number (map (λ (name : RingName). name.feature) names) among (ap (λ z. not (g.number == z)) (sym number) ∙ t.0) in
-          contains_in sorted g.number ((o.same g.number).1 (in_contains found g.number (subst (In g.number) (sym e) kept)))
+      other : RingName → Bool
+      other name = not (name.feature == n)
 
 -- a feature that is shown has the number that it was asked for by
 pub shown_number : (d : Document) (n : ℕ) (v : Shown) → Some v ≡ option_map shown (feature d n)

@@ -1,5 +1,5 @@
 -- What the readers of a map say of a feature, its polygons and their rings.
-use Rattle.std.proofs.Common.{◌≡◌, ℕ, ◌≤◌, ◌+◌, zero, suc, Bool, true, false, cond, ◌||◌, refl, sym, ap, ◌∙◌, List, [], ◌∷◌, map, length, get_or, Some, None, arith}
+use Rattle.std.proofs.Common.{◌≡◌, ℕ, ◌≤◌, ◌+◌, zero, suc, Bool, true, false, cond, refl, sym, ap, ◌∙◌, List, [], ◌∷◌, map, length, get_or, Some, None, arith}
 use Rattle.std.specs.Prelude.{◌==◌, Option, is_some, option_map, unwrap_or, slice_get, sum_by}
 use Rattle.std.specs.List.{find, flat_map, list_any}
 use Rattle.std.proofs.lemmas.List.Sums.{sum_by-cons, sum_by-append}
@@ -9,6 +9,8 @@ use Rattle.ring_machine.specs.Document.{Document, Feature}
 use Rattle.ring_machine.specs.Parts.{features, feature, has_feature, rings_of, size}
 use Rattle.ring_machine.specs.Refusals.{feature_at, or_else, no_feature}
 use Rattle.map_frame.specs.Readers.{Shown, shown, element, ring_at}
+use Rattle.ring_machine.proofs.Members.{is_some-mapped}
+use Rattle.std.proofs.lemmas.List.{length-map}
 
 -- the ring with these numbers, and none where there is no such ring
 pub ring_is : (d : Document) (n polygon ring : ℕ) → unwrap_or (ring_at d n polygon ring) [] ≡ get_or (get_or (feature_at d n).polygons polygon []) ring []
@@ -43,22 +45,21 @@ count_is [] i = refl
 count_is (p ∷ polygons) zero = refl
 count_is (p ∷ polygons) (suc i) = count_is polygons i
 
+pub length_shown : (d : Document) (n : ℕ) (v : Shown) → Some v ≡ option_map shown (feature d n) → length v.rings ≡ length (feature_at d n).polygons
+length_shown d n v e = ap length (numbers_shown d n v e) ∙ length-map (feature_at d n).polygons length
+
+pub count_shown : (d : Document) (n : ℕ) (v : Shown) → Some v ≡ option_map shown (feature d n) → (polygon : ℕ)
+    → unwrap_or (slice_get v.rings polygon) 0 ≡ length (get_or (feature_at d n).polygons polygon [])
+count_shown d n v e polygon =
+    ap (λ ns. unwrap_or (slice_get ns polygon) 0) (numbers_shown d n v e) ∙ count_is (feature_at d n).polygons polygon
+
 -- a feature has the number where one is shown
 pub is_shown : (d : Document) (n : ℕ) → has_feature d n ≡ is_some (option_map shown (feature d n))
-is_shown d n = at (features d) ∙ kept (feature d n)
+is_shown d n = at (features d) ∙ sym (is_some-mapped shown (feature d n))
   where
-    kept : (o : Option Feature) → is_some o ≡ is_some (option_map shown o)
-    kept None = refl
-    kept (Some f) = refl
-
     at : (fs : List Feature) → list_any (λ f. f.number == n) fs ≡ is_some (find (λ f. f.number == n) fs)
     at [] = refl
-    at (f ∷ fs) = by (f.number == n) (at fs)
-      where
-        by : (b : Bool) → list_any (λ g. g.number == n) fs ≡ is_some (find (λ g. g.number == n) fs)
-            → (b || list_any (λ g. g.number == n) fs) ≡ is_some (cond b (Some f) (find (λ g. g.number == n) fs))
-        by true h = refl
-        by false h = h
+    at (f ∷ fs) = grind (arith, at fs)
 
 -- ---- how many positions there are
 

@@ -1,5 +1,5 @@
 -- Which rings hold a position, by the rings of the segments that count for it.
-use Rattle.std.proofs.Common.{◌≡◌, Bool, true, refl, sym, ap, ap₂, ◌∙◌, subst, List, ◌∷◌, [], Option, Some, inl, inr}
+use Rattle.std.proofs.Common.{◌≡◌, true, refl, sym, ap, ap₂, ◌∙◌, subst, List, [], Option, Some, inl}
 use Rattle.std.specs.Prelude.{is_some, unwrap_or}
 use Rattle.std.specs.List.{AllByRecursion, list_any, list_all}
 use Rattle.grid_geometry.specs.Position.{Position, InRange, position_eq}
@@ -10,8 +10,8 @@ use Rattle.ring_machine.specs.Parts.{features, rings, rings_of, is_segment}
 use Rattle.ring_machine.specs.Ring.{has, segments, is_ring}
 use Rattle.ring_machine.proofs.First.{In}
 use Rattle.ring_machine.proofs.Members.{in_contains, contains_in, any_in, there}
-use Rattle.ring_machine.proofs.Neighbours.{in-flat_map}
-use Rattle.ring_machine.proofs.Order.{and_both, position_eq-true}
+use Rattle.ring_machine.proofs.Neighbours.{in-flat_map, all_in}
+use Rattle.ring_machine.proofs.Order.{position_eq-true}
 use Rattle.ring_machine.proofs.SortedOnce.{in_recursion}
 use Rattle.map_frame.specs.declared.names.RingName.{RingName}
 use Rattle.feature_exchange.proofs.Ends.{end_is}
@@ -22,11 +22,6 @@ use Rattle.point_queries.proofs.OnBorders.{of_ends}
 use Rattle.point_queries.proofs.PassedRings.{odd_ring}
 use Rattle.point_queries.proofs.Passing.{passed_meets}
 use Rattle.point_queries.proofs.SharedBorders.{named_ring}
-
-pub all_true : {X : Type 0} (test : X → Bool) (xs : List X) (x : X) → list_all test xs ≡ true → In x xs → test x ≡ true
-all_true test [] x h i = absurd i
-all_true test (y ∷ ys) x h (inl e) = ap test (sym e) ∙ (and_both (test y) (list_all test ys) h).0
-all_true test (y ∷ ys) x h (inr i) = all_true test ys x (and_both (test y) (list_all test ys) h).1 i
 
 -- a ring with a name is one of the document's
 pub ring_there : (d : Document) (name : RingName) (ring : List Position) → ring_of d name ≡ Some ring → In ring (rings d)
@@ -52,7 +47,7 @@ module _ (d : Document) (are_rings : list_all is_ring (rings d) ≡ true) (p : P
       (λ s j. ap₂ (λ (z : Segment) (o : Option (List Position)). list_any (segment_eq z) (segments (unwrap_or o [])))
       (of_ends d s (in_segments d s (h.passed.among s (in_contains h.ss s j)).0)) e)
       ∙ odd_ring p h.ss (λ s j. (h.passed.among s (in_contains h.ss s j)).1) h.passed.apart ring
-      (all_true is_ring (rings d) ring are_rings in_rings)
+      (all_in is_ring (rings d) ring are_rings in_rings)
       (λ t j k. contains_in h.ss t (h.passed.covers t (segment_in d t (in-flat_map segments ring t (rings d) in_rings j)) k (meet t j k)))
     where
       in_rings : In ring (rings d)

@@ -1,14 +1,14 @@
 use Rattle.std.proofs.Common.{◌≡◌, ◌∙◌, ◌<◌, ◌≤◌, ◌+◌, ◌+ℤ◌, false, true, refl, sym, ap, [], length, get_or, drop, to_z, of_z, arith}
-use Rattle.std.specs.Prelude.{is_some, unwrap_or, slice_get}
+use Rattle.std.specs.Prelude.{is_some}
 use Rattle.std.specs.Int.{w128}
 use Rattle.std.specs.List.{fold, sum_by}
 use Rattle.std.proofs.lemmas.Bool.{false≢true}
 use Rattle.std.proofs.lemmas.Int.{ints}
-use Rattle.std.proofs.lemmas.List.{drop_all, length-map}
+use Rattle.std.proofs.lemmas.List.{drop_all}
 use Rattle.ring_machine.specs.Parts.{has_feature}
 use Rattle.ring_machine.specs.Query as query
 use Rattle.ring_machine.specs.Refusals.{feature_at}
-use Rattle.point_queries.proofs.Shows.{numbers_shown, count_is, is_shown, one_of, feature-le-size}
+use Rattle.point_queries.proofs.Shows.{length_shown, count_shown, is_shown, one_of, feature-le-size}
 use Rattle.point_queries.proofs.Rest.{fold_rest, sum_rest}
 use Rattle.point_queries.proofs.area.area2_of.Goals as goal
 
@@ -19,9 +19,7 @@ returns-in_default-clause-there g c =
 
 pub polygon_area-part-requires-clause-all : goal.polygon_area-part-requires-clause-all
 polygon_area-part-requires-clause-all g c =
-    let polygons = (feature_at c.args.map.now.doc c.args.f).polygons in
-    let numbers = numbers_shown c.args.map.now.doc c.args.f c.in-Some.feature (sym c.in-Some.is ∙ c.feature.ensures.shown) in
-    c.ring_count.ensures ∙ ap (λ ns. unwrap_or (slice_get ns c.loop-polygon.polygon) 0) numbers ∙ count_is polygons c.loop-polygon.polygon
+    c.ring_count.ensures ∙ count_shown c.args.map.now.doc c.args.f c.in-Some.feature (sym c.in-Some.is ∙ c.feature.ensures.shown) c.loop-polygon.polygon
 
 pub polygon_area-part-requires-clause-few : goal.polygon_area-part-requires-clause-few
 polygon_area-part-requires-clause-few g c =
@@ -31,8 +29,7 @@ polygon_area-part-requires-clause-few g c =
 pub overflow_add-area : goal.overflow_add-area
 overflow_add-area g c =
     let polygons = (feature_at c.args.map.now.doc c.args.f).polygons in
-    let numbers = numbers_shown c.args.map.now.doc c.args.f c.in-Some.feature (sym c.in-Some.is ∙ c.feature.ensures.shown) in
-    let long = c.polygon_count-polygon-end.ensures ∙ ap length numbers ∙ length-map polygons length in
+    let long = c.polygon_count-polygon-end.ensures ∙ length_shown c.args.map.now.doc c.args.f c.in-Some.feature (sym c.in-Some.is ∙ c.feature.ensures.shown) in
     let within : c.loop-polygon.polygon < length polygons = omega (arith, long, c.loop-polygon-test.true) in
     let rest = sum_rest (sum_by length) polygons c.loop-polygon.polygon [] within in
     omega (arith, ints, rest, feature-le-size c.args.map.now.doc c.args.f, c.feature.ensures.small, c.loop-polygon.invariant.bound, c.polygon_area-part.ensures.bound)
@@ -40,8 +37,7 @@ overflow_add-area g c =
 pub loop-polygon-preserved : goal.loop-polygon-preserved
 loop-polygon-preserved g c =
     let polygons = (feature_at c.args.map.now.doc c.args.f).polygons in
-    let numbers = numbers_shown c.args.map.now.doc c.args.f c.in-Some.feature (sym c.in-Some.is ∙ c.feature.ensures.shown) in
-    let long = c.polygon_count-polygon-end.ensures ∙ ap length numbers ∙ length-map polygons length in
+    let long = c.polygon_count-polygon-end.ensures ∙ length_shown c.args.map.now.doc c.args.f c.in-Some.feature (sym c.in-Some.is ∙ c.feature.ensures.shown) in
     let within : c.loop-polygon.polygon < length polygons = omega (arith, long, c.loop-polygon-test.true) in
     let rest = sum_rest (sum_by length) polygons c.loop-polygon.polygon [] within in
     let small = feature-le-size c.args.map.now.doc c.args.f in
@@ -58,8 +54,7 @@ loop-polygon-preserved g c =
 pub returns-clause-area : goal.returns-clause-area
 returns-clause-area g c =
     let polygons = (feature_at c.args.map.now.doc c.args.f).polygons in
-    let numbers = numbers_shown c.args.map.now.doc c.args.f c.in-Some.feature (sym c.in-Some.is ∙ c.feature.ensures.shown) in
-    let long = c.polygon_count-polygon-end.ensures ∙ ap length numbers ∙ length-map polygons length in
+    let long = c.polygon_count-polygon-end.ensures ∙ length_shown c.args.map.now.doc c.args.f c.in-Some.feature (sym c.in-Some.is ∙ c.feature.ensures.shown) in
     let past : length polygons ≤ c.loop-polygon.polygon = omega (arith, long, c.loop-polygon-test.false) in
     sym (ap (fold (λ sum polygon. sum +ℤ query.polygon_area polygon) (to_z w128 c.loop-polygon.area-bits)) (drop_all c.loop-polygon.polygon polygons past))
     ∙ c.loop-polygon.invariant.whole

@@ -1,7 +1,6 @@
 use Rattle.std.proofs.Common.{◌≡◌, ◌<◌, ◌≤◌, ◌∙◌, sym, ap, subst, true, [], length, arith, take_all, map, IfErr}
-use Rattle.std.specs.Prelude.{is_some, unwrap_or, slice_get, not, ◌==◌}
+use Rattle.std.specs.Prelude.{is_some, not, ◌==◌}
 use Rattle.std.specs.List.{filter, flat_map}
-use Rattle.std.proofs.lemmas.List.{length-map}
 use Rattle.std.proofs.lemmas.Result.{err_from_is_err_and}
 use Rattle.grid_geometry.specs.Ring.{edges}
 use Rattle.ring_machine.specs.Parts.{has_feature}
@@ -10,7 +9,7 @@ use Rattle.point_queries.specs.Told.{Tells}
 use Rattle.arc_store.specs.Users.{ListsUsers}
 use Rattle.point_queries.proofs.SharedBorders.{edges_of, shown_number, neighbours_are}
 use Rattle.point_queries.proofs.Sharers.{users_more}
-use Rattle.point_queries.proofs.Shows.{numbers_shown, count_is, is_shown}
+use Rattle.point_queries.proofs.Shows.{length_shown, count_shown, is_shown}
 use Rattle.point_queries.proofs.sharing.neighbours.Goals as goal
 
 pub returns-in_default-clause-fault : goal.returns-in_default-clause-fault
@@ -19,10 +18,7 @@ returns-in_default-clause-fault g c =
 
 pub push_polygon-requires : goal.push_polygon-requires
 push_polygon-requires g c =
-    let d = c.args.map.now.doc in
-    let polygons = (feature_at d c.args.f).polygons in
-    let numbers = numbers_shown d c.args.f c.in-Some.feature (sym c.in-Some.is ∙ c.feature.ensures.shown) in
-    c.ring_count.ensures ∙ ap (λ ns. unwrap_or (slice_get ns c.loop-polygon.polygon) 0) numbers ∙ count_is polygons c.loop-polygon.polygon
+    c.ring_count.ensures ∙ count_shown c.args.map.now.doc c.args.f c.in-Some.feature (sym c.in-Some.is ∙ c.feature.ensures.shown) c.loop-polygon.polygon
 
 pub returns-in_err-push_polygon-clause-fault : goal.returns-in_err-push_polygon-clause-fault
 returns-in_err-push_polygon-clause-fault g c =
@@ -35,8 +31,7 @@ pub loop-polygon-preserved : goal.loop-polygon-preserved
 loop-polygon-preserved g c =
     let d = c.args.map.now.doc in
     let polygons = (feature_at d c.args.f).polygons in
-    let numbers = numbers_shown d c.args.f c.in-Some.feature (sym c.in-Some.is ∙ c.feature.ensures.shown) in
-    let long = c.polygon_count-polygon-end.ensures ∙ ap length numbers ∙ length-map polygons length in
+    let long = c.polygon_count-polygon-end.ensures ∙ length_shown d c.args.f c.in-Some.feature (sym c.in-Some.is ∙ c.feature.ensures.shown) in
     let within : c.loop-polygon.polygon < length polygons = omega (arith, long, c.loop-polygon-test.true) in
     users_more (flat_map edges) d polygons c.loop-polygon.polygon [] [] c.loop-polygon.names.items c.push_polygon.new.out.items within
     c.loop-polygon.invariant c.in_ok-push_polygon.ensures
@@ -54,7 +49,7 @@ returns-clause-found g c =
     let f = feature_at d c.args.f in
     let polygons = f.polygons in
     let shows = sym c.in-Some.is ∙ c.feature.ensures.shown in
-    let long = c.polygon_count-polygon-end.ensures ∙ ap length (numbers_shown d c.args.f c.in-Some.feature shows) ∙ length-map polygons length in
+    let long = c.polygon_count-polygon-end.ensures ∙ length_shown d c.args.f c.in-Some.feature shows in
     let past : length polygons ≤ c.loop-polygon.polygon = omega (arith, long, c.loop-polygon-test.false) in
     let names = c.loop-polygon.names.items in
     let lists : ListsUsers d (edges_of f) [] names =
