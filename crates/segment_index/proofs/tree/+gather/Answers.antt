@@ -2,8 +2,8 @@ use Rattle.std.proofs.Common.{rules, is_ok, false, arith, ◌≡◌, ◌+◌, re
 use Rattle.segment_index.specs.Candidates.{times_in}
 use Rattle.segment_index.specs.Trees.{listed}
 use Rattle.segment_index.proofs.Singles.{times-append}
-use Rattle.segment_index.proofs.Gathering.{gathers-then, gathers-less, gathers-same}
-use Rattle.segment_index.proofs.Branches.{gathers-nothing, none-meets}
+use Rattle.segment_index.proofs.Gathering.{gathers-nothing, gathers-then, gathers-less, gathers-same}
+use Rattle.segment_index.proofs.Branches.{none-meets}
 use Rattle.segment_index.proofs.tree.+gather.Goals as goal
 
 pub Tree::gather-returns-in-Empty : goal.Tree::gather-returns-in-Empty
