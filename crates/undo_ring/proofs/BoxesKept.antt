@@ -11,8 +11,8 @@ use Rattle.ring_machine.specs.Cut.{Path, path_of, cut}
 use Rattle.ring_machine.specs.Join.{join, take_out}
 use Rattle.ring_machine.specs.Thin.{thinned, IsThinnedPart}
 use Rattle.ring_machine.specs.Query.{vertices}
-use Rattle.ring_machine.specs.Refusals.{first_of, move_refusals, insert_refusals, remove_refusals, split_refusals, merge_refusals, feature_refusals, feature_at}
-use Rattle.ring_machine.specs.Command.{Command, Move, Insert, Remove, Thin, Split, Merge, Rename, Delete, Undo, Area, At, Neighbours, Rings, Count, Show, Refusal, Answer, Done, Thinned, Made, Refused}
+use Rattle.ring_machine.specs.Refusals.{move_refusals, insert_refusals, remove_refusals, split_refusals, merge_refusals, feature_refusals, feature_at}
+use Rattle.ring_machine.specs.Command.{Command, Move, Insert, Remove, Thin, Split, Merge, Rename, Delete, Undo, Area, Neighbours, Rings, Refusal, Answer, Done, Thinned, Made}
 use Rattle.ring_machine.specs.Machine.{State, step, edit, query, changed, renamed, split_state, thin_step}
 use Rattle.ring_machine.proofs.Members.{contains_in, in_contains}
 use Rattle.ring_machine.proofs.Neighbours.{has-in, in-has}
@@ -35,6 +35,8 @@ use Rattle.undo_ring.specs.Boxed.{AreCovered, IsKnown, HasGrown, IsReady, touche
 use Rattle.undo_ring.specs.declared.near.Near.{Near}
 use Rattle.undo_ring.proofs.Recording.{handed}
 use Rattle.undo_ring.proofs.RingOrigins.{put_from, ins_from, del_from, thinned_from, thinned_over_from, renamed_from, take_out_from, cut_from, join_from}
+use Rattle.undo_ring.proofs.NearLemmas.{keeps_covered}
+use Rattle.undo_ring.proofs.StepSides.{edit_either}
 
 -- ---- one ring
 
@@ -121,17 +123,12 @@ module _ (boxes : SegmentSet) where
     abbrev StaysCovered : Option (ℕ × ℕ) → State → Type 0
     StaysCovered touched after = HasCome boxes after.doc touched → Covers boxes (rings after.doc)
 
-    edit_covers : (rs : List (Option Refusal)) (a : Answer) (touched : Option (ℕ × ℕ)) (after : State)
-        → StaysCovered touched after → StaysCovered touched (edit st rs a after).1
-    edit_covers rs a touched after accepted = by (first_of rs) refl
-      where
-        by : (o : Option Refusal) → first_of rs ≡ o → StaysCovered touched (edit st rs a after).1
-        by None e =
-            let done : edit st rs a after ≡ (a, after) = rw e refl in
-            subst (λ (r : Answer × State). StaysCovered touched r.1) (sym done) accepted
-        by (Some refusal) e =
-            let stays : edit st rs a after ≡ (Refused refusal, st) = rw e refl in
-            subst (λ (r : Answer × State). StaysCovered touched r.1) (sym stays) (λ come. covers)
+    -- a step that may be refused
+    edit_covers : (c : Command) (rs : List (Option Refusal)) (a : Answer) (touched : Option (ℕ × ℕ)) (after : State)
+        → step 0 st c ≡ edit st rs a after → StaysCovered touched after → StaysCovered touched (step 0 st c).1
+    edit_covers c rs a touched after steps accepted =
+        subst (λ (r : Answer × State). StaysCovered touched r.1) (sym steps)
+        (edit_either st (λ r. StaysCovered touched r.1) rs a after (λ e. accepted) (λ r come. covers))
 
     thin_covers : (t : ℤ) → StaysCovered None (thin_step 0 st t).1
     thin_covers t = by ((thinned t st.doc).removed == 0)
@@ -143,44 +140,39 @@ module _ (boxes : SegmentSet) where
 
     -- a query leaves the state
     query_covers : (c : Command) (rs : List (Option Refusal)) (a : Answer) → step 0 st c ≡ query st rs a → StaysCovered None (step 0 st c).1
-    query_covers c rs a e =
-        subst (λ (r : Answer × State). StaysCovered None r.1) (sym e) (edit_covers rs a None st (λ come. covers))
+    query_covers c rs a steps = edit_covers c rs a None st steps (λ come. covers)
 
     pub step_covers : (c : Command) → IsNoUndo c → IsReady st.doc c boxes → StaysCovered (touched_by st.next c) (step 0 st c).1
     unfolding step
     step_covers (Move p q) edits ready =
-        subst (λ (r : Answer × State). StaysCovered None r.1) (sym (step-move 0 st p q))
-        (edit_covers (move_refusals st.doc p q) Done None (changed 0 st (put st.doc p q)) (λ come. put_covers st.doc covers p q ready))
+        edit_covers (Move p q) (move_refusals st.doc p q) Done None (changed 0 st (put st.doc p q)) (step-move 0 st p q)
+        (λ come. put_covers st.doc covers p q ready)
     step_covers (Insert a b q) edits ready =
-        subst (λ (r : Answer × State). StaysCovered None r.1) (sym (step-insert 0 st a b q))
-        (edit_covers (insert_refusals st.doc a b q) Done None (changed 0 st (ins st.doc a b q)) (λ come. ins_covers st.doc covers a b q ready))
+        edit_covers (Insert a b q) (insert_refusals st.doc a b q) Done None (changed 0 st (ins st.doc a b q)) (step-insert 0 st a b q)
+        (λ come. ins_covers st.doc covers a b q ready)
     step_covers (Remove p) edits ready =
-        subst (λ (r : Answer × State). StaysCovered None r.1) (sym (step-remove 0 st p))
-        (edit_covers (remove_refusals st.doc p) Done None (changed 0 st (del st.doc p)) (λ come. del_covers st.doc covers p))
+        edit_covers (Remove p) (remove_refusals st.doc p) Done None (changed 0 st (del st.doc p)) (step-remove 0 st p)
+        (λ come. del_covers st.doc covers p)
     step_covers (Thin t) edits ready =
         subst (λ (r : Answer × State). StaysCovered None r.1) (sym (step-thin 0 st t)) (thin_covers t)
     step_covers (Split n id path) edits ready =
-        subst (λ (r : Answer × State). StaysCovered (Some (n, st.next)) r.1) (sym (step-split 0 st n id path))
-        (edit_covers (split_refusals st.doc st.next n id (path_of path)) (Made st.next) (Some (n, st.next)) (split_state 0 st n id path)
-        (λ come. cut_covers st.doc covers n id (path_of path) st.next come.0 come.1))
+        edit_covers (Split n id path) (split_refusals st.doc st.next n id (path_of path)) (Made st.next) (Some (n, st.next)) (split_state 0 st n id path)
+        (step-split 0 st n id path) (λ come. cut_covers st.doc covers n id (path_of path) st.next come.0 come.1)
     step_covers (Merge n m) edits ready =
-        subst (λ (r : Answer × State). StaysCovered (Some (n, n)) r.1) (sym (step-merge 0 st n m))
-        (edit_covers (merge_refusals st.doc n m) Done (Some (n, n)) (changed 0 st (join st.doc n (feature_at st.doc m)))
-        (λ come. join_covers st.doc covers n (feature_at st.doc m) come.0))
+        edit_covers (Merge n m) (merge_refusals st.doc n m) Done (Some (n, n)) (changed 0 st (join st.doc n (feature_at st.doc m)))
+        (step-merge 0 st n m) (λ come. join_covers st.doc covers n (feature_at st.doc m) come.0)
     step_covers (Rename n id) edits ready =
-        subst (λ (r : Answer × State). StaysCovered None r.1) (sym (step-rename 0 st n id))
-        (edit_covers (feature_refusals st.doc n) Done None (changed 0 st (renamed st.doc n id)) (λ come. renamed_covers st.doc covers n id))
+        edit_covers (Rename n id) (feature_refusals st.doc n) Done None (changed 0 st (renamed st.doc n id)) (step-rename 0 st n id)
+        (λ come. renamed_covers st.doc covers n id)
     step_covers (Delete n) edits ready =
-        subst (λ (r : Answer × State). StaysCovered None r.1) (sym (step-delete 0 st n))
-        (edit_covers (feature_refusals st.doc n) Done None (changed 0 st (take_out st.doc n)) (λ come. taken_covers st.doc covers n))
+        edit_covers (Delete n) (feature_refusals st.doc n) Done None (changed 0 st (take_out st.doc n)) (step-delete 0 st n)
+        (λ come. taken_covers st.doc covers n)
     step_covers (Area n) edits ready = query_covers (Area n) (feature_refusals st.doc n) (AreaIs (area_of (feature_at st.doc n))) refl
-    step_covers (At p) edits ready = λ come. covers
     step_covers (Neighbours n) edits ready =
         query_covers (Neighbours n) (feature_refusals st.doc n) (NeighboursAre (neighbours_of st.doc (feature_at st.doc n))) refl
     step_covers (Rings n) edits ready = query_covers (Rings n) (feature_refusals st.doc n) (RingsAre (feature_at st.doc n).polygons) refl
-    step_covers Count edits ready = λ come. covers
-    step_covers Show edits ready = λ come. covers
     step_covers Undo edits ready = absurd edits
+    step_covers c edits ready = λ come. covers
 
   -- ---- what a command makes of a map
 
@@ -202,10 +194,6 @@ module _ (boxes : SegmentSet) where
     answer_covers (Err fault) fails ready come = fault_covers (refusal_of fault) fails
 
 -- ---- the newest documents
-
-all_keep : (a b : SegmentSet) (docs : List Document) → Keeps a b → AreCovered a docs → AreCovered b docs
-all_keep a b [] keeps h = tt
-all_keep a b (d ∷ docs) keeps h = ((λ r i. keeps r (h.0 r i)), all_keep a b docs keeps h.1)
 
 fewer : (boxes : SegmentSet) (j k : ℕ) (docs : List Document) → j ≤ k → AreCovered boxes (take k docs) → AreCovered boxes (take j docs)
 fewer boxes zero k docs le h = tt
@@ -234,7 +222,7 @@ module _ {A : Type 0} (before after : Near A) (d e : Document) (past : List Docu
       by (Some boxes) same h =
           let old : AreCovered h.0 (take (suc before.since) (d ∷ past)) =
           subst (λ (o : Option SegmentSet). IfSome o (λ b. AreCovered b (take (suc before.since) (d ∷ past)))) h.1 known in
-          let kept = all_keep h.0 boxes (take (suc before.since) (d ∷ past)) h.2 old in (
+          let kept = keeps_covered h.0 boxes (take (suc before.since) (d ∷ past)) h.2 old in (
             covers boxes kept.0 h.0 h.1 h.2 h.3,
             bounded boxes after.since depth (d ∷ past) (fewer boxes after.since (suc before.since) (d ∷ past) follows.since kept),
           )
@@ -243,32 +231,11 @@ module _ {A : Type 0} (before after : Near A) (d e : Document) (past : List Docu
 ready_kept : (d : Document) (c : Command) (a b : SegmentSet) → Keeps a b → IsReady d c a → IsReady d c b
 ready_kept d (Move p q) a b keeps h = λ ring i j. keeps (q ∷ ring) (h ring i j)
 ready_kept d (Insert p r q) a b keeps h = λ ring i j. keeps (q ∷ ring) (h ring i j)
-ready_kept d (Remove p) a b keeps h = tt
-ready_kept d (Thin t) a b keeps h = tt
-ready_kept d (Split n id path) a b keeps h = tt
-ready_kept d (Merge n m) a b keeps h = tt
-ready_kept d (Rename n id) a b keeps h = tt
-ready_kept d (Delete n) a b keeps h = tt
-ready_kept d Undo a b keeps h = tt
-ready_kept d (Area n) a b keeps h = tt
-ready_kept d (At p) a b keeps h = tt
-ready_kept d (Neighbours n) a b keeps h = tt
-ready_kept d (Rings n) a b keeps h = tt
-ready_kept d Count a b keeps h = tt
-ready_kept d Show a b keeps h = tt
+ready_kept d c a b keeps h = tt
 
 no_undo : (c : Asked) → IsNoUndo (command_of c)
 no_undo (told.Move p q) = tt
-no_undo (told.Insert a b q) = tt
-no_undo (told.Remove p) = tt
-no_undo (told.Thin t) = tt
-no_undo (told.Split n name path) = tt
-no_undo (told.Merge n m) = tt
-no_undo (told.Rename n name) = tt
-no_undo (told.Delete n) = tt
-no_undo (told.Area n) = tt
-no_undo (told.At p) = tt
-no_undo (told.Neighbours n) = tt
+no_undo c = tt
 
 -- ---- a command, as the calls have it
 

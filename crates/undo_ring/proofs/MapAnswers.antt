@@ -23,7 +23,7 @@ use Rattle.arc_store.specs.Recorded.{IsRecorded}
 use Rattle.arc_store.specs.State.{State as MapState}
 use Rattle.arc_store.specs.Faults.{Refuses}
 use Rattle.arc_store.specs.declared.fault.EditFault.{EditFault}
-use Rattle.arc_store.specs.declared.fault.EditFault.TheVariants.{NoFeature, NoVertex, NoSegment, Occupied, Junction, RingShort, SegmentExists, NoCollection, NotOnOuterRing, RepeatedPoint, WrongSide, TooLarge, SameFeature, NotOnePolygon, NotNeighbours, Runs, CommonElse, SameSide, Conflict, Sweeps, OutOfMemory}
+use Rattle.arc_store.specs.declared.fault.EditFault.TheVariants.{OutOfMemory}
 use Rattle.point_queries.specs.declared.numbers.At.{At as AtFound}
 use Rattle.edit_vertex.specs.Kept.{IsThinRecorded}
 use Rattle.undo_ring.specs.Answered.{with_past, past_after, is_change, StaysPlaced, Keeps, AcceptsOn, RefusesOn, StopsOn, FailsOn, AnswersMap, done_of, made_of}
@@ -53,36 +53,13 @@ edit-some st after rs a r e = rw e refl
 pub same_map : (old new : MapState) → new.doc ≡ old.doc → StaysPlaced old new → new.cells ≡ old.cells
     → new.last ≡ old.last → IsSameMap old new
 same_map old new d s c l =
-    ap (λ z. record new { doc = z }) d
-    ∙ ap (λ z. record new { doc = old.doc; next = z }) s.next
-    ∙ ap (λ z. record new { doc = old.doc; next = old.next; places = z }) s.places
-    ∙ ap (λ z. record new { doc = old.doc; next = old.next; places = old.places; cells = z }) c
-    ∙ ap (λ z. record new { doc = old.doc; next = old.next; places = old.places; cells = old.cells; last = z }) l
+    λ i. record new { doc = d i; next = s.next i; places = s.places i; cells = c i; last = l i }
 
 -- ---- a refusal
 
 by_fault : (fault : EditFault) (o : Option Refusal) (old new : MapState) (c : Command) → Refuses fault o → IsSameMap old new → ((r : Refusal) → o ≡ Some r → RefusesOn old new c r) → FailsOn fault old new c
-by_fault NoFeature o old new c f same k = k machine.NoFeature f
-by_fault NoVertex o old new c f same k = k machine.NoVertex f
-by_fault NoSegment o old new c f same k = k machine.NoSegment f
-by_fault Occupied o old new c f same k = k machine.Occupied f
-by_fault Junction o old new c f same k = k machine.Junction f
-by_fault RingShort o old new c f same k = k machine.RingShort f
-by_fault SegmentExists o old new c f same k = k machine.SegmentExists f
-by_fault NoCollection o old new c f same k = k machine.NoCollection f
-by_fault NotOnOuterRing o old new c f same k = k machine.NotOnOuterRing f
-by_fault RepeatedPoint o old new c f same k = k machine.RepeatedPoint f
-by_fault WrongSide o old new c f same k = k machine.WrongSide f
-by_fault TooLarge o old new c f same k = k machine.TooLarge f
-by_fault SameFeature o old new c f same k = k machine.SameFeature f
-by_fault NotOnePolygon o old new c f same k = k machine.NotOnePolygon f
-by_fault NotNeighbours o old new c f same k = k machine.NotNeighbours f
-by_fault (Runs n) o old new c f same k = k (machine.Runs n) f
-by_fault (CommonElse p) o old new c f same k = k (machine.CommonElse p) f
-by_fault SameSide o old new c f same k = k machine.SameSide f
-by_fault (Conflict s u) o old new c f same k = k (machine.Conflict s u) f
-by_fault Sweeps o old new c f same k = k machine.Sweeps f
 by_fault OutOfMemory o old new c f same k = inl same
+by_fault fault o old new c f same k = k _ f
 
 -- what a step is that may be refused
 abbrev IsEdit : MapState → Command → List (Option Refusal) → machine.Answer → (ℕ → State → State) → Type 0

@@ -24,6 +24,7 @@ use Rattle.undo_ring.specs.Edited.{Edited, machine_of, IsSame, Applies, Refuses,
 use Rattle.undo_ring.specs.Trails.{IsTrail, kept, edited_by}
 use Rattle.undo_ring.specs.declared.answer.Answer.{Answer}
 use Rattle.undo_ring.proofs.MapAnswers.{same_map}
+use Rattle.std.proofs.lemmas.List.{take-map}
 
 -- the map without the record that it handed out
 abbrev pub handed : MapState → MapState
@@ -34,18 +35,7 @@ all-take P zero xs h = tt
 all-take P (suc n) [] h = tt
 all-take P (suc n) (x ∷ xs) h = (h.0, all-take P n xs h.1)
 
-some_is : {X : Type 0} {x y : X} → Some x ≡ Some y → x ≡ y
-some_is e = cc
-
-none_some : {X : Type 0} {x : X} → None ≡ Some x → ⊥
-none_some e = cc
-
 module _ {X : Type 0} (seen : X → Record) where
-  seen-take : (n : ℕ) (xs : List X) → map seen (take n xs) ≡ take n (map seen xs)
-  seen-take zero xs = refl
-  seen-take (suc n) [] = refl
-  seen-take (suc n) (x ∷ xs) = ap (λ z. seen x ∷ z) (seen-take n xs)
-
   module _ (m : MapState) (records : Buffer X) (trail : IsTrail m (map seen records.items)) where
     abbrev before : List Record
     before = map seen records.items
@@ -77,7 +67,7 @@ module _ {X : Type 0} (seen : X → Record) where
         (recorded : IsRecorded m n) (placed : StaysPlaced m n ⊎ IsGrown m n) (r : X)
         (given : Some (seen r) ≡ n.last) where
       made_is : recorded.0 ≡ seen r
-      made_is = some_is (sym recorded.1 ∙ sym given)
+      made_is = cc (recorded.1, given)
 
       undoes : Undoes n.places n.next n.doc (seen r)
       undoes = subst (Undoes n.places n.next n.doc) made_is recorded.2.undoes
@@ -90,13 +80,13 @@ module _ {X : Type 0} (seen : X → Record) where
 
       undoing_pushed : AreUndoing n.places n.next n.doc (map seen pushed)
       undoing_pushed =
-          subst (AreUndoing n.places n.next n.doc) (sym (seen-take records.capacity (r ∷ records.items)))
+          subst (AreUndoing n.places n.next n.doc) (take-map seen records.capacity (r ∷ records.items))
           (undoing-take n.places n.next records.capacity n.doc (seen r ∷ before)
           (undoes, subst (λ z. AreUndoing n.places n.next z before) (sym was) (older n free placed).0))
 
       past_pushed : documents n.places n.doc (map seen pushed) ≡ take records.capacity (m.doc ∷ past)
       past_pushed =
-          ap (documents n.places n.doc) (seen-take records.capacity (r ∷ records.items))
+          ap (documents n.places n.doc) (sym (take-map seen records.capacity (r ∷ records.items)))
           ∙ documents-take n.places records.capacity n.doc (seen r ∷ before)
           ∙ ap (λ z. take records.capacity (z ∷ documents n.places z before)) was
           ∙ ap (λ z. take records.capacity (m.doc ∷ z)) (older n free placed).1
@@ -117,7 +107,7 @@ module _ {X : Type 0} (seen : X → Record) where
 
       none_made : (made : Option X) → option_map seen made ≡ n.last → made ≡ None
       none_made None e = refl
-      none_made (Some r) e = absurd (none_some (sym (e ∙ ap (λ (z : MapState). z.last) same ∙ trail.taken)))
+      none_made (Some r) e = let gone = e ∙ ap (λ (z : MapState). z.last) same ∙ trail.taken in absurd cc
 
       trail_still : IsTrail (handed n) before
       trail_still = subst (λ z. IsTrail z before) (sym still) (record {
@@ -165,17 +155,25 @@ module _ {X : Type 0} (seen : X → Record) where
             by : (o : Option X) → option_map seen o ≡ n.last
                 → IsTrail (handed n) (map seen (kept records o).items)
                 × ((documents n.places n.doc (map seen (kept records o).items) ≡ take records.capacity (m.doc ∷ past)) × ((kept records o).capacity ≡ records.capacity))
-            by None e = absurd (none_some (e ∙ recorded.1))
+            by None e = let both = e ∙ recorded.1 in absurd cc
             by (Some r) e = (trail_pushed n free keeps recorded placed r e, (past_pushed n free keeps recorded placed r e, refl))
 
         by_change : IsRecorded m n → StaysPlaced m n ⊎ IsGrown m n → IsNewer
-        by_change recorded placed = by made given
+        by_change recorded placed = inr (by made given, (when_changed recorded placed).1.0)
           where
-            by : (o : Option X) → option_map seen o ≡ n.last
-                → ((is_some o ≡ false) × (n.doc ≡ m.doc) × (documents n.places n.doc (map seen (kept records o).items) ≡ past))
-                ⊎ ((is_some o ≡ true) × (documents n.places n.doc (map seen (kept records o).items) ≡ take records.capacity (m.doc ∷ past)))
-            by None e = absurd (none_some (e ∙ recorded.1))
-            by (Some r) e = inr (refl, past_pushed n free keeps recorded placed r e)
+            by : (o : Option X) → option_map seen o ≡ n.last → is_some o ≡ true
+            by None e = let both = e ∙ recorded.1 in absurd cc
+            by (Some r) e = refl
+
+        -- a thinning that stopped left the map as it was, or it is recorded
+        stopped : (c : Command) → StopsOn m n c → IsSameMap m n ⊎ (IsRecorded m n × (n.doc ≢ m.doc))
+        stopped c s = on n.last refl s.recorded
+          where
+            on : (o : Option Record) → n.last ≡ o
+                → MatchOption o (n.doc ≡ m.doc) (λ z. Takes n.places n.next m.doc n.doc z × (n.doc ≢ m.doc))
+                → IsSameMap m n ⊎ (IsRecorded m n × (n.doc ≢ m.doc))
+            on None e d = inl (same_map m n d s.stays s.cells (e ∙ sym trail.taken))
+            on (Some z) e k = inr ((z, e, k.0), k.1)
 
         -- which documents stand after it
         pub newer : {A : Type 0} (c : Command) (result : Result (Answer A) EditFault) → AnswersMap m n c result → IsNewer
@@ -186,17 +184,9 @@ module _ {X : Type 0} (seen : X → Record) where
             by false k = by_same k
         newer c (Err fault) h = by (refusal_of fault) h
           where
-            stopped : StopsOn m n c → IsNewer
-            stopped s = on n.last refl s.recorded
-              where
-                on : (o : Option Record) → n.last ≡ o
-                    → MatchOption o (n.doc ≡ m.doc) (λ z. Takes n.places n.next m.doc n.doc z × (n.doc ≢ m.doc)) → IsNewer
-                on None e d = by_same (same_map m n d s.stays s.cells (e ∙ sym trail.taken))
-                on (Some z) e k = by_change (z, e, k.0) (inl s.stays)
-
             by : (o : Option Refusal) → MatchOption o (IsSameMap m n ⊎ StopsOn m n c) (RefusesOn m n c) → IsNewer
             by None (inl same) = by_same same
-            by None (inr s) = stopped s
+            by None (inr s) = elim (stopped c s) [ inl same ↦ by_same same | inr r ↦ by_change r.0 (inl s.stays) ]
             by (Some r) k = by_same k.same
 
         -- an accepted command
@@ -232,31 +222,27 @@ module _ {X : Type 0} (seen : X → Record) where
             → Stays × Fails fault (edited_by seen m records) after c
         failed c fault h = by (refusal_of fault) h
           where
-            stopped : StopsOn m n c → Stays × (LacksMemory (edited_by seen m records) after ⊎ IsCutShort (edited_by seen m records) after c)
-            stopped s = on n.last refl s.recorded
-              where
-                on : (o : Option Record) → n.last ≡ o
-                    → MatchOption o (n.doc ≡ m.doc) (λ z. Takes n.places n.next m.doc n.doc z × (n.doc ≢ m.doc))
-                    → Stays × (LacksMemory (edited_by seen m records) after ⊎ IsCutShort (edited_by seen m records) after c)
-                on None e d =
-                    let w = when_same (same_map m n d s.stays s.cells (e ∙ sym trail.taken)) in (w.0, inl w.1)
-                on (Some z) e k =
-                    let w = when_changed (z, e, k.0) (inl s.stays) in (
-                      w.0,
-                      inr (record {
-                        bound = s.bound;
-                        thins = s.thins;
-                        part = s.part;
-                        other = k.1;
-                        change = ap (λ p. with_past n p) w.1.0 ∙ ap (λ k. let st : State = record { doc = n.doc; next = k; past = take records.capacity (m.doc ∷ past) } in st) s.stays.next;
-                        stays = record { depth = w.1.1; cells = s.cells };
-                      }),
-                    )
+            cut_short : StopsOn m n c → Stays × (LacksMemory (edited_by seen m records) after ⊎ IsCutShort (edited_by seen m records) after c)
+            cut_short s = elim (stopped c s) [
+              | inl same ↦ let w = when_same same in (w.0, inl w.1)
+              | inr r ↦
+                  let w = when_changed r.0 (inl s.stays) in (
+                    w.0,
+                    inr (record {
+                      bound = s.bound;
+                      thins = s.thins;
+                      part = s.part;
+                      other = r.1;
+                      change = ap (λ p. with_past n p) w.1.0 ∙ ap (λ k. let st : State = record { doc = n.doc; next = k; past = take records.capacity (m.doc ∷ past) } in st) s.stays.next;
+                      stays = record { depth = w.1.1; cells = s.cells };
+                    }),
+                  )
+            ]
 
             by : (o : Option Refusal) → MatchOption o (IsSameMap m n ⊎ StopsOn m n c) (RefusesOn m n c)
                 → Stays × MatchOption o (LacksMemory (edited_by seen m records) after ⊎ IsCutShort (edited_by seen m records) after c) (Refuses (edited_by seen m records) after c)
             by None (inl same) = let w = when_same same in (w.0, inl w.1)
-            by None (inr s) = stopped s
+            by None (inr s) = cut_short s
             by (Some r) k =
                 let w = when_same k.same in (w.0, record { steps = k.steps records.capacity past; same = w.1 })
 
@@ -264,12 +250,12 @@ module _ {X : Type 0} (seen : X → Record) where
 
 module _ {X : Type 0} where
   front_item : (items : List X) (x : X) → Some x ≡ slice_get items 0 → items ≡ x ∷ drop 1 items
-  front_item [] x e = absurd (none_some (sym e))
-  front_item (y ∷ ys) x e = ap (λ z. z ∷ ys) (sym (some_is e))
+  front_item [] x e = absurd cc
+  front_item (y ∷ ys) x e = cc
 
   no_item : (items : List X) → None ≡ slice_get items 0 → items ≡ []
   no_item [] e = refl
-  no_item (y ∷ ys) e = absurd (none_some e)
+  no_item (y ∷ ys) e = absurd cc
 
 module _ {X : Type 0} (seen : X → Record) (m : MapState) (records popped : Buffer X) (trail : IsTrail m (map seen records.items))
     (gone : popped ≡ buffer (drop 1 records.items) records.capacity) where
@@ -335,32 +321,28 @@ module _ {X : Type 0} (seen : X → Record) (m n now : MapState) (records after 
   answered (Err fault) c h = let r = failed seen m records trail n made given free keeps c fault h in (r.0, (tt, r.1))
 
   module _ {A : Type 0} (result : Result (Answer A) EditFault) (c : Command) (h : AnswersMap m n c result) where
+    -- what holds of the map and of the records that are kept, as the calls have them
+    as_kept : (P : MapState → Buffer X → Type 0) → P (handed n) (kept records made) → P now after
+    as_kept P k = subst (λ z. P z after) (sym is) (subst (P (handed n)) (sym pushed) k)
+
     pub trail_after : IsTrail now (map seen after.items)
-    trail_after =
-        subst (λ z. IsTrail z (map seen after.items)) (sym is)
-        (subst (λ (b : Buffer X). IsTrail (handed n) (map seen b.items)) (sym pushed) (answered result c h).0)
+    trail_after = as_kept (λ z b. IsTrail z (map seen b.items)) (answered result c h).0
 
     -- the documents that stand after it
     pub newer_after : ((is_some made ≡ false) × (n.doc ≡ m.doc) × (new.past ≡ old.past))
         ⊎ ((is_some made ≡ true) × (new.past ≡ take records.capacity (m.doc ∷ old.past)))
     newer_after =
-        subst (λ (z : MapState). let later = documents z.places z.doc (map seen after.items) in
-        ((is_some made ≡ false) × (n.doc ≡ m.doc) × (later ≡ old.past))
-        ⊎ ((is_some made ≡ true) × (later ≡ take records.capacity (m.doc ∷ old.past)))) (sym is)
-        (subst (λ (b : Buffer X). let later = documents n.places n.doc (map seen b.items) in
-        ((is_some made ≡ false) × (n.doc ≡ m.doc) × (later ≡ old.past))
-        ⊎ ((is_some made ≡ true) × (later ≡ take records.capacity (m.doc ∷ old.past)))) (sym pushed)
-        (newer seen m records trail n made given free keeps c result h))
+        as_kept (λ z b. ((is_some made ≡ false) × (n.doc ≡ m.doc) × ((edited_by seen z b).past ≡ old.past))
+        ⊎ ((is_some made ≡ true) × ((edited_by seen z b).past ≡ take records.capacity (m.doc ∷ old.past))))
+        (newer seen m records trail n made given free keeps c result h)
 
     module _ (e : Edited) (view : old ≡ e) where
       pub applied_after : IfOk result (λ a. Applies e new c a)
       applied_after =
           subst (λ z. IfOk result (λ a. Applies z new c a)) view
-          (subst (λ z. IfOk result (λ a. Applies old (edited_by seen z after) c a)) (sym is)
-          (subst (λ (b : Buffer X). IfOk result (λ a. Applies old (edited_by seen (handed n) b) c a)) (sym pushed) (answered result c h).1.0))
+          (as_kept (λ z b. IfOk result (λ a. Applies old (edited_by seen z b) c a)) (answered result c h).1.0)
 
       pub failed_after : IfErr result (λ fault. Fails fault e new c)
       failed_after =
           subst (λ z. IfErr result (λ fault. Fails fault z new c)) view
-          (subst (λ z. IfErr result (λ fault. Fails fault old (edited_by seen z after) c)) (sym is)
-          (subst (λ (b : Buffer X). IfErr result (λ fault. Fails fault old (edited_by seen (handed n) b) c)) (sym pushed) (answered result c h).1.1))
+          (as_kept (λ z b. IfErr result (λ fault. Fails fault old (edited_by seen z b) c)) (answered result c h).1.1)

@@ -13,6 +13,15 @@ use Rattle.ring_machine.proofs.Steps.{step-move, step-insert, step-remove, step-
 use Rattle.edit_vertex.proofs.SidesKept.{same_keeps}
 use Rattle.undo_ring.specs.Edited.{EditsVertices}
 
+-- what holds of the accepted edit, and of each refusal, holds of a step that may be refused
+pub edit_either : (st : State) (P : Answer × State → Type 0) (rs : List (Option Refusal)) (a : Answer) (after : State)
+    → (first_of rs ≡ None → P (a, after)) → ((r : Refusal) → P (Refused r, st)) → P (edit st rs a after)
+edit_either st P rs a after accepted refused = by (first_of rs) refl
+  where
+    by : (o : Option Refusal) → first_of rs ≡ o → P (edit st rs a after)
+    by None e = let done : edit st rs a after ≡ (a, after) = rw e refl in subst P (sym done) (accepted e)
+    by (Some r) e = let stays : edit st rs a after ≡ (Refused r, st) = rw e refl in subst P (sym stays) (refused r)
+
 module _ (depth : ℕ) (st : State) (proper : Proper st.doc) where
   abbrev Keeps : Answer × State → Type 0
   Keeps r = KeepsSides st.doc r.1.doc
@@ -20,11 +29,7 @@ module _ (depth : ℕ) (st : State) (proper : Proper st.doc) where
   -- an edit that may be refused
   edit_keeps : (rs : List (Option Refusal)) (a : Answer) (after : State)
       → (first_of rs ≡ None → KeepsSides st.doc after.doc) → Keeps (edit st rs a after)
-  edit_keeps rs a after accepted = by (first_of rs) refl
-    where
-      by : (o : Option Refusal) → first_of rs ≡ o → Keeps (edit st rs a after)
-      by None e = let done : edit st rs a after ≡ (a, after) = rw e refl in subst Keeps (sym done) (accepted e)
-      by (Some r) e = let stays : edit st rs a after ≡ (Refused r, st) = rw e refl in subst Keeps (sym stays) (same_keeps st.doc)
+  edit_keeps rs a after accepted = edit_either st Keeps rs a after accepted (λ r. same_keeps st.doc)
 
   thin_keeps : (t : ℤ) → Keeps (thin_step depth st t)
   thin_keeps t = by ((thinned t st.doc).removed == 0)
