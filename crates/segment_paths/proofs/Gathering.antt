@@ -6,7 +6,7 @@ use Rattle.std.specs.List.Sorted.{IsSearchInRange}
 use Rattle.std.specs.Result.{IfOk}
 use Rattle.std.specs.declared.cmp.Ordering.TheVariants.{Equal}
 use Rattle.std.specs.Int.{int_min, int_max}
-use Rattle.std.proofs.lemmas.Bool.{false≢true}
+use Rattle.std.proofs.lemmas.Bool.{false≢true, false_from_ne_true}
 use Rattle.std.proofs.lemmas.Int.{ints, clamps}
 use Rattle.grid_geometry.specs.Segment.{Segment, Box, box_of, boxes_meet, segment_cmp, segment_eq, segment_lt}
 use Rattle.grid_geometry.specs.Conflict.{conflict}
@@ -23,17 +23,13 @@ by_bool : {X : Type 0} (p : Bool) → (p ≡ true → X) → (p ≡ false → X)
 by_bool true f g = f refl
 by_bool false f g = g refl
 
-both_true : (a b : Bool) → a ≡ true → b ≡ true → (a && b) ≡ true
-both_true true b h k = k
-both_true false b h k = h
-
 -- ---- in an index
 
 width_meets : (a b : ℤ) → (int_le (int_min a b) (int_max a b) && int_le (int_min a b) (int_max a b)) ≡ true
 width_meets a b = grind (arith, ints, clamps)
 
 meets_itself : (s : Segment) → boxes_meet (box_of s) (box_of s) ≡ true
-meets_itself s = both_true _ _ (width_meets s.lo.x s.hi.x) (width_meets s.lo.y s.hi.y)
+meets_itself s = ap₂ (λ a b. a && b) (width_meets s.lo.x s.hi.x) (width_meets s.lo.y s.hi.y)
 
 same_answer : (xs : List Segment) (t : Segment) → list_any (λ y. segment_eq y t) xs ≡ has xs t
 same_answer [] t = refl
@@ -43,10 +39,9 @@ same_answer (x ∷ xs) t = ap₂ (λ a b. a || b) (segment_eq-is t x) (same_answ
 pub not_held : (held : SegmentSet) (times : Segment → Box → ℕ) (rect : Box) (old new : List Segment) (s : Segment) → old ≡ [] → rect ≡ box_of s
     → Gives held times rect old new true → list_any (λ y. segment_eq y s) new ≡ false → set.contains held s ≡ false
 not_held held times rect old new s empty box g none =
-    by_bool (set.contains held s)
-    (λ e. absurd (false≢true (sym none ∙ same_answer new s ∙ ap (λ z. has z s) (g.appended ∙ ap (λ z. z ++ g.found) empty)
-    ∙ g.covers refl s e (ap (boxes_meet (box_of s)) box ∙ meets_itself s))))
-    (λ e. e)
+    false_from_ne_true (set.contains held s) (λ e.
+    false≢true (sym none ∙ same_answer new s ∙ ap (λ z. has z s) (g.appended ∙ ap (λ z. z ++ g.found) empty)
+    ∙ g.covers refl s e (ap (boxes_meet (box_of s)) box ∙ meets_itself s)))
 
 -- ---- in conflict
 

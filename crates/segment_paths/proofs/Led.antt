@@ -1,5 +1,5 @@
 -- Paths that grow: a position more at the end of one, and a path more after the others.
-use Rattle.std.proofs.Common.{◌≡◌, ◌≤◌, ◌<◌, ℕ, zero, suc, ℤ, ◌<ℤ◌, Bool, true, false, ◌&&◌, refl, sym, ap, subst, ◌∙◌, List, [], ◌∷◌, ◌++◌, map, length, get_or, Contains, arith, cond, ◌||◌, ◌==◌}
+use Rattle.std.proofs.Common.{◌≡◌, ◌≤◌, ◌<◌, ℕ, zero, suc, ℤ, ◌<ℤ◌, Bool, true, false, ◌&&◌, refl, sym, ap, ap₂, subst, ◌∙◌, List, [], ◌∷◌, ◌++◌, map, length, get_or, Contains, arith, cond, ◌||◌, ◌==◌}
 use Rattle.std.specs.List.{All, list_all}
 use Rattle.std.specs.List.Sorted.{IsStrictlySortedBy}
 use Rattle.std.specs.Ordering.{int_cmp}
@@ -31,17 +31,13 @@ pub record IsLed (s : Segment) (inner : List Position) (reached : ℤ) : Type 0 
 pub led_none : (s : Segment) (z : ℤ) → z ≡ along s s.lo → IsLed s [] z
 led_none s z e = record { rising = subst (Rising (along s s.lo ∷ [])) (sym e) (rising_one (along s s.lo)); near = refl }
 
-both_true : (a b : Bool) → a ≡ true → b ≡ true → (a && b) ≡ true
-both_true true b h k = k
-both_true false b h k = h
-
 pub led_push : (s : Segment) (inner : List Position) (r z : ℤ) (q : Position) → IsLed s inner r → z ≡ along s q → r <ℤ z → is_near q s ≡ true
     → IsLed s (inner ++ q ∷ []) z
 led_push s inner r z q h e more near = record {
   rising = subst (Rising (map (along s) (s.lo ∷ inner ++ q ∷ []))) (sym e)
       (subst (λ zs. Rising zs (along s q)) (sym (map-append (along s) (s.lo ∷ inner) (q ∷ [])))
       (rising_push (map (along s) (s.lo ∷ inner)) r (along s q) h.rising (subst (λ y. r <ℤ y) e more)));
-  near = list_all-append (λ p. is_near p s) inner (q ∷ []) ∙ both_true _ _ h.near (both_true (is_near q s) true near refl);
+  near = list_all-append (λ p. is_near p s) inner (q ∷ []) ∙ ap₂ (λ a b. a && b) h.near (ap (λ b. b && true) near);
 }
 
 pub led_way : (s : Segment) (inner : List Position) (r : ℤ) → IsLed s inner r → r <ℤ along s s.hi → IsWay s inner

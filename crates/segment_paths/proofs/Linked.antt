@@ -18,11 +18,7 @@ use Rattle.std.specs.Cmp.{tied_itself}
 
 -- what is not different is the same
 pub same_as : (s t : Segment) → not (segment_eq s t) ≡ false → s ≡ t
-same_as s t h = segment_eq-true s t (by (segment_eq s t) h)
-  where
-    by : (b : Bool) → not b ≡ false → b ≡ true
-    by true k = refl
-    by false k = cc
+same_as s t h = segment_eq-true s t (grind (arith, h))
 
 abbrev over : List Position → List Segment
 over ps = map segment_of (links ps)

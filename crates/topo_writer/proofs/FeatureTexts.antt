@@ -2,6 +2,7 @@
 use Rattle.std.proofs.Common.{◌≡◌, refl, sym, ap, ◌∙◌, List, [], ◌∷◌, ◌++◌, map, append_assoc}
 use Rattle.std.specs.Prelude.{codes}
 use Rattle.std.proofs.lemmas.List.{append-nil}
+use Rattle.std.proofs.lemmas.Simd.{map-map}
 use Rattle.grid_geometry.specs.Position.{Position}
 use Rattle.ring_machine.specs.Document.{Feature, Member, Polygon, MultiPolygon, Text}
 use Rattle.map_text.specs.Arcs.{indexes}
@@ -16,8 +17,7 @@ then o x y a b p q = q ∙ ap (λ z. z ++ y) p ∙ append_assoc o x y
 
 polygons_are : (j : Position → Bool) (arcs : List (List Position)) (ps : List (List (List Position)))
     → map (written_polygon j arcs) ps ≡ map polygon_text (map (map (indexes j arcs)) ps)
-polygons_are j arcs [] = refl
-polygons_are j arcs (p ∷ ps) = ap (λ z. written_polygon j arcs p ∷ z) (polygons_are j arcs ps)
+polygons_are j arcs ps = sym (map-map polygon_text (map (indexes j arcs)) ps)
 
 pub shape_many : (j : Position → Bool) (arcs : List (List Position)) (ps : List (List (List Position))) (o a b c : Text)
     → a ≡ o ++ codes ",\"arcs\":[" → b ≡ a ++ written_polygons j arcs ps → c ≡ b ++ codes "]"
@@ -36,9 +36,7 @@ shape_one j arcs polygon o a b p q =
     then o (codes ",\"arcs\":") w a b p q ∙ ap (λ z. o ++ z) (sym (append-nil (codes ",\"arcs\":" ++ w)))
 
 joined : (t i p s k y f : Text) → f ≡ i ++ (p ++ (s ++ k)) → t ++ (i ++ (p ++ (s ++ (k ++ y)))) ≡ (t ++ f) ++ y
-joined t i p s k y f e =
-    sym (append_assoc t f y ∙ ap (λ z. t ++ (z ++ y)) e
-    ∙ ap (λ z. t ++ z) (append_assoc i (p ++ (s ++ k)) y ∙ ap (λ z. i ++ z) (append_assoc p (s ++ k) y ∙ ap (λ z. p ++ z) (append_assoc s k y))))
+joined t i p s k y f e = simp (e, append_assoc)
 
 further_four : (i p s k : List Member)
     → further (map member_text (i ++ (p ++ (s ++ k)))) ≡ further (map member_text i) ++ (further (map member_text p) ++ (further (map member_text s) ++ further (map member_text k)))

@@ -73,11 +73,7 @@ module _ (arcs : List (List Position)) (ps : List Position) (g0 g1 g2 : Edge →
       let h = edge_eq-true (last_edge ps) e p in
       sym (ap₂ (λ o t. or_else o (cond t (Some (pos (length arcs))) (Some (negsuc (length arcs))))) (ap (found arcs) (sym h) ∙ nl) (sym q ∙ ap (edge_eq (first_edge ps)) (sym h) ∙ a))
   cases e false true p q = sym (ap (λ o. or_else o (Some (pos (length arcs)))) (ap (found arcs) (sym (edge_eq-true (first_edge ps) e q)) ∙ nf))
-  cases e false false p q = none (found arcs e)
-    where
-      none : (o : Option ℤ) → o ≡ or_else o None
-      none None = refl
-      none (Some z) = refl
+  cases e false false p q = grind arith
 
   one : (e : Edge) → g1 e ≡ cond (edge_eq (first_edge ps) e) (Some (pos (length arcs))) (found arcs e)
   one e = h1 e ∙ ap₂ (λ x y. cond (edge_eq x e) (Some y) (g0 e)) fe ie ∙ ap (λ o. cond (edge_eq (first_edge ps) e) (Some (pos (length arcs))) o) (h0 e)

@@ -7,20 +7,13 @@ use Rattle.ring_machine.specs.Document.{Document, Feature}
 use Rattle.ring_machine.specs.Parts.{feature, features, rings, rings_of}
 use Rattle.ring_machine.specs.WellFormed.{WellFormed, fits_form}
 use Rattle.ring_machine.proofs.First.{In}
+use Rattle.ring_machine.proofs.Found.{found_in}
 use Rattle.ring_machine.proofs.Neighbours.{all_of, all_in, in-flat_map}
 use Rattle.ring_machine.proofs.Members.{in_contains}
 use Rattle.topo_writer.specs.Reading.{all_rings_at}
 
-find_in : {A : Type 0} (test : A → Bool) (xs : List A) (a : A) → find test xs ≡ Some a → In a xs
-find_in test [] a h = absurd cc
-find_in test (x ∷ xs) a h = by (test x) h (find_in test xs a)
-  where
-    by : (t : Bool) → cond t (Some x) (find test xs) ≡ Some a → (find test xs ≡ Some a → In a xs) → In a (x ∷ xs)
-    by true e k = let same : x ≡ a = cc in inl same
-    by false e k = inr (k e)
-
 feature_there : (d : Document) (n : ℕ) (f : Feature) → feature d n ≡ Some f → In f (features d)
-feature_there d n f e = find_in (λ g. g.number == n) (features d) f e
+feature_there d n f e = (found_in (λ g. g.number == n) (features d) f e).0
 
 -- the rings of a feature are rings of the document
 pub rings_there : (d : Document) (n : ℕ) → AllByRecursion (Contains (rings d)) (all_rings_at d n)

@@ -2,13 +2,13 @@
 use Rattle.std.proofs.Common.{◌≡◌, ℕ, Bool, true, false, refl, sym, ap, ◌∙◌, subst, cond, List, [], ◌∷◌, ◌++◌, ◌||◌, map, arith, Some, inl, inr}
 use Rattle.std.specs.Prelude.{◌==◌, not, Contains, unwrap_or}
 use Rattle.std.specs.List.{filter_map, find, list_any}
-use Rattle.std.proofs.lemmas.Bool.{false≢true}
+use Rattle.std.proofs.lemmas.List.{map-id}
+use Rattle.std.proofs.lemmas.Simd.{map-map}
 use Rattle.std.proofs.lemmas.Bool.Decides.{nat_tests}
 use Rattle.ring_machine.specs.Document.{Document, Feature, Item, ItemOf, Head, Open, Close, Leaf, Kept, Layer}
 use Rattle.ring_machine.specs.Parts.{feature, feature_of, features}
 use Rattle.ring_machine.specs.WellFormed.{WellFormed, are_distinct, is_geometry}
 use Rattle.ring_machine.proofs.First.{In}
-use Rattle.ring_machine.proofs.Order.{and_both}
 use Rattle.ring_machine.proofs.Neighbours.{all_in, in-flat_map}
 use Rattle.ring_machine.proofs.Members.{contains_in}
 use Rattle.map_frame.specs.Readers.{ShownItem, Opens, Closes, Stands, Keeps, shown_item}
@@ -19,42 +19,15 @@ use Rattle.topo_writer.proofs.OpenedLemmas.{geometry_begins}
 
 -- ---- a feature is the one with its number
 
-same_number : (n : ℕ) → (n == n) ≡ true
-same_number n = grind (arith, nat_tests)
-
 -- the number of a feature of these is one of their numbers
 number_in : (fs : List Feature) (f : Feature) → In f fs → list_any (λ m. m == f.number) (map (λ g. g.number) fs) ≡ true
 number_in [] f i = absurd i
-number_in (g ∷ fs) f (inl e) =
-    ap (λ b. b || list_any (λ m. m == f.number) (map (λ g. g.number) fs)) (ap (λ (h : Feature). h.number == f.number) e ∙ same_number f.number)
-number_in (g ∷ fs) f (inr i) = by (g.number == f.number) (number_in fs f i)
-  where
-    by : (b : Bool) → list_any (λ m. m == f.number) (map (λ g. g.number) fs) ≡ true → (b || list_any (λ m. m == f.number) (map (λ g. g.number) fs)) ≡ true
-    by true h = refl
-    by false h = h
-
-not_false : (b : Bool) → not b ≡ true → b ≡ false
-not_false true h = absurd (false≢true h)
-not_false false h = refl
-
-same_is : (m n : ℕ) → (m == n) ≡ true → m ≡ n
-same_is m n h = grind (arith, nat_tests, h)
+number_in (g ∷ fs) f i = grind (arith, nat_tests, number_in fs f)
 
 found_own : (fs : List Feature) (f : Feature) → are_distinct (map (λ g. g.number) fs) ≡ true → In f fs
     → find (λ g. g.number == f.number) fs ≡ Some f
 found_own [] f d i = absurd i
-found_own (g ∷ fs) f d (inl e) =
-    ap (λ b. cond b (Some g) (find (λ h. h.number == f.number) fs)) (ap (λ (h : Feature). h.number == f.number) e ∙ same_number f.number)
-    ∙ ap (λ z. Some z) e
-found_own (g ∷ fs) f d (inr i) =
-    let both = and_both (not (list_any (λ m. m == g.number) (map (λ h. h.number) fs))) (are_distinct (map (λ h. h.number) fs)) d in
-    by (g.number == f.number) refl (not_false _ both.0) (found_own fs f both.1 i)
-  where
-    by : (b : Bool) → (g.number == f.number) ≡ b → list_any (λ m. m == g.number) (map (λ h. h.number) fs) ≡ false
-        → find (λ h. h.number == f.number) fs ≡ Some f → cond b (Some g) (find (λ h. h.number == f.number) fs) ≡ Some f
-    by true e n k =
-        absurd (false≢true (sym n ∙ ap (λ m. list_any (λ k. k == m) (map (λ h. h.number) fs)) (same_is g.number f.number e) ∙ number_in fs f i))
-    by false e n k = k
+found_own (g ∷ fs) f d i = grind (arith, nat_tests, found_own fs f, number_in fs f)
 
 leaf_in : (items : List Item) (f : Feature) → In (Leaf f) items → In f (filter_map feature_of items)
 leaf_in [] f i = absurd i
@@ -77,16 +50,8 @@ module _ (d : Document) (formed : WellFormed d) (layer : Layer) (there : Contain
   item_back (Leaf f) i = ap (λ o. Leaf (unwrap_or o (bare f.number))) (leaf_feature f i)
   item_back (Kept t) i = refl
 
-  mapped_twice : (items : List Item) → map (item_at d) (map shown_item items) ≡ map (λ i. item_at d (shown_item i)) items
-  mapped_twice [] = refl
-  mapped_twice (i ∷ items) = ap (λ z. item_at d (shown_item i) ∷ z) (mapped_twice items)
-
-  same_all : (items : List Item) → map (λ i. i) items ≡ items
-  same_all [] = refl
-  same_all (i ∷ items) = ap (λ z. i ∷ z) (same_all items)
-
   pub items_back : map (item_at d) (map shown_item layer.items) ≡ layer.items
-  items_back = mapped_twice layer.items ∙ map_alike (λ i. item_at d (shown_item i)) (λ i. i) layer.items item_back ∙ same_all layer.items
+  items_back = map-map (item_at d) shown_item layer.items ∙ map_alike (λ i. item_at d (shown_item i)) (λ i. i) layer.items item_back ∙ map-id layer.items
 
 -- ---- the items of a layer are a geometry
 
@@ -98,15 +63,11 @@ begin_written d (h ∷ heads) (Close ∷ items) = begin_written d heads items
 begin_written d heads (Leaf f ∷ items) = begin_written d heads items
 begin_written d heads (Kept t ∷ items) = begin_written d heads items
 
-written_map : (d : Document) (items : List ShownItem) → map (written_at d) items ≡ map (written_item d) (map (item_at d) items)
-written_map d [] = refl
-written_map d (s ∷ items) = ap (λ z. written_at d s ∷ z) (written_map d items)
-
 -- the items of a layer as they are written
 pub written_layer : (d : Document) → WellFormed d → (layer : Layer) → Contains d.layers layer
     → map (written_at d) (map shown_item layer.items) ≡ map (written_item d) layer.items
 written_layer d formed layer there =
-    written_map d (map shown_item layer.items) ∙ ap (map (written_item d)) (items_back d formed layer there)
+    sym (map-map (written_item d) (item_at d) (map shown_item layer.items)) ∙ ap (map (written_item d)) (items_back d formed layer there)
 
 pub written_begins : (d : Document) → WellFormed d → (items : List ShownItem) → ShowsLayer d items → is_begin [] (map (written_at d) items) ≡ true
 written_begins d formed items s =

@@ -22,13 +22,7 @@ use Rattle.topo_writer.proofs.Listed.{items_step}
 
 pub index_kept : (n : ℕ) (arcs new : List (List Position)) (ps : List Position) → is_arc arcs ps ≡ true → index_from n (arcs ++ new) ps ≡ index_from n arcs ps
 index_kept n [] new ps h = absurd (false≢true h)
-index_kept n (a ∷ arcs) new ps h = by (are_equal a ps) (are_equal (reverse a) ps) h (index_kept (n + 1) arcs new ps)
-  where
-    by : (b c : Bool) → ((b || c) || is_arc arcs ps) ≡ true → (is_arc arcs ps ≡ true → index_from (n + 1) (arcs ++ new) ps ≡ index_from (n + 1) arcs ps)
-        → cond b (Some (pos n)) (cond c (Some (negsuc n)) (index_from (n + 1) (arcs ++ new) ps)) ≡ cond b (Some (pos n)) (cond c (Some (negsuc n)) (index_from (n + 1) arcs ps))
-    by true c t f = refl
-    by false true t f = refl
-    by false false t f = f t
+index_kept n (a ∷ arcs) new ps h = grind (arith, index_kept (n + 1) arcs new ps)
 
 with_piece_new : (arcs : List (List Position)) (ps : List Position) → (new : List (List Position)) × (with_piece arcs ps ≡ arcs ++ new)
 with_piece_new arcs ps = by (is_arc arcs ps)
@@ -95,11 +89,7 @@ module _ (j : Position → Bool) (start : List (List Position)) where
 -- ---- how many arcs there are
 
 with_piece_few : (arcs : List (List Position)) (ps : List Position) → length (with_piece arcs ps) ≤ length arcs + 1
-with_piece_few arcs ps = by (is_arc arcs ps)
-  where
-    by : (b : Bool) → length (cond b arcs (arcs ++ ps ∷ [])) ≤ length arcs + 1
-    by true = omega arith
-    by false = omega (arith, length-append arcs (ps ∷ []))
+with_piece_few arcs ps = grind (arith, length-append arcs (ps ∷ []))
 
 with_pieces_few : (arcs pss : List (List Position)) → length (with_pieces arcs pss) ≤ length arcs + length pss
 with_pieces_few arcs [] = omega arith
@@ -112,12 +102,7 @@ led_few p (ps ∷ pss) = refl
 cut_few : (j : Position → Bool) (p : Position) (ps : List Position) → length (cut_way j p ps) ≤ length ps
 cut_few j p [] = omega arith
 cut_few j p (q ∷ []) = omega arith
-cut_few j p (q ∷ r ∷ rs) = by (j q) (cut_few j q (r ∷ rs))
-  where
-    by : (b : Bool) → length (cut_way j q (r ∷ rs)) ≤ length (r ∷ rs)
-        → length (cond b ((p ∷ q ∷ []) ∷ cut_way j q (r ∷ rs)) (led_from p (cut_way j q (r ∷ rs)))) ≤ length (q ∷ r ∷ rs)
-    by true h = omega (arith, h)
-    by false h = omega (arith, h, led_few p (cut_way j q (r ∷ rs)))
+cut_few j p (q ∷ r ∷ rs) = grind (arith, cut_few j q (r ∷ rs), led_few p (cut_way j q (r ∷ rs)))
 
 pub pieces_few : (j : Position → Bool) (ring : List Position) → length (pieces j ring) ≤ length ring
 pieces_few j ring =

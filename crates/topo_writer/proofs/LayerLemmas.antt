@@ -39,18 +39,15 @@ layer_shown d frame i h l =
     ∙ slice_get-map shown_layer d.layers i
     ∙ ap (option_map shown_layer) (slice_get-get_or d.layers i _ l)
 
-same_inside : {A : Type 0} (x y : A) → Some x ≡ Some y → x ≡ y
-same_inside x y e = cc
-
 pub items_shown : (d : Document) (frame : ShownFrame) (i : ℕ) (items : List ShownItem) → IsMapFrame d frame → i < length d.layers
     → Some items ≡ option_map (λ l. l.items) (slice_get frame.layers i) → items ≡ map shown_item (layer_at d i).items
 items_shown d frame i items h l e =
-    same_inside items (map shown_item (layer_at d i).items) (e ∙ ap (option_map (λ l. l.items)) (layer_shown d frame i h l))
+    let t : Some items ≡ Some (map shown_item (layer_at d i).items) = e ∙ ap (option_map (λ l. l.items)) (layer_shown d frame i h l) in cc
 
 pub name_shown : (d : Document) (frame : ShownFrame) (i : ℕ) (name : List ℕ) → IsMapFrame d frame → i < length d.layers
     → Some name ≡ option_map (λ l. l.name) (slice_get frame.layers i) → name ≡ (layer_at d i).name
 name_shown d frame i name h l e =
-    same_inside name (layer_at d i).name (e ∙ ap (option_map (λ l. l.name)) (layer_shown d frame i h l))
+    let t : Some name ≡ Some (layer_at d i).name = e ∙ ap (option_map (λ l. l.name)) (layer_shown d frame i h l) in cc
 
 pub shows_layer : (d : Document) (i : ℕ) (items : List ShownItem) → i < length d.layers
     → items ≡ map shown_item (layer_at d i).items → ShowsLayer d items

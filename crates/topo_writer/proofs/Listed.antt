@@ -4,6 +4,7 @@ use Rattle.std.proofs.Common.{true, refl, sym, ap, ap₂, ◌∙◌, arith, appe
 use Rattle.std.specs.Prelude.{Bool, codes, nat_lt}
 use Rattle.std.proofs.lemmas.List.{append-nil, map-append, take_more}
 use Rattle.std.proofs.lemmas.List.Concat.{flat_map-append}
+use Rattle.std.proofs.lemmas.Simd.{map-map}
 use Rattle.grid_geometry.specs.Position.{Position}
 use Rattle.ring_machine.specs.Document.{Text}
 use Rattle.map_text.specs.Arcs.{indexes}
@@ -59,11 +60,7 @@ listed_push delta arcs piece count old new c e p =
 -- a polygon is the list of its written rings
 pub polygon_is : (j : Position → Bool) (arcs polygon : List (List Position))
     → codes "[" ++ (written_rings j arcs polygon ++ codes "]") ≡ written_polygon j arcs polygon
-polygon_is j arcs polygon = ap (λ z. codes "[" ++ (commas z ++ codes "]")) (twice polygon)
-  where
-    twice : (rings : List (List Position)) → map (written_ring j arcs) rings ≡ map ring_text (map (indexes j arcs) rings)
-    twice [] = refl
-    twice (r ∷ rs) = ap (λ z. written_ring j arcs r ∷ z) (twice rs)
+polygon_is j arcs polygon = ap (λ z. codes "[" ++ (commas z ++ codes "]")) (sym (map-map ring_text (indexes j arcs) polygon))
 
 -- a text between brackets
 pub bracketed : (o w a b c : Text) → a ≡ o ++ codes "[" → b ≡ a ++ w → c ≡ b ++ codes "]" → c ≡ o ++ (codes "[" ++ (w ++ codes "]"))

@@ -1,7 +1,7 @@
 -- Ways and rings whose places are marked, cut at their marks.
 use Rattle.std.proofs.Common.{◌≡◌, ℕ, zero, suc, ◌+◌, ◌<◌, Bool, true, false, refl, sym, ap, ◌∙◌, List, [], ◌∷◌, ◌++◌, ◌||◌, if◌then◌else◌}
 use Rattle.std.proofs.Common.{map, take, drop, length, get_or, arith, append_assoc, append-nil, pos}
-use Rattle.std.proofs.lemmas.List.{drop_more, take_more, map-append, drop-map, length-map}
+use Rattle.std.proofs.lemmas.List.{drop_more, take_more, map-append, drop-map, take-map, get_or-map, length-map}
 use Rattle.grid_geometry.specs.Position.{Position, position}
 use Rattle.map_text.specs.Arcs.{begun, from_first, before_first}
 use Rattle.topo_writer.specs.Found.{at_place}
@@ -13,18 +13,12 @@ not_end [] n l = absurd (omega (arith, l))
 not_end (p ∷ ps) zero l = refl
 not_end (p ∷ ps) (suc n) l = not_end ps n (omega (arith, l))
 
-mapped_at : (junction : Position → Bool) (ps : List Position) (i : ℕ) → i < length ps
-    → get_or (map junction ps) i false ≡ junction (at_place ps i)
-mapped_at junction [] i l = absurd (omega (arith, l))
-mapped_at junction (p ∷ ps) zero l = refl
-mapped_at junction (p ∷ ps) (suc i) l = mapped_at junction ps i (omega (arith, l))
-
 -- the mark of a place
 pub mark_at : (junction : Position → Bool) (ps : List Position) (marks : List Bool) (i : ℕ) → marks ≡ map junction ps
     → i < length marks → get_or marks i false ≡ junction (at_place ps i)
 mark_at junction ps marks i e l =
     ap (λ z. get_or z i false) e
-    ∙ mapped_at junction ps i (omega (arith, l, ap length e, length-map ps junction))
+    ∙ get_or-map junction ps i (position (pos 0) (pos 0)) false (omega (arith, l, ap length e, length-map ps junction))
 
 -- one place more of a way
 pub cut_step : (junction : Position → Bool) (way piece piece' : List Position) (done done' : List (List Position)) (i : ℕ)
@@ -87,11 +81,6 @@ begun_at junction ring i l t from before =
     none : before_first junction (drop i ring) ≡ []
     none = ap (before_first junction) more
         ∙ ap (λ b. if b then [] else (at_place ring i ∷ before_first junction (drop (i + 1) ring))) t
-
-take-map : (junction : Position → Bool) (n : ℕ) (ps : List Position) → take n (map junction ps) ≡ map junction (take n ps)
-take-map junction zero ps = refl
-take-map junction (suc n) [] = refl
-take-map junction (suc n) (p ∷ ps) = ap (λ z. junction p ∷ z) (take-map junction n ps)
 
 -- the marks of the way round
 pub round_marks : (junction : Position → Bool) (ring : List Position) (n : ℕ)

@@ -25,11 +25,7 @@ use Rattle.topo_writer.proofs.Ways.{Whole, Border, all_borders, fit_all, streame
 use Rattle.topo_writer.proofs.OneWay.{one_way}
 
 apart_eq : (p q : Position) → (p ≡ q → ⊥) → position_eq p q ≡ false
-apart_eq p q n = by (position_eq p q) refl
-  where
-    by : (b : Bool) → position_eq p q ≡ b → position_eq p q ≡ false
-    by false e = e
-    by true e = absurd (n (position_eq-true p q e))
+apart_eq p q n = grind (arith, position_eq-true p q)
 
 -- a piece of a ring has two positions or more
 pub ring_long : (j : Position → Bool) (ring : List Position) → AllByRecursion (λ piece. 2 ≤ length piece) (pieces j ring)

@@ -3,7 +3,7 @@ use Rattle.std.proofs.Common.{◌≡◌, ℕ, zero, suc, refl, sym, ap, ◌∙�
 use Rattle.std.proofs.Common.{Option, Some, None}
 use Rattle.std.specs.Prelude.{option_map, unwrap_or, slice_get, true, ◌==◌}
 use Rattle.std.specs.List.{flat_map}
-use Rattle.std.proofs.lemmas.List.{append-nil}
+use Rattle.std.proofs.lemmas.List.{append-nil, length-map}
 use Rattle.std.proofs.lemmas.Option.{unwrap_or-slice_get}
 use Rattle.grid_geometry.specs.Position.{Position}
 use Rattle.ring_machine.specs.Document.{Document, Feature, Form, Polygon, Null}
@@ -28,17 +28,13 @@ seen_rings d n v e = by (feature d n) e
     by None h = absurd cc
     by (Some f) h = let same : v ≡ shown f = cc in ap (λ (s : Shown). s.rings) same
 
-pub length_mapped : {A B : Type 0} (f : A → B) (xs : List A) → length (map f xs) ≡ length xs
-length_mapped f [] = refl
-length_mapped f (x ∷ xs) = ap suc (length_mapped f xs)
-
 counted_at : {A : Type 0} (ps : List (List A)) (i : ℕ) → unwrap_or (slice_get (map length ps) i) 0 ≡ length (get_or ps i [])
 counted_at [] i = refl
 counted_at (p ∷ ps) zero = refl
 counted_at (p ∷ ps) (suc i) = counted_at ps i
 
 pub seen_count : (d : Document) (n : ℕ) (v : Shown) → Some v ≡ option_map shown (feature d n) → length v.rings ≡ length (polygons_at d n)
-seen_count d n v e = ap length (seen_rings d n v e) ∙ length_mapped length (polygons_at d n)
+seen_count d n v e = ap length (seen_rings d n v e) ∙ length-map (polygons_at d n) length
 
 pub seen_ring_count : (d : Document) (n polygon : ℕ) (v : Shown) → Some v ≡ option_map shown (feature d n)
     → unwrap_or (slice_get v.rings polygon) 0 ≡ length (rings_at d n polygon)

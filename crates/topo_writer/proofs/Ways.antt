@@ -9,6 +9,7 @@ use Rattle.std.proofs.lemmas.Bool.{false≢true}
 use Rattle.std.proofs.lemmas.List.{drop_more, reverse-reverse, get_or-reverse, length-reverse}
 use Rattle.grid_geometry.specs.Position.{Position, position, position_eq}
 use Rattle.ring_machine.specs.Ring.{edge_eq}
+use Rattle.ring_machine.proofs.Members.{same_answer}
 use Rattle.ring_machine.proofs.Order.{and_both, position_eq-true}
 use Rattle.ring_machine.proofs.Pieces.{IsPiece, same_piece, reversed}
 use Rattle.map_text.specs.Arcs.{begun, cut_round, pieces}
@@ -62,11 +63,6 @@ round_is j ring way n l b e =
 
 -- ---- finding
 
-same_bool : (b c : Bool) → (b ≡ true → c ≡ true) → (c ≡ true → b ≡ true) → b ≡ c
-same_bool true c f g = sym (f refl)
-same_bool false true f g = g refl
-same_bool false false f g = refl
-
 -- two positions or more
 abbrev pub IsLong : List Position → Type 0
 IsLong [] = ⊥
@@ -80,7 +76,7 @@ module _ (k : Position → Bool) (next : Position → Position → Position) whe
   same_first (p ∷ []) ps la lp ia ip = absurd la
   same_first (p ∷ q ∷ as') [] la lp ia ip = absurd lp
   same_first (p ∷ q ∷ as') (r ∷ []) la lp ia ip = absurd lp
-  same_first (p ∷ q ∷ as') (r ∷ s ∷ ps) la lp ia ip = same_bool _ _
+  same_first (p ∷ q ∷ as') (r ∷ s ∷ ps) la lp ia ip = same_answer _ _
       (λ h. let e = and_both (position_eq p r) (position_eq q s) h in
       let x = position_eq-true p r e.0 in
       let y = position_eq-true q s e.1 in
@@ -104,37 +100,24 @@ module _ (k : Position → Bool) (next : Position → Position → Position) whe
 
   some_is : (n : ℕ) (arcs : List (List Position)) (ps : List Position) → is_some (index_from n arcs ps) ≡ is_arc arcs ps
   some_is n [] ps = refl
-  some_is n (a ∷ arcs) ps = by (are_equal a ps) (are_equal (reverse a) ps) (some_is (n + 1) arcs ps)
-    where
-      by : (b c : Bool) → is_some (index_from (n + 1) arcs ps) ≡ is_arc arcs ps → is_some (cond b (Some (pos n)) (cond c (Some (negsuc n)) (index_from (n + 1) arcs ps))) ≡ ((b || c) || is_arc arcs ps)
-      by true c h = refl
-      by false true h = refl
-      by false false h = h
+  some_is n (a ∷ arcs) ps = grind (arith, some_is (n + 1) arcs ps)
 
   pub with_found_is : (arcs : List (List Position)) (ps : List Position) → AllByRecursion Border arcs → Border ps → with_found arcs ps ≡ with_piece arcs ps
   with_found_is arcs ps h b = ap (λ t. cond t arcs (arcs ++ ps ∷ [])) (ap is_some (found_is 0 arcs ps h b) ∙ some_is 0 arcs ps)
 
   -- a path in reverse is an arc where the path is
   reverse_eq : (a ps : List Position) → are_equal a (reverse ps) ≡ are_equal (reverse a) ps
-  reverse_eq a ps = same_bool _ _
+  reverse_eq a ps = same_answer _ _
       (λ h. ap (λ z. are_equal z ps) (ap reverse (are_equal-true a (reverse ps) h) ∙ reverse-reverse ps) ∙ are_equal-refl ps)
       (λ h. ap (λ z. are_equal z (reverse ps)) (sym (reverse-reverse a) ∙ ap reverse (are_equal-true (reverse a) ps h)) ∙ are_equal-refl (reverse ps))
-
-  or_swap : (b c : Bool) → (b || c) ≡ (c || b)
-  or_swap true true = refl
-  or_swap true false = refl
-  or_swap false true = refl
-  or_swap false false = refl
 
   reverse_arc : (arcs : List (List Position)) (ps : List Position) → is_arc arcs (reverse ps) ≡ is_arc arcs ps
   reverse_arc [] ps = refl
   reverse_arc (a ∷ arcs) ps =
-      let other : are_equal (reverse a) (reverse ps) ≡ are_equal a ps = reverse_eq (reverse a) ps ∙ ap (λ z. are_equal z ps) (reverse-reverse a) in
-      ap₂ (λ x y. x || y) (ap₂ (λ x y. x || y) (reverse_eq a ps) other ∙ or_swap (are_equal (reverse a) ps) (are_equal a ps)) (reverse_arc arcs ps)
+      grind (arith, reverse_eq a ps, reverse_eq (reverse a) ps, reverse-reverse a, reverse_arc arcs ps)
 
   none_of : (o : Option ℤ) → is_some o ≡ false → o ≡ None
-  none_of None h = refl
-  none_of (Some z) h = absurd (false≢true (sym h))
+  none_of o h = grind arith
 
   pub fits : (arcs : List (List Position)) (ps : List Position) → AllByRecursion Border arcs → Border ps → Border (reverse ps) → 2 ≤ length ps → are_equal ps (reverse ps) ≡ false → Fits arcs ps
   fits arcs ps h b r l n = record {
@@ -148,11 +131,7 @@ module _ (k : Position → Bool) (next : Position → Position → Position) whe
   -- ---- all pieces, one after another
 
   borders_more : (arcs : List (List Position)) (ps : List Position) → AllByRecursion Border arcs → Border ps → AllByRecursion Border (with_piece arcs ps)
-  borders_more arcs ps h b = by (is_arc arcs ps)
-    where
-      by : (t : Bool) → AllByRecursion Border (cond t arcs (arcs ++ ps ∷ []))
-      by true = h
-      by false = each-append Border arcs (ps ∷ []) h (b, tt)
+  borders_more arcs ps h b = grind (arith, each-append Border arcs (ps ∷ []) h (b, tt))
 
   abbrev or_zero : Option ℤ → ℤ
   or_zero o = unwrap_or o (pos 0)
