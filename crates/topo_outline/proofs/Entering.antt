@@ -1,5 +1,6 @@
 -- The names of an object are tested in order exactly if no two stand for one text.
 use Rattle.std.proofs.Common.{◌≡◌, not, List, [], ◌∷◌, ◌++◌, ℕ, Bool, true, false, refl, sym, ◌∙◌, subst, true≢false, bytes_eq}
+use Rattle.std.proofs.lemmas.Cmp.{nat_list_eq_equiv}
 use Rattle.std.specs.Prelude.{Ok, Option, Some, None}
 use Rattle.std.specs.List.{list_any, IsDistinct, AllByRecursion}
 use Rattle.std.proofs.lemmas.List.Folds.{list_any-append}
@@ -13,6 +14,7 @@ use Rattle.topo_outline.specs.Faults.{Fault, duplicate, demand}
 use Rattle.topo_outline.specs.Members.{EntryNode, entry_of}
 use Rattle.topo_outline.specs.Shape.{named, name_text, text_from, unquoted, members_of, is_object}
 use Rattle.topo_outline.specs.IsOutline.{Entries, no_entry, entry, HasEntries, NestsAtMost}
+use Rattle.ring_machine.proofs.Removal.{not_true}
 use Rattle.topo_outline.proofs.Levels.{object_here}
 use Rattle.topo_outline.proofs.Steps.{step, demanded, same_ok, neither}
 
@@ -27,11 +29,7 @@ Without t ts = AllByRecursion (λ u. bytes_eq t u ≡ false) ts
 -- ---- one more text seen
 
 other_order : (t u : List ℕ) → bytes_eq u t ≡ false → bytes_eq t u ≡ false
-other_order t u h = by (bytes_eq t u) refl
-  where
-    by : (b : Bool) → bytes_eq t u ≡ b → bytes_eq t u ≡ false
-    by true e = absurd (true≢false (sym ((bytes_eq-Decides u t).1 (sym ((bytes_eq-Decides t u).0 e))) ∙ h))
-    by false e = e
+other_order t u h = nat_list_eq_equiv.symm t u ∙ h
 
 apart : (seen : List (List ℕ)) (t u : List ℕ) → list_any (bytes_eq u) (seen ++ t ∷ []) ≡ false → (list_any (bytes_eq u) seen ≡ false) × (bytes_eq t u ≡ false)
 apart seen t u h =
@@ -64,10 +62,6 @@ pub text_is : (f : Fault) (o : Option (List ℕ)) {t : List ℕ} → text_from f
 text_is f None h = absurd cc
 text_is f (Some u) h = cc
 
-unheld : (b : Bool) → not b ≡ true → b ≡ false
-unheld true h = absurd (true≢false (sym h))
-unheld false h = refl
-
 one_more : {seen : List (List ℕ)} {ms : List (Node × Node)} {rest : List EntryNode} (m : Node × Node) (t : List ℕ) → decoded m.0.bytes ≡ Some t → list_any (bytes_eq t) seen ≡ false → Named (seen ++ t ∷ []) ms rest → Named seen (m ∷ ms) (entry_of t m ∷ rest)
 unfolding IsDistinct
 one_more {seen = seen} m t is new n =
@@ -81,7 +75,7 @@ named_means seen (m ∷ ms) es h =
     step (name_text m.0) _ h λ t is tested.
     step (demand (not (list_any (bytes_eq t) seen)) (duplicate (unquoted m.0.bytes)) (named (seen ++ t ∷ []) ms)) _ tested λ rest left last.
     let (new, after) = demanded _ _ _ left in
-    rw (← same_ok last) (one_more m t (text_is _ _ is) (unheld _ new) (named_means (seen ++ t ∷ []) ms rest after))
+    rw (← same_ok last) (one_more m t (text_is _ _ is) (not_true _ new) (named_means (seen ++ t ∷ []) ms rest after))
 
 named_gives : {ms : List (Node × Node)} {ts : List (List ℕ)} {es : List EntryNode} → Entries ms ts es → (seen : List (List ℕ)) → Unseen seen ts → IsDistinct bytes_eq ts → named seen ms ≡ Ok es
 unfolding named IsDistinct

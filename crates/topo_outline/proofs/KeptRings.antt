@@ -22,10 +22,8 @@ module _ {R S : Type 0} (g : R → S) where
   items_keep : (items : List (ItemOf R)) → AllByRecursion KeepsItem items
       → AllByRecursion KeepsItem (map (in_item (in_feature g)) items)
   items_keep [] h = tt
-  items_keep (Open head ∷ items) h = (h.0, items_keep items h.1)
   items_keep (Close ∷ items) h = (tt, items_keep items h.1)
-  items_keep (Leaf f ∷ items) h = (h.0, items_keep items h.1)
-  items_keep (Kept t ∷ items) h = (h.0, items_keep items h.1)
+  items_keep (_ ∷ items) h = (h.0, items_keep items h.1)
 
   layers_keep : (ls : List (LayerOf R)) → KeepsLayers ls → KeepsLayers (within ls)
   layers_keep [] h = tt
@@ -53,10 +51,8 @@ module _ {R S : Type 0} (g : R → S) where
   items_kept : (items : List (ItemOf R))
       → AllByRecursion KeepsItem (map (in_item (in_feature g)) items) → AllByRecursion KeepsItem items
   items_kept [] h = tt
-  items_kept (Open head ∷ items) h = (h.0, items_kept items h.1)
   items_kept (Close ∷ items) h = (tt, items_kept items h.1)
-  items_kept (Leaf f ∷ items) h = (h.0, items_kept items h.1)
-  items_kept (Kept t ∷ items) h = (h.0, items_kept items h.1)
+  items_kept (_ ∷ items) h = (h.0, items_kept items h.1)
 
   layers_kept : (ls : List (LayerOf R)) → KeepsLayers (within ls) → KeepsLayers ls
   layers_kept [] h = tt

@@ -71,25 +71,17 @@ module _ {R : Type 0} (n : ℕ) where
   filtered_keeps (Open head ∷ is) h = (h.0, filtered_keeps is h.1)
   filtered_keeps (Close ∷ is) h = (tt, filtered_keeps is h.1)
   filtered_keeps (Kept t ∷ is) h = (h.0, filtered_keeps is h.1)
-  filtered_keeps (Leaf f ∷ is) h = by (f.number == n) (filtered_keeps is h.1)
-    where
-      by : (b : Bool) → AllByRecursion KeepsItem (filter (λ i. not (is_leaf n i)) is)
-          → AllByRecursion KeepsItem (cond (not b) (Leaf f ∷ filter (λ i. not (is_leaf n i)) is) (filter (λ i. not (is_leaf n i)) is))
-      by true k = k
-      by false k = (h.0, k)
+  filtered_keeps (Leaf f ∷ is) h = grind (arith, filtered_keeps is h.1)
 
   taken_keeps : (is : List (ItemOf R)) → AllByRecursion KeepsItem is
       → AllByRecursion KeepsItem (taken n is)
   taken_keeps [] h = tt
-  taken_keeps (Open head ∷ is) h = filtered_keeps (Open head ∷ is) h
-  taken_keeps (Close ∷ is) h = filtered_keeps (Close ∷ is) h
-  taken_keeps (Kept t ∷ is) h = filtered_keeps (Kept t ∷ is) h
-  taken_keeps (Leaf f ∷ i ∷ is) h = filtered_keeps (Leaf f ∷ i ∷ is) h
   taken_keeps (Leaf f ∷ []) h = by (f.number == n)
     where
       by : (b : Bool) → AllByRecursion KeepsItem (cond b (empty_collection {R = R}) (Leaf f ∷ []))
       by true = empty_keeps R
       by false = h
+  taken_keeps (i ∷ is) h = filtered_keeps (i ∷ is) h
 
   layers_taken_keep : (ls : List (LayerOf R)) → KeepsLayers ls → KeepsLayers (map (in_layer (taken n)) ls)
   layers_taken_keep [] h = tt

@@ -37,10 +37,8 @@ mutual
 leaves_right : (ps : List Piece) → AllByRecursion IsRight ps → AllByRecursion HasArcs (leaves_in ps)
 unfolding leaves_in
 leaves_right [] h = tt
-leaves_right (starts head ∷ ps) h = leaves_right ps h.1
-leaves_right (ends ∷ ps) h = leaves_right ps h.1
 leaves_right (leaf f head n ∷ ps) h = (h.0, leaves_right ps h.1)
-leaves_right (text t ∷ ps) h = leaves_right ps h.1
+leaves_right (_ ∷ ps) h = leaves_right ps h.1
 
 layers_right : {es : List EntryNode} {ls : List LayerText} → AreLayers es ls → AllByRecursion HasArcs (leaves ls)
 unfolding leaves

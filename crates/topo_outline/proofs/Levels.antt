@@ -26,21 +26,13 @@ AllNest k es = AllByRecursion (λ e. NestsAtMost k e.value) es
 pub value_nests : (k : ℕ) (w : Word) (es : List EntryNode) (v : Node) → AllNest k es → value_at w es ≡ Some v → NestsAtMost k v
 value_nests k w es v h is = value_has (NestsAtMost k) w es v h is
 
-an_object : (k : Kind) → is_kind_object k ≡ true → k ≡ kind.Object
+pub an_object : (k : Kind) → is_kind_object k ≡ true → k ≡ kind.Object
 an_object kind.Object h = refl
-an_object kind.Null h = absurd cc
-an_object kind.Bool h = absurd cc
-an_object kind.Number h = absurd cc
-an_object kind.Text h = absurd cc
-an_object kind.List h = absurd cc
+an_object _ h = absurd cc
 
 a_list : (k : Kind) → is_list_kind k ≡ true → k ≡ kind.List
 a_list kind.List h = refl
-a_list kind.Null h = absurd cc
-a_list kind.Bool h = absurd cc
-a_list kind.Number h = absurd cc
-a_list kind.Text h = absurd cc
-a_list kind.Object h = absurd cc
+a_list _ h = absurd cc
 
 each_value : (k : ℕ) (ms : List (Node × Node)) → AllByRecursion (λ m. IsText m.0.bytes × IsValue k m.1.bytes) ms → AllByRecursion (λ m. NestsAtMost k m.1) ms
 each_value k [] h = tt

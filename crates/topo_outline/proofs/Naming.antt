@@ -1,5 +1,5 @@
 -- Names, and members found by them.
-use Rattle.std.proofs.Common.{◌≡◌, ℕ, suc, ◌+◌, ◌<◌, ◌≤◌, List, [], ◌∷◌, ◌++◌, length, get_or, drop, map, refl, sym, ap₂, ◌∙◌, add-one, drop-cons, Bool, true, false, cond}
+use Rattle.std.proofs.Common.{◌≡◌, ℕ, suc, ◌+◌, ◌<◌, ◌≤◌, List, [], ◌∷◌, ◌++◌, length, get_or, drop, map, refl, sym, ap₂, ◌∙◌, add-one, drop-cons, arith, Bool, true, false, cond}
 use Rattle.std.specs.Prelude.{Result, Ok, Err, Some, None, filter, not, ◌||◌, ◌==◌}
 use Rattle.std.specs.Str.{bytes_eq}
 use Rattle.std.specs.List.{list_any}
@@ -26,8 +26,7 @@ pub tested : (texts : List (List ℕ)) (t : List ℕ) (has : List ℕ → Bool) 
 tested texts t has new is same e h = rw (same t) (sym e ∙ h)
 
 pub either : (a b : Bool) → cond a true b ≡ (a || b)
-either true b = refl
-either false b = refl
+either a b = grind arith
 
 -- one more text, in a list and in what it is compared with
 pub one_more : (texts : List (List ℕ)) (t : List ℕ) (old new : List ℕ → Bool) → ((u : List ℕ) → list_any (bytes_eq u) texts ≡ old u) → ((u : List ℕ) → new u ≡ (bytes_eq t u || old u)) → (u : List ℕ) → list_any (bytes_eq u) (texts ++ t ∷ []) ≡ new u
@@ -44,8 +43,7 @@ kept_one true m = []
 kept_one false m = kept_text m ∷ []
 
 kept_cons : (b : Bool) (m : EntryNode) (ms : List EntryNode) → map kept_text (cond (not b) (m ∷ ms) ms) ≡ kept_one b m ++ map kept_text ms
-kept_cons true m ms = refl
-kept_cons false m ms = refl
+kept_cons b m ms = grind arith
 
 pub kept_step : (o : Owner) (es : List Entry) (i : ℕ) (d : Entry) → i < length es → kept o (map view_entry (drop i es)) ≡ kept_one (is_known o (get_or es i d).word) (view_entry (get_or es i d)) ++ kept o (map view_entry (drop (i + 1) es))
 kept_step o es i d lt = rw (drop-cons es i d lt, add-one i) (kept_cons (is_known o (get_or es i d).word) (view_entry (get_or es i d)) (filter (λ m. not (is_known o m.word)) (map view_entry (drop (suc i) es))))

@@ -25,7 +25,7 @@ use Rattle.topo_outline.specs.Shape.{is_list, is_object, members_of, member_that
 use Rattle.topo_outline.specs.Outline.{outline_text, outlined, outline}
 use Rattle.topo_outline.specs.IsOutline.{NestsAtMost, HasEntries, value_at, HasType, AreTwoNumbers, IsGeometry, IsTransform, no_transform, null_transform, AreLayers, no_layer, IsOutline}
 use Rattle.topo_outline.specs.IsOutline as shape
-use Rattle.topo_outline.proofs.Levels.{AllNest, object_nests, list_nests, value_nests, list_here, is_an_object, is_a_list}
+use Rattle.topo_outline.proofs.Levels.{AllNest, an_object, object_nests, list_nests, value_nests, list_here, is_an_object, is_a_list}
 use Rattle.topo_outline.proofs.Steps.{step, demanded, same_ok, both_true}
 use Rattle.topo_outline.proofs.Entering.{object_means, object_gives}
 use Rattle.topo_outline.proofs.Typing.{member_at, value_of_member, good_member, member_is_good, Says, topology, says}
@@ -35,11 +35,7 @@ use Rattle.topo_outline.proofs.Nesting.{geometry_means, geometry_gives, geometry
 
 number_means : (k : Kind) → is_number k ≡ true → k ≡ kind.Number
 number_means kind.Number h = refl
-number_means kind.Null h = absurd cc
-number_means kind.Bool h = absurd cc
-number_means kind.Text h = absurd cc
-number_means kind.List h = absurd cc
-number_means kind.Object h = absurd cc
+number_means _ h = absurd cc
 
 two_mean : (k : ℕ) (n : Node) (ns : List Node) → NestsAtMost k n → IsListOf n ns → two_numbers ns ≡ true → AreTwoNumbers n
 two_mean k n [] nests l h = absurd cc
@@ -71,14 +67,6 @@ numbers_give (Some m) v e t = let same : m.value ≡ v = cc in rw same (two_give
 kind_is_object : (n : Node) → kind_of n.bytes ≡ kind.Object → is_object n ≡ true
 kind_is_object n e = rw e refl
 
-object_of_kind : (k : Kind) → is_kind_object k ≡ true → k ≡ kind.Object
-object_of_kind kind.Object h = refl
-object_of_kind kind.Null h = absurd cc
-object_of_kind kind.Bool h = absurd cc
-object_of_kind kind.Text h = absurd cc
-object_of_kind kind.List h = absurd cc
-object_of_kind kind.Number h = absurd cc
-
 value_means : (j : ℕ) (m : EntryNode) (k : Kind) (t : Option Text) → NestsAtMost j m.value → kind_of m.value.bytes ≡ k → transform_value m k ≡ Ok t → IsTransform (Some m.value) t
 value_means j m kind.Null t nests e h = rw (← same_ok h) (null_transform (null_told nests e))
 value_means j m kind.Object t nests e h =
@@ -90,10 +78,7 @@ value_means j m kind.Object t nests e h =
     let (scale, at_scale, two_scales) = numbers_mean i word.Scale es all scales in
     let (translate, at_translate, two_translates) = numbers_mean i word.Translate es all translates in
     rw (← same_ok last) (shape.transform o at_scale two_scales at_translate two_translates)
-value_means j m kind.Bool t nests e h = absurd cc
-value_means j m kind.Text t nests e h = absurd cc
-value_means j m kind.List t nests e h = absurd cc
-value_means j m kind.Number t nests e h = absurd cc
+value_means j m _ t nests e h = absurd cc
 
 transform_means : (j : ℕ) (es : List EntryNode) (t : Option Text) → AllNest j es → transform_from (member word.Transform es) ≡ Ok t → IsTransform (value_at word.Transform es) t
 transform_means j es t all h = by (member word.Transform es) refl h
@@ -110,7 +95,7 @@ transform_gives (null_transform {n = n} k) (Some m) e = let same : m.value ≡ n
 transform_gives (shape.transform a b c d f) None e = absurd cc
 transform_gives (shape.transform {n = n} {scale = s} {translate = r} {es = es} o at_scale scales at_translate translates) (Some m) e =
     let same : m.value ≡ n = cc in
-    rw (same, object_of_kind (kind_of n.bytes) (is_an_object o.object), object_gives o, numbers_give (member word.Scale es) s at_scale scales, numbers_give (member word.Translate es) r at_translate translates) refl
+    rw (same, an_object (kind_of n.bytes) (is_an_object o.object), object_gives o, numbers_give (member word.Scale es) s at_scale scales, numbers_give (member word.Translate es) r at_translate translates) refl
 
 -- ---- the layers
 
@@ -133,20 +118,11 @@ layers_give k (shape.layer g gs) nests le = rw (geometry_is_object g, geometry_g
 
 text_kind_is : (k : Kind) → is_type_text k ≡ true → k ≡ kind.Text
 text_kind_is kind.Text h = refl
-text_kind_is kind.Null h = absurd cc
-text_kind_is kind.Bool h = absurd cc
-text_kind_is kind.Number h = absurd cc
-text_kind_is kind.List h = absurd cc
-text_kind_is kind.Object h = absurd cc
+text_kind_is _ h = absurd cc
 
 topology_text : (t : List ℕ) (g : Geometry) → Says t g → is_topology_word g ≡ true → t ≡ codes "Topology"
 topology_text t geo.Topology (topology e) h = e
-topology_text t geo.Polygon s h = absurd cc
-topology_text t geo.MultiPolygon s h = absurd cc
-topology_text t geo.Collection s h = absurd cc
-topology_text t geo.Point s h = absurd cc
-topology_text t geo.Null s h = absurd cc
-topology_text t geo.Other s h = absurd cc
+topology_text t _ s h = absurd cc
 
 topology_said : (o : Option (List ℕ)) → says_topology o ≡ true → o ≡ Some (codes "Topology")
 topology_said None h = absurd cc

@@ -106,10 +106,7 @@ typed_text j es m g kind.Text nests found e h =
     step (text_from (wrong m) (decoded m.value.bytes)) _ h λ t says_it last.
     let same : geometry_of t ≡ g = same_ok last in
     rw (← same) (typed es m.value t (geometry_of t) (rw found refl) (text_told nests e) (text_is _ _ says_it) (says t))
-typed_text j es m g kind.Bool nests found e h = absurd cc
-typed_text j es m g kind.Number nests found e h = absurd cc
-typed_text j es m g kind.List nests found e h = absurd cc
-typed_text j es m g kind.Object nests found e h = absurd cc
+typed_text j es m g _ nests found e h = absurd cc
 
 pub type_means : (j : ℕ) (es : List EntryNode) (g : Geometry) (m : EntryNode) → AllNest j es → type_of es ≡ Ok (g, m) → IsOfType es g
 type_means j es g m all h =

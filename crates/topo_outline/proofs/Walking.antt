@@ -13,23 +13,10 @@ with_front front r = r >>= λ xs. Ok (front ++ xs)
 -- one fault stands for another
 pub carry : {Y Z : Type 0} (e : OpenFault) (r : Result Y Fault) (s : Result Z Fault) → ((f : Fault) → r ≡ Err f → s ≡ Err f) → Fails e r → Fails e s
 carry (open_fault.NotJson place) r s h is = absurd is
-carry (open_fault.TooDeep place) r s h is = h _ is
-carry open_fault.NotTopology r s h is = h _ is
-carry (open_fault.BadMember name) r s h is = h _ is
-carry (open_fault.Duplicate name) r s h is = h _ is
-carry (open_fault.Unsupported name) r s h is = h _ is
-carry (open_fault.NotWhole place) r s h is = h _ is
-carry (open_fault.OutOfRange place) r s h is = h _ is
-carry (open_fault.BadPosition place) r s h is = h _ is
-carry (open_fault.BadArcIndex place) r s h is = h _ is
-carry (open_fault.ArcsDoNotMeet ring) r s h is = h _ is
-carry (open_fault.RingShort ring) r s h is = h _ is
-carry (open_fault.RingRepeats ring p) r s h is = h _ is
 carry (open_fault.Conflict p q) r s h is = absurd is
 carry (open_fault.TooLarge limit.Bytes) r s h is = absurd is
-carry (open_fault.TooLarge limit.Features) r s h is = h _ is
-carry (open_fault.TooLarge limit.Positions) r s h is = h _ is
 carry open_fault.OutOfMemory r s h is = tt
+carry _ r s h is = h _ is
 
 pub regroup : {A : Type 0} (front : List A) (p : A) (r : Result (List A) Fault) → with_front front (r >>= λ ps. Ok (p ∷ ps)) ≡ with_front (front ++ p ∷ []) r
 regroup {A = A} front p (Ok ps) = ap (λ (qs : List A). Ok qs) (sym (append_assoc front (p ∷ []) ps))
