@@ -1,16 +1,12 @@
 -- Counting positions, as the loops do.
-use Rattle.std.proofs.Common.{◌≡◌, ℕ, ◌+◌, Bool, true, false, cond, List, length, drop, map, reverse, refl}
+use Rattle.std.proofs.Common.{◌≡◌, ℕ, ◌+◌, Bool, true, false, cond, List, length, drop, map, reverse, refl, arith}
 use Rattle.std.specs.Prelude.{sum_by}
 use Rattle.std.proofs.lemmas.List.{length-reverse}
 use Rattle.topo_reader.specs.declared.indexes.Use.{Use}
 use Rattle.topo_reader.specs.Uses.{arc_of}
 
 pub length_use : (u : Use) → length (arc_of u) ≡ length u.arc.now
-length_use u = by u.reversed
-  where
-    by : (b : Bool) → length (cond b (reverse u.arc.now) u.arc.now) ≡ length u.arc.now
-    by true = length-reverse u.arc.now
-    by false = refl
+length_use u = grind (arith, length-reverse u.arc.now)
 
 -- the room that is left, and what is left of the sum
 abbrev pub Counts : {X Y : Type 0} → (Y → ℕ) → (X → Y) → List X → ℕ → ℕ → ℕ → Type 0

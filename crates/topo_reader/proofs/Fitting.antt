@@ -96,11 +96,9 @@ module _ (all : List Polygons) where
       → list_all fits_form (filter_map feature_of (items_from n all ps)) ≡ true
   unfolding leaves_in
   items_fit n [] h = refl
-  items_fit n (starts head ∷ ps) h = items_fit n ps h
-  items_fit n (ends ∷ ps) h = items_fit n ps h
-  items_fit n (text t ∷ ps) h = items_fit n ps h
   items_fit n (leaf form head node ∷ ps) h =
       ap₂ (λ a b. a && b) (fits n form head (polygons_at all n) h.0) (items_fit (n + 1) ps h.1)
+  items_fit n (_ ∷ ps) h = items_fit n ps h
 
   layers_fit : (n : ℕ) (ls : List LayerText) → AllSuit n (leaves ls)
       → list_all fits_form (flat_map (λ l. filter_map feature_of l.items) (layers_from n all ls)) ≡ true

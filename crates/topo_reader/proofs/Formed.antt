@@ -28,17 +28,13 @@ module _ (all : List Polygons) where
       → length (within_items (items_from n all ps)) ≡ length (leaves_in ps)
   unfolding leaves_in
   items_length n [] = refl
-  items_length n (starts head ∷ ps) = items_length n ps
-  items_length n (ends ∷ ps) = items_length n ps
-  items_length n (text t ∷ ps) = items_length n ps
   items_length n (leaf form head node ∷ ps) = ap (λ k. suc k) (items_length (n + 1) ps)
+  items_length n (_ ∷ ps) = items_length n ps
 
   items_numbered : (n : ℕ) (ps : List Piece) → AreNumbered n (within_items (items_from n all ps))
   items_numbered n [] = tt
-  items_numbered n (starts head ∷ ps) = items_numbered n ps
-  items_numbered n (ends ∷ ps) = items_numbered n ps
-  items_numbered n (text t ∷ ps) = items_numbered n ps
   items_numbered n (leaf form head node ∷ ps) = (refl, items_numbered (n + 1) ps)
+  items_numbered n (_ ∷ ps) = items_numbered n ps
 
   layers_numbered : (n : ℕ) (ls : List LayerText) → AreNumbered n (within_layers (layers_from n all ls))
   layers_numbered n [] = tt

@@ -67,13 +67,8 @@ ends_with q p (r ∷ ps) h = let rest = ends_with r p ps h in (q ∷ rest.0, ap 
 last_squeezed : (before : Option Position) (ps : List Position) → last_after before (squeezed before ps) ≡ last_after before ps
 unfolding squeezed last_after
 last_squeezed before [] = refl
-last_squeezed before (p ∷ ps) = by before (is_at before p) refl (last_squeezed (Some p) ps)
-  where
-    by : (o : Option Position) (b : Bool) → is_at o p ≡ b → last_after (Some p) (squeezed (Some p) ps) ≡ last_after (Some p) ps →
-        last_after o (unless b p ++ squeezed (Some p) ps) ≡ last_after (Some p) ps
-    by o false e h = h
-    by None true e h = absurd (false≢true e)
-    by (Some q) true e h = ap (λ r. last_after (Some r) (squeezed (Some p) ps)) (position_eq-true q p e) ∙ h
+last_squeezed None (p ∷ ps) = last_squeezed (Some p) ps
+last_squeezed (Some q) (p ∷ ps) = grind (arith, last_squeezed (Some p) ps, position_eq-true q p)
 
 last_append : (before : Option Position) (xs ys : List Position) → last_after before (xs ++ ys) ≡ last_after (last_after before xs) ys
 unfolding last_after

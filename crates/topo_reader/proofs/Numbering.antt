@@ -49,12 +49,10 @@ module _ {R : Type 0} where
       ≡ flat_map rings_within (take (length (leaves_in ps)) (drop n all))
   unfolding leaves_in
   items_rings all n [] = refl
-  items_rings all n (starts head ∷ ps) = items_rings all n ps
-  items_rings all n (ends ∷ ps) = items_rings all n ps
-  items_rings all n (text t ∷ ps) = items_rings all n ps
   items_rings all n (leaf form head node ∷ ps) =
       ap (λ (rs : List R). rings_within (polygons_at all n) ++ rs) (items_rings all (n + 1) ps ∙ ap (λ (m : ℕ). flat_map rings_within (take (length (leaves_in ps)) (drop m all))) (add-one n))
       ∙ at_place all n (length (leaves_in ps))
+  items_rings all n (_ ∷ ps) = items_rings all n ps
 
   layers_rings : (all : List (List (List R))) (n : ℕ) (ls : List LayerText)
       → within_layers (layers_from n all ls)
@@ -81,17 +79,14 @@ module _ {R : Type 0} where
 
 -- ---- tests and sums over all rings
 
-all_joined : {A : Type 0} (t : A → Bool) (xss : List (List A)) → list_all (list_all t) xss ≡ true → list_all t (flat_map (λ xs. xs) xss) ≡ true
-all_joined t [] h = refl
-all_joined t (xs ∷ xss) h =
-    let both = and_both (list_all t xs) (list_all (list_all t) xss) h in
-    list_all-append t xs (flat_map (λ ys. ys) xss) ∙ ap₂ (λ a b. a && b) both.0 (all_joined t xss both.1)
+all_joined : {A : Type 0} (t : A → Bool) (xss : List (List A)) → list_all t (flat_map (λ xs. xs) xss) ≡ list_all (list_all t) xss
+all_joined t [] = refl
+all_joined t (xs ∷ xss) = list_all-append t xs (flat_map (λ ys. ys) xss) ∙ ap (λ b. list_all t xs && b) (all_joined t xss)
 
-pub all_within : (t : List Position → Bool) (all : List Polygons) → list_all (list_all (list_all t)) all ≡ true → list_all t (flat_map rings_within all) ≡ true
-all_within t [] h = refl
-all_within t (ps ∷ all) h =
-    let both = and_both (list_all (list_all t) ps) (list_all (list_all (list_all t)) all) h in
-    list_all-append t (rings_within ps) (flat_map rings_within all) ∙ ap₂ (λ a b. a && b) (all_joined t ps both.0) (all_within t all both.1)
+pub all_within : (t : List Position → Bool) (all : List Polygons) → list_all t (flat_map rings_within all) ≡ list_all (list_all (list_all t)) all
+all_within t [] = refl
+all_within t (ps ∷ all) =
+    list_all-append t (rings_within ps) (flat_map rings_within all) ∙ ap₂ (λ a b. a && b) (all_joined t ps) (all_within t all)
 
 sum_joined : {A : Type 0} (h : A → ℕ) (xss : List (List A)) → sum_by h (flat_map (λ xs. xs) xss) ≡ sum_by (sum_by h) xss
 sum_joined h [] = refl

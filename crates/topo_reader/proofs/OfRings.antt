@@ -69,11 +69,7 @@ module _ {A B : Type 0} (f : ℕ → A → Result B Fault) (t : B → Bool) (g :
 squeezed_length : (before : Option Position) (ps : List Position) → length (squeezed before ps) ≤ length ps
 unfolding squeezed
 squeezed_length before [] = omega arith
-squeezed_length before (p ∷ ps) = by (is_at before p) (squeezed_length (Some p) ps)
-  where
-    by : (b : Bool) → length (squeezed (Some p) ps) ≤ length ps → length (unless b p ++ squeezed (Some p) ps) ≤ suc (length ps)
-    by true h = omega (arith, h)
-    by false h = omega (arith, h)
+squeezed_length before (p ∷ ps) = grind (arith, squeezed_length (Some p) ps)
 
 all_length : (uses : List Arc) → length (all_of uses) ≡ sum_by length uses
 unfolding all_of
@@ -158,7 +154,7 @@ module _ (closed : Closed) (t : List Position → Bool) (one : (at_ring : RingAt
         formed = formed;
         keeps = keeps;
         few = w.0;
-        are_rings = ap (λ (rs : List (List Position)). list_all t rs) same ∙ all_within t ps w.2;
+        are_rings = ap (λ (rs : List (List Position)). list_all t rs) same ∙ all_within t ps ∙ w.2;
         small = omega (arith, total, w.3);
       }
 

@@ -8,14 +8,11 @@ use Rattle.std.proofs.lemmas.List.Folds.{list_all-append}
 use Rattle.std.proofs.Math.Seq.{take-suc}
 use Rattle.json_spans.specs.Bytes.{is_digit}
 use Rattle.json_spans.specs.Whole.{value_from, digits_len, whole_digits, whole_of, minus}
+use Rattle.ring_machine.proofs.Order.{and_both}
 use Rattle.topo_reader.specs.Plain.{is_plain, PlainDigits, PlainNumber}
 use Rattle.std.proofs.lemmas.Int.{to_z_pos, to_z-of_z, ints}
 use mir.Syntax.{w64}
 use mir.Val.{SFits}
-
-pub and_true : (a b : Bool) → a && b ≡ true → (a ≡ true) × (b ≡ true)
-and_true true b e = (refl, e)
-and_true false b e = absurd cc
 
 -- ---- one digit more
 
@@ -41,13 +38,13 @@ digit_no_minus x e = grind (arith, nat_tests)
 digits_plain : (xs : List ℕ) → list_all is_digit xs ≡ true → list_all is_plain xs ≡ true
 digits_plain [] e = refl
 digits_plain (x ∷ xs) e =
-    let both = and_true (is_digit x) (list_all is_digit xs) e in
+    let both = and_both (is_digit x) (list_all is_digit xs) e in
     rw (digit_plain x both.0) (digits_plain xs both.1)
 
 all_digits : (xs : List ℕ) → list_all is_digit xs ≡ true → prefix_len is_digit xs ≡ length xs
 all_digits [] e = refl
 all_digits (x ∷ xs) e =
-    let both = and_true (is_digit x) (list_all is_digit xs) e in
+    let both = and_both (is_digit x) (list_all is_digit xs) e in
     rw (both.0, all_digits xs both.1) (omega arith)
 
 digits_whole : (x : ℕ) (xs : List ℕ) → list_all is_digit (x ∷ xs) ≡ true → whole_digits (x ∷ xs) ≡ Some (x ∷ xs)
@@ -62,7 +59,7 @@ digits_whole x xs e =
 digits_read : (xs : List ℕ) → list_all is_digit xs ≡ true → 0 < length xs → value_from 0 xs < 10 ^ 18 → whole_of xs ≡ Ok (pos (value_from 0 xs))
 digits_read [] e some small = absurd (omega arith)
 digits_read (x ∷ xs) e some small =
-    let both = and_true (is_digit x) (list_all is_digit xs) e in
+    let both = and_both (is_digit x) (list_all is_digit xs) e in
     let fits : nat_lt (value_from 0 (x ∷ xs)) (2 ^ 63) ≡ true = grind (arith, nat_tests) in
     rw (digit_no_minus x both.0, digits_whole x xs e, fits) refl
 

@@ -9,6 +9,7 @@ use Rattle.std.proofs.lemmas.List.Kept.{AllPairs-cons}
 use Rattle.grid_geometry.specs.Position.{Position, position_eq}
 use Rattle.ring_machine.specs.Ring.{has, is_distinct}
 use Rattle.ring_machine.proofs.Order.{and_both, or_true, position_eq-true, position_eq-refl}
+use Rattle.ring_machine.proofs.Removal.{not_true}
 use Rattle.topo_reader.specs.Rings.{first_repeat}
 
 -- ---- by a loop and by a test
@@ -22,14 +23,13 @@ unfolding first_repeat
 none_again seen [] h = (refl, λ q is. refl)
 none_again seen (p ∷ ps) h = by (has seen p) refl h (λ n. none_again (seen ++ p ∷ []) ps n)
   where
-    apart : (q : Position) → has seen p ≡ false → has seen q ≡ true → has ps q ≡ false → (b : Bool) → position_eq q p ≡ b → (position_eq q p || has ps q) ≡ false
-    apart q e is out true f = absurd (false≢true (sym e ∙ ap (has seen) (sym (position_eq-true q p f)) ∙ is))
-    apart q e is out false f = ap₂ (λ y z. y || z) f out
+    apart : (q : Position) → has seen p ≡ false → has seen q ≡ true → has ps q ≡ false → (position_eq q p || has ps q) ≡ false
+    apart q e is out = grind (arith, position_eq-true q p)
 
     new : has seen p ≡ false → AreNew (seen ++ p ∷ []) ps → AreNew seen (p ∷ ps)
     new e rest =
         let mine : has ps p ≡ false = rest.1 p (list_any-append (position_eq p) seen (p ∷ []) ∙ ap₂ (λ y z. y || (z || false)) e (position_eq-refl p)) in
-        (ap₂ (λ y z. not y && z) mine rest.0, λ q is. apart q e is (rest.1 q (list_any-append (position_eq q) seen (p ∷ []) ∙ ap (λ y. y || (position_eq q p || false)) is)) (position_eq q p) refl)
+        (ap₂ (λ y z. not y && z) mine rest.0, λ q is. apart q e is (rest.1 q (list_any-append (position_eq q) seen (p ∷ []) ∙ ap (λ y. y || (position_eq q p || false)) is)))
 
     by : (b : Bool) → has seen p ≡ b → cond b (Some p) (first_repeat (seen ++ p ∷ []) ps) ≡ None →
         (first_repeat (seen ++ p ∷ []) ps ≡ None → AreNew (seen ++ p ∷ []) ps) → AreNew seen (p ∷ ps)
@@ -37,35 +37,23 @@ none_again seen (p ∷ ps) h = by (has seen p) refl h (λ n. none_again (seen ++
     by false e n rest = new e (rest n)
 
 or_none : (a b : Bool) → (a || b) ≡ false → b ≡ false
-or_none true b h = absurd (false≢true (sym h))
-or_none false b h = h
-
-not_true : (b : Bool) → not b ≡ true → b ≡ false
-not_true true h = absurd (false≢true h)
-not_true false h = refl
+or_none a b h = grind arith
 
 only_that : (p q : Position) → (position_eq q p || false) ≡ true → q ≡ p
-only_that p q h = elim (or_true (position_eq q p) false h) [
-  | inl e ↦ position_eq-true q p e
-  | inr e ↦ absurd (false≢true e)
-]
+only_that p q h = grind (arith, position_eq-true q p)
 
 pub no_repeat : (seen ps : List Position) → AreNew seen ps → first_repeat seen ps ≡ None
 unfolding first_repeat
 no_repeat seen [] new = refl
 no_repeat seen (p ∷ ps) new =
     let two = and_both (not (has ps p)) (is_distinct ps) new.0 in
-    by (has seen p) refl (no_repeat (seen ++ p ∷ []) ps (two.1, λ q is. later (not_true (has ps p) two.0) q is))
+    grind (arith, position_eq-refl p, new.1 p, no_repeat (seen ++ p ∷ []) ps (two.1, λ q is. later (not_true (has ps p) two.0) q is))
   where
     later : has ps p ≡ false → (q : Position) → has (seen ++ p ∷ []) q ≡ true → has ps q ≡ false
     later mine q is = elim (or_true (has seen q) (position_eq q p || false) (sym (list_any-append (position_eq q) seen (p ∷ [])) ∙ is)) [
       | inl before ↦ or_none (position_eq q p) (has ps q) (new.1 q before)
       | inr that ↦ ap (has ps) (only_that p q that) ∙ mine
     ]
-
-    by : (b : Bool) → has seen p ≡ b → first_repeat (seen ++ p ∷ []) ps ≡ None → cond b (Some p) (first_repeat (seen ++ p ∷ []) ps) ≡ None
-    by true e rest = absurd (false≢true (sym (new.1 p e) ∙ ap (λ b. b || has ps p) (position_eq-refl p)))
-    by false e rest = rest
 
 -- ---- by a test and by places
 
@@ -85,11 +73,7 @@ differ (p ∷ ps) h =
     AllPairs-cons (λ q r. q ≢ r) p ps (others p ps (not_true (has ps p) two.0)) (differ ps two.1)
 
 pub not_equal : (p q : Position) → p ≢ q → position_eq p q ≡ false
-not_equal p q h = by (position_eq p q) refl
-  where
-    by : (b : Bool) → position_eq p q ≡ b → position_eq p q ≡ false
-    by true e = absurd (h (position_eq-true p q e))
-    by false e = e
+not_equal p q h = grind (arith, position_eq-true p q)
 
 pub distinct_of : (ps : List Position) → Differ ps → is_distinct ps ≡ true
 distinct_of [] h = refl

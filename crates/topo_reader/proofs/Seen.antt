@@ -1,5 +1,5 @@
 -- The positions that were seen, as a set in order has them.
-use Rattle.std.proofs.Common.{◌≡◌, ℕ, ◌+◌, ◌<◌, length, drop, get_or, Bool, true, false, cond, List, [], ◌∷◌, ◌++◌, refl, sym, ap, ap₂, ◌∙◌, subst, not, ◌||◌, Result, Ok, Err, OnOk}
+use Rattle.std.proofs.Common.{◌≡◌, ℕ, ◌+◌, ◌<◌, length, drop, get_or, Bool, true, false, cond, List, [], ◌∷◌, ◌++◌, refl, sym, ap, ap₂, ◌∙◌, subst, not, ◌||◌, Result, Ok, Err, OnOk, arith}
 use Rattle.std.specs.Prelude.{Some, IfOk}
 use Rattle.std.specs.List.{list_any}
 use Rattle.std.specs.Ordering.{int_cmp}
@@ -20,10 +20,7 @@ has_last : (ps : List Position) (p q : Position) → has (ps ++ p ∷ []) q ≡ 
 has_last ps p q = list_any-append (position_eq q) ps (p ∷ [])
 
 either : (a b : Bool) → cond a true b ≡ (b || (a || false))
-either true true = refl
-either true false = refl
-either false true = refl
-either false false = refl
+either a b = grind arith
 
 pub noted : {E : Type 0} (r : Result Bool E) (s n : BTreeSet Position) (p : Position) → OnOk r (Updates position_cmp s n p true) → OnOk r ((q : Position) → has n.keys q ≡ has (s.keys ++ p ∷ []) q)
 noted (Ok b) s n p u = λ q.
@@ -42,8 +39,7 @@ same_repeat a b [] same = refl
 same_repeat a b (p ∷ ps) same = ap₂ (λ y z. cond y (Some p) z) (same p) (same_repeat (a ++ p ∷ []) (b ++ p ∷ []) ps (λ q. has_last a p q ∙ ap (λ y. y || (position_eq q p || false)) (same q) ∙ sym (has_last b p q)))
 
 was_false : (b h : Bool) → b ≡ true → b ≡ not h → h ≡ false
-was_false b true is new = sym is ∙ new
-was_false b false is new = refl
+was_false b h is new = grind arith
 
 -- a position that is new is passed, and is among those that were seen
 pub repeat_turn : (seen more ps : List Position) (i : ℕ) (p : Position) (b : Bool) → i < length ps → p ≡ get_or ps i p → b ≡ true → b ≡ not (has seen p) → ((q : Position) → has more q ≡ has (seen ++ p ∷ []) q) →

@@ -30,19 +30,11 @@ flips p q = sym (ties p q) ∙ position_eq-sym p q ∙ ties q p
 
 at_most : (p : Position) (ps : List Position) → length (dedup_from position_eq p ps) ≤ suc (length ps)
 at_most p [] = omega arith
-at_most p (q ∷ ps) = by (position_eq q p) (at_most p ps) (at_most q ps)
-  where
-    by : (b : Bool) → length (dedup_from position_eq p ps) ≤ suc (length ps) → length (dedup_from position_eq q ps) ≤ suc (length ps) → length (cond b (dedup_from position_eq p ps) (p ∷ dedup_from position_eq q ps)) ≤ suc (suc (length ps))
-    by true l m = omega (arith, l)
-    by false l m = omega (arith, m)
+at_most p (q ∷ ps) = grind (arith, at_most p ps, at_most q ps)
 
 all_from : (p : Position) (ps : List Position) → length (dedup_from position_eq p ps) ≡ suc (length ps) → dedup_from position_eq p ps ≡ p ∷ ps
 all_from p [] e = refl
-all_from p (q ∷ ps) e = by (position_eq q p) (all_from q ps) e
-  where
-    by : (b : Bool) → (length (dedup_from position_eq q ps) ≡ suc (length ps) → dedup_from position_eq q ps ≡ q ∷ ps) → length (cond b (dedup_from position_eq p ps) (p ∷ dedup_from position_eq q ps)) ≡ suc (suc (length ps)) → cond b (dedup_from position_eq p ps) (p ∷ dedup_from position_eq q ps) ≡ p ∷ q ∷ ps
-    by true rest h = let most = at_most p ps in absurd (omega (arith, h, most))
-    by false rest h = ap (λ (qs : List Position). p ∷ qs) (rest (omega (arith, h)))
+all_from p (q ∷ ps) e = grind (arith, all_from q ps, at_most p ps)
 
 all_stay : (ps : List Position) → length (dedup position_eq ps) ≡ length ps → dedup position_eq ps ≡ ps
 all_stay [] e = refl

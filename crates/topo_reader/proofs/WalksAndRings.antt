@@ -99,18 +99,6 @@ read_rings IsOne bytes d r =
     ap rings r.document ∙ rings_document r.polygons r.shape.layers
     ∙ ap (λ (qs : List Polygons). flat_map rings_within qs) (take_all (length (leaves r.shape.layers)) r.polygons (omega (arith, few)))
 
-all_parted : (t : List Position → Bool) (xss : List (List (List Position))) → list_all t (rings_within xss) ≡ true → list_all (list_all t) xss ≡ true
-all_parted t [] h = refl
-all_parted t (xs ∷ xss) h =
-    let both = and_both (list_all t xs) (list_all t (rings_within xss)) (sym (list_all-append t xs (rings_within xss)) ∙ h) in
-    ap₂ (λ a b. a && b) both.0 (all_parted t xss both.1)
-
-within_all : (t : List Position → Bool) (all : List Polygons) → list_all t (flat_map rings_within all) ≡ true → list_all (list_all (list_all t)) all ≡ true
-within_all t [] h = refl
-within_all t (ps ∷ all) h =
-    let both = and_both (list_all t (rings_within ps)) (list_all t (flat_map rings_within all)) (sym (list_all-append t (rings_within ps) (flat_map rings_within all)) ∙ h) in
-    ap₂ (λ a b. a && b) (all_parted t ps both.0) (within_all t all both.1)
-
 -- what means rings means simple walks, within the same limits
 pub rings_are_walks : (bytes : List ℕ) (d : Document) (r : Reads bytes d)
     → (w : Document) × (walks : ReadsWalks bytes w) × (list_all is_simple (rings w) ≡ true) × (d ≡ in_rings canonical w)
@@ -133,7 +121,7 @@ rings_are_walks bytes d r =
     } in (
       document_of (made r.shape split.0),
       walks,
-      ap (list_all is_simple) (read_rings IsWalk bytes (document_of (made r.shape split.0)) walks) ∙ all_within is_simple split.0 split.2,
+      ap (list_all is_simple) (read_rings IsWalk bytes (document_of (made r.shape split.0)) walks) ∙ all_within is_simple split.0 ∙ split.2,
       r.document ∙ ap (λ (ps : List Polygons). document_of (made r.shape ps)) split.3 ∙ sym (rings_changed canonical (made r.shape split.0)),
       λ f. record { short = f.short; flat = f.flat; few = f.few; small = f.small },
     )
@@ -153,7 +141,7 @@ walks_are_rings bytes w r h = (
     topology = r.topology;
     arcs_are = r.arcs_are;
     uses_are = r.uses_are;
-    rings_are = walks_join r.uses r.polygons r.rings_are (within_all is_simple r.polygons (sym (ap (list_all is_simple) (read_rings IsWalk bytes w r)) ∙ h));
+    rings_are = walks_join r.uses r.polygons r.rings_are (sym (ap (list_all is_simple) (read_rings IsWalk bytes w r) ∙ all_within is_simple r.polygons) ∙ h);
     document = ap (in_rings canonical) r.document ∙ rings_changed canonical (made r.shape r.polygons);
   },
   λ f. record { short = f.short; flat = f.flat; few = f.few; small = f.small },

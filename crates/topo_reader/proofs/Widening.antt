@@ -5,6 +5,7 @@ use Rattle.std.specs.List.{fold, flat_map}
 use Rattle.std.specs.Int.{int_min, int_max}
 use Rattle.std.proofs.lemmas.List.{drop_all, take_min, take-map}
 use Rattle.std.proofs.lemmas.List.Concat.{flat_map-append}
+use Rattle.std.proofs.lemmas.List.Folds.{flat_map-map}
 use Rattle.std.proofs.lemmas.List.Sums.{fold-append}
 use Rattle.grid_geometry.specs.Position.{Position}
 use Rattle.grid_geometry.specs.Segment.{Box}
@@ -78,8 +79,7 @@ module _ {X : Type 0} (v : X → Polygons) (g : X → List Position) (same : (x 
 -- ---- the nested lists of the code
 
 pub polygon_joined : {X : Type 0} (v : X → List Position) (xs : List X) → joined (map v xs) ≡ flat_map v xs
-polygon_joined v [] = refl
-polygon_joined v (x ∷ xs) = ap (λ (ps : List Position). v x ++ ps) (polygon_joined v xs)
+polygon_joined v xs = flat_map-map (λ ring. ring) v xs
 
 pub feature_joined : {X : Type 0} (v : X → List (List Position)) (g : X → List Position) → ((x : X) → joined (v x) ≡ g x) → (xs : List X) → joined (rings_within (map v xs)) ≡ flat_map g xs
 feature_joined v g same [] = refl
