@@ -15,6 +15,7 @@ use native.Mathlib.Decide.{ℕ_discrete}
 use Rattle.slab.specs.Slab as slab
 use Rattle.grid_geometry.specs.Position.{Position, InRange, position_eq}
 use Rattle.vertex_index.specs.Placement.{Placement, IsOccupied, AreDistinct, AreInRange}
+use Rattle.vertex_index.specs.declared.slot.Slot.{Slot}
 use Rattle.vertex_index.specs.Mirrors.{placement_of, in_slot, key_in, Mirrors}
 use Rattle.vertex_index.proofs.PlacementLemmas.{get-placement_of}
 
@@ -296,13 +297,13 @@ module _ (s : List (Option Position)) (es : List (Position × ℕ)) (m : Mirrors
 
 -- ---- clones
 
-slot_same : (x y : Option Position) → slab.IsSlotClone (λ p q. q ≡ p) x y → y ≡ x
+slot_same : (x y : Option Slot) → slab.IsSlotClone (λ p q. q ≡ p) x y → y ≡ x
 slot_same None y e = e
 slot_same (Some p) None e = absurd e
 slot_same (Some p) (Some q) e = ap (λ r. Some r) e
 
 -- a clone of the slots is the same slots
-pub slots-clone : (s t : List (Option Position))
+pub slots-clone : (s t : List (Option Slot))
     → AllZip (slab.IsSlotClone (λ p q. q ≡ p)) s t → s ≡ t
 slots-clone s t h = sym (same_from_all_zip _ s t h slot_same)
 

@@ -1,3 +1,4 @@
 pub mod Mirrors
+pub mod Places
 pub mod Placement
 pub mod Put

@@ -1,14 +1,20 @@
 -- How the slots and the keys of vertices belong together.
-use Rattle.std.specs.Prelude.{◌≡◌, ℕ, List, Option, None, Some, slice_index_or}
-use Rattle.std.specs.FinMap as map
+use Rattle.std.specs.Prelude.{◌≡◌, ℕ, List, Option, None, Some, map, slice_index_or}
+use Rattle.std.specs.Option.{option_map}
+use Rattle.std.specs.FinMap as table
 use Rattle.std.specs.Map as pairs
 use Rattle.slab.specs.Slab as slab
 use Rattle.grid_geometry.specs.Position.{Position, InRange, position_eq}
 use Rattle.vertex_index.specs.Placement.{Placement}
+use Rattle.vertex_index.specs.declared.slot.Slot.{Slot}
+
+-- the position in each slot
+abbrev pub positions : List (Option Slot) → List (Option Position)
+positions slots = map (option_map (λ (s : Slot). s.pos)) slots
 
 -- the positions in the slots, each under the number of its slot
 abbrev pub placement_of : List (Option Position) → Placement
-placement_of slots = map.from_entries (slab.entries_from 0 slots)
+placement_of slots = table.from_entries (slab.entries_from 0 slots)
 
 -- the position in a slot
 abbrev pub in_slot : List (Option Position) → ℕ → Option Position

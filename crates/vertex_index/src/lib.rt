@@ -17,6 +17,7 @@ ghost use Rattle.vertex_index.specs.declared.fault.ShiftFault.{ShiftFault};
 
 mod fault;
 mod key;
+mod slot;
 
 pub use fault::{AddFault, ShiftFault};
 use grid_geometry::Pos;
@@ -24,6 +25,7 @@ use indexmap::IndexMap;
 use indexmap::map::Entry;
 pub use key::VertexKey;
 use slab::Slab;
+use slot::Slot;
 use std::alloc::{AllocError, Allocator, Global};
 use std::hash::RandomState;
 use std::marker::Model;
@@ -34,7 +36,7 @@ type Keys<A> = IndexMap<Pos, VertexKey, RandomState, A>;
 /// Distinct positions, each under a key. It is seen as the map from keys to positions.
 #[derive(Drop)]
 pub struct Vertices<A: Allocator + Copy = Global> {
-    slots: Slab<Pos, A>,
+    slots: Slab<Slot, A>,
     keys: Keys<A>,
 }
 
@@ -47,11 +49,12 @@ impl<A: Allocator + Copy> Model for Vertices<A> {
 
     ghost coded = { map.code coded_ℕ position_code };
 
-    ghost use Rattle.vertex_index.specs.Mirrors.{placement_of, Mirrors};
+    ghost use Rattle.vertex_index.specs.Mirrors.{placement_of, positions, Mirrors};
+    ghost use Rattle.vertex_index.specs.Places.{AreInPlace};
 
-    ghost view = { λ v. placement_of v.slots.slots };
+    ghost view = { λ v. placement_of (positions v.slots.slots) };
 
-    ghost invariant = { λ v. Mirrors v.slots.slots v.keys.entries };
+    ghost invariant = { λ v. Mirrors (positions v.slots.slots) v.keys.entries × AreInPlace v.slots.slots v.keys.entries };
 }
 
 impl<A: Allocator + Copy> Vertices<A> {
@@ -94,7 +97,7 @@ impl<A: Allocator + Copy> Vertices<A> {
         ensures value { map.get self.now k ≡ Some result }
         ensures distinct { AreDistinct self.now }
     {
-        *self.slots.get(k.index()).unwrap()
+        self.slots.get(k.index()).unwrap().pos
     }
 
     /// Puts a vertex at a position, under a key that was not held. `Occupied` where a vertex
@@ -138,11 +141,12 @@ impl<A: Allocator + Copy> Vertices<A> {
         ensures err { OnErr result (self.new ≡ self.old) }
     {
         let _ = p.x(); // so that it is known to be in range
+        let place = self.keys.len();
         match self.keys.entry(p)? {
             Entry::Occupied(held) => Ok((*held.get(), false)),
             Entry::Vacant(room) => {
                 self.slots.reserve(1)?;
-                let key = VertexKey::new(self.slots.insert_reserved(p));
+                let key = VertexKey::new(self.slots.insert_reserved(Slot { pos: p, place }));
                 room.insert(key);
                 Ok((key, true))
             }
@@ -165,10 +169,10 @@ impl<A: Allocator + Copy> Vertices<A> {
             Ok(Entry::Occupied(_held)) => return Err(ShiftFault::Occupied),
             Err(_) => return Err(ShiftFault::OutOfMemory),
         };
-        let place = self.slots.get_mut(k.index()).unwrap();
-        let before = *place;
-        *place = q;
-        self.keys.swap_remove(&before);
+        let slot = self.slots.get_mut(k.index()).unwrap();
+        slot.pos = q;
+        let place = slot.place;
+        self.keys.swap_remove_index(place); // the new position, which is the last, takes its place
         Ok(())
     }
 
@@ -177,8 +181,12 @@ impl<A: Allocator + Copy> Vertices<A> {
         requires { map.contains_key self.old k ≡ true }
         ensures { self.new ≡ map.remove self.old k }
     {
-        let p = self.slots.try_remove(k.index()).unwrap();
-        self.keys.swap_remove(&p);
+        let gap = self.slots.try_remove(k.index()).unwrap().place;
+        self.keys.swap_remove_index(gap);
+        let Some((_, moved)) = self.keys.get_index(gap) else {
+            return;
+        };
+        self.slots.get_mut(moved.index()).unwrap().place = gap;
     }
 
     /// The same positions under the same keys. Fails for want of memory alone.

@@ -1,5 +1,5 @@
 use Rattle.std.proofs.Common.{◌∙◌, sym, ap}
-use Rattle.vertex_index.specs.Mirrors.{placement_of}
+use Rattle.vertex_index.specs.Mirrors.{placement_of, positions}
 use Rattle.vertex_index.proofs.MirrorLemmas.{slots-clone, entries-clone}
 use Rattle.vertex_index.proofs.Vertices.copy.Goals as goal
 
@@ -11,4 +11,4 @@ invariant_of-result g c =
 
 pub returns : goal.returns
 returns g c =
-    ap placement_of (sym (slots-clone _ _ c.in_ok-slots.ensures.cases.slots)) ∙ c.self.view_is
+    ap (λ s. placement_of (positions s)) (sym (slots-clone _ _ c.in_ok-slots.ensures.cases.slots)) ∙ c.self.view_is

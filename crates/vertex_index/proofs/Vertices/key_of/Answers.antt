@@ -4,13 +4,13 @@ use Rattle.vertex_index.proofs.Vertices.key_of.Goals as goal
 
 pub returns-clause-found : goal.returns-clause-found
 returns-clause-found g c =
-    found_key _ _ c.self.invariant _ c.self.view_is c.args.p _
+    found_key _ _ c.self.invariant.0 _ c.self.view_is c.args.p _
     (c.copied.ensures ∙ c.get.ensures.value)
 
 pub returns-clause-absent : goal.returns-clause-absent
 returns-clause-absent g c =
-    absent_key _ _ c.self.invariant _ c.self.view_is c.args.p _
+    absent_key _ _ c.self.invariant.0 _ c.self.view_is c.args.p _
     (c.copied.ensures ∙ c.get.ensures.value)
 
 pub returns-clause-distinct : goal.returns-clause-distinct
-returns-clause-distinct g c = distinct _ _ c.self.invariant _ c.self.view_is
+returns-clause-distinct g c = distinct _ _ c.self.invariant.0 _ c.self.view_is
