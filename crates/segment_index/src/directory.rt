@@ -1,9 +1,9 @@
-ghost use Rattle.std.specs.Prelude.{◌≡◌, ◌<◌, ◌≤◌, [], List, replicate, length, ℕ, None, OnOk};
+ghost use Rattle.std.specs.Prelude.{◌≡◌, ◌<◌, ◌≤◌, ◌-◌, [], List, replicate, length, ℕ, None, OnOk};
 ghost use Rattle.std.specs.Prelude.{OnErr, IfOk, IfSome, Some, is_ok};
 ghost use Rattle.grid_geometry.specs.Segment.{Segment};
 ghost use Rattle.segment_index.specs.Candidates.{times_in};
 ghost use Rattle.segment_index.specs.Cells.{cell, column};
-ghost use Rattle.segment_index.specs.Covers.{total};
+ghost use Rattle.segment_index.specs.Covers.{counted, total};
 ghost use Rattle.segment_index.specs.Directories.{home_of, lines_in};
 ghost use Rattle.segment_index.specs.Gathers.{Gathers, Loses};
 ghost use Rattle.segment_index.specs.Trees.{Gains, IsSame};
@@ -156,7 +156,7 @@ fn home_in<A: Allocator + Copy>(
         → length (column strips.now.items i) ≤ j }
 {
     let (column, row) = region.home(rect)?;
-    if row < strips.get(column)?.len() {
+    if column < strips.len() && row < strips[column].len() {
         Some((column, row))
     } else {
         None
@@ -170,6 +170,8 @@ fn gather_block<A: Allocator + Copy, B: Allocator>(
     rect: &Rect,
     out: &mut Vec<Seg, B>,
 ) -> Result<(), AllocError>
+    requires across { block.left ≤ block.right }
+    requires upward { block.low ≤ block.high }
     ensures { Gathers (λ t. total (λ i j. times_in (cell (column strips.now.items i) j) t) block)
         rect.now out.old.items out.new.items (is_ok result) }
 {
@@ -180,11 +182,30 @@ fn gather_block<A: Allocator + Copy, B: Allocator>(
         high,
     } = block;
     for i in left..right {
-        if let Some(strip) = strips.get(i) {
-            strip.gather(low, high, rect, out)?;
-        }
+        gather_at(strips, i, low, high, rect, out)?;
     }
     Ok(())
+}
+
+/// Appends the segments of a strip, if there is one, from a row up to below another, whose box meets
+/// the asked one.
+fn gather_at<A: Allocator + Copy, B: Allocator>(
+    strips: &Vec<Strip<A>, A>,
+    place: usize,
+    low: usize,
+    high: usize,
+    rect: &Rect,
+    out: &mut Vec<Seg, B>,
+) -> Result<(), AllocError>
+    requires { low ≤ high }
+    ensures { Gathers (λ t. counted (λ j. times_in (cell (column strips.now.items place) j) t) low
+        (high - low)) rect.now out.old.items out.new.items (is_ok result) }
+{
+    if place < strips.len() {
+        strips[place].gather(low, high, rect, out)
+    } else {
+        Ok(())
+    }
 }
 
 /// Another list of the same strips.

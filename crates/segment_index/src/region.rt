@@ -1,4 +1,4 @@
-ghost use Rattle.std.specs.Prelude.{◌≡◌, ◌≤◌, ◌-◌, ◌^◌, ◌%◌, pos, unsigned_abs};
+ghost use Rattle.std.specs.Prelude.{◌≡◌, ◌<◌, ◌≤◌, ◌+◌, ◌^◌, ◌%◌, pos};
 ghost use Rattle.std.specs.Int.{int_div_euclid};
 ghost use Rattle.segment_index.specs.Covers.{cover_of};
 ghost use Rattle.segment_index.specs.Directories.{lines_in, home_of, block_of};
@@ -79,7 +79,9 @@ impl Region {
 
     /// The cells that a box covers.
     fn cover(&self, rect: Rect) -> Cover
-        ensures { result ≡ cover_of (lines_in self.now) rect }
+        ensures value { result ≡ cover_of (lines_in self.now) rect }
+        ensures across { result.left ≤ result.right }
+        ensures upward { result.low ≤ result.high }
     {
         let (extent, shift) = (self.extent, self.shift);
         Cover {
@@ -96,7 +98,9 @@ impl Region {
         ensures { result ≡ home_of (lines_in self.now) rect }
     {
         let cover = self.cover(rect);
-        if cover.right - 1 <= cover.left + 1 && cover.high - 1 <= cover.low + 1 {
+        if cover.right.saturating_sub(cover.left) <= 2
+            && cover.high.saturating_sub(cover.low) <= 2
+        {
             Some((cover.left, cover.low))
         } else {
             None
@@ -105,7 +109,9 @@ impl Region {
 
     /// The cells that can be the home of a box which meets another.
     pub(crate) fn block(&self, rect: Rect) -> Cover
-        ensures { result ≡ block_of (lines_in self.now) rect }
+        ensures value { result ≡ block_of (lines_in self.now) rect }
+        ensures across { result.left ≤ result.right }
+        ensures upward { result.low ≤ result.high }
     {
         let cover = self.cover(rect);
         Cover {
@@ -125,7 +131,7 @@ fn lines(first: i64, last: i64, shift: u32) -> usize {
 /// In which of so many columns or rows a coordinate lies, by its distance after the first one.
 fn line(distance: i64, shift: u32, count: usize) -> usize
     ensures value { result ≡ clamped count (int_div_euclid distance (pos (2 ^ (shift % 64)))) }
-    ensures range { result ≤ count - 1 }
+    ensures range { result + 1 < 2 ^ 64 }
 {
     if distance < 0 {
         0

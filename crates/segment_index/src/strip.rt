@@ -1,5 +1,5 @@
-ghost use Rattle.std.specs.Prelude.{◌≡◌, ◌<◌, ◌-◌, [], List, replicate, length, OnOk, OnErr, IfOk};
-ghost use Rattle.std.specs.Prelude.{is_ok};
+ghost use Rattle.std.specs.Prelude.{◌≡◌, ◌<◌, ◌≤◌, ◌-◌, [], List, replicate, length, OnOk, OnErr};
+ghost use Rattle.std.specs.Prelude.{IfOk, is_ok};
 ghost use Rattle.grid_geometry.specs.Segment.{Segment};
 ghost use Rattle.segment_index.specs.Candidates.{times_in, has};
 ghost use Rattle.segment_index.specs.Cells.{cell};
@@ -94,6 +94,7 @@ impl<A: Allocator + Copy> Strip<A> {
         rect: &Rect,
         out: &mut Vec<Seg, B>,
     ) -> Result<(), AllocError>
+        requires { low ≤ high }
         ensures { Gathers (λ t. counted (λ j. times_in (cell self.now j) t) low (high - low))
             rect.now out.old.items out.new.items (is_ok result) }
     {
@@ -143,15 +144,31 @@ fn gather_from<A: Allocator + Copy, B: Allocator>(
     rect: &Rect,
     out: &mut Vec<Seg, B>,
 ) -> Result<(), AllocError>
+    requires { low ≤ high }
     ensures { Gathers (λ t. counted (λ j. times_in (cell buckets.now.items j) t) low (high - low))
         rect.now out.old.items out.new.items (is_ok result) }
 {
     for j in low..high {
-        if let Some(bucket) = buckets.get(j) {
-            bucket.gather(rect, out)?;
-        }
+        gather_at(buckets, j, rect, out)?;
     }
     Ok(())
+}
+
+/// Appends the segments of a bucket, if there is one, whose box meets the asked one.
+fn gather_at<A: Allocator + Copy, B: Allocator>(
+    buckets: &Vec<Bucket<A>, A>,
+    row: usize,
+    rect: &Rect,
+    out: &mut Vec<Seg, B>,
+) -> Result<(), AllocError>
+    ensures { Gathers (times_in (cell buckets.now.items row)) rect.now out.old.items out.new.items
+        (is_ok result) }
+{
+    if row < buckets.len() {
+        buckets[row].gather(rect, out)
+    } else {
+        Ok(())
+    }
 }
 
 /// Another list of the same buckets.
