@@ -54,6 +54,10 @@ impl<I: SegIndex> SegIndex for Counted<I> {
 
     ghost cells = { λ c. c.cells };
 
+    fn prepare(&mut self, count: usize) -> Result<(), AllocError> {
+        self.index.prepare(count)
+    }
+
     fn add(&mut self, s: Seg) -> Result<(), AllocError> {
         let Some(count) = self.count.checked_add(1) else {
             return Err(AllocError);
