@@ -5,8 +5,10 @@ ghost use Rattle.local_planarity.specs.Edits.{AreApart};
 
 use crate::squares::{MEMORY, holds};
 use grid_geometry::{Pos, Rect, Seg};
-use local_planarity::{Leaving, TestCount, crosses_on_way, fill, first_conflict};
-use local_planarity::{first_conflict_near, holds_other, near_move};
+use local_planarity::{
+    Leaving, TestCount, crosses_on_way, fill, first_conflict, first_conflict_near, holds_other,
+    near_move,
+};
 use refusing_allocator::Refusing;
 use segment_index::{GridIndex, ListIndex, SegIndex};
 use std::alloc::{AllocError, Allocator, Global};
