@@ -11,7 +11,7 @@ ghost use Rattle.arc_store.specs.Outcomes.{Edits};
 use crate::edit_record::Record;
 use crate::fault::EditFault;
 use crate::map::Map;
-use crate::plan::test_planar;
+use crate::plan::test_near;
 use grid_geometry::Pos;
 use local_planarity::{Leaving, move_sweeps, near_move};
 use ring_store::{read_moving, shift};
@@ -34,10 +34,9 @@ impl<'a, I: SegIndex, A: Allocator + Copy> Map<'a, I, A> {
         let moving = read_moving(&self.rings, p, q)?;
         let around = moving.around.as_slice();
         let (before, after) = (moving.before.as_slice(), moving.after.as_slice());
-        let alloc = self.rings.alloc;
-        let near = near_move(alloc, &self.rings.index, p, q, after)?;
-        test_planar(alloc, &near, Leaving::EndingAt(p), after, &mut self.tests)?;
-        if move_sweeps(alloc, &near, around, p, q, &mut self.tests)? {
+        let near = near_move(self.rings.alloc, &self.rings.index, p, q, after)?;
+        test_near(&near, Leaving::EndingAt(p), after, &mut self.tests)?;
+        if move_sweeps(&near, around, p, q, &mut self.tests) {
             return Err(EditFault::Sweeps);
         }
         shift(&mut self.rings, moving.key, q, before, after)?;

@@ -5,7 +5,10 @@ ghost use Rattle.local_planarity.specs.Edits.{AreApart};
 
 use crate::squares::{MEMORY, holds};
 use grid_geometry::{Pos, Rect, Seg};
-use local_planarity::{Leaving, TestCount, crosses_on_way, fill, first_conflict, holds_other};
+use local_planarity::{
+    Leaving, TestCount, crosses_on_way, fill, first_conflict, first_conflict_near, holds_other,
+    near_move,
+};
 use refusing_allocator::Refusing;
 use segment_index::{GridIndex, ListIndex, SegIndex};
 use std::alloc::{AllocError, Allocator, Global};
@@ -281,7 +284,8 @@ fn see_way<R: Abort, I: SegIndex, A: Allocator + Copy>(
     let (from, to) = (pos(rt, *p), pos(rt, *q));
     assert!(rt; from != to);
     let mut tests = TestCount::new();
-    let found = crosses_on_way(heap, index, from, to, &mut tests)?;
+    let near = near_move(heap, index, from, to, &[])?;
+    let found = crosses_on_way(&near, from, to, &mut tests);
     assert!(rt;
         found == *crosses && (!found || tests.count() > 0),
         "to {} {}",
@@ -444,9 +448,28 @@ fn see_squares<R: Abort, I: SegIndex>(rt: &R, alloc: Global, index: &I)
     refuse_each(rt, alloc, index);
 }
 
+/// The edit has the same pair by the list of all segments alone.
+fn see_listed<R: Abort>(rt: &R, alloc: Global, index: &ListIndex, edit: &Edit)
+    requires { AreApart index.now }
+{
+    let (what, gone, added, pair_then, least) = edit;
+    let mut tests = TestCount::new();
+    let added = segs(rt, alloc, added);
+    let first = first_conflict_near(index, leaving(rt, *gone), added.as_slice(), &mut tests);
+    holds(
+        rt,
+        *what,
+        first == pair(rt, *pair_then) && tests.count() >= *least,
+    );
+}
+
 #[test]
 fn two_squares_in_a_list(rt: HostRuntime) {
-    see_squares(&rt, rt.alloc(), &list(&rt, rt.alloc()));
+    let index = list(&rt, rt.alloc());
+    see_squares(&rt, rt.alloc(), &index);
+    for edit in EDITS {
+        see_listed(&rt, rt.alloc(), &index, edit);
+    }
 }
 
 #[test]
@@ -465,7 +488,8 @@ fn move_in_row<R: Abort>(rt: &R, alloc: Global, index: &GridIndex)
     let leaving = Leaving::EndingAt(from);
     let first = first_conflict(alloc, index, leaving, &added, &mut tests).expect(rt, MEMORY);
     assert!(rt; first.is_none() && 1 <= tests.count() && tests.count() <= 28);
-    let crosses = crosses_on_way(alloc, index, from, to, &mut tests).expect(rt, MEMORY);
+    let near = near_move(alloc, index, from, to, &added).expect(rt, MEMORY);
+    let crosses = crosses_on_way(&near, from, to, &mut tests);
     assert!(rt; !crosses && 1 <= tests.count() && tests.count() <= 33);
 }
 

@@ -1,18 +1,27 @@
 -- How many tests are counted.
-use Rattle.std.proofs.Common.{◌≡◌, ◌<◌, ◌≤◌, ◌+◌, min, ℕ, zero, suc, Bool, true, false, refl, sym, ap, ◌∙◌, cond, List, [], ◌∷◌, length, take, get_or, ◌||◌, arith}
-use Rattle.std.specs.List.{list_any, sum_by}
+use Rattle.std.proofs.Common.{◌≡◌, ◌<◌, ◌≤◌, ◌+◌, min, ℕ, suc, Bool, true, false, refl, sym, ap, ◌∙◌, cond, List, [], ◌∷◌, ◌++◌, length, take, drop, get_or, drop-cons, Option, ◌||◌, arith}
+use Rattle.std.specs.List.{filter, list_any, sum_by}
 use Rattle.std.proofs.lemmas.Bool.{false≢true}
-use Rattle.std.proofs.lemmas.List.{length-take-le, take_all}
+use Rattle.std.proofs.lemmas.List.{length-take-le, take-append-drop, take_all}
+use Rattle.std.proofs.lemmas.List.Elements.{filter-append}
+use Rattle.std.proofs.lemmas.List.Folds.{list_any-append}
 use Rattle.std.proofs.lemmas.List.Sums.{sum_by_more}
 use Rattle.grid_geometry.specs.Segment.{Segment}
 use Rattle.grid_geometry.specs.Conflict.{conflict}
-use Rattle.local_planarity.specs.Pairs.{tests_to_conflict}
+use Rattle.local_planarity.specs.Pairs.{first_against, tests_to_conflict}
 use Rattle.local_planarity.specs.Tests.{count_near, fewest_tests, pairs}
 use Rattle.local_planarity.proofs.Nearby.{pairs-one}
 
 -- the greatest count
 abbrev pub greatest : ℕ
 greatest = 18446744073709551615
+
+-- the least pair of s with others, after a test of each
+pub record IsFound (s : Segment) (ts : List Segment) (before : Option (Segment × Segment)) (l : ℕ)
+    (found : Option (Segment × Segment)) (n : ℕ) : Type 0 where
+  pub first : found ≡ first_against s ts before
+  pub few : n ≤ l + length ts
+  pub counted : min (l + length ts) greatest ≤ n
 
 neither : (a b : Bool) → (a || b) ≡ false → (a ≡ false) × (b ≡ false)
 neither true b h = absurd (false≢true (sym h))
@@ -26,23 +35,34 @@ tests_to_conflict-le s (t ∷ ts) = by (conflict s t) (tests_to_conflict-le s ts
     by true h = omega arith
     by false h = omega (arith, h)
 
--- where none of the first k is in conflict, and there are no more, all are tested
-pub all_tested : (s : Segment) (ts : List Segment) (k : ℕ) → length ts ≤ k → list_any (conflict s) (take k ts) ≡ false → tests_to_conflict s ts ≡ length ts
-all_tested s [] k l none = refl
-all_tested s (t ∷ ts) zero l none = absurd (omega (arith, l))
-all_tested s (t ∷ ts) (suc k) l none =
-    let both = neither (conflict s t) (list_any (conflict s) (take k ts)) none in
-    ap (λ b. cond b 1 (suc (tests_to_conflict s ts))) both.0 ∙ ap suc (all_tested s ts k (omega (arith, l)) both.1)
+-- where none is in conflict, all are tested
+pub all_tested : (s : Segment) (ts : List Segment) → list_any (conflict s) ts ≡ false → tests_to_conflict s ts ≡ length ts
+all_tested s [] none = refl
+all_tested s (t ∷ ts) none =
+    let both = neither (conflict s t) (list_any (conflict s) ts) none in
+    ap (λ b. cond b 1 (suc (tests_to_conflict s ts))) both.0 ∙ ap suc (all_tested s ts both.1)
 
--- where none of the first k is in conflict and the next one is, that one is the last that is tested
-pub tested_up_to : (s : Segment) (ts : List Segment) (k : ℕ) (t : Segment) → k < length ts → t ≡ get_or ts k t
-    → list_any (conflict s) (take k ts) ≡ false → conflict s t ≡ true → tests_to_conflict s ts ≡ k + 1
-tested_up_to s [] k t l is none here = absurd (omega (arith, l))
-tested_up_to s (u ∷ ts) zero t l is none here = ap (λ b. cond b 1 (suc (tests_to_conflict s ts))) (ap (conflict s) (sym is) ∙ here)
-tested_up_to s (u ∷ ts) (suc k) t l is none here =
-    let both = neither (conflict s u) (list_any (conflict s) (take k ts)) none in
-    let rest = tested_up_to s ts k t (omega (arith, l)) is both.1 here in
-    ap (λ b. cond b 1 (suc (tests_to_conflict s ts))) both.0 ∙ omega (arith, rest)
+-- the first in conflict of those that pass a test is the last that is tested
+module _ (q : Segment → Bool) (s : Segment) (ts : List Segment) (k : ℕ) (t : Segment) (l : k < length ts) (here : t ≡ get_or ts k t) (passes : q t ≡ true) (none : list_any (conflict s) (filter q (take k ts)) ≡ false) (hit : conflict s t ≡ true) where
+  parts : filter q ts ≡ filter q (take k ts) ++ t ∷ filter q (drop (suc k) ts)
+  parts =
+      ap (filter q) (sym (take-append-drop k ts) ∙ ap (λ us. take k ts ++ us) (drop-cons ts k t l ∙ ap (λ u. u ∷ drop (suc k) ts) (sym here)))
+      ∙ filter-append q (take k ts) (t ∷ drop (suc k) ts)
+      ∙ ap (λ b. filter q (take k ts) ++ cond b (t ∷ filter q (drop (suc k) ts)) (filter q (drop (suc k) ts))) passes
+
+  pub any_found : true ≡ list_any (conflict s) (filter q ts)
+  any_found =
+      sym (ap (list_any (conflict s)) parts ∙ list_any-append (conflict s) (filter q (take k ts)) (t ∷ filter q (drop (suc k) ts))
+      ∙ (λ i. none i || (hit i || list_any (conflict s) (filter q (drop (suc k) ts)))))
+
+  pub tested_up_to : tests_to_conflict s (filter q ts) ≡ length (filter q (take k ts)) + 1
+  tested_up_to = ap (tests_to_conflict s) parts ∙ last (filter q (take k ts)) none
+    where
+      last : (us : List Segment) → list_any (conflict s) us ≡ false → tests_to_conflict s (us ++ t ∷ filter q (drop (suc k) ts)) ≡ length us + 1
+      last [] e = ap (λ b. cond b 1 (suc (tests_to_conflict s (filter q (drop (suc k) ts))))) hit
+      last (u ∷ us) e =
+          let both = neither (conflict s u) (list_any (conflict s) us) e in
+          ap (λ b. cond b 1 (suc (tests_to_conflict s (us ++ t ∷ filter q (drop (suc k) ts))))) both.0 ∙ omega (arith, last us both.1)
 
 -- ---- the tests of an edit
 

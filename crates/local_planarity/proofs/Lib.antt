@@ -2,6 +2,7 @@ pub mod Lists
 pub mod Least
 pub mod Nearby
 pub mod Counts
+pub mod Searches
 pub mod Added
 pub mod Spans
 pub mod Sweeping

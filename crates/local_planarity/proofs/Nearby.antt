@@ -1,5 +1,5 @@
 -- What an index gives near a segment, and how much that is at most.
-use Rattle.std.proofs.Common.{◌≡◌, ◌≤◌, ◌<◌, ◌+◌, ◌-◌, inl, inr, ℕ, zero, suc, Bool, true, false, not, refl, sym, ap, ◌∙◌, cond}
+use Rattle.std.proofs.Common.{◌≡◌, ◌≤◌, ◌<◌, ◌+◌, ◌-◌, inl, inr, ℕ, zero, suc, Bool, true, false, not, refl, sym, ap, ◌∙◌, cond, subst, None}
 use Rattle.std.proofs.Common.{List, [], ◌∷◌, ◌++◌, length, take, get_or, ◌&&◌, ◌||◌, arith}
 use Rattle.std.specs.FinSet as set
 use Rattle.std.specs.List.{filter, sum_by}
@@ -7,12 +7,14 @@ use Rattle.std.proofs.lemmas.Bool.{false≢true}
 use Rattle.std.proofs.lemmas.List.Sums.{sum_by-cons, sum_by_more, sum_by-take-le, length-filter}
 use Rattle.grid_geometry.specs.Segment.{Segment, Box, box_of, boxes_meet}
 use Rattle.ring_machine.proofs.Order.{and_both, or_true}
-use Rattle.segment_index.specs.Candidates.{SegmentSet, Gives, has, times_in, segment_is}
-use Rattle.segment_index.proofs.Singles.{same_segment, is-itself, times-filter}
+use Rattle.segment_index.specs.Candidates.{SegmentSet, AreAmong, AreSingle, AtMostTimes, Covers, Gives, has, segment_is, set_of, times_in}
+use Rattle.segment_index.specs.Times.{times_by}
+use Rattle.segment_index.proofs.Singles.{same_segment, contains-set_of, is-itself, times-filter, times-none}
 use Rattle.local_planarity.specs.declared.leaving.Leaving.{Leaving}
 use Rattle.local_planarity.specs.declared.leaving.Leaving.TheVariants.{Nothing}
 use Rattle.local_planarity.specs.Edits.{leaves, stays, AreStaying, IsAfter, IsHeld}
 use Rattle.local_planarity.specs.Near.{IsNear}
+use Rattle.local_planarity.specs.Pairs.{is_tried, tried}
 use Rattle.local_planarity.specs.Tests.{count_near, most_given, most_tests, pairs}
 
 -- ---- near a segment
@@ -33,24 +35,45 @@ has-filter q (x ∷ xs) t = by (q x) (segment_is t x) refl refl (has-filter q xs
         h ∙ ap (λ j. has xs t && j) out ∙ never (has xs t) ∙ sym (ap (λ j. (j || has xs t) && q t) f ∙ out)
     by false false e f h = h ∙ sym (ap (λ j. (j || has xs t) && q t) f)
 
--- the candidates for the box of s, without those that leave
-pub near_is : (held : SegmentSet) (times : Segment → Box → ℕ) (leaving : Leaving) (s : Segment) (old new near : List Segment) → old ≡ [] → Gives held times (box_of s) old new true
-    → near ≡ filter (λ t. not (leaves leaving t)) new → IsNear held times leaving s near
-near_is held times leaving s old new near empty g kept = record {
-  among = λ t h.
-      let both = and_both (has g.found t) (not (leaves leaving t)) (sym (near_has t) ∙ h) in
-      (λ i. g.among t both.0 i && both.1 i);
-  few = λ t. omega (arith, ap (λ z. times_in z t) near_found, times-filter (λ u. not (leaves leaving u)) g.found t, g.few t);
-  covers = λ t h m.
-      let both = and_both (set.contains held t) (not (leaves leaving t)) h in
-      near_has t ∙ (λ i. g.covers refl t both.0 m i && both.1 i);
-}
-  where
-    near_found : near ≡ filter (λ t. not (leaves leaving t)) g.found
-    near_found = kept ∙ ap (filter (λ t. not (leaves leaving t))) (g.appended ∙ ap (λ z. z ++ g.found) empty)
+-- of held segments, among them every one whose box meets that of s, those that are tried
+module _ (held : SegmentSet) (times : Segment → Box → ℕ) (leaving : Leaving) (s : Segment) where
+  near_tried : (items : List Segment) → AreAmong held items → AtMostTimes times (box_of s) (tried leaving s items) → Covers held (box_of s) items
+      → IsNear held times leaving s (tried leaving s items)
+  near_tried items among few covers = record {
+    among = λ t h.
+        let both = and_both (has items t) (is_tried leaving s t) (sym (has-filter (is_tried leaving s) items t) ∙ h) in
+        let kept = and_both (boxes_meet (box_of t) (box_of s)) (not (leaves leaving t)) both.1 in
+        (λ i. among t both.0 i && kept.1 i);
+    few = few;
+    covers = λ t h m.
+        let both = and_both (set.contains held t) (not (leaves leaving t)) h in
+        has-filter (is_tried leaving s) items t ∙ (λ i. covers t both.0 m i && (m i && both.1 i));
+  }
 
-    near_has : (t : Segment) → has near t ≡ (has g.found t && not (leaves leaving t))
-    near_has t = ap (λ z. has z t) near_found ∙ has-filter (λ u. not (leaves leaving u)) g.found t
+  -- of what an index gave
+  pub near_given : (old new : List Segment) → old ≡ [] → Gives held times (box_of s) old new true
+      → IsNear held times leaving s (tried leaving s new)
+  near_given old new empty g =
+      subst (λ items. IsNear held times leaving s (tried leaving s items)) (sym (g.appended ∙ ap (λ z. z ++ g.found) empty))
+      (near_tried g.found g.among (λ t. omega (arith, times-filter (is_tried leaving s) g.found t, g.few t)) (g.covers refl))
+
+-- of a list of all that are held
+pub near_listed : (held : SegmentSet) (leaving : Leaving) (s : Segment) (items : List Segment) → set_of items ≡ held → AreSingle items
+    → IsNear held (times_by None) leaving s (tried leaving s items)
+near_listed held leaving s items all single =
+    near_tried held (times_by None) leaving s items (λ t h. sym (same t) ∙ h) (λ t. at_most t (boxes_meet (box_of t) (box_of s)) refl) (λ t h m. same t ∙ h)
+  where
+    same : (t : Segment) → has items t ≡ set.contains held t
+    same t = sym (contains-set_of items t) ∙ ap (λ z. set.contains z t) all
+
+    never : (a : Bool) → (a && false) ≡ false
+    never true = refl
+    never false = refl
+
+    at_most : (t : Segment) (b : Bool) → boxes_meet (box_of t) (box_of s) ≡ b → times_in (tried leaving s items) t ≤ times_by None t (box_of s)
+    at_most t true e = omega (arith, times-filter (is_tried leaving s) items t, single t, ap (λ b. cond {A = ℕ} b 1 0) e)
+    at_most t false e =
+        omega (arith, times-none (tried leaving s items) t (has-filter (is_tried leaving s) items t ∙ ap (λ b. has items t && (b && not (leaves leaving t))) e ∙ never (has items t)))
 
 -- where nothing leaves, all that is held stays
 pub stays_all : (held : SegmentSet) (t : Segment) → stays held Nothing t ≡ set.contains held t

@@ -1,11 +1,13 @@
 -- The box of three positions meets the box of a segment with an end in it.
-use Rattle.std.proofs.Common.{◌≡◌, ℤ, ◌≤ℤ◌, true, ◌&&◌, int_le, ap, ◌∙◌, sym, arith, inl, inr}
+use Rattle.std.proofs.Common.{◌≡◌, ℤ, ◌≤ℤ◌, Bool, true, false, not, ◌&&◌, ◌||◌, int_le, refl, ap, ◌∙◌, sym, arith, inl, inr, List}
 use Rattle.std.specs.Int.{int_min, int_max}
+use Rattle.std.proofs.lemmas.Bool.{false≢true}
 use Rattle.std.proofs.lemmas.Int.{ints, clamps}
 use Rattle.grid_geometry.specs.Position.{Position, InRange, position_eq}
 use Rattle.grid_geometry.specs.Segment.{Segment, IsBox, box_of, boxes_meet, is_end}
 use Rattle.grid_geometry.specs.Held.{is_held, is_spanned, is_in_box_of_three}
-use Rattle.ring_machine.proofs.Order.{and_both, or_true, position_eq-true}
+use Rattle.ring_machine.specs.Ring.{has}
+use Rattle.ring_machine.proofs.Order.{and_both, or_true, or_right, position_eq-true, position_eq-refl}
 use Rattle.local_planarity.specs.Spans.{least_of, most_of, box_of_three}
 
 pub least_most : (a b c : ℤ) → least_of a b c ≤ℤ most_of a b c
@@ -35,6 +37,21 @@ held_end_meets t w a b c e h = elim (or_true (position_eq w t.lo) (position_eq w
     spanned v k =
         let box = and_both (is_in_box_of_three v a b c) _ k in
         and_both (is_spanned a.x b.x c.x v.x) (is_spanned a.y b.y c.y v.y) box.0
+
+-- so it holds none of a segment whose box does not meet it
+pub none_held : (these : List Position) (t : Segment) (a b c : Position) → boxes_meet (box_of t) (box_of_three a b c) ≡ false
+    → ((not (has these t.lo) && is_held t.lo a b c) || (not (has these t.hi) && is_held t.hi a b c)) ≡ false
+none_held these t a b c apart = by _ refl
+  where
+    meets : (w : Position) → is_end w t ≡ true → (not (has these w) && is_held w a b c) ≡ true → false ≡ true
+    meets w e h = sym apart ∙ held_end_meets t w a b c e (and_both (not (has these w)) (is_held w a b c) h).1
+
+    by : (r : Bool) → ((not (has these t.lo) && is_held t.lo a b c) || (not (has these t.hi) && is_held t.hi a b c)) ≡ r → r ≡ false
+    by false h = refl
+    by true h = absurd (false≢true (elim (or_true (not (has these t.lo) && is_held t.lo a b c) (not (has these t.hi) && is_held t.hi a b c) h) [
+      | inl l ↦ meets t.lo (ap (λ z. z || position_eq t.lo t.hi) (position_eq-refl t.lo)) l
+      | inr r ↦ meets t.hi (or_right (position_eq t.hi t.lo) (position_eq t.hi t.hi) (position_eq-refl t.hi)) r
+    ]))
 
 -- ---- the box is one of the grid
 

@@ -1,9 +1,19 @@
 -- The least pair in conflict, found by one test after another.
-use Rattle.std.specs.Prelude.{ℕ, suc, List, [], ◌∷◌, Option, None, Some, if◌then◌else◌}
-use Rattle.std.specs.List.{fold}
-use Rattle.grid_geometry.specs.Segment.{Segment, segment_lt}
+use Rattle.std.specs.Prelude.{ℕ, suc, Bool, not, ◌&&◌, List, [], ◌∷◌, Option, None, Some, if◌then◌else◌}
+use Rattle.std.specs.List.{filter, fold}
+use Rattle.grid_geometry.specs.Segment.{Segment, box_of, boxes_meet, segment_lt}
 use Rattle.grid_geometry.specs.Conflict.{conflict}
 use Rattle.ring_machine.specs.Planar.{pair_lt}
+use Rattle.local_planarity.specs.declared.leaving.Leaving.{Leaving}
+use Rattle.local_planarity.specs.Edits.{leaves}
+
+-- s is tested against t in an edit: t does not leave, and its box meets that of s
+abbrev pub is_tried : Leaving → Segment → Segment → Bool
+is_tried leaving s t = boxes_meet (box_of t) (box_of s) && not (leaves leaving t)
+
+-- those of the others that s is tested against
+abbrev pub tried : Leaving → Segment → List Segment → List Segment
+tried leaving s others = filter (is_tried leaving s) others
 
 -- two segments, the lesser one first
 abbrev pub ordered : Segment → Segment → Segment × Segment

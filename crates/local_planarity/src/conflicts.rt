@@ -1,5 +1,5 @@
 //! The first pair of segments in conflict.
-ghost use Rattle.std.specs.Prelude.{◌≡◌, ◌+◌, ◌≤◌, List, IfOk, OnOk, min};
+ghost use Rattle.std.specs.Prelude.{◌≡◌, ◌+◌, ◌≤◌, List, None, IfOk, OnOk, min};
 ghost use Rattle.grid_geometry.specs.Segment.{Segment};
 ghost use Rattle.ring_machine.specs.Planar.{least_conflict};
 ghost use Rattle.segment_index.specs.Times.{times_by};
@@ -8,11 +8,13 @@ ghost use Rattle.local_planarity.specs.Tests.{fewest_tests, most_tests};
 
 use crate::count::TestCount;
 use crate::leaving::Leaving;
-use crate::near::{ROOM, gather_staying};
-use crate::pairs::first_against;
+use crate::pairs::{first_against, first_staying};
 use grid_geometry::Seg;
-use segment_index::SegIndex;
+use segment_index::{ListIndex, SegIndex};
 use std::alloc::{AllocError, Allocator};
+
+/// For how many candidates there is room at first. Most boxes that are asked for meet fewer.
+pub(crate) const ROOM: usize = 16;
 
 /// The least pair of segments in conflict once the added segments come and the leaving ones go, the
 /// lesser one first. Each added segment is tested against its candidates that do not leave, and
@@ -35,9 +37,35 @@ pub fn first_conflict<I: SegIndex, A: Allocator + Copy>(
     let mut near = Vec::with_capacity(alloc, ROOM)?;
     let mut first = None;
     for (at, s) in added.iter().enumerate() {
-        gather_staying(index, &leaving, *s, &mut near)?;
-        first = first_against(*s, near.as_slice(), first, tests);
+        near.clear();
+        index.candidates(s.rect(), &mut near)?;
+        first = first_staying(*s, near.as_slice(), &leaving, first, tests);
         first = first_against(*s, &added[..at], first, tests);
     }
     Ok(first)
+}
+
+/// The least pair of segments in conflict once the added segments come and the leaving ones of the
+/// list go, the lesser one first. Each added segment is tested against those of the list that do not
+/// leave and whose box meets its own, and against the added ones before it.
+pub fn first_conflict_near<A: Allocator + Copy>(
+    near: &ListIndex<A>,
+    leaving: Leaving,
+    added: &[Seg],
+    tests: &mut TestCount,
+) -> Option<(Seg, Seg)>
+    requires { AreApart near.now }
+    ensures first { (ss : List Segment) → IsAfter near.now leaving added.now ss
+        → least_conflict ss ≡ result }
+    ensures few { (ss : List Segment) → IsAfter near.now leaving added.now ss
+        → tests.new ≤ tests.old + most_tests (times_by None) ss added.now }
+    ensures counted { (ts : List Segment) → AreStaying near.now leaving ts
+        → min (tests.old + fewest_tests ts added.now) u64.MAX ≤ tests.new }
+{
+    let mut least = None;
+    for (place, s) in added.iter().enumerate() {
+        least = first_staying(*s, near.segments(), &leaving, least, tests);
+        least = first_against(*s, &added[..place], least, tests);
+    }
+    least
 }

@@ -7,12 +7,11 @@ mod count;
 mod filled;
 mod leaving;
 mod moving;
-mod near;
 mod pairs;
 mod span;
 mod sweeps;
 
-pub use conflicts::first_conflict;
+pub use conflicts::{first_conflict, first_conflict_near};
 pub use count::TestCount;
 pub use filled::fill;
 pub use leaving::Leaving;

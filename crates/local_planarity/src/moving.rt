@@ -48,27 +48,26 @@ pub fn near_move<I: SegIndex, A: Allocator + Copy>(
 }
 
 /// Whether the edge to one of these sweeps over a position when p moves to q, or p itself passes
-/// over a segment, as the segments near the move tell. Fails for want of memory alone.
+/// over a segment, as the segments near the move tell.
 pub fn move_sweeps<A: Allocator + Copy>(
-    alloc: A,
     near: &ListIndex<A>,
     around: &[Pos],
     p: Pos,
     q: Pos,
     tests: &mut TestCount,
-) -> Result<bool, AllocError>
+) -> bool
     requires { p ≢ q }
-    ensures sweeps { IfOk result (λ found. (d : Document) (held : SegmentSet)
+    ensures sweeps { (d : Document) (held : SegmentSet)
         → HasNearMove held p q (map (λ x. segment x q) around.now) near.now
         → IsEnds held (positions d) → IsHeld held (all_segments d)
-        → found ≡ (list_any (edge_sweeps d p q) around.now || crosses_on_way d p q)) }
+        → result ≡ (list_any (edge_sweeps d p q) around.now || crosses_on_way d p q) }
     ensures few { (ss : List Segment) → IsHeld near.now ss
         → tests.new ≤ tests.old + most_given (times_by None) ss (segment p q) }
 {
     for a in around {
         if holds_end(near.segments(), &[*a, p], *a, p, q) {
-            return Ok(true);
+            return true;
         }
     }
-    crosses_on_way(alloc, near, p, q, tests)
+    crosses_on_way(near, p, q, tests)
 }

@@ -1,5 +1,5 @@
 //! What an edit would sweep over.
-ghost use Rattle.std.specs.Prelude.{◌≡◌, ◌≢◌, ◌+◌, ◌≤◌, ◌&&◌, ◌||◌, not, List, IfOk};
+ghost use Rattle.std.specs.Prelude.{◌≡◌, ◌≢◌, ◌+◌, ◌≤◌, ◌&&◌, ◌||◌, not, List, None, IfOk};
 ghost use Rattle.std.specs.List.{list_any};
 ghost use Rattle.grid_geometry.specs.Conflict as geometry;
 ghost use Rattle.grid_geometry.specs.Held.{is_held};
@@ -10,13 +10,13 @@ ghost use Rattle.segment_index.specs.Times.{times_by};
 ghost use Rattle.local_planarity.specs.Edits.{IsEnds, IsHeld};
 ghost use Rattle.local_planarity.specs.Tests.{most_given};
 
+use crate::conflicts::ROOM;
 use crate::count::TestCount;
 use crate::leaving::Leaving;
-use crate::near::{ROOM, gather_staying};
 use crate::pairs::conflicts_with;
 use crate::span::box_of_three;
 use grid_geometry::{Pos, Seg, held};
-use segment_index::SegIndex;
+use segment_index::{ListIndex, SegIndex, reaches};
 use std::alloc::{AllocError, Allocator};
 
 /// Whether p is among the positions.
@@ -33,13 +33,22 @@ fn is_other_held(w: Pos, these: &[Pos], a: Pos, b: Pos, c: Pos) -> bool
     !has(these, w) && held(w, a, b, c)
 }
 
+/// Whether the triangle a, b, c holds an end of a segment that is not among these.
+fn is_end_held(t: Seg, these: &[Pos], a: Pos, b: Pos, c: Pos) -> bool
+    ensures { result ≡ ((not (machine.has these.now t.lo) && is_held t.lo a b c)
+        || (not (machine.has these.now t.hi) && is_held t.hi a b c)) }
+{
+    is_other_held(t.lo, these, a, b, c) || is_other_held(t.hi, these, a, b, c)
+}
+
 /// Whether the triangle a, b, c holds an end of one of the segments that is not among these.
 pub fn holds_end(segments: &[Seg], these: &[Pos], a: Pos, b: Pos, c: Pos) -> bool
     ensures { result ≡ list_any (λ t. (not (machine.has these.now t.lo) && is_held t.lo a b c)
         || (not (machine.has these.now t.hi) && is_held t.hi a b c)) segments.now }
 {
+    let rect = box_of_three(a, b, c);
     for t in segments {
-        if is_other_held(t.lo, these, a, b, c) || is_other_held(t.hi, these, a, b, c) {
+        if reaches(*t, rect) && is_end_held(*t, these, a, b, c) {
             return true;
         }
     }
@@ -64,27 +73,19 @@ pub fn holds_other<I: SegIndex, A: Allocator + Copy>(
     Ok(holds_end(near.as_slice(), these, a, b, c))
 }
 
-/// Whether the way from p to q, which differ, conflicts with a held segment that does not end at
-/// p. Fails only for want of memory.
-pub fn crosses_on_way<I: SegIndex, A: Allocator + Copy>(
-    alloc: A,
-    index: &I,
+/// Whether the way from p to q conflicts with a segment of the list that does not end at p.
+pub fn crosses_on_way<A: Allocator + Copy>(
+    near: &ListIndex<A>,
     p: Pos,
     q: Pos,
     tests: &mut TestCount,
-) -> Result<bool, AllocError>
+) -> bool
     requires { p ≢ q }
-    ensures crosses { IfOk result (λ found. (ss : List Segment) → IsHeld (I.held index.now) ss
-        → found ≡ list_any (λ t. not (is_end p t) && geometry.conflict (segment p q) t) ss) }
-    ensures few { (ss : List Segment) → IsHeld (I.held index.now) ss
-        → tests.new ≤ tests.old + most_given (times_by (I.cells index.now)) ss (segment p q) }
+    ensures crosses { (ss : List Segment) → IsHeld near.now ss
+        → result ≡ list_any (λ t. not (is_end p t) && geometry.conflict (segment p q) t) ss }
+    ensures few { (ss : List Segment) → IsHeld near.now ss
+        → tests.new ≤ tests.old + most_given (times_by None) ss (segment p q) }
 {
-    match Seg::new(p, q) {
-        Some(way) => {
-            let mut near = Vec::with_capacity(alloc, ROOM)?;
-            gather_staying(index, &Leaving::EndingAt(p), way, &mut near)?;
-            Ok(conflicts_with(way, near.as_slice(), tests))
-        }
-        None => Ok(false),
-    }
+    let way = Seg::new(p, q).unwrap();
+    conflicts_with(way, near.segments(), &Leaving::EndingAt(p), tests)
 }

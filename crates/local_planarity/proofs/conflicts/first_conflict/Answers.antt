@@ -1,46 +1,43 @@
-use Rattle.std.proofs.Common.{◌≡◌, ◌≤◌, ◌+◌, ap, ◌∙◌, length, arith}
+use Rattle.std.proofs.Common.{subst, true}
+use Rattle.segment_index.specs.Candidates.{Gives}
 use Rattle.segment_index.specs.Times.{times_by}
-use Rattle.local_planarity.specs.Pairs.{first_against}
-use Rattle.local_planarity.proofs.Least.{stay_apart, next_first, all_added}
-use Rattle.local_planarity.proofs.Nearby.{near_few, near_many, after_has, no_more, one_more_tests}
-use Rattle.local_planarity.proofs.Counts.{one_more_counted, all_counted}
+use Rattle.local_planarity.specs.Pairs.{tried}
+use Rattle.local_planarity.proofs.Nearby.{near_given}
+use Rattle.local_planarity.proofs.Searches.{searched_none, searched_more, searched_few, searched_all, searched_counted}
+use Rattle.local_planarity.proofs.Counts.{IsFound}
 use Rattle.local_planarity.proofs.conflicts.first_conflict.Goals as goal
 
 pub loop-at-init : goal.loop-at-init
-loop-at-init g c = record {
-  first = stay_apart (g.I.SegIndex.held c.args.index.now) c.args.leaving c.args.added.now c.requires;
-  few = λ ss e. omega arith;
-  counted = λ ts e. omega arith;
-}
+loop-at-init g c =
+    searched_none (g.I.SegIndex.held c.args.index.now) (times_by (g.I.SegIndex.cells c.args.index.now)) c.args.leaving c.args.added.now c.args.tests.now c.requires
 
 pub loop-at-preserved : goal.loop-at-preserved
 loop-at-preserved g c =
     let held = g.I.SegIndex.held c.args.index.now in
     let times = times_by (g.I.SegIndex.cells c.args.index.now) in
-    let added = c.args.added.now in
-    let at = c.loop-at.at in
     let s = c.index-added-at.result in
-    let near = c.gather_staying.new.near.items in
-    let there = c.in_ok-gather_staying.ensures in
-    let one = c.first_against-first.ensures in
-    let two = c.first_against-first-in-loop-at.ensures in
-    let known : c.first_against-first.result ≡ first_against s near c.loop-at.first = one.first ∙ ap (λ z. first_against s z c.loop-at.first) c.as_slice.ensures.value in
-    let made : c.first_against-first.new.tests ≤ c.loop-at.tests + length near = omega (arith, one.few, ap length c.as_slice.ensures.value) in
-    record {
-      first = next_first held times c.args.leaving added at s near c.loop-at.first c.first_against-first.result c.first_against-first-in-loop-at.result there c.loop-at-test.true c.index-added-at.is known two.first c.loop-at.invariant.first;
-      few = λ ss e. one_more_tests times ss added at s c.loop-at.tests (length near) c.first_against-first.new.tests c.first_against-first-in-loop-at.new.tests c.args.tests.now c.loop-at-test.true c.index-added-at.is
-          (c.loop-at.invariant.few ss e) (near_few held times c.args.leaving s near ss there (after_has held c.args.leaving added ss e)) made two.few;
-      counted = λ ts e. one_more_counted ts added at s c.loop-at.tests (length near) c.first_against-first.new.tests c.first_against-first-in-loop-at.new.tests c.args.tests.now c.loop-at-test.true c.index-added-at.is
-          (c.loop-at.invariant.counted ts e) (near_many held times c.args.leaving s near ts there e) (omega (arith, one.counted, ap length c.as_slice.ensures.value)) two.counted;
-    }
+    let given = c.candidates.new.out.items in
+    let one = c.first_staying-first.ensures in
+    let two = c.first_against-first.ensures in
+    searched_more held times c.args.leaving c.args.added.now c.args.tests.now c.loop-at.at s (tried c.args.leaving s given)
+    c.loop-at.first c.first_staying-first.result c.first_against-first.result c.loop-at.tests c.first_staying-first.new.tests c.first_against-first.new.tests
+    c.loop-at-test.true c.index-added-at.is
+    (near_given held times c.args.leaving s c.clear.new.self.items given c.clear.ensures.items
+    (subst (λ r. Gives held times r c.clear.new.self.items given true) c.rect.ensures c.in_ok-candidates.ensures))
+    (subst (λ z. IsFound s (tried c.args.leaving s z) c.loop-at.first c.loop-at.tests c.first_staying-first.result c.first_staying-first.new.tests) c.as_slice.ensures.value
+    (record { first = one.first; few = one.few; counted = one.counted }))
+    (record { first = two.first; few = two.few; counted = two.counted }) c.loop-at.invariant
 
 pub returns : goal.returns
-returns g c = record {
-  first = λ ss e. all_added (g.I.SegIndex.held c.args.index.now) c.args.leaving c.args.added.now c.loop-at.at ss c.loop-at.first c.loop-at-test.false e c.loop-at.invariant.first;
-  few = λ ss e. omega (arith, c.loop-at.invariant.few ss e, no_more (times_by (g.I.SegIndex.cells c.args.index.now)) ss c.args.added.now c.loop-at.at c.loop-at.auto.at-end);
-  counted = λ ts e. omega (arith, all_counted ts c.args.added.now c.loop-at.at c.loop-at.tests c.args.tests.now (omega (arith, c.loop-at-test.false, c.loop-at.auto.at-end)) (c.loop-at.invariant.counted ts e));
-}
+returns g c =
+    let held = g.I.SegIndex.held c.args.index.now in
+    let times = times_by (g.I.SegIndex.cells c.args.index.now) in
+    record {
+      first = searched_all held times c.args.leaving c.args.added.now c.args.tests.now c.loop-at.at c.loop-at.first c.loop-at.tests c.loop-at.invariant c.loop-at.auto.at-end c.loop-at-test.false;
+      few = searched_few held times c.args.leaving c.args.added.now c.args.tests.now c.loop-at.at c.loop-at.first c.loop-at.tests c.loop-at.invariant c.loop-at.auto.at-end;
+      counted = searched_counted held times c.args.leaving c.args.added.now c.args.tests.now c.loop-at.at c.loop-at.first c.loop-at.tests c.loop-at.invariant c.loop-at.auto.at-end c.loop-at-test.false;
+    }
 
-pub returns-in_err-gather_staying-clause-few : goal.returns-in_err-gather_staying-clause-few
-returns-in_err-gather_staying-clause-few g c = λ ss e.
-    omega (arith, c.loop-at.invariant.few ss e, no_more (times_by (g.I.SegIndex.cells c.args.index.now)) ss c.args.added.now c.loop-at.at c.loop-at.auto.at-end)
+pub returns-in_err-candidates-clause-few : goal.returns-in_err-candidates-clause-few
+returns-in_err-candidates-clause-few g c =
+    searched_few (g.I.SegIndex.held c.args.index.now) (times_by (g.I.SegIndex.cells c.args.index.now)) c.args.leaving c.args.added.now c.args.tests.now c.loop-at.at c.loop-at.first c.loop-at.tests c.loop-at.invariant c.loop-at.auto.at-end

@@ -1,25 +1,36 @@
-use Rattle.std.proofs.Common.{sym, arith}
-use Rattle.local_planarity.proofs.Counts.{tested_up_to, all_tested}
+use Rattle.std.proofs.Common.{◌≡◌, ◌∙◌, ◌&&◌, ap, arith, length, not, rules, subst, sym, take, true}
+use Rattle.std.proofs.lemmas.List.{take_all}
+use Rattle.grid_geometry.specs.Segment.{box_of, boxes_meet}
+use Rattle.local_planarity.specs.Edits.{leaves}
+use Rattle.local_planarity.specs.Pairs.{is_tried, tests_to_conflict, tried}
+use Rattle.local_planarity.proofs.Counts.{any_found, all_tested, tested_up_to}
 use Rattle.local_planarity.proofs.pairs.conflicts_with.Goals as goal
 
 -- the one that conflicts is the last that is tested
-pub returns-then-test-clause-few : goal.returns-then-test-clause-few
-returns-then-test-clause-few c =
-    let tested = tested_up_to c.args.s c.args.others.now c.loop-t.t-index c.t-item.result c.loop-t-test.true c.t-item.is c.loop-t.invariant.none (sym c.if-test.ensures.conflict) in
-    omega (arith, c.loop-t.invariant.few, c.test.ensures.counted, tested)
-
-pub returns-then-test-clause-counted : goal.returns-then-test-clause-counted
-returns-then-test-clause-counted c =
-    let tested = tested_up_to c.args.s c.args.others.now c.loop-t.t-index c.t-item.result c.loop-t-test.true c.t-item.is c.loop-t.invariant.none (sym c.if-test.ensures.conflict) in
-    omega (arith, c.loop-t.invariant.counted, c.test.ensures.counted, tested)
+pub returns-then-test : goal.returns-then-test
+returns-then-test c =
+    let s = c.args.s in
+    let leaving = c.args.leaving.now in
+    let t = c.t-item.result in
+    let passes : is_tried leaving s t ≡ true =
+    ap (λ r. boxes_meet (box_of t) r && not (leaves leaving t)) (sym c.rect-rect.ensures) ∙ sym c.is_tried.ensures ∙ c.if-is_tried.true in
+    let hit = sym c.if-test.ensures.conflict in
+    let tested = tested_up_to (is_tried leaving s) s c.args.others.now c.loop-t.t-index t c.loop-t-test.true c.t-item.is passes c.loop-t.invariant.none hit in
+    record {
+      some = any_found (is_tried leaving s) s c.args.others.now c.loop-t.t-index t c.loop-t-test.true c.t-item.is passes c.loop-t.invariant.none hit;
+      few = omega (arith, c.loop-t.invariant.few, c.test.ensures.counted, tested);
+      counted = omega (arith, c.loop-t.invariant.counted, c.test.ensures.counted, tested);
+    }
 
 -- where none does, all are tested
-pub returns-clause-few : goal.returns-clause-few
-returns-clause-few c =
-    let tested = all_tested c.args.s c.args.others.now c.loop-t.t-index c.loop-t-test.false c.loop-t.invariant.none in
-    omega (arith, c.loop-t.invariant.few, c.loop-t.auto.t-index-end, tested)
-
-pub returns-clause-counted : goal.returns-clause-counted
-returns-clause-counted c =
-    let tested = all_tested c.args.s c.args.others.now c.loop-t.t-index c.loop-t-test.false c.loop-t.invariant.none in
-    omega (arith, c.loop-t.invariant.counted, c.loop-t-test.false, tested)
+pub returns : goal.returns
+returns c =
+    let near = tried c.args.leaving.now c.args.s (take c.loop-t.t-index c.args.others.now) in
+    let all = ap (tried c.args.leaving.now c.args.s) (take_all c.loop-t.t-index c.args.others.now c.loop-t-test.false) in
+    let tested : tests_to_conflict c.args.s (tried c.args.leaving.now c.args.s c.args.others.now) ≡ length near =
+    subst (λ ts. tests_to_conflict c.args.s ts ≡ length near) all (all_tested c.args.s near c.loop-t.invariant.none) in
+    record {
+      some = search rules;
+      few = omega (arith, c.loop-t.invariant.few, tested);
+      counted = omega (arith, c.loop-t.invariant.counted, tested);
+    }
