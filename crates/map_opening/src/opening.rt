@@ -23,7 +23,7 @@ use vertex_index::Vertices;
 pub fn lay<I: SegIndex, A: Allocator + Copy>(
     alloc: A,
     seed: RandomState,
-    index: I,
+    mut index: I,
     rings: &[Vec<Pos, A>],
 ) -> Result<OpenedRings<I, A>, AllocError>
     requires rings { IsTrue (list_all is_ring (rings_seen rings.now)) }
@@ -37,6 +37,7 @@ pub fn lay<I: SegIndex, A: Allocator + Copy>(
     let keyed = key_all(alloc, &mut vertices, rings)?;
     let mut borders = Borders::new(alloc);
     mark_junctions(alloc, &mut borders, keyed.as_slice())?;
+    index.prepare(vertices.len())?;
     let index = Counted::new(index, 0);
     let tables = RingTables {
         alloc,

@@ -19,7 +19,7 @@ use std::alloc::{AllocError, Allocator, Global};
 use std::marker::Model;
 
 /// For how many segments there is a cell where they lie evenly.
-const SHARE: usize = 8;
+const SHARE: usize = 2;
 
 /// Segments in the cells of a region, each in its home cell, and those that have none in a bucket
 /// beside them. It is seen as the list of all.
