@@ -1,17 +1,17 @@
 -- Segments in the home cells of a directory.
-use Rattle.std.proofs.Common.{◌≡◌, ◌≢◌, ◌≤◌, ◌<◌, ◌+◌, ◌-◌, ℕ, zero, suc, Bool, true, false, cond, leb, ◌&&◌, List, [], ◌∷◌, ◌++◌, length, get_or, unwrap_or, set, replicate, refl, sym, ap, ◌∙◌, arith, int_le, Option, Some, None, Result, Ok, Err, OnOk, OnErr}
+use Rattle.std.proofs.Common.{◌≡◌, ◌≢◌, ◌≤◌, ◌<◌, ◌+◌, ◌-◌, ℕ, zero, suc, Bool, true, false, cond, leb, ◌&&◌, List, [], ◌∷◌, ◌++◌, length, unwrap_or, set, replicate, refl, sym, ap, ◌∙◌, arith, int_le, Option, Some, None, Result, Ok, Err, OnOk, OnErr}
 use Rattle.grid_geometry.specs.Segment.{Segment, Box, box_of, boxes_meet}
 use Rattle.segment_index.specs.Bounds.{joined as joined_boxes}
 use Rattle.segment_index.specs.Candidates.{segment_is, has, times_in}
 use Rattle.segment_index.specs.Cells.{cell, column, joined, every}
-use Rattle.segment_index.specs.Covers.{Lines, AreMonotone, Cover, has_cell, within, counted, total}
+use Rattle.segment_index.specs.Covers.{Lines, AreMonotone, has_cell, within, counted, total}
 use Rattle.segment_index.specs.Directories.{is_short, home_of, block_of, AreAtHome, ChangesAt}
 use Rattle.segment_index.specs.Gathers.{Gathers, Loses}
 use Rattle.segment_index.specs.Trees.{Gains, IsSame, LiesIn}
 use Rattle.segment_index.proofs.Branches.{lies-put, lies-less, none-meets, some-at}
 use Rattle.segment_index.proofs.Gathering.{gathers-nothing}
 use Rattle.segment_index.proofs.Standing.{empty-cells, has-no}
-use Rattle.segment_index.proofs.Meeting.{counted-mono, counted-zero, total-one, meet_parts, le_from}
+use Rattle.segment_index.proofs.Meeting.{counted-zero, total-one, meet_parts, le_from}
 use Rattle.segment_index.proofs.Singles.{same_segment, times-append, times-none, loses-none, ok_then, err_then}
 use Rattle.segment_index.proofs.Steps.{at-set}
 

@@ -1,4 +1,4 @@
-use Rattle.std.proofs.Common.{◌≡◌, ◌≤◌, ◌-◌, [], length, ap, arith, refl}
+use Rattle.std.proofs.Common.{◌≡◌, ◌≤◌, ◌-◌, [], length, arith, refl}
 use Rattle.std.proofs.lemmas.List.{get_or_past}
 use Rattle.segment_index.specs.Cells.{column}
 use Rattle.segment_index.proofs.Homes.{gathers-unheld}

@@ -1,8 +1,7 @@
-use Rattle.std.proofs.Common.{rules, is_ok, false, true, arith, ap, refl, subst, ◌≡◌, ◌-◌, ◌∙◌}
+use Rattle.std.proofs.Common.{rules, is_ok, false, true, arith, refl, ◌≡◌, ◌-◌}
 use Rattle.segment_index.specs.Candidates.{times_in}
 use Rattle.segment_index.specs.Cells.{cell, column}
 use Rattle.segment_index.specs.Covers.{counted}
-use Rattle.segment_index.specs.Gathers.{Gathers}
 use Rattle.segment_index.proofs.Gathering.{gathers-none, gathers-next, gathers-stop}
 use Rattle.segment_index.proofs.directory.gather_block.Goals as goal
 

@@ -1,4 +1,4 @@
-use Rattle.std.proofs.Common.{rules, is_ok, true, false, arith, ap, refl, subst, ◌≡◌, ◌<◌, ◌-◌, ◌∙◌}
+use Rattle.std.proofs.Common.{rules, is_ok, true, false, arith, refl, subst, ◌≡◌, ◌-◌}
 use Rattle.segment_index.specs.Candidates.{times_in}
 use Rattle.segment_index.specs.Cells.{cell}
 use Rattle.segment_index.specs.Covers.{counted}

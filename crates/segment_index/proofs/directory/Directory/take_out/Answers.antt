@@ -1,9 +1,7 @@
-use Rattle.std.proofs.Common.{◌≡◌, ◌∙◌, ℕ, true, false, sym, refl, Some}
+use Rattle.std.proofs.Common.{◌≡◌, ◌∙◌, true, false, sym, refl}
 use Rattle.std.proofs.lemmas.List.{get_or_default}
-use Rattle.grid_geometry.specs.Segment.{box_of}
-use Rattle.segment_index.specs.Candidates.{has}
-use Rattle.segment_index.specs.Cells.{cell, column}
-use Rattle.segment_index.specs.Directories.{home_of, lines_in}
+use Rattle.segment_index.specs.Cells.{column}
+use Rattle.segment_index.specs.Directories.{lines_in}
 use Rattle.segment_index.proofs.Homes.{lost-at_home, lost-past_home, lost-elsewhere}
 use Rattle.segment_index.proofs.directory.Directory.take_out.Goals as goal
 

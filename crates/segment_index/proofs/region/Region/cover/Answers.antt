@@ -1,4 +1,4 @@
-use Rattle.std.proofs.Common.{◌≡◌, ◌+◌, ◌^◌, ◌%◌, ◌∙◌, ap}
+use Rattle.std.proofs.Common.{◌+◌, ◌^◌, ◌%◌}
 use Rattle.segment_index.proofs.Lines.{line-is, lines-ordered}
 use Rattle.segment_index.proofs.region.Region.cover.Goals as goal
 

@@ -1,6 +1,4 @@
-use Rattle.std.proofs.Common.{sym, ◌∙◌, ◌-◌, subst}
-use Rattle.segment_index.specs.Trees.{LiesIn}
-use Rattle.segment_index.specs.Cells.{joined}
+use Rattle.std.proofs.Common.{sym, ◌∙◌, ◌-◌}
 use Rattle.segment_index.proofs.Homes.{gathers-apart, gathers-unheld}
 use Rattle.segment_index.proofs.strip.Strip.gather.Goals as goal
 
