@@ -16,7 +16,7 @@ use Rattle.map_opening.proofs.OpenedTables.{rings_at, laid_stands}
 use Rattle.map_opening.proofs.opening.lay.Goals as goal
 
 pub new-index-requires : goal.new-index-requires
-new-index-requires g c = sym (ap set.len c.requires.empty ∙ set.len-empty segment_cmp)
+new-index-requires g c = sym (ap set.len c.prepare.ensures.empty ∙ set.len-empty segment_cmp)
 
 pub lay_all-requires-clause-round : goal.lay_all-requires-clause-round
 lay_all-requires-clause-round g c = λ keys i.
@@ -37,7 +37,7 @@ lay_all-requires-clause-none g c = record {
   round = λ ks i. absurd (contains_in [] ks i);
   laid = subst (λ z. IsLaid c.mark_junctions.new.borders z []) (sym c.new.ensures.items)
       (laid_none c.mark_junctions.new.borders (c.mark_junctions.ensures ∙ c.new-borders.ensures));
-  filled = filled_none c.new-index.result.held (c.new-index.ensures.held ∙ c.requires.empty);
+  filled = filled_none c.new-index.result.held (c.new-index.ensures.held ∙ c.prepare.ensures.empty);
   size = refl;
 }
 
