@@ -228,6 +228,16 @@ fn a_tree_gives_what_a_list_gives(rt: HostRuntime) {
     fill_and_empty(&rt, rt.alloc(), &mut list, &mut tree);
 }
 
+// in cells of 64 by 64, with trees of one and more levels in them, and one beside them
+#[test]
+fn a_tree_in_cells_gives_what_a_list_gives(rt: HostRuntime) {
+    let window = rect(&rt, ((0, 0), (1000, 1000)));
+    let mut list = ListIndex::new(rt.alloc());
+    let mut tree = TreeIndex::new(rt.alloc(), Some(window));
+    tree.prepare(1500).expect(&rt, MEMORY);
+    fill_and_empty(&rt, rt.alloc(), &mut list, &mut tree);
+}
+
 /// Left of this extent there is one more column of cells.
 const BEFORE: Two = ((-100, 0), (27, 0));
 
