@@ -1,5 +1,6 @@
-use Rattle.std.proofs.Common.{◌∙◌, ◌==◌, length, sym, ap}
+use Rattle.std.proofs.Common.{◌≡◌, ◌∙◌, ◌==◌, length, sym, ap, Bool, false, Result, Ok, Err, IsErrAnd, MatchResult}
 use Rattle.std.proofs.lemmas.Result.{IfOk-weaker}
+use Rattle.script_runner.specs.Replies.{of_writer}
 use Rattle.script_runner.proofs.StepLemmas.{on_last, put_last, put_none, put_some, finished_none, finished_line}
 use Rattle.script_runner.proofs.runner.Runner.finish.Goals as goal
 
@@ -33,3 +34,12 @@ returns-in_err-answer-clause-cut g c =
     (put_some c.args.self (g.W.Sink.taken c.args.out.now) (g.W.Sink.taken c.answer.new.out)
     (ap (λ p. length p.line == 0) (sym c.self.view_is) ∙ ap (λ l. length l == 0) (sym c.as_slice.ensures.value) ∙ sym c.is_empty.ensures ∙ c.if-is_empty.false)
     c.in_err-answer.ensures.cut)
+
+-- as `?` hands a fault on, the sink stands as it did
+stands_on : {T E : Type 0} (failed : Bool) (is_its : E → Bool) (fault : E) (result : Result T E) → IsErrAnd result (λ e. e ≡ fault) → failed ≡ is_its fault → MatchResult result (λ _. failed ≡ false) (λ e. failed ≡ is_its e)
+stands_on failed is_its fault (Ok x) is h = absurd is
+stands_on failed is_its fault (Err e) is h = h ∙ ap is_its (sym is)
+
+pub returns-in_err-answer-clause-stands : goal.returns-in_err-answer-clause-stands
+returns-in_err-answer-clause-stands g c =
+    stands_on (g.W.Sink.has_failed c.answer.new.out) of_writer _ _ c.from_residual.ensures.1 c.in_err-answer.ensures.stands
