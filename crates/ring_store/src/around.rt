@@ -21,9 +21,9 @@ pub(crate) fn positions_around<I: SegIndex, A: Allocator + Copy>(
 {
     let mut keys = Vec::new(tables.alloc);
     tables.borders.push_neighbours(k, &mut keys)?;
-    let mut around = Vec::new(tables.alloc);
+    let mut around = Vec::with_capacity(tables.alloc, keys.len())?;
     for x in keys.as_slice() {
-        around.push(tables.vertices.pos(*x))?;
+        around.push_reserved(tables.vertices.pos(*x));
     }
     Ok(around)
 }
@@ -38,11 +38,9 @@ pub(crate) fn spokes<A: Allocator + Copy>(
     requires { machine.has around.now p ≡ false }
     ensures { IfOk result (λ found. found.items ≡ planned.spokes p around.now) }
 {
-    let mut segments = Vec::new(alloc);
+    let mut segments = Vec::with_capacity(alloc, around.len())?;
     for x in around {
-        if let Some(s) = Seg::new(*x, p) {
-            segments.push(s)?;
-        }
+        segments.push_reserved(Seg::new(*x, p).unwrap());
     }
     Ok(segments)
 }

@@ -13,4 +13,4 @@ pos-requires g c =
 pub returns : goal.returns
 returns g c =
     around_is c.args.tables.now.vertices c.args.tables.now.borders c.args.k c.new-keys.result.items c.push_neighbours.new.out.items c.in_ok-push_neighbours.ensures c.new-keys.ensures.items c.loop-x.around.items
-    (c.loop-x.invariant ∙ ap (map (place c.args.tables.now.vertices)) (take_all c.loop-x.x-index c.as_slice-x-items.result.now c.loop-x-test.false ∙ c.as_slice-x-items.ensures.value))
+    (c.loop-x.invariant.0 ∙ ap (map (place c.args.tables.now.vertices)) (take_all c.loop-x.x-index c.as_slice-x-items.result.now c.loop-x-test.false ∙ c.as_slice-x-items.ensures.value))
