@@ -7,11 +7,11 @@ use Rattle.segment_index.specs.Covers.{Lines, Cover}
 use Rattle.segment_index.specs.Frames.{line}
 use Rattle.segment_index.specs.declared.region.Region.{Region}
 
--- the columns and rows of a region, whose cells are squares with a power of two as side
+-- the columns and rows of a region, whose cells have powers of two as sides
 abbrev pub lines_in : Region → Lines
 lines_in r = record {
-  column = line r.columns r.extent.x0 (2 ^ (r.shift % 64));
-  row = line r.rows r.extent.y0 (2 ^ (r.shift % 64));
+  column = line r.columns r.extent.x0 (2 ^ (r.wide % 64));
+  row = line r.rows r.extent.y0 (2 ^ (r.high % 64));
 }
 
 -- a box reaches at most one column and one row further than its least corner

@@ -4,7 +4,6 @@ ghost use Rattle.segment_index.specs.Gathers.{Gathers, Loses};
 ghost use Rattle.segment_index.specs.Trees.{Gains, IsSame};
 
 use crate::entry::Entry;
-use crate::route::Window;
 use crate::tree::Tree;
 use grid_geometry::{Rect, Seg};
 use std::alloc::{AllocError, Allocator, Global};
@@ -40,26 +39,20 @@ impl<A: Allocator + Copy> Bucket<A> {
         Self { tree: Tree::Empty }
     }
 
-    /// Puts a segment in, on its way after so many steps.
-    pub(crate) fn put(
-        &mut self,
-        alloc: A,
-        entry: &Entry,
-        depth: u32,
-        window: &Window,
-    ) -> Result<(), AllocError>
+    /// Puts a segment in.
+    pub(crate) fn put(&mut self, alloc: A, entry: &Entry) -> Result<(), AllocError>
         ensures put { OnOk result (Gains entry.now self.old self.new) }
         ensures unchanged { OnErr result (IsSame self.old self.new) }
     {
-        self.tree.put(alloc, entry, depth, window)
+        self.tree.put(alloc, entry)
     }
 
     /// Takes a segment out, once, if it is there, and answers whether it was.
-    pub(crate) fn take_out(&mut self, entry: &Entry, depth: u32) -> bool
+    pub(crate) fn take_out(&mut self, entry: &Entry) -> bool
         ensures lost { Loses entry.now self.old self.new }
         ensures found { result ≡ has self.old entry.now }
     {
-        self.tree.take_out(entry, depth)
+        self.tree.take_out(entry)
     }
 
     /// Appends the segments whose box meets the asked one.

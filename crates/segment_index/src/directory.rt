@@ -12,7 +12,6 @@ use crate::bucket::Bucket;
 use crate::cover::Cover;
 use crate::entry::Entry;
 use crate::region::Region;
-use crate::route::Window;
 use crate::strip::Strip;
 use grid_geometry::{Rect, Seg};
 use std::alloc::{AllocError, Allocator, Global};
@@ -27,8 +26,6 @@ const SHARE: usize = 2;
 pub(crate) struct Directory<A: Allocator + Copy = Global> {
     region: Region,
     strips: Vec<Strip<A>, A>,
-    /// After how many steps of its way a segment comes into a cell.
-    depth: u32,
     rest: Bucket<A>,
 }
 
@@ -57,7 +54,6 @@ impl<A: Allocator + Copy> Directory<A> {
         Self {
             region: Region::none(),
             strips: Vec::new(alloc),
-            depth: 0,
             rest: Bucket::new(),
         }
     }
@@ -70,21 +66,18 @@ impl<A: Allocator + Copy> Directory<A> {
         Ok(Self {
             region,
             strips: empty_strips(alloc, &region)?,
-            depth: region.depth(),
             rest: Bucket::new(),
         })
     }
 
     /// Puts a segment in.
-    pub(crate) fn put(&mut self, alloc: A, entry: &Entry, window: &Window) -> Result<(), AllocError>
+    pub(crate) fn put(&mut self, alloc: A, entry: &Entry) -> Result<(), AllocError>
         ensures put { OnOk result (Gains entry.now self.old self.new) }
         ensures unchanged { OnErr result (IsSame self.old self.new) }
     {
         match home_in(&self.strips, &self.region, entry.rect()) {
-            Some((column, row)) => {
-                self.strips[column].put(row, alloc, entry, self.depth, window)
-            }
-            None => self.rest.put(alloc, entry, 0, window),
+            Some((column, row)) => self.strips[column].put(row, alloc, entry),
+            None => self.rest.put(alloc, entry),
         }
     }
 
@@ -94,12 +87,12 @@ impl<A: Allocator + Copy> Directory<A> {
     {
         match home_in(&self.strips, &self.region, entry.rect()) {
             Some((column, row)) => {
-                if !self.strips[column].take_out(row, entry, self.depth) {
-                    self.rest.take_out(entry, 0);
+                if !self.strips[column].take_out(row, entry) {
+                    self.rest.take_out(entry);
                 }
             }
             None => {
-                self.rest.take_out(entry, 0);
+                self.rest.take_out(entry);
             }
         }
     }
@@ -123,7 +116,6 @@ impl<A: Allocator + Copy> Directory<A> {
         Ok(Self {
             region: self.region,
             strips: copy_strips(alloc, &self.strips)?,
-            depth: self.depth,
             rest: self.rest.copy(alloc)?,
         })
     }

@@ -1,17 +1,15 @@
 ghost use Rattle.std.specs.Prelude.{◌≡◌};
 ghost use Rattle.grid_geometry.specs.Segment.{box_of};
 
-use crate::route::{Route, Window};
+use crate::way::Way;
 use grid_geometry::{Rect, Seg};
 use std::marker::Model;
 
-/// A segment on its way into a tree or out of it, with what is asked of it at each step. It is seen
-/// as the segment.
+/// A segment on its way into a tree or out of it, with its box. It is seen as the segment.
 #[derive(Drop)]
 pub(crate) struct Entry {
     segment: Seg,
     rect: Rect,
-    route: Route,
 }
 
 impl Model for Entry {
@@ -29,14 +27,13 @@ impl Model for Entry {
 }
 
 impl Entry {
-    /// A segment, its box, and its way from the root.
-    pub(crate) fn of(window: &Window, segment: Seg) -> Self
+    /// A segment and its box.
+    pub(crate) fn of(segment: Seg) -> Self
         ensures { result ≡ segment }
     {
         Self {
             segment,
             rect: segment.rect(),
-            route: Route::of(window, segment),
         }
     }
 
@@ -54,8 +51,8 @@ impl Entry {
         self.rect
     }
 
-    /// Whether its way goes to the low side after this many steps.
-    pub(crate) fn goes_low(&self, depth: u32) -> bool {
-        self.route.goes_low(depth)
+    /// Its way from the root.
+    pub(crate) fn way(&self) -> Way {
+        Way::of(self.segment)
     }
 }

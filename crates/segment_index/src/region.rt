@@ -7,15 +7,19 @@ ghost use Rattle.segment_index.specs.Frames.{clamped};
 use crate::cover::Cover;
 use grid_geometry::Rect;
 
-/// The cells of a directory: where they begin, how many times the side of each was doubled, and how
-/// many columns and rows there are.
+/// The cells of a directory: where they begin, how many times the width and the height of each was
+/// doubled, and how many columns and rows there are.
 #[derive(Clone, Copy)]
 pub(crate) struct Region {
     extent: Rect,
-    shift: u32,
+    wide: u32,
+    high: u32,
     columns: usize,
     rows: usize,
 }
+
+/// How many times a cell is doubled at most.
+const DOUBLINGS: u32 = 84;
 
 impl Region {
     /// A region without cells.
@@ -27,7 +31,8 @@ impl Region {
                 x1: 0,
                 y1: 0,
             },
-            shift: 0,
+            wide: 0,
+            high: 0,
             columns: 0,
             rows: 0,
         }
@@ -36,31 +41,26 @@ impl Region {
     /// The region of an extent, with the least cells that are not more than so many. No answer depends
     /// on how many there are.
     pub(crate) fn over(extent: Rect, most: usize) -> Self {
-        let mut shift = 0;
-        for doubled in 0..42 {
-            shift = doubled;
-            let cells = lines(extent.x0, extent.x1, shift).saturating_mul(lines(
-                extent.y0, extent.y1, shift,
-            ));
-            if cells <= most {
+        let mut region = Region::doubled(extent, 0);
+        for times in 1..DOUBLINGS {
+            if region.columns.saturating_mul(region.rows) <= most {
                 break;
             }
+            region = Region::doubled(extent, times);
         }
-        Region {
-            extent,
-            shift,
-            columns: lines(extent.x0, extent.x1, shift),
-            rows: lines(extent.y0, extent.y1, shift),
-        }
+        region
     }
 
-    /// After how many steps of its way a segment is in a part of the extent no larger than a cell.
-    pub(crate) fn depth(&self) -> u32 {
-        let lines = self.columns.min(self.rows);
-        usize::BITS
-            .saturating_sub(lines.leading_zeros())
-            .saturating_mul(2)
-            .saturating_sub(1)
+    /// The region of an extent, whose cells were doubled so many times, in turn in width and height.
+    fn doubled(extent: Rect, times: u32) -> Self {
+        let (high, wide) = (times / 2, times - times / 2);
+        Region {
+            extent,
+            wide,
+            high,
+            columns: lines(extent.x0, extent.x1, wide),
+            rows: lines(extent.y0, extent.y1, high),
+        }
     }
 
     /// How many columns there are.
@@ -83,12 +83,12 @@ impl Region {
         ensures across { result.left ≤ result.right }
         ensures upward { result.low ≤ result.high }
     {
-        let (extent, shift) = (self.extent, self.shift);
+        let extent = self.extent;
         Cover {
-            left: line(rect.x0 - extent.x0, shift, self.columns),
-            right: line(rect.x1 - extent.x0, shift, self.columns) + 1,
-            low: line(rect.y0 - extent.y0, shift, self.rows),
-            high: line(rect.y1 - extent.y0, shift, self.rows) + 1,
+            left: line(rect.x0 - extent.x0, self.wide, self.columns),
+            right: line(rect.x1 - extent.x0, self.wide, self.columns) + 1,
+            low: line(rect.y0 - extent.y0, self.high, self.rows),
+            high: line(rect.y1 - extent.y0, self.high, self.rows) + 1,
         }
     }
 

@@ -11,7 +11,6 @@ ghost use Rattle.segment_index.specs.Trees.{Gains, IsSame};
 use crate::bounds::joined;
 use crate::bucket::Bucket;
 use crate::entry::Entry;
-use crate::route::Window;
 use grid_geometry::{Rect, Seg};
 use std::alloc::{AllocError, Allocator, Global};
 use std::marker::Model;
@@ -59,30 +58,28 @@ impl<A: Allocator + Copy> Strip<A> {
         self.buckets.len()
     }
 
-    /// Puts a segment into the bucket of a row, on its way after so many steps.
+    /// Puts a segment into the bucket of a row.
     pub(crate) fn put(
         &mut self,
         row: usize,
         alloc: A,
         entry: &Entry,
-        depth: u32,
-        window: &Window,
     ) -> Result<(), AllocError>
         requires { row < length self.old }
         ensures put { OnOk result (ChangesAt row (Gains entry.now) self.old self.new) }
         ensures unchanged { OnErr result (ChangesAt row IsSame self.old self.new) }
     {
         self.bounds = joined(self.bounds, Some(entry.rect()));
-        self.buckets[row].put(alloc, entry, depth, window)
+        self.buckets[row].put(alloc, entry)
     }
 
     /// Takes a segment out of the bucket of a row, once, if it is there, and answers whether it was.
-    pub(crate) fn take_out(&mut self, row: usize, entry: &Entry, depth: u32) -> bool
+    pub(crate) fn take_out(&mut self, row: usize, entry: &Entry) -> bool
         requires { row < length self.old }
         ensures lost { ChangesAt row (Loses entry.now) self.old self.new }
         ensures found { result ≡ has (cell self.old row) entry.now }
     {
-        self.buckets[row].take_out(entry, depth)
+        self.buckets[row].take_out(entry)
     }
 
     /// Appends the segments of the buckets from a row up to below another whose box meets the asked

@@ -4,32 +4,32 @@ use Rattle.segment_index.specs.Bounds.{is_within}
 use Rattle.segment_index.specs.Candidates.{has}
 use Rattle.segment_index.specs.Trees.{listed}
 use Rattle.segment_index.proofs.Singles.{loses-none}
-use Rattle.segment_index.proofs.Branches.{lost-low, lost-high, lost-past_low, lost-past_high, has-apart}
+use Rattle.segment_index.proofs.Branches.{lost-left, lost-right, lost-past_left, lost-past_right, has-apart}
 use Rattle.segment_index.proofs.tree.+taking.Goals as goal
 
 pub Sides::take_out-returns-then-take_out-clause-lost : goal.Sides::take_out-returns-then-take_out-clause-lost
 Sides::take_out-returns-then-take_out-clause-lost g t c =
-    let l = listed c.args.self.now.low in
+    let l = listed c.args.self.now.along in
     let found : has l c.args.entry.now ≡ true = sym c.take_out.ensures.found ∙ c.if-take_out.true in
-    lost-low c.args.entry.now l (listed c.take_out.new.self) (listed c.args.self.now.high) found c.take_out.ensures.lost
+    lost-left c.args.entry.now l (listed c.take_out.new.self) (listed c.args.self.now.aside) found c.take_out.ensures.lost
 
 pub Sides::take_out-returns-else-take_out-clause-lost : goal.Sides::take_out-returns-else-take_out-clause-lost
 Sides::take_out-returns-else-take_out-clause-lost g t c =
-    let l = listed c.args.self.now.low in
+    let l = listed c.args.self.now.along in
     let out : has l c.args.entry.now ≡ false = sym c.take_out.ensures.found ∙ c.if-take_out.false in
-    lost-past_low c.args.entry.now l (listed c.take_out.new.self) (listed c.args.self.now.high) (listed c.take_out-else-take_out.new.self) out c.take_out.ensures.lost c.take_out-else-take_out.ensures.lost
+    lost-past_left c.args.entry.now l (listed c.take_out.new.self) (listed c.args.self.now.aside) (listed c.take_out-else-take_out.new.self) out c.take_out.ensures.lost c.take_out-else-take_out.ensures.lost
 
 pub Sides::take_out-returns-then-take_out-2-clause-lost : goal.Sides::take_out-returns-then-take_out-2-clause-lost
 Sides::take_out-returns-then-take_out-2-clause-lost g t c =
-    let r = listed c.args.self.now.high in
-    let found : has r c.args.entry.now ≡ true = sym c.take_out-else-goes_low.ensures.found ∙ c.if-take_out-2.true in
-    lost-high c.args.entry.now (listed c.args.self.now.low) r (listed c.take_out-else-goes_low.new.self) found c.take_out-else-goes_low.ensures.lost
+    let r = listed c.args.self.now.aside in
+    let found : has r c.args.entry.now ≡ true = sym c.take_out-else-goes_along.ensures.found ∙ c.if-take_out-2.true in
+    lost-right c.args.entry.now (listed c.args.self.now.along) r (listed c.take_out-else-goes_along.new.self) found c.take_out-else-goes_along.ensures.lost
 
 pub Sides::take_out-returns-else-take_out-2-clause-lost : goal.Sides::take_out-returns-else-take_out-2-clause-lost
 Sides::take_out-returns-else-take_out-2-clause-lost g t c =
-    let r = listed c.args.self.now.high in
-    let out : has r c.args.entry.now ≡ false = sym c.take_out-else-goes_low.ensures.found ∙ c.if-take_out-2.false in
-    lost-past_high c.args.entry.now (listed c.args.self.now.low) (listed c.take_out-else-take_out-2.new.self) r (listed c.take_out-else-goes_low.new.self) out c.take_out-else-take_out-2.ensures.lost c.take_out-else-goes_low.ensures.lost
+    let r = listed c.args.self.now.aside in
+    let out : has r c.args.entry.now ≡ false = sym c.take_out-else-goes_along.ensures.found ∙ c.if-take_out-2.false in
+    lost-past_right c.args.entry.now (listed c.args.self.now.along) (listed c.take_out-else-take_out-2.new.self) r (listed c.take_out-else-goes_along.new.self) out c.take_out-else-take_out-2.ensures.lost c.take_out-else-goes_along.ensures.lost
 
 pub Tree::take_out-returns-then-not-holds-clause-lost : goal.Tree::take_out-returns-then-not-holds-clause-lost
 Tree::take_out-returns-then-not-holds-clause-lost g t c =
@@ -46,13 +46,13 @@ Tree::take_out-returns-then-not-holds-clause-found g t c =
 pub Tree::take_out-returns-then-not-holds-2-clause-lost : goal.Tree::take_out-returns-then-not-holds-2-clause-lost
 Tree::take_out-returns-then-not-holds-2-clause-lost g t c =
     let b = rw c.in-Fork.is at c.requires in
-    let all = listed c.in-Fork.sides.value.low ++ listed c.in-Fork.sides.value.high in
+    let all = listed c.in-Fork.sides.value.along ++ listed c.in-Fork.sides.value.aside in
     let apart : is_within (box_of c.args.entry.now) c.in-Fork.bounds ≡ false = rw c.rect-in-Fork.ensures at (sym c.holds-in-Fork.ensures ∙ c.if-not-holds-2.true) in
     rw (c.in-Fork.is, c.deref_mut-sides.ensures.value) (loses-none all c.args.entry.now (has-apart c.in-Fork.bounds c.args.entry.now all b.0 apart))
 
 pub Tree::take_out-returns-then-not-holds-2-clause-found : goal.Tree::take_out-returns-then-not-holds-2-clause-found
 Tree::take_out-returns-then-not-holds-2-clause-found g t c =
     let b = rw c.in-Fork.is at c.requires in
-    let all = listed c.in-Fork.sides.value.low ++ listed c.in-Fork.sides.value.high in
+    let all = listed c.in-Fork.sides.value.along ++ listed c.in-Fork.sides.value.aside in
     let apart : is_within (box_of c.args.entry.now) c.in-Fork.bounds ≡ false = rw c.rect-in-Fork.ensures at (sym c.holds-in-Fork.ensures ∙ c.if-not-holds-2.true) in
     rw c.in-Fork.is (sym (has-apart c.in-Fork.bounds c.args.entry.now all b.0 apart))

@@ -2,7 +2,7 @@ use Rattle.std.proofs.Common.{◌≡◌, ◌∙◌}
 use Rattle.std.proofs.lemmas.List.{get_or_default}
 use Rattle.segment_index.specs.Cells.{column, every}
 use Rattle.segment_index.specs.Directories.{lines_in}
-use Rattle.segment_index.proofs.Branches.{gains-high, same-high}
+use Rattle.segment_index.proofs.Branches.{gains-right, same-right}
 use Rattle.segment_index.proofs.Homes.{home-put, gained-at_home, same-at_home}
 use Rattle.segment_index.proofs.Singles.{ok_then, err_then}
 use Rattle.segment_index.proofs.directory.Directory.put.Goals as goal
@@ -30,8 +30,8 @@ returns-in-Some-clause-unchanged g c =
 
 pub returns-in-None-clause-put : goal.returns-in-None-clause-put
 returns-in-None-clause-put g c =
-    rw (← c.self.view_is) (ok_then c.put-in-None.result (gains-high c.args.entry.now (every c.self.inside.strips.items) c.self.inside.rest c.put-in-None.new.self) c.put-in-None.ensures.put)
+    rw (← c.self.view_is) (ok_then c.put-in-None.result (gains-right c.args.entry.now (every c.self.inside.strips.items) c.self.inside.rest c.put-in-None.new.self) c.put-in-None.ensures.put)
 
 pub returns-in-None-clause-unchanged : goal.returns-in-None-clause-unchanged
 returns-in-None-clause-unchanged g c =
-    rw (← c.self.view_is) (err_then c.put-in-None.result (same-high (every c.self.inside.strips.items) c.self.inside.rest c.put-in-None.new.self) c.put-in-None.ensures.unchanged)
+    rw (← c.self.view_is) (err_then c.put-in-None.result (same-right (every c.self.inside.strips.items) c.self.inside.rest c.put-in-None.new.self) c.put-in-None.ensures.unchanged)
