@@ -6,7 +6,8 @@ use Rattle.grid_geometry.specs.Orientation.{orientation, is_on, are_split}
 use Rattle.grid_geometry.specs.Conflict.{cross, is_within, conflict}
 use Rattle.ring_machine.specs.Vertices.{put, del}
 use Rattle.ring_machine.proofs.Worked.{at, M}
-use Rattle.segment_index.specs.Frames.{Frame, line}
+use Rattle.segment_index.specs.Covers.{line}
+use Rattle.segment_index.specs.Frames.{Frame}
 use Rattle.segment_index.specs.Times.{times_by}
 use Rattle.local_planarity.specs.declared.leaving.Leaving.TheVariants.{Nothing, EndingAt, One}
 use Rattle.local_planarity.specs.Edits.{leaves}

@@ -30,7 +30,7 @@ use Rattle.segment_index.specs.Bounds.{box_around, is_within}
 use Rattle.segment_index.specs.Candidates.{SegmentSet, has, segment_is, set_of, times_in}
 use Rattle.segment_index.specs.Times.{times_by}
 use Rattle.segment_index.specs.Trees.{LieIn}
-use Rattle.segment_index.proofs.Branches.{gains-high, lie-more}
+use Rattle.segment_index.proofs.Branches.{gains-right, lie-more}
 use Rattle.segment_index.proofs.Singles.{contains-set_of, is-itself, times-push, times-some}
 use Rattle.local_planarity.specs.declared.leaving.Leaving.TheVariants.{EndingAt}
 use Rattle.local_planarity.specs.Edits.{AreApart, IsAfter, IsEnds, IsHeld, leaves, stays}
@@ -50,7 +50,7 @@ pub reach_more : (way : Segment) (ss : List Segment) (i : ℕ) (s : Segment) (r 
 reach_more way ss i s r k l here wide before =
     subst (λ z. LieIn z (way ∷ take (i + 1) ss)) (sym wide)
     (lie-more r s (way ∷ take i ss) (way ∷ take (i + 1) ss) before
-    (gains-high s (way ∷ []) (take i ss) (take (i + 1) ss)
+    (gains-right s (way ∷ []) (take i ss) (take (i + 1) ss)
     (λ t. ap (λ z. times_in z t) (take_more ss i s l ∙ ap (λ u. take i ss ++ u ∷ []) (sym here)) ∙ times-push (take i ss) s t)))
 
 -- what meets a stretch meets one around it

@@ -1,5 +1,4 @@
-use Rattle.segment_index.proofs.Meeting.{without_cells}
-use Rattle.segment_index.proofs.Standing.{ordered}
+use Rattle.segment_index.proofs.Sharing.{ordered, without_cells}
 use Rattle.segment_index.proofs.grid_index.GridIndexSegIndex.gives_once.Goals as goal
 
 pub returns-clause-no_less : goal.returns-clause-no_less

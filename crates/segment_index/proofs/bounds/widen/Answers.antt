@@ -1,6 +1,0 @@
-use Rattle.std.proofs.Common.{sym, ◌∙◌}
-use Rattle.segment_index.proofs.Branches.{around-within}
-use Rattle.segment_index.proofs.bounds.widen.Goals as goal
-
-pub returns-else-not-holds : goal.returns-else-not-holds
-returns-else-not-holds c = sym (around-within c.args.bounds.now c.args.rect (sym c.holds.ensures ∙ c.if-not-holds.false))

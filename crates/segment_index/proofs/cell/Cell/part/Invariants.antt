@@ -1,6 +1,0 @@
-use Rattle.std.proofs.Common.{◌++◌, take}
-use Rattle.segment_index.specs.Trees.{IsSame}
-use Rattle.segment_index.proofs.cell.Cell.part.Given as goal
-
-abbrev pub invariant-loop-t : goal.invariant-loop-t
-invariant-loop-t g l = IsSame (take l.t-index l.self) (l.along ++ l.aside)

@@ -1,6 +1,0 @@
-use Rattle.segment_index.proofs.Branches.{first-gained, lie-one}
-use Rattle.segment_index.proofs.tree.leaf_of.Goals as goal
-
-pub returns-clause-bounded : goal.returns-clause-bounded
-returns-clause-bounded g c =
-    rw c.rect.ensures (lie-one c.args.s c.put.new.self (first-gained c.args.s c.new-cell.result c.put.new.self c.new-cell.ensures c.in_ok-put.ensures.put))

@@ -1,0 +1,8 @@
+pub mod Singles
+pub mod Branches
+pub mod Gathering
+pub mod Lines
+pub mod Steps
+pub mod Sums
+mod Reaching
+mod Homes

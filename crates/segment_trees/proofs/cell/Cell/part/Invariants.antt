@@ -1,0 +1,6 @@
+use Rattle.std.proofs.Common.{◌++◌, take}
+use Rattle.segment_trees.specs.Trees.{IsSame}
+use Rattle.segment_trees.proofs.cell.Cell.part.Given as goal
+
+abbrev pub invariant-loop-t : goal.invariant-loop-t
+invariant-loop-t g l = IsSame (take l.t-index l.self) (l.along ++ l.aside)

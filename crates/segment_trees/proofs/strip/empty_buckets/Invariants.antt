@@ -1,0 +1,5 @@
+use Rattle.std.proofs.Common.{◌≡◌, [], replicate}
+use Rattle.segment_trees.proofs.strip.empty_buckets.Given as goal
+
+abbrev pub invariant-loop : goal.invariant-loop
+invariant-loop g l = l.buckets.items ≡ replicate l.counter []

@@ -1,0 +1,9 @@
+use Rattle.std.proofs.Common.{true, ◌-◌}
+use Rattle.segment_trees.specs.Candidates.{times_in}
+use Rattle.segment_trees.specs.Cells.{cell}
+use Rattle.segment_trees.specs.Gathers.{Gathers}
+use Rattle.segment_trees.specs.Covers.{counted}
+use Rattle.segment_trees.proofs.strip.gather_from.Given as goal
+
+abbrev pub invariant-loop-j : goal.invariant-loop-j
+invariant-loop-j g l = Gathers (λ t. counted (λ j. times_in (cell l.buckets.items j) t) l.low (l.j - l.low)) l.rect l.initial.out.items l.out.items true
