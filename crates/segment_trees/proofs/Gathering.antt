@@ -1,5 +1,5 @@
 -- Walks over cells, one after another.
-use Rattle.std.proofs.Common.{◌≡◌, ◌≤◌, ◌<◌, ◌+◌, ◌-◌, ℕ, zero, suc, append_assoc, take, Bool, true, false, cond, List, [], ◌∷◌, ◌++◌, refl, sym, ap, ◌∙◌, arith, Result, Ok, Err, OnOk, is_ok}
+use Rattle.std.proofs.Common.{◌≡◌, ◌≤◌, ◌<◌, ◌+◌, ◌-◌, ℕ, zero, suc, append_assoc, take, Bool, true, false, List, [], ◌∷◌, ◌++◌, refl, sym, ap, ◌∙◌, arith, Result, Ok, Err, OnOk, is_ok}
 use Rattle.grid_geometry.specs.Segment.{Segment, Box, box_of, boxes_meet}
 use Rattle.segment_trees.specs.Candidates.{segment_is, times_in}
 use Rattle.segment_trees.specs.Gathers.{meeting, Gathers}

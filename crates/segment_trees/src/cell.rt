@@ -127,11 +127,7 @@ impl<A: Allocator + Copy> Cell<A> {
     }
 
     /// Appends the segments whose box meets the asked one.
-    pub fn gather<B: Allocator>(
-        &self,
-        rect: Rect,
-        out: &mut Vec<Seg, B>,
-    ) -> Result<(), AllocError>
+    pub fn gather<B: Allocator>(&self, rect: Rect, out: &mut Vec<Seg, B>) -> Result<(), AllocError>
         ensures { Gathers (times_in self.now) rect out.old.items out.new.items (is_ok result) }
     {
         append_meeting(&self.items, rect, out)

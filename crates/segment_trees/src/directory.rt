@@ -18,7 +18,7 @@ use std::alloc::{AllocError, Allocator, Global};
 use std::marker::Model;
 
 /// For how many segments there is a cell where they lie evenly.
-const SHARE: usize = 2;
+const SHARE: usize = 4;
 
 /// Segments in the cells of a region, each in its home cell, and those that have none in a bucket
 /// beside them. It is seen as the list of all.
@@ -98,11 +98,7 @@ impl<A: Allocator + Copy> Directory<A> {
     }
 
     /// Appends the segments whose box meets the asked one.
-    pub fn gather<B: Allocator>(
-        &self,
-        rect: &Rect,
-        out: &mut Vec<Seg, B>,
-    ) -> Result<(), AllocError>
+    pub fn gather<B: Allocator>(&self, rect: &Rect, out: &mut Vec<Seg, B>) -> Result<(), AllocError>
         ensures { Gathers (times_in self.now) rect.now out.old.items out.new.items (is_ok result) }
     {
         gather_block(&self.strips, self.region.block(*rect), rect, out)?;

@@ -59,12 +59,7 @@ impl<A: Allocator + Copy> Strip<A> {
     }
 
     /// Puts a segment into the bucket of a row.
-    pub(crate) fn put(
-        &mut self,
-        row: usize,
-        alloc: A,
-        entry: &Entry,
-    ) -> Result<(), AllocError>
+    pub(crate) fn put(&mut self, row: usize, alloc: A, entry: &Entry) -> Result<(), AllocError>
         requires { row < length self.old }
         ensures put { OnOk result (ChangesAt row (Gains entry.now) self.old self.new) }
         ensures unchanged { OnErr result (ChangesAt row IsSame self.old self.new) }

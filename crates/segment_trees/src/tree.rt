@@ -172,7 +172,15 @@ impl<A: Allocator + Copy> Tree<A> {
         let leaf = leaf_of(alloc, entry.segment())?;
         let bounds = joined(self.bounds(), Some(entry.rect())).unwrap_or(entry.rect());
         let (along, aside) = (leaf, Tree::Empty);
-        let mut sides = Box::new(alloc, Sides { way, step, along, aside })?;
+        let mut sides = Box::new(
+            alloc,
+            Sides {
+                way,
+                step,
+                along,
+                aside,
+            },
+        )?;
         mem::swap(self, &mut sides.aside);
         *self = Tree::Fork(bounds, sides);
         Ok(())
@@ -258,7 +266,12 @@ impl<A: Allocator + Copy> Tree<A> {
                 let (way, step) = (sides.way, sides.step);
                 let along = sides.along.copy(alloc)?;
                 let aside = sides.aside.copy(alloc)?;
-                let sides = Sides { way, step, along, aside };
+                let sides = Sides {
+                    way,
+                    step,
+                    along,
+                    aside,
+                };
                 Ok(Tree::Fork(*bounds, Box::new(alloc, sides)?))
             }
         }
@@ -329,6 +342,11 @@ fn fork_of<A: Allocator + Copy>(
     let along = tree_of(along);
     let aside = tree_of(aside);
     let bounds = joined(along.bounds(), aside.bounds()).unwrap_or(entry.rect());
-    let sides = Sides { way, step, along, aside };
+    let sides = Sides {
+        way,
+        step,
+        along,
+        aside,
+    };
     Ok(Tree::Fork(bounds, Box::new(alloc, sides)?))
 }

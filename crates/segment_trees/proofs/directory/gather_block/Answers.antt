@@ -1,4 +1,4 @@
-use Rattle.std.proofs.Common.{rules, is_ok, false, true, arith, refl, ◌≡◌, ◌-◌}
+use Rattle.std.proofs.Common.{rules, is_ok, false, arith, refl, ◌≡◌, ◌-◌}
 use Rattle.segment_trees.specs.Candidates.{times_in}
 use Rattle.segment_trees.specs.Cells.{cell, column}
 use Rattle.segment_trees.specs.Covers.{counted}

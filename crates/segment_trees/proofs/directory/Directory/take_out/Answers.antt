@@ -1,4 +1,4 @@
-use Rattle.std.proofs.Common.{◌≡◌, ◌∙◌, true, false, sym, refl}
+use Rattle.std.proofs.Common.{◌≡◌, ◌∙◌, sym, refl}
 use Rattle.std.proofs.lemmas.List.{get_or_default}
 use Rattle.segment_trees.specs.Cells.{column}
 use Rattle.segment_trees.specs.Directories.{lines_in}

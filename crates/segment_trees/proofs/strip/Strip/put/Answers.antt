@@ -1,4 +1,4 @@
-use Rattle.std.proofs.Common.{rules, ◌≡◌, ◌<◌, length, ap, ◌∙◌, Some}
+use Rattle.std.proofs.Common.{◌≡◌, ◌<◌, length, ap, ◌∙◌, Some}
 use Rattle.std.proofs.lemmas.List.{get_or_default}
 use Rattle.grid_geometry.specs.Segment.{box_of}
 use Rattle.segment_trees.specs.Bounds.{joined}
