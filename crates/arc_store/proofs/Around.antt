@@ -1,11 +1,10 @@
 -- What stands around a vertex of a kept map: it is no junction where exactly two are joined to it.
-use Rattle.std.proofs.Common.{◌≡◌, ◌≢◌, ◌↔◌, ◌≤◌, ℕ, arith, length, ◌||◌, ◌&&◌, Bool, true}
-use Rattle.std.proofs.Common.{false, refl, sym, ap, ap₂, ◌∙◌, subst, List, [], ◌∷◌, ◌⊎◌, inl, inr}
-use Rattle.std.proofs.Common.{Some, None, is_some}
+use Rattle.std.proofs.Common.{◌≡◌, ◌≢◌, ◌↔◌, ◌≤◌, ℕ, arith, length, ◌||◌, ◌&&◌, true, false, refl, sym, ap, ap₂}
+use Rattle.std.proofs.Common.{◌∙◌, subst, List, [], ◌∷◌, ◌⊎◌, inl, inr, Some, None, is_some}
 use Rattle.std.proofs.lemmas.List.{length-map}
 use Rattle.std.specs.Prelude.{not}
 use Rattle.std.specs.FinMap as table
-use Rattle.std.proofs.lemmas.Bool.{false≢true}
+use Rattle.std.proofs.lemmas.Bool.{false≢true, true_from_ne_false, not-false}
 use Rattle.grid_geometry.specs.Position.{Position}
 use Rattle.grid_geometry.specs.Segment.{Segment, segment, segment_eq, is_end, IsSegment}
 use Rattle.grid_geometry.proofs.Conflicts.{segment-comm}
@@ -28,18 +27,15 @@ use Rattle.vertex_index.specs.Placement.{place}
 use Rattle.feature_exchange.specs.Stored.{Stored, positions_along, document_of}
 use Rattle.feature_exchange.specs.Holds.{IsWhole}
 use Rattle.ring_store.proofs.Places.{IsKept, place_is, place_kept, one_key}
-use Rattle.feature_exchange.proofs.Base.{joined_apart, Laid, begin_kept}
-use Rattle.feature_exchange.proofs.Base.{segment_between, joined_back}
-use Rattle.feature_exchange.proofs.Base.{key_vertex, document_ring, laid_ring, joined_at, joined_kept}
-use Rattle.feature_exchange.proofs.Base.{joined_around, joined_segment, joined_differ}
+use Rattle.feature_exchange.proofs.Base.{joined_apart, Laid, begin_kept, segment_between, joined_back, key_vertex}
+use Rattle.feature_exchange.proofs.Base.{document_ring, laid_ring, joined_at, joined_kept, joined_around}
+use Rattle.feature_exchange.proofs.Base.{joined_segment, joined_differ}
 use Rattle.feature_exchange.proofs.Ends.{two_positions, end_is, end_of_two}
 use Rattle.arc_store.proofs.Insertions.{AreRings, Comes, segments_come}
 use Rattle.ring_machine.proofs.Members.{any_in, in_mapped}
-use Rattle.ring_store.proofs.KeyRings.{length-canonical, times_edge, edge_times, edge_ends}
-use Rattle.ring_store.proofs.KeyRings.{in_canonical, of_canonical}
-use Rattle.arc_store.proofs.Removals.{segments_del, HasSides, begun_there, spot_is, spot_of}
-use Rattle.arc_store.proofs.Removals.{all_equal_in, no_junction, around_is, bridged_by}
-use Rattle.arc_store.proofs.Removals.{sweeps_by}
+use Rattle.ring_store.proofs.KeyRings.{length-canonical, times_edge, edge_times, edge_ends, in_canonical, of_canonical}
+use Rattle.arc_store.proofs.Removals.{segments_del, HasSides, begun_there, spot_is, spot_of, all_equal_in, no_junction}
+use Rattle.arc_store.proofs.Removals.{around_is, bridged_by, sweeps_by}
 use Rattle.arc_store.proofs.RingEdits.{BegunAt, edge_on, edge_back, sides_differ}
 
 -- ---- joined
@@ -222,10 +218,6 @@ module _ (s : Stored) (w : IsWhole s) (m : ℕ) (p : Position) (here : table.get
 
   -- ---- and only two
 
-  not_false : (b : Bool) → not b ≡ false → b ≡ true
-  not_false true h = refl
-  not_false false h = absurd (false≢true (sym h))
-
   pub single_two : is_junction (document_of s) p ≡ false → (j : ℕ) × (k : ℕ) × AreTwo s m j k
   single_two h =
       let u = joined_pair in
@@ -234,7 +226,7 @@ module _ (s : Stored) (w : IsWhole s) (m : ℕ) (p : Position) (here : table.get
       only : (u : Pair) (z : ℕ) → Joined s.rings m z → (z ≡ u.x) ⊎ (z ≡ u.y)
       only u z g =
           let a = joined_around s w m p here z g in
-          let same = all_equal_in (around (document_of s) p) (not_false (all_equal (around (document_of s) p)) h) a.0 (segment (place s.places u.x) (place s.places u.y)) a.1 u.around_it in
+          let same = all_equal_in (around (document_of s) p) (not-false (all_equal (around (document_of s) p)) h) a.0 (segment (place s.places u.x) (place s.places u.y)) a.1 u.around_it in
           let kept = (joined_kept s w m z g).1 in
           elim (end_of_two (place s.places z) (place s.places u.x) (place s.places u.y) (ap (is_end (place s.places z)) (sym same) ∙ end_is (place s.places z) a.0 a.2)) [
             | inl e ↦ inl (one_key s.places w.distinct z u.x kept (joined_kept s w m u.x u.joined_x).1 e)
@@ -243,7 +235,7 @@ module _ (s : Stored) (w : IsWhole s) (m : ℕ) (p : Position) (here : table.get
 
   -- and is one where there are more
   pub three_junction : Three s.rings m → is_junction (document_of s) p ≡ true
-  three_junction t = by (is_junction (document_of s) p) refl
+  three_junction t = true_from_ne_false _ (λ h. let u = single_two h in among u.0 u.1 u.2)
     where
       among : (j k : ℕ) → AreTwo s m j k → ⊥
       among j k two = pick ((two.1 t.a).0 t.joined.0) ((two.1 t.b).0 t.joined.1) ((two.1 t.c).0 t.joined.2)
@@ -255,10 +247,6 @@ module _ (s : Stored) (w : IsWhole s) (m : ℕ) (p : Position) (here : table.get
           pick (inl e) (inr f) (inr g) = t.apart.2 (f ∙ sym g)
           pick (inr e) (inl f) (inl g) = t.apart.2 (f ∙ sym g)
           pick (inr e) (inl f) (inr g) = t.apart.1 (e ∙ sym g)
-
-      by : (b : Bool) → is_junction (document_of s) p ≡ b → is_junction (document_of s) p ≡ true
-      by true h = h
-      by false h = let u = single_two h in absurd (among u.0 u.1 u.2)
 
   -- ---- by an answer on the neighbours
 

@@ -1,5 +1,5 @@
 -- What the tests of a split say of its refusals.
-use Rattle.std.proofs.Common.{◌≡◌, ℕ, Bool, true, false, refl, sym, ap, ap₂, ◌∙◌, subst, List, []}
+use Rattle.std.proofs.Common.{◌≡◌, ℕ, Bool, true, sym, ap, ap₂, ◌∙◌, subst, List, [], arith}
 use Rattle.std.proofs.Common.{◌∷◌, length, ◌||◌, ◌&&◌, Option, None}
 use Rattle.std.specs.Prelude.{not, nat_lt, nat_le}
 use Rattle.std.specs.List.{list_any}
@@ -13,9 +13,8 @@ use Rattle.ring_machine.specs.Document.{Document, Text}
 use Rattle.ring_machine.specs.Parts.{size, is_vertex, all_segments}
 use Rattle.ring_machine.specs.Planar.{least_conflict}
 use Rattle.ring_machine.specs.Cut.{Path, cut, is_cut_by, is_wrong_side, first_that}
-use Rattle.ring_machine.specs.Refusals.{first_of, conflict_of, planar, is_small, ◌unless◌}
-use Rattle.ring_machine.specs.Refusals.{feature_at, is_layer, positions_of, is_path_segment}
-use Rattle.ring_machine.specs.Refusals.{split_refusals}
+use Rattle.ring_machine.specs.Refusals.{first_of, conflict_of, planar, is_small, ◌unless◌, feature_at, is_layer}
+use Rattle.ring_machine.specs.Refusals.{positions_of, is_path_segment, split_refusals}
 use Rattle.ring_machine.proofs.SplitSegments.{path_segments}
 use Rattle.ring_machine.proofs.Steps.{first_pair-is}
 use Rattle.segment_index.specs.Candidates.{SegmentSet, has as among}
@@ -71,11 +70,7 @@ module _ (d : Document) (next n : ℕ) (id : Text) (path : Path) (a : IsCuttable
       → IsAfter held Nothing (path_segments path) (all_segments (cut d n id path next))
   split_after held indexed t =
       has-eq (all_segments (cut d n id path next)) t ∙ cut_segments d next n id path a t
-      ∙ ap₂ (λ y z. y || z) (sym (indexed t) ∙ kept (set.contains held t)) (sym (has-eq (path_segments path) t))
-    where
-      kept : (b : Bool) → b ≡ (b && true)
-      kept true = refl
-      kept false = refl
+      ∙ ap₂ (λ y z. y || z) (sym (indexed t) ∙ grind arith) (sym (has-eq (path_segments path) t))
 
   -- in the words of what was passed to the tests
   module _ (held : SegmentSet) (indexed : IsIndexed d held) (added : List Segment) (comes : added ≡ path_segments path) where

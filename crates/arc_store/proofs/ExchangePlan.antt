@@ -1,6 +1,5 @@
 -- The plan of an exchange: what is asked of the tables, and how many positions there are then.
-use Rattle.std.proofs.Common.{◌≡◌, ◌≤◌, ◌<◌, ◌+◌, ◌-◌, ℕ, true, sym, ap, ap₂, ◌∙◌, subst, arith}
-use Rattle.std.proofs.Common.{List, map, Option}
+use Rattle.std.proofs.Common.{◌≡◌, ◌≤◌, ◌<◌, ◌+◌, ◌-◌, ℕ, true, sym, ap, ap₂, ◌∙◌, subst, arith, List, map, Option}
 use Rattle.std.specs.Prelude.{IfSome}
 use Rattle.std.specs.List.{AllByRecursion}
 use Rattle.ring_machine.specs.Document.{Document}

@@ -1,6 +1,5 @@
 -- What is kept when features were exchanged.
-use Rattle.std.proofs.Common.{◌≡◌, ◌≤◌, ℕ, ◌+◌, refl, sym, ap, ◌∙◌, subst, Option, None, Some, is_some}
-use Rattle.std.proofs.Common.{length, arith}
+use Rattle.std.proofs.Common.{◌≡◌, ◌≤◌, ℕ, ◌+◌, refl, sym, ap, ◌∙◌, subst, Option, None, Some, is_some, length, arith}
 use Rattle.std.specs.List.{sum_by}
 use Rattle.ring_machine.specs.Document.{Document, Feature, Text}
 use Rattle.ring_machine.specs.Machine.{renamed}

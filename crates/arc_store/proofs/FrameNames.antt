@@ -1,6 +1,5 @@
 -- The rings of a frame by their names: each ring has a name, and no two have one.
-use Rattle.std.proofs.Common.{◌≡◌, ℕ, zero, suc, true, refl, sym, ap, ◌∙◌, subst, List, [], ◌∷◌, map}
-use Rattle.std.proofs.Common.{inl, inr, Some, option_map}
+use Rattle.std.proofs.Common.{◌≡◌, ℕ, zero, suc, true, refl, sym, ap, ◌∙◌, List, [], ◌∷◌, map, inl, Some, option_map}
 use Rattle.std.specs.Prelude.{◌==◌, slice_get}
 use Rattle.std.specs.List.{flat_map}
 use Rattle.ring_machine.specs.Document.{FeatureOf, DocumentOf}
@@ -12,10 +11,12 @@ use Rattle.ring_machine.proofs.Members.{in_flat}
 use Rattle.map_frame.specs.declared.names.RingName.{RingName}
 use Rattle.map_frame.specs.Named.{number_at}
 use Rattle.map_frame.specs.Readers.{element, ring_at}
-use Rattle.map_frame.proofs.EditedFeatures.{head_apart, tail_distinct, first_distinct}
+use Rattle.map_frame.proofs.EditedFeatures.{first_distinct}
 use Rattle.map_frame.proofs.NamedForgotten.{element_is}
 use Rattle.map_frame.proofs.NamedOnce.{same_some, in_part, one_part, found_at, ring_in, one_owner, rest_distinct}
 use Rattle.map_frame.proofs.ReadFeatures.{in_get}
+use Rattle.map_frame.proofs.NamedRoom.{of_in}
+use Rattle.ring_store.proofs.KeyedLists.{singles}
 
 -- a ring's number is one of the frame
 pub number_there : (d : DocumentOf ℕ) (name : RingName) (r : ℕ) → number_at d name ≡ Some r → In r (rings d)
@@ -27,9 +28,7 @@ number_there d name r e =
 -- ---- each ring has a name
 
 pub place_of : {X : Type 0} (xs : List X) (x : X) → In x xs → (i : ℕ) × (slice_get xs i ≡ Some x)
-place_of [] x i = absurd i
-place_of (y ∷ xs) x (inl e) = (0, ap (λ z. Some z) e)
-place_of (y ∷ xs) x (inr i) = let k = place_of xs x i in (suc k.0, k.1)
+place_of xs x i = of_in xs x i
 
 -- each ring of a feature
 pub ring_named : {R : Type 0} (d : DocumentOf R) → are_distinct (map (λ f. f.number) (features d)) ≡ true
@@ -64,13 +63,8 @@ part_distinct g (y ∷ xs) (suc i) x d e =
 
 one_place : (rs : List ℕ) → are_distinct rs ≡ true → (i j r : ℕ) → slice_get rs i ≡ Some r
     → slice_get rs j ≡ Some r → i ≡ j
-one_place [] d i j r e f = absurd cc
-one_place (x ∷ rs) d zero zero r e f = refl
-one_place (x ∷ rs) d zero (suc j) r e f =
-    absurd (head_apart x rs d (subst (λ z. In z rs) (sym (same_some x r e)) (in_get rs j r f)))
-one_place (x ∷ rs) d (suc i) zero r e f =
-    absurd (head_apart x rs d (subst (λ z. In z rs) (sym (same_some x r f)) (in_get rs i r e)))
-one_place (x ∷ rs) d (suc i) (suc j) r e f = ap suc (one_place rs (tail_distinct x rs d) i j r e f)
+one_place rs d i j r e f =
+    one_part (λ k. k ∷ []) rs (ap are_distinct (singles rs) ∙ d) i j r r r e f (inl refl) (inl refl)
 
 name_same : (a b : RingName) → a.feature ≡ b.feature → a.polygon ≡ b.polygon → a.ring ≡ b.ring → a ≡ b
 name_same a b e f h =

@@ -1,6 +1,5 @@
 -- What was read with rings of another kind, as a frame.
-use Rattle.std.proofs.Common.{◌≡◌, ℕ, zero, suc, ◌+◌, refl, sym, ap, ap₂, ◌∙◌, List, [], ◌∷◌, map}
-use Rattle.std.proofs.Common.{length, get_or}
+use Rattle.std.proofs.Common.{◌≡◌, ℕ, zero, suc, ◌+◌, refl, sym, ap, ap₂, ◌∙◌, List, [], ◌∷◌, map, length, get_or}
 use Rattle.std.proofs.lemmas.Option.{unwrap_or-slice_get}
 use Rattle.grid_geometry.specs.Position.{Position}
 use Rattle.ring_machine.specs.Document.{DocumentOf, Open, Close, Leaf, Kept}

@@ -1,6 +1,5 @@
 -- What an index that holds the segments of a document says of the document.
-use Rattle.std.proofs.Common.{◌≡◌, Bool, true, false, refl, sym, ap, ◌∙◌, subst, List, []}
-use Rattle.std.proofs.Common.{◌∷◌, ◌⊎◌, inl, inr, Option, None}
+use Rattle.std.proofs.Common.{◌≡◌, true, false, sym, ap, ◌∙◌, subst, List, [], ◌∷◌, ◌⊎◌, inl, inr, None}
 use Rattle.std.specs.FinSet as set
 use Rattle.grid_geometry.specs.Position.{Position}
 use Rattle.grid_geometry.specs.Segment.{Segment, segment_eq, segment_lt, is_end}
@@ -11,12 +10,10 @@ use Rattle.ring_machine.specs.Ring as machine
 use Rattle.ring_machine.specs.Ring.{segment_of, segments}
 use Rattle.ring_machine.specs.Document.{Document}
 use Rattle.ring_machine.specs.Parts.{rings, positions, is_vertex, is_segment, all_segments}
-use Rattle.ring_machine.specs.Planar.{Proper, first_pair, least_conflict, pair_lt}
+use Rattle.ring_machine.specs.Planar.{Proper, first_pair, least_conflict}
 use Rattle.ring_machine.proofs.Orders.{segment_ordered}
-use Rattle.ring_machine.proofs.First.{In, least_conflict_is}
-use Rattle.ring_machine.proofs.Local.{Bad, IsLeast}
-use Rattle.ring_machine.proofs.Neighbours.{in-map, in-flat_map, has-in, in-has, edge_in, first_end}
-use Rattle.ring_machine.proofs.Neighbours.{vertex_in}
+use Rattle.ring_machine.proofs.First.{In}
+use Rattle.ring_machine.proofs.Neighbours.{in-map, in-flat_map, has-in, in-has, edge_in, first_end, vertex_in}
 use Rattle.ring_machine.proofs.RingSegments.{segment_eq-true}
 use Rattle.ring_machine.proofs.StaysProper.{edges_start}
 use Rattle.segment_index.specs.Candidates.{SegmentSet, has}
@@ -25,6 +22,9 @@ use Rattle.feature_exchange.specs.Holds.{IsIndexed}
 use Rattle.ring_store.proofs.SegmentLists.{has-eq}
 use Rattle.ring_machine.proofs.Members.{in_mapped, in_flat, any_in, in_any, same_answer}
 use Rattle.feature_exchange.proofs.Ends.{end_is, end_of_two}
+use Rattle.ring_machine.proofs.Order.{refuted}
+use Rattle.std.proofs.lemmas.Bool.{false≢true}
+use Rattle.ring_machine.proofs.Fewer.{none_bad}
 
 -- ---- segments and vertices of a document
 
@@ -74,25 +74,12 @@ vertex_end d p h =
 
 -- ---- segments in conflict
 
-none_bad : (ss : List Segment) → least_conflict ss ≡ None
-    → (u : Segment × Segment) → Bad segment_lt conflict conflict-comm (λ s. In s ss) u → ⊥
-none_bad ss h = by (least_conflict ss) h (least_conflict_is ss)
-  where
-    by : (o : Option (Segment × Segment)) → o ≡ None
-        → IsLeast pair_lt (λ u. Bad segment_lt conflict conflict-comm (λ s. In s ss) u) o
-        → (u : Segment × Segment) → Bad segment_lt conflict conflict-comm (λ s. In s ss) u → ⊥
-    by o e l = subst (IsLeast pair_lt (λ u. Bad segment_lt conflict conflict-comm (λ s. In s ss) u)) e l
-
 pub none_conflict : (ss : List Segment) → least_conflict ss ≡ None → (s t : Segment) → In s ss
     → In t ss → conflict s t ≡ false
-none_conflict ss h s t i j = by (conflict s t) refl (segment_lt s t) refl (segment_lt t s) refl
-  where
-    by : (c : Bool) → conflict s t ≡ c → (a : Bool) → segment_lt s t ≡ a → (b : Bool)
-        → segment_lt t s ≡ b → conflict s t ≡ false
-    by false e a f b g = e
-    by true e true f b g = absurd (none_bad ss h (s, t) (record { order = f; left = i; right = j; meet = e }))
-    by true e false f true g = absurd (none_bad ss h (t, s) (record { order = g; left = j; right = i; meet = conflict-comm t s ∙ e }))
-    by true e false f false g = ap (conflict s) (sym (segment_ordered.total s t f g)) ∙ conflict-same s
+none_conflict ss h s t i j = refuted _ (λ e.
+    let f : segment_lt s t ≡ false = refuted _ (λ f. none_bad ss h (s, t) (record { order = f; left = i; right = j; meet = e })) in
+    let g : segment_lt t s ≡ false = refuted _ (λ g. none_bad ss h (t, s) (record { order = g; left = j; right = i; meet = conflict-comm t s ∙ e })) in
+    false≢true (sym (ap (conflict s) (sym (segment_ordered.total s t f g)) ∙ conflict-same s) ∙ e))
 
 -- ---- what the index says
 

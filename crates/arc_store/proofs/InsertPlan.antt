@@ -1,7 +1,6 @@
 -- The plan of an insertion between two vertices: what comes and goes, and what is kept.
-use Rattle.std.proofs.Common.{◌≡◌, ◌≤◌, ◌+◌, ℕ, Bool, true, false, refl, sym, ap, ap₂, ◌∙◌}
-use Rattle.std.proofs.Common.{subst, cond, List, [], ◌∷◌, ◌||◌, ◌&&◌, inl, inr, arith, Some}
-use Rattle.std.proofs.Common.{◌≢◌, Option, None}
+use Rattle.std.proofs.Common.{◌≡◌, ◌≤◌, ◌+◌, ℕ, true, false, sym, ap, ap₂, ◌∙◌, subst, List, [], ◌∷◌}
+use Rattle.std.proofs.Common.{◌||◌, ◌&&◌, inl, inr, arith, Some, ◌≢◌, Option, None}
 use Rattle.std.specs.Prelude.{not}
 use Rattle.std.specs.FinMap as table
 use Rattle.std.specs.FinSet as set
@@ -36,30 +35,22 @@ use Rattle.arc_store.proofs.Around.{come_over}
 use Rattle.feature_exchange.proofs.Base.{vertex_key}
 use Rattle.feature_exchange.proofs.Ends.{two_ends}
 use Rattle.arc_store.proofs.Indexed.{end_vertex}
-use Rattle.arc_store.proofs.Inserted.{Insertion, document_inserted, reindexed_inserted}
-use Rattle.arc_store.proofs.Inserted.{holds_inserted, size_inserted}
+use Rattle.arc_store.proofs.Inserted.{Insertion, document_inserted, reindexed_inserted, holds_inserted, size_inserted}
 use Rattle.arc_store.proofs.Insertions.{Comes}
 use Rattle.ring_machine.proofs.Members.{any_in}
 use Rattle.arc_store.proofs.RingUsers.{users_same}
+use Rattle.ring_machine.proofs.Order.{refuted}
 
 -- ---- lists of one and of two
 
 pub one_single : (x : Segment) → AreSingle (x ∷ [])
-one_single x t = by (segment_is t x)
-  where
-    by : (u : Bool) → cond u 1 0 + 0 ≤ 1
-    by true = omega arith
-    by false = omega arith
+one_single x t = grind arith
 
 pub two_single : (x y : Segment) → segment_eq x y ≡ false → AreSingle (x ∷ y ∷ [])
-two_single x y d t = by (segment_is t x) refl (segment_is t y) refl
+two_single x y d t = grind (arith, apart)
   where
-    by : (u : Bool) → segment_is t x ≡ u → (v : Bool) → segment_is t y ≡ v
-        → cond u 1 0 + (cond v 1 0 + 0) ≤ 1
-    by true e true f = absurd (false≢true (sym d ∙ ap₂ segment_eq (sym (same_segment t x e)) (sym (same_segment t y f)) ∙ segment_ordered.eq-refl t))
-    by true e false f = omega arith
-    by false e true f = omega arith
-    by false e false f = omega arith
+    apart : segment_is t x ≡ true → segment_is t y ≡ true → ⊥
+    apart e f = false≢true (sym d ∙ ap₂ segment_eq (sym (same_segment t x e)) (sym (same_segment t y f)) ∙ segment_ordered.eq-refl t)
 
 module _ {frame : Framed} {rings : Rings} {places : Placement} {held : SegmentSet} {positions : ℕ} (kept : IsKept frame rings places held positions)
     {l : ℕ} {cells : Option GridFrame} {o : Option Record} {now : State} (is : state_of frame rings places l cells o ≡ now)
@@ -85,17 +76,13 @@ module _ {frame : Framed} {rings : Rings} {places : Placement} {held : SegmentSe
 
   -- q is neither end
   pub insert_off : has (a ∷ b ∷ []) q ≡ false
-  insert_off = by (has (a ∷ b ∷ []) q) refl
+  insert_off = refuted _ (λ e. elim (has-in q (a ∷ b ∷ []) e) [
+    | inl m ↦ other a (end_vertex d a (segment a b) has_border (two_ends a b).0) m
+    | inr n ↦ elim n [ inl m ↦ other b (end_vertex d b (segment a b) has_border (two_ends a b).1) m | inr m ↦ m ]
+  ])
     where
       other : (x : Position) → is_vertex d x ≡ true → x ≡ q → ⊥
       other x v e = false≢true (sym is_free ∙ ap (is_vertex d) (sym e) ∙ v)
-
-      by : (c : Bool) → has (a ∷ b ∷ []) q ≡ c → has (a ∷ b ∷ []) q ≡ false
-      by false e = e
-      by true e = absurd (elim (has-in q (a ∷ b ∷ []) e) [
-        | inl m ↦ other a (end_vertex d a (segment a b) has_border (two_ends a b).0) m
-        | inr n ↦ elim n [ inl m ↦ other b (end_vertex d b (segment a b) has_border (two_ends a b).1) m | inr m ↦ m ]
-      ])
 
   -- the segments that come are new, and two
   module _ {after : List Segment} (comes : after ≡ spokes q (a ∷ b ∷ [])) where

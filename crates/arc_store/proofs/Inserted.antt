@@ -1,7 +1,6 @@
 -- What an insertion of a vertex does to a map that is kept.
-use Rattle.std.proofs.Common.{◌≡◌, ◌≢◌, ◌≤◌, ◌+◌, ℕ, Bool, true, false, refl, sym, ap, ap₂, ◌∙◌}
-use Rattle.std.proofs.Common.{subst, cond, List, [], ◌∷◌, map, length, ◌⊎◌, inl, inr, ◌&&◌, ◌||◌}
-use Rattle.std.proofs.Common.{arith, Some, None, is_some}
+use Rattle.std.proofs.Common.{◌≡◌, ◌≢◌, ◌≤◌, ◌+◌, ℕ, Bool, true, false, refl, sym, ap, ap₂, ◌∙◌, subst, cond, List, []}
+use Rattle.std.proofs.Common.{◌∷◌, map, length, ◌⊎◌, inl, inr, ◌&&◌, ◌||◌, arith, Some, None, is_some}
 use Rattle.std.specs.Prelude.{not, option_map, unwrap_or}
 use Rattle.std.specs.List.{list_any}
 use Rattle.std.specs.FinMap as table
@@ -22,7 +21,7 @@ use Rattle.ring_machine.proofs.Neighbours.{all_of, all_in, in-map, in-flat_map}
 use Rattle.ring_machine.proofs.RingSegments.{segment_eq-true}
 use Rattle.ring_machine.proofs.RingsOf.{rings-in_rings}
 use Rattle.ring_machine.proofs.StaysProper.{ins_is_proper}
-use Rattle.ring_machine.proofs.Order.{or_true}
+use Rattle.ring_machine.proofs.Order.{or_true, refuted}
 use Rattle.vertex_index.proofs.PlacementLemmas.{get-inserted}
 use Rattle.segment_index.specs.Candidates.{SegmentSet, has as among}
 use Rattle.arc_tables.specs.Ways.{Edge, is_seg}
@@ -34,7 +33,7 @@ use Rattle.feature_exchange.specs.Stored.{Stored, positions_along, ring_under, d
 use Rattle.ring_store.specs.Round.{GoesRound}
 use Rattle.feature_exchange.specs.Holds.{Visits, IsWhole, IsIndexed, Holds}
 use Rattle.ring_store.proofs.SegmentLists.{has-eq}
-use Rattle.ring_machine.proofs.Members.{contains_in, in_contains, in_mapped, in_flat}
+use Rattle.ring_machine.proofs.Members.{contains_in, in_contains, in_mapped, in_flat, is_some-mapped, mapped_there}
 use Rattle.arc_store.specs.Edits.{IsPlaceable}
 use Rattle.arc_store.proofs.Around.{segment_joined, come_over}
 use Rattle.arc_store.proofs.Insertions.{Comes, segments_ins}
@@ -42,10 +41,9 @@ use Rattle.arc_store.proofs.Numbers.{users_of, size_over}
 use Rattle.ring_store.proofs.Places.{IsKept, place_is, place_kept, one_key, place_alike, insert_other}
 use Rattle.feature_exchange.proofs.Base.{ring_under_is, begin_kept, framed, key_vertex}
 use Rattle.ring_store.proofs.KeyRings.{laid, edge_ends, ends_is_seg, times_edge}
-use Rattle.arc_store.proofs.KeyWays.{edited_along, edited_way, over_keeps, round_way, round_of_way}
-use Rattle.arc_store.proofs.KeyWays.{seg_same}
+use Rattle.arc_store.proofs.KeyWays.{edited_along, edited_way, over_keeps, round_way, round_of_way, seg_same}
 use Rattle.arc_store.proofs.RingEdits.{ring_pivot}
-use Rattle.ring_machine.proofs.Members.{is_some-mapped, mapped_there}
+use Rattle.arc_store.proofs.Moved.{inserted_distinct}
 
 -- ---- one ring
 
@@ -217,7 +215,7 @@ module _ (s : Stored) (after : Rings) (j k n : ℕ) (a b q : Position) (w : IsWh
           | inr m ↦ subst (IsKept next.places) (sym m) (place_kept next.places n q (get-inserted s.places n q))
         ];
     passed = λ x h. passed_by x h (ℕ_discrete x n);
-    distinct = λ x y p e f. same_key x y p e f (ℕ_discrete x n) (ℕ_discrete y n);
+    distinct = inserted_distinct s.places n q w.distinct (λ y e. false≢true (sym i.may.free ∙ key_vertex s w y q e));
   }
     where
       passed_by : (x : ℕ) → IsKept next.places x → Dec (x ≡ n) → (r : ℕ) × Visits next r x
@@ -225,16 +223,6 @@ module _ (s : Stored) (after : Rings) (j k n : ℕ) (a b q : Position) (w : IsWh
       passed_by x h (no f) =
           let v = w.passed x (sym (ap is_some (insert_other s.places n q x f)) ∙ h) in
           (v.0, (through j k n v.1.0, edges_after v.0 v.1.0 v.1.1, in_contains (begins (through j k n v.1.0)) x (begins_stay j k n v.1.0 x (contains_in (begins v.1.0) x v.1.2))))
-
-      not_there : (y : ℕ) → y ≢ n → table.get next.places y ≡ Some q → ⊥
-      not_there y f e = false≢true (sym i.may.free ∙ key_vertex s w y q (sym (insert_other s.places n q y f) ∙ e))
-
-      same_key : (x y : ℕ) (p : Position) → table.get next.places x ≡ Some p
-          → table.get next.places y ≡ Some p → Dec (x ≡ n) → Dec (y ≡ n) → x ≡ y
-      same_key x y p e f (yes u) (yes v) = u ∙ sym v
-      same_key x y p e f (yes u) (no v) = absurd (not_there y v (f ∙ sym e ∙ ap (table.get next.places) u ∙ get-inserted s.places n q))
-      same_key x y p e f (no u) (yes v) = absurd (not_there x u (e ∙ sym f ∙ ap (table.get next.places) v ∙ get-inserted s.places n q))
-      same_key x y p e f (no u) (no v) = w.distinct x y p (sym (insert_other s.places n q x u) ∙ e) (sym (insert_other s.places n q y v) ∙ f)
 
   -- ---- segments and size
 
@@ -267,26 +255,20 @@ module _ (s : Stored) (after : Rings) (j k n : ℕ) (a b q : Position) (w : IsWh
     where
       by : (was comes goes : Bool) → (comes ≡ true → goes ≡ false)
           → ((was || comes) && not (goes || false)) ≡ ((was && not goes) || comes)
-      by was true true f = absurd (false≢true (sym (f refl)))
-      by was true false f = grind arith
-      by was false goes f = grind arith
+      by was comes goes f = grind arith
 
       -- what comes in is not the segment of a and b
       apart_from_it : list_any (segment_eq t) (segment a q ∷ segment q b ∷ []) ≡ true → segment_eq t (segment a b) ≡ false
-      apart_from_it u = on (segment_eq t (segment a b)) refl
+      apart_from_it u = refuted _ (λ v. elim (or_true (segment_eq t (segment a q)) (segment_eq t (segment q b) || false) u) [
+        | inl k' ↦ new (segment a q) come_inserted.first_new (segment_eq-true t (segment a q) k') v
+        | inr k' ↦ elim (or_true (segment_eq t (segment q b)) false k') [
+          | inl l ↦ new (segment q b) come_inserted.second_new (segment_eq-true t (segment q b) l) v
+          | inr l ↦ false≢true l
+        ]
+      ])
         where
           new : (z : Segment) → is_segment (document_of s) z ≡ false → t ≡ z → segment_eq t (segment a b) ≡ true → ⊥
           new z n e v = false≢true (sym n ∙ ap (is_segment (document_of s)) (sym e ∙ segment_eq-true t (segment a b) v) ∙ i.may.border)
-
-          on : (y : Bool) → segment_eq t (segment a b) ≡ y → segment_eq t (segment a b) ≡ false
-          on false v = v
-          on true v = absurd (elim (or_true (segment_eq t (segment a q)) (segment_eq t (segment q b) || false) u) [
-            | inl k' ↦ new (segment a q) come_inserted.first_new (segment_eq-true t (segment a q) k') v
-            | inr k' ↦ elim (or_true (segment_eq t (segment q b)) false k') [
-              | inl l ↦ new (segment q b) come_inserted.second_new (segment_eq-true t (segment q b) l) v
-              | inr l ↦ false≢true l
-            ]
-          ])
 
 -- the map with the new vertex is held again, where the index has its segments
 pub holds_inserted : (s : Stored) (held held' : SegmentSet) (after : Rings) (j k n : ℕ) (a b q : Position)

@@ -1,5 +1,5 @@
 -- What an insertion of a position makes of the segments and the size of a document.
-use Rattle.std.proofs.Common.{◌≡◌, ◌≢◌, ◌+◌, Bool, true, false, refl, sym, ap, ap₂, ◌∙◌, subst}
+use Rattle.std.proofs.Common.{◌≡◌, ◌≢◌, ◌+◌, Bool, true, false, refl, sym, ap, ap₂, ◌∙◌}
 use Rattle.std.proofs.Common.{cond, List, [], ◌∷◌, map, length, ◌⊎◌, inl, inr, ◌&&◌, ◌||◌, arith}
 use Rattle.std.specs.Prelude.{not}
 use Rattle.std.specs.List.{flat_map, list_any, filter, sum_by}
@@ -11,16 +11,13 @@ use Rattle.grid_geometry.specs.Segment.{Segment, segment, segment_eq, is_end, Is
 use Rattle.grid_geometry.specs.Ring.{Edge, edges}
 use Rattle.grid_geometry.proofs.Conflicts.{segment-comm}
 use Rattle.ring_machine.specs.Ring.{is_ring, canonical, segment_of, segments}
-use Rattle.ring_machine.specs.Arcs.{Chain}
 use Rattle.ring_machine.specs.Document.{Document}
 use Rattle.ring_machine.specs.Parts.{rings, size, is_vertex, is_segment}
 use Rattle.ring_machine.specs.Vertices.{ins, ins_ring}
 use Rattle.ring_machine.proofs.Arcs.{g_ins, ins_is, ins-keeps, is_of}
-use Rattle.ring_machine.proofs.Edges.{starts, starts_of, by_edges, edges_is, edges_to, closed}
-use Rattle.ring_machine.proofs.Edges.{edited_chain, starts-flat_map}
+use Rattle.ring_machine.proofs.Edges.{starts, starts_of, by_edges, closed, edited_chain, starts-flat_map}
 use Rattle.ring_machine.proofs.First.{In}
-use Rattle.ring_machine.proofs.RingSegments.{segment_eq-true, segment_eq-sym, same_ends}
-use Rattle.ring_machine.proofs.RingSegments.{ring_once}
+use Rattle.ring_machine.proofs.RingSegments.{segment_eq-true, segment_eq-sym, same_ends, ring_once}
 use Rattle.ring_machine.proofs.RingsOf.{rings-in_rings}
 use Rattle.ring_machine.proofs.StaysProper.{ring_distinct, edges_start}
 use Rattle.ring_machine.proofs.StaysRing.{AtMostOne}
@@ -30,7 +27,10 @@ use Rattle.feature_exchange.proofs.Ends.{two_positions, two_ends, end_of_two}
 use Rattle.arc_store.proofs.Indexed.{end_vertex}
 use Rattle.ring_machine.proofs.Members.{any_alike}
 use Rattle.ring_store.proofs.KeyRings.{length-canonical}
-use Rattle.arc_store.proofs.RingEdits.{edges_turned, canonical_rotated}
+use Rattle.arc_store.proofs.RingEdits.{edges_turned}
+use Rattle.ring_machine.proofs.Order.{refuted}
+use Rattle.ring_machine.proofs.CutRings.{canonical_turns}
+use Rattle.ring_machine.proofs.Cycles.{ring_chain}
 
 -- ---- the segments of a ring
 
@@ -59,13 +59,6 @@ is_segment_by d t = any_flat segments (segment_eq t) (rings d)
 
 -- ---- one ring
 
-chain_to : (p : Position) (ps : List Position) (q : Position) → Chain p (edges_to q (p ∷ ps)) q
-chain_to p [] q = (refl, refl)
-chain_to p (r ∷ ps) q = (refl, chain_to r ps q)
-
-pub ring_chain : (p : Position) (ps : List Position) → Chain p (edges (p ∷ ps)) p
-ring_chain p ps = subst (λ z. Chain p z p) (sym (edges_is p ps)) (chain_to p ps p)
-
 abbrev led : Segment → Position → List Edge → List Edge
 led s q es = flat_map (g_ins s q) es
 
@@ -76,7 +69,7 @@ led_edges test a b q p ps =
     let es = edges (p ∷ ps) in
     let by = by_edges (starts_of (g_ins (segment a b) q)) (p ∷ ps) in
     ap (λ z. list_any test (edges z)) (sym (ins_is a b q (p ∷ ps)))
-    ∙ sym (edges_turned test by (canonical by) (canonical_rotated by))
+    ∙ sym (edges_turned test by (canonical by) (canonical_turns by))
     ∙ ap (λ z. list_any test (edges z)) (sym (starts-flat_map (g_ins (segment a b) q) es))
     ∙ ap (list_any test) (closed p (led (segment a b) q es) (edited_chain (g_ins (segment a b) q) (λ w. w) (ins-keeps (segment a b) q) p es p (ring_chain p ps)))
 
@@ -114,10 +107,7 @@ led_segments a b q t (e ∷ es) =
 
     of_other : (u v z w c : Bool) → (u ≡ true → z ≡ false)
         → ((u || false) || ((v && not z) || (w && c))) ≡ (((u || v) && not z) || (w && c))
-    of_other true v true w c f = absurd (false≢true (sym (f refl)))
-    of_other true true false w c f = refl
-    of_other true false false w c f = refl
-    of_other false v z w c f = refl
+    of_other u v z w c f = grind arith
 
     by : (x : Bool) → is_of (segment a b) e ≡ x
         → (list_any (is_of t) (cond x ((e.0, q) ∷ (q, e.1) ∷ []) (e ∷ [])) || ((list_any (is_of t) es && not (segment_eq t (segment a b))) || (list_any (is_of (segment a b)) es && list_any (segment_eq t) (segment a q ∷ segment q b ∷ []))))
@@ -179,11 +169,7 @@ vertex_differs d a q h k e = false≢true (sym k ∙ ap (is_vertex d) (sym e) �
 -- what ends at no vertex is no segment
 pub not_segment : (d : Document) (q : Position) (t : Segment) → is_vertex d q ≡ false → is_end q t ≡ true
     → is_segment d t ≡ false
-not_segment d q t k e = by (is_segment d t) refl
-  where
-    by : (x : Bool) → is_segment d t ≡ x → is_segment d t ≡ false
-    by false h = h
-    by true h = absurd (false≢true (sym k ∙ end_vertex d q t h e))
+not_segment d q t k e = refuted _ (λ h. false≢true (sym k ∙ end_vertex d q t h e))
 
 -- the two that come in are segments, are two, and are new
 pub record Comes (d : Document) (s t : Segment) : Type 0 where
@@ -202,17 +188,13 @@ segments_come d a b q apart border free =
     record {
       first = two_positions a q a_differs;
       second = two_positions q b (λ e. b_differs (sym e));
-      two = by (segment_eq (segment a q) (segment q b)) refl;
+      two = refuted _ (λ h. elim (end_of_two a q b (ap (is_end a) (sym (segment_eq-true (segment a q) (segment q b) h)) ∙ (two_ends a q).0)) [
+        | inl e ↦ a_differs e
+        | inr e ↦ apart e
+      ]);
       first_new = not_segment d q (segment a q) free (two_ends a q).1;
       second_new = not_segment d q (segment q b) free (two_ends q b).0;
     }
-  where
-    by : (x : Bool) → segment_eq (segment a q) (segment q b) ≡ x → segment_eq (segment a q) (segment q b) ≡ false
-    by false h = h
-    by true h = absurd (elim (end_of_two a q b (ap (is_end a) (sym (segment_eq-true (segment a q) (segment q b) h)) ∙ (two_ends a q).0)) [
-      | inl e ↦ vertex_differs d a q (border_ends d a b border).0 free e
-      | inr e ↦ apart e
-    ])
 
 -- ---- the size
 
@@ -220,18 +202,14 @@ length_led : (s : Segment) (q x : Position) (es : List Edge) → AtMostOne (is_o
     → length (flat_map (starts_of (g_ins s q)) es) ≡ length es + one (list_any (is_of s) es)
 length_led s q x [] h = omega arith
 length_led s q x (e ∷ es) h =
-    omega (arith, length-append (starts_of (g_ins s q) e) (flat_map (starts_of (g_ins s q)) es), length_led s q x es h.1, by (is_of s e) refl)
+    omega (arith, length-append (starts_of (g_ins s q) e) (flat_map (starts_of (g_ins s q)) es), length_led s q x es h.1, by (is_of s e) h.0)
   where
-    by : (t : Bool) → is_of s e ≡ t
+    by : (t : Bool) → (t ≡ true → list_any (is_of s) es ≡ false)
         → length (starts (cond t ((e.0, q) ∷ (q, e.1) ∷ []) (e ∷ []))) + one (list_any (is_of s) es) ≡ 1 + one (t || list_any (is_of s) es)
-    by true u = omega (arith, ap one (h.0 u))
-    by false u = omega arith
+    by t u = grind arith
 
 pub length_inserted : (a b q : Position) (ring : List Position) → is_ring ring ≡ true
     → length (ins_ring a b q ring) ≡ length ring + one (has_segment (segment a b) ring)
-length_inserted a b q [] h = absurd (false≢true h)
-length_inserted a b q (x ∷ []) h = absurd (false≢true h)
-length_inserted a b q (x ∷ y ∷ []) h = absurd (false≢true h)
 length_inserted a b q (x ∷ y ∷ z ∷ ps) h =
     let ring = x ∷ y ∷ z ∷ ps in
     let s = segment a b in
@@ -244,6 +222,7 @@ length_inserted a b q (x ∷ y ∷ z ∷ ps) h =
       length-map (edges ring) (λ e. e.0),
       ap length (edges_start x (y ∷ z ∷ ps)),
     )
+length_inserted a b q _ h = absurd (false≢true h)
 
 -- every ring of the document is a ring
 abbrev pub AreRings : Document → Type 0

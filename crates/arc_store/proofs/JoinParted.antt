@@ -1,6 +1,6 @@
 -- Two features joined, as rings that come in the place of the first one's polygon: the document, its
 -- rings and its size.
-use Rattle.std.proofs.Common.{◌≡◌, ◌≤◌, ℕ, ◌+◌, Bool, true, false, refl, sym, ap, ap₂, ◌∙◌, cond}
+use Rattle.std.proofs.Common.{◌≡◌, ◌≤◌, ℕ, ◌+◌, Bool, false, sym, ap, ap₂, ◌∙◌, cond}
 use Rattle.std.proofs.Common.{List, [], ◌∷◌, ◌++◌, map, length, reverse, take, drop, Some, None, arith}
 use Rattle.std.specs.Prelude.{◌==◌, not}
 use Rattle.std.specs.List.{flat_map, filter, sum_by, prefix_len}
@@ -20,28 +20,20 @@ use Rattle.ring_machine.proofs.Found.{feature_stands}
 use Rattle.ring_machine.proofs.MergeAccepted.{MergeAccepted}
 use Rattle.ring_machine.proofs.OtherRings.{join_order}
 use Rattle.ring_machine.proofs.StaysFormed.{formed-take_out}
-use Rattle.ring_machine.proofs.StaysProper.{edges_start}
 use Rattle.ring_machine.proofs.Without.{feature-take_out_other, size-take_out_at, size-instead_at}
 use Rattle.ring_store.proofs.KeyRings.{length-canonical}
 use Rattle.edit_records.specs.Places.{LayerTree, Fills, AreFormed, exchanged}
 use Rattle.edit_records.proofs.ExchangesMade.{join-made, feature-own}
 use Rattle.map_frame.specs.Texts.{texts_of, with_texts}
 use Rattle.arc_store.specs.Exchanged.{with_polygons}
+use Rattle.ring_machine.proofs.Order.{refuted}
+use Rattle.ring_machine.proofs.Cycles.{length_edges}
 
 -- ---- how long a joined ring is
 
 fewer : {A : Type 0} (test : A → Bool) (xs : List A) → length (filter test xs) ≤ length xs
 fewer test [] = omega arith
-fewer test (x ∷ xs) = by (test x) (fewer test xs)
-  where
-    by : (b : Bool) → length (filter test xs) ≤ length xs
-        → length (cond b (x ∷ filter test xs) (filter test xs)) ≤ length (x ∷ xs)
-    by true h = omega (arith, h)
-    by false h = omega (arith, h)
-
-length-edges : (ring : List Position) → length (edges ring) ≡ length ring
-length-edges [] = refl
-length-edges (p ∷ ps) = sym (length-map (edges (p ∷ ps)) (λ e. e.0)) ∙ ap length (edges_start p ps)
+fewer test (x ∷ xs) = grind (arith, fewer test xs)
 
 rest_short : (common : Edge → Bool) (ring : List Position)
     → length (off_run common (edges ring)) ≤ length ring
@@ -54,7 +46,7 @@ rest_short common ring =
       length-append (drop k (edges ring)) (take k (edges ring)),
       length-append (take k (edges ring)) (drop k (edges ring)),
       ap length (take-append-drop k (edges ring)),
-      length-edges ring,
+      length_edges ring,
     )
 
 -- what is left of both rings, the second one turned or not
@@ -75,20 +67,12 @@ rests_short r s other e = omega (
 
 -- no longer than both rings
 joined_short : (r s : List Position) → length (joined r s) ≤ length r + length s
-joined_short r s = by (passed_alike r s)
-  where
-    by : (b : Bool) → length (canonical (map (λ e. e.0) (rests r s (cond b (reverse s) s)))) ≤ length r + length s
-    by true = rests_short r s (reverse s) (length-reverse s)
-    by false = rests_short r s s refl
+joined_short r s = rests_short r s (cond (passed_alike r s) (reverse s) s) (grind (arith, length-reverse s))
 
 -- ---- the document
 
 pub differ : (a b : ℕ) → (a == b) ≡ false → (b == a) ≡ false
-differ a b h = by (b == a) refl
-  where
-    by : (c : Bool) → (b == a) ≡ c → (b == a) ≡ false
-    by false e = e
-    by true e = absurd (eqb-false a b h (sym (eqb-true b a e)))
+differ a b h = refuted _ (λ e. eqb-false a b h (sym (eqb-true b a e)))
 
 module _ (d : Document) (n m : ℕ) (formed : WellFormed d) (a : MergeAccepted d n m) where
   abbrev pub merged : List (List Position)

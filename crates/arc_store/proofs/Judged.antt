@@ -9,13 +9,11 @@ use Rattle.grid_geometry.specs.Position.{Position}
 use Rattle.grid_geometry.specs.Segment.{Segment, segment, segment_eq}
 use Rattle.grid_geometry.proofs.Conflicts.{segment-comm}
 use Rattle.ring_machine.specs.Ring as machine
-use Rattle.ring_machine.specs.Command.{Refusal, NoSegment, Occupied, TooLarge}
-use Rattle.ring_machine.specs.Command.{Sweeps}
+use Rattle.ring_machine.specs.Command.{Refusal, NoSegment, Occupied, TooLarge, Sweeps}
 use Rattle.ring_machine.specs.Document.{Document}
 use Rattle.ring_machine.specs.Parts.{positions, size, is_vertex, all_segments}
 use Rattle.ring_machine.specs.Planar.{first_pair, least_conflict}
-use Rattle.ring_machine.specs.Refusals.{first_of, conflict_of, planar, is_small}
-use Rattle.ring_machine.specs.Refusals.{◌unless◌, insert_refusals}
+use Rattle.ring_machine.specs.Refusals.{first_of, conflict_of, planar, is_small, ◌unless◌, insert_refusals}
 use Rattle.ring_machine.specs.Sweep.{insert_sweeps}
 use Rattle.ring_machine.specs.Vertices.{ins}
 use Rattle.segment_index.specs.Candidates.{SegmentSet, has as among}

@@ -1,20 +1,14 @@
 -- Rings of keys: their edges are a closed way, and an edit of the edges is one of the positions.
 use Rattle.std.proofs.Common.{◌≡◌, ◌≤◌, ℕ, Bool, true, false, refl, sym, ap, ap₂, ◌∙◌, subst, cond}
-use Rattle.std.proofs.Common.{List, [], ◌∷◌, ◌++◌, map, length, inl, inr, ◌&&◌, ◌||◌, arith}
-use Rattle.std.specs.Prelude.{◌==◌, not}
-use Rattle.std.specs.List.{flat_map, list_any}
+use Rattle.std.proofs.Common.{List, [], ◌∷◌, ◌++◌, map, length, inl, inr, arith}
+use Rattle.std.specs.List.{flat_map}
 use Rattle.std.proofs.lemmas.List.{map-append, length-map}
-use Rattle.std.proofs.lemmas.Bool.{false≢true}
-use Rattle.std.proofs.lemmas.Bool.Decides.{Decides-eqb}
-use Rattle.grid_geometry.specs.Position.{Position, position_eq}
+use Rattle.grid_geometry.specs.Position.{Position}
 use Rattle.grid_geometry.specs.Segment.{segment, segment_eq}
 use Rattle.grid_geometry.specs.Ring.{Edge as Side}
 use Rattle.grid_geometry.proofs.Conflicts.{segment-comm}
-use Rattle.ring_machine.specs.Ring.{has, is_distinct, is_ring, canonical}
-use Rattle.ring_machine.specs.WellFormed.{are_distinct}
+use Rattle.ring_machine.specs.Ring.{is_ring, canonical}
 use Rattle.ring_machine.proofs.Orders.{segment_ordered}
-use Rattle.ring_machine.proofs.Order.{position_eq-refl, and_both, or_true, or_right}
-use Rattle.ring_machine.proofs.Removal.{not_true}
 use Rattle.ring_machine.proofs.RingSegments.{same_ends, segment_eq-true}
 use Rattle.ring_machine.proofs.First.{In}
 use Rattle.ring_machine.proofs.Canonical.{Pivot}
@@ -27,6 +21,8 @@ use Rattle.ring_store.specs.Round.{GoesRound}
 use Rattle.arc_store.proofs.RingEdits.{distinct_turned}
 use Rattle.ring_machine.proofs.Members.{same_answer}
 use Rattle.ring_store.proofs.KeyRings.{length-canonical, laid, edges_round, is_seg_ends, ends_is_seg}
+use Rattle.arc_tables.proofs.Removing.{onto_p, onto_b}
+use Rattle.ring_store.proofs.Places.{keys_distinct}
 
 -- ---- ways
 
@@ -65,28 +61,21 @@ edited_way g to h k (e ∷ es) l w =
     (subst (λ z. Way (to z) (g e) (to e.1)) w.0 (h e)) (edited_way g to h e.1 es l w.1)
 
 pub over_keeps : (a b q : ℕ) (e : Edge) → Way e.0 (over a b q e) e.1
-over_keeps a b q e = by (is_seg a b e)
-  where
-    by : (t : Bool) → Way e.0 (cond t ((e.0, q) ∷ (q, e.1) ∷ []) (e ∷ [])) e.1
-    by true = (refl, (refl, refl))
-    by false = (refl, refl)
+over_keeps a b q e = grind arith
+
+-- where an edge goes, both of its keys come to be one
+pub meets_onto : (m k : ℕ) (e : Edge) → is_seg m k e ≡ true → onto m k e.0 ≡ onto m k e.1
+meets_onto m k e h = elim (is_seg_ends m k e h) [
+  | inl i ↦ onto_p m k e.0 i.0 ∙ sym (ap (onto m k) i.1 ∙ onto_b m k)
+  | inr i ↦ ap (onto m k) i.0 ∙ onto_b m k ∙ sym (onto_p m k e.1 i.1)
+]
 
 pub drawn_keeps : (p b : ℕ) (e : Edge) → Way (onto p b e.0) (drawn p b e) (onto p b e.1)
 drawn_keeps p b e = by (is_seg p b e) refl
   where
-    moved : onto p b p ≡ b
-    moved = ap (λ t. cond t b p) ((Decides-eqb p p).1 refl)
-
-    stays : (t : Bool) → cond t b b ≡ b
-    stays true = refl
-    stays false = refl
-
     by : (t : Bool) → is_seg p b e ≡ t
         → Way (onto p b e.0) (cond t [] ((onto p b e.0, onto p b e.1) ∷ [])) (onto p b e.1)
-    by true h = elim (is_seg_ends p b e h) [
-      | inl i ↦ ap (onto p b) i.0 ∙ moved ∙ sym (ap (onto p b) i.1 ∙ stays (b == p))
-      | inr i ↦ ap (onto p b) i.0 ∙ stays (b == p) ∙ sym (ap (onto p b) i.1 ∙ moved)
-    ]
+    by true h = meets_onto p b e h
     by false h = (refl, refl)
 
 -- the edges of a ring are a closed way
@@ -96,29 +85,6 @@ round_way es g = by g.keys g.long g.along
     by : (ks : List ℕ) → 3 ≤ length ks → es ≡ edges ks → (k : ℕ) × Way k es k
     by [] l e = absurd (omega arith)
     by (k ∷ ks) l e = (k, subst (λ z. Way k z k) (sym e) (way_of_edges k ks))
-
--- ---- distinct keys
-
-key_here : (at : ℕ → Position) (k : ℕ) (ks : List ℕ) → list_any (λ m. m == k) ks ≡ true
-    → has (map at ks) (at k) ≡ true
-key_here at k [] h = absurd (false≢true h)
-key_here at k (m ∷ ks) h = elim (or_true (m == k) (list_any (λ m. m == k) ks) h) [
-  | inl i ↦ ap (λ t. t || has (map at ks) (at k)) (ap (λ z. position_eq (at k) (at z)) ((Decides-eqb m k).0 i) ∙ position_eq-refl (at k))
-  | inr i ↦ or_right (position_eq (at k) (at m)) _ (key_here at k ks i)
-]
-
--- keys of distinct positions are distinct
-pub distinct_keys : (at : ℕ → Position) (ks : List ℕ) → is_distinct (map at ks) ≡ true
-    → are_distinct ks ≡ true
-distinct_keys at [] h = refl
-distinct_keys at (k ∷ ks) h =
-    let both = and_both (not (has (map at ks) (at k))) (is_distinct (map at ks)) h in
-    ap₂ (λ y z. not y && z) (by (list_any (λ m. m == k) ks) refl both.0) (distinct_keys at ks both.1)
-  where
-    by : (t : Bool) → list_any (λ m. m == k) ks ≡ t → not (has (map at ks) (at k)) ≡ true
-        → list_any (λ m. m == k) ks ≡ false
-    by false e i = e
-    by true e i = absurd (false≢true (sym (not_true _ i) ∙ key_here at k ks e))
 
 -- ---- positions
 
@@ -153,7 +119,7 @@ round_of_way at k es w h = record {
   keys = begins es;
   along = sym (closed_way k es w);
   long = omega (arith, ring_long (canonical (map at (begins es))) h, length-canonical (map at (begins es)), length-map (begins es) at);
-  different = distinct_keys at (begins es) (distinct_turned (map at (begins es)) (ring_distinct (canonical (map at (begins es))) h));
+  different = keys_distinct at (begins es) (distinct_turned (map at (begins es)) (ring_distinct (canonical (map at (begins es))) h));
 }
 
 -- the ring of the edited edges is the edited ring

@@ -1,6 +1,5 @@
 -- A ring of a kept map, and where borders meet along it.
-use Rattle.std.proofs.Common.{◌≡◌, ℕ, true, sym, ap, ◌∙◌, List, [], get_or, Some, option_map}
-use Rattle.std.proofs.Common.{None as Absent}
+use Rattle.std.proofs.Common.{◌≡◌, ℕ, true, sym, ap, ◌∙◌, List, [], get_or, Some, option_map, None as Absent}
 use Rattle.std.specs.Prelude.{unwrap_or}
 use Rattle.std.specs.FinMap as table
 use Rattle.grid_geometry.specs.Position.{Position}

@@ -1,7 +1,6 @@
 -- The plan of a move: what stands around the vertex, what comes and goes, and when it is refused.
-use Rattle.std.proofs.Common.{◌≡◌, ℕ, Bool, true, false, sym, ap, ap₂, ◌∙◌}
-use Rattle.std.proofs.Common.{subst, List, [], ◌∷◌, map, ◌||◌, ◌&&◌, Some, None, Option}
-use Rattle.std.proofs.Common.{Result, Ok, Err, OnOk, OnErr}
+use Rattle.std.proofs.Common.{◌≡◌, ℕ, Bool, true, false, sym, ap, ap₂, ◌∙◌, subst, List, [], ◌∷◌, map, ◌||◌, ◌&&◌, Some}
+use Rattle.std.proofs.Common.{None, Option, Result, Ok, Err, OnOk, OnErr}
 use Rattle.std.specs.Prelude.{not}
 use Rattle.std.specs.List.{list_any}
 use Rattle.std.specs.FinMap as table

@@ -1,7 +1,6 @@
 -- What a move of a vertex makes of a map that is kept.
-use Rattle.std.proofs.Common.{◌≡◌, ◌≢◌, ◌≤◌, ◌+◌, ℕ, Bool, true, false, refl, sym, ap, ap₂, ◌∙◌}
-use Rattle.std.proofs.Common.{subst, cond, List, [], ◌∷◌, ◌++◌, map, length, ◌||◌, ◌&&◌, inl}
-use Rattle.std.proofs.Common.{inr, arith, Some, is_some}
+use Rattle.std.proofs.Common.{◌≡◌, ◌≢◌, ◌≤◌, ◌+◌, ℕ, Bool, true, false, refl, sym, ap, ap₂, ◌∙◌, subst, cond, List, []}
+use Rattle.std.proofs.Common.{◌∷◌, ◌++◌, map, length, ◌||◌, ◌&&◌, inl, inr, arith, Some, is_some}
 use Rattle.std.specs.Prelude.{◌==◌, not, unwrap_or, pos}
 use Rattle.std.specs.List.{list_any, sum_by, fold}
 use Rattle.std.specs.FinMap as table
@@ -24,7 +23,7 @@ use Rattle.ring_machine.proofs.First.{In}
 use Rattle.ring_machine.proofs.InRings.{document-agrees}
 use Rattle.ring_machine.proofs.Keys.{shifted, key_moved}
 use Rattle.ring_machine.proofs.Neighbours.{all_of, none_in, in-map, has-in, in-has}
-use Rattle.ring_machine.proofs.Order.{and_both, or_true, or_right}
+use Rattle.ring_machine.proofs.Order.{and_both, or_true, or_right, refuted}
 use Rattle.ring_machine.proofs.Orders.{segment_ordered}
 use Rattle.ring_machine.proofs.Removal.{none_parts, not_true}
 use Rattle.ring_machine.proofs.RingSegments.{segment_eq-true}
@@ -44,10 +43,9 @@ use Rattle.ring_machine.proofs.Members.{contains_in, in_contains, in_mapped, any
 use Rattle.feature_exchange.proofs.Ends.{end_of_two, two_ends}
 use Rattle.ring_store.proofs.KeyRings.{in_canonical, length-canonical, has_key}
 use Rattle.ring_store.proofs.Places.{insert_other, IsKept, place_is, kept_place, place_kept, one_key}
-use Rattle.feature_exchange.proofs.Base.{joined_back, framed, ring_laid, key_vertex}
-use Rattle.feature_exchange.proofs.Base.{begin_kept, positions_distinct, positions_long, ring_under_is}
-use Rattle.feature_exchange.proofs.Base.{segment_between, joined_segment, joined_kept, joined_differ}
-use Rattle.feature_exchange.proofs.Base.{AreJoined, segments_to, segments_at, one_to}
+use Rattle.feature_exchange.proofs.Base.{joined_back, framed, ring_laid, key_vertex, begin_kept, positions_distinct}
+use Rattle.feature_exchange.proofs.Base.{positions_long, ring_under_is, segment_between, joined_segment, joined_kept}
+use Rattle.feature_exchange.proofs.Base.{joined_differ, AreJoined, segments_to, segments_at, one_to}
 use Rattle.ring_store.proofs.SegmentLists.{has-eq}
 use Rattle.arc_store.specs.Edits.{IsMovable}
 use Rattle.arc_store.proofs.Indexed.{end_vertex}
@@ -88,12 +86,9 @@ segments_to_single places q d (x ∷ xs) kept h t =
     none [] kept' e n = refl
     none (y ∷ ys) kept' e n =
         let n' = none_parts (y == x) (has_key x ys) n in
-        ap₂ (λ a b. cond a 1 0 + b) (apart (segment_is t (segment (place places y) q)) refl n'.0) (none ys (λ z i. kept' z (inr i)) e n'.1)
-      where
-        apart : (b : Bool) → segment_is t (segment (place places y) q) ≡ b → (y == x) ≡ false
-            → segment_is t (segment (place places y) q) ≡ false
-        apart false f m = f
-        apart true f m = absurd (false≢true (sym m ∙ (Decides-eqb y x).1 (one_to places q d y x (kept' y (inl refl)) (kept x (inl refl)) (sym (same_segment t (segment (place places y) q) f) ∙ e))))
+        ap₂ (λ a b. cond a 1 0 + b)
+        (refuted _ (λ f. false≢true (sym n'.0 ∙ (Decides-eqb y x).1 (one_to places q d y x (kept' y (inl refl)) (kept x (inl refl)) (sym (same_segment t (segment (place places y) q) f) ∙ e)))))
+        (none ys (λ z i. kept' z (inr i)) e n'.1)
 
     by : (b : Bool) → segment_is t (segment (place places x) q) ≡ b → has_key x xs ≡ false
         → times_in (segments_to places q xs) t ≤ 1
@@ -138,6 +133,20 @@ place_moved places k q j = by (j == k) refl
     by true e = ap (place (table.insert places k q)) ((Decides-eqb j k).0 e) ∙ place_here places k q
     by false e = place_other places k q j (λ i. false≢true (sym e ∙ (Decides-eqb j k).1 i))
 
+-- where no other key is at q, positions stay distinct
+pub inserted_distinct : (places : Placement) (k : ℕ) (q : Position) → AreDistinct places
+    → ((j : ℕ) → table.get places j ≡ Some q → ⊥) → AreDistinct (table.insert places k q)
+inserted_distinct places k q d none i j x e f = by (ℕ_discrete i k) (ℕ_discrete j k)
+  where
+    is_q : (j : ℕ) → j ≡ k → table.get (table.insert places k q) j ≡ Some x → Some x ≡ Some q
+    is_q j m g = sym g ∙ ap (table.get (table.insert places k q)) m ∙ get-inserted places k q
+
+    by : Dec (i ≡ k) → Dec (j ≡ k) → i ≡ j
+    by (yes m) (yes n) = m ∙ sym n
+    by (yes m) (no n) = absurd (none j (sym (insert_other places k q j n) ∙ f ∙ is_q i m e))
+    by (no m) (yes n) = absurd (none i (sym (insert_other places k q i m) ∙ e ∙ is_q j n f))
+    by (no m) (no n) = d i j x (sym (insert_other places k q i m) ∙ e) (sym (insert_other places k q j n) ∙ f)
+
 module _ (s : Stored) (w : IsWhole s) (k : ℕ) (p q : Position) (at : table.get s.places k ≡ Some p) (free : is_vertex (document_of s) q ≡ false) where
   kept : IsKept s.places k
   kept = place_kept s.places k p at
@@ -156,13 +165,8 @@ module _ (s : Stored) (w : IsWhole s) (k : ℕ) (p q : Position) (at : table.get
 
   ring_free : (r : ℕ) (es : List Edge) → table.get s.rings r ≡ Some es
       → has (positions_along s.places es) q ≡ false
-  ring_free r es e = by (has (positions_along s.places es) q) refl
-    where
-      by : (b : Bool) → has (positions_along s.places es) q ≡ b
-          → has (positions_along s.places es) q ≡ false
-      by false i = i
-      by true i = absurd (false≢true (sym (none_in (λ ring. has ring q) (rings (document_of s)) (canonical (positions_along s.places es)) free (ring_laid s w r es e))
-          ∙ in-has q (canonical (positions_along s.places es)) (in_canonical (positions_along s.places es) q (has-in q (positions_along s.places es) i))))
+  ring_free r es e = refuted _ (λ i. false≢true (sym (none_in (λ ring. has ring q) (rings (document_of s)) (canonical (positions_along s.places es)) free (ring_laid s w r es e))
+      ∙ in-has q (canonical (positions_along s.places es)) (in_canonical (positions_along s.places es) q (has-in q (positions_along s.places es) i))))
 
   positions_moved : (r : ℕ) (es : List Edge) → table.get s.rings r ≡ Some es
       → positions_along (table.insert s.places k q) es
@@ -194,7 +198,7 @@ module _ (s : Stored) (w : IsWhole s) (k : ℕ) (p q : Position) (at : table.get
     round = w.round;
     placed = λ r j v. placed j (w.placed r j v) (ℕ_discrete j k);
     passed = λ j h. passed j h (ℕ_discrete j k);
-    distinct = λ i j x e f. distinct i j x e f (ℕ_discrete i k) (ℕ_discrete j k);
+    distinct = inserted_distinct s.places k q w.distinct none_there;
   }
     where
       placed : (j : ℕ) → IsKept s.places j → Dec (j ≡ k) → IsKept (table.insert s.places k q) j
@@ -204,17 +208,6 @@ module _ (s : Stored) (w : IsWhole s) (k : ℕ) (p q : Position) (at : table.get
       passed : (j : ℕ) → IsKept (table.insert s.places k q) j → Dec (j ≡ k) → (r : ℕ) × Visits s r j
       passed j h (yes e) = w.passed j (ap (λ z. is_some (table.get s.places z)) e ∙ kept)
       passed j h (no n) = w.passed j (sym (ap is_some (insert_other s.places k q j n)) ∙ h)
-
-      is_q : (j : ℕ) (x : Position) → j ≡ k → table.get (table.insert s.places k q) j ≡ Some x
-          → Some x ≡ Some q
-      is_q j x e f = sym f ∙ ap (table.get (table.insert s.places k q)) e ∙ get-inserted s.places k q
-
-      distinct : (i j : ℕ) (x : Position) → table.get (table.insert s.places k q) i ≡ Some x
-          → table.get (table.insert s.places k q) j ≡ Some x → Dec (i ≡ k) → Dec (j ≡ k) → i ≡ j
-      distinct i j x e f (yes m) (yes n) = m ∙ sym n
-      distinct i j x e f (yes m) (no n) = absurd (none_there j (sym (insert_other s.places k q j n) ∙ f ∙ is_q i x m e))
-      distinct i j x e f (no m) (yes n) = absurd (none_there i (sym (insert_other s.places k q i m) ∙ e ∙ is_q j x n f))
-      distinct i j x e f (no m) (no n) = w.distinct i j x (sym (insert_other s.places k q i m) ∙ e) (sym (insert_other s.places k q j n) ∙ f)
 
   pub size_moved : size (document_of (moved_to s k q)) ≡ size (document_of s)
   size_moved = ap size document_moved ∙ size-put (document_of s) p q
@@ -240,17 +233,12 @@ module _ (s : Stored) (w : IsWhole s) (k : ℕ) (p q : Position) (at : table.get
 
   not_end : (a b : ℕ) → Joined s.rings a b → a ≢ k → b ≢ k
       → is_end p (segment (place s.places a) (place s.places b)) ≡ false
-  not_end a b j m n = by (is_end p (segment (place s.places a) (place s.places b))) refl
-    where
-      by : (t : Bool) → is_end p (segment (place s.places a) (place s.places b)) ≡ t
-          → is_end p (segment (place s.places a) (place s.places b)) ≡ false
-      by false e = e
-      by true e =
-          let both = joined_kept s w a b j in
-          elim (end_of_two p (place s.places a) (place s.places b) e) [
-            | inl i ↦ absurd (m (one_key s.places w.distinct a k both.0 kept (sym i ∙ sym here)))
-            | inr i ↦ absurd (n (one_key s.places w.distinct b k both.1 kept (sym i ∙ sym here)))
-          ]
+  not_end a b j m n =
+      let both = joined_kept s w a b j in
+      refuted _ (λ e. elim (end_of_two p (place s.places a) (place s.places b) e) [
+        | inl i ↦ m (one_key s.places w.distinct a k both.0 kept (sym i ∙ sym here))
+        | inr i ↦ n (one_key s.places w.distinct b k both.1 kept (sym i ∙ sym here))
+      ])
 
   -- after the move there are the segments that do not end at p, and those to q
   pub segments_moved : (xs : List ℕ) → AreJoined s k xs → (t : Segment)
@@ -308,13 +296,9 @@ module _ (s : Stored) (w : IsWhole s) (k : ℕ) (p q : Position) (at : table.get
   -- and is new
   pub added_new : (xs : List ℕ) (t : Segment) → In t (segments_to s.places q xs)
       → is_segment (document_of s) t ≡ false
-  added_new xs t i = by (is_segment (document_of s) t) refl
-    where
-      by : (b : Bool) → is_segment (document_of s) t ≡ b → is_segment (document_of s) t ≡ false
-      by false e = e
-      by true e =
-          let x = in_mapped (λ x. segment (place s.places x) q) t xs i in
-          absurd (false≢true (sym free ∙ end_vertex (document_of s) q t e (ap (is_end q) (sym x.2) ∙ (two_ends (place s.places x.0) q).1)))
+  added_new xs t i =
+      let x = in_mapped (λ x. segment (place s.places x) q) t xs i in
+      refuted _ (λ e. false≢true (sym free ∙ end_vertex (document_of s) q t e (ap (is_end q) (sym x.2) ∙ (two_ends (place s.places x.0) q).1)))
 
   -- no two are one
   pub added_single : (xs : List ℕ) → AreJoined s k xs → are_distinct xs ≡ true
@@ -340,24 +324,18 @@ module _ (s : Stored) (w : IsWhole s) (k : ℕ) (p q : Position) (at : table.get
   reindexed xs j held held' i h t =
       h t
       ∙ ap (λ b. (set.contains held t || has_segment (segments_to s.places q xs) t) && not b) (has-eq (segments_to s.places p xs) t ∙ sym (segments_at s w k p at xs j t) ∙ ap (λ b. b && is_end p t) (sym (i t)))
-      ∙ either (set.contains held t) (has_segment (segments_to s.places q xs) t) (is_end p t) (apart_from_held (set.contains held t) refl (has_segment (segments_to s.places q xs) t) refl)
+      ∙ either (set.contains held t) (has_segment (segments_to s.places q xs) t) (is_end p t) apart_from_held
       ∙ sym (indexed_moved xs j held i t) ∙ has-eq (all_segments (put (document_of s) p q)) t
     where
       either : (held added at_p : Bool) → (held && added) ≡ false
           → ((held || added) && not (held && at_p)) ≡ ((held && not at_p) || added)
-      either true true at_p e = absurd (false≢true (sym e))
-      either true false true e = refl
-      either true false false e = refl
-      either false true at_p e = refl
-      either false false at_p e = refl
+      either held added at_p e = grind arith
 
-      apart_from_held : (a : Bool) → set.contains held t ≡ a → (b : Bool)
-          → has_segment (segments_to s.places q xs) t ≡ b → (a && b) ≡ false
-      apart_from_held false e b f = refl
-      apart_from_held true e false f = refl
-      apart_from_held true e true f =
-          let u = any_in (segment_eq t) (segments_to s.places q xs) (sym (has-eq (segments_to s.places q xs) t) ∙ f) in
-          absurd (false≢true (sym (added_new xs u.0 u.1) ∙ ap (is_segment (document_of s)) (sym (segment_eq-true t u.0 u.2)) ∙ sym (i t) ∙ e))
+      apart_from_held : (set.contains held t && has_segment (segments_to s.places q xs) t) ≡ false
+      apart_from_held = refuted _ (λ e.
+          let both = and_both (set.contains held t) (has_segment (segments_to s.places q xs) t) e in
+          let u = any_in (segment_eq t) (segments_to s.places q xs) (sym (has-eq (segments_to s.places q xs) t) ∙ both.1) in
+          false≢true (sym (added_new xs u.0 u.1) ∙ ap (is_segment (document_of s)) (sym (segment_eq-true t u.0 u.2)) ∙ sym (i t) ∙ both.0))
 
 -- a move gives a map with all that is true of maps
 pub holds_moved : (s : Stored) (held held' : SegmentSet) (k : ℕ) (p q : Position) → Holds s held

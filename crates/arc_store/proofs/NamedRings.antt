@@ -38,6 +38,7 @@ use Rattle.arc_store.proofs.FrameReads.{ring-in_rings}
 use Rattle.arc_store.proofs.Insertions.{has_segment}
 use Rattle.arc_store.proofs.Numbers.{ring_has}
 use Rattle.arc_store.proofs.Reading.{unused_read}
+use Rattle.ring_machine.proofs.SortedOnce.{in_recursion}
 
 -- ---- the names of a list of numbers
 
@@ -81,9 +82,7 @@ to_name d once found numbers are n r e i =
 -- ---- different numbers have different names
 
 other_than : (n : ℕ) (ns : List ℕ) → AllByRecursion (λ y. y ≢ n) ns → (r : ℕ) → In r ns → r ≢ n
-other_than n [] h r i = absurd i
-other_than n (m ∷ ns) h r (inl s) = λ e. h.0 (s ∙ e)
-other_than n (m ∷ ns) h r (inr i) = other_than n ns h.1 r i
+other_than n ns h r i = in_recursion (λ y. y ≢ n) ns r h i
 
 different_once : (ns : List ℕ) → AllDifferent ns → (i j x : ℕ) → slice_get ns i ≡ Some x → slice_get ns j ≡ Some x → i ≡ j
 different_once [] d i j x e h = absurd cc

@@ -1,5 +1,5 @@
 -- No junction stands where no vertex does.
-use Rattle.std.proofs.Common.{◌≡◌, Bool, true, false, refl, sym, ap, ◌∙◌, subst, cond, List, [], ◌∷◌}
+use Rattle.std.proofs.Common.{◌≡◌, Bool, false, refl, sym, ap, ◌∙◌, subst, cond, List, [], ◌∷◌}
 use Rattle.std.proofs.Common.{◌++◌, take, inl, inr, map}
 use Rattle.std.specs.Prelude.{not}
 use Rattle.std.specs.List.{filter, flat_map, list_any}
@@ -10,17 +10,15 @@ use Rattle.ring_machine.specs.Ring.{has, between_each, spots}
 use Rattle.ring_machine.specs.Document.{Document}
 use Rattle.ring_machine.specs.Parts.{rings, is_vertex}
 use Rattle.ring_machine.specs.Vertices.{all_equal, is_junction}
-use Rattle.ring_machine.proofs.Order.{position_eq-true}
+use Rattle.ring_machine.proofs.Order.{position_eq-true, refuted}
 use Rattle.ring_machine.proofs.Removal.{none_parts}
 use Rattle.ring_machine.proofs.First.{In, in-append}
 use Rattle.ring_machine.proofs.Neighbours.{in-has}
 
 place_in : (ps : List Position) (p : Position) (s : Segment) → In (p, s) (between_each ps) → In p ps
-place_in [] p s i = absurd i
-place_in (a ∷ []) p s i = absurd i
-place_in (a ∷ b ∷ []) p s i = absurd i
 place_in (a ∷ b ∷ c ∷ ps) p s (inl e) = inr (inl (ap (λ (spot : Position × Segment). spot.0) e))
 place_in (a ∷ b ∷ c ∷ ps) p s (inr i) = inr (place_in (b ∷ c ∷ ps) p s i)
+place_in _ p s i = absurd i
 
 front_in : (ring : List Position) (p : Position) → In p (take 2 ring) → In p ring
 front_in [] p i = absurd i
@@ -44,12 +42,8 @@ none_left test (x ∷ xs) h ys =
 
 not_there : (ring : List Position) (p : Position) → has ring p ≡ false → (spot : Position × Segment) → In spot (spots ring)
     → position_eq p spot.0 ≡ false
-not_there ring p h spot i = by (position_eq p spot.0) refl
-  where
-    by : (b : Bool) → position_eq p spot.0 ≡ b → position_eq p spot.0 ≡ false
-    by false e = e
-    by true e =
-        absurd (false≢true (sym h ∙ in-has p ring (subst (λ q. In q ring) (sym (position_eq-true p spot.0 e)) (spot_in ring spot.0 spot.1 i))))
+not_there ring p h spot i =
+    refuted _ (λ e. false≢true (sym h ∙ in-has p ring (subst (λ q. In q ring) (sym (position_eq-true p spot.0 e)) (spot_in ring spot.0 spot.1 i))))
 
 nowhere : (rs : List (List Position)) (p : Position) → list_any (λ ring. has ring p) rs ≡ false
     → filter (λ (spot : Position × Segment). position_eq p spot.0) (flat_map spots rs) ≡ []

@@ -1,6 +1,5 @@
 -- How many rings have a segment, by their numbers.
-use Rattle.std.proofs.Common.{ap₂, ◌+◌, ◌≡◌, ◌≤◌, ◌↔◌, ℕ, true, sym, ap, ◌∙◌, List, [], length}
-use Rattle.std.proofs.Common.{Some}
+use Rattle.std.proofs.Common.{ap₂, ◌+◌, ◌≡◌, ◌≤◌, ◌↔◌, ℕ, true, sym, ap, ◌∙◌, List, [], length, Some}
 use Rattle.std.specs.Prelude.{unwrap_or}
 use Rattle.std.specs.List.{list_any, filter}
 use Rattle.std.specs.FinMap as table
@@ -20,12 +19,12 @@ use Rattle.ring_store.proofs.Places.{place_is, place_kept, IsKept, one_key}
 use Rattle.feature_exchange.proofs.Base.{document_ring, begin_kept, framed, ring_under_is, rings_are}
 use Rattle.ring_store.proofs.Sums.{filter-mapped}
 use Rattle.arc_store.proofs.Insertions.{size_ins, has_segment, has_segment_by, any_mapped}
-use Rattle.ring_store.proofs.KeyRings.{laid, edges_round, edge_ends, times_edge, edge_times}
-use Rattle.ring_store.proofs.KeyRings.{is_seg_ends, ends_is_seg}
+use Rattle.ring_store.proofs.KeyRings.{laid, edges_round, edge_ends, times_edge, edge_times, is_seg_ends, ends_is_seg}
 use Rattle.arc_store.proofs.KeyWays.{seg_same}
 use Rattle.ring_machine.proofs.Members.{any_in, in_any}
 use Rattle.arc_store.proofs.Removals.{any_alike_in}
-use Rattle.arc_store.proofs.RingEdits.{edges_turned, canonical_rotated}
+use Rattle.arc_store.proofs.RingEdits.{edges_turned}
+use Rattle.ring_machine.proofs.CutRings.{canonical_turns}
 
 -- a segment is among the edges where it stands there once or more
 pub any_times : (x y : ℕ) (es : List Edge) → (list_any (is_seg x y) es ≡ true) ↔ (1 ≤ times x y es)
@@ -47,7 +46,7 @@ module _ (s : Stored) (w : IsWhole s) (x y : ℕ) (x_kept : IsKept s.places x) (
       let ps = positions_along s.places es in
       has_segment_by t (ring_under s r)
       ∙ ap (λ z. list_any (is_of t) (ring_edges z)) (ring_under_is s w r es e)
-      ∙ sym (edges_turned (is_of t) ps (canonical ps) (canonical_rotated ps))
+      ∙ sym (edges_turned (is_of t) ps (canonical ps) (canonical_turns ps))
       ∙ ap (list_any (is_of t)) (edges_round (place s.places) es (w.round r es e))
       ∙ any_mapped (laid (place s.places)) (is_of t) es
       ∙ any_alike_in (λ f. is_of t (laid (place s.places) f)) (is_seg x y) es (λ f i.

@@ -14,7 +14,7 @@ use Rattle.ring_machine.specs.Ring.{has, is_distinct, segment_of}
 use Rattle.ring_machine.proofs.First.{In}
 use Rattle.ring_machine.proofs.Members.{in_mapped, any_in}
 use Rattle.ring_machine.proofs.Neighbours.{in-has, none_in}
-use Rattle.ring_machine.proofs.Order.{and_both}
+use Rattle.ring_machine.proofs.Order.{and_both, refuted}
 use Rattle.ring_machine.proofs.Removal.{not_true}
 use Rattle.ring_machine.proofs.RingSegments.{same_ends}
 use Rattle.ring_machine.proofs.SplitSegments.{path_segments}
@@ -25,14 +25,9 @@ use Rattle.feature_exchange.specs.Holds.{IsIndexed}
 use Rattle.ring_store.specs.Planned.{AreNew}
 
 link_ends : (ps : List Position) (e : Edge) → In e (links ps) → In e.0 ps × In e.1 ps
-link_ends [] e h = absurd h
-link_ends (p ∷ []) e h = absurd h
 link_ends (p ∷ q ∷ ps) e (inl h) = (inl (ap (λ (z : Edge). z.0) h), inr (inl (ap (λ (z : Edge). z.1) h)))
 link_ends (p ∷ q ∷ ps) e (inr h) = let k = link_ends (q ∷ ps) e h in (inr k.0, inr k.1)
-
-refuted : (b : Bool) → (b ≡ true → ⊥) → b ≡ false
-refuted false h = refl
-refuted true h = absurd (h refl)
+link_ends _ e h = absurd h
 
 -- a way that does not come back to p has no other segment with the end p
 once : (p q : Position) (ps : List Position) → has (q ∷ ps) p ≡ false → (t : Segment)

@@ -1,8 +1,7 @@
 -- Where the features of a map stand, and what is true of its document.
-use Rattle.std.proofs.Common.{◌≡◌, ◌<◌, ◌≤◌, ℕ, Bool, true, false, refl, sym, ap, ◌∙◌, subst, arith}
-use Rattle.std.proofs.Common.{List, Option, Some, None, option_map}
-use Rattle.std.proofs.Common.{is_some}
-use Rattle.std.proofs.lemmas.Bool.{false≢true}
+use Rattle.std.proofs.Common.{◌≡◌, ◌<◌, ◌≤◌, ℕ, true, false, refl, sym, ap, ◌∙◌, subst, arith, List, Option, Some}
+use Rattle.std.proofs.Common.{None, option_map, is_some}
+use Rattle.std.proofs.lemmas.Bool.{false≢true, true_from_ne_false}
 use Rattle.ring_machine.specs.Document.{DocumentOf, FeatureOf, Document}
 use Rattle.ring_machine.specs.Parts.{feature, in_feature, in_rings, has_feature}
 use Rattle.ring_machine.specs.Refusals.{feature_at, or_else, no_feature}
@@ -26,6 +25,7 @@ use Rattle.feature_exchange.specs.Stored.{stored, ring_under, document_of}
 use Rattle.arc_store.specs.Kept.{IsKept, state_of}
 use Rattle.arc_store.specs.State.{State}
 use Rattle.arc_store.proofs.FeaturesKept.{seen_doc, seen_formed, seen_proper, seen_size, seen_small}
+use Rattle.ring_machine.proofs.Order.{refuted}
 
 -- rings in the place of their numbers leave the places as they are
 pub placed-in_rings : {R S : Type 0} (g : R → S) (trees : List LayerTree) (next : ℕ) (d : DocumentOf R)
@@ -41,11 +41,9 @@ placed-in_rings g trees next d h = record {
 -- a number that is yet to come is no feature's
 pub later_new : {R : Type 0} (trees : List LayerTree) (next : ℕ) (d : DocumentOf R) → ArePlaced trees next d
     → (m : ℕ) → next ≤ m → has_feature d m ≡ false
-later_new trees next d h m later = by (has_place trees m) refl
-  where
-    by : (b : Bool) → has_place trees m ≡ b → has_feature d m ≡ false
-    by false e = has_feature-found d m ∙ ap is_some (fills-nowhere trees d h.fills m e)
-    by true e = absurd (let l = h.known m e in omega (arith, l))
+later_new trees next d h m later =
+    has_feature-found d m
+    ∙ ap is_some (fills-nowhere trees d h.fills m (refuted _ (λ e. let l = h.known m e in omega (arith, l))))
 
 module _ {frame : Framed} {rings : Rings} {places : Placement} {held : SegmentSet} {positions : ℕ}
     (kept : IsKept frame rings places held positions) {l : ℕ} {cells : Option GridFrame} {o : Option Record} {now : State}
@@ -106,11 +104,7 @@ module _ {frame : Framed} {rings : Rings} {places : Placement} {held : SegmentSe
 -- a number that is yet to come has no place
 pub next_free : {R : Type 0} (trees : List LayerTree) (next : ℕ) (d : DocumentOf R) → ArePlaced trees next d
     → has_place trees next ≡ false
-next_free trees next d h = by (has_place trees next) refl
-  where
-    by : (b : Bool) → has_place trees next ≡ b → b ≡ false
-    by false e = refl
-    by true e = absurd (let l = h.known next e in omega (arith, l))
+next_free trees next d h = refuted _ (λ e. let l = h.known next e in omega (arith, l))
 
 -- the features stand at these places too
 pub fills_after : (after : Option ℕ) (trees : List LayerTree) (next : ℕ) (d : Document) → ArePlaced trees next d
@@ -122,15 +116,10 @@ fills_after (Some n) trees next d h =
 -- a feature has a number below the next one
 pub there_below : {R : Type 0} (trees : List LayerTree) (next : ℕ) (d : DocumentOf R) → ArePlaced trees next d
     → (n : ℕ) → has_feature d n ≡ true → n < next
-there_below trees next d h n there = by (has_place trees n) refl
-  where
-    by : (b : Bool) → has_place trees n ≡ b → n < next
-    by true e = h.known n e
-    by false e =
-        absurd (false≢true (sym (has_feature-found d n ∙ ap is_some (fills-nowhere trees d h.fills n e)) ∙ there))
+there_below trees next d h n there = h.known n (true_from_ne_false _ (λ e.
+    false≢true (sym (has_feature-found d n ∙ ap is_some (fills-nowhere trees d h.fills n e)) ∙ there)))
 
 -- and the next one is no feature's
 pub next_new : {R : Type 0} (trees : List LayerTree) (next : ℕ) (d : DocumentOf R) → ArePlaced trees next d
     → has_feature d next ≡ false
-next_new trees next d h =
-    has_feature-found d next ∙ ap is_some (fills-nowhere trees d h.fills next (next_free trees next d h))
+next_new trees next d h = later_new trees next d h next (omega arith)

@@ -1,9 +1,8 @@
 -- A polygon of those that were read, at its place among them.
-use Rattle.std.proofs.Common.{◌≡◌, ◌<◌, ℕ, false, sym, ap, ◌∙◌, subst, List, [], ◌∷◌, map, length, get_or}
-use Rattle.std.proofs.Common.{zero, suc, take, arith}
+use Rattle.std.proofs.Common.{◌≡◌, ◌<◌, ℕ, false, sym, ap, ◌∙◌, subst, List, [], ◌∷◌, map, length, get_or, take, arith}
 use Rattle.std.specs.Prelude.{Vec}
 use Rattle.std.specs.List.{list_any}
-use Rattle.std.proofs.lemmas.List.{length-map}
+use Rattle.std.proofs.lemmas.List.{length-map, get_or-map}
 use Rattle.grid_geometry.specs.Position.{Position}
 use Rattle.ring_machine.specs.Cut.{Path, is_cut_by, first_that}
 use Rattle.ring_parts.specs.Seen.{rings_seen, polygons_seen}
@@ -12,9 +11,7 @@ use Rattle.arc_store.specs.Splits.{IsFirstCut}
 -- an element, seen otherwise, stands at its place among all seen so
 pub at_mapped : {A B : Type 0} (of : A → B) (xs : List A) (i : ℕ) (x : A) (d : B) → i < length xs
     → x ≡ get_or xs i x → of x ≡ get_or (map of xs) i d
-at_mapped of [] i x d l e = absurd (omega (arith, l))
-at_mapped of (y ∷ ys) zero x d l e = ap of e
-at_mapped of (y ∷ ys) (suc i) x d l e = at_mapped of ys i x d (omega (arith, l)) e
+at_mapped of xs i x d l e = ap of e ∙ sym (get_or-map of xs i x d l)
 
 -- the rings of the first polygon
 pub first_seen : {A : Type 0} (polygons : List (Vec (Vec Position A) A)) (x : Vec (Vec Position A) A) → x ≡ get_or polygons 0 x

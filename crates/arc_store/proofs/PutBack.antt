@@ -12,7 +12,7 @@ use Rattle.ring_machine.specs.Document.{Document}
 use Rattle.ring_machine.specs.Parts.{is_vertex, is_segment}
 use Rattle.ring_machine.proofs.First.{In}
 use Rattle.ring_machine.proofs.Members.{any_in, in_any}
-use Rattle.ring_machine.proofs.Order.{or_true, or_right, and_both}
+use Rattle.ring_machine.proofs.Order.{or_true, or_right, and_both, refuted}
 use Rattle.ring_machine.proofs.Orders.{segment_ordered}
 use Rattle.ring_machine.proofs.RingSegments.{segment_eq-true}
 use Rattle.edit_records.specs.Records.{put_back, IsMap, IsRemoved, AreRemoved}
@@ -25,10 +25,6 @@ use Rattle.ring_store.specs.declared.removal.Removal.{Removal}
 use Rattle.arc_store.specs.Recorded.{removal_seen}
 use Rattle.arc_store.proofs.Indexed.{end_vertex, vertex_end}
 use Rattle.arc_store.proofs.Insertions.{Comes, border_ends, not_segment, over_segments, segments_come, segments_ins}
-
-refuted : (b : Bool) → (b ≡ true → ⊥) → b ≡ false
-refuted false f = refl
-refuted true f = absurd (f refl)
 
 -- the document with the vertex, and the one with all of these
 abbrev pub with_one : Document → Removal → Document
@@ -220,10 +216,7 @@ goings_there d (r ∷ rs) h t i =
     by : (was goes first second later : Bool)
         → (((was && not goes) || (first || (second || false))) || later) ≡ true
         → (was || (first || (second || later))) ≡ true
-    by true goes first second later e = refl
-    by false goes true second later e = refl
-    by false goes false true later e = refl
-    by false goes false false later e = e
+    by was goes first second later e = grind arith
 
 -- and each goes once
 pub goings_single : (d : Document) (rs : List Removal) → AreOut d rs → AreSingle (goings rs)
@@ -249,11 +242,7 @@ goings_single d (r ∷ rs) h t = by (segment_is t (segment r.a r.b)) refl (going
 pub segments_back : (d : Document) (rs : List Removal) → AreOut d rs → (t : Segment)
     → is_segment (with_all d rs) t
     ≡ ((is_segment d t || has (comings rs) t) && not (has (goings rs) t))
-segments_back d [] h t = by (is_segment d t)
-  where
-    by : (was : Bool) → was ≡ ((was || false) && not false)
-    by true = refl
-    by false = refl
+segments_back d [] h t = grind arith
 segments_back d (r ∷ rs) h t =
     segments_back (with_one d r) rs h.1 t
     ∙ ap (λ z. (z || has (comings rs) t) && not (has (goings rs) t)) (segments_had d r h.0 t)
@@ -264,11 +253,7 @@ segments_back d (r ∷ rs) h t =
         → (goes ≡ true → (first || (second || later)) ≡ false)
         → ((((was && not goes) || (first || (second || false))) || later) && not gone)
         ≡ ((was || (first || (second || later))) && not (goes || gone))
-    by was true true second later gone f = absurd (false≢true (sym (f refl)))
-    by was true false true later gone f = absurd (false≢true (sym (f refl)))
-    by was true false false true gone f = absurd (false≢true (sym (f refl)))
-    by was true false false false gone f = grind arith
-    by was false first second later gone f = grind arith
+    by was goes first second later gone f = grind arith
 
 -- what is true of the document, and of every map's, is true of the document with all
 pub true_of_all : (P : Document → Type 0) → ((d : Document) → IsMap d → P d) → (d : Document)

@@ -11,18 +11,11 @@ use Rattle.ring_machine.proofs.RingsOf.{rings-in_rings}
 use Rattle.vertex_index.specs.Placement.{Placement, place, AreInRange}
 use Rattle.arc_tables.specs.Rings.{begins}
 use Rattle.feature_exchange.specs.Stored.{Stored, edges_under, ring_under, document_of}
+use Rattle.feature_exchange.proofs.Readied.{all_left, all_right}
 
 each_joined : {A : Type 0} (P : A → Type 0) (xs ys : List A) → AllByRecursion P xs → AllByRecursion P ys → AllByRecursion P (xs ++ ys)
 each_joined P [] ys h k = k
 each_joined P (x ∷ xs) ys h k = (h.0, each_joined P xs ys h.1 k)
-
-each_front : {A : Type 0} (P : A → Type 0) (xs ys : List A) → AllByRecursion P (xs ++ ys) → AllByRecursion P xs
-each_front P [] ys h = tt
-each_front P (x ∷ xs) ys h = (h.0, each_front P xs ys h.1)
-
-each_back : {A : Type 0} (P : A → Type 0) (xs ys : List A) → AllByRecursion P (xs ++ ys) → AllByRecursion P ys
-each_back P [] ys h = h
-each_back P (x ∷ xs) ys h = each_back P xs ys h.1
 
 each_made : {A B : Type 0} (P : B → Type 0) (f : A → B) (xs : List A) → ((x : A) → P (f x)) → AllByRecursion P (map f xs)
 each_made P f [] h = tt
@@ -32,7 +25,7 @@ each_canonical : (P : Position → Type 0) (ps : List Position) → AllByRecursi
 each_canonical P ps h =
     let parts = canonical_parts ps in
     let whole : AllByRecursion P (parts.0 ++ parts.1) = subst (AllByRecursion P) parts.2 h in
-    subst (AllByRecursion P) (sym parts.3) (each_joined P parts.1 parts.0 (each_back P parts.0 parts.1 whole) (each_front P parts.0 parts.1 whole))
+    subst (AllByRecursion P) (sym parts.3) (each_joined P parts.1 parts.0 (all_right P parts.0 parts.1 whole) (all_left P parts.0 parts.1 whole))
 
 place_in_range : (m : Placement) (k : ℕ) → AreInRange m → InRange (place m k)
 place_in_range m k h = by (table.get m k) refl

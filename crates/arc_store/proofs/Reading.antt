@@ -5,9 +5,7 @@ use Rattle.std.specs.Prelude.{IfSome, IfNone}
 use Rattle.std.specs.List.{filter}
 use Rattle.std.specs.FinMap as table
 use Rattle.std.specs.Ordering.{is_gt}
-use Rattle.std.specs.declared.cmp.Ordering.{Ordering}
-use Rattle.std.specs.declared.cmp.Ordering.TheVariants.{Less}
-use Rattle.grid_geometry.specs.Position.{Position, position_cmp}
+use Rattle.grid_geometry.specs.Position.{Position}
 use Rattle.grid_geometry.specs.Segment.{Segment, segment, IsSegment}
 use Rattle.ring_machine.specs.Parts.{rings, is_vertex}
 use Rattle.ring_machine.proofs.First.{In}
@@ -23,35 +21,24 @@ use Rattle.arc_store.proofs.Insertions.{has_segment, is_segment_by}
 use Rattle.ring_machine.proofs.Members.{in_any}
 use Rattle.arc_store.proofs.Numbers.{users_count}
 use Rattle.arc_store.proofs.RingUsers.{users_same}
+use Rattle.ring_machine.proofs.Order.{refuted}
 
 -- the ends of a segment make it
 pub ends_make : (t : Segment) → IsSegment t → segment t.lo t.hi ≡ t
-ends_make t h = by (position_cmp t.lo t.hi) h
-  where
-    by : (o : Ordering) → o ≡ Less
-        → cond {A = Segment} (is_gt o) (record { lo = t.hi; hi = t.lo }) (record { lo = t.lo; hi = t.hi }) ≡ t
-    by o e = ap (λ z. cond {A = Segment} (is_gt z) (record { lo = t.hi; hi = t.lo }) (record { lo = t.lo; hi = t.hi })) e
+ends_make t h = ap (λ z. cond {A = Segment} (is_gt z) (record { lo = t.hi; hi = t.lo }) (record { lo = t.lo; hi = t.hi })) h
 
 -- no element passes the test
 pub none_pass : {A : Type 0} (test : A → Bool) (xs : List A)
     → ((x : A) → In x xs → test x ≡ true → ⊥) → length (filter test xs) ≡ 0
 none_pass test [] h = refl
-none_pass test (x ∷ xs) h = by (test x) refl (none_pass test xs (λ y i. h y (inr i)))
-  where
-    by : (b : Bool) → test x ≡ b → length (filter test xs) ≡ 0
-        → length (cond b (x ∷ filter test xs) (filter test xs)) ≡ 0
-    by true e k = absurd (h x (inl refl) e)
-    by false e k = k
+none_pass test (x ∷ xs) h =
+    ap (λ b. length (cond b (x ∷ filter test xs) (filter test xs))) (refuted _ (h x (inl refl))) ∙ none_pass test xs (λ y i. h y (inr i))
 
 module _ (s : Stored) (w : IsWhole s) where
   -- what has no key is no vertex
   pub no_vertex : (p : Position) → ((k : ℕ) → table.get s.places k ≢ Some p)
       → is_vertex (document_of s) p ≡ false
-  no_vertex p h = by (is_vertex (document_of s) p) refl
-    where
-      by : (b : Bool) → is_vertex (document_of s) p ≡ b → is_vertex (document_of s) p ≡ false
-      by false e = e
-      by true e = let k = vertex_key s w p e in absurd (h k.0 k.1)
+  no_vertex p h = refuted _ (λ e. let k = vertex_key s w p e in h k.0 k.1)
 
   -- a position is a vertex where a key is found
   pub found_vertex : (p : Position) (o : Option ℕ) → IfSome o (λ k. table.get s.places k ≡ Some p)

@@ -1,6 +1,5 @@
 -- What the tests of a removal say of its refusals.
-use Rattle.std.proofs.Common.{◌≡◌, Bool, true, false, refl, sym, ap, ap₂, ◌∙◌, subst, List, [], ◌∷◌}
-use Rattle.std.proofs.Common.{◌||◌, ◌&&◌, Option, None}
+use Rattle.std.proofs.Common.{◌≡◌, Bool, sym, ap, ap₂, ◌∙◌, subst, List, [], ◌∷◌, ◌||◌, ◌&&◌, Option, None}
 use Rattle.std.specs.Prelude.{not}
 use Rattle.std.specs.List.{list_any}
 use Rattle.grid_geometry.specs.Held.{is_held}
@@ -11,8 +10,7 @@ use Rattle.ring_machine.specs.Command.{Refusal, NoVertex, Junction, RingShort, S
 use Rattle.ring_machine.specs.Document.{Document}
 use Rattle.ring_machine.specs.Parts.{positions, all_segments}
 use Rattle.ring_machine.specs.Planar.{first_pair, least_conflict}
-use Rattle.ring_machine.specs.Refusals.{first_of, conflict_of, planar, are_long, is_bridged}
-use Rattle.ring_machine.specs.Refusals.{◌unless◌, remove_refusals}
+use Rattle.ring_machine.specs.Refusals.{first_of, conflict_of, planar, are_long, is_bridged, ◌unless◌, remove_refusals}
 use Rattle.ring_machine.specs.Sweep.{remove_sweeps}
 use Rattle.ring_machine.specs.Vertices.{del, is_junction}
 use Rattle.segment_index.specs.Candidates.{SegmentSet}
@@ -21,13 +19,9 @@ use Rattle.local_planarity.specs.declared.leaving.Leaving.TheVariants.{EndingAt}
 use Rattle.arc_store.specs.declared.fault.EditFault.{EditFault}
 use Rattle.arc_store.specs.Edits.{IsRemovable}
 use Rattle.arc_store.specs.Faults.{Refuses}
-use Rattle.ring_store.proofs.SegmentLists.{has-eq}
+use Rattle.ring_store.proofs.SegmentLists.{has-eq, or_nothing}
 use Rattle.arc_store.proofs.MovePlan.{refuses_first}
 use Rattle.arc_store.proofs.Indexed.{indexed_ends}
-
-or_none : (y : Bool) → y ≡ (y || false)
-or_none true = refl
-or_none false = refl
 
 module _ (d : Document) (held : SegmentSet) (p : Position) (t : Segment) (i : IsRemovable d held p t) where
   -- what is left to test: conflicts, and what the border sweeps over
@@ -47,7 +41,7 @@ module _ (d : Document) (held : SegmentSet) (p : Position) (t : Segment) (i : Is
   remove_after s =
       has-eq (all_segments (del d p)) s
       ∙ i.without s
-      ∙ ap₂ (λ y z. (y && not (is_end p s)) || z) (sym (i.indexed s)) (or_none (segment_eq s t) ∙ sym (has-eq (t ∷ []) s))
+      ∙ ap₂ (λ y z. (y && not (is_end p s)) || z) (sym (i.indexed s)) (or_nothing (segment_eq s t) ∙ sym (has-eq (t ∷ []) s))
 
   -- the fault of the first pair in conflict
   pub remove_refused : (fault : EditFault)

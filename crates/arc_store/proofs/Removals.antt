@@ -1,8 +1,7 @@
 -- What a removal of a position makes of the segments and the size of a document, where it has the
 -- same neighbours in each ring; and what stands around it then.
-use Rattle.std.proofs.Common.{◌≡◌, ◌+◌, Bool, true, false, refl, sym, ap, ap₂, ◌∙◌, subst}
-use Rattle.std.proofs.Common.{cond, List, [], ◌∷◌, ◌++◌, length, inl, inr, ◌&&◌, ◌||◌, arith}
-use Rattle.std.proofs.Common.{append_assoc}
+use Rattle.std.proofs.Common.{◌≡◌, ◌+◌, Bool, true, false, refl, sym, ap, ap₂, ◌∙◌, subst, cond, List, [], ◌∷◌, ◌++◌}
+use Rattle.std.proofs.Common.{length, inl, inr, ◌&&◌, ◌||◌, arith, append_assoc}
 use Rattle.std.specs.Prelude.{not}
 use Rattle.std.specs.List.{flat_map, list_any, list_all, filter, sum_by}
 use Rattle.std.proofs.lemmas.Bool.{false≢true}
@@ -19,7 +18,7 @@ use Rattle.ring_machine.specs.Parts.{rings, size, is_vertex, is_segment}
 use Rattle.ring_machine.specs.Refusals.{is_bridged}
 use Rattle.ring_machine.specs.Sweep.{holds_other, remove_sweeps}
 use Rattle.ring_machine.specs.Vertices.{del, del_ring, around, all_equal, is_junction}
-use Rattle.ring_machine.proofs.Order.{position_eq-true, position_eq-refl}
+use Rattle.ring_machine.proofs.Order.{position_eq-true, position_eq-refl, refuted}
 use Rattle.ring_machine.proofs.Orders.{segment_ordered}
 use Rattle.ring_machine.proofs.Arcs.{is_of, links-append}
 use Rattle.ring_machine.proofs.First.{In, in-append, in_left}
@@ -32,13 +31,12 @@ use Rattle.ring_machine.proofs.StaysProper.{ring_distinct, ring_long}
 use Rattle.arc_tables.specs.Ways.{one}
 use Rattle.ring_store.proofs.Sums.{sum_by-map, sum_more}
 use Rattle.feature_exchange.proofs.Ends.{two_ends, end_of_two}
-use Rattle.arc_store.proofs.Insertions.{AreRings, has_segment, has_segment_by, is_segment_by}
-use Rattle.arc_store.proofs.Insertions.{any_mapped, any_parts}
+use Rattle.arc_store.proofs.Insertions.{AreRings, has_segment, has_segment_by, is_segment_by, any_mapped, any_parts}
 use Rattle.ring_store.proofs.KeyRings.{length-canonical, beside_edges}
 use Rattle.ring_machine.proofs.Members.{any_in, in_any, same_answer, in_mapped, in_flat, in_filter}
-use Rattle.arc_store.proofs.RingEdits.{edges_turned, edge_turned, canonical_rotated, canonical_ring}
-use Rattle.arc_store.proofs.RingEdits.{BegunAt, begun_at, edge_back, rest_lacks, next_differs}
-use Rattle.arc_store.proofs.RingEdits.{last_differs}
+use Rattle.arc_store.proofs.RingEdits.{edges_turned, edge_turned, BegunAt, begun_at}
+use Rattle.arc_store.proofs.RingEdits.{edge_back, rest_lacks, next_differs, last_differs}
+use Rattle.ring_machine.proofs.CutRings.{canonical_turns, ring_is_canonical}
 
 -- ---- one ring that has p
 
@@ -47,6 +45,16 @@ rotated-back xs ys r = record { us = r.vs; vs = r.us; from = r.to; to = r.from }
 
 length-rotated : (xs ys : List Position) → Rotated xs ys → length xs ≡ length ys
 length-rotated xs ys r = omega (arith, ap length r.from, ap length r.to, length-append r.us r.vs, length-append r.vs r.us)
+
+-- an edge of a ring without p does not end at p
+off_edge : (p x : Position) (ps : List Position) → has (x ∷ ps) p ≡ false → (s : Segment) (e : Edge) → In e (edges (x ∷ ps))
+    → is_of s e ≡ true → is_end p s ≡ false
+off_edge p x ps n s e i is = refuted _ (λ u.
+    let ends = edge_in x ps e i in
+    false≢true (sym n ∙ elim (end_of_two p e.0 e.1 (ap (is_end p) (segment_eq-true (segment_of e) s is) ∙ u)) [
+      | inl m ↦ in-has p (x ∷ ps) (subst (λ z. In z (x ∷ ps)) (sym m) ends.0)
+      | inr m ↦ in-has p (x ∷ ps) (subst (λ z. In z (x ∷ ps)) (sym m) ends.1)
+    ]))
 
 module _ (p : Position) (ring : List Position) (d : is_distinct ring ≡ true) (t : BegunAt p ring) where
   -- the others, begun after p
@@ -87,27 +95,16 @@ module _ (p : Position) (ring : List Position) (d : is_distinct ring ≡ true) (
   edges_after : (test : Edge → Bool) → list_any test (edges (del_ring p ring))
       ≡ (list_any test inner || (test (t.y, t.x) || false))
   edges_after test =
-      sym (edges_turned test (others p ring) (del_ring p ring) (canonical_rotated (others p ring)))
+      sym (edges_turned test (others p ring) (del_ring p ring) (canonical_turns (others p ring)))
       ∙ edges_turned test (others p ring) rest others_begun
       ∙ ap (list_any test) (links_on t.x)
       ∙ list_any-append test inner ((t.y, t.x) ∷ [])
 
   -- no edge that stays ends at p
   inner_off : (s : Segment) → list_any (is_of s) inner ≡ true → is_end p s ≡ false
-  inner_off s h = by (is_end p s) refl
-    where
-      e : (e : Edge) × In e inner × (is_of s e ≡ true)
-      e = any_in (is_of s) inner h
-
-      ends : In e.0.0 rest × In e.0.1 rest
-      ends = edge_in t.x (t.mid ++ t.y ∷ []) e.0 (subst (In e.0) (sym (links_on t.x)) (in_left e.0 inner ((t.y, t.x) ∷ []) e.1))
-
-      by : (b : Bool) → is_end p s ≡ b → is_end p s ≡ false
-      by false u = u
-      by true u = absurd (false≢true (sym lacks ∙ elim (end_of_two p e.0.0 e.0.1 (ap (is_end p) (segment_eq-true (segment_of e.0) s e.2) ∙ u)) [
-        | inl m ↦ in-has p rest (subst (λ z. In z rest) (sym m) ends.0)
-        | inr m ↦ in-has p rest (subst (λ z. In z rest) (sym m) ends.1)
-      ]))
+  inner_off s h =
+      let e = any_in (is_of s) inner h in
+      off_edge p t.x (t.mid ++ t.y ∷ []) lacks s e.0 (subst (In e.0) (sym (links_on t.x)) (in_left e.0 inner ((t.y, t.x) ∷ []) e.1)) e.2
 
   of_first : (s : Segment) (q : Position) → is_of s (p, q) ≡ true → is_end p s ≡ true
   of_first s q h = ap (is_end p) (sym (segment_eq-true (segment p q) s h)) ∙ (two_ends p q).0
@@ -126,13 +123,7 @@ module _ (p : Position) (ring : List Position) (d : is_distinct ring ≡ true) (
     where
       by : (a b c f e : Bool) → (a ≡ true → e ≡ false) → (c ≡ true → e ≡ true) → (f ≡ true → e ≡ true)
           → (a || (b || false)) ≡ (((c || (a || (f || false))) && not e) || b)
-      by true b c f true h k l = absurd (false≢true (sym (h refl)))
-      by true b c f false h k l = grind arith
-      by false b true f true h k l = grind arith
-      by false b true f false h k l = absurd (false≢true (k refl))
-      by false b false true true h k l = grind arith
-      by false b false true false h k l = absurd (false≢true (l refl))
-      by false b false false e h k l = grind arith
+      by a b c f e h k l = grind arith
 
   -- only one edge ends at p, and only one begins there
   before_p : (a : Position) → In (a, p) (edges ring) → a ≡ t.y
@@ -158,52 +149,38 @@ module _ (p : Position) (ring : List Position) (d : is_distinct ring ≡ true) (
 -- the segment of the neighbours of p is all that stands around p in a ring
 pub spot_is : (p : Position) (ring : List Position) → is_distinct ring ≡ true → (t : BegunAt p ring)
     → (s : Segment) → In (p, s) (spots ring) → s ≡ segment t.x t.y
-spot_is p [] d t s h = absurd h
-spot_is p (x ∷ []) d t s h = absurd h
 spot_is p (x ∷ y ∷ zs) d t s h =
     let b = beside_edges x y zs (p, s) h in
     b.2 ∙ ap₂ segment (before_p p (x ∷ y ∷ zs) d t b.0 b.3) (after_p p (x ∷ y ∷ zs) d t b.1 b.4) ∙ segment-comm t.y t.x
+spot_is p _ d t s h = absurd h
 
 -- a ring with a place of p has p
 spot_has : (p : Position) (ring : List Position) (s : Segment) → In (p, s) (spots ring) → has ring p ≡ true
-spot_has p [] s h = absurd h
-spot_has p (x ∷ []) s h = absurd h
 spot_has p (x ∷ y ∷ zs) s h =
     let b = beside_edges x y zs (p, s) h in
     in-has p (x ∷ y ∷ zs) (edge_in x (y ∷ zs) (b.0, p) b.3).1
+spot_has p _ s h = absurd h
 
 -- and p has a place there
 pub spot_of : (p : Position) (ring : List Position) → is_ring ring ≡ true → (t : BegunAt p ring)
     → (s : Segment) × In (p, s) (spots ring)
-spot_of p [] h t = absurd (false≢true h)
-spot_of p (x ∷ []) h t = absurd (false≢true h)
 spot_of p (x ∷ y ∷ zs) h t =
     let e = end_place x y zs (t.y, p) (edge_back p (x ∷ y ∷ zs) (ring_distinct (x ∷ y ∷ zs) h) t) in
     (segment t.y e.0, e.1)
+spot_of p _ h t = absurd (false≢true h)
 
 -- ---- a ring without p
 
 pub same_without : (p : Position) (ring : List Position) → is_ring ring ≡ true → has ring p ≡ false
     → del_ring p ring ≡ ring
-same_without p ring h n = ap canonical (filter_lacks p ring n) ∙ canonical_ring ring h
+same_without p ring h n = ap canonical (filter_lacks p ring n) ∙ ring_is_canonical ring h
 
 pub segments_off : (p : Position) (ring : List Position) → has ring p ≡ false → (s : Segment)
     → has_segment s ring ≡ true → is_end p s ≡ false
 segments_off p [] n s h = absurd (false≢true h)
-segments_off p (x ∷ ps) n s h = by (is_end p s) refl
-  where
-    e : (e : Edge) × In e (edges (x ∷ ps)) × (is_of s e ≡ true)
-    e = any_in (is_of s) (edges (x ∷ ps)) (sym (has_segment_by s (x ∷ ps)) ∙ h)
-
-    ends : In e.0.0 (x ∷ ps) × In e.0.1 (x ∷ ps)
-    ends = edge_in x ps e.0 e.1
-
-    by : (b : Bool) → is_end p s ≡ b → is_end p s ≡ false
-    by false u = u
-    by true u = absurd (false≢true (sym n ∙ elim (end_of_two p e.0.0 e.0.1 (ap (is_end p) (segment_eq-true (segment_of e.0) s e.2) ∙ u)) [
-      | inl m ↦ in-has p (x ∷ ps) (subst (λ z. In z (x ∷ ps)) (sym m) ends.0)
-      | inr m ↦ in-has p (x ∷ ps) (subst (λ z. In z (x ∷ ps)) (sym m) ends.1)
-    ]))
+segments_off p (x ∷ ps) n s h =
+    let e = any_in (is_of s) (edges (x ∷ ps)) (sym (has_segment_by s (x ∷ ps)) ∙ h) in
+    off_edge p x ps n s e.0 e.1 e.2
 
 -- ---- lists of one segment
 

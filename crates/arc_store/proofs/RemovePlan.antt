@@ -1,11 +1,11 @@
 -- The plan of a removal from between two vertices: what comes and goes, and what is kept.
-use Rattle.std.proofs.Common.{◌≡◌, ◌≤◌, ◌+◌, ◌-◌, ℕ, Bool, true, false, refl, sym, ap, ap₂, ◌∙◌}
+use Rattle.std.proofs.Common.{◌≡◌, ◌≤◌, ◌+◌, ◌-◌, ℕ, true, false, refl, sym, ap, ap₂, ◌∙◌}
 use Rattle.std.proofs.Common.{subst, List, [], ◌∷◌, inl, inr, arith, Option, Some}
 use Rattle.std.specs.FinMap as table
 use Rattle.std.specs.FinSet as set
 use Rattle.std.proofs.lemmas.Bool.{false≢true}
 use Rattle.grid_geometry.specs.Position.{Position}
-use Rattle.grid_geometry.specs.Segment.{Segment, segment, segment_eq}
+use Rattle.grid_geometry.specs.Segment.{Segment, segment}
 use Rattle.ring_machine.specs.Document.{Document}
 use Rattle.ring_machine.specs.Parts.{size, is_segment, is_vertex}
 use Rattle.ring_machine.specs.Refusals.{are_long, is_bridged}
@@ -41,6 +41,7 @@ use Rattle.ring_machine.proofs.Members.{any_in}
 use Rattle.arc_store.proofs.Removed.{Removing, without_vertex, document_removed, reindexed_removed}
 use Rattle.arc_store.proofs.Removed.{holds_removed, size_removed}
 use Rattle.arc_store.proofs.RingUsers.{users_same}
+use Rattle.ring_machine.proofs.Order.{refuted}
 
 -- where a vertex is no junction, the answer on its neighbours gives two
 pub two_neighbours : (s : Stored) → IsWhole s → (m : ℕ) (p : Position) → table.get s.places m ≡ Some p
@@ -152,12 +153,9 @@ module _ {frame : Framed} {rings : Rings} {places : Placement} {held : SegmentSe
 
   -- and are two
   remove_single : AreSingle (spokes p (a ∷ b ∷ []))
-  remove_single = two_single (segment a p) (segment b p) (differ (segment_eq (segment a p) (segment b p)) refl)
-    where
-      differ : (c : Bool) → segment_eq (segment a p) (segment b p) ≡ c
-          → segment_eq (segment a p) (segment b p) ≡ false
-      differ false e = e
-      differ true e = absurd (f.read.two.0 (one_to places p whole.distinct j k (joined_kept s whole m j joined_j).1 (joined_kept s whole m k joined_k).1 (segment_eq-true (segment a p) (segment b p) e)))
+  remove_single =
+      two_single (segment a p) (segment b p) (refuted _ (λ e.
+      f.read.two.0 (one_to places p whole.distinct j k (joined_kept s whole m j joined_j).1 (joined_kept s whole m k joined_k).1 (segment_eq-true (segment a p) (segment b p) e))))
 
   pub planned : IsPlanned (document_of s) held p after before
   planned =

@@ -1,12 +1,10 @@
 -- What a removal of a vertex does to a map that is kept.
-use Rattle.std.proofs.Common.{◌≡◌, ◌≢◌, ◌≤◌, ◌+◌, ℕ, Bool, true, false, refl, sym, ap, ap₂, ◌∙◌}
-use Rattle.std.proofs.Common.{subst, cond, List, [], ◌∷◌, ◌++◌, map, length, inl, inr, ◌&&◌, ◌||◌}
-use Rattle.std.proofs.Common.{arith, Some, is_some}
-use Rattle.std.specs.Prelude.{not, ◌==◌, option_map, unwrap_or}
+use Rattle.std.proofs.Common.{◌≡◌, ◌≢◌, ◌≤◌, ◌+◌, ℕ, Bool, true, false, refl, sym, ap, ap₂, ◌∙◌, subst, cond, List, []}
+use Rattle.std.proofs.Common.{◌∷◌, ◌++◌, map, length, inl, inr, ◌&&◌, ◌||◌, arith, Some, is_some}
+use Rattle.std.specs.Prelude.{not, option_map, unwrap_or}
 use Rattle.std.specs.List.{filter, list_any}
 use Rattle.std.specs.FinMap as table
-use Rattle.std.proofs.lemmas.Bool.{false≢true}
-use Rattle.std.proofs.lemmas.Bool.Decides.{Decides-eqb}
+use Rattle.std.proofs.lemmas.Bool.{false≢true, cases_Bool}
 use Rattle.std.specs.FinSet as set
 use native.Mathlib.Decide.{ℕ_discrete}
 use Rattle.grid_geometry.specs.Position.{Position, position_eq}
@@ -19,14 +17,13 @@ use Rattle.ring_machine.specs.Vertices.{del, del_ring}
 use Rattle.ring_machine.specs.Planar.{Proper}
 use Rattle.ring_machine.proofs.Arcs.{is_of}
 use Rattle.ring_machine.proofs.Orders.{segment_ordered}
-use Rattle.ring_machine.proofs.Order.{position_eq-true, position_eq-refl}
+use Rattle.ring_machine.proofs.Order.{position_eq-true, position_eq-refl, refuted}
 use Rattle.ring_machine.proofs.Canonical.{Pivot}
 use Rattle.ring_machine.proofs.Edges.{starts, starts_of, by_edges}
 use Rattle.ring_machine.proofs.First.{In, filter-in}
 use Rattle.ring_machine.proofs.InRings.{document-agrees}
 use Rattle.ring_machine.proofs.Neighbours.{all_of, all_in, in-map, has-in, in-has}
-use Rattle.ring_machine.proofs.Removal.{g_del, del_is, Beside, others, filter_lacks}
-use Rattle.ring_machine.proofs.Removal.{onto as drawn_onto}
+use Rattle.ring_machine.proofs.Removal.{g_del, del_is, Beside, others, filter_lacks, onto as drawn_onto}
 use Rattle.ring_machine.proofs.RingsOf.{rings-in_rings}
 use Rattle.ring_machine.proofs.StaysProper.{ring_long, ring_distinct, del_is_proper}
 use Rattle.ring_machine.proofs.RingSegments.{segment_eq-true}
@@ -49,29 +46,17 @@ use Rattle.feature_exchange.proofs.Ends.{two_ends}
 use Rattle.arc_store.proofs.Insertions.{has_segment, has_segment_by}
 use Rattle.arc_store.proofs.Numbers.{users_of, framed_has}
 use Rattle.arc_store.proofs.Removals.{segments_off, size_del}
-use Rattle.ring_store.proofs.Places.{IsKept, place_is, place_kept, one_key}
-use Rattle.feature_exchange.proofs.Base.{AreJoined, segments_at, document_ring, rings_are}
-use Rattle.feature_exchange.proofs.Base.{ring_under_is, begin_kept, framed}
-use Rattle.feature_exchange.proofs.Base.{ring_is_ring, joined_kept, joined_differ}
+use Rattle.ring_store.proofs.Places.{IsKept, place_is, place_kept, one_key, place_alike, remove_here, remove_other}
+use Rattle.feature_exchange.proofs.Base.{AreJoined, segments_at, document_ring, rings_are, ring_under_is, begin_kept}
+use Rattle.feature_exchange.proofs.Base.{framed, ring_is_ring, joined_kept, joined_differ}
 use Rattle.ring_store.proofs.KeyRings.{laid, edge_ends, edge_apart, is_seg_ends, ends_is_seg}
 use Rattle.ring_store.proofs.KeyRings.{in_canonical, of_canonical}
-use Rattle.arc_store.proofs.KeyWays.{edited_along, edited_way, drawn_keeps, round_way, round_of_way}
-use Rattle.arc_store.proofs.RingEdits.{ring_pivot, canonical_ring, begun_at, edge_on, edge_back}
-use Rattle.arc_store.proofs.RingEdits.{beside_next, beside_last}
-use Rattle.ring_store.proofs.Places.{place_alike, remove_here, remove_other}
+use Rattle.arc_store.proofs.KeyWays.{edited_along, edited_way, drawn_keeps, round_way, round_of_way, meets_onto}
+use Rattle.arc_store.proofs.RingEdits.{ring_pivot, begun_at, edge_on, edge_back, beside_next, beside_last}
+use Rattle.ring_machine.proofs.CutRings.{ring_is_canonical}
+use Rattle.arc_tables.proofs.Removing.{onto_p, onto_other}
 
 -- ---- one ring
-
--- what m moves to
-onto_same : (m k x : ℕ) → x ≡ m → onto m k x ≡ k
-onto_same m k x e = ap (λ t. cond t k x) ((Decides-eqb x m).1 e)
-
-onto_other : (m k x : ℕ) → x ≢ m → onto m k x ≡ x
-onto_other m k x f = by (x == m) refl
-  where
-    by : (t : Bool) → (x == m) ≡ t → cond t k x ≡ x
-    by true e = absurd (f ((Decides-eqb x m).0 e))
-    by false e = refl
 
 -- two keys of an edge come together where the edge goes
 onto_meets : (m k : ℕ) (e : Edge) → e.0 ≢ e.1 → onto m k e.0 ≡ onto m k e.1 → is_seg m k e ≡ true
@@ -79,19 +64,9 @@ onto_meets m k e f h = by (ℕ_discrete e.0 m) (ℕ_discrete e.1 m)
   where
     by : Dec (e.0 ≡ m) → Dec (e.1 ≡ m) → is_seg m k e ≡ true
     by (yes u) (yes v) = absurd (f (u ∙ sym v))
-    by (yes u) (no v) = ends_is_seg m k e (inl (u, sym (onto_other m k e.1 v) ∙ sym h ∙ onto_same m k e.0 u))
-    by (no u) (yes v) = ends_is_seg m k e (inr (sym (onto_other m k e.0 u) ∙ h ∙ onto_same m k e.1 v, v))
+    by (yes u) (no v) = ends_is_seg m k e (inl (u, sym (onto_other m k e.1 v) ∙ sym h ∙ onto_p m k e.0 u))
+    by (no u) (yes v) = ends_is_seg m k e (inr (sym (onto_other m k e.0 u) ∙ h ∙ onto_p m k e.1 v, v))
     by (no u) (no v) = absurd (f (sym (onto_other m k e.0 u) ∙ h ∙ onto_other m k e.1 v))
-
-meets_onto : (m k : ℕ) (e : Edge) → is_seg m k e ≡ true → onto m k e.0 ≡ onto m k e.1
-meets_onto m k e h = elim (is_seg_ends m k e h) [
-  | inl i ↦ onto_same m k e.0 i.0 ∙ sym (ap (onto m k) i.1 ∙ stays (k == m))
-  | inr i ↦ ap (onto m k) i.0 ∙ stays (k == m) ∙ sym (onto_same m k e.1 i.1)
-]
-  where
-    stays : (t : Bool) → cond t k k ≡ k
-    stays true = refl
-    stays false = refl
 
 -- the ring of the positions, where m moves onto its neighbour k in the ring
 pub del_along : (at at' : ℕ → Position) (m k : ℕ) (es : List Edge) → GoesRound es
@@ -112,19 +87,13 @@ del_along at at' m k es g same inj beside h =
         let ends = edge_ends es g e i in
         ap₂ (λ y z. starts (cond (position_eq y z) [] ((y, z) ∷ []))) (same e.0 ends.0) (same e.1 ends.1)
         ∙ ap (λ t. starts (cond t [] ((at' (onto m k e.0), at' (onto m k e.1)) ∷ []))) (test ends)
-        ∙ by (is_seg m k e)
+        ∙ grind arith
       where
         test : In e.0 (begins es) × In e.1 (begins es)
             → position_eq (at' (onto m k e.0)) (at' (onto m k e.1)) ≡ is_seg m k e
         test ends = same_answer _ (is_seg m k e)
             (λ t. onto_meets m k e (edge_apart es g e i) (inj e.0 e.1 ends.0 ends.1 (position_eq-true (at' (onto m k e.0)) (at' (onto m k e.1)) t)))
             (λ t. ap (λ z. position_eq (at' z) (at' (onto m k e.1))) (meets_onto m k e t) ∙ position_eq-refl (at' (onto m k e.1)))
-
-        by : (t : Bool)
-            → starts (cond t [] ((at' (onto m k e.0), at' (onto m k e.1)) ∷ []))
-            ≡ map at' (begins (cond t [] ((onto m k e.0, onto m k e.1) ∷ [])))
-        by true = refl
-        by false = refl
 
 -- edges that are not at m stay
 collapsed_same : (m k : ℕ) (es : List Edge) → ((e : Edge) → In e es → (e.0 ≢ m) × (e.1 ≢ m))
@@ -204,7 +173,7 @@ module _ (s : Stored) (after : Rings) (m j k : ℕ) (p : Position) (w : IsWhole 
   onto_kept x h = by (ℕ_discrete x m)
     where
       by : Dec (x ≡ m) → IsKept s.places (onto m k x) × (onto m k x ≢ m)
-      by (yes e) = (subst (IsKept s.places) (sym (onto_same m k x e)) k_kept, λ f. k_differs (sym (onto_same m k x e) ∙ f))
+      by (yes e) = (subst (IsKept s.places) (sym (onto_p m k x e)) k_kept, λ f. k_differs (sym (onto_p m k x e) ∙ f))
       by (no f) = (subst (IsKept s.places) (sym (onto_other m k x f)) h, λ e. f (sym (onto_other m k x f) ∙ e))
 
   onto_place : (x : ℕ) → IsKept s.places x
@@ -215,15 +184,10 @@ module _ (s : Stored) (after : Rings) (m j k : ℕ) (p : Position) (w : IsWhole 
           → drawn_onto (place s.places m) (place s.places k) (place s.places x) ≡ place next.places (onto m k x)
       by (yes e) =
           ap (λ t. cond t (place s.places k) (place s.places x)) (ap (λ z. position_eq (place s.places z) (place s.places m)) e ∙ position_eq-refl (place s.places m))
-          ∙ sym (place_stays k k_differs) ∙ ap (place next.places) (sym (onto_same m k x e))
+          ∙ sym (place_stays k k_differs) ∙ ap (place next.places) (sym (onto_p m k x e))
       by (no f) =
-          ap (λ t. cond t (place s.places k) (place s.places x)) (off (position_eq (place s.places x) (place s.places m)) refl)
+          ap (λ t. cond t (place s.places k) (place s.places x)) (refuted _ (λ e. elsewhere x h f (position_eq-true (place s.places x) (place s.places m) e ∙ p_is)))
           ∙ sym (place_stays x f) ∙ ap (place next.places) (sym (onto_other m k x f))
-        where
-          off : (t : Bool) → position_eq (place s.places x) (place s.places m) ≡ t
-              → position_eq (place s.places x) (place s.places m) ≡ false
-          off false e = e
-          off true e = absurd (elsewhere x h f (position_eq-true (place s.places x) (place s.places m) e ∙ p_is))
 
   -- the ring of the edited edges, where the ring has p and where not
   ring_with : (r : ℕ) → In r (rings s.frame) → (es : List Edge) → table.get s.rings r ≡ Some es
@@ -254,7 +218,7 @@ module _ (s : Stored) (after : Rings) (m j k : ℕ) (p : Position) (w : IsWhole 
       ap (λ z. canonical (positions_along next.places z)) (collapsed_same m k es (λ d u. let ends = edge_ends es (w.round r es e) d u in (off_m r es e t d.0 ends.0, off_m r es e t d.1 ends.1)))
       ∙ ap canonical (mapped_same (begins es) (λ x u. place_stays x (off_m r es e t x u)))
       ∙ sym (ring_under_is s w r es e)
-      ∙ sym (ap canonical (filter_lacks p (ring_under s r) t) ∙ canonical_ring (ring_under s r) (ring_is_ring s w r es e))
+      ∙ sym (ap canonical (filter_lacks p (ring_under s r) t) ∙ ring_is_canonical (ring_under s r) (ring_is_ring s w r es e))
     where
       mapped_same : (xs : List ℕ) → ((x : ℕ) → In x xs → place next.places x ≡ place s.places x)
           → map (place next.places) xs ≡ map (place s.places) xs
@@ -263,12 +227,7 @@ module _ (s : Stored) (after : Rings) (m j k : ℕ) (p : Position) (w : IsWhole 
 
   ring_edited : (r : ℕ) → In r (rings s.frame) → (es : List Edge) → table.get s.rings r ≡ Some es
       → canonical (positions_along next.places (collapsed m k es)) ≡ del_ring p (ring_under s r)
-  ring_edited r h es e = by (has (ring_under s r) p) refl
-    where
-      by : (t : Bool) → has (ring_under s r) p ≡ t
-          → canonical (positions_along next.places (collapsed m k es)) ≡ del_ring p (ring_under s r)
-      by true t = ring_with r h es e t
-      by false t = ring_without r es e t
+  ring_edited r h es e = elim (cases_Bool (has (ring_under s r) p)) [ inl t ↦ ring_with r h es e t | inr t ↦ ring_without r es e t ]
 
   edges_after : (r : ℕ) (es : List Edge) → table.get s.rings r ≡ Some es
       → table.get after r ≡ Some (collapsed m k es)
@@ -331,14 +290,13 @@ module _ (s : Stored) (after : Rings) (m j k : ℕ) (p : Position) (w : IsWhole 
   still_there r es e x u f =
       of_canonical (positions_along next.places (collapsed m k es)) (place s.places x)
       (subst (In (place s.places x)) (sym (ring_edited r (framed_ring r es e) es e))
-      (in_canonical (others p (ring_under s r)) (place s.places x) (filter-in (λ z. not (position_eq z p)) (place s.places x) (ring_under s r) was (ap not (off (position_eq (place s.places x) p) refl)))))
+      (in_canonical (others p (ring_under s r)) (place s.places x) (filter-in (λ z. not (position_eq z p)) (place s.places x) (ring_under s r) was (ap not off))))
     where
       was : In (place s.places x) (ring_under s r)
       was = subst (In (place s.places x)) (sym (ring_under_is s w r es e)) (in_canonical (positions_along s.places es) (place s.places x) (in-map (place s.places) x (begins es) u))
 
-      off : (t : Bool) → position_eq (place s.places x) p ≡ t → position_eq (place s.places x) p ≡ false
-      off false v = v
-      off true v = absurd (elsewhere x (begin_kept s w r es e x u) f (position_eq-true (place s.places x) p v))
+      off : position_eq (place s.places x) p ≡ false
+      off = refuted _ (λ v. elsewhere x (begin_kept s w r es e x u) f (position_eq-true (place s.places x) p v))
 
   still_passed : (r : ℕ) (es : List Edge) → table.get s.rings r ≡ Some es → (x : ℕ)
       → In x (begins es) → x ≢ m → In x (begins (collapsed m k es))
@@ -431,9 +389,7 @@ module _ (s : Stored) (after : Rings) (m j k : ℕ) (p : Position) (w : IsWhole 
     where
       by : (was comes at_p : Bool) → (comes ≡ true → was ≡ false)
           → ((was || (comes || false)) && not (was && at_p)) ≡ ((was && not at_p) || comes)
-      by true true at_p f = absurd (false≢true (sym (f refl)))
-      by true false at_p f = grind arith
-      by false comes at_p f = grind arith
+      by was comes at_p f = grind arith
 
 -- the map without the vertex is held again, where the index has its segments
 pub holds_removed : (s : Stored) (held held' : SegmentSet) (after : Rings) (m j k : ℕ) (p : Position)

@@ -4,8 +4,7 @@ use Rattle.std.specs.List.{AllByRecursion}
 use Rattle.grid_geometry.specs.Position.{Position}
 use Rattle.ring_machine.specs.Document.{Document, Feature}
 use Rattle.edit_records.specs.Places.{LayerTree, exchanged}
-use Rattle.edit_records.specs.Records.{Record, Moved, Inserted, Exchanged}
-use Rattle.edit_records.specs.Records.{back, IsMap, AreChanged, Undoes}
+use Rattle.edit_records.specs.Records.{Record, Moved, Inserted, Exchanged, back, IsMap, AreChanged, Undoes}
 use Rattle.topo_outline.specs.Kept.{KeepsTexts}
 use Rattle.arc_store.specs.Edits.{IsMovable, IsLeavable}
 use Rattle.arc_store.specs.Exchanged.{MayExchange}

@@ -1,24 +1,25 @@
 -- Rings that are turned: what stays, and what stands beside a position of them.
 use Rattle.std.proofs.Common.{◌≡◌, ◌≢◌, ◌≤◌, Bool, true, false, refl, sym, ap, ◌∙◌, subst, List, []}
-use Rattle.std.proofs.Common.{◌∷◌, ◌++◌, length, inl, inr, ◌&&◌, ◌||◌, arith}
-use Rattle.std.specs.Prelude.{not, nat_le}
+use Rattle.std.proofs.Common.{◌∷◌, ◌++◌, length, inl, inr, ◌||◌, arith}
+use Rattle.std.specs.Prelude.{not}
 use Rattle.std.specs.List.{list_any}
 use Rattle.std.proofs.lemmas.Bool.{false≢true}
-use Rattle.std.proofs.lemmas.List.{append-nil, length-append}
+use Rattle.std.proofs.lemmas.List.{length-append}
 use Rattle.std.proofs.lemmas.List.Folds.{list_any-append}
 use Rattle.grid_geometry.specs.Position.{Position}
 use Rattle.grid_geometry.specs.Ring.{Edge, edges, links}
-use Rattle.ring_machine.specs.Ring.{has, is_distinct, is_ring, begins_least, canonical}
+use Rattle.ring_machine.specs.Ring.{has, is_distinct, is_ring, canonical}
 use Rattle.ring_machine.proofs.Order.{and_both}
-use Rattle.ring_machine.proofs.Canonical.{Pivot, pivot_of, canonical_parts, canonical_at}
+use Rattle.ring_machine.proofs.Canonical.{Pivot, pivot_of, canonical_parts}
 use Rattle.ring_machine.proofs.First.{In, in_right}
 use Rattle.ring_machine.proofs.Neighbours.{in-has}
-use Rattle.ring_machine.proofs.Spots.{Rotated, rotated-trans}
+use Rattle.ring_machine.proofs.Spots.{Rotated, rotated-trans, rotated_distinct}
 use Rattle.ring_machine.proofs.Removal.{not_true, NextTo, second, last, Beside}
 use Rattle.ring_machine.proofs.StaysProper.{ring_distinct}
 use Rattle.ring_machine.proofs.StaysRing.{distinct_swap}
 use Rattle.ring_machine.proofs.Members.{in_swap}
 use Rattle.ring_store.proofs.KeyRings.{edges_swap}
+use Rattle.ring_machine.proofs.Passed.{in_split}
 
 -- ---- the canonical ring only turns
 
@@ -54,22 +55,6 @@ edge_turned ps qs r e h =
     let sw = edges_swap r.us r.vs in
     subst (In e) (sym (ap edges r.from ∙ sw.2)) (in_swap e sw.1 sw.0 (subst (In e) (ap edges r.to ∙ sw.3) h))
 
-pub canonical_rotated : (ps : List Position) → Rotated ps (canonical ps)
-canonical_rotated ps =
-    let parts = canonical_parts ps in
-    record { us = parts.0; vs = parts.1; from = parts.2; to = parts.3 }
-
-pub distinct_rotated : (ps qs : List Position) → Rotated ps qs → is_distinct ps ≡ true
-    → is_distinct qs ≡ true
-distinct_rotated ps qs r d = ap is_distinct r.to ∙ distinct_swap r.us r.vs (ap is_distinct (sym r.from) ∙ d)
-
--- a ring begins at its least position already
-pub canonical_ring : (ring : List Position) → is_ring ring ≡ true → canonical ring ≡ ring
-canonical_ring [] h = absurd (false≢true h)
-canonical_ring (p ∷ ps) h =
-    let long = and_both (nat_le 3 (length (p ∷ ps))) (is_distinct (p ∷ ps) && begins_least (p ∷ ps)) h in
-    canonical_at [] ps p refl (and_both (is_distinct (p ∷ ps)) (begins_least (p ∷ ps)) long.1).1 ∙ ap (λ z. p ∷ z) (append-nil ps)
-
 -- ---- a ring begun at one of its positions
 
 -- begun at p, the ring goes on to x, and comes back from y
@@ -79,19 +64,13 @@ pub record BegunAt (p : Position) (ring : List Position) : Type 0 where
   pub y : Position
   pub turned : Rotated ring (p ∷ x ∷ mid ++ y ∷ [])
 
-in_parts : (p : Position) (ps : List Position) → In p ps
-    → (us : List Position) × (vs : List Position) × (ps ≡ us ++ p ∷ vs)
-in_parts p [] h = absurd h
-in_parts p (q ∷ ps) (inl e) = ([], ps, ap (λ z. z ∷ ps) e)
-in_parts p (q ∷ ps) (inr h) = let k = in_parts p ps h in (q ∷ k.0, k.1, ap (λ z. q ∷ z) k.2)
-
 with_last : (q : Position) (qs : List Position)
     → (ys : List Position) × (y : Position) × (q ∷ qs ≡ ys ++ y ∷ [])
 with_last q [] = ([], q, refl)
 with_last q (r ∷ qs) = let k = with_last r qs in (q ∷ k.0, k.1, ap (λ z. q ∷ z) k.2)
 
 pub begun_at : (p : Position) (ring : List Position) → In p ring → 3 ≤ length ring → BegunAt p ring
-begun_at p ring h l = by (in_parts p ring h)
+begun_at p ring h l = by (in_split p ring h)
   where
     by : (us : List Position) × (vs : List Position) × (ring ≡ us ++ p ∷ vs) → BegunAt p ring
     by k = go (k.1 ++ k.0) refl
@@ -111,7 +90,7 @@ module _ (p : Position) (ring : List Position) (d : is_distinct ring ≡ true) (
   begun = p ∷ t.x ∷ t.mid ++ t.y ∷ []
 
   begun_distinct : is_distinct begun ≡ true
-  begun_distinct = distinct_rotated ring begun t.turned d
+  begun_distinct = rotated_distinct ring begun t.turned d
 
   after_distinct : (has (t.x ∷ t.mid ++ t.y ∷ []) p ≡ false) × (has (t.mid ++ t.y ∷ []) t.x ≡ false) × (is_distinct (t.mid ++ t.y ∷ []) ≡ true)
   after_distinct =

@@ -1,7 +1,6 @@
 -- How many rings have a segment, counted over the rings that are kept.
-use Rattle.std.proofs.Common.{◌≡◌, ◌≢◌, ◌+◌, ℕ, Bool, true, false, refl, sym, ap, ap₂, ◌∙◌}
-use Rattle.std.proofs.Common.{cond, List, [], ◌∷◌, map, length, ◌||◌, ◌&&◌, inl, inr, arith}
-use Rattle.std.proofs.Common.{Some, None, is_some}
+use Rattle.std.proofs.Common.{◌≡◌, ◌≢◌, ◌+◌, ℕ, Bool, true, false, refl, sym, ap, ap₂, ◌∙◌, cond, List, [], ◌∷◌, map}
+use Rattle.std.proofs.Common.{length, ◌||◌, ◌&&◌, inl, inr, arith, Some, None, is_some}
 use Rattle.std.specs.Prelude.{not, ◌==◌, unwrap_or, count_by, T}
 use Rattle.std.specs.List.{filter}
 use Rattle.std.specs.FinMap as table
@@ -9,7 +8,7 @@ use Rattle.std.specs.FinMap.Entries.{below_all}
 use Rattle.std.specs.Ordering.{nat_cmp, is_lt, is_eq, eq_by_cmp}
 use Rattle.std.specs.declared.cmp.Ordering.{Ordering}
 use Rattle.std.specs.declared.cmp.Ordering.TheVariants.{Less, Equal, Greater}
-use Rattle.std.proofs.lemmas.Bool.{false≢true}
+use Rattle.std.proofs.lemmas.Bool.{false≢true, ne_eqb}
 use Rattle.std.proofs.lemmas.Bool.Decides.{Decides-eqb, nat_tests}
 use Rattle.std.proofs.lemmas.List.Sums.{sum_by-cons}
 use native.Mathlib.Decide.{ℕ_discrete}
@@ -34,13 +33,6 @@ but k rs = filter (λ r. not (r == k)) rs
 same_key : (k : ℕ) → (k == k) ≡ true
 same_key k = (Decides-eqb k k).1 refl
 
-other_key : (r k : ℕ) → r ≢ k → (r == k) ≡ false
-other_key r k f = by (r == k) refl
-  where
-    by : (b : Bool) → (r == k) ≡ b → (r == k) ≡ false
-    by false e = e
-    by true e = absurd (f ((Decides-eqb r k).0 e))
-
 -- a number that is not there is not that of one there
 absent : (k r : ℕ) (rs : List ℕ) → has_key k rs ≡ false → In r rs → r ≢ k
 absent k r rs h i e = false≢true (sym h ∙ in_any (λ m. m == k) r rs i (ap (λ z. z == k) e ∙ same_key k))
@@ -49,7 +41,7 @@ absent k r rs h i e = false≢true (sym h ∙ in_any (λ m. m == k) r rs i (ap (
 kept_all : (k : ℕ) (rs : List ℕ) → ((r : ℕ) → In r rs → r ≢ k) → but k rs ≡ rs
 kept_all k [] h = refl
 kept_all k (r ∷ rs) h =
-    ap (λ b. cond (not b) (r ∷ but k rs) (but k rs)) (other_key r k (h r (inl refl)))
+    ap (λ b. cond (not b) (r ∷ but k rs) (but k rs)) (ne_eqb r k (h r (inl refl)))
     ∙ ap (λ z. r ∷ z) (kept_all k rs (λ x i. h x (inr i)))
 
 -- what passes, with and without one that is there once
@@ -60,8 +52,7 @@ one_out test k (r ∷ rs) d i =
     by (ℕ_discrete r k) (and_both (not (has_key r rs)) (are_distinct rs) d).0 (one_out test k rs (and_both (not (has_key r rs)) (are_distinct rs) d).1)
   where
     more : (b : Bool) (n : ℕ) (xs : List ℕ) → length xs ≡ n → length (cond b (r ∷ xs) xs) ≡ one b + n
-    more true n xs e = omega (arith, e)
-    more false n xs e = omega (arith, e)
+    more b n xs e = grind arith
 
     by : Dec (r ≡ k) → not (has_key r rs) ≡ true
         → (In k rs → length (filter test rs) ≡ one (test k) + length (filter test (but k rs)))
@@ -74,7 +65,7 @@ one_out test k (r ∷ rs) d i =
     by (no f) n rest =
         let there : In k rs = elim i [ inl e ↦ absurd (f e) | inr j ↦ j ] in
         let is : length (filter test (but k (r ∷ rs))) ≡ one (test r) + length (filter test (but k rs)) =
-        ap (λ b. length (filter test (cond (not b) (r ∷ but k rs) (but k rs)))) (other_key r k f)
+        ap (λ b. length (filter test (cond (not b) (r ∷ but k rs) (but k rs)))) (ne_eqb r k f)
         ∙ more (test r) (length (filter test (but k rs))) (filter test (but k rs)) refl in
         omega (arith, more (test r) (length (filter test rs)) (filter test rs) refl, rest there, is)
 
@@ -85,7 +76,7 @@ distinct_but k (r ∷ rs) d =
   where
     lacks : (xs : List ℕ) → ((x : ℕ) → In x xs → x ≢ r) → has_key r xs ≡ false
     lacks [] h = refl
-    lacks (x ∷ xs) h = ap₂ (λ y z. y || z) (other_key x r (h x (inl refl))) (lacks xs (λ y i. h y (inr i)))
+    lacks (x ∷ xs) h = ap₂ (λ y z. y || z) (ne_eqb x r (h x (inl refl))) (lacks xs (λ y i. h y (inr i)))
 
     by : (b : Bool) → not (has_key r rs) ≡ true → are_distinct (but k rs) ≡ true
         → are_distinct (cond (not b) (r ∷ but k rs) (but k rs)) ≡ true
@@ -98,20 +89,15 @@ alike : (f g : ℕ → Bool) (rs : List ℕ) → ((r : ℕ) → In r rs → f r 
     → length (filter f rs) ≡ length (filter g rs)
 alike f g [] h = refl
 alike f g (r ∷ rs) h =
-    ap (λ b. length (cond b (r ∷ filter f rs) (filter f rs))) (h r (inl refl)) ∙ by (g r) (alike f g rs (λ x i. h x (inr i)))
-  where
-    by : (b : Bool) → length (filter f rs) ≡ length (filter g rs)
-        → length (cond b (r ∷ filter f rs) (filter f rs)) ≡ length (cond b (r ∷ filter g rs) (filter g rs))
-    by true e = omega (arith, e)
-    by false e = e
+    grind (arith, h r (inl refl), alike f g rs (λ x i. h x (inr i)))
 
 -- ---- entries in order
 
-first_true : (a b : Bool) → T (a && b) → T a
+pub first_true : (a b : Bool) → T (a && b) → T a
 first_true true b p = tt
 first_true false b p = absurd p
 
-second_true : (a b : Bool) → T (a && b) → T b
+pub second_true : (a b : Bool) → T (a && b) → T b
 second_true true b p = p
 second_true false b p = absurd p
 
@@ -165,7 +151,7 @@ module _ {X : Type 0} where
       differs r h f = false≢true (sym (ap is_some (not_later e.0 es (first_true (below_all nat_cmp e.0 es) (table.is_sorted nat_cmp es) s))) ∙ ap (λ z. is_some (table.find nat_cmp z es)) (sym f) ∙ h)
 
       back : (r : ℕ) → is_some (table.find nat_cmp r es) ≡ true → In r (but e.0 rs)
-      back r h = filter-in (λ z. not (z == e.0)) r rs (to r (ap is_some (later r (differs r h)) ∙ h)) (ap not (other_key r e.0 (differs r h)))
+      back r h = filter-in (λ z. not (z == e.0)) r rs (to r (ap is_some (later r (differs r h)) ∙ h)) (ap not (ne_eqb r e.0 (differs r h)))
 
 -- as many rings have the segment by their numbers as among all that are kept
 pub users_same : (s : Stored) → IsWhole s → (x y : ℕ)

@@ -1,9 +1,7 @@
 -- How many segments an index holds, and a document has.
-use Rattle.std.proofs.Common.{◌≡◌, ◌≤◌, ◌+◌, ℕ, Bool, true, false, refl, sym, ap, ap₂, ◌∙◌, cond}
-use Rattle.std.proofs.Common.{List, [], ◌∷◌, length, ◌||◌, arith, leb}
+use Rattle.std.proofs.Common.{◌≡◌, ◌+◌, Bool, false, sym, ap, ap₂, ◌∙◌, List, [], ◌∷◌, length, ◌||◌, arith, leb}
 use Rattle.std.specs.FinSet as set
 use Rattle.std.specs.List.{fold}
-use Rattle.std.proofs.lemmas.Bool.{false≢true}
 use Rattle.grid_geometry.specs.Segment.{Segment, segment_cmp}
 use Rattle.ring_machine.specs.Document.{Document}
 use Rattle.ring_machine.specs.Parts.{all_segments}
@@ -13,11 +11,10 @@ use Rattle.segment_index.proofs.Singles.{segment_total, same_sets, is-itself, ha
 use Rattle.feature_exchange.specs.Holds.{IsIndexed}
 use Rattle.ring_store.specs.Planned.{AreNew, Gains}
 use Rattle.ring_store.proofs.SegmentLists.{has-eq, or_nothing, has_all, single_all}
+use Rattle.ring_machine.proofs.Order.{or_right}
 
 or_swap : (a b c : Bool) → (a || (b || c)) ≡ (b || (a || c))
-or_swap true true c = refl
-or_swap true false c = refl
-or_swap false b c = refl
+or_swap a b c = grind arith
 
 -- ---- what an index holds
 
@@ -37,37 +34,20 @@ single_rest : (x : Segment) (xs : List Segment) → AreSingle (x ∷ xs) → Are
 single_rest x xs h t = omega (arith, h t)
 
 single_first : (x : Segment) (xs : List Segment) → AreSingle (x ∷ xs) → has xs x ≡ false
-single_first x xs h = has-is xs x ∙ none (times_in xs x) (by (segment_is x x) (is-itself x) (h x))
-  where
-    by : (b : Bool) → b ≡ true → cond b 1 0 + times_in xs x ≤ 1 → times_in xs x ≡ 0
-    by true e l = omega (arith, l)
-    by false e l = absurd (false≢true e)
-
-    none : (n : ℕ) → n ≡ 0 → leb 1 n ≡ false
-    none n e = ap (leb 1) e
+single_first x xs h =
+    let none : times_in xs x ≡ 0 = grind (arith, is-itself x, h x) in
+    has-is xs x ∙ ap (leb 1) none
 
 new_rest : (h : SegmentSet) (x : Segment) (xs : List Segment) → AreNew h (x ∷ xs) → AreNew h xs
-new_rest h x xs new t e = new t (by (segment_is t x) e)
-  where
-    by : (b : Bool) → has xs t ≡ true → (b || has xs t) ≡ true
-    by true e = refl
-    by false e = e
+new_rest h x xs new t e = new t (or_right (segment_is t x) (has xs t) e)
 
 len_gained : (h : SegmentSet) (xs : List Segment) → AreSingle xs → AreNew h xs
     → set.len (gained h xs) ≡ set.len h + length xs
 len_gained h [] single new = omega arith
 len_gained h (x ∷ xs) single new =
-    by (set.contains (gained h xs) x) absent (set.len-insert segment_total (gained h xs) x) (len_gained h xs (single_rest x xs single) (new_rest h x xs new))
-  where
-    absent : set.contains (gained h xs) x ≡ false
-    absent = contains_gained h xs x ∙ ap₂ (λ a b. a || b) (new x (ap (λ b. b || has xs x) (is-itself x))) (single_first x xs single)
-
-    by : (b : Bool) → b ≡ false
-        → set.len (gained h (x ∷ xs)) ≡ cond b (set.len (gained h xs)) (set.len (gained h xs) + 1)
-        → set.len (gained h xs) ≡ set.len h + length xs
-        → set.len (gained h (x ∷ xs)) ≡ set.len h + length (x ∷ xs)
-    by true e l m = absurd (false≢true (sym e))
-    by false e l m = omega (arith, l, m)
+    let absent : set.contains (gained h xs) x ≡ false =
+    contains_gained h xs x ∙ ap₂ (λ a b. a || b) (new x (ap (λ b. b || has xs x) (is-itself x))) (single_first x xs single) in
+    grind (arith, absent, set.len-insert segment_total (gained h xs) x, len_gained h xs (single_rest x xs single) (new_rest h x xs new))
 
 -- as many more as came
 pub len_gains : (old new : SegmentSet) (xs : List Segment) → AreSingle xs → AreNew old xs

@@ -1,8 +1,7 @@
 -- A feature that is cut, as two features that come in the places of their numbers.
-use Rattle.std.proofs.Common.{◌≡◌, ◌<◌, ℕ, zero, suc, Bool, true, false, refl, sym, ap, ap₂, ◌∙◌, subst, cond, List, [], ◌∷◌, length, get_or, take, slice_set}
-use Rattle.std.proofs.Common.{Option, Some, None, is_some, arith}
+use Rattle.std.proofs.Common.{◌≡◌, ◌<◌, ℕ, zero, suc, Bool, true, false, sym, ap, ap₂, ◌∙◌, subst, cond, List, [], ◌∷◌, length, get_or, take, slice_set}
+use Rattle.std.proofs.Common.{Option, Some, arith}
 use Rattle.std.specs.List.{list_any}
-use Rattle.std.proofs.lemmas.Bool.{false≢true}
 use Rattle.grid_geometry.specs.Position.{Position}
 use Rattle.ring_machine.specs.Document.{Document, Feature, Text, Polygon}
 use Rattle.ring_machine.specs.Parts.{feature}
@@ -18,16 +17,12 @@ use Rattle.map_frame.specs.Texts.{texts_of, with_texts}
 use Rattle.arc_store.specs.Exchanged.{with_polygons, part_of}
 use Rattle.arc_store.specs.Splits.{IsCuttable, IsFirstCut}
 use Rattle.arc_store.proofs.PlacedMap.{next_free}
+use Rattle.ring_machine.proofs.Members.{there}
 
 module _ {A : Type 0} (test : A → Bool) where
   first_passes : (xs : List A) (x : A) → first_that test xs ≡ x ∷ [] → test x ≡ true
   first_passes [] x e = absurd cc
-  first_passes (y ∷ ys) x e = by (test y) refl e (first_passes ys x)
-    where
-      by : (b : Bool) → test y ≡ b → cond b (y ∷ []) (first_that test ys) ≡ x ∷ []
-          → (first_that test ys ≡ x ∷ [] → test x ≡ true) → test x ≡ true
-      by true t k rest = let same : y ≡ x = cc in ap test (sym same) ∙ t
-      by false t k rest = rest k
+  first_passes (y ∷ ys) x e = grind (arith, first_passes ys x)
 
   -- the first one that passes is changed where it stands
   changed_at : (g : A → A) (xs : List A) (i : ℕ) (a : A) → i < length xs
@@ -40,10 +35,6 @@ module _ {A : Type 0} (test : A → Bool) where
       ap (λ b. cond b (g x ∷ xs) (x ∷ change_first test g xs)) h'.0
       ∙ ap (λ z. x ∷ z) (changed_at g xs i a (omega (arith, l)) h'.1 k)
 
-some_there : {X : Type 0} (o : Option X) → is_some o ≡ true → (x : X) × (o ≡ Some x)
-some_there None e = absurd (false≢true e)
-some_there (Some x) e = (x, refl)
-
 -- what is asked for: both parts of feature n, cut in the polygon p at this place
 abbrev pub both_parts : Document → ℕ → ℕ → Text → Path → ℕ → List (List Position) → List (ℕ × Option Feature)
 both_parts d n new id path place p =
@@ -54,7 +45,7 @@ module _ (trees : List LayerTree) (d : Document) (n new : ℕ) (id : Text) (path
     (p : List (List Position)) (placed : ArePlaced trees new d) (a : IsCuttable d n path)
     (c : IsFirstCut (feature_at d n).polygons path place p) where
   found : (f : Feature) × (feature d n ≡ Some f)
-  found = some_there (feature d n) (sym (has_feature-found d n) ∙ a.there)
+  found = there (feature d n) (sym (has_feature-found d n) ∙ a.there)
 
   at : feature_at d n ≡ found.0
   at = ap (or_else no_feature) found.1

@@ -1,10 +1,10 @@
 -- The plan of a split: what the tests are asked of, what they decide, and what is kept.
 use Rattle.std.proofs.Common.{◌≡◌, ◌≤◌, ◌<◌, ℕ, ◌+◌, Bool, true, false, refl, sym, ap, ap₂, ◌∙◌, subst}
-use Rattle.std.proofs.Common.{List, [], ◌∷◌, map, length, slice_set, zero, suc, Option, Some, None, eqb-true, arith}
+use Rattle.std.proofs.Common.{List, [], ◌∷◌, map, length, slice_set, Option, Some, None, eqb-true, arith}
 use Rattle.std.specs.Prelude.{Vec, not, nat_le, nat_lt, ◌==◌}
 use Rattle.std.specs.List.{list_any, sum_by}
 use Rattle.std.proofs.lemmas.Bool.Decides.{nat_tests}
-use Rattle.std.proofs.lemmas.List.{length-append}
+use Rattle.std.proofs.lemmas.List.{length-append, set-set, map-set}
 use Rattle.std.proofs.lemmas.List.Sums.{sum_by-cons, sum_by_more_le}
 use Rattle.grid_geometry.specs.Position.{Position}
 use Rattle.grid_geometry.specs.Segment.{Segment}
@@ -43,8 +43,7 @@ use Rattle.arc_store.specs.Kept.{IsKept, state_of}
 use Rattle.arc_store.specs.Splits.{IsCuttable, IsFirstCut, IsTested}
 use Rattle.arc_store.specs.State.{State}
 use Rattle.arc_store.proofs.CutDecided.{split_after, split_passed, split_decided}
-use Rattle.arc_store.proofs.FeaturesKept.{seen_indexed, seen_size}
-use Rattle.arc_store.proofs.FeaturesKept.{gone_size}
+use Rattle.arc_store.proofs.FeaturesKept.{seen_indexed, seen_size, gone_size}
 use Rattle.arc_store.proofs.PathSegments.{path_new, way_single}
 use Rattle.arc_store.proofs.Tested.{edit_few}
 
@@ -151,14 +150,10 @@ module _ (st : State) (n : ℕ) (id : Text) (p : Path) (place : ℕ) (q : List (
 -- ---- lists that were written twice
 
 set_again : {X : Type 0} (xs : List X) (i : ℕ) (x y : X) → slice_set (slice_set xs i x) i y ≡ slice_set xs i y
-set_again [] i x y = refl
-set_again (z ∷ xs) zero x y = refl
-set_again (z ∷ xs) (suc i) x y = ap (λ w. z ∷ w) (set_again xs i x y)
+set_again xs i x y = set-set xs i x y
 
 pub set_mapped : {X Y : Type 0} (f : X → Y) (xs : List X) (i : ℕ) (x : X) → map f (slice_set xs i x) ≡ slice_set (map f xs) i (f x)
-set_mapped f [] i x = refl
-set_mapped f (z ∷ xs) zero x = refl
-set_mapped f (z ∷ xs) (suc i) x = ap (λ w. f z ∷ w) (set_mapped f xs i x)
+set_mapped f xs i x = map-set f xs i x
 
 -- the rings that stay come where those of the cut polygon were taken out
 pub put_first : {A : Type 0} (others : List (Vec (Vec Position A) A)) (polygons : List (List (List Position))) (place : ℕ)

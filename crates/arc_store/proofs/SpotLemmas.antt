@@ -1,6 +1,5 @@
 -- What stands around a vertex, from the neighbours of its key and the shortest ring that passes it.
-use Rattle.std.proofs.Common.{◌≡◌, ◌≢◌, ◌≤◌, ℕ, true, refl, sym, ap, ◌∙◌, List, [], ◌∷◌}
-use Rattle.std.proofs.Common.{length, arith, inl, inr, Some}
+use Rattle.std.proofs.Common.{◌≡◌, ◌≢◌, ◌≤◌, ℕ, true, refl, sym, ap, ◌∙◌, List, [], ◌∷◌, length, arith, inl, inr, Some}
 use Rattle.std.specs.Prelude.{min}
 use Rattle.std.specs.FinMap as table
 use Rattle.std.specs.List.{sum_by}

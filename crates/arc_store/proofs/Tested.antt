@@ -1,10 +1,9 @@
 -- How many tests a planned edit takes at most, in the words of its documents.
-use Rattle.std.proofs.Common.{◌≡◌, ◌≤◌, ◌+◌, ℕ, Bool, true, false, refl, sym, ap, ap₂, ◌∙◌, subst}
-use Rattle.std.proofs.Common.{List, [], ◌∷◌, ◌||◌, ◌&&◌, Option, Some, arith}
+use Rattle.std.proofs.Common.{◌≡◌, ◌≤◌, ◌+◌, ℕ, true, false, sym, ap, ap₂, ◌∙◌, subst}
+use Rattle.std.proofs.Common.{List, [], ◌∷◌, ◌&&◌, Option, Some, arith}
 use Rattle.std.specs.Prelude.{not}
 use Rattle.std.specs.FinMap as table
 use Rattle.std.specs.FinSet as set
-use Rattle.std.proofs.lemmas.Bool.{false≢true}
 use Rattle.grid_geometry.specs.Position.{Position}
 use Rattle.grid_geometry.specs.Segment.{Segment, Box, segment}
 use Rattle.ring_machine.specs.Document.{Document}
@@ -36,7 +35,8 @@ use Rattle.arc_store.proofs.Judged.{insert_passed}
 use Rattle.arc_store.proofs.MovePlan.{plan_after, plan_new, plan_single}
 use Rattle.arc_store.proofs.RemovalJudged.{remove_after}
 use Rattle.arc_store.proofs.RemovePlan.{IsPlanned}
-use Rattle.ring_store.proofs.SegmentLists.{has_all}
+use Rattle.ring_store.proofs.SegmentLists.{has_all, or_nothing}
+use Rattle.ring_machine.proofs.Order.{or_right}
 
 -- the segments of a document, each once, are its segments
 has_distinct : (d : Document) (t : Segment) → has (distinct_segments d) t ≡ has (all_segments d) t
@@ -52,11 +52,7 @@ module _ (d edited : Document) (held : SegmentSet) (indexed : IsIndexed d held) 
       → has (added d edited) t ≡ true
   planned_added new t h =
       has-filter (λ s. not (is_segment d s)) (distinct_segments edited) t
-      ∙ ap₂ (λ a b. a && not b) (after_distinct t ∙ come (stays held leaving t) h) (sym (indexed t) ∙ new t h)
-    where
-      come : (a : Bool) → has planned t ≡ true → (a || has planned t) ≡ true
-      come true e = refl
-      come false e = e
+      ∙ ap₂ (λ a b. a && not b) (after_distinct t ∙ or_right (stays held leaving t) (has planned t) h) (sym (indexed t) ∙ new t h)
 
   pub edit_few : (times : Segment → Box → ℕ) → AreNew held planned → AreSingle planned → (m n : ℕ)
       → ((ss : List Segment) → IsAfter held leaving planned ss → n ≤ m + most_tests times ss planned)
@@ -91,11 +87,7 @@ tested_few times d p q l m tested = omega (arith, tested)
 -- ---- the tests of a map's edits, as the code counts them
 
 new_one : (held : SegmentSet) (x : Segment) → set.contains held x ≡ false → AreNew held (x ∷ [])
-new_one held x new t h = by (segment_is t x) refl h
-  where
-    by : (b : Bool) → segment_is t x ≡ b → (b || false) ≡ true → set.contains held t ≡ false
-    by true e k = ap (set.contains held) (same_segment t x e) ∙ new
-    by false e k = absurd (false≢true k)
+new_one held x new t h = ap (set.contains held) (same_segment t x (or_nothing (segment_is t x) ∙ h)) ∙ new
 
 module _ {frame : Framed} {rings : Rings} {places : Placement} {held : SegmentSet} {positions : ℕ} (kept : IsKept frame rings places held positions) {l : ℕ} {cells : Option GridFrame} {o : Option Record} {now : State} (is : state_of frame rings places l cells o ≡ now) where
   abbrev doc : Document

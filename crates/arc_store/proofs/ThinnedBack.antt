@@ -1,12 +1,11 @@
 -- Vertices put back at once: the tables mean the document with each of them put back in turn.
-use Rattle.std.proofs.Common.{◌≡◌, ◌≢◌, ◌≤◌, ◌<◌, ◌^◌, ◌+◌, ◌↔◌, ℕ, Bool, true, false, refl, sym, ap, ap₂}
-use Rattle.std.proofs.Common.{◌∙◌, subst, cond, List, [], ◌∷◌, map, ◌||◌, ◌&&◌, inl, inr, arith}
-use Rattle.std.proofs.Common.{Option, Some, None, is_some}
+use Rattle.std.proofs.Common.{◌≡◌, ◌≢◌, ◌≤◌, ◌<◌, ◌^◌, ◌+◌, ◌↔◌, ℕ, true, refl, sym, ap, ap₂, ◌∙◌, subst}
+use Rattle.std.proofs.Common.{List, [], ◌∷◌, map, ◌||◌, ◌&&◌, inl, inr, arith, Option, Some, None, is_some}
 use Rattle.std.specs.Prelude.{not, option_map, T}
 use Rattle.std.specs.FinMap as table
 use Rattle.std.specs.FinSet as set
 use Rattle.std.specs.Cmp.{nat_cmp_total}
-use Rattle.std.specs.Ordering.{nat_cmp, is_lt, eq_by_cmp}
+use Rattle.std.specs.Ordering.{nat_cmp, is_lt}
 use Rattle.std.specs.FinMap.Entries.{below_all}
 use Rattle.std.proofs.lemmas.Bool.{false≢true}
 use native.Mathlib.Decide.{ℕ_discrete}
@@ -40,6 +39,7 @@ use Rattle.arc_store.proofs.PutBack.{with_one, with_all, AreOut, vertex_stays, v
 use Rattle.arc_store.proofs.PutBack.{comings_new, comings_single, goings_there, goings_single, segments_back}
 use Rattle.arc_store.proofs.PutBack.{true_of_all}
 use Rattle.arc_store.proofs.RingUsers.{users_same}
+use Rattle.std.proofs.lemmas.Iterator.Adapters.{option_map_id}
 
 -- ---- a map with each value changed
 
@@ -57,12 +57,7 @@ module _ {X Y : Type 0} (f : X → Y) where
 
   each_find : (q : ℕ) (es : List (ℕ × X)) → table.find nat_cmp q (each es) ≡ option_map f (table.find nat_cmp q es)
   each_find q [] = refl
-  each_find q (e ∷ es) = by (eq_by_cmp nat_cmp q e.0) (each_find q es)
-    where
-      by : (b : Bool) → table.find nat_cmp q (each es) ≡ option_map f (table.find nat_cmp q es)
-          → cond b (Some (f e.1)) (table.find nat_cmp q (each es)) ≡ option_map f (cond b (Some e.1) (table.find nat_cmp q es))
-      by true i = refl
-      by false i = i
+  each_find q (e ∷ es) = grind (arith, each_find q es)
 
   each_values : (es : List (ℕ × X)) → map (λ e. e.1) (each es) ≡ map f (map (λ e. e.1) es)
   each_values [] = refl
@@ -140,10 +135,6 @@ record BackAgain (s : Stored) (rs : List Removal) (puts : List Put) (after : Sto
   whole : IsWhole after
   grown : size (with_all (document_of s) rs) ≡ size (document_of s) + gained puts (table.values s.rings)
 
-option_same : {A : Type 0} (o : Option A) → option_map (λ x. x) o ≡ o
-option_same None = refl
-option_same (Some x) = refl
-
 option_twice : {A B C : Type 0} (f : A → B) (g : B → C) (o : Option A)
     → option_map (λ x. g (f x)) o ≡ option_map g (option_map f o)
 option_twice f g None = refl
@@ -154,7 +145,7 @@ back_again : (s : Stored) (rs : List Removal) (puts : List Put) (rings : Rings) 
     → ((r : ℕ) → table.get rings r ≡ option_map (throughs puts) (table.get s.rings r))
     → BackAgain s rs puts (with_tables s rings places)
 back_again s [] [] rings places w proper h k e =
-    let same : with_tables s rings places ≡ s = ap₂ (with_tables s) (table.same_map nat_cmp_total table.nat_cmp-IsAntisymmetric rings s.rings (λ r. e r ∙ option_same (table.get s.rings r))) k in
+    let same : with_tables s rings places ≡ s = ap₂ (with_tables s) (table.same_map nat_cmp_total table.nat_cmp-IsAntisymmetric rings s.rings (λ r. e r ∙ option_map_id (table.get s.rings r))) k in
     record {
       document = ap document_of same;
       whole = subst IsWhole (sym same) w;

@@ -6,7 +6,7 @@ use Rattle.std.specs.FinMap as table
 use Rattle.std.specs.List.{list_any, fold, AllByRecursion, IsDistinct}
 use Rattle.std.specs.Ordering.{nat_cmp, is_lt, is_eq, eq_by_cmp}
 use Rattle.std.specs.declared.cmp.Ordering.{Ordering}
-use Rattle.std.specs.declared.cmp.Ordering.TheVariants.{Less, Equal, Greater}
+use Rattle.std.specs.declared.cmp.Ordering.TheVariants.{Less, Equal}
 use Rattle.std.specs.Cmp.{eq_by_cmp_equiv}
 use Rattle.std.specs.FinMap.Entries.{below_all}
 use Rattle.std.proofs.lemmas.Bool.{false≢true}
@@ -31,6 +31,7 @@ use Rattle.feature_exchange.specs.Holds.{IsWhole}
 use Rattle.feature_exchange.specs.Stored.{Stored, document_of}
 use Rattle.feature_exchange.proofs.Base.{key_vertex, vertex_key}
 use Rattle.feature_exchange.proofs.VertexLists.{vertices_rise, in_vertices, of_vertices}
+use Rattle.arc_store.proofs.RingUsers.{first_true, second_true}
 
 -- ---- positions, each once
 
@@ -39,9 +40,8 @@ abbrev same : Position → Position → Bool
 same = eq_by_cmp position_cmp
 
 differ_lesser : (o : Ordering) → is_lt o ≡ true → is_eq o ≡ false
-differ_lesser Less e = refl
 differ_lesser Equal e = absurd (false≢true e)
-differ_lesser Greater e = refl
+differ_lesser _ e = refl
 
 rising_once : (ps : List Position) → Rising ps → IsDistinct same ps
 unfolding IsDistinct
@@ -87,14 +87,6 @@ same_key k = grind (arith, nat_tests)
 one_key : (j k : ℕ) → eq_by_cmp nat_cmp j k ≡ true → j ≡ k
 one_key j k h = grind (arith, nat_tests)
 
-first_true : (a b : Bool) → T (a && b) → T a
-first_true true b p = tt
-first_true false b p = absurd p
-
-second_true : (a b : Bool) → T (a && b) → T b
-second_true true b p = p
-second_true false b p = absurd p
-
 module _ {X : Type 0} where
   -- no entry has a lesser key
   none_below : (k : ℕ) (es : List (ℕ × X)) → T (below_all nat_cmp k es)
@@ -105,8 +97,7 @@ module _ {X : Type 0} where
     where
       above : (o : Ordering) → nat_cmp k e.0 ≡ o → T (is_lt o) → (e.0 == k) ≡ false
       above Less m t = grind (arith, nat_tests)
-      above Equal m t = absurd t
-      above Greater m t = absurd t
+      above _ m t = absurd t
 
   -- keys that rise are distinct
   sorted_keys : (es : List (ℕ × X)) → T (table.is_sorted nat_cmp es)

@@ -1,7 +1,7 @@
 -- Features that are asked for, with ring numbers in the place of rings: the same numbers, the same
 -- texts, and rings of the same shape.
-use Rattle.std.proofs.Common.{◌≡◌, ◌≤◌, ◌<◌, ◌&&◌, ℕ, Bool, true, refl, sym, ap, ap₂, ◌∙◌, subst, List}
-use Rattle.std.proofs.Common.{[], ◌∷◌, ◌++◌, map, length, inl, inr, Option, Some, None, option_map, arith, get_or, drop}
+use Rattle.std.proofs.Common.{◌≡◌, ◌≤◌, ◌<◌, ℕ, true, refl, sym, ap, ap₂, ◌∙◌, subst, List}
+use Rattle.std.proofs.Common.{[], ◌∷◌, ◌++◌, map, length, inl, inr, Option, Some, None, option_map, arith}
 use Rattle.std.specs.Prelude.{Vec, ◌==◌}
 use Rattle.std.specs.List.{flat_map, list_all, sum_by, AllByRecursion}
 use Rattle.std.proofs.lemmas.List.{length-map, map-append}
@@ -26,23 +26,13 @@ use Rattle.map_frame.specs.Texts.{with_texts, texts_of}
 use Rattle.feature_exchange.specs.declared.change.Change.{Change}
 use Rattle.feature_exchange.specs.declared.change.WholeFeature.{WholeFeature}
 use Rattle.feature_exchange.proofs.Placed.{numbers, HavePlaces, came_in, coming_size}
+use Rattle.ring_machine.proofs.Passed.{pass_all}
+use Rattle.ring_machine.proofs.SortedOnce.{in_recursion}
 
 -- ---- lists
 
-head_same : {Y : Type 0} (y z : Y) (ys zs : List Y) → y ∷ ys ≡ z ∷ zs → y ≡ z
-head_same y z ys zs e = ap (λ w. get_or w 0 y) e
-
-tail_same : {Y : Type 0} (y z : Y) (ys zs : List Y) → y ∷ ys ≡ z ∷ zs → ys ≡ zs
-tail_same y z ys zs e = ap (drop 1) e
-
-pub all_true : {X : Type 0} (test : X → Bool) (xs : List X) → ((x : X) → In x xs → test x ≡ true) → list_all test xs ≡ true
-all_true test [] h = refl
-all_true test (x ∷ xs) h = ap₂ (λ a b. a && b) (h x (inl refl)) (all_true test xs (λ y i. h y (inr i)))
-
-pub all_at : {X : Type 0} (P : X → Type 0) (xs : List X) → AllByRecursion P xs → (x : X) → In x xs → P x
-all_at P [] h x i = absurd i
-all_at P (y ∷ ys) h x (inl e) = subst P e h.0
-all_at P (y ∷ ys) h x (inr i) = all_at P ys h.1 x i
+parts_same : {Y : Type 0} (y z : Y) (ys zs : List Y) → y ∷ ys ≡ z ∷ zs → (y ≡ z) × (ys ≡ zs)
+parts_same y z ys zs e = (cc, cc)
 
 pub map_row : {X Y : Type 0} (g : X → Y) (xss : List (List X))
     → map g (flat_map (λ p. p) xss) ≡ flat_map (λ p. p) (map (map g) xss)
@@ -79,7 +69,7 @@ module _ {A : Type 0} where
     seen_places p i =
         let w = in_mapped (λ (c : Change A). (c.number, option_map (feature_seen c.number) c.was)) p cs i in
         subst (λ (z : ℕ × Option Feature). has_place trees z.0 ≡ true) w.2
-        (placed w.0.number (all_at (λ c. c.number < next) cs below w.0 w.1))
+        (placed w.0.number (in_recursion (λ c. c.number < next) cs w.0 below w.1))
 
     pub seen_apart : are_distinct (numbers (seen cs)) ≡ true
     seen_apart = ap are_distinct (seen_numbers cs) ∙ apart
@@ -100,7 +90,7 @@ module _ {A : Type 0} where
 
       pub asked_are_rings : list_all is_ring (flat_map asked_rings cs) ≡ true
       asked_are_rings =
-          all_true is_ring (flat_map asked_rings cs) (λ ring i.
+          pass_all is_ring (flat_map asked_rings cs) (λ ring i.
           all_in is_ring (rings (exchanged trees (seen cs) d)) ring map_is.proper.are_rings (asked_in ring i))
 
       pub asked_size : length_of (flat_map asked_rings cs) ≤ 4000000
@@ -140,10 +130,7 @@ module _ {A : Type 0} (g : ℕ → List Position) where
   -- where both are there, or none
   pub for_parts : (c : Change A) (cs : List (Change A)) (l : Vec (Vec ℕ A) A) (ls : List (Vec (Vec ℕ A) A))
       → AreFor (c ∷ cs) (l ∷ ls) → (map (map g) (feature_numbers l) ≡ asked c) × AreFor cs ls
-  for_parts c cs l ls e = (
-    head_same (map (map g) (feature_numbers l)) (asked c) (map (λ l. map (map g) (feature_numbers l)) ls) (map asked cs) e,
-    tail_same (map (map g) (feature_numbers l)) (asked c) (map (λ l. map (map g) (feature_numbers l)) ls) (map asked cs) e,
-  )
+  for_parts c cs l ls e = parts_same _ _ _ _ e
 
   pub for_length : (cs : List (Change A)) (ls : List (Vec (Vec ℕ A) A)) → AreFor cs ls → length ls ≡ length cs
   for_length cs ls e =
@@ -228,9 +215,8 @@ module _ {A : Type 0} where
 
   pub for_below : (next : ℕ) (cs : List (Change A)) (ls : List (Vec (Vec ℕ A) A)) → AllByRecursion (λ c. c.number < next) cs
       → AllByRecursion (λ c. c.0 < next) (all_numbered cs ls)
-  for_below next [] ls h = tt
-  for_below next (c ∷ cs) [] h = tt
   for_below next (c ∷ cs) (l ∷ ls) h = (h.0, for_below next cs ls h.1)
+  for_below next _ _ h = tt
 
   -- ---- what the numbers had
 
@@ -241,12 +227,10 @@ module _ {A : Type 0} where
     had_seen [] ps e = refl
     had_seen (c ∷ cs) [] e = absurd (omega (arith, ap length e))
     had_seen (c ∷ cs) (p ∷ ps) e =
+        let parts = parts_same (polygons_seen p.items) ((feature_at (in_rings g d) c.number).polygons) _ _ e in
         ap₂ (λ y z. (c.number, y) ∷ z)
-        (by (feature d c.number) refl
-        (head_same (polygons_seen p.items) ((feature_at (in_rings g d) c.number).polygons) (map (λ p. polygons_seen p.items) ps) (map (λ c. (feature_at (in_rings g d) c.number).polygons) cs) e
-        ∙ ap (λ o. (or_else no_feature o).polygons) (feature-in_rings g d c.number))
-        ∙ sym (feature-in_rings g d c.number))
-        (had_seen cs ps (tail_same (polygons_seen p.items) ((feature_at (in_rings g d) c.number).polygons) (map (λ p. polygons_seen p.items) ps) (map (λ c. (feature_at (in_rings g d) c.number).polygons) cs) e))
+        (by (feature d c.number) refl (parts.0 ∙ ap (λ o. (or_else no_feature o).polygons) (feature-in_rings g d c.number)) ∙ sym (feature-in_rings g d c.number))
+        (had_seen cs ps parts.1)
       where
         by : (o : Option (FeatureOf ℕ)) → feature d c.number ≡ o
             → polygons_seen p.items ≡ (or_else no_feature (option_map (in_feature g) (feature d c.number))).polygons

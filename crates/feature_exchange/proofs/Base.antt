@@ -1,8 +1,7 @@
 -- A map that is kept, seen as its document: rings, vertices, segments, and what stands around a
 -- vertex.
-use Rattle.std.proofs.Common.{◌≡◌, ◌≢◌, ◌≤◌, ◌↔◌, ℕ, Bool, true, refl, sym, ap, ap₂, ◌∙◌}
-use Rattle.std.proofs.Common.{subst, List, [], ◌∷◌, map, length, ◌||◌, ◌&&◌, ◌⊎◌, inl, inr, arith}
-use Rattle.std.proofs.Common.{Some, is_some, Contains}
+use Rattle.std.proofs.Common.{◌≡◌, ◌≢◌, ◌≤◌, ◌↔◌, ℕ, Bool, true, refl, sym, ap, ap₂, ◌∙◌, subst, List, [], ◌∷◌, map}
+use Rattle.std.proofs.Common.{length, ◌||◌, ◌&&◌, ◌⊎◌, inl, inr, arith, Some, is_some, Contains}
 use Rattle.std.specs.Prelude.{unwrap_or}
 use Rattle.std.specs.List.{list_any, filter, flat_map}
 use Rattle.std.specs.FinMap as table
@@ -304,11 +303,7 @@ module _ (s : Stored) (w : IsWhole s) where
           → ((e.0 ≡ place s.places k) × (e.1 ≡ place s.places x)) ⊎ ((e.0 ≡ place s.places x) × (e.1 ≡ place s.places k))
           → (t : Segment) × In t (around (document_of s) (place s.places k)) × ((t.lo ≡ place s.places x) ⊎ (t.hi ≡ place s.places x))
       at [] m e i j = absurd i
-      at (y ∷ []) m e i j = alone (document_ring (y ∷ []) m)
-        where
-          alone : is_ring (y ∷ []) ≡ true
-              → (t : Segment) × In t (around (document_of s) (place s.places k)) × ((t.lo ≡ place s.places x) ⊎ (t.hi ≡ place s.places x))
-          alone n = absurd (false≢true n)
+      at (y ∷ []) m e i j = absurd (false≢true (document_ring (y ∷ []) m))
       at (y ∷ z ∷ zs) m e i (inl j) =
           let b = begin_place y z zs e i in
           (segment b.0 e.1, place_around (document_of s) (y ∷ z ∷ zs) (place s.places k) (segment b.0 e.1) m (subst (λ v. In (v, segment b.0 e.1) (spots (y ∷ z ∷ zs))) j.0 b.1), ends (segment b.0 e.1) e.1 j.1 (second_end b.0 e.1))

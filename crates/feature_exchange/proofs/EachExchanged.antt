@@ -1,9 +1,9 @@
 -- Numbers that get their features one after the other, the last one first.
-use Rattle.std.proofs.Common.{◌≡◌, ◌+◌, ◌-◌, ◌<◌, ℕ, Bool, true, false, refl, sym, ap, ap₂, ◌∙◌, subst, cond, List}
+use Rattle.std.proofs.Common.{◌≡◌, ◌+◌, ◌-◌, ◌<◌, ℕ, true, refl, sym, ap, ap₂, ◌∙◌, subst, cond, List}
 use Rattle.std.proofs.Common.{[], ◌∷◌, ◌++◌, length, inl, Option, Some, None, option_map, arith, get_or, append_assoc, eq-eqb}
-use Rattle.std.specs.Prelude.{Vec, set, ◌==◌}
+use Rattle.std.specs.Prelude.{Vec, set}
 use Rattle.std.specs.List.{flat_map}
-use Rattle.std.proofs.lemmas.List.{append-nil, length-append}
+use Rattle.std.proofs.lemmas.List.{append-nil, length-append, nil_from_length}
 use Rattle.std.proofs.lemmas.List.Folds.{flat_map-map}
 use Rattle.grid_geometry.specs.Position.{Position}
 use Rattle.ring_machine.specs.Document.{FeatureOf}
@@ -23,6 +23,7 @@ use Rattle.feature_exchange.specs.declared.change.Change.{Change}
 use Rattle.feature_exchange.specs.declared.change.WholeFeature.{WholeFeature}
 use Rattle.feature_exchange.proofs.Prepared.{in_of}
 use Rattle.feature_exchange.proofs.Readied.{none_exchanged, ready_left, ready_right, all_changes, apart_parts, under_stays}
+use Rattle.std.proofs.Math.Seq.{get_or-append_seam, set-append_seam}
 
 -- ---- lists
 
@@ -33,17 +34,8 @@ snoc (x ∷ y ∷ ys) k e =
     let s = snoc (y ∷ ys) (k - 1) (omega (arith, e)) in
     (x ∷ s.0, s.1, ap (λ z. x ∷ z) s.2, omega (arith, e, s.3))
 
-get_mid : {X : Type 0} (us : List X) (x : X) (vs : List X) (d : X) → get_or (us ++ x ∷ vs) (length us) d ≡ x
-get_mid [] x vs d = refl
-get_mid (u ∷ us) x vs d = get_mid us x vs d
-
 set_mid : {X : Type 0} (us : List X) (x y : X) (vs : List X) → set (us ++ x ∷ vs) (length us) y ≡ us ++ y ∷ vs
-set_mid [] x y vs = refl
-set_mid (u ∷ us) x y vs = ap (λ z. u ∷ z) (set_mid us x y vs)
-
-none_long : {X : Type 0} (xs : List X) → length xs ≡ 0 → xs ≡ []
-none_long [] e = refl
-none_long (x ∷ xs) e = absurd (omega (arith, e))
+set_mid us x y vs = set-append_seam us x vs y
 
 -- the polygons that a number had, and the numbers of the rings that it gets
 abbrev pub Read : Type 0 → Type 0
@@ -142,7 +134,7 @@ module _ {A : Type 0} where
 
     pub change_is : (d : Change A) → get_or cs k d ≡ x
     change_is d =
-        ap₂ (λ y z. get_or y z d) now_is (sym last.3) ∙ get_mid last.0 x (all_had frame0.doc half.done half.read) d
+        ap₂ (λ y z. get_or y z d) now_is (sym last.3) ∙ get_or-append_seam last.0 x (all_had frame0.doc half.done half.read) d
 
     pub step_ready : (c d : Change A) → c ≡ get_or cs k d → IsReady frame (numbered c (feature_numbers l) ∷ [])
     step_ready c d e = subst (λ z. IsReady frame (numbered z (feature_numbers l) ∷ [])) (sym (e ∙ change_is d)) ready_here
@@ -185,19 +177,19 @@ module _ {A : Type 0} where
       (frame : Framed) (cs : List (Change A)) (ps : List (Read A)) (ls : List (Came A)) (left : ℕ)
       (half : Halfway frame0 cs0 ps0 ls0 frame cs ps ls left) (none : left ≡ 0) where
     all_done : cs0 ≡ half.done
-    all_done = half.all ∙ ap (λ z. z ++ half.done) (none_long half.start (half.long ∙ none))
+    all_done = half.all ∙ ap (λ z. z ++ half.done) (nil_from_length half.start (half.long ∙ none))
 
     pub halfway_frame : frame ≡ put_in frame0 (all_numbered cs0 ls0)
     halfway_frame =
         half.is
         ∙ ap₂ (λ y z. put_in frame0 (all_numbered y z)) (sym all_done)
-        (sym (half.all_came ∙ ap (λ z. z ++ half.came) (none_long ls (half.long_ls ∙ none))))
+        (sym (half.all_came ∙ ap (λ z. z ++ half.came) (nil_from_length ls (half.long_ls ∙ none))))
 
     pub halfway_had : cs ≡ all_had frame0.doc cs0 ps0
     halfway_had =
-        half.now ∙ ap (λ z. z ++ all_had frame0.doc half.done half.read) (none_long half.start (half.long ∙ none))
+        half.now ∙ ap (λ z. z ++ all_had frame0.doc half.done half.read) (nil_from_length half.start (half.long ∙ none))
         ∙ ap₂ (λ y z. all_had frame0.doc y z) (sym all_done)
-        (sym (half.all_read ∙ ap (λ z. z ++ half.read) (none_long ps (half.long_ps ∙ none))))
+        (sym (half.all_read ∙ ap (λ z. z ++ half.read) (nil_from_length ps (half.long_ps ∙ none))))
 
 -- ---- one number
 
@@ -209,11 +201,7 @@ taken_and_put frame c ready =
     exchanged-append frame.places ((c.0, None) ∷ []) frame.doc ((λ f e. absurd cc), tt) (c ∷ [])
     ∙ ap (λ z. record { transform = frame.doc.transform; layers = z; members = frame.doc.members })
     (filled-agree (exchanged_features (c ∷ (c.0, None) ∷ []) (feature frame.doc)) (exchanged_features (c ∷ []) (feature frame.doc)) frame.places
-    (λ m i. by (m == c.0) (feature frame.doc m)))
-  where
-    by : (b : Bool) (o : Option (FeatureOf ℕ)) → cond b c.1 (cond b None o) ≡ cond b c.1 o
-    by true o = refl
-    by false o = refl
+    (λ m i. grind arith))
 
 pub taken_free : (frame : Framed) (c : ℕ × Option (FeatureOf ℕ)) → IsReady frame (c ∷ [])
     → feature (exchanged frame.places ((c.0, None) ∷ []) frame.doc) c.0 ≡ None

@@ -1,6 +1,5 @@
 -- The ends of the segment of two positions.
-use Rattle.std.proofs.Common.{◌≡◌, ◌≢◌, Bool, true, false, refl, sym, ap, ◌∙◌, cond, ◌||◌, ◌⊎◌, inl}
-use Rattle.std.proofs.Common.{inr}
+use Rattle.std.proofs.Common.{◌≡◌, ◌≢◌, Bool, true, false, refl, sym, ap, ◌∙◌, cond, ◌||◌, ◌⊎◌, inl, inr}
 use Rattle.std.specs.Ordering.{is_gt, ordering_reverse}
 use Rattle.std.specs.declared.cmp.Ordering.{Ordering}
 use Rattle.std.specs.declared.cmp.Ordering.TheVariants.{Less, Equal, Greater}
@@ -40,14 +39,10 @@ is_end_of p t h = elim (or_true (position_eq p t.lo) (position_eq p t.hi) h) [
 
 -- an end of the segment of two positions is one of them
 pub end_of_two : (p a b : Position) → is_end p (segment a b) ≡ true → (p ≡ a) ⊎ (p ≡ b)
-end_of_two p a b h = by (segment_ends a b) (is_end_of p (segment a b) h)
-  where
-    by : (((segment a b).lo ≡ a) × ((segment a b).hi ≡ b)) ⊎ (((segment a b).lo ≡ b) × ((segment a b).hi ≡ a))
-        → ((segment a b).lo ≡ p) ⊎ ((segment a b).hi ≡ p) → (p ≡ a) ⊎ (p ≡ b)
-    by (inl e) (inl f) = inl (sym f ∙ e.0)
-    by (inl e) (inr f) = inr (sym f ∙ e.1)
-    by (inr e) (inl f) = inr (sym f ∙ e.0)
-    by (inr e) (inr f) = inl (sym f ∙ e.1)
+end_of_two p a b h = elim (segment_ends a b) [
+  | inl e ↦ elim (is_end_of p (segment a b) h) [ inl f ↦ inl (sym f ∙ e.0) | inr f ↦ inr (sym f ∙ e.1) ]
+  | inr e ↦ elim (is_end_of p (segment a b) h) [ inl f ↦ inr (sym f ∙ e.0) | inr f ↦ inl (sym f ∙ e.1) ]
+]
 
 -- and both of them are ends
 pub two_ends : (a b : Position) → (is_end a (segment a b) ≡ true) × (is_end b (segment a b) ≡ true)

@@ -5,19 +5,16 @@ use Rattle.std.proofs.Common.{map, Option, arith, eq-eqb, get_or, inl, inr}
 use Rattle.std.specs.Prelude.{Vec, ◌==◌}
 use Rattle.std.specs.List.{flat_map, list_all}
 use Rattle.std.proofs.lemmas.Bool.{false≢true}
-use Rattle.std.proofs.lemmas.List.{append-nil}
 use Rattle.grid_geometry.specs.Position.{Position}
 use Rattle.ring_machine.specs.Document.{FeatureOf}
 use Rattle.ring_machine.specs.Parts.{features, in_feature, in_rings, rings, rings_of, size}
 use Rattle.ring_machine.specs.Planar as proper
-use Rattle.ring_machine.specs.Ring.{canonical, is_ring, is_distinct, begins_least}
+use Rattle.ring_machine.specs.Ring.{is_ring}
 use Rattle.ring_machine.specs.WellFormed.{WellFormed}
-use Rattle.ring_machine.proofs.Canonical.{canonical_at}
 use Rattle.ring_machine.proofs.FormedRings.{formed-before_rings}
 use Rattle.ring_machine.proofs.First.{In}
 use Rattle.ring_machine.proofs.Members.{in_flat}
 use Rattle.ring_machine.proofs.Neighbours.{all_in, in-flat_map, in-map, none_in}
-use Rattle.ring_machine.proofs.Order.{and_both}
 use Rattle.ring_machine.proofs.OtherRings.{in_feature-agrees}
 use Rattle.map_frame.specs.Numbers.{feature_numbers}
 use Rattle.ring_store.proofs.AddedRings.{same_map}
@@ -41,13 +38,7 @@ use Rattle.feature_exchange.proofs.Changes.{Changes}
 use Rattle.feature_exchange.proofs.Exchanges.{Exchanged, ring_stays, rings_came, exchanged_holds}
 use Rattle.feature_exchange.proofs.Readied.{going, all_changes}
 use Rattle.feature_exchange.proofs.Under.{under_apart}
-
--- a ring begins at its least position
-pub canonical_ring : (ring : List Position) → is_ring ring ≡ true → canonical ring ≡ ring
-canonical_ring [] h = refl
-canonical_ring (p ∷ ps) h =
-    let least = (and_both (is_distinct (p ∷ ps)) (begins_least (p ∷ ps)) (and_both _ _ h).1).1 in
-    canonical_at [] ps p refl least ∙ append-nil (p ∷ ps)
+use Rattle.ring_machine.proofs.CutRings.{ring_is_canonical}
 
 module _ {A : Type 0} (old mid new : Stored) (h i j : SegmentSet) (frame : Framed) (cs : List (Change A))
     (ls : List (Vec (Vec ℕ A) A)) (same_frame : frame.doc ≡ old.frame) (ready : IsReady frame (all_numbered cs ls))
@@ -76,7 +67,7 @@ module _ {A : Type 0} (old mid new : Stored) (h i j : SegmentSet) (frame : Frame
       (rings_came old mid new h i j (coming pairs) (going old.frame pairs) e changes.was (r ∷ [])
       (λ x l. elim l [ inl s ↦ subst (λ z. In z (coming pairs)) s k | inr m ↦ absurd m ])
       (ring_at mid.places mid.rings r ∷ []) refl)
-      ∙ canonical_ring (ring_at mid.places mid.rings r) ring
+      ∙ ring_is_canonical (ring_at mid.places mid.rings r) ring
 
   for_new : AreFor (ring_under new) cs ls
   for_new =

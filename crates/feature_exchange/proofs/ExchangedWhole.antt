@@ -5,7 +5,7 @@ use Rattle.std.specs.Prelude.{Vec, IfSome}
 use Rattle.std.specs.List.{flat_map, list_all, AllByRecursion}
 use Rattle.std.proofs.lemmas.List.Folds.{flat_map-map}
 use Rattle.ring_machine.specs.Document.{Feature, FeatureOf}
-use Rattle.ring_machine.specs.Parts.{feature, has_feature}
+use Rattle.ring_machine.specs.Parts.{feature}
 use Rattle.ring_machine.specs.Ring.{is_ring}
 use Rattle.ring_machine.specs.WellFormed.{are_distinct}
 use Rattle.ring_machine.proofs.First.{In}

@@ -1,5 +1,5 @@
 -- The keys along all rings of a frame, feature by feature in the order of their numbers.
-use Rattle.std.proofs.Common.{◌≡◌, ◌≢◌, ◌<◌, ◌≤◌, ◌+◌, ℕ, zero, suc, Bool, true, false, refl, sym, ap, ap₂, ◌∙◌, subst}
+use Rattle.std.proofs.Common.{◌≡◌, ◌≢◌, ◌<◌, ◌≤◌, ◌+◌, ℕ, zero, suc, true, false, sym, ap, ap₂, ◌∙◌, subst}
 use Rattle.std.proofs.Common.{List, [], ◌++◌, map, inl, inr, arith, Some, None, option_map}
 use Rattle.std.specs.Prelude.{nat_lt, unwrap_or}
 use Rattle.std.specs.List.{flat_map}
@@ -20,6 +20,7 @@ use Rattle.feature_exchange.specs.Along.{AreAlong}
 use Rattle.feature_exchange.specs.Under.{rings_under}
 use Rattle.feature_exchange.proofs.KeyLists.{keys_of, AreHeld}
 use Rattle.feature_exchange.proofs.Under.{under_in}
+use Rattle.std.proofs.lemmas.Bool.{true_from_ne_false}
 
 -- the rings of the features with numbers below n
 abbrev pub rings_below : DocumentOf ℕ → ℕ → List ℕ
@@ -75,17 +76,14 @@ module _ (d : DocumentOf ℕ) where
   module _ (next : ℕ) (below : (n : ℕ) → next ≤ n → feature d n ≡ None)
       (distinct : are_distinct (map (λ f. f.number) (features d)) ≡ true) where
     is_below : (f : FeatureOf ℕ) → feature d f.number ≡ Some f → f.number < next
-    is_below f e = by (nat_lt f.number next) refl
+    is_below f e =
+        less f.number next (true_from_ne_false _ (λ t. none-some f (sym (below f.number (not_less f.number next t)) ∙ e)))
       where
         less : (a b : ℕ) → nat_lt a b ≡ true → a < b
         less a b t = grind (arith, nat_tests)
 
         not_less : (a b : ℕ) → nat_lt a b ≡ false → b ≤ a
         not_less a b t = grind (arith, nat_tests)
-
-        by : (b : Bool) → nat_lt f.number next ≡ b → f.number < next
-        by true t = less f.number next t
-        by false t = absurd (none-some f (sym (below f.number (not_less f.number next t)) ∙ e))
 
     there_below : (r : ℕ) → In r (rings d) → In r (rings_below d next)
     there_below r i =

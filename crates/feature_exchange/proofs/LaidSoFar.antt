@@ -15,8 +15,8 @@ use Rattle.ring_store.specs.declared.laid.LaidRing.{LaidRing}
 use Rattle.ring_store.specs.declared.tables.RingTables.{RingTables}
 use Rattle.ring_store.proofs.Series.{number_there}
 use Rattle.feature_exchange.specs.Laying.{LaysMore}
-use Rattle.feature_exchange.proofs.Asked.{all_true}
 use Rattle.feature_exchange.proofs.LaidBeside.{laid_none, laid_twice}
+use Rattle.ring_machine.proofs.Passed.{pass_all}
 
 -- one list more was laid
 pub record OneMore {I A : Type 0} (s : RingTables I A) (had : List (LaidRing A)) (t : RingTables I A) (has : List (LaidRing A)) (came : List ℕ) : Type 0 where
@@ -87,5 +87,5 @@ module _ {P : Type 0} (f : P → List (List Position)) where
   pub all_here : (test : List Position → Bool) (ps : List P) (i : ℕ) (d : P) → i < length ps
       → list_all test (flat_map f ps) ≡ true → list_all test (f (get_or ps i d)) ≡ true
   all_here test ps i d l h =
-      all_true test (f (get_or ps i d)) (λ x k.
+      pass_all test (f (get_or ps i d)) (λ x k.
       all_in test (flat_map f ps) x h (in-flat_map f (get_or ps i d) x ps (in_at ps i d l) k))

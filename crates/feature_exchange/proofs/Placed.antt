@@ -1,5 +1,5 @@
 -- The rings of features that stand at the places of their numbers.
-use Rattle.std.proofs.Common.{◌≡◌, ◌≤◌, ℕ, Bool, true, false, refl, sym, ap, ap₂, ◌∙◌, subst, cond, List}
+use Rattle.std.proofs.Common.{◌≡◌, ◌≤◌, ℕ, true, refl, sym, ap, ap₂, ◌∙◌, subst, cond, List}
 use Rattle.std.proofs.Common.{[], ◌∷◌, ◌++◌, map, inl, inr, Option, Some, None, length, arith, eqb-true, eq-eqb}
 use Rattle.std.specs.Prelude.{◌==◌}
 use Rattle.std.specs.List.{flat_map, filter_map, sum_by}
@@ -17,11 +17,13 @@ use Rattle.ring_machine.proofs.Found.{distinct_parts, feature_in}
 use Rattle.ring_machine.proofs.InItems.{of_layers}
 use Rattle.ring_machine.proofs.Members.{any_in, in_mapped}
 use Rattle.ring_machine.proofs.Neighbours.{in-map}
-use Rattle.edit_records.specs.Places.{Place, Begins, Ends, Text_of, Number, Tree, Alone, Places, LayerTree}
+use Rattle.edit_records.specs.Places.{Place, Number, Tree, Alone, Places, LayerTree}
 use Rattle.edit_records.specs.Places.{number_of, numbers_of, numbers_placed, has_place, leaf, or_empty, item_at, items_of}
 use Rattle.edit_records.specs.Places.{filled, Fills, exchanged_features, exchanged, AreNumbered}
 use Rattle.edit_records.proofs.ExchangesMade.{exchanged-feature}
 use Rattle.feature_exchange.specs.Ready.{rings_in, coming}
+use Rattle.ring_machine.proofs.Order.{refuted}
+use Rattle.ring_machine.proofs.Passed.{in_split}
 
 -- ---- all rings, by the numbers that have places
 
@@ -42,13 +44,11 @@ module _ {R : Type 0} (k : ℕ → Option (FeatureOf R)) where
   items_rings : (ps : List Place)
       → flat_map rings_of (filter_map feature_of (flat_map (item_at k) ps)) ≡ rings_at k (flat_map number_of ps)
   items_rings [] = refl
-  items_rings (Begins h ∷ ps) = items_rings ps
-  items_rings (Ends ∷ ps) = items_rings ps
-  items_rings (Text_of t ∷ ps) = items_rings ps
   items_rings (Number m ∷ ps) =
       ap (flat_map rings_of) (filter_map-append feature_of (leaf (k m)) (flat_map (item_at k) ps))
       ∙ flat_map-append rings_of (filter_map feature_of (leaf (k m))) (filter_map feature_of (flat_map (item_at k) ps))
       ∙ ap₂ (λ y z. y ++ z) (leaf_rings (k m)) (items_rings ps)
+  items_rings (_ ∷ ps) = items_rings ps
 
   tree_rings : (t : Tree) → flat_map rings_of (filter_map feature_of (items_of k t)) ≡ rings_at k (numbers_of t)
   tree_rings (Alone m) = alone_rings (k m) ∙ sym (append-nil (rings_in (k m)))
@@ -115,11 +115,8 @@ module _ {R : Type 0} where
   pub others_same : (cs : List (ℕ × Option (FeatureOf R))) (k : ℕ → Option (FeatureOf R)) (m : ℕ)
       → (In m (numbers cs) → ⊥) → exchanged_features cs k m ≡ k m
   others_same [] k m f = refl
-  others_same (c ∷ cs) k m f = by (m == c.0) refl (others_same cs k m (λ i. f (inr i)))
-    where
-      by : (b : Bool) → (m == c.0) ≡ b → exchanged_features cs k m ≡ k m → cond b c.1 (exchanged_features cs k m) ≡ k m
-      by true t rest = absurd (f (inl (sym (eqb-true m c.0 t))))
-      by false t rest = rest
+  others_same (c ∷ cs) k m f =
+      ap (λ b. cond b c.1 (exchanged_features cs k m)) (refuted (m == c.0) (λ t. f (inl (sym (eqb-true m c.0 t))))) ∙ others_same cs k m (λ i. f (inr i))
 
   pub has_given : (cs : List (ℕ × Option (FeatureOf R))) (k : ℕ → Option (FeatureOf R)) (c : ℕ × Option (FeatureOf R))
       → are_distinct (numbers cs) ≡ true → In c cs → exchanged_features cs k c.0 ≡ c.1
@@ -127,11 +124,9 @@ module _ {R : Type 0} where
   has_given (b ∷ cs) k c d (inl e) =
       ap (λ t. cond t b.1 (exchanged_features cs k c.0)) (eq-eqb c.0 b.0 (sym (ap (λ z. z.0) e))) ∙ ap (λ z. z.1) e
   has_given (b ∷ cs) k c d (inr i) =
-      by (c.0 == b.0) refl (has_given cs k c (distinct_parts (b.0 ∷ []) (numbers cs) d).right i)
-    where
-      by : (t : Bool) → (c.0 == b.0) ≡ t → exchanged_features cs k c.0 ≡ c.1 → cond t b.1 (exchanged_features cs k c.0) ≡ c.1
-      by true t rest = absurd ((distinct_parts (b.0 ∷ []) (numbers cs) d).apart c.0 (inl (sym (eqb-true c.0 b.0 t))) (in-map (λ z. z.0) c cs i))
-      by false t rest = rest
+      let parts = distinct_parts (b.0 ∷ []) (numbers cs) d in
+      ap (λ t. cond t b.1 (exchanged_features cs k c.0)) (refuted (c.0 == b.0) (λ t. parts.apart c.0 (inl (sym (eqb-true c.0 b.0 t))) (in-map (λ z. z.0) c cs i)))
+      ∙ has_given cs k c parts.right i
 
   -- these numbers have places
   abbrev pub HavePlaces : List LayerTree → List (ℕ × Option (FeatureOf R)) → Type 0
@@ -154,20 +149,12 @@ module _ {R : Type 0} where
 
 -- ---- how long the rings are
 
--- a number among others
-any_spot : (n : ℕ) (ns : List ℕ) → In n ns → (us : List ℕ) × (vs : List ℕ) × (ns ≡ us ++ n ∷ vs)
-any_spot n [] i = absurd i
-any_spot n (m ∷ ns) (inl e) = ([], ns, ap (λ z. z ∷ ns) e)
-any_spot n (m ∷ ns) (inr i) =
-    let k = any_spot n ns i in
-    (m ∷ k.0, k.1, ap (λ z. m ∷ z) k.2)
-
 some_fewer : (g : ℕ → ℕ) (ns all : List ℕ) → are_distinct ns ≡ true → ((n : ℕ) → In n ns → In n all)
     → sum_by g ns ≤ sum_by g all
 some_fewer g [] all d among = omega arith
 some_fewer g (n ∷ ns) all d among =
     let parts = distinct_parts (n ∷ []) ns d in
-    let k = any_spot n all (among n (inl refl)) in
+    let k = in_split n all (among n (inl refl)) in
     let rest : sum_by g ns ≤ sum_by g (k.0 ++ k.1) = some_fewer g ns (k.0 ++ k.1) parts.right (λ m i.
     elim (in-append m k.0 (n ∷ k.1) (subst (In m) k.2 (among m (inr i)))) [
       | inl l ↦ in_left m k.0 k.1 l

@@ -1,10 +1,9 @@
 -- Where a new number is to come after a feature in a collection, it and all others have a place.
 use Rattle.std.proofs.Common.{◌≡◌, ◌<◌, ◌+◌, ◌||◌, ℕ, Bool, true, false, refl, sym, ap, ◌∙◌, subst, cond, List}
 use Rattle.std.proofs.Common.{[], ◌∷◌, ◌++◌, ◌⊎◌, inl, inr, Option, Some, None, is_some, arith, eq-eqb, eqb-true}
-use Rattle.std.specs.Prelude.{◌==◌, IfSome, nat_lt}
+use Rattle.std.specs.Prelude.{◌==◌, IfSome}
 use Rattle.std.specs.List.{flat_map}
-use Rattle.std.proofs.lemmas.Bool.{false≢true}
-use Rattle.std.proofs.lemmas.Bool.Decides.{nat_tests}
+use Rattle.std.proofs.lemmas.Bool.{false≢true, true_from_ne_false}
 use Rattle.std.proofs.lemmas.List.Concat.{flat_map-append}
 use Rattle.ring_machine.specs.Document.{FeatureOf, DocumentOf}
 use Rattle.ring_machine.specs.Parts.{feature}
@@ -12,7 +11,7 @@ use Rattle.ring_machine.specs.Refusals.{is_layer}
 use Rattle.ring_machine.proofs.First.{In, in-append, in_left, in_right}
 use Rattle.ring_machine.proofs.Found.{among, feature_in, has_feature-found}
 use Rattle.ring_machine.proofs.Order.{or_right}
-use Rattle.edit_records.specs.Places.{Place, Begins, Ends, Text_of, Number, Tree, Alone, Places, LayerTree, filled, items_of}
+use Rattle.edit_records.specs.Places.{Place, Number, Tree, Alone, Places, LayerTree, filled, items_of}
 use Rattle.edit_records.specs.Places.{number_of, numbers_of, numbers_placed, has_place, with_new, tree_with, grown, leaf, or_empty}
 use Rattle.edit_records.proofs.ExchangesMade.{fills-nowhere}
 use Rattle.feature_exchange.specs.Changed.{places_after, next_after, MayGrow}
@@ -39,9 +38,6 @@ module _ (n new : ℕ) where
     places_stay : (ps : List Place) → In m (flat_map number_of ps)
         → In m (flat_map number_of (flat_map (with_new n new) ps)) × (m ≡ n → In new (flat_map number_of (flat_map (with_new n new) ps)))
     places_stay [] i = absurd i
-    places_stay (Begins h ∷ ps) i = places_stay ps i
-    places_stay (Ends ∷ ps) i = places_stay ps i
-    places_stay (Text_of t ∷ ps) i = places_stay ps i
     places_stay (Number l ∷ ps) i =
         let row : flat_map number_of (flat_map (with_new n new) (Number l ∷ ps)) ≡ flat_map number_of (with_new n new (Number l)) ++ flat_map number_of (flat_map (with_new n new) ps) =
         flat_map-append number_of (with_new n new (Number l)) (flat_map (with_new n new) ps) in
@@ -58,6 +54,7 @@ module _ (n new : ℕ) where
                 λ s. subst (In new) (sym row) (in_right new (flat_map number_of (with_new n new (Number l))) (flat_map number_of (flat_map (with_new n new) ps)) (k.1 s)),
               )
         ]
+    places_stay (_ ∷ ps) i = places_stay ps i
 
     -- the layer is the number alone
     abbrev IsAlone : Tree → Type 0
@@ -93,17 +90,11 @@ module _ (n new : ℕ) where
             → In new (numbers_of (tree_with n new l.tree) ++ numbers_placed (grown n new ls)) ⊎ ((l' : LayerTree) × In l' (l ∷ ls) × (l'.tree ≡ Alone m))
         by (Alone x) e (inl a) = inr (l, inl refl, e ∙ ap Alone a)
         by (Places ps) e (inl a) = absurd a
-        by (Alone x) e (inr f) =
-            inl (in_left new (numbers_of (tree_with n new l.tree)) (numbers_placed (grown n new ls)) (subst (λ z. In new (numbers_of (tree_with n new z))) (sym e) (f s)))
-        by (Places ps) e (inr f) =
+        by t e (inr f) =
             inl (in_left new (numbers_of (tree_with n new l.tree)) (numbers_placed (grown n new ls)) (subst (λ z. In new (numbers_of (tree_with n new z))) (sym e) (f s)))
 
 apart_below : (m k : ℕ) → m < k + 1 → (m ≡ k → ⊥) → m < k
-apart_below m k l f = by (nat_lt m k) refl
-  where
-    by : (b : Bool) → nat_lt m k ≡ b → m < k
-    by true e = grind (arith, nat_tests)
-    by false e = absurd (f (grind (arith, nat_tests)))
+apart_below m k l f = grind arith
 
 -- a feature alone is a layer
 alone_layer : {R : Type 0} (d : DocumentOf R) (n : ℕ) (f : FeatureOf R) → feature d n ≡ Some f → (trees : List LayerTree)
@@ -126,16 +117,13 @@ module _ (frame : Framed) (placed : ArePlaced frame.places frame.next frame.doc)
     where
       grows : (o : Option (FeatureOf ℕ)) → feature frame.doc n ≡ o → In frame.next (numbers_placed (grown n frame.next frame.places))
       grows None e = absurd (false≢true (sym (has_feature-found frame.doc n ∙ ap is_some e) ∙ g.there))
-      grows (Some f) e = elim (comes_grown n frame.next n frame.places refl (place_in frame.places n (had (has_place frame.places n) refl))) [
+      grows (Some f) e = elim (comes_grown n frame.next n frame.places refl (place_in frame.places n had)) [
         | inl i ↦ i
         | inr w ↦ absurd (false≢true (sym g.inside ∙ ap (λ z. is_layer (record { transform = frame.doc.transform; layers = z; members = frame.doc.members }) n) placed.fills ∙ alone_layer frame.doc n f e frame.places w.0 w.1 w.2))
       ]
         where
-          had : (b : Bool) → has_place frame.places n ≡ b → has_place frame.places n ≡ true
-          had true h = h
-          had false h =
-              let none : None ≡ Some f = sym (fills-nowhere frame.places frame.doc placed.fills n h) ∙ e in
-              absurd cc
+          had : has_place frame.places n ≡ true
+          had = true_from_ne_false _ (λ h. let none : None ≡ Some f = sym (fills-nowhere frame.places frame.doc placed.fills n h) ∙ e in cc)
 
       by : (b : Bool) → (m == frame.next) ≡ b → has_place (grown n frame.next frame.places) m ≡ true
       by true t =

@@ -1,6 +1,5 @@
 -- What was laid and made room for is ready to be put into the frame.
-use Rattle.std.proofs.Common.{◌≡◌, ◌<◌, ℕ, zero, suc, true, sym, ap, ◌∙◌, subst, List, [], ◌∷◌, map, inl, inr, Option, Some}
-use Rattle.std.proofs.Common.{is_some, Contains}
+use Rattle.std.proofs.Common.{◌≡◌, ◌<◌, ℕ, true, sym, ap, ◌∙◌, subst, List, map, Option, Some, is_some, Contains}
 use Rattle.std.specs.Prelude.{Vec, slice_get}
 use Rattle.std.specs.List.{flat_map, AllByRecursion}
 use Rattle.std.proofs.lemmas.Bool.{false≢true}
@@ -23,16 +22,11 @@ use Rattle.map_frame.specs.Placed.{ArePlaced}
 use Rattle.feature_exchange.specs.Stored.{Stored}
 use Rattle.feature_exchange.specs.declared.change.Change.{Change}
 use Rattle.feature_exchange.proofs.Asked.{AreFor, for_coming, for_numbers, for_own, for_below, for_fits}
-
-pub of_in : (xs : List ℕ) (r : ℕ) → In r xs → IsOf xs r
-of_in [] r i = absurd i
-of_in (x ∷ xs) r (inl e) = (0, ap (λ z. Some z) e)
-of_in (x ∷ xs) r (inr i) = let k = of_in xs r i in (suc k.0, k.1)
+use Rattle.map_frame.proofs.NamedRoom.{of_in}
+use Rattle.map_frame.proofs.ReadFeatures.{in_get}
 
 pub in_of : (xs : List ℕ) (r i : ℕ) → slice_get xs i ≡ Some r → In r xs
-in_of [] r i e = absurd cc
-in_of (x ∷ xs) r zero e = inl cc
-in_of (x ∷ xs) r (suc i) e = inr (in_of xs r i e)
+in_of xs r i e = in_get xs i r e
 
 module _ {A : Type 0} (s : Stored) (held : SegmentSet) (h : Holds s held) (frame : Framed) (same : frame.doc ≡ s.frame)
     (placed : ArePlaced frame.places frame.next frame.doc) (cs : List (Change A)) (ls : List (Vec (Vec ℕ A) A))

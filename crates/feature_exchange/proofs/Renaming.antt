@@ -1,5 +1,5 @@
 -- A feature that gets another id, or none: the tables stay, and so do the document's rings.
-use Rattle.std.proofs.Common.{◌≡◌, ◌≤◌, ◌↔◌, ℕ, Bool, true, false, refl, sym, ap, ap₂, ◌∙◌, cond, subst, Option}
+use Rattle.std.proofs.Common.{◌≡◌, ◌≤◌, ◌↔◌, ℕ, refl, sym, ap, ap₂, ◌∙◌, cond, subst, Option}
 use Rattle.std.proofs.Common.{List, [], ◌∷◌, ◌++◌, map, is_some, arith, Contains, Some}
 use Rattle.std.specs.Prelude.{◌==◌, IsTrue}
 use Rattle.std.specs.FinMap as table
@@ -29,11 +29,7 @@ named n id f = cond (f.number == n) (record f { id = id }) f
 module _ {R : Type 0} (n : ℕ) (id : Option Text) where
   rings_same : (fs : List (FeatureOf R)) → flat_map rings_of (map (named n id) fs) ≡ flat_map rings_of fs
   rings_same [] = refl
-  rings_same (f ∷ fs) = ap₂ (λ y z. y ++ z) (by (f.number == n)) (rings_same fs)
-    where
-      by : (b : Bool) → rings_of (cond b (record f { id = id }) f) ≡ rings_of f
-      by true = refl
-      by false = refl
+  rings_same (f ∷ fs) = ap₂ (λ y z. y ++ z) (grind arith) (rings_same fs)
 
   pub rings-named : (d : DocumentOf R) → rings (with_id d n id) ≡ rings d
   rings-named d = ap (flat_map rings_of) (features-in_features (named n id) d) ∙ rings_same (features d)
@@ -51,12 +47,7 @@ in_rings-named {R} {S} g d n id =
     items (Open h ∷ is) = ap (λ z. Open h ∷ z) (items is)
     items (Close ∷ is) = ap (λ z. Close ∷ z) (items is)
     items (Kept t ∷ is) = ap (λ z. Kept t ∷ z) (items is)
-    items (Leaf f ∷ is) = ap₂ (λ y z. Leaf y ∷ z) (by (f.number == n)) (items is)
-      where
-        by : (b : Bool) → in_feature g (cond b (record f { id = id }) f)
-            ≡ cond b (record (in_feature g f) { id = id }) (in_feature g f)
-        by true = refl
-        by false = refl
+    items (Leaf f ∷ is) = ap₂ (λ y z. Leaf y ∷ z) (grind arith) (items is)
 
 -- ---- the tables
 

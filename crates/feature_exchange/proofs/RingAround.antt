@@ -12,7 +12,7 @@ use Rattle.std.proofs.Math.Seq.{drop-append_seam, take-append-add, take-append_s
 use Rattle.std.proofs.lemmas.Bool.{false≢true}
 use Rattle.std.proofs.lemmas.List.{drop-drop, drop-map, length-append, length-map, map-append}
 use Rattle.std.proofs.lemmas.List.Sums.{fold-append}
-use Rattle.grid_geometry.specs.Position.{Position, position, position_eq, position_lt}
+use Rattle.grid_geometry.specs.Position.{Position, position, position_lt}
 use Rattle.ring_machine.specs.Ring.{before, from, least, canonical}
 use Rattle.ring_machine.proofs.Canonical.{Below}
 use Rattle.ring_machine.proofs.Order.{position_eq-refl, position_lt-apart, position_lt-total}
@@ -88,13 +88,7 @@ before_end r (q ∷ qs) h =
 before_more : (m : Position) (qs rs : List Position) → length (before m qs) < length qs
     → before m (qs ++ rs) ≡ before m qs
 before_more m [] rs l = absurd (omega arith)
-before_more m (q ∷ qs) rs l = by (position_eq q m) l (before_more m qs rs)
-  where
-    by : (b : Bool) → length (cond b [] (q ∷ before m qs)) < length (q ∷ qs)
-        → (length (before m qs) < length qs → before m (qs ++ rs) ≡ before m qs)
-        → cond b [] (q ∷ before m (qs ++ rs)) ≡ cond b [] (q ∷ before m qs)
-    by true l h = refl
-    by false l h = ap (λ z. q ∷ z) (h (omega arith))
+before_more m (q ∷ qs) rs l = grind (arith, before_more m qs rs)
 
 -- a position that is less than each before it
 lower_one : (p : Position) (ps : List Position) (r : Position) → position_lt r (least p ps) ≡ true
@@ -115,12 +109,7 @@ no_lower_one p ps r h l =
 
 pub before_from : (m : Position) (qs : List Position) → before m qs ++ from m qs ≡ qs
 before_from m [] = refl
-before_from m (q ∷ qs) = by (position_eq q m) (before_from m qs)
-  where
-    by : (b : Bool) → before m qs ++ from m qs ≡ qs
-        → (cond b [] (q ∷ before m qs)) ++ (cond b (q ∷ qs) (from m qs)) ≡ q ∷ qs
-    by true e = refl
-    by false e = ap (λ z. q ∷ z) e
+before_from m (q ∷ qs) = grind (arith, before_from m qs)
 
 turned : {X : Type 0} (us vs : List X) (n k : ℕ) → n ≡ length us → k ≡ length vs + length us
     → take k (drop n (us ++ vs) ++ (us ++ vs)) ≡ vs ++ us

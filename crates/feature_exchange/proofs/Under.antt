@@ -8,8 +8,7 @@ use Rattle.ring_machine.specs.Document.{FeatureOf, DocumentOf}
 use Rattle.ring_machine.specs.Parts.{features, feature, rings, rings_of}
 use Rattle.ring_machine.specs.WellFormed.{are_distinct, WellFormed}
 use Rattle.ring_machine.proofs.First.{In}
-use Rattle.ring_machine.proofs.Found.{distinct_parts, feature_in, feature_stands}
-use Rattle.ring_machine.proofs.Found.{feature_found}
+use Rattle.ring_machine.proofs.Found.{distinct_parts, feature_in, feature_stands, feature_found}
 use Rattle.ring_machine.proofs.Instead.{rings_at}
 use Rattle.ring_machine.proofs.Neighbours.{in-flat_map}
 use Rattle.map_frame.specs.Numbers.{polygon_numbers}

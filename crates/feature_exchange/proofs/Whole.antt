@@ -1,6 +1,5 @@
 -- A map that is kept: its tables stand, and tables that stand make it whole.
-use Rattle.std.proofs.Common.{◌≡◌, ◌≤◌, ◌↔◌, ℕ, true, refl, sym, ap, ap₂, ◌∙◌, subst}
-use Rattle.std.proofs.Common.{inl, inr, is_some, ◌-◌, Contains}
+use Rattle.std.proofs.Common.{◌≡◌, ◌≤◌, ◌↔◌, ℕ, true, refl, sym, ap, ap₂, ◌∙◌, subst, inl, inr, is_some, ◌-◌, Contains}
 use Rattle.std.specs.Prelude.{IsTrue}
 use Rattle.std.specs.FinMap as table
 use Rattle.std.specs.FinSet as set
