@@ -59,7 +59,7 @@ fn boxes_of_triangle(alloc: Global) -> Result<RingBoxes, AllocError> {
     Ok(boxes)
 }
 
-/// The x that the boxes of a row's position reach, also in a copy.
+/// The greatest x of the box around the boxes of a row's position, also of a copy.
 fn reached<R: Abort>(rt: &R, alloc: Global, row: &Row) -> Result<(i64, i64), AllocError> {
     let mut boxes = boxes_of_triangle(alloc)?;
     if let Some((p, q)) = row.1 {
@@ -67,7 +67,7 @@ fn reached<R: Abort>(rt: &R, alloc: Global, row: &Row) -> Result<(i64, i64), All
     }
     let asked = pos(rt, row.2);
     let copied = boxes.copy()?;
-    Ok((boxes.reach(asked)?, copied.reach(asked)?))
+    Ok((boxes.around(asked)?.x1, copied.around(asked)?.x1))
 }
 
 #[test]

@@ -1,7 +1,7 @@
 -- A ring that holds a position has it in its bounding box.
 use Rattle.std.proofs.Common.{ℤ, pos, ◌≡◌, ◌-ℤ◌, ◌≤ℤ◌, ◌<ℤ◌, arith, Bool, true, false, cond}
 use Rattle.std.proofs.Common.{List, [], ◌∷◌, ◌++◌, refl, sym, ap, ap₂, ◌∙◌, ◌&&◌, Contains, subst}
-use Rattle.std.proofs.Common.{int_lt, int_le}
+use Rattle.std.proofs.Common.{int_lt, int_le, not}
 use Rattle.std.specs.Int.{int_min, int_max}
 use Rattle.std.specs.List.{AllByRecursion}
 use Rattle.std.specs.Ordering.{is_gt}
@@ -18,7 +18,7 @@ use Rattle.ring_machine.proofs.Members.{in_contains}
 use Rattle.ring_machine.proofs.Neighbours.{all_of}
 use Rattle.ring_machine.proofs.Order.{and_both}
 use Rattle.ring_boxes.specs.Covering.{box_at}
-use Rattle.point_queries.specs.Near.{ray_to}
+use Rattle.point_queries.specs.Near.{ray_to, ray_back}
 use Rattle.point_queries.proofs.Odds.{xor-false, xor-same}
 
 -- ---- whether an edge counts, by how far its ends are above
@@ -129,7 +129,7 @@ ring_uncounted : (P : Position → Type 0) (p : Position)
 ring_uncounted P p none [] h = refl
 ring_uncounted P p none (a ∷ rest) h = way_uncounted P p none a a rest h.0 h.1 h.0
 
-xor_through : (u v w : Bool) → xor (xor u v) (xor v w) ≡ xor u w
+pub xor_through : (u v w : Bool) → xor (xor u v) (xor v w) ≡ xor u w
 xor_through u v w = grind arith
 
 module _ (P : Position → Type 0) (p : Position) (right : (q : Position) → P q → int_lt p.x q.x ≡ true) where
@@ -180,15 +180,39 @@ holds_in_box r ring p h odd = record {
       (λ a b k l. below_uncounted p a b (behind p.y r.y1 a.y e k.upper) (behind p.y r.y1 b.y e l.upper)) ring h);
 }
 
-box_has : (r : Box) (q : Position) → boxes_meet r (box_at q) ≡ true → BoxHas r q
+pub box_has : (r : Box) (q : Position) → boxes_meet r (box_at q) ≡ true → BoxHas r q
 box_has r q h =
     let k = and_both (int_le r.x0 q.x && int_le q.x r.x1) (int_le r.y0 q.y && int_le q.y r.y1) h in
     let x = and_both (int_le r.x0 q.x) (int_le q.x r.x1) k.0 in
     let y = and_both (int_le r.y0 q.y) (int_le q.y r.y1) k.1 in
     record { left = x.0; right = x.1; lower = y.0; upper = y.1 }
 
-has_box : (r : Box) (q : Position) → BoxHas r q → boxes_meet r (box_at q) ≡ true
+pub has_box : (r : Box) (q : Position) → BoxHas r q → boxes_meet r (box_at q) ≡ true
 has_box r q h = rw (h.left, h.right, h.lower, h.upper)
+
+-- an edge behind p: it passes the level of p, and does not count
+abbrev pub behind_edge : Position → Position → Position → Bool
+behind_edge p a b = passes_level p a b && not (is_counted p a b)
+
+right_not_behind : (p a b : Position) → int_lt p.x a.x ≡ true → int_lt p.x b.x ≡ true → behind_edge p a b ≡ false
+right_not_behind p a b h k = ap (λ z. passes_level p a b && not z) (right_counted p a b h k) ∙ none (passes_level p a b)
+  where
+    none : (c : Bool) → (c && not c) ≡ false
+    none c = grind arith
+
+-- a box with an edge that counts for p and an edge behind p has p
+pub both_sides : (r : Box) (p a b c d : Position) → BoxHas r a → BoxHas r b → BoxHas r c → BoxHas r d
+    → is_counted p a b ≡ true → behind_edge p c d ≡ true → BoxHas r p
+both_sides r p a b c d ha hb hc hd counted behind_it = record {
+  left = unless (int_le r.x0 p.x) (behind_edge p c d) behind_it (λ e.
+      right_not_behind p c d (before p.x r.x0 c.x e hc.left) (before p.x r.x0 d.x e hd.left));
+  right = unless (int_le p.x r.x1) (is_counted p a b) counted (λ e.
+      left_uncounted p a b (behind p.x r.x1 a.x e ha.right) (behind p.x r.x1 b.x e hb.right));
+  lower = unless (int_le r.y0 p.y) (is_counted p a b) counted (λ e.
+      above_uncounted p a b (before p.y r.y0 a.y e ha.lower) (before p.y r.y0 b.y e hb.lower));
+  upper = unless (int_le p.y r.y1) (is_counted p a b) counted (λ e.
+      below_uncounted p a b (behind p.y r.y1 a.y e ha.upper) (behind p.y r.y1 b.y e hb.upper));
+}
 
 -- the same by a diagonal of the box
 pub holds_in_diagonal : (d : Segment) (ring : List Position) (p : Position)
@@ -221,6 +245,13 @@ counted_meets p s x l h =
     by true e false f = refl
     by false e v f = refl
 
+level_columns : (w x a b : ℤ) → int_le x a ≡ true → (int_lt w a && int_lt w b) ≡ false
+    → (int_le (int_min a b) w && int_le x (int_max a b)) ≡ true
+level_columns w x a b l h = grind (arith, ints, clamps)
+
+level_rows : (w a b : ℤ) → xor (int_lt w a) (int_lt w b) ≡ true → (int_le (int_min a b) w && int_le w (int_max a b)) ≡ true
+level_rows w a b h = grind (arith, ints, clamps)
+
 min_back : (a b : ℤ) → int_min a b ≡ int_min b a
 min_back a b = grind (arith, ints, clamps)
 
@@ -245,3 +276,16 @@ pub counted_within : (p a b : Position) (x : ℤ) → int_le a.x x ≡ true
     → is_counted p a b ≡ true → boxes_meet (box_of (segment a b)) (ray_to p x) ≡ true
 counted_within p a b x l h =
     subst (λ r. boxes_meet r (ray_to p x) ≡ true) (box_of_ends a b) (counted_meets p (record { lo = a; hi = b }) x l h)
+
+-- an edge behind p meets the ray to the left that goes at least as far as where it begins
+pub behind_within : (p a b : Position) (x : ℤ) → int_le x a.x ≡ true
+    → behind_edge p a b ≡ true → boxes_meet (box_of (segment a b)) (ray_back p x) ≡ true
+behind_within p a b x l h =
+    let level = (and_both (passes_level p a b) (not (is_counted p a b)) h).0 in
+    subst (λ r. boxes_meet r (ray_back p x) ≡ true) (box_of_ends a b)
+    (rw (level_columns p.x x a.x b.x l (by (int_lt p.x a.x) refl (int_lt p.x b.x) refl), level_rows p.y a.y b.y level))
+  where
+    by : (u : Bool) → int_lt p.x a.x ≡ u → (v : Bool) → int_lt p.x b.x ≡ v → (u && v) ≡ false
+    by true e true f = absurd (false≢true (sym (right_not_behind p a b e f) ∙ h))
+    by true e false f = refl
+    by false e v f = refl

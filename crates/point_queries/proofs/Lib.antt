@@ -12,6 +12,7 @@ mod PassedSegments
 mod OddRings
 mod Telling
 mod Cancelling
+mod Behind
 mod NearRings
 mod HeldFeatures
 mod RingsCovered

@@ -1,28 +1,36 @@
 -- Which rings hold a position, by the segments that count as far as the boxes that have it.
-use Rattle.std.proofs.Common.{◌≡◌, ℤ, Bool, true, false, refl, sym, ap, ◌∙◌, subst, cond, ◌&&◌, int_le, arith}
+use Rattle.std.proofs.Common.{◌≡◌, ◌×◌, ℤ, Bool, true, false, refl, sym, ap, ap₂, ◌∙◌, subst, cond, ◌&&◌, int_le, arith}
 use mir.Val.{of_z, to_z}
-use Rattle.std.proofs.Common.{unsigned_abs, ◌≤◌, w64, List, [], ◌∷◌, Option, None, Some, Result, Ok, Err}
-use Rattle.std.specs.Prelude.{is_some, unwrap_or, IfOk, IfSome}
+use Rattle.std.proofs.Common.{unsigned_abs, ◌≤◌, w64, List, [], ◌∷◌, Option, Some, Contains}
+use Rattle.std.specs.Prelude.{unwrap_or}
 use Rattle.std.specs.FinSet as set
-use Rattle.std.specs.List.{filter, list_all}
+use Rattle.std.specs.List.{filter, list_all, list_any}
 use Rattle.std.proofs.lemmas.Int.{ints, to_z-of_z}
 use Rattle.grid_geometry.specs.Position.{Position}
-use Rattle.grid_geometry.specs.Ring.{Edge, edges, is_inside, xor}
-use Rattle.grid_geometry.specs.Segment.{Segment, box_of, boxes_meet}
+use Rattle.grid_geometry.specs.Ring.{Edge, edges, is_counted, is_inside, xor}
+use Rattle.grid_geometry.specs.Segment.{Segment, Box, box_of, boxes_meet, segment, segment_eq}
 use Rattle.ring_machine.specs.Document.{Document}
 use Rattle.ring_machine.specs.Parts.{rings}
 use Rattle.ring_machine.specs.Ring.{segment_of, segments, is_ring}
 use Rattle.ring_machine.proofs.First.{In}
-use Rattle.ring_machine.proofs.Members.{in_contains, contains_in, in_filter, in_mapped, there}
-use Rattle.ring_machine.proofs.Neighbours.{edge_in}
+use Rattle.ring_machine.proofs.Members.{in_contains, contains_in, any_in, in_any, in_filter, in_mapped, there}
+use Rattle.ring_machine.proofs.Neighbours.{edge_in, in-map, in-flat_map}
 use Rattle.ring_machine.proofs.Order.{and_both}
+use Rattle.ring_machine.proofs.Orders.{segment_ordered}
+use Rattle.ring_machine.proofs.RingSegments.{segment_eq-true}
+use Rattle.segment_index.specs.Bounds.{is_within}
 use Rattle.segment_index.specs.Candidates.{SegmentSet}
-use Rattle.ring_boxes.specs.Covering.{Covers, lies_in}
+use Rattle.ring_boxes.specs.Covering.{Covers, IsCovered, lies_in}
 use Rattle.map_frame.specs.declared.names.RingName.{RingName}
-use Rattle.point_queries.specs.Near.{ray_to, HaveOdd}
-use Rattle.point_queries.specs.Odd.{odd, holds, is_passed, is_name, ring_of, HavePassed, TellsInside}
-use Rattle.point_queries.proofs.Holding.{holds_in_diagonal, counted_within}
-use Rattle.point_queries.proofs.OddRings.{is_name-true}
+use Rattle.arc_store.specs.Near.{ListsNear}
+use Rattle.arc_store.proofs.Indexed.{segment_in}
+use Rattle.point_queries.specs.Near.{ray_to, ray_back, is_behind, AreBehind, HaveOdd}
+use Rattle.point_queries.specs.Odd.{odd, holds, is_passed, is_name, ring_of, ring_has, HavePassed, TellsInside}
+use Rattle.point_queries.proofs.Behind.{behind_is, some_behind}
+use Rattle.point_queries.proofs.Holding.{behind_edge, behind_within, both_sides, box_has, counted_within, has_box, holds_in_diagonal}
+use Rattle.point_queries.proofs.Odds.{odd-some}
+use Rattle.point_queries.proofs.OddRings.{is_name-refl, is_name-true, of_has}
+use Rattle.point_queries.proofs.OnBorders.{of_ends}
 use Rattle.point_queries.proofs.Passing.{passed_edge}
 use Rattle.point_queries.proofs.Telling.{odd_within, are_there, ring_there}
 
@@ -30,14 +38,7 @@ use Rattle.point_queries.proofs.Telling.{odd_within, are_there, ring_there}
 pub read_back : (x : ℤ) → unsigned_abs x ≤ 1000000000000 → to_z w64 (of_z w64 x) ≡ x
 read_back x h = to_z-of_z w64 x (omega (arith, ints))
 
--- what holds of what was found has another form
-pub if_found : {V E : Type 0} (P Q : V → Type 0) (r : Result (Option V) E) → ((v : V) → P v → Q v)
-    → IfOk r (λ o. IfSome o P) → IfOk r (λ o. IfSome o Q)
-if_found P Q (Ok (Some v)) f h = f v h
-if_found P Q (Ok None) f h = h
-if_found P Q (Err e) f h = h
-
--- ---- of the names, those of rings that hold the position
+-- ---- of the names, those that pass a test
 
 pub odd_kept : (test : RingName → Bool) (name : RingName) (names : List RingName)
     → odd (is_name name) (filter test names) ≡ (test name && odd (is_name name) names)
@@ -56,58 +57,128 @@ odd_kept test name (x ∷ names) = by (test x) (λ e. ap test (is_name-true name
     by true same h = ap (xor (is_name name x)) h ∙ more (test name) (is_name name x) (odd (is_name name) names) same
     by false same h = h ∙ less (test name) (is_name name x) (odd (is_name name) names) same
 
--- ---- no farther than the boxes
+-- ---- within the least box around the boxes
 
--- what lies in a box lies no farther to the right than its greatest x
-not_farther : (b : Segment) (q : Position) (x : ℤ) → lies_in b q ≡ true → int_le (box_of b).x1 x ≡ true → int_le q.x x ≡ true
-not_farther b q x h l = at (box_of b).x1 q.x x (and_both _ _ (and_both _ _ h).0).1 l
+-- what lies in a box lies in each that has all of it
+lies_within : (b : Segment) (q : Position) (r : Box) → lies_in b q ≡ true → is_within (box_of b) r ≡ true
+    → (int_le r.x0 q.x ≡ true) × (int_le q.x r.x1 ≡ true)
+lies_within b q r h l =
+    let has = box_has (box_of b) q h in
+    let in_x = and_both (int_le r.x0 (box_of b).x0) (int_le (box_of b).x1 r.x1) (and_both _ _ l).0 in
+    (through r.x0 (box_of b).x0 q.x in_x.0 has.left, through q.x (box_of b).x1 r.x1 has.right in_x.1)
   where
-    at : (v w z : ℤ) → int_le w v ≡ true → int_le v z ≡ true → int_le w z ≡ true
-    at v w z h l = grind (arith, ints)
+    through : (u v w : ℤ) → int_le u v ≡ true → int_le v w ≡ true → int_le u w ≡ true
+    through u v w h l = grind (arith, ints)
 
-start_in : (ring : List Position) (e : Edge) → In e (edges ring) → In e.0 ring
-start_in [] e i = absurd i
-start_in (a ∷ rest) e i = (edge_in a rest e i).0
+ends_in : (ring : List Position) (e : Edge) → In e (edges ring) → In e.0 ring × In e.1 ring
+ends_in [] e i = absurd i
+ends_in (a ∷ rest) e i = edge_in a rest e i
+
+-- an edge of the segment that a ring has
+edge_of : (s : Segment) (ring : List Position) → list_any (segment_eq (segment s.lo s.hi)) (segments ring) ≡ true
+    → (e : Edge) × In e (edges ring) × (segment e.0 e.1 ≡ segment s.lo s.hi)
+edge_of s ring h =
+    let t = any_in (segment_eq (segment s.lo s.hi)) (segments ring) h in
+    let e = in_mapped segment_of t.0 (edges ring) t.1 in
+    (e.0, e.1, e.2 ∙ sym (segment_eq-true (segment s.lo s.hi) t.0 t.2))
 
 module _ (d : Document) (are_rings : list_all is_ring (rings d) ≡ true) (p : Position) (boxes : SegmentSet)
-    (covers : Covers boxes (rings d)) (x : ℤ)
-    (far : (b : Segment) → set.contains boxes b ≡ true → lies_in b p ≡ true → int_le (box_of b).x1 x ≡ true)
-    (names : List RingName) (h : HavePassed d p (ray_to p x) names) where
-  -- the segments that count of a ring that holds the position
-  meets : (ring : List Position) → In ring (rings d) → is_inside p ring ≡ true → (t : Segment) → In t (segments ring)
-      → is_passed p t ≡ true → boxes_meet (box_of t) (ray_to p x) ≡ true
-  meets ring i inside t j k =
-      let c = covers ring (in_contains (rings d) ring i) in
-      let has : lies_in c.by p ≡ true = holds_in_diagonal c.by ring p c.within inside in
-      let e = in_mapped segment_of t (edges ring) j in
-      let start = c.within (e.0).0 (in_contains ring (e.0).0 (start_in ring e.0 e.1)) in
-      subst (λ z. boxes_meet (box_of z) (ray_to p x) ≡ true) e.2
-      (counted_within p (e.0).0 (e.0).1 x
-      (not_farther c.by (e.0).0 x start (far c.by c.held has))
-      (sym (passed_edge p (e.0).0 (e.0).1) ∙ ap (is_passed p) e.2 ∙ k))
+    (covers : Covers boxes (rings d)) (r : Box)
+    (around : (b : Segment) → set.contains boxes b ≡ true → lies_in b p ≡ true → is_within (box_of b) r ≡ true)
+    (names : List RingName) (h : HavePassed d p (ray_to p r.x1) names) where
+  -- of a ring in a box that has the position
+  module _ (ring : List Position) (i : In ring (rings d)) (has : lies_in (covers ring (in_contains (rings d) ring i)).by p ≡ true) where
+    c : IsCovered boxes ring
+    c = covers ring (in_contains (rings d) ring i)
 
-  -- a ring that holds the position is a suspect
-  suspect : (name : RingName) → is_some (ring_of d name) ≡ true → holds d p name ≡ true → odd (is_name name) names ≡ true
-  suspect name i k =
-      let ring = there (ring_of d name) i in
-      let inside : is_inside p ring.0 ≡ true = sym (ap (λ o. is_inside p (unwrap_or o [])) ring.1) ∙ k in
-      odd_within d are_rings p (ray_to p x) names h name ring.0 ring.1 (meets ring.0 (ring_there d name ring.0 ring.1) inside)
-      ∙ inside
+    starts : (e : Edge) → In e (edges ring) → (int_le r.x0 (e.0).x ≡ true) × (int_le (e.0).x r.x1 ≡ true)
+    starts e j = lies_within c.by e.0 r (c.within e.0 (in_contains ring e.0 (ends_in ring e j).0)) (around c.by c.held has)
 
-  module _ (sorted : List RingName) (alike : (y : RingName) → odd (is_name y) sorted ≡ odd (is_name y) names)
-      (among : (y : RingName) → In y sorted → In y names) (suspects : List RingName) (odds : HaveOdd sorted suspects) where
-    pub tells_near : (found : List RingName) → found ≡ filter (holds d p) suspects → TellsInside d p found
-    tells_near found e = record {
-      rings = λ name c.
-          let k = in_filter (holds d p) name suspects (subst (In name) e (contains_in found name c)) in
-          are_there d are_rings p (ray_to p x) names h name
-          (among name (contains_in sorted name (odds.among name (in_contains suspects name k.0))));
-      odds = λ name i.
-          ap (odd (is_name name)) e ∙ odd_kept (holds d p) name suspects
-          ∙ ap (λ z. holds d p name && z) (odds.odds name ∙ alike name)
-          ∙ by name i (holds d p name) refl;
-    }
-      where
-        by : (name : RingName) → is_some (ring_of d name) ≡ true → (b : Bool) → holds d p name ≡ b → (b && odd (is_name name) names) ≡ b
-        by name i true k = suspect name i k
-        by name i false k = refl
+    -- the segments that count
+    meets : (t : Segment) → In t (segments ring) → is_passed p t ≡ true → boxes_meet (box_of t) (ray_to p r.x1) ≡ true
+    meets t j k =
+        let e = in_mapped segment_of t (edges ring) j in
+        subst (λ z. boxes_meet (box_of z) (ray_to p r.x1) ≡ true) e.2
+        (counted_within p (e.0).0 (e.0).1 r.x1 (starts e.0 e.1).1 (sym (passed_edge p (e.0).0 (e.0).1) ∙ ap (is_passed p) e.2 ∙ k))
+
+    -- the edges behind the position
+    meets_behind : (e : Edge) → In e (edges ring) → behind_edge p e.0 e.1 ≡ true → boxes_meet (box_of (segment e.0 e.1)) (ray_back p r.x0) ≡ true
+    meets_behind e j k = behind_within p e.0 e.1 r.x0 (starts e j).0 k
+
+    -- an odd number of them count where it holds the position
+    suspect : (name : RingName) → ring_of d name ≡ Some ring → odd (is_name name) names ≡ is_inside p ring
+    suspect name e = odd_within d are_rings p (ray_to p r.x1) names h name ring e meets
+
+  holding_has : (ring : List Position) (i : In ring (rings d)) → is_inside p ring ≡ true → lies_in (covers ring (in_contains (rings d) ring i)).by p ≡ true
+  holding_has ring i inside = let c = covers ring (in_contains (rings d) ring i) in holds_in_diagonal c.by ring p c.within inside
+
+  module _ (ss : List Segment) (near : ListsNear d (ray_back p r.x0) [] ss) (behind : List RingName) (are : AreBehind d p ss behind) where
+    -- a ring that holds the position has an edge behind it
+    is_told : (name : RingName) (ring : List Position) → ring_of d name ≡ Some ring → is_inside p ring ≡ true → list_any (is_name name) behind ≡ true
+    is_told name ring e inside =
+        let i = ring_there d name ring e in
+        let edge = some_behind p ring inside in
+        let t = segment (edge.0).0 (edge.0).1 in
+        let in_ring : In t (segments ring) = in-map segment_of edge.0 (edges ring) edge.1 in
+        let in_all = in-flat_map segments ring t (rings d) i in_ring in
+        let meet = meets_behind ring i (holding_has ring i inside) edge.0 edge.1 edge.2 in
+        let given : Contains ss t = subst (λ z. Contains z t) (sym near.appended) (near.covers t (segment_in d t in_all) meet) in
+        let has : ring_has d name t ≡ true =
+        ap₂ (λ (z : Segment) (o : Option (List Position)). list_any (segment_eq z) (segments (unwrap_or o []))) (of_ends d t in_all) e
+        ∙ in_any (segment_eq t) t (segments ring) in_ring (segment_ordered.eq-refl t) in
+        in_any (is_name name) name behind (contains_in behind name (are.covers name t given has (behind_is p (edge.0).0 (edge.0).1 ∙ edge.2))) (is_name-refl name)
+
+    -- one of which an odd number of segments count, and that has an edge behind the position, holds it
+    both_hold : (name : RingName) → odd (is_name name) names ≡ true → list_any (is_name name) behind ≡ true → holds d p name ≡ true
+    both_hold name odds told =
+        let other = any_in (is_name name) behind told in
+        let left = are.among name (in_contains behind name (subst (λ z. In z behind) (sym (is_name-true name other.0 other.2)) other.1)) in
+        let right = odd-some (ring_has d name) h.ss (sym (ap (odd (is_name name)) h.listed.appended ∙ h.listed.odds name) ∙ odds) in
+        let ring = of_has d left.0 name left.1 in
+        let i = ring_there d name ring.positions ring.there in
+        let c = covers ring.positions (in_contains (rings d) ring.positions i) in
+        let e = edge_of left.0 ring.positions ring.has in
+        let f = edge_of right.0 ring.positions
+        (sym (ap (λ (o : Option (List Position)). list_any (segment_eq (segment (right.0).lo (right.0).hi)) (segments (unwrap_or o []))) ring.there) ∙ right.2) in
+        let counted : is_counted p (f.0).0 (f.0).1 ≡ true =
+        sym (passed_edge p (f.0).0 (f.0).1) ∙ ap (is_passed p) f.2 ∙ passed_edge p (right.0).lo (right.0).hi
+        ∙ (h.passed.among right.0 (in_contains h.ss right.0 right.1)).1 in
+        let back : behind_edge p (e.0).0 (e.0).1 ≡ true =
+        sym (behind_is p (e.0).0 (e.0).1) ∙ ap (is_behind p) e.2 ∙ behind_is p (left.0).lo (left.0).hi ∙ left.2 in
+        let at = λ (q : Position) (j : In q ring.positions). box_has (box_of c.by) q (c.within q (in_contains ring.positions q j)) in
+        let g = ends_in ring.positions f.0 f.1 in
+        let k = ends_in ring.positions e.0 e.1 in
+        let has : lies_in c.by p ≡ true = has_box (box_of c.by) p
+        (both_sides (box_of c.by) p (f.0).0 (f.0).1 (e.0).0 (e.0).1 (at (f.0).0 g.0) (at (f.0).1 g.1) (at (e.0).0 k.0) (at (e.0).1 k.1) counted back) in
+        ap (λ (o : Option (List Position)). is_inside p (unwrap_or o [])) ring.there ∙ sym (suspect ring.positions i has name ring.there) ∙ odds
+
+    module _ (sorted : List RingName) (alike : (y : RingName) → odd (is_name y) sorted ≡ odd (is_name y) names)
+        (among : (y : RingName) → In y sorted → In y names) (suspects : List RingName) (odds : HaveOdd sorted suspects) where
+      told : RingName → Bool
+      told name = list_any (is_name name) behind
+
+      pub tells_near : (found : List RingName) → found ≡ filter (λ name. list_any (is_name name) behind) suspects → TellsInside d p found
+      tells_near found e = record {
+        rings = λ name c.
+            let k = in_filter told name suspects (subst (In name) e (contains_in found name c)) in
+            are_there d are_rings p (ray_to p r.x1) names h name
+            (among name (contains_in sorted name (odds.among name (in_contains suspects name k.0))));
+        odds = λ name i.
+            let ring = there (ring_of d name) i in
+            ap (odd (is_name name)) e ∙ odd_kept told name suspects
+            ∙ ap (λ z. told name && z) (odds.odds name ∙ alike name)
+            ∙ by name ring.0 ring.1 (is_inside p ring.0) refl
+            ∙ ap (λ (o : Option (List Position)). is_inside p (unwrap_or o [])) (sym ring.1);
+      }
+        where
+          neither : (u v b : Bool) → b ≡ false → (v ≡ true → u ≡ true → b ≡ true) → (u && v) ≡ false
+          neither u v b e both = grind (arith, e, both)
+
+          by : (name : RingName) (ring : List Position) → ring_of d name ≡ Some ring → (b : Bool) → is_inside p ring ≡ b
+              → (told name && odd (is_name name) names) ≡ is_inside p ring
+          by name ring e true k =
+              let i = ring_there d name ring e in
+              ap₂ (λ y z. y && z) (is_told name ring e k) (suspect ring i (holding_has ring i k) name e ∙ k) ∙ sym k
+          by name ring e false k =
+              neither (told name) (odd (is_name name) names) (is_inside p ring) k
+              (λ v u. sym (ap (λ (o : Option (List Position)). is_inside p (unwrap_or o [])) e) ∙ both_hold name v u) ∙ sym k

@@ -49,10 +49,10 @@ apart_once (name ∷ names) h = (by (list_any (is_name name) names) refl, apart_
 
 -- ---- one segment
 
-has_of : (d : Document) (s : Segment) (name : RingName) → RingHas d (segment s.lo s.hi) name → ring_has d name s ≡ true
+pub has_of : (d : Document) (s : Segment) (name : RingName) → RingHas d (segment s.lo s.hi) name → ring_has d name s ≡ true
 has_of d s name h = ap (λ o. list_any (segment_eq (segment s.lo s.hi)) (segments (unwrap_or o []))) h.there ∙ h.has
 
-of_has : (d : Document) (s : Segment) (name : RingName) → ring_has d name s ≡ true → RingHas d (segment s.lo s.hi) name
+pub of_has : (d : Document) (s : Segment) (name : RingName) → ring_has d name s ≡ true → RingHas d (segment s.lo s.hi) name
 of_has d s name h = by (ring_of d name) refl h
   where
     by : (o : Option (List Position)) → ring_of d name ≡ o

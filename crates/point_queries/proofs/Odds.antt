@@ -66,7 +66,7 @@ pub odd-none : {X : Type 0} (xs : List X) → odd (λ x. false) xs ≡ false
 odd-none [] = refl
 odd-none (x ∷ xs) = odd-none xs
 
-odd-xor : {X : Type 0} (f g : X → Bool) (xs : List X) → odd (λ x. xor (f x) (g x)) xs ≡ xor (odd f xs) (odd g xs)
+pub odd-xor : {X : Type 0} (f g : X → Bool) (xs : List X) → odd (λ x. xor (f x) (g x)) xs ≡ xor (odd f xs) (odd g xs)
 odd-xor f g [] = refl
 odd-xor f g (x ∷ xs) =
     ap (xor (xor (f x) (g x))) (odd-xor f g xs) ∙ xor-cross (f x) (g x) (odd f xs) (odd g xs)

@@ -1,5 +1,5 @@
 pub mod Coordinates
 pub mod Widening
 pub mod Rings
-pub mod Farthest
+pub mod Around
 pub mod Holding

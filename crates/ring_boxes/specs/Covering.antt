@@ -1,8 +1,9 @@
 -- Boxes, each by a diagonal, that the rings of a map lie in.
-use Rattle.std.specs.Prelude.{◌≡◌, ◌⊎◌, ℤ, Bool, true, List, Contains}
+use Rattle.std.specs.Prelude.{◌≡◌, Bool, true, List, Contains}
 use Rattle.std.specs.FinSet as set
 use Rattle.grid_geometry.specs.Position.{Position}
 use Rattle.grid_geometry.specs.Segment.{Segment, Box, box_of, boxes_meet}
+use Rattle.segment_index.specs.Bounds.{is_within}
 use Rattle.segment_index.specs.Candidates.{SegmentSet}
 
 -- the box of one position
@@ -27,8 +28,11 @@ Covers boxes rings = (ring : List Position) → Contains rings ring → IsCovere
 abbrev pub Keeps : SegmentSet → SegmentSet → Type 0
 Keeps old new = (ring : List Position) → IsCovered old ring → IsCovered new ring
 
--- x is that of the position, or the greatest x of a box that the position lies in
-abbrev pub IsReached : SegmentSet → Position → ℤ → Type 0
-IsReached boxes p x =
-    (x ≡ p.x)
-    ⊎ ((d : Segment) × (set.contains boxes d ≡ true) × (lies_in d p ≡ true) × ((box_of d).x1 ≡ x))
+-- the least box that has the position, and each of the boxes that it lies in
+pub record IsAround (boxes : SegmentSet) (p : Position) (r : Box) : Type 0 where
+  pub has_it : is_within (box_at p) r ≡ true
+  pub has_each : (d : Segment) → set.contains boxes d ≡ true → lies_in d p ≡ true
+      → is_within (box_of d) r ≡ true
+  pub least : (q : Box) → is_within (box_at p) q ≡ true
+      → ((d : Segment) → set.contains boxes d ≡ true → lies_in d p ≡ true → is_within (box_of d) q ≡ true)
+      → is_within r q ≡ true

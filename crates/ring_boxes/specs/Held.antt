@@ -1,8 +1,9 @@
 -- Boxes that are held, and wider ones.
-use Rattle.std.specs.Prelude.{◌≡◌, ◌⊎◌, ℤ, true, List}
+use Rattle.std.specs.Prelude.{◌≡◌, true, List}
 use Rattle.std.specs.FinSet as set
 use Rattle.grid_geometry.specs.Position.{Position}
-use Rattle.grid_geometry.specs.Segment.{Segment, box_of}
+use Rattle.grid_geometry.specs.Segment.{Segment, Box, box_of}
+use Rattle.segment_index.specs.Bounds.{is_within}
 use Rattle.segment_index.specs.Candidates.{SegmentSet, AreAmong, has}
 use Rattle.ring_boxes.specs.Covering.{lies_in}
 
@@ -25,6 +26,9 @@ pub record IsWider (d : Segment) (p : Position) (wider : Segment) : Type 0 where
 abbrev pub IsWidened : SegmentSet → Segment → Position → Type 0
 IsWidened boxes d p = (wider : Segment) × (set.contains boxes wider ≡ true) × IsWider d p wider
 
--- x is a given number, or the greatest x of the box of one of the segments
-abbrev pub IsOneOf : ℤ → List Segment → ℤ → Type 0
-IsOneOf first boxes x = (x ≡ first) ⊎ ((d : Segment) × (has boxes d ≡ true) × ((box_of d).x1 ≡ x))
+-- the least box that has a given one and those of the segments
+pub record IsLeast (first : Box) (boxes : List Segment) (r : Box) : Type 0 where
+  pub has_first : is_within first r ≡ true
+  pub has_each : (d : Segment) → has boxes d ≡ true → is_within (box_of d) r ≡ true
+  pub least : (q : Box) → is_within first q ≡ true
+      → ((d : Segment) → has boxes d ≡ true → is_within (box_of d) q ≡ true) → is_within r q ≡ true

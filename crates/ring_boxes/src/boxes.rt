@@ -1,14 +1,14 @@
-ghost use Rattle.std.specs.Prelude.{◌≡◌, ◌≤◌, ◌∷◌, true, List, length, int_le, unsigned_abs};
+ghost use Rattle.std.specs.Prelude.{◌≡◌, ◌≤◌, ◌∷◌, true, List, length};
 ghost use Rattle.std.specs.Prelude.{Contains, IsTrue, IfOk, OnOk};
 ghost use Rattle.std.specs.FinSet as set;
 ghost use Rattle.grid_geometry.specs.Position.{Position};
-ghost use Rattle.grid_geometry.specs.Segment.{Segment, box_of};
+ghost use Rattle.grid_geometry.specs.Segment.{Segment};
 ghost use Rattle.ring_machine.specs.Ring.{is_distinct};
 ghost use Rattle.segment_index.specs.Candidates.{AreAmong, has};
-ghost use Rattle.ring_boxes.specs.Covering.{lies_in, IsCovered, IsReached, Keeps};
+ghost use Rattle.ring_boxes.specs.Covering.{lies_in, IsAround, IsCovered, Keeps};
 ghost use Rattle.ring_boxes.specs.Held.{AreBoxesOf, IsWidened, StaysHeld};
 
-use crate::diagonal::{box_at, diagonal_of, farthest, lies_in, widened};
+use crate::diagonal::{around, box_at, diagonal_of, lies_in, widened};
 use grid_geometry::{Pos, Rect, Seg};
 use segment_index::{SegIndex, TreeIndex};
 use std::alloc::{AllocError, Allocator, Global};
@@ -69,17 +69,12 @@ impl<A: Allocator + Copy> RingBoxes<A> {
         self.widen_all(near.as_slice(), q)
     }
 
-    /// The greatest x of the boxes that have p, or its own x where no box has it. Fails only for
-    /// want of memory.
-    pub fn reach(&self, p: Pos) -> Result<i64, AllocError>
-        ensures least { IfOk result (λ x. int_le p.x x ≡ true) }
-        ensures far { IfOk result (λ x. (d : Segment) → set.contains self.now d ≡ true
-            → lies_in d p ≡ true → int_le (box_of d).x1 x ≡ true) }
-        ensures reached { IfOk result (λ x. IsReached self.now p x) }
-        ensures range { IfOk result (λ x. unsigned_abs x ≤ 1000000000000) }
+    /// The least box that has a position and the boxes that it lies in. Fails only for want of memory.
+    pub fn around(&self, p: Pos) -> Result<Rect, AllocError>
+        ensures { IfOk result (λ rect. IsAround self.now p rect) }
     {
         let near = self.boxes_of(p)?;
-        Ok(farthest(near.as_slice(), p).x())
+        Ok(around(p, near.as_slice()))
     }
 
     /// The same boxes once more, in memory of the same allocator.

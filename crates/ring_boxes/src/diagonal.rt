@@ -1,14 +1,14 @@
 //! Boxes, each by the diagonal from its least x and y to its greatest.
-ghost use Rattle.std.specs.Prelude.{◌≡◌, ◌≤◌, ◌&&◌, true, int_le, length, Contains, IsTrue};
+ghost use Rattle.std.specs.Prelude.{◌≡◌, ◌≤◌, true, length, Contains, IsTrue};
 ghost use Rattle.std.specs.Int.{int_min, int_max};
 ghost use Rattle.grid_geometry.specs.Position.{Position, position};
-ghost use Rattle.grid_geometry.specs.Segment.{Segment, box_of};
+ghost use Rattle.grid_geometry.specs.Segment.{Segment};
 ghost use Rattle.ring_machine.specs.Ring.{is_distinct};
-ghost use Rattle.segment_index.specs.Candidates.{has};
 ghost use Rattle.ring_boxes.specs.Covering.{box_at, lies_in};
-ghost use Rattle.ring_boxes.specs.Held.{IsOneOf, IsWider};
+ghost use Rattle.ring_boxes.specs.Held.{IsLeast, IsWider};
 
 use grid_geometry::{Pos, Rect, Seg};
+use segment_index::widen;
 
 /// The box of one position.
 pub(crate) fn box_at(p: Pos) -> Rect
@@ -65,22 +65,13 @@ pub(crate) fn diagonal_of(ring: &[Pos]) -> Seg
     diagonal
 }
 
-/// Of two positions, one with the greater x.
-fn farther(a: Pos, b: Pos) -> Pos
-    ensures { result.x ≡ int_max a.x b.x }
+/// The least box that has a position and those of the diagonals.
+pub(crate) fn around(p: Pos, boxes: &[Seg]) -> Rect
+    ensures { IsLeast (box_at p) boxes.now result }
 {
-    if a.x_at_most(b) { b } else { a }
-}
-
-/// Of a position and the ends of segments, one with the greatest x.
-pub(crate) fn farthest(boxes: &[Seg], p: Pos) -> Pos
-    ensures least { int_le p.x result.x ≡ true }
-    ensures far { (d : Segment) → has boxes.now d ≡ true → int_le (box_of d).x1 result.x ≡ true }
-    ensures reached { IsOneOf p.x boxes.now result.x }
-{
-    let mut found = p;
+    let mut rect = box_at(p);
     for d in boxes {
-        found = farther(found, farther(d.lo, d.hi));
+        widen(&mut rect, d.rect());
     }
-    found
+    rect
 }

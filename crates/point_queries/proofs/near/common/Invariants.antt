@@ -1,0 +1,8 @@
+use Rattle.std.proofs.Common.{◌≡◌, take}
+use Rattle.std.specs.List.{filter, list_any}
+use Rattle.point_queries.specs.Odd.{is_name}
+use Rattle.point_queries.proofs.near.common.Given as goal
+
+-- those so far
+abbrev pub invariant-loop-name : goal.invariant-loop-name
+invariant-loop-name g l = l.found.items ≡ filter (λ name. list_any (is_name name) l.others) (take l.name-index l.names)

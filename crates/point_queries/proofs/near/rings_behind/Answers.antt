@@ -1,0 +1,30 @@
+use Rattle.std.proofs.Common.{◌<◌, ◌≤◌, ◌∙◌, sym, subst, length, take_all, arith}
+use Rattle.point_queries.specs.Near.{AreBehind}
+use Rattle.point_queries.proofs.Behind.{behind_none, behind_more, behind_same}
+use Rattle.point_queries.proofs.near.rings_behind.Goals as goal
+use Rattle.point_queries.proofs.near.rings_behind.Goals.{then-is_behind+in_ok-push_users, else-is_behind}
+
+pub loop-s-init : goal.loop-s-init
+loop-s-init g c = rw c.new-names.ensures.items (behind_none c.args.map.now.doc c.args.p)
+
+pub loop-s-preserved : goal.loop-s-preserved
+loop-s-preserved g c =
+    let d = c.args.map.now.doc in
+    let p = c.args.p in
+    let near = c.args.near.now in
+    let i = c.loop-s.s-index in
+    let old = c.loop-s.names.items in
+    let within : i < length near = omega (arith, c.loop-s-test.true) in
+    elim c.if-is_behind.branch [
+      | then-is_behind+in_ok-push_users w ↦
+          behind_more d p near i c.s-item.result old w.push_users.new.out.items within c.s-item.is c.loop-s.invariant
+          (sym c.is_behind.ensures ∙ w.if-is_behind.true) w.in_ok-push_users.ensures
+      | else-is_behind w ↦
+          behind_same d p near i c.s-item.result old within c.s-item.is c.loop-s.invariant (sym c.is_behind.ensures ∙ w.if-is_behind.false)
+    ]
+
+pub returns : goal.returns
+returns g c =
+    let near = c.args.near.now in
+    let past : length near ≤ c.loop-s.s-index = omega (arith, c.loop-s-test.false) in
+    subst (λ z. AreBehind c.args.map.now.doc c.args.p z c.loop-s.names.items) (take_all c.loop-s.s-index near past) c.loop-s.invariant

@@ -1,0 +1,15 @@
+use Rattle.std.proofs.Common.{◌∙◌, ap, subst}
+use Rattle.grid_geometry.specs.Segment.{box_of}
+use Rattle.segment_index.specs.Bounds.{box_around}
+use Rattle.ring_boxes.specs.Covering.{box_at}
+use Rattle.ring_boxes.specs.Held.{IsLeast}
+use Rattle.ring_boxes.proofs.Around.{least_none, least_more}
+use Rattle.ring_boxes.proofs.diagonal.around.Goals as goal
+
+pub loop-d-init : goal.loop-d-init
+loop-d-init c = rw c.box_at-rect.ensures (least_none (box_at c.args.p))
+
+pub loop-d-preserved : goal.loop-d-preserved
+loop-d-preserved c =
+    least_more (box_at c.args.p) c.args.boxes.now c.loop-d.d-index c.d-item.result c.loop-d.rect c.widen.new.bounds
+    c.loop-d-test.true c.d-item.is (c.widen.ensures ∙ ap (box_around c.loop-d.rect) c.rect.ensures) c.loop-d.invariant
