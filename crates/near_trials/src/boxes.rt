@@ -49,7 +49,7 @@ fn pos<R: Abort>(rt: &R, p: Place) -> Pos {
 
 /// The box of the triangle.
 fn boxes_of_triangle(alloc: Global) -> Result<RingBoxes, AllocError> {
-    let mut boxes = RingBoxes::new(alloc, None);
+    let mut boxes = RingBoxes::new(alloc);
     let ring = [
         Pos::new(0, 0).unwrap(),
         Pos::new(10, 2).unwrap(),

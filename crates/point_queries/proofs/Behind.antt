@@ -98,11 +98,11 @@ module _ (d : Document) (p : Position) (ss : List Segment) (i : ℕ) (s : Segmen
         ];
     covers = λ name t c h k. in_contains new name (subst (In name) (sym listed.appended)
         (elim (in_more t s ss i l (contains_in (take (i + 1) ss) t c)) [
-            | inl j ↦ in_left name old listed.found (contains_in old name (before.covers name t (in_contains (take i ss) t j) h k))
-            | inr e ↦
-                let same : t ≡ s = e ∙ sym here in
-                in_right name old listed.found (contains_in listed.found name ((listed.all name).1 (of_has d s name (subst (λ u. ring_has d name u ≡ true) same h))))
-          ]));
+          | inl j ↦ in_left name old listed.found (contains_in old name (before.covers name t (in_contains (take i ss) t j) h k))
+          | inr e ↦
+              let same : t ≡ s = e ∙ sym here in
+              in_right name old listed.found (contains_in listed.found name ((listed.all name).1 (of_has d s name (subst (λ u. ring_has d name u ≡ true) same h))))
+        ]));
   }
 
   pub behind_same : is_behind p s ≡ false → AreBehind d p (take (i + 1) ss) old

@@ -71,7 +71,7 @@ pub fn boxes_of<'a, I: SegIndex, A: Allocator + Copy>(
     ensures { IfOk result (λ boxes. Covers boxes (rings map.now.doc)) }
 {
     let _ = map.frame(); // it tells that no two features have one number
-    let mut boxes = RingBoxes::new(alloc, None);
+    let mut boxes = RingBoxes::new(alloc);
     for n in 0..map.next_number() {
         add_boxes(map, &mut boxes, n)?;
     }

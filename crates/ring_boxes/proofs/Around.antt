@@ -51,15 +51,15 @@ least_none b = record {
 pub least_more : (b : Box) (boxes : List Segment) (i : ℕ) (d : Segment) (r k : Box) → i < length boxes → d ≡ get_or boxes i d
     → k ≡ box_around r (box_of d) → IsLeast b (take i boxes) r → IsLeast b (take (i + 1) boxes) k
 least_more b boxes i d r k lt here more before = rw more (record {
-      has_first = within_first b r (box_of d) before.has_first;
-      has_each = λ t h.
-          elim (or_true (has (take i boxes) t) (segment_is t (get_or boxes i d)) (sym (list_any_more (segment_is t) boxes i d lt) ∙ h)) [
-            | inl e ↦ within_first (box_of t) r (box_of d) (before.has_each t e)
-            | inr e ↦ ap (λ (s : Segment). is_within (box_of s) (box_around r (box_of d))) (same_segment t (get_or boxes i d) e ∙ sym here) ∙ within_last r (box_of d)
-          ];
-      least = λ q h each.
-          around_within r (box_of d) q (before.least q h (λ t u. each t (list_any_kept (segment_is t) boxes i u))) (each d there);
-    })
+  has_first = within_first b r (box_of d) before.has_first;
+  has_each = λ t h.
+      elim (or_true (has (take i boxes) t) (segment_is t (get_or boxes i d)) (sym (list_any_more (segment_is t) boxes i d lt) ∙ h)) [
+        | inl e ↦ within_first (box_of t) r (box_of d) (before.has_each t e)
+        | inr e ↦ ap (λ (s : Segment). is_within (box_of s) (box_around r (box_of d))) (same_segment t (get_or boxes i d) e ∙ sym here) ∙ within_last r (box_of d)
+      ];
+  least = λ q h each.
+      around_within r (box_of d) q (before.least q h (λ t u. each t (list_any_kept (segment_is t) boxes i u))) (each d there);
+})
   where
     there : has (take (i + 1) boxes) d ≡ true
     there =

@@ -36,13 +36,13 @@ impl<A: Allocator + Copy> Model for RingBoxes<A> {
 }
 
 impl<A: Allocator + Copy> RingBoxes<A> {
-    /// No boxes yet, for a map of this extent; no answer depends on it. It takes no memory yet.
-    pub fn new(alloc: A, extent: Option<Rect>) -> Self
+    /// No boxes yet. It takes no memory yet.
+    pub fn new(alloc: A) -> Self
         ensures { result ≡ set.empty }
     {
         Self {
             alloc,
-            index: TreeIndex::new(alloc, extent),
+            index: TreeIndex::new(alloc, None),
         }
     }
 
