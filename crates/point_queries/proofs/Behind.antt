@@ -1,9 +1,9 @@
 -- What passes the level of a position behind it: edges of a ring that holds it, and the rings of given segments.
-use Rattle.std.proofs.Common.{◌≡◌, ◌<◌, ◌+◌, ◌×◌, ℕ, Bool, true, false, not, refl, sym, ap, ap₂, ◌∙◌, subst, cond, ◌&&◌, pos, ℤ}
-use Rattle.std.proofs.Common.{List, [], ◌∷◌, ◌++◌, take, get_or, length, int_lt, Contains, inl, inr, arith}
+use Rattle.std.proofs.Common.{◌≡◌, ◌<◌, ◌+◌, ◌⊎◌, ℕ, Bool, true, false, not, refl, sym, ap, ap₂, ◌∙◌, subst, cond, ◌&&◌, pos, ℤ}
+use Rattle.std.proofs.Common.{List, [], ◌∷◌, ◌++◌, take, get_or, length, int_lt, inl, inr, arith}
 use Rattle.std.specs.Ordering.{is_gt}
 use Rattle.std.proofs.lemmas.Bool.{false≢true}
-use Rattle.std.proofs.lemmas.List.{append-nil, take_more}
+use Rattle.std.proofs.lemmas.List.{take_more}
 use Rattle.grid_geometry.specs.Orientation.{orientation}
 use Rattle.grid_geometry.specs.Position.{Position, position_cmp}
 use Rattle.grid_geometry.specs.Ring.{Edge, edges, links, is_counted, is_odd_count, is_inside, xor}
@@ -83,21 +83,21 @@ in_more : {X : Type 0} (x d : X) (xs : List X) (i : ℕ) → i < length xs → I
 in_more x d xs i l h =
     elim (in-append x (take i xs) (get_or xs i d ∷ []) (subst (In x) (take_more xs i d l) h)) [
       | inl k ↦ inl k
-      | inr (inl e) ↦ inr e
+      | inr (inl e) ↦ inr (sym e)
       | inr (inr k) ↦ absurd k
     ]
 
-module _ (d : Document) (p : Position) (ss : List Segment) (i : ℕ) (s : Segment) (old : List RingName) (l : i < length ss) (here : s ≡ get_or ss i s)
+module _ (d : Document) (p : Position) (ss : List Segment) (i : ℕ) (s other : Segment) (old : List RingName) (l : i < length ss) (here : s ≡ get_or ss i other)
     (before : AreBehind d p (take i ss) old) where
   pub behind_more : (new : List RingName) → is_behind p s ≡ true → ListsRings d (segment s.lo s.hi) old new → AreBehind d p (take (i + 1) ss) new
-  behind_more new yes listed = record {
+  behind_more new it listed = record {
     among = λ name c.
         elim (in-append name old listed.found (subst (In name) listed.appended (contains_in new name c))) [
           | inl k ↦ before.among name (in_contains old name k)
-          | inr k ↦ (s, has_of d s name ((listed.all name).0 (in_contains listed.found name k)), yes)
+          | inr k ↦ (s, has_of d s name ((listed.all name).0 (in_contains listed.found name k)), it)
         ];
     covers = λ name t c h k. in_contains new name (subst (In name) (sym listed.appended)
-        (elim (in_more t s ss i l (contains_in (take (i + 1) ss) t c)) [
+        (elim (in_more t other ss i l (contains_in (take (i + 1) ss) t c)) [
           | inl j ↦ in_left name old listed.found (contains_in old name (before.covers name t (in_contains (take i ss) t j) h k))
           | inr e ↦
               let same : t ≡ s = e ∙ sym here in
@@ -106,11 +106,11 @@ module _ (d : Document) (p : Position) (ss : List Segment) (i : ℕ) (s : Segmen
   }
 
   pub behind_same : is_behind p s ≡ false → AreBehind d p (take (i + 1) ss) old
-  behind_same no = record {
+  behind_same none = record {
     among = before.among;
     covers = λ name t c h k.
-        elim (in_more t s ss i l (contains_in (take (i + 1) ss) t c)) [
+        elim (in_more t other ss i l (contains_in (take (i + 1) ss) t c)) [
           | inl j ↦ before.covers name t (in_contains (take i ss) t j) h k
-          | inr e ↦ absurd (false≢true (sym no ∙ ap (is_behind p) (sym (e ∙ sym here)) ∙ k))
+          | inr e ↦ absurd (false≢true (sym none ∙ ap (is_behind p) (sym (e ∙ sym here)) ∙ k))
         ];
   }

@@ -1,7 +1,7 @@
 -- Which rings hold a position, by the segments that count as far as the boxes that have it.
-use Rattle.std.proofs.Common.{◌≡◌, ◌×◌, ℤ, Bool, true, false, refl, sym, ap, ap₂, ◌∙◌, subst, cond, ◌&&◌, int_le, arith}
+use Rattle.std.proofs.Common.{◌≡◌, ℤ, Bool, true, false, refl, sym, ap, ap₂, ◌∙◌, subst, cond, ◌&&◌, int_le, arith}
 use mir.Val.{of_z, to_z}
-use Rattle.std.proofs.Common.{unsigned_abs, ◌≤◌, w64, List, [], ◌∷◌, Option, Some, Contains}
+use Rattle.std.proofs.Common.{unsigned_abs, ◌≤◌, w64, List, [], ◌∷◌, Option, Some, Contains, Result, Ok, Err, IfOk}
 use Rattle.std.specs.Prelude.{unwrap_or}
 use Rattle.std.specs.FinSet as set
 use Rattle.std.specs.List.{filter, list_all, list_any}
@@ -20,7 +20,7 @@ use Rattle.ring_machine.proofs.Orders.{segment_ordered}
 use Rattle.ring_machine.proofs.RingSegments.{segment_eq-true}
 use Rattle.segment_index.specs.Bounds.{is_within}
 use Rattle.segment_index.specs.Candidates.{SegmentSet}
-use Rattle.ring_boxes.specs.Covering.{Covers, IsCovered, lies_in}
+use Rattle.ring_boxes.specs.Covering.{Covers, IsCovered, box_at, lies_in}
 use Rattle.map_frame.specs.declared.names.RingName.{RingName}
 use Rattle.arc_store.specs.Near.{ListsNear}
 use Rattle.arc_store.proofs.Indexed.{segment_in}
@@ -37,6 +37,20 @@ use Rattle.point_queries.proofs.Telling.{odd_within, are_there, ring_there}
 -- a coordinate as it is kept
 pub read_back : (x : ℤ) → unsigned_abs x ≤ 1000000000000 → to_z w64 (of_z w64 x) ≡ x
 read_back x h = to_z-of_z w64 x (omega (arith, ints))
+
+-- what holds of what was found has another form
+pub if_ok : {V E : Type 0} (P Q : V → Type 0) (r : Result V E) → ((v : V) → P v → Q v) → IfOk r P → IfOk r Q
+if_ok P Q (Ok v) f h = f v h
+if_ok P Q (Err e) f h = h
+
+-- the box within which a position is looked for, as far as it goes to either side
+pub in_front : (p : Position) (r : Box) → is_within (box_at p) r ≡ true → unsigned_abs r.x1 ≤ 1000000000000
+    → int_le p.x (to_z w64 (of_z w64 r.x1)) ≡ true
+in_front p r h range = ap (int_le p.x) (read_back r.x1 range) ∙ (and_both _ _ (and_both _ _ h).0).1
+
+pub in_back : (p : Position) (r : Box) → is_within (box_at p) r ≡ true → unsigned_abs r.x0 ≤ 1000000000000
+    → int_le (to_z w64 (of_z w64 r.x0)) p.x ≡ true
+in_back p r h range = ap (λ x. int_le x p.x) (read_back r.x0 range) ∙ (and_both _ _ (and_both _ _ h).0).0
 
 -- ---- of the names, those that pass a test
 
@@ -88,7 +102,7 @@ module _ (d : Document) (are_rings : list_all is_ring (rings d) ≡ true) (p : P
     (names : List RingName) (h : HavePassed d p (ray_to p r.x1) names) where
   -- of a ring in a box that has the position
   module _ (ring : List Position) (i : In ring (rings d)) (has : lies_in (covers ring (in_contains (rings d) ring i)).by p ≡ true) where
-    c : IsCovered boxes ring
+    abbrev c : IsCovered boxes ring
     c = covers ring (in_contains (rings d) ring i)
 
     starts : (e : Edge) → In e (edges ring) → (int_le r.x0 (e.0).x ≡ true) × (int_le (e.0).x r.x1 ≡ true)
@@ -114,7 +128,7 @@ module _ (d : Document) (are_rings : list_all is_ring (rings d) ≡ true) (p : P
 
   module _ (ss : List Segment) (near : ListsNear d (ray_back p r.x0) [] ss) (behind : List RingName) (are : AreBehind d p ss behind) where
     -- a ring that holds the position has an edge behind it
-    is_told : (name : RingName) (ring : List Position) → ring_of d name ≡ Some ring → is_inside p ring ≡ true → list_any (is_name name) behind ≡ true
+    is_told : (name : RingName) (ring : List Position) → ring_of d name ≡ Some ring → is_inside p ring ≡ true → list_any (λ other. is_name other name) behind ≡ true
     is_told name ring e inside =
         let i = ring_there d name ring e in
         let edge = some_behind p ring inside in
@@ -126,13 +140,13 @@ module _ (d : Document) (are_rings : list_all is_ring (rings d) ≡ true) (p : P
         let has : ring_has d name t ≡ true =
         ap₂ (λ (z : Segment) (o : Option (List Position)). list_any (segment_eq z) (segments (unwrap_or o []))) (of_ends d t in_all) e
         ∙ in_any (segment_eq t) t (segments ring) in_ring (segment_ordered.eq-refl t) in
-        in_any (is_name name) name behind (contains_in behind name (are.covers name t given has (behind_is p (edge.0).0 (edge.0).1 ∙ edge.2))) (is_name-refl name)
+        in_any (λ other. is_name other name) name behind (contains_in behind name (are.covers name t given has (behind_is p (edge.0).0 (edge.0).1 ∙ edge.2))) (is_name-refl name)
 
     -- one of which an odd number of segments count, and that has an edge behind the position, holds it
-    both_hold : (name : RingName) → odd (is_name name) names ≡ true → list_any (is_name name) behind ≡ true → holds d p name ≡ true
+    both_hold : (name : RingName) → odd (is_name name) names ≡ true → list_any (λ other. is_name other name) behind ≡ true → holds d p name ≡ true
     both_hold name odds told =
-        let other = any_in (is_name name) behind told in
-        let left = are.among name (in_contains behind name (subst (λ z. In z behind) (sym (is_name-true name other.0 other.2)) other.1)) in
+        let other = any_in (λ other. is_name other name) behind told in
+        let left = are.among name (in_contains behind name (subst (λ z. In z behind) (is_name-true other.0 name other.2) other.1)) in
         let right = odd-some (ring_has d name) h.ss (sym (ap (odd (is_name name)) h.listed.appended ∙ h.listed.odds name) ∙ odds) in
         let ring = of_has d left.0 name left.1 in
         let i = ring_there d name ring.positions ring.there in
@@ -154,10 +168,10 @@ module _ (d : Document) (are_rings : list_all is_ring (rings d) ≡ true) (p : P
 
     module _ (sorted : List RingName) (alike : (y : RingName) → odd (is_name y) sorted ≡ odd (is_name y) names)
         (among : (y : RingName) → In y sorted → In y names) (suspects : List RingName) (odds : HaveOdd sorted suspects) where
-      told : RingName → Bool
-      told name = list_any (is_name name) behind
+      abbrev told : RingName → Bool
+      told name = list_any (λ other. is_name other name) behind
 
-      pub tells_near : (found : List RingName) → found ≡ filter (λ name. list_any (is_name name) behind) suspects → TellsInside d p found
+      pub tells_near : (found : List RingName) → found ≡ filter (λ name. list_any (λ other. is_name other name) behind) suspects → TellsInside d p found
       tells_near found e = record {
         rings = λ name c.
             let k = in_filter told name suspects (subst (In name) e (contains_in found name c)) in

@@ -122,7 +122,7 @@ fn common<A: Allocator + Copy>(
     others: &[RingName],
 ) -> Result<Vec<RingName, A>, AllocError>
     ensures { IfOk result
-        (λ found. found.items ≡ filter (λ name. list_any (odd.is_name name) others.now) names.now) }
+        (λ found. found.items ≡ filter (λ name. list_any (λ other. odd.is_name other name) others.now) names.now) }
 {
     let mut found = Vec::new(alloc);
     for name in names {

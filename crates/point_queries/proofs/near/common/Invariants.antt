@@ -5,4 +5,4 @@ use Rattle.point_queries.proofs.near.common.Given as goal
 
 -- those so far
 abbrev pub invariant-loop-name : goal.invariant-loop-name
-invariant-loop-name g l = l.found.items ≡ filter (λ name. list_any (is_name name) l.others) (take l.name-index l.names)
+invariant-loop-name g l = l.found.items ≡ filter (λ name. list_any (λ other. is_name other name) l.others) (take l.name-index l.names)

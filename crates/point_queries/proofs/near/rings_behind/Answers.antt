@@ -1,4 +1,5 @@
 use Rattle.std.proofs.Common.{◌<◌, ◌≤◌, ◌∙◌, sym, subst, length, take_all, arith}
+use Rattle.grid_geometry.specs.Segment.{Segment}
 use Rattle.point_queries.specs.Near.{AreBehind}
 use Rattle.point_queries.proofs.Behind.{behind_none, behind_more, behind_same}
 use Rattle.point_queries.proofs.near.rings_behind.Goals as goal
@@ -13,14 +14,15 @@ loop-s-preserved g c =
     let p = c.args.p in
     let near = c.args.near.now in
     let i = c.loop-s.s-index in
+    let s : Segment = record { lo = c.s.inside.lo; hi = c.s.inside.hi } in
     let old = c.loop-s.names.items in
     let within : i < length near = omega (arith, c.loop-s-test.true) in
     elim c.if-is_behind.branch [
       | then-is_behind+in_ok-push_users w ↦
-          behind_more d p near i c.s-item.result old w.push_users.new.out.items within c.s-item.is c.loop-s.invariant
-          (sym c.is_behind.ensures ∙ w.if-is_behind.true) w.in_ok-push_users.ensures
+          rw w.names-is (behind_more d p near i s c.s-item.result old within (c.s.view_is ∙ c.s-item.is) c.loop-s.invariant w.push_users.new.out.items
+          (sym c.is_behind.ensures ∙ w.if-is_behind.true) w.in_ok-push_users.ensures)
       | else-is_behind w ↦
-          behind_same d p near i c.s-item.result old within c.s-item.is c.loop-s.invariant (sym c.is_behind.ensures ∙ w.if-is_behind.false)
+          rw w.names-is (behind_same d p near i s c.s-item.result old within (c.s.view_is ∙ c.s-item.is) c.loop-s.invariant (sym c.is_behind.ensures ∙ w.if-is_behind.false))
     ]
 
 pub returns : goal.returns
