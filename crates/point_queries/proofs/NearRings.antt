@@ -1,7 +1,7 @@
 -- Which rings hold a position, by the segments that count as far as the boxes that have it.
 use Rattle.std.proofs.Common.{◌≡◌, ℤ, Bool, true, false, refl, sym, ap, ap₂, ◌∙◌, subst, cond, ◌&&◌, int_le, arith}
 use mir.Val.{of_z, to_z}
-use Rattle.std.proofs.Common.{unsigned_abs, ◌≤◌, w64, List, [], ◌∷◌, Option, Some, Contains, Result, Ok, Err, IfOk}
+use Rattle.std.proofs.Common.{unsigned_abs, ◌≤◌, w64, List, [], ◌∷◌, Option, Some, Contains}
 use Rattle.std.specs.Prelude.{unwrap_or}
 use Rattle.std.specs.FinSet as set
 use Rattle.std.specs.List.{filter, list_all, list_any}
@@ -37,11 +37,6 @@ use Rattle.point_queries.proofs.Telling.{odd_within, are_there, ring_there}
 -- a coordinate as it is kept
 pub read_back : (x : ℤ) → unsigned_abs x ≤ 1000000000000 → to_z w64 (of_z w64 x) ≡ x
 read_back x h = to_z-of_z w64 x (omega (arith, ints))
-
--- what holds of what was found has another form
-pub if_ok : {V E : Type 0} (P Q : V → Type 0) (r : Result V E) → ((v : V) → P v → Q v) → IfOk r P → IfOk r Q
-if_ok P Q (Ok v) f h = f v h
-if_ok P Q (Err e) f h = h
 
 -- the box within which a position is looked for, as far as it goes to either side
 pub in_front : (p : Position) (r : Box) → is_within (box_at p) r ≡ true → unsigned_abs r.x1 ≤ 1000000000000

@@ -1,6 +1,6 @@
 // The features at a position, by the segments that count for it as far as the boxes that have it.
 ghost use Rattle.std.specs.Prelude.{◌≡◌, ◌≤◌, ◌⊎◌, true, int_le, unsigned_abs, Contains, IfOk};
-ghost use Rattle.std.specs.Prelude.{OnOk};
+ghost use Rattle.std.specs.Prelude.{OnOk, IfSome};
 ghost use Rattle.std.specs.List.{filter, list_any};
 ghost use Rattle.std.specs.List.Sorted.{IsPermutation};
 ghost use Rattle.ring_machine.specs.Parts.{rings};
@@ -11,7 +11,7 @@ ghost use Rattle.map_frame.specs.declared.names.RingName.{RingName};
 ghost use Rattle.point_queries.specs.Near.{ray_to, ray_back, is_behind, AreBehind, Cancels, HaveOdd};
 
 use crate::border::border_at;
-use crate::inside::inside_of;
+use crate::inside::{inside_at, inside_of};
 use crate::numbers::{At, Numbers};
 use crate::odd::passed_rings;
 use arc_store::{Map, RingName};
@@ -19,6 +19,10 @@ use grid_geometry::{Pos, Rect, Seg, counts};
 use ring_boxes::RingBoxes;
 use segment_index::SegIndex;
 use std::alloc::{AllocError, Allocator};
+
+/// Where more rings than these may hold a position, the whole way to the right is asked, since names
+/// are compared one by one.
+const MANY: usize = 64;
 
 /// The box of the ray from p to x.
 fn ray_to(p: Pos, x: i64) -> Rect
@@ -133,29 +137,34 @@ fn common<A: Allocator + Copy>(
     Ok(found)
 }
 
-/// The rings that hold p, each once. A ring that holds p lies in a box that has p: so an odd number
-/// of its segments count for p on the ray to the end of these boxes, and behind p it passes the
-/// level of p at least once. A ring that the end of the ray cuts may have an odd number there too,
-/// but if it passes the level of p on both sides of it, then its own box has p and ends there at the
-/// latest.
+/// The rings that hold p, each once; `None` where many may. A ring that holds p lies in a box that has
+/// p: so an odd number of its segments count for p on the ray to the end of these boxes, and behind p
+/// it passes the level of p at least once. A ring that the end of the ray cuts may have an odd number
+/// there too, but if it passes the level of p on both sides of it, then its own box has p and ends
+/// there at the latest.
 fn near_rings<'a, I: SegIndex, A: Allocator + Copy>(
     alloc: A,
     map: &Map<'a, I, A>,
     boxes: &RingBoxes<A>,
     p: Pos,
-) -> Result<Vec<RingName, A>, AllocError>
+) -> Result<Option<Vec<RingName, A>>, AllocError>
     requires { Covers boxes.now (rings map.now.doc) }
-    ensures { IfOk result (λ found. odd.TellsInside map.now.doc p found.items) }
+    ensures { IfOk result (λ found. IfSome found
+        (λ found. odd.TellsInside map.now.doc p found.items)) }
 {
     let _ = map.frame(); // it tells that each ring is one
     let bounds = boxes.around(p)?;
     let mut names = passed_rings(alloc, map, p, ray_to(p, bounds.x1))?;
     sort_names(&mut names);
     let suspects = odd_names(alloc, names.as_slice())?;
+    if suspects.len() > MANY {
+        return Ok(None);
+    }
     let mut near = Vec::new(alloc);
     map.candidates(ray_back(p, bounds.x0), &mut near)?;
     let behind = rings_behind(alloc, map, p, near.as_slice())?;
-    common(alloc, suspects.as_slice(), behind.as_slice())
+    let found = common(alloc, suspects.as_slice(), behind.as_slice())?;
+    Ok(Some(found))
 }
 
 /// The numbers of the features that hold p, off the borders, which have p on those of these
@@ -172,15 +181,18 @@ fn inside_near<'a, I: SegIndex, A: Allocator + Copy>(
     ensures { IfOk result (λ found. found ≡ query.inside_at map.now.doc p) }
 {
     let _ = map.frame(); // it tells that no two features have one number
-    let names = near_rings(alloc, map, boxes, p)?;
-    inside_of(alloc, map, names.as_slice(), border)
+    match near_rings(alloc, map, boxes, p)? {
+        Some(names) => inside_of(alloc, map, names.as_slice(), border),
+        None => inside_at(alloc, map, p, border),
+    }
 }
 
 /// The features at p, as `at` finds them: those that hold it by the even-odd rule, off their
 /// borders (RFC 7946, 3.1.6), and those on whose borders it lies. Each ring of the map has to lie
 /// in one of the boxes, as in those that `boxes_of` makes. Reads the cells at p and those from it
-/// to the right and to the left as far as the boxes that have p, and goes round no ring. Fails for
-/// want of memory alone.
+/// to the right and to the left as far as the boxes that have p, and goes round no ring; where more
+/// than 64 rings may hold p, it reads the cells to the edge of the map, as `at` does. Fails for want
+/// of memory alone.
 pub fn at_near<'a, I: SegIndex, A: Allocator + Copy>(
     alloc: A,
     map: &Map<'a, I, A>,

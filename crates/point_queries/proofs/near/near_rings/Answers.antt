@@ -5,8 +5,8 @@ use Rattle.ring_machine.proofs.SortedOnce.{in_permuted}
 use Rattle.ring_boxes.specs.Covering.{IsAround}
 use Rattle.arc_store.specs.Near.{ListsNear}
 use Rattle.point_queries.specs.Near.{AreBehind, HaveOdd, ray_back, ray_to}
-use Rattle.point_queries.specs.Odd.{HavePassed, TellsInside, is_name}
-use Rattle.point_queries.proofs.NearRings.{if_ok, in_back, in_front, read_back, tells_near}
+use Rattle.point_queries.specs.Odd.{HavePassed, is_name}
+use Rattle.point_queries.proofs.NearRings.{in_back, in_front, read_back, tells_near}
 use Rattle.point_queries.proofs.Odds.{odd-permuted}
 use Rattle.point_queries.proofs.near.near_rings.Goals as goal
 
@@ -40,9 +40,7 @@ returns g c =
     subst (λ (z : Box). ListsNear d z [] ss) (c.ray_back.ensures ∙ ap (ray_back p) (read_back r.x0 c.bounds.invariant.least.across))
     (subst (λ z. ListsNear d c.ray_back.result z ss) c.new-near.ensures.items c.in_ok-candidates.ensures.near) in
     let are : AreBehind d p ss behind = subst (λ z. AreBehind d p z behind) c.as_slice-2.ensures.value c.in_ok-behind.ensures in
-    if_ok (λ found. found.items ≡ filter (λ name. list_any (λ other. is_name other name) c.as_slice-4.result.now) c.as_slice-3.result.now)
-    (λ found. TellsInside d p found.items) c.common.result
-    (λ found e. tells_near d c.frame.ensures.proper.are_rings p c.args.boxes.now c.requires r around.has_each names h ss near behind are sorted
+    tells_near d c.frame.ensures.proper.are_rings p c.args.boxes.now c.requires r around.has_each names h ss near behind are sorted
     (λ y. odd-permuted (is_name y) names sorted c.sort_names.ensures) (in_permuted names sorted c.sort_names.ensures) suspects odds
-    found.items (e ∙ ap₂ (λ os xs. filter (λ name. list_any (λ other. is_name other name) os) xs) c.as_slice-4.ensures.value c.as_slice-3.ensures.value))
-    c.common.ensures
+    c.in_ok-found.found.items
+    (c.in_ok-found.ensures ∙ ap₂ (λ os xs. filter (λ name. list_any (λ other. is_name other name) os) xs) c.as_slice-4.ensures.value c.as_slice-3.ensures.value)
