@@ -1,5 +1,5 @@
-ghost use Rattle.std.specs.Prelude.{◌≡◌, ◌≢◌, ◌≤◌, ◌<◌, ◌+◌, ◌^◌, IfOk, IfErr, ◌&&◌, ◌==◌, length, ◌∷◌, reverse, OnOk};
-ghost use Rattle.json_spans.specs.Machine.{verdict, first_in, may_end, top_of, rest_of};
+ghost use Rattle.std.specs.Prelude.{◌≡◌, ◌≢◌, ◌≤◌, ◌<◌, ◌+◌, ◌^◌, IfOk, IfErr, IsTrue, ◌&&◌, ◌==◌, length, ◌∷◌, reverse, OnOk};
+ghost use Rattle.json_spans.specs.Machine.{verdict, step, first_in, may_end, top_of, rest_of};
 ghost use Rattle.json_spans.specs.Faults.{Judges};
 ghost use Rattle.json_spans.specs.Grammar.{Json};
 ghost use Rattle.json_spans.specs.Inside.{IsValue};
@@ -7,7 +7,8 @@ ghost use Rattle.json_spans.specs.Trimmed.{trimmed};
 ghost use Rattle.json_spans.specs.Left.{node};
 ghost use Rattle.json_spans.specs.Roots.{span_of};
 
-use crate::machine::{Frame, Mode, Move, step};
+use crate::classes::{is_ascii, is_digit};
+use crate::machine::{Frame, Mode, Move, Within, step};
 use crate::span::Span;
 use crate::trimming::trim;
 use std::alloc::{AllocFailed, Allocator};
@@ -92,6 +93,19 @@ fn may_stop<A: Allocator + Copy>(mode: Mode, frames: &Vec<Frame, A>) -> bool
     may_end(mode) && frames.is_empty()
 }
 
+// Whether the byte is one of many in a string or a number, and leads to the same mode.
+#[inline(always)]
+fn stays<A: Allocator + Copy>(mode: Mode, frames: &Vec<Frame, A>, x: u8) -> bool
+    ensures { IsTrue result → step mode (top_of (reverse frames.now.items)) x ≡ Move.Goes mode }
+{
+    match mode {
+        Mode::Text(Within::Plain) => is_ascii(x),
+        Mode::NameText(Within::Plain) => is_ascii(x) && top(frames) == Some(Frame::Object),
+        Mode::Whole | Mode::Fraction => is_digit(x),
+        _ => false,
+    }
+}
+
 /// Whether the bytes are a JSON text, and if not, where they stop being the front of one.
 fn check<A: Allocator + Copy>(alloc: A, bytes: &[u8]) -> Result<(), ScanFault>
     ensures { Judges result (verdict bytes.now) }
@@ -99,6 +113,9 @@ fn check<A: Allocator + Copy>(alloc: A, bytes: &[u8]) -> Result<(), ScanFault>
     let mut mode = Mode::Value;
     let mut frames: Vec<Frame, A> = Vec::new(alloc);
     for (place, byte) in bytes.iter().enumerate() {
+        if stays(mode, &frames, *byte) {
+            continue;
+        }
         match step(mode, top(&frames), *byte) {
             Move::Goes(next) => mode = next,
             Move::Opens(frame) => {

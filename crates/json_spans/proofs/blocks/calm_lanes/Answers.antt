@@ -1,0 +1,13 @@
+use Rattle.std.proofs.Common.{sym, ap, ◌∙◌, arith}
+use Rattle.std.proofs.lemmas.Simd.{leading_from_mask_l}
+use lib.Count.{count_trailing_zeros}
+use Rattle.json_spans.specs.Blocks.{is_stop}
+use Rattle.json_spans.proofs.Lanes.{before_first}
+use Rattle.json_spans.proofs.blocks.calm_lanes.Goals as goal
+
+pub returns-then-mask-eq0 : goal.returns-then-mask-eq0
+returns-then-mask-eq0 c = sym (leading_from_mask_l is_stop c.args.v (sym c.stops-mask.ensures ∙ c.if-mask-eq0.true) ∙ c.fits-v.0)
+
+pub returns-else-mask-eq0 : goal.returns-else-mask-eq0
+returns-else-mask-eq0 c =
+    ap (count_trailing_zeros 64) c.stops-mask.ensures ∙ before_first is_stop c.args.v (omega (arith, c.fits-v.0)) (omega (arith, c.stops-mask.ensures, c.if-mask-eq0.false))
