@@ -1,6 +1,6 @@
 -- Going over bytes that neither open nor close nor escape.
 use Rattle.std.proofs.Common.{◌≡◌, ℕ, zero, suc, ◌+◌, ◌-◌, ◌<◌, ◌≤◌, List, [], ◌∷◌, ◌++◌, length, take, drop, refl, sym, ap, ◌∙◌, arith, Bool, true, false, not, cond}
-use Rattle.std.specs.Prelude.{Option, Some, None, ◌==◌, ◌%◌}
+use Rattle.std.specs.Prelude.{Some}
 use Rattle.std.specs.List.{prefix_len, count_by}
 use Rattle.std.proofs.lemmas.Bool.Decides.{nat_tests}
 use Rattle.std.proofs.lemmas.List.{drop-drop, take_all, length-drop}
@@ -8,7 +8,7 @@ use Rattle.std.proofs.lemmas.List.Sums.{sum_by-cons}
 use Rattle.json_spans.specs.declared.parts.Skip.{Skip}
 use Rattle.json_spans.specs.declared.parts.Skip.TheVariants.{Plain, Quoted, Escaped}
 use Rattle.json_spans.specs.Parts.{skip_step, part_len}
-use Rattle.json_spans.specs.Blocks.{is_stop, is_calm, is_quote, is_odd, turned, is_escaped}
+use Rattle.json_spans.specs.Blocks.{is_calm, is_quote, is_odd, turned, is_escaped}
 
 calm_step : (sep : ℕ) (s : Skip) (level x : ℕ) → is_calm x ≡ true → 0 < level → is_escaped s ≡ false → skip_step sep s level x ≡ Some (turned s (is_quote x), level)
 calm_step sep Plain level x calm lt e = grind (arith, nat_tests)
