@@ -17,6 +17,8 @@ pub(crate) struct Front {
     pub(crate) skip: Skip,
 }
 
+// The lanes with a bracket, a backslash or a bar: with the bit of small letters these are the three
+// bytes from `{` on.
 #[inline(always)]
 fn stops(v: u8x32) -> u64
     ensures { result ≡ mask_l (map is_stop v) }
@@ -54,7 +56,7 @@ fn turned(skip: Skip, is_odd: bool) -> Skip
     }
 }
 
-// How many lanes come before the first whose bit is set.
+// How many lanes come before the first stop.
 #[inline(always)]
 fn calm_lanes(v: u8x32) -> u32
     ensures { result ≡ prefix_len is_calm v }

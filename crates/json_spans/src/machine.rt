@@ -213,10 +213,10 @@ fn closes(top: Option<Frame>, x: u8) -> Move
 fn follows(top: Option<Frame>, x: u8) -> Move
     ensures { result ≡ follows top x }
 {
-    if is_space(x) {
-        Move::Goes(Mode::After)
-    } else if x == b',' {
+    if x == b',' {
         after_comma(top)
+    } else if is_space(x) {
+        Move::Goes(Mode::After)
     } else {
         closes(top, x)
     }
@@ -252,10 +252,9 @@ fn in_object(top: Option<Frame>, moves: Move) -> Move
 fn before_value(x: u8) -> Move
     ensures { result ≡ before_value x }
 {
-    if is_space(x) {
-        Move::Goes(Mode::Value)
-    } else {
-        begins(x)
+    match begins(x) {
+        Move::Fails if is_space(x) => Move::Goes(Mode::Value),
+        begun => begun,
     }
 }
 
@@ -288,10 +287,10 @@ fn before_first_name(x: u8) -> Move
 fn before_name(x: u8) -> Move
     ensures { result ≡ before_name x }
 {
-    if is_space(x) {
-        Move::Goes(Mode::Name)
-    } else if x == b'"' {
+    if x == b'"' {
         Move::Goes(Mode::NameText(Within::Plain))
+    } else if is_space(x) {
+        Move::Goes(Mode::Name)
     } else {
         Move::Fails
     }
@@ -300,10 +299,10 @@ fn before_name(x: u8) -> Move
 fn before_colon(x: u8) -> Move
     ensures { result ≡ before_colon x }
 {
-    if is_space(x) {
-        Move::Goes(Mode::Colon)
-    } else if x == b':' {
+    if x == b':' {
         Move::Goes(Mode::Value)
+    } else if is_space(x) {
+        Move::Goes(Mode::Colon)
     } else {
         Move::Fails
     }
