@@ -11,6 +11,9 @@ use grid_geometry::{Rect, Seg};
 use std::alloc::{AllocError, Allocator, Global};
 use std::mem;
 
+/// For how many segments a leaf has room at first.
+const FIRST_ROOM: usize = 8;
+
 /// Segments in leaves of some each. A leaf that is full is parted into the two sides of a fork.
 /// Leaves and forks have a box that all their segments lie in.
 #[cycle(tree)]
@@ -307,7 +310,7 @@ fn leaf_of<A: Allocator + Copy>(alloc: A, s: Seg) -> Result<Tree<A>, AllocError>
     ensures bounded { IfOk result (λ r. Bounded r) }
     ensures one { IfOk result (λ r. Gains s [] (listed r)) }
 {
-    let mut cell = Cell::new(alloc);
+    let mut cell = Cell::of(Vec::with_capacity(alloc, FIRST_ROOM)?);
     cell.put(s)?;
     Ok(Tree::Leaf(s.rect(), cell))
 }

@@ -131,13 +131,11 @@ fn put_all<A: Allocator + Copy>(
     Ok(last)
 }
 
-fn backwards<A: Allocator + Copy>(alloc: A, list: &[Pos]) -> Result<Vec<Pos, A>, AllocFailed<Pos>>
+fn backwards<A: Allocator + Copy>(alloc: A, list: &[Pos]) -> Result<Vec<Pos, A>, AllocError>
     ensures { IfOk result (λ v. v.items ≡ reverse list.now) }
 {
-    let mut found = Vec::new(alloc);
-    for pos in list.iter().rev() {
-        found.push(*pos)?;
-    }
+    let mut found = Vec::from_slice(alloc, list)?;
+    found.reverse();
     Ok(found)
 }
 
@@ -146,26 +144,32 @@ fn put_use<A: Allocator + Copy>(
     ring: &mut Vec<Pos, A>,
     before: Option<Pos>,
     one: Use<'_>,
-) -> Result<Option<Pos>, AllocFailed<Pos>>
+) -> Result<Option<Pos>, AllocError>
     ensures items { OnOk result
         (ring.new.items ≡ ring.old.items ++ squeezed before (arc_of one.entry)) }
     ensures last { IfOk result (λ p. p ≡ last_after before (arc_of one.entry)) }
 {
     if one.reversed {
         let list = backwards(alloc, one.arc)?;
-        put_all(ring, before, list.as_slice())
+        Ok(put_all(ring, before, list.as_slice())?)
     } else {
-        put_all(ring, before, one.arc)
+        Ok(put_all(ring, before, one.arc)?)
     }
 }
 
-fn all_joined<A: Allocator + Copy>(
-    alloc: A,
-    uses: &[Use<'_>],
-) -> Result<Vec<Pos, A>, AllocFailed<Pos>>
+/// How many positions the arcs have. No answer depends on it.
+fn room_for(uses: &[Use<'_>]) -> usize {
+    let mut room = 0usize;
+    for one in uses {
+        room = room.saturating_add(one.arc.len());
+    }
+    room
+}
+
+fn all_joined<A: Allocator + Copy>(alloc: A, uses: &[Use<'_>]) -> Result<Vec<Pos, A>, AllocError>
     ensures { IfOk result (λ v. v.items ≡ squeezed None (all_of (map arc_of uses.now))) }
 {
-    let mut ring = Vec::new(alloc);
+    let mut ring = Vec::with_capacity(alloc, room_for(uses))?;
     let mut last = None;
     for one in uses {
         last = put_use(alloc, &mut ring, last, *one)?;
@@ -174,7 +178,7 @@ fn all_joined<A: Allocator + Copy>(
 }
 
 /// The positions of all arcs, equal neighbours once, the last left out.
-fn joined<A: Allocator + Copy>(alloc: A, uses: &[Use<'_>]) -> Result<Vec<Pos, A>, AllocFailed<Pos>>
+fn joined<A: Allocator + Copy>(alloc: A, uses: &[Use<'_>]) -> Result<Vec<Pos, A>, AllocError>
     ensures { IfOk result (λ v. v.items ≡ joined (map arc_of uses.now)) }
 {
     let mut ring = all_joined(alloc, uses)?;

@@ -21,7 +21,7 @@ use Rattle.vertex_index.proofs.PlacementLemmas.{get-placement_of}
 
 -- ---- equal positions
 
-position_eq-same : (p q : Position) → position_eq p q ≡ true → p ≡ q
+pub position_eq-same : (p q : Position) → position_eq p q ≡ true → p ≡ q
 position_eq-same p q h = by (int_eq p.x q.x) (int_eq p.y q.y) refl refl h
   where
     by : (a b : Bool) → int_eq p.x q.x ≡ a → int_eq p.y q.y ≡ b → (a && b) ≡ true → p ≡ q

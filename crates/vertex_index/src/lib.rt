@@ -38,6 +38,8 @@ type Keys<A> = IndexMap<Pos, VertexKey, RandomState, A>;
 pub struct Vertices<A: Allocator + Copy = Global> {
     slots: Slab<Slot, A>,
     keys: Keys<A>,
+    /// The slot of the vertex that `key_or_add` gave last. No answer depends on it.
+    last: usize,
 }
 
 impl<A: Allocator + Copy> Model for Vertices<A> {
@@ -65,6 +67,7 @@ impl<A: Allocator + Copy> Vertices<A> {
         Vertices {
             slots: Slab::new(alloc),
             keys: IndexMap::with_hasher(alloc, seed),
+            last: 0,
         }
     }
 
@@ -128,7 +131,12 @@ impl<A: Allocator + Copy> Vertices<A> {
         ensures absent { OnErr result ((k : ℕ) → map.get self.old k ≢ Some p) }
         ensures err { OnErr result (self.new ≡ self.old) }
     {
+        if let Some(key) = self.beside(p) {
+            self.last = key.index();
+            return Ok(key);
+        }
         let (key, _) = self.put(p)?;
+        self.last = key.index();
         Ok(key)
     }
 
@@ -150,6 +158,34 @@ impl<A: Allocator + Copy> Vertices<A> {
                 room.insert(key);
                 Ok((key, true))
             }
+        }
+    }
+
+    /// The key of the vertex at a position, if its slot is the one before the last or the one behind
+    /// it, as where a border is gone along in the other direction. Nothing is hashed.
+    fn beside(&self, p: Pos) -> Option<VertexKey>
+        ensures { IfSome result (λ k. map.get self.now k ≡ Some p) }
+    {
+        if let Some(before) = self.last.checked_sub(1) {
+            if self.stands(before, p) {
+                return Some(VertexKey::new(before));
+            }
+        }
+        if let Some(behind) = self.last.checked_add(1) {
+            if self.stands(behind, p) {
+                return Some(VertexKey::new(behind));
+            }
+        }
+        None
+    }
+
+    /// Whether a slot has the vertex at a position.
+    fn stands(&self, at: usize, p: Pos) -> bool
+        ensures { result ≡ true → map.get self.now at ≡ Some p }
+    {
+        match self.slots.get(at) {
+            Some(slot) => slot.pos == p,
+            None => false,
         }
     }
 
@@ -195,6 +231,10 @@ impl<A: Allocator + Copy> Vertices<A> {
     {
         let slots = self.slots.clone()?;
         let keys = self.keys.clone()?;
-        Ok(Vertices { slots, keys })
+        Ok(Vertices {
+            slots,
+            keys,
+            last: self.last,
+        })
     }
 }
