@@ -53,6 +53,41 @@ pub(crate) fn place_in(
     None
 }
 
+/// The place of the segment in a path, where it is the first or the last one there.
+fn place_at_end(path: &[VertexKey], a: VertexKey, b: VertexKey) -> Option<(usize, bool)>
+    ensures { IfSome result (λ p. IsPlace path.now p.0 p.1 a b) }
+{
+    match place_in(path, 1..2, a, b) {
+        Some(place) => Some(place),
+        None => place_in(path, path.len().saturating_sub(1)..path.len(), a, b),
+    }
+}
+
+/// The place of the segment in one of these arcs, where it is the first or the last one of the arc,
+/// as it mostly is where arcs meet.
+fn find_at_end<A: Allocator + Copy>(
+    arcs: &Slab<Arc<A>, A>,
+    among: &[usize],
+    a: VertexKey,
+    b: VertexKey,
+) -> Option<Place>
+    ensures some { IfSome result (λ p. IsPlace (path_in (get arcs.now p.arc)) p.at p.back a b) }
+    ensures there { IfSome result (λ p. ContainsKey arcs.now p.arc) }
+{
+    for arc in among {
+        if let Some(border) = arcs.get(*arc) {
+            if let Some((at, back)) = place_at_end(border.keys.as_slice(), a, b) {
+                return Some(Place {
+                    arc: *arc,
+                    at,
+                    back,
+                });
+            }
+        }
+    }
+    None
+}
+
 /// The place of the segment in one of these arcs.
 fn find_among<A: Allocator + Copy>(
     arcs: &Slab<Arc<A>, A>,
@@ -98,7 +133,11 @@ impl<A: Allocator + Copy> Tables<A> {
         ensures there { IfSome result (λ p. ContainsKey self.now.arcs p.arc) }
         ensures none { IfNone result ((j : ℕ) → times a b (links (path_of self.now j)) ≡ 0) }
     {
-        find_among(&self.arcs, arcs_at(&self.stands, a), a, b)
+        let among = arcs_at(&self.stands, a);
+        if let Some(place) = find_at_end(&self.arcs, among, a, b) {
+            return Some(place);
+        }
+        find_among(&self.arcs, among, a, b)
     }
 
     /// The place of the segment of a and b in the arc of the place, where it stands beside that.

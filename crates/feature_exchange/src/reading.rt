@@ -19,6 +19,9 @@ use segment_index::SegIndex;
 use std::alloc::{AllocError, Allocator};
 use vertex_index::{VertexKey, Vertices};
 
+/// Room for the keys of most rings.
+const ROOM: usize = 128;
+
 /// The positions under these keys. Fails for want of memory alone.
 pub(crate) fn positions_under<A: Allocator + Copy>(
     alloc: A,
@@ -30,7 +33,7 @@ pub(crate) fn positions_under<A: Allocator + Copy>(
 {
     let mut found = Vec::with_capacity(alloc, keys.len())?;
     for k in keys {
-        found.push(vertices.pos(*k))?;
+        found.push_reserved(vertices.pos(*k));
     }
     Ok(found)
 }
@@ -44,7 +47,7 @@ fn ring_positions<I: SegIndex, A: Allocator + Copy>(
     requires along { AlongVertices tables.now.vertices tables.now.borders }
     ensures { IfOk result (λ ring. ring.items ≡ ring_in tables.now.vertices tables.now.borders r) }
 {
-    let mut keys = Vec::new(tables.alloc);
+    let mut keys = Vec::with_capacity(tables.alloc, ROOM)?;
     tables.borders.push_keys(r, &mut keys)?;
     let found = positions_under(tables.alloc, &tables.vertices, keys.as_slice())?;
     canonical(tables.alloc, found.as_slice())

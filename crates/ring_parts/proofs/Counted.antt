@@ -1,7 +1,7 @@
 -- How often common edges begin, a step at a time.
-use Rattle.std.proofs.Common.{◌≡◌, ℕ, ◌+◌, ◌<◌, ◌≤◌, Bool, true, false, refl, sym, ap, ◌∙◌, cond, List, [], ◌∷◌, ◌++◌, map, length, drop, get_or, drop_of_length-le, ◌&&◌, ◌||◌, arith}
+use Rattle.std.proofs.Common.{◌≡◌, ℕ, ◌+◌, ◌<◌, ◌≤◌, Bool, true, false, refl, sym, ap, ◌∙◌, cond, List, [], ◌∷◌, ◌++◌, map, length, drop, get_or, drop_of_length-le, ◌&&◌, arith}
 use Rattle.std.specs.Prelude.{not}
-use Rattle.std.specs.List.{zip, count_by, list_all, list_any}
+use Rattle.std.specs.List.{zip, count_by, list_all}
 use Rattle.std.proofs.lemmas.List.{at_drop_more, map-append}
 use Rattle.std.proofs.lemmas.List.Sums.{sum_by-cons}
 use Rattle.grid_geometry.specs.Ring.{Edge}
@@ -44,10 +44,6 @@ module _ (test : Edge → Bool) where
   pub begins_are : (es : List Edge) → count_by (λ u. not (test u.0) && test u.1) (neighbour_edges es) ≡ begins (map test es)
   begins_are [] = refl
   begins_are (e ∷ es) = zipped (e ∷ es) (es ++ e ∷ []) ∙ ap (λ bs. count_by (λ u. not u.0 && u.1) (zip (map test (e ∷ es)) bs)) (map-append test es (e ∷ []))
-
-pub any_mapped : {A : Type 0} (test : A → Bool) (xs : List A) → list_any (λ (b : Bool). b) (map test xs) ≡ list_any test xs
-any_mapped test [] = refl
-any_mapped test (x ∷ xs) = ap (λ b. test x || b) (any_mapped test xs)
 
 pub all_mapped : {A : Type 0} (test : A → Bool) (xs : List A) → list_all (λ (b : Bool). b) (map test xs) ≡ list_all test xs
 all_mapped test [] = refl

@@ -20,9 +20,9 @@ fn tested<A: Allocator + Copy>(
     ensures { IfOk result
         (λ common. common.items ≡ map (is_common other.now.ring.now) edges.now) }
 {
-    let mut common = Vec::new(alloc);
+    let mut common = Vec::with_capacity(alloc, edges.len())?;
     for edge in edges {
-        common.push(other.has(*edge))?;
+        common.push_reserved(other.has(*edge));
     }
     Ok(common)
 }
@@ -40,20 +40,44 @@ pub(crate) fn common_edges<A: Allocator + Copy>(
     tested(alloc, edges.as_slice(), other)
 }
 
-/// Whether one of them passes.
-fn any_passes(common: &[bool]) -> bool
-    ensures { result ≡ list_any (λ b. b) common.now }
+/// Whether the segment of one of the edges is one of the ring.
+fn has_any<A: Allocator + Copy>(edges: &[(Pos, Pos)], other: &Border<'_, A>) -> bool
+    ensures { result ≡ list_any (is_common other.now.ring.now) edges.now }
 {
-    for one in common {
-        if *one {
+    for edge in edges {
+        if other.has(*edge) {
             return true;
         }
     }
     false
 }
 
+/// Whether the segment of each of the edges is one of the ring.
+fn has_all<A: Allocator + Copy>(edges: &[(Pos, Pos)], other: &Border<'_, A>) -> bool
+    ensures { result ≡ list_all (is_common other.now.ring.now) edges.now }
+{
+    for edge in edges {
+        if !other.has(*edge) {
+            return false;
+        }
+    }
+    true
+}
+
+/// Whether the segment of each of a ring's edges is one of the other ring.
+pub(crate) fn all_common<A: Allocator + Copy>(
+    alloc: A,
+    ring: &[Pos],
+    other: &Border<'_, A>,
+) -> Result<bool, AllocError>
+    ensures { IfOk result (λ all. all ≡ list_all (is_common other.now.ring.now) (edges ring.now)) }
+{
+    let edges = edges(alloc, ring)?;
+    Ok(has_all(edges.as_slice(), other))
+}
+
 /// Whether all of them pass.
-pub(crate) fn all_pass(common: &[bool]) -> bool
+fn all_pass(common: &[bool]) -> bool
     ensures { result ≡ list_all (λ b. b) common.now }
 {
     for one in common {
@@ -92,8 +116,8 @@ pub fn has_common<A: Allocator + Copy>(
     ensures { IfOk result
         (λ has. has ≡ list_any (is_common second.now.ring.now) (edges first.now.ring.now)) }
 {
-    let common = common_edges(alloc, first.ring(), second)?;
-    Ok(any_passes(common.as_slice()))
+    let edges = edges(alloc, first.ring())?;
+    Ok(has_any(edges.as_slice(), second))
 }
 
 /// How many runs the common segments form in the first ring: all its edges are one run, else there

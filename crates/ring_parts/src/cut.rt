@@ -84,7 +84,8 @@ fn keep_sign(first: &[Pos], second: &[Pos], ring: &[Pos]) -> bool
         ≡ (spec.same_sign (signed_area first.now) (signed_area ring.now)
         && spec.same_sign (signed_area second.now) (signed_area ring.now)) }
 {
-    same_sign(area2(first), area2(ring)) && same_sign(area2(second), area2(ring))
+    let area = area2(ring);
+    same_sign(area2(first), area) && same_sign(area2(second), area)
 }
 
 /// Whether the signed areas of the parts do not both have the sign of the outer ring's.

@@ -1,10 +1,10 @@
 // The edges of rings.
-ghost use Rattle.std.specs.Prelude.{◌≡◌, ◌++◌, IfOk, OnOk, map};
+ghost use Rattle.std.specs.Prelude.{◌≡◌, ◌≤◌, ◌+◌, ◌++◌, IfOk, length, map, vec_len, vec_capacity};
 ghost use Rattle.grid_geometry.specs.Ring.{edges};
 ghost use Rattle.ring_parts.specs.Borders.{ends_of};
 
 use grid_geometry::Pos;
-use std::alloc::{AllocError, AllocFailed, Allocator};
+use std::alloc::{AllocError, Allocator};
 
 /// The ends of an edge, the lesser one first.
 pub(crate) fn ends(edge: (Pos, Pos)) -> (Pos, Pos)
@@ -17,23 +17,21 @@ pub(crate) fn ends(edge: (Pos, Pos)) -> (Pos, Pos)
     }
 }
 
-/// Appends the edges of a ring.
+/// Appends the edges of a ring, for which there is room.
 #[tactic(auto, using(crate::proofs::Ways::edge_steps))]
-fn push_edges<A: Allocator + Copy>(
-    found: &mut Vec<(Pos, Pos), A>,
-    ring: &[Pos],
-) -> Result<(), AllocFailed<(Pos, Pos)>>
-    ensures { OnOk result (found.new.items ≡ found.old.items ++ edges ring.now) }
+fn push_edges<A: Allocator + Copy>(found: &mut Vec<(Pos, Pos), A>, ring: &[Pos])
+    requires { vec_len found.old + length ring.now ≤ vec_capacity found.old }
+    ensures { found.new.items ≡ found.old.items ++ edges ring.now }
 {
     let [first, rest @ ..] = ring else {
-        return Ok(());
+        return;
     };
     let mut from = *first;
     for to in rest {
-        found.push((from, *to))?;
+        found.push_reserved((from, *to));
         from = *to;
     }
-    found.push((from, *first))
+    found.push_reserved((from, *first));
 }
 
 /// The edges of a ring, in its direction.
@@ -43,8 +41,8 @@ pub(crate) fn edges<A: Allocator + Copy>(
 ) -> Result<Vec<(Pos, Pos), A>, AllocError>
     ensures { IfOk result (λ found. found.items ≡ edges ring.now) }
 {
-    let mut found = Vec::new(alloc);
-    push_edges(&mut found, ring)?;
+    let mut found = Vec::with_capacity(alloc, ring.len())?;
+    push_edges(&mut found, ring);
     Ok(found)
 }
 
@@ -55,9 +53,9 @@ pub(crate) fn all_ends<A: Allocator + Copy>(
 ) -> Result<Vec<(Pos, Pos), A>, AllocError>
     ensures { IfOk result (λ found. found.items ≡ map ends_of edges.now) }
 {
-    let mut found = Vec::new(alloc);
+    let mut found = Vec::with_capacity(alloc, edges.len())?;
     for edge in edges {
-        found.push(ends(*edge))?;
+        found.push_reserved(ends(*edge));
     }
     Ok(found)
 }

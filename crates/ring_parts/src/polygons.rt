@@ -45,6 +45,43 @@ fn push_holes<A: Allocator + Copy>(
     Ok(())
 }
 
+/// Appends the holes that go with the first part of these positions, or the others. Where there are
+/// no holes its positions are not sorted.
+fn push_parted<A: Allocator + Copy>(
+    polygon: &mut Vec<Vec<Pos, A>, A>,
+    alloc: A,
+    first: &[Pos],
+    with_first: bool,
+    holes: &[Vec<Pos, A>],
+) -> Result<(), AllocError>
+    ensures { OnOk result
+        (rings_seen polygon.new.items
+        ≡ rings_seen polygon.old.items
+        ++ filter (goes_to with_first first.now) (rings_seen holes.now)) }
+{
+    if holes.is_empty() {
+        return Ok(());
+    }
+    let members = Members::new(alloc, first)?;
+    push_holes(polygon, alloc, &members, with_first, holes)
+}
+
+/// The polygon of one part, with the holes that go with the first part, or with the others.
+fn with_holes<A: Allocator + Copy>(
+    alloc: A,
+    part: &[Pos],
+    first: &[Pos],
+    with_first: bool,
+    holes: &[Vec<Pos, A>],
+) -> Result<Vec<Vec<Pos, A>, A>, AllocError>
+    ensures { IfOk result (λ polygon. rings_seen polygon.items
+        ≡ canonical part.now ∷ filter (goes_to with_first first.now) (rings_seen holes.now)) }
+{
+    let mut polygon = of_one_ring(alloc, part)?;
+    push_parted(&mut polygon, alloc, first, with_first, holes)?;
+    Ok(polygon)
+}
+
 /// The first part of a polygon with its holes, in their order.
 pub fn first_polygon<A: Allocator + Copy>(
     alloc: A,
@@ -59,10 +96,7 @@ pub fn first_polygon<A: Allocator + Copy>(
         return Ok(Vec::new(alloc));
     };
     let first = first_part(alloc, outer.as_slice(), path)?;
-    let members = Members::new(alloc, first.as_slice())?;
-    let mut part = of_one_ring(alloc, first.as_slice())?;
-    push_holes(&mut part, alloc, &members, true, holes)?;
-    Ok(part)
+    with_holes(alloc, first.as_slice(), first.as_slice(), true, holes)
 }
 
 /// The second part of a polygon with the other holes, in their order.
@@ -79,11 +113,8 @@ pub fn second_polygon<A: Allocator + Copy>(
         return Ok(Vec::new(alloc));
     };
     let first = first_part(alloc, outer.as_slice(), path)?;
-    let members = Members::new(alloc, first.as_slice())?;
     let second = second_part(alloc, outer.as_slice(), path)?;
-    let mut part = of_one_ring(alloc, second.as_slice())?;
-    push_holes(&mut part, alloc, &members, false, holes)?;
-    Ok(part)
+    with_holes(alloc, second.as_slice(), first.as_slice(), false, holes)
 }
 
 /// Both parts of a polygon that a path cuts, each with its holes. Fails for want of memory alone.

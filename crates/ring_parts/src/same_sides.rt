@@ -1,6 +1,6 @@
 // Whether the areas of two rings lie on the same side of their common run.
-ghost use Rattle.std.specs.Prelude.{◌≡◌, ◌≤◌, ◌&&◌, Bool, IfOk, length, map, reverse, if◌then◌else◌};
-ghost use Rattle.std.specs.List.{list_any, list_all};
+ghost use Rattle.std.specs.Prelude.{◌≡◌, ◌≤◌, IfOk, length, reverse, if◌then◌else◌};
+ghost use Rattle.std.specs.List.{list_any};
 ghost use Rattle.std.specs.List.Sorted.{IsSorted};
 ghost use Rattle.grid_geometry.specs.Ring.{Edge};
 ghost use Rattle.grid_geometry.specs.Ring as geometry;
@@ -8,7 +8,7 @@ ghost use Rattle.ring_machine.specs.Ring.{edge_eq};
 ghost use Rattle.ring_machine.specs.Join as spec;
 ghost use Rattle.ring_parts.specs.Borders.{edge_cmp};
 
-use crate::common::{all_pass, common_edges};
+use crate::common::all_common;
 use crate::edges::edges;
 use crate::sides::Border;
 use crate::sorted::has_sorted;
@@ -88,13 +88,6 @@ fn positive<A: Allocator + Copy>(alloc: A, ring: &[Pos]) -> Result<Vec<Pos, A>, 
     turned(alloc, ring, area2(ring) < 0)
 }
 
-/// Whether all of both pass.
-fn both_pass(ones: &[bool], others: &[bool]) -> bool
-    ensures { result ≡ (list_all (λ b. b) ones.now && list_all (λ b. b) others.now) }
-{
-    all_pass(ones) && all_pass(others)
-}
-
 /// Whether each segment of one ring is one of the other.
 fn same_segments<A: Allocator + Copy>(
     alloc: A,
@@ -104,9 +97,10 @@ fn same_segments<A: Allocator + Copy>(
     ensures { IfOk result
         (λ same. same ≡ spec.same_segments first.now.ring.now second.now.ring.now) }
 {
-    let ones = common_edges(alloc, first.ring(), second)?;
-    let others = common_edges(alloc, second.ring(), first)?;
-    Ok(both_pass(ones.as_slice(), others.as_slice()))
+    if !all_common(alloc, first.ring(), second)? {
+        return Ok(false);
+    }
+    all_common(alloc, second.ring(), first)
 }
 
 /// Whether the areas of both rings lie on the same side of their run.

@@ -40,6 +40,21 @@ fn keep_before<A: Allocator + Copy>(ring: &mut Vec<Pos, A>, pos: Pos)
     ring.truncate(count);
 }
 
+/// The ring begun at a position, with its direction kept, and room for one position more.
+fn begun_at<A: Allocator + Copy>(
+    alloc: A,
+    ring: &[Pos],
+    pos: Pos,
+) -> Result<Vec<Pos, A>, AllocError>
+    ensures { IfOk result (λ way. way.items ≡ begin_at pos ring.now) }
+{
+    let place = count_before(pos, ring);
+    let mut way = Vec::with_capacity(alloc, ring.len().saturating_add(1))?;
+    way.extend_from_slice(&ring[place..])?;
+    way.extend_from_slice(&ring[..place])?;
+    Ok(way)
+}
+
 /// The positions of the ring from `from` to `to`, both included, in the ring's direction.
 fn stretch<A: Allocator + Copy>(
     alloc: A,
@@ -49,8 +64,7 @@ fn stretch<A: Allocator + Copy>(
 ) -> Result<Vec<Pos, A>, AllocError>
     ensures { IfOk result (λ way. way.items ≡ stretch from to ring.now) }
 {
-    let mut way = Vec::from_slice(alloc, ring)?;
-    turn_to(&mut way, from);
+    let mut way = begun_at(alloc, ring, from)?;
     keep_before(&mut way, to);
     way.push(to)?;
     Ok(way)

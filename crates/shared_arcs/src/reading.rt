@@ -26,8 +26,9 @@ fn push_begins<A: Allocator>(
 ) -> Result<(), AllocError>
     ensures { OnOk result (out.new.items ≡ out.old.items ++ begins (links (walk back path.now))) }
 {
+    out.reserve(path.len())?;
     for at in 1..path.len() {
-        out.push(path[place_of(path.len(), back, at)])?;
+        out.push_reserved(path[place_of(path.len(), back, at)]);
     }
     Ok(())
 }

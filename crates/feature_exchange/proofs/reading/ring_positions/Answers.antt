@@ -9,12 +9,12 @@ use Rattle.feature_exchange.proofs.reading.ring_positions.Goals as goal
 pub positions_under-requires : goal.positions_under-requires
 positions_under-requires g c =
     subst (λ ks. (k : ℕ) → Contains ks k → table.contains_key c.args.tables.now.vertices k ≡ true)
-    (sym (c.as_slice.ensures.value ∙ keys_found c.args.tables.now.borders c.args.r c.requires.held c.new-keys.result.items c.push_keys.new.out.items c.new-keys.ensures.items c.in_ok-push_keys.ensures))
+    (sym (c.as_slice.ensures.value ∙ keys_found c.args.tables.now.borders c.args.r c.requires.held c.in_ok-keys.keys.items c.push_keys.new.out.items c.in_ok-keys.ensures.items c.in_ok-push_keys.ensures))
     (c.requires.along c.args.r)
 
 pub returns : goal.returns
 returns g c =
     subst (λ ps. IfOk c.canonical.result (λ ring. ring.items ≡ canonical ps))
     (c.as_slice-2.ensures.value ∙ c.in_ok-found.ensures
-    ∙ ap (map (place c.args.tables.now.vertices)) (c.as_slice.ensures.value ∙ keys_found c.args.tables.now.borders c.args.r c.requires.held c.new-keys.result.items c.push_keys.new.out.items c.new-keys.ensures.items c.in_ok-push_keys.ensures))
+    ∙ ap (map (place c.args.tables.now.vertices)) (c.as_slice.ensures.value ∙ keys_found c.args.tables.now.borders c.args.r c.requires.held c.in_ok-keys.keys.items c.push_keys.new.out.items c.in_ok-keys.ensures.items c.in_ok-push_keys.ensures))
     c.canonical.ensures

@@ -1,7 +1,11 @@
-use Rattle.std.proofs.Common.{◌≡◌, map, take}
+use Rattle.std.proofs.Common.{◌≡◌, ◌≤◌, ◌+◌, length, map, take}
+use Rattle.std.specs.Prelude.{vec_len, vec_capacity}
 use Rattle.ring_machine.specs.Join.{is_common}
 use Rattle.ring_parts.proofs.common.tested.Given as goal
 
--- of the edges so far
+-- of the edges so far, and there is room for the others
 abbrev pub invariant-loop-edge : goal.invariant-loop-edge
-invariant-loop-edge g l = l.common.items ≡ map (is_common l.other.ring.now) (take l.edge-index l.edges)
+invariant-loop-edge g l = record {
+  common : l.common.items ≡ map (is_common l.other.ring.now) (take l.edge-index l.edges);
+  room : vec_len l.common + length l.edges ≤ vec_capacity l.common + l.edge-index;
+}

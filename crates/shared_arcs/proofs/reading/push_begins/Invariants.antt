@@ -1,6 +1,11 @@
-use Rattle.std.proofs.Common.{◌≡◌, ◌++◌, take, ◌-◌}
+use Rattle.std.proofs.Common.{◌≡◌, ◌≤◌, ◌+◌, ◌++◌, length, take, ◌-◌}
+use Rattle.std.specs.Prelude.{vec_len, vec_capacity}
 use Rattle.arc_tables.specs.Ways.{walk}
 use Rattle.shared_arcs.proofs.reading.push_begins.Given as goal
 
+-- the keys so far, and there is room for the others
 abbrev pub invariant-loop-at : goal.invariant-loop-at
-invariant-loop-at g l = l.out.items ≡ l.initial.out.items ++ take (l.at - 1) (walk l.back l.path)
+invariant-loop-at g l = record {
+  keys : l.out.items ≡ l.fn.out.items ++ take (l.at - 1) (walk l.back l.path);
+  room : vec_len l.out + length l.path ≤ vec_capacity l.out + l.at;
+}

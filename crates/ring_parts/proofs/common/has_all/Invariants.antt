@@ -1,0 +1,8 @@
+use Rattle.std.proofs.Common.{◌≡◌, take, true}
+use Rattle.std.specs.List.{list_all}
+use Rattle.ring_machine.specs.Join.{is_common}
+use Rattle.ring_parts.proofs.common.has_all.Given as goal
+
+-- all so far
+abbrev pub invariant-loop-edge : goal.invariant-loop-edge
+invariant-loop-edge g l = list_all (is_common l.other.ring.now) (take l.edge-index l.edges) ≡ true

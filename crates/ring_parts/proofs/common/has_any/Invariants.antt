@@ -1,0 +1,8 @@
+use Rattle.std.proofs.Common.{◌≡◌, take, false}
+use Rattle.std.specs.List.{list_any}
+use Rattle.ring_machine.specs.Join.{is_common}
+use Rattle.ring_parts.proofs.common.has_any.Given as goal
+
+-- none so far
+abbrev pub invariant-loop-edge : goal.invariant-loop-edge
+invariant-loop-edge g l = list_any (is_common l.other.ring.now) (take l.edge-index l.edges) ≡ false
