@@ -7,7 +7,7 @@ use crate::stop::Stop;
 use std::env;
 use std::fs::File;
 use std::hash::RandomState;
-use std::io::{Read, Write};
+use std::io::{self, Read, Write};
 
 /// The words that the program was called with, its name first.
 pub fn given_words(rt: &HostRuntime) -> Result<Vec<String>, Stop>
@@ -36,9 +36,7 @@ pub fn map_bytes(rt: &HostRuntime, path: &str) -> Result<Vec<u8>, Stop>
 {
     let mut bytes = Vec::new(rt.alloc());
     let file = File::open(rt, path).map_err(|e| Stop::of_file(e, Stop::Map))?;
-    file.take(READ_AT_MOST)
-        .read_to_end(&mut bytes)
-        .map_err(|e| Stop::of_file(e, Stop::Map))?;
+    io::copy(&mut file.take(READ_AT_MOST), &mut bytes).map_err(|e| Stop::of_file(e, Stop::Map))?;
     Ok(bytes)
 }
 
