@@ -7,9 +7,9 @@ ghost use Rattle.ring_parts.specs.Borders.{off_ones};
 ghost use Rattle.ring_parts.specs.Merges.{joined_rings};
 ghost use Rattle.ring_parts.specs.Seen.{rings_seen};
 
-use crate::common::common_edges;
 use crate::rotation::begin_at_least;
 use crate::same_sides::{passed_alike, turned};
+use crate::shared_runs::common_edges;
 use crate::sides::Border;
 use grid_geometry::Pos;
 use std::alloc::{AllocError, AllocFailed, Allocator};

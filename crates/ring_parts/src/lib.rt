@@ -2,7 +2,6 @@
 //! common run.
 #![tactic(auto)]
 
-mod common;
 mod counting;
 mod cut;
 mod edges;
@@ -13,11 +12,11 @@ mod paths;
 mod polygons;
 mod rotation;
 mod same_sides;
+mod shared_runs;
 mod sides;
 mod sorted;
 mod stretch;
 
-pub use common::{has_common, runs};
 pub use counting::{count_all, count_positions};
 pub use cut::{first_cut, is_cut_by, is_wrong_side};
 pub use elsewhere::common_else;
@@ -27,5 +26,6 @@ pub use paths::{Path, has_twice, way_segments};
 pub use polygons::{both_parts, first_polygon, second_polygon};
 pub use rotation::{begin_at_least, canonical};
 pub use same_sides::{passed_alike, same_side};
+pub use shared_runs::{has_common, runs};
 pub use sides::Border;
 pub use stretch::{first_part, second_part};

@@ -8,8 +8,8 @@ ghost use Rattle.ring_machine.specs.Ring.{edge_eq};
 ghost use Rattle.ring_machine.specs.Join as spec;
 ghost use Rattle.ring_parts.specs.Borders.{edge_cmp};
 
-use crate::common::all_common;
 use crate::edges::edges;
+use crate::shared_runs::all_common;
 use crate::sides::Border;
 use crate::sorted::has_sorted;
 use grid_geometry::{Pos, area2};

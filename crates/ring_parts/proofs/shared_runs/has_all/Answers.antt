@@ -1,7 +1,7 @@
 use Rattle.std.proofs.Common.{◌∙◌, ap, sym}
 use Rattle.std.proofs.lemmas.List.Folds.{list_all_at}
 use Rattle.ring_machine.specs.Join.{is_common}
-use Rattle.ring_parts.proofs.common.has_all.Goals as goal
+use Rattle.ring_parts.proofs.shared_runs.has_all.Goals as goal
 
 pub returns-then-not-has : goal.returns-then-not-has
 returns-then-not-has g c =

@@ -1,7 +1,7 @@
 use Rattle.std.proofs.Common.{◌∙◌, ap, sym}
 use Rattle.std.proofs.lemmas.List.Folds.{list_any_at}
 use Rattle.ring_machine.specs.Join.{is_common}
-use Rattle.ring_parts.proofs.common.has_any.Goals as goal
+use Rattle.ring_parts.proofs.shared_runs.has_any.Goals as goal
 
 pub returns-then-has : goal.returns-then-has
 returns-then-has g c =

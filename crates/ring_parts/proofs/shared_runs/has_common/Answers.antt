@@ -2,7 +2,7 @@ use Rattle.std.proofs.Common.{◌∙◌, ap}
 use Rattle.std.specs.List.{list_any}
 use Rattle.grid_geometry.specs.Ring.{edges}
 use Rattle.ring_machine.specs.Join.{is_common}
-use Rattle.ring_parts.proofs.common.has_common.Goals as goal
+use Rattle.ring_parts.proofs.shared_runs.has_common.Goals as goal
 
 pub returns : goal.returns
 returns g c =

@@ -1,7 +1,7 @@
 use Rattle.std.proofs.Common.{◌≡◌, take, false}
 use Rattle.std.specs.List.{list_any}
 use Rattle.ring_machine.specs.Join.{is_common}
-use Rattle.ring_parts.proofs.common.has_any.Given as goal
+use Rattle.ring_parts.proofs.shared_runs.has_any.Given as goal
 
 -- none so far
 abbrev pub invariant-loop-edge : goal.invariant-loop-edge

@@ -4,7 +4,7 @@ use Rattle.grid_geometry.specs.Ring.{edges}
 use Rattle.ring_machine.specs.Join.{is_common}
 use Rattle.ring_parts.specs.Borders.{begins}
 use Rattle.ring_parts.proofs.Counted.{one_run, some_runs}
-use Rattle.ring_parts.proofs.common.runs.Goals as goal
+use Rattle.ring_parts.proofs.shared_runs.runs.Goals as goal
 
 pub returns-then-all_pass : goal.returns-then-all_pass
 returns-then-all_pass g c =

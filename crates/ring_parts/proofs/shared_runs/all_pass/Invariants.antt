@@ -1,6 +1,6 @@
 use Rattle.std.proofs.Common.{◌≡◌, take, true}
 use Rattle.std.specs.List.{list_all}
-use Rattle.ring_parts.proofs.common.all_pass.Given as goal
+use Rattle.ring_parts.proofs.shared_runs.all_pass.Given as goal
 
 -- all so far
 abbrev pub invariant-loop-one : goal.invariant-loop-one

@@ -1,7 +1,7 @@
 use Rattle.std.proofs.Common.{◌≡◌, ◌+◌, ◌≤◌, drop}
 use Rattle.ring_parts.specs.Borders.{begins}
 use Rattle.ring_parts.proofs.Counted.{left_begins}
-use Rattle.ring_parts.proofs.common.count_begins.Given as goal
+use Rattle.ring_parts.proofs.shared_runs.count_begins.Given as goal
 
 -- those so far and those that are left are all
 abbrev pub invariant-loop-one : goal.invariant-loop-one

@@ -1,7 +1,7 @@
 use Rattle.std.proofs.Common.{◌≡◌, take, true}
 use Rattle.std.specs.List.{list_all}
 use Rattle.ring_machine.specs.Join.{is_common}
-use Rattle.ring_parts.proofs.common.has_all.Given as goal
+use Rattle.ring_parts.proofs.shared_runs.has_all.Given as goal
 
 -- all so far
 abbrev pub invariant-loop-edge : goal.invariant-loop-edge
